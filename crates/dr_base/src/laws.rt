@@ -1,0 +1,29 @@
+//! Laws of texts that are made of parts, one after the other, for each kind of part.
+ghost use Rattle.std.specs.Prelude.{◌≡◌, ◌≢◌, ◌∷◌, ◌++◌, [], List, ℕ};
+ghost use Rattle.dr_base.specs.Runs.{Run, AreParts};
+
+/// A kind of part: which texts begin with it, and what is left of them behind it.
+pub trait Part {
+    ghost starts: { List ℕ → Self → List ℕ → Type 0 };
+}
+
+/// A run goes on by one more part, and by another run.
+pub fn a_run_goes_on<P: Part>()
+    ensures by_one { (xs : List P) (x : P) (text mid rest : List ℕ) → Run P.starts xs text mid → P.starts mid x rest → Run P.starts (xs ++ x ∷ []) text rest }
+    ensures by_more { (xs ys : List P) (text mid rest : List ℕ) → Run P.starts xs text mid → Run P.starts ys mid rest → Run P.starts (xs ++ ys) text rest }
+{}
+
+/// A text is a run of one list of parts at most, and each run that begins it is the front of that one.
+pub fn a_text_has_one_run<P: Part>()
+    ensures same { AreParts P.starts → (xs ys : List P) (text : List ℕ) → Run P.starts xs text [] → Run P.starts ys text [] → ys ≡ xs }
+    ensures front { AreParts P.starts → (xs ys : List P) (text mid : List ℕ) → Run P.starts xs text mid → Run P.starts ys text []
+        → (later : List P) × (ys ≡ xs ++ later) × Run P.starts later mid [] }
+    ensures next { AreParts P.starts → (xs ys : List P) (text mid : List ℕ) → mid ≢ [] → Run P.starts xs text mid → Run P.starts ys text []
+        → (x : P) × (after : List ℕ) × P.starts mid x after }
+{}
+
+/// Where a part stands with more behind it, a run does.
+pub fn a_run_stands_in_longer_texts<P: Part>()
+    ensures longer { ((text : List ℕ) (x : P) (rest more : List ℕ) → P.starts text x rest → P.starts (text ++ more) x (rest ++ more))
+        → (xs : List P) (text rest more : List ℕ) → Run P.starts xs text rest → Run P.starts xs (text ++ more) (rest ++ more) }
+{}

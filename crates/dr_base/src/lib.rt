@@ -1,0 +1,10 @@
+//! Values and definitions that every crate with a text or a grammar shares: byte texts and lists that
+//! contracts see as plain lists, and texts that are made of parts, one after the other.
+#![tactic(auto)]
+
+pub mod laws;
+pub mod seq;
+pub mod text;
+
+pub use seq::Seq;
+pub use text::{Octets, Text};
