@@ -1,2 +1,11 @@
-//! To be written.
+//! The PDUs of the DICOM upper layer (PS3.8 section 9.3): as values, and as bytes.
 #![tactic(auto)]
+
+mod fault;
+mod pdu;
+
+pub use fault::PduFault;
+pub use pdu::{
+    Abort, AssociateAc, AssociateRj, AssociateRq, Association, ContextAnswer, ContextProposal,
+    Front, Pdu, Pdv,
+};
