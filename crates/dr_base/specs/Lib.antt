@@ -1,3 +1,4 @@
 pub mod Copies
 pub mod Runs
+pub mod Syntaxes
 pub mod Texts

@@ -4,7 +4,9 @@
 
 pub mod laws;
 pub mod seq;
+pub mod syntax;
 pub mod text;
 
 pub use seq::Seq;
+pub use syntax::Syntax;
 pub use text::{Octets, Text};

@@ -1,0 +1,12 @@
+-- The UIDs of the two transfer syntaxes (PS3.5 A.1 and A.2).
+use Rattle.std.specs.Prelude.{◌≡◌, ℕ, List, codes}
+use Rattle.dr_base.specs.declared.syntax.Syntax.{Syntax}
+use Rattle.dr_base.specs.declared.syntax.Syntax.TheVariants.{Implicit, Explicit}
+
+abbrev pub syntax_uid : Syntax → List ℕ
+syntax_uid Implicit = codes "1.2.840.10008.1.2"
+syntax_uid Explicit = codes "1.2.840.10008.1.2.1"
+
+-- the text is the UID of neither
+abbrev pub NamesNoSyntax : List ℕ → Type 0
+NamesNoSyntax text = (syntax : Syntax) → text ≡ syntax_uid syntax → ⊥
