@@ -1,10 +1,9 @@
 -- Byte texts, as contracts see them.
-use Rattle.std.specs.Prelude.{ℕ, List, AllPairs}
+use Rattle.std.specs.Prelude.{ℕ, List}
 use Rattle.std.specs.declared.cmp.Ordering.{Ordering}
-use Rattle.std.specs.declared.cmp.Ordering.TheVariants.{Less}
 use Rattle.std.specs.Ordering.{nat_cmp}
 use Rattle.std.specs.Cmp.Lexicographic.{slice_cmp}
-use Rattle.std.specs.Prelude.{◌≡◌}
+use Rattle.std.specs.List.Sorted.{IsStrictlySortedBy}
 
 abbrev pub Text : Type 0
 Text = List ℕ
@@ -15,4 +14,4 @@ text_cmp = slice_cmp nat_cmp
 
 -- in byte order, each text once
 abbrev pub IsInByteOrder : List Text → Type 0
-IsInByteOrder texts = AllPairs (λ a b. text_cmp a b ≡ Less) texts
+IsInByteOrder texts = IsStrictlySortedBy text_cmp texts
