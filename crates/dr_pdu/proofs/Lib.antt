@@ -1,0 +1,11 @@
+pub mod Bytes
+pub mod ContextLemmas
+pub mod DecodeLemmas
+pub mod EachLemmas
+pub mod FrontLemmas
+pub mod FrontTexts
+pub mod ItemLemmas
+pub mod OneBody
+pub mod Padding
+pub mod PdvLemmas
+pub mod Refusals

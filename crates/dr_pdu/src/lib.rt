@@ -1,9 +1,15 @@
 //! The PDUs of the DICOM upper layer (PS3.8 section 9.3): as values, and as bytes.
 #![tactic(auto)]
 
+mod associate;
+mod decoder;
 mod fault;
+mod items;
+pub mod laws;
 mod pdu;
+mod pdvs;
 
+pub use decoder::decode;
 pub use fault::PduFault;
 pub use pdu::{
     Abort, AssociateAc, AssociateRj, AssociateRq, Association, ContextAnswer, ContextProposal,

@@ -1,0 +1,61 @@
+-- The parts that PDUs are made of (PS3.8 section 9.3). A text is a list of bytes; a number has its most significant
+-- byte first.
+use Rattle.std.specs.Prelude.{◌≡◌, ℕ, ◌+◌, ◌<◌, ◌^◌, Bool, List, [], ◌∷◌, ◌++◌, length, map, filter, ◌==◌, ◌||◌, if◌then◌else◌, Option, slice_get}
+use Rattle.std.specs.Int.{w16, w32, to_be_bytes}
+use Rattle.dr_base.specs.Runs.{Run}
+use Rattle.dr_pdu.specs.declared.pdu.Pdv.{Pdv}
+
+-- ---- items and sub-items (9.3.2.1 to 9.3.3.3, Annex D)
+
+-- an item or a sub-item, but for its reserved byte
+pub record Item : Type 0 where
+  pub kind : ℕ
+  pub body : List ℕ
+
+-- type, reserved, length (2), body
+abbrev pub item_text : ℕ → Item → List ℕ
+item_text reserved i = i.kind ∷ reserved ∷ (to_be_bytes w16 (length i.body) ++ i.body)
+
+abbrev pub StartsItem : List ℕ → Item → List ℕ → Type 0
+StartsItem text i rest = (reserved : ℕ) × (length i.body < 2 ^ 16) × (text ≡ item_text reserved i ++ rest)
+
+-- the text is these items, one after the other
+abbrev pub AreItems : List Item → List ℕ → Type 0
+AreItems is text = Run StartsItem is text []
+
+-- the bodies of the items of one type, in order, and the first of them
+abbrev pub bodies : ℕ → List Item → List (List ℕ)
+bodies kind is = map (λ i. i.body) (filter (λ i. i.kind == kind) is)
+
+abbrev pub first_body : ℕ → List Item → Option (List ℕ)
+first_body kind is = slice_get (bodies kind is) 0
+
+-- ---- presentation data values (9.3.5.1)
+
+-- length (4, counts what follows), context id, message control header, fragment
+abbrev pub pdv_text : Pdv → List ℕ
+pdv_text p = to_be_bytes w32 (2 + length p.fragment) ++ p.id ∷ p.header ∷ p.fragment
+
+abbrev pub StartsPdv : List ℕ → Pdv → List ℕ → Type 0
+StartsPdv text p rest = (2 + length p.fragment < 2 ^ 32) × (text ≡ pdv_text p ++ rest)
+
+-- ---- padding: names and UIDs are read without NULs and spaces at their end, titles also without spaces in front
+
+abbrev pub is_padding : ℕ → Bool
+is_padding b = b == 0 || b == 32
+
+abbrev pub onto : ℕ → List ℕ → List ℕ
+onto b [] = if is_padding b then [] else b ∷ []
+onto b (c ∷ cs) = b ∷ c ∷ cs
+
+-- without the padding at the end
+abbrev pub unpadded : List ℕ → List ℕ
+unpadded [] = []
+unpadded (b ∷ bs) = onto b (unpadded bs)
+
+abbrev pub without_spaces : List ℕ → List ℕ
+without_spaces [] = []
+without_spaces (b ∷ bs) = if b == 32 then without_spaces bs else b ∷ bs
+
+abbrev pub title : List ℕ → List ℕ
+title bytes = unpadded (without_spaces bytes)

@@ -1,0 +1,101 @@
+//! Items and sub-items: type, reserved, length (2), body.
+ghost use Rattle.std.specs.Prelude.{◌≡◌, ℕ, List, map, IfOk};
+ghost use Rattle.std.specs.Option.{option_copied};
+ghost use Rattle.dr_pdu.specs.Items.{Item as ItemText, AreItems, StartsItem, first_body, bodies, is_padding, unpadded, title};
+ghost use Rattle.dr_pdu.specs.Reads.{Reads, item, items};
+
+use crate::fault::PduFault;
+use dr_base::{Seq, Text};
+use std::alloc::{AllocError, Global};
+
+/// An item where it stands in its text.
+#[derive(Clone, Copy)]
+pub struct Item<'a> {
+    pub kind: u8,
+    pub body: &'a [u8],
+}
+
+/// The first item of a text that isn't empty, and what follows it.
+fn item_at(text: &[u8]) -> Result<(Item<'_>, &[u8]), PduFault>
+    ensures { Reads {Y = ItemText × List ℕ} (λ x. (item x.0, x.1.now)) result (λ x. StartsItem text.now x.0 x.1) }
+{
+    let [kind, _, high, low, rest @ ..] = text else {
+        return Err(PduFault::BadItem);
+    };
+    let len = usize::from(u16::from_be_bytes([*high, *low]));
+    if rest.len() < len {
+        return Err(PduFault::BadItem);
+    }
+    let (body, rest) = rest.split_at(len);
+    Ok((Item { kind: *kind, body }, rest))
+}
+
+/// The items of a text, in order.
+pub fn items_of(alloc: Global, text: &[u8]) -> Result<Vec<Item<'_>>, PduFault>
+    ensures { Reads (λ v. items v.items) result (λ is. AreItems is text.now) }
+{
+    let mut found = Vec::new(alloc);
+    let mut rest = text;
+    while !rest.is_empty() {
+        let (item, after) = item_at(rest)?;
+        found.push(item)?;
+        rest = after;
+    }
+    Ok(found)
+}
+
+/// The body of the first item of that type.
+pub fn first<'a>(found: &[Item<'a>], kind: u8) -> Option<&'a [u8]>
+    ensures { option_copied result ≡ first_body kind (items found.now) }
+{
+    for item in found {
+        if item.kind == kind {
+            return Some(item.body);
+        }
+    }
+    None
+}
+
+fn is_pad(byte: u8) -> bool
+    ensures { result ≡ is_padding byte }
+{
+    byte == 0 || byte == 32
+}
+
+/// A name or a UID without the padding at its end.
+pub fn unpadded_of(bytes: &[u8]) -> &[u8]
+    ensures { result.now ≡ unpadded bytes.now }
+{
+    let mut text = bytes;
+    while let [front @ .., last] = text {
+        if !is_pad(*last) {
+            break;
+        }
+        text = front;
+    }
+    text
+}
+
+/// A title without spaces in front and padding at its end.
+pub fn title_of(bytes: &[u8]) -> &[u8]
+    ensures { result.now ≡ title bytes.now }
+{
+    let mut text = bytes;
+    while let [32, rest @ ..] = text {
+        text = rest;
+    }
+    unpadded_of(text)
+}
+
+/// The UIDs of the items of one type, in order.
+pub fn uids(alloc: Global, found: &[Item<'_>], kind: u8) -> Result<Seq<Text>, AllocError>
+    ensures { IfOk result (λ them. them ≡ map unpadded (bodies kind (items found.now))) }
+{
+    let mut them = Vec::new(alloc);
+    for item in found {
+        if item.kind == kind {
+            them.push(Text::copy_of(alloc, unpadded_of(item.body))?)?;
+        }
+    }
+    Ok(Seq::from_vec(them))
+}
