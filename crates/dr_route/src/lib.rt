@@ -1,2 +1,17 @@
-//! To be written.
+//! Keys of instances, the rules of a node, and the cells of a plan.
+//!
+//! A rule reads four things: from whom an instance came, and its class, modality and station. What all rules
+//! of a node say of a key is `routing::targets`; the keys that no rule of a plan tells apart are a cell.
 #![tactic(auto)]
+
+pub mod accept;
+pub mod cell;
+pub mod key;
+pub mod laws;
+pub mod routing;
+pub mod rule;
+
+pub use accept::{AcceptRow, Callers, accepts};
+pub use cell::{Cell, Field, FieldValues, Literals, OwnedCell, OwnedField, cell_of};
+pub use key::Key;
+pub use rule::{Pattern, Rule, Targets, holds};

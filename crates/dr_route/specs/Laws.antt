@@ -1,0 +1,63 @@
+-- Laws of rules and cells.
+use Rattle.std.specs.Prelude.{◌≡◌, ◌<◌, List, ◌∷◌, [], Contains, All}
+use Rattle.dr_base.specs.Texts.{Text}
+use Rattle.dr_route.specs.Routes.{local, Holds, SendsBy, KeepsBy}
+use Rattle.dr_route.specs.Cells.{InCell}
+use Rattle.dr_route.specs.declared.key.Key.{Key}
+use Rattle.dr_route.specs.declared.rule.Rule.{Rule}
+use Rattle.dr_route.specs.declared.rule.Pattern.{Pattern}
+use Rattle.dr_route.specs.declared.rule.Pattern.TheVariants.{Any, Literal}
+use Rattle.dr_route.specs.declared.cell.FieldValues.{FieldValues}
+use Rattle.dr_route.specs.declared.cell.Literals.{Literals}
+use Rattle.dr_route.specs.declared.cell.OwnedField.{OwnedField}
+use Rattle.dr_route.specs.declared.cell.OwnedField.TheVariants as part
+use Rattle.dr_route.specs.declared.cell.OwnedCell.{OwnedCell}
+
+-- no rule holds for what enters at the node itself
+abbrev pub LocalIsNobody : Type 0
+LocalIsNobody = (rule : Rule) (key : Key) → Holds rule local key → ⊥
+
+-- the literal of the pattern is one that the plan names for the field
+abbrev pub IsKnown : FieldValues → Pattern → Type 0
+IsKnown values Any = Unit {0}
+IsKnown values (Literal literal) = Contains values.literals literal
+
+-- the literals of a rule's modality and station are among the plan's
+abbrev pub IsKnownRule : Literals → Rule → Type 0
+IsKnownRule literals rule = IsKnown literals.modalities rule.modality × IsKnown literals.stations rule.station
+
+abbrev pub AgreeInSends : Type 0
+AgreeInSends = (literals : Literals) (cell : OwnedCell) (k l : Key) → InCell literals cell k → InCell literals cell l →
+    (rules : List Rule) → All (IsKnownRule literals) rules → (caller name : Text) → SendsBy rules caller k name → SendsBy rules caller l name
+
+abbrev pub AgreeInKeeps : Type 0
+AgreeInKeeps = (literals : Literals) (cell : OwnedCell) (k l : Key) → InCell literals cell k → InCell literals cell l →
+    (rules : List Rule) → All (IsKnownRule literals) rules → (caller : Text) → KeepsBy rules caller k → KeepsBy rules caller l
+
+abbrev pub CellsCover : Type 0
+CellsCover = (literals : Literals) (key : Key) → (cell : OwnedCell) × InCell literals cell key
+
+abbrev pub CellsAreApart : Type 0
+CellsAreApart = (literals : Literals) (key : Key) (a b : OwnedCell) → InCell literals a key → InCell literals b key → a ≡ b
+
+-- each byte of each of them is printable ASCII
+abbrev pub ArePlain : List Text → Type 0
+ArePlain texts = All (All (λ byte. byte < 127)) texts
+
+-- a part of the field: a literal that the plan names, or the rest
+abbrev pub IsPart : FieldValues → OwnedField → Type 0
+IsPart values (part.Literal literal) = Contains values.literals literal
+IsPart values part.Rest = Unit {0}
+
+-- a value of the part: the literal, or the text of the one byte 128, which no literal has
+abbrev pub value_of : OwnedField → Text
+value_of (part.Literal literal) = literal
+value_of part.Rest = 128 ∷ []
+
+-- one key of the cell
+abbrev pub key_of : OwnedCell → Key
+key_of cell = record { class = cell.class; syntax = cell.syntax; modality = value_of cell.modality; station = value_of cell.station }
+
+abbrev pub EachCellHasAKey : Type 0
+EachCellHasAKey = (literals : Literals) (cell : OwnedCell) → ArePlain literals.modalities.literals → ArePlain literals.stations.literals →
+    IsPart literals.modalities cell.modality → IsPart literals.stations cell.station → InCell literals cell (key_of cell)

@@ -1,0 +1,49 @@
+-- What the rules of a node, and its accept rows, say of a key.
+use Rattle.std.specs.Prelude.{◌≡◌, ◌≢◌, List, [], ◌∷◌, codes, Contains, ◌⊎◌, IsTrue}
+use Rattle.dr_base.specs.Texts.{Text}
+use Rattle.dr_base.specs.declared.syntax.Syntax.{Syntax}
+use Rattle.dr_route.specs.declared.key.Key.{Key}
+use Rattle.dr_route.specs.declared.rule.Pattern.{Pattern}
+use Rattle.dr_route.specs.declared.rule.Pattern.TheVariants.{Any, Literal}
+use Rattle.dr_route.specs.declared.rule.Rule.{Rule}
+use Rattle.dr_route.specs.declared.accept.Callers.{Callers}
+use Rattle.dr_route.specs.declared.accept.Callers.TheVariants as callers
+use Rattle.dr_route.specs.declared.accept.AcceptRow.{AcceptRow}
+
+-- the caller of what enters at a node itself
+abbrev pub local : Text
+local = codes "-"
+
+-- the pattern admits the value
+abbrev pub Matches : Pattern → Text → Type 0
+Matches Any value = Unit {0}
+Matches (Literal literal) value = literal ≡ value
+
+-- the rule holds for what the caller brings
+abbrev pub Holds : Rule → Text → Key → Type 0
+Holds rule caller key =
+    (caller ≢ local) × Matches rule.from caller × Matches rule.class key.class × Matches rule.modality key.modality × Matches rule.station key.station
+
+-- some rule that holds names the node among its targets
+abbrev pub SendsBy : List Rule → Text → Key → Text → Type 0
+SendsBy [] caller key name = ⊥
+SendsBy (rule ∷ rules) caller key name = (Holds rule caller key × Contains rule.to name) ⊎ SendsBy rules caller key name
+
+-- some rule that holds keeps
+abbrev pub KeepsBy : List Rule → Text → Key → Type 0
+KeepsBy [] caller key = ⊥
+KeepsBy (rule ∷ rules) caller key = (Holds rule caller key × IsTrue rule.keep) ⊎ KeepsBy rules caller key
+
+-- the row speaks of the caller
+abbrev pub IsCaller : Callers → Text → Type 0
+IsCaller callers.Any caller = Unit {0}
+IsCaller (callers.Listed names) caller = Contains names caller
+
+-- the row takes the class in that transfer syntax from the caller
+abbrev pub Takes : AcceptRow → Text → Text → Syntax → Type 0
+Takes row caller class syntax = IsCaller row.from caller × (row.class ≡ class) × Contains row.syntaxes syntax
+
+-- some row does
+abbrev pub AcceptsBy : List AcceptRow → Text → Text → Syntax → Type 0
+AcceptsBy [] caller class syntax = ⊥
+AcceptsBy (row ∷ rows) caller class syntax = Takes row caller class syntax ⊎ AcceptsBy rows caller class syntax

@@ -1,0 +1,26 @@
+//! Laws of rules and cells: what a reader may take from the definitions.
+ghost use Rattle.dr_route.specs.Laws.{LocalIsNobody, AgreeInSends, AgreeInKeeps, CellsCover, CellsAreApart, EachCellHasAKey};
+
+/// No rule speaks of what enters at a node itself: `*` doesn't match the local caller, and nothing is kept or
+/// sent by a rule for it.
+pub fn no_rule_holds_for_the_local_caller()
+    ensures { LocalIsNobody }
+{}
+
+/// Keys of one cell are told apart by no rules whose literals are the plan's: they are sent to the same nodes,
+/// and kept alike.
+pub fn keys_of_one_cell_agree()
+    ensures sends { AgreeInSends }
+    ensures keeps { AgreeInKeeps }
+{}
+
+/// Each key lies in one cell, and in no other.
+pub fn each_key_lies_in_one_cell()
+    ensures some { CellsCover }
+    ensures one { CellsAreApart }
+{}
+
+/// Each cell of a plan whose literals are printable has a key of bytes.
+pub fn each_cell_has_a_key()
+    ensures { EachCellHasAKey }
+{}
