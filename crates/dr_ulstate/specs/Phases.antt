@@ -10,7 +10,7 @@ use Rattle.dr_ulstate.specs.declared.phase.Next.{Next}
 use Rattle.dr_ulstate.specs.declared.phase.Next.TheVariants.{Idle, Opening, Asked, Deciding, Established, Releasing, ReleaseAsked, Closing}
 use Rattle.dr_ulstate.specs.declared.step.Incoming.{Incoming}
 use Rattle.dr_ulstate.specs.declared.step.Incoming.TheVariants.{AssociateRq, AssociateAc, AssociateRj, DataTf, ReleaseRq, ReleaseRp, Aborted, Unrecognized, ConnectionClosed}
-use Rattle.dr_ulstate.specs.Standing.{Standing, moved}
+use Rattle.dr_ulstate.specs.Standing.{Standing, moved, is_opening, is_asked, is_deciding, is_established, is_releasing, is_release_asked, is_closing}
 use Rattle.dr_ulstate.specs.Table.{cell}
 
 -- the phase of a state, with the end in it
@@ -56,6 +56,17 @@ event_of ConnectionClosed = TransportClosed
 abbrev pub is_acceptable : Incoming → Bool
 is_acceptable (AssociateRq acceptable) = acceptable
 is_acceptable _ = true
+
+-- the phase has the state of the end in it
+abbrev pub IsOfItsState : Next → Type 0
+IsOfItsState Idle = Unit {0}
+IsOfItsState (Opening a) = is_opening a.state ≡ true
+IsOfItsState (Asked a) = is_asked a.state ≡ true
+IsOfItsState (Deciding a) = is_deciding a.state ≡ true
+IsOfItsState (Established a) = is_established a.state ≡ true
+IsOfItsState (Releasing a) = is_releasing a.state ≡ true
+IsOfItsState (ReleaseAsked a) = is_release_asked a.state ≡ true
+IsOfItsState (Closing a) = is_closing a.state ≡ true
 
 -- where an end in some phase stands; one that is gone stands nowhere
 abbrev pub standing_of : Next → Option Standing

@@ -1,5 +1,5 @@
 -- Where one end of an association stands, the timer, and the states of each phase.
-use Rattle.std.specs.Prelude.{◌≡◌, ◌==◌, ◌+◌, ◌≤◌, ℕ, Bool, true, false, List, [], ◌∷◌, if◌then◌else◌}
+use Rattle.std.specs.Prelude.{◌≡◌, ◌≢◌, ◌==◌, ◌+◌, ◌≤◌, ℕ, Bool, true, false, List, [], ◌∷◌, if◌then◌else◌}
 use Rattle.dr_ulstate.specs.declared.table.State.{State}
 use Rattle.dr_ulstate.specs.declared.table.State.TheVariants.{Sta8}
 use Rattle.dr_ulstate.specs.Table.{state_number, has}
@@ -17,6 +17,13 @@ standing state requestor since = record { state = state; requestor = requestor; 
 -- the end in the state that follows: on the same side; while the state stays the same, its moment does too
 abbrev pub moved : Standing → State → ℕ → Standing
 moved a state now = standing state a.requestor (if state_number a.state == state_number state then a.since else now)
+
+-- an end and the one that follows it: on the same side; the moment is kept while the state is, and is the
+-- present one where another state is entered
+pub record Keeps (a : Standing) (now : ℕ) (b : Standing) : Type 0 where
+  pub side : b.requestor ≡ a.requestor
+  pub stays : b.state ≡ a.state → b.since ≡ a.since
+  pub enters : b.state ≢ a.state → b.since ≡ now
 
 -- the states in which the ARTIM timer runs (PS3.8 section 9.1.5); it starts where one is entered
 abbrev pub runs_artim : State → Bool

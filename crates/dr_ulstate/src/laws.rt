@@ -1,10 +1,14 @@
 //! Laws of the table: what it says as a whole, and figures worked out from it.
 
-ghost use Rattle.std.specs.Prelude.{◌≡◌, ◌↔◌, ◌∷◌, [], Bool, true, false, Some, None, ℕ, length, map, is_some};
+ghost use Rattle.std.specs.Prelude.{◌≡◌, ◌↔◌, ◌∷◌, [], Bool, true, false, Some, None, Ok, Err, IfSome, ℕ, length, map, is_some};
 ghost use Rattle.std.specs.List.{list_all};
 ghost use Rattle.dr_ulstate.specs.Laws.{all_states, overlap, listed_states, cells, states_of, requestor_in_collision, acceptor_in_collision, phases_with, reached};
-ghost use Rattle.dr_ulstate.specs.Standing.{standing, moved, runs_artim, HasExpired};
-ghost use Rattle.dr_ulstate.specs.Table.{cell, rows, has, state_number, action_of};
+ghost use Rattle.dr_ulstate.specs.Standing.{Standing, standing, moved, runs_artim, HasExpired, Keeps};
+ghost use Rattle.dr_ulstate.specs.Table.{cell, rows, has, state_number, action_of, IsQuadruple};
+ghost use Rattle.dr_ulstate.specs.Phases.{stepped, state_of, standing_of, IsOfItsState};
+ghost use Rattle.dr_ulstate.specs.declared.phase.Next.{Next};
+ghost use Rattle.dr_ulstate.specs.declared.table.Event.{Event};
+ghost use Rattle.dr_ulstate.specs.declared.table.Action.{Action};
 ghost use Rattle.dr_ulstate.specs.declared.table.State.{State};
 ghost use Rattle.dr_ulstate.specs.declared.table.State.TheVariants.{Sta1, Sta2, Sta3, Sta6, Sta13};
 ghost use Rattle.dr_ulstate.specs.declared.table.Event.TheVariants.{DataRequest, ArtimExpired};
@@ -41,3 +45,27 @@ pub fn artim()
     ensures stays { moved (standing Sta13 true 1000) Sta13 30999 ≡ standing Sta13 true 1000 }
     ensures starts { moved (standing Sta2 false 1000) Sta13 30999 ≡ standing Sta13 false 30999 }
 {}
+
+/// The table is its rows: an event in a state has the action and leads to the state where a row lists it so,
+/// and nothing else.
+pub fn the_table_is_its_rows()
+    ensures cells { (e : Event) (s : State) (requestor acceptable : Bool) (a : Action) (t : State)
+        → (cell e s requestor acceptable ≡ Some (a, t)) ↔ IsQuadruple e s requestor acceptable a t }
+    ensures missing { (e : Event) (s : State) (requestor acceptable : Bool)
+        → (cell e s requestor acceptable ≡ None) ↔ ((a : Action) (t : State) → IsQuadruple e s requestor acceptable a t → ⊥) }
+{
+}
+
+/// Each step is a row of the table: it has the row's action and gives the phase of the row's state, on the
+/// same side; the moment stays while the state does, and is the present one where a state is entered.
+pub fn each_step_is_a_row()
+    ensures row { (e : Event) (acceptable : Bool) (a : Standing) (now : ℕ) (action : Action) (next : Next)
+        → stepped e acceptable a now ≡ Ok (action, next) → IsQuadruple e a.state a.requestor acceptable action (state_of next) }
+    ensures kept { (e : Event) (acceptable : Bool) (a : Standing) (now : ℕ) (action : Action) (next : Next)
+        → stepped e acceptable a now ≡ Ok (action, next) → IfSome (standing_of next) (Keeps a now) }
+    ensures phase { (e : Event) (acceptable : Bool) (a : Standing) (now : ℕ) (action : Action) (next : Next)
+        → stepped e acceptable a now ≡ Ok (action, next) → IsOfItsState next }
+    ensures missing { (e : Event) (acceptable : Bool) (a b : Standing) (now : ℕ)
+        → stepped e acceptable a now ≡ Err b → (b ≡ a) × (cell e a.state a.requestor acceptable ≡ None) }
+{
+}
