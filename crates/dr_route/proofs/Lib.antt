@@ -1,2 +1,2 @@
 pub mod Agreement
-pub mod Names
+pub mod NameSets

@@ -8,6 +8,7 @@ pub mod accept;
 pub mod cell;
 pub mod key;
 pub mod laws;
+pub mod names;
 pub mod routing;
 pub mod rule;
 

@@ -1,6 +1,6 @@
 use Rattle.std.proofs.Common.{◌≡◌, List, ap, length, arith}
 use Rattle.dr_base.specs.Texts.{Text}
-use Rattle.dr_route.proofs.Names.{none_of_them}
+use Rattle.dr_route.proofs.NameSets.{none_of_them}
 use Rattle.dr_route.proofs.cell.field_of.Goals as goal
 
 pub returns : goal.returns

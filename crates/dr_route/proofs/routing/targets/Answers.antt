@@ -2,9 +2,9 @@ use Rattle.std.proofs.Common.{◌≡◌, ◌+◌, ◌∷◌, [], inl, inr, refl,
 use Rattle.std.proofs.lemmas.List.{drop_more, drop_all}
 use Rattle.std.proofs.lemmas.Bool.{false≢true}
 use Rattle.dr_route.specs.Routes.{Holds}
-use Rattle.dr_route.proofs.Names.{counted_in, passed_over}
+use Rattle.dr_route.proofs.NameSets.{counted_in, passed_over}
 use Rattle.dr_route.proofs.routing.targets.Goals as goal
-use Rattle.dr_route.proofs.routing.targets.Goals.{then-holds+in_ok-add_all+then-rule, then-holds+in_ok-add_all+else-rule, else-holds}
+use Rattle.dr_route.proofs.routing.targets.Goals.{then-holds+in_ok-add_names+then-rule, then-holds+in_ok-add_names+else-rule, else-holds}
 
 pub loop-rule-preserved : goal.loop-rule-preserved
 loop-rule-preserved c =
@@ -12,16 +12,16 @@ loop-rule-preserved c =
     (let e = drop_more c.args.rules.now c.loop-rule.rule-index c.rule-item.result c.loop-rule-test.true in rw (← c.rule-item.is) at e) in
     let keep = rw split at c.loop-rule.invariant.keep in
     elim c.if-holds.branch [
-      | then-holds+in_ok-add_all+then-rule w ↦
+      | then-holds+in_ok-add_names+then-rule w ↦
           let held = w.if-holds.ensures.0 refl in
           record {
-            to = λ m. rw w.to-is (counted_in held (rw w.as_slice.ensures at (w.in_ok-add_all.ensures m)) (rw split at (c.loop-rule.invariant.to m)));
+            to = λ m. rw w.to-is (counted_in held (rw w.as_slice.ensures at (w.in_ok-add_names.ensures m)) (rw split at (c.loop-rule.invariant.to m)));
             keep = rw w.keep-is (counted_in held (λ _. inr w.if-rule.true, λ _. refl) keep);
           }
-      | then-holds+in_ok-add_all+else-rule w ↦
+      | then-holds+in_ok-add_names+else-rule w ↦
           let held = w.if-holds.ensures.0 refl in
           record {
-            to = λ m. rw w.to-is (counted_in held (rw w.as_slice.ensures at (w.in_ok-add_all.ensures m)) (rw split at (c.loop-rule.invariant.to m)));
+            to = λ m. rw w.to-is (counted_in held (rw w.as_slice.ensures at (w.in_ok-add_names.ensures m)) (rw split at (c.loop-rule.invariant.to m)));
             keep = rw w.keep-is (counted_in held (λ k. inl k, λ x. elim x [ inl k ↦ k | inr kept ↦ absurd (false≢true (sym w.if-rule.false ∙ kept)) ]) keep);
           }
       | else-holds w ↦

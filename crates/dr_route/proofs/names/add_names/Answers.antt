@@ -1,7 +1,7 @@
 use Rattle.std.proofs.Common.{◌≡◌, arith, inl, inr, ◌<◌, length, take}
 use Rattle.std.proofs.lemmas.List.{take_all}
-use Rattle.dr_route.proofs.Names.{adds, one_more}
-use Rattle.dr_route.proofs.routing.add_all.Goals as goal
+use Rattle.dr_route.proofs.NameSets.{adds, one_more}
+use Rattle.dr_route.proofs.names.add_names.Goals as goal
 
 pub loop-name-init : goal.loop-name-init
 loop-name-init c = λ m. (λ h. inl h, λ x. elim x [ inl y ↦ y | inr y ↦ (let lt : y.0 < 0 = y.1 in absurd (omega arith)) ])

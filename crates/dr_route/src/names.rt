@@ -1,0 +1,27 @@
+//! Sets of names while they are gathered, and the rows that they end as.
+ghost use Rattle.std.specs.Prelude.{◌↔◌, ◌⊎◌, IfOk, OnOk, Contains};
+ghost use Rattle.dr_base.specs.Texts.{Text as Words, IsInByteOrder};
+ghost use Rattle.dr_route.specs.Names.{HasName};
+
+use dr_base::{Seq, Text};
+use std::alloc::{AllocError, Global};
+use std::collections::BTreeSet;
+
+/// Adds copies of the names to the set.
+pub fn add_names(names: &mut BTreeSet<Text>, more: &[Text]) -> Result<(), AllocError>
+    ensures { OnOk result ((name : Words) → HasName names.new name ↔ (HasName names.old name ⊎ Contains more.now name)) }
+{
+    for name in more {
+        names.insert(name.clone()?)?;
+    }
+    Ok(())
+}
+
+/// The names of the set, in byte order and each once.
+pub fn names_in_order(alloc: Global, names: BTreeSet<Text>) -> Result<Seq<Text>, AllocError>
+    ensures same { IfOk result (λ seq. (name : Words) → Contains seq name ↔ HasName names name) }
+    ensures ordered { IfOk result IsInByteOrder }
+{
+    let listed: Vec<Text> = names.into_iter().collect(alloc)?;
+    Ok(Seq::from_vec(listed))
+}
