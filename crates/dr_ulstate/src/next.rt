@@ -2,7 +2,7 @@
 
 ghost use Rattle.std.specs.Prelude.{◌≡◌, ◌↔◌, Bool, true, IsTrue, IsSomeAnd, Err};
 ghost use Rattle.dr_ulstate.specs.Standing.{HasExpired};
-ghost use Rattle.dr_ulstate.specs.Phases.{state_of, standing_of, next_stepped, event_of, is_acceptable};
+ghost use Rattle.dr_ulstate.specs.Phases.{state_of, standing_of, next_stepped, IsOfItsState, event_of, is_acceptable};
 ghost use Rattle.dr_ulstate.specs.declared.table.Event.TheVariants.{AbortRequest, ArtimExpired};
 
 use crate::phase::Next;
@@ -12,7 +12,8 @@ use crate::table::{Action, Event, State};
 impl Next {
     /// The state.
     pub fn state(&self) -> State
-        ensures { result ≡ state_of self.now }
+        ensures state { result ≡ state_of self.now }
+        ensures phase { IsOfItsState self.now }
     {
         match self {
             Next::Idle => State::Sta1,
