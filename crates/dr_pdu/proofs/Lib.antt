@@ -2,6 +2,7 @@ pub mod Bytes
 pub mod ContextLemmas
 pub mod DecodeLemmas
 pub mod EachLemmas
+pub mod FeedLemmas
 pub mod FrontLemmas
 pub mod FrontTexts
 pub mod ItemLemmas

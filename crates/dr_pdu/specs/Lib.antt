@@ -1,3 +1,4 @@
+pub mod Feeding
 pub mod Grammar
 pub mod Items
 pub mod Reads

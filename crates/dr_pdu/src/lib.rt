@@ -4,6 +4,7 @@
 mod associate;
 mod decoder;
 mod fault;
+mod feeder;
 mod items;
 pub mod laws;
 mod pdu;
@@ -11,6 +12,7 @@ mod pdvs;
 
 pub use decoder::decode;
 pub use fault::PduFault;
+pub use feeder::Feeder;
 pub use pdu::{
     Abort, AssociateAc, AssociateRj, AssociateRq, Association, ContextAnswer, ContextProposal,
     Front, Pdu, Pdv,
