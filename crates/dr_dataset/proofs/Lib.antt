@@ -1,0 +1,4 @@
+pub mod ReadingLemmas
+pub mod StackLemmas
+pub mod TokenLemmas
+pub mod NestLemmas

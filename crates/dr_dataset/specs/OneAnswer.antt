@@ -1,0 +1,10 @@
+-- A text of a data set has one answer.
+use Rattle.std.specs.Prelude.{◌≡◌, ◌≢◌, List, ℕ, Result, Ok, Err}
+use Rattle.dr_dataset.specs.declared.syntax.Syntax.{Syntax}
+use Rattle.dr_dataset.specs.declared.fault.DataFault.{DataFault}
+use Rattle.dr_dataset.specs.declared.fault.DataFault.TheVariants.{Truncated, BadVr, BadLength, TooDeep, Memory}
+use Rattle.dr_dataset.specs.declared.values.Attributes.{Attributes}
+use Rattle.dr_dataset.specs.DataSet.{Scans}
+
+abbrev pub OneAnswer : Type 0
+OneAnswer = (s : Syntax) (text : List ℕ) (r q : Result Attributes DataFault) → r ≢ Err Memory → q ≢ Err Memory → Scans s text r → Scans s text q → r ≡ q

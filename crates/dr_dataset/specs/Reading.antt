@@ -1,0 +1,56 @@
+-- Headers and tokens as they are taken off a text: the grammar's relations as functions.
+use Rattle.std.specs.Prelude.{◌≡◌, ◌≢◌, ℕ, zero, suc, ◌+◌, ◌<◌, ◌≤◌, Bool, true, false, List, [], ◌∷◌, length, ◌==◌, ◌&&◌, nat_lt, not, if◌then◌else◌, Option, Some, None, Result, Ok, Err}
+use Rattle.std.specs.Int.{w16, w32, from_le_bytes}
+use Rattle.dr_dataset.specs.declared.syntax.Syntax.{Syntax}
+use Rattle.dr_dataset.specs.declared.syntax.Syntax.TheVariants.{Implicit, Explicit}
+use Rattle.dr_dataset.specs.declared.fault.DataFault.{DataFault}
+use Rattle.dr_dataset.specs.declared.fault.DataFault.TheVariants.{Truncated, BadVr, BadLength, TooDeep}
+use Rattle.dr_dataset.specs.declared.header.Tag.{Tag}
+use Rattle.dr_dataset.specs.declared.header.Vr.{Vr}
+use Rattle.dr_dataset.specs.declared.header.Form.{Form}
+use Rattle.dr_dataset.specs.Elements.{is_capital, is_short}
+
+abbrev pub is_byte : ℕ → Bool
+is_byte b = nat_lt b 256
+
+-- a number of two bytes, and what follows
+abbrev pub short_of : List ℕ → Option (ℕ × List ℕ)
+short_of (a ∷ b ∷ rest) = if is_byte a && is_byte b then Some (from_le_bytes w16 (a ∷ b ∷ []), rest) else None
+short_of text = None
+
+-- a number of four bytes, and what follows
+abbrev pub long_of : List ℕ → Option (ℕ × List ℕ)
+long_of (a ∷ b ∷ c ∷ d ∷ rest) = if (is_byte a && is_byte b) && (is_byte c && is_byte d) then Some (from_le_bytes w32 (a ∷ b ∷ c ∷ d ∷ []), rest) else None
+long_of text = None
+
+-- a tag, and what follows
+abbrev pub tag_of : List ℕ → Option (Tag × List ℕ)
+tag_of (a ∷ b ∷ c ∷ d ∷ rest) = if (is_byte a && is_byte b) && (is_byte c && is_byte d)
+    then Some (record { group = from_le_bytes w16 (a ∷ b ∷ []); element = from_le_bytes w16 (c ∷ d ∷ []) }, rest) else None
+tag_of text = None
+
+abbrev pub form_with : Option Vr → Option (ℕ × List ℕ) → Result (Form × List ℕ) DataFault
+form_with v None = Err Truncated
+form_with v (Some p) = Ok (record { vr = v; len = p.0 }, p.1)
+
+-- two reserved bytes and a length of four
+abbrev pub long_form_of : Vr → List ℕ → Result (Form × List ℕ) DataFault
+long_form_of v (r ∷ s ∷ rest) = form_with (Some v) (long_of rest)
+long_form_of v text = Err Truncated
+
+abbrev pub lettered_form_of : Bool → Bool → Vr → List ℕ → Result (Form × List ℕ) DataFault
+lettered_form_of false short v text = Err BadVr
+lettered_form_of true true v text = form_with (Some v) (short_of text)
+lettered_form_of true false v text = long_form_of v text
+
+abbrev pub are_capitals : Vr → Bool
+are_capitals v = is_capital v.first && is_capital v.second
+
+abbrev pub explicit_form_of : List ℕ → Result (Form × List ℕ) DataFault
+explicit_form_of (a ∷ b ∷ rest) = let v : Vr = record { first = a; second = b } in lettered_form_of (are_capitals v) (is_short v) v rest
+explicit_form_of text = Err Truncated
+
+-- what stands behind a tag, and what follows
+abbrev pub form_of : Syntax → List ℕ → Result (Form × List ℕ) DataFault
+form_of Implicit text = form_with None (long_of text)
+form_of Explicit text = explicit_form_of text

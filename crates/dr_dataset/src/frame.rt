@@ -1,0 +1,12 @@
+//! What is open at a place of a data set.
+use crate::header::Tag;
+use crate::syntax::Syntax;
+
+/// A sequence or an item of undefined length whose end hasn't come yet (PS3.5 section 7.5).
+#[derive(Clone, Copy, Debug, PartialEq, Eq)]
+pub enum Frame {
+    /// A sequence, with its tag and the syntax of what is inside it.
+    InSequence(Tag, Syntax),
+    /// An item of a sequence, with that syntax.
+    InItem(Syntax),
+}

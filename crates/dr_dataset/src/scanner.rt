@@ -1,0 +1,169 @@
+//! The scanner: it takes a data set token by token, and knows what is open.
+ghost use Rattle.std.specs.Prelude.{◌≡◌, ◌==◌, ◌<◌, ◌≤◌, [], length, IsTrue, MatchResult, IfOk, IfErr};
+ghost use Rattle.dr_dataset.specs.DataSet.{is_key, in_force};
+ghost use Rattle.dr_dataset.specs.Reading.{long_of};
+ghost use Rattle.dr_dataset.specs.Tokens.{is_nested, is_full, element_token, item_token, end_token, open_item_token, token_of, open_behind};
+
+use crate::fault::DataFault;
+use crate::frame::Frame;
+use crate::header::{Tag, UNDEFINED, form_at, long_at, syntax_inside, tag_at};
+use crate::stack::Stack;
+use crate::syntax::Syntax;
+use crate::token::Token;
+
+const ITEM_GROUP: u16 = 0xFFFE;
+
+const ITEM: Tag = Tag {
+    group: ITEM_GROUP,
+    element: 0xE000,
+};
+
+const ITEM_END: Tag = Tag {
+    group: ITEM_GROUP,
+    element: 0xE00D,
+};
+
+const SEQUENCE_END: Tag = Tag {
+    group: ITEM_GROUP,
+    element: 0xE0DD,
+};
+
+/// The longest value of one of the four attributes, in bytes.
+const LONGEST_KEY: u32 = 1024;
+
+/// The tag of one of the four attributes.
+fn is_key(tag: Tag) -> bool
+    ensures { result ≡ is_key tag }
+{
+    tag.group == 8 && matches!(tag.element, 0x16 | 0x18 | 0x60 | 0x1010)
+}
+
+/// The header of an element, behind its tag.
+fn element_at<'a>(
+    text: &'a [u8],
+    tag: Tag,
+    syntax: Syntax,
+    at_top: bool,
+    is_full: bool,
+) -> Result<(Token, &'a [u8]), DataFault>
+    ensures { MatchResult result (λ r. element_token syntax at_top is_full tag text.now ≡ Ok (r.0, r.1.now))
+        (λ f. element_token syntax at_top is_full tag text.now ≡ Err f) }
+{
+    if tag.group == ITEM_GROUP {
+        return Err(DataFault::BadLength);
+    }
+    let (form, rest) = form_at(text, syntax)?;
+    if form.len == UNDEFINED {
+        let Some(inside) = syntax_inside(syntax, form.vr) else {
+            return Err(DataFault::BadLength);
+        };
+        if is_full {
+            return Err(DataFault::TooDeep);
+        }
+        return Ok((Token::Sequence(tag, inside), rest));
+    }
+    if at_top && is_key(tag) && form.len > LONGEST_KEY {
+        return Err(DataFault::BadLength);
+    }
+    Ok((Token::Value(tag, form.len), rest))
+}
+
+/// The end of an item or a sequence, behind its tag; its length isn't tested.
+fn end_at(text: &[u8], end: Token) -> Result<(Token, &[u8]), DataFault>
+    ensures { MatchResult result (λ r. end_token end (long_of text.now) ≡ Ok (r.0, r.1.now)) (λ f. end_token end (long_of text.now) ≡ Err f) }
+{
+    let Some((_, rest)) = long_at(text) else {
+        return Err(DataFault::Truncated);
+    };
+    Ok((end, rest))
+}
+
+/// An item, or the end of the sequence with that tag.
+fn item_at<'a>(text: &'a [u8], tag: Tag, sequence: Tag) -> Result<(Token, &'a [u8]), DataFault>
+    ensures { MatchResult result (λ r. item_token sequence tag text.now ≡ Ok (r.0, r.1.now)) (λ f. item_token sequence tag text.now ≡ Err f) }
+{
+    if tag == SEQUENCE_END {
+        return end_at(text, Token::SequenceEnd(sequence));
+    }
+    if tag != ITEM {
+        return Err(DataFault::BadLength);
+    }
+    let Some((len, rest)) = long_at(text) else {
+        return Err(DataFault::Truncated);
+    };
+    if len == UNDEFINED {
+        return Ok((Token::Item, rest));
+    }
+    Ok((Token::PlainItem(len), rest))
+}
+
+/// What stands at a place of a data set: its syntax and what is open, in constant memory.
+#[derive(Drop)]
+pub struct Scanner {
+    pub syntax: Syntax,
+    pub stack: Stack,
+    ghost nested: { IsTrue (is_nested stack) },
+}
+
+impl Scanner {
+    /// At the start of a data set.
+    pub fn new(syntax: Syntax) -> Scanner
+        ensures syntax { result.syntax ≡ syntax }
+        ensures nothing_open { result.stack ≡ [] }
+    {
+        Scanner {
+            syntax,
+            stack: Stack::new(),
+        }
+    }
+
+    /// The header or end that the text begins with, and what follows.
+    fn token_at<'a>(&self, text: &'a [u8]) -> Result<(Token, &'a [u8]), DataFault>
+        ensures { MatchResult result (λ r. token_of self.now.syntax self.now.stack text.now ≡ Ok (r.0, r.1.now))
+            (λ f. token_of self.now.syntax self.now.stack text.now ≡ Err f) }
+    {
+        let Some((tag, rest)) = tag_at(text) else {
+            return Err(DataFault::Truncated);
+        };
+        match self.stack.top() {
+            None => element_at(rest, tag, self.syntax, true, false),
+            Some(Frame::InSequence(sequence, _)) => item_at(rest, tag, sequence),
+            Some(Frame::InItem(_)) if tag == ITEM_END => end_at(rest, Token::ItemEnd),
+            Some(Frame::InItem(inside)) => {
+                element_at(rest, tag, inside, false, self.stack.is_full())
+            }
+        }
+    }
+
+    /// Takes the header or end that the text begins with: what it is, and what follows. After a fault the
+    /// scanner is as before, and `Truncated` means that more bytes are needed to tell.
+    pub fn step<'a>(&mut self, text: &'a [u8]) -> Result<(Token, &'a [u8]), DataFault>
+        ensures syntax { self.new.syntax ≡ self.old.syntax }
+        ensures ok { IfOk result (λ r. (token_of self.old.syntax self.old.stack text.now ≡ Ok (r.0, r.1.now))
+            × (self.new.stack ≡ open_behind self.old.syntax r.0 self.old.stack)) }
+        ensures err { IfErr result (λ f. (token_of self.old.syntax self.old.stack text.now ≡ Err f) × (self.new.stack ≡ self.old.stack)) }
+    {
+        let (token, rest) = self.token_at(text)?;
+        match token {
+            Token::Value(_, _) | Token::PlainItem(_) => {}
+            Token::Sequence(tag, inside) => self.stack.push(Frame::InSequence(tag, inside)),
+            Token::Item => {
+                let inside = self.syntax_in_force();
+                self.stack.push(Frame::InItem(inside));
+            }
+            Token::ItemEnd | Token::SequenceEnd(_) => {
+                let _ = self.stack.pop();
+            }
+        }
+        Ok((token, rest))
+    }
+
+    fn syntax_in_force(&self) -> Syntax
+        ensures { result ≡ in_force self.now.syntax self.now.stack }
+    {
+        match self.stack.top() {
+            None => self.syntax,
+            Some(Frame::InSequence(_, inside)) | Some(Frame::InItem(inside)) => inside,
+        }
+    }
+}
