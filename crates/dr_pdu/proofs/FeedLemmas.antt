@@ -1,12 +1,12 @@
 -- PDUs in front of a text, one after the other.
-use Rattle.std.proofs.Common.{◌≡◌, ◌≢◌, ℕ, zero, suc, ◌+◌, ◌-◌, ◌<◌, ◌≤◌, ◌^◌, List, [], ◌∷◌, ◌++◌, length, take, drop, Option, Some, None, refl, sym, ap, subst, ◌∙◌, arith, inl, inr, Result, Ok, Err, Bool, true, false}
+use Rattle.std.proofs.Common.{◌≡◌, ◌≢◌, ℕ, ◌+◌, ◌-◌, ◌<◌, ◌≤◌, List, [], ◌++◌, length, take, drop, Some, None, refl, sym, ap, subst, ◌∙◌, arith, inl, inr, Ok, Err, true, false}
 use Rattle.std.proofs.lemmas.List.{take_rest, drop_at, drop-drop, length-drop, length-append}
 use Rattle.dr_pdu.specs.declared.pdu.Pdu.{Pdu}
 use Rattle.dr_pdu.specs.declared.fault.PduFault.{PduFault}
 use Rattle.dr_pdu.specs.declared.fault.PduFault.TheVariants.{More, UnknownType, TooLong, BadItem, BadContextId, Memory, Failed}
-use Rattle.dr_pdu.specs.Grammar.{Begins, header_fault, IsWhole, IsBody, HasContextIds, Spells, Shows, Decodes}
+use Rattle.dr_pdu.specs.Grammar.{Begins, header_fault, IsBody, HasContextIds, Shows, Decodes}
 use Rattle.dr_pdu.specs.Feeding.{StartsPdu, Units, Feeding, Gathers, Feeds}
-use Rattle.dr_pdu.proofs.FrontLemmas.{SameFront, same_front, SameWhole, same_whole, goes_on, length_of}
+use Rattle.dr_pdu.proofs.FrontLemmas.{same_front, same_whole, goes_on, length_of}
 use Rattle.dr_pdu.proofs.OneBody.{one_body}
 
 -- a header has one fault at most
@@ -75,8 +75,10 @@ refused_feed old piece Failed new ok other g e = absurd g
 -- all whole PDUs come out
 pub units_feed : (old : Feeding) (piece text : List ℕ) (pdus : List Pdu) (used : ℕ) (new : Feeding) → old.failed ≡ false → text ≡ old.kept ++ piece → Gathers old.limit text (Ok (pdus, used))
     → new.limit ≡ old.limit → new.failed ≡ false → new.kept ≡ drop used text → Feeds old piece (Ok pdus) new
-units_feed old piece text pdus used new ok whole g limit failed kept =
-    (ok,
-      subst (λ (k : List ℕ). Units old.limit (old.kept ++ piece) pdus k) (sym kept) (subst (λ (t : List ℕ). Units old.limit t pdus (drop used text)) whole g.1),
-      λ e. subst (λ (k : List ℕ). Shows old.limit k More) (sym kept) (g.2 e),
-      failed, limit)
+units_feed old piece text pdus used new ok whole g limit failed kept = (
+  ok,
+  subst (λ (k : List ℕ). Units old.limit (old.kept ++ piece) pdus k) (sym kept) (subst (λ (t : List ℕ). Units old.limit t pdus (drop used text)) whole g.1),
+  λ e. subst (λ (k : List ℕ). Shows old.limit k More) (sym kept) (g.2 e),
+  failed,
+  limit,
+)

@@ -58,6 +58,7 @@ one_spelling limit limit' a b x y p q s t e =
     let b2 = goes_on limit' b y q t in
     let same = same_whole (b ++ y) s.0 s.1 x t.0 t.1 y b1 b2 in
     let same_length : length s.1 ≡ length t.1 = ap (λ (w : List ℕ). length w) same.whole_bodies in
-    let len : length a ≡ length b = omega (arith, length_of limit a p s, length_of limit' b q t, same_length) in
-    (sym (take_at a x (length a) refl) ∙ ap (λ (w : List ℕ). take (length a) w) e ∙ ap (λ (n : ℕ). take n (b ++ y)) len ∙ take_at b y (length b) refl,
-      one_body t.0 t.1 p q (subst (λ (k : ℕ). IsBody k t.1 p) same.kinds (subst (λ (w : List ℕ). IsBody s.0 w p) same.whole_bodies s.3)) t.3)
+    let len : length a ≡ length b = omega (arith, length_of limit a p s, length_of limit' b q t, same_length) in (
+      sym (take_at a x (length a) refl) ∙ ap (λ (w : List ℕ). take (length a) w) e ∙ ap (λ (n : ℕ). take n (b ++ y)) len ∙ take_at b y (length b) refl,
+      one_body t.0 t.1 p q (subst (λ (k : ℕ). IsBody k t.1 p) same.kinds (subst (λ (w : List ℕ). IsBody s.0 w p) same.whole_bodies s.3)) t.3,
+    )

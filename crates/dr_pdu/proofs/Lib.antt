@@ -1,5 +1,6 @@
 pub mod Bytes
 pub mod ContextLemmas
+pub mod CutLemmas
 pub mod DecodeLemmas
 pub mod EachLemmas
 pub mod FeedLemmas

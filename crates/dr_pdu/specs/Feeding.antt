@@ -1,5 +1,5 @@
 -- A stream of PDUs that comes in pieces.
-use Rattle.std.specs.Prelude.{◌≡◌, ℕ, Bool, true, false, List, [], ◌∷◌, ◌++◌, Result, Ok, Err, ◌≤◌, length, drop}
+use Rattle.std.specs.Prelude.{◌≡◌, ◌≢◌, ◌⊎◌, ℕ, Bool, true, false, List, [], ◌∷◌, ◌++◌, Result, Ok, Err, ◌≤◌, length, drop}
 use Rattle.std.specs.List.{flat_map}
 use Rattle.dr_base.specs.Runs.{Run}
 use Rattle.dr_pdu.specs.declared.pdu.Pdu.{Pdu}
@@ -28,7 +28,7 @@ fresh limit = record { limit = limit; failed = false; kept = [] }
 -- whole PDUs stays in front of what is kept, so the next call answers it, whatever its piece.
 abbrev pub Feeds : Feeding → List ℕ → Result (List Pdu) PduFault → Feeding → Type 0
 Feeds old piece (Ok pdus) new = (old.failed ≡ false) × Units old.limit (old.kept ++ piece) pdus new.kept × (pdus ≡ [] → Shows old.limit new.kept More)
-  × (new.failed ≡ false) × (new.limit ≡ old.limit)
+    × (new.failed ≡ false) × (new.limit ≡ old.limit)
 Feeds old piece (Err Memory) new = (old.failed ≡ false) × (new ≡ old)
 Feeds old piece (Err Failed) new = (old.failed ≡ true) × (new ≡ old)
 Feeds old piece (Err More) new = ⊥
@@ -67,3 +67,7 @@ taken xs = flat_map (λ (x : Call). taken_by x.0 x.1) xs
 
 abbrev pub given : List Call → List Pdu
 given xs = flat_map (λ (x : Call). given_by x.1) xs
+
+-- where the calls left the stream: what is kept after the last whole PDU, or a text that shows a fault
+abbrev pub Leaves : ℕ → Feeding → List ℕ → Type 0
+Leaves limit new rest = (new.failed ≡ false) × (rest ≡ new.kept) ⊎ (new.failed ≡ true) × ((fault : PduFault) × (fault ≢ More) × (fault ≢ Memory) × Shows limit rest fault)

@@ -1,6 +1,7 @@
 //! Laws of the grammar: a text is one PDU at most, and no spelling begins another one.
 ghost use Rattle.std.specs.Prelude.{◌≡◌, ◌++◌, List, ℕ};
 ghost use Rattle.dr_pdu.specs.Grammar.{Spells, IsBody};
+ghost use Rattle.dr_pdu.specs.Feeding.{Units, Feeding, Call, Fed, taken, given, Leaves, fresh};
 ghost use Rattle.dr_pdu.specs.declared.pdu.Pdu.{Pdu as PduValue};
 
 /// A PDU is determined by its type and its body.
@@ -11,4 +12,16 @@ pub fn a_body_is_one_pdu()
 /// Where two spellings begin one text, whatever follows and whatever the limits, they are one spelling of one PDU.
 pub fn no_spelling_begins_another()
     ensures { (limit limit' : ℕ) (a b x y : List ℕ) (p q : PduValue) → Spells limit a p → Spells limit' b q → a ++ x ≡ b ++ y → (a ≡ b) × (p ≡ q) }
+{}
+
+/// The longest list of PDUs that begins a text is one.
+pub fn a_text_has_one_longest_list()
+    ensures { (limit : ℕ) (text : List ℕ) (ps qs : List PduValue) (a b : List ℕ) → Units limit text ps a → Units limit text qs b → (ps ≡ qs) × (a ≡ b) }
+{}
+
+/// However a stream is cut, the PDUs that a feeder gave are the longest list that begins the pieces which it took,
+/// joined. The rest is kept, or shows the fault that was answered.
+pub fn cuts_do_not_matter()
+    ensures { (limit : ℕ) (calls : List Call) (new : Feeding) → Fed (fresh limit) calls new
+        → (rest : List ℕ) × Units limit (taken calls) (given calls) rest × Leaves limit new rest }
 {}
