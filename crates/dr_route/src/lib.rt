@@ -15,4 +15,4 @@ pub mod rule;
 pub use accept::{AcceptRow, Callers, accepts};
 pub use cell::{Cell, Field, FieldValues, Literals, OwnedCell, OwnedField, cell_of};
 pub use key::Key;
-pub use rule::{Pattern, Rule, Targets, holds};
+pub use rule::{Pattern, Rule, Targets, holds, is_local};

@@ -1,6 +1,6 @@
 //! The rules of a node.
 ghost use Rattle.std.specs.Prelude.{◌≡◌, ◌↔◌, IsTrue};
-ghost use Rattle.dr_route.specs.Routes.{Matches, Holds};
+ghost use Rattle.dr_route.specs.Routes.{local, Matches, Holds};
 
 use crate::key::Key;
 use dr_base::{Seq, Text};
@@ -34,6 +34,13 @@ pub struct Targets {
     pub keep: bool,
 }
 
+/// Whether this is the local caller `-`, by which instances enter at a node itself.
+pub fn is_local(caller: &Text) -> bool
+    ensures { IsTrue result ↔ (caller.now ≡ local) }
+{
+    caller.as_bytes() == b"-".as_slice()
+}
+
 /// Whether the pattern admits the value.
 pub fn matches(pattern: &Pattern, value: &Text) -> bool
     ensures { IsTrue result ↔ Matches pattern.now value.now }
@@ -45,11 +52,11 @@ pub fn matches(pattern: &Pattern, value: &Text) -> bool
 }
 
 /// Whether the rule holds for what the caller brings: each of its four patterns admits its value. No rule
-/// holds for the local caller `-`, by which instances enter at a node itself.
+/// holds for the local caller.
 pub fn holds(rule: &Rule, caller: &Text, key: &Key) -> bool
     ensures { IsTrue result ↔ Holds rule.now caller.now key.now }
 {
-    caller.as_bytes() != b"-".as_slice()
+    !is_local(caller)
         && matches(&rule.from, caller)
         && matches(&rule.class, &key.class)
         && matches(&rule.modality, &key.modality)

@@ -1,0 +1,3 @@
+pub mod Flowing
+pub mod Gathered
+pub mod WalksAlike

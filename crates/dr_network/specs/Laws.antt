@@ -1,0 +1,44 @@
+-- Laws of walks.
+use Rattle.std.specs.Prelude.{List}
+use Rattle.dr_base.specs.Texts.{Text}
+use Rattle.dr_route.specs.Routes.{local}
+use Rattle.dr_route.specs.Laws.{IsPart, key_of}
+use Rattle.dr_route.specs.declared.key.Key.{Key}
+use Rattle.dr_route.specs.declared.cell.OwnedCell.{OwnedCell}
+use Rattle.dr_network.specs.Networks.{Network}
+use Rattle.dr_network.specs.Plans.{LiesIn, IsWellFormed, literals_of}
+use Rattle.dr_network.specs.Walks.{Sends, Keeps, IsEntry, IsWalk, IsReached}
+
+-- nothing is kept for the local caller
+abbrev pub LocalNeverKeeps : Type 0
+LocalNeverKeeps = (plan : Network) (name : Text) (key : Key) → Keeps plan name local key → ⊥
+
+-- no node is named as the local caller
+abbrev pub LocalIsNoNode : Type 0
+LocalIsNoNode = (plan : Network) → IsWellFormed plan → (name caller : Text) (key : Key) → Sends plan name caller key local → ⊥
+
+-- keys of one cell of the plan are sent and kept alike, enter alike and walk alike
+abbrev pub SendAlike : Type 0
+SendAlike = (plan : Network) (cell : OwnedCell) (k l : Key) → LiesIn plan cell k → LiesIn plan cell l → (name caller to : Text) → Sends plan name caller k to → Sends plan name caller l to
+
+abbrev pub KeepAlike : Type 0
+KeepAlike = (plan : Network) (cell : OwnedCell) (k l : Key) → LiesIn plan cell k → LiesIn plan cell l → (name caller : Text) → Keeps plan name caller k → Keeps plan name caller l
+
+abbrev pub EnterAlike : Type 0
+EnterAlike = (plan : Network) (cell : OwnedCell) (k l : Key) → LiesIn plan cell k → LiesIn plan cell l → (site : Text) → IsEntry plan site k → IsEntry plan site l
+
+abbrev pub WalkAlike : Type 0
+WalkAlike = (plan : Network) (cell : OwnedCell) (k l : Key) → LiesIn plan cell k → LiesIn plan cell l →
+    (caller name : Text) (over : List Text) → IsWalk plan k caller name over → IsWalk plan l caller name over
+
+-- so they are brought to the same nodes
+abbrev pub ReachAlike : Type 0
+ReachAlike = (plan : Network) (cell : OwnedCell) (k l : Key) → LiesIn plan cell k → LiesIn plan cell l → (caller name : Text) → IsReached plan k caller name → IsReached plan l caller name
+
+-- a cell of the plan: its two parts are parts of the plan's fields
+abbrev pub IsCellOf : Network → OwnedCell → Type 0
+IsCellOf plan cell = IsPart (literals_of plan).modalities cell.modality × IsPart (literals_of plan).stations cell.station
+
+-- each cell of a plan has a key of bytes
+abbrev pub EachCellHasAKey : Type 0
+EachCellHasAKey = (plan : Network) → IsWellFormed plan → (cell : OwnedCell) → IsCellOf plan cell → LiesIn plan cell (key_of cell)

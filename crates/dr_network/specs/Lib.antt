@@ -1,0 +1,5 @@
+pub mod Formed
+pub mod Laws
+pub mod Networks
+pub mod Plans
+pub mod Walks

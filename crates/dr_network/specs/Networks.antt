@@ -1,0 +1,9 @@
+-- What contracts see of a plan.
+use Rattle.std.specs.Prelude.{ℕ, List}
+use Rattle.dr_network.specs.declared.plan.Node.{Node}
+use Rattle.dr_network.specs.declared.plan.Flow.{Flow}
+
+pub record Network : Type 0 where
+  pub nodes : List Node
+  pub flows : List Flow
+  pub digest : List ℕ

@@ -1,0 +1,22 @@
+//! Laws of walks: what a reader may take from the definitions.
+ghost use Rattle.dr_network.specs.Laws.{LocalNeverKeeps, LocalIsNoNode, SendAlike, KeepAlike, EnterAlike, WalkAlike, ReachAlike, EachCellHasAKey};
+
+/// Nothing is kept for the local caller, and nothing is sent to it.
+pub fn the_local_caller_is_no_node()
+    ensures keeps { LocalNeverKeeps }
+    ensures sends { LocalIsNoNode }
+{}
+
+/// Keys of one cell of a plan are sent and kept alike, enter at the same nodes, and walk alike.
+pub fn keys_of_one_cell_walk_alike()
+    ensures send { SendAlike }
+    ensures keep { KeepAlike }
+    ensures enter { EnterAlike }
+    ensures walk { WalkAlike }
+    ensures reach { ReachAlike }
+{}
+
+/// Each cell of a plan has a key of bytes.
+pub fn each_cell_has_a_key()
+    ensures { EachCellHasAKey }
+{}

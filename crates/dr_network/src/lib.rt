@@ -1,0 +1,10 @@
+//! The plan of a network of nodes, as it is once it has been read: what each node sends, keeps and accepts,
+//! and the walks of instances through it.
+#![tactic(auto)]
+
+pub mod laws;
+pub mod literals;
+pub mod plan;
+pub mod sending;
+
+pub use plan::{Flow, Node, Plan, Values};

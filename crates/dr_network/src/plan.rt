@@ -1,0 +1,108 @@
+//! Nodes, flows, and the plan that they make.
+ghost use Rattle.std.specs.Prelude.{◌≡◌};
+ghost use Rattle.dr_network.specs.Formed.{AreWellFormed};
+ghost use Rattle.dr_network.specs.Plans.{IsWellFormed, IsTheNode, NamesNoNode};
+ghost use Rattle.std.specs.Prelude.{MatchOption};
+
+use dr_base::{Seq, Syntax, Text};
+use dr_route::{AcceptRow, Rule};
+use std::marker::Model;
+
+/// A node of the network: its title, where it listens, the greatest length of the P-DATA-TF PDUs that it
+/// takes (bytes; 0 is no limit), what it accepts, and its rules.
+#[derive(Debug, Drop)]
+pub struct Node {
+    pub name: Text,
+    pub address: Text,
+    pub max_pdu: u32,
+    pub accepts: Seq<AcceptRow>,
+    pub rules: Seq<Rule>,
+}
+
+/// The values of one field that a flow speaks of.
+#[derive(Debug, Drop)]
+pub enum Values {
+    /// Any value; it is written `*`.
+    Any,
+    Listed(Seq<Text>),
+}
+
+/// What enters at a node itself, and the node that it goes to first.
+#[derive(Debug, Drop)]
+pub struct Flow {
+    pub at: Text,
+    pub to: Text,
+    pub classes: Seq<Text>,
+    pub syntaxes: Seq<Syntax>,
+    pub modalities: Values,
+    pub stations: Values,
+}
+
+/// A plan. Its names are names of its nodes, its literals are printable, and it keeps the limits of plans.
+#[derive(Debug, Drop)]
+pub struct Plan {
+    nodes: Seq<Node>,
+    flows: Seq<Flow>,
+    digest: [u8; 32],
+}
+
+impl Model for Plan {
+    ghost use Rattle.dr_network.specs.Networks.{Network};
+
+    ghost Value = { Network };
+
+    ghost use Rattle.dr_network.specs.Formed.{AreWellFormed};
+
+    ghost view = { λ p. record { nodes = p.nodes; flows = p.flows; digest = p.digest } };
+
+    ghost invariant = { λ p. AreWellFormed p.nodes p.flows };
+}
+
+impl Plan {
+    /// The plan of these nodes and flows, whose text has this SHA-256.
+    pub fn new(nodes: Seq<Node>, flows: Seq<Flow>, digest: [u8; 32]) -> Plan
+        requires { AreWellFormed nodes flows }
+        ensures { result ≡ record { nodes = nodes; flows = flows; digest = digest } }
+    {
+        Plan {
+            nodes,
+            flows,
+            digest,
+        }
+    }
+
+    /// Its nodes, in the order of its text.
+    pub fn nodes(&self) -> &[Node]
+        ensures same { result.now ≡ self.now.nodes }
+        ensures well_formed { IsWellFormed self.now }
+    {
+        self.nodes.as_slice()
+    }
+
+    /// Its flows, in the order of its text.
+    pub fn flows(&self) -> &[Flow]
+        ensures same { result.now ≡ self.now.flows }
+        ensures well_formed { IsWellFormed self.now }
+    {
+        self.flows.as_slice()
+    }
+
+    /// The SHA-256 of its text.
+    pub fn digest(&self) -> &[u8; 32]
+        ensures { result.now ≡ self.now.digest }
+    {
+        &self.digest
+    }
+
+    /// The node of that name, and None for a stranger.
+    pub fn node(&self, name: &Text) -> Option<&Node>
+        ensures { MatchOption result (NamesNoNode self.now name.now) (λ node. IsTheNode self.now name.now node.now) }
+    {
+        for node in self.nodes.as_slice() {
+            if node.name == *name {
+                return Some(node);
+            }
+        }
+        None
+    }
+}
