@@ -1,14 +1,14 @@
 -- What holds of the table as a whole.
-use Rattle.std.specs.Prelude.{◌≡◌, ◌==◌, ◌&&◌, ◌||◌, ◌+◌, not, ℕ, Bool, true, false, List, [], ◌∷◌, ◌++◌, map, filter, length, Option, Some, None, is_some, is_none, if◌then◌else◌}
-use Rattle.std.specs.List.{list_any, list_all, flat_map}
+use Rattle.std.specs.Prelude.{◌==◌, ◌&&◌, ◌||◌, ◌+◌, ℕ, Bool, true, false, List, [], ◌∷◌, ◌++◌, map, filter, Option, Some, None, is_some, if◌then◌else◌}
+use Rattle.std.specs.List.{list_any, flat_map}
 use Rattle.std.specs.Option.{option_map_or}
 use Rattle.dr_ulstate.specs.declared.table.State.{State}
 use Rattle.dr_ulstate.specs.declared.table.State.TheVariants.{Sta1, Sta2, Sta3, Sta4, Sta5, Sta6, Sta7, Sta8, Sta9, Sta10, Sta11, Sta12, Sta13}
 use Rattle.dr_ulstate.specs.declared.table.Event.{Event}
 use Rattle.dr_ulstate.specs.declared.table.Event.TheVariants.{AssociateRequest, TransportConfirm, AssociateAcPdu, AssociateRjPdu, TransportIndication, AssociateRqPdu, AcceptResponse, RejectResponse, DataRequest, DataPdu, ReleaseRequest, ReleaseRqPdu, ReleaseRpPdu, ReleaseResponse, AbortRequest, AbortPdu, TransportClosed, ArtimExpired, InvalidPdu}
 use Rattle.dr_ulstate.specs.declared.table.Action.{Action}
-use Rattle.dr_ulstate.specs.Standing.{runs_artim, is_opening, is_asked, is_deciding, is_established, is_releasing, is_release_asked, is_closing}
-use Rattle.dr_ulstate.specs.Table.{Row, rows, has, cell, action_of, state_number, event_number}
+use Rattle.dr_ulstate.specs.Standing.{is_opening, is_asked, is_deciding, is_established, is_releasing, is_release_asked, is_closing}
+use Rattle.dr_ulstate.specs.Table.{Row, rows, has, cell, action_of, state_number}
 
 abbrev pub all_states : List State
 all_states = Sta1 ∷ Sta2 ∷ Sta3 ∷ Sta4 ∷ Sta5 ∷ Sta6 ∷ Sta7 ∷ Sta8 ∷ Sta9 ∷ Sta10 ∷ Sta11 ∷ Sta12 ∷ Sta13 ∷ []
