@@ -1,0 +1,24 @@
+-- Lines and hops as they are printed: fields joined by one tab, numbers in decimal.
+use Rattle.std.specs.Prelude.{ℕ, List, [], ◌∷◌, ◌++◌, codes}
+use Rattle.std.specs.Fmt.{decimal}
+use Rattle.dr_base.specs.Texts.{Text}
+use Rattle.dr_base.specs.Syntaxes.{syntax_uid}
+use Rattle.dr_route.specs.declared.cell.OwnedField.{OwnedField}
+use Rattle.dr_route.specs.declared.cell.OwnedField.TheVariants.{Literal, Rest}
+use Rattle.dr_sound.specs.declared.certificate.Line.{Line}
+use Rattle.dr_sound.specs.declared.certificate.Hop.{Hop}
+
+-- none of the plan's literals is written as an asterisk
+abbrev pub printed_field : OwnedField → Text
+printed_field (Literal literal) = literal
+printed_field Rest = codes "*"
+
+-- caller, node, class, transfer syntax, modality, station and rank
+abbrev pub printed_line : Line → Text
+printed_line line =
+    line.stop.caller ++ (9 ∷ line.stop.node) ++ (9 ∷ line.stop.cell.class) ++ (9 ∷ syntax_uid line.stop.cell.syntax)
+    ++ (9 ∷ printed_field line.stop.cell.modality) ++ (9 ∷ printed_field line.stop.cell.station) ++ (9 ∷ decimal line.rank)
+
+-- sender, receiver, id, class and transfer syntax
+abbrev pub printed_hop : Hop → Text
+printed_hop hop = hop.from ++ (9 ∷ hop.to) ++ (9 ∷ decimal hop.id) ++ (9 ∷ hop.class) ++ (9 ∷ syntax_uid hop.syntax)
