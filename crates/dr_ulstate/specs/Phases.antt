@@ -10,7 +10,7 @@ use Rattle.dr_ulstate.specs.declared.phase.Next.{Next}
 use Rattle.dr_ulstate.specs.declared.phase.Next.TheVariants.{Idle, Opening, Asked, Deciding, Established, Releasing, ReleaseAsked, Closing}
 use Rattle.dr_ulstate.specs.declared.step.Incoming.{Incoming}
 use Rattle.dr_ulstate.specs.declared.step.Incoming.TheVariants.{AssociateRq, AssociateAc, AssociateRj, DataTf, ReleaseRq, ReleaseRp, Aborted, Unrecognized, ConnectionClosed}
-use Rattle.dr_ulstate.specs.Standing.{Standing, moved, is_opening, is_asked, is_deciding, is_established, is_releasing, is_release_asked, is_closing}
+use Rattle.dr_ulstate.specs.Standing.{Standing, moved, MayStillSend, is_opening, is_asked, is_deciding, is_established, is_releasing, is_release_asked, is_closing}
 use Rattle.dr_ulstate.specs.Table.{cell}
 
 -- the phase of a state, with the end in it
@@ -67,6 +67,12 @@ IsOfItsState (Established a) = is_established a.state ≡ true
 IsOfItsState (Releasing a) = is_releasing a.state ≡ true
 IsOfItsState (ReleaseAsked a) = is_release_asked a.state ≡ true
 IsOfItsState (Closing a) = is_closing a.state ≡ true
+
+-- which ends may send data: an established one, and an acceptor that hasn't answered the release yet
+abbrev pub MaySend : Next → Type 0
+MaySend (Established a) = Unit {0}
+MaySend (ReleaseAsked a) = MayStillSend a
+MaySend _ = ⊥
 
 -- where an end in some phase stands; one that is gone stands nowhere
 abbrev pub standing_of : Next → Option Standing

@@ -1,9 +1,10 @@
 //! The steps of an end in whatever phase it is.
 
-ghost use Rattle.std.specs.Prelude.{◌≡◌, ◌↔◌, Bool, true, IsTrue, IsSomeAnd, Err};
+ghost use Rattle.std.specs.Prelude.{◌≡◌, ◌↔◌, Bool, true, IsTrue, IsSomeAnd, IsOkAnd, Some, Err};
 ghost use Rattle.dr_ulstate.specs.Standing.{HasExpired};
-ghost use Rattle.dr_ulstate.specs.Phases.{state_of, standing_of, next_stepped, IsOfItsState, event_of, is_acceptable};
-ghost use Rattle.dr_ulstate.specs.declared.table.Event.TheVariants.{AbortRequest, ArtimExpired};
+ghost use Rattle.dr_ulstate.specs.Table.{cell};
+ghost use Rattle.dr_ulstate.specs.Phases.{state_of, standing_of, next_stepped, IsOfItsState, MaySend, event_of, is_acceptable};
+ghost use Rattle.dr_ulstate.specs.declared.table.Event.TheVariants.{AbortRequest, ArtimExpired, DataRequest};
 
 use crate::phase::Next;
 use crate::step::{Incoming, occur};
@@ -67,6 +68,28 @@ impl Next {
         ensures { result ≡ next_stepped AbortRequest true self now }
     {
         self.occur(Event::AbortRequest, true, now)
+    }
+
+    /// Sends data, where this end may: the association is established, or this is an acceptor that hasn't
+    /// answered the release yet. Else the end is given back.
+    pub fn send(self) -> Result<(Action, Next), Next>
+        ensures sent { MaySend self → IsOkAnd result (λ r. (r.1 ≡ self) × (cell DataRequest (state_of self) true true ≡ Some (r.0, state_of self))) }
+        ensures refused { (MaySend self → ⊥) → result ≡ Err self }
+    {
+        match self {
+            Next::Established(end) => {
+                let (action, end) = end.send();
+                Ok((action, Next::Established(end)))
+            }
+            Next::ReleaseAsked(end) => {
+                if !end.may_still_send() {
+                    return Err(Next::ReleaseAsked(end));
+                }
+                let (action, end) = end.send();
+                Ok((action, Next::ReleaseAsked(end)))
+            }
+            other => Err(other),
+        }
     }
 
     // What an event makes of the end.
