@@ -1,13 +1,25 @@
 -- Laws of sound plans and certificates.
-use Rattle.std.specs.Prelude.{◌≡◌, ℕ, ◌↔◌, List, Contains}
-use Rattle.dr_route.specs.Laws.{key_of}
+use Rattle.std.specs.Prelude.{◌≤◌, ◌↔◌, List, Contains, length}
+use Rattle.dr_base.specs.Texts.{Text}
+use Rattle.dr_base.specs.declared.syntax.Syntax.{Syntax}
 use Rattle.dr_network.specs.Networks.{Network}
 use Rattle.dr_network.specs.Plans.{IsWellFormed}
 use Rattle.dr_sound.specs.declared.certificate.Line.{Line}
 use Rattle.dr_sound.specs.Soundness.{IsSound}
-use Rattle.dr_sound.specs.Certificates.{HasLine}
+use Rattle.dr_sound.specs.Certificates.{HasLine, AreHopPairs}
+use Rattle.dr_sound.specs.HopPairs.{AreOverHop}
 use Rattle.dr_sound.specs.Ranked.{AreRanked}
 
 -- lines that are right one by one are exactly the plan's lines, so their ranks are the greatest
 abbrev pub RankedLinesAreTheLines : Type 0
 RankedLinesAreTheLines = (plan : Network) → IsWellFormed plan → (lines : List Line) → AreRanked plan lines → (line : Line) → Contains lines line ↔ HasLine plan line
+
+-- so are the pairs that they show for each hop
+abbrev pub ShownPairsAreTheHops : Type 0
+ShownPairsAreTheHops = (plan : Network) → IsWellFormed plan → (lines : List Line) → AreRanked plan lines → (from to : Text) (pairs : List (Text × Syntax)) →
+    AreOverHop lines from to pairs ↔ AreHopPairs plan from to pairs
+
+-- and with at most 128 pairs over each hop the plan is sound
+abbrev pub RankedLinesAreSound : Type 0
+RankedLinesAreSound = (plan : Network) → IsWellFormed plan → (lines : List Line) → AreRanked plan lines →
+    ((from to : Text) → (pairs : List (Text × Syntax)) × AreOverHop lines from to pairs × (length pairs ≤ 128)) → IsSound plan

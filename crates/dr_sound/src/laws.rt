@@ -1,7 +1,14 @@
 //! Laws of sound plans.
-ghost use Rattle.dr_sound.specs.Laws.{RankedLinesAreTheLines};
+ghost use Rattle.dr_sound.specs.Laws.{RankedLinesAreTheLines, ShownPairsAreTheHops, RankedLinesAreSound};
 
 /// Lines that are right one by one are exactly the plan's lines, and their ranks are the greatest.
 pub fn ranked_lines_are_the_lines()
     ensures { RankedLinesAreTheLines }
+{}
+
+/// The pairs that such lines show for a hop are those that go over it, and with at most 128 of them over each
+/// hop the plan is sound.
+pub fn ranked_lines_make_a_sound_plan()
+    ensures pairs { ShownPairsAreTheHops }
+    ensures sound { RankedLinesAreSound }
 {}

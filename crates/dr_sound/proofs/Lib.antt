@@ -1,0 +1,3 @@
+pub mod Hopping
+pub mod Pigeons
+pub mod RankedLines

@@ -1,0 +1,34 @@
+-- The pairs that go over a hop, as lines show them, and their numbers.
+use Rattle.std.specs.Prelude.{◌≡◌, ◌≢◌, ℕ, ◌+◌, ◌*◌, ◌≤◌, ◌↔◌, List, AllPairs, All, Contains, Some, slice_get, length}
+use Rattle.std.specs.declared.cmp.Ordering.TheVariants.{Less}
+use Rattle.dr_base.specs.Texts.{Text}
+use Rattle.dr_base.specs.declared.syntax.Syntax.{Syntax}
+use Rattle.dr_route.specs.Routes.{local}
+use Rattle.dr_sound.specs.declared.certificate.Stop.{Stop}
+use Rattle.dr_sound.specs.declared.certificate.Line.{Line}
+use Rattle.dr_sound.specs.declared.certificate.Hop.{Hop}
+use Rattle.dr_sound.specs.Certificates.{pair_cmp}
+
+-- some line's stop is reached over the hop, for keys of that class and transfer syntax
+abbrev pub OverHop : List Line → Text → Text → Text × Syntax → Type 0
+OverHop lines from to pair = (stop : Stop) × (rank : ℕ) × Contains lines (record { stop = stop; rank = rank })
+    × (stop.caller ≡ from) × (stop.node ≡ to) × (from ≢ local) × (pair ≡ (stop.cell.class, stop.cell.syntax))
+
+-- the pairs over the hop, in byte order of class and then transfer syntax, each once
+pub record AreOverHop (lines : List Line) (from to : Text) (all : List (Text × Syntax)) : Type 0 where
+  pub ordered : AllPairs (λ p q. pair_cmp p q ≡ Less) all
+  pub each : (pair : Text × Syntax) → Contains all pair ↔ OverHop lines from to pair
+
+-- the hop's pair has its number there: 1, 3, 5 and so on
+abbrev pub HasNumber : List Line → Hop → Type 0
+HasNumber lines hop = (all : List (Text × Syntax)) × (k : ℕ) × AreOverHop lines hop.from hop.to all × (slice_get all k ≡ Some (hop.class, hop.syntax)) × (hop.id ≡ 2 * k + 1)
+
+-- Exactly the numbered pairs of all hops, each once, and over no hop more than 128.
+pub record AreNumbered (lines : List Line) (hops : List Hop) : Type 0 where
+  pub each : (hop : Hop) → Contains hops hop ↔ HasNumber lines hop
+  pub apart : AllPairs (λ a b. a ≢ b) hops
+  pub few : (from to : Text) → (all : List (Text × Syntax)) × AreOverHop lines from to all × (length all ≤ 128)
+
+-- more pairs than a hop can carry
+abbrev pub AreTooMany : List Line → Text → Text → Type 0
+AreTooMany lines from to = (apart : List (Text × Syntax)) × AllPairs (λ p q. p ≢ q) apart × All (OverHop lines from to) apart × (length apart ≡ 129)
