@@ -28,8 +28,11 @@ IsDataSet s text es = Run (StartsTop s) es text []
 
 -- ---- values
 
+abbrev pub is_padding : ℕ → Bool
+is_padding b = (b == 0) || (b == 32)
+
 abbrev pub onto : ℕ → List ℕ → List ℕ
-onto b [] = if (b == 0) || (b == 32) then [] else b ∷ []
+onto b [] = if is_padding b then [] else b ∷ []
 onto b (c ∷ cs) = b ∷ c ∷ cs
 
 -- without the spaces and NULs at the end
@@ -46,9 +49,12 @@ without_spaces (b ∷ bs) = if b == 32 then without_spaces bs else b ∷ bs
 abbrev pub first_value : ℕ → ℕ → List Element → Option (List ℕ)
 first_value group element es = option_map (λ (e : Element). unwrap_or e.value []) (find (λ (e : Element). has_tag group element e.tag) es)
 
+abbrev pub trimmed : List ℕ → List ℕ
+trimmed bytes = without_end (without_spaces bytes)
+
 -- the text of the first element with the tag, empty where there is none
 abbrev pub value_at : ℕ → ℕ → List Element → List ℕ
-value_at group element es = without_end (without_spaces (unwrap_or (first_value group element es) []))
+value_at group element es = trimmed (unwrap_or (first_value group element es) [])
 
 -- ---- the first fault: behind a front that is in order, something is not
 
@@ -126,7 +132,8 @@ Shows s fs text BadLength = ShowsLength s fs text
 Shows s fs text TooDeep = ShowsDepth s fs text
 -- more should come: something is open or begun, no whole token stands there, and nothing else is wrong
 Shows s fs text Truncated = (text ≡ [] → fs ≢ []) × ((rest : List ℕ) → StartsToken s fs text rest → ⊥) × (ShowsVr s fs text → ⊥) × (ShowsLength s fs text → ⊥) × (ShowsDepth s fs text → ⊥)
-Shows s fs text Memory = Unit {0}
+-- nothing is wrong: the text ends here, and there was no memory for its values
+Shows s fs text Memory = (fs ≡ []) × (text ≡ [])
 
 -- Behind a front that is in order the fault shows, so it is the one at the least offset.
 abbrev pub FirstFault : Syntax → List ℕ → DataFault → Type 0

@@ -4,3 +4,4 @@ pub mod Syntaxes
 pub mod OneAnswer
 pub mod Reading
 pub mod Tokens
+pub mod Wholes

@@ -1,5 +1,4 @@
 //! What is wrong with a data set or a file.
-use std::alloc::AllocError;
 use thiserror::Error;
 
 /// Why a data set isn't read: its first fault, in the order of its bytes.
@@ -20,17 +19,6 @@ pub enum DataFault {
     /// There was no memory for the values.
     #[error("Memory")]
     Memory,
-}
-
-impl From<AllocError> for DataFault {
-    ghost use Rattle.std.specs.Prelude.{◌≡◌};
-    ghost use Rattle.dr_dataset.specs.declared.fault.DataFault.TheVariants.{Memory};
-
-    ghost from_gives = { λ _ e. e ≡ Memory };
-
-    fn from(_e: AllocError) -> DataFault {
-        DataFault::Memory
-    }
 }
 
 /// Why a Part 10 file isn't read.

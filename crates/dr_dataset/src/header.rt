@@ -1,6 +1,7 @@
 //! Headers of elements (PS3.5 section 7.1).
 ghost use Rattle.std.specs.Prelude.{◌≡◌, ◌<◌, MatchOption, MatchResult, length};
 ghost use Rattle.dr_dataset.specs.Elements.{is_short, inside};
+ghost use Rattle.dr_dataset.specs.DataSet.{has_tag};
 ghost use Rattle.dr_dataset.specs.Reading.{short_of, long_of, tag_of, form_of, explicit_form_of, long_form_of, are_capitals};
 
 use crate::fault::DataFault;
@@ -11,6 +12,15 @@ use crate::syntax::Syntax;
 pub struct Tag {
     pub group: u16,
     pub element: u16,
+}
+
+impl Tag {
+    /// Whether it is that tag.
+    pub fn is(self, group: u16, element: u16) -> bool
+        ensures { result ≡ has_tag group element self }
+    {
+        self.group == group && self.element == element
+    }
 }
 
 /// A value representation: two letters.

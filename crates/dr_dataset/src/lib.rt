@@ -3,14 +3,18 @@
 #![tactic(auto)]
 
 pub mod fault;
+mod found;
 pub mod frame;
 pub mod header;
 pub mod laws;
+pub mod scan;
 mod scanner;
 mod stack;
 pub mod syntax;
 mod token;
+mod trim;
 pub mod values;
+mod whole;
 
 pub use fault::{DataFault, FileFault};
 pub use syntax::Syntax;

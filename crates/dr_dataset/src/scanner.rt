@@ -1,6 +1,10 @@
 //! The scanner: it takes a data set token by token, and knows what is open.
-ghost use Rattle.std.specs.Prelude.{◌≡◌, ◌==◌, ◌<◌, ◌≤◌, [], length, IsTrue, MatchResult, IfOk, IfErr};
-ghost use Rattle.dr_dataset.specs.DataSet.{is_key, in_force};
+ghost use Rattle.std.specs.Prelude.{◌≡◌, ◌≢◌, ◌==◌, ◌<◌, ◌≤◌, ◌++◌, ℕ, List, [], length, IsTrue, MatchResult, IfOk, IfErr};
+ghost use Rattle.std.specs.Bool.{MatchBool};
+ghost use Rattle.std.specs.Option.{option_copied};
+ghost use Rattle.dr_dataset.specs.Elements.{Element};
+ghost use Rattle.dr_dataset.specs.DataSet.{is_key, in_force, Opens, Shows};
+ghost use Rattle.dr_dataset.specs.Wholes.{whole, elements_of};
 ghost use Rattle.dr_dataset.specs.Reading.{long_of};
 ghost use Rattle.dr_dataset.specs.Tokens.{is_nested, is_full, element_token, item_token, end_token, open_item_token, token_of, open_behind};
 
@@ -10,6 +14,7 @@ use crate::header::{Tag, UNDEFINED, form_at, long_at, syntax_inside, tag_at};
 use crate::stack::Stack;
 use crate::syntax::Syntax;
 use crate::token::Token;
+use crate::whole::Whole;
 
 const ITEM_GROUP: u16 = 0xFFFE;
 
@@ -156,6 +161,54 @@ impl Scanner {
             }
         }
         Ok((token, rest))
+    }
+
+    /// Takes one token with its value, and gives the element of the top level that ends there, if one does.
+    /// The front of the text that is in order grows by the token.
+    pub fn advance<'a>(
+        &mut self,
+        text: &'a [u8],
+    ) -> Result<(Option<Whole<'a>>, &'a [u8]), DataFault>
+        ensures syntax { self.new.syntax ≡ self.old.syntax }
+        ensures ok { IfOk result (λ r. (front : List ℕ) (es : List Element) → Opens self.old.syntax self.old.stack front es text.now
+            → Opens self.old.syntax self.new.stack front (es ++ elements_of r.0) r.1.now) }
+        ensures shorter { IfOk result (λ r. length r.1.now < length text.now) }
+        ensures err { IfErr result (λ fault. (fault ≢ DataFault.Memory) × ((text.now ≡ [] → self.old.stack ≢ []) → Shows self.old.syntax self.old.stack text.now fault)) }
+    {
+        let (token, rest) = self.step(text)?;
+        match token {
+            Token::Value(tag, len) => {
+                let Some((value, rest)) = rest.split_at_checked(len as usize) else {
+                    return Err(DataFault::Truncated);
+                };
+                Ok((self.at_top(tag, Some(value)), rest))
+            }
+            Token::PlainItem(len) => {
+                let Some((_, rest)) = rest.split_at_checked(len as usize) else {
+                    return Err(DataFault::Truncated);
+                };
+                Ok((None, rest))
+            }
+            Token::SequenceEnd(tag) => Ok((self.at_top(tag, None), rest)),
+            Token::Sequence(_, _) | Token::Item | Token::ItemEnd => Ok((None, rest)),
+        }
+    }
+
+    /// Whether the data set may end here: nothing is left and nothing is open.
+    pub fn is_at_end(&self, rest: &[u8]) -> bool
+        ensures { MatchBool result ((rest.now ≡ []) × (self.now.stack ≡ [])) (rest.now ≡ [] → self.now.stack ≢ []) }
+    {
+        rest.is_empty() && self.stack.is_empty()
+    }
+
+    /// An element that ends here, if it is one of the top level.
+    fn at_top<'a>(&self, tag: Tag, value: Option<&'a [u8]>) -> Option<Whole<'a>>
+        ensures { elements_of result ≡ whole self.now.stack tag (option_copied value.entry) }
+    {
+        if !self.stack.is_empty() {
+            return None;
+        }
+        Some(Whole { tag, value })
     }
 
     fn syntax_in_force(&self) -> Syntax

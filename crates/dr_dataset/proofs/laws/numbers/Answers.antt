@@ -1,4 +1,5 @@
 use Rattle.dr_dataset.proofs.ReadingLemmas.{short_sound, short_whole}
+use Rattle.dr_dataset.proofs.OpensLemmas.{after_value}
 use Rattle.dr_dataset.proofs.TokenLemmas.{token_sound}
 use Rattle.dr_dataset.proofs.laws.numbers.Goals as goal
 

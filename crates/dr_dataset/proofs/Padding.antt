@@ -1,0 +1,21 @@
+-- Padding at the end of a value.
+use Rattle.std.proofs.Common.{◌≡◌, ℕ, zero, suc, ◌+◌, ◌-◌, ◌<◌, ◌≤◌, Bool, true, false, cond, List, [], ◌∷◌, ◌++◌, length, get_or, take, drop, refl, sym, ap, subst, ◌∙◌, arith}
+use Rattle.dr_dataset.specs.DataSet.{is_padding, onto, without_end}
+
+-- what a list ends with, when one more stands in front
+last_of : (b c : ℕ) (cs : List ℕ) → get_or (b ∷ c ∷ cs) (length (b ∷ c ∷ cs) - 1) 0 ≡ get_or (c ∷ cs) (length (c ∷ cs) - 1) 0
+last_of b c cs = let e : suc (suc (length cs)) - 1 ≡ suc (suc (length cs) - 1) = omega arith in rw e refl
+
+front_of : (b c : ℕ) (cs : List ℕ) → take (length (b ∷ c ∷ cs) - 1) (b ∷ c ∷ cs) ≡ b ∷ take (length (c ∷ cs) - 1) (c ∷ cs)
+front_of b c cs = let e : suc (suc (length cs)) - 1 ≡ suc (suc (length cs) - 1) = omega arith in rw e refl
+
+pub end_goes_on : (text : List ℕ) → 0 < length text → is_padding (get_or text (length text - 1) 0) ≡ true → without_end (take (length text - 1) text) ≡ without_end text
+end_goes_on [] h pad = absurd (omega arith)
+end_goes_on (b ∷ []) h pad = rw pad refl
+end_goes_on (b ∷ c ∷ cs) h pad =
+    rw (front_of b c cs) (ap (onto b) (end_goes_on (c ∷ cs) (omega arith) (rw (← last_of b c cs) pad)))
+
+pub end_stays : (text : List ℕ) → 0 < length text → is_padding (get_or text (length text - 1) 0) ≡ false → without_end text ≡ text
+end_stays [] h pad = absurd (omega arith)
+end_stays (b ∷ []) h pad = rw pad refl
+end_stays (b ∷ c ∷ cs) h pad = rw (end_stays (c ∷ cs) (omega arith) (rw (← last_of b c cs) pad)) refl

@@ -1,0 +1,33 @@
+-- Elements of the top level, as a scan finds them.
+use Rattle.std.specs.Prelude.{◌≡◌, ℕ, List, [], ◌∷◌, Option, Some, None, unwrap_or}
+use Rattle.std.specs.Borrow.{Bor}
+use Rattle.std.specs.Option.{option_copied}
+use Rattle.dr_dataset.specs.declared.header.Tag.{Tag}
+use Rattle.dr_dataset.specs.declared.frame.Frame.{Frame}
+use Rattle.dr_dataset.specs.declared.whole.Whole.{Whole}
+use Rattle.dr_dataset.specs.declared.found.Found.{Found}
+use Rattle.dr_dataset.specs.declared.values.Attributes.{Attributes}
+use Rattle.dr_dataset.specs.Elements.{Element}
+use Rattle.dr_dataset.specs.DataSet.{first_value, trimmed}
+
+-- an element is one of the top level where nothing is open behind it
+abbrev pub whole : List Frame → Tag → Option (List ℕ) → List Element
+whole [] t value = record { tag = t; value = value } ∷ []
+whole (f ∷ fs) t value = []
+
+-- the element that a token ended, where one did
+abbrev pub elements_of : Option Whole → List Element
+elements_of None = []
+elements_of (Some w) = record { tag = w.tag; value = option_copied w.value } ∷ []
+
+-- the first bytes of each of the four tags in these elements
+abbrev pub AreFound : Found → List Element → Type 0
+AreFound f es = (option_copied f.class ≡ first_value 0x0008 0x0016 es) × (option_copied f.instance ≡ first_value 0x0008 0x0018 es)
+    × (option_copied f.modality ≡ first_value 0x0008 0x0060 es) × (option_copied f.station ≡ first_value 0x0008 0x1010 es)
+
+abbrev pub text_of : Option (Bor (List ℕ)) → List ℕ
+text_of value = trimmed (unwrap_or (option_copied value) [])
+
+-- the four values, trimmed
+abbrev pub AreValues : Found → Attributes → Type 0
+AreValues f a = (a.class ≡ text_of f.class) × (a.instance ≡ text_of f.instance) × (a.modality ≡ text_of f.modality) × (a.station ≡ text_of f.station)
