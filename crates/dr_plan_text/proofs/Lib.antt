@@ -1,0 +1,6 @@
+pub mod Keys
+pub mod Items
+pub mod Trimmed
+pub mod Ports
+pub mod Repeats
+pub mod OneAnswer

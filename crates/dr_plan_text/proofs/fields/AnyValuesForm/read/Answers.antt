@@ -1,0 +1,10 @@
+use Rattle.std.proofs.lemmas.Bool.{false≢true}
+use Rattle.std.proofs.lemmas.Result.{err_from_is_err_and}
+use Rattle.toml.specs.View.{view}
+use Rattle.dr_plan_text.proofs.OneAnswer.{no_values}
+use Rattle.dr_plan_text.proofs.fields.AnyValuesForm.read.Goals as goal
+
+pub returns-in_err-read-clause-field : goal.returns-in_err-read-clause-field
+returns-in_err-read-clause-field c =
+    let p = err_from_is_err_and c.from_residual.result c.from_residual.ensures.1 in
+    rw (p.1, p.2) (λ e. no_values (view c.args.value.now) (λ is. false≢true (c.if-is_star.ensures.1 is)) (c.in_err-read.ensures.field e))

@@ -1,0 +1,97 @@
+-- What the tables of a plan's text say, and what the text says as a whole.
+use Rattle.std.specs.Prelude.{◌≡◌, pos, false, List, [], ◌∷◌, Option, Some, None, codes, Result, Ok, Err}
+use Rattle.std.specs.Str.{IsUtf8}
+use Rattle.toml.specs.Data.{Data, integer, Members, get_member}
+use Rattle.toml.specs.Parse.{parse_document}
+use Rattle.dr_base.specs.Texts.{Text}
+use Rattle.dr_route.specs.declared.rule.Rule.{Rule}
+use Rattle.dr_route.specs.declared.rule.Pattern.TheVariants.{Any}
+use Rattle.dr_network.specs.Formed.{IsClass, IsLiteral, IsAddress}
+use Rattle.dr_plan_text.specs.Fields.{SaysText, SaysFormed, SaysNumber, SaysFlag, SaysPattern, SaysValues, SaysCallers, SaysTable, SaysTextsOnce, IsListOf, IsSomeOf, Given, GivenOr, HasOnly}
+use Rattle.dr_plan_text.specs.declared.words.AcceptText.{AcceptText}
+use Rattle.dr_plan_text.specs.declared.words.NodeText.{NodeText}
+use Rattle.dr_plan_text.specs.declared.words.FlowText.{FlowText}
+use Rattle.dr_plan_text.specs.declared.words.PlanText.{PlanText}
+use Rattle.dr_plan_text.specs.declared.fault.TextFault.{TextFault}
+use Rattle.dr_plan_text.specs.declared.fault.TextFault.TheVariants as fault
+
+-- `[[node.accept]]`
+abbrev pub accept_keys : List Text
+accept_keys = codes "from" ∷ codes "class" ∷ codes "syntax" ∷ []
+
+pub record IsAcceptTable (fields : Members) (row : AcceptText) : Type 0 where
+  pub only : HasOnly accept_keys fields
+  pub from : Given SaysCallers (get_member (codes "from") fields) row.from
+  pub class : Given (SaysFormed IsClass) (get_member (codes "class") fields) row.class
+  pub syntax : Given SaysTextsOnce (get_member (codes "syntax") fields) row.syntaxes
+
+-- `[[node.rule]]`
+abbrev pub rule_keys : List Text
+rule_keys = codes "from" ∷ codes "class" ∷ codes "modality" ∷ codes "station" ∷ codes "to" ∷ codes "keep" ∷ []
+
+pub record IsRuleTable (fields : Members) (rule : Rule) : Type 0 where
+  pub only : HasOnly rule_keys fields
+  pub from : GivenOr Any (SaysPattern SaysText) (get_member (codes "from") fields) rule.from
+  pub class : GivenOr Any (SaysPattern (SaysFormed IsClass)) (get_member (codes "class") fields) rule.class
+  pub modality : GivenOr Any (SaysPattern (SaysFormed IsLiteral)) (get_member (codes "modality") fields) rule.modality
+  pub station : GivenOr Any (SaysPattern (SaysFormed IsLiteral)) (get_member (codes "station") fields) rule.station
+  pub to : GivenOr [] (IsListOf SaysText) (get_member (codes "to") fields) rule.to
+  pub keep : GivenOr false SaysFlag (get_member (codes "keep") fields) rule.keep
+
+-- `[[node]]`
+abbrev pub node_keys : List Text
+node_keys = codes "name" ∷ codes "address" ∷ codes "max_pdu" ∷ codes "accept" ∷ codes "rule" ∷ []
+
+pub record IsNodeTable (fields : Members) (node : NodeText) : Type 0 where
+  pub only : HasOnly node_keys fields
+  pub name : Given SaysText (get_member (codes "name") fields) node.name
+  pub address : Given (SaysFormed IsAddress) (get_member (codes "address") fields) node.address
+  pub max_pdu : GivenOr (pos 16384) SaysNumber (get_member (codes "max_pdu") fields) node.max_pdu
+  pub accept : GivenOr [] (IsListOf (SaysTable IsAcceptTable)) (get_member (codes "accept") fields) node.accepts
+  pub rule : GivenOr [] (IsListOf (SaysTable IsRuleTable)) (get_member (codes "rule") fields) node.rules
+
+-- `[[flow]]`
+abbrev pub flow_keys : List Text
+flow_keys = codes "at" ∷ codes "to" ∷ codes "class" ∷ codes "syntax" ∷ codes "modality" ∷ codes "station" ∷ []
+
+pub record IsFlowTable (fields : Members) (flow : FlowText) : Type 0 where
+  pub only : HasOnly flow_keys fields
+  pub at : Given SaysText (get_member (codes "at") fields) flow.at
+  pub to : Given SaysText (get_member (codes "to") fields) flow.to
+  pub class : Given (IsSomeOf (SaysFormed IsClass)) (get_member (codes "class") fields) flow.classes
+  pub syntax : Given (IsSomeOf SaysText) (get_member (codes "syntax") fields) flow.syntaxes
+  pub modality : Given SaysValues (get_member (codes "modality") fields) flow.modalities
+  pub station : Given SaysValues (get_member (codes "station") fields) flow.stations
+
+-- the format is 1, which it also is where the text doesn't say it
+abbrev pub IsFormat : Option Data → Type 0
+IsFormat None = Unit {0}
+IsFormat (Some d) = d ≡ integer (pos 1)
+
+-- the text as a whole
+abbrev pub root_keys : List Text
+root_keys = codes "format" ∷ codes "node" ∷ codes "flow" ∷ []
+
+pub record IsRoot (fields : Members) (plan : PlanText) : Type 0 where
+  pub only : HasOnly root_keys fields
+  pub format : IsFormat (get_member (codes "format") fields)
+  pub node : GivenOr [] (IsListOf (SaysTable IsNodeTable)) (get_member (codes "node") fields) plan.nodes
+  pub flow : GivenOr [] (IsListOf (SaysTable IsFlowTable)) (get_member (codes "flow") fields) plan.flows
+
+-- the bytes are text in TOML, of this tree
+abbrev pub IsTree : Text → Members → Type 0
+IsTree text root = IsUtf8 text × (parse_document text ≡ Some root)
+
+abbrev pub IsToml : Text → Type 0
+IsToml text = (root : Members) × IsTree text root
+
+-- the text writes this plan
+abbrev pub Writes : Text → PlanText → Type 0
+Writes text plan = (root : Members) × IsTree text root × IsRoot root plan
+
+-- what is read of a text: the plan that it writes, else the first fault
+abbrev pub ReadsText : Text → Result PlanText TextFault → Type 0
+ReadsText text (Ok plan) = Writes text plan
+ReadsText text (Err fault.NotToml) = IsToml text → ⊥
+ReadsText text (Err fault.Field) = IsToml text × ((plan : PlanText) → Writes text plan → ⊥)
+ReadsText text (Err fault.Memory) = Unit {0}

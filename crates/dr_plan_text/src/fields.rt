@@ -1,0 +1,203 @@
+//! The forms of a plan's fields.
+ghost use Rattle.std.specs.Prelude.{◌≡◌, ◌≢◌, ◌↔◌, IfOk, OnOk, IfErr, List, IsTrue, AllPairs};
+ghost use Rattle.toml.specs.View.{view};
+ghost use Rattle.dr_network.specs.Formed.{IsClass, IsLiteral, IsAddress};
+ghost use Rattle.dr_plan_text.specs.Fields.{SaysText, SaysFormed, SaysNumber, SaysFlag, SaysPattern, SaysValues, SaysCallers, SaysTextsOnce, star};
+ghost use Rattle.dr_plan_text.specs.declared.fault.ReadFault.TheVariants.{Field};
+
+use crate::fault::ReadFault;
+use crate::form::{Form, ListOf, SomeOf};
+use crate::forms::{is_address, is_class, is_literal};
+use dr_base::{Seq, Text};
+use dr_network::Values;
+use dr_route::{Callers, Pattern};
+use std::alloc::{AllocError, Global};
+use std::collections::BTreeSet;
+use toml::Value;
+
+/// Any text.
+pub struct AnyText;
+
+impl Form for AnyText {
+    type Output = Text;
+
+    ghost says = { SaysText };
+
+    fn read(alloc: Global, value: &Value) -> Result<Text, ReadFault> {
+        let Some(text) = value.as_str() else {
+            return Err(ReadFault::Field);
+        };
+        Ok(Text::copy_of(alloc, text.as_bytes())?)
+    }
+}
+
+/// A SOP class.
+pub struct Class;
+
+impl Form for Class {
+    type Output = Text;
+
+    ghost says = { SaysFormed IsClass };
+
+    fn read(alloc: Global, value: &Value) -> Result<Text, ReadFault> {
+        let Some(text) = value.as_str() else {
+            return Err(ReadFault::Field);
+        };
+        if !is_class(text.as_bytes()) {
+            return Err(ReadFault::Field);
+        }
+        Ok(Text::copy_of(alloc, text.as_bytes())?)
+    }
+}
+
+/// The value of a modality or a station.
+pub struct Literal;
+
+impl Form for Literal {
+    type Output = Text;
+
+    ghost says = { SaysFormed IsLiteral };
+
+    fn read(alloc: Global, value: &Value) -> Result<Text, ReadFault> {
+        let Some(text) = value.as_str() else {
+            return Err(ReadFault::Field);
+        };
+        if !is_literal(text.as_bytes()) {
+            return Err(ReadFault::Field);
+        }
+        Ok(Text::copy_of(alloc, text.as_bytes())?)
+    }
+}
+
+/// A host and a port.
+pub struct Address;
+
+impl Form for Address {
+    type Output = Text;
+
+    ghost says = { SaysFormed IsAddress };
+
+    fn read(alloc: Global, value: &Value) -> Result<Text, ReadFault> {
+        let Some(text) = value.as_str() else {
+            return Err(ReadFault::Field);
+        };
+        if !is_address(text.as_bytes()) {
+            return Err(ReadFault::Field);
+        }
+        Ok(Text::copy_of(alloc, text.as_bytes())?)
+    }
+}
+
+/// An integer.
+pub struct Number;
+
+impl Form for Number {
+    type Output = i64;
+
+    ghost says = { SaysNumber };
+
+    fn read(_alloc: Global, value: &Value) -> Result<i64, ReadFault> {
+        value.as_integer().ok_or(ReadFault::Field)
+    }
+}
+
+/// True or false.
+pub struct Flag;
+
+impl Form for Flag {
+    type Output = bool;
+
+    ghost says = { SaysFlag };
+
+    fn read(_alloc: Global, value: &Value) -> Result<bool, ReadFault> {
+        value.as_bool().ok_or(ReadFault::Field)
+    }
+}
+
+/// Whether the value is the text `*`.
+fn is_star(value: &Value) -> bool
+    ensures { IsTrue result ↔ (view value.now ≡ star) }
+{
+    match value.as_str() {
+        Some(text) => text == "*",
+        None => false,
+    }
+}
+
+/// `*`, or a text of that form.
+pub struct PatternOf<F>(pub F);
+
+impl<F: Form<Output = Text>> Form for PatternOf<F> {
+    type Output = Pattern;
+
+    ghost says = { SaysPattern F.says };
+
+    fn read(alloc: Global, value: &Value) -> Result<Pattern, ReadFault> {
+        if is_star(value) {
+            return Ok(Pattern::Any);
+        }
+        Ok(Pattern::Literal(F::read(alloc, value)?))
+    }
+}
+
+/// `*`, or a list of literals.
+pub struct AnyValues;
+
+impl Form for AnyValues {
+    type Output = Values;
+
+    ghost says = { SaysValues };
+
+    fn read(alloc: Global, value: &Value) -> Result<Values, ReadFault> {
+        if is_star(value) {
+            return Ok(Values::Any);
+        }
+        Ok(Values::Listed(ListOf::<Literal>::read(alloc, value)?))
+    }
+}
+
+/// `*`, or a list of names.
+pub struct AnyCallers;
+
+impl Form for AnyCallers {
+    type Output = Callers;
+
+    ghost says = { SaysCallers };
+
+    fn read(alloc: Global, value: &Value) -> Result<Callers, ReadFault> {
+        if is_star(value) {
+            return Ok(Callers::Any);
+        }
+        Ok(Callers::Listed(ListOf::<AnyText>::read(alloc, value)?))
+    }
+}
+
+/// Whether no text stands among them twice.
+fn are_apart(alloc: Global, texts: &[Text]) -> Result<bool, AllocError>
+    ensures { IfOk result (λ b. IsTrue b ↔ AllPairs (λ s t. s ≢ t) texts.now) }
+{
+    let mut seen = BTreeSet::new(alloc);
+    for text in texts {
+        if !seen.insert(text.clone()?)? {
+            return Ok(false);
+        }
+    }
+    Ok(true)
+}
+
+/// A list of one text or more, none of which stands there twice.
+pub struct TextsOnce;
+
+impl Form for TextsOnce {
+    type Output = Seq<Text>;
+
+    ghost says = { SaysTextsOnce };
+
+    fn read(alloc: Global, value: &Value) -> Result<Seq<Text>, ReadFault> {
+        let texts = SomeOf::<AnyText>::read(alloc, value)?;
+        if !are_apart(alloc, texts.as_slice())? {
+            return Err(ReadFault::Field);
+        }
+        Ok(texts)
+    }
+}

@@ -1,0 +1,15 @@
+//! A plan as its text writes it: the tables and fields that TOML shows, each of its own form, while names,
+//! transfer syntaxes and lengths are still as they were written.
+#![tactic(auto)]
+
+pub mod fault;
+pub mod fields;
+pub mod form;
+pub mod forms;
+pub mod tables;
+pub mod text;
+pub mod words;
+
+pub use fault::{ReadFault, TextFault};
+pub use text::read_text;
+pub use words::{AcceptText, FlowText, NodeText, PlanText};

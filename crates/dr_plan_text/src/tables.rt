@@ -1,0 +1,141 @@
+//! The tables of a plan's text.
+ghost use Rattle.std.specs.Prelude.{◌≡◌, ◌↔◌, IfOk, IfErr, IsTrue, codes};
+ghost use Rattle.toml.specs.Data.{get_member};
+ghost use Rattle.toml.specs.View.{table_view};
+ghost use Rattle.dr_plan_text.specs.Tables.{IsAcceptTable, IsRuleTable, IsNodeTable, IsFlowTable, IsRoot, IsFormat};
+ghost use Rattle.dr_plan_text.specs.declared.fault.ReadFault.TheVariants.{Field};
+ghost use Rattle.dr_plan_text.specs.declared.words.PlanText.{PlanText as Written};
+
+use crate::fault::ReadFault;
+use crate::fields::{
+    Address, AnyCallers, AnyText, AnyValues, Class, Flag, Literal, Number, PatternOf, TextsOnce,
+};
+use crate::form::{ListOf, SomeOf, TableForm, TableOf, defaulted, has_only, required, value_at};
+use crate::words::{AcceptText, FlowText, NodeText, PlanText};
+use dr_base::Seq;
+use dr_route::{Pattern, Rule};
+use std::alloc::Global;
+use toml::Table;
+
+/// A row of an accept list, `[[node.accept]]`.
+pub struct AcceptTable;
+
+impl TableForm for AcceptTable {
+    type Output = AcceptText;
+
+    ghost is_table = { IsAcceptTable };
+
+    fn read_table(alloc: Global, table: &Table) -> Result<AcceptText, ReadFault> {
+        if !has_only(table, &["from", "class", "syntax"]) {
+            return Err(ReadFault::Field);
+        }
+        Ok(AcceptText {
+            from: required::<AnyCallers>(alloc, table, "from")?,
+            class: required::<Class>(alloc, table, "class")?,
+            syntaxes: required::<TextsOnce>(alloc, table, "syntax")?,
+        })
+    }
+}
+
+/// A rule, `[[node.rule]]`.
+pub struct RuleTable;
+
+impl TableForm for RuleTable {
+    type Output = Rule;
+
+    ghost is_table = { IsRuleTable };
+
+    fn read_table(alloc: Global, table: &Table) -> Result<Rule, ReadFault> {
+        if !has_only(
+            table,
+            &["from", "class", "modality", "station", "to", "keep"],
+        ) {
+            return Err(ReadFault::Field);
+        }
+        Ok(Rule {
+            from: defaulted::<PatternOf<AnyText>>(alloc, table, "from", Pattern::Any)?,
+            class: defaulted::<PatternOf<Class>>(alloc, table, "class", Pattern::Any)?,
+            modality: defaulted::<PatternOf<Literal>>(alloc, table, "modality", Pattern::Any)?,
+            station: defaulted::<PatternOf<Literal>>(alloc, table, "station", Pattern::Any)?,
+            to: defaulted::<ListOf<AnyText>>(alloc, table, "to", Seq::new(alloc))?,
+            keep: defaulted::<Flag>(alloc, table, "keep", false)?,
+        })
+    }
+}
+
+/// A node, `[[node]]`.
+pub struct NodeTable;
+
+impl TableForm for NodeTable {
+    type Output = NodeText;
+
+    ghost is_table = { IsNodeTable };
+
+    fn read_table(alloc: Global, table: &Table) -> Result<NodeText, ReadFault> {
+        if !has_only(table, &["name", "address", "max_pdu", "accept", "rule"]) {
+            return Err(ReadFault::Field);
+        }
+        Ok(NodeText {
+            name: required::<AnyText>(alloc, table, "name")?,
+            address: required::<Address>(alloc, table, "address")?,
+            max_pdu: defaulted::<Number>(alloc, table, "max_pdu", 16384)?,
+            accepts: defaulted::<ListOf<TableOf<AcceptTable>>>(
+                alloc,
+                table,
+                "accept",
+                Seq::new(alloc),
+            )?,
+            rules: defaulted::<ListOf<TableOf<RuleTable>>>(alloc, table, "rule", Seq::new(alloc))?,
+        })
+    }
+}
+
+/// A flow, `[[flow]]`.
+pub struct FlowTable;
+
+impl TableForm for FlowTable {
+    type Output = FlowText;
+
+    ghost is_table = { IsFlowTable };
+
+    fn read_table(alloc: Global, table: &Table) -> Result<FlowText, ReadFault> {
+        if !has_only(
+            table,
+            &["at", "to", "class", "syntax", "modality", "station"],
+        ) {
+            return Err(ReadFault::Field);
+        }
+        Ok(FlowText {
+            at: required::<AnyText>(alloc, table, "at")?,
+            to: required::<AnyText>(alloc, table, "to")?,
+            classes: required::<SomeOf<Class>>(alloc, table, "class")?,
+            syntaxes: required::<SomeOf<AnyText>>(alloc, table, "syntax")?,
+            modalities: required::<AnyValues>(alloc, table, "modality")?,
+            stations: required::<AnyValues>(alloc, table, "station")?,
+        })
+    }
+}
+
+/// Whether the format is 1, which is also the default.
+fn is_format_one(root: &Table) -> bool
+    ensures { IsTrue result ↔ IsFormat (get_member (codes "format") (table_view root.now)) }
+{
+    match value_at(root, "format") {
+        None => true,
+        Some(value) => value.as_integer() == Some(1),
+    }
+}
+
+/// The nodes and flows of the root table.
+pub fn read_root(alloc: Global, root: &Table) -> Result<PlanText, ReadFault>
+    ensures ok { IfOk result (IsRoot (table_view root.now)) }
+    ensures field { IfErr result (λ e. e ≡ Field → (plan : Written) → IsRoot (table_view root.now) plan → ⊥) }
+{
+    if !has_only(root, &["format", "node", "flow"]) || !is_format_one(root) {
+        return Err(ReadFault::Field);
+    }
+    Ok(PlanText {
+        nodes: defaulted::<ListOf<TableOf<NodeTable>>>(alloc, root, "node", Seq::new(alloc))?,
+        flows: defaulted::<ListOf<TableOf<FlowTable>>>(alloc, root, "flow", Seq::new(alloc))?,
+    })
+}
