@@ -4,10 +4,15 @@ pub mod CutLemmas
 pub mod DecodeLemmas
 pub mod EachLemmas
 pub mod FeedLemmas
+pub mod FitLemmas
 pub mod FrontLemmas
 pub mod FrontTexts
 pub mod ItemLemmas
 pub mod OneBody
 pub mod Padding
+pub mod Parts
 pub mod PdvLemmas
 pub mod Refusals
+pub mod Trimming
+pub mod Weights
+pub mod WrittenLemmas

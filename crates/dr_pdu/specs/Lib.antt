@@ -1,4 +1,6 @@
 pub mod Feeding
+pub mod Fitting
 pub mod Grammar
 pub mod Items
 pub mod Reads
+pub mod Written

@@ -1,15 +1,19 @@
 //! The bodies of A-ASSOCIATE-RQ and A-ASSOCIATE-AC.
-ghost use Rattle.std.specs.Prelude.{◌≡◌, ℕ, List};
+ghost use Rattle.std.specs.Prelude.{◌≡◌, ◌^◌, ◌<◌, Bool, false, ℕ, List, length, IfOk};
+ghost use Rattle.std.specs.Option.{SomeIff};
+ghost use Rattle.dr_pdu.specs.Fitting.{ProposalFits, AnswerFits};
+ghost use Rattle.dr_pdu.specs.Written.{proposal_body, answer_body};
 ghost use Rattle.dr_pdu.specs.Grammar.{Each, IsProposal, IsAnswer, IsGreatestLength, IsAssociation, IsFront};
 ghost use Rattle.dr_pdu.specs.Items.{bodies, first_body};
 ghost use Rattle.dr_pdu.specs.Reads.{Reads, items};
 ghost use Rattle.dr_pdu.specs.declared.pdu.Front.{Front as FrontText};
 
+use crate::contexts::{answer_bytes, answer_len, proposal_bytes, proposal_len};
 use crate::fault::PduFault;
 use crate::items::{Item, first, items_of, title_of, uids, unpadded_of};
 use crate::pdu::{Association, ContextAnswer, ContextProposal, Front};
 use dr_base::{Seq, Text};
-use std::alloc::Global;
+use std::alloc::{AllocError, Global};
 
 /// A presentation context of an association PDU.
 pub trait Context: Drop {
@@ -18,6 +22,12 @@ pub trait Context: Drop {
 
     /// Its id.
     ghost id_of: { Self → ℕ };
+
+    /// Whether an item can be this context.
+    ghost context_fits: { Self → Type 0 };
+
+    /// The body of its item, in full or without what nobody needs.
+    ghost body_text: { Bool → Self → List ℕ };
 
     /// Its id.
     fn id(&self) -> u8
@@ -28,12 +38,25 @@ pub trait Context: Drop {
     where
         Self: Sized,
         ensures { Reads (λ c. c) result (is_context body.now) };
+
+    /// The body of its item, in full or without what nobody needs.
+    fn body(&self, alloc: Global, full: bool) -> Result<Vec<u8>, AllocError>
+        requires { context_fits self.now }
+        ensures { IfOk result (λ bytes. (bytes.items ≡ body_text full self.now) × (length bytes.items < 2 ^ 16)) };
+
+    /// The length of the bare body, if an item can be this context.
+    fn bare_len(&self) -> Option<usize>
+        ensures { SomeIff result (context_fits self.now) (length (body_text false self.now)) };
 }
 
 impl Context for ContextProposal {
     ghost is_context = { IsProposal };
 
     ghost id_of = { λ c. c.id };
+
+    ghost context_fits = { ProposalFits };
+
+    ghost body_text = { λ full c. proposal_body c };
 
     fn id(&self) -> u8 {
         self.id
@@ -42,6 +65,14 @@ impl Context for ContextProposal {
     fn read(alloc: Global, body: &[u8]) -> Result<ContextProposal, PduFault> {
         proposal_of(alloc, body)
     }
+
+    fn body(&self, alloc: Global, _full: bool) -> Result<Vec<u8>, AllocError> {
+        proposal_bytes(alloc, self)
+    }
+
+    fn bare_len(&self) -> Option<usize> {
+        proposal_len(self)
+    }
 }
 
 impl Context for ContextAnswer {
@@ -49,12 +80,24 @@ impl Context for ContextAnswer {
 
     ghost id_of = { λ c. c.id };
 
+    ghost context_fits = { AnswerFits };
+
+    ghost body_text = { answer_body };
+
     fn id(&self) -> u8 {
         self.id
     }
 
     fn read(alloc: Global, body: &[u8]) -> Result<ContextAnswer, PduFault> {
         answer_of(alloc, body)
+    }
+
+    fn body(&self, alloc: Global, full: bool) -> Result<Vec<u8>, AllocError> {
+        answer_bytes(alloc, full, self)
+    }
+
+    fn bare_len(&self) -> Option<usize> {
+        answer_len(self)
     }
 }
 

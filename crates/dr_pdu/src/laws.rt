@@ -2,6 +2,7 @@
 ghost use Rattle.std.specs.Prelude.{◌≡◌, ◌++◌, List, ℕ};
 ghost use Rattle.dr_pdu.specs.Grammar.{Spells, IsBody};
 ghost use Rattle.dr_pdu.specs.Feeding.{Units, Feeding, Call, Fed, taken, given, Leaves, fresh};
+ghost use Rattle.dr_pdu.specs.Written.{Fits, MeetsLimit, written};
 ghost use Rattle.dr_pdu.specs.declared.pdu.Pdu.{Pdu as PduValue};
 
 /// A PDU is determined by its type and its body.
@@ -24,4 +25,9 @@ pub fn a_text_has_one_longest_list()
 pub fn cuts_do_not_matter()
     ensures { (limit : ℕ) (calls : List Call) (new : Feeding) → Fed (fresh limit) calls new
         → (rest : List ℕ) × Units limit (taken calls) (given calls) rest × Leaves limit new rest }
+{}
+
+/// What is written is a spelling, under each limit that its length field meets.
+pub fn what_is_written_is_a_spelling()
+    ensures { (limit : ℕ) (p : PduValue) → Fits p → MeetsLimit limit p → Spells limit (written p) p }
 {}

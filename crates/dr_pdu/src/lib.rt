@@ -2,15 +2,19 @@
 #![tactic(auto)]
 
 mod associate;
+mod contexts;
 mod decoder;
+mod encoder;
 mod fault;
 mod feeder;
+mod fits;
 mod items;
 pub mod laws;
 mod pdu;
 mod pdvs;
 
 pub use decoder::decode;
+pub use encoder::encode;
 pub use fault::PduFault;
 pub use feeder::Feeder;
 pub use pdu::{

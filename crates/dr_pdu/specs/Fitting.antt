@@ -1,0 +1,34 @@
+-- Which parts have a spelling: those that are read as they were written, and that fit their length fields. The tests
+-- of `fits` compute just this.
+use Rattle.std.specs.Prelude.{◌≡◌, ◌≢◌, ℕ, ◌+◌, ◌^◌, ◌<◌, ◌≤◌, false, List, [], ◌∷◌, length, map}
+use Rattle.std.specs.List.{AllByRecursion}
+use Rattle.dr_pdu.specs.declared.pdu.Association.{Association}
+use Rattle.dr_pdu.specs.declared.pdu.Front.{Front}
+use Rattle.dr_pdu.specs.declared.pdu.ContextProposal.{ContextProposal}
+use Rattle.dr_pdu.specs.declared.pdu.ContextAnswer.{ContextAnswer}
+use Rattle.dr_pdu.specs.Items.{unpadded, title}
+use Rattle.dr_pdu.specs.Written.{proposal_body, answer_body, user_text}
+
+abbrev pub IsTitle : List ℕ → Type 0
+IsTitle name = (length name ≤ 16) × (title name ≡ name)
+
+abbrev pub IsUnpadded : List ℕ → Type 0
+IsUnpadded name = unpadded name ≡ name
+
+abbrev pub FrontFits : Front → Type 0
+FrontFits f = IsTitle f.called × IsTitle f.calling × (length f.reserved ≡ 32)
+
+abbrev pub ProposalFits : ContextProposal → Type 0
+ProposalFits c = IsUnpadded c.class × AllByRecursion IsUnpadded c.syntaxes × (c.syntaxes ≢ []) × (length (proposal_body c) < 2 ^ 16)
+
+abbrev pub AnswerFits : ContextAnswer → Type 0
+AnswerFits c = (c.result ≢ 0 → c.syntax ≡ []) × IsUnpadded c.syntax × (length (answer_body false c) < 2 ^ 16)
+
+-- four bytes and the body for each item
+abbrev pub weight : List (List ℕ) → ℕ
+weight [] = 0
+weight (b ∷ bs) = (4 + length b) + weight bs
+
+abbrev pub AssociationFits : {C : Type 0} → (C → Type 0) → (C → List ℕ) → Association C → Type 0
+AssociationFits ContextFits bare_body a = FrontFits a.front × IsUnpadded a.application × AllByRecursion ContextFits a.contexts
+    × ((72 + length a.application) + (weight (map bare_body a.contexts) + length (user_text false a.max_pdu)) ≤ 262144) × (length a.application < 2 ^ 16)

@@ -1,0 +1,188 @@
+//! The spelling of a PDU that is written.
+ghost use Rattle.std.specs.Prelude.{◌≡◌, ◌+◌, ◌^◌, ◌<◌, ◌≤◌, ◌++◌, true, false, length, OnOk, IfOk};
+ghost use Rattle.std.specs.List.{flat_map, AllByRecursion};
+ghost use Rattle.dr_pdu.specs.Items.{pdv_text};
+ghost use Rattle.dr_pdu.specs.Written.{item, padded, framed, user_text, association_text, unless_long, written, Fits};
+ghost use Rattle.dr_pdu.specs.Fitting.{AssociationFits};
+
+use crate::associate::Context;
+use crate::fits::values_len;
+use crate::pdu::{Association, Pdu, Pdv};
+use std::alloc::{AllocError, Global};
+
+/// The implementation class UID, and the implementation version name (PS3.8 annex D.3.3.2).
+const IMPLEMENTATION: &[u8] = b"2.25.331274590186724905318462075136948210573";
+
+const VERSION_NAME: &[u8] = b"DR_ROUTER_1";
+
+/// What titles are padded with.
+const SPACES: &[u8] = b"                ";
+
+/// The spelling of a PDU: items in the order 10H, 20H or 21H, 50H; titles padded by spaces; reserved bytes 0, but for
+/// the 32 of an association. What nobody needs (the user information where there is no limit, the product's name, the
+/// syntax of a refused context) is left out where it would make the length field greater than 262,144.
+pub fn encode(alloc: Global, pdu: &Pdu) -> Result<Vec<u8>, AllocError>
+    requires { Fits pdu.now }
+    ensures { IfOk result (λ bytes. bytes.items ≡ written pdu.now) }
+{
+    match pdu {
+        Pdu::AssociateRq(rq) => {
+            let body = association_body(alloc, 0x20, rq)?;
+            framed_body(alloc, 1, &body)
+        }
+        Pdu::AssociateAc(ac) => {
+            let body = association_body(alloc, 0x21, ac)?;
+            framed_body(alloc, 2, &body)
+        }
+        Pdu::AssociateRj(rj) => framed_body(alloc, 3, &[0, rj.result, rj.source, rj.reason]),
+        Pdu::Transfer(pdvs) => framed_values(alloc, pdvs.as_slice()),
+        Pdu::ReleaseRq => framed_body(alloc, 5, &[0, 0, 0, 0]),
+        Pdu::ReleaseRp => framed_body(alloc, 6, &[0, 0, 0, 0]),
+        Pdu::Abort(abort) => framed_body(alloc, 7, &[0, 0, abort.source, abort.reason]),
+    }
+}
+
+/// The header and the body.
+fn framed_body(alloc: Global, kind: u8, body: &[u8]) -> Result<Vec<u8>, AllocError>
+    requires { length body.now < 2 ^ 32 }
+    ensures { IfOk result (λ bytes. bytes.items ≡ framed kind body.now) }
+{
+    let mut out = Vec::with_capacity(alloc, body.len() + 6)?;
+    out.extend_from_slice(&[kind, 0])?;
+    out.extend_from_slice(&(body.len() as u32).to_be_bytes())?;
+    out.extend_from_slice(body)?;
+    Ok(out)
+}
+
+/// A P-DATA-TF of these values.
+fn framed_values(alloc: Global, pdvs: &[Pdv]) -> Result<Vec<u8>, AllocError>
+    requires { length (flat_map pdv_text pdvs.now) ≤ 134217728 }
+    ensures { IfOk result (λ bytes. bytes.items ≡ framed 4 (flat_map pdv_text pdvs.now)) }
+{
+    let Some(len) = values_len(pdvs) else {
+        unreachable!();
+    };
+    let mut out = Vec::with_capacity(alloc, len + 6)?;
+    out.extend_from_slice(&[4, 0])?;
+    out.extend_from_slice(&(len as u32).to_be_bytes())?;
+    put_values(&mut out, pdvs)?;
+    Ok(out)
+}
+
+fn put_values(out: &mut Vec<u8>, pdvs: &[Pdv]) -> Result<(), AllocError>
+    requires { length (flat_map pdv_text pdvs.now) < 2 ^ 32 }
+    ensures { OnOk result (out.new.items ≡ out.old.items ++ flat_map pdv_text pdvs.now) }
+{
+    for pdv in pdvs {
+        put_value(out, pdv)?;
+    }
+    Ok(())
+}
+
+fn put_value(out: &mut Vec<u8>, pdv: &Pdv) -> Result<(), AllocError>
+    requires { 2 + length pdv.now.fragment < 2 ^ 32 }
+    ensures { OnOk result (out.new.items ≡ out.old.items ++ pdv_text pdv.now) }
+{
+    let fragment = pdv.fragment.as_bytes();
+    let len = fragment.len() as u32 + 2;
+    out.extend_from_slice(&len.to_be_bytes())?;
+    out.push(pdv.id)?;
+    out.push(pdv.header)?;
+    out.extend_from_slice(fragment)?;
+    Ok(())
+}
+
+/// The body of an association PDU, in full or, where that is too long, without what nobody needs.
+fn association_body<C: Context>(
+    alloc: Global,
+    kind: u8,
+    association: &Association<C>,
+) -> Result<Vec<u8>, AllocError>
+    requires { AssociationFits C.context_fits (C.body_text false) association.now }
+    ensures { IfOk result (λ bytes. bytes.items ≡ unless_long
+        (association_text kind (C.body_text true) (user_text true association.now.max_pdu) association.now)
+        (association_text kind (C.body_text false) (user_text false association.now.max_pdu) association.now)) }
+{
+    let full = association_with(alloc, true, kind, association)?;
+    if full.len() <= 262_144 {
+        return Ok(full);
+    }
+    association_with(alloc, false, kind, association)
+}
+
+fn association_with<C: Context>(
+    alloc: Global,
+    full: bool,
+    kind: u8,
+    association: &Association<C>,
+) -> Result<Vec<u8>, AllocError>
+    requires { AssociationFits C.context_fits (C.body_text false) association.now }
+    ensures { IfOk result (λ bytes. bytes.items ≡ association_text kind (C.body_text full) (user_text full association.now.max_pdu) association.now) }
+{
+    let front = &association.front;
+    let mut out = Vec::new(alloc);
+    out.extend_from_slice(&front.version.to_be_bytes())?;
+    out.extend_from_slice(&[0, 0])?;
+    put_title(&mut out, front.called.as_bytes())?;
+    put_title(&mut out, front.calling.as_bytes())?;
+    out.extend_from_slice(front.reserved.as_bytes())?;
+    put_item(&mut out, 0x10, association.application.as_bytes())?;
+    put_contexts(alloc, &mut out, full, kind, association.contexts.as_slice())?;
+    put_user(alloc, &mut out, full, association.max_pdu)?;
+    Ok(out)
+}
+
+fn put_contexts<C: Context>(
+    alloc: Global,
+    out: &mut Vec<u8>,
+    full: bool,
+    kind: u8,
+    contexts: &[C],
+) -> Result<(), AllocError>
+    requires { AllByRecursion C.context_fits contexts.now }
+    ensures { OnOk result (out.new.items ≡ out.old.items ++ flat_map (λ c. item kind (C.body_text full c)) contexts.now) }
+{
+    for context in contexts {
+        let body = context.body(alloc, full)?;
+        put_item(out, kind, &body)?;
+    }
+    Ok(())
+}
+
+/// The user information (annex D).
+fn put_user(alloc: Global, out: &mut Vec<u8>, full: bool, max_pdu: u32) -> Result<(), AllocError>
+    ensures { OnOk result (out.new.items ≡ out.old.items ++ user_text full max_pdu) }
+{
+    if !full && max_pdu == 0 {
+        return Ok(());
+    }
+    let mut inside = Vec::new(alloc);
+    put_item(&mut inside, 0x51, &max_pdu.to_be_bytes())?;
+    if full {
+        put_item(&mut inside, 0x52, IMPLEMENTATION)?;
+        put_item(&mut inside, 0x55, VERSION_NAME)?;
+    }
+    put_item(out, 0x50, &inside)
+}
+
+/// A title, padded to 16 bytes.
+fn put_title(out: &mut Vec<u8>, name: &[u8]) -> Result<(), AllocError>
+    requires { length name.now ≤ 16 }
+    ensures { OnOk result (out.new.items ≡ out.old.items ++ padded name.now) }
+{
+    out.extend_from_slice(name)?;
+    out.extend_from_slice(&SPACES[name.len()..])?;
+    Ok(())
+}
+
+/// An item or a sub-item.
+pub fn put_item(out: &mut Vec<u8>, kind: u8, body: &[u8]) -> Result<(), AllocError>
+    requires { length body.now < 2 ^ 16 }
+    ensures { OnOk result (out.new.items ≡ out.old.items ++ item kind body.now) }
+{
+    out.push(kind)?;
+    out.push(0)?;
+    out.extend_from_slice(&(body.len() as u16).to_be_bytes())?;
+    out.extend_from_slice(body)?;
+    Ok(())
+}
