@@ -6,3 +6,5 @@ pub mod OpensLemmas
 pub mod Padding
 pub mod FoundLemmas
 pub mod AdvanceLemmas
+pub mod WalkLemmas
+pub mod OneAnswerLemmas

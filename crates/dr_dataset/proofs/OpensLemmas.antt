@@ -27,7 +27,7 @@ plain_any zero s text e rest p = p
 plain_any (suc n) s text e rest p = inl p
 
 -- an element of defined length, behind its header
-plain_of : (s : Syntax) (text : List ℕ) (t : Tag) (f : Form) (behind : List ℕ) (len : ℕ) → StartsHeader s text t f behind → f.len ≡ len → len ≢ undefined → len ≤ length behind
+pub plain_of : (s : Syntax) (text : List ℕ) (t : Tag) (f : Form) (behind : List ℕ) (len : ℕ) → StartsHeader s text t f behind → f.len ≡ len → len ≢ undefined → len ≤ length behind
     → StartsPlain s text (record { tag = t; value = Some (take len behind) }) (drop len behind)
 plain_of s text t f behind len header is defined fits = (
   t,
