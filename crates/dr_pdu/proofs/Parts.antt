@@ -1,6 +1,7 @@
 -- One part of a list, and the parts before it.
-use Rattle.std.proofs.Common.{◌≡◌, ℕ, zero, suc, ◌+◌, ◌<◌, ◌≤◌, List, [], ◌∷◌, ◌++◌, length, get_or, take, map, sym, ap, subst, ◌∙◌, arith}
+use Rattle.std.proofs.Common.{◌≡◌, ℕ, zero, suc, ◌+◌, ◌<◌, ◌≤◌, List, [], ◌∷◌, ◌++◌, length, get_or, take, map, Option, Some, None, true, refl, sym, ap, subst, ◌∙◌, arith}
 use Rattle.std.specs.List.{flat_map, AllByRecursion}
+use Rattle.std.specs.Option.{SomeIff, is_some}
 use Rattle.std.proofs.lemmas.List.{length-append, take_more}
 use Rattle.dr_pdu.specs.declared.pdu.Pdv.{Pdv}
 use Rattle.dr_pdu.specs.Items.{pdv_text}
@@ -49,3 +50,21 @@ name_more bs i d h is = ap weight (take_more bs i d h ∙ ap (λ (b : List ℕ).
 
 pub all_names_more : (P : List ℕ → Type 0) (bs : List (List ℕ)) (i : ℕ) (d : List ℕ) → i < length bs → d ≡ get_or bs i d → AllByRecursion P (take i bs) → P d → AllByRecursion P (take (i + 1) bs)
 all_names_more P bs i d h is a p = subst (λ (xs : List (List ℕ)). AllByRecursion P xs) (sym (take_more bs i d h ∙ ap (λ (b : List ℕ). take i bs ++ b ∷ []) (sym is))) (all_more P (take i bs) d a p)
+
+pub weight_here : {C : Type 0} (body_of : C → List ℕ) (cs : List C) (i : ℕ) (d : C) → i < length cs → d ≡ get_or cs i d → weight (map body_of (take i cs)) + (4 + length (body_of d)) ≤ weight (map body_of cs)
+weight_here {C} body_of cs i d h is = let e = ap (λ (c : C). length (body_of c)) is in omega (arith, weight_among body_of cs i d h, e)
+
+weight_of_push : {C : Type 0} (body_of : C → List ℕ) (cs : List C) (d : C) → weight (map body_of (cs ++ d ∷ [])) ≡ weight (map body_of cs) + (4 + length (body_of d))
+weight_of_push body_of [] d = omega arith
+weight_of_push body_of (c ∷ cs) d = omega (arith, weight_of_push body_of cs d)
+
+pub weight_more : {C : Type 0} (body_of : C → List ℕ) (cs : List C) (i : ℕ) (d : C) → i < length cs → d ≡ get_or cs i d → weight (map body_of (take (i + 1) cs)) ≡ weight (map body_of (take i cs)) + (4 + length (body_of d))
+weight_more {C} body_of cs i d h is = ap (λ (xs : List C). weight (map body_of xs)) (take_more cs i d h ∙ ap (λ (c : C). take i cs ++ c ∷ []) (sym is)) ∙ weight_of_push body_of (take i cs) d
+
+pub all_items_more : {C : Type 0} (P : C → Type 0) (cs : List C) (i : ℕ) (d : C) → i < length cs → d ≡ get_or cs i d → AllByRecursion P (take i cs) → P d → AllByRecursion P (take (i + 1) cs)
+all_items_more {C} P cs i d h is a p = subst (λ (xs : List C). AllByRecursion P xs) (sym (take_more cs i d h ∙ ap (λ (c : C). take i cs ++ c ∷ []) (sym is))) (all_more P (take i cs) d a p)
+
+-- an answer that is there just where a fact holds
+pub there_iff : (o : Option ℕ) (P : Type 0) (v : ℕ) → SomeIff o P v → (is_some o ≡ true → P) × (P → is_some o ≡ true)
+there_iff None P v h = ((λ e. absurd (cc)), (λ p. absurd (h p)))
+there_iff (Some x) P v h = ((λ e. h.0), (λ p. refl))

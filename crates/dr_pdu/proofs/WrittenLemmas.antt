@@ -17,7 +17,7 @@ use Rattle.dr_pdu.specs.declared.pdu.ContextAnswer.{ContextAnswer}
 use Rattle.dr_pdu.specs.Items.{Item, StartsItem, AreItems, StartsPdv, pdv_text, bodies, first_body, unpadded}
 use Rattle.dr_pdu.specs.Grammar.{Each, IsProposal, IsAnswer, IsGreatestLength, IsAssociation, IsBody, AreContextIds, HasContextIds, header_fault, Spells}
 use Rattle.dr_pdu.specs.Written.{item, padded, implicit, implementation, version_name, proposal_body, answer_body, user_text, association_text, unless_long, request_text, acceptance_text, framed, written, body_text, Fits, MeetsLimit}
-use Rattle.dr_pdu.specs.Fitting.{IsUnpadded, FrontFits, ProposalFits, AnswerFits, weight}
+use Rattle.dr_pdu.specs.Fitting.{IsUnpadded, FrontFits, ProposalFits, AnswerFits, weight, AssociationFits}
 use Rattle.dr_pdu.proofs.Trimming.{title_of_padded, length_of_padded}
 use Rattle.dr_pdu.proofs.Weights.{length_of_bodies, length_of_items, small_parts}
 use Rattle.dr_pdu.proofs.FitLemmas.{AssociationHolds, association_fits, proposal_fits, answer_fits, values_are}
@@ -282,16 +282,69 @@ request_short rq f = (request_body rq (fits_request rq f).0).1
 pub acceptance_short : (ac : Association ContextAnswer) → Fits (AssociateAc ac) → length (body_text (AssociateAc ac)) ≤ 262144
 acceptance_short ac f = (acceptance_body ac (fits_acceptance ac f).0).1
 
+-- ---- which PDUs have a spelling
+
+abbrev Holds : Pdu → Type 0
+Holds (AssociateRq rq) = AssociationHolds ProposalFits proposal_body rq × AreContextIds (map (λ (c : ContextProposal). c.id) rq.contexts)
+Holds (AssociateAc ac) = AssociationHolds AnswerFits (answer_body false) ac × AreContextIds (map (λ (c : ContextAnswer). c.id) ac.contexts)
+Holds (Transfer pdvs) = length (flat_map pdv_text pdvs) ≤ 134217728
+Holds p = Unit {0}
+
+holds_of : (p : Pdu) → Fits p → Holds p
+holds_of (AssociateRq rq) f = fits_request rq f
+holds_of (AssociateAc ac) f = fits_acceptance ac f
+holds_of (Transfer pdvs) f = fits_values pdvs f
+holds_of (AssociateRj rj) f = tt
+holds_of ReleaseRq f = tt
+holds_of ReleaseRp f = tt
+holds_of (Abort a) f = tt
+
+all_values : (pdvs : List Pdv) → length (flat_map pdv_text pdvs) ≤ 134217728 → Run StartsPdv pdvs (flat_map pdv_text pdvs) []
+all_values [] h = refl
+all_values (p ∷ ps) h =
+    let whole = length-append p.fragment (flat_map pdv_text ps) in
+    (flat_map pdv_text ps, (omega (arith, h, whole), refl), all_values ps (omega (arith, h, whole)))
+
+spells_of : (limit : ℕ) (p : Pdu) → Holds p → MeetsLimit limit p → Spells limit (written p) p
+spells_of limit (AssociateRq rq) h m = request_spells limit rq h.0 h.1
+spells_of limit (AssociateAc ac) h m = acceptance_spells limit ac h.0 h.1
+spells_of limit (AssociateRj rj) h m = framed_spells limit 3 (body_text (AssociateRj rj)) (AssociateRj rj) (omega arith) refl (refl, 0, refl) tt
+spells_of limit (Transfer pdvs) h m =
+    framed_spells limit 4 (flat_map pdv_text pdvs) (Transfer pdvs) (omega (arith, h)) (no_data_fault limit (length (flat_map pdv_text pdvs)) h m) (refl, all_values pdvs h) tt
+spells_of limit ReleaseRq h m = framed_spells limit 5 (body_text ReleaseRq) ReleaseRq (omega arith) refl (refl, refl) tt
+spells_of limit ReleaseRp h m = framed_spells limit 6 (body_text ReleaseRp) ReleaseRp (omega arith) refl (refl, refl) tt
+spells_of limit (Abort a) h m = framed_spells limit 7 (body_text (Abort a)) (Abort a) (omega arith) refl (refl, 0, 0, refl) tt
+
+no_limit : (p : Pdu) → MeetsLimit 0 p
+no_limit (Transfer pdvs) = inl refl
+no_limit (AssociateRq rq) = tt
+no_limit (AssociateAc ac) = tt
+no_limit (AssociateRj rj) = tt
+no_limit ReleaseRq = tt
+no_limit ReleaseRp = tt
+no_limit (Abort a) = tt
+
+fits_of : (p : Pdu) → Holds p → Fits p
+fits_of p h = (written p, spells_of 0 p h (no_limit p))
+
 pub written_spells : (limit : ℕ) (p : Pdu) → Fits p → MeetsLimit limit p → Spells limit (written p) p
-written_spells limit (AssociateRq rq) f m = let h = fits_request rq f in request_spells limit rq h.0 h.1
-written_spells limit (AssociateAc ac) f m = let h = fits_acceptance ac f in acceptance_spells limit ac h.0 h.1
-written_spells limit (AssociateRj rj) f m = framed_spells limit 3 (body_text (AssociateRj rj)) (AssociateRj rj) (omega arith) refl (refl, 0, refl) tt
-written_spells limit (Transfer pdvs) (text, (kind, body, whole, is, ids)) m =
-    let e = values_are pdvs body is.1 in
-    let run : Run StartsPdv pdvs (flat_map pdv_text pdvs) [] = subst (λ (t : List ℕ). Run StartsPdv pdvs t []) e is.1 in
-    let most : length body ≤ 134217728 = data_within kind (length body) is.0 whole.1 in
-    let same = ap (λ (t : List ℕ). length t) e in
-    framed_spells limit 4 (flat_map pdv_text pdvs) (Transfer pdvs) (omega (arith, most, same)) (no_data_fault limit (length (flat_map pdv_text pdvs)) (omega (arith, most, same)) m) (refl, run) tt
-written_spells limit ReleaseRq f m = framed_spells limit 5 (body_text ReleaseRq) ReleaseRq (omega arith) refl (refl, refl) tt
-written_spells limit ReleaseRp f m = framed_spells limit 6 (body_text ReleaseRp) ReleaseRp (omega arith) refl (refl, refl) tt
-written_spells limit (Abort a) f m = framed_spells limit 7 (body_text (Abort a)) (Abort a) (omega arith) refl (refl, 0, 0, refl) tt
+written_spells limit p f m = spells_of limit p (holds_of p f) m
+
+pub request_fits : (rq : Association ContextProposal) → rq.front.version < 2 ^ 16 → rq.max_pdu < 2 ^ 32 → AssociationFits ProposalFits proposal_body rq → AreContextIds (map (λ (c : ContextProposal). c.id) rq.contexts) → Fits (AssociateRq rq)
+request_fits rq version greatest fits ids = fits_of (AssociateRq rq) (record { fits = fits; version = version; greatest = greatest }, ids)
+
+pub acceptance_fits : (ac : Association ContextAnswer) → ac.front.version < 2 ^ 16 → ac.max_pdu < 2 ^ 32 → AssociationFits AnswerFits (answer_body false) ac → AreContextIds (map (λ (c : ContextAnswer). c.id) ac.contexts) → Fits (AssociateAc ac)
+acceptance_fits ac version greatest fits ids = fits_of (AssociateAc ac) (record { fits = fits; version = version; greatest = greatest }, ids)
+
+pub values_fit : (pdvs : List Pdv) → length (flat_map pdv_text pdvs) ≤ 134217728 → Fits (Transfer pdvs)
+values_fit pdvs h = fits_of (Transfer pdvs) h
+
+-- the others always have one
+pub others_fit : (p : Pdu) → ((rq : Association ContextProposal) → p ≡ AssociateRq rq → ⊥) → ((ac : Association ContextAnswer) → p ≡ AssociateAc ac → ⊥) → ((pdvs : List Pdv) → p ≡ Transfer pdvs → ⊥) → Fits p
+others_fit (AssociateRq rq) a b c = absurd (a rq refl)
+others_fit (AssociateAc ac) a b c = absurd (b ac refl)
+others_fit (Transfer pdvs) a b c = absurd (c pdvs refl)
+others_fit (AssociateRj rj) a b c = fits_of (AssociateRj rj) tt
+others_fit ReleaseRq a b c = fits_of ReleaseRq tt
+others_fit ReleaseRp a b c = fits_of ReleaseRp tt
+others_fit (Abort x) a b c = fits_of (Abort x) tt

@@ -6,7 +6,7 @@ ghost use Rattle.dr_pdu.specs.Fitting.{ProposalFits, AnswerFits, weight};
 ghost use Rattle.dr_pdu.specs.Written.{item, proposal_body, answer_body};
 
 use crate::encoder::put_item;
-use crate::fits::{is_unpadded, names_len};
+use crate::lengths::{is_unpadded, names_len};
 use crate::pdu::{ContextAnswer, ContextProposal};
 use dr_base::Text;
 use std::alloc::{AllocError, Global};

@@ -101,8 +101,8 @@ fn has_context_ids(pdu: &Pdu) -> bool
     }
 }
 
-/// The loop ends after 129 rounds at most, since there are 128 odd ids.
-fn are_context_ids<C: Context>(contexts: &[C]) -> bool
+/// Whether the ids are odd, and no two are alike. There are 128 odd ids, so the loop has 129 rounds at most.
+pub fn are_context_ids<C: Context>(contexts: &[C]) -> bool
     ensures { IsTrue result ↔ AreContextIds (map C.id_of contexts.now) }
 {
     for (i, context) in contexts.iter().enumerate() {

@@ -6,7 +6,7 @@ ghost use Rattle.dr_pdu.specs.Written.{item, padded, framed, user_text, associat
 ghost use Rattle.dr_pdu.specs.Fitting.{AssociationFits};
 
 use crate::associate::Context;
-use crate::fits::values_len;
+use crate::lengths::values_len;
 use crate::pdu::{Association, Pdu, Pdv};
 use std::alloc::{AllocError, Global};
 

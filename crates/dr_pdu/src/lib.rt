@@ -7,9 +7,9 @@ mod decoder;
 mod encoder;
 mod fault;
 mod feeder;
-mod fits;
 mod items;
 pub mod laws;
+mod lengths;
 mod pdu;
 mod pdvs;
 
@@ -17,6 +17,7 @@ pub use decoder::decode;
 pub use encoder::encode;
 pub use fault::PduFault;
 pub use feeder::Feeder;
+pub use lengths::fits;
 pub use pdu::{
     Abort, AssociateAc, AssociateRj, AssociateRq, Association, ContextAnswer, ContextProposal,
     Front, Pdu, Pdv,

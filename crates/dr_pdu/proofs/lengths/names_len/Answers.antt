@@ -1,7 +1,7 @@
 use Rattle.std.proofs.Common.{arith}
 use Rattle.dr_pdu.specs.Fitting.{IsUnpadded}
 use Rattle.dr_pdu.proofs.Parts.{name_here, name_more, all_names_more}
-use Rattle.dr_pdu.proofs.fits.names_len.Goals as goal
+use Rattle.dr_pdu.proofs.lengths.names_len.Goals as goal
 
 pub returns-then-more-ge65536 : goal.returns-then-more-ge65536
 returns-then-more-ge65536 c = λ h.

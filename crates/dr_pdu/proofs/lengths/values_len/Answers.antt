@@ -1,6 +1,6 @@
 use Rattle.std.proofs.Common.{arith}
 use Rattle.dr_pdu.proofs.Parts.{value_here}
-use Rattle.dr_pdu.proofs.fits.values_len.Goals as goal
+use Rattle.dr_pdu.proofs.lengths.values_len.Goals as goal
 
 pub returns-then-fragment-gt-GREATEST_TRANSFER : goal.returns-then-fragment-gt-GREATEST_TRANSFER
 returns-then-fragment-gt-GREATEST_TRANSFER c = λ h.
