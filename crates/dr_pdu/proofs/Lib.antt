@@ -8,6 +8,7 @@ pub mod FitLemmas
 pub mod FrontLemmas
 pub mod FrontTexts
 pub mod ItemLemmas
+pub mod OneAnswer
 pub mod OneBody
 pub mod Padding
 pub mod Parts

@@ -1,8 +1,10 @@
 //! Laws of the grammar: a text is one PDU at most, and no spelling begins another one.
-ghost use Rattle.std.specs.Prelude.{◌≡◌, ◌++◌, List, ℕ};
-ghost use Rattle.dr_pdu.specs.Grammar.{Spells, IsBody};
+ghost use Rattle.std.specs.Prelude.{◌≡◌, ◌≢◌, ◌++◌, List, ℕ, Result, Err};
+ghost use Rattle.dr_pdu.specs.Grammar.{Spells, IsBody, Decodes};
 ghost use Rattle.dr_pdu.specs.Feeding.{Units, Feeding, Call, Fed, taken, given, Leaves, fresh};
 ghost use Rattle.dr_pdu.specs.Written.{Fits, MeetsLimit, written};
+ghost use Rattle.dr_pdu.specs.declared.fault.PduFault.{PduFault as Fault};
+ghost use Rattle.dr_pdu.specs.declared.fault.PduFault.TheVariants.{Memory};
 ghost use Rattle.dr_pdu.specs.declared.pdu.Pdu.{Pdu as PduValue};
 
 /// A PDU is determined by its type and its body.
@@ -30,4 +32,9 @@ pub fn cuts_do_not_matter()
 /// What is written is a spelling, under each limit that its length field meets.
 pub fn what_is_written_is_a_spelling()
     ensures { (limit : ℕ) (p : PduValue) → Fits p → MeetsLimit limit p → Spells limit (written p) p }
+{}
+
+/// The front of a text has one answer, but for want of memory.
+pub fn a_text_has_one_answer()
+    ensures { (limit : ℕ) (text : List ℕ) (r s : Result (PduValue × ℕ) Fault) → r ≢ Err Memory → s ≢ Err Memory → Decodes limit text r → Decodes limit text s → r ≡ s }
 {}

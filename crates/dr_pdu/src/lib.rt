@@ -7,6 +7,7 @@ mod decoder;
 mod encoder;
 mod fault;
 mod feeder;
+pub mod figures;
 mod items;
 pub mod laws;
 mod lengths;
