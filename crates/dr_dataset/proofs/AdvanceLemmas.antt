@@ -1,6 +1,7 @@
 -- What one token with its value does, in the code's terms.
 use Rattle.std.proofs.Common.{◌≡◌, ◌≢◌, ℕ, ◌+◌, ◌<◌, ◌≤◌, Bool, true, false, List, [], ◌∷◌, ◌++◌, length, take, drop, refl, sym, ap, subst, ◌∙◌, arith, inl, inr, Option, Some, None, Result, Ok, Err, ◌⊎◌}
 use Rattle.std.specs.List.{IsSplitAt}
+use Rattle.std.specs.Prelude.{MatchOption}
 use Rattle.std.proofs.lemmas.List.{append-nil}
 use Rattle.dr_dataset.specs.declared.syntax.Syntax.{Syntax}
 use Rattle.dr_dataset.specs.declared.fault.DataFault.{DataFault}
@@ -11,9 +12,10 @@ use Rattle.dr_dataset.specs.declared.frame.Frame.TheVariants.{InSequence, InItem
 use Rattle.dr_dataset.specs.declared.token.Token.{Token}
 use Rattle.dr_dataset.specs.declared.token.Token.TheVariants.{Value, Sequence, PlainItem, Item, ItemEnd, SequenceEnd}
 use Rattle.dr_dataset.specs.Elements.{Element, EndsSequence, EndsItem}
-use Rattle.dr_dataset.specs.DataSet.{Opens, Shows, in_force}
+use Rattle.dr_dataset.specs.DataSet.{Opens, Shows, StartsTop, in_force}
 use Rattle.dr_dataset.specs.Tokens.{is_nested, token_of, open_behind, without_first}
-use Rattle.dr_dataset.specs.Wholes.{whole}
+use Rattle.dr_dataset.specs.Wholes.{whole, elements_of, element_of}
+use Rattle.dr_dataset.specs.declared.whole.Whole.{Whole}
 use Rattle.dr_dataset.proofs.TokenLemmas.{IsNext, token_sound, token_tells}
 use Rattle.dr_dataset.proofs.OpensLemmas.{Has, shows, cut_shows, after_value, after_plain_item, after_sequence, after_item, after_item_end, after_sequence_end, token_shorter}
 
@@ -105,3 +107,13 @@ sequence_end_grows s fs text token behind t stack found e is st f =
 
 pub split_shorter : (s : Syntax) (fs : List Frame) (text : List ℕ) (token : Token) (behind : List ℕ) (len : ℕ) (value rest : List ℕ) → token_of s fs text ≡ Ok (token, behind) → IsSplitAt behind len value rest → length rest < length text
 split_shorter s fs text token behind len value rest e split = omega (arith, token_shorter s fs text token behind e, split.4)
+
+-- where a token ends an element of the top level, the element is the first that the text begins with
+pub whole_element : (s t : Syntax) (fs : List Frame) (front text : List ℕ) (stack : List Frame) (found : Option Whole) (w : Whole) (rest : List ℕ) → t ≡ s → Opens s fs front [] text → found ≡ Some w
+    → MatchOption found (stack ≢ []) (λ _. stack ≡ []) → ((start : List ℕ) (es : List Element) → Opens t fs start es text → Opens t stack start (es ++ elements_of found) rest) → (stack ≡ []) × StartsTop s front (element_of w) rest
+whole_element s t fs front text stack found w rest same o is top grows =
+    let none : stack ≡ [] = subst (λ (x : Option Whole). MatchOption x (stack ≢ []) (λ _. stack ≡ [])) is top in
+    let grown : Opens s stack front (elements_of found) rest = subst (λ (x : Syntax). Opens x fs front [] text → Opens x stack front (elements_of found) rest) same (grows front []) o in
+    let at_top : Opens s [] front (elements_of found) rest = subst (λ (x : List Frame). Opens s x front (elements_of found) rest) none grown in
+    let run : Opens s [] front (element_of w ∷ []) rest = subst (λ (x : Option Whole). Opens s [] front (elements_of x) rest) is at_top in
+    (none, subst (λ (x : List ℕ). StartsTop s front (element_of w) x) run.2 run.1)

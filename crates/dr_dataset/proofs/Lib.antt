@@ -8,3 +8,5 @@ pub mod FoundLemmas
 pub mod AdvanceLemmas
 pub mod WalkLemmas
 pub mod OneAnswerLemmas
+pub mod ElementLemmas
+pub mod FileLemmas

@@ -62,9 +62,14 @@ token_then s (InSequence u v ∷ fs) text (Sequence t w) behind most next has = 
 token_then s [] text (PlainItem len) behind most next has = absurd (cc next.0)
 token_then s (InItem w ∷ fs) text (PlainItem len) behind most next has = absurd (cc next.0)
 token_then s (InSequence t w ∷ fs) text (PlainItem len) behind most (wants, defined, mark) has =
-    let same : length (take len behind) ≡ len = length-take-le len behind has in
-    (drop len behind, inl (take len behind, subst (λ (n : ℕ). n ≢ undefined) (sym same) defined,
-      subst (λ (n : ℕ). StartsMark 0xE000 text n (take len behind ++ drop len behind)) (sym same) (subst (λ (b : List ℕ). StartsMark 0xE000 text len b) (sym (take-append-drop len behind)) mark)))
+    let same : length (take len behind) ≡ len = length-take-le len behind has in (
+      drop len behind,
+      inl (
+        take len behind,
+        subst (λ (n : ℕ). n ≢ undefined) (sym same) defined,
+        subst (λ (n : ℕ). StartsMark 0xE000 text n (take len behind ++ drop len behind)) (sym same) (subst (λ (b : List ℕ). StartsMark 0xE000 text len b) (sym (take-append-drop len behind)) mark),
+      ),
+    )
 token_then s [] text Item behind most next has = absurd (cc next.0)
 token_then s (InItem w ∷ fs) text Item behind most next has = absurd (cc next.0)
 token_then s (InSequence t w ∷ fs) text Item behind most next has = (behind, inr (inl next.1))
@@ -179,7 +184,7 @@ data_set_or_fault s text es f ne a (fs, xs, rest, o, h) =
 pub one_first_fault : (s : Syntax) (text : List ℕ) (f g : DataFault) → f ≢ Memory → g ≢ Memory → FirstFault s text f → FirstFault s text g → f ≡ g
 one_first_fault s text f g mf mg (fs, es, rest, o, h) (gs, xs, more, p, k) =
     let same = one_place s (at [] text []) (at fs rest es) (at gs more xs) (opens_walk s fs text es rest o) (opens_walk s gs text xs more p)
-      (fault_is_stuck s fs es rest f (open_at_most s fs text es rest o) mf h) (fault_is_stuck s gs xs more g (open_at_most s gs text xs more p) mg k) in
+    (fault_is_stuck s fs es rest f (open_at_most s fs text es rest o) mf h) (fault_is_stuck s gs xs more g (open_at_most s gs text xs more p) mg k) in
     let there : Shows s fs rest g = subst (λ (x : List ℕ). Shows s fs x g) (rest_of (at gs more xs) (at fs rest es) same) (subst (λ (x : List Frame). Shows s x more g) (frames_of (at gs more xs) (at fs rest es) same) k) in
     one_fault s fs rest f g mf mg h there
 
@@ -194,7 +199,7 @@ one_answer s text (Ok a) (Ok b) mr mq (es, d, class, instance, modality, station
     let k : a.modality ≡ b.modality = modality ∙ ap (value_at 0x0008 0x0060) same ∙ sym modality' in
     let l : a.station ≡ b.station = station ∙ ap (value_at 0x0008 0x1010) same ∙ sym station' in
     let all : a ≡ b = ap (λ (x : List ℕ). record a { class = x }) i ∙ ap (λ (x : List ℕ). record a { class = b.class; instance = x }) j
-      ∙ ap (λ (x : List ℕ). record a { class = b.class; instance = b.instance; modality = x }) k ∙ ap (λ (x : List ℕ). record b { station = x }) l in
+    ∙ ap (λ (x : List ℕ). record a { class = b.class; instance = b.instance; modality = x }) k ∙ ap (λ (x : List ℕ). record b { station = x }) l in
     ap (λ (x : Attributes). Ok x) all
 one_answer s text (Ok a) (Err g) mr mq d h = absurd (data_set_or_fault s text d.0 g (err_of g mq) d.1 h)
 one_answer s text (Err f) (Ok b) mr mq h d = absurd (data_set_or_fault s text d.0 f (err_of f mr) d.1 h)

@@ -28,7 +28,7 @@ pub record Place : Type 0 where
 abbrev pub at : List Frame → List ℕ → List Element → Place
 at fs rest es = record { frames = fs; rest = rest; done = es }
 
-abbrev value_by : Bool → List Frame → List ℕ → List Element → Option Place
+abbrev pub value_by : Bool → List Frame → List ℕ → List Element → Option Place
 value_by false fs rest es = None
 value_by true fs rest es = Some (at fs rest es)
 
@@ -115,7 +115,7 @@ plain_walks s fs es text e rest wants short (t, f, value, header, defined, len, 
     let next : IsNext s fs text (Value t f.len) (value ++ rest) = (wants, f, header, refl, defined, bound) in
     let found : es ++ whole fs t (Some (take f.len (value ++ rest))) ≡ es ++ whole fs t (Some value) = ap (λ (x : List ℕ). es ++ whole fs t (Some x)) (taken value rest f.len len) in
     let here : move s (at fs text es) ≡ Some (at fs rest (es ++ whole fs t (Some value))) =
-      by_token s fs es text (Value t f.len) (value ++ rest) next ∙ value_moves fs (es ++ whole fs t (Some (take f.len (value ++ rest)))) (es ++ whole fs t (Some value)) value rest f.len len found in
+    by_token s fs es text (Value t f.len) (value ++ rest) next ∙ value_moves fs (es ++ whole fs t (Some (take f.len (value ++ rest)))) (es ++ whole fs t (Some value)) value rest f.len len found in
     subst (λ (x : Element). Walks s (at fs text es) (at fs rest (es ++ whole fs x.tag x.value))) (sym is) (one_move s (at fs text es) (at fs rest (es ++ whole fs t (Some value))) here)
 
 open_walks : (s : Syntax) (fs : List Frame) (es : List Element) (text : List ℕ) (t : Tag) (w : Syntax) (rest : List ℕ) → MayOpen s fs text t w rest → Walks s (at fs text es) (at (InSequence t w ∷ fs) rest es)
@@ -137,14 +137,14 @@ end_sequence_walks s t w fs es text rest end =
 -- elements with at most so many levels, where so many are left
 abbrev ElementsWalk : Syntax → ℕ → Type 0
 ElementsWalk s n = (fs : List Frame) (es : List Element) (text : List ℕ) (e : Element) (rest : List ℕ) → wants_elements fs ≡ true → n ≡ levels_left fs → IsFit fs e → StartsElement n (in_force s fs) text e rest
-  → Walks s (at fs text es) (at fs rest (es ++ whole fs e.tag e.value))
+    → Walks s (at fs text es) (at fs rest (es ++ whole fs e.tag e.value))
 
 -- an element in an item leaves the same elements whole
 inner_walks : (s : Syntax) (n : ℕ) → ElementsWalk s n → (w : Syntax) (fs : List Frame) (es : List Element) → n ≡ levels_left (InItem w ∷ fs) → (xs : List Element) (text rest : List ℕ)
     → Run (StartsElement n w) xs text rest → Walks s (at (InItem w ∷ fs) text es) (at (InItem w ∷ fs) rest es)
 inner_walks s n each w fs es levels =
     run_walks s (InItem w ∷ fs) es (StartsElement n w)
-      (λ text x rest starts. subst (λ (l : List Element). Walks s (at (InItem w ∷ fs) text es) (at (InItem w ∷ fs) rest l)) (append-nil es) (each (InItem w ∷ fs) es text x rest refl levels (λ none. absurd (cc)) starts))
+    (λ text x rest starts. subst (λ (l : List Element). Walks s (at (InItem w ∷ fs) text es) (at (InItem w ∷ fs) rest l)) (append-nil es) (each (InItem w ∷ fs) es text x rest refl levels (λ none. absurd (cc)) starts))
 
 item_walks : (s : Syntax) (n : ℕ) → ElementsWalk s n → (t : Tag) (w : Syntax) (fs : List Frame) (es : List Element) → n ≡ levels_left (InSequence t w ∷ fs) → (text : List ℕ) (xs : List Element) (rest : List ℕ)
     → StartsItem (StartsElement n w) text xs rest → Walks s (at (InSequence t w ∷ fs) text es) (at (InSequence t w ∷ fs) rest es)
@@ -154,7 +154,7 @@ item_walks s n each t w fs es levels text xs rest (inl ((value, defined, mark), 
 item_walks s n each t w fs es levels text xs rest (inr (first, close, opens, run, end)) =
     let here = InSequence t w ∷ fs in
     then_walks s (at here text es) (at (InItem w ∷ here) first es) (at here rest es) (open_item_walks s t w fs es text first opens)
-      (then_walks s (at (InItem w ∷ here) first es) (at (InItem w ∷ here) close es) (at here rest es) (inner_walks s n each w here es levels xs first close run) (end_item_walks s w here es close rest end))
+    (then_walks s (at (InItem w ∷ here) first es) (at (InItem w ∷ here) close es) (at here rest es) (inner_walks s n each w here es levels xs first close run) (end_item_walks s w here es close rest end))
 
 pub element_walks : (s : Syntax) (n : ℕ) → ElementsWalk s n
 element_walks s zero fs es text e rest wants levels fit starts = plain_walks s fs es text e rest wants fit starts
@@ -164,13 +164,13 @@ element_walks s (suc n) fs es text e rest wants levels fit (inr (t, w, items, fi
     let room : open_sequences fs < 32 = omega (arith, levels) in
     let fewer : n ≡ levels_left inside = omega (arith, levels) in
     let all : Walks s (at fs text es) (at fs rest (es ++ whole fs t None)) =
-      then_walks s (at fs text es) (at inside first es) (at fs rest (es ++ whole fs t None)) (open_walks s fs es text t w first (wants, room, opens))
-        (then_walks s (at inside first es) (at inside close es) (at fs rest (es ++ whole fs t None))
-          (run_walks s inside es (StartsItem (StartsElement n w)) (item_walks s n (element_walks s n) t w fs es fewer) items first close run)
-          (end_sequence_walks s t w fs es close rest end)) in
+    then_walks s (at fs text es) (at inside first es) (at fs rest (es ++ whole fs t None)) (open_walks s fs es text t w first (wants, room, opens))
+    (then_walks s (at inside first es) (at inside close es) (at fs rest (es ++ whole fs t None))
+    (run_walks s inside es (StartsItem (StartsElement n w)) (item_walks s n (element_walks s n) t w fs es fewer) items first close run)
+    (end_sequence_walks s t w fs es close rest end)) in
     subst (λ (x : Element). Walks s (at fs text es) (at fs rest (es ++ whole fs x.tag x.value))) (sym is) all
 
-top_walks : (s : Syntax) (es : List Element) (text : List ℕ) (e : Element) (rest : List ℕ) → StartsTop s text e rest → Walks s (at [] text es) (at [] rest (es ++ e ∷ []))
+pub top_walks : (s : Syntax) (es : List Element) (text : List ℕ) (e : Element) (rest : List ℕ) → StartsTop s text e rest → Walks s (at [] text es) (at [] rest (es ++ e ∷ []))
 top_walks s es text e rest starts = element_walks s 32 [] es text e rest refl refl (λ _. starts.1) starts.0
 
 tops_walk : (s : Syntax) (xs es : List Element) (text rest : List ℕ) → Run (StartsTop s) xs text rest → Walks s (at [] text es) (at [] rest (es ++ xs))
@@ -187,14 +187,14 @@ opens_walk s [] text es rest r = tops_walk s es [] text rest r
 opens_walk s (InSequence t w ∷ fs) text es rest (items, mid, first, o, m, r) =
     let n = levels_left (InSequence t w ∷ fs) in
     then_walks s (at [] text []) (at fs mid es) (at (InSequence t w ∷ fs) rest es) (opens_walk s fs text es mid o)
-      (then_walks s (at fs mid es) (at (InSequence t w ∷ fs) first es) (at (InSequence t w ∷ fs) rest es) (open_walks s fs es mid t w first m)
-        (run_walks s (InSequence t w ∷ fs) es (StartsItem (StartsElement n w)) (item_walks s n (element_walks s n) t w fs es refl) items first rest r))
+    (then_walks s (at fs mid es) (at (InSequence t w ∷ fs) first es) (at (InSequence t w ∷ fs) rest es) (open_walks s fs es mid t w first m)
+    (run_walks s (InSequence t w ∷ fs) es (StartsItem (StartsElement n w)) (item_walks s n (element_walks s n) t w fs es refl) items first rest r))
 opens_walk s (InItem w ∷ []) text es rest (xs, mid, first, o, m, r) = absurd m
 opens_walk s (InItem w ∷ InItem v ∷ fs) text es rest (xs, mid, first, o, m, r) = absurd m
 opens_walk s (InItem w ∷ InSequence t u ∷ fs) text es rest (xs, mid, first, o, m, r) =
     let outer = InSequence t u ∷ fs in
     let n = levels_left outer in
     let opened : Walks s (at outer mid es) (at (InItem w ∷ outer) first es) =
-      subst (λ (x : Syntax). Walks s (at outer mid es) (at (InItem x ∷ outer) first es)) (sym m.0) (open_item_walks s t u fs es mid first m.1) in
+    subst (λ (x : Syntax). Walks s (at outer mid es) (at (InItem x ∷ outer) first es)) (sym m.0) (open_item_walks s t u fs es mid first m.1) in
     then_walks s (at [] text []) (at outer mid es) (at (InItem w ∷ outer) rest es) (opens_walk s (InSequence t u ∷ fs) text es mid o)
-      (then_walks s (at outer mid es) (at (InItem w ∷ outer) first es) (at (InItem w ∷ outer) rest es) opened (inner_walks s n (element_walks s n) w outer es refl xs first rest r))
+    (then_walks s (at outer mid es) (at (InItem w ∷ outer) first es) (at (InItem w ∷ outer) rest es) opened (inner_walks s n (element_walks s n) w outer es refl xs first rest r))

@@ -5,3 +5,4 @@ pub mod OneAnswer
 pub mod Reading
 pub mod Tokens
 pub mod Wholes
+pub mod Files

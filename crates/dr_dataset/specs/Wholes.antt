@@ -2,13 +2,15 @@
 use Rattle.std.specs.Prelude.{◌≡◌, ℕ, List, [], ◌∷◌, Option, Some, None, unwrap_or}
 use Rattle.std.specs.Borrow.{Bor}
 use Rattle.std.specs.Option.{option_copied}
+use Rattle.dr_dataset.specs.declared.syntax.Syntax.{Syntax}
+use Rattle.dr_dataset.specs.declared.fault.DataFault.{DataFault}
 use Rattle.dr_dataset.specs.declared.header.Tag.{Tag}
 use Rattle.dr_dataset.specs.declared.frame.Frame.{Frame}
 use Rattle.dr_dataset.specs.declared.whole.Whole.{Whole}
 use Rattle.dr_dataset.specs.declared.found.Found.{Found}
 use Rattle.dr_dataset.specs.declared.values.Attributes.{Attributes}
 use Rattle.dr_dataset.specs.Elements.{Element}
-use Rattle.dr_dataset.specs.DataSet.{first_value, trimmed}
+use Rattle.dr_dataset.specs.DataSet.{first_value, trimmed, Opens, Shows}
 
 -- an element is one of the top level where nothing is open behind it
 abbrev pub whole : List Frame → Tag → Option (List ℕ) → List Element
@@ -31,3 +33,10 @@ text_of value = trimmed (unwrap_or (option_copied value) [])
 -- the four values, trimmed
 abbrev pub AreValues : Found → Attributes → Type 0
 AreValues f a = (a.class ≡ text_of f.class) × (a.instance ≡ text_of f.instance) × (a.modality ≡ text_of f.modality) × (a.station ≡ text_of f.station)
+
+-- a fault shows before one element of the top level is whole
+abbrev pub FailsAtOnce : Syntax → List ℕ → DataFault → Type 0
+FailsAtOnce s text fault = (fs : List Frame) × (rest : List ℕ) × Opens s fs text [] rest × Shows s fs rest fault
+
+abbrev pub element_of : Whole → Element
+element_of w = record { tag = w.tag; value = option_copied w.value }

@@ -27,7 +27,7 @@ pub fn bytes_of(value: Option<&[u8]>) -> &[u8]
 }
 
 /// The bytes that were found first, or else those of this element if it is the one.
-fn first_of<'a>(found: Option<&'a [u8]>, is_it: bool, value: &'a [u8]) -> Option<&'a [u8]>
+pub fn first_of<'a>(found: Option<&'a [u8]>, is_it: bool, value: &'a [u8]) -> Option<&'a [u8]>
     ensures { option_copied result ≡ option_or (option_copied found.entry) (if is_it then Some value.now else None) }
 {
     if found.is_none() && is_it {

@@ -5,5 +5,4 @@ ghost use Rattle.dr_dataset.specs.OneAnswer.{OneAnswer};
 /// fault. Only want of memory may stand in the place of the values.
 pub fn a_text_has_one_answer()
     ensures { OneAnswer }
-{
-}
+{}

@@ -3,6 +3,7 @@
 #![tactic(auto)]
 
 pub mod fault;
+pub mod file;
 mod found;
 pub mod frame;
 pub mod header;

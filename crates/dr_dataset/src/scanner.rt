@@ -1,10 +1,10 @@
 //! The scanner: it takes a data set token by token, and knows what is open.
-ghost use Rattle.std.specs.Prelude.{◌≡◌, ◌≢◌, ◌==◌, ◌<◌, ◌≤◌, ◌++◌, ℕ, List, [], length, IsTrue, MatchResult, IfOk, IfErr};
+ghost use Rattle.std.specs.Prelude.{◌≡◌, ◌≢◌, ◌==◌, ◌<◌, ◌≤◌, ◌++◌, ℕ, List, [], length, IsTrue, MatchOption, MatchResult, IfOk, IfErr};
 ghost use Rattle.std.specs.Bool.{MatchBool};
 ghost use Rattle.std.specs.Option.{option_copied};
 ghost use Rattle.dr_dataset.specs.Elements.{Element};
-ghost use Rattle.dr_dataset.specs.DataSet.{is_key, in_force, Opens, Shows};
-ghost use Rattle.dr_dataset.specs.Wholes.{whole, elements_of};
+ghost use Rattle.dr_dataset.specs.DataSet.{is_key, in_force, Opens, Shows, StartsTop};
+ghost use Rattle.dr_dataset.specs.Wholes.{whole, elements_of, element_of, FailsAtOnce};
 ghost use Rattle.dr_dataset.specs.Reading.{long_of};
 ghost use Rattle.dr_dataset.specs.Tokens.{is_nested, is_full, element_token, item_token, end_token, open_item_token, token_of, open_behind};
 
@@ -172,6 +172,7 @@ impl Scanner {
         ensures syntax { self.new.syntax ≡ self.old.syntax }
         ensures ok { IfOk result (λ r. (front : List ℕ) (es : List Element) → Opens self.old.syntax self.old.stack front es text.now
             → Opens self.old.syntax self.new.stack front (es ++ elements_of r.0) r.1.now) }
+        ensures whole { IfOk result (λ r. MatchOption r.0 (self.new.stack ≢ []) (λ _. self.new.stack ≡ [])) }
         ensures shorter { IfOk result (λ r. length r.1.now < length text.now) }
         ensures err { IfErr result (λ fault. (fault ≢ DataFault.Memory) × ((text.now ≡ [] → self.old.stack ≢ []) → Shows self.old.syntax self.old.stack text.now fault)) }
     {
@@ -194,6 +195,25 @@ impl Scanner {
         }
     }
 
+    /// The element of the top level that the text begins with, and what follows.
+    pub fn element<'a>(&mut self, text: &'a [u8]) -> Result<(Whole<'a>, &'a [u8]), DataFault>
+        requires nothing_open { self.old.stack ≡ [] }
+        requires more { text.now ≢ [] }
+        ensures syntax { self.new.syntax ≡ self.old.syntax }
+        ensures ok { IfOk result (λ r. (self.new.stack ≡ []) × StartsTop self.old.syntax text.now (element_of r.0) r.1.now) }
+        ensures shorter { IfOk result (λ r. length r.1.now < length text.now) }
+        ensures err { IfErr result (λ fault. (fault ≢ DataFault.Memory) × FailsAtOnce self.old.syntax text.now fault) }
+    {
+        let mut rest = text;
+        'tokens: loop {
+            let (whole, after) = self.advance(rest)?;
+            if let Some(whole) = whole {
+                return Ok((whole, after));
+            }
+            rest = after;
+        }
+    }
+
     /// Whether the data set may end here: nothing is left and nothing is open.
     pub fn is_at_end(&self, rest: &[u8]) -> bool
         ensures { MatchBool result ((rest.now ≡ []) × (self.now.stack ≡ [])) (rest.now ≡ [] → self.now.stack ≢ []) }
@@ -203,7 +223,8 @@ impl Scanner {
 
     /// An element that ends here, if it is one of the top level.
     fn at_top<'a>(&self, tag: Tag, value: Option<&'a [u8]>) -> Option<Whole<'a>>
-        ensures { elements_of result ≡ whole self.now.stack tag (option_copied value.entry) }
+        ensures element { elements_of result ≡ whole self.now.stack tag (option_copied value.entry) }
+        ensures is_top { MatchOption result (self.now.stack ≢ []) (λ _. self.now.stack ≡ []) }
     {
         if !self.stack.is_empty() {
             return None;

@@ -20,7 +20,7 @@ returns-in_default-split_at_checked-clause-err c =
 
 pub returns-in-Some-clause-ok : goal.returns-in-Some-clause-ok
 returns-in-Some-clause-ok c =
-    value_grows c.args.self.now.syntax c.args.self.now.stack c.args.text.now _ _ _ _ _ _ _ _ c.in_ok-token.ensures.ok.0 c.in-Value.is c.in-Some.ensures.cases c.in_ok-token.ensures.ok.1 c.at_top.ensures
+    value_grows c.args.self.now.syntax c.args.self.now.stack c.args.text.now _ _ _ _ _ _ _ _ c.in_ok-token.ensures.ok.0 c.in-Value.is c.in-Some.ensures.cases c.in_ok-token.ensures.ok.1 c.at_top.ensures.element
 
 pub returns-in-Some-clause-shorter : goal.returns-in-Some-clause-shorter
 returns-in-Some-clause-shorter c =
@@ -37,7 +37,7 @@ returns-in-Some-split_at_checked-clause-shorter c =
 
 pub returns-in-SequenceEnd-clause-ok : goal.returns-in-SequenceEnd-clause-ok
 returns-in-SequenceEnd-clause-ok c =
-    sequence_end_grows c.args.self.now.syntax c.args.self.now.stack c.args.text.now _ _ _ _ _ c.in_ok-token.ensures.ok.0 c.in-SequenceEnd.is c.in_ok-token.ensures.ok.1 c.at_top-in-SequenceEnd.ensures
+    sequence_end_grows c.args.self.now.syntax c.args.self.now.stack c.args.text.now _ _ _ _ _ c.in_ok-token.ensures.ok.0 c.in-SequenceEnd.is c.in_ok-token.ensures.ok.1 c.at_top-in-SequenceEnd.ensures.element
 
 pub returns-in-SequenceEnd-clause-shorter : goal.returns-in-SequenceEnd-clause-shorter
 returns-in-SequenceEnd-clause-shorter c =

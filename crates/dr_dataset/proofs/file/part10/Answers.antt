@@ -1,0 +1,28 @@
+use Rattle.std.proofs.Common.{◌≡◌, arith, sym, ap, length, List, ℕ, subst}
+use Rattle.dr_dataset.specs.Files.{IsFile, IsMeta}
+use Rattle.dr_dataset.proofs.FileLemmas.{file_longer}
+use Rattle.dr_dataset.proofs.file.part10.Goals as goal
+
+pub returns-in_default-with_uid : goal.returns-in_default-with_uid
+returns-in_default-with_uid c = (
+  c.in-Some.rest.now,
+  c.without_end.result.now,
+  c.in-Some-meta_at.behind.now,
+  c.in-Some.ensures,
+  subst (λ (n : List ℕ). IsMeta c.in-Some.rest.now n c.in-Some-meta_at.behind.now) (sym c.without_end.ensures) c.in-Some-meta_at.ensures.meta,
+  c.in_default-with_uid.ensures,
+)
+
+pub overflow_sub-start : goal.overflow_sub-start
+overflow_sub-start c = omega (arith, file_longer c.args.text.now c.in-Some.rest.now c.in-Some.ensures, c.in-Some-meta_at.ensures.within)
+
+pub returns : goal.returns
+returns c = (
+  c.in-Some.rest.now,
+  c.without_end.result.now,
+  c.in-Some-meta_at.behind.now,
+  c.in-Some.ensures,
+  subst (λ (n : List ℕ). IsMeta c.in-Some.rest.now n c.in-Some-meta_at.behind.now) (sym c.without_end.ensures) c.in-Some-meta_at.ensures.meta,
+  c.in-Some-with_uid.ensures,
+  omega (arith, file_longer c.args.text.now c.in-Some.rest.now c.in-Some.ensures, c.in-Some-meta_at.ensures.within),
+)
