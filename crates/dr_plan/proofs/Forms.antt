@@ -1,0 +1,103 @@
+-- The forms of fields that a text's tables say.
+use Rattle.std.proofs.Common.{◌≡◌, ◌≢◌, List, [], ◌∷◌, Option, Some, None, refl}
+use Rattle.std.specs.Prelude.{All, AllPairs}
+use Rattle.std.proofs.lemmas.List.Elements.{All-nil, All-cons}
+use Rattle.toml.specs.Data.{Data, Items, no_items, item, Members, get_member}
+use Rattle.dr_base.specs.Texts.{Text}
+use Rattle.dr_route.specs.declared.rule.Rule.{Rule}
+use Rattle.dr_route.specs.declared.rule.Pattern.{Pattern}
+use Rattle.dr_route.specs.declared.rule.Pattern.TheVariants.{Any, Literal}
+use Rattle.dr_network.specs.declared.plan.Values.{Values}
+use Rattle.dr_network.specs.declared.plan.Values.TheVariants as values
+use Rattle.dr_network.specs.Formed.{IsClass, IsLiteral, IsAddress, HasForm, AreLiterals}
+use Rattle.dr_plan_text.specs.declared.words.AcceptText.{AcceptText}
+use Rattle.dr_plan_text.specs.declared.words.NodeText.{NodeText}
+use Rattle.dr_plan_text.specs.declared.words.FlowText.{FlowText}
+use Rattle.dr_plan_text.specs.declared.words.PlanText.{PlanText}
+use Rattle.dr_plan_text.specs.Fields.{SaysFormed, SaysPattern, SaysValues, SaysTable, SaysTextsOnce, Lists, IsListOf, IsSomeOf, Given, GivenOr}
+use Rattle.dr_plan_text.specs.Tables.{IsAcceptTable, IsRuleTable, IsNodeTable, IsFlowTable, IsRoot}
+
+pub record RowForm (row : AcceptText) : Type 0 where
+  pub class : IsClass row.class
+  pub some : row.syntaxes ≢ []
+  pub apart : AllPairs (λ s t. s ≢ t) row.syntaxes
+
+pub record RuleForm (rule : Rule) : Type 0 where
+  pub class : HasForm IsClass rule.class
+  pub modality : HasForm IsLiteral rule.modality
+  pub station : HasForm IsLiteral rule.station
+
+pub record NodeForm (node : NodeText) : Type 0 where
+  pub address : IsAddress node.address
+  pub accepts : All RowForm node.accepts
+  pub rules : All RuleForm node.rules
+
+pub record FlowForm (flow : FlowText) : Type 0 where
+  pub classes : (flow.classes ≢ []) × All IsClass flow.classes
+  pub syntaxes : flow.syntaxes ≢ []
+  pub modalities : AreLiterals flow.modalities
+  pub stations : AreLiterals flow.stations
+
+-- what a value says has the form
+abbrev SaysFormedAs : {X : Type 0} → (Data → X → Type 0) → (X → Type 0) → Type 0
+SaysFormedAs {X} Says P = (d : Data) (x : X) → Says d x → P x
+
+each_listed : {X : Type 0} (Says : Data → X → Type 0) (P : X → Type 0) → SaysFormedAs Says P → (items : Items) (xs : List X) → Lists Says items xs → All P xs
+each_listed Says P formed no_items [] h = All-nil P
+each_listed Says P formed no_items (x ∷ xs) h = absurd h
+each_listed Says P formed (item d items) [] h = absurd h
+each_listed Says P formed (item d items) (x ∷ xs) h = All-cons P x xs (formed d x h.0) (each_listed Says P formed items xs h.1)
+
+list_form : {X : Type 0} (Says : Data → X → Type 0) (P : X → Type 0) → SaysFormedAs Says P → SaysFormedAs (IsListOf Says) (All P)
+list_form Says P formed d xs h = each_listed Says P formed h.0 xs h.2
+
+given : {X : Type 0} (Says : Data → X → Type 0) (P : X → Type 0) → SaysFormedAs Says P → (field : Option Data) (x : X) → Given Says field x → P x
+given Says P formed None x h = absurd h
+given Says P formed (Some d) x h = formed d x h
+
+given_or : {X : Type 0} (default : X) (Says : Data → X → Type 0) (P : X → Type 0) → P default → SaysFormedAs Says P → (field : Option Data) (x : X) → GivenOr default Says field x → P x
+given_or default Says P is formed None x h = rw h is
+given_or default Says P is formed (Some d) x h = formed d x h
+
+pattern_form : (IsFormed : Text → Type 0) → SaysFormedAs (SaysPattern (SaysFormed IsFormed)) (HasForm IsFormed)
+pattern_form IsFormed d Any h = tt
+pattern_form IsFormed d (Literal literal) h = h.1.1
+
+values_form : SaysFormedAs SaysValues AreLiterals
+values_form d values.Any h = tt
+values_form d (values.Listed texts) h = list_form (SaysFormed IsLiteral) IsLiteral (λ d x h. h.1) d texts h
+
+row_form : SaysFormedAs (SaysTable IsAcceptTable) RowForm
+row_form d row h = record {
+  class = given (SaysFormed IsClass) IsClass (λ d x h. h.1) _ row.class h.2.class;
+  some = given SaysTextsOnce (λ xs. xs ≢ []) (λ d x h. h.0.1) _ row.syntaxes h.2.syntax;
+  apart = given SaysTextsOnce (λ xs. AllPairs (λ s t. s ≢ t) xs) (λ d x h. h.1) _ row.syntaxes h.2.syntax;
+}
+
+rule_form : SaysFormedAs (SaysTable IsRuleTable) RuleForm
+rule_form d rule h = record {
+  class = given_or Any (SaysPattern (SaysFormed IsClass)) (HasForm IsClass) tt (pattern_form IsClass) _ rule.class h.2.class;
+  modality = given_or Any (SaysPattern (SaysFormed IsLiteral)) (HasForm IsLiteral) tt (pattern_form IsLiteral) _ rule.modality h.2.modality;
+  station = given_or Any (SaysPattern (SaysFormed IsLiteral)) (HasForm IsLiteral) tt (pattern_form IsLiteral) _ rule.station h.2.station;
+}
+
+node_form : SaysFormedAs (SaysTable IsNodeTable) NodeForm
+node_form d node h = record {
+  address = given (SaysFormed IsAddress) IsAddress (λ d x h. h.1) _ node.address h.2.address;
+  accepts = given_or [] (IsListOf (SaysTable IsAcceptTable)) (All RowForm) (All-nil RowForm) (list_form (SaysTable IsAcceptTable) RowForm row_form) _ node.accepts h.2.accept;
+  rules = given_or [] (IsListOf (SaysTable IsRuleTable)) (All RuleForm) (All-nil RuleForm) (list_form (SaysTable IsRuleTable) RuleForm rule_form) _ node.rules h.2.rule;
+}
+
+flow_form : SaysFormedAs (SaysTable IsFlowTable) FlowForm
+flow_form d flow h = record {
+  classes = given (IsSomeOf (SaysFormed IsClass)) (λ xs. (xs ≢ []) × All IsClass xs) (λ d xs h. (h.1, list_form (SaysFormed IsClass) IsClass (λ d x h. h.1) d xs h.0)) _ flow.classes h.2.class;
+  syntaxes = given (IsSomeOf _) (λ xs. xs ≢ []) (λ d xs h. h.1) _ flow.syntaxes h.2.syntax;
+  modalities = given SaysValues AreLiterals values_form _ flow.modalities h.2.modality;
+  stations = given SaysValues AreLiterals values_form _ flow.stations h.2.station;
+}
+
+pub nodes_form : (root : Members) (plan : PlanText) → IsRoot root plan → All NodeForm plan.nodes
+nodes_form root plan is = given_or [] (IsListOf (SaysTable IsNodeTable)) (All NodeForm) (All-nil NodeForm) (list_form (SaysTable IsNodeTable) NodeForm node_form) _ plan.nodes is.node
+
+pub flows_form : (root : Members) (plan : PlanText) → IsRoot root plan → All FlowForm plan.flows
+flows_form root plan is = given_or [] (IsListOf (SaysTable IsFlowTable)) (All FlowForm) (All-nil FlowForm) (list_form (SaysTable IsFlowTable) FlowForm flow_form) _ plan.flows is.flow

@@ -1,0 +1,6 @@
+pub mod EachNames
+pub mod Forms
+pub mod GoodNames
+pub mod Mapped
+pub mod PlanForm
+pub mod Typing

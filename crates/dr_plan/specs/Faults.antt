@@ -1,0 +1,10 @@
+-- Faults of the text, as faults of the plan.
+use Rattle.dr_plan_text.specs.declared.fault.TextFault.{TextFault}
+use Rattle.dr_plan_text.specs.declared.fault.TextFault.TheVariants as text
+use Rattle.dr_plan.specs.declared.fault.PlanFault.{PlanFault}
+use Rattle.dr_plan.specs.declared.fault.PlanFault.TheVariants.{NotToml, Field, Memory}
+
+abbrev pub plan_fault : TextFault → PlanFault
+plan_fault text.NotToml = NotToml
+plan_fault text.Field = Field
+plan_fault text.Memory = Memory

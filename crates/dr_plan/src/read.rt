@@ -1,0 +1,52 @@
+//! The plan of a text.
+ghost use Rattle.std.specs.Prelude.{◌≡◌};
+ghost use Rattle.dr_plan.specs.Reading.{Passes, Reads};
+
+use crate::fault::PlanFault;
+use crate::limits::is_within_limits;
+use crate::names::{Among, WellFormed, each_name, names_of};
+use crate::routes::sends_elsewhere;
+use crate::syntaxes::knows_syntaxes;
+use crate::typed::{flows_of, nodes_of};
+use dr_network::Plan;
+use dr_plan_text::{PlanText, read_text};
+use sha2::{Digest, Sha256};
+use std::alloc::Global;
+
+/// The first fault that a plan has beside those of its fields.
+fn pass(alloc: Global, plan: &PlanText) -> Result<(), PlanFault>
+    ensures { Passes plan.now result }
+{
+    if !knows_syntaxes(plan) {
+        return Err(PlanFault::Syntax);
+    }
+    if !each_name(&WellFormed, plan) {
+        return Err(PlanFault::Name);
+    }
+    let Some(names) = names_of(alloc, plan.nodes.as_slice())? else {
+        return Err(PlanFault::Name);
+    };
+    if !is_within_limits(plan) {
+        return Err(PlanFault::Limit);
+    }
+    if !each_name(&Among(&names), plan) {
+        return Err(PlanFault::UnknownNode);
+    }
+    if !sends_elsewhere(plan) {
+        return Err(PlanFault::SelfRoute);
+    }
+    Ok(())
+}
+
+/// The plan that the text writes, with the text's SHA-256, or the text's first fault in the order of
+/// `PlanFault`. Memory is answered only where a growth was refused.
+pub fn read_plan(alloc: Global, text: &[u8]) -> Result<Plan, PlanFault>
+    ensures { Reads text.now result }
+{
+    let written = read_text(alloc, text)?;
+    pass(alloc, &written)?;
+    let PlanText { nodes, flows } = written;
+    let nodes = nodes_of(alloc, nodes)?;
+    let flows = flows_of(alloc, flows)?;
+    Ok(Plan::new(nodes, flows, Sha256::digest(text)))
+}
