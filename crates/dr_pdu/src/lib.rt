@@ -23,3 +23,6 @@ pub use pdu::{
     Abort, AssociateAc, AssociateRj, AssociateRq, Association, ContextAnswer, ContextProposal,
     Front, Pdu, Pdv,
 };
+
+#[cfg(test)]
+mod tests;
