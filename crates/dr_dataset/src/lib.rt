@@ -20,3 +20,8 @@ mod whole;
 pub use fault::{DataFault, FileFault};
 pub use syntax::Syntax;
 pub use values::{Attributes, Part10};
+
+#[cfg(test)]
+mod tests;
+#[cfg(test)]
+mod tests_reader;
