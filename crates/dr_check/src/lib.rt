@@ -1,2 +1,7 @@
-//! To be written.
+//! The checker: whether a plan is sound, with its certificate or a fault that shows itself.
 #![tactic(auto)]
+
+pub mod fault;
+pub mod search;
+
+pub use fault::Fault;

@@ -1,0 +1,120 @@
+-- Marks of stops: a map under the order of stops, in which equal stops are the same.
+use Rattle.std.proofs.Common.{◌≡◌, ◌≢◌, ℕ, ◌<◌, ◌⊎◌, inl, inr, refl, sym, ◌∙◌, ap, List, [], length, get_or, Option, Some, None, true, false}
+use Rattle.std.specs.Prelude.{AllPairs, All, IsSome}
+use Rattle.std.specs.declared.cmp.Ordering.{Ordering}
+use Rattle.std.specs.declared.cmp.Ordering.TheVariants.{Less, Equal, Greater}
+use Rattle.std.specs.Ordering.{ordering_then}
+use Rattle.std.specs.BTreeMap.{BTreeMap, get, btree_map_len, Updates, is_at, keys, IsOrdered, ContainsKey}
+use Rattle.std.specs.Cmp.{Equal-is, IsTotalOrder}
+use Rattle.std.proofs.lemmas.Cmp.{tied_itself}
+use Rattle.std.proofs.lemmas.Bool.{cases_Bool, false≢true}
+use Rattle.std.proofs.lemmas.Option.{same_Some}
+use Rattle.std.proofs.lemmas.Map.Keys.{Less-from_sorted}
+use Rattle.std.proofs.lemmas.Map.Views.{All-keys_found}
+use Rattle.std.proofs.lemmas.Map.Lookups.{exact_bytes}
+use Rattle.dr_base.specs.Texts.{Text, text_cmp}
+use Rattle.dr_base.specs.declared.syntax.Syntax.{Syntax}
+use Rattle.dr_base.specs.declared.syntax.Syntax.TheVariants.{Implicit, Explicit}
+use Rattle.dr_base.specs.contracts.syntax.SyntaxOrd.TheImpl as syntaxes
+use Rattle.dr_route.specs.contracts.cell.OwnedFieldOrd.TheImpl as fields
+use Rattle.dr_route.specs.contracts.cell.OwnedCellOrd.TheImpl as cells
+use Rattle.dr_route.specs.declared.cell.OwnedField.{OwnedField}
+use Rattle.dr_route.specs.declared.cell.OwnedField.TheVariants.{Literal, Rest}
+use Rattle.dr_route.specs.declared.cell.OwnedCell.{OwnedCell}
+use Rattle.dr_sound.specs.declared.certificate.Stop.{Stop}
+use Rattle.dr_sound.specs.contracts.certificate.StopOrd.TheImpl.Laws as laws
+use Rattle.dr_check.specs.declared.search.Mark.{Mark}
+use Rattle.dr_check.specs.declared.search.Mark.TheVariants.{Open, Finished}
+use Rattle.dr_check.specs.Searching.{stop_cmp, Marks, mark_at}
+
+then_equal : (o p : Ordering) → ordering_then o p ≡ Equal → (o ≡ Equal) × (p ≡ Equal)
+then_equal Less p e = absurd (cc e)
+then_equal Equal p e = (refl, e)
+then_equal Greater p e = absurd (cc e)
+
+syntax_exact : (a b : Syntax) → syntaxes.cmp-value.it a b ≡ Equal → a ≡ b
+syntax_exact Implicit Implicit e = refl
+syntax_exact Implicit Explicit e = absurd (cc e)
+syntax_exact Explicit Implicit e = absurd (cc e)
+syntax_exact Explicit Explicit e = refl
+
+field_exact : (a b : OwnedField) → fields.cmp-value.it a b ≡ Equal → a ≡ b
+field_exact (Literal a) (Literal b) e = ap (λ (t : Text). Literal t) (exact_bytes a b e)
+field_exact (Literal a) Rest e = absurd (cc e)
+field_exact Rest (Literal b) e = absurd (cc e)
+field_exact Rest Rest e = refl
+
+cell_exact : (a b : OwnedCell) → cells.cmp-value.it a b ≡ Equal → a ≡ b
+cell_exact a b e =
+    let c = then_equal (text_cmp a.class b.class) _ e in
+    let s = then_equal (syntaxes.cmp-value.it a.syntax b.syntax) _ c.1 in
+    let m = then_equal (fields.cmp-value.it a.modality b.modality) (fields.cmp-value.it a.station b.station) s.1 in
+    let class : a.class ≡ b.class = exact_bytes a.class b.class c.0 in
+    let syntax : a.syntax ≡ b.syntax = syntax_exact a.syntax b.syntax s.0 in
+    let modality : a.modality ≡ b.modality = field_exact a.modality b.modality m.0 in
+    let station : a.station ≡ b.station = field_exact a.station b.station m.1 in
+    let mk : Text → Syntax → OwnedField → OwnedField → OwnedCell = λ c s m t. record { class = c; syntax = s; modality = m; station = t } in
+    ap (λ (x : Text). mk x a.syntax a.modality a.station) class
+    ∙ (ap (λ (x : Syntax). mk b.class x a.modality a.station) syntax
+    ∙ (ap (λ (x : OwnedField). mk b.class b.syntax x a.station) modality ∙ ap (λ (x : OwnedField). mk b.class b.syntax b.modality x) station))
+
+pub stop_exact : (a b : Stop) → stop_cmp a b ≡ Equal → a ≡ b
+stop_exact a b e =
+    let c = then_equal (text_cmp a.caller b.caller) _ e in
+    let n = then_equal (text_cmp a.node b.node) (cells.cmp-value.it a.cell b.cell) c.1 in
+    let caller : a.caller ≡ b.caller = exact_bytes a.caller b.caller c.0 in
+    let node : a.node ≡ b.node = exact_bytes a.node b.node n.0 in
+    let cell : a.cell ≡ b.cell = cell_exact a.cell b.cell n.1 in
+    let mk : Text → Text → OwnedCell → Stop = λ c n x. record { caller = c; node = n; cell = x } in
+    ap (λ (x : Text). mk x a.node a.cell) caller ∙ (ap (λ (x : Text). mk b.caller x a.cell) node ∙ ap (λ (x : OwnedCell). mk b.caller b.node x) cell)
+
+-- the same stop or not
+pub same_stop_or_not : (a b : Stop) → (a ≡ b) ⊎ (a ≡ b → ⊥)
+same_stop_or_not a b = elim (cases_Bool (is_at (stop_cmp a) b)) [
+  | inl same ↦ inl (stop_exact a b ((Equal-is (stop_cmp a b)).0 same))
+  | inr other ↦ inr (λ e.
+      let self : stop_cmp a a ≡ Equal = tied_itself laws.total-law a in
+      let here : is_at (stop_cmp a) a ≡ true = (Equal-is (stop_cmp a a)).1 self in
+      absurd (cc (ap (λ (x : Stop). is_at (stop_cmp a) x) e, here, other)))
+]
+
+not_at : (a b : Stop) → (b ≡ a → ⊥) → is_at (stop_cmp a) b ≡ false
+not_at a b apart = elim (cases_Bool (is_at (stop_cmp a) b)) [
+  | inl same ↦ absurd (apart (sym (stop_exact a b ((Equal-is (stop_cmp a b)).0 same))))
+  | inr other ↦ other
+]
+
+-- n is m with that mark at the stop
+pub record Marks-set (m n : Marks) (stop : Stop) (mark : Mark) : Type 0 where
+  pub here : mark_at n stop ≡ Some mark
+  pub apart : (other : Stop) → (other ≡ stop → ⊥) → mark_at n other ≡ mark_at m other
+
+pub marking : {m n : Marks} {stop : Stop} {mark : Mark} → Updates stop_cmp m n stop (Some mark) → Marks-set m n stop mark
+marking {m} {n} {stop} {mark} h = record { here = h.1; apart = λ other apart. h.2 other (not_at stop other apart) }
+
+pub open_is_not_finished : {o : Option Mark} {r : ℕ} → o ≡ Some Open → o ≡ Some (Finished r) → ⊥
+open_is_not_finished {o} {r} a b = let e : Open ≡ Finished r = same_Some _ _ (sym a ∙ b) in cc
+
+pub none_is_not_some : {o : Option Mark} {mark : Mark} → o ≡ None → o ≡ Some mark → ⊥
+none_is_not_some {o} {mark} a b = cc
+
+pub finished_same : {o : Option Mark} {r s : ℕ} → o ≡ Some (Finished r) → o ≡ Some (Finished s) → r ≡ s
+finished_same {o} {r} {s} a b = let e : Finished r ≡ Finished s = same_Some _ _ (sym a ∙ b) in cc
+
+pub unmarked : (m : Marks) → m.entries ≡ [] → (stop : Stop) → mark_at m stop ≡ None
+unmarked m empty stop = rw empty refl
+
+-- the stops of a map stand in it once
+pub keys_apart : (m : Marks) → IsOrdered stop_cmp m → AllPairs (λ a b. a ≢ b) (keys m)
+keys_apart m ordered i j d before h same =
+    let less : stop_cmp (get_or (keys m) i d) (get_or (keys m) j d) ≡ Less = Less-from_sorted stop_cmp (keys m) i j d ordered before h in
+    let tied : stop_cmp (get_or (keys m) j d) (get_or (keys m) j d) ≡ Equal = tied_itself laws.total-law (get_or (keys m) j d) in
+    cc (less, tied, ap (λ (x : Stop). stop_cmp x (get_or (keys m) j d)) same)
+
+some_mark : (o : Option Mark) → IsSome o → (mark : Mark) × (o ≡ Some mark)
+some_mark (Some mark) h = (mark, refl)
+some_mark None h = absurd (false≢true h)
+
+-- each of them has a mark
+pub keys_marked : (m : Marks) → IsOrdered stop_cmp m → All (λ stop. (mark : Mark) × (mark_at m stop ≡ Some mark)) (keys m)
+keys_marked m ordered k d h = some_mark (mark_at m (get_or (keys m) k d)) (All-keys_found laws.total-law m ordered k d h)

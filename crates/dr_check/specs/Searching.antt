@@ -1,0 +1,124 @@
+-- What holds between the calls of the search.
+use Rattle.std.specs.Prelude.{◌≡◌, ◌≢◌, ℕ, ◌+◌, ◌<◌, ◌≤◌, ◌⊎◌, ◌↔◌, List, [], ◌∷◌, ◌++◌, length, Contains, Some, None, slice_index_or, Option, AllPairs}
+use Rattle.std.specs.declared.cmp.Ordering.{Ordering}
+use Rattle.std.specs.BTreeMap.{BTreeMap, get, btree_map_len}
+use Rattle.dr_base.specs.Texts.{Text}
+use Rattle.dr_route.specs.Routes.{local}
+use Rattle.dr_route.specs.Laws.{key_of}
+use Rattle.dr_route.specs.declared.key.Key.{Key}
+use Rattle.dr_route.specs.declared.cell.OwnedCell.{OwnedCell}
+use Rattle.dr_network.specs.Networks.{Network}
+use Rattle.dr_network.specs.Laws.{IsCellOf}
+use Rattle.dr_network.specs.Walks.{Sends, Keeps, Accepts, IsWalk, last_place, IsEntry, IsReached}
+use Rattle.dr_sound.specs.declared.certificate.Stop.{Stop}
+use Rattle.dr_sound.specs.declared.certificate.Line.{Line}
+use Rattle.dr_sound.specs.contracts.certificate.StopOrd.TheImpl as order
+use Rattle.dr_sound.specs.Ranked.{line_at, SendsOn, IsRanked}
+use Rattle.dr_check.specs.declared.search.Search.{Search}
+use Rattle.dr_check.specs.declared.search.Mark.{Mark}
+use Rattle.dr_check.specs.declared.search.Mark.TheVariants.{Open, Finished}
+use Rattle.dr_check.specs.declared.search.Trouble.{Trouble}
+use Rattle.dr_check.specs.declared.search.Trouble.TheVariants as trouble
+use Rattle.dr_check.specs.declared.search.Sight.{Sight}
+use Rattle.dr_check.specs.declared.search.Sight.TheVariants as sight
+use Rattle.dr_check.specs.declared.search.Reached.{Reached}
+use Rattle.dr_check.specs.declared.search.Reached.TheVariants as reached
+use Rattle.dr_check.specs.declared.fault.Fault.TheVariants as fault
+use Rattle.dr_check.specs.Shown.{IsShown, IsTooLarge}
+
+-- the order of stops in a map
+abbrev pub stop_cmp : Stop → Stop → Ordering
+stop_cmp = order.cmp-value.it
+
+abbrev pub Marks : Type 0
+Marks = BTreeMap Stop Mark
+
+abbrev pub mark_at : Marks → Stop → Option Mark
+mark_at marks stop = get stop_cmp marks stop
+
+abbrev pub stop_at : Text → Text → OwnedCell → Stop
+stop_at caller node cell = record { caller = caller; node = node; cell = cell }
+
+-- the pairs of a list of nodes, each with the one before it, the first with the caller
+abbrev pub pairs_from : Text → List Text → List (Text × Text)
+pairs_from caller [] = []
+pairs_from caller (node ∷ nodes) = (caller, node) ∷ pairs_from node nodes
+
+-- the nodes are a walk for the key from an entry, whose last pair is this
+pub record IsTrail (plan : Network) (key : Key) (nodes : List Text) (caller node : Text) : Type 0 where
+  pub site : Text
+  pub over : List Text
+  pub walked : nodes ≡ site ∷ over
+  pub entry : IsEntry plan site key
+  pub walk : IsWalk plan key local site over
+  pub last : last_place local site over ≡ (caller, node)
+
+-- Between two calls: each stop that was finished has its line, which is right among the others, and no other stop has one;
+-- each stop that was entered is reached; and what is still open stands on the walk, and belongs to the cell that is searched.
+pub record IsSearching (plan : Network) (cell : OwnedCell) (s : Search) : Type 0 where
+  pub marked : (stop : Stop) (r : ℕ) → mark_at s.marks stop ≡ Some (Finished r) → Contains s.lines.items (record { stop = stop; rank = r })
+  pub listed : (stop : Stop) (r : ℕ) → Contains s.lines.items (record { stop = stop; rank = r }) → mark_at s.marks stop ≡ Some (Finished r)
+  pub ranked : (stop : Stop) (r : ℕ) → Contains s.lines.items (record { stop = stop; rank = r }) → IsRanked plan s.lines.items stop r
+  pub counted : (stop : Stop) (r : ℕ) → Contains s.lines.items (record { stop = stop; rank = r }) → r < length s.lines.items
+  pub known : (stop : Stop) (m : Mark) → mark_at s.marks stop ≡ Some m → IsCellOf plan stop.cell × IsReached plan (key_of stop.cell) stop.caller stop.node
+  pub on_path : (stop : Stop) → mark_at s.marks stop ≡ Some Open → (stop.cell ≡ cell) × Contains (pairs_from local s.path.items) (stop.caller, stop.node)
+  pub room : length s.lines.items + length s.path.items ≤ btree_map_len s.marks
+  pub within : btree_map_len s.marks ≤ 65536
+  pub apart : AllPairs (λ a b. a ≢ b) s.lines.items
+
+-- what was marked stays marked, and what was listed stays listed
+pub record IsLater (old new : Search) : Type 0 where
+  pub marks : (stop : Stop) (m : Mark) → mark_at old.marks stop ≡ Some m → mark_at new.marks stop ≡ Some m
+  pub lines : (line : Line) → Contains old.lines.items line → Contains new.lines.items line
+  pub longer : btree_map_len old.marks ≤ btree_map_len new.marks
+
+-- nobody asks where instances enter; elsewhere the node accepts
+abbrev pub IsLetIn : Network → OwnedCell → Text → Text → Type 0
+IsLetIn plan cell caller node = (caller ≡ local) ⊎ Accepts plan node caller cell.class cell.syntax
+
+-- all walks from the stop have been searched
+pub record IsDone (plan : Network) (cell : OwnedCell) (caller node : Text) (r : ℕ) (old new : Search) : Type 0 where
+  pub searching : IsSearching plan cell new
+  pub later : IsLater old new
+  pub path : new.path.items ≡ old.path.items
+  pub rank : mark_at new.marks (stop_at caller node cell) ≡ Some (Finished r)
+  pub let_in : IsLetIn plan cell caller node
+
+abbrev pub IsTroubled : Network → OwnedCell → List Text → Trouble → Type 0
+IsTroubled plan cell walk trouble.NoContext = IsShown plan (fault.NoContext walk cell)
+IsTroubled plan cell walk trouble.Cycle = IsShown plan (fault.Cycle walk cell)
+IsTroubled plan cell walk trouble.DeadEnd = IsShown plan (fault.DeadEnd walk cell)
+IsTroubled plan cell walk trouble.TooLarge = IsTooLarge plan
+
+abbrev pub AfterReach : Network → OwnedCell → Text → Text → Search → Search → Reached → Type 0
+AfterReach plan cell caller node old new (reached.Rank r) = IsDone plan cell caller node r old new
+AfterReach plan cell caller node old new (reached.Stuck trouble) = IsTroubled plan cell new.path.items trouble
+
+-- a stop that is seen for the first time: these are the nodes that it sends to, or it keeps
+pub record IsFresh (plan : Network) (cell : OwnedCell) (caller node : Text) (stop : Stop) (targets : List Text) (s : Search) : Type 0 where
+  pub same : stop ≡ stop_at caller node cell
+  pub fresh : mark_at s.marks (stop_at caller node cell) ≡ None
+  pub small : btree_map_len s.marks ≢ 65536
+  pub named : (to : Text) → Contains targets to ↔ SendsOn plan (stop_at caller node cell) to
+  pub goes_on : Keeps plan node caller (key_of cell) ⊎ ((to : Text) × SendsOn plan (stop_at caller node cell) to)
+  pub let_in : IsLetIn plan cell caller node
+
+abbrev pub Sees : Network → OwnedCell → Text → Text → Search → Sight → Type 0
+Sees plan cell caller node s (sight.Known r) = (mark_at s.marks (stop_at caller node cell) ≡ Some (Finished r)) × IsLetIn plan cell caller node
+Sees plan cell caller node s (sight.Stuck trouble) = IsTroubled plan cell (s.path.items ++ node ∷ []) trouble
+Sees plan cell caller node s (sight.Fresh stop targets) = IsFresh plan cell caller node stop targets s
+
+-- the search stands at the stop, which it has marked
+pub record IsInside (plan : Network) (cell : OwnedCell) (caller node : Text) (old new : Search) : Type 0 where
+  pub searching : IsSearching plan cell new
+  pub later : IsLater old new
+  pub more : btree_map_len old.marks + 1 ≤ btree_map_len new.marks
+  pub path : new.path.items ≡ old.path.items ++ node ∷ []
+  pub here : mark_at new.marks (stop_at caller node cell) ≡ Some Open
+  pub fresh : mark_at old.marks (stop_at caller node cell) ≡ None
+
+-- the rank that the first n targets call for
+pub record IsRankedBy (plan : Network) (cell : OwnedCell) (node : Text) (lines : List Line) (targets : List Text) (n r : ℕ) : Type 0 where
+  pub lower : (k : ℕ) → k < n → Accepts plan (slice_index_or targets k []) node cell.class cell.syntax
+      × ((s : ℕ) × Contains lines (line_at node (slice_index_or targets k []) cell s) × (s < r))
+  pub next : (r ≡ 0) ⊎ ((k : ℕ) × (s : ℕ) × (k < n) × Contains lines (line_at node (slice_index_or targets k []) cell s) × (r ≡ s + 1))
