@@ -63,14 +63,14 @@ meta_is_top text e rest (starts, group) = (starts, λ key. absurd (cc (sym key �
 one_meta : (text : List ℕ) (x y : Element) (a b : List ℕ) → StartsMeta text x a → StartsMeta text y b → (x ≡ y) × (a ≡ b)
 one_meta text x y a b p q = one_element Explicit text x y a b (meta_is_top text x a p) (meta_is_top text y b q)
 
-meta_then_end : (text : List ℕ) (e : Element) (rest : List ℕ) → EndsMeta text → StartsMeta text e rest → ⊥
+pub meta_then_end : (text : List ℕ) (e : Element) (rest : List ℕ) → EndsMeta text → StartsMeta text e rest → ⊥
 meta_then_end text e rest (inl none) (starts, group) = let t = element_tag 32 Explicit text e rest starts in no_tag_in_nothing e.tag t.0 (subst (λ (x : List ℕ). StartsTag x e.tag t.0) none t.1)
 meta_then_end text e rest (inr (t, more, begins, other)) (starts, group) =
     let u = element_tag 32 Explicit text e rest starts in
     other (ap (λ (x : Tag). x.group) (one_tag text t e.tag more u.0 begins u.1) ∙ group)
 
 -- of two runs from one text the one that ends the meta information is no shorter
-goes_on : (xs ys : List Element) (text mid end : List ℕ) → Run StartsMeta xs text mid → Run StartsMeta ys text end → EndsMeta end → (later : List Element) × (ys ≡ xs ++ later) × Run StartsMeta later mid end
+pub goes_on : (xs ys : List Element) (text mid end : List ℕ) → Run StartsMeta xs text mid → Run StartsMeta ys text end → EndsMeta end → (later : List Element) × (ys ≡ xs ++ later) × Run StartsMeta later mid end
 goes_on [] ys text mid end r q ends = (ys, refl, subst (λ (t : List ℕ). Run StartsMeta ys t end) r q)
 goes_on (x ∷ xs) [] text mid end r q ends = absurd (meta_then_end end x r.0 ends (subst (λ (t : List ℕ). StartsMeta t x r.0) q r.1))
 goes_on (x ∷ xs) (y ∷ ys) text mid end r q ends =

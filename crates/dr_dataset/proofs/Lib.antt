@@ -10,3 +10,5 @@ pub mod WalkLemmas
 pub mod OneAnswerLemmas
 pub mod ElementLemmas
 pub mod FileLemmas
+pub mod LongerLemmas
+pub mod OneFileLemmas

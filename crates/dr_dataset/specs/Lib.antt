@@ -6,3 +6,5 @@ pub mod Reading
 pub mod Tokens
 pub mod Wholes
 pub mod Files
+pub mod Fronts
+pub mod Worked

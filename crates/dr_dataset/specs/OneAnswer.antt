@@ -4,7 +4,14 @@ use Rattle.dr_dataset.specs.declared.syntax.Syntax.{Syntax}
 use Rattle.dr_dataset.specs.declared.fault.DataFault.{DataFault}
 use Rattle.dr_dataset.specs.declared.fault.DataFault.TheVariants.{Truncated, BadVr, BadLength, TooDeep, Memory}
 use Rattle.dr_dataset.specs.declared.values.Attributes.{Attributes}
+use Rattle.dr_dataset.specs.declared.values.Part10.{Part10}
+use Rattle.dr_dataset.specs.declared.fault.FileFault.{FileFault}
 use Rattle.dr_dataset.specs.DataSet.{Scans}
+use Rattle.dr_dataset.specs.Files.{ReadsFile}
 
 abbrev pub OneAnswer : Type 0
 OneAnswer = (s : Syntax) (text : List ℕ) (r q : Result Attributes DataFault) → r ≢ Err Memory → q ≢ Err Memory → Scans s text r → Scans s text q → r ≡ q
+
+-- a file has one answer
+abbrev pub OneFileAnswer : Type 0
+OneFileAnswer = (text : List ℕ) (r q : Result Part10 FileFault) → ReadsFile text r → ReadsFile text q → r ≡ q

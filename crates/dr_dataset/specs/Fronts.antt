@@ -1,0 +1,14 @@
+-- What is read of the front of a data set stays, whatever follows.
+use Rattle.std.specs.Prelude.{◌≢◌, List, ℕ, ◌++◌}
+use Rattle.dr_dataset.specs.declared.syntax.Syntax.{Syntax}
+use Rattle.dr_dataset.specs.declared.fault.DataFault.{DataFault}
+use Rattle.dr_dataset.specs.declared.fault.DataFault.TheVariants.{Truncated, Memory}
+use Rattle.dr_dataset.specs.declared.frame.Frame.{Frame}
+use Rattle.dr_dataset.specs.Elements.{Element}
+use Rattle.dr_dataset.specs.DataSet.{Opens, FirstFault}
+
+abbrev pub FrontsStay : Type 0
+FrontsStay = (s : Syntax) (fs : List Frame) (text : List ℕ) (es : List Element) (rest more : List ℕ) → Opens s fs text es rest → Opens s fs (text ++ more) es (rest ++ more)
+
+abbrev pub FaultsStay : Type 0
+FaultsStay = (s : Syntax) (text more : List ℕ) (f : DataFault) → f ≢ Truncated → f ≢ Memory → FirstFault s text f → FirstFault s (text ++ more) f
