@@ -13,24 +13,29 @@ narrowed_none flows part k = (λ h. absurd (nothing_in_nil k h), λ h. absurd (n
 
 pub narrowed_one_more : (flows : List Flow) (among found : List ℕ) (part : Part) (place : ℕ) (flow : Flow) → slice_get flows place ≡ Some flow → SpeaksOf flow part →
     AreNarrowed flows among part found → AreNarrowed flows (among ++ place ∷ []) part (found ++ place ∷ [])
-narrowed_one_more flows among found part place flow at speaks so_far k =
-    ( λ h. elim (Contains-push_cases found place k h) [
-        inl before ↦ (let x = (so_far k).0 before in (Contains-append_left among (place ∷ []) k x.0, x.1))
-      | inr same ↦
-          let P : ℕ → Type 0 = λ n. Contains (among ++ place ∷ []) n × ((f : Flow) × (slice_get flows n ≡ Some f) × SpeaksOf f part) in
-          subst P same (Contains-push among place, (flow, at, speaks)) ]
-    , λ h. elim (Contains-push_cases among place k h.0) [
-        inl before ↦ Contains-append_left found (place ∷ []) k ((so_far k).1 (before, h.1))
-      | inr same ↦ (let P : ℕ → Type 0 = λ n. Contains (found ++ place ∷ []) n in subst P same (Contains-push found place)) ] )
+narrowed_one_more flows among found part place flow at speaks so_far k = (
+  λ h. elim (Contains-push_cases found place k h) [
+    | inl before ↦ (let x = (so_far k).0 before in (Contains-append_left among (place ∷ []) k x.0, x.1))
+    | inr same ↦
+        let P : ℕ → Type 0 = λ n. Contains (among ++ place ∷ []) n × ((f : Flow) × (slice_get flows n ≡ Some f) × SpeaksOf f part) in
+        subst P same (Contains-push among place, (flow, at, speaks))
+  ],
+  λ h. elim (Contains-push_cases among place k h.0) [
+    | inl before ↦ Contains-append_left found (place ∷ []) k ((so_far k).1 (before, h.1))
+    | inr same ↦ (let P : ℕ → Type 0 = λ n. Contains (found ++ place ∷ []) n in subst P same (Contains-push found place))
+  ],
+)
 
 pub narrowed_passed_over : (flows : List Flow) (among found : List ℕ) (part : Part) (place : ℕ) (flow : Flow) → slice_get flows place ≡ Some flow → (SpeaksOf flow part → ⊥) →
     AreNarrowed flows among part found → AreNarrowed flows (among ++ place ∷ []) part found
-narrowed_passed_over flows among found part place flow at fails so_far k =
-    ( λ h. (let x = (so_far k).0 h in (Contains-append_left among (place ∷ []) k x.0, x.1))
-    , λ h. elim (Contains-push_cases among place k h.0) [
-        inl before ↦ (so_far k).1 (before, h.1)
-      | inr same ↦
-          let P : ℕ → Type 0 = λ n. slice_get flows n ≡ Some flow in
-          let e : h.1.0 ≡ flow = same_Some _ _ (sym h.1.1 ∙ subst P same at) in
-          let Q : Flow → Type 0 = λ f. SpeaksOf f part in
-          absurd (fails (subst Q e h.1.2)) ] )
+narrowed_passed_over flows among found part place flow at fails so_far k = (
+  λ h. (let x = (so_far k).0 h in (Contains-append_left among (place ∷ []) k x.0, x.1)),
+  λ h. elim (Contains-push_cases among place k h.0) [
+    | inl before ↦ (so_far k).1 (before, h.1)
+    | inr same ↦
+        let P : ℕ → Type 0 = λ n. slice_get flows n ≡ Some flow in
+        let e : h.1.0 ≡ flow = same_Some _ _ (sym h.1.1 ∙ subst P same at) in
+        let Q : Flow → Type 0 = λ f. SpeaksOf f part in
+        absurd (fails (subst Q e h.1.2))
+  ],
+)

@@ -5,3 +5,5 @@
 pub mod fields;
 pub mod narrow;
 pub mod visit;
+
+pub use visit::EntryVisitor;

@@ -1,1 +1,35 @@
-//! To be written.
+//! What is done at each entry.
+ghost use Rattle.std.specs.Prelude.{◌≡◌, IfOk, Bool};
+ghost use Rattle.dr_base.specs.Texts.{Text as Words};
+ghost use Rattle.dr_route.specs.Laws.{key_of};
+ghost use Rattle.dr_route.specs.declared.cell.OwnedCell.{OwnedCell as CellValue};
+ghost use Rattle.dr_network.specs.Networks.{Network};
+ghost use Rattle.dr_network.specs.Laws.{IsCellOf};
+ghost use Rattle.dr_network.specs.Walks.{IsEntry};
+ghost use Rattle.dr_entry.specs.Visiting.{AfterVisits, IsThis};
+
+use dr_base::Text;
+use dr_route::OwnedCell;
+use std::alloc::AllocError;
+
+/// Visits entries one after another, until it has seen enough.
+pub trait EntryVisitor {
+    /// The plan whose entries are visited.
+    ghost plan: { Self → Network };
+
+    /// It can go on.
+    ghost is_ready: { Self → Type 0 };
+
+    /// It has done its work at the site, for the keys of the cell.
+    ghost has_visited: { Self → Words → CellValue → Type 0 };
+
+    /// It has found what ends the visits.
+    ghost has_stopped: { Self → Type 0 };
+
+    /// Visits one entry, and answers whether it goes on.
+    fn visit(&mut self, site: &Text, cell: &OwnedCell) -> Result<bool, AllocError>
+        requires ready { is_ready self.old }
+        requires cell { IsCellOf (plan self.old) cell.now }
+        requires entry { IsEntry (plan self.old) site.now (key_of cell.now) }
+        ensures { IfOk result (AfterVisits plan is_ready has_visited has_stopped (IsThis site.now cell.now) self.old self.new) };
+}

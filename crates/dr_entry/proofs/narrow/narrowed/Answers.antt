@@ -16,12 +16,13 @@ loop-place-preserved c =
     let in_range : place < length c.args.flows.now = c.requires i 0 c.loop-place-test.true in
     let at : slice_get c.args.flows.now place ≡ Some c.index-flows-place.result = slice_get_read _ _ place c.index-flows-place.result refl in_range c.index-flows-place.is in
     elim c.if-speaks_of.branch [
-      then-speaks_of+in_ok-push w ↦ λ k. rw (w.found-is, more, w.in_ok-push.ensures.items)
-        (narrowed_one_more c.args.flows.now (take i c.args.among.now) c.loop-place.found.items c.args.part.now place c.index-flows-place.result at
+      | then-speaks_of+in_ok-push w ↦ λ k. rw (w.found-is, more, w.in_ok-push.ensures.items)
+          (narrowed_one_more c.args.flows.now (take i c.args.among.now) c.loop-place.found.items c.args.part.now place c.index-flows-place.result at
           (w.if-speaks_of.ensures.0 refl) c.loop-place.invariant k)
-    | else-speaks_of w ↦ λ k. rw (w.found-is, more)
-        (narrowed_passed_over c.args.flows.now (take i c.args.among.now) c.loop-place.found.items c.args.part.now place c.index-flows-place.result at
-          (λ h. false≢true (w.if-speaks_of.ensures.1 h)) c.loop-place.invariant k) ]
+      | else-speaks_of w ↦ λ k. rw (w.found-is, more)
+          (narrowed_passed_over c.args.flows.now (take i c.args.among.now) c.loop-place.found.items c.args.part.now place c.index-flows-place.result at
+          (λ h. false≢true (w.if-speaks_of.ensures.1 h)) c.loop-place.invariant k)
+    ]
 
 pub returns : goal.returns
 returns c =

@@ -1,0 +1,27 @@
+-- Visits of entries, whatever a visitor does there.
+use Rattle.std.specs.Prelude.{◌≡◌, Bool, true, false}
+use Rattle.dr_base.specs.Texts.{Text}
+use Rattle.dr_route.specs.declared.cell.OwnedCell.{OwnedCell}
+use Rattle.dr_route.specs.declared.key.Key.{Key}
+use Rattle.dr_network.specs.Networks.{Network}
+use Rattle.dr_network.specs.Plans.{LiesIn}
+use Rattle.dr_network.specs.Walks.{IsEntry}
+
+-- a visitor that goes on can go on, has forgotten no visit, and has visited what was wanted
+pub record GoesOn {V : Type 0} (plan : V → Network) (ready : V → Type 0) (visited : V → Text → OwnedCell → Type 0) (Wanted : Text → OwnedCell → Type 0) (old new : V) : Type 0 where
+  pub same_plan : plan new ≡ plan old
+  pub is_ready : ready new
+  pub kept : (site : Text) (cell : OwnedCell) → visited old site cell → visited new site cell
+  pub wanted : (site : Text) (cell : OwnedCell) → Wanted site cell → visited new site cell
+
+-- after visits of all entries that were wanted, or after the visitor has stopped
+abbrev pub AfterVisits : {V : Type 0} → (V → Network) → (V → Type 0) → (V → Text → OwnedCell → Type 0) → (V → Type 0) → (Text → OwnedCell → Type 0) → V → V → Bool → Type 0
+AfterVisits plan ready visited stopped Wanted old new true = GoesOn plan ready visited Wanted old new
+AfterVisits plan ready visited stopped Wanted old new false = stopped new
+
+abbrev pub IsThis : Text → OwnedCell → Text → OwnedCell → Type 0
+IsThis site cell s c = (s ≡ site) × (c ≡ cell)
+
+-- the entries of a plan, by their cells
+abbrev pub IsEntryCell : Network → Text → OwnedCell → Type 0
+IsEntryCell plan site cell = (key : Key) × LiesIn plan cell key × IsEntry plan site key
