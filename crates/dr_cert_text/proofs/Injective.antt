@@ -15,7 +15,8 @@ use Rattle.dr_sound.specs.declared.certificate.Line.{Line}
 use Rattle.dr_sound.specs.declared.certificate.Hop.{Hop}
 use Rattle.dr_sound.specs.Printed.{printed_field, printed_line, printed_hop}
 use Rattle.dr_cert_text.specs.Printable.{IsPlain, IsPlainField, IsPrintableLine, IsPrintableHop}
-use Rattle.dr_cert_text.proofs.Cuts.{cuts, cuts-at, cuts-last, grown}
+use Rattle.dr_cert_text.specs.Cuts.{cuts, grown}
+use Rattle.dr_cert_text.proofs.Cuts.{cuts-at, cuts-last}
 
 pub no_tab : (text : Text) → IsPlain text → All (λ b. b ≢ 9) text
 no_tab text plain = All-weaker (λ b. (b ≢ 9) × (b ≢ 10)) (λ b. b ≢ 9) (λ b h. h.0) text plain

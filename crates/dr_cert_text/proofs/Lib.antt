@@ -1,3 +1,4 @@
 pub mod Cuts
 pub mod Injective
+pub mod Rows
 pub mod Sorting

@@ -1,1 +1,4 @@
+pub mod CertificateText
+pub mod Cuts
 pub mod Printable
+pub mod Reading

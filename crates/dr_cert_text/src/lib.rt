@@ -2,7 +2,11 @@
 //! certificate written, and a text read back.
 #![tactic(auto)]
 
+pub mod fault;
 pub mod order;
 pub mod printed;
+pub mod writer;
 
+pub use fault::ReadFault;
 pub use order::{order_hops, order_lines};
+pub use writer::write_certificate;

@@ -1,5 +1,5 @@
 //! Lines and hops as they are printed.
-ghost use Rattle.std.specs.Prelude.{◌≡◌, ◌∷◌, ◌++◌, List, ℕ, OnOk};
+ghost use Rattle.std.specs.Prelude.{◌≡◌, [], ◌∷◌, ◌++◌, List, ℕ, OnOk, codes};
 ghost use Rattle.dr_sound.specs.Printed.{printed_field, printed_line, printed_hop};
 
 use dr_route::OwnedField;
@@ -10,7 +10,14 @@ const TAB: u8 = 9;
 
 /// What a certificate's text has a row for.
 pub trait Printed: Drop {
+    // the first field of its rows
+    ghost word: { List ℕ };
+
     ghost printed: { Self → List ℕ };
+
+    /// The first field of its rows and the tab behind it.
+    fn row_start() -> &'static [u8]
+        ensures { result.now ≡ word ++ 9 ∷ [] };
 
     /// Adds its text.
     fn print(&self, out: &mut Vec<u8>) -> Result<(), AllocError>
@@ -36,7 +43,13 @@ fn add_field(out: &mut Vec<u8>, field: &[u8]) -> Result<(), AllocError>
 }
 
 impl Printed for Line {
+    ghost word = { codes "line" };
+
     ghost printed = { printed_line };
+
+    fn row_start() -> &'static [u8] {
+        b"line\t"
+    }
 
     fn print(&self, out: &mut Vec<u8>) -> Result<(), AllocError> {
         let stop = &self.stop;
@@ -53,7 +66,13 @@ impl Printed for Line {
 }
 
 impl Printed for Hop {
+    ghost word = { codes "hop" };
+
     ghost printed = { printed_hop };
+
+    fn row_start() -> &'static [u8] {
+        b"hop\t"
+    }
 
     fn print(&self, out: &mut Vec<u8>) -> Result<(), AllocError> {
         out.extend_from_slice(self.from.as_bytes())?;

@@ -1,0 +1,24 @@
+-- The text of a certificate: rows ended by LF, whose fields are joined by one tab.
+use Rattle.std.specs.Prelude.{◌∷◌, ◌++◌, [], codes, flat_map}
+use Rattle.hex.specs.Hex.{encode_lower}
+use Rattle.dr_base.specs.Texts.{Text}
+use Rattle.dr_sound.specs.declared.certificate.Line.{Line}
+use Rattle.dr_sound.specs.declared.certificate.Hop.{Hop}
+use Rattle.dr_sound.specs.declared.certificate.Certificate.{Certificate}
+use Rattle.dr_sound.specs.Printed.{printed_line, printed_hop}
+
+-- its word, its other fields and the LF that ends it
+abbrev pub row : Text → Text → Text
+row word fields = word ++ (9 ∷ fields) ++ (10 ∷ [])
+
+abbrev pub hop_row : Hop → Text
+hop_row hop = row (codes "hop") (printed_hop hop)
+
+abbrev pub line_row : Line → Text
+line_row line = row (codes "line") (printed_line line)
+
+-- the format and its version, the SHA-256 of the plan's text in lower-case hex, the hops, the lines, and nothing behind the end
+abbrev pub certificate_text : Certificate → Text
+certificate_text certificate =
+    row (codes "certificate") (codes "1") ++ row (codes "plan") (encode_lower certificate.digest)
+    ++ flat_map hop_row certificate.hops ++ flat_map line_row certificate.lines ++ codes "end" ++ (10 ∷ [])
