@@ -10,6 +10,7 @@ pub mod FrontTexts
 pub mod ItemLemmas
 pub mod OneAnswer
 pub mod OneBody
+pub mod OneFeed
 pub mod Padding
 pub mod Parts
 pub mod PdvLemmas

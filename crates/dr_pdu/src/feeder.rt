@@ -103,5 +103,7 @@ fn drop_front(kept: &mut Vec<u8>, used: usize)
     requires { used ≤ vec_len kept.old }
     ensures { kept.new.items ≡ drop used kept.old.items }
 {
-    kept.drain(..used);
+    let left = kept.len() - used;
+    kept.copy_within(used.., 0);
+    kept.truncate(left);
 }

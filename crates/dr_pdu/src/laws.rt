@@ -1,7 +1,7 @@
 //! Laws of the grammar: a text is one PDU at most, and no spelling begins another one.
 ghost use Rattle.std.specs.Prelude.{◌≡◌, ◌≢◌, ◌++◌, List, ℕ, Result, Err};
 ghost use Rattle.dr_pdu.specs.Grammar.{Spells, IsBody, Decodes};
-ghost use Rattle.dr_pdu.specs.Feeding.{Units, Feeding, Call, Fed, taken, given, Leaves, fresh};
+ghost use Rattle.dr_pdu.specs.Feeding.{Units, Feeding, Feeds, Call, Fed, taken, given, Leaves, fresh};
 ghost use Rattle.dr_pdu.specs.Written.{Fits, MeetsLimit, written};
 ghost use Rattle.dr_pdu.specs.declared.fault.PduFault.{PduFault as Fault};
 ghost use Rattle.dr_pdu.specs.declared.fault.PduFault.TheVariants.{Memory};
@@ -37,4 +37,10 @@ pub fn what_is_written_is_a_spelling()
 /// The front of a text has one answer, but for want of memory.
 pub fn a_text_has_one_answer()
     ensures { (limit : ℕ) (text : List ℕ) (r s : Result (PduValue × ℕ) Fault) → r ≢ Err Memory → s ≢ Err Memory → Decodes limit text r → Decodes limit text s → r ≡ s }
+{}
+
+/// A feeder has one answer to a piece, and is one feeder behind it, but for want of memory.
+pub fn a_piece_has_one_answer()
+    ensures { (old : Feeding) (piece : List ℕ) (r s : Result (List PduValue) Fault) (new new' : Feeding) → r ≢ Err Memory → s ≢ Err Memory
+        → Feeds old piece r new → Feeds old piece s new' → (r ≡ s) × (new ≡ new') }
 {}
