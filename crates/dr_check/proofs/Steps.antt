@@ -19,6 +19,7 @@ use Rattle.dr_network.specs.Networks.{Network}
 use Rattle.dr_network.specs.Plans.{IsWellFormed, LiesIn}
 use Rattle.dr_network.specs.Laws.{IsCellOf}
 use Rattle.dr_network.specs.Walks.{Sends, Keeps, Accepts, IsReached}
+use Rattle.dr_network.proofs.Gathered.{nothing_in_nil}
 use Rattle.dr_network.proofs.WalksAlike.{cell_has_a_key}
 use Rattle.dr_sound.specs.declared.certificate.Stop.{Stop}
 use Rattle.dr_sound.specs.declared.certificate.Line.{Line}
@@ -281,3 +282,38 @@ popped node old path rest n pushed len taken =
     let l = length-pushed old node in
     let m : length path ≡ length old + 1 = ap (λ (ns : List Text). length ns) pushed ∙ l in
     taken ∙ rw pushed (take_pushed old node (n - 1) (omega arith))
+
+-- ---- a search that stands on no walk can go on with any cell
+pub any_cell : (plan : Network) (cell other : OwnedCell) (s : Search) → s.path.items ≡ [] → IsSearching plan cell s → IsSearching plan other s
+any_cell plan cell other s none h = record {
+  marked = h.marked;
+  listed = h.listed;
+  ranked = h.ranked;
+  counted = h.counted;
+  known = h.known;
+  on_path = λ stop e.
+      let P : List Text → Type 0 = λ ns. Contains (pairs_from local ns) (stop.caller, stop.node) in
+      absurd (nothing_in_nil (stop.caller, stop.node) (subst P none (h.on_path stop e).1));
+  room = h.room;
+  within = h.within;
+  apart = h.apart;
+}
+
+-- nothing is searched yet
+pub started : (plan : Network) (cell : OwnedCell) (s : Search) → s.path.items ≡ [] → s.marks.entries ≡ [] → s.lines.items ≡ [] → IsSearching plan cell s
+started plan cell s path marks lines =
+    let none : btree_map_len s.marks ≡ 0 = ap (λ es. length es) marks in
+    let short : length s.path.items ≡ 0 = ap (λ (ns : List Text). length ns) path in
+    let few : length s.lines.items ≡ 0 = ap (λ (ls : List Line). length ls) lines in
+    let no_line : (line : Line) → Contains s.lines.items line → ⊥ = λ line e. let P : List Line → Type 0 = λ ls. Contains ls line in nothing_in_nil line (subst P lines e) in
+    record {
+      marked = λ stop r e. absurd (none_is_not_some (unmarked s.marks marks stop) e);
+      listed = λ stop r e. absurd (no_line _ e);
+      ranked = λ stop r e. absurd (no_line _ e);
+      counted = λ stop r e. absurd (no_line _ e);
+      known = λ stop m e. absurd (none_is_not_some (unmarked s.marks marks stop) e);
+      on_path = λ stop e. absurd (none_is_not_some (unmarked s.marks marks stop) e);
+      room = omega arith;
+      within = omega arith;
+      apart = λ i j d a b. absurd (omega arith);
+    }

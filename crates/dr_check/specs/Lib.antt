@@ -1,2 +1,4 @@
+pub mod Checking
 pub mod Searching
 pub mod Shown
+pub mod Stopping

@@ -20,7 +20,7 @@ pub const MOST_LINES: usize = 65536;
 
 /// What is known of a stop that was entered.
 #[derive(Clone, Copy, Debug, Drop)]
-enum Mark {
+pub enum Mark {
     /// It stands on the walk that is searched.
     Open,
     /// All walks from it have been searched, and this is its rank.
@@ -30,16 +30,16 @@ enum Mark {
 /// The state of the search: the nodes of the walk that it is on, the marks, and the lines of the stops that it
 /// has finished.
 #[derive(Drop)]
-struct Search {
-    alloc: Global,
-    path: Vec<Text>,
-    marks: BTreeMap<Stop, Mark>,
-    lines: Vec<Line>,
+pub struct Search {
+    pub alloc: Global,
+    pub path: Vec<Text>,
+    pub marks: BTreeMap<Stop, Mark>,
+    pub lines: Vec<Line>,
 }
 
 /// What is wrong at the end of the walk that is searched.
 #[derive(Clone, Copy, Debug, Drop)]
-enum Trouble {
+pub enum Trouble {
     NoContext,
     Cycle,
     DeadEnd,
@@ -58,7 +58,7 @@ enum Sight {
 }
 
 #[derive(Clone, Copy, Drop)]
-enum Reached {
+pub enum Reached {
     Rank(u32),
     Stuck(Trouble),
 }
@@ -138,7 +138,7 @@ fn look(
 }
 
 /// Searches all walks that go on from the node, for the keys of the cell.
-fn reach(
+pub fn reach(
     search: &mut Search,
     plan: &Plan,
     cell: &OwnedCell,

@@ -1,5 +1,5 @@
 -- Visits of entries, whatever a visitor does there.
-use Rattle.std.specs.Prelude.{◌≡◌, Bool, true, false}
+use Rattle.std.specs.Prelude.{◌≡◌, Option, Some, None}
 use Rattle.dr_base.specs.Texts.{Text}
 use Rattle.dr_route.specs.declared.cell.OwnedCell.{OwnedCell}
 use Rattle.dr_route.specs.declared.key.Key.{Key}
@@ -14,10 +14,10 @@ pub record GoesOn {V : Type 0} (plan : V → Network) (ready : V → Type 0) (vi
   pub kept : (site : Text) (cell : OwnedCell) → visited old site cell → visited new site cell
   pub wanted : (site : Text) (cell : OwnedCell) → Wanted site cell → visited new site cell
 
--- after visits of all entries that were wanted, or after the visitor has stopped
-abbrev pub AfterVisits : {V : Type 0} → (V → Network) → (V → Type 0) → (V → Text → OwnedCell → Type 0) → (V → Type 0) → (Text → OwnedCell → Type 0) → V → V → Bool → Type 0
-AfterVisits plan ready visited stopped Wanted old new true = GoesOn plan ready visited Wanted old new
-AfterVisits plan ready visited stopped Wanted old new false = stopped new
+-- after visits of all entries that were wanted, or after a finding
+abbrev pub AfterVisits : {V F : Type 0} → (V → Network) → (V → Type 0) → (V → Text → OwnedCell → Type 0) → (V → F → Type 0) → (Text → OwnedCell → Type 0) → V → V → Option F → Type 0
+AfterVisits plan ready visited shows Wanted old new None = GoesOn plan ready visited Wanted old new
+AfterVisits plan ready visited shows Wanted old new (Some finding) = shows old finding
 
 abbrev pub IsThis : Text → OwnedCell → Text → OwnedCell → Type 0
 IsThis site cell s c = (s ≡ site) × (c ≡ cell)

@@ -1,5 +1,5 @@
 //! What is done at each entry.
-ghost use Rattle.std.specs.Prelude.{◌≡◌, IfOk, Bool};
+ghost use Rattle.std.specs.Prelude.{◌≡◌, IfOk};
 ghost use Rattle.dr_base.specs.Texts.{Text as Words};
 ghost use Rattle.dr_route.specs.Laws.{key_of};
 ghost use Rattle.dr_route.specs.declared.cell.OwnedCell.{OwnedCell as CellValue};
@@ -14,6 +14,9 @@ use std::alloc::AllocError;
 
 /// Visits entries one after another, until it has seen enough.
 pub trait EntryVisitor {
+    /// What ends the visits.
+    type Finding: Drop;
+
     /// The plan whose entries are visited.
     ghost plan: { Self → Network };
 
@@ -23,13 +26,13 @@ pub trait EntryVisitor {
     /// It has done its work at the site, for the keys of the cell.
     ghost has_visited: { Self → Words → CellValue → Type 0 };
 
-    /// It has found what ends the visits.
-    ghost has_stopped: { Self → Type 0 };
+    /// The finding is one of its plan.
+    ghost shows: { Self → Self.Finding → Type 0 };
 
-    /// Visits one entry, and answers whether it goes on.
-    fn visit(&mut self, site: &Text, cell: &OwnedCell) -> Result<bool, AllocError>
+    /// Visits one entry, and goes on unless it finds something.
+    fn visit(&mut self, site: &Text, cell: &OwnedCell) -> Result<Option<Self::Finding>, AllocError>
         requires ready { is_ready self.old }
         requires cell { IsCellOf (plan self.old) cell.now }
         requires entry { IsEntry (plan self.old) site.now (key_of cell.now) }
-        ensures { IfOk result (AfterVisits plan is_ready has_visited has_stopped (IsThis site.now cell.now) self.old self.new) };
+        ensures { IfOk result (AfterVisits plan is_ready has_visited shows (IsThis site.now cell.now) self.old self.new) };
 }

@@ -1,0 +1,26 @@
+-- A checker between two entries.
+use Rattle.std.specs.Prelude.{◌≡◌, ℕ, List, [], Contains}
+use Rattle.dr_base.specs.Texts.{Text}
+use Rattle.dr_route.specs.Routes.{local}
+use Rattle.dr_route.specs.declared.cell.OwnedCell.{OwnedCell}
+use Rattle.dr_network.specs.Plans.{IsWellFormed}
+use Rattle.dr_sound.specs.Ranked.{line_at}
+use Rattle.dr_check.specs.declared.checker.Checker.{Checker}
+use Rattle.dr_check.specs.declared.checker.Stopped.{Stopped}
+use Rattle.dr_check.specs.Searching.{IsSearching}
+use Rattle.dr_check.specs.Stopping.{IsStopped}
+
+-- it stands on no walk, and can search any cell
+pub record IsReady (c : Checker) : Type 0 where
+  pub formed : IsWellFormed c.plan.now
+  pub local_caller : c.local ≡ local
+  pub no_walk : c.search.path.items ≡ []
+  pub searching : (cell : OwnedCell) → IsSearching c.plan.now cell c.search
+
+-- the site has a line for the cell
+abbrev pub HasVisited : Checker → Text → OwnedCell → Type 0
+HasVisited c site cell = (rank : ℕ) × Contains c.search.lines.items (line_at local site cell rank)
+
+-- what stops it is true of its plan
+abbrev pub ShowsStopped : Checker → Stopped → Type 0
+ShowsStopped c stopped = IsStopped c.plan.now stopped

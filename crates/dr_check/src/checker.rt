@@ -1,0 +1,102 @@
+//! The checker at each entry of a plan: it searches all walks from there.
+ghost use Rattle.std.specs.Prelude.{◌≡◌, IfOk};
+ghost use Rattle.dr_base.specs.Texts.{Text as Words};
+ghost use Rattle.dr_route.specs.Laws.{key_of, value_of};
+ghost use Rattle.dr_route.specs.Routes.{local};
+ghost use Rattle.dr_network.specs.Networks.{Network};
+ghost use Rattle.dr_check.specs.Searching.{IsTroubled};
+ghost use Rattle.dr_check.specs.Stopping.{IsStopped};
+
+use crate::fault::Fault;
+use crate::search::{Reached, Search, Trouble, reach};
+use dr_base::{Seq, Text};
+use dr_entry::EntryVisitor;
+use dr_network::Plan;
+use dr_route::{Key, OwnedCell, OwnedField};
+use std::alloc::{AllocError, Global};
+use std::mem;
+
+/// Why the checker stopped.
+#[derive(Debug, Drop)]
+pub enum Stopped {
+    Fault(Fault),
+    TooLarge,
+}
+
+/// A checker of a plan, between two entries.
+#[derive(Drop)]
+pub struct Checker<'a> {
+    plan: &'a Plan,
+    local: Text,
+    search: Search,
+}
+
+/// A value of the part of the field: its literal, or the text of the one byte 128, which no literal has.
+fn value_in(alloc: Global, field: &OwnedField) -> Result<Text, AllocError>
+    ensures { IfOk result (λ t. t ≡ value_of field.now) }
+{
+    match field {
+        OwnedField::Literal(literal) => literal.clone(),
+        OwnedField::Rest => Text::copy_of(alloc, &[128]),
+    }
+}
+
+/// One key of the cell.
+fn key_in(alloc: Global, cell: &OwnedCell) -> Result<Key, AllocError>
+    ensures { IfOk result (λ k. k ≡ key_of cell.now) }
+{
+    Ok(Key {
+        class: cell.class.clone()?,
+        syntax: cell.syntax,
+        modality: value_in(alloc, &cell.modality)?,
+        station: value_in(alloc, &cell.station)?,
+    })
+}
+
+/// A copy of the cell.
+fn copy_of(cell: &OwnedCell) -> Result<OwnedCell, AllocError>
+    ensures { IfOk result (λ c. c ≡ cell.now) }
+{
+    let copy = cell.clone()?;
+    Ok(copy)
+}
+
+/// Why the checker stops at this trouble, at the end of this walk of the cell's keys.
+fn stopped_by(trouble: Trouble, walk: Vec<Text>, cell: OwnedCell) -> Stopped
+    ensures { (plan : Network) → IsTroubled plan cell walk.items trouble → IsStopped plan result }
+{
+    let walk = Seq::from_vec(walk);
+    match trouble {
+        Trouble::NoContext => Stopped::Fault(Fault::NoContext { walk, cell }),
+        Trouble::Cycle => Stopped::Fault(Fault::Cycle { walk, cell }),
+        Trouble::DeadEnd => Stopped::Fault(Fault::DeadEnd { walk, cell }),
+        Trouble::TooLarge => Stopped::TooLarge,
+    }
+}
+
+impl<'a> EntryVisitor for Checker<'a> {
+    type Finding = Stopped;
+
+    ghost use Rattle.dr_check.specs.Checking.{IsReady, HasVisited, ShowsStopped};
+
+    ghost plan = { λ c. c.plan.now };
+
+    ghost is_ready = { IsReady };
+
+    ghost has_visited = { HasVisited };
+
+    ghost shows = { ShowsStopped };
+
+    fn visit(&mut self, site: &Text, cell: &OwnedCell) -> Result<Option<Stopped>, AllocError> {
+        let alloc = self.search.alloc;
+        let key = key_in(alloc, cell)?;
+        let plan = self.plan;
+        match reach(&mut self.search, plan, cell, &key, &self.local, site)? {
+            Reached::Rank(_) => Ok(None),
+            Reached::Stuck(trouble) => {
+                let walk = mem::replace(&mut self.search.path, Vec::new(alloc));
+                Ok(Some(stopped_by(trouble, walk, copy_of(cell)?)))
+            }
+        }
+    }
+}
