@@ -98,11 +98,15 @@ fn gather(alloc: Global, limit: u32, text: &[u8]) -> Result<(Seq<Pdu>, usize), P
     }
 }
 
-/// Drops the first bytes of a buffer.
+/// Drops the first bytes of a buffer. Where there are none nothing is moved, so that small pieces cost no more than
+/// their bytes.
 fn drop_front(kept: &mut Vec<u8>, used: usize)
     requires { used ≤ vec_len kept.old }
     ensures { kept.new.items ≡ drop used kept.old.items }
 {
+    if used == 0 {
+        return;
+    }
     let left = kept.len() - used;
     kept.copy_within(used.., 0);
     kept.truncate(left);
