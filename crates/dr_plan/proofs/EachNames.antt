@@ -1,6 +1,6 @@
 -- Properties of each name that a plan uses.
-use Rattle.std.proofs.Common.{◌≡◌, ◌≢◌, ℕ, ◌<◌, ◌↔◌, List, get_or, length, Contains}
-use Rattle.std.specs.Prelude.{All, AllPairs}
+use Rattle.std.proofs.Common.{◌↔◌, List, get_or, Contains}
+use Rattle.std.specs.Prelude.{All}
 use Rattle.std.specs.BTreeSet.{BTreeSet}
 use Rattle.dr_base.specs.Texts.{Text}
 use Rattle.dr_route.specs.Names.{HasName}
@@ -14,7 +14,7 @@ use Rattle.dr_plan_text.specs.declared.words.AcceptText.{AcceptText}
 use Rattle.dr_plan_text.specs.declared.words.NodeText.{NodeText}
 use Rattle.dr_plan_text.specs.declared.words.FlowText.{FlowText}
 use Rattle.dr_plan_text.specs.declared.words.PlanText.{PlanText}
-use Rattle.dr_plan.specs.Reading.{EachCaller, EachNameOfNode, EachName, node_names, HasGoodNames, KnowsNames}
+use Rattle.dr_plan.specs.Reading.{EachCaller, EachNameOfNode, EachName, node_names, KnowsNames}
 
 pub All-weaker : {X : Type 0} (P Q : X → Type 0) (xs : List X) → ((x : X) → P x → Q x) → All P xs → All Q xs
 All-weaker P Q xs weaker all = λ k d h. weaker (get_or xs k d) (all k d h)

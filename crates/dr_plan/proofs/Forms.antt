@@ -1,13 +1,11 @@
 -- The forms of fields that a text's tables say.
-use Rattle.std.proofs.Common.{◌≡◌, ◌≢◌, List, [], ◌∷◌, Option, Some, None, refl}
+use Rattle.std.proofs.Common.{◌≢◌, List, [], ◌∷◌, Option, Some, None}
 use Rattle.std.specs.Prelude.{All, AllPairs}
 use Rattle.std.proofs.lemmas.List.Elements.{All-nil, All-cons}
-use Rattle.toml.specs.Data.{Data, Items, no_items, item, Members, get_member}
+use Rattle.toml.specs.Data.{Data, Items, no_items, item, Members}
 use Rattle.dr_base.specs.Texts.{Text}
 use Rattle.dr_route.specs.declared.rule.Rule.{Rule}
-use Rattle.dr_route.specs.declared.rule.Pattern.{Pattern}
 use Rattle.dr_route.specs.declared.rule.Pattern.TheVariants.{Any, Literal}
-use Rattle.dr_network.specs.declared.plan.Values.{Values}
 use Rattle.dr_network.specs.declared.plan.Values.TheVariants as values
 use Rattle.dr_network.specs.Formed.{IsClass, IsLiteral, IsAddress, HasForm, AreLiterals}
 use Rattle.dr_plan_text.specs.declared.words.AcceptText.{AcceptText}

@@ -1,13 +1,12 @@
 -- Names, and the names of nodes.
-use Rattle.std.proofs.Common.{◌≡◌, ◌≢◌, ℕ, ◌+◌, ◌<◌, ◌≤◌, ◌↔◌, ◌⊎◌, inl, inr, refl, sym, ◌∙◌, ap, subst, false, true, List, [], ◌∷◌, ◌++◌, map, length, get_or, take, ◌==◌, IsTrue, codes, arith, Contains, Bool, not, nat_cmp}
+use Rattle.std.proofs.Common.{◌≡◌, ◌≢◌, ℕ, ◌+◌, ◌<◌, ◌≤◌, ◌↔◌, ◌⊎◌, inl, inr, sym, ◌∙◌, ap, subst, false, true, List, [], ◌∷◌, map, length, get_or, take, ◌==◌, IsTrue, codes, Contains, Bool, not, nat_cmp}
 use Rattle.std.specs.Prelude.{All}
 use Rattle.std.specs.Prelude.{AllPairs}
 use Rattle.std.specs.BTreeSet.{BTreeSet, contains, Updates}
 use Rattle.std.specs.Cmp.Lexicographic.{slice_cmp}
-use Rattle.std.proofs.lemmas.List.{get_or-map, get_or_default, length-map, take_all}
+use Rattle.std.proofs.lemmas.List.{get_or-map, length-map, take_all}
 use Rattle.dr_route.specs.Names.{HasName}
 use Rattle.dr_plan_text.proofs.Repeats.{Seen, seen_one_more, seen_again}
-use Rattle.std.proofs.lemmas.Bool.Decides.{nat_tests}
 use Rattle.std.proofs.lemmas.Bool.{false≢true}
 use Rattle.dr_base.specs.Texts.{Text}
 use Rattle.dr_network.specs.Formed.{IsName, IsTrimmed}

@@ -4,3 +4,4 @@ pub mod GoodNames
 pub mod Mapped
 pub mod PlanForm
 pub mod Typing
+pub mod OneAnswer

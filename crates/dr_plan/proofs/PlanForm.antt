@@ -1,11 +1,10 @@
 -- A plan that passed its tests is well-formed.
-use Rattle.std.proofs.Common.{◌≡◌, ◌≢◌, ℕ, pos, ◌+◌, ◌≤◌, refl, sym, ◌∙◌, ap, List, [], ◌∷◌, map, length, get_or, Contains, Ok, arith}
-use Rattle.std.specs.Prelude.{All, AllPairs, sum_by}
+use Rattle.std.proofs.Common.{◌≡◌, ◌≢◌, ℕ, pos, refl, sym, ◌∙◌, ap, List, [], ◌∷◌, map, length, get_or, Contains, Ok}
+use Rattle.std.specs.Prelude.{All}
 use Rattle.std.proofs.lemmas.List.{length-map}
 use Rattle.toml.specs.Data.{Members}
 use Rattle.dr_base.specs.Texts.{Text}
 use Rattle.dr_base.specs.Syntaxes.{syntax_uid}
-use Rattle.dr_base.specs.declared.syntax.Syntax.{Syntax}
 use Rattle.dr_route.specs.declared.rule.Pattern.{Pattern}
 use Rattle.dr_route.specs.declared.rule.Pattern.TheVariants.{Any, Literal}
 use Rattle.dr_route.specs.declared.rule.Rule.{Rule}
@@ -20,7 +19,7 @@ use Rattle.dr_plan_text.specs.declared.words.FlowText.{FlowText}
 use Rattle.dr_plan_text.specs.declared.words.PlanText.{PlanText}
 use Rattle.dr_plan_text.specs.Tables.{IsRoot}
 use Rattle.dr_plan.specs.Spelling.{written_row, written_node, written_flow}
-use Rattle.dr_plan.specs.Reading.{EachCaller, EachNameOfNode, EachName, node_names, HasMaxPdu, Passes}
+use Rattle.dr_plan.specs.Reading.{EachCaller, EachNameOfNode, node_names, HasMaxPdu, Passes}
 use Rattle.dr_plan.proofs.Forms.{RowForm, RuleForm, NodeForm, FlowForm, nodes_form, flows_form}
 use Rattle.dr_plan.proofs.Mapped.{All-unmap, AllPairs-unmap, AllPairs-weaker, sum_by-map, Contains-unmap, not_nil-unmap}
 

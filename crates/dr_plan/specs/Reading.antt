@@ -1,17 +1,14 @@
 -- What a plan's text has to keep beside its form, and what is read of a text.
-use Rattle.std.specs.Prelude.{◌≡◌, ◌≢◌, ℕ, ℤ, pos, ◌+◌, ◌≤◌, List, All, AllPairs, Contains, length, map, sum_by, Result, Ok, Err}
+use Rattle.std.specs.Prelude.{◌≡◌, ◌≢◌, ℕ, pos, ◌+◌, ◌≤◌, List, All, AllPairs, Contains, length, map, sum_by, Result, Ok, Err}
 use Rattle.sha2.specs.Sha256.{sha256}
 use Rattle.dr_base.specs.Texts.{Text}
 use Rattle.dr_base.specs.Syntaxes.{syntax_uid}
 use Rattle.dr_base.specs.declared.syntax.Syntax.{Syntax}
-use Rattle.dr_route.specs.declared.rule.Rule.{Rule}
 use Rattle.dr_route.specs.declared.accept.Callers.{Callers}
 use Rattle.dr_route.specs.declared.accept.Callers.TheVariants as callers
 use Rattle.dr_network.specs.Formed.{IsName, IsMaxPdu, HasForm}
 use Rattle.dr_network.specs.Networks.{Network}
-use Rattle.dr_plan_text.specs.declared.words.AcceptText.{AcceptText}
 use Rattle.dr_plan_text.specs.declared.words.NodeText.{NodeText}
-use Rattle.dr_plan_text.specs.declared.words.FlowText.{FlowText}
 use Rattle.dr_plan_text.specs.declared.words.PlanText.{PlanText}
 use Rattle.dr_plan_text.specs.Tables.{IsToml, Writes}
 use Rattle.dr_plan.specs.Spelling.{written_plan}

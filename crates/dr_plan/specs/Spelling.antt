@@ -1,5 +1,5 @@
 -- How a plan's parts are written.
-use Rattle.std.specs.Prelude.{pos, List, map}
+use Rattle.std.specs.Prelude.{pos, map}
 use Rattle.dr_base.specs.Syntaxes.{syntax_uid}
 use Rattle.dr_route.specs.declared.accept.AcceptRow.{AcceptRow}
 use Rattle.dr_network.specs.declared.plan.Node.{Node}

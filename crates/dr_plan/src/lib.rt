@@ -2,11 +2,14 @@
 #![tactic(auto)]
 
 pub mod fault;
+pub mod laws;
 pub mod limits;
 pub mod names;
 pub mod read;
 pub mod routes;
 pub mod syntaxes;
+#[cfg(test)]
+mod tests;
 pub mod typed;
 
 pub use dr_network::literals::literals;

@@ -4,3 +4,5 @@ pub mod Trimmed
 pub mod Ports
 pub mod Repeats
 pub mod OneAnswer
+pub mod OnePlan
+pub mod SmallTexts

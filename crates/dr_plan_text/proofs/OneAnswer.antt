@@ -1,14 +1,14 @@
 -- A value says one thing, and a list says one list.
-use Rattle.std.proofs.Common.{◌≡◌, refl, sym, ◌∙◌, ap, List, [], ◌∷◌, Option, Some, None, length, ◌==◌, true, arith}
+use Rattle.std.proofs.Common.{◌≡◌, refl, sym, ◌∙◌, List, [], ◌∷◌, Option, Some, None, length, ◌==◌, true, arith}
 use Rattle.std.proofs.lemmas.Bool.Decides.{nat_tests}
-use Rattle.toml.specs.Data.{Data, string, integer, boolean, array, table, Items, no_items, item, Members}
+use Rattle.toml.specs.Data.{Data, string, array, Items, no_items, item}
 use Rattle.dr_base.specs.Texts.{Text}
 use Rattle.dr_route.specs.declared.accept.Callers.{Callers}
 use Rattle.dr_route.specs.declared.accept.Callers.TheVariants as callers
 use Rattle.dr_network.specs.declared.plan.Values.{Values}
 use Rattle.dr_network.specs.declared.plan.Values.TheVariants as values
 use Rattle.dr_network.specs.Formed.{IsLiteral}
-use Rattle.dr_plan_text.specs.Fields.{SaysText, SaysFormed, SaysValues, SaysCallers, Lists, IsListOf, IsSomeOf, SaysTextsOnce, Given, star}
+use Rattle.dr_plan_text.specs.Fields.{SaysText, SaysFormed, SaysValues, SaysCallers, Lists, IsListOf, IsSomeOf, Given, star}
 
 -- what a value says, it alone says
 abbrev pub SaysOne : {X : Type 0} → (Data → X → Type 0) → Type 0

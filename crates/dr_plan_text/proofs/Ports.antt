@@ -1,5 +1,5 @@
 -- The digits of a port, and the one split of a text at its last mark.
-use Rattle.std.proofs.Common.{◌≡◌, ◌≢◌, ℕ, zero, suc, ◌+◌, ◌-◌, ◌*◌, ◌<◌, ◌≤◌, ◌^◌, refl, sym, ◌∙◌, ap, true, List, [], ◌∷◌, ◌++◌, length, get_or, take, drop, Contains, add-one, false, ◌==◌, arith, rules, length-append}
+use Rattle.std.proofs.Common.{◌≡◌, ℕ, ◌+◌, ◌-◌, ◌*◌, ◌<◌, ◌≤◌, ◌^◌, refl, sym, ◌∙◌, true, [], ◌∷◌, ◌++◌, length, get_or, take, Contains, add-one, false, ◌==◌, arith}
 use Rattle.std.specs.Prelude.{All}
 use Rattle.std.proofs.Math.Nat.{pow-suc}
 use Rattle.std.specs.Char.{digit_value, is_ascii_digit}
@@ -37,7 +37,7 @@ one_digit_more digits i port digit h is e counted = record {
     power : (i : ℕ) → 10 ^ (i + 1) ≡ 10 ^ i * 10
     power i = rw (add-one, pow-suc) refl
 
-no_colon : (digits : Text) → All IsDigit digits → Contains digits 58 → ⊥
+pub no_colon : (digits : Text) → All IsDigit digits → Contains digits 58 → ⊥
 no_colon digits each among = let is : IsDigit 58 = All-contains IsDigit digits 58 each among in omega arith
 
 has_mark : (mark : ℕ) (before behind : Text) → Contains (before ++ mark ∷ behind) mark

@@ -1,5 +1,5 @@
 -- The first and the last byte of a text.
-use Rattle.std.proofs.Common.{◌≡◌, ℕ, ◌+◌, ◌-◌, ◌<◌, ◌≤◌, refl, sym, ◌∙◌, ap, List, [], ◌∷◌, ◌++◌, length, get_or, take, arith, length-append, ◌==◌, false}
+use Rattle.std.proofs.Common.{◌≡◌, ℕ, ◌+◌, ◌<◌, sym, ◌∙◌, ap, [], ◌∷◌, ◌++◌, length, get_or, take, arith, length-append, ◌==◌, false}
 use Rattle.std.proofs.lemmas.List.{take_more, take_all, get_or_push}
 use Rattle.std.proofs.lemmas.Bool.Decides.{nat_tests}
 use Rattle.dr_base.specs.Texts.{Text}

@@ -2,3 +2,4 @@ pub mod Faults
 pub mod Fields
 pub mod Tables
 pub mod Splits
+pub mod Laws

@@ -6,6 +6,7 @@ pub mod fault;
 pub mod fields;
 pub mod form;
 pub mod forms;
+pub mod laws;
 pub mod tables;
 pub mod text;
 pub mod words;

@@ -1,7 +1,7 @@
-use Rattle.std.proofs.Common.{refl, ◌≡◌, false}
+use Rattle.std.proofs.Common.{refl}
 use Rattle.std.proofs.lemmas.Bool.{false≢true}
 use Rattle.dr_plan.specs.Reading.{HasGoodNames}
-use Rattle.dr_plan.proofs.EachNames.{IsNames, knows, is_known}
+use Rattle.dr_plan.proofs.EachNames.{knows, is_known}
 use Rattle.dr_plan.proofs.read.pass.Goals as goal
 
 pub returns-then-not-each_name-2 : goal.returns-then-not-each_name-2

@@ -1,6 +1,4 @@
-use Rattle.std.specs.Prelude.{All}
 use Rattle.std.specs.Vec.Iter.{into_iter_items}
-use Rattle.dr_plan_text.specs.declared.words.NodeText.{NodeText}
 use Rattle.dr_plan.specs.Reading.{IsTypable}
 use Rattle.dr_plan.specs.Spelling.{written_node}
 use Rattle.dr_plan.proofs.Typing.{Left}

@@ -1,6 +1,6 @@
-use Rattle.std.proofs.Common.{◌≡◌, ℕ, rules, refl, map, sym, ◌∙◌, List, [], ◌∷◌, String, Global, Bor, Contains, string_bytes}
+use Rattle.std.proofs.Common.{ℕ, refl, map, ◌∙◌, List, Bor, Contains, string_bytes}
 use Rattle.std.proofs.lemmas.Bool.{false≢true}
-use Rattle.dr_plan_text.proofs.Keys.{AreKnown, HasOnly-keys, AreKnown-keys}
+use Rattle.dr_plan_text.proofs.Keys.{HasOnly-keys, AreKnown-keys}
 use Rattle.dr_plan_text.proofs.form.has_only.Goals as goal
 
 pub loop-key-init : goal.loop-key-init

@@ -1,4 +1,4 @@
-use Rattle.std.proofs.Common.{◌≡◌, ◌≢◌, ℕ, ◌<◌, ◌≤◌, get_or, map, rules, refl, sym, ◌∙◌, arith, below_more, length, false, true}
+use Rattle.std.proofs.Common.{rules, refl, sym, ◌∙◌, arith, below_more}
 use Rattle.std.proofs.lemmas.Slice.Eq.{bytes_eq-Decides}
 use Rattle.std.proofs.lemmas.Bool.{false≢true}
 use Rattle.dr_plan_text.proofs.Keys.{found_among, not_among, lent_at}
@@ -7,7 +7,7 @@ use Rattle.dr_plan_text.proofs.form.is_among.Goals as goal
 pub returns-then-eq : goal.returns-then-eq
 returns-then-eq c =
     let same = (bytes_eq-Decides _ _).0 (sym c.if-eq.ensures) in
-    (λ _. found_among c.args.known.now c.loop-k.k-index _ c.args.key.now c.loop-k-test.true same, λ _. search rules)
+    (λ _. found_among c.args.known.now c.loop-k.k-index _ c.args.key.now c.loop-k-test.true same, λ _. refl)
 
 pub loop-k-preserved : goal.loop-k-preserved
 loop-k-preserved c =

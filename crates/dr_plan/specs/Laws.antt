@@ -1,0 +1,15 @@
+-- Laws of reading plans.
+use Rattle.std.specs.Prelude.{◌≡◌, ◌≢◌, Result, Ok, Err}
+use Rattle.dr_base.specs.Texts.{Text}
+use Rattle.dr_network.specs.Networks.{Network}
+use Rattle.dr_network.specs.Formed.{AreWellFormed}
+use Rattle.dr_plan.specs.declared.fault.PlanFault.{PlanFault}
+use Rattle.dr_plan.specs.declared.fault.PlanFault.TheVariants.{Memory}
+use Rattle.dr_plan.specs.Reading.{Reads}
+
+-- want of memory aside, a text has one answer
+abbrev pub EachTextHasOneAnswer : Type 0
+EachTextHasOneAnswer = (text : Text) (r s : Result Network PlanFault) → r ≢ Err Memory → s ≢ Err Memory → Reads text r → Reads text s → r ≡ s
+
+abbrev pub PlansAreWellFormed : Type 0
+PlansAreWellFormed = (text : Text) (plan : Network) → Reads text (Ok plan) → AreWellFormed plan.nodes plan.flows

@@ -1,0 +1,13 @@
+//! Laws of reading plans: what a caller may take from the contract of `read_plan`.
+ghost use Rattle.dr_plan.specs.Laws.{EachTextHasOneAnswer, PlansAreWellFormed};
+
+/// Want of memory aside, a text is answered in one way: it is one plan, or it has one first fault.
+pub fn a_text_has_one_answer()
+    ensures { EachTextHasOneAnswer }
+{}
+
+/// The plan of a text is well-formed: its names, literals, classes and addresses have their forms, its names
+/// are names of its nodes, nothing goes to its own node, and it keeps the limits.
+pub fn the_plan_of_a_text_is_well_formed()
+    ensures { PlansAreWellFormed }
+{}

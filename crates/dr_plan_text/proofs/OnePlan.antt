@@ -1,0 +1,125 @@
+-- Tables say one thing each, and a text writes one plan at most.
+use Rattle.std.proofs.Common.{◌≡◌, refl, sym, ◌∙◌, ap, List, [], Option, Some, None, Bool, ℤ}
+use Rattle.std.proofs.lemmas.Option.{same_Some}
+use Rattle.toml.specs.Data.{Data, integer, boolean, array, table, Members}
+use Rattle.dr_base.specs.Texts.{Text}
+use Rattle.dr_route.specs.declared.rule.Rule.{Rule}
+use Rattle.dr_route.specs.declared.rule.Pattern.{Pattern}
+use Rattle.dr_route.specs.declared.rule.Pattern.TheVariants.{Any, Literal}
+use Rattle.dr_route.specs.declared.accept.Callers.{Callers}
+use Rattle.dr_route.specs.declared.accept.Callers.TheVariants as callers
+use Rattle.dr_network.specs.declared.plan.Values.{Values}
+use Rattle.dr_network.specs.declared.plan.Values.TheVariants as values
+use Rattle.dr_network.specs.Formed.{IsClass, IsLiteral, IsAddress}
+use Rattle.dr_plan_text.specs.declared.words.AcceptText.{AcceptText}
+use Rattle.dr_plan_text.specs.declared.words.NodeText.{NodeText}
+use Rattle.dr_plan_text.specs.declared.words.FlowText.{FlowText}
+use Rattle.dr_plan_text.specs.declared.words.PlanText.{PlanText}
+use Rattle.dr_plan_text.specs.Fields.{SaysText, SaysFormed, SaysNumber, SaysFlag, SaysPattern, SaysValues, SaysCallers, SaysTextsOnce, SaysTable, IsListOf, IsSomeOf, GivenOr, star}
+use Rattle.dr_plan_text.specs.Tables.{IsAcceptTable, IsRuleTable, IsNodeTable, IsFlowTable, IsRoot, Writes}
+use Rattle.dr_plan_text.proofs.OneAnswer.{SaysOne, SaysText-one, SaysFormed-one, IsListOf-one, IsSomeOf-one, Given-one}
+
+SaysNumber-one : SaysOne SaysNumber
+SaysNumber-one d x y a b = let same : integer x ≡ integer y = sym a ∙ b in cc
+
+SaysFlag-one : SaysOne SaysFlag
+SaysFlag-one d x y a b = let same : boolean x ≡ boolean y = sym a ∙ b in cc
+
+SaysPattern-one : (Says : Data → Text → Type 0) → SaysOne Says → SaysOne (SaysPattern Says)
+SaysPattern-one Says one d Any Any a b = refl
+SaysPattern-one Says one d Any (Literal y) a b = absurd (b.0 a)
+SaysPattern-one Says one d (Literal x) Any a b = absurd (a.0 b)
+SaysPattern-one Says one d (Literal x) (Literal y) a b = ap Literal (one d x y a.1 b.1)
+
+SaysTextsOnce-one : SaysOne SaysTextsOnce
+SaysTextsOnce-one d xs ys a b = IsSomeOf-one SaysText SaysText-one d xs ys a.0 b.0
+
+SaysValues-one : SaysOne SaysValues
+SaysValues-one d values.Any values.Any a b = refl
+SaysValues-one d values.Any (values.Listed ys) a b = absurd (let both : star ≡ array b.0 = sym a ∙ b.1 in cc)
+SaysValues-one d (values.Listed xs) values.Any a b = absurd (let both : star ≡ array a.0 = sym b ∙ a.1 in cc)
+SaysValues-one d (values.Listed xs) (values.Listed ys) a b = ap values.Listed (IsListOf-one (SaysFormed IsLiteral) (SaysFormed-one IsLiteral) d xs ys a b)
+
+SaysCallers-one : SaysOne SaysCallers
+SaysCallers-one d callers.Any callers.Any a b = refl
+SaysCallers-one d callers.Any (callers.Listed ys) a b = absurd (let both : star ≡ array b.0 = sym a ∙ b.1 in cc)
+SaysCallers-one d (callers.Listed xs) callers.Any a b = absurd (let both : star ≡ array a.0 = sym b ∙ a.1 in cc)
+SaysCallers-one d (callers.Listed xs) (callers.Listed ys) a b = ap callers.Listed (IsListOf-one SaysText SaysText-one d xs ys a b)
+
+GivenOr-one : {X : Type 0} (default : X) (Says : Data → X → Type 0) → SaysOne Says → (field : Option Data) (x y : X) → GivenOr default Says field x → GivenOr default Says field y → x ≡ y
+GivenOr-one default Says one None x y a b = a ∙ sym b
+GivenOr-one default Says one (Some d) x y a b = one d x y a b
+
+TableOne : {X : Type 0} → (Members → X → Type 0) → Type 0
+TableOne {X} IsTable = (fields : Members) (x y : X) → IsTable fields x → IsTable fields y → x ≡ y
+
+SaysTable-one : {X : Type 0} (IsTable : Members → X → Type 0) → ((fields : Members) (x y : X) → IsTable fields x → IsTable fields y → x ≡ y) → SaysOne (SaysTable IsTable)
+SaysTable-one IsTable one d x y a b =
+    let both : table a.0 ≡ table b.0 = sym a.1 ∙ b.1 in
+    let same : a.0 ≡ b.0 = cc in
+    one b.0 x y (rw same at a.2) b.2
+
+same_accept : (from from2 : Callers) (class class2 : Text) (syntaxes syntaxes2 : List Text) → from ≡ from2 → class ≡ class2 → syntaxes ≡ syntaxes2 →
+    (let x : AcceptText = record { from = from; class = class; syntaxes = syntaxes } in let y : AcceptText = record { from = from2; class = class2; syntaxes = syntaxes2 } in x ≡ y)
+same_accept from from2 class class2 syntaxes syntaxes2 e_from e_class e_syntaxes = rw (e_from, e_class, e_syntaxes) refl
+
+accept_one : (fields : Members) (x y : AcceptText) → IsAcceptTable fields x → IsAcceptTable fields y → x ≡ y
+accept_one fields x y a b =
+    let from = Given-one SaysCallers SaysCallers-one _ x.from y.from a.from b.from in
+    let class = Given-one (SaysFormed IsClass) (SaysFormed-one IsClass) _ x.class y.class a.class b.class in
+    let syntaxes = Given-one SaysTextsOnce SaysTextsOnce-one _ x.syntaxes y.syntaxes a.syntax b.syntax in
+    same_accept x.from y.from x.class y.class x.syntaxes y.syntaxes from class syntaxes
+
+same_rule : (from from2 : Pattern) (class class2 : Pattern) (modality modality2 : Pattern) (station station2 : Pattern) (to to2 : List Text) (keep keep2 : Bool) → from ≡ from2 → class ≡ class2 → modality ≡ modality2 → station ≡ station2 → to ≡ to2 → keep ≡ keep2 →
+    (let x : Rule = record { from = from; class = class; modality = modality; station = station; to = to; keep = keep } in let y : Rule = record { from = from2; class = class2; modality = modality2; station = station2; to = to2; keep = keep2 } in x ≡ y)
+same_rule from from2 class class2 modality modality2 station station2 to to2 keep keep2 e_from e_class e_modality e_station e_to e_keep = rw (e_from, e_class, e_modality, e_station, e_to, e_keep) refl
+
+rule_one : (fields : Members) (x y : Rule) → IsRuleTable fields x → IsRuleTable fields y → x ≡ y
+rule_one fields x y a b =
+    let from = GivenOr-one Any (SaysPattern SaysText) (SaysPattern-one SaysText SaysText-one) _ x.from y.from a.from b.from in
+    let class = GivenOr-one Any (SaysPattern (SaysFormed IsClass)) (SaysPattern-one (SaysFormed IsClass) (SaysFormed-one IsClass)) _ x.class y.class a.class b.class in
+    let modality = GivenOr-one Any (SaysPattern (SaysFormed IsLiteral)) (SaysPattern-one (SaysFormed IsLiteral) (SaysFormed-one IsLiteral)) _ x.modality y.modality a.modality b.modality in
+    let station = GivenOr-one Any (SaysPattern (SaysFormed IsLiteral)) (SaysPattern-one (SaysFormed IsLiteral) (SaysFormed-one IsLiteral)) _ x.station y.station a.station b.station in
+    let to = GivenOr-one [] (IsListOf SaysText) (IsListOf-one SaysText SaysText-one) _ x.to y.to a.to b.to in
+    let keep = GivenOr-one _ SaysFlag SaysFlag-one _ x.keep y.keep a.keep b.keep in
+    same_rule x.from y.from x.class y.class x.modality y.modality x.station y.station x.to y.to x.keep y.keep from class modality station to keep
+
+same_node : (name name2 : Text) (address address2 : Text) (max_pdu max_pdu2 : ℤ) (accepts accepts2 : List AcceptText) (rules rules2 : List Rule) → name ≡ name2 → address ≡ address2 → max_pdu ≡ max_pdu2 → accepts ≡ accepts2 → rules ≡ rules2 →
+    (let x : NodeText = record { name = name; address = address; max_pdu = max_pdu; accepts = accepts; rules = rules } in let y : NodeText = record { name = name2; address = address2; max_pdu = max_pdu2; accepts = accepts2; rules = rules2 } in x ≡ y)
+same_node name name2 address address2 max_pdu max_pdu2 accepts accepts2 rules rules2 e_name e_address e_max_pdu e_accepts e_rules = rw (e_name, e_address, e_max_pdu, e_accepts, e_rules) refl
+
+node_one : (fields : Members) (x y : NodeText) → IsNodeTable fields x → IsNodeTable fields y → x ≡ y
+node_one fields x y a b =
+    let name = Given-one SaysText SaysText-one _ x.name y.name a.name b.name in
+    let address = Given-one (SaysFormed IsAddress) (SaysFormed-one IsAddress) _ x.address y.address a.address b.address in
+    let max_pdu = GivenOr-one _ SaysNumber SaysNumber-one _ x.max_pdu y.max_pdu a.max_pdu b.max_pdu in
+    let accepts = GivenOr-one [] (IsListOf (SaysTable IsAcceptTable)) (IsListOf-one (SaysTable IsAcceptTable) (SaysTable-one IsAcceptTable accept_one)) _ x.accepts y.accepts a.accept b.accept in
+    let rules = GivenOr-one [] (IsListOf (SaysTable IsRuleTable)) (IsListOf-one (SaysTable IsRuleTable) (SaysTable-one IsRuleTable rule_one)) _ x.rules y.rules a.rule b.rule in
+    same_node x.name y.name x.address y.address x.max_pdu y.max_pdu x.accepts y.accepts x.rules y.rules name address max_pdu accepts rules
+
+same_flow : (at at2 : Text) (to to2 : Text) (classes classes2 : List Text) (syntaxes syntaxes2 : List Text) (modalities modalities2 : Values) (stations stations2 : Values) → at ≡ at2 → to ≡ to2 → classes ≡ classes2 → syntaxes ≡ syntaxes2 → modalities ≡ modalities2 → stations ≡ stations2 →
+    (let x : FlowText = record { at = at; to = to; classes = classes; syntaxes = syntaxes; modalities = modalities; stations = stations } in let y : FlowText = record { at = at2; to = to2; classes = classes2; syntaxes = syntaxes2; modalities = modalities2; stations = stations2 } in x ≡ y)
+same_flow at at2 to to2 classes classes2 syntaxes syntaxes2 modalities modalities2 stations stations2 e_at e_to e_classes e_syntaxes e_modalities e_stations = rw (e_at, e_to, e_classes, e_syntaxes, e_modalities, e_stations) refl
+
+flow_one : (fields : Members) (x y : FlowText) → IsFlowTable fields x → IsFlowTable fields y → x ≡ y
+flow_one fields x y a b =
+    let at = Given-one SaysText SaysText-one _ x.at y.at a.at b.at in
+    let to = Given-one SaysText SaysText-one _ x.to y.to a.to b.to in
+    let classes = Given-one (IsSomeOf (SaysFormed IsClass)) (IsSomeOf-one (SaysFormed IsClass) (SaysFormed-one IsClass)) _ x.classes y.classes a.class b.class in
+    let syntaxes = Given-one (IsSomeOf SaysText) (IsSomeOf-one SaysText SaysText-one) _ x.syntaxes y.syntaxes a.syntax b.syntax in
+    let modalities = Given-one SaysValues SaysValues-one _ x.modalities y.modalities a.modality b.modality in
+    let stations = Given-one SaysValues SaysValues-one _ x.stations y.stations a.station b.station in
+    same_flow x.at y.at x.to y.to x.classes y.classes x.syntaxes y.syntaxes x.modalities y.modalities x.stations y.stations at to classes syntaxes modalities stations
+
+same_root : (nodes nodes2 : List NodeText) (flows flows2 : List FlowText) → nodes ≡ nodes2 → flows ≡ flows2 →
+    (let x : PlanText = record { nodes = nodes; flows = flows } in let y : PlanText = record { nodes = nodes2; flows = flows2 } in x ≡ y)
+same_root nodes nodes2 flows flows2 e_nodes e_flows = rw (e_nodes, e_flows) refl
+
+root_one : (fields : Members) (x y : PlanText) → IsRoot fields x → IsRoot fields y → x ≡ y
+root_one fields x y a b =
+    let nodes = GivenOr-one [] (IsListOf (SaysTable IsNodeTable)) (IsListOf-one (SaysTable IsNodeTable) (SaysTable-one IsNodeTable node_one)) _ x.nodes y.nodes a.node b.node in
+    let flows = GivenOr-one [] (IsListOf (SaysTable IsFlowTable)) (IsListOf-one (SaysTable IsFlowTable) (SaysTable-one IsFlowTable flow_one)) _ x.flows y.flows a.flow b.flow in
+    same_root x.nodes y.nodes x.flows y.flows nodes flows
+
+pub one_plan : (text : Text) (a b : PlanText) → Writes text a → Writes text b → a ≡ b
+one_plan text a b x y = let same : x.0 ≡ y.0 = same_Some _ _ (sym x.1.1 ∙ y.1.1) in root_one y.0 a b (rw same at x.2) y.2

@@ -1,0 +1,156 @@
+-- Small texts, read by computation.
+use Rattle.std.proofs.Common.{◌≡◌, ℕ, ◌<◌, ◌≤◌, refl, sym, ◌∙◌, ap, subst, pos, inl, inr, List, [], ◌∷◌, codes, Some, get_or, Contains, arith, lit<, lit≤}
+use Rattle.std.specs.Prelude.{All}
+use Rattle.std.proofs.lemmas.Option.{same_Some}
+use Rattle.toml.specs.Data.{string, integer, array, table, Items, no_items, item, Members, no_members, member, get_member}
+use Rattle.toml.specs.Parse.{parse_document}
+use Rattle.toml.proofs.OnLiterals.{toml_on_literals}
+use Rattle.dr_base.specs.Texts.{Text}
+use Rattle.dr_network.specs.Formed.{IsAddress, IsDigit}
+use Rattle.std.specs.Str.Parse.{digits_value}
+use Rattle.std.proofs.lemmas.List.Elements.{All-nil, All-cons}
+use Rattle.dr_network.proofs.Gathered.{Contains-cons_cases, only_one}
+use Rattle.dr_plan_text.specs.declared.words.NodeText.{NodeText}
+use Rattle.dr_plan_text.specs.declared.words.PlanText.{PlanText}
+use Rattle.dr_plan_text.specs.Fields.{SaysTable, Lists, IsListOf, GivenOr, HasOnly}
+use Rattle.dr_plan_text.proofs.Ports.{small_port, no_colon}
+use Rattle.dr_plan_text.specs.Tables.{IsNodeTable, IsFormat, Writes, root_keys}
+use Rattle.dr_plan_text.specs.Laws.{EmptyTextWritesNothing, NodeIsWritten, KeyIsUnknown, FormatIsOther, AddressIsMissing, PortIsTooHigh, node_text, written_node_text}
+
+nothing_parsed : parse_document [] ≡ Some no_members
+unfolding toml_on_literals
+nothing_parsed = refl
+
+pub empty_text : EmptyTextWritesNothing
+empty_text = (no_members, (([], (refl, refl)), nothing_parsed), record { only = tt; format = tt; node = refl; flow = refl })
+
+node_members : Members
+node_members = member (codes "address") (string (codes "h:1")) (member (codes "name") (string (codes "A")) no_members)
+
+node_parsed : parse_document node_text ≡ Some (member (codes "node") (array (item (table node_members) no_items)) no_members)
+unfolding toml_on_literals node_members
+node_parsed = refl
+
+address_is : IsAddress (codes "h:1")
+address_is = record {
+  host = codes "h";
+  port = codes "1";
+  parts = refl;
+  some = λ e. cc;
+  digits = All-cons IsDigit 49 [] (lit≤ tt, lit≤ tt) (All-nil IsDigit);
+  few = (λ e. cc, lit≤ tt);
+  small = lit≤ tt;
+  printable = (let P : ℕ → Type 0 = λ byte. (33 ≤ byte) × (byte < 127) in
+      All-cons P 104 (codes ":1") (lit≤ tt, lit< tt) (All-cons P 58 (codes "1") (lit≤ tt, lit< tt) (All-cons P 49 [] (lit≤ tt, lit< tt) (All-nil P))));
+  short = lit≤ tt;
+}
+
+node_said : IsNodeTable node_members written_node_text
+unfolding node_members
+node_said = record {
+  only = ((1, lit< tt, refl), ((0, lit< tt, refl), tt));
+  name = refl;
+  address = (refl, address_is);
+  max_pdu = refl;
+  accept = refl;
+  rule = refl;
+}
+
+pub one_node : NodeIsWritten
+unfolding lib.Utf8.encode
+one_node = (
+  member (codes "node") (array (item (table node_members) no_items)) no_members,
+  ((node_text, (refl, refl)), node_parsed),
+  record {
+    only = ((1, lit< tt, refl), tt);
+    format = tt;
+    node = (item (table node_members) no_items, refl, ((node_members, refl, node_said), tt));
+    flow = refl;
+  },
+)
+
+-- the tree of a text that is parsed by computation
+the_tree : (text : Text) (known root : Members) → parse_document text ≡ Some known → parse_document text ≡ Some root → root ≡ known
+the_tree text known root a b = same_Some _ _ (sym b ∙ a)
+
+colour_parsed : parse_document (codes "colour = 1") ≡ Some (member (codes "colour") (integer (pos 1)) no_members)
+unfolding toml_on_literals
+colour_parsed = refl
+
+first_byte : (x y : Text) (a b : ℕ) → get_or x 0 0 ≡ a → get_or y 0 0 ≡ b → (a ≡ b → ⊥) → x ≡ y → ⊥
+first_byte x y a b at bt apart same = apart (sym at ∙ (ap (λ (t : Text). get_or t 0 0) same ∙ bt))
+
+no_colour : Contains root_keys (codes "colour") → ⊥
+no_colour among = elim (Contains-cons_cases (codes "format") (codes "node" ∷ codes "flow" ∷ []) (codes "colour") among) [
+  | inl same ↦ first_byte (codes "format") (codes "colour") 102 99 refl refl (λ e. omega arith) same
+  | inr later ↦ elim (Contains-cons_cases (codes "node") (codes "flow" ∷ []) (codes "colour") later) [
+    | inl same ↦ first_byte (codes "node") (codes "colour") 110 99 refl refl (λ e. omega arith) same
+    | inr last ↦ first_byte (codes "flow") (codes "colour") 102 99 refl refl (λ e. omega arith) (only_one (codes "flow") (codes "colour") last)
+  ]
+]
+
+pub unknown_key : KeyIsUnknown
+unknown_key = λ plan w.
+    let same = the_tree (codes "colour = 1") _ w.0 colour_parsed w.1.1 in
+    let P : Members → Type 0 = λ root. HasOnly root_keys root in
+    no_colour (subst P same w.2.only).0
+
+format_parsed : parse_document (codes "format = 2") ≡ Some (member (codes "format") (integer (pos 2)) no_members)
+unfolding toml_on_literals
+format_parsed = refl
+
+not_one : integer (pos 2) ≡ integer (pos 1) → ⊥
+not_one e = let same : pos 2 ≡ pos 1 = cc in let numbers : ◌≡◌ {A = ℕ} 2 1 = cc in omega arith
+
+pub other_format : FormatIsOther
+other_format = λ plan w.
+    let same = the_tree (codes "format = 2") _ w.0 format_parsed w.1.1 in
+    let P : Members → Type 0 = λ root. IsFormat (get_member (codes "format") root) in
+    not_one (subst P same w.2.format)
+
+-- the one node of a text that says one node, if it says any
+the_node : (fields : Members) (nodes : List NodeText) → IsListOf (SaysTable IsNodeTable) (array (item (table fields) no_items)) nodes → (node : NodeText) × IsNodeTable fields node
+the_node fields nodes says = first nodes (let same : item (table fields) no_items ≡ says.0 = (let e = says.1 in cc) in let P : Items → Type 0 = λ items. Lists (SaysTable IsNodeTable) items nodes in subst P (sym same) says.2)
+  where
+    first : (nodes : List NodeText) → Lists (SaysTable IsNodeTable) (item (table fields) no_items) nodes → (node : NodeText) × IsNodeTable fields node
+    first [] h = absurd h
+    first (node ∷ nodes) h = (node, (let same : fields ≡ h.0.0 = (let e = h.0.1 in cc) in rw same h.0.2))
+
+lone_node : (text : Text) (fields : Members) (plan : PlanText) → parse_document text ≡ Some (member (codes "node") (array (item (table fields) no_items)) no_members) → Writes text plan →
+    (node : NodeText) × IsNodeTable fields node
+lone_node text fields plan parsed w =
+    let same = the_tree text _ w.0 parsed w.1.1 in
+    let P : Members → Type 0 = λ root. GivenOr [] (IsListOf (SaysTable IsNodeTable)) (get_member (codes "node") root) plan.nodes in
+    the_node fields plan.nodes (subst P same w.2.node)
+
+name_parsed : parse_document (codes "[[node]]\nname = \"A\"\n") ≡ Some (member (codes "node") (array (item (table (member (codes "name") (string (codes "A")) no_members)) no_items)) no_members)
+unfolding toml_on_literals
+name_parsed = refl
+
+pub no_address : AddressIsMissing
+no_address = λ plan w. (lone_node _ _ plan name_parsed w).1.address
+
+high_fields : Members
+high_fields = member (codes "address") (string (codes "h:65536")) (member (codes "name") (string (codes "A")) no_members)
+
+high_parsed : parse_document (codes "[[node]]\nname = \"A\"\naddress = \"h:65536\"\n") ≡ Some (member (codes "node") (array (item (table high_fields) no_items)) no_members)
+unfolding toml_on_literals high_fields
+high_parsed = refl
+
+high_address : (node : NodeText) → IsNodeTable high_fields node → (string (codes "h:65536") ≡ string node.address) × IsAddress node.address
+unfolding high_fields
+high_address node is = is.address
+
+five_digits : All IsDigit (codes "65536")
+five_digits = All-cons IsDigit 54 (codes "5536") (lit≤ tt, lit≤ tt) (All-cons IsDigit 53 (codes "536") (lit≤ tt, lit≤ tt) (All-cons IsDigit 53 (codes "36") (lit≤ tt, lit≤ tt)
+    (All-cons IsDigit 51 (codes "6") (lit≤ tt, lit≤ tt) (All-cons IsDigit 54 [] (lit≤ tt, lit≤ tt) (All-nil IsDigit)))))
+
+pub high_port : PortIsTooHigh
+high_port = λ plan w.
+    let node = lone_node _ high_fields plan high_parsed w in
+    let address = high_address node.0 node.1 in
+    let e = address.0 in
+    let same : codes "h:65536" ≡ node.0.address = cc in
+    let is : IsAddress (codes "h:65536") = subst IsAddress (sym same) address.1 in
+    let small : digits_value 10 (codes "65536") ≤ 65535 = small_port (codes "h:65536") (codes "h") (codes "65536") (refl, no_colon (codes "65536") five_digits) is in
+    omega arith

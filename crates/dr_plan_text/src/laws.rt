@@ -1,0 +1,23 @@
+//! Laws of plans as they are written: what a reader may take from the definitions.
+ghost use Rattle.dr_plan_text.specs.Laws.{EachTextWritesOnePlan, EmptyTextWritesNothing, NodeIsWritten, KeyIsUnknown, FormatIsOther, AddressIsMissing, PortIsTooHigh};
+
+/// A text writes one plan at most.
+pub fn a_text_writes_one_plan()
+    ensures { EachTextWritesOnePlan }
+{}
+
+/// The empty text writes the plan without nodes; a text with a node writes that node, with the defaults of
+/// what it leaves out.
+pub fn small_texts_write_plans()
+    ensures nothing { EmptyTextWritesNothing }
+    ensures node { NodeIsWritten }
+{}
+
+/// A text writes no plan where a key is unknown, where the format isn't 1, where a node has no address, and
+/// where the port of an address is above 65,535.
+pub fn ill_formed_texts_write_none()
+    ensures key { KeyIsUnknown }
+    ensures format { FormatIsOther }
+    ensures address { AddressIsMissing }
+    ensures port { PortIsTooHigh }
+{}
