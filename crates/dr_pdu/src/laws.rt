@@ -1,5 +1,5 @@
-//! Laws of the grammar: a text is one PDU at most, and no spelling begins another one.
-ghost use Rattle.std.specs.Prelude.{◌≡◌, ◌≢◌, ◌++◌, List, ℕ, Result, Err};
+//! Laws of the definitions: a text has one reading, what is written is read, and cuts do not matter.
+ghost use Rattle.std.specs.Prelude.{◌≡◌, ◌≢◌, ◌++◌, List, ℕ, Result, Err, Ok, length};
 ghost use Rattle.dr_pdu.specs.Grammar.{Spells, IsBody, Decodes};
 ghost use Rattle.dr_pdu.specs.Feeding.{Units, Feeding, Feeds, Call, Fed, taken, given, Leaves, fresh};
 ghost use Rattle.dr_pdu.specs.Written.{Fits, MeetsLimit, written};
@@ -29,9 +29,10 @@ pub fn cuts_do_not_matter()
         → (rest : List ℕ) × Units limit (taken calls) (given calls) rest × Leaves limit new rest }
 {}
 
-/// What is written is a spelling, under each limit that its length field meets.
-pub fn what_is_written_is_a_spelling()
-    ensures { (limit : ℕ) (p : PduValue) → Fits p → MeetsLimit limit p → Spells limit (written p) p }
+/// What is written is a spelling, under each limit that its length field meets, so it is read again whatever follows.
+pub fn what_is_written_is_read()
+    ensures spelled { (limit : ℕ) (p : PduValue) → Fits p → MeetsLimit limit p → Spells limit (written p) p }
+    ensures read { (limit : ℕ) (p : PduValue) (more : List ℕ) → Fits p → MeetsLimit limit p → Decodes limit (written p ++ more) (Ok (p, length (written p))) }
 {}
 
 /// The front of a text has one answer, but for want of memory.

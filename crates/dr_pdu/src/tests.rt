@@ -49,6 +49,25 @@ fn fault_of(alloc: Global, text: &[u8]) -> Option<PduFault> {
     decode(alloc, text, 16384).err()
 }
 
+/// An association PDU of that type with these items, below 128 bytes of them.
+fn association(alloc: Global, kind: u8, items: &[u8]) -> Result<Vec<u8>, AllocError> {
+    let len = (68 + items.len() % 128) as u8;
+    let mut text = [kind, 0, 0, 0, 0, len, 0, 1, 0, 0].to_vec(alloc)?;
+    text.extend_from_slice(&[b' '; 32])?;
+    text.extend_from_slice(&[0; 32])?;
+    text.extend_from_slice(items)?;
+    Ok(text)
+}
+
+/// The greatest length of an association PDU with these items, if it is read.
+fn greatest_length(alloc: Global, kind: u8, items: &[u8]) -> Result<u32, PduFault> {
+    match decode(alloc, &association(alloc, kind, items)?, 0)?.0 {
+        Pdu::AssociateRq(rq) => Ok(rq.max_pdu),
+        Pdu::AssociateAc(ac) => Ok(ac.max_pdu),
+        _ => Err(PduFault::Failed),
+    }
+}
+
 /// A request, an echo, a release and an abort.
 fn stream(alloc: Global) -> Result<Vec<u8>, AllocError> {
     let mut text = written(alloc, &request(alloc, b"ARCH")?)?;
@@ -98,6 +117,15 @@ fn faults_show_where_they_stand(rt: HostRuntime) -> Result<(), Fail> {
     assert!(rt; fault_of(alloc, &[1, 0, 0, 4, 0, 1]) == Some(PduFault::TooLong));
     assert!(rt; fault_of(alloc, &[1, 0, 0, 0, 0, 67]) == Some(PduFault::BadItem));
     assert!(rt; fault_of(alloc, &[3, 0, 0, 0, 0, 5]) == Some(PduFault::BadItem));
+    assert!(rt; fault_of(alloc, &[5, 0, 0, 0, 0]) == Some(PduFault::More));
+    assert!(rt; fault_of(alloc, &[5, 0, 0, 0, 0, 5, 0, 0, 0, 0, 0]) == Some(PduFault::BadItem));
+    assert!(rt; fault_of(alloc, &[4, 0, 0, 0, 0, 1, 0]) == Some(PduFault::BadItem));
+    assert!(rt; decode(alloc, &[4, 0, 0, 0, 4, 1], 1024).err() == Some(PduFault::TooLong));
+    // Values that count 0 bytes, and 1; one with an empty fragment, and none at all.
+    assert!(rt; fault_of(alloc, &[4, 0, 0, 0, 0, 4, 0, 0, 0, 0]) == Some(PduFault::BadItem));
+    assert!(rt; fault_of(alloc, &[4, 0, 0, 0, 0, 5, 0, 0, 0, 1, 1]) == Some(PduFault::BadItem));
+    assert!(rt; fault_of(alloc, &[4, 0, 0, 0, 0, 6, 0, 0, 0, 2, 1, 3]).is_none());
+    assert!(rt; fault_of(alloc, &[4, 0, 0, 0, 0, 0]).is_none());
     // An even id, and the same with a transfer syntax that runs past the end of its context.
     let mut text = written(alloc, &request(alloc, b"ARCH")?)?;
     assert_eq!(rt; text.len(), 234);
@@ -105,6 +133,28 @@ fn faults_show_where_they_stand(rt: HostRuntime) -> Result<(), Fail> {
     assert!(rt; fault_of(alloc, &text) == Some(PduFault::BadContextId));
     text[139] = 20;
     assert!(rt; fault_of(alloc, &text) == Some(PduFault::BadItem));
+    Ok(())
+}
+
+#[test]
+fn what_does_not_count_is_not_looked_into(rt: HostRuntime) -> Result<(), Fail> {
+    let alloc = rt.alloc();
+    // A second 50H whose inside is cut, and a second 51H of three bytes.
+    let cut = [0x10, 0, 0, 1, 0x31, 0x50, 0, 0, 0, 0x50, 0, 0, 1, 0x52];
+    assert_eq!(rt; greatest_length(alloc, 1, &cut)?, 0);
+    let short = [
+        0x10, 0, 0, 1, 0x31, 0x50, 0, 0, 15, 0x51, 0, 0, 4, 0, 0, 0x40, 0, 0x51, 0, 0, 3, 0, 0x40,
+        0,
+    ];
+    assert_eq!(rt; greatest_length(alloc, 1, &short)?, 16384);
+    // A refused context without a syntax, and one whose inside is cut; a proposal in an acceptance.
+    let refused = [0x10, 0, 0, 1, 0x31, 0x21, 0, 0, 4, 1, 0, 3, 0];
+    assert_eq!(rt; greatest_length(alloc, 2, &refused)?, 0);
+    let inside = [0x10, 0, 0, 1, 0x31, 0x21, 0, 0, 7, 1, 0, 3, 0, 0x40, 0, 0];
+    assert!(rt; greatest_length(alloc, 2, &inside).err() == Some(PduFault::BadItem));
+    let proposal = [0x10, 0, 0, 1, 0x31, 0x20, 0, 0, 2, 1, 0];
+    assert_eq!(rt; greatest_length(alloc, 2, &proposal)?, 0);
+    assert!(rt; greatest_length(alloc, 1, &proposal).err() == Some(PduFault::BadItem));
     Ok(())
 }
 
