@@ -1,9 +1,12 @@
 //! Worked figures of the definitions, by computation.
 ghost use Rattle.std.specs.Prelude.{◌≡◌, ◌∷◌, [], Some, None, Ok, length};
-ghost use Rattle.dr_pdu.specs.Grammar.{header_fault, Decodes, Shows};
-ghost use Rattle.dr_pdu.specs.Items.{title, unpadded};
+ghost use Rattle.dr_pdu.specs.Grammar.{header_fault, AreContextIds, IsAnswer, IsProposal, Decodes, Shows};
+ghost use Rattle.dr_pdu.specs.Items.{first_body, title, unpadded};
 ghost use Rattle.dr_pdu.specs.Vectors.{explicit, implicit, ct, verification, proposal, acceptance, refusal, rejection, rejection_text, echo, echo_text};
 ghost use Rattle.dr_pdu.specs.Written.{body_text, written};
+ghost use Rattle.dr_pdu.specs.declared.pdu.ContextAnswer.{ContextAnswer as Answer};
+ghost use Rattle.dr_pdu.specs.declared.pdu.ContextProposal.{ContextProposal as Proposal};
+ghost use Rattle.dr_pdu.specs.declared.pdu.Pdu.TheVariants.{ReleaseRq};
 ghost use Rattle.dr_pdu.specs.declared.fault.PduFault.TheVariants.{More, UnknownType, TooLong, BadItem};
 
 /// The length fields of associations, and two PDUs byte by byte.
@@ -43,9 +46,31 @@ pub fn trimmed_names()
     ensures name { unpadded (32 ∷ 49 ∷ 46 ∷ 50 ∷ 0 ∷ []) ≡ 32 ∷ 49 ∷ 46 ∷ 50 ∷ [] }
 {}
 
+/// Of a repeated item the first counts, and items of other types are skipped.
+pub fn repeated_items()
+    ensures first { first_body 0x51 (record { kind = 0x52; body = 7 ∷ [] } ∷ record { kind = 0x51; body = 8 ∷ [] } ∷ record { kind = 0x51; body = 9 ∷ [] } ∷ []) ≡ Some (8 ∷ []) }
+    ensures none { first_body 0x50 (record { kind = 0x52; body = 7 ∷ [] } ∷ []) ≡ None }
+{}
+
+/// Ids of contexts are odd, and no two are alike. None at all are good too.
+pub fn context_ids()
+    ensures none { AreContextIds [] }
+    ensures good { AreContextIds (3 ∷ 1 ∷ 255 ∷ []) }
+    ensures even { AreContextIds (1 ∷ 2 ∷ []) → ⊥ }
+    ensures twice { AreContextIds (1 ∷ 3 ∷ 1 ∷ []) → ⊥ }
+{}
+
+/// A refused context needs no transfer syntax, an accepted one and a proposal do.
+pub fn contexts_without_items()
+    ensures refused { IsAnswer (1 ∷ 9 ∷ 3 ∷ 9 ∷ []) (record { id = 1; result = 3; syntax = [] }) }
+    ensures accepted { (c : Answer) → IsAnswer (1 ∷ 0 ∷ 0 ∷ 0 ∷ []) c → ⊥ }
+    ensures proposed { (c : Proposal) → IsProposal (1 ∷ 0 ∷ 0 ∷ 0 ∷ []) c → ⊥ }
+{}
+
 /// A PDU that is read, and texts that show a fault.
 pub fn what_is_read()
     ensures echo { Decodes 16384 echo_text (Ok (echo, 80)) }
+    ensures reserved_bytes { Decodes 16384 (5 ∷ 9 ∷ 0 ∷ 0 ∷ 0 ∷ 4 ∷ 1 ∷ 2 ∷ 3 ∷ 4 ∷ 5 ∷ []) (Ok (ReleaseRq, 10)) }
     ensures five_bytes { Shows 16384 (4 ∷ 0 ∷ 0 ∷ 0 ∷ 0 ∷ []) More }
     ensures header_alone { Shows 16384 (1 ∷ 0 ∷ 0 ∷ 4 ∷ 0 ∷ 0 ∷ []) More }
     ensures too_long { Shows 16384 (1 ∷ 0 ∷ 0 ∷ 4 ∷ 0 ∷ 1 ∷ []) TooLong }

@@ -17,3 +17,6 @@ returns-clause-too_short c = inl (1, 67, [], (0, omega arith, refl), refl)
 
 pub returns-clause-not_four : goal.returns-clause-not_four
 returns-clause-not_four c = inl (3, 5, [], (0, omega arith, refl), refl)
+
+pub returns-clause-reserved_bytes : goal.returns-clause-reserved_bytes
+returns-clause-reserved_bytes c = (5 ∷ 9 ∷ 0 ∷ 0 ∷ 0 ∷ 4 ∷ 1 ∷ 2 ∷ 3 ∷ 4 ∷ [], 5 ∷ [], refl, refl, (5, 1 ∷ 2 ∷ 3 ∷ 4 ∷ [], ((9, omega arith, refl), refl), (refl, refl), tt))
