@@ -12,3 +12,5 @@ pub mod ElementLemmas
 pub mod FileLemmas
 pub mod LongerLemmas
 pub mod OneFileLemmas
+pub mod CutLemmas
+pub mod HearLemmas

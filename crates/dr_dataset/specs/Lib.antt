@@ -8,3 +8,4 @@ pub mod Wholes
 pub mod Files
 pub mod Fronts
 pub mod Worked
+pub mod Hearing

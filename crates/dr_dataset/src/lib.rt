@@ -2,11 +2,13 @@
 //! data set of a Part 10 file starts (PS3.10 section 7.1).
 #![tactic(auto)]
 
+mod caught;
 pub mod fault;
 pub mod file;
 mod found;
 pub mod frame;
 pub mod header;
+pub mod hearing;
 pub mod laws;
 pub mod scan;
 mod scanner;
@@ -18,6 +20,7 @@ pub mod values;
 mod whole;
 
 pub use fault::{DataFault, FileFault};
+pub use hearing::Scan;
 pub use syntax::Syntax;
 pub use values::{Attributes, Part10};
 

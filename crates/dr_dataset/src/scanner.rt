@@ -37,7 +37,7 @@ const SEQUENCE_END: Tag = Tag {
 const LONGEST_KEY: u32 = 1024;
 
 /// The tag of one of the four attributes.
-fn is_key(tag: Tag) -> bool
+pub fn is_key(tag: Tag) -> bool
     ensures { result ≡ is_key tag }
 {
     tag.group == 8 && matches!(tag.element, 0x16 | 0x18 | 0x60 | 0x1010)
@@ -221,8 +221,15 @@ impl Scanner {
         rest.is_empty() && self.stack.is_empty()
     }
 
+    /// Whether nothing is open.
+    pub fn is_at_top(&self) -> bool
+        ensures { result ≡ (length self.now.stack == 0) }
+    {
+        self.stack.is_empty()
+    }
+
     /// An element that ends here, if it is one of the top level.
-    fn at_top<'a>(&self, tag: Tag, value: Option<&'a [u8]>) -> Option<Whole<'a>>
+    pub fn at_top<'a>(&self, tag: Tag, value: Option<&'a [u8]>) -> Option<Whole<'a>>
         ensures element { elements_of result ≡ whole self.now.stack tag (option_copied value.entry) }
         ensures is_top { MatchOption result (self.now.stack ≢ []) (λ _. self.now.stack ≡ []) }
     {

@@ -1,0 +1,83 @@
+-- A data set while it is heard: what a scan knows of the bytes so far.
+use Rattle.std.specs.Prelude.{◌≡◌, ◌≢◌, ℕ, ◌+◌, ◌<◌, ◌≤◌, Bool, true, false, ◌&&◌, List, [], ◌∷◌, length, Option, Some, None, option_map, unwrap_or, Result, Ok, Err}
+use Rattle.std.proofs.Common.{get_or}
+use Rattle.std.specs.Option.{option_copied}
+use Rattle.arrayvec.specs.ArrayVec.{ArrayVec}
+use Rattle.dr_dataset.specs.declared.syntax.Syntax.{Syntax}
+use Rattle.dr_dataset.specs.declared.fault.DataFault.{DataFault}
+use Rattle.dr_dataset.specs.declared.fault.DataFault.TheVariants.{Truncated, Memory}
+use Rattle.dr_dataset.specs.declared.header.Tag.{Tag}
+use Rattle.dr_dataset.specs.declared.frame.Frame.{Frame}
+use Rattle.dr_dataset.specs.declared.token.Token.{Token}
+use Rattle.dr_dataset.specs.declared.token.Token.TheVariants.{Value, PlainItem}
+use Rattle.dr_dataset.specs.declared.values.Attributes.{Attributes}
+use Rattle.dr_dataset.specs.declared.whole.Whole.{Whole}
+use Rattle.dr_dataset.specs.declared.caught.Caught.{Caught}
+use Rattle.dr_dataset.specs.declared.hearing.Scan.{Scan}
+use Rattle.dr_dataset.specs.declared.hearing.Place.{Place}
+use Rattle.dr_dataset.specs.declared.hearing.Place.TheVariants.{InHeader, InValue, Failed}
+use Rattle.dr_dataset.specs.Elements.{Element}
+use Rattle.dr_dataset.specs.DataSet.{is_key, first_value, trimmed, Opens, FirstFault}
+use Rattle.dr_dataset.specs.Tokens.{token_of, open_behind, is_nested}
+
+abbrev pub bytes_of_slot : Option (ArrayVec ℕ) → Option (List ℕ)
+bytes_of_slot slot = option_map (λ (v : ArrayVec ℕ). v.items) slot
+
+-- the first bytes of each of the four tags in these elements
+abbrev pub AreCaught : Caught → List Element → Type 0
+AreCaught c es = (bytes_of_slot c.class ≡ first_value 0x0008 0x0016 es) × (bytes_of_slot c.instance ≡ first_value 0x0008 0x0018 es)
+    × (bytes_of_slot c.modality ≡ first_value 0x0008 0x0060 es) × (bytes_of_slot c.station ≡ first_value 0x0008 0x1010 es)
+
+abbrev pub IsShort : Option (List ℕ) → Type 0
+IsShort None = Unit {0}
+IsShort (Some bytes) = length bytes ≤ 1024
+
+-- one of the four has at most 1024 bytes
+abbrev pub IsShortKey : Option Whole → Type 0
+IsShortKey None = Unit {0}
+IsShortKey (Some w) = is_key w.tag ≡ true → IsShort (option_copied w.value)
+
+-- the header of a value of that many bytes: of an element with that tag, or of an item
+abbrev pub value_header : Option Tag → ℕ → Token
+value_header None len = PlainItem len
+value_header (Some t) len = Value t len
+
+-- whether the bytes of a value are kept: those of one of the four, at the top
+abbrev pub is_kept : List Frame → Option Tag → Bool
+is_kept [] (Some t) = is_key t
+is_kept [] None = false
+is_kept (f ∷ fs) t = false
+
+abbrev pub AreBytes : List ℕ → Type 0
+AreBytes text = (i : ℕ) → get_or text i 0 < 256
+
+abbrev pub HearsAt : Syntax → List ℕ → Scan → Place → Type 0
+-- behind a front that is in order stand the bytes of a header that isn't whole
+HearsAt s text scan InHeader = (es : List Element) × Opens s scan.scanner.stack text es scan.header.items × AreCaught scan.found es
+    × (token_of s scan.scanner.stack scan.header.items ≡ Err Truncated) × AreBytes scan.header.items
+-- or a header and some bytes of its value, of which so many are missing
+HearsAt s text scan (InValue t missing) = (es : List Element) × (token got : List ℕ) × Opens s scan.scanner.stack text es token × AreCaught scan.found es
+    × (token_of s scan.scanner.stack token ≡ Ok (value_header t (length got + missing), got)) × (is_kept scan.scanner.stack t ≡ true → scan.value.items ≡ got)
+    × (scan.header.items ≡ [])
+-- or the first fault has shown
+HearsAt s text scan (Failed fault) = (fault ≢ Truncated) × (fault ≢ Memory) × FirstFault s text fault
+
+-- the scan has heard this text, in any pieces
+abbrev pub Hears : Syntax → List ℕ → Scan → Type 0
+Hears s text scan = (scan.scanner.syntax ≡ s) × HearsAt s text scan scan.place
+
+-- the first fault has shown
+abbrev pub HasFailed : Scan → DataFault → Type 0
+HasFailed scan fault = scan.place ≡ Failed fault
+
+-- a header with nothing behind it was taken off the front that is in order, and what is open is as behind it
+abbrev pub Begun : Syntax → List ℕ → Token → Scan → Type 0
+Begun s text token scan = (scan.scanner.syntax ≡ s) × (scan.place ≡ InHeader) × (scan.header.items ≡ []) × ((before : List Frame) × (es : List Element) × (header : List ℕ)
+    × Opens s before text es header × AreCaught scan.found es × (token_of s before header ≡ Ok (token, [])) × (scan.scanner.stack ≡ open_behind s token before) × (is_nested before ≡ true))
+
+abbrev pub text_of_slot : Option (ArrayVec ℕ) → List ℕ
+text_of_slot slot = trimmed (unwrap_or (bytes_of_slot slot) [])
+
+-- the four values, trimmed
+abbrev pub AreSlots : Caught → Attributes → Type 0
+AreSlots c a = (a.class ≡ text_of_slot c.class) × (a.instance ≡ text_of_slot c.instance) × (a.modality ≡ text_of_slot c.modality) × (a.station ≡ text_of_slot c.station)
