@@ -1,7 +1,7 @@
 -- A header that is cut: one byte more completes it with nothing behind it, and twelve bytes hold each.
 use Rattle.std.proofs.Common.{◌≡◌, ◌≢◌, ℕ, zero, suc, ◌+◌, ◌-◌, ◌*◌, ◌^◌, ◌<◌, ◌≤◌, Bool, true, false, cond, ltb, eqb, ◌&&◌, List, [], ◌∷◌, ◌++◌, length, get_or, drop, refl, sym, ap, subst, ◌∙◌, arith, inl, inr, Option, Some, None, Result, Ok, Err, ◌⊎◌, append_assoc}
 use Rattle.std.specs.Int.{w16, w32, to_le_bytes, from_le_bytes}
-use Rattle.std.proofs.lemmas.List.{length-append}
+use Rattle.std.proofs.lemmas.List.{length-append, append-nil}
 use Rattle.std.proofs.lemmas.Bool.{lt-ltb, and_from}
 use Rattle.dr_dataset.specs.declared.syntax.Syntax.{Syntax}
 use Rattle.dr_dataset.specs.declared.syntax.Syntax.TheVariants.{Implicit, Explicit}
@@ -78,6 +78,12 @@ nothing_behind s fs h b token (c ∷ cs) cut e =
     let front : h ≡ p.0 ++ l.0 = snoc_same h (p.0 ++ l.0) b l.1 whole in
     let sooner : token_of s fs h ≡ Ok (token, l.0) = ap (token_of s fs) front ∙ token_whole s fs (p.0 ++ l.0) token l.0 (p.2 l.0) in
     absurd (ok_not_err (token, l.0) Truncated (sym sooner ∙ cut))
+
+-- a header that is read, alone
+pub header_alone : (s : Syntax) (fs : List Frame) (text : List ℕ) (token : Token) (rest : List ℕ) → token_of s fs text ≡ Ok (token, rest) → (pre : List ℕ) × (text ≡ pre ++ rest) × (token_of s fs pre ≡ Ok (token, []))
+header_alone s fs text token rest e =
+    let p = next_splits s fs text token rest (token_sound s fs text token rest e) in
+    (p.0, p.1, ap (token_of s fs) (sym (append-nil p.0)) ∙ token_whole s fs (p.0 ++ []) token [] (p.2 []))
 
 -- ---- twelve bytes hold each header
 

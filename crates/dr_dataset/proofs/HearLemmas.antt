@@ -30,7 +30,10 @@ use Rattle.dr_dataset.proofs.TokenLemmas.{IsNext, token_sound, token_tells}
 use Rattle.dr_dataset.proofs.OpensLemmas.{Has, shows, cut_shows, after_value, after_plain_item}
 use Rattle.dr_dataset.proofs.AdvanceLemmas.{Grows, opening_grows, open_item_grows, item_end_grows, sequence_end_grows}
 use Rattle.dr_dataset.proofs.LongerLemmas.{opens_longer, token_longer, fault_stays}
-use Rattle.dr_dataset.proofs.CutLemmas.{nothing_behind, twelve_hold}
+use Rattle.dr_dataset.proofs.CutLemmas.{nothing_behind, twelve_hold, header_alone}
+
+ok_not_cut : {p : Token × List ℕ} → ◌≡◌ {A = Result (Token × List ℕ) DataFault} (Ok p) (Err Truncated) → ⊥
+ok_not_cut e = cc
 
 -- ---- values that are caught
 
@@ -334,3 +337,32 @@ all_taken piece taken (b ∷ bs) is none = absurd (omega (arith, none))
 
 pub failed_same : (f g : DataFault) → Failed f ≡ Failed g → f ≡ g
 failed_same f g e = cc
+
+-- the whole header at once
+pub begins_at_once : (scan : Scan) (scanner : Scanner) (piece : List ℕ) (token : Token) (rest : List ℕ) (new : Scan) → scan.header.items ≡ [] → scanner.syntax ≡ scan.scanner.syntax
+    → token_of scan.scanner.syntax scan.scanner.stack piece ≡ Ok (token, rest) → scanner.stack ≡ open_behind scan.scanner.syntax token scan.scanner.stack → is_nested scan.scanner.stack ≡ true
+    → ((s : Syntax) (text : List ℕ) → Begun s text token (record scan { scanner = scanner }) → Hears s text new)
+    → (taken : List ℕ) × (piece ≡ taken ++ rest) × (taken ≢ []) × ((s : Syntax) (text : List ℕ) → Hears s text scan → scan.place ≡ InHeader → Hears s (text ++ taken) new)
+begins_at_once scan scanner piece token rest new none syntax read stack nested onward =
+    let fs = scan.scanner.stack in
+    let a = header_alone scan.scanner.syntax fs piece token rest read in
+    (a.0, a.1, some a.0 a.2, λ s text h is. onward s (text ++ a.0) (syntax ∙ h.0, is, none, begun a s text h is))
+  where
+    some : (pre : List ℕ) → token_of scan.scanner.syntax scan.scanner.stack pre ≡ Ok (token, []) → pre ≢ []
+    some pre e empty = ok_not_cut (sym e ∙ ap (token_of scan.scanner.syntax scan.scanner.stack) empty ∙ nothing_yet scan.scanner.syntax scan.scanner.stack)
+
+    begun : (a : (pre : List ℕ) × (piece ≡ pre ++ rest) × (token_of scan.scanner.syntax scan.scanner.stack pre ≡ Ok (token, []))) (s : Syntax) (text : List ℕ) → Hears s text scan → scan.place ≡ InHeader
+        → (before : List Frame) × (es : List Element) × (header : List ℕ) × Opens s before (text ++ a.0) es header × AreCaught scan.found es × (token_of s before header ≡ Ok (token, [])) × (scanner.stack ≡ open_behind s token before) × (is_nested before ≡ true)
+    begun a s text h is =
+        let (es, o, c, e, bytes) = at_place s text scan InHeader is h in
+        let from_start : Opens s scan.scanner.stack text es [] = subst (λ (x : List ℕ). Opens s scan.scanner.stack text es x) none o in
+        (scan.scanner.stack, es, a.0, opens_longer s scan.scanner.stack text es [] a.0 from_start, c, ap (λ (x : Syntax). token_of x scan.scanner.stack a.0) (sym h.0) ∙ a.2, stack ∙ ap (λ (x : Syntax). open_behind x token scan.scanner.stack) h.0, nested)
+
+-- a step that took nothing
+pub same_scanner : (scan : Scan) (scanner : Scanner) → scanner.syntax ≡ scan.scanner.syntax → scanner.stack ≡ scan.scanner.stack → (s : Syntax) (text : List ℕ) → Hears s text scan → scan.place ≡ InHeader → Hears s text (record scan { scanner = scanner })
+same_scanner scan scanner syntax stack s text h is =
+    let (es, o, c, e, bytes) = at_place s text scan InHeader is h in
+    let new = record scan { scanner = scanner } in
+    let here : HearsAt s text new InHeader =
+    (es, subst (λ (x : List Frame). Opens s x text es scan.header.items) (sym stack) o, c, ap (λ (x : List Frame). token_of s x scan.header.items) stack ∙ e, bytes) in
+    (syntax ∙ h.0, subst (λ (x : Place). HearsAt s text new x) (sym is) here)

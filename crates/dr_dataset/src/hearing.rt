@@ -151,8 +151,34 @@ impl Scan {
         }
     }
 
-    /// Takes a byte of the header.
+    /// Takes the header, or a byte of it.
     fn take_header<'a>(&mut self, piece: &'a [u8]) -> &'a [u8]
+        requires { piece.now ≢ [] }
+        ensures { (taken : List ℕ) × (piece.now ≡ taken ++ result.now) × (taken ≢ [])
+            × ((s : SyntaxName) (text : List ℕ) → Hears s text self.old → self.old.place ≡ Place.InHeader → Hears s (text ++ taken) self.new) }
+    {
+        if self.header.is_empty() {
+            return self.take_first(piece);
+        }
+        self.take_one(piece)
+    }
+
+    /// Takes the header at once if all of it is there, or else a byte of it.
+    fn take_first<'a>(&mut self, piece: &'a [u8]) -> &'a [u8]
+        requires some { piece.now ≢ [] }
+        requires fresh { self.old.header.items ≡ [] }
+        ensures { (taken : List ℕ) × (piece.now ≡ taken ++ result.now) × (taken ≢ [])
+            × ((s : SyntaxName) (text : List ℕ) → Hears s text self.old → self.old.place ≡ Place.InHeader → Hears s (text ++ taken) self.new) }
+    {
+        let Ok((token, rest)) = self.scanner.step(piece) else {
+            return self.take_one(piece);
+        };
+        self.begin(token);
+        rest
+    }
+
+    /// Takes a byte of the header.
+    fn take_one<'a>(&mut self, piece: &'a [u8]) -> &'a [u8]
         requires { piece.now ≢ [] }
         ensures { (taken : List ℕ) × (piece.now ≡ taken ++ result.now) × (taken ≢ [])
             × ((s : SyntaxName) (text : List ℕ) → Hears s text self.old → self.old.place ≡ Place.InHeader → Hears s (text ++ taken) self.new) }

@@ -1,5 +1,9 @@
 //! Vectors from outside, and a plain slow reader beside the scan.
+ghost use Rattle.std.specs.Prelude.{◌≤◌, length};
+ghost use Rattle.dr_dataset.specs.DataSet.{Scans};
+
 use crate::file::part10;
+use crate::hearing::Scan;
 use crate::scan::attributes;
 use crate::syntax::Syntax;
 use crate::tests_reader::plain_answer;
@@ -71,11 +75,30 @@ fn is_answer(
     agrees(rt, alloc, text, syntax)
 }
 
+/// The answer of a scan that hears the text in two pieces.
+fn heard_in_two(
+    alloc: Global,
+    text: &[u8],
+    cut: usize,
+    syntax: Syntax,
+) -> Result<Attributes, DataFault>
+    requires { cut ≤ length text.now }
+    ensures { Scans syntax text.now result }
+{
+    let (front, back) = text.split_at(cut);
+    let mut scan = Scan::new(syntax);
+    let _ = scan.feed(front);
+    let _ = scan.feed(back);
+    scan.finish(alloc)
+}
+
 /// The scan and the plain reader give one answer.
 fn agrees(rt: &impl Abort, alloc: Global, text: &[u8], syntax: Syntax) -> Result<(), AllocError> {
     let scanned = shown(alloc, &attributes(alloc, text, syntax))?;
     let plain = shown(alloc, &plain_answer(alloc, text, syntax))?;
     assert!(rt; scanned == plain);
+    let heard = shown(alloc, &heard_in_two(alloc, text, text.len() / 2, syntax))?;
+    assert!(rt; scanned == heard);
     Ok(())
 }
 
@@ -138,6 +161,36 @@ fn each_front_and_each_changed_byte(rt: HostRuntime) -> Result<(), Fail> {
     agrees_on_all(&rt, alloc, &PLAIN)?;
     agrees_on_all(&rt, alloc, &INSTANCE)?;
     agrees_on_all(&rt, alloc, &UNKNOWN)?;
+    Ok(())
+}
+
+#[test]
+fn each_cut_gives_the_same(rt: HostRuntime) -> Result<(), Fail> {
+    let alloc = rt.alloc();
+    for text in [
+        NESTED.as_slice(),
+        PLAIN.as_slice(),
+        INSTANCE.as_slice(),
+        UNKNOWN.as_slice(),
+    ] {
+        let whole = shown(alloc, &attributes(alloc, text, Syntax::Explicit))?;
+        for cut in 0..text.len() {
+            let heard = shown(alloc, &heard_in_two(alloc, text, cut, Syntax::Explicit))?;
+            assert!(rt; heard == whole);
+        }
+    }
+    Ok(())
+}
+
+#[test]
+fn a_fault_is_answered_again(rt: HostRuntime) -> Result<(), Fail> {
+    let mut scan = Scan::new(Syntax::Explicit);
+    assert!(rt; scan.feed(&[8, 0, 0x60, 0, 0x63]) == Ok(()));
+    assert!(rt; scan.feed(&[0x73]) == Err(DataFault::BadVr));
+    assert!(rt; scan.feed(&[2, 0]) == Err(DataFault::BadVr));
+    assert!(rt; scan.feed(&[]) == Err(DataFault::BadVr));
+    let answer = scan.finish(rt.alloc());
+    assert!(rt; matches!(answer, Err(DataFault::BadVr)));
     Ok(())
 }
 
