@@ -28,6 +28,14 @@ front = record { version = 1; called = codes "ARCH"; calling = codes "GATE"; res
 abbrev pub proposal : List ℕ → List ℕ → Pdu
 proposal class syntax = AssociateRq (record { front = front; application = application_context; contexts = record { id = 1; class = class; syntaxes = syntax ∷ [] } ∷ []; max_pdu = 16384 })
 
+-- the proposal of CT images, byte by byte
+abbrev pub proposal_text : List ℕ
+proposal_text = 1 ∷ 0 ∷ 0 ∷ 0 ∷ 0 ∷ 228 ∷ 0 ∷ 1 ∷ 0 ∷ 0 ∷ (codes "ARCH            " ++ (codes "GATE            " ++ (replicate 32 0
+    ++ (0x10 ∷ 0 ∷ 0 ∷ 21 ∷ (application_context
+    ++ (0x20 ∷ 0 ∷ 0 ∷ 56 ∷ 1 ∷ 0 ∷ 0 ∷ 0 ∷ 0x30 ∷ 0 ∷ 0 ∷ 25 ∷ (ct ++ (0x40 ∷ 0 ∷ 0 ∷ 19 ∷ (explicit
+    ++ (0x50 ∷ 0 ∷ 0 ∷ 71 ∷ 0x51 ∷ 0 ∷ 0 ∷ 4 ∷ 0 ∷ 0 ∷ 0x40 ∷ 0 ∷ 0x52 ∷ 0 ∷ 0 ∷ 44 ∷ (codes "2.25.331274590186724905318462075136948210573"
+    ++ (0x55 ∷ 0 ∷ 0 ∷ 11 ∷ codes "DR_ROUTER_1"))))))))))))
+
 abbrev pub acceptance : List ℕ → Pdu
 acceptance syntax = AssociateAc (record { front = front; application = application_context; contexts = record { id = 1; result = 0; syntax = syntax } ∷ []; max_pdu = 16384 })
 

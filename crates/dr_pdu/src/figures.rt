@@ -2,16 +2,17 @@
 ghost use Rattle.std.specs.Prelude.{◌≡◌, ◌∷◌, [], Some, None, Ok, length};
 ghost use Rattle.dr_pdu.specs.Grammar.{header_fault, AreContextIds, IsAnswer, IsProposal, Decodes, Shows};
 ghost use Rattle.dr_pdu.specs.Items.{first_body, title, unpadded};
-ghost use Rattle.dr_pdu.specs.Vectors.{explicit, implicit, ct, verification, proposal, acceptance, refusal, rejection, rejection_text, echo, echo_text};
+ghost use Rattle.dr_pdu.specs.Vectors.{explicit, implicit, ct, verification, proposal, proposal_text, acceptance, refusal, rejection, rejection_text, echo, echo_text};
 ghost use Rattle.dr_pdu.specs.Written.{body_text, written};
 ghost use Rattle.dr_pdu.specs.declared.pdu.ContextAnswer.{ContextAnswer as Answer};
 ghost use Rattle.dr_pdu.specs.declared.pdu.ContextProposal.{ContextProposal as Proposal};
 ghost use Rattle.dr_pdu.specs.declared.pdu.Pdu.TheVariants.{ReleaseRq};
 ghost use Rattle.dr_pdu.specs.declared.fault.PduFault.TheVariants.{More, UnknownType, TooLong, BadItem};
 
-/// The length fields of associations, and two PDUs byte by byte.
+/// The length fields of associations, and three PDUs byte by byte.
 pub fn what_is_written()
     ensures proposal { length (body_text (proposal ct explicit)) ≡ 228 }
+    ensures proposal_text { written (proposal ct explicit) ≡ proposal_text }
     ensures acceptance { length (body_text (acceptance explicit)) ≡ 199 }
     ensures proposal_of_echo { length (body_text (proposal verification implicit)) ≡ 218 }
     ensures acceptance_of_echo { length (body_text (acceptance implicit)) ≡ 197 }
