@@ -1,1 +1,4 @@
+pub mod Entries
+pub mod FieldLemmas
 pub mod Narrowing
+pub mod Visits

@@ -1,10 +1,15 @@
 -- Where instances enter, in terms of flows and the parts of a cell.
-use Rattle.std.specs.Prelude.{◌≡◌, ℕ, ◌<◌, ◌↔◌, ◌⊎◌, List, [], ◌∷◌, length, Contains, Some, slice_get, All}
+use Rattle.std.specs.Prelude.{◌≡◌, ℕ, ◌<◌, ◌↔◌, List, length, Contains, Some, slice_get, All}
 use Rattle.dr_base.specs.Texts.{Text}
 use Rattle.dr_base.specs.declared.syntax.Syntax.{Syntax}
 use Rattle.dr_route.specs.declared.cell.OwnedField.{OwnedField}
 use Rattle.dr_route.specs.declared.cell.OwnedField.TheVariants.{Literal, Rest}
 use Rattle.dr_route.specs.declared.cell.OwnedCell.{OwnedCell}
+use Rattle.dr_route.specs.declared.cell.FieldValues.{FieldValues}
+use Rattle.dr_route.specs.Laws.{IsPart}
+use Rattle.dr_network.specs.Networks.{Network}
+use Rattle.dr_network.specs.Laws.{IsCellOf}
+use Rattle.dr_network.specs.Plans.{literals_of}
 use Rattle.dr_network.specs.declared.plan.Flow.{Flow}
 use Rattle.dr_network.specs.declared.plan.Values.{Values}
 use Rattle.dr_network.specs.declared.plan.Values.TheVariants as values
@@ -31,3 +36,72 @@ AllBelow among flows = All (λ k. k < length flows) among
 -- just the places among those at which a flow speaks of the value
 abbrev pub AreNarrowed : List Flow → List ℕ → Part → List ℕ → Type 0
 AreNarrowed flows among part found = (k : ℕ) → Contains found k ↔ (Contains among k × ((flow : Flow) × (slice_get flows k ≡ Some flow) × SpeaksOf flow part))
+
+-- the flow takes in the keys of the cell
+pub record TakesIn (flow : Flow) (cell : OwnedCell) : Type 0 where
+  pub class : Contains flow.classes cell.class
+  pub syntax : Contains flow.syntaxes cell.syntax
+  pub modality : Admits flow.modalities cell.modality
+  pub station : Admits flow.stations cell.station
+
+-- a flow at one of the places does
+abbrev pub SomeTakes : List Flow → List ℕ → OwnedCell → Type 0
+SomeTakes flows among cell = (k : ℕ) × Contains among k × ((flow : Flow) × (slice_get flows k ≡ Some flow) × TakesIn flow cell)
+
+-- each flow at one of the places speaks of the value
+abbrev pub EachSpeaks : List Flow → List ℕ → Part → Type 0
+EachSpeaks flows among part = (k : ℕ) (flow : Flow) → Contains among k → slice_get flows k ≡ Some flow → SpeaksOf flow part
+
+-- the cells that are wanted: some flow at the site takes them in
+abbrev pub WantsAny : Network → Text → OwnedCell → Type 0
+WantsAny plan s c = IsCellOf plan c × ((flow : Flow) × Contains plan.flows flow × (flow.at ≡ s) × TakesIn flow c)
+
+-- the cells that are wanted at a site: of all, of one class, of one transfer syntax of it, and of one modality of that
+abbrev pub WantsSite : Network → Text → List ℕ → Text → OwnedCell → Type 0
+WantsSite plan site among s c = (s ≡ site) × IsCellOf plan c × SomeTakes plan.flows among c
+
+abbrev pub WantsClass : Network → Text → Text → List ℕ → Text → OwnedCell → Type 0
+WantsClass plan site class among s c = (c.class ≡ class) × WantsSite plan site among s c
+
+abbrev pub WantsSyntax : Network → Text → Text → Syntax → List ℕ → Text → OwnedCell → Type 0
+WantsSyntax plan site class syntax among s c = (c.syntax ≡ syntax) × WantsClass plan site class among s c
+
+abbrev pub WantsModality : Network → Text → Text → Syntax → OwnedField → List ℕ → Text → OwnedCell → Type 0
+WantsModality plan site class syntax modality among s c = (c.modality ≡ modality) × WantsSyntax plan site class syntax among s c
+
+abbrev pub WantsStation : Network → Text → Text → Syntax → OwnedField → OwnedField → List ℕ → Text → OwnedCell → Type 0
+WantsStation plan site class syntax modality station among s c = (c.station ≡ station) × WantsModality plan site class syntax modality among s c
+
+-- the part of one of these literals
+abbrev pub IsLiteralOf : List Text → OwnedField → Type 0
+IsLiteralOf literals (Literal literal) = Contains literals literal
+IsLiteralOf literals Rest = ⊥
+
+-- just the parts of a field of the plan
+abbrev pub AreParts : FieldValues → List OwnedField → Type 0
+AreParts values fields = (field : OwnedField) → Contains fields field ↔ IsPart values field
+
+-- the parts of a plan's two fields
+abbrev pub HasParts : Network → List OwnedField → List OwnedField → Type 0
+HasParts plan modalities stations = AreParts (literals_of plan).modalities modalities × AreParts (literals_of plan).stations stations
+
+-- each class of a flow at one of the places is in the row
+abbrev pub HasClasses : List Flow → List ℕ → List Text → Type 0
+HasClasses flows among row = (k : ℕ) (flow : Flow) (class : Text) → Contains among k → slice_get flows k ≡ Some flow → Contains flow.classes class → Contains row class
+
+-- the site of each flow is in the row
+abbrev pub HasSites : List Flow → List Text → Type 0
+HasSites flows row = (flow : Flow) → Contains flows flow → Contains row flow.at
+
+-- the flow is at the site and takes in the values so far
+abbrev pub FitsClass : Flow → Text → Text → Type 0
+FitsClass flow site class = Contains flow.classes class × (flow.at ≡ site)
+
+abbrev pub FitsSyntax : Flow → Text → Text → Syntax → Type 0
+FitsSyntax flow site class syntax = Contains flow.syntaxes syntax × FitsClass flow site class
+
+abbrev pub FitsModality : Flow → Text → Text → Syntax → OwnedField → Type 0
+FitsModality flow site class syntax modality = Admits flow.modalities modality × FitsSyntax flow site class syntax
+
+abbrev pub FitsAll : Flow → Text → Text → Syntax → OwnedField → OwnedField → Type 0
+FitsAll flow site class syntax modality station = Admits flow.stations station × FitsModality flow site class syntax modality

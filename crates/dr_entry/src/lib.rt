@@ -4,6 +4,8 @@
 
 pub mod fields;
 pub mod narrow;
+pub mod sweep;
 pub mod visit;
 
+pub use sweep::visit_entries;
 pub use visit::EntryVisitor;

@@ -1,0 +1,311 @@
+//! The sweep over all entries of a plan: by site, class, transfer syntax, modality and station.
+ghost use Rattle.std.specs.Prelude.{◌≡◌, ◌↔◌, ◌<◌, IfOk, Contains, ℕ, Some, slice_get, length};
+ghost use Rattle.dr_base.specs.Texts.{Text as Words};
+ghost use Rattle.dr_network.specs.Plans.{IsWellFormed, literals_of};
+ghost use Rattle.dr_network.specs.declared.plan.Flow.{Flow as FlowValue};
+ghost use Rattle.dr_entry.specs.Entering.{AllBelow, EachSpeaks, AreParts, HasParts, HasClasses, HasSites, FitsAll, FitsClass, FitsModality, FitsSyntax, WantsAny, WantsSite, WantsClass, WantsSyntax, WantsModality, WantsStation};
+ghost use Rattle.dr_entry.specs.Visiting.{AfterVisits, IsEntryCell};
+
+use crate::fields::parts_of;
+use crate::narrow::{Part, narrowed};
+use crate::visit::EntryVisitor;
+use dr_base::{Seq, Syntax, Text};
+use dr_network::literals::literals;
+use dr_network::{Flow, Plan};
+use dr_route::names::{add_names, names_in_order};
+use dr_route::{OwnedCell, OwnedField};
+use std::alloc::{AllocError, Global};
+use std::collections::BTreeSet;
+use std::slice;
+
+/// A plan with the parts of its two fields, in the order in which they are printed.
+#[derive(Drop)]
+struct Sweep<'a> {
+    alloc: Global,
+    plan: &'a Plan,
+    modalities: Seq<OwnedField>,
+    stations: Seq<OwnedField>,
+}
+
+/// The classes of the flows at these places, in byte order.
+fn classes_of(alloc: Global, flows: &[Flow], among: &[usize]) -> Result<Seq<Text>, AllocError>
+    requires { AllBelow among.now flows.now }
+    ensures { IfOk result (HasClasses flows.now among.now) }
+{
+    let mut names = BTreeSet::new(alloc);
+    for place in among {
+        add_names(&mut names, flows[*place].classes.as_slice())?;
+    }
+    let classes = names_in_order(alloc, names)?;
+    Ok(classes)
+}
+
+/// The sites of the flows, in byte order.
+fn sites_of(alloc: Global, flows: &[Flow]) -> Result<Seq<Text>, AllocError>
+    ensures { IfOk result (HasSites flows.now) }
+{
+    let mut names = BTreeSet::new(alloc);
+    for flow in flows {
+        add_names(&mut names, slice::from_ref(&flow.at))?;
+    }
+    let sites = names_in_order(alloc, names)?;
+    Ok(sites)
+}
+
+/// All places in the list.
+fn all_places(alloc: Global, flows: &[Flow]) -> Result<Vec<usize>, AllocError>
+    ensures { IfOk result (λ v. (k : ℕ) → Contains v.items k ↔ (k < length flows.now)) }
+{
+    let mut places = Vec::new(alloc);
+    for place in 0..flows.len() {
+        places.push(place)?;
+    }
+    Ok(places)
+}
+
+/// The cell of these values.
+fn cell_from(
+    class: &Text,
+    syntax: Syntax,
+    modality: &OwnedField,
+    station: &OwnedField,
+) -> Result<OwnedCell, AllocError>
+    ensures { IfOk result (λ c. c ≡ record { class = class.now; syntax = syntax; modality = modality.now; station = station.now }) }
+{
+    Ok(OwnedCell {
+        class: class.clone()?,
+        syntax,
+        modality: modality.clone()?,
+        station: station.clone()?,
+    })
+}
+
+impl<'a> Sweep<'a> {
+    /// Visits the entry of these values, if some flow at the places takes it in.
+    fn visit_cell<V: EntryVisitor>(
+        &self,
+        visitor: &mut V,
+        site: &Text,
+        class: &Text,
+        syntax: Syntax,
+        modality: &OwnedField,
+        station: &OwnedField,
+        among: &[usize],
+    ) -> Result<Option<V::Finding>, AllocError>
+        requires plan { V.plan visitor.old ≡ self.now.plan.now }
+        requires ready { V.is_ready visitor.old }
+        requires parts { HasParts self.now.plan.now self.now.modalities self.now.stations }
+        requires modality_part { Contains self.now.modalities modality.now }
+        requires station_part { Contains self.now.stations station.now }
+        requires fit { (flow : FlowValue) → (k : ℕ) → Contains among.now k → slice_get self.now.plan.now.flows k ≡ Some flow → FitsAll flow site.now class.now syntax modality.now station.now }
+        requires below { AllBelow among.now self.now.plan.now.flows }
+        ensures { IfOk result (AfterVisits V.plan V.is_ready V.has_visited V.shows (WantsStation self.now.plan.now site.now class.now syntax modality.now station.now among.now) visitor.old visitor.new) }
+    {
+        if among.is_empty() {
+            return Ok(None);
+        }
+        let cell = cell_from(class, syntax, modality, station)?;
+        let found = visitor.visit(site, &cell)?;
+        Ok(found)
+    }
+
+    /// Visits the entries of this modality, station by station.
+    fn visit_modality<V: EntryVisitor>(
+        &self,
+        visitor: &mut V,
+        site: &Text,
+        class: &Text,
+        syntax: Syntax,
+        modality: &OwnedField,
+        among: &[usize],
+    ) -> Result<Option<V::Finding>, AllocError>
+        requires plan { V.plan visitor.old ≡ self.now.plan.now }
+        requires ready { V.is_ready visitor.old }
+        requires parts { HasParts self.now.plan.now self.now.modalities self.now.stations }
+        requires modality_part { Contains self.now.modalities modality.now }
+        requires fit { (flow : FlowValue) → (k : ℕ) → Contains among.now k → slice_get self.now.plan.now.flows k ≡ Some flow → FitsModality flow site.now class.now syntax modality.now }
+        requires below { AllBelow among.now self.now.plan.now.flows }
+        ensures { IfOk result (AfterVisits V.plan V.is_ready V.has_visited V.shows (WantsModality self.now.plan.now site.now class.now syntax modality.now among.now) visitor.old visitor.new) }
+    {
+        if among.is_empty() {
+            return Ok(None);
+        }
+        for station in self.stations.as_slice() {
+            let here = narrowed(
+                self.alloc,
+                self.plan.flows(),
+                among,
+                &Part::Station(station),
+            )?;
+            let found = self.visit_cell(
+                visitor,
+                site,
+                class,
+                syntax,
+                modality,
+                station,
+                here.as_slice(),
+            )?;
+            if found.is_some() {
+                return Ok(found);
+            }
+        }
+        Ok(None)
+    }
+
+    /// Visits the entries of this transfer syntax, modality by modality.
+    fn visit_syntax<V: EntryVisitor>(
+        &self,
+        visitor: &mut V,
+        site: &Text,
+        class: &Text,
+        syntax: Syntax,
+        among: &[usize],
+    ) -> Result<Option<V::Finding>, AllocError>
+        requires plan { V.plan visitor.old ≡ self.now.plan.now }
+        requires ready { V.is_ready visitor.old }
+        requires parts { HasParts self.now.plan.now self.now.modalities self.now.stations }
+        requires fit { (flow : FlowValue) → (k : ℕ) → Contains among.now k → slice_get self.now.plan.now.flows k ≡ Some flow → FitsSyntax flow site.now class.now syntax }
+        requires below { AllBelow among.now self.now.plan.now.flows }
+        ensures { IfOk result (AfterVisits V.plan V.is_ready V.has_visited V.shows (WantsSyntax self.now.plan.now site.now class.now syntax among.now) visitor.old visitor.new) }
+    {
+        if among.is_empty() {
+            return Ok(None);
+        }
+        for modality in self.modalities.as_slice() {
+            let here = narrowed(
+                self.alloc,
+                self.plan.flows(),
+                among,
+                &Part::Modality(modality),
+            )?;
+            let found = self.visit_modality(
+                visitor,
+                site,
+                class,
+                syntax,
+                modality,
+                here.as_slice(),
+            )?;
+            if found.is_some() {
+                return Ok(found);
+            }
+        }
+        Ok(None)
+    }
+
+    /// Visits the entries of this class in one transfer syntax.
+    fn visit_class_in<V: EntryVisitor>(
+        &self,
+        visitor: &mut V,
+        site: &Text,
+        class: &Text,
+        syntax: Syntax,
+        among: &[usize],
+    ) -> Result<Option<V::Finding>, AllocError>
+        requires plan { V.plan visitor.old ≡ self.now.plan.now }
+        requires ready { V.is_ready visitor.old }
+        requires parts { HasParts self.now.plan.now self.now.modalities self.now.stations }
+        requires fit { (flow : FlowValue) → (k : ℕ) → Contains among.now k → slice_get self.now.plan.now.flows k ≡ Some flow → FitsClass flow site.now class.now }
+        requires below { AllBelow among.now self.now.plan.now.flows }
+        ensures { IfOk result (AfterVisits V.plan V.is_ready V.has_visited V.shows (WantsSyntax self.now.plan.now site.now class.now syntax among.now) visitor.old visitor.new) }
+    {
+        let here = narrowed(self.alloc, self.plan.flows(), among, &Part::Syntax(syntax))?;
+        let found = self.visit_syntax(visitor, site, class, syntax, here.as_slice())?;
+        Ok(found)
+    }
+
+    /// Visits the entries of this class, in both transfer syntaxes.
+    fn visit_class<V: EntryVisitor>(
+        &self,
+        visitor: &mut V,
+        site: &Text,
+        class: &Text,
+        among: &[usize],
+    ) -> Result<Option<V::Finding>, AllocError>
+        requires plan { V.plan visitor.old ≡ self.now.plan.now }
+        requires ready { V.is_ready visitor.old }
+        requires parts { HasParts self.now.plan.now self.now.modalities self.now.stations }
+        requires fit { (flow : FlowValue) → (k : ℕ) → Contains among.now k → slice_get self.now.plan.now.flows k ≡ Some flow → FitsClass flow site.now class.now }
+        requires below { AllBelow among.now self.now.plan.now.flows }
+        ensures { IfOk result (AfterVisits V.plan V.is_ready V.has_visited V.shows (WantsClass self.now.plan.now site.now class.now among.now) visitor.old visitor.new) }
+    {
+        let found = self.visit_class_in(visitor, site, class, Syntax::Implicit, among)?;
+        if found.is_some() {
+            return Ok(found);
+        }
+        let later = self.visit_class_in(visitor, site, class, Syntax::Explicit, among)?;
+        Ok(later)
+    }
+
+    /// Visits the entries of this site, class by class.
+    fn visit_site<V: EntryVisitor>(
+        &self,
+        visitor: &mut V,
+        site: &Text,
+        among: &[usize],
+    ) -> Result<Option<V::Finding>, AllocError>
+        requires plan { V.plan visitor.old ≡ self.now.plan.now }
+        requires ready { V.is_ready visitor.old }
+        requires parts { HasParts self.now.plan.now self.now.modalities self.now.stations }
+        requires fit { (flow : FlowValue) → (k : ℕ) → Contains among.now k → slice_get self.now.plan.now.flows k ≡ Some flow → flow.at ≡ site.now }
+        requires below { AllBelow among.now self.now.plan.now.flows }
+        ensures { IfOk result (AfterVisits V.plan V.is_ready V.has_visited V.shows (WantsSite self.now.plan.now site.now among.now) visitor.old visitor.new) }
+    {
+        let classes = classes_of(self.alloc, self.plan.flows(), among)?;
+        for class in classes.as_slice() {
+            let here = narrowed(self.alloc, self.plan.flows(), among, &Part::Class(class))?;
+            let found = self.visit_class(visitor, site, class, here.as_slice())?;
+            if found.is_some() {
+                return Ok(found);
+            }
+        }
+        Ok(None)
+    }
+
+    /// Visits all entries of the plan, site by site.
+    fn visit_all<V: EntryVisitor>(&self, visitor: &mut V) -> Result<Option<V::Finding>, AllocError>
+        requires plan { V.plan visitor.old ≡ self.now.plan.now }
+        requires ready { V.is_ready visitor.old }
+        requires parts { HasParts self.now.plan.now self.now.modalities self.now.stations }
+        ensures { IfOk result (AfterVisits V.plan V.is_ready V.has_visited V.shows (WantsAny self.now.plan.now) visitor.old visitor.new) }
+    {
+        let all = all_places(self.alloc, self.plan.flows())?;
+        let sites = sites_of(self.alloc, self.plan.flows())?;
+        for site in sites.as_slice() {
+            let here = narrowed(
+                self.alloc,
+                self.plan.flows(),
+                all.as_slice(),
+                &Part::Site(site),
+            )?;
+            let found = self.visit_site(visitor, site, here.as_slice())?;
+            if found.is_some() {
+                return Ok(found);
+            }
+        }
+        Ok(None)
+    }
+}
+
+/// Visits all entries of the plan, in byte order of node, class, transfer syntax, modality and station as they
+/// are printed, until the visitor finds something.
+pub fn visit_entries<V: EntryVisitor>(
+    alloc: Global,
+    plan: &Plan,
+    visitor: &mut V,
+) -> Result<Option<V::Finding>, AllocError>
+    requires plan { V.plan visitor.old ≡ plan.now }
+    requires ready { V.is_ready visitor.old }
+    ensures { IfOk result (AfterVisits V.plan V.is_ready V.has_visited V.shows (IsEntryCell plan.now) visitor.old visitor.new) }
+{
+    let literals = literals(alloc, plan)?;
+    let sweep = Sweep {
+        alloc,
+        plan,
+        modalities: parts_of(alloc, &literals.modalities)?,
+        stations: parts_of(alloc, &literals.stations)?,
+    };
+    let found = sweep.visit_all(visitor)?;
+    Ok(found)
+}
