@@ -1,10 +1,14 @@
 -- What a printed line or hop was can be told from its text.
 use Rattle.std.proofs.Common.{◌≡◌, ◌≢◌, ℕ, ◌≤◌, List, [], ◌∷◌, ◌++◌, length, refl, sym, ap, ◌∙◌, arith, append_assoc, decimal}
 use Rattle.std.specs.Prelude.{All, AllPairs}
+use Rattle.std.specs.List.{list_all}
+use Rattle.std.proofs.lemmas.List.Sums.{AllPass-from_list_all}
+use mathlib.Core.Bool.{true≢false}
+use Rattle.std.proofs.Common.{true, not, eqb, eq-eqb}
 use Rattle.std.specs.Str.Parse.{AllDigits}
 use Rattle.std.proofs.lemmas.Fmt.{decimal_is_IsNumeral, decimal_injective}
 use Rattle.std.proofs.lemmas.Str.Parse.{digit_at}
-use Rattle.std.proofs.lemmas.List.Elements.{All-weaker, All-from_get_or}
+use Rattle.std.proofs.lemmas.List.Elements.{All-weaker, All-from_get_or, All-append, All-cons, All-nil}
 use Rattle.dr_base.specs.Texts.{Text}
 use Rattle.dr_base.specs.Syntaxes.{syntax_uid}
 use Rattle.dr_base.specs.declared.syntax.Syntax.{Syntax}
@@ -15,7 +19,7 @@ use Rattle.dr_sound.specs.declared.certificate.Line.{Line}
 use Rattle.dr_sound.specs.declared.certificate.Hop.{Hop}
 use Rattle.dr_sound.specs.Printed.{printed_field, printed_line, printed_hop}
 use Rattle.dr_cert_text.specs.Printable.{IsPlain, IsPlainField, IsPrintableLine, IsPrintableHop}
-use Rattle.dr_cert_text.specs.Cuts.{cuts, grown}
+use Rattle.dr_cert_text.specs.Cuts.{cuts, grown, Lacks}
 use Rattle.dr_cert_text.proofs.Cuts.{cuts-at, cuts-last}
 
 pub no_tab : (text : Text) → IsPlain text → All (λ b. b ≢ 9) text
@@ -146,3 +150,32 @@ lines_apart lines all apart = λ i j d lt long e. apart i j d lt long (same_line
 
 pub hops_apart : (hops : List Hop) → All IsPrintableHop hops → AllPairs (λ a b. a ≢ b) hops → AllPairs (λ a b. printed_hop a ≢ printed_hop b) hops
 hops_apart hops all apart = λ i j d lt long e. apart i j d lt long (same_hop _ _ (all i d (omega arith)) (all j d long) e)
+
+no_lf : (text : Text) → IsPlain text → All (λ b. b ≢ 10) text
+no_lf text plain = All-weaker (λ b. (b ≢ 9) × (b ≢ 10)) (λ b. b ≢ 10) (λ b h. h.1) text plain
+
+join_lf : (xs ys : Text) → Lacks 10 xs → Lacks 10 ys → Lacks 10 (xs ++ 9 ∷ ys)
+join_lf xs ys hx hy = All-append (λ b. b ≢ 10) xs (9 ∷ ys) hx (All-cons (λ b. b ≢ 10) 9 ys (λ e. omega arith) hy)
+
+tested : (text : List ℕ) → list_all (λ b. not (eqb b 10)) text ≡ true → Lacks 10 text
+tested text h =
+    All-weaker (λ b. not (eqb b 10) ≡ true) (λ b. b ≢ 10) (λ b passes e. let yes : eqb b 10 ≡ true = eq-eqb b 10 e in let no : not true ≡ true = rw yes at passes in absurd (true≢false (sym no))) text
+    (AllPass-from_list_all (λ b. not (eqb b 10)) text h)
+
+uid_lf : (syntax : Syntax) → Lacks 10 (syntax_uid syntax)
+uid_lf Implicit = tested (syntax_uid Implicit) refl
+uid_lf Explicit = tested (syntax_uid Explicit) refl
+
+field_lf : (field : OwnedField) → IsPlainField field → Lacks 10 (printed_field field)
+field_lf (Literal literal) plain = no_lf literal plain.0
+field_lf Rest plain = All-cons (λ b. b ≢ 10) 42 [] (λ e. omega arith) (All-nil (λ b. b ≢ 10))
+
+-- a printed line is one row, and a printed hop
+pub line_plain : (line : Line) → IsPrintableLine line → Lacks 10 (printed_line line)
+line_plain line p =
+    join_lf _ _ (join_lf _ _ (join_lf _ _ (join_lf _ _ (join_lf _ _ (join_lf _ _ (no_lf _ p.caller) (no_lf _ p.node)) (no_lf _ p.class)) (uid_lf line.stop.cell.syntax))
+    (field_lf line.stop.cell.modality p.modality)) (field_lf line.stop.cell.station p.station)) (no_lf _ (decimal_plain line.rank p.rank))
+
+pub hop_plain : (hop : Hop) → IsPrintableHop hop → Lacks 10 (printed_hop hop)
+hop_plain hop p =
+    join_lf _ _ (join_lf _ _ (join_lf _ _ (join_lf _ _ (no_lf _ p.from) (no_lf _ p.to)) (no_lf _ (decimal_plain hop.id (let small : hop.id ≤ 255 = p.id in omega arith)))) (no_lf _ p.class)) (uid_lf hop.syntax)

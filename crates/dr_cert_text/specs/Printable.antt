@@ -1,5 +1,5 @@
 -- Which lines, hops and certificates can be read back from their text.
-use Rattle.std.specs.Prelude.{◌≡◌, ◌≢◌, ◌<◌, ◌≤◌, length, codes, All}
+use Rattle.std.specs.Prelude.{◌≡◌, ◌≢◌, ℕ, ◌<◌, ◌≤◌, List, length, codes, All}
 use Rattle.dr_base.specs.Texts.{Text}
 use Rattle.dr_route.specs.declared.cell.OwnedField.{OwnedField}
 use Rattle.dr_route.specs.declared.cell.OwnedField.TheVariants.{Literal, Rest}
@@ -31,9 +31,11 @@ pub record IsPrintableHop (hop : Hop) : Type 0 where
   pub class : IsPlain hop.class
 
 -- a SHA-256 has 32 bytes
+abbrev pub IsDigest : List ℕ → Type 0
+IsDigest digest = (length digest ≡ 32) × All (λ byte. byte < 256) digest
+
 pub record IsPrintable (certificate : Certificate) : Type 0 where
-  pub long : length certificate.digest ≡ 32
-  pub bytes : All (λ byte. byte < 256) certificate.digest
+  pub digest : IsDigest certificate.digest
   pub hops : All IsPrintableHop certificate.hops
   pub lines : All IsPrintableLine certificate.lines
   pub few : length certificate.lines ≤ 65536

@@ -1,10 +1,32 @@
 -- What is read of a text: the value that has it, and where none has it, a fault.
-use Rattle.std.specs.Prelude.{◌≡◌, ℕ, List, Result, Ok, Err}
+use Rattle.std.specs.Prelude.{◌≡◌, ℕ, List, [], ◌∷◌, ◌++◌, Result, Ok, Err, All, flat_map}
+use Rattle.std.specs.Borrow.{Bor}
+use Rattle.dr_cert_text.specs.CertificateText.{row}
 use Rattle.dr_cert_text.specs.declared.fault.ReadFault.{ReadFault}
 use Rattle.dr_cert_text.specs.declared.fault.ReadFault.TheVariants.{Text, Memory}
 
--- `written` gives a value's text; the values of which `Can` holds can be read back
+-- `written` gives a value's text, and the values of which `Can` holds can be read back: this one was
+abbrev pub IsReadBack : {X : Type 0} → (X → List ℕ) → (X → Type 0) → List ℕ → X → Type 0
+IsReadBack written Can text x = (written x ≡ text) × Can x
+
+-- none of them has this text
+abbrev pub HasNone : {X : Type 0} → (X → List ℕ) → (X → Type 0) → List ℕ → Type 0
+HasNone {X} written Can text = (x : X) → Can x → written x ≡ text → ⊥
+
 abbrev pub Reads : {X : Type 0} → (X → List ℕ) → (X → Type 0) → List ℕ → Result X ReadFault → Type 0
-Reads written Can text (Ok x) = (written x ≡ text) × Can x
-Reads {X} written Can text (Err Text) = (x : X) → Can x → written x ≡ text → ⊥
+Reads written Can text (Ok x) = IsReadBack written Can text x
+Reads written Can text (Err Text) = HasNone written Can text
 Reads written Can text (Err Memory) = Unit {0}
+
+-- the text begins with the word as a field
+abbrev pub BeginsWith : List ℕ → List ℕ → Type 0
+BeginsWith word text = (rest : List ℕ) × (text ≡ word ++ (9 ∷ []) ++ rest)
+
+-- the text is the rows of these values, and behind them is what begins with no such row
+abbrev pub AreRowsOf : {X : Type 0} → List ℕ → (X → List ℕ) → (X → Type 0) → List ℕ → List X → List ℕ → Type 0
+AreRowsOf word written Can text items rest = (text ≡ flat_map (λ item. row word (written item)) items ++ rest) × All Can items × (BeginsWith word rest → ⊥)
+
+abbrev pub ReadsRows : {X : Type 0} → List ℕ → (X → List ℕ) → (X → Type 0) → List ℕ → Result (List X × Bor (List ℕ)) ReadFault → Type 0
+ReadsRows word written Can text (Ok found) = AreRowsOf word written Can text found.0 found.1.now
+ReadsRows {X} word written Can text (Err Text) = (items : List X) (rest : List ℕ) → AreRowsOf word written Can text items rest → ⊥
+ReadsRows word written Can text (Err Memory) = Unit {0}

@@ -3,10 +3,15 @@
 #![tactic(auto)]
 
 pub mod fault;
+mod fields;
+mod hops;
+mod lines;
 pub mod order;
-pub mod printed;
+mod printed;
+pub mod reader;
 pub mod writer;
 
 pub use fault::ReadFault;
 pub use order::{order_hops, order_lines};
+pub use reader::read_certificate;
 pub use writer::write_certificate;

@@ -1,4 +1,4 @@
-use Rattle.std.proofs.Common.{◌≡◌, ◌++◌, codes, flat_map, refl, sym}
+use Rattle.std.proofs.Common.{◌++◌, codes, flat_map, sym}
 use Rattle.hex.specs.Hex.{encode_lower}
 use Rattle.dr_cert_text.specs.CertificateText.{row, hop_row, line_row}
 use Rattle.dr_cert_text.proofs.Rows.{ended}

@@ -1,0 +1,18 @@
+use Rattle.std.proofs.Common.{◌≡◌, ap, sym, ◌∙◌}
+use Rattle.hex.specs.Hex.{encode_lower}
+use Rattle.dr_cert_text.proofs.Numerals.{decoded, same_digest, is_digest, differ_from, same_from}
+use Rattle.dr_cert_text.proofs.fields.read_digest.Goals as goal
+
+pub returns-in_default : goal.returns-in_default
+returns-in_default c = λ digest is e. c.in_default.not-Ok digest (c.from_hex.ensures ∙ decoded digest c.args.field.now is e)
+
+pub returns-then-ne : goal.returns-then-ne
+returns-then-ne c = λ digest is e.
+    let one = same_digest c.in-Ok.digest digest c.from_hex.result c.in-Ok.is (c.from_hex.ensures ∙ decoded digest c.args.field.now is e) in
+    let again : c.as_slice-2.result.now ≡ encode_lower c.in-Ok.digest = c.as_slice-2.ensures ∙ c.in-Ok-encode_to_slice.ensures.written ∙ ap encode_lower c.as_slice.ensures in
+    differ_from c.ne.result _ _ c.ne.ensures c.if-ne.true (again ∙ ap encode_lower one ∙ e)
+
+pub returns : goal.returns
+returns c =
+    let again : c.as_slice-2.result.now ≡ encode_lower c.in-Ok.digest = c.as_slice-2.ensures ∙ c.in-Ok-encode_to_slice.ensures.written ∙ ap encode_lower c.as_slice.ensures in
+    (sym again ∙ same_from c.ne.result _ _ c.ne.ensures c.if-ne.false, is_digest c.in-Ok.digest c.args.field.now c.from_hex.result c.in-Ok.is c.from_hex.ensures)

@@ -1,0 +1,88 @@
+//! Rows and fields of a text.
+ghost use Rattle.std.specs.Prelude.{◌≡◌, ◌≤◌, ◌++◌, ◌∷◌, [], ℕ, List, IfOk, MatchOption, decimal};
+ghost use Rattle.hex.specs.Hex.{encode_lower};
+ghost use Rattle.dr_sound.specs.Printed.{printed_field};
+ghost use Rattle.dr_cert_text.specs.Printable.{IsPlain, IsPlainField, IsDigest};
+ghost use Rattle.dr_cert_text.specs.Cuts.{cuts, Lacks, SplitsAt, CutsField};
+ghost use Rattle.dr_cert_text.specs.Reading.{HasNone, IsReadBack};
+
+use dr_base::Text;
+use dr_route::OwnedField;
+use hex::FromHex;
+use std::alloc::{AllocError, Global};
+use std::str;
+
+const TAB: u8 = 9;
+
+/// What follows these bytes, where the text begins with them.
+pub fn after<'a>(text: &'a [u8], start: &[u8]) -> Option<&'a [u8]>
+    ensures { MatchOption result ((rest : List ℕ) → text.now ≡ start.now ++ rest → ⊥) (λ rest. text.now ≡ start.now ++ rest.now) }
+{
+    text.strip_prefix(start)
+}
+
+/// The part before the first mark, and what follows the mark; None where there is no mark.
+pub fn split_at_byte(text: &[u8], mark: u8) -> Option<(&[u8], &[u8])>
+    ensures { MatchOption result (Lacks mark text.now) (λ p. SplitsAt mark text.now p.0.now p.1.now) }
+{
+    for (i, byte) in text.iter().enumerate() {
+        if *byte == mark {
+            return Some((&text[..i], &text[i + 1..]));
+        }
+    }
+    None
+}
+
+/// The first field of a row and what follows its tab; None where the row is one field.
+pub fn field_before_tab(row: &[u8]) -> Option<(&[u8], &[u8])>
+    requires { Lacks 10 row.now }
+    ensures { MatchOption result (cuts 9 row.now ≡ row.now ∷ []) (λ p. CutsField row.now p.0.now p.1.now) }
+{
+    split_at_byte(row, TAB)
+}
+
+/// The number that is written so, without a sign or a leading zero.
+pub fn read_number(field: &[u8]) -> Option<u32>
+    ensures { MatchOption result (HasNone decimal (λ n. n ≤ 4294967295) field.now) (IsReadBack decimal (λ n. n ≤ 4294967295) field.now) }
+{
+    let Ok(text) = str::from_utf8(field) else {
+        return None;
+    };
+    let Ok(number) = text.parse::<u32>() else {
+        return None;
+    };
+    let mut digits = itoa::Buffer::new();
+    if digits.format(number).as_bytes() != field {
+        return None;
+    }
+    Some(number)
+}
+
+/// The part of a field that is printed so.
+pub fn read_field(alloc: Global, field: &[u8]) -> Result<OwnedField, AllocError>
+    requires { IsPlain field.now }
+    ensures { IfOk result (λ part. (printed_field part ≡ field.now) × IsPlainField part) }
+{
+    if field == b"*".as_slice() {
+        return Ok(OwnedField::Rest);
+    }
+    let literal = Text::copy_of(alloc, field)?;
+    Ok(OwnedField::Literal(literal))
+}
+
+/// The digest that is written so in lower-case hex.
+pub fn read_digest(field: &[u8]) -> Option<[u8; 32]>
+    ensures { MatchOption result (HasNone encode_lower IsDigest field.now) (IsReadBack encode_lower IsDigest field.now) }
+{
+    let Ok(digest) = <[u8; 32] as FromHex>::from_hex(field) else {
+        return None;
+    };
+    let mut again = [0u8; 64];
+    let Ok(()) = hex::encode_to_slice(digest.as_slice(), &mut again) else {
+        return None;
+    };
+    if again.as_slice() != field {
+        return None;
+    }
+    Some(digest)
+}
