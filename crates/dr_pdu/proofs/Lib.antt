@@ -15,6 +15,7 @@ pub mod Padding
 pub mod Parts
 pub mod PdvLemmas
 pub mod Refusals
+pub mod StreamLemmas
 pub mod Trimming
 pub mod Weights
 pub mod WrittenLemmas

@@ -1,10 +1,11 @@
 //! Laws of the definitions: a text has one reading, what is written is read, and cuts do not matter.
-ghost use Rattle.std.specs.Prelude.{◌≡◌, ◌≢◌, ◌++◌, List, ℕ, Result, Err, Ok, length};
-ghost use Rattle.dr_pdu.specs.Grammar.{Spells, IsBody, Decodes};
+ghost use Rattle.std.specs.Prelude.{◌≡◌, ◌≢◌, ◌++◌, [], List, ℕ, Result, Err, Ok, length};
+ghost use Rattle.std.specs.List.{flat_map, AllByRecursion};
+ghost use Rattle.dr_pdu.specs.Grammar.{Spells, IsBody, Decodes, Shows};
 ghost use Rattle.dr_pdu.specs.Feeding.{Units, Feeding, Feeds, Call, Fed, taken, given, Leaves, fresh};
 ghost use Rattle.dr_pdu.specs.Written.{Fits, MeetsLimit, written};
 ghost use Rattle.dr_pdu.specs.declared.fault.PduFault.{PduFault as Fault};
-ghost use Rattle.dr_pdu.specs.declared.fault.PduFault.TheVariants.{Memory};
+ghost use Rattle.dr_pdu.specs.declared.fault.PduFault.TheVariants.{More, Memory};
 ghost use Rattle.dr_pdu.specs.declared.pdu.Pdu.{Pdu as PduValue};
 
 /// A PDU is determined by its type and its body.
@@ -44,4 +45,12 @@ pub fn a_text_has_one_answer()
 pub fn a_piece_has_one_answer()
     ensures { (old : Feeding) (piece : List ℕ) (r s : Result (List PduValue) Fault) (new new' : Feeding) → r ≢ Err Memory → s ≢ Err Memory
         → Feeds old piece r new → Feeds old piece s new' → (r ≡ s) × (new ≡ new') }
+{}
+
+/// Of PDUs that are written one after the other, cut within the last one, all but that one come out. What is there of
+/// it is kept, and shows no fault.
+pub fn a_stream_of_written_pdus_is_read()
+    ensures { (limit : ℕ) (pdus : List PduValue) (last : PduValue) (front back : List ℕ)
+        → AllByRecursion (λ (p : PduValue). Fits p × MeetsLimit limit p) pdus → Fits last → MeetsLimit limit last → written last ≡ front ++ back → back ≢ []
+        → Units limit (flat_map written pdus ++ front) pdus front × Shows limit front More }
 {}
