@@ -1,5 +1,5 @@
 -- What one token with its value does, in the code's terms.
-use Rattle.std.proofs.Common.{◌≡◌, ◌≢◌, ℕ, ◌+◌, ◌<◌, ◌≤◌, Bool, true, false, List, [], ◌∷◌, ◌++◌, length, take, drop, refl, sym, ap, subst, ◌∙◌, arith, inl, inr, Option, Some, None, Result, Ok, Err, ◌⊎◌}
+use Rattle.std.proofs.Common.{◌≡◌, ◌≢◌, ℕ, ◌<◌, true, List, [], ◌∷◌, ◌++◌, length, take, drop, refl, sym, ap, subst, ◌∙◌, arith, Option, Some, None, Ok, Err}
 use Rattle.std.specs.List.{IsSplitAt}
 use Rattle.std.specs.Prelude.{MatchOption}
 use Rattle.std.proofs.lemmas.List.{append-nil}
@@ -16,7 +16,7 @@ use Rattle.dr_dataset.specs.DataSet.{Opens, Shows, StartsTop, in_force}
 use Rattle.dr_dataset.specs.Tokens.{is_nested, token_of, open_behind, without_first}
 use Rattle.dr_dataset.specs.Wholes.{whole, elements_of, element_of}
 use Rattle.dr_dataset.specs.declared.whole.Whole.{Whole}
-use Rattle.dr_dataset.proofs.TokenLemmas.{IsNext, token_sound, token_tells}
+use Rattle.dr_dataset.proofs.TokenLemmas.{token_sound, token_tells}
 use Rattle.dr_dataset.proofs.OpensLemmas.{Has, shows, cut_shows, after_value, after_plain_item, after_sequence, after_item, after_item_end, after_sequence_end, token_shorter}
 
 -- a fault but for memory, which shows

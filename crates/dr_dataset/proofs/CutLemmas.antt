@@ -1,12 +1,12 @@
 -- A header that is cut: one byte more completes it with nothing behind it, and twelve bytes hold each.
-use Rattle.std.proofs.Common.{◌≡◌, ◌≢◌, ℕ, zero, suc, ◌+◌, ◌-◌, ◌*◌, ◌^◌, ◌<◌, ◌≤◌, Bool, true, false, cond, ltb, eqb, ◌&&◌, List, [], ◌∷◌, ◌++◌, length, get_or, drop, refl, sym, ap, subst, ◌∙◌, arith, inl, inr, Option, Some, None, Result, Ok, Err, ◌⊎◌, append_assoc}
+use Rattle.std.proofs.Common.{◌≡◌, ◌≢◌, ℕ, suc, ◌<◌, ◌≤◌, Bool, true, false, cond, eqb, ◌&&◌, List, [], ◌∷◌, ◌++◌, length, get_or, refl, sym, ap, ◌∙◌, arith, inl, inr, Option, Some, None, Result, Ok, Err, append_assoc}
 use Rattle.std.specs.Int.{w16, w32, to_le_bytes, from_le_bytes}
 use Rattle.std.proofs.lemmas.List.{length-append, append-nil}
 use Rattle.std.proofs.lemmas.Bool.{lt-ltb, and_from}
 use Rattle.dr_dataset.specs.declared.syntax.Syntax.{Syntax}
 use Rattle.dr_dataset.specs.declared.syntax.Syntax.TheVariants.{Implicit, Explicit}
 use Rattle.dr_dataset.specs.declared.fault.DataFault.{DataFault}
-use Rattle.dr_dataset.specs.declared.fault.DataFault.TheVariants.{Truncated, BadVr, BadLength, TooDeep, Memory}
+use Rattle.dr_dataset.specs.declared.fault.DataFault.TheVariants.{Truncated, BadLength}
 use Rattle.dr_dataset.specs.declared.header.Tag.{Tag}
 use Rattle.dr_dataset.specs.declared.header.Vr.{Vr}
 use Rattle.dr_dataset.specs.declared.header.Form.{Form}
@@ -14,10 +14,10 @@ use Rattle.dr_dataset.specs.declared.frame.Frame.{Frame}
 use Rattle.dr_dataset.specs.declared.frame.Frame.TheVariants.{InSequence, InItem}
 use Rattle.dr_dataset.specs.declared.token.Token.{Token}
 use Rattle.dr_dataset.specs.declared.token.Token.TheVariants.{Value, Sequence, PlainItem, Item, ItemEnd, SequenceEnd}
-use Rattle.dr_dataset.specs.Elements.{item_group, undefined, inside, is_short, tag_text, StartsTag, StartsForm, StartsHeader, StartsMark}
+use Rattle.dr_dataset.specs.Elements.{item_group, undefined, inside, is_short, tag_text, StartsForm, StartsHeader, StartsMark}
 use Rattle.dr_dataset.specs.DataSet.{has_tag, in_force}
-use Rattle.dr_dataset.specs.Reading.{is_byte, short_of, long_of, tag_of, form_with, long_form_of, lettered_form_of, are_capitals, form_of}
-use Rattle.dr_dataset.specs.Tokens.{sequence_token, value_token, is_long_key, element_token_by, element_token_with, element_token, end_token, open_item_token, item_token, is_full, token_with, token_of}
+use Rattle.dr_dataset.specs.Reading.{is_byte, short_of, long_of, tag_of, form_with, lettered_form_of, are_capitals, form_of}
+use Rattle.dr_dataset.specs.Tokens.{sequence_token, value_token, is_long_key, element_token_by, element_token_with, element_token, end_token, open_item_token, is_full, token_with, token_of}
 use Rattle.dr_dataset.proofs.TokenLemmas.{IsNext, token_sound, token_whole}
 
 -- ---- a header is a front of the text, whatever is behind it

@@ -1,20 +1,20 @@
 -- A text begins with one element of the top level at most, and with none where a fault shows before one is whole.
-use Rattle.std.proofs.Common.{◌≡◌, ◌≢◌, ℕ, zero, suc, ◌+◌, ◌-◌, ◌*◌, ◌^◌, ◌<◌, ◌≤◌, Bool, true, false, cond, ltb, eqb, leb, ◌&&◌, List, [], ◌∷◌, ◌++◌, length, take, drop, refl, sym, ap, subst, ◌∙◌, arith, inl, inr, Option, Some, None, Result, Ok, Err, ◌⊎◌}
-use Rattle.std.specs.Prelude.{IfSome, option_and_then}
+use Rattle.std.proofs.Common.{◌≡◌, ◌≢◌, ℕ, zero, suc, ◌+◌, ◌*◌, ◌<◌, ◌≤◌, Bool, true, false, leb, List, [], ◌∷◌, ◌++◌, length, take, drop, refl, sym, ap, subst, ◌∙◌, arith, inl, inr, Option, Some, None, Result, Ok, Err, ◌⊎◌}
+use Rattle.std.specs.Prelude.{option_and_then}
 use Rattle.std.proofs.lemmas.List.{length-append}
 use Rattle.dr_dataset.specs.declared.syntax.Syntax.{Syntax}
 use Rattle.dr_dataset.specs.declared.fault.DataFault.{DataFault}
-use Rattle.dr_dataset.specs.declared.fault.DataFault.TheVariants.{Truncated, BadVr, BadLength, TooDeep, Memory}
+use Rattle.dr_dataset.specs.declared.fault.DataFault.TheVariants.{Memory}
 use Rattle.dr_dataset.specs.declared.header.Tag.{Tag}
 use Rattle.dr_dataset.specs.declared.frame.Frame.{Frame}
 use Rattle.dr_dataset.specs.declared.frame.Frame.TheVariants.{InSequence, InItem}
 use Rattle.dr_dataset.specs.declared.token.Token.{Token}
 use Rattle.dr_dataset.specs.declared.token.Token.TheVariants.{Value, Sequence, PlainItem, Item, ItemEnd, SequenceEnd}
 use Rattle.dr_dataset.specs.Elements.{Element}
-use Rattle.dr_dataset.specs.DataSet.{in_force, StartsTop, Opens, Shows}
+use Rattle.dr_dataset.specs.DataSet.{in_force, StartsTop}
 use Rattle.dr_dataset.specs.Tokens.{is_nested, token_of, without_first}
 use Rattle.dr_dataset.specs.Wholes.{whole, FailsAtOnce}
-use Rattle.dr_dataset.proofs.TokenLemmas.{IsNext, token_sound}
+use Rattle.dr_dataset.proofs.TokenLemmas.{token_sound}
 use Rattle.dr_dataset.proofs.NestLemmas.{sequence_nests, item_nests, nested_outer}
 use Rattle.dr_dataset.proofs.WalkLemmas.{Place, at, value_by, move, move_by, move_token, walk, Walks, top_walks, opens_walk}
 use Rattle.dr_dataset.proofs.OneAnswerLemmas.{meet, fault_is_stuck, open_at_most}

@@ -1,18 +1,17 @@
 -- Each step of a scan that hears a data set keeps what it knows of the bytes so far.
-use Rattle.std.proofs.Common.{◌≡◌, ◌≢◌, ℕ, zero, suc, ◌+◌, ◌-◌, ◌*◌, ◌^◌, ◌<◌, ◌≤◌, Bool, true, false, cond, ltb, eqb, ◌&&◌, ◌||◌, List, [], ◌∷◌, ◌++◌, length, get_or, take, drop, refl, sym, ap, subst, ◌∙◌, arith, inl, inr, Option, Some, None, Result, Ok, Err, ◌⊎◌}
+use Rattle.std.proofs.Common.{◌≡◌, ◌≢◌, ℕ, zero, suc, ◌+◌, ◌-◌, ◌<◌, ◌≤◌, Bool, true, false, cond, ◌||◌, List, [], ◌∷◌, ◌++◌, length, get_or, take, drop, refl, sym, ap, subst, ◌∙◌, arith, inl, inr, Option, Some, None, Result, Ok, Err, ◌⊎◌}
 use Rattle.std.specs.Prelude.{unwrap_or}
 use Rattle.std.specs.Option.{option_copied, option_or}
 use Rattle.std.proofs.lemmas.List.{length-append, append-nil, take_rest}
-use Rattle.std.proofs.lemmas.Bool.{or_parts, both_ways}
+use Rattle.std.proofs.lemmas.Bool.{or_parts}
 use Rattle.arrayvec.specs.ArrayVec.{ArrayVec}
 use Rattle.dr_dataset.specs.declared.syntax.Syntax.{Syntax}
 use Rattle.dr_dataset.specs.declared.fault.DataFault.{DataFault}
-use Rattle.dr_dataset.specs.declared.fault.DataFault.TheVariants.{Truncated, BadVr, BadLength, TooDeep, Memory}
+use Rattle.dr_dataset.specs.declared.fault.DataFault.TheVariants.{Truncated, Memory}
 use Rattle.dr_dataset.specs.declared.header.Tag.{Tag}
 use Rattle.dr_dataset.specs.declared.frame.Frame.{Frame}
-use Rattle.dr_dataset.specs.declared.frame.Frame.TheVariants.{InSequence, InItem}
 use Rattle.dr_dataset.specs.declared.token.Token.{Token}
-use Rattle.dr_dataset.specs.declared.token.Token.TheVariants.{Value, Sequence, PlainItem, Item, ItemEnd, SequenceEnd}
+use Rattle.dr_dataset.specs.declared.token.Token.TheVariants.{Value, Sequence, Item, ItemEnd, SequenceEnd}
 use Rattle.dr_dataset.specs.declared.values.Attributes.{Attributes}
 use Rattle.dr_dataset.specs.declared.whole.Whole.{Whole}
 use Rattle.dr_dataset.specs.declared.caught.Caught.{Caught}
@@ -21,12 +20,12 @@ use Rattle.dr_dataset.specs.declared.hearing.Scan.{Scan}
 use Rattle.dr_dataset.specs.declared.hearing.Place.{Place}
 use Rattle.dr_dataset.specs.declared.hearing.Place.TheVariants.{InHeader, InValue, Failed}
 use Rattle.dr_dataset.specs.Elements.{Element}
-use Rattle.dr_dataset.specs.DataSet.{has_tag, is_key, first_value, trimmed, Opens, Shows, FirstFault, Scans}
-use Rattle.dr_dataset.specs.Tokens.{token_of, open_behind, is_nested, without_first}
+use Rattle.dr_dataset.specs.DataSet.{has_tag, is_key, first_value, trimmed, Opens, FirstFault, Scans}
+use Rattle.dr_dataset.specs.Tokens.{token_of, open_behind, is_nested}
 use Rattle.dr_dataset.specs.Wholes.{whole, elements_of}
-use Rattle.dr_dataset.specs.Hearing.{bytes_of_slot, AreCaught, IsShort, IsShortKey, value_header, is_kept, AreBytes, HearsAt, Hears, Begun, text_of_slot, AreSlots}
+use Rattle.dr_dataset.specs.Hearing.{bytes_of_slot, AreCaught, IsShort, IsShortKey, value_header, is_kept, AreBytes, HearsAt, Hears, Begun, AreSlots}
 use Rattle.dr_dataset.proofs.FoundLemmas.{first_value_more, found_more}
-use Rattle.dr_dataset.proofs.TokenLemmas.{IsNext, token_sound, token_tells}
+use Rattle.dr_dataset.proofs.TokenLemmas.{token_sound, token_tells}
 use Rattle.dr_dataset.proofs.OpensLemmas.{Has, shows, cut_shows, after_value, after_plain_item}
 use Rattle.dr_dataset.proofs.AdvanceLemmas.{Grows, opening_grows, open_item_grows, item_end_grows, sequence_end_grows}
 use Rattle.dr_dataset.proofs.LongerLemmas.{opens_longer, token_longer, fault_stays}
@@ -168,8 +167,8 @@ kept_short s (f ∷ fs) t len token got kept e = absurd (cc)
 
 pub takes_value : (scan : Scan) (t : Option Tag) (missing count : ℕ) (bytes : List ℕ) (value : ArrayVec ℕ) (b : Bool) → b ≡ is_kept scan.scanner.stack t → count ≤ missing → length bytes ≡ count
     → (b ≡ true → length scan.value.items + length bytes ≤ 1024 → value.items ≡ scan.value.items ++ bytes)
-    → (s : Syntax) (text : List ℕ) → Hears s text scan → scan.place ≡ InValue t missing → Hears s (text ++ bytes) (record scan { value = value; place = InValue t (missing - count) })
-takes_value scan t missing count bytes value b is fits len more s text h place =
+    → scan.place ≡ InValue t missing → (s : Syntax) (text : List ℕ) → Hears s text scan → Hears s (text ++ bytes) (record scan { value = value; place = InValue t (missing - count) })
+takes_value scan t missing count bytes value b is fits len more place s text h =
     let (es, token, got, o, a, e, kept, none) = at_place s text scan (InValue t missing) place h in
     let fs = scan.scanner.stack in
     let whole_len : length got + missing ≡ length (got ++ bytes) + (missing - count) = omega (arith, length-append got bytes, len, fits) in
@@ -196,8 +195,8 @@ never_full scan s text h is full =
 
 pub waits : (scan : Scan) (scanner : Scanner) (header : ArrayVec ℕ) (b : ℕ) → b < 256 → header.items ≡ scan.header.items ++ b ∷ [] → scanner.syntax ≡ scan.scanner.syntax → scanner.stack ≡ scan.scanner.stack
     → token_of scan.scanner.syntax scan.scanner.stack header.items ≡ Err Truncated
-    → (s : Syntax) (text : List ℕ) → Hears s text scan → scan.place ≡ InHeader → Hears s (text ++ b ∷ []) (record scan { scanner = scanner; header = header })
-waits scan scanner header b byte items syntax stack cut s text h is =
+    → scan.place ≡ InHeader → (s : Syntax) (text : List ℕ) → Hears s text scan → Hears s (text ++ b ∷ []) (record scan { scanner = scanner; header = header })
+waits scan scanner header b byte items syntax stack cut is s text h =
     let (es, o, a, e, bytes) = at_place s text scan InHeader is h in
     let new = record scan { scanner = scanner; header = header } in
     let longer : Opens s scanner.stack (text ++ b ∷ []) es header.items =
@@ -213,8 +212,8 @@ some_text (x ∷ xs) b e = cc e
 
 pub faults : (scan : Scan) (scanner : Scanner) (header : ArrayVec ℕ) (b : ℕ) (f : DataFault) → header.items ≡ scan.header.items ++ b ∷ [] → scanner.syntax ≡ scan.scanner.syntax → f ≢ Truncated
     → token_of scan.scanner.syntax scan.scanner.stack header.items ≡ Err f
-    → (s : Syntax) (text : List ℕ) → Hears s text scan → scan.place ≡ InHeader → Hears s (text ++ b ∷ []) (record scan { scanner = scanner; header = header; place = Failed f })
-faults scan scanner header b f items syntax ne fault s text h is =
+    → scan.place ≡ InHeader → (s : Syntax) (text : List ℕ) → Hears s text scan → Hears s (text ++ b ∷ []) (record scan { scanner = scanner; header = header; place = Failed f })
+faults scan scanner header b f items syntax ne fault is s text h =
     let (es, o, a, e, bytes) = at_place s text scan InHeader is h in
     let fs = scan.scanner.stack in
     let answer : token_of s fs header.items ≡ Err f = ap (λ (x : Syntax). token_of x fs header.items) (sym h.0) ∙ fault in
@@ -224,8 +223,8 @@ faults scan scanner header b f items syntax ne fault s text h is =
 
 pub begins : (scan : Scan) (scanner : Scanner) (header : ArrayVec ℕ) (b : ℕ) (token : Token) (rest : List ℕ) (cleared : ArrayVec ℕ) → header.items ≡ scan.header.items ++ b ∷ [] → scanner.syntax ≡ scan.scanner.syntax
     → token_of scan.scanner.syntax scan.scanner.stack header.items ≡ Ok (token, rest) → scanner.stack ≡ open_behind scan.scanner.syntax token scan.scanner.stack → is_nested scan.scanner.stack ≡ true → cleared.items ≡ []
-    → (s : Syntax) (text : List ℕ) → Hears s text scan → scan.place ≡ InHeader → Begun s (text ++ b ∷ []) token (record scan { scanner = scanner; header = cleared })
-begins scan scanner header b token rest cleared items syntax read stack nested none s text h is =
+    → scan.place ≡ InHeader → (s : Syntax) (text : List ℕ) → Hears s text scan → Begun s (text ++ b ∷ []) token (record scan { scanner = scanner; header = cleared })
+begins scan scanner header b token rest cleared items syntax read stack nested none is s text h =
     let (es, o, a, e, bytes) = at_place s text scan InHeader is h in
     let fs = scan.scanner.stack in
     let answer : token_of s fs (scan.header.items ++ b ∷ []) ≡ Ok (token, rest) =
@@ -342,25 +341,25 @@ failed_same f g e = cc
 pub begins_at_once : (scan : Scan) (scanner : Scanner) (piece : List ℕ) (token : Token) (rest : List ℕ) (new : Scan) → scan.header.items ≡ [] → scanner.syntax ≡ scan.scanner.syntax
     → token_of scan.scanner.syntax scan.scanner.stack piece ≡ Ok (token, rest) → scanner.stack ≡ open_behind scan.scanner.syntax token scan.scanner.stack → is_nested scan.scanner.stack ≡ true
     → ((s : Syntax) (text : List ℕ) → Begun s text token (record scan { scanner = scanner }) → Hears s text new)
-    → (taken : List ℕ) × (piece ≡ taken ++ rest) × (taken ≢ []) × ((s : Syntax) (text : List ℕ) → Hears s text scan → scan.place ≡ InHeader → Hears s (text ++ taken) new)
+    → (taken : List ℕ) × (piece ≡ taken ++ rest) × (taken ≢ []) × (scan.place ≡ InHeader → (s : Syntax) (text : List ℕ) → Hears s text scan → Hears s (text ++ taken) new)
 begins_at_once scan scanner piece token rest new none syntax read stack nested onward =
     let fs = scan.scanner.stack in
     let a = header_alone scan.scanner.syntax fs piece token rest read in
-    (a.0, a.1, some a.0 a.2, λ s text h is. onward s (text ++ a.0) (syntax ∙ h.0, is, none, begun a s text h is))
+    (a.0, a.1, some a.0 a.2, λ is s text h. onward s (text ++ a.0) (syntax ∙ h.0, is, none, begun a is s text h))
   where
     some : (pre : List ℕ) → token_of scan.scanner.syntax scan.scanner.stack pre ≡ Ok (token, []) → pre ≢ []
     some pre e empty = ok_not_cut (sym e ∙ ap (token_of scan.scanner.syntax scan.scanner.stack) empty ∙ nothing_yet scan.scanner.syntax scan.scanner.stack)
 
-    begun : (a : (pre : List ℕ) × (piece ≡ pre ++ rest) × (token_of scan.scanner.syntax scan.scanner.stack pre ≡ Ok (token, []))) (s : Syntax) (text : List ℕ) → Hears s text scan → scan.place ≡ InHeader
+    begun : (a : (pre : List ℕ) × (piece ≡ pre ++ rest) × (token_of scan.scanner.syntax scan.scanner.stack pre ≡ Ok (token, []))) → scan.place ≡ InHeader → (s : Syntax) (text : List ℕ) → Hears s text scan
         → (before : List Frame) × (es : List Element) × (header : List ℕ) × Opens s before (text ++ a.0) es header × AreCaught scan.found es × (token_of s before header ≡ Ok (token, [])) × (scanner.stack ≡ open_behind s token before) × (is_nested before ≡ true)
-    begun a s text h is =
+    begun a is s text h =
         let (es, o, c, e, bytes) = at_place s text scan InHeader is h in
         let from_start : Opens s scan.scanner.stack text es [] = subst (λ (x : List ℕ). Opens s scan.scanner.stack text es x) none o in
         (scan.scanner.stack, es, a.0, opens_longer s scan.scanner.stack text es [] a.0 from_start, c, ap (λ (x : Syntax). token_of x scan.scanner.stack a.0) (sym h.0) ∙ a.2, stack ∙ ap (λ (x : Syntax). open_behind x token scan.scanner.stack) h.0, nested)
 
 -- a step that took nothing
-pub same_scanner : (scan : Scan) (scanner : Scanner) → scanner.syntax ≡ scan.scanner.syntax → scanner.stack ≡ scan.scanner.stack → (s : Syntax) (text : List ℕ) → Hears s text scan → scan.place ≡ InHeader → Hears s text (record scan { scanner = scanner })
-same_scanner scan scanner syntax stack s text h is =
+pub same_scanner : (scan : Scan) (scanner : Scanner) → scanner.syntax ≡ scan.scanner.syntax → scanner.stack ≡ scan.scanner.stack → scan.place ≡ InHeader → (s : Syntax) (text : List ℕ) → Hears s text scan → Hears s text (record scan { scanner = scanner })
+same_scanner scan scanner syntax stack is s text h =
     let (es, o, c, e, bytes) = at_place s text scan InHeader is h in
     let new = record scan { scanner = scanner } in
     let here : HearsAt s text new InHeader =

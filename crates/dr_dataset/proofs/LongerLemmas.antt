@@ -1,7 +1,5 @@
 -- What is read of a text is read of each longer one.
-use Rattle.std.proofs.Common.{◌≡◌, ◌≢◌, ℕ, zero, suc, ◌+◌, ◌-◌, ◌*◌, ◌^◌, ◌<◌, ◌≤◌, Bool, true, false, List, [], ◌∷◌, ◌++◌, length, refl, sym, ap, subst, ◌∙◌, arith, inl, inr, Option, Some, None, Result, Ok, Err, ◌⊎◌, append_assoc}
-use Rattle.std.proofs.lemmas.List.{append-nil}
-use Rattle.dr_base.specs.Runs.{Run}
+use Rattle.std.proofs.Common.{◌≡◌, ◌≢◌, ℕ, zero, suc, List, [], ◌∷◌, ◌++◌, length, refl, ap, subst, inl, inr, Ok, append_assoc}
 use Rattle.dr_base.proofs.RunLemmas.{run_longer}
 use Rattle.dr_dataset.specs.declared.syntax.Syntax.{Syntax}
 use Rattle.dr_dataset.specs.declared.syntax.Syntax.TheVariants.{Implicit, Explicit}
@@ -13,10 +11,10 @@ use Rattle.dr_dataset.specs.declared.frame.Frame.{Frame}
 use Rattle.dr_dataset.specs.declared.frame.Frame.TheVariants.{InSequence, InItem}
 use Rattle.dr_dataset.specs.declared.token.Token.{Token}
 use Rattle.dr_dataset.specs.declared.token.Token.TheVariants.{Value, Sequence, PlainItem, Item, ItemEnd, SequenceEnd}
-use Rattle.dr_dataset.specs.Elements.{Element, StartsTag, StartsForm, StartsHeader, StartsMark, StartsPlain, StartsPlainItem, StartsItem, OpensItem, OpensSequence, EndsItem, EndsSequence, StartsElement}
-use Rattle.dr_dataset.specs.DataSet.{in_force, levels_left, StartsTop, Opens, MayOpen, MayOpenItem, ShowsVr, ShowsLength, ShowsDepth, Shows, FirstFault}
+use Rattle.dr_dataset.specs.Elements.{Element, StartsTag, StartsForm, StartsHeader, StartsMark, StartsPlain, StartsItem, OpensSequence, StartsElement}
+use Rattle.dr_dataset.specs.DataSet.{in_force, levels_left, StartsTop, Opens, MayOpenItem, ShowsVr, ShowsLength, ShowsDepth, Shows, FirstFault}
 use Rattle.dr_dataset.specs.Tokens.{token_of}
-use Rattle.dr_dataset.proofs.TokenLemmas.{IsNext, token_sound, token_whole, token_tells, vr_fault, length_fault, depth_fault}
+use Rattle.dr_dataset.proofs.TokenLemmas.{IsNext, token_sound, token_whole}
 
 tag_longer : (text : List ℕ) (t : Tag) (rest more : List ℕ) → StartsTag text t rest → StartsTag (text ++ more) t (rest ++ more)
 tag_longer text t rest more (g, e, is) = (g, e, ap (λ (x : List ℕ). x ++ more) is)

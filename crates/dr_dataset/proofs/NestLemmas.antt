@@ -1,17 +1,17 @@
 -- Sequences and items nest by turns, so the stack has room for what a token opens, and a frame for what it ends.
-use Rattle.std.proofs.Common.{◌≡◌, ◌≢◌, ℕ, zero, suc, ◌+◌, ◌*◌, ◌^◌, ◌<◌, ◌≤◌, Bool, true, false, cond, ltb, eqb, ◌&&◌, List, [], ◌∷◌, ◌++◌, length, refl, sym, ap, subst, ◌∙◌, arith, inl, inr, Option, Some, None, Result, Ok, Err, ◌⊎◌}
+use Rattle.std.proofs.Common.{◌≡◌, ◌≢◌, ℕ, ◌+◌, ◌*◌, ◌<◌, ◌≤◌, Bool, true, false, cond, ltb, eqb, List, [], ◌∷◌, length, refl, sym, ap, subst, ◌∙◌, arith, inl, inr, Option, Some, Ok}
 use Rattle.std.specs.Prelude.{slice_get}
-use Rattle.std.proofs.lemmas.Bool.{lt-ltb, ltb-true, eqb-true, eqb-false, eq-eqb, ne_eqb, cases_eq, and_parts, and_from}
+use Rattle.std.proofs.lemmas.Bool.{lt-ltb, ltb-true, eqb-false, eq-eqb, ne_eqb, cases_eq, and_parts, and_from}
 use Rattle.dr_dataset.specs.declared.syntax.Syntax.{Syntax}
 use Rattle.dr_dataset.specs.declared.header.Tag.{Tag}
 use Rattle.dr_dataset.specs.declared.frame.Frame.{Frame}
 use Rattle.dr_dataset.specs.declared.frame.Frame.TheVariants.{InSequence, InItem}
 use Rattle.dr_dataset.specs.declared.token.Token.{Token}
-use Rattle.dr_dataset.specs.declared.token.Token.TheVariants.{Value, Sequence, PlainItem, Item, ItemEnd, SequenceEnd}
+use Rattle.dr_dataset.specs.declared.token.Token.TheVariants.{Sequence, Item, ItemEnd, SequenceEnd}
 use Rattle.dr_dataset.specs.Elements.{item_group}
-use Rattle.dr_dataset.specs.DataSet.{has_tag, in_force, open_sequences, wants_elements}
+use Rattle.dr_dataset.specs.DataSet.{has_tag, open_sequences, wants_elements}
 use Rattle.dr_dataset.specs.Reading.{long_of, tag_of}
-use Rattle.dr_dataset.specs.Tokens.{element_token, end_token, is_full, is_nested, token_with, token_of, open_behind}
+use Rattle.dr_dataset.specs.Tokens.{element_token, end_token, is_full, is_nested, token_with, token_of}
 use Rattle.dr_dataset.proofs.TokenLemmas.{IsNext, token_sound}
 
 -- how many frames there are

@@ -1,19 +1,18 @@
 -- A text has one answer: both walk to a place from which no move leads on, and there is one such place.
-use Rattle.std.proofs.Common.{◌≡◌, ◌≢◌, ℕ, zero, suc, ◌+◌, ◌-◌, ◌*◌, ◌^◌, ◌<◌, ◌≤◌, Bool, true, false, cond, ltb, eqb, leb, ◌&&◌, List, [], ◌∷◌, ◌++◌, length, take, drop, refl, sym, ap, subst, ◌∙◌, arith, inl, inr, Option, Some, None, Result, Ok, Err, ◌⊎◌}
-use Rattle.std.specs.Prelude.{IfSome, option_and_then}
+use Rattle.std.proofs.Common.{◌≡◌, ◌≢◌, ℕ, zero, suc, ◌<◌, ◌≤◌, Bool, true, false, leb, List, [], ◌∷◌, ◌++◌, length, take, drop, refl, sym, ap, subst, ◌∙◌, arith, inl, inr, Option, Some, None, Result, Ok, Err}
+use Rattle.std.specs.Prelude.{option_and_then}
 use Rattle.std.proofs.lemmas.List.{take-append-drop, length-take-le}
 use Rattle.std.proofs.lemmas.Bool.{eqb-false, leb-true}
 use Rattle.dr_dataset.specs.declared.syntax.Syntax.{Syntax}
 use Rattle.dr_dataset.specs.declared.fault.DataFault.{DataFault}
 use Rattle.dr_dataset.specs.declared.fault.DataFault.TheVariants.{Truncated, BadVr, BadLength, TooDeep, Memory}
 use Rattle.dr_dataset.specs.declared.values.Attributes.{Attributes}
-use Rattle.dr_dataset.specs.declared.header.Tag.{Tag}
 use Rattle.dr_dataset.specs.declared.frame.Frame.{Frame}
 use Rattle.dr_dataset.specs.declared.frame.Frame.TheVariants.{InSequence, InItem}
 use Rattle.dr_dataset.specs.declared.token.Token.{Token}
 use Rattle.dr_dataset.specs.declared.token.Token.TheVariants.{Value, Sequence, PlainItem, Item, ItemEnd, SequenceEnd}
-use Rattle.dr_dataset.specs.Elements.{Element, undefined, StartsHeader, StartsMark, StartsPlain, StartsPlainItem}
-use Rattle.dr_dataset.specs.DataSet.{is_key, in_force, open_sequences, wants_elements, Opens, MayOpen, StartsToken, ShowsVr, ShowsLength, ShowsDepth, Shows, FirstFault, IsDataSet, Scans, value_at}
+use Rattle.dr_dataset.specs.Elements.{Element, undefined, StartsMark}
+use Rattle.dr_dataset.specs.DataSet.{open_sequences, Opens, StartsToken, Shows, FirstFault, IsDataSet, Scans, value_at}
 use Rattle.dr_dataset.specs.Tokens.{is_full, token_of}
 use Rattle.dr_dataset.proofs.TokenLemmas.{IsNext, token_sound, vr_fault, length_fault, depth_fault}
 use Rattle.dr_dataset.proofs.OpensLemmas.{Has, plain_of}

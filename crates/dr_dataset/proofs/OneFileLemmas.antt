@@ -1,6 +1,6 @@
 -- A file has one answer.
-use Rattle.std.proofs.Common.{◌≡◌, ◌≢◌, ℕ, ◌+◌, ◌-◌, ◌<◌, ◌≤◌, List, [], ◌∷◌, ◌++◌, length, drop, refl, sym, ap, subst, ◌∙◌, arith, Option, Some, None, Result, Ok, Err}
-use Rattle.std.specs.Prelude.{codes, option_map}
+use Rattle.std.proofs.Common.{◌≡◌, ℕ, ◌+◌, List, [], ◌∷◌, ◌++◌, length, drop, refl, sym, ap, subst, ◌∙◌, arith, Option, Some, Result, Ok, Err}
+use Rattle.std.specs.Prelude.{codes}
 use Rattle.std.proofs.lemmas.List.{drop_at, append-nil}
 use Rattle.dr_base.specs.Runs.{Run}
 use Rattle.dr_dataset.specs.declared.syntax.Syntax.{Syntax}
@@ -10,7 +10,7 @@ use Rattle.dr_dataset.specs.declared.fault.FileFault.{FileFault}
 use Rattle.dr_dataset.specs.declared.fault.FileFault.TheVariants.{NotDicom, Meta, OtherSyntax, Memory}
 use Rattle.dr_dataset.specs.Elements.{Element}
 use Rattle.dr_dataset.specs.Syntaxes.{uid_of}
-use Rattle.dr_dataset.specs.Files.{IsFile, StartsMeta, EndsMeta, IsMeta, named, ReadsFile}
+use Rattle.dr_dataset.specs.Files.{IsFile, StartsMeta, IsMeta, named, ReadsFile}
 use Rattle.dr_dataset.proofs.FileLemmas.{goes_on, meta_then_end}
 
 one_rest : (text a b : List ℕ) → IsFile text a → IsFile text b → a ≡ b

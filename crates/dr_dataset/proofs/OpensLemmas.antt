@@ -1,5 +1,5 @@
 -- Each token keeps that the text has a front that is in order.
-use Rattle.std.proofs.Common.{◌≡◌, ◌≢◌, ℕ, zero, suc, ◌+◌, ◌-◌, ◌*◌, ◌^◌, ◌<◌, ◌≤◌, Bool, true, false, cond, ltb, eqb, ◌&&◌, List, [], ◌∷◌, ◌++◌, length, take, drop, refl, sym, ap, subst, ◌∙◌, arith, inl, inr, Option, Some, None, Result, Ok, Err, ◌⊎◌}
+use Rattle.std.proofs.Common.{◌≡◌, ◌≢◌, ℕ, zero, suc, ◌-◌, ◌<◌, ◌≤◌, true, false, List, [], ◌∷◌, ◌++◌, length, take, drop, refl, sym, ap, subst, ◌∙◌, arith, inl, inr, Some, None, Result, Ok, Err}
 use Rattle.std.specs.Prelude.{IfSome}
 use Rattle.std.proofs.lemmas.List.{take-append-drop, length-take-le, append-nil, length-append}
 use Rattle.std.proofs.lemmas.Bool.{eqb-false, ne_eqb}
@@ -15,9 +15,9 @@ use Rattle.dr_dataset.specs.declared.frame.Frame.{Frame}
 use Rattle.dr_dataset.specs.declared.frame.Frame.TheVariants.{InSequence, InItem}
 use Rattle.dr_dataset.specs.declared.token.Token.{Token}
 use Rattle.dr_dataset.specs.declared.token.Token.TheVariants.{Value, Sequence, PlainItem, Item, ItemEnd, SequenceEnd}
-use Rattle.dr_dataset.specs.Elements.{Element, undefined, item_group, StartsTag, StartsForm, StartsHeader, StartsMark, StartsPlain, StartsPlainItem, StartsItem, OpensItem, OpensSequence, EndsItem, EndsSequence, StartsElement}
-use Rattle.dr_dataset.specs.DataSet.{is_key, in_force, open_sequences, levels_left, wants_elements, StartsTop, Opens, MayOpen, MayOpenItem, StartsToken, ShowsVr, ShowsLength, ShowsDepth, Shows}
-use Rattle.dr_dataset.specs.Tokens.{is_full, is_nested, token_of, open_behind}
+use Rattle.dr_dataset.specs.Elements.{Element, undefined, item_group, StartsTag, StartsForm, StartsHeader, StartsMark, StartsPlain, StartsPlainItem, StartsItem, EndsItem, EndsSequence, StartsElement}
+use Rattle.dr_dataset.specs.DataSet.{is_key, in_force, open_sequences, levels_left, wants_elements, StartsTop, Opens, MayOpen, StartsToken, Shows}
+use Rattle.dr_dataset.specs.Tokens.{is_full, is_nested, token_of}
 use Rattle.dr_dataset.specs.Wholes.{whole}
 use Rattle.dr_dataset.proofs.TokenLemmas.{IsNext, token_sound, token_whole, token_tells, vr_fault, length_fault, depth_fault}
 use Rattle.dr_dataset.proofs.NestLemmas.{counts}

@@ -1,5 +1,5 @@
 -- Padding at the end of a value.
-use Rattle.std.proofs.Common.{◌≡◌, ℕ, zero, suc, ◌+◌, ◌-◌, ◌<◌, ◌≤◌, Bool, true, false, cond, List, [], ◌∷◌, ◌++◌, length, get_or, take, drop, refl, sym, ap, subst, ◌∙◌, arith}
+use Rattle.std.proofs.Common.{◌≡◌, ℕ, suc, ◌-◌, ◌<◌, true, false, List, [], ◌∷◌, length, get_or, take, refl, ap, arith}
 use Rattle.dr_dataset.specs.DataSet.{is_padding, onto, without_end}
 
 -- what a list ends with, when one more stands in front

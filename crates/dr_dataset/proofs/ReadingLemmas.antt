@@ -1,17 +1,17 @@
 -- Numbers, tags and forms in front of a text: the functions that take them off read what the relations say, and all of it.
-use Rattle.std.proofs.Common.{◌≡◌, ◌≢◌, ℕ, zero, suc, ◌+◌, ◌*◌, ◌/◌, ◌%◌, ◌^◌, ◌<◌, ◌≤◌, Bool, true, false, cond, ltb, ◌&&◌, List, [], ◌∷◌, ◌++◌, length, get_or, refl, sym, ap, subst, ◌∙◌, arith, inl, inr, Option, Some, None, Result, Ok, Err, ◌⊎◌}
+use Rattle.std.proofs.Common.{◌≡◌, ℕ, ◌/◌, ◌%◌, ◌^◌, ◌<◌, Bool, true, false, cond, ◌&&◌, List, [], ◌∷◌, ◌++◌, refl, sym, ap, ◌∙◌, arith, inl, inr, Option, Some, None, Result, Ok, Err, ◌⊎◌}
 use Rattle.std.specs.Int.{w16, w32, to_le_bytes, from_le_bytes}
 use Rattle.std.proofs.lemmas.Bool.{lt-ltb, ltb-true}
 use Rattle.std.proofs.lemmas.Nat.{from_le_bytes-to_le_bytes_2, from_le_bytes-to_le_bytes_4}
 use Rattle.dr_dataset.specs.declared.syntax.Syntax.{Syntax}
 use Rattle.dr_dataset.specs.declared.syntax.Syntax.TheVariants.{Implicit, Explicit}
 use Rattle.dr_dataset.specs.declared.fault.DataFault.{DataFault}
-use Rattle.dr_dataset.specs.declared.fault.DataFault.TheVariants.{Truncated, BadVr, BadLength, TooDeep}
+use Rattle.dr_dataset.specs.declared.fault.DataFault.TheVariants.{Truncated, BadVr}
 use Rattle.dr_dataset.specs.declared.header.Tag.{Tag}
 use Rattle.dr_dataset.specs.declared.header.Vr.{Vr}
 use Rattle.dr_dataset.specs.declared.header.Form.{Form}
 use Rattle.dr_dataset.specs.Elements.{is_capital, is_short, tag_text, StartsTag, StartsForm}
-use Rattle.dr_dataset.specs.Reading.{is_byte, short_of, long_of, tag_of, form_with, long_form_of, lettered_form_of, are_capitals, explicit_form_of, form_of}
+use Rattle.dr_dataset.specs.Reading.{is_byte, short_of, long_of, tag_of, form_with, lettered_form_of, are_capitals, explicit_form_of, form_of}
 
 pub if_some : {X : Type 0} (b : Bool) (x y : X) → cond b (Some x) None ≡ Some y → (b ≡ true) × (x ≡ y)
 if_some true x y e = (refl, cc)
@@ -108,13 +108,19 @@ tag_whole text t rest (g, e, is) =
 
 -- ---- what stands behind a tag
 
+some_pair : (a c : ℕ) (b d : List ℕ) → a ≡ c → b ≡ d → ◌≡◌ {A = Option (ℕ × List ℕ)} (Some (a, b)) (Some (c, d))
+some_pair a c b d e f = ap (λ (n : ℕ). Some (n, b)) e ∙ ap (λ (r : List ℕ). Some (c, r)) f
+
+ok_form : (f g : Form) (b d : List ℕ) → ◌≡◌ {A = Result (Form × List ℕ) DataFault} (Ok (f, b)) (Ok (g, d)) → (f ≡ g) × (b ≡ d)
+ok_form f g b d e =
+    let same : ◌≡◌ {A = Form × List ℕ} (f, b) (g, d) = cc in
+    (ap (λ (q : Form × List ℕ). q.0) same, ap (λ (q : Form × List ℕ). q.1) same)
+
 with_sound : (v : Option Vr) (o : Option (ℕ × List ℕ)) (f : Form) (rest : List ℕ) → form_with v o ≡ Ok (f, rest) → (f.vr ≡ v) × (o ≡ Some (f.len, rest))
 with_sound v None f rest e = absurd (cc)
 with_sound v (Some p) f rest e =
-    let same : ◌≡◌ {A = Form × List ℕ} (record { vr = v; len = p.0 }, p.1) (f, rest) = cc in
-    let len : p.0 ≡ f.len = ap (λ (q : Form × List ℕ). q.0.len) same in
-    let after : p.1 ≡ rest = ap (λ (q : Form × List ℕ). q.1) same in
-    (sym (ap (λ (q : Form × List ℕ). q.0.vr) same), ap (λ (n : ℕ). Some (n, p.1)) len ∙ ap (λ (r : List ℕ). Some (f.len, r)) after)
+    let same = ok_form (record { vr = v; len = p.0 }) f p.1 rest e in
+    (sym (ap (λ (x : Form). x.vr) same.0), some_pair p.0 f.len p.1 rest (ap (λ (x : Form). x.len) same.0) same.1)
 
 -- the letters and the length that an explicit form has
 abbrev IsLettered : Bool → Bool → Vr → List ℕ → Form → List ℕ → Type 0

@@ -1,22 +1,21 @@
 -- The next token as a function is the next token as the grammar has it, and its faults are those that show.
-use Rattle.std.proofs.Common.{◌≡◌, ◌≢◌, ℕ, zero, suc, ◌+◌, ◌*◌, ◌^◌, ◌<◌, ◌≤◌, Bool, true, false, cond, ltb, eqb, ◌&&◌, List, [], ◌∷◌, ◌++◌, length, refl, sym, ap, subst, ◌∙◌, arith, inl, inr, Option, Some, None, Result, Ok, Err, ◌⊎◌}
+use Rattle.std.proofs.Common.{◌≡◌, ◌≢◌, ℕ, ◌<◌, ◌≤◌, Bool, true, false, cond, ltb, eqb, ◌&&◌, List, [], ◌∷◌, refl, sym, ap, subst, ◌∙◌, inl, inr, Option, Some, None, Result, Ok, Err, ◌⊎◌}
 use Rattle.std.proofs.lemmas.Bool.{lt-ltb, ltb-true, ltb-false, le-ltb, eqb-true, eqb-false, eq-eqb, ne_eqb, cases_eq, both_ways, and_parts, and_cases}
 use Rattle.dr_dataset.specs.declared.syntax.Syntax.{Syntax}
-use Rattle.dr_dataset.specs.declared.syntax.Syntax.TheVariants.{Implicit, Explicit}
+use Rattle.dr_dataset.specs.declared.syntax.Syntax.TheVariants.{Explicit}
 use Rattle.dr_dataset.specs.declared.fault.DataFault.{DataFault}
 use Rattle.dr_dataset.specs.declared.fault.DataFault.TheVariants.{Truncated, BadVr, BadLength, TooDeep, Memory}
 use Rattle.dr_dataset.specs.declared.header.Tag.{Tag}
-use Rattle.dr_dataset.specs.declared.header.Vr.{Vr}
 use Rattle.dr_dataset.specs.declared.header.Form.{Form}
 use Rattle.dr_dataset.specs.declared.frame.Frame.{Frame}
 use Rattle.dr_dataset.specs.declared.frame.Frame.TheVariants.{InSequence, InItem}
 use Rattle.dr_dataset.specs.declared.token.Token.{Token}
 use Rattle.dr_dataset.specs.declared.token.Token.TheVariants.{Value, Sequence, PlainItem, Item, ItemEnd, SequenceEnd}
-use Rattle.dr_dataset.specs.Elements.{undefined, item_group, inside, is_capital, StartsTag, StartsForm, StartsHeader, StartsMark, OpensSequence, OpensItem, EndsItem, EndsSequence}
-use Rattle.dr_dataset.specs.DataSet.{has_tag, is_key, in_force, open_sequences, wants_elements, IsBadTag, ShowsVr, ShowsLength, ShowsDepth, Shows}
+use Rattle.dr_dataset.specs.Elements.{undefined, item_group, inside, StartsTag, StartsForm, StartsHeader, StartsMark, OpensSequence, OpensItem, EndsItem, EndsSequence}
+use Rattle.dr_dataset.specs.DataSet.{has_tag, is_key, in_force, open_sequences, wants_elements, IsBadTag, ShowsVr, ShowsLength, ShowsDepth}
 use Rattle.dr_dataset.specs.Reading.{long_of, tag_of, form_of}
-use Rattle.dr_dataset.specs.Tokens.{sequence_token, value_token, is_long_key, element_token_by, element_token_with, element_token, end_token, open_item_token, item_token, is_full, token_with, token_of, open_behind}
-use Rattle.dr_dataset.proofs.ReadingLemmas.{long_sound, long_whole, tag_sound, tag_whole, form_sound, form_whole, form_faults, IsFormFault, bad_letters}
+use Rattle.dr_dataset.specs.Tokens.{sequence_token, value_token, is_long_key, element_token_by, element_token_with, element_token, end_token, open_item_token, is_full, token_with, token_of}
+use Rattle.dr_dataset.proofs.ReadingLemmas.{long_sound, long_whole, tag_sound, tag_whole, form_sound, form_whole, form_faults, bad_letters}
 
 abbrev Answer : Type 0
 Answer = Result (Token × List ℕ) DataFault

@@ -1,21 +1,19 @@
 -- A data set is read in one way: each place of it has one next place, and the grammar's parts are walks from place to place.
-use Rattle.std.proofs.Common.{◌≡◌, ◌≢◌, ℕ, zero, suc, ◌+◌, ◌-◌, ◌*◌, ◌^◌, ◌<◌, ◌≤◌, Bool, true, false, cond, ltb, eqb, leb, ◌&&◌, List, [], ◌∷◌, ◌++◌, length, take, drop, refl, sym, ap, subst, ◌∙◌, arith, inl, inr, Option, Some, None, Result, Ok, Err, ◌⊎◌, append_assoc}
+use Rattle.std.proofs.Common.{◌≡◌, ℕ, zero, suc, ◌<◌, ◌≤◌, Bool, true, false, leb, List, [], ◌∷◌, ◌++◌, length, take, drop, refl, sym, ap, subst, ◌∙◌, arith, inl, inr, Option, Some, None, Result, Ok, Err, append_assoc}
 use Rattle.std.specs.Prelude.{IfSome, option_and_then}
 use Rattle.std.proofs.lemmas.List.{append-nil, length-append, take_at, drop_at}
-use Rattle.std.proofs.lemmas.Bool.{eqb-true, eqb-false, ne_eqb, le-leb, lt-leb, leb-true, leb-false}
+use Rattle.std.proofs.lemmas.Bool.{ne_eqb, le-leb}
 use Rattle.dr_base.specs.Runs.{Run}
 use Rattle.dr_dataset.specs.declared.syntax.Syntax.{Syntax}
 use Rattle.dr_dataset.specs.declared.fault.DataFault.{DataFault}
-use Rattle.dr_dataset.specs.declared.fault.DataFault.TheVariants.{Truncated, BadVr, BadLength, TooDeep, Memory}
 use Rattle.dr_dataset.specs.declared.header.Tag.{Tag}
-use Rattle.dr_dataset.specs.declared.header.Form.{Form}
 use Rattle.dr_dataset.specs.declared.frame.Frame.{Frame}
 use Rattle.dr_dataset.specs.declared.frame.Frame.TheVariants.{InSequence, InItem}
 use Rattle.dr_dataset.specs.declared.token.Token.{Token}
 use Rattle.dr_dataset.specs.declared.token.Token.TheVariants.{Value, Sequence, PlainItem, Item, ItemEnd, SequenceEnd}
-use Rattle.dr_dataset.specs.Elements.{Element, undefined, StartsHeader, StartsPlain, StartsPlainItem, StartsItem, OpensItem, OpensSequence, EndsItem, EndsSequence, StartsElement}
-use Rattle.dr_dataset.specs.DataSet.{is_key, in_force, open_sequences, levels_left, wants_elements, StartsTop, Opens, MayOpen, MayOpenItem}
-use Rattle.dr_dataset.specs.Tokens.{is_full, token_of, without_first}
+use Rattle.dr_dataset.specs.Elements.{Element, StartsPlain, StartsItem, OpensItem, EndsItem, EndsSequence, StartsElement}
+use Rattle.dr_dataset.specs.DataSet.{is_key, in_force, open_sequences, levels_left, wants_elements, StartsTop, Opens, MayOpen}
+use Rattle.dr_dataset.specs.Tokens.{token_of, without_first}
 use Rattle.dr_dataset.specs.Wholes.{whole}
 use Rattle.dr_dataset.proofs.TokenLemmas.{IsNext, token_whole}
 

@@ -1,8 +1,8 @@
 -- Data sets (PS3.5 section 7), four of their values, and their first fault.
-use Rattle.std.specs.Prelude.{◌≡◌, ◌≢◌, ℕ, zero, suc, ◌+◌, ◌-◌, ◌<◌, ◌≤◌, ◌^◌, Bool, true, false, List, [], ◌∷◌, ◌++◌, length, ◌==◌, ◌&&◌, ◌||◌, if◌then◌else◌, Option, Some, None, option_map, unwrap_or, ◌⊎◌, find, IfSome, Result, Ok, Err}
+use Rattle.std.specs.Prelude.{◌≡◌, ◌≢◌, ℕ, suc, ◌-◌, ◌<◌, ◌≤◌, Bool, true, false, List, [], ◌∷◌, length, ◌==◌, ◌&&◌, ◌||◌, if◌then◌else◌, Option, None, option_map, unwrap_or, ◌⊎◌, find, IfSome, Result, Ok, Err}
 use Rattle.dr_base.specs.Runs.{Run}
 use Rattle.dr_dataset.specs.declared.syntax.Syntax.{Syntax}
-use Rattle.dr_dataset.specs.declared.syntax.Syntax.TheVariants.{Implicit, Explicit}
+use Rattle.dr_dataset.specs.declared.syntax.Syntax.TheVariants.{Explicit}
 use Rattle.dr_dataset.specs.declared.fault.DataFault.{DataFault}
 use Rattle.dr_dataset.specs.declared.fault.DataFault.TheVariants.{Truncated, BadVr, BadLength, TooDeep, Memory}
 use Rattle.dr_dataset.specs.declared.header.Tag.{Tag}

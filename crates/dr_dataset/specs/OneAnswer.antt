@@ -1,8 +1,8 @@
 -- A text of a data set has one answer.
-use Rattle.std.specs.Prelude.{◌≡◌, ◌≢◌, List, ℕ, Result, Ok, Err}
+use Rattle.std.specs.Prelude.{◌≡◌, ◌≢◌, List, ℕ, Result, Err}
 use Rattle.dr_dataset.specs.declared.syntax.Syntax.{Syntax}
 use Rattle.dr_dataset.specs.declared.fault.DataFault.{DataFault}
-use Rattle.dr_dataset.specs.declared.fault.DataFault.TheVariants.{Truncated, BadVr, BadLength, TooDeep, Memory}
+use Rattle.dr_dataset.specs.declared.fault.DataFault.TheVariants.{Memory}
 use Rattle.dr_dataset.specs.declared.values.Attributes.{Attributes}
 use Rattle.dr_dataset.specs.declared.values.Part10.{Part10}
 use Rattle.dr_dataset.specs.declared.fault.FileFault.{FileFault}

@@ -1,14 +1,24 @@
 -- Headers and tokens as they are taken off a text: the grammar's relations as functions.
-use Rattle.std.specs.Prelude.{◌≡◌, ◌≢◌, ℕ, zero, suc, ◌+◌, ◌<◌, ◌≤◌, Bool, true, false, List, [], ◌∷◌, length, ◌==◌, ◌&&◌, nat_lt, not, if◌then◌else◌, Option, Some, None, Result, Ok, Err}
+use Rattle.std.specs.Prelude.{◌≡◌, ℕ, Bool, true, false, List, [], ◌∷◌, ◌&&◌, nat_lt, if◌then◌else◌, Option, Some, None, Result, Ok, Err}
+use Rattle.std.specs.Borrow.{Bor}
 use Rattle.std.specs.Int.{w16, w32, from_le_bytes}
 use Rattle.dr_dataset.specs.declared.syntax.Syntax.{Syntax}
 use Rattle.dr_dataset.specs.declared.syntax.Syntax.TheVariants.{Implicit, Explicit}
 use Rattle.dr_dataset.specs.declared.fault.DataFault.{DataFault}
-use Rattle.dr_dataset.specs.declared.fault.DataFault.TheVariants.{Truncated, BadVr, BadLength, TooDeep}
+use Rattle.dr_dataset.specs.declared.fault.DataFault.TheVariants.{Truncated, BadVr}
 use Rattle.dr_dataset.specs.declared.header.Tag.{Tag}
 use Rattle.dr_dataset.specs.declared.header.Vr.{Vr}
 use Rattle.dr_dataset.specs.declared.header.Form.{Form}
 use Rattle.dr_dataset.specs.Elements.{is_capital, is_short}
+
+-- what a function takes off the front of a text, and what follows, are these
+abbrev pub GivesSome : {X : Type 0} → Option (X × Bor (List ℕ)) → Option (X × List ℕ) → Type 0
+GivesSome None wanted = wanted ≡ None
+GivesSome (Some taken) wanted = wanted ≡ Some (taken.0, taken.1.now)
+
+abbrev pub Gives : {X : Type 0} → Result (X × Bor (List ℕ)) DataFault → Result (X × List ℕ) DataFault → Type 0
+Gives (Ok taken) wanted = wanted ≡ Ok (taken.0, taken.1.now)
+Gives (Err fault) wanted = wanted ≡ Err fault
 
 abbrev pub is_byte : ℕ → Bool
 is_byte b = nat_lt b 256

@@ -1,8 +1,8 @@
 -- The next token of a data set under what is open, and what is open behind it.
-use Rattle.std.specs.Prelude.{◌≡◌, ◌≢◌, ℕ, zero, suc, ◌+◌, ◌<◌, ◌≤◌, Bool, true, false, List, [], ◌∷◌, length, ◌==◌, ◌&&◌, nat_lt, if◌then◌else◌, Option, Some, None, Result, Ok, Err}
+use Rattle.std.specs.Prelude.{ℕ, Bool, true, false, List, [], ◌∷◌, ◌==◌, ◌&&◌, nat_lt, if◌then◌else◌, Option, Some, None, Result, Ok, Err}
 use Rattle.dr_dataset.specs.declared.syntax.Syntax.{Syntax}
 use Rattle.dr_dataset.specs.declared.fault.DataFault.{DataFault}
-use Rattle.dr_dataset.specs.declared.fault.DataFault.TheVariants.{Truncated, BadVr, BadLength, TooDeep}
+use Rattle.dr_dataset.specs.declared.fault.DataFault.TheVariants.{Truncated, BadLength, TooDeep}
 use Rattle.dr_dataset.specs.declared.header.Tag.{Tag}
 use Rattle.dr_dataset.specs.declared.header.Form.{Form}
 use Rattle.dr_dataset.specs.declared.frame.Frame.{Frame}
@@ -10,7 +10,7 @@ use Rattle.dr_dataset.specs.declared.frame.Frame.TheVariants.{InSequence, InItem
 use Rattle.dr_dataset.specs.declared.token.Token.{Token}
 use Rattle.dr_dataset.specs.declared.token.Token.TheVariants.{Value, Sequence, PlainItem, Item, ItemEnd, SequenceEnd}
 use Rattle.dr_dataset.specs.Elements.{undefined, item_group, inside}
-use Rattle.dr_dataset.specs.DataSet.{has_tag, is_key, in_force, open_sequences, wants_elements}
+use Rattle.dr_dataset.specs.DataSet.{has_tag, is_key, in_force, open_sequences}
 use Rattle.dr_dataset.specs.Reading.{long_of, tag_of, form_of}
 
 -- a sequence, unless as many are open as may be

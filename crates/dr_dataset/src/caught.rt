@@ -26,7 +26,8 @@ pub struct Caught {
 /// The bytes that were caught first, or else these if they are the ones.
 fn keep(slot: &mut Option<Kept>, is_it: bool, bytes: &[u8])
     ensures { (is_it ≡ true → length bytes.now ≤ 1024)
-        → bytes_of_slot slot.new ≡ option_or (bytes_of_slot slot.old) (if is_it then Some bytes.now else None) }
+        → bytes_of_slot slot.new
+        ≡ option_or (bytes_of_slot slot.old) (if is_it then Some bytes.now else None) }
 {
     if slot.is_some() || !is_it {
         return;
@@ -51,7 +52,8 @@ impl Caught {
 
     /// One more element, or none: the first with each tag counts, one of undefined length too.
     pub fn note(&mut self, element: Option<Whole<'_>>)
-        ensures { (es : List Element) → IsShortKey element.entry → AreCaught self.old es → AreCaught self.new (es ++ elements_of element.entry) }
+        ensures { (es : List Element) → IsShortKey element.entry → AreCaught self.old es
+            → AreCaught self.new (es ++ elements_of element.entry) }
     {
         match element {
             None => {}
@@ -60,7 +62,8 @@ impl Caught {
     }
 
     fn note_one(&mut self, tag: Tag, bytes: &[u8])
-        ensures { (es : List Element) (e : Element) → e.tag ≡ tag → unwrap_or e.value [] ≡ bytes.now → (is_key tag ≡ true → length bytes.now ≤ 1024)
+        ensures { (es : List Element) (e : Element) → e.tag ≡ tag → unwrap_or e.value [] ≡ bytes.now
+            → (is_key tag ≡ true → length bytes.now ≤ 1024)
             → AreCaught self.old es → AreCaught self.new (es ++ e ∷ []) }
     {
         keep(&mut self.class, tag.is(0x0008, 0x0016), bytes);

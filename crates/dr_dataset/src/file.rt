@@ -28,7 +28,8 @@ fn is_dicom(mark: &[u8]) -> bool
 
 /// What follows the preamble of 128 bytes and `DICM`.
 fn behind_prefix(text: &[u8]) -> Option<&[u8]>
-    ensures { MatchOption result ((rest : List ℕ) → IsFile text.now rest → ⊥) (λ rest. IsFile text.now rest.now) }
+    ensures { MatchOption result ((rest : List ℕ) → IsFile text.now rest → ⊥)
+        (λ rest. IsFile text.now rest.now) }
 {
     let Some((_, marked)) = text.split_at_checked(128) else {
         return None;
@@ -44,7 +45,8 @@ fn behind_prefix(text: &[u8]) -> Option<&[u8]>
 
 /// Whether an element of the file meta information comes next.
 fn is_meta_next(text: &[u8]) -> bool
-    ensures { MatchBool result ((t : TagName) × (rest : List ℕ) × StartsTag text.now t rest × (t.group ≡ META_GROUP))
+    ensures { MatchBool result
+        ((t : TagName) × (rest : List ℕ) × StartsTag text.now t rest × (t.group ≡ META_GROUP))
         ((t : TagName) (rest : List ℕ) → StartsTag text.now t rest → t.group ≢ META_GROUP) }
 {
     let Some((tag, _)) = tag_at(text) else {
@@ -55,7 +57,8 @@ fn is_meta_next(text: &[u8]) -> bool
 
 /// Whether the text ends inside a tag.
 fn is_cut_tag(text: &[u8]) -> bool
-    ensures { MatchBool result ((text.now ≢ []) × (tag_of text.now ≡ None)) (text.now ≢ [] → tag_of text.now ≢ None) }
+    ensures { MatchBool result ((text.now ≢ []) × (tag_of text.now ≡ None))
+        (text.now ≢ [] → tag_of text.now ≢ None) }
 {
     if text.is_empty() {
         return false;
@@ -65,7 +68,8 @@ fn is_cut_tag(text: &[u8]) -> bool
 
 /// The transfer syntax UID, with its padding, and the data set behind the file meta information.
 fn meta_at(text: &[u8]) -> Option<(&[u8], &[u8])>
-    ensures meta { MatchOption result ((name behind : List ℕ) → IsMeta text.now name behind → ⊥) (λ r. IsMeta text.now (without_end r.0.now) r.1.now) }
+    ensures meta { MatchOption result ((name behind : List ℕ) → IsMeta text.now name behind → ⊥)
+        (λ r. IsMeta text.now (without_end r.0.now) r.1.now) }
     ensures within { IfSome result (λ r. length r.1.now ≤ length text.now) }
 {
     let mut scanner = Scanner::new(Syntax::Explicit);

@@ -28,7 +28,8 @@ pub fn bytes_of(value: Option<&[u8]>) -> &[u8]
 
 /// The bytes that were found first, or else those of this element if it is the one.
 pub fn first_of<'a>(found: Option<&'a [u8]>, is_it: bool, value: &'a [u8]) -> Option<&'a [u8]>
-    ensures { option_copied result ≡ option_or (option_copied found.entry) (if is_it then Some value.now else None) }
+    ensures { option_copied result
+        ≡ option_or (option_copied found.entry) (if is_it then Some value.now else None) }
 {
     if found.is_none() && is_it {
         return Some(value);
@@ -51,7 +52,8 @@ impl<'a> Found<'a> {
 
     /// Behind one more element, or none: the first with each tag counts, one of undefined length too.
     pub fn with(self, element: Option<Whole<'a>>) -> Found<'a>
-        ensures { (es : List Element) → AreFound self.entry es → AreFound result (es ++ elements_of element.entry) }
+        ensures { (es : List Element) → AreFound self.entry es
+            → AreFound result (es ++ elements_of element.entry) }
     {
         match element {
             None => self,
@@ -60,7 +62,8 @@ impl<'a> Found<'a> {
     }
 
     fn with_one(self, element: Whole<'a>) -> Found<'a>
-        ensures { (es : List Element) → AreFound self.entry es → AreFound result (es ++ elements_of (Some element.entry)) }
+        ensures { (es : List Element) → AreFound self.entry es
+            → AreFound result (es ++ elements_of (Some element.entry)) }
     {
         let tag = element.tag;
         let bytes = bytes_of(element.value);

@@ -1,8 +1,9 @@
 //! Headers of elements (PS3.5 section 7.1).
-ghost use Rattle.std.specs.Prelude.{◌≡◌, ◌<◌, MatchOption, MatchResult, length};
+ghost use Rattle.std.specs.Prelude.{◌≡◌, length};
 ghost use Rattle.dr_dataset.specs.Elements.{is_short, inside};
 ghost use Rattle.dr_dataset.specs.DataSet.{has_tag};
-ghost use Rattle.dr_dataset.specs.Reading.{short_of, long_of, tag_of, form_of, explicit_form_of, long_form_of, are_capitals};
+ghost use Rattle.dr_dataset.specs.Reading.{Gives, GivesSome, short_of, long_of, tag_of, form_of};
+ghost use Rattle.dr_dataset.specs.Reading.{explicit_form_of, long_form_of, are_capitals};
 
 use crate::fault::DataFault;
 use crate::syntax::Syntax;
@@ -69,7 +70,7 @@ impl Vr {
 }
 
 fn short_at(text: &[u8]) -> Option<(u16, &[u8])>
-    ensures { MatchOption result (short_of text.now ≡ None) (λ r. short_of text.now ≡ Some (r.0, r.1.now)) }
+    ensures { GivesSome result (short_of text.now) }
 {
     let [a, b, rest @ ..] = text else {
         return None;
@@ -79,7 +80,7 @@ fn short_at(text: &[u8]) -> Option<(u16, &[u8])>
 
 /// The number of four bytes that the text begins with, and what follows.
 pub fn long_at(text: &[u8]) -> Option<(u32, &[u8])>
-    ensures { MatchOption result (long_of text.now ≡ None) (λ r. long_of text.now ≡ Some (r.0, r.1.now)) }
+    ensures { GivesSome result (long_of text.now) }
 {
     let [a, b, c, d, rest @ ..] = text else {
         return None;
@@ -89,7 +90,7 @@ pub fn long_at(text: &[u8]) -> Option<(u32, &[u8])>
 
 /// The tag that the text begins with, and what follows.
 pub fn tag_at(text: &[u8]) -> Option<(Tag, &[u8])>
-    ensures { MatchOption result (tag_of text.now ≡ None) (λ r. tag_of text.now ≡ Some (r.0, r.1.now)) }
+    ensures { GivesSome result (tag_of text.now) }
 {
     let [a, b, c, d, rest @ ..] = text else {
         return None;
@@ -103,7 +104,7 @@ pub fn tag_at(text: &[u8]) -> Option<(Tag, &[u8])>
 
 /// What stands behind the tag of an element, and what follows.
 pub fn form_at(text: &[u8], syntax: Syntax) -> Result<(Form, &[u8]), DataFault>
-    ensures { MatchResult result (λ r. form_of syntax text.now ≡ Ok (r.0, r.1.now)) (λ f. form_of syntax text.now ≡ Err f) }
+    ensures { Gives result (form_of syntax text.now) }
 {
     match syntax {
         Syntax::Implicit => {
@@ -117,7 +118,7 @@ pub fn form_at(text: &[u8], syntax: Syntax) -> Result<(Form, &[u8]), DataFault>
 }
 
 fn explicit_form_at(text: &[u8]) -> Result<(Form, &[u8]), DataFault>
-    ensures { MatchResult result (λ r. explicit_form_of text.now ≡ Ok (r.0, r.1.now)) (λ f. explicit_form_of text.now ≡ Err f) }
+    ensures { Gives result (explicit_form_of text.now) }
 {
     let [first, second, rest @ ..] = text else {
         return Err(DataFault::Truncated);
@@ -146,7 +147,7 @@ fn explicit_form_at(text: &[u8]) -> Result<(Form, &[u8]), DataFault>
 
 /// Two reserved bytes and a length of four.
 fn long_form_at(text: &[u8], vr: Vr) -> Result<(Form, &[u8]), DataFault>
-    ensures { MatchResult result (λ r. long_form_of vr text.now ≡ Ok (r.0, r.1.now)) (λ f. long_form_of vr text.now ≡ Err f) }
+    ensures { Gives result (long_form_of vr text.now) }
 {
     let [_, _, rest @ ..] = text else {
         return Err(DataFault::Truncated);

@@ -6,7 +6,7 @@ ghost use Rattle.dr_dataset.specs.declared.fault.DataFault.{DataFault as FaultNa
 ghost use Rattle.dr_dataset.specs.declared.header.Tag.{Tag as TagName};
 ghost use Rattle.std.specs.Prelude.{Option as OptionName};
 ghost use Rattle.dr_dataset.specs.DataSet.{Scans};
-ghost use Rattle.dr_dataset.specs.Hearing.{Hears, HasFailed, Begun, is_kept, text_of_slot, AreSlots};
+ghost use Rattle.dr_dataset.specs.Hearing.{Hears, HasFailed, GoesOn, Begun, is_kept, text_of_slot, AreSlots};
 
 use crate::caught::{Caught, Kept};
 use crate::fault::DataFault;
@@ -59,8 +59,9 @@ impl Scan {
     /// Hears the next piece. The first fault is answered as soon as it shows, and by each later call too; it
     /// takes no memory.
     pub fn feed(&mut self, piece: &[u8]) -> Result<(), DataFault>
-        ensures hears { (s : SyntaxName) (text : List ℕ) → Hears s text self.old → Hears s (text ++ piece.now) self.new }
-        ensures answer { MatchResult result (λ _. (f : FaultName) → ¬ HasFailed self.new f) (λ f. HasFailed self.new f) }
+        ensures hears { GoesOn self.old piece.now self.new }
+        ensures answer { MatchResult result (λ _. (f : FaultName) → ¬ HasFailed self.new f)
+            (HasFailed self.new) }
         ensures again { (f : FaultName) → HasFailed self.old f → result ≡ Err f }
     {
         let mut rest = piece;
@@ -94,7 +95,7 @@ impl Scan {
     fn take<'a>(&mut self, piece: &'a [u8]) -> &'a [u8]
         requires { piece.now ≢ [] }
         ensures { (taken : List ℕ) × (piece.now ≡ taken ++ result.now) × (taken ≢ [])
-            × ((s : SyntaxName) (text : List ℕ) → Hears s text self.old → Hears s (text ++ taken) self.new)
+            × GoesOn self.old taken self.new
             × ((f : FaultName) → HasFailed self.old f → HasFailed self.new f) }
     {
         self.settle();
@@ -131,7 +132,7 @@ impl Scan {
         requires some { piece.now ≢ [] }
         requires awaited { 0 < missing }
         ensures { (taken : List ℕ) × (piece.now ≡ taken ++ result.now) × (taken ≢ [])
-            × ((s : SyntaxName) (text : List ℕ) → Hears s text self.old → self.old.place ≡ Place.InValue tag missing → Hears s (text ++ taken) self.new) }
+            × (self.old.place ≡ Place.InValue tag missing → GoesOn self.old taken self.new) }
     {
         let count = piece.len().min(missing as usize);
         let (bytes, rest) = piece.split_at(count);
@@ -155,7 +156,7 @@ impl Scan {
     fn take_header<'a>(&mut self, piece: &'a [u8]) -> &'a [u8]
         requires { piece.now ≢ [] }
         ensures { (taken : List ℕ) × (piece.now ≡ taken ++ result.now) × (taken ≢ [])
-            × ((s : SyntaxName) (text : List ℕ) → Hears s text self.old → self.old.place ≡ Place.InHeader → Hears s (text ++ taken) self.new) }
+            × (self.old.place ≡ Place.InHeader → GoesOn self.old taken self.new) }
     {
         if self.header.is_empty() {
             return self.take_first(piece);
@@ -168,7 +169,7 @@ impl Scan {
         requires some { piece.now ≢ [] }
         requires fresh { self.old.header.items ≡ [] }
         ensures { (taken : List ℕ) × (piece.now ≡ taken ++ result.now) × (taken ≢ [])
-            × ((s : SyntaxName) (text : List ℕ) → Hears s text self.old → self.old.place ≡ Place.InHeader → Hears s (text ++ taken) self.new) }
+            × (self.old.place ≡ Place.InHeader → GoesOn self.old taken self.new) }
     {
         let Ok((token, rest)) = self.scanner.step(piece) else {
             return self.take_one(piece);
@@ -181,7 +182,7 @@ impl Scan {
     fn take_one<'a>(&mut self, piece: &'a [u8]) -> &'a [u8]
         requires { piece.now ≢ [] }
         ensures { (taken : List ℕ) × (piece.now ≡ taken ++ result.now) × (taken ≢ [])
-            × ((s : SyntaxName) (text : List ℕ) → Hears s text self.old → self.old.place ≡ Place.InHeader → Hears s (text ++ taken) self.new) }
+            × (self.old.place ≡ Place.InHeader → GoesOn self.old taken self.new) }
     {
         let [byte, rest @ ..] = piece else {
             return piece;
@@ -191,7 +192,7 @@ impl Scan {
     }
 
     fn take_byte(&mut self, byte: u8)
-        ensures { (s : SyntaxName) (text : List ℕ) → Hears s text self.old → self.old.place ≡ Place.InHeader → Hears s (text ++ byte ∷ []) self.new }
+        ensures { self.old.place ≡ Place.InHeader → GoesOn self.old (byte ∷ []) self.new }
     {
         if self.header.is_full() {
             return;
@@ -235,7 +236,8 @@ impl Scan {
 
     /// Whether the data set may end here.
     fn is_at_end(&self) -> bool
-        ensures { MatchBool result ((self.now.place ≡ Place.InHeader) × (self.now.header.items ≡ []) × (self.now.scanner.stack ≡ []))
+        ensures { MatchBool result
+            ((self.now.place ≡ Place.InHeader) × (self.now.header.items ≡ []) × (self.now.scanner.stack ≡ []))
             (self.now.place ≡ Place.InHeader → self.now.header.items ≡ [] → self.now.scanner.stack ≢ []) }
     {
         let Place::InHeader = self.place else {
@@ -246,7 +248,8 @@ impl Scan {
 }
 
 fn keep_more(value: &mut Kept, is_kept: bool, bytes: &[u8])
-    ensures { is_kept ≡ true → length value.old.items + length bytes.now ≤ 1024 → value.new.items ≡ value.old.items ++ bytes.now }
+    ensures { is_kept ≡ true → length value.old.items + length bytes.now ≤ 1024
+        → value.new.items ≡ value.old.items ++ bytes.now }
 {
     if is_kept {
         let _ = value.try_extend_from_slice(bytes);

@@ -1,11 +1,11 @@
 //! The scanner: it takes a data set token by token, and knows what is open.
-ghost use Rattle.std.specs.Prelude.{◌≡◌, ◌≢◌, ◌==◌, ◌<◌, ◌≤◌, ◌++◌, ℕ, List, [], length, IsTrue, MatchOption, MatchResult, IfOk, IfErr};
+ghost use Rattle.std.specs.Prelude.{◌≡◌, ◌≢◌, ◌==◌, ◌<◌, ◌≤◌, ◌++◌, ℕ, List, [], length, IsTrue, MatchOption, IfOk, IfErr};
 ghost use Rattle.std.specs.Bool.{MatchBool};
 ghost use Rattle.std.specs.Option.{option_copied};
 ghost use Rattle.dr_dataset.specs.Elements.{Element};
 ghost use Rattle.dr_dataset.specs.DataSet.{is_key, in_force, Opens, Shows, StartsTop};
 ghost use Rattle.dr_dataset.specs.Wholes.{whole, elements_of, element_of, FailsAtOnce};
-ghost use Rattle.dr_dataset.specs.Reading.{long_of};
+ghost use Rattle.dr_dataset.specs.Reading.{Gives, long_of};
 ghost use Rattle.dr_dataset.specs.Tokens.{is_nested, is_full, element_token, item_token, end_token, open_item_token, token_of, open_behind};
 
 use crate::fault::DataFault;
@@ -51,8 +51,7 @@ fn element_at<'a>(
     at_top: bool,
     is_full: bool,
 ) -> Result<(Token, &'a [u8]), DataFault>
-    ensures { MatchResult result (λ r. element_token syntax at_top is_full tag text.now ≡ Ok (r.0, r.1.now))
-        (λ f. element_token syntax at_top is_full tag text.now ≡ Err f) }
+    ensures { Gives result (element_token syntax at_top is_full tag text.now) }
 {
     if tag.group == ITEM_GROUP {
         return Err(DataFault::BadLength);
@@ -75,7 +74,7 @@ fn element_at<'a>(
 
 /// The end of an item or a sequence, behind its tag; its length isn't tested.
 fn end_at(text: &[u8], end: Token) -> Result<(Token, &[u8]), DataFault>
-    ensures { MatchResult result (λ r. end_token end (long_of text.now) ≡ Ok (r.0, r.1.now)) (λ f. end_token end (long_of text.now) ≡ Err f) }
+    ensures { Gives result (end_token end (long_of text.now)) }
 {
     let Some((_, rest)) = long_at(text) else {
         return Err(DataFault::Truncated);
@@ -85,7 +84,7 @@ fn end_at(text: &[u8], end: Token) -> Result<(Token, &[u8]), DataFault>
 
 /// An item, or the end of the sequence with that tag.
 fn item_at<'a>(text: &'a [u8], tag: Tag, sequence: Tag) -> Result<(Token, &'a [u8]), DataFault>
-    ensures { MatchResult result (λ r. item_token sequence tag text.now ≡ Ok (r.0, r.1.now)) (λ f. item_token sequence tag text.now ≡ Err f) }
+    ensures { Gives result (item_token sequence tag text.now) }
 {
     if tag == SEQUENCE_END {
         return end_at(text, Token::SequenceEnd(sequence));
@@ -124,8 +123,7 @@ impl Scanner {
 
     /// The header or end that the text begins with, and what follows.
     fn token_at<'a>(&self, text: &'a [u8]) -> Result<(Token, &'a [u8]), DataFault>
-        ensures { MatchResult result (λ r. token_of self.now.syntax self.now.stack text.now ≡ Ok (r.0, r.1.now))
-            (λ f. token_of self.now.syntax self.now.stack text.now ≡ Err f) }
+        ensures { Gives result (token_of self.now.syntax self.now.stack text.now) }
     {
         let Some((tag, rest)) = tag_at(text) else {
             return Err(DataFault::Truncated);
@@ -144,9 +142,11 @@ impl Scanner {
     /// scanner is as before, and `Truncated` means that more bytes are needed to tell.
     pub fn step<'a>(&mut self, text: &'a [u8]) -> Result<(Token, &'a [u8]), DataFault>
         ensures syntax { self.new.syntax ≡ self.old.syntax }
-        ensures ok { IfOk result (λ r. (token_of self.old.syntax self.old.stack text.now ≡ Ok (r.0, r.1.now))
+        ensures ok { IfOk result (λ r.
+            (token_of self.old.syntax self.old.stack text.now ≡ Ok (r.0, r.1.now))
             × (self.new.stack ≡ open_behind self.old.syntax r.0 self.old.stack)) }
-        ensures err { IfErr result (λ f. (token_of self.old.syntax self.old.stack text.now ≡ Err f) × (self.new.stack ≡ self.old.stack)) }
+        ensures err { IfErr result (λ f.
+            (token_of self.old.syntax self.old.stack text.now ≡ Err f) × (self.new.stack ≡ self.old.stack)) }
     {
         let (token, rest) = self.token_at(text)?;
         match token {
@@ -170,11 +170,14 @@ impl Scanner {
         text: &'a [u8],
     ) -> Result<(Option<Whole<'a>>, &'a [u8]), DataFault>
         ensures syntax { self.new.syntax ≡ self.old.syntax }
-        ensures ok { IfOk result (λ r. (front : List ℕ) (es : List Element) → Opens self.old.syntax self.old.stack front es text.now
+        ensures ok { IfOk result (λ r. (front : List ℕ) (es : List Element)
+            → Opens self.old.syntax self.old.stack front es text.now
             → Opens self.old.syntax self.new.stack front (es ++ elements_of r.0) r.1.now) }
         ensures whole { IfOk result (λ r. MatchOption r.0 (self.new.stack ≢ []) (λ _. self.new.stack ≡ [])) }
         ensures shorter { IfOk result (λ r. length r.1.now < length text.now) }
-        ensures err { IfErr result (λ fault. (fault ≢ DataFault.Memory) × ((text.now ≡ [] → self.old.stack ≢ []) → Shows self.old.syntax self.old.stack text.now fault)) }
+        ensures err { IfErr result (λ fault. (fault ≢ DataFault.Memory)
+            × ((text.now ≡ [] → self.old.stack ≢ [])
+            → Shows self.old.syntax self.old.stack text.now fault)) }
     {
         let (token, rest) = self.step(text)?;
         match token {
@@ -200,9 +203,11 @@ impl Scanner {
         requires nothing_open { self.old.stack ≡ [] }
         requires more { text.now ≢ [] }
         ensures syntax { self.new.syntax ≡ self.old.syntax }
-        ensures ok { IfOk result (λ r. (self.new.stack ≡ []) × StartsTop self.old.syntax text.now (element_of r.0) r.1.now) }
+        ensures ok { IfOk result (λ r. (self.new.stack ≡ [])
+            × StartsTop self.old.syntax text.now (element_of r.0) r.1.now) }
         ensures shorter { IfOk result (λ r. length r.1.now < length text.now) }
-        ensures err { IfErr result (λ fault. (fault ≢ DataFault.Memory) × FailsAtOnce self.old.syntax text.now fault) }
+        ensures err { IfErr result (λ fault. (fault ≢ DataFault.Memory)
+            × FailsAtOnce self.old.syntax text.now fault) }
     {
         let mut rest = text;
         'tokens: loop {
@@ -216,7 +221,8 @@ impl Scanner {
 
     /// Whether the data set may end here: nothing is left and nothing is open.
     pub fn is_at_end(&self, rest: &[u8]) -> bool
-        ensures { MatchBool result ((rest.now ≡ []) × (self.now.stack ≡ [])) (rest.now ≡ [] → self.now.stack ≢ []) }
+        ensures { MatchBool result ((rest.now ≡ []) × (self.now.stack ≡ []))
+            (rest.now ≡ [] → self.now.stack ≢ []) }
     {
         rest.is_empty() && self.stack.is_empty()
     }

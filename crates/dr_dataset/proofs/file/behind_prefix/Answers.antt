@@ -1,4 +1,4 @@
-use Rattle.dr_dataset.proofs.FileLemmas.{short_file, short_mark, other_mark, is_file}
+use Rattle.dr_dataset.proofs.FileLemmas.{short_mark, other_mark, is_file}
 use Rattle.dr_dataset.proofs.file.behind_prefix.Goals as goal
 
 pub returns-in_default-split_at_checked : goal.returns-in_default-split_at_checked

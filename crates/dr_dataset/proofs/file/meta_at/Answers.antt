@@ -1,4 +1,4 @@
-use Rattle.std.proofs.Common.{◌≡◌, arith, sym, ap, subst, ◌∙◌, refl, Some, None}
+use Rattle.std.proofs.Common.{arith, sym, ap, subst, ◌∙◌, refl}
 use Rattle.std.specs.Option.{option_copied}
 use Rattle.dr_dataset.specs.declared.syntax.Syntax.{Syntax}
 use Rattle.dr_dataset.specs.Wholes.{FailsAtOnce, element_of}

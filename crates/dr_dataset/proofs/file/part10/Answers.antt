@@ -1,5 +1,5 @@
-use Rattle.std.proofs.Common.{◌≡◌, arith, sym, ap, length, List, ℕ, subst}
-use Rattle.dr_dataset.specs.Files.{IsFile, IsMeta}
+use Rattle.std.proofs.Common.{arith, sym, List, ℕ, subst}
+use Rattle.dr_dataset.specs.Files.{IsMeta}
 use Rattle.dr_dataset.proofs.FileLemmas.{file_longer}
 use Rattle.dr_dataset.proofs.file.part10.Goals as goal
 

@@ -1,6 +1,4 @@
 use Rattle.dr_dataset.proofs.OneAnswerLemmas.{one_answer}
-use Rattle.dr_dataset.proofs.FileLemmas.{unnamed}
-use Rattle.dr_dataset.proofs.ElementLemmas.{one_element}
 use Rattle.dr_dataset.proofs.laws.a_text_has_one_answer.Goals as goal
 
 pub returns : goal.returns

@@ -1,4 +1,4 @@
-use Rattle.std.proofs.Common.{◌≡◌, ◌≢◌, ℕ, List, [], ◌∷◌, refl, inl, inr, Some, None, arith}
+use Rattle.std.proofs.Common.{ℕ, List, [], ◌∷◌, refl, inl, Some, None, arith}
 use Rattle.dr_dataset.specs.declared.header.Tag.{Tag}
 use Rattle.dr_dataset.specs.declared.header.Form.{Form}
 use Rattle.dr_dataset.specs.Elements.{Element}

@@ -1,4 +1,4 @@
-use Rattle.std.proofs.Common.{◌≡◌, ◌++◌, List, [], ℕ, sym, ap, subst, ◌∙◌, take, drop}
+use Rattle.std.proofs.Common.{◌≡◌, ◌++◌, List, [], ℕ, ap, subst, ◌∙◌, take}
 use Rattle.std.proofs.lemmas.List.{take-append-drop}
 use Rattle.dr_dataset.specs.DataSet.{Scans}
 use Rattle.dr_dataset.proofs.tests.heard_in_two.Goals as goal

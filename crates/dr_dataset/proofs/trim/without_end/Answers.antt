@@ -1,4 +1,4 @@
-use Rattle.std.proofs.Common.{arith, sym, ◌∙◌}
+use Rattle.std.proofs.Common.{sym, ◌∙◌}
 use Rattle.dr_dataset.proofs.Padding.{end_goes_on, end_stays}
 use Rattle.dr_dataset.proofs.trim.without_end.Goals as goal
 

@@ -1,4 +1,3 @@
-use Rattle.std.proofs.Common.{◌≡◌, List, ℕ, [], refl}
 use Rattle.std.specs.Option.{option_copied}
 use Rattle.dr_dataset.specs.Elements.{Element}
 use Rattle.dr_dataset.proofs.FoundLemmas.{found_more}

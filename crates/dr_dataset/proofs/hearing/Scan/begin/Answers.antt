@@ -1,4 +1,4 @@
-use Rattle.std.proofs.Common.{◌≡◌, sym, subst, Some, None}
+use Rattle.std.proofs.Common.{sym, subst, Some, None}
 use Rattle.dr_dataset.specs.declared.hearing.Scan.{Scan}
 use Rattle.dr_dataset.specs.Hearing.{Hears}
 use Rattle.dr_dataset.proofs.HearLemmas.{awaits, opens_on, ends_sequence}

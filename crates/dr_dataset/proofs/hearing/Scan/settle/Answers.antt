@@ -1,4 +1,4 @@
-use Rattle.std.proofs.Common.{◌≡◌, sym, ap, ◌∙◌, arith, Some, List, ℕ, subst, length, ◌≤◌}
+use Rattle.std.proofs.Common.{ap, ◌∙◌, Some, List, ℕ, subst, length, ◌≤◌}
 use Rattle.dr_dataset.specs.Wholes.{whole}
 use Rattle.dr_dataset.specs.declared.hearing.Place.TheVariants.{InValue}
 use Rattle.dr_dataset.proofs.HearLemmas.{settles_item, settles_element}

@@ -15,9 +15,9 @@ returns-in-Failed c = (
 pub returns-in-InValue : goal.returns-in-InValue
 returns-in-InValue c =
     let t = c.take_value.ensures in
-    (t.0, t.1, t.2, λ s text h. t.3 s text (c.settle.ensures.hears s text h) c.in-InValue.is, λ f h. absurd (cc (sym c.in-InValue.is ∙ c.settle.ensures.failed f h)))
+    (t.0, t.1, t.2, λ s text h. t.3 c.in-InValue.is s text (c.settle.ensures.hears s text h), λ f h. absurd (cc (sym c.in-InValue.is ∙ c.settle.ensures.failed f h)))
 
 pub returns-in-InHeader : goal.returns-in-InHeader
 returns-in-InHeader c =
     let t = c.take_header.ensures in
-    (t.0, t.1, t.2, λ s text h. t.3 s text (c.settle.ensures.hears s text h) c.in-InHeader.is, λ f h. absurd (cc (sym c.in-InHeader.is ∙ c.settle.ensures.failed f h)))
+    (t.0, t.1, t.2, λ s text h. t.3 c.in-InHeader.is s text (c.settle.ensures.hears s text h), λ f h. absurd (cc (sym c.in-InHeader.is ∙ c.settle.ensures.failed f h)))

@@ -1,4 +1,4 @@
-use Rattle.std.proofs.Common.{◌≡◌, sym, ap, ◌∙◌, arith, List, ℕ, [], length, Err, Ok}
+use Rattle.std.proofs.Common.{sym, ap, ◌∙◌, arith, length, Err}
 use Rattle.std.proofs.lemmas.Bool.{eqb-true}
 use Rattle.dr_dataset.specs.Tokens.{token_of}
 use Rattle.dr_dataset.specs.declared.fault.DataFault.{DataFault}
@@ -6,7 +6,7 @@ use Rattle.dr_dataset.proofs.HearLemmas.{never_full, waits, faults, begins}
 use Rattle.dr_dataset.proofs.hearing.Scan.take_byte.Goals as goal
 
 pub returns-then-is_full : goal.returns-then-is_full
-returns-then-is_full c = λ s text h is. absurd (never_full c.args.self.now s text h is (eqb-true (length c.args.self.now.header.items) 12 (sym c.is_full.ensures.value ∙ c.if-is_full.true)))
+returns-then-is_full c = λ is s text h. absurd (never_full c.args.self.now s text h is (eqb-true (length c.args.self.now.header.items) 12 (sym c.is_full.ensures.value ∙ c.if-is_full.true)))
 
 pub returns-in-Truncated : goal.returns-in-Truncated
 returns-in-Truncated c =
@@ -25,5 +25,5 @@ pub returns : goal.returns
 returns c =
     let old = c.args.self.now.scanner in
     let o = c.in-Ok.ensures.ok in
-    λ s text h is. c.begin.ensures s _ (begins c.args.self.now c.step.new.self c.push.new.self c.args.byte c.in-Ok.token _ c.clear.new.self c.push.ensures.items c.step.ensures.syntax
-    (ap (token_of old.syntax old.stack) (sym c.as_slice.ensures.value) ∙ o.0) o.1 old.nested c.clear.ensures s text h is)
+    λ is s text h. c.begin.ensures s _ (begins c.args.self.now c.step.new.self c.push.new.self c.args.byte c.in-Ok.token _ c.clear.new.self c.push.ensures.items c.step.ensures.syntax
+    (ap (token_of old.syntax old.stack) (sym c.as_slice.ensures.value) ∙ o.0) o.1 old.nested c.clear.ensures is s text h)

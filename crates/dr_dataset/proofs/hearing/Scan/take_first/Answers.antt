@@ -5,7 +5,7 @@ pub returns-in_default : goal.returns-in_default
 returns-in_default c =
     let t = c.take_one.ensures in
     let e = c.in_default.ensures.err in
-    (t.0, t.1, t.2, λ s text h is. t.3 s text (same_scanner c.args.self.now c.step.new.self c.step.ensures.syntax e.1 s text h is) is)
+    (t.0, t.1, t.2, λ is s text h. t.3 is s text (same_scanner c.args.self.now c.step.new.self c.step.ensures.syntax e.1 is s text h))
 
 pub returns : goal.returns
 returns c =

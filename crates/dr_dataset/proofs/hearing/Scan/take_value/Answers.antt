@@ -1,4 +1,4 @@
-use Rattle.std.proofs.Common.{◌≡◌, ◌≢◌, ◌<◌, sym, ap, ◌∙◌, arith, List, ℕ, [], ◌++◌, take, drop, length}
+use Rattle.std.proofs.Common.{◌<◌, sym, ap, ◌∙◌, arith, List, ℕ, ◌++◌, drop, length}
 use Rattle.std.proofs.lemmas.List.{take-append-drop}
 use Rattle.dr_dataset.proofs.HearLemmas.{takes_value, some_taken, some_length}
 use Rattle.dr_dataset.proofs.hearing.Scan.take_value.Goals as goal

@@ -1,4 +1,4 @@
-use Rattle.std.proofs.Common.{arith, inl, inr, sym}
+use Rattle.std.proofs.Common.{inl, inr}
 use Rattle.std.proofs.lemmas.Result.{err_from_is_err_and}
 use Rattle.dr_dataset.proofs.OpensLemmas.{token_shorter}
 use Rattle.dr_dataset.proofs.AdvanceLemmas.{err_shows, value_cut, item_cut, value_grows, item_grows, opening_grows, open_item_grows, item_end_grows, sequence_end_grows, split_shorter}

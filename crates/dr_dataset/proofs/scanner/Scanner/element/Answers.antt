@@ -1,4 +1,4 @@
-use Rattle.std.proofs.Common.{◌≡◌, ◌∷◌, ◌++◌, List, ℕ, [], sym, subst, ap, Some}
+use Rattle.std.proofs.Common.{subst}
 use Rattle.std.proofs.lemmas.Result.{err_from_is_err_and}
 use Rattle.dr_dataset.specs.declared.syntax.Syntax.{Syntax}
 use Rattle.dr_dataset.specs.DataSet.{Shows}

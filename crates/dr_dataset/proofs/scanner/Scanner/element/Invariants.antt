@@ -1,4 +1,4 @@
-use Rattle.std.proofs.Common.{◌≡◌, ◌≢◌, ◌≤◌, List, [], length}
+use Rattle.std.proofs.Common.{◌≡◌, ◌≢◌, ◌≤◌, [], length}
 use Rattle.dr_dataset.specs.DataSet.{Opens}
 use Rattle.dr_dataset.proofs.scanner.Scanner.element.Given as goal
 

@@ -1,5 +1,4 @@
-use Rattle.std.proofs.Common.{inl, inr, sym, subst, IsTrue}
-use Rattle.dr_dataset.specs.Tokens.{is_nested}
+use Rattle.std.proofs.Common.{inl, inr}
 use Rattle.dr_dataset.proofs.NestLemmas.{room_for_sequence, sequence_nests, room_for_item, item_nests, open_at_item_end, open_at_sequence_end}
 use Rattle.dr_dataset.proofs.scanner.Scanner.step.Goals as goal
 

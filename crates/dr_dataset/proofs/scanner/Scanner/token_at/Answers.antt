@@ -1,10 +1,8 @@
-use Rattle.std.proofs.Common.{◌≡◌, ap, ◌∙◌, Some, Ok, Err, sym, List, ℕ, arith, false}
-use Rattle.std.specs.Prelude.{MatchResult, slice_get}
-use Rattle.std.proofs.lemmas.Grind.{common_steps}
+use Rattle.std.proofs.Common.{◌≡◌, ap, ◌∙◌, Some, sym, false}
+use Rattle.std.specs.Prelude.{slice_get}
 use Rattle.dr_dataset.specs.declared.frame.Frame.TheVariants.{InItem}
 use Rattle.dr_dataset.specs.DataSet.{has_tag}
 use Rattle.dr_dataset.specs.Elements.{item_group}
-use Rattle.dr_dataset.specs.Tokens.{token_of}
 use Rattle.dr_dataset.proofs.NestLemmas.{token_in_item}
 use Rattle.dr_dataset.proofs.scanner.Scanner.token_at.Goals as goal
 
