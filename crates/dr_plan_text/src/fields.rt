@@ -1,6 +1,7 @@
 //! The forms of a plan's fields.
 ghost use Rattle.std.specs.Prelude.{◌≡◌, ◌≢◌, ◌↔◌, IfOk, OnOk, IfErr, List, IsTrue, AllPairs};
 ghost use Rattle.toml.specs.View.{view};
+ghost use Rattle.dr_base.specs.Texts.{Text as Words};
 ghost use Rattle.dr_network.specs.Formed.{IsClass, IsLiteral, IsAddress};
 ghost use Rattle.dr_plan_text.specs.Fields.{SaysText, SaysFormed, SaysNumber, SaysFlag, SaysPattern, SaysValues, SaysCallers, SaysTextsOnce, star};
 ghost use Rattle.dr_plan_text.specs.declared.fault.ReadFault.TheVariants.{Field};
@@ -31,60 +32,64 @@ impl Form for AnyText {
     }
 }
 
-/// A SOP class.
-pub struct Class;
+/// A form of text that can be tested.
+pub trait TextForm {
+    ghost is_formed: { Words → Type 0 };
 
-impl Form for Class {
+    /// Whether the text has the form.
+    fn test(text: &[u8]) -> bool
+        ensures { IsTrue result ↔ is_formed text.now };
+}
+
+/// A text of one form.
+pub struct Formed<T>(pub T);
+
+impl<T: TextForm> Form for Formed<T> {
     type Output = Text;
 
-    ghost says = { SaysFormed IsClass };
+    ghost says = { SaysFormed T.is_formed };
 
     fn read(alloc: Global, value: &Value) -> Result<Text, ReadFault> {
         let Some(text) = value.as_str() else {
             return Err(ReadFault::Field);
         };
-        if !is_class(text.as_bytes()) {
+        if !T::test(text.as_bytes()) {
             return Err(ReadFault::Field);
         }
         Ok(Text::copy_of(alloc, text.as_bytes())?)
+    }
+}
+
+/// A SOP class.
+pub struct Class;
+
+impl TextForm for Class {
+    ghost is_formed = { IsClass };
+
+    fn test(text: &[u8]) -> bool {
+        is_class(text)
     }
 }
 
 /// The value of a modality or a station.
 pub struct Literal;
 
-impl Form for Literal {
-    type Output = Text;
+impl TextForm for Literal {
+    ghost is_formed = { IsLiteral };
 
-    ghost says = { SaysFormed IsLiteral };
-
-    fn read(alloc: Global, value: &Value) -> Result<Text, ReadFault> {
-        let Some(text) = value.as_str() else {
-            return Err(ReadFault::Field);
-        };
-        if !is_literal(text.as_bytes()) {
-            return Err(ReadFault::Field);
-        }
-        Ok(Text::copy_of(alloc, text.as_bytes())?)
+    fn test(text: &[u8]) -> bool {
+        is_literal(text)
     }
 }
 
 /// A host and a port.
 pub struct Address;
 
-impl Form for Address {
-    type Output = Text;
+impl TextForm for Address {
+    ghost is_formed = { IsAddress };
 
-    ghost says = { SaysFormed IsAddress };
-
-    fn read(alloc: Global, value: &Value) -> Result<Text, ReadFault> {
-        let Some(text) = value.as_str() else {
-            return Err(ReadFault::Field);
-        };
-        if !is_address(text.as_bytes()) {
-            return Err(ReadFault::Field);
-        }
-        Ok(Text::copy_of(alloc, text.as_bytes())?)
+    fn test(text: &[u8]) -> bool {
+        is_address(text)
     }
 }
 
@@ -140,6 +145,15 @@ impl<F: Form<Output = Text>> Form for PatternOf<F> {
     }
 }
 
+/// `*`, or a name.
+pub type NamePattern = PatternOf<AnyText>;
+
+/// `*`, or a class.
+pub type ClassPattern = PatternOf<Formed<Class>>;
+
+/// `*`, or the value of a modality or a station.
+pub type LiteralPattern = PatternOf<Formed<Literal>>;
+
 /// `*`, or a list of literals.
 pub struct AnyValues;
 
@@ -152,7 +166,7 @@ impl Form for AnyValues {
         if is_star(value) {
             return Ok(Values::Any);
         }
-        Ok(Values::Listed(ListOf::<Literal>::read(alloc, value)?))
+        Ok(Values::Listed(ListOf::<Formed<Literal>>::read(alloc, value)?))
     }
 }
 

@@ -10,7 +10,7 @@ use dr_base::Seq;
 use std::alloc::Global;
 use toml::{Table, Value};
 
-/// A form of value: what a value in TOML says, if it has that form.
+/// A form of value: what a value in TOML says, if it has that form. Forms are types of which no value is made.
 pub trait Form {
     type Output: Drop;
 

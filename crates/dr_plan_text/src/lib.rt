@@ -2,15 +2,15 @@
 //! transfer syntaxes and lengths are still as they were written.
 #![tactic(auto)]
 
-pub mod fault;
-pub mod fields;
-pub mod form;
+mod fault;
+mod fields;
+mod form;
 pub mod forms;
 pub mod laws;
-pub mod tables;
-pub mod text;
-pub mod words;
+mod tables;
+mod text;
+mod words;
 
-pub use fault::{ReadFault, TextFault};
+pub use fault::TextFault;
 pub use text::read_text;
 pub use words::{AcceptText, FlowText, NodeText, PlanText};

@@ -8,7 +8,8 @@ ghost use Rattle.dr_plan_text.specs.declared.words.PlanText.{PlanText as Written
 
 use crate::fault::ReadFault;
 use crate::fields::{
-    Address, AnyCallers, AnyText, AnyValues, Class, Flag, Literal, Number, PatternOf, TextsOnce,
+    Address, AnyCallers, AnyText, AnyValues, Class, ClassPattern, Flag, Formed, LiteralPattern,
+    NamePattern, Number, TextsOnce,
 };
 use crate::form::{ListOf, SomeOf, TableForm, TableOf, defaulted, has_only, required, value_at};
 use crate::words::{AcceptText, FlowText, NodeText, PlanText};
@@ -31,7 +32,7 @@ impl TableForm for AcceptTable {
         }
         Ok(AcceptText {
             from: required::<AnyCallers>(alloc, table, "from")?,
-            class: required::<Class>(alloc, table, "class")?,
+            class: required::<Formed<Class>>(alloc, table, "class")?,
             syntaxes: required::<TextsOnce>(alloc, table, "syntax")?,
         })
     }
@@ -53,10 +54,10 @@ impl TableForm for RuleTable {
             return Err(ReadFault::Field);
         }
         Ok(Rule {
-            from: defaulted::<PatternOf<AnyText>>(alloc, table, "from", Pattern::Any)?,
-            class: defaulted::<PatternOf<Class>>(alloc, table, "class", Pattern::Any)?,
-            modality: defaulted::<PatternOf<Literal>>(alloc, table, "modality", Pattern::Any)?,
-            station: defaulted::<PatternOf<Literal>>(alloc, table, "station", Pattern::Any)?,
+            from: defaulted::<NamePattern>(alloc, table, "from", Pattern::Any)?,
+            class: defaulted::<ClassPattern>(alloc, table, "class", Pattern::Any)?,
+            modality: defaulted::<LiteralPattern>(alloc, table, "modality", Pattern::Any)?,
+            station: defaulted::<LiteralPattern>(alloc, table, "station", Pattern::Any)?,
             to: defaulted::<ListOf<AnyText>>(alloc, table, "to", Seq::new(alloc))?,
             keep: defaulted::<Flag>(alloc, table, "keep", false)?,
         })
@@ -77,7 +78,7 @@ impl TableForm for NodeTable {
         }
         Ok(NodeText {
             name: required::<AnyText>(alloc, table, "name")?,
-            address: required::<Address>(alloc, table, "address")?,
+            address: required::<Formed<Address>>(alloc, table, "address")?,
             max_pdu: defaulted::<Number>(alloc, table, "max_pdu", 16384)?,
             accepts: defaulted::<ListOf<TableOf<AcceptTable>>>(
                 alloc,
@@ -108,7 +109,7 @@ impl TableForm for FlowTable {
         Ok(FlowText {
             at: required::<AnyText>(alloc, table, "at")?,
             to: required::<AnyText>(alloc, table, "to")?,
-            classes: required::<SomeOf<Class>>(alloc, table, "class")?,
+            classes: required::<SomeOf<Formed<Class>>>(alloc, table, "class")?,
             syntaxes: required::<SomeOf<AnyText>>(alloc, table, "syntax")?,
             modalities: required::<AnyValues>(alloc, table, "modality")?,
             stations: required::<AnyValues>(alloc, table, "station")?,

@@ -3,7 +3,8 @@ use dr_base::{Seq, Text};
 use dr_network::Values;
 use dr_route::{Callers, Rule};
 
-/// A row of a node's accept list.
+/// A row of a node's accept list: `from` and the transfer syntaxes are any texts, `class` has its form. There
+/// is one syntax or more, and none twice.
 #[derive(Debug, Drop)]
 pub struct AcceptText {
     pub from: Callers,
@@ -11,7 +12,8 @@ pub struct AcceptText {
     pub syntaxes: Seq<Text>,
 }
 
-/// A node.
+/// A node: its address has its form, its name is any text, and `max_pdu` (bytes) any integer. In its rules
+/// the names are any texts, and class, modality and station have their forms.
 #[derive(Debug, Drop)]
 pub struct NodeText {
     pub name: Text,
@@ -21,7 +23,8 @@ pub struct NodeText {
     pub rules: Seq<Rule>,
 }
 
-/// A flow.
+/// A flow: its names and transfer syntaxes are any texts, while classes, modalities and stations have their
+/// forms. There is one class or more, and one syntax or more.
 #[derive(Debug, Drop)]
 pub struct FlowText {
     pub at: Text,
