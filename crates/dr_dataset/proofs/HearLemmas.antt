@@ -7,7 +7,7 @@ use Rattle.std.proofs.lemmas.Bool.{or_parts}
 use Rattle.arrayvec.specs.ArrayVec.{ArrayVec}
 use Rattle.dr_dataset.specs.declared.syntax.Syntax.{Syntax}
 use Rattle.dr_dataset.specs.declared.fault.DataFault.{DataFault}
-use Rattle.dr_dataset.specs.declared.fault.DataFault.TheVariants.{Truncated, Memory}
+use Rattle.dr_dataset.specs.declared.fault.DataFault.TheVariants.{Truncated, BadVr, BadLength, TooDeep, Memory}
 use Rattle.dr_dataset.specs.declared.header.Tag.{Tag}
 use Rattle.dr_dataset.specs.declared.frame.Frame.{Frame}
 use Rattle.dr_dataset.specs.declared.token.Token.{Token}
@@ -20,7 +20,7 @@ use Rattle.dr_dataset.specs.declared.hearing.Scan.{Scan}
 use Rattle.dr_dataset.specs.declared.hearing.Place.{Place}
 use Rattle.dr_dataset.specs.declared.hearing.Place.TheVariants.{InHeader, InValue, Failed}
 use Rattle.dr_dataset.specs.Elements.{Element}
-use Rattle.dr_dataset.specs.DataSet.{has_tag, is_key, first_value, trimmed, Opens, FirstFault, Scans}
+use Rattle.dr_dataset.specs.DataSet.{has_tag, is_key, first_value, trimmed, Opens, FirstFault, Scans, IsDataSet}
 use Rattle.dr_dataset.specs.Tokens.{token_of, open_behind, is_nested}
 use Rattle.dr_dataset.specs.Wholes.{whole, elements_of}
 use Rattle.dr_dataset.specs.Hearing.{bytes_of_slot, AreCaught, IsShort, IsShortKey, value_header, is_kept, AreBytes, HearsAt, Hears, Begun, AreSlots}
@@ -28,6 +28,7 @@ use Rattle.dr_dataset.proofs.FoundLemmas.{first_value_more, found_more}
 use Rattle.dr_dataset.proofs.TokenLemmas.{token_sound, token_tells}
 use Rattle.dr_dataset.proofs.OpensLemmas.{Has, shows, cut_shows, after_value, after_plain_item}
 use Rattle.dr_dataset.proofs.AdvanceLemmas.{Grows, opening_grows, open_item_grows, item_end_grows, sequence_end_grows}
+use Rattle.dr_dataset.proofs.OneAnswerLemmas.{one_first_fault, data_set_or_fault}
 use Rattle.dr_dataset.proofs.LongerLemmas.{opens_longer, token_longer, fault_stays}
 use Rattle.dr_dataset.proofs.CutLemmas.{nothing_behind, twelve_hold, header_alone}
 
@@ -365,3 +366,46 @@ same_scanner scan scanner syntax stack is s text h =
     let here : HearsAt s text new InHeader =
     (es, subst (λ (x : List Frame). Opens s x text es scan.header.items) (sym stack) o, c, ap (λ (x : List Frame). token_of s x scan.header.items) stack ∙ e, bytes) in
     (syntax ∙ h.0, subst (λ (x : Place). HearsAt s text new x) (sym is) here)
+
+-- ---- the text so far
+
+abbrev IsCutOrWhole : Syntax → List ℕ → Type 0
+IsCutOrWhole s text = FirstFault s text Truncated ⊎ ((es : List Element) × IsDataSet s text es)
+
+cut_or_whole : (s : Syntax) (text : List ℕ) (es : List Element) (fs : List Frame) (items : List ℕ) → Opens s fs text es items → token_of s fs items ≡ Err Truncated → IsCutOrWhole s text
+cut_or_whole s text es [] [] o e = inr (es, o)
+cut_or_whole s text es (f ∷ fs) items o e = inl (f ∷ fs, es, items, o, shows s (f ∷ fs) items Truncated (λ none top. cc top) e)
+cut_or_whole s text es [] (b ∷ bs) o e = inl ([], es, b ∷ bs, o, shows s [] (b ∷ bs) Truncated (λ none top. cc none) e)
+
+behind_value : (s : Syntax) (text : List ℕ) (es : List Element) (fs : List Frame) (t : Option Tag) (token got : List ℕ) → Opens s fs text es token → token_of s fs token ≡ Ok (value_header t (length got + 0), got) → IsCutOrWhole s text
+behind_value s text es fs None token got o e =
+    let ends = ends_value (length got + 0) 0 got refl (omega arith) in
+    cut_or_whole s text es fs [] (subst (λ (x : List ℕ). Opens s fs text es x) ends.1 (after_plain_item s fs text token es (length got + 0) got e ends.2 o)) (nothing_yet s fs)
+behind_value s text es fs (Some t) token got o e =
+    let ends = ends_value (length got + 0) 0 got refl (omega arith) in
+    let found = es ++ whole fs t (Some (take (length got + 0) got)) in
+    cut_or_whole s text found fs [] (subst (λ (x : List ℕ). Opens s fs text found x) ends.1 (after_value s fs text token es t (length got + 0) got e ends.2 o)) (nothing_yet s fs)
+
+pub in_order : (scan : Scan) → ((f : DataFault) → scan.place ≢ Failed f) → (s : Syntax) (text : List ℕ) → Hears s text scan → (f : DataFault) → FirstFault s text f → (f ≡ Truncated) ⊎ (f ≡ Memory)
+in_order scan unfailed s text h f fault = by_fault f fault
+  where
+    by_place : (p : Place) → scan.place ≡ p → IsCutOrWhole s text
+    by_place InHeader is = let (es, o, a, e, bytes) = at_place s text scan InHeader is h in cut_or_whole s text es scan.scanner.stack scan.header.items o e
+    by_place (InValue t zero) is = let (es, token, got, o, a, e, kept, none) = at_place s text scan (InValue t zero) is h in behind_value s text es scan.scanner.stack t token got o e
+    by_place (InValue t (suc m)) is =
+        let (es, token, got, o, a, e, kept, none) = at_place s text scan (InValue t (suc m)) is h in
+        inl (scan.scanner.stack, es, token, o, cut_shows s scan.scanner.stack token (value_header t (length got + suc m)) got e (not_there t got (suc m) (λ z. cc z)))
+    by_place (Failed g) is = absurd (unfailed g is)
+
+    other : (g : DataFault) → g ≢ Memory → FirstFault s text g → (g ≡ Truncated) ⊎ (g ≡ Memory)
+    other g ne k = elim (by_place scan.place refl) [
+      | inl w ↦ inl (one_first_fault s text g Truncated ne (λ e. cc e) k w)
+      | inr w ↦ absurd (data_set_or_fault s text w.0 g ne w.1 k)
+    ]
+
+    by_fault : (g : DataFault) → FirstFault s text g → (g ≡ Truncated) ⊎ (g ≡ Memory)
+    by_fault Memory k = inr refl
+    by_fault Truncated k = inl refl
+    by_fault BadVr k = other BadVr (λ e. cc e) k
+    by_fault BadLength k = other BadLength (λ e. cc e) k
+    by_fault TooDeep k = other TooDeep (λ e. cc e) k

@@ -175,7 +175,7 @@ pub one_reading : (s : Syntax) (text : List ℕ) (es xs : List Element) → IsDa
 one_reading s text es xs a b =
     done_of (at [] [] es) (at [] [] xs) (one_place s (at [] text []) (at [] [] xs) (at [] [] es) (opens_walk s [] text xs [] b) (opens_walk s [] text es [] a) refl refl)
 
-data_set_or_fault : (s : Syntax) (text : List ℕ) (es : List Element) (f : DataFault) → f ≢ Memory → IsDataSet s text es → FirstFault s text f → ⊥
+pub data_set_or_fault : (s : Syntax) (text : List ℕ) (es : List Element) (f : DataFault) → f ≢ Memory → IsDataSet s text es → FirstFault s text f → ⊥
 data_set_or_fault s text es f ne a (fs, xs, rest, o, h) =
     let same = one_place s (at [] text []) (at [] [] es) (at fs rest xs) (opens_walk s [] text es [] a) (opens_walk s fs text xs rest o) refl (fault_is_stuck s fs xs rest f (open_at_most s fs text xs rest o) ne h) in
     no_fault_at_end s fs rest f ne (frames_of (at fs rest xs) (at [] [] es) same) (rest_of (at fs rest xs) (at [] [] es) same) h

@@ -1,5 +1,5 @@
 -- A data set while it is heard: what a scan knows of the bytes so far.
-use Rattle.std.specs.Prelude.{◌≡◌, ◌≢◌, ℕ, ◌+◌, ◌<◌, ◌≤◌, Bool, true, false, List, [], ◌∷◌, ◌++◌, length, Option, Some, None, option_map, unwrap_or, Ok, Err}
+use Rattle.std.specs.Prelude.{◌≡◌, ◌≢◌, ℕ, ◌+◌, ◌<◌, ◌≤◌, Bool, true, false, List, [], ◌∷◌, ◌++◌, length, Option, Some, None, option_map, unwrap_or, Ok, Err, ◌⊎◌}
 use Rattle.std.proofs.Common.{get_or}
 use Rattle.std.specs.Option.{option_copied}
 use Rattle.arrayvec.specs.ArrayVec.{ArrayVec}
@@ -73,6 +73,10 @@ HasFailed scan fault = scan.place ≡ Failed fault
 -- what was heard by the old scan and these bytes was heard by the new one
 abbrev pub GoesOn : Scan → List ℕ → Scan → Type 0
 GoesOn old bytes new = (s : Syntax) (text : List ℕ) → Hears s text old → Hears s (text ++ bytes) new
+
+-- nothing is wrong with the text so far: it may only be too short, or is a data set
+abbrev pub IsInOrderSoFar : Syntax → List ℕ → Type 0
+IsInOrderSoFar s text = (fault : DataFault) → FirstFault s text fault → (fault ≡ Truncated) ⊎ (fault ≡ Memory)
 
 -- a header with nothing behind it was taken off the front that is in order, and what is open is as behind it
 abbrev pub Begun : Syntax → List ℕ → Token → Scan → Type 0

@@ -5,8 +5,8 @@ ghost use Rattle.dr_dataset.specs.declared.syntax.Syntax.{Syntax as SyntaxName};
 ghost use Rattle.dr_dataset.specs.declared.fault.DataFault.{DataFault as FaultName};
 ghost use Rattle.dr_dataset.specs.declared.header.Tag.{Tag as TagName};
 ghost use Rattle.std.specs.Prelude.{Option as OptionName};
-ghost use Rattle.dr_dataset.specs.DataSet.{Scans};
-ghost use Rattle.dr_dataset.specs.Hearing.{Hears, HasFailed, GoesOn, Begun, is_kept, text_of_slot, AreSlots};
+ghost use Rattle.dr_dataset.specs.DataSet.{Scans, FirstFault};
+ghost use Rattle.dr_dataset.specs.Hearing.{Hears, HasFailed, IsInOrderSoFar, GoesOn, Begun, is_kept, text_of_slot, AreSlots};
 
 use crate::caught::{Caught, Kept};
 use crate::fault::DataFault;
@@ -60,6 +60,8 @@ impl Scan {
     /// takes no memory.
     pub fn feed(&mut self, piece: &[u8]) -> Result<(), DataFault>
         ensures hears { GoesOn self.old piece.now self.new }
+        ensures first { (s : SyntaxName) (text : List ℕ) → Hears s text self.old
+            → MatchResult result (λ _. IsInOrderSoFar s (text ++ piece.now)) (FirstFault s (text ++ piece.now)) }
         ensures answer { MatchResult result (λ _. (f : FaultName) → ¬ HasFailed self.new f)
             (HasFailed self.new) }
         ensures again { (f : FaultName) → HasFailed self.old f → result ≡ Err f }
