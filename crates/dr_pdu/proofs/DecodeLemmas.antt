@@ -13,7 +13,7 @@ use Rattle.dr_pdu.specs.Reads.{Refuses}
 use Rattle.dr_pdu.specs.Grammar.{Begins, header_fault, IsWhole, IsBody, IsAssociation, IsProposal, IsAnswer, HasContextIds, Spells, Shows}
 use Rattle.dr_pdu.proofs.Bytes.{IsBytes, four_bytes}
 
-front6 : (text : List ℕ) → 6 ≤ length text → text ≡ get_or text 0 0 ∷ get_or text 1 0 ∷ get_or text 2 0 ∷ get_or text 3 0 ∷ get_or text 4 0 ∷ get_or text 5 0 ∷ drop 6 text
+pub front6 : (text : List ℕ) → 6 ≤ length text → text ≡ get_or text 0 0 ∷ get_or text 1 0 ∷ get_or text 2 0 ∷ get_or text 3 0 ∷ get_or text 4 0 ∷ get_or text 5 0 ∷ drop 6 text
 front6 [] h = absurd (omega arith)
 front6 (a ∷ []) h = absurd (omega arith)
 front6 (a ∷ b ∷ []) h = absurd (omega arith)

@@ -2,11 +2,13 @@ pub mod Bytes
 pub mod ContextLemmas
 pub mod CutLemmas
 pub mod DecodeLemmas
+pub mod Deciding
 pub mod EachLemmas
 pub mod FeedLemmas
 pub mod FitLemmas
 pub mod FrontLemmas
 pub mod FrontTexts
+pub mod HasAnswer
 pub mod ItemLemmas
 pub mod OneAnswer
 pub mod OneBody

@@ -6,7 +6,7 @@ ghost use Rattle.dr_pdu.specs.Written.{item, padded, framed, user_text, associat
 ghost use Rattle.dr_pdu.specs.Fitting.{AssociationFits};
 
 use crate::associate::Context;
-use crate::lengths::values_len;
+use crate::lengths::{GREATEST_ASSOCIATION, values_len};
 use crate::pdu::{Association, Pdu, Pdv};
 use std::alloc::{AllocError, Global};
 
@@ -104,7 +104,7 @@ fn association_body<C: Context>(
         (association_text kind (C.body_text false) (user_text false association.now.max_pdu) association.now)) }
 {
     let full = association_with(alloc, true, kind, association)?;
-    if full.len() <= 262_144 {
+    if full.len() <= GREATEST_ASSOCIATION {
         return Ok(full);
     }
     association_with(alloc, false, kind, association)

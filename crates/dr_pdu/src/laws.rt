@@ -1,5 +1,5 @@
 //! Laws of the definitions: a text has one reading, what is written is read, and cuts do not matter.
-ghost use Rattle.std.specs.Prelude.{◌≡◌, ◌≢◌, ◌++◌, [], List, ℕ, Result, Err, Ok, length};
+ghost use Rattle.std.specs.Prelude.{◌≡◌, ◌≢◌, ◌<◌, ◌++◌, [], List, ℕ, Result, Err, Ok, length};
 ghost use Rattle.std.specs.List.{flat_map, AllByRecursion};
 ghost use Rattle.dr_pdu.specs.Grammar.{Spells, IsBody, Decodes, Shows};
 ghost use Rattle.dr_pdu.specs.Feeding.{Units, Feeding, Feeds, Call, Fed, taken, given, Leaves, fresh};
@@ -53,4 +53,9 @@ pub fn a_stream_of_written_pdus_is_read()
     ensures { (limit : ℕ) (pdus : List PduValue) (last : PduValue) (front back : List ℕ)
         → AllByRecursion (λ (p : PduValue). Fits p × MeetsLimit limit p) pdus → Fits last → MeetsLimit limit last → written last ≡ front ++ back → back ≢ []
         → Units limit (flat_map written pdus ++ front) pdus front × Shows limit front More }
+{}
+
+/// Each text of bytes has an answer that isn't want of memory.
+pub fn a_text_has_an_answer()
+    ensures { (limit : ℕ) (text : List ℕ) → AllByRecursion (λ b. b < 256) text → (r : Result (PduValue × ℕ) Fault) × (r ≢ Err Memory) × Decodes limit text r }
 {}

@@ -14,7 +14,7 @@ use crate::pdu::{Association, Front, Pdu, Pdv};
 use dr_base::Text;
 
 /// The greatest length field of an association PDU, in bytes.
-const GREATEST_ASSOCIATION: usize = 262_144;
+pub const GREATEST_ASSOCIATION: usize = 262_144;
 
 /// The greatest length field of a P-DATA-TF, in bytes.
 const GREATEST_TRANSFER: usize = 134_217_728;

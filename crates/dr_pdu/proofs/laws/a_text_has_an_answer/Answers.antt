@@ -1,0 +1,5 @@
+use Rattle.dr_pdu.proofs.HasAnswer.{has_answer}
+use Rattle.dr_pdu.proofs.laws.a_text_has_an_answer.Goals as goal
+
+pub returns : goal.returns
+returns c = has_answer
