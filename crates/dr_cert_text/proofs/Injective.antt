@@ -179,3 +179,11 @@ line_plain line p =
 pub hop_plain : (hop : Hop) → IsPrintableHop hop → Lacks 10 (printed_hop hop)
 hop_plain hop p =
     join_lf _ _ (join_lf _ _ (join_lf _ _ (join_lf _ _ (no_lf _ p.from) (no_lf _ p.to)) (no_lf _ (decimal_plain hop.id (let small : hop.id ≤ 255 = p.id in omega arith)))) (no_lf _ p.class)) (uid_lf hop.syntax)
+
+pub stops_apart : (a b : Line) → IsPrintableLine a → IsPrintableLine b → a.stop ≢ b.stop → printed_line a ≢ printed_line b
+stops_apart a b pa pb apart e = apart (ap (λ (line : Line). line.stop) (same_line a b pa pb e))
+
+pub same_stop : (a b : Line) → IsPrintableLine a → IsPrintableLine b → printed_line (record a { rank = b.rank }) ≡ printed_line b → a.stop ≡ b.stop
+same_stop a b pa pb e =
+    let like : IsPrintableLine (record a { rank = b.rank }) = record { caller = pa.caller; node = pa.node; class = pa.class; modality = pa.modality; station = pa.station; rank = pb.rank } in
+    ap (λ (line : Line). line.stop) (same_line (record a { rank = b.rank }) b like pb e)

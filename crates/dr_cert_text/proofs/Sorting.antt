@@ -1,5 +1,5 @@
 -- What a sort by texts leaves of values with different texts.
-use Rattle.std.proofs.Common.{◌≡◌, ◌≢◌, ◌↔◌, suc, false, List, [], ◌∷◌, ◌++◌, map, get_or, refl, sym, ap, ◌∙◌, arith}
+use Rattle.std.proofs.Common.{◌≡◌, ◌≢◌, ◌↔◌, suc, false, List, [], ◌∷◌, ◌++◌, map, length, get_or, refl, sym, ap, ◌∙◌, arith}
 use Rattle.std.specs.Prelude.{All, AllPairs, Contains}
 use Rattle.std.specs.List.Sorted.{IsPermutation, IsSorted}
 use Rattle.std.specs.Ordering.{nat_cmp, on, is_lt, ordering_reverse}
@@ -9,7 +9,7 @@ use Rattle.std.specs.Cmp.Lexicographic.{slice_cmp, nat_list_cmp_total, nat_list_
 use Rattle.std.specs.Str.{bytes_eq}
 use Rattle.std.proofs.lemmas.List.Elements.{All-map, All-cons, All-head, All-tail}
 use Rattle.std.proofs.lemmas.List.Kept.{AllPairs-cons}
-use Rattle.std.proofs.lemmas.List.Sorted.{IsPermutation-map, IsPermutation-sym, Contains-permutation, sorted_far, ranks_by, All-permutation}
+use Rattle.std.proofs.lemmas.List.Sorted.{IsPermutation-map, IsPermutation-sym, Contains-permutation, sorted_far, ranks_by, All-permutation, length_permutation}
 use Rattle.std.proofs.lemmas.Map.Made.{AllPairs-from_IsDistinct, IsDistinct-from_AllPairs}
 use Rattle.std.proofs.lemmas.Map.Keys.{IsDistinct-IsPermutation}
 use Rattle.std.proofs.lemmas.Map.Lookups.{exact_bytes}
@@ -95,3 +95,6 @@ module _ {X P : Type 0} (text : X → Text) (item : X → P) (printed : P → Te
   same_items xs ys items are moved x =
       let m : IsPermutation items (map item ys) = rw (← are) (IsPermutation-map item xs ys moved) in
       (λ h. Contains-permutation (map item ys) items x (IsPermutation-sym items (map item ys) m) h, λ h. Contains-permutation items (map item ys) x m h)
+
+pub same_length : {X P : Type 0} (item : X → P) (xs ys : List X) (items : List P) → map item xs ≡ items → IsPermutation xs ys → length (map item ys) ≡ length items
+same_length item xs ys items are moved = length_permutation _ _ (IsPermutation-map item xs ys moved) ∙ ap (λ zs. length zs) are

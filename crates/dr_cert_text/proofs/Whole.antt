@@ -3,7 +3,7 @@ use Rattle.std.proofs.Common.{◌≡◌, ◌≢◌, ℕ, ◌<◌, ◌≤◌, Lis
 use Rattle.std.specs.Prelude.{flat_map}
 use Rattle.std.proofs.lemmas.List.{append_cancel_left}
 use Rattle.std.proofs.lemmas.List.Elements.{All-head}
-use Rattle.hex.specs.Hex.{encode_lower}
+use Rattle.hex.specs.Hex.{encode_lower, decode_sized}
 use Rattle.dr_sound.specs.declared.certificate.Line.{Line}
 use Rattle.dr_sound.specs.declared.certificate.Hop.{Hop}
 use Rattle.dr_sound.specs.declared.certificate.Certificate.{Certificate}
@@ -15,7 +15,7 @@ use Rattle.dr_cert_text.specs.Reading.{HasNone, IsReadBack, Reads, BeginsWith, A
 use Rattle.dr_cert_text.specs.declared.fault.ReadFault.{ReadFault}
 use Rattle.dr_cert_text.specs.declared.fault.ReadFault.TheVariants.{Text, Memory}
 use Rattle.dr_cert_text.proofs.Injective.{same_line, same_hop, line_plain, hop_plain}
-use Rattle.dr_cert_text.proofs.Numerals.{hex_plain}
+use Rattle.dr_cert_text.proofs.Numerals.{hex_plain, same_digest, decoded}
 use Rattle.dr_cert_text.proofs.Splits.{unsplit, All-back}
 use Rattle.dr_cert_text.proofs.Rows.{rows_same}
 
@@ -129,3 +129,12 @@ whole_read text behind digits rows after rest certificate starts split digest ho
     let body : behind_digest certificate ≡ rows = ap (λ (t : List ℕ). flat_map hop_row certificate.hops ++ t) tail ∙ sym hops.0 in
     let row_of : encode_lower certificate.digest ++ 10 ∷ behind_digest certificate ≡ behind = rw (digest.0, body) (sym split.0) in
     (text_is certificate ∙ ap (λ (t : List ℕ). front ++ t) row_of ∙ sym starts, record { digest = digest.1; hops = hops.1; lines = lines.1; few = few })
+
+pub same_certificate : (a b : Certificate) → IsPrintable a → IsPrintable b → certificate_text a ≡ certificate_text b → a ≡ b
+same_certificate a b pa pb e =
+    let body : encode_lower a.digest ++ 10 ∷ behind_digest a ≡ encode_lower b.digest ++ 10 ∷ behind_digest b = append_cancel_left front _ _ (sym (text_is a) ∙ e ∙ text_is b) in
+    let two = unsplit 10 (encode_lower a.digest) (encode_lower b.digest) (behind_digest a) (behind_digest b) (hex_plain a.digest pa.digest) (hex_plain b.digest pb.digest) body in
+    let digest : a.digest ≡ b.digest = same_digest a.digest b.digest (decode_sized (encode_lower b.digest) 32) (decoded a.digest (encode_lower b.digest) pa.digest two.0) (decoded b.digest (encode_lower b.digest) pb.digest refl) in
+    let hops = rows_same (codes "hop") printed_hop IsPrintableHop hop_plain same_hop a.hops b.hops (behind_hops a) (behind_hops b) pa.hops pb.hops (hops_end a.lines) (hops_end b.lines) two.1 in
+    let lines = rows_same (codes "line") printed_line IsPrintableLine line_plain same_line a.lines b.lines last_row last_row pa.lines pb.lines lines_end lines_end hops.1 in
+    λ i. record { digest = digest i; hops = hops.0 i; lines = lines.0 i }

@@ -5,6 +5,7 @@
 pub mod fault;
 mod fields;
 mod hops;
+pub mod laws;
 mod lines;
 pub mod order;
 mod printed;
@@ -15,3 +16,6 @@ pub use fault::ReadFault;
 pub use order::{order_hops, order_lines};
 pub use reader::read_certificate;
 pub use writer::write_certificate;
+
+#[cfg(test)]
+mod tests;

@@ -1,5 +1,5 @@
 //! Lines and hops in the order of their printed bytes.
-ghost use Rattle.std.specs.Prelude.{◌≡◌, ◌≢◌, ◌↔◌, IfOk, All, AllPairs, Contains, map, nat_eq};
+ghost use Rattle.std.specs.Prelude.{◌≡◌, ◌≢◌, ◌↔◌, IfOk, All, AllPairs, Contains, length, map, nat_eq};
 ghost use Rattle.std.proofs.Common.{refl};
 ghost use Rattle.std.specs.Cmp.{partial_equiv_from_equiv, on_equiv, on_po, on_total};
 ghost use Rattle.std.specs.Cmp.Lexicographic.{pointwise, slice_cmp, nat_list_eq_equiv, nat_list_cmp_total, texts_po, texts_ties};
@@ -81,6 +81,7 @@ fn with_texts<P: Printed>(alloc: Global, items: Vec<P>) -> Result<Vec<Keyed<P>>,
 fn in_printed_order<P: Printed>(alloc: Global, items: Vec<P>) -> Result<Seq<P>, AllocError>
     requires { AllPairs (λ a b. P.printed a ≢ P.printed b) items.items }
     ensures same { IfOk result (λ seq. (item : P) → Contains seq item ↔ Contains items.items item) }
+    ensures long { IfOk result (λ seq. length seq ≡ length items.items) }
     ensures ordered { IfOk result (λ seq. AllPairs (λ a b. text_cmp (P.printed a) (P.printed b) ≡ Less) seq) }
 {
     let mut all = with_texts(alloc, items)?;
@@ -94,6 +95,7 @@ pub fn order_lines(alloc: Global, lines: Vec<Line>) -> Result<Seq<Line>, AllocEr
     requires printable { All IsPrintableLine lines.items }
     requires different { AllPairs (λ a b. a ≢ b) lines.items }
     ensures same { IfOk result (λ seq. (line : LineValue) → Contains seq line ↔ Contains lines.items line) }
+    ensures long { IfOk result (λ seq. length seq ≡ length lines.items) }
     ensures ordered { IfOk result (λ seq. AllPairs (λ a b. text_cmp (printed_line a) (printed_line b) ≡ Less) seq) }
 {
     in_printed_order(alloc, lines)
@@ -104,6 +106,7 @@ pub fn order_hops(alloc: Global, hops: Vec<Hop>) -> Result<Seq<Hop>, AllocError>
     requires printable { All IsPrintableHop hops.items }
     requires different { AllPairs (λ a b. a ≢ b) hops.items }
     ensures same { IfOk result (λ seq. (hop : HopValue) → Contains seq hop ↔ Contains hops.items hop) }
+    ensures long { IfOk result (λ seq. length seq ≡ length hops.items) }
     ensures ordered { IfOk result (λ seq. AllPairs (λ a b. text_cmp (printed_hop a) (printed_hop b) ≡ Less) seq) }
 {
     in_printed_order(alloc, hops)

@@ -1,5 +1,5 @@
 use Rattle.std.proofs.Common.{◌≡◌, map, rules}
-use Rattle.dr_cert_text.proofs.Sorting.{in_order, same_items}
+use Rattle.dr_cert_text.proofs.Sorting.{in_order, same_items, same_length}
 use Rattle.dr_cert_text.proofs.order.in_printed_order.Goals as goal
 
 pub returns-clause-same : goal.returns-clause-same
@@ -12,3 +12,8 @@ returns-clause-ordered g c =
     let items : c.in_ok-sorted.sorted.items ≡ map (λ k. k.item) c.sort_unstable.new.self.items = search rules in
     rw (c.from_vec.ensures, items)
     (in_order (λ k. k.text) (λ k. k.item) g.P.Printed.printed _ _ _ c.in_ok-all.ensures.items c.in_ok-all.ensures.texts c.sort_unstable.ensures.permutation c.sort_unstable.ensures.sorted c.requires)
+
+pub returns-clause-long : goal.returns-clause-long
+returns-clause-long g c =
+    let items : c.in_ok-sorted.sorted.items ≡ map (λ k. k.item) c.sort_unstable.new.self.items = search rules in
+    rw (c.from_vec.ensures, items) (same_length (λ k. k.item) _ _ _ c.in_ok-all.ensures.items c.sort_unstable.ensures.permutation)
