@@ -5,3 +5,4 @@ pub mod Mapped
 pub mod PlanForm
 pub mod Typing
 pub mod OneAnswer
+pub mod Refusals

@@ -1,5 +1,5 @@
 //! The names of a plan.
-ghost use Rattle.std.specs.Prelude.{◌≡◌, ◌≢◌, ◌≤◌, ◌<◌, ◌↔◌, IsTrue, All, AllPairs, Contains, MatchOption, IfOk, map, codes, ◌⊎◌};
+ghost use Rattle.std.specs.Prelude.{◌≡◌, ◌≢◌, ◌≤◌, ◌<◌, ◌↔◌, IsTrue, All, AllPairs, Contains, MatchOption, IfOk, OnErr, [], map, codes, ◌⊎◌};
 ghost use Rattle.dr_base.specs.Texts.{Text as Words};
 ghost use Rattle.dr_route.specs.Names.{HasName};
 ghost use Rattle.dr_network.specs.Formed.{IsName, HasForm};
@@ -136,7 +136,8 @@ pub fn each_name<T: NameTest>(test: &T, plan: &PlanText) -> bool
 
 /// The names of the nodes, and None where two of them have the same.
 pub fn names_of(alloc: Global, nodes: &[NodeText]) -> Result<Option<BTreeSet<Text>>, AllocError>
-    ensures { IfOk result (λ names. MatchOption names
+    ensures memory { OnErr result (nodes.now ≢ []) }
+    ensures names { IfOk result (λ names. MatchOption names
         (AllPairs (λ a b. a ≢ b) (map (λ node. node.name) nodes.now) → ⊥)
         (λ set. AllPairs (λ a b. a ≢ b) (map (λ node. node.name) nodes.now) × ((name : Words) → HasName set name ↔ Contains (map (λ node. node.name) nodes.now) name))) }
 {

@@ -1,5 +1,5 @@
 //! A plan that passed its tests, with types for its transfer syntaxes and lengths.
-ghost use Rattle.std.specs.Prelude.{◌≡◌, All, IfOk, map};
+ghost use Rattle.std.specs.Prelude.{◌≡◌, ◌≢◌, All, IfOk, OnErr, [], map};
 ghost use Rattle.dr_base.specs.Syntaxes.{syntax_uid};
 ghost use Rattle.dr_plan.specs.Reading.{IsSyntax, IsTypable};
 ghost use Rattle.dr_plan.specs.Spelling.{written_row, written_node, written_flow};
@@ -75,7 +75,8 @@ fn node_of(alloc: Global, node: NodeText) -> Result<Node, AllocError>
 /// The nodes of a plan that is within its limits and knows its transfer syntaxes.
 pub fn nodes_of(alloc: Global, nodes: Seq<NodeText>) -> Result<Seq<Node>, AllocError>
     requires { All IsTypable nodes }
-    ensures { IfOk result (λ typed. map written_node typed ≡ nodes) }
+    ensures memory { OnErr result (nodes ≢ []) }
+    ensures nodes { IfOk result (λ typed. map written_node typed ≡ nodes) }
 {
     let mut typed = Vec::new(alloc);
     for node in nodes.into_vec() {
@@ -109,7 +110,8 @@ fn flow_of(alloc: Global, flow: FlowText) -> Result<Flow, AllocError>
 /// The flows of a plan that knows its transfer syntaxes.
 pub fn flows_of(alloc: Global, flows: Seq<FlowText>) -> Result<Seq<Flow>, AllocError>
     requires { All (λ flow. All IsSyntax flow.syntaxes) flows }
-    ensures { IfOk result (λ typed. map written_flow typed ≡ flows) }
+    ensures memory { OnErr result (flows ≢ []) }
+    ensures flows { IfOk result (λ typed. map written_flow typed ≡ flows) }
 {
     let mut typed = Vec::new(alloc);
     for flow in flows.into_vec() {

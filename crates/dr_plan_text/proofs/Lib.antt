@@ -2,6 +2,7 @@ pub mod Keys
 pub mod Items
 pub mod Trimmed
 pub mod Ports
+pub mod Refusals
 pub mod Repeats
 pub mod OneAnswer
 pub mod OnePlan

@@ -13,13 +13,10 @@ use Rattle.dr_network.proofs.Gathered.{Contains-cons_cases, only_one}
 use Rattle.dr_plan_text.specs.declared.words.NodeText.{NodeText}
 use Rattle.dr_plan_text.specs.declared.words.PlanText.{PlanText}
 use Rattle.dr_plan_text.specs.Fields.{SaysTable, Lists, IsListOf, GivenOr, HasOnly}
+use Rattle.dr_plan_text.proofs.Refusals.{nothing_parsed}
 use Rattle.dr_plan_text.proofs.Ports.{small_port, no_colon}
 use Rattle.dr_plan_text.specs.Tables.{IsNodeTable, IsFormat, Writes, root_keys}
 use Rattle.dr_plan_text.specs.Laws.{EmptyTextWritesNothing, NodeIsWritten, KeyIsUnknown, FormatIsOther, AddressIsMissing, PortIsTooHigh, node_text, written_node_text}
-
-nothing_parsed : parse_document [] ≡ Some no_members
-unfolding toml_on_literals
-nothing_parsed = refl
 
 pub empty_text : EmptyTextWritesNothing
 empty_text = (no_members, (([], (refl, refl)), nothing_parsed), record { only = tt; format = tt; node = refl; flow = refl })

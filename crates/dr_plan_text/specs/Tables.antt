@@ -1,5 +1,5 @@
 -- What the tables of a plan's text say, and what the text says as a whole.
-use Rattle.std.specs.Prelude.{◌≡◌, pos, false, List, [], ◌∷◌, Option, Some, None, codes, Result, Ok, Err}
+use Rattle.std.specs.Prelude.{◌≡◌, ◌≢◌, pos, false, List, [], ◌∷◌, Option, Some, None, codes, Result, Ok, Err}
 use Rattle.std.specs.Str.{IsUtf8}
 use Rattle.toml.specs.Data.{Data, integer, Members, get_member}
 use Rattle.toml.specs.Parse.{parse_document}
@@ -94,4 +94,4 @@ abbrev pub ReadsText : Text → Result PlanText TextFault → Type 0
 ReadsText text (Ok plan) = Writes text plan
 ReadsText text (Err fault.NotToml) = IsToml text → ⊥
 ReadsText text (Err fault.Field) = IsToml text × ((plan : PlanText) → Writes text plan → ⊥)
-ReadsText text (Err fault.Memory) = Unit {0}
+ReadsText text (Err fault.Memory) = text ≢ []

@@ -1,9 +1,9 @@
 //! Values and fields of a table, for any form of value.
-ghost use Rattle.std.specs.Prelude.{◌≡◌, option_map, IfOk, IfErr, List, ◌↔◌, IsTrue, Contains, map};
+ghost use Rattle.std.specs.Prelude.{◌≡◌, option_map, IsSome, IfOk, IfErr, List, ◌↔◌, IsTrue, Contains, map};
 ghost use Rattle.toml.specs.Data.{Data, Members, get_member};
 ghost use Rattle.toml.specs.View.{view, items_view, table_view};
 ghost use Rattle.dr_plan_text.specs.Fields.{Lists, IsListOf, IsSomeOf, SaysTable, Given, GivenOr, HasOnly};
-ghost use Rattle.dr_plan_text.specs.declared.fault.ReadFault.TheVariants.{Field};
+ghost use Rattle.dr_plan_text.specs.declared.fault.ReadFault.TheVariants.{Field, Memory};
 
 use crate::fault::ReadFault;
 use dr_base::Seq;
@@ -122,6 +122,7 @@ pub fn defaulted<F: Form>(
 ) -> Result<F::Output, ReadFault>
     ensures ok { IfOk result (GivenOr default F.says (get_member key.now (table_view table.now))) }
     ensures field { IfErr result (λ e. e ≡ Field → (x : F.Output) → GivenOr default F.says (get_member key.now (table_view table.now)) x → ⊥) }
+    ensures memory { IfErr result (λ e. e ≡ Memory → IsSome (get_member key.now (table_view table.now))) }
 {
     match value_at(table, key) {
         Some(value) => F::read(alloc, value),

@@ -1,9 +1,9 @@
 //! The tables of a plan's text.
-ghost use Rattle.std.specs.Prelude.{◌≡◌, ◌↔◌, IfOk, IfErr, IsTrue, codes};
-ghost use Rattle.toml.specs.Data.{get_member};
+ghost use Rattle.std.specs.Prelude.{◌≡◌, ◌≢◌, ◌↔◌, IfOk, IfErr, IsTrue, codes};
+ghost use Rattle.toml.specs.Data.{get_member, no_members};
 ghost use Rattle.toml.specs.View.{table_view};
 ghost use Rattle.dr_plan_text.specs.Tables.{IsAcceptTable, IsRuleTable, IsNodeTable, IsFlowTable, IsRoot, IsFormat};
-ghost use Rattle.dr_plan_text.specs.declared.fault.ReadFault.TheVariants.{Field};
+ghost use Rattle.dr_plan_text.specs.declared.fault.ReadFault.TheVariants.{Field, Memory};
 ghost use Rattle.dr_plan_text.specs.declared.words.PlanText.{PlanText as Written};
 
 use crate::fault::ReadFault;
@@ -131,6 +131,7 @@ fn is_format_one(root: &Table) -> bool
 pub fn read_root(alloc: Global, root: &Table) -> Result<PlanText, ReadFault>
     ensures ok { IfOk result (IsRoot (table_view root.now)) }
     ensures field { IfErr result (λ e. e ≡ Field → (plan : Written) → IsRoot (table_view root.now) plan → ⊥) }
+    ensures memory { IfErr result (λ e. e ≡ Memory → table_view root.now ≢ no_members) }
 {
     if !has_only(root, &["format", "node", "flow"]) || !is_format_one(root) {
         return Err(ReadFault::Field);

@@ -13,13 +13,8 @@ pub fn read_text(alloc: Global, text: &[u8]) -> Result<PlanText, TextFault>
 {
     let root = match toml::table_from_slice(alloc, text) {
         Ok(root) => root,
-        Err(fault) => {
-            return Err(if fault.is_memory() {
-                TextFault::Memory
-            } else {
-                TextFault::NotToml
-            });
-        }
+        Err(fault) if fault.is_memory() => return Err(TextFault::Memory),
+        Err(_) => return Err(TextFault::NotToml),
     };
     Ok(read_root(alloc, &root)?)
 }

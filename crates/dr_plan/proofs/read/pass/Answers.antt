@@ -6,7 +6,7 @@ use Rattle.dr_plan.proofs.read.pass.Goals as goal
 
 pub returns-then-not-each_name-2 : goal.returns-then-not-each_name-2
 returns-then-not-each_name-2 c =
-    let told = rw (c.in-Some.is, c.as_slice.ensures) at c.in_ok-names.ensures in
+    let told = rw (c.in-Some.is, c.as_slice.ensures) at c.in_ok-names.ensures.names in
     let good : HasGoodNames c.args.plan.now = record { formed = c.if-not-each_name.ensures.0 refl; apart = told.0 } in (
       c.if-not-knows_syntaxes.ensures.0 refl,
       good,
@@ -16,7 +16,7 @@ returns-then-not-each_name-2 c =
 
 pub returns-then-not-sends_elsewhere : goal.returns-then-not-sends_elsewhere
 returns-then-not-sends_elsewhere c =
-    let told = rw (c.in-Some.is, c.as_slice.ensures) at c.in_ok-names.ensures in
+    let told = rw (c.in-Some.is, c.as_slice.ensures) at c.in_ok-names.ensures.names in
     let good : HasGoodNames c.args.plan.now = record { formed = c.if-not-each_name.ensures.0 refl; apart = told.0 } in (
       c.if-not-knows_syntaxes.ensures.0 refl,
       good,
@@ -27,7 +27,7 @@ returns-then-not-sends_elsewhere c =
 
 pub returns : goal.returns
 returns c =
-    let told = rw (c.in-Some.is, c.as_slice.ensures) at c.in_ok-names.ensures in
+    let told = rw (c.in-Some.is, c.as_slice.ensures) at c.in_ok-names.ensures.names in
     let good : HasGoodNames c.args.plan.now = record { formed = c.if-not-each_name.ensures.0 refl; apart = told.0 } in (
       c.if-not-knows_syntaxes.ensures.0 refl,
       good,

@@ -16,5 +16,5 @@ loop-flow-preserved c =
 pub flow_of-requires : goal.flow_of-requires
 flow_of-requires c = next_known written_flow (λ (flow : FlowText). All IsSyntax flow.syntaxes) c.args.flows c.loop-flow.typed.items _ _ c.in-Some.flow c.loop-flow.invariant c.in-Some.ensures.steps.0
 
-pub returns : goal.returns
-returns c = rw c.from_vec.ensures (none_left written_flow (λ (flow : FlowText). All IsSyntax flow.syntaxes) c.args.flows c.loop-flow.typed.items _ c.loop-flow.invariant (no_items _ _ c.loop-flow.flow-iterator.rest.ok.0 c.in-None.ensures.steps.0))
+pub returns-clause-flows : goal.returns-clause-flows
+returns-clause-flows c = rw c.from_vec.ensures (none_left written_flow (λ (flow : FlowText). All IsSyntax flow.syntaxes) c.args.flows c.loop-flow.typed.items _ c.loop-flow.invariant (no_items _ _ c.loop-flow.flow-iterator.rest.ok.0 c.in-None.ensures.steps.0))

@@ -14,5 +14,5 @@ loop-node-preserved c =
 pub node_of-requires : goal.node_of-requires
 node_of-requires c = next_known written_node IsTypable c.args.nodes c.loop-node.typed.items _ _ c.in-Some.node c.loop-node.invariant c.in-Some.ensures.steps.0
 
-pub returns : goal.returns
-returns c = rw c.from_vec.ensures (none_left written_node IsTypable c.args.nodes c.loop-node.typed.items _ c.loop-node.invariant (no_items _ _ c.loop-node.node-iterator.rest.ok.0 c.in-None.ensures.steps.0))
+pub returns-clause-nodes : goal.returns-clause-nodes
+returns-clause-nodes c = rw c.from_vec.ensures (none_left written_node IsTypable c.args.nodes c.loop-node.typed.items _ c.loop-node.invariant (no_items _ _ c.loop-node.node-iterator.rest.ok.0 c.in-None.ensures.steps.0))
