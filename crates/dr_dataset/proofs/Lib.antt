@@ -14,3 +14,4 @@ pub mod LongerLemmas
 pub mod OneFileLemmas
 pub mod CutLemmas
 pub mod HearLemmas
+pub mod SomeAnswerLemmas

@@ -12,6 +12,10 @@ use Rattle.dr_dataset.specs.Files.{ReadsFile}
 abbrev pub OneAnswer : Type 0
 OneAnswer = (s : Syntax) (text : List ℕ) (r q : Result Attributes DataFault) → r ≢ Err Memory → q ≢ Err Memory → Scans s text r → Scans s text q → r ≡ q
 
+-- and there is one for each text, without want of memory
+abbrev pub SomeAnswer : Type 0
+SomeAnswer = (s : Syntax) (text : List ℕ) → (r : Result Attributes DataFault) × (r ≢ Err Memory) × Scans s text r
+
 -- a file has one answer
 abbrev pub OneFileAnswer : Type 0
 OneFileAnswer = (text : List ℕ) (r q : Result Part10 FileFault) → ReadsFile text r → ReadsFile text q → r ≡ q

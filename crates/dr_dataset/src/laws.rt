@@ -3,13 +3,14 @@ ghost use Rattle.std.specs.Prelude.{◌≡◌, ◌∷◌, [], codes, length};
 ghost use Rattle.dr_dataset.specs.DataSet.{trimmed};
 ghost use Rattle.dr_dataset.specs.Elements.{short_letters};
 ghost use Rattle.dr_dataset.specs.Worked.{ModalityIsRead, NothingIsRead, ItemIsBad, SmallLettersAreBad};
-ghost use Rattle.dr_dataset.specs.OneAnswer.{OneAnswer, OneFileAnswer};
+ghost use Rattle.dr_dataset.specs.OneAnswer.{OneAnswer, SomeAnswer, OneFileAnswer};
 ghost use Rattle.dr_dataset.specs.Fronts.{FrontsStay, FaultsStay};
 
 /// A text has one answer: one list of elements, so one value for each of the four attributes, or one first
 /// fault. Only want of memory may stand in the place of the values.
 pub fn a_text_has_one_answer()
-    ensures { OneAnswer }
+    ensures one { OneAnswer }
+    ensures some { SomeAnswer }
 {}
 
 /// What was in order stays so, whatever follows, and so does each fault but `Truncated`: a data set may be
