@@ -1,5 +1,6 @@
 pub mod CutRows
 pub mod Cuts
+pub mod Examples
 pub mod Injective
 pub mod Numerals
 pub mod Rows

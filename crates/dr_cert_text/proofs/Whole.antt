@@ -1,5 +1,5 @@
 -- A whole text of a certificate.
-use Rattle.std.proofs.Common.{◌≡◌, ◌≢◌, ℕ, ◌<◌, ◌≤◌, List, [], ◌∷◌, ◌++◌, length, get_or, codes, append_assoc, refl, sym, ap, ◌∙◌, arith, Err}
+use Rattle.std.proofs.Common.{◌≡◌, ◌≢◌, ℕ, ◌<◌, ◌≤◌, List, [], ◌∷◌, ◌++◌, length, get_or, codes, append_assoc, refl, sym, ap, ◌∙◌, arith, Err, ◌⊎◌, inl, inr, Ok, Result}
 use Rattle.std.specs.Prelude.{flat_map}
 use Rattle.std.proofs.lemmas.List.{append_cancel_left}
 use Rattle.std.proofs.lemmas.List.Elements.{All-head}
@@ -138,3 +138,9 @@ same_certificate a b pa pb e =
     let hops = rows_same (codes "hop") printed_hop IsPrintableHop hop_plain same_hop a.hops b.hops (behind_hops a) (behind_hops b) pa.hops pb.hops (hops_end a.lines) (hops_end b.lines) two.1 in
     let lines = rows_same (codes "line") printed_line IsPrintableLine line_plain same_line a.lines b.lines last_row last_row pa.lines pb.lines lines_end lines_end hops.1 in
     λ i. record { digest = digest i; hops = hops.0 i; lines = lines.0 i }
+
+pub read_back : (certificate : Certificate) → IsPrintable certificate → (answer : Result Certificate ReadFault) → Reads certificate_text IsPrintable (certificate_text certificate) answer →
+    (answer ≡ Ok certificate) ⊎ (answer ≡ Err Memory)
+read_back certificate p (Ok found) h = inl (ap Ok (same_certificate found certificate h.1 p h.0))
+read_back certificate p (Err Text) h = absurd (h certificate p refl)
+read_back certificate p (Err Memory) h = inr refl

@@ -1,9 +1,14 @@
 -- What can be told from a text.
-use Rattle.std.specs.Prelude.{◌≡◌, ◌≢◌}
+use Rattle.std.specs.Prelude.{◌≡◌, ◌≢◌, ◌⊎◌, [], ◌∷◌, ◌++◌, codes, Result, Ok, Err}
+use Rattle.dr_base.specs.declared.syntax.Syntax.TheVariants.{Explicit}
+use Rattle.dr_route.specs.declared.cell.OwnedField.TheVariants.{Literal, Rest}
 use Rattle.dr_sound.specs.declared.certificate.Line.{Line}
 use Rattle.dr_sound.specs.declared.certificate.Hop.{Hop}
 use Rattle.dr_sound.specs.declared.certificate.Certificate.{Certificate}
-use Rattle.dr_sound.specs.Printed.{printed_line, printed_hop}
+use Rattle.dr_sound.specs.Printed.{printed_field, printed_line, printed_hop}
+use Rattle.dr_cert_text.specs.declared.fault.ReadFault.{ReadFault}
+use Rattle.dr_cert_text.specs.declared.fault.ReadFault.TheVariants.{Memory}
+use Rattle.dr_cert_text.specs.Reading.{Reads}
 use Rattle.dr_cert_text.specs.CertificateText.{certificate_text}
 use Rattle.dr_cert_text.specs.Printable.{IsPrintable, IsPrintableLine, IsPrintableHop}
 
@@ -22,3 +27,36 @@ StopsAreToldApart = (a b : Line) → IsPrintableLine a → IsPrintableLine b →
 
 abbrev pub OneStopForATextUpToTheRank : Type 0
 OneStopForATextUpToTheRank = (a b : Line) → IsPrintableLine a → IsPrintableLine b → printed_line (record a { rank = b.rank }) ≡ printed_line b → a.stop ≡ b.stop
+
+-- but for memory, reading what was written gives what was written
+abbrev pub WhatIsWrittenIsRead : Type 0
+WhatIsWrittenIsRead = (certificate : Certificate) → IsPrintable certificate → (answer : Result Certificate ReadFault) → Reads certificate_text IsPrintable (certificate_text certificate) answer →
+    (answer ≡ Ok certificate) ⊎ (answer ≡ Err Memory)
+
+-- the certificate of the empty plan: the SHA-256 of no bytes
+abbrev pub empty_plan : Certificate
+empty_plan = record {
+  digest = 0xe3 ∷ 0xb0 ∷ 0xc4 ∷ 0x42 ∷ 0x98 ∷ 0xfc ∷ 0x1c ∷ 0x14 ∷ 0x9a ∷ 0xfb ∷ 0xf4 ∷ 0xc8 ∷ 0x99 ∷ 0x6f ∷ 0xb9 ∷ 0x24
+      ∷ 0x27 ∷ 0xae ∷ 0x41 ∷ 0xe4 ∷ 0x64 ∷ 0x9b ∷ 0x93 ∷ 0x4c ∷ 0xa4 ∷ 0x95 ∷ 0x99 ∷ 0x1b ∷ 0x78 ∷ 0x52 ∷ 0xb8 ∷ 0x55 ∷ [];
+  hops = [];
+  lines = [];
+}
+
+abbrev pub TextOfTheEmptyPlan : Type 0
+TextOfTheEmptyPlan =
+    certificate_text empty_plan ≡ codes "certificate" ++ (9 ∷ codes "1") ++ (10 ∷ codes "plan") ++ (9 ∷ codes "e3b0c44298fc1c149afbf4c8996fb92427ae41e4649b934ca495991b7852b855")
+    ++ (10 ∷ codes "end") ++ (10 ∷ [])
+
+-- with a tab in a field, two hops are printed alike
+abbrev pub tab_in_the_sender : Hop
+tab_in_the_sender = record { «from» = codes "A" ++ (9 ∷ codes "B"); «to» = codes "C"; id = 1; class = []; syntax = Explicit }
+
+abbrev pub tab_in_the_receiver : Hop
+tab_in_the_receiver = record { «from» = codes "A"; «to» = codes "B" ++ (9 ∷ codes "C"); id = 1; class = []; syntax = Explicit }
+
+abbrev pub TabsAreNotToldApart : Type 0
+TabsAreNotToldApart = printed_hop tab_in_the_sender ≡ printed_hop tab_in_the_receiver
+
+-- and a literal that is an asterisk as none of the literals
+abbrev pub AnAsteriskIsNotTold : Type 0
+AnAsteriskIsNotTold = printed_field (Literal (codes "*")) ≡ printed_field Rest
