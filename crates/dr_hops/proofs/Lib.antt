@@ -1,0 +1,4 @@
+pub mod Counting
+pub mod Keys
+pub mod AllNumbered
+pub mod Rows
