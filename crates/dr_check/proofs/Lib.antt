@@ -1,3 +1,5 @@
 pub mod Marking
+pub mod Ready
 pub mod Steps
 pub mod Trails
+pub mod Unsound

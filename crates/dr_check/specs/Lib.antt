@@ -1,4 +1,6 @@
+pub mod Answering
 pub mod Checking
+pub mod Laws
 pub mod Searching
 pub mod Shown
 pub mod Stopping

@@ -4,6 +4,7 @@ ghost use Rattle.dr_base.specs.Texts.{Text as Words};
 ghost use Rattle.dr_route.specs.Laws.{key_of, value_of};
 ghost use Rattle.dr_route.specs.Routes.{local};
 ghost use Rattle.dr_network.specs.Networks.{Network};
+ghost use Rattle.dr_check.specs.Checking.{IsReady};
 ghost use Rattle.dr_check.specs.Searching.{IsTroubled};
 ghost use Rattle.dr_check.specs.Stopping.{IsStopped};
 
@@ -13,7 +14,9 @@ use dr_base::{Seq, Text};
 use dr_entry::EntryVisitor;
 use dr_network::Plan;
 use dr_route::{Key, OwnedCell, OwnedField};
+use dr_sound::Line;
 use std::alloc::{AllocError, Global};
+use std::collections::BTreeMap;
 use std::mem;
 
 /// Why the checker stopped.
@@ -29,6 +32,37 @@ pub struct Checker<'a> {
     plan: &'a Plan,
     local: Text,
     search: Search,
+}
+
+impl<'a> Checker<'a> {
+    /// A checker that has visited nothing.
+    pub fn new(alloc: Global, plan: &'a Plan) -> Result<Checker<'a>, AllocError>
+        ensures plan { IfOk result (λ c. c.plan.now ≡ plan.now) }
+        ensures ready { IfOk result (λ c. IsReady c) }
+    {
+        let path = Vec::with_capacity(alloc, plan.nodes().len())?;
+        let local = Text::copy_of(alloc, b"-")?;
+        let search = Search {
+            alloc,
+            path,
+            marks: BTreeMap::new(alloc),
+            lines: Vec::new(alloc),
+        };
+        Ok(Checker {
+            plan,
+            local,
+            search,
+        })
+    }
+
+    /// The lines of the stops that it has searched.
+    pub fn into_lines(self) -> Vec<Line>
+        ensures { result ≡ self.entry.search.lines }
+    {
+        let Checker { search, .. } = self;
+        let Search { lines, .. } = search;
+        lines
+    }
 }
 
 /// A value of the part of the field: its literal, or the text of the one byte 128, which no literal has.

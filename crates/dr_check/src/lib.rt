@@ -3,6 +3,9 @@
 
 pub mod checker;
 pub mod fault;
+pub mod laws;
 pub mod search;
+pub mod verdict;
 
 pub use fault::Fault;
+pub use verdict::{CheckFault, Verdict, check};

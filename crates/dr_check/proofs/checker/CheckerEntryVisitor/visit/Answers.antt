@@ -35,6 +35,7 @@ returns-in-Rank c =
         no_walk = no_walk;
         searching = λ cell. any_cell c.args.self.now.plan.now c.args.cell.now cell c.reach.new.search no_walk done.searching;
       };
+      shown = λ finding h. h;
       kept = λ site cell before. (before.0, done.later.lines _ before.1);
       wanted = λ site cell this.
           let P : Text → Type 0 = λ caller. Contains c.reach.new.search.lines.items (line_at caller c.args.site.now c.args.cell.now c.in-Rank.field-0) in

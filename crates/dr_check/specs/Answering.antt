@@ -1,0 +1,26 @@
+-- What the checker answers.
+use Rattle.std.specs.Prelude.{ℕ, ◌≤◌, List, Contains, Result, Ok, Err}
+use Rattle.dr_network.specs.Networks.{Network}
+use Rattle.dr_sound.specs.declared.certificate.Line.{Line}
+use Rattle.dr_sound.specs.Soundness.{IsSound}
+use Rattle.dr_sound.specs.Certificates.{IsCertificateOf}
+use Rattle.dr_check.specs.declared.verdict.Verdict.{Verdict}
+use Rattle.dr_check.specs.declared.verdict.Verdict.TheVariants.{Yes, No}
+use Rattle.dr_check.specs.declared.verdict.CheckFault.{CheckFault}
+use Rattle.dr_check.specs.declared.verdict.CheckFault.TheVariants.{TooLarge, Memory}
+use Rattle.dr_check.specs.Shown.{IsShown, IsTooLarge}
+
+-- yes: the plan is sound, and the certificate is its own; no: the fault shows itself
+abbrev pub Judges : Network → Verdict → Type 0
+Judges plan (Yes certificate) = IsSound plan × IsCertificateOf plan certificate
+Judges plan (No fault) = IsShown plan fault
+
+-- a verdict, or more lines than a certificate may have, or want of memory
+abbrev pub Answers : Network → Result Verdict CheckFault → Type 0
+Answers plan (Ok verdict) = Judges plan verdict
+Answers plan (Err TooLarge) = IsTooLarge plan
+Answers plan (Err Memory) = Unit {0}
+
+-- no rank is above the most lines
+abbrev pub AreFew : List Line → Type 0
+AreFew lines = (line : Line) → Contains lines line → line.rank ≤ 65536

@@ -1,0 +1,76 @@
+//! The check of a whole plan.
+ghost use Rattle.std.specs.Prelude.{◌≡◌, ◌≢◌, IfOk, AllPairs};
+ghost use Rattle.dr_network.specs.Plans.{IsWellFormed};
+ghost use Rattle.dr_sound.specs.Ranked.{AreRanked};
+ghost use Rattle.dr_check.specs.Answering.{Answers, Judges, AreFew};
+
+use crate::checker::{Checker, Stopped};
+use crate::fault::Fault;
+use dr_cert_text::{order_hops, order_lines};
+use dr_entry::visit_entries;
+use dr_hops::{Numbered, number_hops};
+use dr_network::Plan;
+use dr_sound::{Certificate, Line};
+use std::alloc::{AllocError, Global};
+use thiserror::Error;
+
+/// Whether a plan is sound.
+#[derive(Debug, Drop)]
+pub enum Verdict {
+    /// It is, and this is its certificate.
+    Yes(Certificate),
+    /// It isn't, and this shows it.
+    No(Fault),
+}
+
+/// Why a plan has no verdict. Memory is answered only where a growth was refused.
+#[derive(Clone, Copy, PartialEq, Eq, Debug, Error)]
+pub enum CheckFault {
+    /// Its certificate would have over 65,536 lines.
+    #[error("TooLarge")]
+    TooLarge,
+    #[error("Memory")]
+    Memory,
+}
+
+impl From<AllocError> for CheckFault {
+    ghost use Rattle.std.specs.Prelude.{◌≡◌};
+    ghost use Rattle.dr_check.specs.declared.verdict.CheckFault.TheVariants.{Memory};
+
+    ghost from_gives = { λ _ e. e ≡ Memory };
+
+    fn from(_: AllocError) -> CheckFault {
+        CheckFault::Memory
+    }
+}
+
+/// The verdict on a plan that has these lines.
+fn judged(alloc: Global, plan: &Plan, lines: Vec<Line>) -> Result<Verdict, AllocError>
+    requires formed { IsWellFormed plan.now }
+    requires ranked { AreRanked plan.now lines.items }
+    requires apart { AllPairs (λ a b. a ≢ b) lines.items }
+    requires few { AreFew lines.items }
+    ensures { IfOk result (Judges plan.now) }
+{
+    match number_hops(alloc, lines.as_slice())? {
+        Numbered::TooMany { from, to } => Ok(Verdict::No(Fault::TooManyContexts { from, to })),
+        Numbered::Hops(hops) => Ok(Verdict::Yes(Certificate {
+            digest: *plan.digest(),
+            hops: order_hops(alloc, hops)?,
+            lines: order_lines(alloc, lines)?,
+        })),
+    }
+}
+
+/// Checks the plan: searches all walks from its entries, for all keys, cell by cell, and answers yes with the
+/// plan's certificate, or no with what is wrong.
+pub fn check(alloc: Global, plan: &Plan) -> Result<Verdict, CheckFault>
+    ensures { Answers plan.now result }
+{
+    let mut checker = Checker::new(alloc, plan)?;
+    match visit_entries(alloc, plan, &mut checker)? {
+        Some(Stopped::Fault(fault)) => Ok(Verdict::No(fault)),
+        Some(Stopped::TooLarge) => Err(CheckFault::TooLarge),
+        None => Ok(judged(alloc, plan, checker.into_lines())?),
+    }
+}
