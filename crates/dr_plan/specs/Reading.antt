@@ -46,7 +46,7 @@ pub record HasGoodNames (plan : PlanText) : Type 0 where
   pub formed : EachName IsName plan
   pub apart : AllPairs (λ a b. a ≢ b) (node_names plan)
 
--- 64 nodes, 1,024 rules and flows, and each `max_pdu` in its range
+-- at most 64 nodes, at most 1,024 rules and flows together, and each `max_pdu` in its range
 pub record HasMaxPdu (node : NodeText) : Type 0 where
   pub bytes : ℕ
   pub is : node.max_pdu ≡ pos bytes
@@ -61,7 +61,7 @@ pub record IsWithinLimits (plan : PlanText) : Type 0 where
 abbrev pub KnowsNames : PlanText → Type 0
 KnowsNames plan = EachName (Contains (node_names plan)) plan
 
--- its transfer syntaxes and its `max_pdu` can be given their types
+-- the node's transfer syntaxes and its `max_pdu` can be given their types
 pub record IsTypable (node : NodeText) : Type 0 where
   pub accepts : All (λ row. All IsSyntax row.syntaxes) node.accepts
   pub max_pdu : HasMaxPdu node
@@ -71,7 +71,8 @@ pub record SendsElsewhere (plan : PlanText) : Type 0 where
   pub rules : All (λ node. All (λ rule. All (λ to. to ≢ node.name) rule.to) node.rules) plan.nodes
   pub flows : All (λ flow. flow.at ≢ flow.to) plan.flows
 
--- what is tested of a plan that a text writes: it passes, or has this fault and none of those tested earlier
+-- what is tested of a plan that a text writes: it passes, or has this fault and none of those tested earlier; without nodes
+-- no test needs memory
 abbrev pub Passes : PlanText → Result (Unit {0}) PlanFault → Type 0
 Passes plan (Ok done) = KnowsSyntaxes plan × HasGoodNames plan × IsWithinLimits plan × KnowsNames plan × SendsElsewhere plan
 Passes plan (Err fault.Syntax) = KnowsSyntaxes plan → ⊥
