@@ -1,3 +1,4 @@
 pub mod Hopping
 pub mod Pigeons
 pub mod RankedLines
+pub mod TwoNodes

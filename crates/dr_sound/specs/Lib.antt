@@ -3,4 +3,5 @@ pub mod HopPairs
 pub mod Laws
 pub mod Printed
 pub mod Ranked
+pub mod Samples
 pub mod Soundness

@@ -1,5 +1,6 @@
 //! Laws of sound plans.
 ghost use Rattle.dr_sound.specs.Laws.{RankedLinesAreTheLines, ShownPairsAreTheHops, RankedLinesAreSound};
+ghost use Rattle.dr_sound.specs.Samples.{TwoNodesAreSound, WithoutKeepTheyAreNot};
 
 /// Lines that are right one by one are exactly the plan's lines, and their ranks are the greatest.
 pub fn ranked_lines_are_the_lines()
@@ -11,4 +12,14 @@ pub fn ranked_lines_are_the_lines()
 pub fn ranked_lines_make_a_sound_plan()
     ensures pairs { ShownPairsAreTheHops }
     ensures sound { RankedLinesAreSound }
+{}
+
+/// The sample plan of two nodes is sound: instances enter at a scanner, and the archive keeps them.
+pub fn two_nodes_are_sound()
+    ensures { TwoNodesAreSound }
+{}
+
+/// Where the archive doesn't keep, the plan isn't sound.
+pub fn without_keep_they_are_not()
+    ensures { WithoutKeepTheyAreNot }
 {}

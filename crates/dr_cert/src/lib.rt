@@ -1,2 +1,0 @@
-//! To be written.
-#![tactic(auto)]
