@@ -1,0 +1,27 @@
+-- The line of a plan that isn't sound: the word no, the fault's name and its parts, joined by one tab, and the LF that ends it.
+use Rattle.std.specs.Prelude.{List, [], ◌∷◌, ◌++◌, codes, flat_map}
+use Rattle.dr_base.specs.Texts.{Text}
+use Rattle.dr_base.specs.Syntaxes.{syntax_uid}
+use Rattle.dr_route.specs.declared.cell.OwnedCell.{OwnedCell}
+use Rattle.dr_sound.specs.Printed.{printed_field}
+use Rattle.dr_check.specs.declared.fault.Fault.{Fault}
+use Rattle.dr_check.specs.declared.fault.Fault.TheVariants.{NoContext, Cycle, DeadEnd, TooManyContexts}
+
+-- each field behind a tab
+abbrev pub tabbed : List Text → Text
+tabbed fields = flat_map (λ field. 9 ∷ field) fields
+
+-- class, transfer syntax, modality and station, and the nodes of the walk
+abbrev pub walk_fields : OwnedCell → List Text → Text
+walk_fields cell walk =
+    (9 ∷ cell.class) ++ (9 ∷ syntax_uid cell.syntax) ++ (9 ∷ printed_field cell.modality) ++ (9 ∷ printed_field cell.station) ++ tabbed walk
+
+-- the fault's name and its parts
+abbrev pub fault_fields : Fault → Text
+fault_fields (NoContext walk cell) = (9 ∷ codes "NoContext") ++ walk_fields cell walk
+fault_fields (Cycle walk cell) = (9 ∷ codes "Cycle") ++ walk_fields cell walk
+fault_fields (DeadEnd walk cell) = (9 ∷ codes "DeadEnd") ++ walk_fields cell walk
+fault_fields (TooManyContexts from to) = (9 ∷ codes "TooManyContexts") ++ (9 ∷ from) ++ (9 ∷ to)
+
+abbrev pub no_line : Fault → Text
+no_line fault = codes "no" ++ fault_fields fault ++ (10 ∷ [])

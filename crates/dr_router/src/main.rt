@@ -1,0 +1,46 @@
+//! The program `dr_router`: checks a plan of a network, and prints its certificate or what is wrong with it.
+#![tactic(auto)]
+
+mod answer;
+mod print;
+mod run;
+mod status;
+#[cfg(test)]
+mod tests;
+mod words;
+
+use crate::run::{Files, run_words};
+use std::alloc::Global;
+use std::process::ExitCode;
+use std::{env, fs, io};
+
+/// The files of the system.
+#[derive(Drop)]
+struct Disk<'a>(&'a HostRuntime);
+
+impl<'a> Files for Disk<'a> {
+    fn read(&self, _alloc: Global, path: &str) -> io::Result<Vec<u8>> {
+        fs::read(self.0, path)
+    }
+}
+
+fn main(rt: HostRuntime) -> io::Result<ExitCode> {
+    let alloc = rt.alloc();
+    let mut given = Vec::new(alloc);
+    for word in env::args(&rt)?.skip(1) {
+        given.push(word)?;
+    }
+    let mut words = Vec::new(alloc);
+    for word in given.as_slice() {
+        words.push(word.as_str())?;
+    }
+    let status = run_words(
+        alloc,
+        words.as_slice(),
+        &mut rt.stdin(),
+        &mut rt.stdout(),
+        &mut rt.stderr(),
+        &Disk(&rt),
+    );
+    Ok(ExitCode::from(status.number()))
+}
