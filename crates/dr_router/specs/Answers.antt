@@ -1,5 +1,5 @@
 -- What the program answers to the text of a plan.
-use Rattle.std.specs.Prelude.{◌≡◌, ◌≢◌, [], Result, Ok, Err}
+use Rattle.std.specs.Prelude.{◌≡◌, ◌≢◌, [], Ok, Err}
 use Rattle.dr_base.specs.Texts.{Text}
 use Rattle.dr_network.specs.Networks.{Network}
 use Rattle.dr_sound.specs.declared.certificate.Certificate.{Certificate}
@@ -7,7 +7,6 @@ use Rattle.dr_sound.specs.Soundness.{IsSound}
 use Rattle.dr_sound.specs.Certificates.{IsCertificateOf}
 use Rattle.dr_cert_text.specs.CertificateText.{certificate_text}
 use Rattle.dr_plan.specs.Reading.{Reads}
-use Rattle.dr_plan.specs.declared.fault.PlanFault.{PlanFault}
 use Rattle.dr_plan.specs.declared.fault.PlanFault.TheVariants.{Memory as NoMemory}
 use Rattle.dr_check.specs.declared.fault.Fault.{Fault}
 use Rattle.dr_check.specs.Shown.{IsShown, IsTooLarge}

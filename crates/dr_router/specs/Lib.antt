@@ -2,3 +2,4 @@ pub mod Answers
 pub mod Faults
 pub mod Runs
 pub mod Statuses
+pub mod Words

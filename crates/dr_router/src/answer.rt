@@ -1,6 +1,7 @@
 //! What the program answers to the text of a plan.
-ghost use Rattle.std.specs.Prelude.{◌≡◌};
+ghost use Rattle.std.specs.Prelude.{◌≡◌, ◌≢◌};
 ghost use Rattle.dr_router.specs.Answers.{IsAnswerTo, status_for};
+ghost use Rattle.dr_router.specs.declared.status.Status.TheVariants.{Usage};
 
 use crate::print::line_of;
 use crate::status::Status;
@@ -28,7 +29,8 @@ pub enum Answer {
 impl Answer {
     /// The status with which the program ends, where the answer is told.
     pub fn status(&self) -> Status
-        ensures { result ≡ status_for self.now }
+        ensures told { result ≡ status_for self.now }
+        ensures known { result ≢ Usage }
     {
         match self {
             Answer::Sound(_) => Status::Success,

@@ -1,9 +1,10 @@
 //! A run of the program.
-ghost use Rattle.std.specs.Prelude.{◌≡◌, ◌≢◌, ◌⊎◌, IfOk, OnOk, IfSome, length};
+ghost use Rattle.std.specs.Prelude.{◌≡◌, ◌≢◌, ◌⊎◌, IfOk, OnOk, IfSome};
 ghost use Rattle.std.specs.Io.KnownBytes.{Appends};
 ghost use Rattle.dr_router.specs.Answers.{printed_for};
 ghost use Rattle.dr_router.specs.Runs.{Answers};
-ghost use Rattle.dr_router.specs.declared.status.Status.TheVariants.{Success, Refused};
+ghost use Rattle.dr_router.specs.Words.{IsPlainCheck};
+ghost use Rattle.dr_router.specs.declared.status.Status.TheVariants.{Success, Refused, Usage, InputOutput, Memory};
 
 use crate::answer::{Answer, answer_to};
 use crate::status::Status;
@@ -44,7 +45,8 @@ fn answer_text<W: Write, E: Write>(
     output: &mut W,
     faults: &mut E,
 ) -> io::Result<Status>
-    ensures { IfOk result (Answers text.now (W.contents output.old) (W.contents output.new)) }
+    ensures known { IfOk result (λ status. status ≢ Usage) }
+    ensures answered { IfOk result (Answers text.now (W.contents output.old) (W.contents output.new)) }
 {
     let answer = answer_to(alloc, text);
     tell_answer(&answer, output, faults)?;
@@ -58,7 +60,8 @@ fn answer_input<R: Read, W: Write, E: Write>(
     output: &mut W,
     faults: &mut E,
 ) -> io::Result<Status>
-    ensures { IfOk result (λ status. IfSome (R.remaining input.old) (λ text. Answers text (W.contents output.old) (W.contents output.new) status)) }
+    ensures known { IfOk result (λ status. status ≢ Usage) }
+    ensures answered { IfOk result (λ status. IfSome (R.remaining input.old) (λ text. Answers text (W.contents output.old) (W.contents output.new) status)) }
 {
     let mut text = Vec::new(alloc);
     input.read_to_end(&mut text)?;
@@ -98,7 +101,7 @@ fn tell_words<W: Write, E: Write>(
 
 /// Writes why input or output failed, and ends so; a fault that can't be written is left unwritten.
 fn tell_failure<E: Write>(error: &io::Error, faults: &mut E) -> Status
-    ensures broken { (result ≢ Success) × (result ≢ Refused) }
+    ensures { (result ≡ InputOutput) ⊎ (result ≡ Memory) }
 {
     if error.kind() == io::ErrorKind::OutOfMemory {
         let _ = writeln!(faults, "dr_router: Memory");
@@ -117,7 +120,8 @@ pub fn run_words<R: Read, W: Write, E: Write, F: Files>(
     faults: &mut E,
     files: &F,
 ) -> Status
-    ensures { length words.now ≡ 0 → (result ≡ Success) ⊎ (result ≡ Refused)
+    ensures known { IsPlainCheck words.now → result ≢ Usage }
+    ensures answered { IsPlainCheck words.now → (result ≡ Success) ⊎ (result ≡ Refused)
         → IfSome (R.remaining input.old) (λ text. Answers text (W.contents output.old) (W.contents output.new) result) }
 {
     let told = match read_words(alloc, words) {

@@ -1,5 +1,6 @@
 //! What the words of the command line ask for.
-ghost use Rattle.std.specs.Prelude.{◌≡◌, IfOk, length, true};
+ghost use Rattle.std.specs.Prelude.{◌≡◌, IfOk, true};
+ghost use Rattle.dr_router.specs.Words.{IsPlainCheck};
 ghost use Rattle.dr_router.specs.declared.words.Asked.{Asked};
 
 use clap::{Arg, ArgAction, Command, Error};
@@ -18,7 +19,7 @@ pub enum Asked<'a> {
 
 /// Whether the words are none, or the one word `check`.
 fn is_plain_check(words: &[&str]) -> bool
-    ensures { length words.now ≡ 0 → result ≡ true }
+    ensures { IsPlainCheck words.now → result ≡ true }
 {
     match words {
         [] => true,
@@ -44,7 +45,7 @@ fn command<'a>(alloc: Global) -> Result<Command<'a>, AllocError> {
 
 /// What the words ask for.
 pub fn read_words<'a>(alloc: Global, words: &'a [&'a str]) -> Result<Asked<'a>, AllocError>
-    ensures { IfOk result (λ asked. length words.now ≡ 0 → asked ≡ Asked.CheckInput) }
+    ensures { IfOk result (λ asked. IsPlainCheck words.now → asked ≡ Asked.CheckInput) }
 {
     if is_plain_check(words) {
         return Ok(Asked::CheckInput);
