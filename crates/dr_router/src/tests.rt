@@ -303,3 +303,80 @@ fn words_have_statuses(rt: HostRuntime) -> Result<(), Fail> {
     assert_eq!(rt; faults.as_str(), "");
     Ok(())
 }
+
+/// The full plan with 15 modalities and 15 stations that rules name, so that each pair of class and transfer
+/// syntax has 256 cells of two lines each.
+fn large_plan(alloc: Global, is_too_large: bool) -> Result<String, Fail> {
+    let keep = "[[node.rule]]\nkeep = true\n";
+    let mut rules = String::from_str(alloc, keep)?;
+    for number in 1u32..16 {
+        write!(
+            rules,
+            "[[node.rule]]\nmodality = \"M{number}\"\nstation = \"S{number}\"\nkeep = true\n"
+        )?;
+    }
+    let plan = full_plan(alloc, is_too_large)?.replace(alloc, keep, rules.as_str())?;
+    let any = plan.as_str().replace(
+        alloc,
+        "modality = [\"CT\"]\nstation = [\"S1\"]",
+        "modality = \"*\"\nstation = \"*\"",
+    )?;
+    Ok(any)
+}
+
+#[test]
+fn a_certificate_has_65536_lines(rt: HostRuntime) -> Result<(), Fail> {
+    let alloc = rt.alloc();
+    let full = large_plan(alloc, false)?;
+    let (status, output, _) = run(alloc, &[], full.as_str())?;
+    assert_eq!(rt; status, Status::Success);
+    assert_eq!(rt; output.as_str().matches("\nline\t").count(), 65536);
+    let too_large = large_plan(alloc, true)?;
+    let (status, output, faults) = run(alloc, &[], too_large.as_str())?;
+    assert_eq!(rt; faults.as_str(), "dr_router: TooLarge\n");
+    assert_eq!(rt; output.as_str(), "");
+    assert_eq!(rt; status, Status::Refused);
+    Ok(())
+}
+
+#[test]
+fn what_no_rule_names_has_cells_too(rt: HostRuntime) -> Result<(), Fail> {
+    let alloc = rt.alloc();
+    let rules =
+        "to = [\"ARCH\"]\n[[node.rule]]\nmodality = \"MR\"\nto = [\"ARCH\"]\n[[node.rule]]\nmodality = \"CT\"\nto = [\"ARCH\"]\n";
+    let any = PLAN
+        .replace(alloc, "modality = [\"CT\"]", "modality = \"*\"")?
+        .replace(alloc, "from = \"CT1\"\nto = [\"ARCH\"]\n", rules)?;
+    let rows = "\
+hop\tCT1\tGATE\t1\tKEY
+hop\tGATE\tARCH\t1\tKEY
+line\t-\tCT1\tKEY*\tS1\t2
+line\t-\tCT1\tKEYCT\tS1\t2
+line\t-\tCT1\tKEYMR\tS1\t2
+line\tCT1\tGATE\tKEY*\tS1\t1
+line\tCT1\tGATE\tKEYCT\tS1\t1
+line\tCT1\tGATE\tKEYMR\tS1\t1
+line\tGATE\tARCH\tKEY*\tS1\t0
+line\tGATE\tARCH\tKEYCT\tS1\t0
+line\tGATE\tARCH\tKEYMR\tS1\t0
+end
+";
+    is_sound(&rt, any.as_str(), rows)
+}
+
+/// Where the last node neither accepts nor does anything, the hop is what is shown.
+#[test]
+fn a_hop_is_looked_at_before_the_rules_behind_it(rt: HostRuntime) -> Result<(), Fail> {
+    let alloc = rt.alloc();
+    let neither = PLAN.replace(
+        alloc,
+        "\"1.2.840.10008.1.2.1\"]\n[[node.rule]]\nkeep = true\n",
+        "\"1.2.840.10008.1.2\"]\n",
+    )?;
+    is_unsound(
+        &rt,
+        neither.as_str(),
+        "NoContext",
+        "CT\tS1\tCT1\tGATE\tARCH",
+    )
+}
