@@ -51,17 +51,25 @@ are_ranked c ready visited = record {
   entries = λ key cell site lies entry. visited site cell (key, lies, entry);
 }
 
-pub are_few : (c : Checker) → IsReady c → AreFew c.search.lines.items
-are_few c ready line among =
-    let s = ready.searching line.stop.cell in
-    let below : line.rank < length c.search.lines.items = s.counted line.stop line.rank among in
+-- some cell, for what holds whatever the cell
+any : OwnedCell
+any = record { class = []; syntax = Implicit; modality = Rest; station = Rest }
+
+at_most : (c : Checker) → IsReady c → length c.search.lines.items ≤ 65536
+at_most c ready =
+    let s = ready.searching any in
     let room = s.room in
     let within = s.within in
     omega arith
 
--- some cell, for what holds whatever the cell
-any : OwnedCell
-any = record { class = []; syntax = Implicit; modality = Rest; station = Rest }
+rank_below : (c : Checker) → IsReady c → (line : Line) → Contains c.search.lines.items line → line.rank ≤ 65536
+rank_below c ready line among =
+    let below : line.rank < length c.search.lines.items = (ready.searching line.stop.cell).counted line.stop line.rank among in
+    let most : length c.search.lines.items ≤ 65536 = at_most c ready in
+    omega arith
+
+pub are_few : (c : Checker) → IsReady c → AreFew c.search.lines.items
+are_few c ready = (at_most c ready, rank_below c ready)
 
 pub are_apart : (c : Checker) → IsReady c → AllPairs (λ a b. a ≢ b) c.search.lines.items
 are_apart c ready = (ready.searching any).apart
@@ -115,7 +123,7 @@ pub line_is_printable : (plan : Network) → IsWellFormed plan → (lines : List
 line_is_printable plan formed lines all few line among =
     let cell : IsCellOf plan line.stop.cell = all.cells line.stop line.rank among in
     let r : IsReached plan (key_of line.stop.cell) line.stop.caller line.stop.node = all.reached line.stop line.rank among in
-    let small : line.rank ≤ 65536 = few line among in
+    let small : line.rank ≤ 65536 = few.1 line among in
     record {
       caller = caller_plain plan formed (key_of line.stop.cell) line.stop.caller line.stop.node r;
       node = known_plain plan formed line.stop.node (reached_is_known plan formed (key_of line.stop.cell) line.stop.caller line.stop.node r);

@@ -1,5 +1,5 @@
 -- What the checker answers.
-use Rattle.std.specs.Prelude.{ℕ, ◌≤◌, List, Contains, Result, Ok, Err}
+use Rattle.std.specs.Prelude.{ℕ, ◌≤◌, List, Contains, Result, Ok, Err, length}
 use Rattle.dr_network.specs.Networks.{Network}
 use Rattle.dr_sound.specs.declared.certificate.Line.{Line}
 use Rattle.dr_sound.specs.Soundness.{IsSound}
@@ -10,9 +10,9 @@ use Rattle.dr_check.specs.declared.verdict.CheckFault.{CheckFault}
 use Rattle.dr_check.specs.declared.verdict.CheckFault.TheVariants.{TooLarge, Memory}
 use Rattle.dr_check.specs.Shown.{IsShown, IsTooLarge}
 
--- yes: the plan is sound, and the certificate is its own; no: the fault shows itself
+-- yes: the plan is sound, and the certificate is its own and not too large; no: the fault shows itself
 abbrev pub Judges : Network → Verdict → Type 0
-Judges plan (Yes certificate) = IsSound plan × IsCertificateOf plan certificate
+Judges plan (Yes certificate) = IsSound plan × IsCertificateOf plan certificate × (length certificate.lines ≤ 65536)
 Judges plan (No fault) = IsShown plan fault
 
 -- a verdict, or more lines than a certificate may have, or want of memory
@@ -21,6 +21,6 @@ Answers plan (Ok verdict) = Judges plan verdict
 Answers plan (Err TooLarge) = IsTooLarge plan
 Answers plan (Err Memory) = Unit {0}
 
--- no rank is above the most lines
+-- no more than the most lines, and no rank above their number
 abbrev pub AreFew : List Line → Type 0
-AreFew lines = (line : Line) → Contains lines line → line.rank ≤ 65536
+AreFew lines = (length lines ≤ 65536) × ((line : Line) → Contains lines line → line.rank ≤ 65536)

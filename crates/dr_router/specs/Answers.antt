@@ -1,5 +1,5 @@
 -- What the program answers to the text of a plan.
-use Rattle.std.specs.Prelude.{◌≡◌, ◌≢◌, [], Ok, Err}
+use Rattle.std.specs.Prelude.{◌≡◌, ◌≢◌, ◌≤◌, length, [], Ok, Err}
 use Rattle.dr_base.specs.Texts.{Text}
 use Rattle.dr_network.specs.Networks.{Network}
 use Rattle.dr_sound.specs.declared.certificate.Certificate.{Certificate}
@@ -16,13 +16,14 @@ use Rattle.dr_router.specs.declared.answer.Answer.TheVariants.{Sound, Unsound, N
 use Rattle.dr_router.specs.declared.status.Status.{Status}
 use Rattle.dr_router.specs.declared.status.Status.TheVariants.{Success, Refused, Memory as OutOfMemory}
 
--- the text writes a sound plan, and this is the text of the plan's certificate
+-- the text writes a sound plan, and this is the text of the plan's certificate, which has few enough lines to be read back
 pub record IsProved (text output : Text) : Type 0 where
   pub plan : Network
   pub certificate : Certificate
   pub reads : Reads text (Ok plan)
   pub sound : IsSound plan
   pub own : IsCertificateOf plan certificate
+  pub few : length certificate.lines ≤ 65536
   pub printed : output ≡ certificate_text certificate
 
 -- the text writes a plan with this fault, and this is the fault's line

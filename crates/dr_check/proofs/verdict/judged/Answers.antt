@@ -1,4 +1,4 @@
-use Rattle.std.proofs.Common.{◌≡◌, sym, ◌∙◌, ap, subst, List, Contains, get_or}
+use Rattle.std.proofs.Common.{◌≡◌, sym, ◌∙◌, ap, subst, List, Contains, get_or, length, ◌≤◌, arith}
 use Rattle.std.specs.Prelude.{AllPairs, All, ◌↔◌}
 use Rattle.dr_base.specs.Texts.{Text}
 use Rattle.dr_base.specs.declared.syntax.Syntax.{Syntax}
@@ -49,4 +49,7 @@ returns-in_ok-order_lines-in-Hops c =
         lines_ordered = lines.ordered;
         hops_ordered = hops.ordered;
       },
+      (let long : length c.in_ok-order_lines-in-Hops.field-0 ≡ length c.args.lines.items = lines.long in
+          let few : length c.args.lines.items ≤ 65536 = c.requires.few.0 in
+          omega arith),
     )
