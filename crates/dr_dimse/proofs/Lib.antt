@@ -1,0 +1,6 @@
+pub mod ElementLemmas
+pub mod GivenLemmas
+pub mod MessageLemmas
+pub mod Numerals
+pub mod OneCommand
+pub mod Refusals

@@ -1,0 +1,6 @@
+pub mod Commands
+pub mod Messages
+pub mod Reads
+pub mod Taking
+pub mod Vectors
+pub mod Written
