@@ -1,16 +1,14 @@
 -- A list of values gives a message at its last one, and none before, just where it is that message.
-use Rattle.std.proofs.Common.{◌≡◌, ◌≢◌, ℕ, ◌+◌, ◌<◌, ◌≤◌, Bool, true, false, List, [], ◌∷◌, ◌++◌, length, Option, Some, None, Result, Ok, Err, refl, sym, ap, subst, ◌∙◌, arith, inl, inr, ◌⊎◌, append_assoc}
-use Rattle.std.specs.List.{flat_map, AllByRecursion}
+use Rattle.std.proofs.Common.{◌≡◌, ℕ, ◌≤◌, true, false, List, [], ◌∷◌, ◌++◌, length, Option, Some, None, Ok, refl, sym, ap, subst, ◌∙◌, arith, inl, inr, append_assoc}
 use Rattle.std.proofs.lemmas.List.{append-nil, length-append}
 use Rattle.dr_pdu.specs.declared.pdu.Pdv.{Pdv}
 use Rattle.dr_dimse.specs.declared.message.Body.{Body}
-use Rattle.dr_dimse.specs.declared.message.Body.TheVariants.{Whole, TooLarge}
+use Rattle.dr_dimse.specs.declared.message.Body.TheVariants.{Whole}
 use Rattle.dr_dimse.specs.declared.message.Message.{Message}
 use Rattle.dr_dimse.specs.declared.message.Awaited.{Awaited}
 use Rattle.dr_dimse.specs.declared.command.Command.{Command}
-use Rattle.dr_dimse.specs.Commands.{IsCommand, announces}
-use Rattle.dr_dimse.specs.Messages.{is_command, is_last, joined, IsOfKind, AreInner, IsWhole, body_of, IsMessage}
-use Rattle.dr_dimse.specs.Taking.{Stage, Idle, InCommand, InData, Leaves, context_of, wants_command, text_so_far, kept, IsAwaited, InContext, InPlace, IsShortEnough, EndsCommand, TakesCommand, TakesData, Takes, Waits, Gives}
+use Rattle.dr_dimse.specs.Messages.{is_last, joined, IsOfKind, AreInner, body_of, IsMessage}
+use Rattle.dr_dimse.specs.Taking.{Stage, Idle, InCommand, InData, Leaves, wants_command, text_so_far, kept, IsAwaited, InContext, InPlace, EndsCommand, TakesData, Takes, Waits, Gives}
 use Rattle.dr_dimse.proofs.MessageLemmas.{leaves_more, message_ends, kept_is}
 
 -- ---- what is given is the message

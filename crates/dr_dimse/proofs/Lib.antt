@@ -1,6 +1,7 @@
 pub mod ElementLemmas
 pub mod GivenLemmas
 pub mod MessageLemmas
-pub mod Numerals
 pub mod OneCommand
 pub mod Refusals
+pub mod StageLemmas
+pub mod WriteLemmas

@@ -1,6 +1,5 @@
 -- One value after the other makes the messages of the list of values.
-use Rattle.std.proofs.Common.{◌≡◌, ◌≢◌, ℕ, ◌+◌, ◌<◌, ◌≤◌, Bool, true, false, cond, ltb, List, [], ◌∷◌, ◌++◌, length, Option, Some, None, Result, Ok, Err, refl, sym, ap, subst, ◌∙◌, arith, inl, inr, ◌⊎◌, append_assoc}
-use Rattle.std.specs.List.{flat_map, AllByRecursion}
+use Rattle.std.proofs.Common.{◌≡◌, ◌≢◌, ℕ, ◌≤◌, Bool, true, false, cond, ltb, List, [], ◌∷◌, ◌++◌, length, Option, Some, None, Result, Ok, Err, refl, sym, ap, subst, ◌∙◌, arith, inl, inr, append_assoc}
 use Rattle.std.proofs.lemmas.List.{append-nil, length-append}
 use Rattle.std.proofs.lemmas.Bool.{lt-ltb, ltb-true}
 use Rattle.dr_pdu.specs.declared.pdu.Pdv.{Pdv}
@@ -8,12 +7,10 @@ use Rattle.dr_dimse.specs.declared.message.Body.{Body}
 use Rattle.dr_dimse.specs.declared.message.Body.TheVariants.{Whole, TooLarge}
 use Rattle.dr_dimse.specs.declared.message.Message.{Message}
 use Rattle.dr_dimse.specs.declared.message.Awaited.{Awaited}
-use Rattle.dr_dimse.specs.declared.command.Command.{Command}
 use Rattle.dr_dimse.specs.declared.fault.DimseFault.{DimseFault}
 use Rattle.dr_dimse.specs.declared.fault.DimseFault.TheVariants.{OutOfPlace, MixedContext, BadCommand, TooLong, Memory}
-use Rattle.dr_dimse.specs.Commands.{IsCommand, announces}
-use Rattle.dr_dimse.specs.Messages.{is_command, is_last, joined, IsOfKind, AreInner, IsWhole, body_of, IsMessage, AreMessages}
-use Rattle.dr_dimse.specs.Taking.{Stage, Idle, InCommand, InData, Leaves, context_of, wants_command, text_so_far, kept, IsAwaited, InContext, InPlace, IsShortEnough, EndsCommand, TakesCommand, TakesData, Takes, Call, Took, taken_by, given_by, taken, given, Waits, Gives}
+use Rattle.dr_dimse.specs.Messages.{is_last, joined, IsOfKind, AreInner, IsWhole, body_of, IsMessage, AreMessages}
+use Rattle.dr_dimse.specs.Taking.{Stage, Idle, InCommand, InData, Leaves, wants_command, text_so_far, kept, InContext, InPlace, IsShortEnough, EndsCommand, TakesData, Takes, Call, Took, taken_by, given_by, taken, given}
 
 -- ---- lists of values
 

@@ -1,12 +1,12 @@
 -- What the elements of a text say is one command at most.
-use Rattle.std.proofs.Common.{◌≡◌, ◌≢◌, ℕ, ◌<◌, ◌≤◌, ◌^◌, Bool, true, false, not, eqb, List, [], Option, Some, None, refl, sym, ap, subst, ◌∙◌, arith, inl, inr}
+use Rattle.std.proofs.Common.{◌≡◌, ℕ, ◌≤◌, Bool, not, eqb, List, [], Option, Some, sym, ap, subst, ◌∙◌, arith, inl, inr}
 use Rattle.std.specs.Int.{w16, to_le_bytes, from_le_bytes}
 use Rattle.std.proofs.lemmas.Nat.{from_le_bytes-to_le_bytes_2}
 use Rattle.dr_base.specs.Runs.{Run}
 use Rattle.dr_base.proofs.RunLemmas.{run_same}
 use Rattle.dr_dimse.specs.declared.command.Command.{Command}
 use Rattle.dr_dimse.specs.declared.command.Command.TheVariants.{StoreRq, StoreRsp, EchoRq, EchoRsp, Other}
-use Rattle.dr_dimse.specs.Commands.{Element, StartsElement, first_value, HasNumber, AreNumbers, HasNoName, field_of, announces, id_of, status_of, Announces, HasIds, HasTexts, Says, IsCommand}
+use Rattle.dr_dimse.specs.Commands.{Element, StartsElement, HasNumber, AreNumbers, field_of, announces, id_of, status_of, Announces, HasIds, HasTexts, Says, IsCommand}
 use Rattle.dr_dimse.proofs.ElementLemmas.{element_parts}
 
 pub same_elements : (es fs : List Element) (text : List ℕ) → Run StartsElement es text [] → Run StartsElement fs text [] → fs ≡ es

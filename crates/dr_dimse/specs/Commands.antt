@@ -1,13 +1,13 @@
 -- Command sets (PS3.7 section 9 and Annex E): a relation between texts and commands. A command set is in Implicit VR
 -- Little Endian, and all its elements are of group 0000. They come in any order, unknown ones are skipped, and of a
 -- repeated one the first counts, so all is said of the list of the elements.
-use Rattle.std.specs.Prelude.{◌≡◌, ◌≢◌, ◌⊎◌, ℕ, ◌^◌, ◌<◌, ◌≤◌, Bool, true, false, not, List, [], ◌∷◌, ◌++◌, length, map, filter, ◌==◌, Option, Some, None, IfSome, slice_get, Result, Ok, Err}
+use Rattle.std.specs.Prelude.{◌≡◌, ◌≢◌, ◌⊎◌, ℕ, ◌^◌, ◌<◌, ◌≤◌, Bool, true, not, List, [], ◌∷◌, ◌++◌, length, map, filter, ◌==◌, Option, Some, None, IfSome, slice_get, Result, Ok, Err}
 use Rattle.std.specs.Int.{w16, w32, to_le_bytes}
 use Rattle.std.specs.List.{AllByRecursion}
 use Rattle.dr_base.specs.Runs.{Run}
 use Rattle.dr_pdu.specs.Items.{unpadded}
 use Rattle.dr_dimse.specs.declared.fault.DimseFault.{DimseFault}
-use Rattle.dr_dimse.specs.declared.fault.DimseFault.TheVariants.{OutOfPlace, MixedContext, BadCommand, TooLong, Memory}
+use Rattle.dr_dimse.specs.declared.fault.DimseFault.TheVariants.{BadCommand, Memory}
 use Rattle.dr_dimse.specs.declared.command.Command.{Command}
 use Rattle.dr_dimse.specs.declared.command.Command.TheVariants.{StoreRq, StoreRsp, EchoRq, EchoRsp, Other}
 

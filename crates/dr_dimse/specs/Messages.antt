@@ -1,6 +1,6 @@
 -- Messages out of presentation data values (PS3.7 section 6.3 and PS3.8 Annex E): a relation between lists of values
 -- and messages. A value carries a fragment of a command or of a data set.
-use Rattle.std.specs.Prelude.{◌≡◌, ◌⊎◌, ℕ, ◌<◌, ◌≤◌, ◌%◌, ◌/◌, Bool, true, false, List, [], ◌∷◌, ◌++◌, length, nat_lt, ◌==◌, if◌then◌else◌, Some, None}
+use Rattle.std.specs.Prelude.{◌≡◌, ◌⊎◌, ℕ, ◌≤◌, ◌%◌, ◌/◌, Bool, true, false, List, [], ◌∷◌, ◌++◌, length, nat_lt, ◌==◌, if◌then◌else◌, Some, None}
 use Rattle.std.specs.List.{flat_map, AllByRecursion}
 use Rattle.dr_pdu.specs.declared.pdu.Pdv.{Pdv}
 use Rattle.dr_dimse.specs.declared.message.Body.{Body}

@@ -1,8 +1,8 @@
 -- What the private readers of commands promise.
-use Rattle.std.specs.Prelude.{◌≡◌, ◌==◌, not, Bool, ℕ, List, map, Result, Ok, Err}
+use Rattle.std.specs.Prelude.{◌≡◌, Bool, ℕ, List, map, Result, Ok, Err}
 use Rattle.dr_dimse.specs.declared.elements.Element.{Element as Found}
 use Rattle.dr_dimse.specs.declared.fault.DimseFault.{DimseFault}
-use Rattle.dr_dimse.specs.declared.fault.DimseFault.TheVariants.{OutOfPlace, MixedContext, BadCommand, TooLong, Memory}
+use Rattle.dr_dimse.specs.declared.fault.DimseFault.TheVariants.{BadCommand, Memory}
 use Rattle.dr_dimse.specs.declared.command.Command.{Command}
 use Rattle.dr_dimse.specs.Commands.{Element, field_of, announces, id_of, status_of, HasIds, HasTexts}
 

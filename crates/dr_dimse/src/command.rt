@@ -1,6 +1,6 @@
 //! Commands (PS3.7 sections 9.1 and 9.3), as values.
 ghost use Rattle.std.specs.Prelude.{◌≡◌};
-ghost use Rattle.dr_dimse.specs.Commands.{announces as announces_data};
+ghost use Rattle.dr_dimse.specs.Commands.{announces as announces_data, field_of, id_of};
 
 use dr_base::Text;
 
@@ -67,6 +67,32 @@ impl Command {
             | Command::EchoRq { has_data, .. }
             | Command::EchoRsp { has_data, .. }
             | Command::Other { has_data, .. } => *has_data,
+        }
+    }
+
+    /// The command field (E.1).
+    pub fn field(&self) -> u16
+        ensures { result ≡ field_of self.now }
+    {
+        match self {
+            Command::StoreRq { .. } => 0x0001,
+            Command::StoreRsp { .. } => 0x8001,
+            Command::EchoRq { .. } => 0x0030,
+            Command::EchoRsp { .. } => 0x8030,
+            Command::Other { field, .. } => *field,
+        }
+    }
+
+    /// The message id, or the id of the message that it answers.
+    pub fn id(&self) -> Option<u16>
+        ensures { result ≡ id_of self.now }
+    {
+        match self {
+            Command::StoreRq { id, .. } => Some(*id),
+            Command::StoreRsp { to, .. } => Some(*to),
+            Command::EchoRq { id, .. } => Some(*id),
+            Command::EchoRsp { to, .. } => Some(*to),
+            Command::Other { id, .. } => *id,
         }
     }
 }

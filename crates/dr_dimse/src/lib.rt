@@ -6,6 +6,7 @@
 //! other. `laws` has what follows from the definitions, and `figures` worked figures of them.
 #![tactic(auto)]
 
+mod assembly;
 mod command;
 mod elements;
 mod fault;
@@ -13,8 +14,11 @@ pub mod figures;
 pub mod laws;
 mod message;
 mod reader;
+mod writer;
 
+pub use assembly::Assembly;
 pub use command::Command;
 pub use fault::DimseFault;
 pub use message::{Awaited, Body, Message};
 pub use reader::read_command;
+pub use writer::{fits, write_command};

@@ -1,7 +1,5 @@
-use Rattle.std.proofs.Common.{[], ◌∙◌, sym, subst, List}
 use Rattle.std.proofs.lemmas.Result.{err_from_is_err_and}
-use Rattle.dr_base.specs.Runs.{Run}
-use Rattle.dr_dimse.specs.Commands.{Element, StartsElement, AreNumbers, Says, IsCommand}
+use Rattle.dr_dimse.specs.Commands.{Says, IsCommand}
 use Rattle.dr_dimse.specs.Reads.{elements}
 use Rattle.dr_dimse.proofs.OneCommand.{numbers_of, said_of}
 use Rattle.dr_dimse.proofs.Refusals.{refused, no_command}
