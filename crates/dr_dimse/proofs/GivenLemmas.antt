@@ -1,5 +1,6 @@
 -- A list of values gives a message at its last one, and none before, just where it is that message.
-use Rattle.std.proofs.Common.{◌≡◌, ℕ, ◌≤◌, true, false, List, [], ◌∷◌, ◌++◌, length, Option, Some, None, Ok, refl, sym, ap, subst, ◌∙◌, arith, inl, inr, append_assoc}
+use Rattle.std.proofs.Common.{◌≡◌, ℕ, ◌≤◌, true, false, List, [], ◌∷◌, ◌++◌, length, Option, Some, None, Result, Ok, Err, refl, sym, ap, subst, ◌∙◌, arith, inl, inr, append_assoc}
+use Rattle.std.specs.List.{AllByRecursion}
 use Rattle.std.proofs.lemmas.List.{append-nil, length-append}
 use Rattle.dr_pdu.specs.declared.pdu.Pdv.{Pdv}
 use Rattle.dr_dimse.specs.declared.message.Body.{Body}
@@ -7,9 +8,10 @@ use Rattle.dr_dimse.specs.declared.message.Body.TheVariants.{Whole}
 use Rattle.dr_dimse.specs.declared.message.Message.{Message}
 use Rattle.dr_dimse.specs.declared.message.Awaited.{Awaited}
 use Rattle.dr_dimse.specs.declared.command.Command.{Command}
+use Rattle.dr_dimse.specs.declared.fault.DimseFault.{DimseFault}
 use Rattle.dr_dimse.specs.Messages.{is_last, joined, IsOfKind, AreInner, body_of, IsMessage}
-use Rattle.dr_dimse.specs.Taking.{Stage, Idle, InCommand, InData, Leaves, wants_command, text_so_far, kept, IsAwaited, InContext, InPlace, EndsCommand, TakesData, Takes, Waits, Gives}
-use Rattle.dr_dimse.proofs.MessageLemmas.{leaves_more, message_ends, kept_is}
+use Rattle.dr_dimse.specs.Taking.{Stage, Idle, InCommand, InData, Leaves, wants_command, text_so_far, kept, IsAwaited, InContext, InPlace, EndsCommand, TakesData, Takes, Call, Took, given_by, given, Waits, Gives}
+use Rattle.dr_dimse.proofs.MessageLemmas.{leaves_more, message_ends, kept_is, fault_stays}
 
 -- ---- what is given is the message
 
@@ -37,6 +39,17 @@ known_ends : (a : Awaited) (s : Stage) (p : Pdv) (m : Message) (new : Stage) →
 known_ends a s p m new k (inl h) = data_known_ends a s p m new k h.2
 known_ends a s p m new k (inr (inl h)) = let e = h.2 in absurd (cc)
 known_ends a s p m new k (inr (inr h)) = subst (λ (d : Command). IsAwaited a d) (ap (λ (n : Message). n.command) (sym h.5.1)) h.4
+
+data_idle : (s : Stage) (p : Pdv) (m : Message) (new : Stage) → TakesData s p (Some m) new → new ≡ Idle
+data_idle Idle p m new takes = absurd takes
+data_idle (InCommand id text) p m new takes = absurd takes
+data_idle (InData id c body) p m new takes = takes.2
+
+-- nothing is under way behind a message
+idle_then : (a : Awaited) (s : Stage) (p : Pdv) (m : Message) (new : Stage) → Takes a s p (Ok (Some m)) new → new ≡ Idle
+idle_then a s p m new (inl h) = data_idle s p m new h.2
+idle_then a s p m new (inr (inl h)) = let e = h.2 in absurd (cc)
+idle_then a s p m new (inr (inr h)) = h.5.2
 
 waits_leave : (a : Awaited) (qs ps : List Pdv) (s new : Stage) → Leaves ps s → IsKnown a s → Waits a s qs new → Leaves (ps ++ qs) new × IsKnown a new
 waits_leave a [] ps s new l k w = subst (λ (u : Stage). Leaves (ps ++ []) u × IsKnown a u) w (subst (λ (qs : List Pdv). Leaves qs s) (sym (append-nil ps)) l, k)
@@ -148,3 +161,16 @@ is_given a ps m (cs, ds, text, split, (front, final, parts, inner, kind, last, i
       waits_append a (front ++ final ∷ []) front' Idle (InData m.id m.command (body_of [])) (InData m.id m.command (body_of (joined front'))) then on,
       inl ((kind'.0, kind'.1), refl, (last', same_message m (Some (kept (body_of (joined front')) final'.fragment)) (has ∙ kept'), refl)),
     )
+
+-- ---- what is given was awaited
+
+known_on : (a : Awaited) (p : Pdv) (r : Result (Option Message) DimseFault) (ms : List Message) (s mid : Stage) → IsKnown a s → Takes a s p r mid → (IsKnown a mid → AllByRecursion (λ (m : Message). IsAwaited a m.command) ms)
+    → AllByRecursion (λ (m : Message). IsAwaited a m.command) (given_by r ++ ms)
+known_on a p (Err f) ms s mid k t on = on (subst (λ (u : Stage). IsKnown a u) (sym (fault_stays a s p f mid t)) k)
+known_on a p (Ok None) ms s mid k t on = on (known_more a s p mid k t)
+known_on a p (Ok (Some m)) ms s mid k t on = (known_ends a s p m mid k t, on (subst (λ (u : Stage). IsKnown a u) (sym (idle_then a s p m mid t)) tt))
+
+pub given_awaited : (a : Awaited) (calls : List Call) (s new : Stage) → IsKnown a s → AllByRecursion (λ (x : Call). x.awaited ≡ a) calls → Took s calls new → AllByRecursion (λ (m : Message). IsAwaited a m.command) (given calls)
+given_awaited a [] s new k all t = tt
+given_awaited a (x ∷ xs) s new k all t =
+    known_on a x.value x.answer (given xs) s t.0 k (subst (λ (b : Awaited). Takes b s x.value x.answer t.0) all.0 t.1) (λ known. given_awaited a xs t.0 new known all.1 t.2)
