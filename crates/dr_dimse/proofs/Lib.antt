@@ -1,4 +1,5 @@
 pub mod ElementLemmas
+pub mod FigureLemmas
 pub mod FitLemmas
 pub mod GivenLemmas
 pub mod MessageLemmas

@@ -90,8 +90,8 @@ impl Assembly {
                     return Err(DimseFault::OutOfPlace);
                 }
             }
-            UnderWay::ACommand(id) => {
-                if pdv.id != *id {
+            UnderWay::ACommand(context) => {
+                if pdv.id != *context {
                     return Err(DimseFault::MixedContext);
                 }
                 if !is_command(&pdv) {

@@ -87,10 +87,10 @@ pub fn number_of(found: &[Element<'_>], number: u16) -> Option<u16>
 fn is_short(found: &[Element<'_>], number: u16) -> bool
     ensures { IsTrue result ↔ IsShort (elements found.now) number }
 {
-    match first(found, number) {
-        Some(value) => value.len() == 2,
-        None => true,
-    }
+    let Some(value) = first(found, number) else {
+        return true;
+    };
+    value.len() == 2
 }
 
 /// Whether the numbers of a command have two bytes: command field, message id, id that is answered, priority, data set
