@@ -1,0 +1,12 @@
+pub mod ElementLemmas
+pub mod FigureLemmas
+pub mod FitLemmas
+pub mod GivenLemmas
+pub mod MessageLemmas
+pub mod OneCommand
+pub mod OneTake
+pub mod Refusals
+pub mod StageLemmas
+pub mod TextLemmas
+pub mod WriteLemmas
+pub mod WrittenLemmas

@@ -1,0 +1,7 @@
+pub mod Commands
+pub mod Messages
+pub mod Reads
+pub mod Stages
+pub mod Taking
+pub mod Vectors
+pub mod Written

@@ -1,0 +1,42 @@
+-- What an assembly holds, as the stage that it is in.
+use Rattle.std.specs.Prelude.{◌≡◌, ℕ, Bool, true, false, List, [], Option, Some, None, Result, Ok, Err}
+use Rattle.dr_dimse.specs.declared.assembly.UnderWay.{UnderWay}
+use Rattle.dr_dimse.specs.declared.assembly.UnderWay.TheVariants.{Nothing, ACommand, ADataSet}
+use Rattle.dr_dimse.specs.declared.command.Command.{Command}
+use Rattle.dr_dimse.specs.declared.fault.DimseFault.{DimseFault}
+use Rattle.dr_dimse.specs.declared.fault.DimseFault.TheVariants.{OutOfPlace, BadCommand, Memory}
+use Rattle.dr_dimse.specs.declared.message.Awaited.{Awaited}
+use Rattle.dr_dimse.specs.declared.message.Body.{Body}
+use Rattle.dr_dimse.specs.declared.message.Body.TheVariants.{Whole, TooLarge}
+use Rattle.dr_dimse.specs.declared.message.Message.{Message}
+use Rattle.dr_dimse.specs.Commands.{IsCommand, announces}
+use Rattle.dr_dimse.specs.Taking.{Stage, Idle, InCommand, InData, IsAwaited}
+
+-- a body that is under way
+abbrev pub so_far : Bool → List ℕ → Body
+so_far true bytes = TooLarge
+so_far false bytes = Whole bytes
+
+-- buffers that nothing is under way for hold nothing that counts
+abbrev pub stage_of : UnderWay → List ℕ → Body → Stage
+stage_of Nothing text body = Idle
+stage_of (ACommand id) text body = InCommand id text
+stage_of (ADataSet id c) text body = InData id c body
+
+-- the bytes of the command that is under way
+abbrev pub text_held : UnderWay → List ℕ → List ℕ
+text_held (ACommand id) text = text
+text_held u text = []
+
+-- the awaited command of a text, or why there is none
+abbrev pub ReadsAwaited : Awaited → List ℕ → Result Command DimseFault → Type 0
+ReadsAwaited awaited text (Ok c) = IsCommand text c × IsAwaited awaited c
+ReadsAwaited awaited text (Err BadCommand) = (c : Command) → IsCommand text c → ⊥
+ReadsAwaited awaited text (Err OutOfPlace) = (c : Command) × IsCommand text c × (IsAwaited awaited c → ⊥)
+ReadsAwaited awaited text (Err Memory) = Unit {0}
+ReadsAwaited awaited text (Err fault) = ⊥
+
+-- a whole command makes a message, or waits for its data set
+abbrev pub Begins : ℕ → Command → Option Message → Stage → Type 0
+Begins id c None new = (announces c ≡ true) × (new ≡ InData id c (Whole []))
+Begins id c (Some m) new = (announces c ≡ false) × (m ≡ record { id = id; command = c; body = None }) × (new ≡ Idle)

@@ -1,0 +1,136 @@
+-- What an assembly makes of one value after the other.
+use Rattle.std.specs.Prelude.{◌≡◌, ◌≢◌, ◌⊎◌, ℕ, ◌<◌, ◌≤◌, Bool, true, false, List, [], ◌∷◌, ◌++◌, length, Option, Some, None, IfSome, Result, Ok, Err}
+use Rattle.std.specs.List.{flat_map}
+use Rattle.dr_pdu.specs.declared.pdu.Pdv.{Pdv}
+use Rattle.dr_dimse.specs.declared.message.Body.{Body}
+use Rattle.dr_dimse.specs.declared.message.Body.TheVariants.{Whole, TooLarge}
+use Rattle.dr_dimse.specs.declared.message.Message.{Message}
+use Rattle.dr_dimse.specs.declared.message.Awaited.{Awaited}
+use Rattle.dr_dimse.specs.declared.message.Awaited.TheVariants.{Requests, AnswerTo, Nothing}
+use Rattle.dr_dimse.specs.declared.command.Command.{Command}
+use Rattle.dr_dimse.specs.declared.fault.DimseFault.{DimseFault}
+use Rattle.dr_dimse.specs.declared.fault.DimseFault.TheVariants.{OutOfPlace, MixedContext, BadCommand, TooLong, Memory}
+use Rattle.dr_dimse.specs.Commands.{IsCommand, field_of, id_of, announces}
+use Rattle.dr_dimse.specs.Messages.{is_command, is_last, joined, body_of, AreInner, IsWhole}
+
+-- what is under way: nothing, a command of which this much is there, or the data set behind a command
+pub data Stage : Type 0 where
+  Idle : Stage
+  InCommand : ℕ → List ℕ → Stage
+  InData : ℕ → Command → Body → Stage
+
+-- an assembly: what it awaits, and what is under way
+pub record Assembling : Type 0 where
+  pub awaited : Awaited
+  pub stage : Stage
+
+-- the values since the last message that leave this stage
+abbrev pub Leaves : List Pdv → Stage → Type 0
+Leaves ps Idle = ps ≡ []
+Leaves ps (InCommand id text) = (ps ≢ []) × AreInner true id ps × (text ≡ joined ps) × (length text ≤ 16384)
+Leaves ps (InData id c body) = (cs ds : List Pdv) × (text : List ℕ) × (ps ≡ cs ++ ds) × IsWhole true id cs text × (length text ≤ 16384) × IsCommand text c
+    × (announces c ≡ true) × AreInner false id ds × (body ≡ body_of (joined ds))
+
+-- ---- one value
+
+abbrev pub context_of : Stage → Option ℕ
+context_of Idle = None
+context_of (InCommand id text) = Some id
+context_of (InData id c body) = Some id
+
+-- whether a fragment of a command comes next
+abbrev pub wants_command : Stage → Bool
+wants_command (InData id c body) = false
+wants_command s = true
+
+abbrev pub text_so_far : Stage → List ℕ
+text_so_far (InCommand id text) = text
+text_so_far s = []
+
+-- one more fragment of a body; once it is too large, its bytes are dropped
+abbrev pub kept : Body → List ℕ → Body
+kept (Whole text) more = body_of (text ++ more)
+kept TooLarge more = TooLarge
+
+-- an acceptor awaits requests; a requestor the answer to its message of that id, or nothing as it has asked nothing
+abbrev pub IsAwaited : Awaited → Command → Type 0
+IsAwaited Requests c = field_of c < 0x8000
+IsAwaited (AnswerTo id) c = (0x8000 ≤ field_of c) × (id_of c ≡ Some id)
+IsAwaited Nothing c = ⊥
+
+-- in the context of what is under way; of the kind that comes next; and a command that isn't too long
+abbrev pub InContext : Stage → Pdv → Type 0
+InContext s p = IfSome (context_of s) (λ id. p.id ≡ id)
+
+abbrev pub InPlace : Stage → Pdv → Type 0
+InPlace s p = InContext s p × (is_command p ≡ wants_command s)
+
+abbrev pub IsShortEnough : Stage → Pdv → Type 0
+IsShortEnough s p = InPlace s p × (wants_command s ≡ true) × (length (text_so_far s ++ p.fragment) ≤ 16384)
+
+-- the fragment ends a command of this text
+abbrev pub EndsCommand : Stage → Pdv → List ℕ → Type 0
+EndsCommand s p text = IsShortEnough s p × (is_last p ≡ true) × (text ≡ text_so_far s ++ p.fragment)
+
+-- a command is there: it is a message, or waits for its data set
+abbrev pub TakesCommand : Pdv → Command → Option Message → Stage → Type 0
+TakesCommand p c None new = (announces c ≡ true) × (new ≡ InData p.id c (Whole []))
+TakesCommand p c (Some m) new = (announces c ≡ false) × (m ≡ record { id = p.id; command = c; body = None }) × (new ≡ Idle)
+
+-- a fragment of a data set is there
+abbrev pub TakesData : Stage → Pdv → Option Message → Stage → Type 0
+TakesData (InData id c body) p None new = (is_last p ≡ false) × (new ≡ InData id c (kept body p.fragment))
+TakesData (InData id c body) p (Some m) new = (is_last p ≡ true) × (m ≡ record { id = id; command = c; body = Some (kept body p.fragment) }) × (new ≡ Idle)
+TakesData s p m new = ⊥
+
+-- What one value does. A fault leaves what is under way. Of several faults the first counts: another context, out of
+-- place by its kind, a command too long, one that can't be read, one that isn't awaited.
+abbrev pub Takes : Awaited → Stage → Pdv → Result (Option Message) DimseFault → Stage → Type 0
+Takes awaited s p (Ok m) new =
+    InPlace s p × (wants_command s ≡ false) × TakesData s p m new
+    ⊎ (IsShortEnough s p × (is_last p ≡ false) × (m ≡ None) × (new ≡ InCommand p.id (text_so_far s ++ p.fragment))
+    ⊎ ((text : List ℕ) × (c : Command) × EndsCommand s p text × IsCommand text c × IsAwaited awaited c × TakesCommand p c m new))
+Takes awaited s p (Err MixedContext) new = (new ≡ s) × (InContext s p → ⊥)
+Takes awaited s p (Err OutOfPlace) new = (new ≡ s)
+    × (InContext s p × (is_command p ≢ wants_command s)
+    ⊎ ((text : List ℕ) × (c : Command) × EndsCommand s p text × IsCommand text c × (IsAwaited awaited c → ⊥)))
+Takes awaited s p (Err TooLong) new = (new ≡ s) × InPlace s p × (wants_command s ≡ true) × (16384 < length (text_so_far s ++ p.fragment))
+Takes awaited s p (Err BadCommand) new = (new ≡ s) × ((text : List ℕ) × EndsCommand s p text × ((c : Command) → IsCommand text c → ⊥))
+Takes awaited s p (Err Memory) new = new ≡ s
+
+-- ---- many values
+
+-- one call: what was awaited, the value, and the answer
+pub record Call : Type 0 where
+  pub awaited : Awaited
+  pub value : Pdv
+  pub answer : Result (Option Message) DimseFault
+
+-- what the calls make of a stage, one after the other
+abbrev pub Took : Stage → List Call → Stage → Type 0
+Took old [] new = old ≡ new
+Took old (x ∷ xs) new = (mid : Stage) × Takes x.awaited old x.value x.answer mid × Took mid xs new
+
+-- a value that was taken, and the message that it ended
+abbrev pub taken_by : Pdv → Result (Option Message) DimseFault → List Pdv
+taken_by p (Ok m) = p ∷ []
+taken_by p (Err fault) = []
+
+abbrev pub given_by : Result (Option Message) DimseFault → List Message
+given_by (Ok (Some m)) = m ∷ []
+given_by r = []
+
+abbrev pub taken : List Call → List Pdv
+taken xs = flat_map (λ (x : Call). taken_by x.value x.answer) xs
+
+abbrev pub given : List Call → List Message
+given xs = flat_map (λ (x : Call). given_by x.answer) xs
+
+-- each of the values is taken and ends no message
+abbrev pub Waits : Awaited → Stage → List Pdv → Stage → Type 0
+Waits awaited old [] new = old ≡ new
+Waits awaited old (p ∷ ps) new = (mid : Stage) × Takes awaited old p (Ok None) mid × Waits awaited mid ps new
+
+-- from a fresh assembly on, the last of the values ends the message, and none before it ends one
+abbrev pub Gives : Awaited → List Pdv → Message → Type 0
+Gives awaited ps m = (front : List Pdv) × (final : Pdv) × (mid : Stage) × (ps ≡ front ++ final ∷ []) × Waits awaited Idle front mid × Takes awaited mid final (Ok (Some m)) Idle

@@ -1,0 +1,47 @@
+//! Worked figures of the definitions, by computation.
+ghost use Rattle.std.specs.Prelude.{◌≡◌, ◌∷◌, [], ℕ, List, length, Some, None, Ok, Err};
+ghost use Rattle.dr_dimse.specs.Commands.{first_value, text_at, IsCommand};
+ghost use Rattle.dr_dimse.specs.Taking.{Idle, InCommand, InData, Takes};
+ghost use Rattle.dr_dimse.specs.Vectors.{echo_request, echo_answer, echo_text, group_length_of_answer};
+ghost use Rattle.dr_dimse.specs.Written.{written};
+ghost use Rattle.dr_dimse.specs.declared.fault.DimseFault.TheVariants.{OutOfPlace, MixedContext, TooLong};
+ghost use Rattle.dr_dimse.specs.declared.message.Awaited.TheVariants.{Requests, AnswerTo, Nothing};
+ghost use Rattle.dr_dimse.specs.declared.message.Body.TheVariants.{Whole};
+
+/// A request for an echo, byte by byte, and the group length of its answer.
+pub fn what_is_written()
+    ensures request { written echo_request ≡ echo_text }
+    ensures answer { group_length_of_answer ≡ 66 }
+{}
+
+/// Of a repeated element the first counts, those of other numbers are skipped, and padding at the end is dropped.
+pub fn repeated_elements()
+    ensures first { first_value 0x0110 (record { number = 0x0120; value = 7 ∷ [] } ∷ record { number = 0x0110; value = 8 ∷ [] } ∷ record { number = 0x0110; value = 9 ∷ [] } ∷ []) ≡ Some (8 ∷ []) }
+    ensures none { first_value 0x0110 (record { number = 0x0120; value = 7 ∷ [] } ∷ []) ≡ None }
+    ensures text { text_at 0x0002 (record { number = 0x0002; value = 49 ∷ 46 ∷ 50 ∷ 32 ∷ 0 ∷ [] } ∷ []) ≡ 49 ∷ 46 ∷ 50 ∷ [] }
+    ensures no_text { text_at 0x0002 [] ≡ [] }
+{}
+
+/// A request for an echo is read from its text, and its answer from what is written of it.
+pub fn what_is_read()
+    ensures request { IsCommand echo_text echo_request }
+    ensures answer { IsCommand (written echo_answer) echo_answer }
+{}
+
+/// A fragment of a data set before any command, two fragments of a command in two contexts, a command within a data set,
+/// and what 16,385 bytes show.
+pub fn faults_of_values()
+    ensures data_first { Takes Requests Idle (record { id = 1; header = 2; fragment = [] }) (Err OutOfPlace) Idle }
+    ensures contexts { Takes Requests (InCommand 1 (0 ∷ [])) (record { id = 3; header = 1; fragment = 0 ∷ [] }) (Err MixedContext) (InCommand 1 (0 ∷ [])) }
+    ensures within { Takes Requests (InData 1 echo_request (Whole [])) (record { id = 1; header = 3; fragment = [] }) (Err OutOfPlace) (InData 1 echo_request (Whole [])) }
+    ensures longest { (text more : List ℕ) → length text ≡ 16384 → length more ≡ 1 → Takes Requests (InCommand 1 text) (record { id = 1; header = 1; fragment = more }) (Err TooLong) (InCommand 1 text) }
+{}
+
+/// An echo is a message of one value; a request, an answer that is awaited, and one that isn't.
+pub fn an_echo_is_one_value()
+    ensures request { Takes Requests Idle (record { id = 1; header = 3; fragment = echo_text }) (Ok (Some (record { id = 1; command = echo_request; body = None }))) Idle }
+    ensures answer { Takes (AnswerTo 1) Idle (record { id = 1; header = 3; fragment = written echo_answer }) (Ok (Some (record { id = 1; command = echo_answer; body = None }))) Idle }
+    ensures other_id { Takes (AnswerTo 2) Idle (record { id = 1; header = 3; fragment = written echo_answer }) (Err OutOfPlace) Idle }
+    ensures not_asked { Takes Nothing Idle (record { id = 1; header = 3; fragment = written echo_answer }) (Err OutOfPlace) Idle }
+    ensures reverse { Takes (AnswerTo 1) Idle (record { id = 1; header = 3; fragment = echo_text }) (Err OutOfPlace) Idle }
+{}
