@@ -1,0 +1,7 @@
+pub mod Calls
+pub mod Claims
+pub mod Events
+pub mod Runs
+pub mod Steps
+pub mod Theorem
+pub mod Worlds
