@@ -3,6 +3,9 @@ pub mod CallsKept
 pub mod EventsKept
 pub mod FromSafety
 pub mod Keeping
+pub mod Lasting
 pub mod Lookups
+pub mod OneReply
+pub mod OneStep
 pub mod Safety
 pub mod Walking

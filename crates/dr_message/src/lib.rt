@@ -6,7 +6,9 @@
 //! functions without a body whose contracts are theorems about them.
 #![tactic(auto)]
 
-ghost use Rattle.dr_message.specs.Theorem.{HeadlineHolds};
+pub mod laws;
+
+ghost use Rattle.dr_message.specs.Theorem.{HeadlineHolds, KeptStaysKept};
 
 /// The headline. Over every sound plan, after every list of events and adoptions from the start: nothing was refused
 /// for want of a presentation context, each arrival lies within its rank of its source, what was answered with
@@ -14,4 +16,9 @@ ghost use Rattle.dr_message.specs.Theorem.{HeadlineHolds};
 /// way to it.
 pub fn headline()
     ensures { HeadlineHolds }
+{}
+
+/// What a node has and keeps lasts, unchanged, through further events and adoptions; journals only grow at their end.
+pub fn kept_stays_kept()
+    ensures { KeptStaysKept }
 {}
