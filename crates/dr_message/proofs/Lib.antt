@@ -7,5 +7,6 @@ pub mod Lasting
 pub mod Lookups
 pub mod OneReply
 pub mod OneStep
+pub mod Possible
 pub mod Safety
 pub mod Walking

@@ -13,7 +13,8 @@ use Rattle.dr_message.specs.Worlds.{World, Link, Contexts, Stage, Asking, Answer
 use Rattle.dr_message.specs.Calls.{Reply, Answer, Arriving, Settlement, status_of}
 use Rattle.dr_message.specs.Steps.{IsLink, AcceptsOffered, AnswersRequest, others, SettlesFirst, OpensLink, ReadsAnswer, after_settling, GivesItem, Gives, Receives, ReadsReply, pending, SettlesPending, Leaves, LeavesIfOn, LeaveAll, Closes, Restarts, callers_of, links_without}
 use Rattle.dr_message.specs.Events.{Event, Take, Ask, AgreeReceiver, AgreeCaller, Give, Receive, Answered, BreakCaller, BreakReceiver, Close, Restart, Requeue, Refuse, Tick, Step}
-use Rattle.dr_message.specs.Laws.{StepIsAFunction}
+use Rattle.dr_message.specs.Laws.{StepIsAFunction, AdoptionIsAFunction}
+use Rattle.dr_message.proofs.AdoptionsKept.{node_or_not}
 use Rattle.dr_message.proofs.OneReply.{next_same, accepted_same, Alike, same_alike, link_alike, alike_same, same_link, arriving_alike, settlement_alike, requeueing_alike}
 
 -- ---- stages
@@ -195,3 +196,19 @@ step_alike plan w (Tick ms) a b p q = same_alike a b (p ∙ sym q)
 
 pub step_is_a_function : StepIsAFunction
 step_is_a_function plan w event a b p q e = alike_same a b (step_alike plan w event a b p q) e
+
+-- an adoption is a function too
+pub adoption_is_a_function : AdoptionIsAFunction
+adoption_is_a_function plan old next a b p q =
+    let books : (name : Text) → a.books name ≡ b.books name = λ name. elim (node_or_not plan name) [
+      | inl is ↦ p.books name is ∙ sym (q.books name is)
+      | inr stranger ↦ (p.joined name stranger).1 ∙ sym (q.joined name stranger).1
+    ] in
+    λ j. record {
+      time = (p.time ∙ sym q.time) j;
+      books = λ name. books name j;
+      standing = λ name. (p.standing name ∙ sym (q.standing name)) j;
+      armed = (p.armed ∙ sym q.armed) j;
+      links = (p.links ∙ sym q.links) j;
+      opened = (p.opened ∙ sym q.opened) j;
+    }

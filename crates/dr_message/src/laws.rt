@@ -1,8 +1,14 @@
 //! Laws of the message world: what a reader may take from its definitions.
-ghost use Rattle.dr_message.specs.Laws.{StepIsAFunction};
+ghost use Rattle.dr_message.specs.Laws.{StepIsAFunction, AdoptionIsAFunction, OneHopRuns};
 
 /// A step is a function of the plan, the world, the event and its replies, but for whether a failing store spent a
-/// refusal.
+/// refusal; an adoption is a function of the two plans and the world.
 pub fn a_step_is_a_function()
-    ensures { StepIsAFunction }
+    ensures step { StepIsAFunction }
+    ensures adoption { AdoptionIsAFunction }
+{}
+
+/// One store over one hop can happen, from the start to the done row, over each plan that accepts it.
+pub fn one_hop_runs()
+    ensures { OneHopRuns }
 {}
