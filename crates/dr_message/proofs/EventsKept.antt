@@ -34,7 +34,7 @@ fair_at : (plan : Network) (w : World) (link : Link) (stage : Stage) → IsFairL
 fair_at plan w link stage fair is = subst (IsFairStage plan w link.caller link.receiver) is fair
 
 -- over a sound plan all that is offered is accepted
-covers_of : (plan : Network) → IsSound plan → (caller receiver : Text) (accepted : Contexts) → AcceptsOffered plan caller receiver accepted → CoversHop plan caller receiver accepted
+pub covers_of : (plan : Network) → IsSound plan → (caller receiver : Text) (accepted : Contexts) → AcceptsOffered plan caller receiver accepted → CoversHop plan caller receiver accepted
 covers_of plan sound caller receiver accepted offered pair over =
     let P : Text × Syntax → Type 0 = λ p. Accepts plan receiver caller p.0 p.1 in
     (offered pair).1 (over, subst P (sym over.1) (sound.accepted over.0 caller receiver over.2))

@@ -9,4 +9,5 @@ pub mod OneReply
 pub mod OneStep
 pub mod Possible
 pub mod Safety
+pub mod TwoNodesRunning
 pub mod Walking

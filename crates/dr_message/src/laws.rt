@@ -1,5 +1,5 @@
 //! Laws of the message world: what a reader may take from its definitions.
-ghost use Rattle.dr_message.specs.Laws.{StepIsAFunction, AdoptionIsAFunction, OneHopRuns};
+ghost use Rattle.dr_message.specs.Laws.{StepIsAFunction, AdoptionIsAFunction, OneHopRuns, TwoNodesRun, AcceptedAreTheHops};
 
 /// A step is a function of the plan, the world, the event and its replies, but for whether a failing store spent a
 /// refusal; an adoption is a function of the two plans and the world.
@@ -11,4 +11,14 @@ pub fn a_step_is_a_function()
 /// One store over one hop can happen, from the start to the done row, over each plan that accepts it.
 pub fn one_hop_runs()
     ensures { OneHopRuns }
+{}
+
+/// In the plan of two nodes each image that enters at the scanner comes to the archive, which keeps it.
+pub fn two_nodes_run()
+    ensures { TwoNodesRun }
+{}
+
+/// Over a sound plan a receiver accepts just the pairs of the hop.
+pub fn accepted_are_the_hops()
+    ensures { AcceptedAreTheHops }
 {}
