@@ -8,6 +8,7 @@ pub mod Lookups
 pub mod OneReply
 pub mod OneStep
 pub mod Possible
+pub mod Ready
 pub mod Safety
 pub mod TwoNodesRunning
 pub mod Walking

@@ -51,7 +51,7 @@ unfolding row_after
 is_done_after tries now = refl
 
 -- an entry is a flow
-flow_of : (plan : Network) (site to : Text) (item : Item) → Sends plan site local item.key to → IsEntry plan site item.key
+pub flow_of : (plan : Network) (site to : Text) (item : Item) → Sends plan site local item.key to → IsEntry plan site item.key
 flow_of plan site to item (inl entered) = (to, entered.1)
 flow_of plan site to item (inr ruled) = absurd (no_rule_sends ruled.0.rules item.key to ruled.2)
 

@@ -1,6 +1,7 @@
 pub mod Calls
 pub mod Claims
 pub mod Events
+pub mod Happening
 pub mod Laws
 pub mod Runs
 pub mod Steps

@@ -1,4 +1,5 @@
 //! Laws of the message world: what a reader may take from its definitions.
+ghost use Rattle.dr_message.specs.Happening.{EventsHappen, ARefusalIsSpent};
 ghost use Rattle.dr_message.specs.Laws.{StepIsAFunction, AdoptionIsAFunction, OneHopRuns, TwoNodesRun, AcceptedAreTheHops};
 
 /// A step is a function of the plan, the world, the event and its replies, but for whether a failing store spent a
@@ -21,4 +22,14 @@ pub fn two_nodes_run()
 /// Over a sound plan a receiver accepts just the pairs of the hop.
 pub fn accepted_are_the_hops()
     ensures { AcceptedAreTheHops }
+{}
+
+/// Each event can happen, in each world that is ready for it.
+pub fn each_event_can_happen()
+    ensures { EventsHappen }
+{}
+
+/// A store that is told to refuse does so once.
+pub fn a_refusal_is_spent()
+    ensures { ARefusalIsSpent }
 {}
