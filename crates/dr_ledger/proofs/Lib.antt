@@ -1,2 +1,3 @@
+pub mod Faults
 pub mod Folding
 pub mod PlanRouting
