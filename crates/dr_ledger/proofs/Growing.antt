@@ -20,7 +20,7 @@ use Rattle.dr_ledger.specs.declared.item.Outcome.{Outcome}
 use Rattle.dr_ledger.specs.declared.item.Progress.{Progress}
 use Rattle.dr_ledger.specs.declared.item.Progress.TheVariants.{Waiting, Held, Done}
 use Rattle.dr_ledger.specs.Books.{Book, Line, Arrival, Repeat, Settling, Requeuing, Adoption, after, with_rows, row_after, settled_row, requeued_row, is_done, not_done}
-use Rattle.dr_ledger.specs.Laws.{AdoptionsLeave, ArrivalsLeave, CallersAreApart, IsLeft, NewIsNoted, RequeuingsLeave, SettlingsLeave, Stays}
+use Rattle.dr_ledger.specs.Laws.{AdoptionsLeave, ArrivalsLeave, CallersAreApart, IsLeft, Moves, NewIsNoted, NewRowsAreUntried, RequeuingsLeave, RequeuingsMoveARow, SettlingsLeave, SettlingsMoveARow, Stays}
 use Rattle.dr_ledger.specs.Pairs.{Pair, pair_cmp}
 use Rattle.dr_ledger.specs.Replies.{Arrives, Requeues, Settles, arrival_line}
 use Rattle.dr_ledger.specs.Routings.{Routing}
@@ -229,3 +229,34 @@ callers_are_apart routing one other item old mid new r apart none a b =
     let arrived : Arrives routing other item mid (Ok New) new = subst Q first b in
     let noted = new_is_noted routing one item old mid a in
     (first, (arrivals_leave routing other item mid new (Ok New) arrived).0.arrivals one item.uid noted.1, (new_is_noted routing other item mid new arrived).1)
+
+pub new_rows_are_untried : (routing : Routing) → NewRowsAreUntried routing
+new_rows_are_untried routing caller item old new a uid dest row h =
+    let P : Book → Type 0 = λ b. map.get b.rows (uid, dest) ≡ Some row in
+    rows_from (routing.targets caller item.key) old.rows item.uid (uid, dest) row (subst P a.2 h)
+
+-- ---- one row moves on
+put_moves : (b new : Book) (uid dest : Text) (old row : Progress) (line : Line) → map.get b.rows (uid, dest) ≡ Some old → new ≡ row_put b (uid, dest) row line → Moves b new uid dest old row
+put_moves b new uid dest old row line was is =
+    let P : Book → Type 0 = λ x. Moves b x uid dest old row in
+    subst P (sym is) (record {
+      was = was;
+      is = get_new text_pairs b.rows (uid, dest) row;
+      others = λ u d apart. elim (same_or_not text_pairs (u, d) (uid, dest)) [
+        | inl e ↦ absurd (apart (ap (λ (p : Pair). p.0) e, ap (λ (p : Pair). p.1) e))
+        | inr n ↦ get_other text_pairs b.rows (uid, dest) row (u, d) n
+      ];
+      items = refl;
+      arrivals = refl;
+      kept = refl;
+    })
+
+pub settlings_move_a_row : SettlingsMoveARow
+settlings_move_a_row uid dest outcome now old new s =
+    let w = s.0 in
+    (w.0, w.1, put_moves old new uid dest (Waiting w.0 w.1) (row_after w.0 outcome now) (Settling uid dest outcome now) w.2 (s.1 ∙ settled_is uid dest outcome now w.0 w.1 old w.2))
+
+pub requeuings_move_a_row : RequeuingsMoveARow
+requeuings_move_a_row uid dest old new r =
+    let h = r.0 in
+    (h.0, put_moves old new uid dest (Held h.0) (Waiting 0 0) (Requeuing uid dest) h.1 (r.1 ∙ requeued_is uid dest h.0 old h.1))

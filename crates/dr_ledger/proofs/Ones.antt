@@ -1,9 +1,9 @@
 -- The next item is one, and each call has an answer.
-use Rattle.std.proofs.Common.{◌≡◌, ◌≢◌, refl, sym, ap, subst, ◌∙◌, ◌⊎◌, inl, inr, ℕ, ◌≤◌, Bool, true, false, Option, None, Some, Result, Ok, Err, nat_cmp}
+use Rattle.std.proofs.Common.{◌≡◌, ◌≢◌, refl, sym, ap, subst, ◌∙◌, ◌⊎◌, inl, inr, ℕ, ◌<◌, ◌≤◌, arith, Bool, true, false, Option, None, Some, Result, Ok, Err, nat_cmp}
 use Rattle.std.specs.declared.cmp.Ordering.{Ordering}
 use Rattle.std.specs.declared.cmp.Ordering.TheVariants.{Less, Equal, Greater}
 use Rattle.std.specs.Ordering.{ordering_then, ordering_reverse}
-use Rattle.std.specs.Cmp.{IsTotalOrder, nat_cmp_total}
+use Rattle.std.specs.Cmp.{IsTotalOrder, nat_cmp_total, ranked}
 use Rattle.std.specs.Cmp.Lexicographic.{nat_list_cmp_total}
 use Rattle.std.specs.FinMap as map
 use Rattle.std.specs.FinSet as set
@@ -23,7 +23,7 @@ use Rattle.dr_ledger.specs.declared.item.Outcome.{Outcome}
 use Rattle.dr_ledger.specs.declared.item.Progress.{Progress}
 use Rattle.dr_ledger.specs.declared.item.Progress.TheVariants.{Waiting, Held, Done}
 use Rattle.dr_ledger.specs.Books.{Book, Repeat, Settling, Requeuing, after}
-use Rattle.dr_ledger.specs.Laws.{ArrivalsHaveAnswers, HasAnswer, NextIsOne, RequeuingsHaveAnswers, SettlingsHaveAnswers}
+use Rattle.dr_ledger.specs.Laws.{ArrivalsHaveAnswers, HasAnswer, NextIsEarliest, NextIsOne, RequeuingsHaveAnswers, SettlingsHaveAnswers}
 use Rattle.dr_ledger.specs.Replies.{Arrives, IsAdmitted, IsNext, IsNoLater, Nexts, Requeues, Settles, arrival_line}
 use Rattle.dr_ledger.specs.Routings.{Routing}
 use Rattle.dr_ledger.proofs.Maps.{cases_of}
@@ -59,6 +59,18 @@ next_is_one b dest now (Some x) None n m = absurd (m x.uid n.due n.row)
 next_is_one b dest now (Some x) (Some y) n m =
     let same : x.uid ≡ y.uid = ap (λ (p : Due). p.1) (same_due (n.due, x.uid) (m.due, y.uid) (n.least y.uid m.due m.row) (m.least x.uid n.due n.row)) in
     ap Some (inside x y (sym n.has ∙ (ap (map.get b.items) same ∙ m.has)))
+
+-- what comes first by (due, uid)
+no_later : (a b : ℕ) (x y : Text) → IsNoLater (a, x) (b, y) → (a ≤ b) × (a ≡ b → text_cmp x y ≢ Greater)
+no_later a b x y h = by_due (nat_cmp a b) refl
+  where
+    by_due : (r : Ordering) → nat_cmp a b ≡ r → (a ≤ b) × (a ≡ b → text_cmp x y ≢ Greater)
+    by_due Less at = (let l : a < b = ranked a b Less (sym at) in omega (arith, l), λ same. absurd (let l : a < b = ranked a b Less (sym at) in omega (arith, l, same)))
+    by_due Equal at = (let e : a ≡ b = ranked a b Equal (sym at) in omega (arith, e), λ same greater. h (ap (λ r. ordering_then r (text_cmp x y)) at ∙ greater))
+    by_due Greater at = absurd (h (ap (λ r. ordering_then r (text_cmp x y)) at))
+
+pub next_is_earliest : NextIsEarliest
+next_is_earliest b dest now item n uid tries due row early = no_later n.due due item.uid uid (n.least uid due ((tries, row), early))
 
 -- ---- items are the same, or not
 texts_or_not : (a b : Text) → (a ≡ b) ⊎ (a ≢ b)

@@ -1,8 +1,9 @@
 -- Laws of books, and of a plan's routing. Those that speak of arrivals hold of every routing.
 use Rattle.std.specs.Prelude.{◌≡◌, ◌≢◌, ◌↔◌, ◌⊎◌, ◌≤◌, ◌+◌, ◌^◌, ℕ, true, false, Bool, IsTrue, List, [], ◌∷◌, ◌++◌, Contains, Option, None, Some, Result, Ok, Err}
+use Rattle.std.specs.declared.cmp.Ordering.TheVariants.{Greater}
 use Rattle.std.specs.FinMap as map
 use Rattle.std.specs.FinSet as set
-use Rattle.dr_base.specs.Texts.{Text, IsInByteOrder}
+use Rattle.dr_base.specs.Texts.{Text, text_cmp, IsInByteOrder}
 use Rattle.dr_route.specs.Routes.{local}
 use Rattle.dr_route.specs.declared.key.Key.{Key}
 use Rattle.dr_network.specs.Networks.{Network}
@@ -11,6 +12,7 @@ use Rattle.dr_ledger.specs.declared.fault.LedgerFault.{LedgerFault}
 use Rattle.dr_ledger.specs.declared.fault.LedgerFault.TheVariants as fault
 use Rattle.dr_ledger.specs.declared.item.Arrived.{Arrived}
 use Rattle.dr_ledger.specs.declared.item.Arrived.TheVariants.{New, Again}
+use Rattle.dr_ledger.specs.declared.item.Cause.{Cause}
 use Rattle.dr_ledger.specs.declared.item.Cause.TheVariants as cause
 use Rattle.dr_ledger.specs.declared.item.Item.{Item}
 use Rattle.dr_ledger.specs.declared.item.Outcome.{Outcome}
@@ -20,7 +22,7 @@ use Rattle.dr_ledger.specs.declared.item.Progress.TheVariants.{Waiting, Held, Do
 use Rattle.dr_ledger.specs.Books.{Book, Line, Repeat, Settling, Requeuing, Adoption, empty_book, after, row_after, Fold}
 use Rattle.dr_ledger.specs.Histories.{IsHistory, IsJournalled}
 use Rattle.dr_ledger.specs.PlanRoutes.{targets, keeps}
-use Rattle.dr_ledger.specs.Replies.{Admits, Arrives, IsWaiting, Nexts, Requeues, Settles, arrival_line}
+use Rattle.dr_ledger.specs.Replies.{Admits, Arrives, IsNext, Nexts, Requeues, Settles, arrival_line}
 use Rattle.dr_ledger.specs.Routings.{Routing}
 
 -- ---- answers
@@ -183,6 +185,12 @@ NewIsNoted routing = (caller : Text) (item : Item) (old new : Book) → Arrives 
     × (routing.keeps caller item.key ≡ true → set.contains new.kept item.uid ≡ true)
     × ((dest : Text) → Contains (routing.targets caller item.key) dest → (row : Progress) × (map.get new.rows (item.uid, dest) ≡ Some row))
 
+-- it makes no other row: each that wasn't there is untried, and for a target
+abbrev pub NewRowsAreUntried : Routing → Type 0
+NewRowsAreUntried routing = (caller : Text) (item : Item) (old new : Book) → Arrives routing caller item old (Ok New) new →
+    (uid dest : Text) (row : Progress) → map.get new.rows (uid, dest) ≡ Some row →
+    (map.get old.rows (uid, dest) ≡ Some row) ⊎ ((uid ≡ item.uid) × Contains (routing.targets caller item.key) dest × (row ≡ Waiting 0 0))
+
 -- another arrival from the same caller is a line, and nothing else
 abbrev pub AgainIsALineAlone : Routing → Type 0
 AgainIsALineAlone routing = (caller : Text) (item : Item) (old new : Book) → Arrives routing caller item old (Ok Again) new →
@@ -193,6 +201,29 @@ abbrev pub CallersAreApart : Routing → Type 0
 CallersAreApart routing = (one other : Text) (item : Item) (old mid new : Book) (r : Arrived) → one ≢ other → set.contains old.arrivals (other, item.uid) ≡ false →
     Arrives routing one item old (Ok New) mid → Arrives routing other item mid (Ok r) new →
     (r ≡ New) × (set.contains new.arrivals (one, item.uid) ≡ true) × (set.contains new.arrivals (other, item.uid) ≡ true)
+
+-- ---- rows
+
+-- one row moves on, and nothing else changes but the journal
+pub record Moves (old new : Book) (uid dest : Text) (before now : Progress) : Type 0 where
+  pub was : map.get old.rows (uid, dest) ≡ Some before
+  pub is : map.get new.rows (uid, dest) ≡ Some now
+  pub others : (u d : Text) → ((u ≡ uid) × (d ≡ dest) → ⊥) → map.get new.rows (u, d) ≡ map.get old.rows (u, d)
+  pub items : new.items ≡ old.items
+  pub arrivals : new.arrivals ≡ old.arrivals
+  pub kept : new.kept ≡ old.kept
+
+abbrev pub SettlingsMoveARow : Type 0
+SettlingsMoveARow = (uid dest : Text) (outcome : Outcome) (now : ℕ) (old new : Book) → Settles uid dest outcome now old (Ok tt) new →
+    (tries : ℕ) × (due : ℕ) × Moves old new uid dest (Waiting tries due) (row_after tries outcome now)
+
+abbrev pub RequeuingsMoveARow : Type 0
+RequeuingsMoveARow = (uid dest : Text) (old new : Book) → Requeues uid dest old (Ok tt) new → (why : Cause) × Moves old new uid dest (Held why) (Waiting 0 0)
+
+-- No row that waits and is due was due before the next one, nor was one at the same moment whose uid comes first.
+abbrev pub NextIsEarliest : Type 0
+NextIsEarliest = (b : Book) (dest : Text) (now : ℕ) (item : Item) → (next : IsNext b dest now item) →
+    (uid : Text) (tries due : ℕ) → map.get b.rows (uid, dest) ≡ Some (Waiting tries due) → due ≤ now → (next.due ≤ due) × (next.due ≡ due → text_cmp item.uid uid ≢ Greater)
 
 -- ---- figures
 

@@ -1,5 +1,5 @@
 //! Laws of books, of their journals, and of what a plan's nodes do.
-ghost use Rattle.dr_ledger.specs.Laws.{AdmitsComesTrue, AdoptionsLeave, AgainIsALineAlone, ArrivalsAddALine, ArrivalsAreJournalled, ArrivalsAreOne, ArrivalsHaveAnswers, ArrivalsLeave, CallersAreApart, EmptyIsJournalled, FiguresAreRight, FoldsHaveTheirLines, HistoriesMakeWholeBooks, KeepsWhereTheNodeKeeps, NewIsNoted, NextIsOne, NothingIsKeptForLocal, OnlyTargetsAreSentTo, RequeuingsAddALine, RequeuingsAreJournalled, RequeuingsAreOne, RequeuingsHaveAnswers, RequeuingsLeave, SettlingsAddALine, SettlingsAreJournalled, SettlingsAreOne, SettlingsHaveAnswers, SettlingsLeave, TargetsAreInOrder, TargetsAreSentTo};
+ghost use Rattle.dr_ledger.specs.Laws.{AdmitsComesTrue, AdoptionsLeave, AgainIsALineAlone, ArrivalsAddALine, ArrivalsAreJournalled, ArrivalsAreOne, ArrivalsHaveAnswers, ArrivalsLeave, CallersAreApart, EmptyIsJournalled, FiguresAreRight, FoldsHaveTheirLines, HistoriesMakeWholeBooks, KeepsWhereTheNodeKeeps, NewIsNoted, NewRowsAreUntried, NextIsEarliest, NextIsOne, NothingIsKeptForLocal, OnlyTargetsAreSentTo, RequeuingsAddALine, RequeuingsAreJournalled, RequeuingsAreOne, RequeuingsHaveAnswers, RequeuingsLeave, RequeuingsMoveARow, SettlingsAddALine, SettlingsAreJournalled, SettlingsAreOne, SettlingsHaveAnswers, SettlingsLeave, SettlingsMoveARow, TargetsAreInOrder, TargetsAreSentTo};
 ghost use Rattle.dr_ledger.specs.Routings.{Routing};
 
 /// A node's part of a plan, whichever.
@@ -60,8 +60,16 @@ pub fn what_is_there_stays<R: Routed>()
 /// An arrival counts once for each caller.
 pub fn arrivals_count_by_caller<R: Routed>()
     ensures first { NewIsNoted R.routing }
+    ensures rows { NewRowsAreUntried R.routing }
     ensures again { AgainIsALineAlone R.routing }
     ensures apart { CallersAreApart R.routing }
+{}
+
+/// A settling and a requeuing move their row alone, and the next row is the earliest.
+pub fn rows_move_one_by_one()
+    ensures settle { SettlingsMoveARow }
+    ensures requeue { RequeuingsMoveARow }
+    ensures next { NextIsEarliest }
 {}
 
 /// When a row is tried again, done or held.

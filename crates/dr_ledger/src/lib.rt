@@ -9,6 +9,8 @@ pub mod item;
 pub mod laws;
 pub mod ledger;
 pub mod refusing;
+#[cfg(test)]
+mod tests;
 
 pub use fault::LedgerFault;
 pub use item::{Arrived, Cause, Entry, Item, Outcome, Progress};

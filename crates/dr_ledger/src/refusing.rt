@@ -67,10 +67,8 @@ impl<L: Ledger> Refusing<L> {
         ensures ledger { self.new.ledger ≡ self.old.ledger }
         ensures refusals { self.new.refusals ≡ spent self.old.refusals }
     {
-        self.refusals = Refusals {
-            is_due: false,
-            made: self.refusals.made.saturating_add(1),
-        };
+        self.refusals.is_due = false;
+        self.refusals.made = self.refusals.made.saturating_add(1);
         LedgerFault::Store
     }
 
