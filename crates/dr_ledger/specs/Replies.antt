@@ -49,6 +49,13 @@ Arrives routing caller item old (Err fault.Memory) new = routing.HasLine caller 
 Arrives routing caller item old (Err fault.NotWaiting) new = ⊥
 Arrives routing caller item old (Err fault.NotHeld) new = ⊥
 
+-- two arrivals, one after the other; a refusal of the first is the end
+abbrev pub BothArrive : Routing → Text → Item → Item → Book → Result (Arrived × Arrived) LedgerFault → Book → Type 0
+BothArrive routing caller first second old (Ok answers) new =
+    (mid : Book) × Arrives routing caller first old (Ok answers.0) mid × Arrives routing caller second mid (Ok answers.1) new
+BothArrive routing caller first second old (Err why) new = Arrives routing caller first old (Err why) new
+    ⊎ ((mid : Book) × (answer : Arrived) × Arrives routing caller first old (Ok answer) mid × Arrives routing caller second mid (Err why) new)
+
 -- what `arrive` would answer, but for what only a write can show
 abbrev pub Admits : Routing → Text → Item → Book → Result (Unit {0}) LedgerFault → Type 0
 Admits routing caller item b (Ok done) = IsAdmitted routing caller item b

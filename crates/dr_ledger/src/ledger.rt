@@ -4,7 +4,7 @@ ghost use Rattle.std.specs.FinMap as map;
 ghost use Rattle.dr_ledger.specs.Books.{Book};
 ghost use Rattle.dr_ledger.specs.Histories.{IsJournalled};
 ghost use Rattle.dr_ledger.specs.Pairs.{pair_cmp};
-ghost use Rattle.dr_ledger.specs.Replies.{Admits, AreKept, Arrives, Counts, Lists, Nexts, Reads, Requeues, Settles, entry_of};
+ghost use Rattle.dr_ledger.specs.Replies.{Admits, AreKept, Arrives, BothArrive, Counts, Lists, Nexts, Reads, Requeues, Settles, entry_of};
 ghost use Rattle.dr_ledger.specs.Routings.{Routes, routing_of};
 
 use crate::fault::LedgerFault;
@@ -129,4 +129,21 @@ pub trait Ledger {
     /// How often the store has failed; the count stays at its greatest value.
     fn failures(&self) -> u64
         ensures { result ≡ failed self.now };
+}
+
+/// Takes two items from a caller, one after the other; where the first is refused, the second isn't tried.
+pub fn arrive_both<L: Ledger>(
+    ledger: &mut L,
+    caller: &Text,
+    first: Item,
+    second: Item,
+) -> Result<(Arrived, Arrived), LedgerFault>
+    ensures reply { L.stands ledger.new → BothArrive (routing_of (L.routes ledger.old)) caller.now first second (L.book ledger.old) result (L.book ledger.new) }
+    ensures counts { Counts result (L.failed ledger.old) (L.failed ledger.new) }
+    ensures stood { L.stands ledger.new → L.stands ledger.old }
+    ensures routes { L.routes ledger.new ≡ L.routes ledger.old }
+{
+    let first = ledger.arrive(caller, first)?;
+    let second = ledger.arrive(caller, second)?;
+    Ok((first, second))
 }

@@ -8,7 +8,11 @@ pub mod fault;
 pub mod item;
 pub mod laws;
 pub mod ledger;
+pub mod refusing;
+#[cfg(test)]
+mod tests;
 
 pub use fault::LedgerFault;
 pub use item::{Arrived, Cause, Entry, Item, Outcome, Progress};
-pub use ledger::Ledger;
+pub use ledger::{Ledger, arrive_both};
+pub use refusing::{Refusals, Refusing};
