@@ -169,7 +169,7 @@ found true o x h = h
 found false o x h = absurd (let e : ⊥ = cc in e)
 
 -- a link that is left was there
-was_link : (links : FinMap nat_cmp Link) (name : Text) (number : ℕ) (link : Link) → map.get (links_without links name) number ≡ Some link → map.get links number ≡ Some link
+pub was_link : (links : FinMap nat_cmp Link) (name : Text) (number : ℕ) (link : Link) → map.get (links_without links name) number ≡ Some link → map.get links number ≡ Some link
 unfolding links_without
 was_link links name number link h = found (not (is_of name (map.get links number))) (map.get links number) link
     (sym (map.get-retain_keys links (λ q. not (is_of name (map.get links q))) number (λ x e. ap (λ q. not (is_of name (map.get links q))) (sym (numbers.exact number x e)))) ∙ h)

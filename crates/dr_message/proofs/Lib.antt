@@ -7,8 +7,10 @@ pub mod Lasting
 pub mod Lookups
 pub mod OneReply
 pub mod OneStep
+pub mod Orderly
 pub mod Possible
 pub mod Ready
 pub mod Safety
+pub mod Stepwise
 pub mod TwoNodesRunning
 pub mod Walking

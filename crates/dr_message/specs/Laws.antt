@@ -1,5 +1,5 @@
 -- Laws of the message world.
-use Rattle.std.specs.Prelude.{◌≡◌, ◌≢◌, ◌↔◌, List, [], ◌∷◌, Option, None, Some, Ok, true, codes}
+use Rattle.std.specs.Prelude.{◌≡◌, ◌≢◌, ◌↔◌, ℕ, ◌≤◌, List, [], ◌∷◌, None, Ok, true, false}
 use Rattle.std.specs.FinSet as set
 use Rattle.dr_base.specs.Texts.{Text}
 use Rattle.dr_base.specs.declared.syntax.Syntax.{Syntax}
@@ -12,8 +12,10 @@ use Rattle.dr_ledger.specs.declared.item.Arrived.TheVariants.{New}
 use Rattle.dr_ledger.specs.declared.item.Item.{Item}
 use Rattle.dr_ledger.specs.declared.item.Progress.TheVariants.{Done}
 use Rattle.dr_network.specs.Networks.{Network}
-use Rattle.dr_message.specs.Worlds.{World, Contexts, start}
-use Rattle.dr_message.specs.Steps.{AcceptsOffered}
+use Rattle.dr_ledger.specs.Histories.{IsJournalled}
+use Rattle.dr_ledger.specs.PlanRoutes.{plan_routing}
+use Rattle.dr_message.specs.Worlds.{World, Link, Contexts, start}
+use Rattle.dr_message.specs.Steps.{IsLink, AcceptsOffered}
 use Rattle.dr_message.specs.Events.{Event, Take, Ask, AgreeReceiver, AgreeCaller, Give, Receive, Answered, HasNode, Step}
 use Rattle.dr_message.specs.Runs.{Adopts, Deed, Happens, Runs}
 use Rattle.dr_message.specs.Claims.{HasArrival, HasRow}
@@ -52,3 +54,27 @@ TwoNodesRun = (item : Item) → item.key.class ≡ image → item.key.syntax ≡
 abbrev pub AcceptedAreTheHops : Type 0
 AcceptedAreTheHops = (plan : Network) → IsSound plan → (from to : Text) (accepted : Contexts) → AcceptsOffered plan from to accepted →
     (pair : Text × Syntax) → (set.contains accepted pair ≡ true) ↔ GoesOver plan from to pair
+
+-- ---- what holds in every run beside the claims
+
+-- Each link's number is one that was given out: a new link takes the place of none.
+abbrev pub NumbersAreFresh : Type 0
+NumbersAreFresh = (plan : Network) (deeds : List Deed) (last : Network) (w : World) → Runs plan start deeds last w → (number : ℕ) (link : Link) → IsLink w number link → number ≤ w.opened
+
+-- Only nodes of the plan are armed, and right after an adoption none is.
+abbrev pub ArmedAreNodes : Type 0
+ArmedAreNodes = (plan : Network) (deeds : List Deed) (last : Network) (w : World) → Runs plan start deeds last w → (name : Text) → set.contains w.armed name ≡ true → HasNode last name
+
+abbrev pub NoneIsArmedAfterAdoption : Type 0
+NoneIsArmedAfterAdoption = (plan : Network) (deeds : List Deed) (last : Network) (w : World) → Runs plan start deeds last w →
+    (next : Network) (new : World) → Adopts last w next new → (name : Text) → set.contains new.armed name ≡ false
+
+abbrev pub happenings : List Event → List Deed
+happenings [] = []
+happenings (event ∷ events) = Happens event ∷ happenings events
+
+-- Until a plan is adopted, each book is what its journal makes of the empty one, and each journal is a history: each line is of
+-- a call that the book before it accepts.
+abbrev pub JournalsAreHistories : Type 0
+JournalsAreHistories = (plan : Network) (events : List Event) (last : Network) (w : World) → Runs plan start (happenings events) last w →
+    (name : Text) → IsJournalled (plan_routing plan name) (w.books name)

@@ -1,6 +1,6 @@
 //! Laws of the message world: what a reader may take from its definitions.
 ghost use Rattle.dr_message.specs.Happening.{EventsHappen, ARefusalIsSpent};
-ghost use Rattle.dr_message.specs.Laws.{StepIsAFunction, AdoptionIsAFunction, OneHopRuns, TwoNodesRun, AcceptedAreTheHops};
+ghost use Rattle.dr_message.specs.Laws.{StepIsAFunction, AdoptionIsAFunction, OneHopRuns, TwoNodesRun, AcceptedAreTheHops, NumbersAreFresh, ArmedAreNodes, NoneIsArmedAfterAdoption, JournalsAreHistories};
 
 /// A step is a function of the plan, the world, the event and its replies, but for whether a failing store spent a
 /// refusal; an adoption is a function of the two plans and the world.
@@ -32,4 +32,20 @@ pub fn each_event_can_happen()
 /// A store that is told to refuse does so once.
 pub fn a_refusal_is_spent()
     ensures { ARefusalIsSpent }
+{}
+
+/// A new link takes the place of none.
+pub fn numbers_are_fresh()
+    ensures { NumbersAreFresh }
+{}
+
+/// Only nodes of the plan are armed, and right after an adoption none is.
+pub fn armed_are_nodes()
+    ensures nodes { ArmedAreNodes }
+    ensures none { NoneIsArmedAfterAdoption }
+{}
+
+/// Until a plan is adopted, each journal is a history, and each book is what its journal makes of the empty one.
+pub fn journals_are_histories()
+    ensures { JournalsAreHistories }
 {}
