@@ -10,6 +10,7 @@ pub mod OneStep
 pub mod Orderly
 pub mod Possible
 pub mod Ready
+pub mod Restarting
 pub mod Safety
 pub mod Stepwise
 pub mod TwoNodesRunning

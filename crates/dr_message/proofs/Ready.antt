@@ -32,10 +32,10 @@ use Rattle.dr_message.proofs.AdoptionsKept.{empty_right, no_row}
 use Rattle.dr_message.proofs.Possible.{flow_of}
 
 -- a waiting row can be settled
-abbrev settled : World → Text → Text → Text → Outcome → World
+abbrev pub settled : World → Text → Text → Text → Outcome → World
 settled w name uid dest outcome = with_armed (with_book w name (after (Settling uid dest outcome w.time) (w.books name))) w.armed
 
-settles : (w : World) (name uid dest : Text) (outcome : Outcome) → Writes w name → IsWaiting (w.books name) uid dest → Settlement w name uid dest outcome (Ok tt) (settled w name uid dest outcome)
+pub settles : (w : World) (name uid dest : Text) (outcome : Outcome) → Writes w name → IsWaiting (w.books name) uid dest → Settlement w name uid dest outcome (Ok tt) (settled w name uid dest outcome)
 settles w name uid dest outcome writes waits = record {
   book = after (Settling uid dest outcome w.time) (w.books name);
   call = (waits, refl);

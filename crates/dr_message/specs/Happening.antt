@@ -11,6 +11,7 @@ use Rattle.dr_ledger.specs.declared.item.Item.{Item}
 use Rattle.dr_ledger.specs.PlanRoutes.{plan_routing}
 use Rattle.dr_ledger.specs.Replies.{HasConflict, IsAdmitted, IsWaiting, IsHeld, IsNext}
 use Rattle.dr_message.specs.Worlds.{World, Link, Contexts, Asking, Answering, Rejecting, Open, Storing, Replying, start}
+use Rattle.dr_message.specs.Calls.{Answer}
 use Rattle.dr_message.specs.Steps.{IsHop, IsLink, AcceptsOffered, others, pending}
 use Rattle.dr_message.specs.Events.{Event, Take, Ask, AgreeReceiver, AgreeCaller, Give, Receive, Answered, BreakCaller, BreakReceiver, Close, Restart, Requeue, Refuse, Tick, HasNode, Step}
 use Rattle.dr_message.specs.Runs.{Deed, Happens, Runs}
@@ -89,3 +90,7 @@ EventsHappen = (plan : Network) (w : World) → TakesHappen plan w × OpeningsHa
 abbrev pub ARefusalIsSpent : Type 0
 ARefusalIsSpent = (plan : Network) (node to : Text) (item : Item) → HasNode plan node → Sends plan node local item.key to →
     (w : World) × Runs plan start (Happens (Refuse node) ∷ Happens (Take node item (Err fault.Store)) ∷ Happens (Take node item (Ok New)) ∷ []) plan w × HasArrival w node local item
+
+-- A node can restart in every world: those that call it find an answer.
+abbrev pub RestartsHappen : Type 0
+RestartsHappen = (plan : Network) (w : World) (node : Text) → (answers : List (Option Answer)) × CanHappen plan w (Restart node answers)

@@ -1,5 +1,9 @@
 use Rattle.dr_message.proofs.laws.each_event_can_happen.Goals as goal
 use Rattle.dr_message.proofs.Ready.{events_happen}
+use Rattle.dr_message.proofs.Restarting.{restarts_happen}
 
-pub returns : goal.returns
-returns c = λ plan w. events_happen plan w
+pub returns-clause-events : goal.returns-clause-events
+returns-clause-events c = λ plan w. events_happen plan w
+
+pub returns-clause-restarts : goal.returns-clause-restarts
+returns-clause-restarts c = λ plan w node. restarts_happen plan w node
