@@ -117,16 +117,16 @@ record IsFresh (next : Network) (name : Text) (stood : FinMap pair_cmp Progress)
 module _ (plan next : Network) (w new : World) (safe : IsSafe plan w) (a : Adopts plan w next new) where
   fresh_node : (name : Text) → HasNode plan name → IsFresh next name (not_done (w.books name).rows) (new.books name)
   fresh_node name is = subst (IsFresh next name (not_done (w.books name).rows)) (sym (a.books name is)) (record {
-    right = adopted_right next name plan (w.standing name) (w.books name) (safe.books name) (a.fit name);
+    right = adopted_right next name plan (w.standing name) (w.books name) (safe.books name) (a.may.fit name);
     none = λ caller uid h. not_there (caller, uid) h;
     undone = λ at h. (was_queued (w.books name).rows at Done h).1 refl;
   })
 
   fresh_other : (name : Text) → (HasNode plan name → ⊥) → IsFresh next name (not_done (w.books name).rows) (new.books name)
   fresh_other name stranger =
-      let e = a.joined name stranger in
-      let none_stood : (at : Text × Text) → map.get (not_done (w.books name).rows) at ≡ None = λ at. none_queued at (ap (λ (b : Book). b.rows) e.0) in
-      subst (IsFresh next name (not_done (w.books name).rows)) (sym e.1) (record {
+      let was = a.may.strangers name stranger in
+      let none_stood : (at : Text × Text) → map.get (not_done (w.books name).rows) at ≡ None = λ at. none_queued at (ap (λ (b : Book). b.rows) was) in
+      subst (IsFresh next name (not_done (w.books name).rows)) (sym (a.joined name stranger)) (record {
         right = empty_right next name (not_done (w.books name).rows) none_stood;
         none = λ caller uid h. not_there (caller, uid) h;
         undone = λ at h. no_row Done (sym (map.get-empty pair_cmp at) ∙ h);

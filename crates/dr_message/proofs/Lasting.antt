@@ -38,15 +38,15 @@ adoption_lasts : (plan next : Network) (w new : World) → Adopts plan w next ne
 adoption_lasts plan next w new a = record {
   items = λ name uid item h. elim (node_or_not plan name) [
     | inl y ↦ ap (λ (b : Book). map.get b.items uid) (a.books name y) ∙ h
-    | inr n ↦ absurd (no_row item (sym (map.get-empty text_cmp uid) ∙ (ap (λ (b : Book). map.get b.items uid) (sym (a.joined name n).0) ∙ h)))
+    | inr n ↦ absurd (no_row item (sym (map.get-empty text_cmp uid) ∙ (ap (λ (b : Book). map.get b.items uid) (sym (a.may.strangers name n)) ∙ h)))
   ];
   kept = λ name uid h. elim (node_or_not plan name) [
     | inl y ↦ ap (λ (b : Book). set.contains b.kept uid) (a.books name y) ∙ h
-    | inr n ↦ absurd (none_kept uid (ap (λ (b : Book). set.contains b.kept uid) (sym (a.joined name n).0) ∙ h))
+    | inr n ↦ absurd (none_kept uid (ap (λ (b : Book). set.contains b.kept uid) (sym (a.may.strangers name n)) ∙ h))
   ];
   journal = λ name. elim (node_or_not plan name) [
     | inl y ↦ (Adoption ∷ [], ap (λ (b : Book). b.lines) (a.books name y))
-    | inr n ↦ ([], ap (λ (b : Book). b.lines) ((a.joined name n).1 ∙ sym (a.joined name n).0) ∙ sym (append-nil (w.books name).lines))
+    | inr n ↦ ([], ap (λ (b : Book). b.lines) (a.joined name n ∙ sym (a.may.strangers name n)) ∙ sym (append-nil (w.books name).lines))
   ];
 }
   where

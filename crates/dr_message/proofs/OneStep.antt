@@ -202,7 +202,7 @@ pub adoption_is_a_function : AdoptionIsAFunction
 adoption_is_a_function plan old next a b p q =
     let books : (name : Text) → a.books name ≡ b.books name = λ name. elim (node_or_not plan name) [
       | inl is ↦ p.books name is ∙ sym (q.books name is)
-      | inr stranger ↦ (p.joined name stranger).1 ∙ sym (q.joined name stranger).1
+      | inr stranger ↦ p.joined name stranger ∙ sym (q.joined name stranger)
     ] in
     λ j. record {
       time = (p.time ∙ sym q.time) j;

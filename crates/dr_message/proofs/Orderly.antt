@@ -103,7 +103,7 @@ none_armed : (plan next : Network) (w v : World) → Adopts plan w next v → Ar
 none_armed plan next w v a p name = ap (λ s. set.contains s name) a.armed ∙ unarmed (cases_of (set.contains w.armed name))
   where
     unarmed : (set.contains w.armed name ≡ true) ⊎ (set.contains w.armed name ≡ false) → set.contains w.armed name ≡ false
-    unarmed (inl t) = a.unarmed name (p name t)
+    unarmed (inl t) = a.may.unarmed name (p name t)
     unarmed (inr f) = f
 
 armed_run : (deeds : List Deed) (plan last : Network) (w v : World) → Runs plan w deeds last v → Armed plan w → Armed last v

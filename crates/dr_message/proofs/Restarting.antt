@@ -1,4 +1,4 @@
--- A restart can happen in every world.
+-- A restart can happen in every world, and an adoption where all nodes may take the plan.
 use Rattle.std.specs.Prelude.{◌≡◌, ◌≢◌, ℕ, ◌⊎◌, Bool, true, false, cond, T, ◌&&◌, ◌||◌, List, [], ◌∷◌, map as mapped, Contains, Option, None, Some, is_some, Ok, Err}
 use Rattle.std.proofs.Common.{refl, sym, ap, subst, ◌∙◌}
 use mathlib.Core.Logic.{inl, inr}
@@ -20,12 +20,14 @@ use Rattle.dr_ledger.specs.declared.item.Outcome.{Outcome}
 use Rattle.dr_ledger.specs.declared.item.Outcome.TheVariants.{Broken}
 use Rattle.dr_ledger.specs.declared.item.Progress.{Progress}
 use Rattle.dr_ledger.specs.declared.item.Progress.TheVariants.{Waiting, Held, Done}
-use Rattle.dr_ledger.specs.Books.{Book}
+use Rattle.dr_ledger.specs.Books.{Book, Adoption, after, empty_book, not_done}
 use Rattle.dr_ledger.specs.Replies.{IsWaiting}
 use Rattle.dr_message.specs.Worlds.{World, Link, same_text, with_book, with_armed, with_link, without_caller}
 use Rattle.dr_message.specs.Calls.{Answer, Settlement}
 use Rattle.dr_message.specs.Steps.{IsLink, pending, SettlesPending, Leaves, LeaveAll, calls, callers_of}
-use Rattle.dr_message.specs.Happening.{RestartsHappen}
+use Rattle.dr_message.specs.Events.{HasNode}
+use Rattle.dr_message.specs.Happening.{RestartsHappen, AdoptionsHappen}
+use Rattle.dr_message.proofs.AdoptionsKept.{node_or_not}
 use Rattle.dr_message.proofs.Lookups.{numbers, cases_of, same_or_not, ties_itself, get_other}
 use Rattle.dr_message.proofs.Ready.{settles}
 
@@ -208,3 +210,40 @@ restarts_happen plan w node =
     let on = callers_on w node in
     let left = all_leave (callers_of w node) w on.1 on.0 in
     (left.0, (_, (left.1, left.2, refl)))
+
+-- ---- adoptions
+adopted_book : (plan : Network) (name : Text) → HasNode plan name ⊎ (HasNode plan name → ⊥) → Book → Book
+adopted_book plan name (inl is) b = after Adoption b
+adopted_book plan name (inr stranger) b = empty_book
+
+of_node : (plan : Network) (name : Text) (d : HasNode plan name ⊎ (HasNode plan name → ⊥)) (b : Book) → HasNode plan name → adopted_book plan name d b ≡ after Adoption b
+unfolding adopted_book
+of_node plan name (inl is) b here = refl
+of_node plan name (inr stranger) b here = absurd (stranger here)
+
+of_stranger : (plan : Network) (name : Text) (d : HasNode plan name ⊎ (HasNode plan name → ⊥)) (b : Book) → (HasNode plan name → ⊥) → adopted_book plan name d b ≡ empty_book
+unfolding adopted_book
+of_stranger plan name (inl is) b none = absurd (none is)
+of_stranger plan name (inr stranger) b none = refl
+
+pub adoptions_happen : AdoptionsHappen
+adoptions_happen plan w next may = (
+  record {
+    time = w.time;
+    books = λ name. adopted_book plan name (node_or_not plan name) (w.books name);
+    standing = λ name. not_done (w.books name).rows;
+    armed = w.armed;
+    links = map.empty;
+    opened = w.opened;
+  },
+  record {
+    may = may;
+    books = λ name is. of_node plan name (node_or_not plan name) (w.books name) is;
+    joined = λ name stranger. of_stranger plan name (node_or_not plan name) (w.books name) stranger;
+    standing = λ name. refl;
+    links = refl;
+    time = refl;
+    armed = refl;
+    opened = refl;
+  },
+)

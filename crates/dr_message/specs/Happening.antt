@@ -14,7 +14,7 @@ use Rattle.dr_message.specs.Worlds.{World, Link, Contexts, Asking, Answering, Re
 use Rattle.dr_message.specs.Calls.{Answer}
 use Rattle.dr_message.specs.Steps.{IsHop, IsLink, AcceptsOffered, others, pending}
 use Rattle.dr_message.specs.Events.{Event, Take, Ask, AgreeReceiver, AgreeCaller, Give, Receive, Answered, BreakCaller, BreakReceiver, Close, Restart, Requeue, Refuse, Tick, HasNode, Step}
-use Rattle.dr_message.specs.Runs.{Deed, Happens, Runs}
+use Rattle.dr_message.specs.Runs.{MayAdopt, Adopts, Deed, Happens, Runs}
 use Rattle.dr_message.specs.Claims.{HasArrival}
 
 -- the event leads to some world
@@ -94,3 +94,7 @@ ARefusalIsSpent = (plan : Network) (node to : Text) (item : Item) → HasNode pl
 -- A node can restart in every world: those that call it find an answer.
 abbrev pub RestartsHappen : Type 0
 RestartsHappen = (plan : Network) (w : World) (node : Text) → (answers : List (Option Answer)) × CanHappen plan w (Restart node answers)
+
+-- Where all nodes may take the next plan, they can.
+abbrev pub AdoptionsHappen : Type 0
+AdoptionsHappen = (plan : Network) (w : World) (next : Network) → MayAdopt plan w next → (new : World) × Adopts plan w next new

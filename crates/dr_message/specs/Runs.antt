@@ -14,16 +14,22 @@ use Rattle.dr_message.specs.Worlds.{World, Link}
 use Rattle.dr_message.specs.Events.{Event, HasNode, Step}
 use Rattle.dr_message.specs.Steps.{IsLink}
 
--- All nodes take the next plan at once: no link has a side on, no node is armed, each node stays one, and each row that isn't done
--- is of a hop of the next plan. Arrivals and done rows leave the books, a node that joins has an empty one, and links are gone.
-pub record Adopts (plan : Network) (old : World) (next : Network) (new : World) : Type 0 where
+-- All nodes may take the next plan: no link has a side on, no node is armed, each node stays one, each row that isn't done is of a
+-- hop of the next plan, and what names no node has an empty book.
+pub record MayAdopt (plan : Network) (old : World) (next : Network) : Type 0 where
   pub off : (number : ℕ) (link : Link) → IsLink old number link → (link.caller_on ≡ false) × (link.receiver_on ≡ false)
   pub unarmed : (name : Text) → HasNode plan name → set.contains old.armed name ≡ false
   pub stay : (name : Text) → HasNode plan name → HasNode next name
   pub fit : (name uid to : Text) (row : Progress) (item : Item) → map.get (old.books name).rows (uid, to) ≡ Some row → row ≢ Done →
       map.get (old.books name).items uid ≡ Some item → Goes next item.key name to
+  pub strangers : (name : Text) → (HasNode plan name → ⊥) → old.books name ≡ empty_book
+
+-- They all do at once: arrivals and done rows leave the books, a node that joins has an empty one, and links are gone. The rows
+-- that aren't done stand.
+pub record Adopts (plan : Network) (old : World) (next : Network) (new : World) : Type 0 where
+  pub may : MayAdopt plan old next
   pub books : (name : Text) → HasNode plan name → new.books name ≡ after Adoption (old.books name)
-  pub joined : (name : Text) → (HasNode plan name → ⊥) → (old.books name ≡ empty_book) × (new.books name ≡ empty_book)
+  pub joined : (name : Text) → (HasNode plan name → ⊥) → new.books name ≡ empty_book
   pub standing : (name : Text) → new.standing name ≡ not_done (old.books name).rows
   pub links : new.links ≡ map.empty
   pub time : new.time ≡ old.time

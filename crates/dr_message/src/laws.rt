@@ -1,5 +1,5 @@
 //! Laws of the message world: what a reader may take from its definitions.
-ghost use Rattle.dr_message.specs.Happening.{EventsHappen, ARefusalIsSpent, RestartsHappen};
+ghost use Rattle.dr_message.specs.Happening.{EventsHappen, ARefusalIsSpent, RestartsHappen, AdoptionsHappen};
 ghost use Rattle.dr_message.specs.Laws.{StepIsAFunction, AdoptionIsAFunction, OneHopRuns, TwoNodesRun, AcceptedAreTheHops, NumbersAreFresh, ArmedAreNodes, NoneIsArmedAfterAdoption, JournalsAreHistories};
 
 /// A step is a function of the plan, the world, the event and its replies, but for whether a failing store spent a
@@ -24,10 +24,12 @@ pub fn accepted_are_the_hops()
     ensures { AcceptedAreTheHops }
 {}
 
-/// Each event can happen, in each world that is ready for it, and a restart in every world.
+/// Each event can happen, in each world that is ready for it, a restart in every world, and an adoption where all
+/// nodes may take the plan.
 pub fn each_event_can_happen()
     ensures events { EventsHappen }
     ensures restarts { RestartsHappen }
+    ensures adoptions { AdoptionsHappen }
 {}
 
 /// A store that is told to refuse does so once.
