@@ -1,3 +1,5 @@
+pub mod Agreeing
+pub mod Earliest
 pub mod Faults
 pub mod Figures
 pub mod Folding

@@ -29,13 +29,13 @@ use Rattle.dr_ledger.specs.Routings.{Routing}
 use Rattle.dr_ledger.proofs.Maps.{cases_of}
 
 -- ---- next
-abbrev Due : Type 0
+abbrev pub Due : Type 0
 Due = ℕ × Text
 
-abbrev due_cmp : Due → Due → Ordering
+abbrev pub due_cmp : Due → Due → Ordering
 due_cmp a b = ordering_then (nat_cmp a.0 b.0) (text_cmp a.1 b.1)
 
-due_total : IsTotalOrder due_cmp
+pub due_total : IsTotalOrder due_cmp
 due_total = then_total (on_total (λ (p : Due). p.0) nat_cmp_total) (on_total (λ (p : Due). p.1) nat_list_cmp_total)
 
 due_exact : CmpEqualImpliesEq due_cmp
@@ -73,7 +73,7 @@ pub next_is_earliest : NextIsEarliest
 next_is_earliest b dest now item n uid tries due row early = no_later n.due due item.uid uid (n.least uid due ((tries, row), early))
 
 -- ---- items are the same, or not
-texts_or_not : (a b : Text) → (a ≡ b) ⊎ (a ≢ b)
+pub texts_or_not : (a b : Text) → (a ≡ b) ⊎ (a ≢ b)
 texts_or_not a b = elim (cases_of (bytes_eq a b)) [
   | inl h ↦ inl ((bytes_eq-Decides a b).0 h)
   | inr h ↦ inr (λ e. let f : true ≡ false = sym ((bytes_eq-Decides a b).1 e) ∙ h in cc)

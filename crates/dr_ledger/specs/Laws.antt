@@ -23,7 +23,25 @@ use Rattle.dr_ledger.specs.Books.{Book, Line, Repeat, Settling, Requeuing, Adopt
 use Rattle.dr_ledger.specs.Histories.{IsHistory, IsJournalled}
 use Rattle.dr_ledger.specs.PlanRoutes.{targets, keeps}
 use Rattle.dr_ledger.specs.Replies.{Admits, Arrives, IsNext, Nexts, Requeues, Settles, arrival_line}
-use Rattle.dr_ledger.specs.Routings.{Routing}
+use Rattle.dr_ledger.specs.Routings.{Agree, Routing}
+
+-- ---- whole books
+
+-- somebody with a line brought the item
+abbrev pub IsBrought : Routing → Book → Text → Item → Type 0
+IsBrought routing b caller item = (set.contains b.arrivals (caller, item.uid) ≡ true) × (map.get b.items item.uid ≡ Some item) × routing.HasLine caller item.key
+
+-- Each part of the book stands on an arrival, and each arrival has its parts. Figures stay in range.
+pub record IsWhole (routing : Routing) (b : Book) : Type 0 where
+  pub items : (uid : Text) (item : Item) → map.get b.items uid ≡ Some item → (item.uid ≡ uid) × ((caller : Text) × IsBrought routing b caller item)
+  pub arrivals : (caller uid : Text) → set.contains b.arrivals (caller, uid) ≡ true → (item : Item) × (item.uid ≡ uid) × IsBrought routing b caller item
+  pub kept : (uid : Text) → set.contains b.kept uid ≡ true → (caller : Text) × (item : Item) × (item.uid ≡ uid) × IsBrought routing b caller item × (routing.keeps caller item.key ≡ true)
+  pub keeps : (caller : Text) (item : Item) → IsBrought routing b caller item → routing.keeps caller item.key ≡ true → set.contains b.kept item.uid ≡ true
+  pub rows : (uid dest : Text) (row : Progress) → map.get b.rows (uid, dest) ≡ Some row →
+      (caller : Text) × (item : Item) × (item.uid ≡ uid) × IsBrought routing b caller item × Contains (routing.targets caller item.key) dest
+  pub targets : (caller : Text) (item : Item) (dest : Text) → IsBrought routing b caller item → Contains (routing.targets caller item.key) dest →
+      (row : Progress) × (map.get b.rows (item.uid, dest) ≡ Some row)
+  pub figures : (uid dest : Text) (tries due : ℕ) → map.get b.rows (uid, dest) ≡ Some (Waiting tries due) → (tries ≤ 1000000) × (due ≤ 2 ^ 62 + 300000)
 
 -- ---- answers
 
@@ -60,6 +78,10 @@ HasAnswer {A} Answers = (r : Result A LedgerFault) × (new : Book) × Follows r 
 
 abbrev pub ArrivalsHaveAnswers : Routing → Type 0
 ArrivalsHaveAnswers routing = (caller : Text) (item : Item) (old : Book) → routing.HasLine caller item.key ⊎ (routing.HasLine caller item.key → ⊥) → HasAnswer (Arrives routing caller item old)
+
+-- in a whole book, so does the question for the next item
+abbrev pub NextsHaveAnswers : Routing → Type 0
+NextsHaveAnswers routing = (b : Book) → IsWhole routing b → (dest : Text) (now : ℕ) → (found : Option Item) × Nexts b dest now found
 
 abbrev pub SettlingsHaveAnswers : Type 0
 SettlingsHaveAnswers = (uid dest : Text) (outcome : Outcome) (now : ℕ) (old : Book) → HasAnswer (Settles uid dest outcome now old)
@@ -126,22 +148,6 @@ SettlingsAreJournalled routing = (uid dest : Text) (outcome : Outcome) (now : �
 abbrev pub RequeuingsAreJournalled : Routing → Type 0
 RequeuingsAreJournalled routing = (uid dest : Text) (old new : Book) (r : Result (Unit {0}) LedgerFault) →
     IsJournalled routing old → Requeues uid dest old r new → IsJournalled routing new
-
--- somebody with a line brought the item
-abbrev pub IsBrought : Routing → Book → Text → Item → Type 0
-IsBrought routing b caller item = (set.contains b.arrivals (caller, item.uid) ≡ true) × (map.get b.items item.uid ≡ Some item) × routing.HasLine caller item.key
-
--- Each part of the book stands on an arrival, and each arrival has its parts. Figures stay in range.
-pub record IsWhole (routing : Routing) (b : Book) : Type 0 where
-  pub items : (uid : Text) (item : Item) → map.get b.items uid ≡ Some item → (item.uid ≡ uid) × ((caller : Text) × IsBrought routing b caller item)
-  pub arrivals : (caller uid : Text) → set.contains b.arrivals (caller, uid) ≡ true → (item : Item) × (item.uid ≡ uid) × IsBrought routing b caller item
-  pub kept : (uid : Text) → set.contains b.kept uid ≡ true → (caller : Text) × (item : Item) × (item.uid ≡ uid) × IsBrought routing b caller item × (routing.keeps caller item.key ≡ true)
-  pub keeps : (caller : Text) (item : Item) → IsBrought routing b caller item → routing.keeps caller item.key ≡ true → set.contains b.kept item.uid ≡ true
-  pub rows : (uid dest : Text) (row : Progress) → map.get b.rows (uid, dest) ≡ Some row →
-      (caller : Text) × (item : Item) × (item.uid ≡ uid) × IsBrought routing b caller item × Contains (routing.targets caller item.key) dest
-  pub targets : (caller : Text) (item : Item) (dest : Text) → IsBrought routing b caller item → Contains (routing.targets caller item.key) dest →
-      (row : Progress) × (map.get b.rows (item.uid, dest) ≡ Some row)
-  pub figures : (uid dest : Text) (tries due : ℕ) → map.get b.rows (uid, dest) ≡ Some (Waiting tries due) → (tries ≤ 1000000) × (due ≤ 2 ^ 62 + 300000)
 
 abbrev pub HistoriesMakeWholeBooks : Routing → Type 0
 HistoriesMakeWholeBooks routing = (lines : List Line) → IsHistory routing lines empty_book → IsWhole routing (Fold lines)
@@ -247,6 +253,18 @@ pub record AreFigures (now : ℕ) : Type 0 where
 
 abbrev pub FiguresAreRight : Type 0
 FiguresAreRight = (now : ℕ) → AreFigures now
+
+-- ---- routings that agree
+
+-- What a ledger does by its site's routes, a node of the world does by the plan, and the journal is a history by either.
+abbrev pub AgreeInArrivals : Routing → Routing → Type 0
+AgreeInArrivals site plan = Agree site plan → (caller : Text) (item : Item) (old new : Book) (r : Result Arrived LedgerFault) → Arrives site caller item old r new → Arrives plan caller item old r new
+
+abbrev pub AgreeInAdmitting : Routing → Routing → Type 0
+AgreeInAdmitting site plan = Agree site plan → (caller : Text) (item : Item) (b : Book) (r : Result (Unit {0}) LedgerFault) → Admits site caller item b r → Admits plan caller item b r
+
+abbrev pub AgreeInHistories : Routing → Routing → Type 0
+AgreeInHistories site plan = Agree site plan → (b : Book) → IsJournalled site b → IsJournalled plan b
 
 -- ---- a plan's routing
 

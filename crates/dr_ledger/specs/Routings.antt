@@ -1,5 +1,5 @@
 -- What a node does with what a caller brings.
-use Rattle.std.specs.Prelude.{Bool, false, List, [], Option, None, Some, IsSome}
+use Rattle.std.specs.Prelude.{◌≡◌, ◌↔◌, Bool, false, List, [], Option, None, Some, IsSome}
 use Rattle.dr_base.specs.Texts.{Text}
 use Rattle.dr_route.specs.declared.key.Key.{Key}
 
@@ -32,3 +32,9 @@ routing_of routes = record {
   targets = λ caller key. targets_of (routes caller key);
   keeps = λ caller key. keeps_of (routes caller key);
 }
+
+-- the same lines, and where there is one, the same targets and the same `keep`: a site's routes and its node's part of the plan
+pub record Agree (site plan : Routing) : Type 0 where
+  pub lines : (caller : Text) (key : Key) → site.HasLine caller key ↔ plan.HasLine caller key
+  pub targets : (caller : Text) (key : Key) → site.HasLine caller key → site.targets caller key ≡ plan.targets caller key
+  pub keeps : (caller : Text) (key : Key) → site.HasLine caller key → site.keeps caller key ≡ plan.keeps caller key

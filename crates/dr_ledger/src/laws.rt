@@ -1,5 +1,5 @@
 //! Laws of books, of their journals, and of what a plan's nodes do.
-ghost use Rattle.dr_ledger.specs.Laws.{AdmitsComesTrue, AdoptionsLeave, AgainIsALineAlone, ArrivalsAddALine, ArrivalsAreJournalled, ArrivalsAreOne, ArrivalsHaveAnswers, ArrivalsLeave, CallersAreApart, EmptyIsJournalled, FiguresAreRight, FoldsHaveTheirLines, HistoriesMakeWholeBooks, KeepsWhereTheNodeKeeps, NewIsNoted, NewRowsAreUntried, NextIsEarliest, NextIsOne, NothingIsKeptForLocal, OnlyTargetsAreSentTo, RequeuingsAddALine, RequeuingsAreJournalled, RequeuingsAreOne, RequeuingsHaveAnswers, RequeuingsLeave, RequeuingsMoveARow, SettlingsAddALine, SettlingsAreJournalled, SettlingsAreOne, SettlingsHaveAnswers, SettlingsLeave, SettlingsMoveARow, TargetsAreInOrder, TargetsAreSentTo};
+ghost use Rattle.dr_ledger.specs.Laws.{AdmitsComesTrue, AdoptionsLeave, AgainIsALineAlone, AgreeInAdmitting, AgreeInArrivals, AgreeInHistories, ArrivalsAddALine, ArrivalsAreJournalled, ArrivalsAreOne, ArrivalsHaveAnswers, ArrivalsLeave, CallersAreApart, EmptyIsJournalled, FiguresAreRight, FoldsHaveTheirLines, HistoriesMakeWholeBooks, KeepsWhereTheNodeKeeps, NewIsNoted, NewRowsAreUntried, NextIsEarliest, NextIsOne, NextsHaveAnswers, NothingIsKeptForLocal, OnlyTargetsAreSentTo, RequeuingsAddALine, RequeuingsAreJournalled, RequeuingsAreOne, RequeuingsHaveAnswers, RequeuingsLeave, RequeuingsMoveARow, SettlingsAddALine, SettlingsAreJournalled, SettlingsAreOne, SettlingsHaveAnswers, SettlingsLeave, SettlingsMoveARow, TargetsAreInOrder, TargetsAreSentTo};
 ghost use Rattle.dr_ledger.specs.Routings.{Routing};
 
 /// A node's part of a plan, whichever.
@@ -19,6 +19,7 @@ pub fn answers_are_one<R: Routed>()
 /// Each call on a book has an answer that follows from it.
 pub fn each_call_has_an_answer<R: Routed>()
     ensures arrive { ArrivalsHaveAnswers R.routing }
+    ensures next { NextsHaveAnswers R.routing }
     ensures settle { SettlingsHaveAnswers }
     ensures requeue { RequeuingsHaveAnswers }
 {}
@@ -75,6 +76,13 @@ pub fn rows_move_one_by_one()
 /// When a row is tried again, done or held.
 pub fn figures_are_right()
     ensures { FiguresAreRight }
+{}
+
+/// Where a site's routes agree with a node's part of the plan, so do the replies by either, and the histories.
+pub fn routings_that_agree<S: Routed, P: Routed>()
+    ensures arrive { AgreeInArrivals S.routing P.routing }
+    ensures admits { AgreeInAdmitting S.routing P.routing }
+    ensures histories { AgreeInHistories S.routing P.routing }
 {}
 
 /// The targets of a plan's routing are exactly the nodes to which the node sends the key, in byte order and each
