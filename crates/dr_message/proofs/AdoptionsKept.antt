@@ -17,17 +17,15 @@ use Rattle.dr_ledger.specs.declared.item.Progress.{Progress}
 use Rattle.dr_ledger.specs.declared.item.Progress.TheVariants.{Waiting, Held, Done}
 use Rattle.dr_ledger.specs.Pairs.{pair_cmp}
 use Rattle.dr_ledger.specs.Books.{Book, Adoption, after, empty_book, is_done, not_done}
+use Rattle.dr_ledger.proofs.Growing.{inside as some_inside}
 use Rattle.dr_message.specs.Worlds.{World, Link}
 use Rattle.dr_message.specs.Events.{HasNode}
 use Rattle.dr_message.specs.Runs.{Adopts}
-use Rattle.dr_message.proofs.Lookups.{texts, text_pairs, same_or_not, ties_itself}
+use Rattle.dr_ledger.proofs.Maps.{texts, text_pairs, same_or_not, ties_itself}
 use Rattle.dr_message.proofs.Keeping.{IsRight, fair_with}
 use Rattle.dr_message.proofs.Safety.{IsSafe}
 
 -- ---- rows that stand
-some_inside : {X : Type 0} (x y : X) → Some x ≡ Some y → x ≡ y
-some_inside x y e = cc
-
 waiting_not_done : (tries due : ℕ) → Waiting tries due ≢ Done
 waiting_not_done tries due e = cc
 

@@ -18,20 +18,18 @@ use Rattle.dr_ledger.specs.declared.item.Progress.TheVariants.{Waiting, Held, Do
 use Rattle.dr_ledger.specs.Books.{Book, Repeat, Settling, Requeuing, after, row_after, tried}
 use Rattle.dr_ledger.specs.PlanRoutes.{plan_routing}
 use Rattle.dr_ledger.specs.Replies.{IsAdmitted, arrival_line}
+use Rattle.dr_ledger.proofs.Growing.{inside as some_inside, row_put, settled_is, requeued_is}
 use Rattle.dr_message.specs.Worlds.{World, with_book, with_armed}
 use Rattle.dr_message.specs.Calls.{Reply, Answer, Arriving, Settlement, Requeueing}
 use Rattle.dr_message.specs.Claims.{Brought, Has, HasArrival, HasSource, IsFairOutcome}
 use Rattle.dr_message.proofs.Walking.{walk_on, last_on}
-use Rattle.dr_message.proofs.Keeping.{IsRight, Grows, grows_same, brought_still, arrived_grows, arrived_new, arrived_from, arrived_done, arrived_right, line_right, line_grows, line_from, row_set, settled_is, requeued_is, row_set_grows, row_set_from, row_set_done, row_set_right}
+use Rattle.dr_message.proofs.Keeping.{IsRight, Grows, grows_same, brought_still, arrived_grows, arrived_new, arrived_from, arrived_done, arrived_right, line_right, line_grows, line_from, row_set_grows, row_set_from, row_set_done, row_set_right}
 use Rattle.dr_message.proofs.Safety.{IsSent, IsSafe, WorldGrows, world_same, put_grows, put_book, book_here, same_books}
 
 -- the new world is safe, and has what the old one had
 pub record Kept (plan : Network) (old new : World) : Type 0 where
   pub safe : IsSafe plan new
   pub grows : WorldGrows old new
-
-some_inside : {X : Type 0} (x y : X) → Some x ≡ Some y → x ≡ y
-some_inside x y e = cc
 
 -- a node has one item of a uid
 pub one_item : (w : World) (name : Text) (x y : Item) → x.uid ≡ y.uid → Has w name x → Has w name y → x ≡ y
@@ -184,10 +182,10 @@ module _ (plan : Network) (w : World) (safe : IsSafe plan w) where
       let row = row_after waits.0 outcome w.time in
       let line = Settling uid dest outcome w.time in
       let queued : Waiting waits.0 waits.1 ≢ Done = waiting_not_done waits.0 waits.1 in
-      let is_book : s.book ≡ row_set old (uid, dest) row line = s.call.1 ∙ settled_is plan name uid dest outcome w.time waits.0 waits.1 old waits.2 in
+      let is_book : s.book ≡ row_put old (uid, dest) row line = s.call.1 ∙ settled_is uid dest outcome w.time waits.0 waits.1 old waits.2 in
       let right = safe.books name in
       subst (Kept plan w) (sym (s.called.is ∙ ap (λ x. with_armed (with_book w name x) s.called.armed) is_book))
-      (kept_put name (row_set old (uid, dest) row line) _
+      (kept_put name (row_put old (uid, dest) row line) _
       (row_set_grows plan name (w.standing name) old (uid, dest) (Waiting waits.0 waits.1) row line right waits.2 queued fair)
       (row_set_right plan name (w.standing name) old (uid, dest) (Waiting waits.0 waits.1) row line right waits.2 queued fair)
       (λ c i h. inl (row_set_from plan name (w.standing name) old (uid, dest) (Waiting waits.0 waits.1) row line right waits.2 queued fair c i h))
@@ -211,9 +209,9 @@ module _ (plan : Network) (w : World) (safe : IsSafe plan w) where
       let line = Requeuing uid dest in
       let held = Held r.call.0.0 in
       let queued : Held r.call.0.0 ≢ Done = held_not_done r.call.0.0 in
-      let is_book : r.book ≡ row_set old (uid, dest) (Waiting 0 0) line = r.call.1 ∙ requeued_is plan name uid dest r.call.0.0 old r.call.0.1 in
+      let is_book : r.book ≡ row_put old (uid, dest) (Waiting 0 0) line = r.call.1 ∙ requeued_is uid dest r.call.0.0 old r.call.0.1 in
       subst (Kept plan w) (sym (r.called.is ∙ ap (λ x. with_armed (with_book w name x) r.called.armed) is_book))
-      (kept_put name (row_set old (uid, dest) (Waiting 0 0) line) _
+      (kept_put name (row_put old (uid, dest) (Waiting 0 0) line) _
       (row_set_grows plan name (w.standing name) old (uid, dest) held (Waiting 0 0) line right r.call.0.1 queued tt)
       (row_set_right plan name (w.standing name) old (uid, dest) held (Waiting 0 0) line right r.call.0.1 queued tt)
       (λ c i h. inl (row_set_from plan name (w.standing name) old (uid, dest) held (Waiting 0 0) line right r.call.0.1 queued tt c i h))

@@ -22,7 +22,8 @@ use Rattle.dr_message.specs.Calls.{Reply, Answer, Arriving, Settlement, status_o
 use Rattle.dr_message.specs.Steps.{IsLink, AcceptsOffered, SettlesFirst, OpensLink, GivesItem, pending, SettlesPending, Leaves, LeavesIfOn, LeaveAll, callers_of, links_without, is_of, ReadsAnswer, Gives, Receives, ReadsReply}
 use Rattle.dr_message.specs.Events.{Event, Take, Ask, AgreeReceiver, AgreeCaller, Give, Receive, Answered, BreakCaller, BreakReceiver, Close, Restart, Requeue, Refuse, Tick, Step}
 use Rattle.dr_message.specs.Claims.{HasArrival, IsFairStatus, CoversHop}
-use Rattle.dr_message.proofs.Lookups.{numbers, got}
+use Rattle.dr_ledger.proofs.Maps.{got}
+use Rattle.dr_message.proofs.Lookups.{numbers}
 use Rattle.dr_message.proofs.Walking.{goes_reached}
 use Rattle.dr_message.proofs.Safety.{IsSent, IsFairStage, IsFairLink, IsSafe, world_same, world_on, same_grows, source_still, stage_still, same_books, put_link}
 use Rattle.dr_message.proofs.CallsKept.{Kept, IsSuccess, one_item, broken_not_done, goes_of, source_on, unchanged, arriving_kept, settlement_kept, requeue_kept}

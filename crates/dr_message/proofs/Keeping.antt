@@ -21,8 +21,9 @@ use Rattle.dr_ledger.specs.Pairs.{pair_cmp}
 use Rattle.dr_ledger.specs.Books.{Book, Line, Arrival, Repeat, Settling, Requeuing, after, with_rows, row_after, settled_row, requeued_row}
 use Rattle.dr_ledger.specs.PlanRoutes.{plan_routing, targets, keeps}
 use Rattle.dr_ledger.specs.Replies.{IsAdmitted, arrival_line}
+use Rattle.dr_ledger.proofs.Growing.{rows_stay, rows_made, rows_from, row_put}
 use Rattle.dr_message.specs.Claims.{Brought, IsFairLine}
-use Rattle.dr_message.proofs.Lookups.{texts, text_pairs, same_or_not, contains_new, still_contains, contained, get_new, get_other, got, filled_keeps, filled_has, filled_is, filled_got}
+use Rattle.dr_ledger.proofs.Maps.{texts, text_pairs, same_or_not, contains_new, still_contains, contained, get_new, get_other, got, filled_keeps, filled_has, filled_is, filled_got}
 use Rattle.dr_ledger.proofs.PlanRouting.{targets_are_sent_to as targets_sent, keeps_where_it_keeps as keeps_kept}
 
 -- why there is a row
@@ -94,32 +95,6 @@ standing_still plan name stood old new uid to g s = record {
   goes = s.goes;
   row = g.rows (uid, to) s.row.0 s.row.1;
 }
-
--- ---- the rows that an arrival makes
-pub rows_stay : (targets : List Text) (rows : FinMap pair_cmp Progress) (uid : Text) (at : Text × Text) (row : Progress) → map.get rows at ≡ Some row → map.get (with_rows rows uid targets) at ≡ Some row
-unfolding with_rows
-rows_stay [] rows uid at row h = h
-rows_stay (to ∷ more) rows uid at row h = rows_stay more _ uid at row (filled_keeps text_pairs rows (uid, to) (Waiting 0 0) at row h)
-
-pub rows_made : (targets : List Text) (rows : FinMap pair_cmp Progress) (uid to : Text) → Contains targets to → (row : Progress) × (map.get (with_rows rows uid targets) (uid, to) ≡ Some row)
-unfolding with_rows
-rows_made [] rows uid to h = absurd (nothing_in_nil to h)
-rows_made (first ∷ more) rows uid to h = elim (Contains-cons_cases first more to h) [
-  | inl e ↦ let made = filled_has text_pairs rows (uid, first) (Waiting 0 0) in
-      (made.0, rows_stay more _ uid (uid, to) made.0 (subst (λ t. map.get (map.insert rows (uid, first) (unwrap_or (map.get rows (uid, first)) (Waiting 0 0))) (uid, t) ≡ Some made.0) e made.1))
-  | inr later ↦ rows_made more _ uid to later
-]
-
-pub rows_from : (targets : List Text) (rows : FinMap pair_cmp Progress) (uid : Text) (at : Text × Text) (row : Progress) → map.get (with_rows rows uid targets) at ≡ Some row → (map.get rows at ≡ Some row) ⊎ ((at.0 ≡ uid) × Contains targets at.1 × (row ≡ Waiting 0 0))
-unfolding with_rows
-rows_from [] rows uid at row h = inl h
-rows_from (to ∷ more) rows uid at row h = elim (rows_from more _ uid at row h) [
-  | inl before ↦ elim (filled_got text_pairs rows (uid, to) (Waiting 0 0) at row before) [
-    | inl was ↦ inl was
-    | inr made ↦ inr (ap (λ p. p.0) made.0, subst (Contains (to ∷ more)) (sym (ap (λ (p : Text × Text). p.1) made.0)) (Contains-here to more), made.1)
-  ]
-  | inr made ↦ inr (made.0, Contains-there to more at.1 made.1, made.2)
-]
 
 -- a further line at the end
 pub fair_with : (lines : List Line) (last : Line) → ((line : Line) → Contains lines line → IsFairLine line) → IsFairLine last → (line : Line) → Contains (lines ++ last ∷ []) line → IsFairLine line
@@ -214,19 +189,6 @@ module _ (plan : Network) (name caller : Text) (item : Item) (stood : FinMap pai
   }
 
 -- ---- one row changes
-abbrev pub row_set : Book → Text × Text → Progress → Line → Book
-row_set b at row line = record { items = b.items; arrivals = b.arrivals; kept = b.kept; rows = map.insert b.rows at row; lines = b.lines ++ line ∷ [] }
-
-pub settled_is : (plan : Network) (name uid dest : Text) (outcome : Outcome) (now tries due : ℕ) (b : Book) → map.get b.rows (uid, dest) ≡ Some (Waiting tries due) →
-    after (Settling uid dest outcome now) b ≡ row_set b (uid, dest) (row_after tries outcome now) (Settling uid dest outcome now)
-settled_is plan name uid dest outcome now tries due b h =
-    ap (λ (o : Option Progress). record { items = b.items; arrivals = b.arrivals; kept = b.kept; rows = settled_row b.rows (uid, dest) o outcome now; lines = b.lines ++ Settling uid dest outcome now ∷ [] }) h
-
-pub requeued_is : (plan : Network) (name uid dest : Text) (cause : Cause) (b : Book) → map.get b.rows (uid, dest) ≡ Some (Held cause) →
-    after (Requeuing uid dest) b ≡ row_set b (uid, dest) (Waiting 0 0) (Requeuing uid dest)
-requeued_is plan name uid dest cause b h =
-    ap (λ (o : Option Progress). record { items = b.items; arrivals = b.arrivals; kept = b.kept; rows = requeued_row b.rows (uid, dest) o; lines = b.lines ++ Requeuing uid dest ∷ [] }) h
-
 module _ (plan : Network) (name : Text) (stood : FinMap pair_cmp Progress) (b : Book) (at : Text × Text) (old row : Progress) (line : Line) (right : IsRight plan name stood b) (was : map.get b.rows at ≡ Some old) (queued : old ≢ Done) (fair : IsFairLine line) where
   still_row : (q : Text × Text) (r : Progress) → map.get b.rows q ≡ Some r → (r' : Progress) × (map.get (map.insert b.rows at row) q ≡ Some r')
   still_row q r h = elim (same_or_not text_pairs q at) [
@@ -240,16 +202,16 @@ module _ (plan : Network) (name : Text) (stood : FinMap pair_cmp Progress) (b : 
     | inr n ↦ get_other text_pairs b.rows at row q n ∙ h
   ]
 
-  pub row_set_grows : Grows b (row_set b at row line)
+  pub row_set_grows : Grows b (row_put b at row line)
   row_set_grows = record { items = λ u i h. h; arrivals = λ a h. h; kept = λ u h. h; rows = still_row; done = still_done; lines = (line ∷ [], refl) }
 
-  pub row_set_from : (c : Text) (i : Item) → Brought (row_set b at row line) c i → Brought b c i
+  pub row_set_from : (c : Text) (i : Item) → Brought (row_put b at row line) c i → Brought b c i
   row_set_from c i h = record { arrival = h.arrival; item_is = h.item_is }
 
-  pub row_set_done : (q : Text × Text) → map.get (row_set b at row line).rows q ≡ Some Done → (map.get b.rows q ≡ Some Done) ⊎ ((q ≡ at) × (row ≡ Done))
+  pub row_set_done : (q : Text × Text) → map.get (row_put b at row line).rows q ≡ Some Done → (map.get b.rows q ≡ Some Done) ⊎ ((q ≡ at) × (row ≡ Done))
   row_set_done q h = elim (got text_pairs b.rows at row q Done h) [ inl e ↦ inr (e.0, sym e.1) | inr n ↦ inl n.1 ]
 
-  pub row_set_right : IsRight plan name stood (row_set b at row line)
+  pub row_set_right : IsRight plan name stood (row_put b at row line)
   row_set_right = record {
     named = right.named;
     known = right.known;

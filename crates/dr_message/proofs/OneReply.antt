@@ -24,32 +24,16 @@ use Rattle.dr_ledger.specs.declared.item.Outcome.{Outcome}
 use Rattle.dr_ledger.specs.Books.{Book}
 use Rattle.dr_ledger.specs.PlanRoutes.{plan_routing}
 use Rattle.dr_ledger.specs.Replies.{Arrives, Settles, Requeues, IsNext}
+use Rattle.dr_ledger.proofs.Growing.{inside as some_inside}
+use Rattle.dr_ledger.proofs.Ones.{next_is_one}
 use Rattle.dr_message.specs.Worlds.{World, Link, Contexts, with_armed, with_book, with_link, books_with}
 use Rattle.dr_message.specs.Calls.{Reply, Answer, Fate, Called, Arriving, Settlement, Requeueing}
 use Rattle.dr_message.specs.Steps.{IsLink, AcceptsOffered}
 
-pub some_inside : {X : Type 0} (x y : X) → Some x ≡ Some y → x ≡ y
-some_inside x y e = cc
-
 -- ---- orders
-neither_greater : (o p : Ordering) → o ≡ ordering_reverse p → o ≢ Greater → p ≢ Greater → o ≡ Equal
-neither_greater o Less e n m = absurd (n e)
-neither_greater o Equal e n m = e
-neither_greater o Greater e n m = absurd (m refl)
-
-abbrev due_cmp : ℕ × Text → ℕ × Text → Ordering
-due_cmp a b = ordering_then (nat_cmp a.0 b.0) (text_cmp a.1 b.1)
-
-due_total : IsTotalOrder due_cmp
-due_total = then_total (on_total (λ (p : ℕ × Text). p.0) nat_cmp_total) (on_total (λ (p : ℕ × Text). p.1) nat_list_cmp_total)
-
 -- the first row that is due is one
 pub next_same : (b : Book) (dest : Text) (now : ℕ) (x y : Item) → IsNext b dest now x → IsNext b dest now y → x ≡ y
-next_same b dest now x y p q =
-    let e : (let a : ℕ × Text = (p.due, x.uid) in a) ≡ (q.due, y.uid) =
-    exact_pairs nat_cmp text_cmp exact_unsigned exact_bytes _ _
-    (neither_greater _ _ (due_total.antisymm (p.due, x.uid) (q.due, y.uid)) (p.least y.uid q.due q.row) (q.least x.uid p.due p.row)) in
-    some_inside x y (sym p.has ∙ (ap (λ (a : ℕ × Text). map.get b.items a.1) e ∙ q.has))
+next_same b dest now x y p q = some_inside x y (next_is_one b dest now (Some x) (Some y) p q)
 
 uids_apart : (s t : Syntax) → syntax_uid s ≡ syntax_uid t → s ≡ t
 uids_apart Implicit Implicit e = refl

@@ -19,7 +19,8 @@ use Rattle.dr_message.specs.Steps.{IsLink}
 use Rattle.dr_message.specs.Events.{Event, HasNode, Step}
 use Rattle.dr_message.specs.Runs.{Deed, Happens, Turns, Runs, Adopts}
 use Rattle.dr_message.specs.Laws.{NumbersAreFresh, ArmedAreNodes, NoneIsArmedAfterAdoption, happenings, JournalsAreHistories}
-use Rattle.dr_message.proofs.Lookups.{texts, numbers, contained, got, cases_of}
+use Rattle.dr_ledger.proofs.Maps.{texts, contained, got, cases_of}
+use Rattle.dr_message.proofs.Lookups.{numbers}
 use Rattle.dr_message.proofs.Safety.{each_book}
 use Rattle.dr_message.proofs.EventsKept.{was_link}
 use Rattle.dr_message.proofs.AdoptionsKept.{no_row, node_or_not}

@@ -28,9 +28,11 @@ use Rattle.dr_message.specs.Events.{HasNode}
 use Rattle.dr_message.specs.Runs.{Runs}
 use Rattle.dr_message.specs.Claims.{Brought}
 use Rattle.dr_message.specs.Laws.{one_store, IsStored, OneHopRuns}
-use Rattle.dr_message.proofs.Lookups.{texts, text_pairs, numbers, same_or_not, get_new, ties_itself}
+use Rattle.dr_ledger.proofs.Maps.{texts, text_pairs, same_or_not, get_new, ties_itself}
+use Rattle.dr_message.proofs.Lookups.{numbers}
 use Rattle.dr_message.proofs.Walking.{reached_on}
-use Rattle.dr_message.proofs.Keeping.{rows_made, rows_from, arrived_new, settled_is}
+use Rattle.dr_ledger.proofs.Growing.{rows_made, rows_from, settled_is}
+use Rattle.dr_message.proofs.Keeping.{arrived_new}
 use Rattle.dr_message.proofs.Safety.{book_here, book_there}
 use Rattle.dr_message.proofs.AdoptionsKept.{empty_right, no_row}
 
@@ -234,7 +236,7 @@ module _ (plan : Network) (s m : Text) (item : Item) (accepted : Contexts) (here
     )
         ),
     (
-      ap (λ (b : Book). map.get b.rows (item.uid, m)) (book_here w6.books s b3 ∙ settled_is plan s item.uid m (Status 0) 0 0 0 (w6.books s) (ap (λ (b : Book). map.get b.rows (item.uid, m)) here_6 ∙ row_there))
+      ap (λ (b : Book). map.get b.rows (item.uid, m)) (book_here w6.books s b3 ∙ settled_is item.uid m (Status 0) 0 0 0 (w6.books s) (ap (λ (b : Book). map.get b.rows (item.uid, m)) here_6 ∙ row_there))
           ∙ (get_new text_pairs (w6.books s).rows (item.uid, m) (row_after 0 (Status 0) 0) ∙ ap Some (is_done_after 0 0)),
       subst (λ (b : Book). Brought b s item) (sym (book_there w6.books s b3 m (apart m s (λ e. differ (sym e))) ∙ book_here w5.books m (brought s m)))
           (arrived_new plan m s item map.empty empty_book (empty_right plan m map.empty (λ at. map.get-empty pair_cmp at)) (admitted s m reached_m)),

@@ -24,7 +24,7 @@ use Rattle.dr_message.specs.Steps.{Leaves, pending, SettlesPending, after_settli
 use Rattle.dr_message.specs.Events.{HasNode}
 use Rattle.dr_message.specs.Claims.{Brought}
 use Rattle.dr_message.specs.Happening.{TakesHappen, OpeningsHappen, StoresHappen, EndingsHappen, EventsHappen, ARefusalIsSpent, Writes, IsCallers}
-use Rattle.dr_message.proofs.Lookups.{texts, contains_new, ties_itself}
+use Rattle.dr_ledger.proofs.Maps.{texts, contains_new, ties_itself}
 use Rattle.dr_message.proofs.Keeping.{IsRight, arrived_new}
 use Rattle.dr_ledger.specs.Pairs.{pair_cmp}
 use Rattle.dr_message.proofs.Safety.{book_here}

@@ -28,7 +28,8 @@ use Rattle.dr_message.specs.Steps.{IsLink, pending, SettlesPending, Leaves, Leav
 use Rattle.dr_message.specs.Events.{HasNode}
 use Rattle.dr_message.specs.Happening.{RestartsHappen, AdoptionsHappen}
 use Rattle.dr_message.proofs.AdoptionsKept.{node_or_not}
-use Rattle.dr_message.proofs.Lookups.{numbers, cases_of, same_or_not, ties_itself, get_other}
+use Rattle.dr_ledger.proofs.Maps.{cases_of, same_or_not, ties_itself, get_other}
+use Rattle.dr_message.proofs.Lookups.{numbers}
 use Rattle.dr_message.proofs.Ready.{settles}
 
 -- ---- a settling has an answer, and leaves the links

@@ -15,7 +15,8 @@ use Rattle.dr_ledger.specs.Books.{Book}
 use Rattle.dr_message.specs.Worlds.{World, Link, Stage, Asking, Answering, Rejecting, Open, Storing, Replying, Gone, same_text, books_with, with_book, with_link}
 use Rattle.dr_message.specs.Claims.{Brought, Has, HasArrival, HasRow, HasStood, HasSource, IsFairStatus, CoversHop}
 use Rattle.dr_message.specs.Steps.{IsLink}
-use Rattle.dr_message.proofs.Lookups.{texts, numbers, same_or_not, ties_itself, got}
+use Rattle.dr_ledger.proofs.Maps.{texts, same_or_not, ties_itself, got}
+use Rattle.dr_message.proofs.Lookups.{numbers}
 use Rattle.dr_message.proofs.Keeping.{IsRight, Grows, grows_same, grows_on, brought_still}
 
 -- a node has the item and a row for it, in whatever state

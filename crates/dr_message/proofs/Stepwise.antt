@@ -13,7 +13,8 @@ use Rattle.dr_network.specs.Networks.{Network}
 use Rattle.dr_ledger.specs.declared.item.Item.{Item}
 use Rattle.dr_ledger.specs.declared.item.Outcome.{Outcome}
 use Rattle.dr_ledger.specs.declared.item.Outcome.TheVariants.{Status, Broken, NoContext}
-use Rattle.dr_message.proofs.Lookups.{numbers, get_new}
+use Rattle.dr_ledger.proofs.Maps.{get_new}
+use Rattle.dr_message.proofs.Lookups.{numbers}
 use Rattle.dr_message.specs.Worlds.{World, Link, start, with_link, with_links, with_armed, without_caller, without_receiver, at_stage}
 use Rattle.dr_message.specs.Calls.{Reply, Answer, Fate, Written, Untried, Failed, Called, Arriving, Settlement, Requeueing}
 use Rattle.dr_message.specs.Steps.{IsLink, SettlesFirst, OpensLink, GivesItem, pending, SettlesPending, Leaves, LeavesIfOn, LeaveAll, callers_of, links_without, asked, passed, ReadsAnswer, Gives}

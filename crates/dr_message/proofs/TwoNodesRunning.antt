@@ -21,7 +21,7 @@ use Rattle.dr_message.specs.Worlds.{Contexts}
 use Rattle.dr_message.specs.Steps.{AcceptsOffered}
 use Rattle.dr_message.specs.Events.{HasNode}
 use Rattle.dr_message.specs.Laws.{TwoNodesRun, AcceptedAreTheHops}
-use Rattle.dr_message.proofs.Lookups.{IsExact, contains_new, contained}
+use Rattle.dr_ledger.proofs.Maps.{IsExact, contains_new, contained}
 use Rattle.dr_message.proofs.OneReply.{contexts_exact, contexts_total}
 use Rattle.dr_message.proofs.Possible.{one_hop_runs}
 use Rattle.dr_message.proofs.EventsKept.{covers_of}
