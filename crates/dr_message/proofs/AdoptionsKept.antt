@@ -1,5 +1,5 @@
 -- What an adoption keeps: over the next plan the world is safe, and nothing that is kept is lost.
-use Rattle.std.specs.Prelude.{◌≡◌, ◌≢◌, ℕ, ◌⊎◌, Bool, true, false, cond, not, List, [], ◌∷◌, ◌++◌, Contains, Option, None, Some}
+use Rattle.std.specs.Prelude.{◌≡◌, ◌≢◌, ℕ, ◌⊎◌, Bool, true, false, cond, not, List, [], ◌∷◌, Contains, Option, None, Some}
 use Rattle.std.proofs.Common.{refl, sym, ap, subst, ◌∙◌}
 use mathlib.Core.Logic.{inl, inr}
 use Rattle.std.specs.Ordering.{nat_cmp, eq_by_cmp}

@@ -1,10 +1,9 @@
 -- What each event keeps: a safe world stays safe, and nothing that was there is lost.
-use Rattle.std.specs.Prelude.{◌≡◌, ◌≢◌, ℕ, ◌⊎◌, Bool, true, false, not, cond, List, [], ◌∷◌, Option, None, Some, Ok, Err}
+use Rattle.std.specs.Prelude.{◌≡◌, ◌≢◌, ℕ, Bool, true, false, not, cond, List, [], ◌∷◌, Option, None, Some, Ok, Err}
 use Rattle.std.proofs.Common.{refl, sym, ap, subst, ◌∙◌, arith}
 use mathlib.Core.Logic.{inl, inr}
 use Rattle.std.specs.FinMap as map
 use Rattle.std.specs.FinMap.{FinMap}
-use Rattle.std.specs.FinSet as set
 use Rattle.std.specs.Ordering.{nat_cmp}
 use Rattle.dr_base.specs.Texts.{Text}
 use Rattle.dr_base.specs.declared.syntax.Syntax.{Syntax}
@@ -17,9 +16,9 @@ use Rattle.dr_ledger.specs.declared.item.Item.{Item}
 use Rattle.dr_ledger.specs.declared.item.Outcome.TheVariants.{Status, Broken}
 use Rattle.dr_ledger.specs.declared.item.Progress.TheVariants.{Waiting}
 use Rattle.dr_ledger.specs.Replies.{IsNext}
-use Rattle.dr_message.specs.Worlds.{World, Link, Contexts, Stage, Asking, Answering, Rejecting, Open, Storing, Replying, Gone, with_link, with_links, without_caller, at_stage}
+use Rattle.dr_message.specs.Worlds.{World, Link, Contexts, Stage, Answering, Open, Storing, Replying, with_link, with_links, without_caller, at_stage}
 use Rattle.dr_message.specs.Calls.{Reply, Answer, Arriving, Settlement, status_of}
-use Rattle.dr_message.specs.Steps.{IsLink, AcceptsOffered, SettlesFirst, OpensLink, GivesItem, pending, SettlesPending, Leaves, LeavesIfOn, LeaveAll, callers_of, links_without, is_of, ReadsAnswer, Gives, Receives, ReadsReply}
+use Rattle.dr_message.specs.Steps.{IsLink, AcceptsOffered, SettlesFirst, OpensLink, pending, SettlesPending, Leaves, LeavesIfOn, LeaveAll, callers_of, links_without, is_of, ReadsAnswer, Gives, Receives, ReadsReply}
 use Rattle.dr_message.specs.Events.{Event, Take, Ask, AgreeReceiver, AgreeCaller, Give, Receive, Answered, BreakCaller, BreakReceiver, Close, Restart, Requeue, Refuse, Tick, Step}
 use Rattle.dr_message.specs.Claims.{HasArrival, IsFairStatus, CoversHop}
 use Rattle.dr_ledger.proofs.Maps.{got}

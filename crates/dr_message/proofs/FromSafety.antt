@@ -18,7 +18,7 @@ use Rattle.dr_ledger.specs.declared.item.Progress.TheVariants.{Waiting, Held, Do
 use Rattle.dr_ledger.specs.Pairs.{pair_cmp}
 use Rattle.dr_message.specs.Worlds.{World, Contexts, Stage, Asking, Answering, Rejecting, Open, Storing, Replying, Gone, start}
 use Rattle.dr_message.specs.Runs.{Deed, Happens, Turns, Runs}
-use Rattle.dr_message.specs.Claims.{Has, HasArrival, HasRow, HasStood, CoversHop, IsOpen, IsOrigin, IsQueued, IsKept, IsCovered, Headline}
+use Rattle.dr_message.specs.Claims.{Has, HasArrival, HasRow, CoversHop, IsOpen, IsOrigin, IsQueued, IsKept, IsCovered, Headline}
 use Rattle.dr_message.specs.Theorem.{HeadlineHolds}
 use Rattle.dr_message.proofs.Walking.{goes_reached, reached_on, destination_before}
 use Rattle.dr_message.proofs.Safety.{IsSafe, IsFairStage}

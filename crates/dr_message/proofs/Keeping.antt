@@ -1,5 +1,5 @@
 -- What holds of each book, and what an accepted call keeps of it.
-use Rattle.std.specs.Prelude.{◌≡◌, ℕ, ◌≢◌, ◌⊎◌, Bool, true, false, cond, List, [], ◌∷◌, ◌++◌, Contains, IsTrue, Option, Some, unwrap_or}
+use Rattle.std.specs.Prelude.{◌≡◌, ◌≢◌, ◌⊎◌, Bool, true, false, cond, List, [], ◌∷◌, ◌++◌, Contains, Some}
 use Rattle.std.proofs.Common.{refl, sym, ap, subst, ◌∙◌}
 use Rattle.std.proofs.lemmas.List.{append-nil, append_assoc}
 use Rattle.std.proofs.lemmas.List.Elements.{Contains-push_cases}
@@ -11,19 +11,16 @@ use Rattle.std.specs.FinSet.{FinSet}
 use Rattle.dr_base.specs.Texts.{Text, text_cmp}
 use Rattle.dr_network.specs.Networks.{Network}
 use Rattle.dr_network.specs.Walks.{Goes, Sends, Keeps, IsReached}
-use Rattle.dr_network.proofs.Gathered.{nothing_in_nil, Contains-cons_cases, Contains-here, Contains-there}
-use Rattle.dr_ledger.specs.declared.item.Cause.{Cause}
 use Rattle.dr_ledger.specs.declared.item.Item.{Item}
-use Rattle.dr_ledger.specs.declared.item.Outcome.{Outcome}
 use Rattle.dr_ledger.specs.declared.item.Progress.{Progress}
-use Rattle.dr_ledger.specs.declared.item.Progress.TheVariants.{Waiting, Held, Done}
+use Rattle.dr_ledger.specs.declared.item.Progress.TheVariants.{Waiting, Done}
 use Rattle.dr_ledger.specs.Pairs.{pair_cmp}
-use Rattle.dr_ledger.specs.Books.{Book, Line, Arrival, Repeat, Settling, Requeuing, after, with_rows, row_after, settled_row, requeued_row}
+use Rattle.dr_ledger.specs.Books.{Book, Line, Repeat, after}
 use Rattle.dr_ledger.specs.PlanRoutes.{plan_routing, targets, keeps}
 use Rattle.dr_ledger.specs.Replies.{IsAdmitted, arrival_line}
 use Rattle.dr_ledger.proofs.Growing.{rows_stay, rows_made, rows_from, row_put}
 use Rattle.dr_message.specs.Claims.{Brought, IsFairLine}
-use Rattle.dr_ledger.proofs.Maps.{texts, text_pairs, same_or_not, contains_new, still_contains, contained, get_new, get_other, got, filled_keeps, filled_has, filled_is, filled_got}
+use Rattle.dr_ledger.proofs.Maps.{texts, text_pairs, same_or_not, contains_new, still_contains, contained, get_new, get_other, got, filled_keeps, filled_is, filled_got}
 use Rattle.dr_ledger.proofs.PlanRouting.{targets_are_sent_to as targets_sent, keeps_where_it_keeps as keeps_kept}
 
 -- why there is a row

@@ -1,16 +1,11 @@
 -- What a call leaves is fixed by its reply: books, and worlds but for what is armed.
-use Rattle.std.specs.Prelude.{◌≡◌, ◌≢◌, ℕ, ◌⊎◌, Bool, true, false, Some, None, Ok, Err, codes, length}
-use Rattle.std.proofs.Common.{refl, sym, ap, subst, ◌∙◌, arith}
-use mathlib.Core.Logic.{inl, inr}
-use Rattle.std.specs.declared.cmp.Ordering.{Ordering}
-use Rattle.std.specs.declared.cmp.Ordering.TheVariants.{Less, Equal, Greater}
-use Rattle.std.specs.Ordering.{nat_cmp, ordering_then, ordering_reverse}
-use Rattle.std.specs.Cmp.{IsTotalOrder, nat_cmp_total, both_ways}
-use Rattle.std.specs.FinMap as map
+use Rattle.std.specs.Prelude.{◌≡◌, ℕ, Some, Ok, Err, length}
+use Rattle.std.proofs.Common.{refl, sym, ap, ◌∙◌, arith}
+use Rattle.std.specs.Cmp.{IsTotalOrder, both_ways}
 use Rattle.std.specs.FinSet as set
 use Rattle.std.specs.FinSet.{FinSet}
 use Rattle.std.proofs.lemmas.Cmp.{nat_list_cmp_total, on_total, then_total}
-use Rattle.std.proofs.lemmas.Map.Lookups.{CmpEqualImpliesEq, exact_unsigned, exact_bytes, exact_pairs}
+use Rattle.std.proofs.lemmas.Map.Lookups.{CmpEqualImpliesEq, exact_bytes, exact_pairs}
 use Rattle.dr_base.specs.Texts.{Text, text_cmp}
 use Rattle.dr_base.specs.Syntaxes.{syntax_uid}
 use Rattle.dr_base.specs.declared.syntax.Syntax.{Syntax}
@@ -26,7 +21,7 @@ use Rattle.dr_ledger.specs.PlanRoutes.{plan_routing}
 use Rattle.dr_ledger.specs.Replies.{Arrives, Settles, Requeues, IsNext}
 use Rattle.dr_ledger.proofs.Growing.{inside as some_inside}
 use Rattle.dr_ledger.proofs.Ones.{next_is_one}
-use Rattle.dr_message.specs.Worlds.{World, Link, Contexts, with_armed, with_book, with_link, books_with}
+use Rattle.dr_message.specs.Worlds.{World, Link, Contexts, with_armed, with_book, with_link}
 use Rattle.dr_message.specs.Calls.{Reply, Answer, Fate, Called, Arriving, Settlement, Requeueing}
 use Rattle.dr_message.specs.Steps.{IsLink, AcceptsOffered}
 

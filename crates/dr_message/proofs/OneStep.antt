@@ -1,6 +1,6 @@
 -- A step is a function of the world, the event and its replies, but for what is armed.
-use Rattle.std.specs.Prelude.{◌≡◌, ◌≢◌, ℕ, ◌<◌, ◌≤◌, ◌⊎◌, Bool, true, false, List, [], ◌∷◌, Option, Some, None}
-use Rattle.std.proofs.Common.{refl, sym, ap, subst, ◌∙◌, arith}
+use Rattle.std.specs.Prelude.{◌≡◌, ℕ, ◌<◌, ◌≤◌, ◌⊎◌, Bool, true, false, List, [], ◌∷◌, Option, Some, None}
+use Rattle.std.proofs.Common.{sym, ap, subst, ◌∙◌, arith}
 use mathlib.Core.Logic.{inl, inr}
 use Rattle.std.specs.FinSet.{FinSet}
 use Rattle.dr_base.specs.Texts.{Text, text_cmp}
@@ -9,7 +9,7 @@ use Rattle.dr_network.specs.Networks.{Network}
 use Rattle.dr_ledger.specs.declared.item.Item.{Item}
 use Rattle.dr_ledger.specs.declared.item.Outcome.TheVariants.{Status, Broken, NoContext}
 use Rattle.dr_ledger.specs.Replies.{IsNext}
-use Rattle.dr_message.specs.Worlds.{World, Link, Contexts, Stage, Asking, Answering, Rejecting, Open, Storing, Replying, Gone, with_armed, with_link, with_links, without_caller, without_receiver, at_stage}
+use Rattle.dr_message.specs.Worlds.{World, Link, Contexts, Answering, Rejecting, Open, Storing, Replying, Gone, with_armed, with_link, with_links, without_caller, without_receiver, at_stage}
 use Rattle.dr_message.specs.Calls.{Reply, Answer, Arriving, Settlement, status_of}
 use Rattle.dr_message.specs.Steps.{IsLink, AcceptsOffered, AnswersRequest, others, SettlesFirst, OpensLink, ReadsAnswer, after_settling, GivesItem, Gives, Receives, ReadsReply, pending, SettlesPending, Leaves, LeavesIfOn, LeaveAll, Closes, Restarts, callers_of, links_without}
 use Rattle.dr_message.specs.Events.{Event, Take, Ask, AgreeReceiver, AgreeCaller, Give, Receive, Answered, BreakCaller, BreakReceiver, Close, Restart, Requeue, Refuse, Tick, Step}

@@ -1,5 +1,5 @@
 -- What holds in every run beside the claims: fresh numbers, armed nodes, journals that are histories.
-use Rattle.std.specs.Prelude.{◌≡◌, ℕ, ◌+◌, ◌≤◌, ◌^◌, ◌⊎◌, Bool, true, false, not, ◌&&◌, List, [], ◌∷◌, min, None, Some}
+use Rattle.std.specs.Prelude.{◌≡◌, ℕ, ◌+◌, ◌≤◌, ◌^◌, ◌⊎◌, Bool, true, false, not, ◌&&◌, List, [], ◌∷◌, min, Some}
 use Rattle.std.proofs.Common.{refl, sym, ap, subst, ◌∙◌, arith}
 use mathlib.Core.Logic.{inl, inr}
 use Rattle.std.specs.Ordering.{nat_cmp, eq_by_cmp}
@@ -16,14 +16,14 @@ use Rattle.dr_ledger.proofs.Folding.{arrivals_are_journalled, settlings_are_jour
 use Rattle.dr_message.specs.Worlds.{World, Link, start, with_book}
 use Rattle.dr_message.specs.Calls.{Fate, Written, Untried, Failed, ArmedAfter, Called}
 use Rattle.dr_message.specs.Steps.{IsLink}
-use Rattle.dr_message.specs.Events.{Event, HasNode, Step}
+use Rattle.dr_message.specs.Events.{Event, HasNode}
 use Rattle.dr_message.specs.Runs.{Deed, Happens, Turns, Runs, Adopts}
 use Rattle.dr_message.specs.Laws.{NumbersAreFresh, ArmedAreNodes, NoneIsArmedAfterAdoption, happenings, JournalsAreHistories}
 use Rattle.dr_ledger.proofs.Maps.{texts, contained, got, cases_of}
 use Rattle.dr_message.proofs.Lookups.{numbers}
 use Rattle.dr_message.proofs.Safety.{each_book}
 use Rattle.dr_message.proofs.EventsKept.{was_link}
-use Rattle.dr_message.proofs.AdoptionsKept.{no_row, node_or_not}
+use Rattle.dr_message.proofs.AdoptionsKept.{no_row}
 use Rattle.dr_message.proofs.Stepwise.{Closed, step_keeps}
 
 -- ---- a call

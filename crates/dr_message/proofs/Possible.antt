@@ -1,21 +1,19 @@
 -- One store over one hop can happen.
-use Rattle.std.specs.Prelude.{◌≡◌, ◌≢◌, ℕ, ◌<◌, ◌≤◌, ◌==◌, ◌&&◌, ◌⊎◌, true, false, not, count_by, List, [], ◌∷◌, length, None, Some, Ok}
+use Rattle.std.specs.Prelude.{◌≡◌, ◌≢◌, ℕ, ◌<◌, ◌==◌, ◌&&◌, true, false, not, count_by, List, [], ◌∷◌, length, Some}
 use Rattle.std.proofs.Common.{refl, sym, ap, subst, ◌∙◌, arith}
 use mathlib.Core.Logic.{inl, inr}
 use Rattle.std.specs.declared.cmp.Ordering.TheVariants.{Greater}
-use Rattle.std.specs.Ordering.{nat_cmp, eq_by_cmp, ordering_then}
+use Rattle.std.specs.Ordering.{nat_cmp, eq_by_cmp}
 use Rattle.std.specs.FinMap as map
 use Rattle.std.specs.FinSet as set
 use Rattle.dr_base.specs.Texts.{Text, text_cmp}
 use Rattle.dr_route.specs.Routes.{local}
 use Rattle.dr_network.specs.Networks.{Network}
-use Rattle.dr_network.specs.Walks.{Sends, Flows, Accepts, IsReached, Goes, IsEntry}
+use Rattle.dr_network.specs.Walks.{Sends, Accepts, IsReached, Goes, IsEntry}
 use Rattle.dr_network.proofs.WalksAlike.{no_rule_sends}
 use Rattle.dr_sound.proofs.Hopping.{reached_entry}
-use Rattle.dr_ledger.specs.declared.item.Arrived.TheVariants.{New}
 use Rattle.dr_ledger.specs.declared.item.Item.{Item}
 use Rattle.dr_ledger.specs.declared.item.Outcome.TheVariants.{Status}
-use Rattle.dr_ledger.specs.declared.item.Progress.{Progress}
 use Rattle.dr_ledger.specs.declared.item.Progress.TheVariants.{Waiting, Done}
 use Rattle.dr_ledger.specs.Pairs.{pair_cmp}
 use Rattle.dr_ledger.specs.Books.{Book, Settling, empty_book, after, row_after}

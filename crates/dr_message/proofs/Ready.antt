@@ -1,5 +1,5 @@
 -- Each event can happen in a world that is ready for it.
-use Rattle.std.specs.Prelude.{◌≡◌, ℕ, ◌⊎◌, Bool, true, false, not, ◌&&◌, List, [], ◌∷◌, Option, None, Some, Ok, Err}
+use Rattle.std.specs.Prelude.{◌≡◌, ℕ, false, not, ◌&&◌, Option, None, Some, Ok, Err}
 use Rattle.std.proofs.Common.{refl, sym, ap, subst, ◌∙◌}
 use mathlib.Core.Logic.{inl, inr}
 use Rattle.std.specs.FinMap as map
@@ -8,20 +8,18 @@ use Rattle.std.specs.FinSet.{FinSet}
 use Rattle.dr_base.specs.Texts.{Text, text_cmp}
 use Rattle.dr_route.specs.Routes.{local}
 use Rattle.dr_network.specs.Networks.{Network}
-use Rattle.dr_network.specs.Walks.{Sends, IsReached}
+use Rattle.dr_network.specs.Walks.{IsReached}
 use Rattle.dr_sound.proofs.Hopping.{reached_entry}
 use Rattle.dr_ledger.specs.declared.fault.LedgerFault.TheVariants as fault
-use Rattle.dr_ledger.specs.declared.item.Arrived.TheVariants.{New, Again}
 use Rattle.dr_ledger.specs.declared.item.Item.{Item}
 use Rattle.dr_ledger.specs.declared.item.Outcome.{Outcome}
 use Rattle.dr_ledger.specs.declared.item.Outcome.TheVariants.{Status, Broken, NoContext}
 use Rattle.dr_ledger.specs.Books.{Book, Repeat, Settling, Requeuing, after, empty_book}
 use Rattle.dr_ledger.specs.PlanRoutes.{plan_routing}
 use Rattle.dr_ledger.specs.Replies.{IsAdmitted, IsWaiting, arrival_line}
-use Rattle.dr_message.specs.Worlds.{World, Link, Stage, Storing, Replying, Open, start, with_book, with_armed, with_link, without_caller, without_receiver, at_stage, Gone}
-use Rattle.dr_message.specs.Calls.{Answer, Settlement}
+use Rattle.dr_message.specs.Worlds.{World, Link, Replying, start, with_book, with_armed, with_link, without_caller, at_stage}
+use Rattle.dr_message.specs.Calls.{Settlement}
 use Rattle.dr_message.specs.Steps.{Leaves, pending, SettlesPending, after_settling}
-use Rattle.dr_message.specs.Events.{HasNode}
 use Rattle.dr_message.specs.Claims.{Brought}
 use Rattle.dr_message.specs.Happening.{TakesHappen, OpeningsHappen, StoresHappen, EndingsHappen, EventsHappen, ARefusalIsSpent, Writes, IsCallers}
 use Rattle.dr_ledger.proofs.Maps.{texts, contains_new, ties_itself}

@@ -13,7 +13,7 @@ use Rattle.dr_ledger.specs.declared.item.Progress.TheVariants.{Done}
 use Rattle.dr_ledger.specs.Pairs.{pair_cmp}
 use Rattle.dr_ledger.specs.Books.{Book}
 use Rattle.dr_message.specs.Worlds.{World, Link, Stage, Asking, Answering, Rejecting, Open, Storing, Replying, Gone, same_text, books_with, with_book, with_link}
-use Rattle.dr_message.specs.Claims.{Brought, Has, HasArrival, HasRow, HasStood, HasSource, IsFairStatus, CoversHop}
+use Rattle.dr_message.specs.Claims.{Brought, Has, HasArrival, HasStood, HasSource, IsFairStatus, CoversHop}
 use Rattle.dr_message.specs.Steps.{IsLink}
 use Rattle.dr_ledger.proofs.Maps.{texts, same_or_not, ties_itself, got}
 use Rattle.dr_message.proofs.Lookups.{numbers}

@@ -1,13 +1,10 @@
 -- What each call of a book and each change of a link keeps, each event keeps.
-use Rattle.std.specs.Prelude.{◌≡◌, ℕ, ◌+◌, ◌≤◌, ◌^◌, ◌⊎◌, Bool, true, false, List, [], ◌∷◌, min, Option, None, Some}
-use Rattle.std.proofs.Common.{refl, sym, ap, subst, ◌∙◌, arith}
+use Rattle.std.specs.Prelude.{◌≡◌, ℕ, List, [], ◌∷◌, Option, None, Some}
+use Rattle.std.proofs.Common.{sym, ap, subst, ◌∙◌}
 use mathlib.Core.Logic.{inl, inr}
-use Rattle.std.specs.Ordering.{nat_cmp}
 use Rattle.std.specs.FinMap as map
-use Rattle.std.specs.FinMap.{FinMap}
 use Rattle.std.specs.FinSet as set
-use Rattle.std.specs.FinSet.{FinSet}
-use Rattle.dr_base.specs.Texts.{Text, text_cmp}
+use Rattle.dr_base.specs.Texts.{Text}
 use Rattle.dr_route.specs.Routes.{local}
 use Rattle.dr_network.specs.Networks.{Network}
 use Rattle.dr_ledger.specs.declared.item.Item.{Item}
@@ -15,9 +12,9 @@ use Rattle.dr_ledger.specs.declared.item.Outcome.{Outcome}
 use Rattle.dr_ledger.specs.declared.item.Outcome.TheVariants.{Status, Broken, NoContext}
 use Rattle.dr_ledger.proofs.Maps.{get_new}
 use Rattle.dr_message.proofs.Lookups.{numbers}
-use Rattle.dr_message.specs.Worlds.{World, Link, start, with_link, with_links, with_armed, without_caller, without_receiver, at_stage}
-use Rattle.dr_message.specs.Calls.{Reply, Answer, Fate, Written, Untried, Failed, Called, Arriving, Settlement, Requeueing}
-use Rattle.dr_message.specs.Steps.{IsLink, SettlesFirst, OpensLink, GivesItem, pending, SettlesPending, Leaves, LeavesIfOn, LeaveAll, callers_of, links_without, asked, passed, ReadsAnswer, Gives}
+use Rattle.dr_message.specs.Worlds.{World, Link, with_link, with_links, with_armed, without_caller}
+use Rattle.dr_message.specs.Calls.{Reply, Answer, Arriving, Settlement, Requeueing}
+use Rattle.dr_message.specs.Steps.{IsLink, SettlesFirst, OpensLink, pending, SettlesPending, Leaves, LeavesIfOn, LeaveAll, callers_of, links_without, asked, passed, Gives}
 use Rattle.dr_message.specs.Events.{HasNode, Event, Take, Ask, AgreeReceiver, AgreeCaller, Give, Receive, Answered, BreakCaller, BreakReceiver, Close, Restart, Requeue, Refuse, Tick, Step}
 
 -- P is kept by what events are made of

@@ -1,5 +1,5 @@
 -- The calls of a node's book in the message world, their replies, and stores that are told to refuse.
-use Rattle.std.specs.Prelude.{◌≡◌, ℕ, ◌⊎◌, true, false, Option, None, Some, Result, Ok, Err}
+use Rattle.std.specs.Prelude.{◌≡◌, ℕ, ◌⊎◌, true, false, Result, Ok, Err}
 use Rattle.std.specs.FinSet as set
 use Rattle.std.specs.FinSet.{FinSet}
 use Rattle.dr_base.specs.Texts.{Text, text_cmp}

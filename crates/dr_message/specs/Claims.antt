@@ -1,6 +1,6 @@
 -- What holds of the message world over a sound plan, after any events: nothing is refused for want of a presentation context, each
 -- arrival lies within its rank of its source, what was answered with success is there, and nothing acknowledged is lost.
-use Rattle.std.specs.Prelude.{◌≡◌, ℕ, ◌≤◌, ◌⊎◌, true, List, [], ◌∷◌, length, Contains, Some}
+use Rattle.std.specs.Prelude.{◌≡◌, ℕ, ◌≤◌, ◌⊎◌, true, List, length, Contains, Some}
 use Rattle.std.specs.FinMap as map
 use Rattle.std.specs.FinSet as set
 use Rattle.dr_base.specs.Texts.{Text}

@@ -14,7 +14,7 @@ use Rattle.dr_message.specs.Worlds.{World, Link, Contexts, Asking, Answering, Re
 use Rattle.dr_message.specs.Calls.{Answer}
 use Rattle.dr_message.specs.Steps.{IsHop, IsLink, AcceptsOffered, others, pending}
 use Rattle.dr_message.specs.Events.{Event, Take, Ask, AgreeReceiver, AgreeCaller, Give, Receive, Answered, BreakCaller, BreakReceiver, Close, Restart, Requeue, Refuse, Tick, HasNode, Step}
-use Rattle.dr_message.specs.Runs.{MayAdopt, Adopts, Deed, Happens, Runs}
+use Rattle.dr_message.specs.Runs.{MayAdopt, Adopts, Happens, Runs}
 use Rattle.dr_message.specs.Claims.{HasArrival}
 
 -- the event leads to some world

@@ -1,5 +1,5 @@
 -- The message world: time, a book for each node, and links. No PDU, fragment or queue stands in it.
-use Rattle.std.specs.Prelude.{ℕ, Bool, true, false, cond}
+use Rattle.std.specs.Prelude.{ℕ, Bool, false, cond}
 use Rattle.std.specs.Ordering.{nat_cmp, eq_by_cmp}
 use Rattle.std.specs.FinMap as map
 use Rattle.std.specs.FinMap.{FinMap}
