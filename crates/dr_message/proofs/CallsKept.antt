@@ -49,7 +49,7 @@ conflict_held : (tries now : ℕ) → row_after tries (Status 49393) now ≡ Hel
 unfolding row_after
 conflict_held tries now = refl
 
-broken_retried : (tries now : ℕ) → row_after tries Broken now ≡ tried tries now
+pub broken_retried : (tries now : ℕ) → row_after tries Broken now ≡ tried tries now
 unfolding row_after
 broken_retried tries now = refl
 

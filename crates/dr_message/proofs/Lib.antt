@@ -1,5 +1,6 @@
 pub mod AdoptionsKept
 pub mod CallsKept
+pub mod Ended
 pub mod EventsKept
 pub mod FromSafety
 pub mod Keeping

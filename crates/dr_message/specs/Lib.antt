@@ -1,5 +1,6 @@
 pub mod Calls
 pub mod Claims
+pub mod Endings
 pub mod Events
 pub mod Happening
 pub mod Laws

@@ -1,4 +1,5 @@
 //! Laws of the message world: what a reader may take from its definitions.
+ghost use Rattle.dr_message.specs.Endings.{LeavingTriesAgain, LeavingSettles, LeftIsOff, DroppedIsOff, RefusedCallersLeave, ClosedIsGone, RestartedHasNoLink};
 ghost use Rattle.dr_message.specs.Happening.{EventsHappen, ARefusalIsSpent, RestartsHappen, AdoptionsHappen};
 ghost use Rattle.dr_message.specs.Laws.{StepIsAFunction, AdoptionIsAFunction, OneHopRuns, TwoNodesRun, AcceptedAreTheHops, NumbersAreFresh, ArmedAreNodes, NoneIsArmedAfterAdoption, JournalsAreHistories};
 
@@ -51,4 +52,24 @@ pub fn armed_are_nodes()
 /// Until a plan is adopted, each journal is a history, and each book is what its journal makes of the empty one.
 pub fn journals_are_histories()
     ensures { JournalsAreHistories }
+{}
+
+/// A caller that leaves has what was under way tried again, and reads nothing more.
+pub fn leaving_tries_again()
+    ensures again { LeavingTriesAgain }
+    ensures settles { LeavingSettles }
+    ensures off { LeftIsOff }
+{}
+
+/// A caller whose settling the store refused leaves the link, and no book has changed.
+pub fn refused_callers_leave()
+    ensures { RefusedCallersLeave }
+{}
+
+/// A receiver that drops a link reads nothing more; after closing nobody does, and nothing is under way; after a
+/// restart the node takes part in no link.
+pub fn what_ended_is_over()
+    ensures dropped { DroppedIsOff }
+    ensures closed { ClosedIsGone }
+    ensures restarted { RestartedHasNoLink }
 {}
