@@ -28,6 +28,7 @@ pub data Fate : Type 0 where
   Untried : Fate  -- refused before the store was asked
   Failed : Fate  -- the store refused
 
+-- what each reply came to: want of memory counts as refused before the store was asked
 abbrev pub fate_of : {A : Type 0} → Result A LedgerFault → Fate
 fate_of (Ok value) = Written
 fate_of (Err fault.NoLine) = Untried

@@ -20,6 +20,7 @@ use Rattle.dr_message.specs.Steps.{IsLink}
 
 -- ---- what a node has
 
+-- the node has this very item
 abbrev pub Has : World → Text → Item → Type 0
 Has w name item = map.get (w.books name).items item.uid ≡ Some item
 
@@ -28,9 +29,11 @@ pub record Brought (book : Book) (caller : Text) (item : Item) : Type 0 where
   pub arrival : set.contains book.arrivals (caller, item.uid) ≡ true
   pub item_is : map.get book.items item.uid ≡ Some item
 
+-- the caller has brought this very item to the node
 abbrev pub HasArrival : World → Text → Text → Item → Type 0
 HasArrival w name caller item = Brought (w.books name) caller item
 
+-- how far the node is with the uid on its way to the next node
 abbrev pub HasRow : World → Text → Text → Text → Progress → Type 0
 HasRow w name uid to row = map.get (w.books name).rows (uid, to) ≡ Some row
 
@@ -49,11 +52,13 @@ pub record HasItems (w : World) : Type 0 where
 abbrev pub IsFairStatus : ℕ → Type 0
 IsFairStatus status = (status ≡ 0) ⊎ ((status ≡ 0xA700) ⊎ (status ≡ 0xC0F1))
 
+-- a try that ended without an answer is fair, one without a context is not
 abbrev pub IsFairOutcome : Outcome → Type 0
 IsFairOutcome (Status status) = IsFairStatus status
 IsFairOutcome Broken = Unit {0}
 IsFairOutcome NoContext = ⊥
 
+-- each settling of a journal is
 abbrev pub IsFairLine : Line → Type 0
 IsFairLine (Arrival caller item to keep) = Unit {0}
 IsFairLine (Repeat caller item) = Unit {0}
@@ -75,6 +80,7 @@ IsOpen (Open accepted) pairs = accepted ≡ pairs
 IsOpen (Storing accepted item) pairs = accepted ≡ pairs
 IsOpen (Replying accepted item status) pairs = accepted ≡ pairs
 
+-- No line settles for want of a context, and over each open link all that goes over its hop was accepted.
 pub record NoneRefused (plan : Network) (w : World) : Type 0 where
   pub lines : (name : Text) (line : Line) → Contains (w.books name).lines line → IsFairLine line
   pub agreed : (number : ℕ) (link : Link) (accepted : Contexts) → IsLink w number link → IsOpen link.stage accepted → CoversHop plan link.caller link.receiver accepted
@@ -94,12 +100,14 @@ pub record HasSource (plan : Network) (w : World) (caller name : Text) (item : I
   pub walk : IsWalk plan item.key first site over
   pub last_is : last_place first site over ≡ (caller, name)
 
+-- Each arrival has a source, by a walk no longer than the rank there.
 abbrev pub WithinRank : Network → World → Type 0
 WithinRank plan w = (caller name : Text) (item : Item) → HasArrival w name caller item →
     (source : HasSource plan w caller name item) × ((rank : ℕ) × IsRank plan item.key source.first source.site rank × (length source.over ≤ rank))
 
 -- ---- 3. what was answered with success is there
 
+-- Where success is under way the receiver has the arrival, where a row is done the next node has it, and each row has a reason.
 pub record IsHonest (plan : Network) (w : World) : Type 0 where
   pub replies : (number : ℕ) (link : Link) (accepted : Contexts) (item : Item) → IsLink w number link → link.stage ≡ Replying accepted item 0 →
       HasArrival w link.receiver link.caller item
@@ -131,6 +139,7 @@ pub record IsKept (w : World) (item : Item) (dest : Text) : Type 0 where
   pub kept : set.contains (w.books dest).kept item.uid ≡ true
   pub has : Has w dest item
 
+-- it is kept there, or under way
 abbrev pub IsCovered : Network → World → Text → Text → Item → Text → Type 0
 IsCovered plan w caller name item dest = IsKept w item dest ⊎ IsUnderway plan w caller name item dest
 
@@ -146,6 +155,7 @@ pub record NothingLost (plan : Network) (w : World) : Type 0 where
 
 -- ---- all of it
 
+-- the four claims of the plan in force
 pub record Headline (plan : Network) (w : World) : Type 0 where
   pub items : HasItems w
   pub none_refused : NoneRefused plan w

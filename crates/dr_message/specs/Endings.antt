@@ -14,11 +14,12 @@ use Rattle.dr_message.specs.Claims.{HasRow}
 abbrev pub IsUnderWay : Stage → Item → Type 0
 IsUnderWay stage item = ((accepted : Contexts) × (stage ≡ Storing accepted item)) ⊎ ((accepted : Contexts) × (status : ℕ) × (stage ≡ Replying accepted item status))
 
--- Where a caller leaves, what was under way is to be tried again, later; it doesn't leave without settling that.
+-- Where a caller leaves, what was under way is to be tried again, later.
 abbrev pub LeavingTriesAgain : Type 0
 LeavingTriesAgain = (w v : World) (number : ℕ) (link : Link) (item : Item) → IsLink w number link → IsUnderWay link.stage item → Leaves w number (Some (Ok tt)) v →
     (tries : ℕ) × (due : ℕ) × HasRow w link.caller item.uid link.receiver (Waiting tries due) × HasRow v link.caller item.uid link.receiver (tried tries w.time)
 
+-- it does not leave without settling that
 abbrev pub LeavingSettles : Type 0
 LeavingSettles = (w v : World) (number : ℕ) (link : Link) (item : Item) → IsLink w number link → IsUnderWay link.stage item → Leaves w number None v → ⊥
 
@@ -26,6 +27,7 @@ LeavingSettles = (w v : World) (number : ℕ) (link : Link) (item : Item) → Is
 abbrev pub LeftIsOff : Type 0
 LeftIsOff = (w v : World) (number : ℕ) (answer : Option Answer) → Leaves w number answer v → (link : Link) × IsLink v number link × (link.caller_on ≡ false)
 
+-- nor does a receiver that dropped the link
 abbrev pub DroppedIsOff : Type 0
 DroppedIsOff = (w v : World) (number : ℕ) → Drops w number v → (link : Link) × IsLink v number link × (link.receiver_on ≡ false)
 

@@ -25,10 +25,11 @@ CanHappen plan w event = (new : World) × Step plan w event new
 abbrev pub Writes : World → Text → Type 0
 Writes w name = set.contains w.armed name ≡ false
 
--- a link whose caller's side is on, and one whose receiver's is
+-- a link whose caller's side is on
 abbrev pub IsCallers : World → ℕ → Link → Type 0
 IsCallers w number link = IsLink w number link × (link.caller_on ≡ true)
 
+-- and one whose receiver's side is on
 abbrev pub IsReceivers : World → ℕ → Link → Type 0
 IsReceivers w number link = IsLink w number link × (link.receiver_on ≡ true)
 
@@ -83,6 +84,7 @@ pub record EndingsHappen (plan : Network) (w : World) : Type 0 where
   pub refuse : (node : Text) → HasNode plan node → CanHappen plan w (Refuse node)
   pub tick : (ms : ℕ) → CanHappen plan w (Tick ms)
 
+-- over every plan, in every world
 abbrev pub EventsHappen : Type 0
 EventsHappen = (plan : Network) (w : World) → TakesHappen plan w × OpeningsHappen plan w × StoresHappen plan w × EndingsHappen plan w
 

@@ -25,6 +25,7 @@ use Rattle.dr_message.specs.Claims.{HasArrival, HasRow}
 abbrev pub StepIsAFunction : Type 0
 StepIsAFunction = (plan : Network) (old : World) (event : Event) (a b : World) → Step plan old event a → Step plan old event b → a.armed ≡ b.armed → a ≡ b
 
+-- an adoption is a function of the two plans and the world
 abbrev pub AdoptionIsAFunction : Type 0
 AdoptionIsAFunction = (plan : Network) (old : World) (next : Network) (a b : World) → Adopts plan old next a → Adopts plan old next b → a ≡ b
 
@@ -61,14 +62,16 @@ AcceptedAreTheHops = (plan : Network) → IsSound plan → (from to : Text) (acc
 abbrev pub NumbersAreFresh : Type 0
 NumbersAreFresh = (plan : Network) (deeds : List Deed) (last : Network) (w : World) → Runs plan start deeds last w → (number : ℕ) (link : Link) → IsLink w number link → number ≤ w.opened
 
--- Only nodes of the plan are armed, and right after an adoption none is.
+-- only nodes of the plan are armed
 abbrev pub ArmedAreNodes : Type 0
 ArmedAreNodes = (plan : Network) (deeds : List Deed) (last : Network) (w : World) → Runs plan start deeds last w → (name : Text) → set.contains w.armed name ≡ true → HasNode last name
 
+-- right after an adoption no node is armed
 abbrev pub NoneIsArmedAfterAdoption : Type 0
 NoneIsArmedAfterAdoption = (plan : Network) (deeds : List Deed) (last : Network) (w : World) → Runs plan start deeds last w →
     (next : Network) (new : World) → Adopts last w next new → (name : Text) → set.contains new.armed name ≡ false
 
+-- these events, and no adoption
 abbrev pub happenings : List Event → List Deed
 happenings [] = []
 happenings (event ∷ events) = Happens event ∷ happenings events

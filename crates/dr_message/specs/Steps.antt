@@ -22,9 +22,11 @@ IsLink w number link = map.get w.links number ≡ Some link
 
 -- ---- opening
 
+-- some key goes from the one node to the other
 abbrev pub IsHop : Network → Text → Text → Type 0
 IsHop plan from to = (key : Key) × Goes plan key from to
 
+-- both sides on, the request under way
 abbrev pub new_link : Text → Text → Link
 new_link from to = record { caller = from; receiver = to; caller_on = true; receiver_on = true; stage = Asking }
 
@@ -68,6 +70,7 @@ SettlesFirst old link (Some answer) new = (item : Item) × IsNext (old.books lin
     × Settlement old link.caller item.uid link.receiver Broken answer new
 SettlesFirst old link None new = ((item : Item) → IsNext (old.books link.caller) link.receiver old.time item → ⊥) × (new ≡ old)
 
+-- where an acceptance is under way, the link is open
 abbrev pub OpensLink : World → ℕ → Link → Option Answer → World → Type 0
 OpensLink old number link None new = (accepted : Contexts) × (link.stage ≡ Answering accepted) × (new ≡ with_link old number (at_stage link (Open accepted)))
 OpensLink old number link (Some answer) new = ⊥
@@ -92,6 +95,7 @@ stays_on (Err fault.NoLine) = false
 stays_on (Err fault.Conflict) = false
 stays_on (Err fault.NotHeld) = false
 
+-- the link after its caller settled: open, the caller on or off
 abbrev pub after_settling : Link → Answer → Contexts → Link
 after_settling link answer accepted =
     record { caller = link.caller; receiver = link.receiver; caller_on = stays_on answer; receiver_on = link.receiver_on; stage = Open accepted }
@@ -210,6 +214,7 @@ abbrev pub is_of : Text → Option Link → Bool
 is_of name None = false
 is_of name (Some link) = cond (same_text link.caller name) true (same_text link.receiver name)
 
+-- the links that it takes no part in
 unfoldable pub links_without : FinMap nat_cmp Link → Text → FinMap nat_cmp Link
 links_without links name = map.retain_keys links (λ number. not (is_of name (map.get links number)))
 
@@ -219,5 +224,6 @@ Restarts old name replies new = (mid : World) × LeaveAll old (callers_of old na
 
 -- ---- time
 
+-- so many milliseconds later, up to 2^62
 abbrev pub passed : World → ℕ → World
 passed w ms = record { time = min (w.time + ms) (2 ^ 62); books = w.books; standing = w.standing; armed = w.armed; links = w.links; opened = w.opened }

@@ -34,9 +34,10 @@ pub record Link : Type 0 where
   pub receiver_on : Bool
   pub stage : Stage
 
+-- all nodes and links, at one moment
 pub record World : Type 0 where
   pub time : ℕ  -- milliseconds
-  pub books : Text → Book  -- the book of each node; what names no node has an empty one
+  pub books : Text → Book  -- the book of each node, and the empty one for other names
   pub standing : Text → FinMap pair_cmp Progress  -- the rows of each that stood when the plan was adopted, none before an adoption
   pub armed : FinSet text_cmp  -- nodes whose next line the store is to refuse
   pub links : FinMap nat_cmp Link  -- by number
@@ -46,6 +47,7 @@ pub record World : Type 0 where
 abbrev pub start : World
 start = record { time = 0; books = λ name. empty_book; standing = λ name. map.empty; armed = set.empty; links = map.empty; opened = 0 }
 
+-- the texts are equal
 abbrev pub same_text : Text → Text → Bool
 same_text = eq_by_cmp text_cmp
 
@@ -53,6 +55,7 @@ same_text = eq_by_cmp text_cmp
 unfoldable pub books_with : (Text → Book) → Text → Book → Text → Book
 books_with books name book other = cond (same_text other name) book (books other)
 
+-- the world with another book, other armed nodes, other links
 abbrev pub with_book : World → Text → Book → World
 with_book w name book = record { time = w.time; books = books_with w.books name book; standing = w.standing; armed = w.armed; links = w.links; opened = w.opened }
 
@@ -65,6 +68,7 @@ with_links w links = record { time = w.time; books = w.books; standing = w.stand
 abbrev pub with_link : World → ℕ → Link → World
 with_link w number link = with_links w (map.insert w.links number link)
 
+-- the link with its caller's side off, its receiver's side off, or at another stage
 abbrev pub without_caller : Link → Link
 without_caller link = record { caller = link.caller; receiver = link.receiver; caller_on = false; receiver_on = link.receiver_on; stage = link.stage }
 
