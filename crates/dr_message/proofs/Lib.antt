@@ -13,6 +13,7 @@ pub mod Possible
 pub mod Ready
 pub mod Restarting
 pub mod Safety
+pub mod Standing
 pub mod Stepwise
 pub mod TwoNodesRunning
 pub mod Walking

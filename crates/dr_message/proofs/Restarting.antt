@@ -25,6 +25,9 @@ use Rattle.dr_message.specs.Worlds.{World, Link, same_text, with_book, with_arme
 use Rattle.dr_message.specs.Calls.{Answer, Settlement}
 use Rattle.dr_message.specs.Steps.{IsLink, pending, SettlesPending, Leaves, LeaveAll, calls, callers_of}
 use Rattle.dr_message.specs.Events.{HasNode}
+use Rattle.std.proofs.lemmas.Map.Views.{tells_apart}
+use Rattle.dr_ledger.proofs.Maps.{texts}
+use Rattle.dr_message.specs.Endings.{CallersAreThoseWhoCall}
 use Rattle.dr_message.specs.Happening.{RestartsHappen, AdoptionsHappen}
 use Rattle.dr_message.proofs.AdoptionsKept.{node_or_not}
 use Rattle.dr_ledger.proofs.Maps.{cases_of, same_or_not, ties_itself, get_other}
@@ -191,6 +194,42 @@ kept_by false o h = absurd (let e : ⊥ = cc in e)
 called : (name : Text) (o : Option Link) → is_some (cond (calls name o) o None) ≡ true → (link : Link) × (o ≡ Some link) × (link.caller_on ≡ true)
 called name None h = absurd (let e : ⊥ = cc in e)
 called name (Some link) h = (link, refl, both (same_text link.receiver name) link.caller_on (kept_by (same_text link.receiver name && link.caller_on) (Some link) h))
+
+in_any : (number : ℕ) (all : List ℕ) → list_any (eq_by_cmp nat_cmp number) all ≡ true → Contains all number
+in_any number [] h = absurd (let e : ⊥ = cc in e)
+in_any number (first ∷ all) h = elim (same_or_not numbers number first) [
+  | inl same ↦ subst (λ n. Contains (first ∷ all) n) (sym same) (Contains-here first all)
+  | inr other ↦ Contains-there first all number (in_any number all (sym (ap (λ b. b || list_any (eq_by_cmp nat_cmp number) all) other) ∙ h))
+]
+
+first_of_two : (a b : Bool) → (a && b) ≡ true → a ≡ true
+first_of_two true b h = refl
+first_of_two false b h = absurd (let e : ⊥ = cc in e)
+
+both_true : (a b : Bool) → a ≡ true → b ≡ true → (a && b) ≡ true
+both_true true b h k = k
+both_true false b h k = h
+
+kept_if : (b : Bool) (o : Option Link) (link : Link) → b ≡ true → o ≡ Some link → is_some (cond b o None) ≡ true
+kept_if true o link h e = ap is_some e
+kept_if false o link h e = absurd (let f : ⊥ = cc in f)
+
+pub callers_are_those_who_call : CallersAreThoseWhoCall
+unfolding callers_of
+callers_are_those_who_call w name number =
+    let p : ℕ → Bool = λ number. calls name (map.get w.links number) in
+    let m = map.retain_keys w.links p in
+    let is = map.get-retain_keys w.links p number (λ x e. ap p (sym (numbers.exact number x e))) in (
+      λ h.
+          let there : map.contains_key m number ≡ true = map.contains_key-keys m number ∙ any_in number (map.keys m) h in
+          let some = ap is_some (sym is) ∙ there in
+          let c = called name (map.get w.links number) some in
+          let t : (same_text c.0.receiver name && c.0.caller_on) ≡ true = ap (calls name) (sym c.1) ∙ kept_by (p number) (map.get w.links number) some in
+          (c.0, c.1, tells_apart texts.exact c.0.receiver name (first_of_two _ _ t), c.2),
+      λ h.
+          let t : p number ≡ true = ap (calls name) h.1 ∙ both_true (same_text h.0.receiver name) h.0.caller_on (ap (λ r. same_text r name) h.2 ∙ ties_itself texts name) h.3 in
+          in_any number (map.keys m) (sym (map.contains_key-keys m number) ∙ (ap is_some is ∙ kept_if (p number) (map.get w.links number) h.0 t h.1)),
+    )
 
 callers_on : (w : World) (name : Text) → AllOn w (callers_of w name) × Apart (callers_of w name)
 unfolding callers_of

@@ -1,5 +1,5 @@
 -- What is left where a side goes off, a link is closed, or a node restarts.
-use Rattle.std.specs.Prelude.{◌≡◌, ◌≢◌, ℕ, ◌⊎◌, false, List, Option, None, Some, Ok, Err}
+use Rattle.std.specs.Prelude.{◌≡◌, ◌≢◌, ◌↔◌, ℕ, ◌⊎◌, true, false, Contains, List, Option, None, Some, Ok, Err}
 use Rattle.dr_base.specs.Texts.{Text}
 use Rattle.dr_ledger.specs.declared.fault.LedgerFault.TheVariants as fault
 use Rattle.dr_ledger.specs.declared.item.Item.{Item}
@@ -7,7 +7,7 @@ use Rattle.dr_ledger.specs.declared.item.Progress.TheVariants.{Waiting}
 use Rattle.dr_ledger.specs.Books.{tried}
 use Rattle.dr_message.specs.Worlds.{World, Link, Contexts, Stage, Storing, Replying, Gone}
 use Rattle.dr_message.specs.Calls.{Answer}
-use Rattle.dr_message.specs.Steps.{IsLink, Leaves, Drops, ReadsReply, Closes, Restarts}
+use Rattle.dr_message.specs.Steps.{IsLink, callers_of, Leaves, Drops, ReadsReply, Closes, Restarts}
 use Rattle.dr_message.specs.Claims.{HasRow}
 
 -- the instance is under way on the link, or its response is
@@ -45,3 +45,8 @@ ClosedIsGone = (w v : World) (number : ℕ) (answer : Option Answer) → Closes 
 abbrev pub RestartedHasNoLink : Type 0
 RestartedHasNoLink = (w v : World) (name : Text) (answers : List (Option Answer)) → Restarts w name answers v →
     (number : ℕ) (link : Link) → IsLink v number link → (link.caller ≢ name) × (link.receiver ≢ name)
+
+-- Those who settle at a restart are those who call the node, all of them.
+abbrev pub CallersAreThoseWhoCall : Type 0
+CallersAreThoseWhoCall = (w : World) (name : Text) (number : ℕ) →
+    Contains (callers_of w name) number ↔ ((link : Link) × IsLink w number link × (link.receiver ≡ name) × (link.caller_on ≡ true))

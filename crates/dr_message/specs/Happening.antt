@@ -8,14 +8,16 @@ use Rattle.dr_network.specs.Walks.{Sends, IsReached}
 use Rattle.dr_ledger.specs.declared.fault.LedgerFault.TheVariants as fault
 use Rattle.dr_ledger.specs.declared.item.Arrived.TheVariants.{New, Again}
 use Rattle.dr_ledger.specs.declared.item.Item.{Item}
+use Rattle.dr_ledger.specs.declared.item.Progress.TheVariants.{Waiting}
+use Rattle.dr_sound.specs.Soundness.{IsSound}
 use Rattle.dr_ledger.specs.PlanRoutes.{plan_routing}
 use Rattle.dr_ledger.specs.Replies.{HasConflict, IsAdmitted, IsWaiting, IsHeld, IsNext}
 use Rattle.dr_message.specs.Worlds.{World, Link, Contexts, Asking, Answering, Rejecting, Open, Storing, Replying, start}
 use Rattle.dr_message.specs.Calls.{Answer}
 use Rattle.dr_message.specs.Steps.{IsHop, IsLink, AcceptsOffered, others, pending}
 use Rattle.dr_message.specs.Events.{Event, Take, Ask, AgreeReceiver, AgreeCaller, Give, Receive, Answered, BreakCaller, BreakReceiver, Close, Restart, Requeue, Refuse, Tick, HasNode, Step}
-use Rattle.dr_message.specs.Runs.{MayAdopt, Adopts, Happens, Runs}
-use Rattle.dr_message.specs.Claims.{HasArrival}
+use Rattle.dr_message.specs.Runs.{MayAdopt, Adopts, Happens, Turns, Runs}
+use Rattle.dr_message.specs.Claims.{HasArrival, HasRow, HasStood}
 
 -- the event leads to some world
 abbrev pub CanHappen : Network → World → Event → Type 0
@@ -100,3 +102,8 @@ RestartsHappen = (plan : Network) (w : World) (node : Text) → (answers : List 
 -- Where all nodes may take the next plan, they can.
 abbrev pub AdoptionsHappen : Type 0
 AdoptionsHappen = (plan : Network) (w : World) (next : Network) → MayAdopt plan w next → (new : World) × Adopts plan w next new
+
+-- From the start: what enters at a node stands there when the same plan is adopted, and its row is still queued.
+abbrev pub AnAdoptionRuns : Type 0
+AnAdoptionRuns = (plan : Network) → IsSound plan → (node to : Text) (item : Item) → HasNode plan node → Sends plan node local item.key to →
+    (w : World) × Runs plan start (Happens (Take node item (Ok New)) ∷ Turns plan ∷ []) plan w × HasStood w node item.uid to × HasRow w node item.uid to (Waiting 0 0)

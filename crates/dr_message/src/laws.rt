@@ -1,6 +1,6 @@
 //! Laws of the message world: what a reader may take from its definitions.
-ghost use Rattle.dr_message.specs.Endings.{LeavingTriesAgain, LeavingSettles, LeftIsOff, DroppedIsOff, RefusedCallersLeave, ClosedIsGone, RestartedHasNoLink};
-ghost use Rattle.dr_message.specs.Happening.{EventsHappen, ARefusalIsSpent, RestartsHappen, AdoptionsHappen};
+ghost use Rattle.dr_message.specs.Endings.{LeavingTriesAgain, LeavingSettles, LeftIsOff, DroppedIsOff, RefusedCallersLeave, ClosedIsGone, RestartedHasNoLink, CallersAreThoseWhoCall};
+ghost use Rattle.dr_message.specs.Happening.{EventsHappen, ARefusalIsSpent, RestartsHappen, AdoptionsHappen, AnAdoptionRuns};
 ghost use Rattle.dr_message.specs.Laws.{StepIsAFunction, AdoptionIsAFunction, OneHopRuns, TwoNodesRun, AcceptedAreTheHops, NumbersAreFresh, ArmedAreNodes, NoneIsArmedAfterAdoption, JournalsAreHistories};
 
 /// A step is a function of the plan, the world, the event and its replies, but for whether a failing store spent a
@@ -67,9 +67,15 @@ pub fn refused_callers_leave()
 {}
 
 /// A receiver that drops a link reads nothing more; after closing nobody does, and nothing is under way; after a
-/// restart the node takes part in no link.
+/// restart the node takes part in no link, and those who called it have settled.
 pub fn what_ended_is_over()
     ensures dropped { DroppedIsOff }
     ensures closed { ClosedIsGone }
     ensures restarted { RestartedHasNoLink }
+    ensures callers { CallersAreThoseWhoCall }
+{}
+
+/// What enters at a node of a sound plan stands there when the same plan is adopted, and its row is still queued.
+pub fn an_adoption_runs()
+    ensures { AnAdoptionRuns }
 {}
