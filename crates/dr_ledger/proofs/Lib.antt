@@ -5,6 +5,7 @@ pub mod Figures
 pub mod Folding
 pub mod Growing
 pub mod Maps
+pub mod Nothing
 pub mod Ones
 pub mod PlanRouting
 pub mod Wholes

@@ -62,10 +62,10 @@ settled_fits k Broken now early tries due is = tried_fits k now early tries due 
 settled_fits k NoContext now early tries due is = absurd (let e : Held cause.NoContext ≡ Waiting tries due = is in cc)
 
 -- ---- the empty book
-no_entry : {K X : Type 0} (R : K → K → Ordering) (k : K) (x : X) → map.get (map.empty {R = R}) k ≡ Some x → ⊥
+pub no_entry : {K X : Type 0} (R : K → K → Ordering) (k : K) (x : X) → map.get (map.empty {R = R}) k ≡ Some x → ⊥
 no_entry R k x h = let e : None ≡ Some x = sym (map.get-empty R k) ∙ h in cc
 
-no_member : {K : Type 0} (R : K → K → Ordering) (k : K) → set.contains (set.empty {R = R}) k ≡ true → ⊥
+pub no_member : {K : Type 0} (R : K → K → Ordering) (k : K) → set.contains (set.empty {R = R}) k ≡ true → ⊥
 no_member R k h = let e : false ≡ true = sym (set.contains-empty R k) ∙ h in cc
 
 pub empty_is_whole : (routing : Routing) → IsWhole routing empty_book

@@ -29,6 +29,7 @@ pub record Book : Type 0 where
   pub rows : FinMap pair_cmp Progress
   pub lines : List Line
 
+-- nothing came yet
 abbrev pub empty_book : Book
 empty_book = record { items = map.empty; arrivals = set.empty; kept = set.empty; rows = map.empty; lines = [] }
 
@@ -76,6 +77,7 @@ requeued_row rows at (Some (Waiting tries due)) = rows
 requeued_row rows at (Some Done) = rows
 requeued_row rows at None = rows
 
+-- the row is there, and done
 abbrev pub is_done : Option Progress → Bool
 is_done (Some Done) = true
 is_done (Some (Waiting tries due)) = false

@@ -59,12 +59,15 @@ Follows (Err fault.NotHeld) = Unit {0}
 abbrev pub AreOne : {A : Type 0} → (Result A LedgerFault → Book → Type 0) → Type 0
 AreOne {A} Answers = (r s : Result A LedgerFault) (new next : Book) → Answers r new → Answers s next → (Follows r → Follows s → r ≡ s) × (r ≡ s → new ≡ next)
 
+-- an arrival has one answer and leaves one book
 abbrev pub ArrivalsAreOne : Routing → Type 0
 ArrivalsAreOne routing = (caller : Text) (item : Item) (old : Book) → AreOne (Arrives routing caller item old)
 
+-- so has a settling
 abbrev pub SettlingsAreOne : Type 0
 SettlingsAreOne = (uid dest : Text) (outcome : Outcome) (now : ℕ) (old : Book) → AreOne (Settles uid dest outcome now old)
 
+-- and a requeuing
 abbrev pub RequeuingsAreOne : Type 0
 RequeuingsAreOne = (uid dest : Text) (old : Book) → AreOne (Requeues uid dest old)
 
@@ -76,6 +79,7 @@ NextIsOne = (b : Book) (dest : Text) (now : ℕ) (a c : Option Item) → Nexts b
 abbrev pub HasAnswer : {A : Type 0} → (Result A LedgerFault → Book → Type 0) → Type 0
 HasAnswer {A} Answers = (r : Result A LedgerFault) × (new : Book) × Follows r × Answers r new
 
+-- an arrival has one, where it is known whether there is a line
 abbrev pub ArrivalsHaveAnswers : Routing → Type 0
 ArrivalsHaveAnswers routing = (caller : Text) (item : Item) (old : Book) → routing.HasLine caller item.key ⊎ (routing.HasLine caller item.key → ⊥) → HasAnswer (Arrives routing caller item old)
 
@@ -83,9 +87,11 @@ ArrivalsHaveAnswers routing = (caller : Text) (item : Item) (old : Book) → rou
 abbrev pub NextsHaveAnswers : Routing → Type 0
 NextsHaveAnswers routing = (b : Book) → IsWhole routing b → (dest : Text) (now : ℕ) → (found : Option Item) × Nexts b dest now found
 
+-- a settling has one
 abbrev pub SettlingsHaveAnswers : Type 0
 SettlingsHaveAnswers = (uid dest : Text) (outcome : Outcome) (now : ℕ) (old : Book) → HasAnswer (Settles uid dest outcome now old)
 
+-- a requeuing has one
 abbrev pub RequeuingsHaveAnswers : Type 0
 RequeuingsHaveAnswers = (uid dest : Text) (old : Book) → HasAnswer (Requeues uid dest old)
 
@@ -94,6 +100,7 @@ abbrev pub ComesTrue : Result (Unit {0}) LedgerFault → Result Arrived LedgerFa
 ComesTrue (Ok done) s = (answer : Arrived) × (s ≡ Ok answer)
 ComesTrue (Err why) s = s ≡ Err why
 
+-- in one and the same book
 abbrev pub AdmitsComesTrue : Routing → Type 0
 AdmitsComesTrue routing = (caller : Text) (item : Item) (b new : Book) (r : Result (Unit {0}) LedgerFault) (s : Result Arrived LedgerFault) →
     Admits routing caller item b r → Follows r → Arrives routing caller item b s new → Follows s → ComesTrue r s
@@ -106,6 +113,7 @@ arrival_adds routing caller item (Ok New) = arrival_line routing caller item ∷
 arrival_adds routing caller item (Ok Again) = Repeat caller item ∷ []
 arrival_adds routing caller item (Err why) = []
 
+-- the line that a settling or a requeuing adds
 abbrev pub adds : Line → Result (Unit {0}) LedgerFault → List Line
 adds line (Ok done) = line ∷ []
 adds line (Err why) = []
@@ -115,14 +123,17 @@ abbrev pub IsUnchanged : {A : Type 0} → Result A LedgerFault → Book → Book
 IsUnchanged (Ok value) old new = Unit {0}
 IsUnchanged (Err why) old new = new ≡ old
 
+-- an accepted arrival adds its line
 abbrev pub ArrivalsAddALine : Routing → Type 0
 ArrivalsAddALine routing = (caller : Text) (item : Item) (old new : Book) (r : Result Arrived LedgerFault) → Arrives routing caller item old r new →
     (new.lines ≡ old.lines ++ arrival_adds routing caller item r) × IsUnchanged r old new
 
+-- an accepted settling adds its line
 abbrev pub SettlingsAddALine : Type 0
 SettlingsAddALine = (uid dest : Text) (outcome : Outcome) (now : ℕ) (old new : Book) (r : Result (Unit {0}) LedgerFault) → Settles uid dest outcome now old r new →
     (new.lines ≡ old.lines ++ adds (Settling uid dest outcome now) r) × IsUnchanged r old new
 
+-- an accepted requeuing adds its line
 abbrev pub RequeuingsAddALine : Type 0
 RequeuingsAddALine = (uid dest : Text) (old new : Book) (r : Result (Unit {0}) LedgerFault) → Requeues uid dest old r new →
     (new.lines ≡ old.lines ++ adds (Requeuing uid dest) r) × IsUnchanged r old new
@@ -137,18 +148,22 @@ FoldsHaveTheirLines = (lines : List Line) → (Fold lines).lines ≡ lines
 abbrev pub EmptyIsJournalled : Routing → Type 0
 EmptyIsJournalled routing = IsJournalled routing empty_book
 
+-- an arrival keeps it so
 abbrev pub ArrivalsAreJournalled : Routing → Type 0
 ArrivalsAreJournalled routing = (caller : Text) (item : Item) (old new : Book) (r : Result Arrived LedgerFault) →
     IsJournalled routing old → Arrives routing caller item old r new → IsJournalled routing new
 
+-- a settling keeps it so
 abbrev pub SettlingsAreJournalled : Routing → Type 0
 SettlingsAreJournalled routing = (uid dest : Text) (outcome : Outcome) (now : ℕ) (old new : Book) (r : Result (Unit {0}) LedgerFault) → now ≤ 2 ^ 62 →
     IsJournalled routing old → Settles uid dest outcome now old r new → IsJournalled routing new
 
+-- a requeuing keeps it so
 abbrev pub RequeuingsAreJournalled : Routing → Type 0
 RequeuingsAreJournalled routing = (uid dest : Text) (old new : Book) (r : Result (Unit {0}) LedgerFault) →
     IsJournalled routing old → Requeues uid dest old r new → IsJournalled routing new
 
+-- the book that a history makes is whole
 abbrev pub HistoriesMakeWholeBooks : Routing → Type 0
 HistoriesMakeWholeBooks routing = (lines : List Line) → IsHistory routing lines empty_book → IsWhole routing (Fold lines)
 
@@ -162,13 +177,16 @@ pub record Stays (old new : Book) : Type 0 where
   pub rows : (uid dest : Text) (row : Progress) → map.get old.rows (uid, dest) ≡ Some row → (row' : Progress) × (map.get new.rows (uid, dest) ≡ Some row')
   pub done : (uid dest : Text) → map.get old.rows (uid, dest) ≡ Some Done → map.get new.rows (uid, dest) ≡ Some Done
 
+-- after an arrival, whatever its answer; rows stay as they are
 abbrev pub ArrivalsLeave : Routing → Type 0
 ArrivalsLeave routing = (caller : Text) (item : Item) (old new : Book) (r : Result Arrived LedgerFault) → Arrives routing caller item old r new →
     Stays old new × ((uid dest : Text) (row : Progress) → map.get old.rows (uid, dest) ≡ Some row → map.get new.rows (uid, dest) ≡ Some row)
 
+-- after a settling
 abbrev pub SettlingsLeave : Type 0
 SettlingsLeave = (uid dest : Text) (outcome : Outcome) (now : ℕ) (old new : Book) (r : Result (Unit {0}) LedgerFault) → Settles uid dest outcome now old r new → Stays old new
 
+-- after a requeuing
 abbrev pub RequeuingsLeave : Type 0
 RequeuingsLeave = (uid dest : Text) (old new : Book) (r : Result (Unit {0}) LedgerFault) → Requeues uid dest old r new → Stays old new
 
@@ -179,6 +197,7 @@ pub record IsLeft (old new : Book) : Type 0 where
   pub arrivals : (caller uid : Text) → set.contains new.arrivals (caller, uid) ≡ false
   pub rows : (uid dest : Text) (row : Progress) → (map.get new.rows (uid, dest) ≡ Some row) ↔ ((map.get old.rows (uid, dest) ≡ Some row) × (row ≢ Done))
 
+-- after an adoption
 abbrev pub AdoptionsLeave : Type 0
 AdoptionsLeave = (b : Book) → IsLeft b (after Adoption b)
 
@@ -219,10 +238,12 @@ pub record Moves (old new : Book) (uid dest : Text) (before now : Progress) : Ty
   pub arrivals : new.arrivals ≡ old.arrivals
   pub kept : new.kept ≡ old.kept
 
+-- a settling moves a waiting row by the outcome
 abbrev pub SettlingsMoveARow : Type 0
 SettlingsMoveARow = (uid dest : Text) (outcome : Outcome) (now : ℕ) (old new : Book) → Settles uid dest outcome now old (Ok tt) new →
     (tries : ℕ) × (due : ℕ) × Moves old new uid dest (Waiting tries due) (row_after tries outcome now)
 
+-- a requeuing moves a held row to waiting, untried and due at once
 abbrev pub RequeuingsMoveARow : Type 0
 RequeuingsMoveARow = (uid dest : Text) (old new : Book) → Requeues uid dest old (Ok tt) new → (why : Cause) × Moves old new uid dest (Held why) (Waiting 0 0)
 
@@ -251,6 +272,7 @@ pub record AreFigures (now : ℕ) : Type 0 where
   pub conflict : row_after 0 (Status 0xC0F1) now ≡ Held (cause.Status 0xC0F1)
   pub without_context : row_after 0 NoContext now ≡ Held cause.NoContext
 
+-- at every moment
 abbrev pub FiguresAreRight : Type 0
 FiguresAreRight = (now : ℕ) → AreFigures now
 
@@ -260,9 +282,11 @@ FiguresAreRight = (now : ℕ) → AreFigures now
 abbrev pub AgreeInArrivals : Routing → Routing → Type 0
 AgreeInArrivals site plan = Agree site plan → (caller : Text) (item : Item) (old new : Book) (r : Result Arrived LedgerFault) → Arrives site caller item old r new → Arrives plan caller item old r new
 
+-- so is what may arrive
 abbrev pub AgreeInAdmitting : Routing → Routing → Type 0
 AgreeInAdmitting site plan = Agree site plan → (caller : Text) (item : Item) (b : Book) (r : Result (Unit {0}) LedgerFault) → Admits site caller item b r → Admits plan caller item b r
 
+-- and so are the journals
 abbrev pub AgreeInHistories : Routing → Routing → Type 0
 AgreeInHistories site plan = Agree site plan → (b : Book) → IsJournalled site b → IsJournalled plan b
 
@@ -272,6 +296,7 @@ AgreeInHistories site plan = Agree site plan → (b : Book) → IsJournalled sit
 abbrev pub TargetsAreSentTo : Type 0
 TargetsAreSentTo = (plan : Network) (name caller : Text) (key : Key) (to : Text) → Contains (targets plan name caller key) to ↔ Sends plan name caller key to
 
+-- in byte order, each once
 abbrev pub TargetsAreInOrder : Type 0
 TargetsAreInOrder = (plan : Network) (name caller : Text) (key : Key) → IsInByteOrder (targets plan name caller key)
 
@@ -284,5 +309,6 @@ OnlyTargetsAreSentTo = (plan : Network) (name caller : Text) (key : Key) (all : 
 abbrev pub KeepsWhereTheNodeKeeps : Type 0
 KeepsWhereTheNodeKeeps = (plan : Network) (name caller : Text) (key : Key) → IsTrue (keeps plan name caller key) ↔ Keeps plan name caller key
 
+-- nothing is kept of what enters at the node itself
 abbrev pub NothingIsKeptForLocal : Type 0
 NothingIsKeptForLocal = (plan : Network) (name : Text) (key : Key) → keeps plan name local key ≡ false

@@ -20,12 +20,14 @@ use Rattle.dr_network.specs.Networks.{Network}
 use Rattle.dr_network.specs.Walks.{IsReached}
 use Rattle.dr_ledger.specs.Routings.{Routing}
 
+-- the two transfer syntaxes are the same
 abbrev pub same_syntax : Syntax → Syntax → Bool
 same_syntax Implicit Implicit = true
 same_syntax Implicit Explicit = false
 same_syntax Explicit Implicit = false
 same_syntax Explicit Explicit = true
 
+-- the pattern admits the value
 abbrev pub admits : Pattern → Text → Bool
 admits Any value = true
 admits (Literal literal) value = bytes_eq literal value
@@ -35,6 +37,7 @@ abbrev pub holds : Rule → Text → Key → Bool
 holds rule caller key =
     not (bytes_eq caller local) && (admits rule.from caller && (admits rule.class key.class && (admits rule.modality key.modality && admits rule.station key.station)))
 
+-- the value is one that the flow speaks of
 abbrev pub is_listed : Values → Text → Bool
 is_listed values.Any value = true
 is_listed (values.Listed texts) value = list_any (λ text. bytes_eq text value) texts
@@ -44,13 +47,15 @@ abbrev pub enters : Flow → Text → Key → Bool
 enters flow name key = bytes_eq flow.at name && (list_any (λ class. bytes_eq class key.class) flow.classes
     && (list_any (λ syntax. same_syntax syntax key.syntax) flow.syntaxes && (is_listed flow.modalities key.modality && is_listed flow.stations key.station)))
 
+-- the rules of the node of that name
 abbrev pub rules_of : Network → Text → List Rule
 rules_of plan name = flat_map (λ (node : Node). cond (bytes_eq node.name name) node.rules []) plan.nodes
 
--- the nodes that flows name, for what enters at the node itself, and those that its rules name
+-- the nodes that flows name, for what enters at the node itself
 abbrev pub named_by_flows : Network → Text → Text → Key → List Text
 named_by_flows plan name caller key = flat_map (λ (flow : Flow). cond (bytes_eq caller local && enters flow name key) (flow.to ∷ []) []) plan.flows
 
+-- the nodes that its rules name
 abbrev pub named_by_rules : Network → Text → Text → Key → List Text
 named_by_rules plan name caller key = flat_map (λ (rule : Rule). cond (holds rule caller key) rule.to []) (rules_of plan name)
 

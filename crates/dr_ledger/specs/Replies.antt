@@ -37,6 +37,7 @@ pub record IsAdmitted (routing : Routing) (caller : Text) (item : Item) (b : Boo
 abbrev pub arrival_line : Routing → Text → Item → Line
 arrival_line routing caller item = Arrival caller item (routing.targets caller item.key) (routing.keeps caller item.key)
 
+-- the answers to an arrival, each with the book after it
 abbrev pub Arrives : Routing → Text → Item → Book → Result Arrived LedgerFault → Book → Type 0
 Arrives routing caller item old (Ok New) new =
     IsAdmitted routing caller item old × (set.contains old.arrivals (caller, item.uid) ≡ false) × (new ≡ after (arrival_line routing caller item) old)
@@ -68,12 +69,15 @@ Admits routing caller item b (Err fault.NotHeld) = ⊥
 
 -- ---- settle, requeue
 
+-- the row waits
 abbrev pub IsWaiting : Book → Text → Text → Type 0
 IsWaiting b uid dest = (tries : ℕ) × (due : ℕ) × (map.get b.rows (uid, dest) ≡ Some (Waiting tries due))
 
+-- the row is held
 abbrev pub IsHeld : Book → Text → Text → Type 0
 IsHeld b uid dest = (why : Cause) × (map.get b.rows (uid, dest) ≡ Some (Held why))
 
+-- the answers to a settling, each with the book after it
 abbrev pub Settles : Text → Text → Outcome → ℕ → Book → Result (Unit {0}) LedgerFault → Book → Type 0
 Settles uid dest outcome now old (Ok done) new = IsWaiting old uid dest × (new ≡ after (Settling uid dest outcome now) old)
 Settles uid dest outcome now old (Err fault.NotWaiting) new = (IsWaiting old uid dest → ⊥) × (new ≡ old)
@@ -83,6 +87,7 @@ Settles uid dest outcome now old (Err fault.NoLine) new = ⊥
 Settles uid dest outcome now old (Err fault.Conflict) new = ⊥
 Settles uid dest outcome now old (Err fault.NotHeld) new = ⊥
 
+-- the answers to a requeuing, each with the book after it
 abbrev pub Requeues : Text → Text → Book → Result (Unit {0}) LedgerFault → Book → Type 0
 Requeues uid dest old (Ok done) new = IsHeld old uid dest × (new ≡ after (Requeuing uid dest) old)
 Requeues uid dest old (Err fault.NotHeld) new = (IsHeld old uid dest → ⊥) × (new ≡ old)

@@ -18,14 +18,17 @@ pub record Route : Type 0 where
 abbrev pub Routes : Type 0
 Routes = Text → Key → Option Route
 
+-- the nodes of a route; none where there is no route
 abbrev pub targets_of : Option Route → List Text
 targets_of None = []
 targets_of (Some route) = route.to
 
+-- whether a route keeps
 abbrev pub keeps_of : Option Route → Bool
 keeps_of None = false
 keeps_of (Some route) = route.keep
 
+-- what a node does by its routes: there is a line where there is a route
 abbrev pub routing_of : Routes → Routing
 routing_of routes = record {
   HasLine = λ caller key. IsSome (routes caller key);

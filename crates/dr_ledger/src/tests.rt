@@ -95,6 +95,86 @@ impl Ledger for Stub {
     }
 }
 
+/// A ledger of a node that no line of the certificate names. Its premise always holds, so that it meets every
+/// clause of the trait.
+#[derive(Drop)]
+struct Unnamed {
+    alloc: Global,
+}
+
+impl Ledger for Unnamed {
+    ghost use Rattle.std.specs.Prelude.{None, refl};
+
+    ghost routes = { λ l caller key. None };
+
+    ghost book = { λ l. empty_book };
+
+    ghost stands = { λ l. Unit {0} };
+
+    ghost failed = { λ l. 0 };
+
+    ghost journalled = { λ l h. ∣ record { history = tt; fold = λ i. empty_book } ∣₁ };
+
+    fn arrive(&mut self, _caller: &Text, _item: Item) -> Result<Arrived, LedgerFault> {
+        Err(LedgerFault::NoLine)
+    }
+
+    fn next(&mut self, _dest: &Text, _now: u64) -> Result<Option<Item>, LedgerFault> {
+        Ok(None)
+    }
+
+    fn settle(
+        &mut self,
+        _uid: &Text,
+        _dest: &Text,
+        _outcome: Outcome,
+        _now: u64,
+    ) -> Result<(), LedgerFault> {
+        Err(LedgerFault::NotWaiting)
+    }
+
+    fn requeue(&mut self, _uid: &Text, _dest: &Text) -> Result<(), LedgerFault> {
+        Err(LedgerFault::NotHeld)
+    }
+
+    fn admits(&mut self, _caller: &Text, _item: &Item) -> Result<(), LedgerFault> {
+        Err(LedgerFault::NoLine)
+    }
+
+    #[tactic(auto, using(crate::proofs::Nothing::nothing_there))]
+    fn has(&mut self, _uid: &Text) -> Result<bool, LedgerFault> {
+        Ok(false)
+    }
+
+    #[tactic(auto, using(crate::proofs::Nothing::no_arrivals))]
+    fn arrivals(&mut self) -> Result<Seq<(Text, Text)>, LedgerFault> {
+        Ok(Seq::new(self.alloc))
+    }
+
+    #[tactic(auto, using(crate::proofs::Nothing::nothing_kept))]
+    fn kept(&mut self) -> Result<Seq<(Text, u64)>, LedgerFault> {
+        Ok(Seq::new(self.alloc))
+    }
+
+    #[tactic(auto, using(crate::proofs::Nothing::no_rows))]
+    fn rows(&mut self) -> Result<Seq<((Text, Text), Progress)>, LedgerFault> {
+        Ok(Seq::new(self.alloc))
+    }
+
+    fn lines(&mut self) -> Result<Seq<Entry>, LedgerFault> {
+        Ok(Seq::new(self.alloc))
+    }
+
+    #[tactic(auto, using(crate::proofs::Nothing::no_row))]
+    fn progress(&mut self, _uid: &Text, _dest: &Text) -> Result<Option<Progress>, LedgerFault> {
+        Ok(None)
+    }
+
+    fn failures(&self) -> u64 {
+        0
+    }
+}
+
 fn item(alloc: Global) -> Result<Item, Fail> {
     Ok(Item {
         uid: Text::copy_of(alloc, b"1.2.3.4")?,
@@ -195,5 +275,19 @@ fn reads_leave_a_refusal_due(rt: HostRuntime) -> Result<(), Fail> {
     assert!(rt; ledger.lines()?.is_empty());
     assert!(rt; ledger.refusals().is_due);
     assert_eq!(rt; ledger.failures(), u64::MAX);
+    Ok(())
+}
+
+#[test]
+fn a_refusal_stays_due_where_nothing_can_arrive(rt: HostRuntime) -> Result<(), Fail> {
+    let uid = Text::copy_of(rt.alloc(), b"1.2.3.4")?;
+    let mut ledger = Refusing::new(Unnamed { alloc: rt.alloc() });
+    ledger.refuse_next();
+    assert!(rt; ledger.arrive(&uid, item(rt.alloc())?) == Err(LedgerFault::NoLine));
+    assert!(rt; ledger.settle(&uid, &uid, Outcome::Broken, 0) == Err(LedgerFault::NotWaiting));
+    assert!(rt; ledger.requeue(&uid, &uid) == Err(LedgerFault::NotHeld));
+    assert!(rt; ledger.rows()?.is_empty());
+    assert!(rt; ledger.refusals().is_due);
+    assert_eq!(rt; ledger.failures(), 0);
     Ok(())
 }
