@@ -19,11 +19,10 @@ use Rattle.dr_sound.specs.Samples.{scanner, archive, image, keep_all, the_scanne
 use Rattle.dr_sound.proofs.Pigeons.{no_more_than}
 
 -- the keys that the flow takes in
-IsImage : Key → Type 0
+abbrev pub IsImage : Key → Type 0
 IsImage key = (key.class ≡ image) × (key.syntax ≡ Explicit)
 
 flow_only : (site : Text) (key : Key) (to : Text) → Flows (two_nodes []) site key to → (site ≡ scanner) × (to ≡ archive) × IsImage key
-unfolding IsImage
 flow_only site key to f =
     let same : the_flow ≡ f.0 = only_one the_flow f.0 f.1 in
     let Q : Flow → Type 0 = λ x. (x.at ≡ site) × (x.to ≡ to) × Fits x key in
@@ -80,10 +79,10 @@ module _ (rules : List Rule) (stays : (caller : Text) (key : Key) (to : Text) �
         ],
       )
 
-  goes_only : (key : Key) (from to : Text) → Goes (two_nodes rules) key from to → (from ≡ scanner) × (to ≡ archive) × IsImage key
+  pub goes_only : (key : Key) (from to : Text) → Goes (two_nodes rules) key from to → (from ≡ scanner) × (to ≡ archive) × IsImage key
   goes_only key from to goes = let s = sent_only from goes.0 key to goes.2 in (s.1, s.2, s.3)
 
-keeps_stay : (caller : Text) (key : Key) (to : Text) → SendsBy (keep_all ∷ []) caller key to → ⊥
+pub keeps_stay : (caller : Text) (key : Key) (to : Text) → SendsBy (keep_all ∷ []) caller key to → ⊥
 keeps_stay caller key to (inl here) = nothing_in_nil to here.1
 keeps_stay caller key to (inr later) = later
 
@@ -93,7 +92,7 @@ none_stay caller key to sent = sent
 archive_stands : (rules : List Rule) → Contains (two_nodes rules).nodes (the_archive rules)
 archive_stands rules = Contains-there the_scanner (the_archive rules ∷ []) (the_archive rules) (Contains-here (the_archive rules) [])
 
-archive_accepts : (rules : List Rule) (class : Text) (syntax : Syntax) → class ≡ image → syntax ≡ Explicit → Accepts (two_nodes rules) archive scanner class syntax
+pub archive_accepts : (rules : List Rule) (class : Text) (syntax : Syntax) → class ≡ image → syntax ≡ Explicit → Accepts (two_nodes rules) archive scanner class syntax
 archive_accepts rules class syntax c s = (
   the_archive rules,
   (archive_stands rules, refl),
@@ -104,7 +103,6 @@ scanner_is_no_caller : scanner ≢ local
 scanner_is_no_caller e = let l : length scanner ≡ length local = ap (λ (t : Text). length t) e in omega arith
 
 pub two_nodes_are_sound : IsSound (two_nodes (keep_all ∷ []))
-unfolding IsImage
 two_nodes_are_sound = record {
   accepted = λ key from to goes.
       let g = goes_only (keep_all ∷ []) keeps_stay key from to goes in

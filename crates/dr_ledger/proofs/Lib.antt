@@ -1,0 +1,11 @@
+pub mod Agreeing
+pub mod Earliest
+pub mod Faults
+pub mod Figures
+pub mod Folding
+pub mod Growing
+pub mod Maps
+pub mod Nothing
+pub mod Ones
+pub mod PlanRouting
+pub mod Wholes

@@ -1,0 +1,10 @@
+pub mod Calls
+pub mod Claims
+pub mod Endings
+pub mod Events
+pub mod Happening
+pub mod Laws
+pub mod Runs
+pub mod Steps
+pub mod Theorem
+pub mod Worlds

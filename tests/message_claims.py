@@ -1,0 +1,84 @@
+"""The four claims of docs/HEADLINE.md, and what lasts; for message_world.py."""
+from message_plans import LOCAL
+
+SUCCESS, NO_LINE, CONFLICT, NO_STORE = 0x0000, 0xC0F0, 0xC0F1, 0xA700
+
+
+class Claim(Exception):
+    """A claim that fails."""
+
+
+def claim(holds, *what):
+    if not holds:
+        raise Claim(*what)
+
+
+def has_arrival(w, name, caller, item):
+    return (caller, item.uid) in w.books[name].arrivals and w.books[name].items.get(item.uid) == item
+
+
+def none_refused(w):
+    for name, book in w.books.items():
+        for line in book.journal:
+            claim(line[0] != 'settling' or line[3] in ('Broken', SUCCESS, NO_STORE, CONFLICT), 'NoneRefused', name, line)
+    for link in w.links.values():
+        if link.stage in ('open', 'storing', 'replying'):
+            claim(link.accepted >= w.plan.hops[link.caller, link.receiver], 'NoneRefused', 'pairs', link.caller, link.receiver)
+
+
+def has_source(w, caller, name, item):
+    sites = [(LOCAL, s) for s in w.books if has_arrival(w, s, LOCAL, item)]
+    sites += [(n, to) for n in w.books for (uid, to) in w.standing[n] if uid == item.uid and w.books[n].items.get(uid) == item]
+    return any(walk[-1] == (caller, name) and len(walk) - 1 <= w.plan.ranks[first, site, item.key]
+               for first, site in sites if (first, site, item.key) in w.plan.ranks for walk in w.plan.walks(first, site, item.key))
+
+
+def is_honest(w):
+    for link in w.links.values():
+        claim(link.stage != 'replying' or link.status != SUCCESS or has_arrival(w, link.receiver, link.caller, link.item), 'IsHonest', 'reply', link.item)
+    for name, book in w.books.items():
+        for (uid, to), row in book.rows.items():
+            item = book.items.get(uid)
+            claim(item is not None and item.uid == uid, 'IsHonest', 'row without item', name, uid)
+            claim(row[0] != 'done' or has_arrival(w, to, name, item), 'IsHonest', 'done', name, uid, to)
+            brought = any(to in w.plan.sends(name, c, item.key) for c, u in book.arrivals if u == uid)
+            claim(brought or (uid, to) in w.standing[name], 'IsHonest', 'row', name, uid, to)
+
+
+def is_covered(w, caller, name, item, dest):
+    if item.uid in w.books[dest].kept and w.books[dest].items.get(item.uid) == item:
+        return True
+    for at in {walk[-1][1] for walk in w.plan.walks(caller, name, item.key)}:
+        if w.books[at].items.get(item.uid) == item:
+            if any(uid == item.uid and r[0] != 'done' and dest in w.plan.destinations(at, to, item.key) for (uid, to), r in w.books[at].rows.items()):
+                return True
+    return False
+
+
+def nothing_lost(w):
+    for name, book in w.books.items():
+        for caller, uid in book.arrivals:
+            claim(uid in book.items, 'HasItems', name, uid)
+            item = book.items[uid]
+            claim(has_source(w, caller, name, item), 'WithinRank', caller, name, uid)
+            dests = w.plan.destinations(caller, name, item.key)
+            claim(dests, 'NothingLost', 'no destination', caller, name, uid)
+            for dest in dests:
+                claim(is_covered(w, caller, name, item, dest), 'NothingLost', caller, name, uid, dest)
+        for uid, to in w.standing[name]:
+            item, row = book.items[uid], book.rows.get((uid, to))
+            dests = w.plan.destinations(name, to, item.key)
+            claim(dests, 'NothingLost', 'no destination of a row that stood', name, uid, to)
+            for dest in dests:
+                queued = row is not None and row[0] != 'done'
+                claim(queued or (has_arrival(w, to, name, item) and is_covered(w, name, to, item, dest)), 'NothingLost', 'stood', name, uid, to)
+
+
+def seen(w):
+    return {n: (dict(b.items), set(b.kept), len(b.journal)) for n, b in w.books.items()}
+
+
+def lasts(before, w):
+    for name, (items, kept, lines) in before.items():
+        book = w.books[name]
+        claim(all(book.items.get(u) == i for u, i in items.items()) and kept <= book.kept and lines <= len(book.journal), 'Lasts', name)

@@ -1,0 +1,278 @@
+#!/usr/bin/env python3
+"""Plays random events over random sound plans, by the definitions of crates/dr_message/specs written again in Python,
+and tests the four claims of docs/HEADLINE.md, and what lasts, after each event.
+
+    tests/message_world.py [RUNS] [SEED]       no claim may fail (2,000 runs: about half a minute)
+    tests/message_world.py --wrong [RUNS]      each wrong definition must make some claim fail
+"""
+import collections
+import random
+import sys
+
+sys.dont_write_bytecode = True
+from message_claims import CONFLICT, Claim, NO_LINE, NO_STORE, SUCCESS, is_honest, lasts, none_refused, nothing_lost, seen
+from message_plans import KEYS, LOCAL, random_plan
+
+OTHERS = 2  # associations that a receiver takes; 256 in the definitions, few here so that rejections come
+WRONG = {
+    'rows_for_new_uids_only', 'kept_for_new_uids_only', 'second_caller_dropped', 'body_overwritten', 'out_of_resources_is_done',
+    'restart_drops_waiting_rows', 'success_without_an_arrival', 'done_rows_stand', 'adoption_forgets_what_is_kept', 'half_the_pairs_accepted',
+}
+Item = collections.namedtuple('Item', 'uid key body')
+
+
+# ---- the world
+
+class Book:
+    def __init__(self):
+        self.items, self.arrivals, self.kept, self.rows, self.journal = {}, set(), set(), {}, []
+
+
+class Link:
+    def __init__(self, caller, receiver):
+        self.caller, self.receiver, self.caller_on, self.receiver_on = caller, receiver, True, True
+        self.stage, self.accepted, self.item, self.status = 'asking', None, None, None
+
+
+class World:
+    def __init__(self, plan, dice, wrong):
+        self.plan, self.dice, self.wrong = plan, dice, wrong
+        self.time, self.links, self.opened, self.armed, self.standing = 0, {}, 0, set(), {n: {} for n in plan.rules}
+        self.books = {n: Book() for n in plan.rules}
+
+    # calls of books
+    def store_fails(self, name):
+        if self.dice.random() < 0.01:
+            return True  # by itself: a refusal that it was told stands
+        told = name in self.armed
+        self.armed.discard(name)
+        return told
+
+    def arrive(self, name, caller, item):
+        book, known = self.books[name], item.uid in self.books[name].items
+        if (caller, name, item.key) not in self.plan.ranks:
+            return 'NoLine'
+        if known and book.items[item.uid] != item and 'body_overwritten' not in self.wrong:
+            return 'Conflict'
+        if self.store_fails(name):
+            return 'Store'
+        if (caller, item.uid) in book.arrivals:
+            book.journal.append(('repeat', caller, item.uid))
+            return 'Again'
+        if not known or 'body_overwritten' in self.wrong:
+            book.items[item.uid] = item
+        if not known or 'second_caller_dropped' not in self.wrong:
+            book.arrivals.add((caller, item.uid))
+        if self.plan.keeps(name, caller, item.key) and not (known and 'kept_for_new_uids_only' in self.wrong):
+            book.kept.add(item.uid)
+        if not (known and 'rows_for_new_uids_only' in self.wrong):
+            for to in self.plan.sends(name, caller, item.key):
+                book.rows.setdefault((item.uid, to), ('waiting', 0, 0))
+        book.journal.append(('arrival', caller, item.uid))
+        return 'New'
+
+    def settle(self, name, uid, dest, outcome):
+        book = self.books[name]
+        row = book.rows.get((uid, dest))
+        if row is None or row[0] != 'waiting':
+            return 'NotWaiting'
+        if self.store_fails(name):
+            return 'Store'
+        if outcome == SUCCESS or (outcome == NO_STORE and 'out_of_resources_is_done' in self.wrong):
+            book.rows[uid, dest] = ('done',)
+        elif outcome in ('Broken', NO_STORE):
+            tries = min(1000000, row[1] + 1)
+            book.rows[uid, dest] = ('waiting', tries, self.time + 1000 * min(300, 2 ** (tries - 1)))
+        else:
+            book.rows[uid, dest] = ('held', outcome)
+        book.journal.append(('settling', uid, dest, outcome))
+        return 'Ok'
+
+    def first_due(self, name, dest):
+        due = [(r[2], uid) for (uid, d), r in self.books[name].rows.items() if d == dest and r[0] == 'waiting' and r[2] <= self.time]
+        return self.books[name].items[min(due)[1]] if due else None
+
+    # events
+    def take(self, name, item):
+        self.arrive(name, LOCAL, item)
+
+    def ask(self, caller, receiver):
+        self.opened += 1
+        self.links[self.opened] = Link(caller, receiver)
+
+    def agree_receiver(self, link):
+        others = sum(1 for l in self.links.values() if l is not link and l.receiver == link.receiver and l.receiver_on and l.accepted is not None and l.stage != 'gone')
+        if others >= OTHERS:
+            link.stage, link.receiver_on = 'rejecting', False
+        else:
+            offered = sorted(self.plan.hops[link.caller, link.receiver])
+            link.accepted = {p for p in offered if self.plan.takes(link.receiver, link.caller, p)}
+            if 'half_the_pairs_accepted' in self.wrong:
+                link.accepted = set(offered[:len(offered) // 2])
+            link.stage = 'answering'
+
+    def agree_caller(self, link):
+        if link.stage == 'answering':
+            link.stage = 'open'
+            return
+        item = self.first_due(link.caller, link.receiver)
+        if item:
+            self.settle(link.caller, item.uid, link.receiver, 'Broken')
+        link.caller_on = False
+
+    def give(self, link):
+        item = self.first_due(link.caller, link.receiver)
+        if item.key[:2] in link.accepted:
+            link.stage, link.item = 'storing', item
+        else:
+            link.caller_on = self.settle(link.caller, item.uid, link.receiver, 'NoContext') != 'Store'
+
+    def receive(self, link):
+        reply = self.arrive(link.receiver, link.caller, link.item)
+        failed = SUCCESS if 'success_without_an_arrival' in self.wrong else NO_STORE
+        link.status = {'New': SUCCESS, 'Again': SUCCESS, 'NoLine': NO_LINE, 'Conflict': CONFLICT, 'Store': failed}[reply]
+        link.stage = 'replying'
+
+    def answered(self, link):
+        link.caller_on = self.settle(link.caller, link.item.uid, link.receiver, link.status) != 'Store'
+        link.stage, link.item = 'open', None
+
+    def break_caller(self, link):
+        if link.caller_on and link.item:
+            self.settle(link.caller, link.item.uid, link.receiver, 'Broken')
+        link.caller_on = False
+
+    def break_receiver(self, link):
+        link.receiver_on = False
+
+    def close(self, link):
+        self.break_caller(link)
+        link.receiver_on, link.stage, link.item = False, 'gone', None
+
+    def restart(self, name):
+        for number in sorted(self.links):
+            if self.links[number].receiver == name:
+                self.break_caller(self.links[number])
+        self.links = {n: l for n, l in self.links.items() if name not in (l.caller, l.receiver)}
+        if 'restart_drops_waiting_rows' in self.wrong:
+            self.books[name].rows = {at: r for at, r in self.books[name].rows.items() if r[0] != 'waiting'}
+
+    def requeue(self, name, uid, dest):
+        if not self.store_fails(name):
+            self.books[name].rows[uid, dest] = ('waiting', 0, 0)
+            self.books[name].journal.append(('requeuing', uid, dest))
+
+    def refuse(self, name):
+        self.armed.add(name)
+
+    def tick(self, ms):
+        self.time = min(self.time + ms, 2 ** 62)
+
+    def adopt(self, plan):
+        def queued(row):
+            return row[0] != 'done' or 'done_rows_stand' in self.wrong
+        unfit = any(r[0] != 'done' and key_of(b, uid) not in [k for k in KEYS if (n, to, k) in plan.ranks]
+                    for n, b in self.books.items() for (uid, to), r in b.rows.items())
+        if any(l.caller_on or l.receiver_on for l in self.links.values()) or self.armed or not set(self.books) <= set(plan.rules) or unfit:
+            return
+        self.plan, self.links = plan, {}
+        for name in plan.rules:
+            if name not in self.books:
+                self.books[name], self.standing[name] = Book(), {}
+                continue
+            book = self.books[name]
+            book.arrivals, book.rows = set(), {at: r for at, r in book.rows.items() if queued(r)}
+            if 'adoption_forgets_what_is_kept' in self.wrong:
+                book.kept = set()
+            self.standing[name] = dict(book.rows)
+            book.journal.append(('adoption',))
+
+
+def key_of(book, uid):
+    return book.items[uid].key
+
+
+# ---- runs
+
+def random_event(w, dice):
+    """What may happen next, as a call; where nothing of a kind can, time passes."""
+    plan, names = w.plan, sorted(w.books)
+    links = [l for l in w.links.values() if l.caller_on or l.receiver_on]
+    choice = dice.random()
+    if choice < 0.03:
+        return w.adopt, (random_plan(dice) if dice.random() < 0.7 else plan,)
+    if choice < 0.07 and links:
+        return dice.choice([(w.break_caller, l) for l in links if l.caller_on] + [(w.break_receiver, l) for l in links if l.receiver_on])
+    if choice < 0.14:
+        entries = [(n, k) for c, n, k in plan.ranks if c == LOCAL]
+        name, key = dice.choice(sorted(entries)[:6])
+        return w.take, (name, Item(dice.choice(['u1', 'u2']), key, dice.choice('xxxxxy')))
+    ready = []
+    for link in links:
+        if link.receiver_on and link.stage == 'asking':
+            ready.append((w.agree_receiver, link))
+        if link.receiver_on and link.stage == 'storing':
+            ready += [(w.receive, link)] * 2
+        if link.caller_on and link.stage in ('answering', 'rejecting'):
+            ready.append((w.agree_caller, link))
+        if link.caller_on and link.stage == 'open' and w.first_due(link.caller, link.receiver):
+            ready += [(w.give, link)] * 2
+        if link.caller_on and link.stage == 'replying':
+            ready += [(w.answered, link)] * 2
+    if choice < 0.70 and ready:
+        return dice.choice(ready)
+    due = sorted(h for h in plan.hops if w.first_due(*h))
+    if choice < 0.84 and len(links) < 8 and (due or dice.random() < 0.1):
+        return w.ask, dice.choice(due or sorted(plan.hops))
+    if 0.84 <= choice < 0.86 and links:
+        return w.close, dice.choice(links)
+    if 0.86 <= choice < 0.88:
+        return w.restart, (dice.choice(names),)
+    held = [(n, u, d) for n in names for (u, d), r in sorted(w.books[n].rows.items()) if r[0] == 'held']
+    if 0.88 <= choice < 0.92 and held:
+        return w.requeue, dice.choice(held)
+    if 0.92 <= choice < 0.94:
+        return w.refuse, (dice.choice(names),)
+    return w.tick, (dice.choice([1, 1000, 5000, 300000]),)
+
+
+def play(seed, wrong, happened):
+    """One run. The name of the claim that fails, or None."""
+    dice = random.Random(seed)
+    w = World(random_plan(dice), dice, wrong)
+    for _ in range(dice.randint(20, 220)):
+        event, told = random_event(w, dice)
+        before = seen(w)
+        event(*told) if isinstance(told, tuple) else event(told)
+        happened[event.__name__] += 1
+        try:
+            none_refused(w)
+            is_honest(w)
+            nothing_lost(w)
+            lasts(before, w)
+        except Claim as failed:
+            return failed.args
+    return None
+
+
+def main():
+    words = [a for a in sys.argv[1:] if a != '--wrong']
+    runs, seed = int(words[0]) if words else 2000, int(words[1]) if len(words) > 1 else 1
+    happened = collections.Counter()
+    if '--wrong' in sys.argv:
+        for name in sorted(WRONG):
+            failed = next((f for f in (play(seed * 1000003 + i, {name}, happened) for i in range(runs)) if f), None)
+            print(f'{name}: {failed[0] if failed else "NOTHING FAILS"}', failed[1:] if failed else '')
+            if not failed:
+                sys.exit(1)
+        return
+    for i in range(runs):
+        failed = play(seed * 1000003 + i, set(), happened)
+        if failed:
+            print('run', i, 'fails', failed)
+            sys.exit(1)
+    print(f'{runs} runs, {sum(happened.values())} events, no claim fails')
+    print(', '.join(f'{n} {k}' for n, k in sorted(happened.items())))
+
+
+main()
