@@ -1,0 +1,9 @@
+//! The verifier of certificates: a plan and its certificate, read back and trusted for nothing, become a sealed
+//! plan, whose type keeps that the plan is sound and that this is its certificate.
+#![tactic(auto)]
+
+pub mod fault;
+pub mod index;
+pub mod place;
+
+pub use fault::CertFault;
