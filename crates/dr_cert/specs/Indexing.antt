@@ -1,5 +1,6 @@
 -- Lines in the order of their stops, where they can be found.
 use Rattle.std.specs.Prelude.{◌≡◌, ℕ, List, AllPairs, Contains, Some, slice_get}
+use Rattle.std.specs.BTreeMap.{BTreeMap, get}
 use Rattle.std.specs.declared.cmp.Ordering.{Ordering}
 use Rattle.std.specs.declared.cmp.Ordering.TheVariants.{Less}
 use Rattle.dr_sound.specs.declared.certificate.Stop.{Stop}
@@ -28,3 +29,12 @@ StandsAt lines stop place = (line : Line) × (slice_get lines place ≡ Some lin
 -- no line has the stop
 abbrev pub HasNoLine : List Line → Stop → Type 0
 HasNoLine lines stop = HasALine lines stop → ⊥
+
+-- a stop with its rank as a line
+abbrev pub line_of : Stop × ℕ → Line
+line_of entry = record { stop = entry.0; rank = entry.1 }
+
+-- for each stop that has lines just one of their ranks
+pub record AreRanksOf (lines : List Line) (ranks : BTreeMap Stop ℕ) : Type 0 where
+  pub sound : (stop : Stop) (rank : ℕ) → get stop_cmp ranks stop ≡ Some rank → Contains lines (record { stop = stop; rank = rank })
+  pub whole : (stop : Stop) → HasALine lines stop → (rank : ℕ) × (get stop_cmp ranks stop ≡ Some rank)

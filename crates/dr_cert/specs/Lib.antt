@@ -1,3 +1,5 @@
 pub mod Conditions
 pub mod Indexing
 pub mod Refusing
+pub mod Surveying
+pub mod Walking

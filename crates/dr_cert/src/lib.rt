@@ -5,5 +5,7 @@
 pub mod fault;
 pub mod index;
 pub mod place;
+pub mod survey;
+pub mod walker;
 
 pub use fault::CertFault;
