@@ -1,5 +1,5 @@
 -- Sites, and why there is none.
-use Rattle.std.specs.Prelude.{◌≡◌, ∥◌∥₁, Result, Ok, Err}
+use Rattle.std.specs.Prelude.{◌≡◌, Result, Ok, Err}
 use Rattle.dr_base.specs.Texts.{Text}
 use Rattle.dr_network.specs.Networks.{Network}
 use Rattle.dr_network.specs.Plans.{IsWellFormed, NamesNoNode}

@@ -1,7 +1,8 @@
 //! Sites: what one node knows of a sealed plan.
 #![tactic(auto)]
 
-pub mod rows;
+mod copies;
+mod rows;
 pub mod site;
 
 pub use site::{Site, SiteFault};

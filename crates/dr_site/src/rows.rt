@@ -1,8 +1,8 @@
 //! Those of a plan's and of a certificate's rows that are one node's own.
-ghost use Rattle.std.specs.Prelude.{◌≡◌, ◌++◌, ◌∷◌, [], cond, IfOk, OnOk, filter};
-ghost use Rattle.dr_base.specs.Copies.{ClonesAreEqual};
+ghost use Rattle.std.specs.Prelude.{◌≡◌, IfOk, filter};
 ghost use Rattle.dr_site.specs.Parts.{is_at, is_of, begins_at};
 
+use crate::copies::{copy_flow, copy_hop, copy_line};
 use dr_base::{Seq, Text};
 use dr_network::Flow;
 use dr_sound::{Hop, Line};
@@ -15,7 +15,7 @@ pub fn flows_at(alloc: Global, flows: &[Flow], site: &Text) -> Result<Seq<Flow>,
     let mut own = Seq::new(alloc);
     for flow in flows {
         if flow.at == *site {
-            own.push(flow.clone()?)?;
+            own.push(copy_flow(flow)?)?;
         }
     }
     Ok(own)
@@ -28,7 +28,7 @@ pub fn lines_of(alloc: Global, lines: &[Line], node: &Text) -> Result<Vec<Line>,
     let mut own = Vec::new(alloc);
     for line in lines {
         if line.stop.node == *node {
-            own.push(line.clone()?)?;
+            own.push(copy_line(line)?)?;
         }
     }
     Ok(own)
@@ -41,7 +41,7 @@ pub fn hops_from(alloc: Global, hops: &[Hop], node: &Text) -> Result<Seq<Hop>, A
     let mut own = Seq::new(alloc);
     for hop in hops {
         if hop.from == *node {
-            own.push(hop.clone()?)?;
+            own.push(copy_hop(hop)?)?;
         }
     }
     Ok(own)

@@ -1,8 +1,9 @@
 //! The site of a node.
-ghost use Rattle.std.specs.Prelude.{◌≡◌, ∥◌∥₁, IfOk};
+ghost use Rattle.std.specs.Prelude.{◌≡◌, IfOk};
 ghost use Rattle.dr_site.specs.Parts.{Part, IsPartOf};
 ghost use Rattle.dr_site.specs.Sites.{IsSealed, IsSite, IsSiteOf};
 
+use crate::copies::{copy_accepts, copy_flows, copy_hops, copy_lines, copy_literals, copy_name, copy_rules};
 use crate::rows::{flows_at, hops_from, lines_of};
 use dr_base::{Seq, Text};
 use dr_cert::index::index_of;
@@ -77,15 +78,15 @@ impl Site {
         let Some(node) = plan.node(name) else {
             return Err(SiteFault::NoNode);
         };
-        let rules = node.rules.clone()?;
-        let accepts = node.accepts.clone()?;
+        let rules = copy_rules(&node.rules)?;
+        let accepts = copy_accepts(&node.accepts)?;
         let flows = flows_at(alloc, plan.flows(), name)?;
         let own = lines_of(alloc, certificate.lines.as_slice(), name)?;
         let lines = index_of(alloc, own.as_slice())?;
         let hops = hops_from(alloc, certificate.hops.as_slice(), name)?;
         let literals = literals(alloc, plan)?;
         Ok(Site {
-            name: name.clone()?,
+            name: copy_name(name)?,
             max_pdu: node.max_pdu,
             digest: *plan.digest(),
             rules,
@@ -102,15 +103,15 @@ impl Site {
         ensures { IfOk result (λ s. s ≡ self.now) }
     {
         Ok(Site {
-            name: self.name.clone()?,
+            name: copy_name(&self.name)?,
             max_pdu: self.max_pdu,
             digest: self.digest,
-            rules: self.rules.clone()?,
-            accepts: self.accepts.clone()?,
-            flows: self.flows.clone()?,
-            lines: self.lines.clone()?,
-            hops: self.hops.clone()?,
-            literals: self.literals.clone()?,
+            rules: copy_rules(&self.rules)?,
+            accepts: copy_accepts(&self.accepts)?,
+            flows: copy_flows(&self.flows)?,
+            lines: copy_lines(&self.lines)?,
+            hops: copy_hops(&self.hops)?,
+            literals: copy_literals(&self.literals)?,
         })
     }
 }
