@@ -2,6 +2,7 @@
 #![tactic(auto)]
 
 mod copies;
+pub mod laws;
 mod rows;
 pub mod site;
 
