@@ -1,11 +1,11 @@
 -- A site's lines, rules and flows say of a key what the plan says.
-use Rattle.std.proofs.Common.{◌≡◌, ◌≢◌, ℕ, ◌⊎◌, inl, inr, refl, sym, ◌∙◌, subst, List, [], ◌∷◌, Contains, Bool, true, false}
+use Rattle.std.proofs.Common.{◌≡◌, inl, inr, refl, sym, ◌∙◌, subst, List, [], ◌∷◌, Contains, Bool, true}
 use Rattle.std.specs.Prelude.{◌↔◌, filter}
 use Rattle.std.specs.Str.{bytes_eq}
 use Rattle.std.proofs.lemmas.Bool.{cases_Bool, false≢true}
 use Rattle.std.proofs.lemmas.Slice.Eq.{bytes_eq-Decides}
 use Rattle.dr_base.specs.Texts.{Text}
-use Rattle.dr_route.specs.Routes.{local, SendsBy, KeepsBy}
+use Rattle.dr_route.specs.Routes.{SendsBy, KeepsBy}
 use Rattle.dr_route.specs.Cells.{InField, InCell}
 use Rattle.dr_route.specs.declared.key.Key.{Key}
 use Rattle.dr_route.specs.declared.cell.FieldValues.{FieldValues}
@@ -16,7 +16,7 @@ use Rattle.dr_route.specs.declared.cell.OwnedCell.{OwnedCell}
 use Rattle.dr_network.specs.declared.plan.Node.{Node}
 use Rattle.dr_network.specs.declared.plan.Flow.{Flow}
 use Rattle.dr_network.specs.Networks.{Network}
-use Rattle.dr_network.specs.Plans.{LiesIn, literals_of, IsNode}
+use Rattle.dr_network.specs.Plans.{LiesIn, literals_of}
 use Rattle.dr_network.specs.Walks.{FlowsAmong, Sends, Keeps, IsReached}
 use Rattle.dr_network.proofs.Gathered.{nothing_in_nil, Contains-cons_cases, Contains-there, Contains-here}
 use Rattle.dr_network.proofs.WalksAlike.{reach_alike}

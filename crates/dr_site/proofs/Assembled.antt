@@ -13,7 +13,7 @@ use Rattle.dr_sound.specs.declared.certificate.Line.{Line}
 use Rattle.dr_sound.specs.declared.certificate.Hop.{Hop}
 use Rattle.dr_sound.specs.declared.certificate.Certificate.{Certificate}
 use Rattle.dr_cert.specs.Indexing.{IsIndexOf}
-use Rattle.dr_site.specs.Parts.{Part, IsPartOf, AreItsLiterals, is_at, is_of, begins_at}
+use Rattle.dr_site.specs.Parts.{Part, IsPartOf, is_at, is_of, begins_at}
 use Rattle.dr_site.specs.Sites.{IsSealed, IsSite}
 use Rattle.std.proofs.Math.Logic.{∥∥₁_map}
 

@@ -1,6 +1,5 @@
 -- The stop of a caller and a key, and the line that is found there.
-use Rattle.std.proofs.Common.{◌≡◌, ℕ, refl, sym, ◌∙◌, ap, subst, List, Contains}
-use Rattle.std.specs.Prelude.{◌↔◌, Some, slice_get}
+use Rattle.std.proofs.Common.{◌≡◌, ℕ, refl, sym, ◌∙◌, ap, subst, Contains}
 use Rattle.std.proofs.lemmas.Option.{slice_get_within, get_or_from_slice_get}
 use Rattle.dr_base.specs.Texts.{Text}
 use Rattle.dr_base.specs.declared.syntax.Syntax.{Syntax}
@@ -12,8 +11,6 @@ use Rattle.dr_route.specs.declared.cell.OwnedField.{OwnedField}
 use Rattle.dr_route.specs.declared.cell.OwnedField.TheVariants.{Literal, Rest}
 use Rattle.dr_route.specs.declared.cell.OwnedCell.{OwnedCell}
 use Rattle.dr_sound.specs.declared.certificate.Stop.{Stop}
-use Rattle.dr_sound.specs.declared.certificate.Line.{Line}
-use Rattle.dr_cert.specs.Conditions.{HasALine}
 use Rattle.dr_cert.specs.Indexing.{HasNoLine, StandsAt}
 use Rattle.dr_site.specs.Parts.{Part}
 use Rattle.dr_site.specs.Routing.{HasLineFor}

@@ -5,7 +5,9 @@ ghost use Rattle.dr_site.specs.Routing.{HasLineFor, SendsFrom, KeepsAt};
 ghost use Rattle.dr_site.specs.Parts.{Part, IsPartOf};
 ghost use Rattle.dr_site.specs.Sites.{IsSealed, IsSite, IsSiteOf};
 
-use crate::copies::{copy_accepts, copy_flows, copy_hops, copy_lines, copy_literals, copy_name, copy_rules};
+use crate::copies::{
+    copy_accepts, copy_flows, copy_hops, copy_lines, copy_literals, copy_name, copy_rules,
+};
 use crate::rows::{flows_at, hops_from, lines_of};
 use dr_base::{Seq, Text};
 use dr_cert::index::{find, index_of};
@@ -167,7 +169,9 @@ impl Site {
     {
         let modality = field_of(&self.literals.modalities, &key.modality);
         let station = field_of(&self.literals.stations, &key.station);
-        let stop = Place::new(caller, &self.name, &key.class, key.syntax, modality, station);
+        let stop = Place::new(
+            caller, &self.name, &key.class, key.syntax, modality, station,
+        );
         let Some(_) = find(self.lines.as_slice(), &stop) else {
             return false;
         };
@@ -177,12 +181,7 @@ impl Site {
     /// What the node does with the key that it has from the caller: the nodes that it sends it to, in byte order
     /// and each once, and whether it keeps it. What enters at the node itself has the caller `-`; it goes by the
     /// node's flows and isn't kept.
-    pub fn targets(
-        &self,
-        alloc: Global,
-        caller: &Text,
-        key: &Key,
-    ) -> Result<Targets, AllocError>
+    pub fn targets(&self, alloc: Global, caller: &Text, key: &Key) -> Result<Targets, AllocError>
         ensures to { IfOk result (λ t. (to : Words) → Contains t.to to ↔ SendsFrom self.now caller.now key.now to) }
         ensures ordered { IfOk result (λ t. IsInByteOrder t.to) }
         ensures keep { IfOk result (λ t. IsTrue t.keep ↔ KeepsAt self.now caller.now key.now) }

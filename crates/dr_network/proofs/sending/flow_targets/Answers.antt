@@ -1,4 +1,4 @@
-use Rattle.std.proofs.Common.{◌≡◌, ◌+◌, refl, ◌∙◌, ◌∷◌, [], ◌++◌, take, arith}
+use Rattle.std.proofs.Common.{◌≡◌, ◌+◌, refl, ◌∷◌, [], ◌++◌, take, arith}
 use Rattle.std.proofs.lemmas.Bool.{false≢true}
 use Rattle.std.proofs.lemmas.List.{take_more, take_all}
 use Rattle.dr_route.specs.Names.{HasName}

@@ -1,26 +1,19 @@
-use Rattle.std.proofs.Common.{◌≡◌, ℕ, refl, sym, ◌∙◌, ap, subst, List}
-use Rattle.std.specs.Prelude.{filter}
-use Rattle.dr_base.specs.Texts.{Text}
-use Rattle.dr_route.specs.declared.rule.Rule.{Rule}
-use Rattle.dr_route.specs.declared.accept.AcceptRow.{AcceptRow}
-use Rattle.dr_route.specs.declared.cell.Literals.{Literals}
-use Rattle.dr_network.specs.declared.plan.Flow.{Flow}
-use Rattle.dr_sound.specs.declared.certificate.Line.{Line}
-use Rattle.dr_sound.specs.declared.certificate.Hop.{Hop}
-use Rattle.dr_site.specs.Parts.{Part, IsPartOf}
+use Rattle.std.proofs.Common.{refl}
 use Rattle.dr_site.proofs.Assembled.{is_site, assembled}
 use Rattle.dr_site.proofs.site.Site.of_part.Goals as goal
 
 pub invariant_of-result : goal.invariant_of-result
 invariant_of-result c = is_site c.args.plan.now c.args.certificate.now _ c.requires
     (assembled c.args.plan.now c.args.certificate.now c.args.name.now c.in-Some.node.now c.in-Some.ensures _ _ _ _ _ _ _ _ _
-      c.in_ok-copy_name.ensures refl c.digest.ensures c.in_ok-rules.ensures c.in_ok-accepts.ensures
-      c.flows.ensures.same c.in_ok-flows.ensures c.as_slice.ensures c.in_ok-own.ensures c.as_slice-2.ensures.value c.in_ok-lines.ensures
-      c.as_slice-3.ensures c.in_ok-hops.ensures c.in_ok-literals.ensures.modalities c.in_ok-literals.ensures.stations)
+    c.in_ok-copy_name.ensures refl c.digest.ensures c.in_ok-rules.ensures c.in_ok-accepts.ensures
+    c.flows.ensures.same c.in_ok-flows.ensures c.as_slice.ensures c.in_ok-own.ensures c.as_slice-2.ensures.value c.in_ok-lines.ensures
+    c.as_slice-3.ensures c.in_ok-hops.ensures c.in_ok-literals.ensures.modalities c.in_ok-literals.ensures.stations)
 
 pub returns : goal.returns
-returns c = (c.in_ok-copy_name.ensures,
-    assembled c.args.plan.now c.args.certificate.now c.args.name.now c.in-Some.node.now c.in-Some.ensures _ _ _ _ _ _ _ _ _
+returns c = (
+  c.in_ok-copy_name.ensures,
+  assembled c.args.plan.now c.args.certificate.now c.args.name.now c.in-Some.node.now c.in-Some.ensures _ _ _ _ _ _ _ _ _
       c.in_ok-copy_name.ensures refl c.digest.ensures c.in_ok-rules.ensures c.in_ok-accepts.ensures
       c.flows.ensures.same c.in_ok-flows.ensures c.as_slice.ensures c.in_ok-own.ensures c.as_slice-2.ensures.value c.in_ok-lines.ensures
-      c.as_slice-3.ensures c.in_ok-hops.ensures c.in_ok-literals.ensures.modalities c.in_ok-literals.ensures.stations)
+      c.as_slice-3.ensures c.in_ok-hops.ensures c.in_ok-literals.ensures.modalities c.in_ok-literals.ensures.stations,
+)
