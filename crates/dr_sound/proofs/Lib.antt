@@ -1,4 +1,6 @@
 pub mod Hopping
+pub mod Listed
 pub mod Pigeons
 pub mod RankedLines
+pub mod Ranks
 pub mod TwoNodes

@@ -1,19 +1,18 @@
 -- The plans of two nodes: walks have one hop at most.
-use Rattle.std.proofs.Common.{◌≡◌, ◌≢◌, ℕ, zero, suc, ◌<◌, ◌≤◌, ◌⊎◌, inl, inr, refl, sym, ◌∙◌, ap, subst, List, [], ◌∷◌, length, get_or, Contains, true, arith}
-use Rattle.std.specs.Prelude.{All, AllPairs, codes}
+use Rattle.std.proofs.Common.{◌≡◌, ◌≢◌, ◌≤◌, ◌⊎◌, inl, inr, refl, sym, ◌∙◌, ap, subst, List, [], ◌∷◌, length, get_or, Contains, arith}
+use Rattle.std.specs.Prelude.{AllPairs}
 use Rattle.std.proofs.lemmas.List.Kept.{AllPairs-cons}
 use Rattle.std.proofs.lemmas.List.Elements.{All-nil, All-cons}
 use Rattle.dr_base.specs.Texts.{Text}
 use Rattle.dr_base.specs.declared.syntax.Syntax.{Syntax}
 use Rattle.dr_base.specs.declared.syntax.Syntax.TheVariants.{Explicit}
-use Rattle.dr_route.specs.Routes.{local, Holds, SendsBy, KeepsBy, AcceptsBy}
+use Rattle.dr_route.specs.Routes.{local, SendsBy, KeepsBy}
 use Rattle.dr_route.specs.declared.key.Key.{Key}
 use Rattle.dr_route.specs.declared.rule.Rule.{Rule}
 use Rattle.dr_network.specs.declared.plan.Node.{Node}
 use Rattle.dr_network.specs.declared.plan.Flow.{Flow}
-use Rattle.dr_network.specs.Networks.{Network}
 use Rattle.dr_network.specs.Plans.{IsNode}
-use Rattle.dr_network.specs.Walks.{Fits, Flows, Sends, Keeps, Accepts, IsWalk, places, last_place, IsEntry, IsReached, Goes, GoesOver}
+use Rattle.dr_network.specs.Walks.{Fits, Flows, Sends, Keeps, Accepts, IsWalk, places, last_place, IsEntry, IsReached, Goes}
 use Rattle.dr_network.proofs.Gathered.{only_one, nothing_in_nil, Contains-here, Contains-there, Contains-cons_cases}
 use Rattle.dr_sound.specs.Soundness.{IsSound}
 use Rattle.dr_sound.specs.Samples.{scanner, archive, image, keep_all, the_scanner, the_archive, the_flow, two_nodes}

@@ -1,11 +1,13 @@
 -- Laws of sound plans and certificates.
-use Rattle.std.specs.Prelude.{◌≤◌, ◌↔◌, List, Contains, length}
+use Rattle.std.specs.Prelude.{ℕ, ◌≤◌, ◌↔◌, List, Contains, length}
 use Rattle.dr_base.specs.Texts.{Text}
 use Rattle.dr_base.specs.declared.syntax.Syntax.{Syntax}
+use Rattle.dr_route.specs.declared.key.Key.{Key}
 use Rattle.dr_network.specs.Networks.{Network}
 use Rattle.dr_network.specs.Plans.{IsWellFormed}
+use Rattle.dr_network.specs.Walks.{IsReached}
 use Rattle.dr_sound.specs.declared.certificate.Line.{Line}
-use Rattle.dr_sound.specs.Soundness.{IsSound}
+use Rattle.dr_sound.specs.Soundness.{IsSound, IsRank}
 use Rattle.dr_sound.specs.Certificates.{HasLine, AreHopPairs}
 use Rattle.dr_sound.specs.HopPairs.{AreOverHop}
 use Rattle.dr_sound.specs.Ranked.{AreRanked}
@@ -23,3 +25,7 @@ ShownPairsAreTheHops = (plan : Network) → IsWellFormed plan → (lines : List 
 abbrev pub RankedLinesAreSound : Type 0
 RankedLinesAreSound = (plan : Network) → IsWellFormed plan → (lines : List Line) → AreRanked plan lines →
     ((from to : Text) → (pairs : List (Text × Syntax)) × AreOverHop lines from to pairs × (length pairs ≤ 128)) → IsSound plan
+
+-- each place that a key comes to in a sound plan has a rank
+abbrev pub SoundPlansHaveRanks : Type 0
+SoundPlansHaveRanks = (plan : Network) → IsSound plan → (key : Key) (caller name : Text) → IsReached plan key caller name → (rank : ℕ) × IsRank plan key caller name rank

@@ -1,5 +1,5 @@
 //! Laws of sound plans.
-ghost use Rattle.dr_sound.specs.Laws.{RankedLinesAreTheLines, ShownPairsAreTheHops, RankedLinesAreSound};
+ghost use Rattle.dr_sound.specs.Laws.{RankedLinesAreTheLines, ShownPairsAreTheHops, RankedLinesAreSound, SoundPlansHaveRanks};
 ghost use Rattle.dr_sound.specs.Samples.{TwoNodesAreSound, WithoutKeepTheyAreNot};
 
 /// Lines that are right one by one are exactly the plan's lines, and their ranks are the greatest.
@@ -12,6 +12,11 @@ pub fn ranked_lines_are_the_lines()
 pub fn ranked_lines_make_a_sound_plan()
     ensures pairs { ShownPairsAreTheHops }
     ensures sound { RankedLinesAreSound }
+{}
+
+/// In a sound plan each place that a key comes to has a rank, so its walks end.
+pub fn sound_plans_have_ranks()
+    ensures { SoundPlansHaveRanks }
 {}
 
 /// The sample plan of two nodes is sound: instances enter at a scanner, and the archive keeps them.
