@@ -4,3 +4,4 @@ pub mod Marks
 pub mod Following
 pub mod Looking
 pub mod Walked
+pub mod Findings

@@ -29,7 +29,7 @@ IsMarked lines reached stop = (place : ℕ) × Contains reached place × StandsA
 -- The walker marks the places that it has reached, each once, and a walk comes to the stop of each of them.
 pub record IsWalking (w : Walker) : Type 0 where
   pub formed : IsWellFormed w.plan.now
-  pub local_caller : w.local ≡ local
+  pub local_caller : w.local.now ≡ local
   pub sorted : AreSorted w.lines.now
   pub long : length w.marks.items ≡ length w.lines.now
   pub marked : (place : ℕ) → (slice_get w.marks.items place ≡ Some true) ↔ Contains w.reached.items place

@@ -23,7 +23,7 @@ pub struct Walker<'a> {
     pub alloc: Global,
     pub plan: &'a Plan,
     pub lines: &'a [Line],
-    pub local: Text,
+    pub local: &'a Text,
     pub marks: Vec<bool>,
     pub reached: Vec<usize>,
 }
