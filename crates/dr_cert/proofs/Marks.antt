@@ -60,7 +60,7 @@ marked_now old new stop place walking come at unmarked plan lines local_caller m
     let same_lines : new.lines.now ≡ old.lines.now = ap (λ p. p.now) lines in (
       record {
         formed = (let P : Network → Type 0 = λ p. IsWellFormed p in subst P (sym same_plan) walking.formed);
-        local_caller = local_caller ∙ walking.local_caller;
+        local_caller = ap (λ t. t.now) local_caller ∙ walking.local_caller;
         sorted = (let P : List Line → Type 0 = λ ls. AreSorted ls in subst P (sym same_lines) walking.sorted);
         long = ap (λ (bs : List Bool). length bs) marks ∙ (length-set old.marks.items place true ∙ (n ∙ ap (λ (ls : List Line). length ls) (sym same_lines)));
         marked = λ p.

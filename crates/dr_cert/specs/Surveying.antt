@@ -22,6 +22,12 @@ pub record IsRankedAmong (plan : Network) (lines : List Line) (line : Line) : Ty
   pub lower : (to : Text) → SendsOn plan line.stop to → (s : ℕ) × Contains lines (line_at line.stop.node to line.stop.cell s) × (s < line.rank)
   pub next : (line.rank ≡ 0) ⊎ ((to : Text) × (s : ℕ) × SendsOn plan line.stop to × Contains lines (line_at line.stop.node to line.stop.cell s) × (line.rank ≡ s + 1))
 
+-- the survey says of the one line what is right
+pub record IsSightOf (plan : Network) (lines : List Line) (line : Line) (survey : Survey) : Type 0 where
+  pub accepted : IsTrue survey.accepted ↔ IsLetIn plan line
+  pub goes_on : IsTrue survey.goes_on ↔ IsGoingOn plan line
+  pub ranked : IsTrue survey.ranked ↔ IsRankedAmong plan lines line
+
 -- the lines at the places are such
 abbrev pub EachAt : List Line → List ℕ → (Line → Type 0) → Type 0
 EachAt lines places P = (place : ℕ) (line : Line) → Contains places place → slice_get lines place ≡ Some line → P line
