@@ -5,3 +5,5 @@ pub mod Following
 pub mod Looking
 pub mod Walked
 pub mod Findings
+pub mod Visiting
+pub mod Walks

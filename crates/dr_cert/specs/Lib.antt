@@ -1,4 +1,5 @@
 pub mod Conditions
+pub mod Finding
 pub mod Indexing
 pub mod Refusing
 pub mod Surveying

@@ -6,6 +6,7 @@ pub mod fault;
 pub mod index;
 pub mod place;
 pub mod survey;
+pub mod walk;
 pub mod walker;
 
 pub use fault::CertFault;
