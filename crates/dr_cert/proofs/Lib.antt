@@ -7,3 +7,6 @@ pub mod Walked
 pub mod Findings
 pub mod Visiting
 pub mod Walks
+pub mod HopLists
+pub mod Verified
+pub mod Ranking
