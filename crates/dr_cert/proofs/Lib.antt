@@ -10,3 +10,4 @@ pub mod Walks
 pub mod HopLists
 pub mod Verified
 pub mod Ranking
+pub mod Faultless

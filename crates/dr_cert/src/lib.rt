@@ -5,6 +5,7 @@
 pub mod fault;
 pub mod hop_list;
 pub mod index;
+pub mod laws;
 pub mod place;
 pub mod sealed;
 pub mod survey;
