@@ -33,7 +33,7 @@ use Rattle.dr_cert.proofs.Looking.{one_place, one_rank_there, stands_of}
 -- ---- right ranks are right among the others
 module _ (plan : Network) (formed : IsWellFormed plan) (lines : List Line) (right : HasRightRanks plan lines) where
   -- the rank of a line is that of each key of its cell
-  rank_for : (line : Line) → Contains lines line → (key : Key) → LiesIn plan line.stop.cell key → IsRank plan key line.stop.caller line.stop.node line.rank
+  pub rank_for : (line : Line) → Contains lines line → (key : Key) → LiesIn plan line.stop.cell key → IsRank plan key line.stop.caller line.stop.node line.rank
   rank_for line among key lies =
       let has = right line among in
       let cell : OwnedCell = line.stop.cell in

@@ -5,3 +5,9 @@ pub mod Following
 pub mod Looking
 pub mod Walked
 pub mod Findings
+pub mod Visiting
+pub mod Walks
+pub mod HopLists
+pub mod Verified
+pub mod Ranking
+pub mod Faultless

@@ -26,6 +26,10 @@ pub record IsIndexOf (lines index : List Line) : Type 0 where
 abbrev pub StandsAt : List Line → Stop → ℕ → Type 0
 StandsAt lines stop place = (line : Line) × (slice_get lines place ≡ Some line) × (line.stop ≡ stop)
 
+-- some line has the stop with the rank
+abbrev pub HasRank : List Line → Stop → ℕ → Type 0
+HasRank lines stop rank = Contains lines (record { stop = stop; rank = rank })
+
 -- no line has the stop
 abbrev pub HasNoLine : List Line → Stop → Type 0
 HasNoLine lines stop = HasALine lines stop → ⊥

@@ -1,7 +1,10 @@
 -- Why a plan and a certificate are refused: the first condition that fails.
-use Rattle.std.specs.Prelude.{◌⊎◌}
+use Rattle.std.specs.Prelude.{◌≡◌, ◌⊎◌, Result, Ok, Err}
 use Rattle.dr_network.specs.Networks.{Network}
 use Rattle.dr_sound.specs.declared.certificate.Certificate.{Certificate}
+use Rattle.dr_sound.specs.Soundness.{IsSound}
+use Rattle.dr_sound.specs.Certificates.{IsCertificateOf}
+use Rattle.dr_cert.specs.Sealing.{Certified}
 use Rattle.dr_cert_text.specs.declared.fault.ReadFault.{ReadFault}
 use Rattle.dr_cert_text.specs.declared.fault.ReadFault.TheVariants as read
 use Rattle.dr_cert.specs.declared.fault.CertFault.{CertFault}
@@ -29,3 +32,8 @@ IsRefused plan certificate Memory = Unit {0}
 abbrev pub named_for : ReadFault → CertFault
 named_for read.Text = Text
 named_for read.Memory = Memory
+
+-- yes to a sound plan with its certificate, which are kept as they are; else the first condition that fails
+abbrev pub Seals : Network → Certificate → Result Certified CertFault → Type 0
+Seals plan certificate (Ok sealed) = (sealed ≡ record { plan = plan; certificate = certificate }) × IsSound plan × IsCertificateOf plan certificate
+Seals plan certificate (Err fault) = IsRefused plan certificate fault

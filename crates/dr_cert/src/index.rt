@@ -2,7 +2,7 @@
 ghost use Rattle.std.specs.Prelude.{◌≡◌, IfOk, MatchOption, map};
 ghost use Rattle.std.specs.BTreeMap.{keys};
 ghost use Rattle.std.specs.List.Sorted.{IsStrictlySortedBy};
-ghost use Rattle.dr_cert.specs.Indexing.{IsIndexOf, AreSorted, StandsAt, HasNoLine, AreRanksOf, line_of, stop_cmp};
+ghost use Rattle.dr_cert.specs.Indexing.{IsIndexOf, AreSorted, StandsAt, HasNoLine, HasRank, AreRanksOf, line_of, stop_cmp};
 
 use crate::place::Place;
 use dr_sound::{Line, Stop};
@@ -18,6 +18,17 @@ pub fn find(lines: &[Line], stop: &Place<'_>) -> Option<usize>
         Ok(place) => Some(place),
         Err(_) => None,
     }
+}
+
+/// The rank of the stop's line.
+pub fn rank_of(lines: &[Line], stop: &Place<'_>) -> Option<u32>
+    requires { AreSorted lines.now }
+    ensures { MatchOption result (HasNoLine lines.now stop.now) (HasRank lines.now stop.now) }
+{
+    let Some(place) = find(lines, stop) else {
+        return None;
+    };
+    Some(lines[place].rank)
 }
 
 /// A copy of the stop.

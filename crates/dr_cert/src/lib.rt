@@ -3,9 +3,15 @@
 #![tactic(auto)]
 
 pub mod fault;
+pub mod hop_list;
 pub mod index;
+pub mod laws;
 pub mod place;
+pub mod sealed;
 pub mod survey;
+pub mod verify;
+pub mod walk;
 pub mod walker;
 
 pub use fault::CertFault;
+pub use sealed::Sealed;
