@@ -86,6 +86,17 @@ fn each_fault_alone(rt: HostRuntime) -> Result<(), Fail> {
                 "address = \"127.0.0.1:11103\"\nmax_pdu = 1",
                 Some(PlanFault::Limit),
             ),
+        ],
+    )?;
+    assert_eq!(rt; fault_of(rt.alloc(), b"# \xFF"), Some(PlanFault::NotToml));
+    Ok(())
+}
+
+#[test]
+fn routes_go_to_other_nodes(rt: HostRuntime) -> Result<(), Fail> {
+    each_case(
+        &rt,
+        &[
             (
                 "to = [\"ARCH\"]",
                 "to = [\"NONE\"]",
@@ -118,9 +129,7 @@ fn each_fault_alone(rt: HostRuntime) -> Result<(), Fail> {
             ),
             ("to = \"GATE\"", "to = \"CT1\"", Some(PlanFault::SelfRoute)),
         ],
-    )?;
-    assert_eq!(rt; fault_of(rt.alloc(), b"# \xFF"), Some(PlanFault::NotToml));
-    Ok(())
+    )
 }
 
 /// Two faults that are neighbours in the order of the tests, the later one first in the text.
@@ -221,7 +230,7 @@ fn names_and_rules_at_their_limits(rt: HostRuntime) -> Result<(), Fail> {
 }
 
 #[test]
-fn nodes_and_flows_at_their_limits(rt: HostRuntime) -> Result<(), Fail> {
+fn flows_at_their_limits(rt: HostRuntime) -> Result<(), Fail> {
     each_case(
         &rt,
         &[
@@ -259,6 +268,15 @@ fn nodes_and_flows_at_their_limits(rt: HostRuntime) -> Result<(), Fail> {
                 "class = [\"1\", \"1\"]",
                 None,
             ),
+        ],
+    )
+}
+
+#[test]
+fn lengths_of_pdus_at_their_limits(rt: HostRuntime) -> Result<(), Fail> {
+    each_case(
+        &rt,
+        &[
             (":11103\"", ":11103\"\nmax_pdu = 0", None),
             (
                 ":11103\"",
@@ -293,6 +311,15 @@ fn nodes_and_flows_at_their_limits(rt: HostRuntime) -> Result<(), Fail> {
                 ":11103\"\nmax_pdu = 1024.0",
                 Some(PlanFault::Field),
             ),
+        ],
+    )
+}
+
+#[test]
+fn addresses_have_a_port(rt: HostRuntime) -> Result<(), Fail> {
+    each_case(
+        &rt,
+        &[
             ("127.0.0.1:11103", "[::1]:65535", None),
             ("127.0.0.1:11103", "h:00001", None),
             ("127.0.0.1:11103", "h:65536", Some(PlanFault::Field)),
@@ -302,6 +329,15 @@ fn nodes_and_flows_at_their_limits(rt: HostRuntime) -> Result<(), Fail> {
             ("127.0.0.1:11103", "h", Some(PlanFault::Field)),
             ("127.0.0.1:11103", "h:1a", Some(PlanFault::Field)),
             ("127.0.0.1:11103", "h h:1", Some(PlanFault::Field)),
+        ],
+    )
+}
+
+#[test]
+fn the_format_is_1(rt: HostRuntime) -> Result<(), Fail> {
+    each_case(
+        &rt,
+        &[
             (
                 "[[node]]\nname = \"CT1\"",
                 "format = 1\n[[node]]\nname = \"CT1\"",
@@ -323,6 +359,15 @@ fn nodes_and_flows_at_their_limits(rt: HostRuntime) -> Result<(), Fail> {
                 Some(PlanFault::Field),
             ),
             ("name = \"CT1\"", "", Some(PlanFault::Field)),
+        ],
+    )
+}
+
+#[test]
+fn syntaxes_and_callers_are_lists(rt: HostRuntime) -> Result<(), Fail> {
+    each_case(
+        &rt,
+        &[
             (
                 "syntax = [\"1.2.840.10008.1.2.1\"]",
                 "syntax = [\"1.2.840.10008.1.2\", \"1.2.840.10008.1.2.1\"]",
