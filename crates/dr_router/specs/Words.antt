@@ -7,14 +7,14 @@ abbrev pub IsPlainCheck : List (Bor (List ℕ)) → Type 0
 IsPlainCheck words = (words ≡ []) ⊎ ((word : Bor (List ℕ)) × (words ≡ word ∷ []) × (word.now ≡ codes "check"))
 
 -- a word that doesn't begin with a hyphen is no option
-abbrev pub IsNoOption : Bor (List ℕ) → Type 0
-IsNoOption word = (rest : List ℕ) → word.now ≢ 45 ∷ rest
+abbrev pub IsNoOption : List ℕ → Type 0
+IsNoOption word = (rest : List ℕ) → word ≢ 45 ∷ rest
 
 -- the word check and a file's path: they ask for a check of the plan in that file
 abbrev pub IsCheckOf : List (Bor (List ℕ)) → Bor (List ℕ) → Type 0
-IsCheckOf words plan = (word : Bor (List ℕ)) × (words ≡ word ∷ plan ∷ []) × (word.now ≡ codes "check") × IsNoOption plan
+IsCheckOf words plan = (word : Bor (List ℕ)) × (words ≡ word ∷ plan ∷ []) × (word.now ≡ codes "check") × IsNoOption plan.now
 
 -- the word verify and two files' paths: they ask for a verification of the certificate in the second for the plan in the first
 abbrev pub IsVerifyOf : List (Bor (List ℕ)) → Bor (List ℕ) → Bor (List ℕ) → Type 0
 IsVerifyOf words plan certificate =
-    (word : Bor (List ℕ)) × (words ≡ word ∷ plan ∷ certificate ∷ []) × (word.now ≡ codes "verify") × IsNoOption plan × IsNoOption certificate
+    (word : Bor (List ℕ)) × (words ≡ word ∷ plan ∷ certificate ∷ []) × (word.now ≡ codes "verify") × IsNoOption plan.now × IsNoOption certificate.now

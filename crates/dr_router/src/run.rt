@@ -7,6 +7,7 @@ ghost use Rattle.dr_router.specs.Answers.{printed_for};
 ghost use Rattle.dr_router.specs.Verdicts.{verdict_line};
 ghost use Rattle.dr_router.specs.Runs.{Answers, Verifies};
 ghost use Rattle.dr_router.specs.Words.{IsPlainCheck, IsCheckOf, IsVerifyOf};
+ghost use Rattle.dr_router.specs.declared.words.Asked.TheVariants as asks;
 ghost use Rattle.dr_router.specs.declared.status.Status.TheVariants.{Success, Refused, Usage, InputOutput, Memory};
 
 use crate::answer::{Answer, answer_to};
@@ -178,6 +179,32 @@ fn tell_failure<E: Write>(error: &io::Error, faults: &mut E) -> Status
     Status::InputOutput
 }
 
+/// Does what was asked for.
+fn run_asked<R: Read, W: Write, E: Write, F: Files>(
+    alloc: Global,
+    asked: Asked<'_>,
+    input: &mut R,
+    output: &mut W,
+    faults: &mut E,
+    files: &F,
+) -> io::Result<Status>
+    ensures known { asked.entry ≡ asks.CheckInput → IfOk result (λ status. status ≢ Usage) }
+    ensures answered { asked.entry ≡ asks.CheckInput → IfOk result (λ status. IfSome (R.remaining input.old) (λ text. Answers text (W.contents output.old) (W.contents output.new) status)) }
+    ensures checked { (plan : Bor (List ℕ)) → asked.entry ≡ asks.CheckFile plan
+        → IfOk result (λ status. (text : Text) × F.holds files.now plan.now text × Answers text (W.contents output.old) (W.contents output.new) status) }
+    ensures verified { (plan certificate : Bor (List ℕ)) → asked.entry ≡ asks.Verify plan certificate
+        → IfOk result (λ status. (text : Text) × F.holds files.now plan.now text × Verifies (F.holds files.now certificate.now) text (W.contents output.old) (W.contents output.new) status) }
+{
+    match asked {
+        Asked::CheckInput => answer_input(alloc, input, output, faults),
+        Asked::CheckFile(path) => answer_file(alloc, files, path, output, faults),
+        Asked::Verify(plan, certificate) => {
+            verify_files(alloc, files, plan, certificate, output, faults)
+        }
+        Asked::Told(error) => tell_words(&error, output, faults),
+    }
+}
+
 /// Runs the program on the words of its command line, without the program's own name, and answers how it ends.
 pub fn run_words<R: Read, W: Write, E: Write, F: Files>(
     alloc: Global,
@@ -195,16 +222,11 @@ pub fn run_words<R: Read, W: Write, E: Write, F: Files>(
     ensures verified { (plan certificate : Bor (List ℕ)) → IsVerifyOf words.now plan certificate → (result ≡ Success) ⊎ (result ≡ Refused)
         → (text : Text) × F.holds files.now plan.now text × Verifies (F.holds files.now certificate.now) text (W.contents output.old) (W.contents output.new) result }
 {
-    let told = match read_words(alloc, words) {
-        Ok(Asked::CheckInput) => answer_input(alloc, input, output, faults),
-        Ok(Asked::CheckFile(path)) => answer_file(alloc, files, path, output, faults),
-        Ok(Asked::Verify(plan, certificate)) => {
-            verify_files(alloc, files, plan, certificate, output, faults)
-        }
-        Ok(Asked::Told(error)) => tell_words(&error, output, faults),
-        Err(AllocError) => Err(io::Error::from(AllocError)),
+    let asked = match read_words(alloc, words) {
+        Ok(asked) => asked,
+        Err(AllocError) => return tell_failure(&io::Error::from(AllocError), faults),
     };
-    match told {
+    match run_asked(alloc, asked, input, output, faults, files) {
         Ok(status) => status,
         Err(error) => tell_failure(&error, faults),
     }

@@ -3,7 +3,7 @@ ghost use Rattle.std.specs.Prelude.{◌≡◌, ◌↔◌, ℕ, List, Some, IfOk,
 ghost use Rattle.std.specs.Borrow.{Bor};
 ghost use Rattle.dr_router.specs.Words.{IsPlainCheck, IsCheckOf, IsVerifyOf, IsNoOption};
 ghost use Rattle.dr_router.specs.declared.words.Asked.{Asked as AskedValue};
-ghost use Rattle.dr_router.specs.declared.words.Asked.TheVariants as asked;
+ghost use Rattle.dr_router.specs.declared.words.Asked.TheVariants as asks;
 
 use clap::{Arg, ArgAction, Command, Error};
 use std::alloc::{AllocError, Global};
@@ -23,16 +23,19 @@ pub enum Asked<'a> {
 
 /// Whether the word is no option of the command line.
 fn is_no_option(word: &str) -> bool
-    ensures { IsTrue result ↔ IsNoOption word }
+    ensures { IsTrue result ↔ IsNoOption word.now }
 {
-    word.as_bytes().first() != Some(&b'-')
+    let Some(first) = word.as_bytes().first() else {
+        return true;
+    };
+    *first != b'-'
 }
 
 /// What plain words ask for: those of a known form, without options.
 fn read_plain<'a>(words: &'a [&'a str]) -> Option<Asked<'a>>
-    ensures input { IsPlainCheck words.now → result ≡ Some asked.CheckInput }
-    ensures file { (plan : Bor (List ℕ)) → IsCheckOf words.now plan → result ≡ Some (asked.CheckFile plan) }
-    ensures verify { (plan certificate : Bor (List ℕ)) → IsVerifyOf words.now plan certificate → result ≡ Some (asked.Verify plan certificate) }
+    ensures input { IsPlainCheck words.now → result ≡ Some asks.CheckInput }
+    ensures file { (plan : Bor (List ℕ)) → IsCheckOf words.now plan → result ≡ Some (asks.CheckFile plan) }
+    ensures verify { (plan certificate : Bor (List ℕ)) → IsVerifyOf words.now plan certificate → result ≡ Some (asks.Verify plan certificate) }
 {
     match words {
         [] => Some(Asked::CheckInput),
@@ -96,12 +99,13 @@ fn read_others<'a>(alloc: Global, words: &'a [&'a str]) -> Result<Asked<'a>, All
 
 /// What the words ask for.
 pub fn read_words<'a>(alloc: Global, words: &'a [&'a str]) -> Result<Asked<'a>, AllocError>
-    ensures input { IfOk result (λ a. IsPlainCheck words.now → a ≡ asked.CheckInput) }
-    ensures file { IfOk result (λ a. (plan : Bor (List ℕ)) → IsCheckOf words.now plan → a ≡ asked.CheckFile plan) }
-    ensures verify { IfOk result (λ a. (plan certificate : Bor (List ℕ)) → IsVerifyOf words.now plan certificate → a ≡ asked.Verify plan certificate) }
+    ensures input { IfOk result (λ a. IsPlainCheck words.now → a ≡ asks.CheckInput) }
+    ensures file { IfOk result (λ a. (plan : Bor (List ℕ)) → IsCheckOf words.now plan → a ≡ asks.CheckFile plan) }
+    ensures verify { IfOk result (λ a. (plan certificate : Bor (List ℕ)) → IsVerifyOf words.now plan certificate → a ≡ asks.Verify plan certificate) }
 {
-    match read_plain(words) {
-        Some(asked) => Ok(asked),
-        None => read_others(alloc, words),
+    if let Some(asked) = read_plain(words) {
+        return Ok(asked);
     }
+    let others = read_others(alloc, words)?;
+    Ok(others)
 }

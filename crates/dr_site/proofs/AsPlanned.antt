@@ -25,7 +25,7 @@ use Rattle.dr_sound.specs.declared.certificate.Certificate.{Certificate}
 use Rattle.dr_sound.proofs.RankedLines.{some_cell}
 use Rattle.dr_sound.proofs.Ranks.{sound_has_rank}
 use Rattle.dr_site.specs.Parts.{Part, IsPartOf, AreItsLiterals, is_at, is_of}
-use Rattle.dr_site.specs.Sites.{IsSealed}
+use Rattle.dr_site.specs.Sites.{IsCertified}
 use Rattle.dr_site.specs.Routing.{HasLineFor, SendsFrom, KeepsAt}
 
 -- what a filter leaves
@@ -79,7 +79,7 @@ cell_back plan literals are cell key h = record {
   station = field_there (literals_of plan).stations literals.stations (swapped literals.stations.literals (literals_of plan).stations.literals are.stations) cell.station key.station h.station;
 }
 
-pub lines_as_planned : (plan : Network) (certificate : Certificate) (part : Part) → IsSealed plan certificate → IsPartOf plan certificate part →
+pub lines_as_planned : (plan : Network) (certificate : Certificate) (part : Part) → IsCertified plan certificate → IsPartOf plan certificate part →
     (caller : Text) (key : Key) → HasLineFor part caller key ↔ IsReached plan key caller part.name
 lines_as_planned plan certificate part sealed is caller key = (
   λ h.

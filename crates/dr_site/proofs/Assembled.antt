@@ -14,14 +14,13 @@ use Rattle.dr_sound.specs.declared.certificate.Hop.{Hop}
 use Rattle.dr_sound.specs.declared.certificate.Certificate.{Certificate}
 use Rattle.dr_cert.specs.Indexing.{IsIndexOf}
 use Rattle.dr_site.specs.Parts.{Part, IsPartOf, is_at, is_of, begins_at}
-use Rattle.dr_site.specs.Sites.{IsSealed, IsSite}
-use Rattle.std.proofs.Math.Logic.{∥∥₁_map}
+use Rattle.dr_site.specs.Sites.{IsCertified, IsSite}
 
 -- the type of sites keeps what it must
-pub is_site : (plan : Network) (certificate : Certificate) (part : Part) → ∥ IsSealed plan certificate ∥₁ → IsPartOf plan certificate part → IsSite part
+pub is_site : (plan : Network) (certificate : Certificate) (part : Part) → IsCertified plan certificate → IsPartOf plan certificate part → IsSite part
 is_site plan certificate part sealed is_part = record {
   sorted = is_part.lines.sorted;
-  some = ∥∥₁_map sealed (λ s. (plan, certificate, s, is_part));
+  some = (plan, certificate, sealed, is_part);
 }
 
 -- what each call gave makes the part

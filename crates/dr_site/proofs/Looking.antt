@@ -1,5 +1,5 @@
 -- The stop of a caller and a key, and the line that is found there.
-use Rattle.std.proofs.Common.{◌≡◌, ℕ, refl, sym, ◌∙◌, ap, subst, Contains}
+use Rattle.std.proofs.Common.{◌≡◌, ℕ, refl, sym, ◌∙◌, ap, subst, List, Contains}
 use Rattle.std.proofs.lemmas.Option.{slice_get_within, get_or_from_slice_get}
 use Rattle.dr_base.specs.Texts.{Text}
 use Rattle.dr_base.specs.declared.syntax.Syntax.{Syntax}
@@ -11,6 +11,7 @@ use Rattle.dr_route.specs.declared.cell.OwnedField.{OwnedField}
 use Rattle.dr_route.specs.declared.cell.OwnedField.TheVariants.{Literal, Rest}
 use Rattle.dr_route.specs.declared.cell.OwnedCell.{OwnedCell}
 use Rattle.dr_sound.specs.declared.certificate.Stop.{Stop}
+use Rattle.dr_sound.specs.declared.certificate.Line.{Line}
 use Rattle.dr_cert.specs.Indexing.{HasNoLine, StandsAt}
 use Rattle.dr_site.specs.Parts.{Part}
 use Rattle.dr_site.specs.Routing.{HasLineFor}
@@ -62,3 +63,20 @@ module _ (part : Part) (caller : Text) (key : Key) (modality station : OwnedFiel
       ∙ (ap (λ (n : Text). stop_at caller n line.stop.cell) has.3 ∙ ap (λ (c : OwnedCell). stop_at caller part.name c) (one_cell part.literals key line.stop.cell cell has.4 in_cell)) in
       let P : Stop → Type 0 = λ s. Contains part.lines (record { stop = s; rank = line.rank }) in
       none (line.rank, subst P same has.1)
+
+-- the same of lines and of a stop that are equal to these
+pub found_by : (part : Part) (caller : Text) (key : Key) (modality station : OwnedField) → InField part.literals.modalities modality key.modality →
+    InField part.literals.stations station key.station → (lines : List Line) (stop : Stop) → lines ≡ part.lines →
+    stop ≡ stop_at caller part.name (cell_at key.class key.syntax modality station) → (place : ℕ) → StandsAt lines stop place → HasLineFor part caller key
+found_by part caller key modality station lies stands lines stop same_lines same_stop place at =
+    let P : List Line → Type 0 = λ ls. StandsAt ls stop place in
+    let Q : Stop → Type 0 = λ s. StandsAt part.lines s place in
+    found part caller key modality station lies stands place (subst Q same_stop (subst P same_lines at))
+
+pub not_found_by : (part : Part) (caller : Text) (key : Key) (modality station : OwnedField) → InField part.literals.modalities modality key.modality →
+    InField part.literals.stations station key.station → (lines : List Line) (stop : Stop) → lines ≡ part.lines →
+    stop ≡ stop_at caller part.name (cell_at key.class key.syntax modality station) → HasNoLine lines stop → HasLineFor part caller key → ⊥
+not_found_by part caller key modality station lies stands lines stop same_lines same_stop none =
+    let P : List Line → Type 0 = λ ls. HasNoLine ls stop in
+    let Q : Stop → Type 0 = λ s. HasNoLine part.lines s in
+    not_found part caller key modality station lies stands (subst Q same_stop (subst P same_lines none))

@@ -9,7 +9,7 @@ use Rattle.dr_network.specs.Walks.{FlowsAmong, Sends, Keeps, IsReached}
 use Rattle.dr_sound.specs.declared.certificate.Line.{Line}
 use Rattle.dr_sound.specs.declared.certificate.Certificate.{Certificate}
 use Rattle.dr_site.specs.Parts.{Part, IsPartOf}
-use Rattle.dr_site.specs.Sites.{IsSealed}
+use Rattle.dr_site.specs.Sites.{IsCertified}
 
 -- the site has a line for the caller and the key's cell
 abbrev pub HasLineFor : Part → Text → Key → Type 0
@@ -26,7 +26,7 @@ KeepsAt part caller key = KeepsBy part.rules caller key
 
 -- a site has a line just where a key comes to its node from the caller
 abbrev pub LinesAreAsPlanned : Type 0
-LinesAreAsPlanned = (plan : Network) (certificate : Certificate) (part : Part) → IsSealed plan certificate → IsPartOf plan certificate part →
+LinesAreAsPlanned = (plan : Network) (certificate : Certificate) (part : Part) → IsCertified plan certificate → IsPartOf plan certificate part →
     (caller : Text) (key : Key) → HasLineFor part caller key ↔ IsReached plan key caller part.name
 
 -- it sends a key where its node does

@@ -12,19 +12,19 @@ use Rattle.dr_site.specs.declared.site.SiteFault.TheVariants.{NoNode, Memory}
 use Rattle.dr_site.specs.Parts.{Part, IsPartOf}
 
 -- a sound plan with its certificate
-pub record IsSealed (plan : Network) (certificate : Certificate) : Type 0 where
+pub record IsCertified (plan : Network) (certificate : Certificate) : Type 0 where
   pub formed : IsWellFormed plan
   pub sound : IsSound plan
   pub certified : IsCertificateOf plan certificate
 
 -- the part of a sound plan and its certificate
 abbrev pub IsPartOfSome : Part → Type 0
-IsPartOfSome part = (plan : Network) × (certificate : Certificate) × IsSealed plan certificate × IsPartOf plan certificate part
+IsPartOfSome part = (plan : Network) × (certificate : Certificate) × IsCertified plan certificate × IsPartOf plan certificate part
 
 -- what the type of sites keeps
 pub record IsSite (part : Part) : Type 0 where
   pub sorted : AreSorted part.lines
-  pub some : ∥ IsPartOfSome part ∥₁
+  pub some : IsPartOfSome part
 
 -- the site of the node of that name, or no node has it
 abbrev pub IsSiteOf : Network → Certificate → Text → Result Part SiteFault → Type 0

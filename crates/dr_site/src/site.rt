@@ -3,7 +3,7 @@ ghost use Rattle.std.specs.Prelude.{◌≡◌, ◌↔◌, IfOk, IsTrue, Contains
 ghost use Rattle.dr_base.specs.Texts.{Text as Words, IsInByteOrder};
 ghost use Rattle.dr_site.specs.Routing.{HasLineFor, SendsFrom, KeepsAt};
 ghost use Rattle.dr_site.specs.Parts.{Part, IsPartOf};
-ghost use Rattle.dr_site.specs.Sites.{IsSealed, IsSite, IsSiteOf};
+ghost use Rattle.dr_site.specs.Sites.{IsCertified, IsSite, IsSiteOf};
 
 use crate::copies::{
     copy_accepts, copy_flows, copy_hops, copy_lines, copy_literals, copy_name, copy_rules,
@@ -12,6 +12,7 @@ use crate::rows::{flows_at, hops_from, lines_of};
 use dr_base::{Seq, Text};
 use dr_cert::index::{find, index_of};
 use dr_cert::place::Place;
+use dr_cert::Sealed;
 use dr_network::literals::literals;
 use dr_network::sending::flow_targets;
 use dr_network::{Flow, Plan};
@@ -73,14 +74,23 @@ impl Model for Site {
 }
 
 impl Site {
-    /// The site of the node of that name. NoNode: the plan has no such node.
+    /// The site of the node of that name in a sealed plan.
+    ///
+    /// Errors: NoNode where the plan has no such node; Memory.
+    pub fn of(alloc: Global, sealed: &Sealed, name: &Text) -> Result<Site, SiteFault>
+        ensures { IsSiteOf sealed.now.plan sealed.now.certificate name.now result }
+    {
+        Site::of_part(alloc, sealed.plan(), sealed.certificate(), name)
+    }
+
+    /// The site of the node of that name, of a sound plan with its certificate.
     fn of_part(
         alloc: Global,
         plan: &Plan,
         certificate: &Certificate,
         name: &Text,
     ) -> Result<Site, SiteFault>
-        requires { ∥ IsSealed plan.now certificate.now ∥₁ }
+        requires { IsCertified plan.now certificate.now }
         ensures { IsSiteOf plan.now certificate.now name.now result }
     {
         let Some(node) = plan.node(name) else {
