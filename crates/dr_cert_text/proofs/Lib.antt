@@ -1,4 +1,5 @@
 pub mod CutRows
+pub mod Ascending
 pub mod Cuts
 pub mod Examples
 pub mod Injective

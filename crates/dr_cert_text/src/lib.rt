@@ -10,11 +10,13 @@ mod lines;
 pub mod order;
 mod printed;
 pub mod reader;
+pub mod sorted;
 pub mod writer;
 
 pub use fault::ReadFault;
 pub use order::{order_hops, order_lines};
 pub use reader::read_certificate;
+pub use sorted::{are_hops_in_order, are_lines_in_order};
 pub use writer::write_certificate;
 
 #[cfg(test)]

@@ -20,7 +20,7 @@ pub struct Node {
 }
 
 /// The values of one field that a flow speaks of.
-#[derive(Debug, Drop)]
+#[derive(Clone, Debug, Drop)]
 pub enum Values {
     /// Any value; it is written `*`.
     Any,
@@ -28,7 +28,7 @@ pub enum Values {
 }
 
 /// What enters at a node itself, and the node that it goes to first.
-#[derive(Debug, Drop)]
+#[derive(Clone, Debug, Drop)]
 pub struct Flow {
     pub at: Text,
     pub to: Text,

@@ -1,7 +1,7 @@
 //! What a node of a plan does with a key.
 ghost use Rattle.std.specs.Prelude.{◌≡◌, ◌↔◌, IsTrue, IfOk, OnOk, Contains};
 ghost use Rattle.dr_base.specs.Texts.{Text as Words, IsInByteOrder};
-ghost use Rattle.dr_network.specs.Walks.{Fits, IsListed, Flows, Sends, Keeps, Accepts};
+ghost use Rattle.dr_network.specs.Walks.{Fits, IsListed, FlowsAmong, Sends, Keeps, Accepts};
 
 use crate::plan::{Flow, Plan, Values};
 use dr_base::{Seq, Syntax, Text};
@@ -39,13 +39,18 @@ fn enters(flow: &Flow, site: &Text, key: &Key) -> bool
     flow.at == *site && fits(flow, key)
 }
 
-/// The nodes that the site's flows send the key to.
-fn flow_targets(alloc: Global, plan: &Plan, site: &Text, key: &Key) -> Result<Seq<Text>, AllocError>
-    ensures to { IfOk result (λ seq. (name : Words) → Contains seq name ↔ Flows plan.now site.now key.now name) }
+/// The nodes that those of the flows that are at the site send the key to, in byte order and each once.
+pub fn flow_targets(
+    alloc: Global,
+    flows: &[Flow],
+    site: &Text,
+    key: &Key,
+) -> Result<Seq<Text>, AllocError>
+    ensures to { IfOk result (λ seq. (name : Words) → Contains seq name ↔ FlowsAmong flows.now site.now key.now name) }
     ensures ordered { IfOk result IsInByteOrder }
 {
     let mut names = BTreeSet::new(alloc);
-    for flow in plan.flows() {
+    for flow in flows {
         if enters(flow, site, key) {
             add_names(&mut names, slice::from_ref(&flow.to))?;
         }
@@ -69,7 +74,7 @@ pub fn sends(
     ensures keep { IfOk result (λ t. IsTrue t.keep ↔ Keeps plan.now name.now caller.now key.now) }
 {
     if is_local(caller) {
-        let to = flow_targets(alloc, plan, name, key)?;
+        let to = flow_targets(alloc, plan.flows(), name, key)?;
         return Ok(Targets { to, keep: false });
     }
     let Some(node) = plan.node(name) else {

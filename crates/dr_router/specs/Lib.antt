@@ -2,4 +2,5 @@ pub mod Answers
 pub mod Faults
 pub mod Runs
 pub mod Statuses
+pub mod Verdicts
 pub mod Words

@@ -1,6 +1,20 @@
--- The words that ask for a check of the plan on the standard input: none, or the one word check.
-use Rattle.std.specs.Prelude.{◌≡◌, ℕ, List, [], ◌∷◌, ◌⊎◌, codes}
+-- The words of the command line.
+use Rattle.std.specs.Prelude.{◌≡◌, ◌≢◌, ℕ, List, [], ◌∷◌, ◌++◌, ◌⊎◌, codes}
 use Rattle.std.specs.Borrow.{Bor}
 
+-- none, or the one word check: they ask for a check of the plan on the standard input
 abbrev pub IsPlainCheck : List (Bor (List ℕ)) → Type 0
 IsPlainCheck words = (words ≡ []) ⊎ ((word : Bor (List ℕ)) × (words ≡ word ∷ []) × (word.now ≡ codes "check"))
+
+-- a word that doesn't begin with a hyphen is no option
+abbrev pub IsNoOption : List ℕ → Type 0
+IsNoOption word = (rest : List ℕ) → word ≢ 45 ∷ rest
+
+-- the word check and a file's path: they ask for a check of the plan in that file
+abbrev pub IsCheckOf : List (Bor (List ℕ)) → Bor (List ℕ) → Type 0
+IsCheckOf words plan = (word : Bor (List ℕ)) × (words ≡ word ∷ plan ∷ []) × (word.now ≡ codes "check") × IsNoOption plan.now
+
+-- the word verify and two files' paths: they ask for a verification of the certificate in the second for the plan in the first
+abbrev pub IsVerifyOf : List (Bor (List ℕ)) → Bor (List ℕ) → Bor (List ℕ) → Type 0
+IsVerifyOf words plan certificate =
+    (word : Bor (List ℕ)) × (words ≡ word ∷ plan ∷ certificate ∷ []) × (word.now ≡ codes "verify") × IsNoOption plan.now × IsNoOption certificate.now

@@ -1,4 +1,5 @@
-//! The program `dr_router`: checks a plan of a network, and prints its certificate or what is wrong with it.
+//! The program `dr_router`: checks a plan of a network, and prints its certificate or what is wrong with it; and
+//! verifies a certificate for a plan.
 #![tactic(auto)]
 
 mod answer;
@@ -7,6 +8,9 @@ mod run;
 mod status;
 #[cfg(test)]
 mod tests;
+#[cfg(test)]
+mod tests_verify;
+mod verify;
 mod words;
 
 use crate::run::{Files, run_words};
@@ -18,7 +22,10 @@ use std::{env, fs, io};
 #[derive(Drop)]
 struct Disk<'a>(&'a HostRuntime);
 
+/// What a file of the system holds isn't known to contracts.
 impl<'a> Files for Disk<'a> {
+    ghost holds = { λ disk path bytes. Unit {0} };
+
     fn read(&self, _alloc: Global, path: &str) -> io::Result<Vec<u8>> {
         fs::read(self.0, path)
     }

@@ -1,13 +1,18 @@
 //! A run of the program.
-ghost use Rattle.std.specs.Prelude.{◌≡◌, ◌≢◌, ◌⊎◌, IfOk, OnOk, IfSome};
+ghost use Rattle.std.specs.Prelude.{◌≡◌, ◌≢◌, ◌⊎◌, ℕ, List, IfOk, OnOk, IfSome};
+ghost use Rattle.std.specs.Borrow.{Bor};
+ghost use Rattle.dr_base.specs.Texts.{Text};
 ghost use Rattle.std.specs.Io.KnownBytes.{Appends};
 ghost use Rattle.dr_router.specs.Answers.{printed_for};
-ghost use Rattle.dr_router.specs.Runs.{Answers};
-ghost use Rattle.dr_router.specs.Words.{IsPlainCheck};
+ghost use Rattle.dr_router.specs.Verdicts.{verdict_line};
+ghost use Rattle.dr_router.specs.Runs.{Answers, Verifies};
+ghost use Rattle.dr_router.specs.Words.{IsPlainCheck, IsCheckOf, IsVerifyOf};
+ghost use Rattle.dr_router.specs.declared.words.Asked.TheVariants as asks;
 ghost use Rattle.dr_router.specs.declared.status.Status.TheVariants.{Success, Refused, Usage, InputOutput, Memory};
 
 use crate::answer::{Answer, answer_to};
 use crate::status::Status;
+use crate::verify::{Verdict, plan_of, verdict_on};
 use crate::words::{Asked, read_words};
 use clap::Error;
 use clap::error::ErrorKind;
@@ -17,8 +22,14 @@ use std::io::{Read, Write};
 
 /// What reads a named file.
 pub trait Files {
+    ghost use Rattle.std.specs.Prelude.{ℕ, List, IfOk};
+
+    /// A file of this path holds these bytes.
+    ghost holds: { Self → List ℕ → List ℕ → Type 0 };
+
     /// The bytes of the file.
-    fn read(&self, alloc: Global, path: &str) -> io::Result<Vec<u8>>;
+    fn read(&self, alloc: Global, path: &str) -> io::Result<Vec<u8>>
+        ensures { IfOk result (λ bytes. holds self.now path.now bytes.items) };
 }
 
 /// Writes the answer: a certificate or what is wrong with a plan to the output, and why there is neither to the
@@ -71,12 +82,69 @@ fn answer_input<R: Read, W: Write, E: Write>(
 /// Answers to the text of a plan in a file.
 fn answer_file<F: Files, W: Write, E: Write>(
     alloc: Global,
-    (files, path): (&F, &str),
+    files: &F,
+    path: &str,
     output: &mut W,
     faults: &mut E,
-) -> io::Result<Status> {
+) -> io::Result<Status>
+    ensures { IfOk result (λ status. (text : Text) × F.holds files.now path.now text × Answers text (W.contents output.old) (W.contents output.new) status) }
+{
     let text = files.read(alloc, path)?;
     answer_text(alloc, text.as_slice(), output, faults)
+}
+
+/// Writes the verdict to the output, and want of memory to the faults.
+fn tell_verdict<W: Write, E: Write>(
+    verdict: Verdict,
+    output: &mut W,
+    faults: &mut E,
+) -> io::Result<()>
+    ensures { OnOk result (Appends (W.contents output.old) (W.contents output.new) (verdict_line verdict)) }
+{
+    match verdict {
+        Verdict::Memory => writeln!(faults, "dr_router: Memory"),
+        _ => output.write_all(verdict.line()),
+    }
+}
+
+/// Verifies, for the plan of the text, the certificate whose text is in a file, which is read only where the first
+/// text has a plan.
+fn verify_text<F: Files, W: Write, E: Write>(
+    alloc: Global,
+    text: &[u8],
+    files: &F,
+    path: &str,
+    output: &mut W,
+    faults: &mut E,
+) -> io::Result<Status>
+    ensures { IfOk result (Verifies (F.holds files.now path.now) text.now (W.contents output.old) (W.contents output.new)) }
+{
+    let plan = match plan_of(alloc, text) {
+        Ok(plan) => plan,
+        Err(answer) => {
+            tell_answer(&answer, output, faults)?;
+            return Ok(answer.status());
+        }
+    };
+    let second = files.read(alloc, path)?;
+    let verdict = verdict_on(alloc, plan, second.as_slice());
+    tell_verdict(verdict, output, faults)?;
+    Ok(verdict.status())
+}
+
+/// Verifies, for the plan in the first file, the certificate in the second.
+fn verify_files<F: Files, W: Write, E: Write>(
+    alloc: Global,
+    files: &F,
+    plan: &str,
+    certificate: &str,
+    output: &mut W,
+    faults: &mut E,
+) -> io::Result<Status>
+    ensures { IfOk result (λ status. (text : Text) × F.holds files.now plan.now text × Verifies (F.holds files.now certificate.now) text (W.contents output.old) (W.contents output.new) status) }
+{
+    let text = files.read(alloc, plan)?;
+    verify_text(alloc, text.as_slice(), files, certificate, output, faults)
 }
 
 /// Writes what clap has to say of the words, where it belongs.
@@ -111,6 +179,32 @@ fn tell_failure<E: Write>(error: &io::Error, faults: &mut E) -> Status
     Status::InputOutput
 }
 
+/// Does what was asked for.
+fn run_asked<R: Read, W: Write, E: Write, F: Files>(
+    alloc: Global,
+    asked: Asked<'_>,
+    input: &mut R,
+    output: &mut W,
+    faults: &mut E,
+    files: &F,
+) -> io::Result<Status>
+    ensures known { asked.entry ≡ asks.CheckInput → IfOk result (λ status. status ≢ Usage) }
+    ensures answered { asked.entry ≡ asks.CheckInput → IfOk result (λ status. IfSome (R.remaining input.old) (λ text. Answers text (W.contents output.old) (W.contents output.new) status)) }
+    ensures checked { (plan : Bor (List ℕ)) → asked.entry ≡ asks.CheckFile plan
+        → IfOk result (λ status. (text : Text) × F.holds files.now plan.now text × Answers text (W.contents output.old) (W.contents output.new) status) }
+    ensures verified { (plan certificate : Bor (List ℕ)) → asked.entry ≡ asks.Verify plan certificate
+        → IfOk result (λ status. (text : Text) × F.holds files.now plan.now text × Verifies (F.holds files.now certificate.now) text (W.contents output.old) (W.contents output.new) status) }
+{
+    match asked {
+        Asked::CheckInput => answer_input(alloc, input, output, faults),
+        Asked::CheckFile(path) => answer_file(alloc, files, path, output, faults),
+        Asked::Verify(plan, certificate) => {
+            verify_files(alloc, files, plan, certificate, output, faults)
+        }
+        Asked::Told(error) => tell_words(&error, output, faults),
+    }
+}
+
 /// Runs the program on the words of its command line, without the program's own name, and answers how it ends.
 pub fn run_words<R: Read, W: Write, E: Write, F: Files>(
     alloc: Global,
@@ -123,14 +217,16 @@ pub fn run_words<R: Read, W: Write, E: Write, F: Files>(
     ensures known { IsPlainCheck words.now → result ≢ Usage }
     ensures answered { IsPlainCheck words.now → (result ≡ Success) ⊎ (result ≡ Refused)
         → IfSome (R.remaining input.old) (λ text. Answers text (W.contents output.old) (W.contents output.new) result) }
+    ensures checked { (plan : Bor (List ℕ)) → IsCheckOf words.now plan → (result ≡ Success) ⊎ (result ≡ Refused)
+        → (text : Text) × F.holds files.now plan.now text × Answers text (W.contents output.old) (W.contents output.new) result }
+    ensures verified { (plan certificate : Bor (List ℕ)) → IsVerifyOf words.now plan certificate → (result ≡ Success) ⊎ (result ≡ Refused)
+        → (text : Text) × F.holds files.now plan.now text × Verifies (F.holds files.now certificate.now) text (W.contents output.old) (W.contents output.new) result }
 {
-    let told = match read_words(alloc, words) {
-        Ok(Asked::CheckInput) => answer_input(alloc, input, output, faults),
-        Ok(Asked::CheckFile(path)) => answer_file(alloc, (files, path), output, faults),
-        Ok(Asked::Told(error)) => tell_words(&error, output, faults),
-        Err(AllocError) => Err(io::Error::from(AllocError)),
+    let asked = match read_words(alloc, words) {
+        Ok(asked) => asked,
+        Err(AllocError) => return tell_failure(&io::Error::from(AllocError), faults),
     };
-    match told {
+    match run_asked(alloc, asked, input, output, faults, files) {
         Ok(status) => status,
         Err(error) => tell_failure(&error, faults),
     }

@@ -7,7 +7,7 @@ use std::process::Abort;
 use std::test::Fail;
 
 /// Three nodes: what enters at CT1 goes to GATE, and from there to ARCH, which keeps it.
-const PLAN: &str = r#"
+pub(super) const PLAN: &str = r#"
 [[node]]
 name = "CT1"
 address = "127.0.0.1:11101"
@@ -40,7 +40,7 @@ station = ["S1"]
 "#;
 
 /// Two nodes that send to each other, with the rules of GATE and HUB to be filled in.
-const LOOP: &str = r#"
+pub(super) const LOOP: &str = r#"
 [[node]]
 name = "CT1"
 address = "127.0.0.1:11101"
@@ -69,25 +69,42 @@ modality = ["CT"]
 station = ["S1"]
 "#;
 
-const KEY: &str = "1.2.840.10008.5.1.4.1.1.2\t1.2.840.10008.1.2.1\t";
+pub(super) const KEY: &str = "1.2.840.10008.5.1.4.1.1.2\t1.2.840.10008.1.2.1\t";
 
-const HOP: &str = "1.2.840.10008.5.1.4.1.1.2\t1.2.840.10008.1.2.1\n";
+pub(super) const HOP: &str = "1.2.840.10008.5.1.4.1.1.2\t1.2.840.10008.1.2.1\n";
 
-/// No file but one, whose text this is.
+/// No files but two: a plan, and a certificate.
 #[derive(Drop)]
-struct OneFile<'a>(&'a str);
+struct TwoFiles<'a> {
+    plan: &'a str,
+    certificate: &'a str,
+}
 
-impl<'a> Files for OneFile<'a> {
+impl<'a> Files for TwoFiles<'a> {
+    ghost holds = { λ files path bytes. Unit {0} };
+
     fn read(&self, alloc: Global, path: &str) -> io::Result<Vec<u8>> {
-        if path != "plan.toml" {
-            return Err(io::Error::from(io::ErrorKind::NotFound));
-        }
-        Ok(Vec::from_slice(alloc, self.0.as_bytes())?)
+        let text = match path {
+            "plan.toml" => self.plan,
+            "certificate" => self.certificate,
+            _ => return Err(io::Error::from(io::ErrorKind::NotFound)),
+        };
+        Ok(Vec::from_slice(alloc, text.as_bytes())?)
     }
 }
 
 /// What a run made of the words and of a plan, which is on the standard input and in the file plan.toml.
-fn run(alloc: Global, words: &[&str], plan: &str) -> Result<(Status, String, String), Fail> {
+pub(super) fn run(alloc: Global, words: &[&str], plan: &str) -> Result<(Status, String, String), Fail> {
+    run_with(alloc, words, plan, "")
+}
+
+/// The same, with this text in the file certificate.
+pub(super) fn run_with(
+    alloc: Global,
+    words: &[&str],
+    plan: &str,
+    certificate: &str,
+) -> Result<(Status, String, String), Fail> {
     let mut input = plan.as_bytes();
     let mut output = Vec::new(alloc);
     let mut faults = Vec::new(alloc);
@@ -97,7 +114,7 @@ fn run(alloc: Global, words: &[&str], plan: &str) -> Result<(Status, String, Str
         &mut input,
         &mut output,
         &mut faults,
-        &OneFile(plan),
+        &TwoFiles { plan, certificate },
     );
     let output = String::from_str(alloc, std::str::from_utf8(output.as_slice())?)?;
     let faults = String::from_str(alloc, std::str::from_utf8(faults.as_slice())?)?;
@@ -283,14 +300,24 @@ fn refusals_are_named(rt: HostRuntime) -> Result<(), Fail> {
 #[test]
 fn words_have_statuses(rt: HostRuntime) -> Result<(), Fail> {
     let alloc = rt.alloc();
-    let (status, output, faults) = run(alloc, &["check", "none.toml"], PLAN)?;
-    assert_eq!(rt; status.number(), 3);
-    assert_eq!(rt; output.as_str(), "");
-    assert!(rt; faults.as_str().starts_with("dr_router: "));
+    for words in [
+        ["check", "none.toml"].as_slice(),
+        ["verify", "none.toml", "certificate"].as_slice(),
+        ["verify", "plan.toml", "none"].as_slice(),
+    ] {
+        let (status, output, faults) = run(alloc, words, PLAN)?;
+        assert_eq!(rt; status.number(), 3);
+        assert_eq!(rt; output.as_str(), "");
+        assert!(rt; faults.as_str().starts_with("dr_router: "));
+    }
     for words in [
         ["check", "a", "b"].as_slice(),
         ["carry"].as_slice(),
         ["check", "--fast"].as_slice(),
+        ["verify"].as_slice(),
+        ["verify", "plan.toml"].as_slice(),
+        ["verify", "plan.toml", "--fast"].as_slice(),
+        ["verify", "plan.toml", "certificate", "c"].as_slice(),
     ] {
         let (status, output, faults) = run(alloc, words, PLAN)?;
         assert_eq!(rt; status.number(), 2);
@@ -301,6 +328,16 @@ fn words_have_statuses(rt: HostRuntime) -> Result<(), Fail> {
     assert_eq!(rt; status.number(), 0);
     assert!(rt; output.as_str().contains("check"));
     assert_eq!(rt; faults.as_str(), "");
+    Ok(())
+}
+
+/// A text without a plan ends the run before the certificate is looked at.
+#[test]
+fn a_plan_is_read_before_its_certificate(rt: HostRuntime) -> Result<(), Fail> {
+    let (status, output, faults) = run(rt.alloc(), &["verify", "plan.toml", "none"], "[[flow]")?;
+    assert_eq!(rt; faults.as_str(), "dr_router: L1 NotToml\n");
+    assert_eq!(rt; output.as_str(), "");
+    assert_eq!(rt; status, Status::Refused);
     Ok(())
 }
 

@@ -1,4 +1,4 @@
-use Rattle.std.proofs.Common.{◌≡◌, ◌+◌, refl, ◌∙◌, ◌∷◌, [], ◌++◌, take, arith}
+use Rattle.std.proofs.Common.{◌≡◌, ◌+◌, refl, ◌∷◌, [], ◌++◌, take, arith}
 use Rattle.std.proofs.lemmas.Bool.{false≢true}
 use Rattle.std.proofs.lemmas.List.{take_more, take_all}
 use Rattle.dr_route.specs.Names.{HasName}
@@ -8,22 +8,22 @@ use Rattle.dr_network.proofs.sending.flow_targets.Goals.{then-enters+in_ok-add_n
 
 pub loop-flow-preserved : goal.loop-flow-preserved
 loop-flow-preserved c =
-    let e = take_more c.flows-flow-items.result.now c.loop-flow.flow-index c.flow-item.result c.loop-flow-test.true in
-    let more : take (c.loop-flow.flow-index + 1) c.flows-flow-items.result.now ≡ take c.loop-flow.flow-index c.flows-flow-items.result.now ++ c.flow-item.result ∷ [] =
+    let e = take_more c.args.flows.now c.loop-flow.flow-index c.flow-item.result c.loop-flow-test.true in
+    let more : take (c.loop-flow.flow-index + 1) c.args.flows.now ≡ take c.loop-flow.flow-index c.args.flows.now ++ c.flow-item.result ∷ [] =
     rw (← c.flow-item.is) at e in
     elim c.if-enters.branch [
       | then-enters+in_ok-add_names w ↦ λ name. rw (w.names-is, more)
-          (flow_added (take c.loop-flow.flow-index c.flows-flow-items.result.now) c.flow-item.result c.args.site.now c.args.key.now
+          (flow_added (take c.loop-flow.flow-index c.args.flows.now) c.flow-item.result c.args.site.now c.args.key.now
           (HasName c.loop-flow.names) (HasName w.add_names.new.names) (w.if-enters.ensures.0 refl) c.loop-flow.invariant
           (rw w.from_ref.ensures.value at w.in_ok-add_names.ensures) name)
       | else-enters w ↦ λ name. rw (w.names-is, more)
-          (flow_passed_over (take c.loop-flow.flow-index c.flows-flow-items.result.now) c.flow-item.result c.args.site.now c.args.key.now
+          (flow_passed_over (take c.loop-flow.flow-index c.args.flows.now) c.flow-item.result c.args.site.now c.args.key.now
           (HasName c.loop-flow.names) (λ h. false≢true (w.if-enters.ensures.1 h)) c.loop-flow.invariant name)
     ]
 
 pub returns-clause-to : goal.returns-clause-to
 returns-clause-to c = λ name.
-    let all : take c.loop-flow.flow-index c.flows-flow-items.result.now ≡ c.args.plan.now.flows = take_all _ _ (omega arith) ∙ c.flows-flow-items.ensures.same in
+    let all : take c.loop-flow.flow-index c.args.flows.now ≡ c.args.flows.now = take_all _ _ (omega arith) in
     let so_far = rw all at (c.loop-flow.invariant name) in
     let same = c.in_ok-to.ensures.same name in
     (λ h. so_far.0 (same.0 h), λ h. same.1 (so_far.1 h))

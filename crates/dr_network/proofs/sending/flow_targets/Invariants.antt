@@ -5,4 +5,4 @@ use Rattle.dr_network.specs.Walks.{FlowsAmong}
 use Rattle.dr_network.proofs.sending.flow_targets.Given as goal
 
 abbrev pub invariant-loop-flow : goal.invariant-loop-flow
-invariant-loop-flow l = (name : Text) → HasName l.names name ↔ FlowsAmong (take l.flow-index l.flow-items) l.site l.key name
+invariant-loop-flow l = (name : Text) → HasName l.names name ↔ FlowsAmong (take l.flow-index l.flows) l.site l.key name

@@ -1,0 +1,13 @@
+pub mod Stops
+pub mod Indexes
+pub mod Marks
+pub mod Following
+pub mod Looking
+pub mod Walked
+pub mod Findings
+pub mod Visiting
+pub mod Walks
+pub mod HopLists
+pub mod Verified
+pub mod Ranking
+pub mod Faultless

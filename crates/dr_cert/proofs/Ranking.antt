@@ -1,0 +1,49 @@
+-- A rank found by the cell of a key.
+use Rattle.std.proofs.Common.{◌≡◌, ℕ, refl, List, Contains}
+use Rattle.std.specs.Prelude.{◌↔◌}
+use Rattle.dr_base.specs.Texts.{Text}
+use Rattle.dr_route.specs.Cells.{InField}
+use Rattle.dr_route.specs.Laws.{key_of}
+use Rattle.dr_route.specs.declared.key.Key.{Key}
+use Rattle.dr_route.specs.declared.cell.FieldValues.{FieldValues}
+use Rattle.dr_route.specs.declared.cell.Literals.{Literals}
+use Rattle.dr_route.specs.declared.cell.OwnedField.{OwnedField}
+use Rattle.dr_route.specs.declared.cell.OwnedField.TheVariants.{Literal, Rest}
+use Rattle.dr_route.specs.declared.cell.OwnedCell.{OwnedCell}
+use Rattle.dr_network.specs.Networks.{Network}
+use Rattle.dr_network.specs.Plans.{IsWellFormed, LiesIn, literals_of}
+use Rattle.dr_network.specs.Walks.{IsReached}
+use Rattle.dr_network.proofs.WalksAlike.{reach_alike, cell_has_a_key}
+use Rattle.dr_sound.specs.declared.certificate.Stop.{Stop}
+use Rattle.dr_sound.specs.declared.certificate.Line.{Line}
+use Rattle.dr_sound.specs.Soundness.{IsRank}
+use Rattle.dr_sound.specs.Ranked.{AreRanked}
+use Rattle.dr_sound.proofs.RankedLines.{rank_holds, reached_has_line}
+use Rattle.dr_entry.proofs.Entries.{cell_that_lies}
+use Rattle.dr_cert.specs.Indexing.{HasRank, HasNoLine}
+use Rattle.dr_cert.specs.Sealing.{AreLiteralsOf}
+
+field_alike : (a b : FieldValues) (field : OwnedField) (value : Text) → ((t : Text) → Contains a.literals t ↔ Contains b.literals t) → InField a field value → InField b field value
+field_alike a b (Literal literal) value same h = ((same literal).0 h.0, h.1)
+field_alike a b Rest value same h = λ among. h ((same value).1 among)
+
+pub lies_there : (plan : Network) (literals : Literals) (key : Key) (modality station : OwnedField) → AreLiteralsOf plan literals → InField literals.modalities modality key.modality →
+    InField literals.stations station key.station → LiesIn plan (record { class = key.class; syntax = key.syntax; modality = modality; station = station }) key
+lies_there plan literals key modality station are m s = record {
+  class = refl;
+  syntax = refl;
+  modality = field_alike literals.modalities (literals_of plan).modalities modality key.modality are.modalities m;
+  station = field_alike literals.stations (literals_of plan).stations station key.station are.stations s;
+}
+
+module _ (plan : Network) (formed : IsWellFormed plan) (index : List Line) (ranked : AreRanked plan index) (key : Key) (cell : OwnedCell) (lies : LiesIn plan cell key) (caller node : Text) where
+  pub rank_there : (rank : ℕ) → HasRank index (record { caller = caller; node = node; cell = cell }) rank → IsReached plan key caller node × IsRank plan key caller node rank
+  rank_there rank among =
+      let stop : Stop = record { caller = caller; node = node; cell = cell } in
+      let back : LiesIn plan cell (key_of cell) = cell_has_a_key plan formed cell (cell_that_lies plan cell key lies) in (
+        reach_alike plan cell (key_of cell) key back lies caller node (ranked.reached stop rank among),
+        rank_holds plan formed index ranked key cell lies caller node rank among,
+      )
+
+  pub no_rank : HasNoLine index (record { caller = caller; node = node; cell = cell }) → IsReached plan key caller node → ⊥
+  no_rank none r = none (reached_has_line plan formed index ranked key cell lies caller node r)

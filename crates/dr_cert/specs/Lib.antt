@@ -1,0 +1,10 @@
+pub mod Conditions
+pub mod Finding
+pub mod Indexing
+pub mod HopSets
+pub mod Laws
+pub mod Refusing
+pub mod Sealing
+pub mod Surveying
+pub mod Verifying
+pub mod Walking

@@ -1,0 +1,39 @@
+-- Why a plan and a certificate are refused: the first condition that fails.
+use Rattle.std.specs.Prelude.{◌≡◌, ◌⊎◌, Result, Ok, Err}
+use Rattle.dr_network.specs.Networks.{Network}
+use Rattle.dr_sound.specs.declared.certificate.Certificate.{Certificate}
+use Rattle.dr_sound.specs.Soundness.{IsSound}
+use Rattle.dr_sound.specs.Certificates.{IsCertificateOf}
+use Rattle.dr_cert.specs.Sealing.{Certified}
+use Rattle.dr_cert_text.specs.declared.fault.ReadFault.{ReadFault}
+use Rattle.dr_cert_text.specs.declared.fault.ReadFault.TheVariants as read
+use Rattle.dr_cert.specs.declared.fault.CertFault.{CertFault}
+use Rattle.dr_cert.specs.declared.fault.CertFault.TheVariants.{Text, OtherPlan, Order, MissingLine, NoContext, DeadEnd, WrongRank, HopList, Memory}
+use Rattle.dr_cert.specs.Conditions.{IsOfPlan, IsInOrder, HasEachLine, AcceptsEachHop, GoesOnEverywhere, ReachesEachLine, HasRightRanks, HasRightHops, UpToOrder, UpToLines, UpToContexts, UpToEnds, UpToReach, UpToRanks}
+
+-- what comes before holds, and this doesn't
+abbrev pub FailsAfter : Type 0 → Type 0 → Type 0
+FailsAfter before condition = before × (condition → ⊥)
+
+-- each fault is named just where its condition is the first that fails
+abbrev pub IsRefused : Network → Certificate → CertFault → Type 0
+IsRefused plan certificate Text = ⊥
+IsRefused plan certificate OtherPlan = IsOfPlan plan certificate → ⊥
+IsRefused plan certificate Order =
+    FailsAfter (IsOfPlan plan certificate) (IsInOrder certificate) ⊎ FailsAfter (UpToEnds plan certificate) (ReachesEachLine plan certificate.lines)
+IsRefused plan certificate MissingLine = FailsAfter (UpToOrder plan certificate) (HasEachLine plan certificate.lines)
+IsRefused plan certificate NoContext = FailsAfter (UpToLines plan certificate) (AcceptsEachHop plan)
+IsRefused plan certificate DeadEnd = FailsAfter (UpToContexts plan certificate) (GoesOnEverywhere plan)
+IsRefused plan certificate WrongRank = FailsAfter (UpToReach plan certificate) (HasRightRanks plan certificate.lines)
+IsRefused plan certificate HopList = FailsAfter (UpToRanks plan certificate) (HasRightHops plan certificate.hops)
+IsRefused plan certificate Memory = Unit {0}
+
+-- a text that isn't read, by the same name
+abbrev pub named_for : ReadFault → CertFault
+named_for read.Text = Text
+named_for read.Memory = Memory
+
+-- yes to a sound plan with its certificate, which are kept as they are; else the first condition that fails
+abbrev pub Seals : Network → Certificate → Result Certified CertFault → Type 0
+Seals plan certificate (Ok sealed) = (sealed ≡ record { plan = plan; certificate = certificate }) × IsSound plan × IsCertificateOf plan certificate
+Seals plan certificate (Err fault) = IsRefused plan certificate fault

@@ -1,0 +1,7 @@
+//! Laws of sealing.
+ghost use Rattle.dr_cert.specs.Laws.{OwnCertificateIsTaken};
+
+/// A sound plan with its certificate meets no fault but want of memory.
+pub fn a_sound_plan_is_sealed_with_its_certificate()
+    ensures { OwnCertificateIsTaken }
+{}

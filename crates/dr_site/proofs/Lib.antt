@@ -1,0 +1,3 @@
+pub mod AsPlanned
+pub mod Assembled
+pub mod Looking

@@ -1,0 +1,48 @@
+//! Those of a plan's and of a certificate's rows that are one node's own.
+ghost use Rattle.std.specs.Prelude.{◌≡◌, IfOk, filter};
+ghost use Rattle.dr_site.specs.Parts.{is_at, is_of, begins_at};
+
+use crate::copies::{copy_flow, copy_hop, copy_line};
+use dr_base::{Seq, Text};
+use dr_network::Flow;
+use dr_sound::{Hop, Line};
+use std::alloc::{AllocError, Global};
+
+/// The flows at the site, in their order.
+pub fn flows_at(alloc: Global, flows: &[Flow], site: &Text) -> Result<Seq<Flow>, AllocError>
+    ensures { IfOk result (λ s. s ≡ filter (is_at site.now) flows.now) }
+{
+    let mut own = Seq::new(alloc);
+    for flow in flows {
+        if flow.at == *site {
+            own.push(copy_flow(flow)?)?;
+        }
+    }
+    Ok(own)
+}
+
+/// The lines of the node, in their order.
+pub fn lines_of(alloc: Global, lines: &[Line], node: &Text) -> Result<Vec<Line>, AllocError>
+    ensures { IfOk result (λ v. v.items ≡ filter (is_of node.now) lines.now) }
+{
+    let mut own = Vec::new(alloc);
+    for line in lines {
+        if line.stop.node == *node {
+            own.push(copy_line(line)?)?;
+        }
+    }
+    Ok(own)
+}
+
+/// The hops that begin at the node, in their order.
+pub fn hops_from(alloc: Global, hops: &[Hop], node: &Text) -> Result<Seq<Hop>, AllocError>
+    ensures { IfOk result (λ s. s ≡ filter (begins_at node.now) hops.now) }
+{
+    let mut own = Seq::new(alloc);
+    for hop in hops {
+        if hop.from == *node {
+            own.push(copy_hop(hop)?)?;
+        }
+    }
+    Ok(own)
+}

@@ -1,0 +1,223 @@
+//! The site of a node.
+ghost use Rattle.std.specs.Prelude.{◌≡◌, ◌↔◌, IfOk, IsTrue, Contains};
+ghost use Rattle.dr_base.specs.Texts.{Text as Words, IsInByteOrder};
+ghost use Rattle.dr_site.specs.Routing.{HasLineFor, SendsFrom, KeepsAt};
+ghost use Rattle.dr_site.specs.Parts.{Part, IsPartOf};
+ghost use Rattle.dr_site.specs.Sites.{IsCertified, IsSite, IsSiteOf};
+
+use crate::copies::{
+    copy_accepts, copy_flows, copy_hops, copy_lines, copy_literals, copy_name, copy_rules,
+};
+use crate::rows::{flows_at, hops_from, lines_of};
+use dr_base::{Seq, Text};
+use dr_cert::index::{find, index_of};
+use dr_cert::place::Place;
+use dr_cert::Sealed;
+use dr_network::literals::literals;
+use dr_network::sending::flow_targets;
+use dr_network::{Flow, Plan};
+use dr_route::cell::field_of;
+use dr_route::routing::targets;
+use dr_route::{AcceptRow, Key, Literals, Rule, Targets, is_local};
+use dr_sound::{Certificate, Hop, Line};
+use std::alloc::{AllocError, Global};
+use std::marker::Model;
+use thiserror::Error;
+
+/// Why there is no site.
+#[derive(Clone, Copy, PartialEq, Eq, Debug, Error)]
+pub enum SiteFault {
+    /// No node of the plan has the name.
+    #[error("NoNode")]
+    NoNode,
+    #[error("Memory")]
+    Memory,
+}
+
+impl From<AllocError> for SiteFault {
+    ghost use Rattle.std.specs.Prelude.{◌≡◌};
+    ghost use Rattle.dr_site.specs.declared.site.SiteFault.TheVariants.{Memory};
+
+    ghost from_gives = { λ _ e. e ≡ Memory };
+
+    fn from(_: AllocError) -> SiteFault {
+        SiteFault::Memory
+    }
+}
+
+/// What one node works by: its part of a sound plan and of the plan's certificate. It has the node's name, the
+/// greatest length of the P-DATA-TF PDUs that it takes (bytes; 0 is no limit), the plan's SHA-256, its own rules,
+/// accept rows and flows, its own lines and the hops that begin at it, and the literals of the whole plan, by
+/// which the cell of a key is found.
+#[derive(Debug, Drop)]
+pub struct Site {
+    name: Text,
+    max_pdu: u32,
+    digest: [u8; 32],
+    rules: Seq<Rule>,
+    accepts: Seq<AcceptRow>,
+    flows: Seq<Flow>,
+    lines: Vec<Line>,
+    hops: Seq<Hop>,
+    literals: Literals,
+}
+
+impl Model for Site {
+    ghost use Rattle.dr_site.specs.Parts.{Part};
+    ghost use Rattle.dr_site.specs.Sites.{IsSite};
+
+    ghost Value = { Part };
+
+    ghost view = { λ s. record { name = s.name; max_pdu = s.max_pdu; digest = s.digest; rules = s.rules; accepts = s.accepts; flows = s.flows; lines = s.lines.items; hops = s.hops; literals = s.literals } };
+
+    ghost invariant = { λ s. IsSite (record { name = s.name; max_pdu = s.max_pdu; digest = s.digest; rules = s.rules; accepts = s.accepts; flows = s.flows; lines = s.lines.items; hops = s.hops; literals = s.literals }) };
+}
+
+impl Site {
+    /// The site of the node of that name in a sealed plan.
+    ///
+    /// Errors: NoNode where the plan has no such node; Memory.
+    pub fn of(alloc: Global, sealed: &Sealed, name: &Text) -> Result<Site, SiteFault>
+        ensures { IsSiteOf sealed.now.plan sealed.now.certificate name.now result }
+    {
+        Site::of_part(alloc, sealed.plan(), sealed.certificate(), name)
+    }
+
+    /// The site of the node of that name, of a sound plan with its certificate.
+    fn of_part(
+        alloc: Global,
+        plan: &Plan,
+        certificate: &Certificate,
+        name: &Text,
+    ) -> Result<Site, SiteFault>
+        requires { IsCertified plan.now certificate.now }
+        ensures { IsSiteOf plan.now certificate.now name.now result }
+    {
+        let Some(node) = plan.node(name) else {
+            return Err(SiteFault::NoNode);
+        };
+        let rules = copy_rules(&node.rules)?;
+        let accepts = copy_accepts(&node.accepts)?;
+        let flows = flows_at(alloc, plan.flows(), name)?;
+        let own = lines_of(alloc, certificate.lines.as_slice(), name)?;
+        let lines = index_of(alloc, own.as_slice())?;
+        let hops = hops_from(alloc, certificate.hops.as_slice(), name)?;
+        let literals = literals(alloc, plan)?;
+        Ok(Site {
+            name: copy_name(name)?,
+            max_pdu: node.max_pdu,
+            digest: *plan.digest(),
+            rules,
+            accepts,
+            flows,
+            lines,
+            hops,
+            literals,
+        })
+    }
+
+    /// The name of its node.
+    pub fn name(&self) -> &Text
+        ensures { result.now ≡ self.now.name }
+    {
+        &self.name
+    }
+
+    /// The greatest length of the P-DATA-TF PDUs that its node takes, in bytes; 0 is no limit.
+    pub fn max_pdu(&self) -> u32
+        ensures { result ≡ self.now.max_pdu }
+    {
+        self.max_pdu
+    }
+
+    /// The SHA-256 of the plan's text.
+    pub fn digest(&self) -> &[u8; 32]
+        ensures { result.now ≡ self.now.digest }
+    {
+        &self.digest
+    }
+
+    /// Its node's rules, in the order of the plan's text.
+    pub fn rules(&self) -> &[Rule]
+        ensures { result.now ≡ self.now.rules }
+    {
+        self.rules.as_slice()
+    }
+
+    /// Its node's accept rows, in the order of the plan's text.
+    pub fn accepts(&self) -> &[AcceptRow]
+        ensures { result.now ≡ self.now.accepts }
+    {
+        self.accepts.as_slice()
+    }
+
+    /// The flows that enter at its node, in the order of the plan's text.
+    pub fn flows(&self) -> &[Flow]
+        ensures { result.now ≡ self.now.flows }
+    {
+        self.flows.as_slice()
+    }
+
+    /// The certificate's lines of its node, in the order of their stops.
+    pub fn lines(&self) -> &[Line]
+        ensures { result.now ≡ self.now.lines }
+    {
+        self.lines.as_slice()
+    }
+
+    /// The certificate's hops that begin at its node, in their printed order.
+    pub fn hops(&self) -> &[Hop]
+        ensures { result.now ≡ self.now.hops }
+    {
+        self.hops.as_slice()
+    }
+
+    /// Whether the certificate has a line for what the caller brings to this node with that key. It takes no
+    /// memory.
+    pub fn has_line(&self, caller: &Text, key: &Key) -> bool
+        ensures { IsTrue result ↔ HasLineFor self.now caller.now key.now }
+    {
+        let modality = field_of(&self.literals.modalities, &key.modality);
+        let station = field_of(&self.literals.stations, &key.station);
+        let stop = Place::new(
+            caller, &self.name, &key.class, key.syntax, modality, station,
+        );
+        let Some(_) = find(self.lines.as_slice(), &stop) else {
+            return false;
+        };
+        true
+    }
+
+    /// What the node does with the key that it has from the caller: the nodes that it sends it to, in byte order
+    /// and each once, and whether it keeps it. What enters at the node itself has the caller `-`; it goes by the
+    /// node's flows and isn't kept.
+    pub fn targets(&self, alloc: Global, caller: &Text, key: &Key) -> Result<Targets, AllocError>
+        ensures to { IfOk result (λ t. (to : Words) → Contains t.to to ↔ SendsFrom self.now caller.now key.now to) }
+        ensures ordered { IfOk result (λ t. IsInByteOrder t.to) }
+        ensures keep { IfOk result (λ t. IsTrue t.keep ↔ KeepsAt self.now caller.now key.now) }
+    {
+        if is_local(caller) {
+            let to = flow_targets(alloc, self.flows.as_slice(), &self.name, key)?;
+            return Ok(Targets { to, keep: false });
+        }
+        let targets = targets(alloc, self.rules.as_slice(), caller, key)?;
+        Ok(targets)
+    }
+
+    /// Another one, equal to it.
+    pub fn copy(&self) -> Result<Site, AllocError>
+        ensures { IfOk result (λ s. s ≡ self.now) }
+    {
+        Ok(Site {
+            name: copy_name(&self.name)?,
+            max_pdu: self.max_pdu,
+            digest: self.digest,
+            rules: copy_rules(&self.rules)?,
+            accepts: copy_accepts(&self.accepts)?,
+            flows: copy_flows(&self.flows)?,
+            lines: copy_lines(&self.lines)?,
+            hops: copy_hops(&self.hops)?,
+            literals: copy_literals(&self.literals)?,
+        })
+    }
+}
