@@ -8,29 +8,29 @@ use thiserror::Error;
 #[derive(Clone, Copy, PartialEq, Eq, Debug, Error)]
 pub enum CertFault {
     /// No certificate is written so.
-    #[error("Text")]
+    #[error("C1 Text")]
     Text,
     /// It is that of a plan with another SHA-256.
-    #[error("OtherPlan")]
+    #[error("C2 OtherPlan")]
     OtherPlan,
     /// The lines or the hops aren't in the byte order of their printed rows, or one of them stands there twice;
     /// or, where no fault before WrongRank shows, no walk from an entry comes to the stop of some line.
-    #[error("Order")]
+    #[error("C8 Order")]
     Order,
     /// A walk from an entry comes to a stop that has no line.
-    #[error("MissingLine")]
+    #[error("C3 MissingLine")]
     MissingLine,
     /// A hop of a walk from an entry isn't accepted.
-    #[error("NoContext")]
+    #[error("C5 NoContext")]
     NoContext,
     /// A node to which a walk from an entry comes neither keeps the instance nor sends it on.
-    #[error("DeadEnd")]
+    #[error("C6 DeadEnd")]
     DeadEnd,
     /// A line's rank isn't the greatest number of hops left.
-    #[error("WrongRank")]
+    #[error("C4 WrongRank")]
     WrongRank,
     /// The hops aren't just those of the plan with their numbers, or one has more than 128 pairs.
-    #[error("HopList")]
+    #[error("C7 HopList")]
     HopList,
     #[error("Memory")]
     Memory,
