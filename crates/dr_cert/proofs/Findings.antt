@@ -1,6 +1,6 @@
 -- What a walk over all lines has found: from single lines to all keys and all walks.
-use Rattle.std.proofs.Common.{◌≡◌, ◌≢◌, ℕ, zero, suc, ◌+◌, ◌<◌, ◌≤◌, ◌⊎◌, inl, inr, refl, sym, ◌∙◌, ap, subst, List, [], ◌∷◌, length, get_or, Contains, Some, true, false, arith}
-use Rattle.std.specs.Prelude.{slice_get, ◌↔◌}
+use Rattle.std.proofs.Common.{◌≡◌, ℕ, suc, ◌+◌, ◌<◌, ◌≤◌, ◌⊎◌, inl, inr, refl, sym, subst, List, [], ◌∷◌, length, get_or, Contains, Some, arith}
+use Rattle.std.specs.Prelude.{slice_get}
 use Rattle.std.proofs.Math.Logic.{⊎_elim}
 use Rattle.std.proofs.lemmas.Option.{slice_get-get_or}
 use Rattle.dr_base.specs.Texts.{Text}
@@ -11,20 +11,18 @@ use Rattle.dr_route.specs.declared.key.Key.{Key}
 use Rattle.dr_route.specs.declared.cell.OwnedCell.{OwnedCell}
 use Rattle.dr_network.specs.Networks.{Network}
 use Rattle.dr_network.specs.Plans.{IsWellFormed, LiesIn}
-use Rattle.dr_network.specs.Walks.{Sends, Keeps, Accepts, IsWalk, last_place, IsReached, Goes}
-use Rattle.dr_network.specs.Laws.{IsCellOf}
+use Rattle.dr_network.specs.Walks.{Sends, Keeps, Accepts, IsWalk, last_place, IsReached}
 use Rattle.dr_network.proofs.WalksAlike.{send_alike, keep_alike, walk_alike, cell_has_a_key}
 use Rattle.dr_sound.specs.declared.certificate.Stop.{Stop}
 use Rattle.dr_sound.specs.declared.certificate.Line.{Line}
 use Rattle.dr_sound.specs.Soundness.{IsRank}
-use Rattle.dr_sound.specs.Certificates.{HasLine}
-use Rattle.dr_sound.specs.Ranked.{line_at, SendsOn, IsRanked, AreRanked}
+use Rattle.dr_sound.specs.Ranked.{line_at, SendsOn, AreRanked}
 use Rattle.dr_sound.proofs.RankedLines.{some_cell}
 use Rattle.dr_sound.proofs.Hopping.{last_hop, reached_next, reached_not_local}
 use Rattle.dr_entry.specs.Visiting.{IsEntryCell}
 use Rattle.dr_entry.proofs.Entries.{cell_that_lies}
 use Rattle.dr_cert.specs.Conditions.{IsReachedStop, HasEachLine, HasALine, AcceptsEachHop, GoesOnEverywhere, ReachesEachLine, HasRightRanks}
-use Rattle.dr_cert.specs.Indexing.{AreSorted, StandsAt}
+use Rattle.dr_cert.specs.Indexing.{AreSorted}
 use Rattle.dr_cert.specs.Surveying.{EachAt, IsLetIn, IsGoingOn, IsRankedAmong}
 use Rattle.dr_cert.specs.Walking.{IsComeTo, IsMarked, IsFollowed, next_stop}
 use Rattle.dr_cert.proofs.Following.{come_to_is_reached, line_there, stands_there}

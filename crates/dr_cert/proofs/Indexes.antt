@@ -1,6 +1,5 @@
 -- The ranks of stops, gathered line by line, and the index that they become.
-use Rattle.std.proofs.Common.{◌≡◌, ℕ, ◌+◌, ◌<◌, ◌⊎◌, inl, inr, refl, sym, ◌∙◌, ap, subst, List, [], ◌∷◌, ◌++◌, map, length, get_or, Contains, Option, Some, None, true, false, arith}
-use Rattle.std.specs.Prelude.{AllPairs}
+use Rattle.std.proofs.Common.{◌≡◌, ℕ, inl, inr, refl, sym, ◌∙◌, ap, subst, List, [], ◌∷◌, ◌++◌, map, get_or, Contains, Some, None, false, arith}
 use Rattle.std.specs.declared.cmp.Ordering.TheVariants.{Less}
 use Rattle.std.specs.BTreeMap.{BTreeMap, get, Updates, is_at, keys}
 use Rattle.std.specs.Cmp.{Equal-is}
@@ -16,8 +15,7 @@ use Rattle.dr_network.proofs.Gathered.{nothing_in_nil}
 use Rattle.dr_sound.specs.declared.certificate.Stop.{Stop}
 use Rattle.dr_sound.specs.declared.certificate.Line.{Line}
 use Rattle.dr_sound.specs.contracts.certificate.StopOrd.TheImpl.Laws as laws
-use Rattle.dr_cert.specs.Conditions.{HasALine}
-use Rattle.dr_cert.specs.Indexing.{stop_cmp, line_of, AreSorted, AreRanksOf, IsIndexOf}
+use Rattle.dr_cert.specs.Indexing.{stop_cmp, line_of, AreRanksOf, IsIndexOf}
 use Rattle.dr_cert.proofs.Stops.{stop_exact, same_stop_or_not}
 
 not_at : (a b : Stop) → (b ≡ a → ⊥) → is_at (stop_cmp a) b ≡ false

@@ -1,7 +1,6 @@
 -- What a walker sees of one line.
-use Rattle.std.proofs.Common.{◌≡◌, ℕ, ◌+◌, ◌<◌, ◌≤◌, ◌⊎◌, inl, inr, refl, sym, ◌∙◌, ap, subst, List, length, get_or, Contains, Some, true, arith}
+use Rattle.std.proofs.Common.{◌≡◌, ℕ, ◌+◌, ◌<◌, ◌≤◌, ◌⊎◌, inl, inr, refl, sym, ◌∙◌, ap, subst, List, get_or, Contains, Some, arith}
 use Rattle.std.specs.Prelude.{slice_get, ◌↔◌, ◌==◌, IsTrue, Bool}
-use Rattle.std.specs.declared.cmp.Ordering.{Ordering}
 use Rattle.std.specs.declared.cmp.Ordering.TheVariants.{Less, Equal}
 use Rattle.std.proofs.Math.Logic.{⊎_elim}
 use Rattle.std.proofs.lemmas.Bool.{cases_lt, cases_eq}
@@ -15,10 +14,10 @@ use Rattle.dr_network.specs.Walks.{Keeps}
 use Rattle.dr_sound.specs.declared.certificate.Stop.{Stop}
 use Rattle.dr_sound.specs.declared.certificate.Line.{Line}
 use Rattle.dr_sound.specs.contracts.certificate.StopOrd.TheImpl.Laws as laws
-use Rattle.dr_sound.specs.Ranked.{line_at, SendsOn}
+use Rattle.dr_sound.specs.Ranked.{SendsOn}
 use Rattle.dr_sound.proofs.Hopping.{reached_next}
 use Rattle.dr_cert.specs.Indexing.{stop_cmp, AreSorted, StandsAt}
-use Rattle.dr_cert.specs.Surveying.{IsLetIn, IsGoingOn, IsRankedAmong, IsSightOf}
+use Rattle.dr_cert.specs.Surveying.{IsLetIn, IsRankedAmong}
 use Rattle.dr_cert.specs.Walking.{IsComeTo, IsCalledFor, AfterTargets, AfterLook, next_stop}
 use Rattle.dr_cert.specs.declared.survey.Survey.{Survey}
 use Rattle.dr_cert.specs.declared.walker.Walker.{Walker}

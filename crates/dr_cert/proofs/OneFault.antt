@@ -1,5 +1,5 @@
 -- The first condition that fails is one, so that a plan and a certificate have one fault at most.
-use Rattle.std.proofs.Common.{◌≡◌, ◌≢◌, ℕ, zero, suc, ◌<◌, ◌⊎◌, inl, inr, refl, sym, ◌∙◌, ap, subst, arith}
+use Rattle.std.proofs.Common.{◌≡◌, ◌≢◌, ℕ, zero, suc, ◌<◌, inl, inr, refl, sym, ◌∙◌, ap, subst, arith}
 use Rattle.std.proofs.lemmas.Bool.{cases_lt, cases_eq}
 use Rattle.dr_network.specs.Networks.{Network}
 use Rattle.dr_sound.specs.declared.certificate.Certificate.{Certificate}

@@ -1,5 +1,5 @@
 -- A rank found by the cell of a key.
-use Rattle.std.proofs.Common.{◌≡◌, ℕ, refl, List, Contains}
+use Rattle.std.proofs.Common.{ℕ, refl, List, Contains}
 use Rattle.std.specs.Prelude.{◌↔◌}
 use Rattle.dr_base.specs.Texts.{Text}
 use Rattle.dr_route.specs.Cells.{InField}

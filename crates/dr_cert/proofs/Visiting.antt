@@ -1,18 +1,14 @@
 -- A walker visits an entry.
-use Rattle.std.proofs.Common.{◌≡◌, ℕ, ◌<◌, refl, sym, ◌∙◌, ap, subst, List, [], length, get_or, Contains, Bool, Option, Some, None, true, false, arith}
-use Rattle.std.specs.Prelude.{slice_get, All, MatchOption}
+use Rattle.std.proofs.Common.{◌≡◌, ℕ, sym, ◌∙◌, subst, List, get_or, Bool, Some, true, false}
+use Rattle.std.specs.Prelude.{slice_get, All}
 use Rattle.std.proofs.lemmas.Bool.{false≢true}
-use Rattle.std.proofs.lemmas.Option.{same_Some, slice_get_within, get_or_from_slice_get}
+use Rattle.std.proofs.lemmas.Option.{slice_get_within, get_or_from_slice_get}
 use Rattle.dr_base.specs.Texts.{Text}
 use Rattle.dr_route.specs.Routes.{local}
 use Rattle.dr_route.specs.declared.cell.OwnedCell.{OwnedCell}
-use Rattle.dr_network.specs.Networks.{Network}
-use Rattle.dr_network.proofs.Gathered.{nothing_in_nil}
 use Rattle.dr_sound.specs.declared.certificate.Stop.{Stop}
 use Rattle.dr_sound.specs.declared.certificate.Line.{Line}
 use Rattle.dr_entry.specs.Visiting.{GoesOn, IsThis}
-use Rattle.dr_cert.specs.Conditions.{HasEachLine}
-use Rattle.dr_cert.specs.Indexing.{StandsAt}
 use Rattle.dr_cert.specs.Walking.{IsWalking, IsMarked, HasVisited, Shows, AfterMark}
 use Rattle.dr_cert.specs.declared.walker.Walker.{Walker}
 use Rattle.dr_cert.proofs.Following.{marked_still}

@@ -1,12 +1,11 @@
 -- A walker goes from line to line.
-use Rattle.std.proofs.Common.{◌≡◌, ◌≢◌, ℕ, ◌+◌, ◌<◌, ◌≤◌, ◌⊎◌, inl, inr, refl, sym, ◌∙◌, ap, subst, List, [], ◌∷◌, ◌++◌, length, get_or, take, Contains, Some, None, true, false, arith, length-append}
-use Rattle.std.specs.Prelude.{AllPairs, slice_get, nat_eq, ◌↔◌, ◌&&◌, IsTrue, Bool}
-use Rattle.std.specs.List.{list_any}
-use Rattle.std.proofs.lemmas.Bool.{cases_Bool, false≢true}
+use Rattle.std.proofs.Common.{◌≡◌, ℕ, ◌+◌, ◌<◌, ◌≤◌, inl, inr, refl, sym, ◌∙◌, ap, subst, List, [], ◌∷◌, ◌++◌, length, get_or, take, Contains, Some, true, false, arith, length-append}
+use Rattle.std.specs.Prelude.{slice_get, ◌↔◌, ◌&&◌, IsTrue, Bool}
+use Rattle.std.proofs.lemmas.Bool.{false≢true}
 use Rattle.std.proofs.lemmas.Bool.Decides.{Decides-eqb}
 use Rattle.std.proofs.lemmas.List.{take_more, take_all, take-append-le}
 use Rattle.std.proofs.lemmas.List.Elements.{Contains-push, Contains-push_cases, Contains-append_left}
-use Rattle.std.proofs.lemmas.Option.{same_Some, slice_get_within, get_or_from_slice_get}
+use Rattle.std.proofs.lemmas.Option.{same_Some, slice_get_within}
 use Rattle.std.proofs.lemmas.Map.Made.{IsDistinct-from_AllPairs}
 use Rattle.std.proofs.lemmas.Map.Steps.{length-le_from_distinct_below}
 use Rattle.std.proofs.lemmas.Map.Views.{Contains-from_any, exact_unsigned_eq}
@@ -14,8 +13,8 @@ use Rattle.dr_network.specs.Networks.{Network}
 use Rattle.dr_network.proofs.Gathered.{nothing_in_nil}
 use Rattle.dr_sound.specs.declared.certificate.Line.{Line}
 use Rattle.dr_cert.specs.Conditions.{HasEachLine}
-use Rattle.dr_cert.specs.Surveying.{EachAt, IsLetIn, IsGoingOn, IsRankedAmong, IsSightOf, IsSurveyOf}
-use Rattle.dr_cert.specs.Walking.{IsWalking, IsFurther, IsMarked, IsFollowed, AfterLook, IsWalkedTo, next_stop}
+use Rattle.dr_cert.specs.Surveying.{EachAt, IsLetIn, IsGoingOn, IsRankedAmong, IsSightOf}
+use Rattle.dr_cert.specs.Walking.{IsWalking, IsFurther, IsFollowed, AfterLook, IsWalkedTo, next_stop}
 use Rattle.dr_cert.specs.declared.survey.Survey.{Survey}
 use Rattle.dr_cert.specs.declared.walker.Walker.{Walker}
 use Rattle.dr_cert.proofs.Marks.{unchanged}

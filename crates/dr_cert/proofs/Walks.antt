@@ -1,5 +1,5 @@
 -- The whole walk: from a walker's visits and steps to what it has found.
-use Rattle.std.proofs.Common.{◌≡◌, ℕ, ◌<◌, refl, sym, ◌∙◌, ap, subst, List, length, Contains, Some, true, false, arith}
+use Rattle.std.proofs.Common.{◌≡◌, ℕ, ◌<◌, refl, sym, ◌∙◌, subst, List, length, Contains, Some, arith}
 use Rattle.std.specs.Prelude.{◌↔◌, IsTrue}
 use Rattle.std.proofs.lemmas.Bool.{false≢true}
 use Rattle.dr_base.specs.Texts.{Text}
@@ -11,7 +11,7 @@ use Rattle.dr_entry.specs.Visiting.{GoesOn, IsEntryCell}
 use Rattle.dr_cert.specs.Conditions.{HasEachLine}
 use Rattle.dr_cert.specs.Indexing.{AreSorted}
 use Rattle.dr_cert.specs.Surveying.{EachAt, IsSurveyOf}
-use Rattle.dr_cert.specs.Walking.{IsWalking, IsFurther, IsComeTo, IsMarked, IsFollowed, HasVisited, Shows, AfterWalk}
+use Rattle.dr_cert.specs.Walking.{IsWalking, IsComeTo, IsMarked, HasVisited, Shows, AfterWalk}
 use Rattle.dr_cert.specs.Finding.{AreWalked}
 use Rattle.dr_cert.specs.declared.survey.Survey.{Survey}
 use Rattle.dr_cert.specs.declared.walk.Walked.{Walked}

@@ -1,5 +1,5 @@
 -- A walk over the lines of a plan, from the entries on.
-use Rattle.std.specs.Prelude.{◌≡◌, ◌≢◌, ℕ, ◌+◌, ◌<◌, ◌≤◌, ◌⊎◌, List, take, ◌++◌, length, AllPairs, Contains, Some, slice_get, true, Bool, Option, None, ◌↔◌}
+use Rattle.std.specs.Prelude.{◌≡◌, ◌≢◌, ℕ, ◌+◌, ◌<◌, ◌≤◌, ◌⊎◌, List, take, ◌++◌, length, AllPairs, Contains, Some, slice_get, true, Option, None, ◌↔◌}
 use Rattle.dr_base.specs.Texts.{Text}
 use Rattle.dr_route.specs.Routes.{local}
 use Rattle.dr_route.specs.Laws.{key_of}

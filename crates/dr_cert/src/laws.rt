@@ -5,6 +5,7 @@ ghost use Rattle.dr_cert.specs.Laws.{OwnCertificateIsTaken, OneFaultAtMost};
 pub fn a_sound_plan_is_sealed_with_its_certificate()
     ensures { OwnCertificateIsTaken }
 {}
+
 /// Of the faults but Memory, a plan and a certificate meet one at most.
 pub fn one_fault_at_most()
     ensures { OneFaultAtMost }

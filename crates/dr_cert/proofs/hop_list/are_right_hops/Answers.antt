@@ -1,8 +1,6 @@
-use Rattle.std.proofs.Common.{◌≡◌, refl, sym, ◌∙◌, ap, subst, List, Contains}
+use Rattle.std.proofs.Common.{subst, List, Contains}
 use Rattle.std.specs.Prelude.{◌↔◌, IsTrue}
 use Rattle.dr_sound.specs.declared.certificate.Hop.{Hop}
-use Rattle.dr_sound.specs.declared.certificate.Line.{Line}
-use Rattle.dr_sound.specs.HopPairs.{AreNumbered, AreTooMany}
 use Rattle.dr_cert.proofs.HopLists.{right_hops, too_many}
 use Rattle.dr_cert.proofs.hop_list.are_right_hops.Goals as goal
 

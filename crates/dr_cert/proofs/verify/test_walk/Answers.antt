@@ -1,8 +1,7 @@
-use Rattle.std.proofs.Common.{◌≡◌, inl, inr, sym, ◌∙◌, Some, None}
-use Rattle.std.proofs.lemmas.Bool.{false≢true}
+use Rattle.std.proofs.Common.{inr}
 use Rattle.dr_cert.specs.Conditions.{UpToEnds}
 use Rattle.dr_cert.specs.Finding.{AreWalked}
-use Rattle.dr_cert.proofs.Verified.{each_from, each_to, reaches_all_from, reaches_all_to, right_to, on, off}
+use Rattle.dr_cert.proofs.Verified.{each_from, each_to, reaches_all_from, reaches_all_to, on, off}
 use Rattle.dr_cert.proofs.verify.test_walk.Goals as goal
 
 pub returns-in_default : goal.returns-in_default

@@ -1,9 +1,8 @@
-use Rattle.std.proofs.Common.{◌≡◌, ◌<◌, refl, sym, ◌∙◌, ap, subst, Some, None, rules, arith}
-use Rattle.std.specs.Prelude.{MatchOption}
+use Rattle.std.proofs.Common.{◌<◌, refl, sym, ◌∙◌, subst, rules}
 use Rattle.dr_network.specs.Networks.{Network}
 use Rattle.dr_entry.specs.Visiting.{GoesOn, IsEntryCell}
 use Rattle.dr_cert.specs.Conditions.{HasEachLine}
-use Rattle.dr_cert.specs.Walking.{IsWalking, HasVisited, Shows, AfterWalk}
+use Rattle.dr_cert.specs.Walking.{IsWalking, HasVisited, Shows}
 use Rattle.dr_cert.specs.declared.walker.Walker.{Walker}
 use Rattle.dr_cert.proofs.Walks.{Visits, same_lines, found, found_at, missing_at}
 use Rattle.dr_cert.proofs.walk.walk_lines.Goals as goal

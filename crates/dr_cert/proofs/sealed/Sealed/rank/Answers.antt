@@ -1,4 +1,4 @@
-use Rattle.std.proofs.Common.{◌≡◌, ℕ, sym, ◌∙◌, ap, subst, List, Contains}
+use Rattle.std.proofs.Common.{ap, subst, List}
 use Rattle.dr_route.specs.Cells.{owned_field}
 use Rattle.dr_network.specs.Networks.{Network}
 use Rattle.dr_network.specs.Walks.{IsReached}

@@ -1,4 +1,4 @@
-use Rattle.std.proofs.Common.{◌≡◌, ℕ, ◌<◌, ◌≤◌, refl, subst, List, length, Bool, Some, true, arith}
+use Rattle.std.proofs.Common.{◌≡◌, ◌≤◌, refl, subst, List, length, Bool, Some, true, arith}
 use Rattle.std.specs.Prelude.{slice_get}
 use Rattle.dr_cert.proofs.walker.Walker.has_all.Goals as goal
 

@@ -1,4 +1,4 @@
-use Rattle.std.proofs.Common.{◌≡◌, refl, sym, ◌∙◌, ap, get_or, true, false}
+use Rattle.std.proofs.Common.{◌≡◌, refl, sym, ◌∙◌, get_or, true, false}
 use Rattle.std.proofs.lemmas.List.{get_or_default}
 use Rattle.dr_cert.proofs.Marks.{marked_before, marked_now, in_lines}
 use Rattle.std.proofs.Common.{arith}

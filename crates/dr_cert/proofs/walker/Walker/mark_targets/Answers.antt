@@ -1,14 +1,13 @@
-use Rattle.std.proofs.Common.{get_or, ◌≡◌, ℕ, ◌+◌, ◌<◌, ◌++◌, ◌∷◌, [], refl, sym, ◌∙◌, ap, subst, List, take, length, Contains, Some, None, arith, max}
-use Rattle.std.specs.Prelude.{slice_get}
-use Rattle.std.proofs.lemmas.List.{take_more, take_all, get_or_default}
+use Rattle.std.proofs.Common.{get_or, ◌≡◌, ℕ, ◌+◌, ◌<◌, ◌++◌, ◌∷◌, [], sym, subst, List, take, length, Contains, Some}
+use Rattle.std.proofs.lemmas.List.{take_more}
 use Rattle.std.proofs.lemmas.List.Elements.{Contains-get_or}
 use Rattle.std.proofs.lemmas.Option.{slice_get-get_or}
 use Rattle.dr_base.specs.Texts.{Text}
 use Rattle.dr_network.specs.Networks.{Network}
 use Rattle.dr_sound.specs.declared.certificate.Stop.{Stop}
 use Rattle.dr_sound.specs.declared.certificate.Line.{Line}
-use Rattle.dr_cert.specs.Indexing.{HasNoLine, StandsAt}
-use Rattle.dr_cert.specs.Walking.{IsWalking, IsComeTo, AfterMark, AfterTargets, next_stop}
+use Rattle.dr_cert.specs.Indexing.{HasNoLine}
+use Rattle.dr_cert.specs.Walking.{IsComeTo, AfterMark, AfterTargets, next_stop}
 use Rattle.dr_cert.proofs.Marks.{unchanged, in_lines}
 use Rattle.dr_cert.proofs.Following.{targets_none, targets_more, target_missing}
 use Rattle.dr_cert.proofs.walker.Walker.mark_targets.Goals as goal

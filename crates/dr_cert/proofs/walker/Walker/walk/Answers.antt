@@ -1,10 +1,8 @@
-use Rattle.std.proofs.Common.{◌≡◌, ℕ, ◌+◌, ◌-◌, ◌<◌, ◌≤◌, refl, sym, ◌∙◌, ap, subst, List, length, get_or, take, Contains, Some, None, arith, rules}
-use Rattle.std.specs.Prelude.{slice_get}
+use Rattle.std.proofs.Common.{◌≡◌, ℕ, ◌<◌, ◌≤◌, sym, ap, subst, List, length, get_or, Contains, arith, rules}
 use Rattle.std.proofs.lemmas.List.Elements.{Contains-get_or}
-use Rattle.dr_network.specs.Networks.{Network}
 use Rattle.dr_sound.specs.declared.certificate.Line.{Line}
 use Rattle.dr_cert.specs.Surveying.{EachAt, IsSurveyOf}
-use Rattle.dr_cert.specs.Walking.{IsWalking, IsFollowed, AfterLook}
+use Rattle.dr_cert.specs.Walking.{IsFollowed}
 use Rattle.dr_cert.proofs.Walked.{place_below, few_reached, walk_begins, walk_goes_on, missing_before, walk_ends}
 use Rattle.dr_cert.proofs.walker.Walker.walk.Goals as goal
 

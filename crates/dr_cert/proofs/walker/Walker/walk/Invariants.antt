@@ -1,4 +1,4 @@
-use Rattle.std.proofs.Common.{ℕ, ◌-◌, length}
+use Rattle.std.proofs.Common.{◌-◌, length}
 use Rattle.dr_cert.specs.Walking.{IsWalkedTo}
 use Rattle.dr_cert.proofs.walker.Walker.walk.Given as goal
 
