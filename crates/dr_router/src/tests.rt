@@ -94,7 +94,11 @@ impl<'a> Files for TwoFiles<'a> {
 }
 
 /// What a run made of the words and of a plan, which is on the standard input and in the file plan.toml.
-pub(super) fn run(alloc: Global, words: &[&str], plan: &str) -> Result<(Status, String, String), Fail> {
+pub(super) fn run(
+    alloc: Global,
+    words: &[&str],
+    plan: &str,
+) -> Result<(Status, String, String), Fail> {
     run_with(alloc, words, plan, "")
 }
 

@@ -27,7 +27,9 @@ fn certificate_of(alloc: Global, plan: &str, rows: &str) -> Result<String, Fail>
         text.push_str(format!(in alloc; "{byte:02x}")?.as_str())?;
     }
     text.push_str("\n")?;
-    let rows = rows.replace(alloc, "KEY\n", HOP)?.replace(alloc, "KEY", KEY)?;
+    let rows = rows
+        .replace(alloc, "KEY\n", HOP)?
+        .replace(alloc, "KEY", KEY)?;
     text.push_str(rows.as_str())?;
     Ok(text)
 }
@@ -43,7 +45,11 @@ fn is_answered(
     let (status, output, faults) = run_with(rt.alloc(), &words, plan, certificate)?;
     assert_eq!(rt; output.as_str(), line);
     assert_eq!(rt; faults.as_str(), "");
-    let expected = if line == "yes\n" { Status::Success } else { Status::Refused };
+    let expected = if line == "yes\n" {
+        Status::Success
+    } else {
+        Status::Refused
+    };
     assert_eq!(rt; status, expected);
     Ok(())
 }
@@ -80,10 +86,26 @@ fn changed_rows_are_named(rt: HostRuntime) -> Result<(), Fail> {
         (last, "", "C3 MissingLine"),
         ("ARCH\t1\tKEY", "ARCH\t3\tKEY", "C7 HopList"),
         (second, "", "C7 HopList"),
-        (first, "hop\tARCH\tCT1\t1\tKEY\nhop\tCT1\tGATE\t1\tKEY\n", "C7 HopList"),
-        ("line\tCT1", "line\tARCH\tGATE\tKEYCT\tS1\t0\nline\tCT1", "C8 Order"),
-        (last, "line\tGATE\tARCH\tKEYCT\tS1\t0\nline\tGATE\tARCH\tKEYCT\tS1\t0\n", "C8 Order"),
-        (second, "hop\tGATE\tARCH\t1\tKEY\nhop\tGATE\tARCH\t1\tKEY\n", "C8 Order"),
+        (
+            first,
+            "hop\tARCH\tCT1\t1\tKEY\nhop\tCT1\tGATE\t1\tKEY\n",
+            "C7 HopList",
+        ),
+        (
+            "line\tCT1",
+            "line\tARCH\tGATE\tKEYCT\tS1\t0\nline\tCT1",
+            "C8 Order",
+        ),
+        (
+            last,
+            "line\tGATE\tARCH\tKEYCT\tS1\t0\nline\tGATE\tARCH\tKEYCT\tS1\t0\n",
+            "C8 Order",
+        ),
+        (
+            second,
+            "hop\tGATE\tARCH\t1\tKEY\nhop\tGATE\tARCH\t1\tKEY\n",
+            "C8 Order",
+        ),
         ("end\n", "", "C1 Text"),
         ("end\n", "end\n\n", "C1 Text"),
         ("end\n", "end\r\n", "C1 Text"),
@@ -95,9 +117,11 @@ fn changed_rows_are_named(rt: HostRuntime) -> Result<(), Fail> {
         let line = format!(in alloc; "no\t{name}\n")?;
         rows_are_answered(&rt, PLAN, rows.as_str(), line.as_str())?;
     }
-    let exchanged = ROWS
-        .replace(alloc, first, "")?
-        .replace(alloc, second, "hop\tGATE\tARCH\t1\tKEY\nhop\tCT1\tGATE\t1\tKEY\n")?;
+    let exchanged = ROWS.replace(alloc, first, "")?.replace(
+        alloc,
+        second,
+        "hop\tGATE\tARCH\t1\tKEY\nhop\tCT1\tGATE\t1\tKEY\n",
+    )?;
     rows_are_answered(&rt, PLAN, exchanged.as_str(), "no\tC8 Order\n")
 }
 

@@ -42,8 +42,7 @@ fn read_plain<'a>(words: &'a [&'a str]) -> Option<Asked<'a>>
         [word] if *word == "check" => Some(Asked::CheckInput),
         [word, plan] if *word == "check" && is_no_option(plan) => Some(Asked::CheckFile(plan)),
         [word, plan, certificate]
-            if *word == "verify" && is_no_option(plan) && is_no_option(certificate) =>
-        {
+            if *word == "verify" && is_no_option(plan) && is_no_option(certificate) => {
             Some(Asked::Verify(plan, certificate))
         }
         _ => None,

@@ -10,9 +10,9 @@ use crate::copies::{
 };
 use crate::rows::{flows_at, hops_from, lines_of};
 use dr_base::{Seq, Text};
+use dr_cert::Sealed;
 use dr_cert::index::{find, index_of};
 use dr_cert::place::Place;
-use dr_cert::Sealed;
 use dr_network::literals::literals;
 use dr_network::sending::flow_targets;
 use dr_network::{Flow, Plan};
