@@ -20,10 +20,11 @@ use Rattle.dr_router.specs.declared.verify.Verdict.TheVariants.{Yes, No, Memory}
 use Rattle.dr_router.specs.declared.status.Status.{Status}
 use Rattle.dr_router.specs.declared.status.Status.TheVariants.{Success, Refused, Memory as OutOfMemory}
 
--- the text is written for this certificate, and for none
+-- the text is written for this certificate
 abbrev pub IsTextOf : Text → Certificate → Type 0
 IsTextOf text certificate = IsReadBack certificate_text IsPrintable text certificate
 
+-- the text is written for no certificate
 abbrev pub IsTextOfNone : Text → Type 0
 IsTextOfNone text = HasNone certificate_text IsPrintable text
 
