@@ -2,6 +2,12 @@
 use super::tests::{HOP, KEY, LOOP, PLAN, run, run_with};
 use super::*;
 use crate::status::Status;
+use dr_base::{Syntax, Text};
+use dr_cert::Sealed;
+use dr_cert_text::read_certificate;
+use dr_plan::read_plan;
+use dr_route::Key;
+use dr_site::{Site, SiteFault};
 use std::alloc::Global;
 use std::process::Abort;
 use std::test::Fail;
@@ -18,7 +24,7 @@ end
 
 /// A certificate with the plan's own digest and these rows.
 fn certificate_of(alloc: Global, plan: &str, rows: &str) -> Result<String, Fail> {
-    let digest = match dr_plan::read_plan(alloc, plan.as_bytes()) {
+    let digest = match read_plan(alloc, plan.as_bytes()) {
         Ok(plan) => *plan.digest(),
         Err(_) => [0; 32],
     };
@@ -164,4 +170,83 @@ line\tHUB\tGATE\tKEYCT\tS1\t1
 end
 ";
     rows_are_answered(&rt, endless.as_str(), rows, "no\tC4 WrongRank\n")
+}
+
+/// The plan of three nodes, sealed with its certificate.
+fn sealed(alloc: Global) -> Result<Sealed, Fail> {
+    let plan = read_plan(alloc, PLAN.as_bytes())?;
+    let text = certificate_of(alloc, PLAN, ROWS)?;
+    let certificate = read_certificate(alloc, text.as_bytes())?;
+    let sealed = Sealed::new(alloc, plan, certificate)?;
+    Ok(sealed)
+}
+
+fn text(alloc: Global, bytes: &str) -> Result<Text, Fail> {
+    Ok(Text::copy_of(alloc, bytes.as_bytes())?)
+}
+
+fn key(alloc: Global, modality: &str) -> Result<Key, Fail> {
+    Ok(Key {
+        class: text(alloc, "1.2.840.10008.5.1.4.1.1.2")?,
+        syntax: Syntax::Explicit,
+        modality: text(alloc, modality)?,
+        station: text(alloc, "S1")?,
+    })
+}
+
+#[test]
+fn ranks_are_those_of_the_plan(rt: HostRuntime) -> Result<(), Fail> {
+    let alloc = rt.alloc();
+    let sealed = sealed(alloc)?;
+    for (caller, node, modality, rank) in [
+        ("-", "CT1", "CT", Some(2)),
+        ("CT1", "GATE", "CT", Some(1)),
+        ("GATE", "ARCH", "CT", Some(0)),
+        ("-", "CT1", "MR", None),
+        ("-", "GATE", "CT", None),
+        ("CT1", "NONE", "CT", None),
+    ] {
+        let found = sealed.rank(
+            &text(alloc, caller)?,
+            &text(alloc, node)?,
+            &key(alloc, modality)?,
+        );
+        assert_eq!(rt; found, rank, "{caller} {node} {modality}");
+    }
+    Ok(())
+}
+
+#[test]
+fn a_site_is_its_nodes_part(rt: HostRuntime) -> Result<(), Fail> {
+    let alloc = rt.alloc();
+    let sealed = sealed(alloc)?;
+    let none = Site::of(alloc, &sealed, &text(alloc, "NONE")?);
+    assert!(rt; matches!(none, Err(SiteFault::NoNode)));
+    let gate = Site::of(alloc, &sealed, &text(alloc, "GATE")?)?.copy()?;
+    assert!(rt; gate.name().as_bytes() == b"GATE".as_slice());
+    let parts = [
+        gate.rules().len(),
+        gate.accepts().len(),
+        gate.lines().len(),
+        gate.hops().len(),
+    ];
+    assert_eq!(rt; parts, [1, 1, 1, 1]);
+    assert_eq!(rt; gate.flows().len(), 0);
+    assert_eq!(rt; gate.max_pdu(), 16384);
+    Ok(())
+}
+
+#[test]
+fn a_site_routes_as_planned(rt: HostRuntime) -> Result<(), Fail> {
+    let alloc = rt.alloc();
+    let sealed = sealed(alloc)?;
+    let gate = Site::of(alloc, &sealed, &text(alloc, "GATE")?)?;
+    let caller = text(alloc, "CT1")?;
+    assert!(rt; gate.has_line(&caller, &key(alloc, "CT")?));
+    assert!(rt; !gate.has_line(&caller, &key(alloc, "MR")?));
+    assert!(rt; !gate.has_line(&text(alloc, "-")?, &key(alloc, "CT")?));
+    let targets = gate.targets(alloc, &caller, &key(alloc, "CT")?)?;
+    assert_eq!(rt; targets.to.len(), 1);
+    assert!(rt; !targets.keep);
+    Ok(())
 }
