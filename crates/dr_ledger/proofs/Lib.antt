@@ -8,4 +8,5 @@ pub mod Maps
 pub mod Nothing
 pub mod Ones
 pub mod PlanRouting
+pub mod SiteAgreeing
 pub mod Wholes

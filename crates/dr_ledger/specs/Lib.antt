@@ -1,3 +1,4 @@
+pub mod Bare
 pub mod Books
 pub mod Histories
 pub mod Laws
@@ -6,3 +7,4 @@ pub mod PlanRoutes
 pub mod Refusals
 pub mod Replies
 pub mod Routings
+pub mod SiteRoutes

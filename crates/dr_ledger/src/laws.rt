@@ -1,4 +1,5 @@
 //! Laws of books, of their journals, and of what a plan's nodes do.
+ghost use Rattle.dr_ledger.specs.SiteRoutes.{SitesAgreeWithTheirPlans};
 ghost use Rattle.dr_ledger.specs.Laws.{AdmitsComesTrue, AdoptionsLeave, AgainIsALineAlone, AgreeInAdmitting, AgreeInArrivals, AgreeInHistories, ArrivalsAddALine, ArrivalsAreJournalled, ArrivalsAreOne, ArrivalsHaveAnswers, ArrivalsLeave, CallersAreApart, EmptyIsJournalled, FiguresAreRight, FoldsHaveTheirLines, HistoriesMakeWholeBooks, KeepsWhereTheNodeKeeps, NewIsNoted, NewRowsAreUntried, NextIsEarliest, NextIsOne, NextsHaveAnswers, NothingIsKeptForLocal, OnlyTargetsAreSentTo, RequeuingsAddALine, RequeuingsAreJournalled, RequeuingsAreOne, RequeuingsHaveAnswers, RequeuingsLeave, RequeuingsMoveARow, SettlingsAddALine, SettlingsAreJournalled, SettlingsAreOne, SettlingsHaveAnswers, SettlingsLeave, SettlingsMoveARow, TargetsAreInOrder, TargetsAreSentTo};
 ghost use Rattle.dr_ledger.specs.Routings.{Routing};
 
@@ -97,4 +98,10 @@ pub fn targets_are_sent_to()
 pub fn a_routing_keeps_as_its_node()
     ensures keeps { KeepsWhereTheNodeKeeps }
     ensures local { NothingIsKeptForLocal }
+{}
+
+/// What a node's site says of what is brought is what its sealed plan says, so that a ledger which goes by its site
+/// does what the plan asks.
+pub fn sites_agree_with_their_plans()
+    ensures { SitesAgreeWithTheirPlans }
 {}

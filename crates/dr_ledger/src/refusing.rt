@@ -10,6 +10,7 @@ use crate::fault::LedgerFault;
 use crate::item::{Arrived, Entry, Item, Outcome, Progress};
 use crate::ledger::Ledger;
 use dr_base::{Seq, Text};
+use dr_site::Site;
 
 /// Whether a refusal is due, and how many were made; the count stays at its greatest value.
 #[derive(Clone, Copy, PartialEq, Eq, Debug)]
@@ -80,6 +81,7 @@ impl<L: Ledger> Refusing<L> {
         ensures counts { Counts {A = Arrived} (Err result) (min (2 ^ 64 - 1) (L.failed self.old.ledger + self.old.refusals.made)) (min (2 ^ 64 - 1) (L.failed self.new.ledger + self.new.refusals.made)) }
         ensures stood { L.stands self.new.ledger → L.stands self.old.ledger }
         ensures routes { L.routes self.new.ledger ≡ L.routes self.old.ledger }
+        ensures site { L.site self.new.ledger ≡ L.site self.old.ledger }
     {
         match self.ledger.admits(caller, item) {
             Ok(()) => self.refuse(),
@@ -101,6 +103,7 @@ impl<L: Ledger> Refusing<L> {
         ensures counts { Counts {A = Unit {0}} (Err result) (min (2 ^ 64 - 1) (L.failed self.old.ledger + self.old.refusals.made)) (min (2 ^ 64 - 1) (L.failed self.new.ledger + self.new.refusals.made)) }
         ensures stood { L.stands self.new.ledger → L.stands self.old.ledger }
         ensures routes { L.routes self.new.ledger ≡ L.routes self.old.ledger }
+        ensures site { L.site self.new.ledger ≡ L.site self.old.ledger }
     {
         match self.ledger.progress(uid, dest) {
             Ok(Some(Progress::Waiting { .. })) => self.refuse(),
@@ -117,6 +120,7 @@ impl<L: Ledger> Refusing<L> {
         ensures counts { Counts {A = Unit {0}} (Err result) (min (2 ^ 64 - 1) (L.failed self.old.ledger + self.old.refusals.made)) (min (2 ^ 64 - 1) (L.failed self.new.ledger + self.new.refusals.made)) }
         ensures stood { L.stands self.new.ledger → L.stands self.old.ledger }
         ensures routes { L.routes self.new.ledger ≡ L.routes self.old.ledger }
+        ensures site { L.site self.new.ledger ≡ L.site self.old.ledger }
     {
         match self.ledger.progress(uid, dest) {
             Ok(Some(Progress::Held(_))) => self.refuse(),
@@ -127,7 +131,11 @@ impl<L: Ledger> Refusing<L> {
 }
 
 impl<L: Ledger> Ledger for Refusing<L> {
+    ghost site = { λ r. L.site r.ledger };
+
     ghost routes = { λ r. L.routes r.ledger };
+
+    ghost routed = { λ r. L.routed r.ledger };
 
     ghost book = { λ r. L.book r.ledger };
 
@@ -143,6 +151,7 @@ impl<L: Ledger> Ledger for Refusing<L> {
         ensures counts { Counts result (min (2 ^ 64 - 1) (L.failed self.old.ledger + self.old.refusals.made)) (min (2 ^ 64 - 1) (L.failed self.new.ledger + self.new.refusals.made)) }
         ensures stood { L.stands self.new.ledger → L.stands self.old.ledger }
         ensures routes { L.routes self.new.ledger ≡ L.routes self.old.ledger }
+        ensures site { L.site self.new.ledger ≡ L.site self.old.ledger }
     {
         if self.refusals.is_due {
             return Err(self.refuse_arrival(caller, &item));
@@ -157,6 +166,7 @@ impl<L: Ledger> Ledger for Refusing<L> {
         ensures counts { Counts result (min (2 ^ 64 - 1) (L.failed self.old.ledger + self.old.refusals.made)) (min (2 ^ 64 - 1) (L.failed self.new.ledger + self.new.refusals.made)) }
         ensures stood { L.stands self.new.ledger → L.stands self.old.ledger }
         ensures routes { L.routes self.new.ledger ≡ L.routes self.old.ledger }
+        ensures site { L.site self.new.ledger ≡ L.site self.old.ledger }
     {
         self.ledger.next(dest, now)
     }
@@ -174,6 +184,7 @@ impl<L: Ledger> Ledger for Refusing<L> {
         ensures counts { Counts result (min (2 ^ 64 - 1) (L.failed self.old.ledger + self.old.refusals.made)) (min (2 ^ 64 - 1) (L.failed self.new.ledger + self.new.refusals.made)) }
         ensures stood { L.stands self.new.ledger → L.stands self.old.ledger }
         ensures routes { L.routes self.new.ledger ≡ L.routes self.old.ledger }
+        ensures site { L.site self.new.ledger ≡ L.site self.old.ledger }
     {
         if self.refusals.is_due {
             return Err(self.refuse_settling(uid, dest, outcome, now));
@@ -187,6 +198,7 @@ impl<L: Ledger> Ledger for Refusing<L> {
         ensures counts { Counts result (min (2 ^ 64 - 1) (L.failed self.old.ledger + self.old.refusals.made)) (min (2 ^ 64 - 1) (L.failed self.new.ledger + self.new.refusals.made)) }
         ensures stood { L.stands self.new.ledger → L.stands self.old.ledger }
         ensures routes { L.routes self.new.ledger ≡ L.routes self.old.ledger }
+        ensures site { L.site self.new.ledger ≡ L.site self.old.ledger }
     {
         if self.refusals.is_due {
             return Err(self.refuse_requeuing(uid, dest));
@@ -201,6 +213,7 @@ impl<L: Ledger> Ledger for Refusing<L> {
         ensures counts { Counts result (min (2 ^ 64 - 1) (L.failed self.old.ledger + self.old.refusals.made)) (min (2 ^ 64 - 1) (L.failed self.new.ledger + self.new.refusals.made)) }
         ensures stood { L.stands self.new.ledger → L.stands self.old.ledger }
         ensures routes { L.routes self.new.ledger ≡ L.routes self.old.ledger }
+        ensures site { L.site self.new.ledger ≡ L.site self.old.ledger }
     {
         self.ledger.admits(caller, item)
     }
@@ -212,6 +225,7 @@ impl<L: Ledger> Ledger for Refusing<L> {
         ensures counts { Counts result (min (2 ^ 64 - 1) (L.failed self.old.ledger + self.old.refusals.made)) (min (2 ^ 64 - 1) (L.failed self.new.ledger + self.new.refusals.made)) }
         ensures stood { L.stands self.new.ledger → L.stands self.old.ledger }
         ensures routes { L.routes self.new.ledger ≡ L.routes self.old.ledger }
+        ensures site { L.site self.new.ledger ≡ L.site self.old.ledger }
     {
         self.ledger.has(uid)
     }
@@ -223,6 +237,7 @@ impl<L: Ledger> Ledger for Refusing<L> {
         ensures counts { Counts result (min (2 ^ 64 - 1) (L.failed self.old.ledger + self.old.refusals.made)) (min (2 ^ 64 - 1) (L.failed self.new.ledger + self.new.refusals.made)) }
         ensures stood { L.stands self.new.ledger → L.stands self.old.ledger }
         ensures routes { L.routes self.new.ledger ≡ L.routes self.old.ledger }
+        ensures site { L.site self.new.ledger ≡ L.site self.old.ledger }
     {
         self.ledger.arrivals()
     }
@@ -234,6 +249,7 @@ impl<L: Ledger> Ledger for Refusing<L> {
         ensures counts { Counts result (min (2 ^ 64 - 1) (L.failed self.old.ledger + self.old.refusals.made)) (min (2 ^ 64 - 1) (L.failed self.new.ledger + self.new.refusals.made)) }
         ensures stood { L.stands self.new.ledger → L.stands self.old.ledger }
         ensures routes { L.routes self.new.ledger ≡ L.routes self.old.ledger }
+        ensures site { L.site self.new.ledger ≡ L.site self.old.ledger }
     {
         self.ledger.kept()
     }
@@ -245,6 +261,7 @@ impl<L: Ledger> Ledger for Refusing<L> {
         ensures counts { Counts result (min (2 ^ 64 - 1) (L.failed self.old.ledger + self.old.refusals.made)) (min (2 ^ 64 - 1) (L.failed self.new.ledger + self.new.refusals.made)) }
         ensures stood { L.stands self.new.ledger → L.stands self.old.ledger }
         ensures routes { L.routes self.new.ledger ≡ L.routes self.old.ledger }
+        ensures site { L.site self.new.ledger ≡ L.site self.old.ledger }
     {
         self.ledger.rows()
     }
@@ -256,6 +273,7 @@ impl<L: Ledger> Ledger for Refusing<L> {
         ensures counts { Counts result (min (2 ^ 64 - 1) (L.failed self.old.ledger + self.old.refusals.made)) (min (2 ^ 64 - 1) (L.failed self.new.ledger + self.new.refusals.made)) }
         ensures stood { L.stands self.new.ledger → L.stands self.old.ledger }
         ensures routes { L.routes self.new.ledger ≡ L.routes self.old.ledger }
+        ensures site { L.site self.new.ledger ≡ L.site self.old.ledger }
     {
         self.ledger.lines()
     }
@@ -267,8 +285,13 @@ impl<L: Ledger> Ledger for Refusing<L> {
         ensures counts { Counts result (min (2 ^ 64 - 1) (L.failed self.old.ledger + self.old.refusals.made)) (min (2 ^ 64 - 1) (L.failed self.new.ledger + self.new.refusals.made)) }
         ensures stood { L.stands self.new.ledger → L.stands self.old.ledger }
         ensures routes { L.routes self.new.ledger ≡ L.routes self.old.ledger }
+        ensures site { L.site self.new.ledger ≡ L.site self.old.ledger }
     {
         self.ledger.progress(uid, dest)
+    }
+
+    fn is_of(&self, other: &Site) -> bool {
+        self.ledger.is_of(other)
     }
 
     fn failures(&self) -> u64 {

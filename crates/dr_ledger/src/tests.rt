@@ -1,6 +1,8 @@
 //! What a refusing ledger does, over a ledger of fixed answers.
-ghost use Rattle.std.specs.Prelude.{◌≡◌, ◌≤◌, ◌^◌, ◌-◌};
+ghost use Rattle.std.specs.Prelude.{◌≡◌, ◌↔◌, ◌≤◌, ◌^◌, ◌-◌, IsTrue};
 ghost use Rattle.dr_ledger.specs.Books.{empty_book};
+ghost use Rattle.dr_ledger.specs.SiteRoutes.{IsSameSite};
+ghost use Rattle.dr_ledger.specs.Bare.{bare_site};
 
 use crate::fault::LedgerFault;
 use crate::item::{Arrived, Cause, Entry, Item, Outcome, Progress};
@@ -8,13 +10,37 @@ use crate::ledger::{Ledger, arrive_both};
 use crate::refusing::Refusing;
 use dr_base::{Octets, Seq, Syntax, Text};
 use dr_route::Key;
+use dr_site::Site;
 use std::alloc::Global;
 use std::test::Fail;
+
+/// The name of a node, and the digest of a plan.
+#[derive(Drop)]
+struct Place {
+    name: Text,
+    digest: Octets,
+}
+
+impl Place {
+    fn new(alloc: Global) -> Result<Place, Fail> {
+        Ok(Place {
+            name: Text::copy_of(alloc, b"GATE")?,
+            digest: Text::copy_of(alloc, [7; 32].as_slice())?,
+        })
+    }
+
+    fn is_that_of(&self, site: &Site) -> bool
+        ensures { IsTrue result ↔ IsSameSite (bare_site self.now.name self.now.digest) site.now }
+    {
+        self.name == *site.name() && self.digest.as_bytes() == site.digest().as_slice()
+    }
+}
 
 /// A ledger of fixed answers. Nothing is claimed of its values: its premise never holds.
 #[derive(Drop)]
 struct Stub {
     alloc: Global,
+    place: Place,
     refuses: Option<LedgerFault>,
     row: Option<Progress>,
     arrivals: u64,
@@ -22,8 +48,13 @@ struct Stub {
 
 impl Ledger for Stub {
     ghost use Rattle.std.specs.Prelude.{None};
+    ghost use Rattle.dr_ledger.specs.Bare.{bare_site, no_routes};
+
+    ghost site = { λ s. bare_site s.place.name s.place.digest };
 
     ghost routes = { λ s caller key. None };
+
+    ghost routed = { λ s. ∣ no_routes s.place.name s.place.digest ∣₁ };
 
     ghost book = { λ s. empty_book };
 
@@ -90,6 +121,10 @@ impl Ledger for Stub {
         Ok(self.row)
     }
 
+    fn is_of(&self, other: &Site) -> bool {
+        self.place.is_that_of(other)
+    }
+
     fn failures(&self) -> u64 {
         u64::MAX
     }
@@ -100,12 +135,18 @@ impl Ledger for Stub {
 #[derive(Drop)]
 struct Unnamed {
     alloc: Global,
+    place: Place,
 }
 
 impl Ledger for Unnamed {
     ghost use Rattle.std.specs.Prelude.{None, refl};
+    ghost use Rattle.dr_ledger.specs.Bare.{bare_site, no_routes};
+
+    ghost site = { λ l. bare_site l.place.name l.place.digest };
 
     ghost routes = { λ l caller key. None };
+
+    ghost routed = { λ l. ∣ no_routes l.place.name l.place.digest ∣₁ };
 
     ghost book = { λ l. empty_book };
 
@@ -170,6 +211,10 @@ impl Ledger for Unnamed {
         Ok(None)
     }
 
+    fn is_of(&self, other: &Site) -> bool {
+        self.place.is_that_of(other)
+    }
+
     fn failures(&self) -> u64 {
         0
     }
@@ -188,15 +233,20 @@ fn item(alloc: Global) -> Result<Item, Fail> {
     })
 }
 
-fn told(alloc: Global, refuses: Option<LedgerFault>, row: Option<Progress>) -> Refusing<Stub> {
+fn told(
+    alloc: Global,
+    refuses: Option<LedgerFault>,
+    row: Option<Progress>,
+) -> Result<Refusing<Stub>, Fail> {
     let mut ledger = Refusing::new(Stub {
         alloc,
+        place: Place::new(alloc)?,
         refuses,
         row,
         arrivals: 0,
     });
     ledger.refuse_next();
-    ledger
+    Ok(ledger)
 }
 
 #[test]
@@ -211,7 +261,7 @@ fn a_copy_is_equal(rt: HostRuntime) -> Result<(), Fail> {
 #[test]
 fn one_arrival_is_refused(rt: HostRuntime) -> Result<(), Fail> {
     let caller = Text::copy_of(rt.alloc(), b"-")?;
-    let mut ledger = told(rt.alloc(), None, None);
+    let mut ledger = told(rt.alloc(), None, None)?;
     assert!(rt; ledger.admits(&caller, &item(rt.alloc())?) == Ok(()));
     assert!(rt; ledger.refusals().is_due);
     assert!(rt; ledger.arrive(&caller, item(rt.alloc())?) == Err(LedgerFault::Store));
@@ -225,7 +275,7 @@ fn one_arrival_is_refused(rt: HostRuntime) -> Result<(), Fail> {
 #[test]
 fn what_is_refused_anyway_leaves_a_refusal_due(rt: HostRuntime) -> Result<(), Fail> {
     let caller = Text::copy_of(rt.alloc(), b"-")?;
-    let mut ledger = told(rt.alloc(), Some(LedgerFault::NoLine), Some(Progress::Done));
+    let mut ledger = told(rt.alloc(), Some(LedgerFault::NoLine), Some(Progress::Done))?;
     assert!(rt; ledger.arrive(&caller, item(rt.alloc())?) == Err(LedgerFault::NoLine));
     assert!(rt;
         ledger.settle(&caller, &caller, Outcome::Broken, 0) == Err(LedgerFault::NotWaiting)
@@ -240,11 +290,11 @@ fn what_is_refused_anyway_leaves_a_refusal_due(rt: HostRuntime) -> Result<(), Fa
 fn a_settling_and_a_requeuing_are_refused(rt: HostRuntime) -> Result<(), Fail> {
     let uid = Text::copy_of(rt.alloc(), b"1.2.3.4")?;
     let waiting = Progress::Waiting { tries: 1, due: 7 };
-    let mut ledger = told(rt.alloc(), None, Some(waiting));
+    let mut ledger = told(rt.alloc(), None, Some(waiting))?;
     assert!(rt; ledger.settle(&uid, &uid, Outcome::Broken, 0) == Err(LedgerFault::Store));
     assert!(rt; ledger.settle(&uid, &uid, Outcome::Broken, 0) == Ok(()));
     let held = Progress::Held(Cause::NoContext);
-    let mut ledger = told(rt.alloc(), None, Some(held));
+    let mut ledger = told(rt.alloc(), None, Some(held))?;
     assert!(rt; ledger.requeue(&uid, &uid) == Err(LedgerFault::Store));
     assert!(rt; ledger.requeue(&uid, &uid) == Ok(()));
     Ok(())
@@ -253,7 +303,7 @@ fn a_settling_and_a_requeuing_are_refused(rt: HostRuntime) -> Result<(), Fail> {
 #[test]
 fn the_second_arrival_isnt_tried_after_a_refusal(rt: HostRuntime) -> Result<(), Fail> {
     let caller = Text::copy_of(rt.alloc(), b"-")?;
-    let mut ledger = told(rt.alloc(), None, None);
+    let mut ledger = told(rt.alloc(), None, None)?;
     let both = arrive_both(&mut ledger, &caller, item(rt.alloc())?, item(rt.alloc())?);
     assert!(rt; both == Err(LedgerFault::Store));
     let both = arrive_both(&mut ledger, &caller, item(rt.alloc())?, item(rt.alloc())?);
@@ -265,7 +315,7 @@ fn the_second_arrival_isnt_tried_after_a_refusal(rt: HostRuntime) -> Result<(), 
 #[test]
 fn reads_leave_a_refusal_due(rt: HostRuntime) -> Result<(), Fail> {
     let uid = Text::copy_of(rt.alloc(), b"1.2.3.4")?;
-    let mut ledger = told(rt.alloc(), None, Some(Progress::Done));
+    let mut ledger = told(rt.alloc(), None, Some(Progress::Done))?;
     assert!(rt; ledger.has(&uid) == Ok(true));
     assert!(rt; ledger.next(&uid, 0)?.is_none());
     assert!(rt; ledger.progress(&uid, &uid) == Ok(Some(Progress::Done)));
@@ -281,7 +331,10 @@ fn reads_leave_a_refusal_due(rt: HostRuntime) -> Result<(), Fail> {
 #[test]
 fn a_refusal_stays_due_where_nothing_can_arrive(rt: HostRuntime) -> Result<(), Fail> {
     let uid = Text::copy_of(rt.alloc(), b"1.2.3.4")?;
-    let mut ledger = Refusing::new(Unnamed { alloc: rt.alloc() });
+    let mut ledger = Refusing::new(Unnamed {
+        alloc: rt.alloc(),
+        place: Place::new(rt.alloc())?,
+    });
     ledger.refuse_next();
     assert!(rt; ledger.arrive(&uid, item(rt.alloc())?) == Err(LedgerFault::NoLine));
     assert!(rt; ledger.settle(&uid, &uid, Outcome::Broken, 0) == Err(LedgerFault::NotWaiting));
