@@ -257,6 +257,8 @@ def play(seed, wrong, happened):
 
 def main():
     words = [a for a in sys.argv[1:] if a != '--wrong']
+    if not all(word.isdigit() for word in words):
+        sys.exit(__doc__)
     runs, seed = int(words[0]) if words else 2000, int(words[1]) if len(words) > 1 else 1
     happened = collections.Counter()
     if '--wrong' in sys.argv:

@@ -132,16 +132,16 @@ fn changed_rows_are_named(rt: HostRuntime) -> Result<(), Fail> {
 }
 
 #[test]
-fn the_digest_is_that_of_the_plan(rt: HostRuntime) -> Result<(), Fail> {
-    let alloc = rt.alloc();
-    let of_another = certificate_of(alloc, "", ROWS)?;
-    is_answered(&rt, PLAN, of_another.as_str(), "no\tC2 OtherPlan\n")?;
-    let own = certificate_of(alloc, PLAN, ROWS)?;
-    let upper = own.as_str().to_ascii_uppercase(alloc)?;
-    let (front, back) = own.as_str().split_at(19);
-    let digest = upper.as_str().get(19..83).unwrap_or("");
-    let spelled = format!(in alloc; "{front}{digest}{}", back.get(64..).unwrap_or(""))?;
-    is_answered(&rt, PLAN, spelled.as_str(), "no\tC1 Text\n")
+fn a_digest_of_another_plan_is_named(rt: HostRuntime) -> Result<(), Fail> {
+    let of_another = certificate_of(rt.alloc(), "", ROWS)?;
+    is_answered(&rt, PLAN, of_another.as_str(), "no\tC2 OtherPlan\n")
+}
+
+#[test]
+fn a_digest_has_no_upper_case(rt: HostRuntime) -> Result<(), Fail> {
+    let certificate =
+        "certificate\t1\nplan\tE3B0C44298FC1C149AFBF4C8996FB92427AE41E4649B934CA495991B7852B855\nend\n";
+    is_answered(&rt, "", certificate, "no\tC1 Text\n")
 }
 
 #[test]
@@ -194,10 +194,17 @@ fn key(alloc: Global, modality: &str) -> Result<Key, Fail> {
     })
 }
 
+/// The rank that the sealed plan of three nodes gives.
+fn rank_of(alloc: Global, caller: &str, node: &str, modality: &str) -> Result<Option<u32>, Fail> {
+    let sealed = sealed(alloc)?;
+    let caller = text(alloc, caller)?;
+    let node = text(alloc, node)?;
+    let key = key(alloc, modality)?;
+    Ok(sealed.rank(&caller, &node, &key))
+}
+
 #[test]
 fn ranks_are_those_of_the_plan(rt: HostRuntime) -> Result<(), Fail> {
-    let alloc = rt.alloc();
-    let sealed = sealed(alloc)?;
     for (caller, node, modality, rank) in [
         ("-", "CT1", "CT", Some(2)),
         ("CT1", "GATE", "CT", Some(1)),
@@ -206,47 +213,68 @@ fn ranks_are_those_of_the_plan(rt: HostRuntime) -> Result<(), Fail> {
         ("-", "GATE", "CT", None),
         ("CT1", "NONE", "CT", None),
     ] {
-        let found = sealed.rank(
-            &text(alloc, caller)?,
-            &text(alloc, node)?,
-            &key(alloc, modality)?,
-        );
-        assert_eq!(rt; found, rank, "{caller} {node} {modality}");
+        assert_eq!(rt; rank_of(rt.alloc(), caller, node, modality)?, rank);
     }
     Ok(())
 }
 
-#[test]
-fn a_site_is_its_nodes_part(rt: HostRuntime) -> Result<(), Fail> {
-    let alloc = rt.alloc();
+/// The site of a node of the plan of three nodes.
+fn site(alloc: Global, node: &str) -> Result<Option<Site>, Fail> {
     let sealed = sealed(alloc)?;
-    let none = Site::of(alloc, &sealed, &text(alloc, "NONE")?);
-    assert!(rt; matches!(none, Err(SiteFault::NoNode)));
-    let gate = Site::of(alloc, &sealed, &text(alloc, "GATE")?)?.copy()?;
-    assert!(rt; gate.name().as_bytes() == b"GATE".as_slice());
-    let parts = [
-        gate.rules().len(),
-        gate.accepts().len(),
-        gate.lines().len(),
-        gate.hops().len(),
-    ];
-    assert_eq!(rt; parts, [1, 1, 1, 1]);
-    assert_eq!(rt; gate.flows().len(), 0);
-    assert_eq!(rt; gate.max_pdu(), 16384);
-    Ok(())
+    let node = text(alloc, node)?;
+    match Site::of(alloc, &sealed, &node) {
+        Ok(site) => Ok(Some(site)),
+        Err(SiteFault::NoNode) => Ok(None),
+        Err(fault) => Err(Fail::from(fault)),
+    }
+}
+
+/// How many rules, accept rows, flows, lines and hops it has.
+fn parts_of(alloc: Global, node: &str) -> Result<Option<[usize; 5]>, Fail> {
+    let Some(site) = site(alloc, node)? else {
+        return Ok(None);
+    };
+    Ok(Some([
+        site.rules().len(),
+        site.accepts().len(),
+        site.flows().len(),
+        site.lines().len(),
+        site.hops().len(),
+    ]))
 }
 
 #[test]
-fn a_site_routes_as_planned(rt: HostRuntime) -> Result<(), Fail> {
-    let alloc = rt.alloc();
-    let sealed = sealed(alloc)?;
-    let gate = Site::of(alloc, &sealed, &text(alloc, "GATE")?)?;
-    let caller = text(alloc, "CT1")?;
-    assert!(rt; gate.has_line(&caller, &key(alloc, "CT")?));
-    assert!(rt; !gate.has_line(&caller, &key(alloc, "MR")?));
-    assert!(rt; !gate.has_line(&text(alloc, "-")?, &key(alloc, "CT")?));
-    let targets = gate.targets(alloc, &caller, &key(alloc, "CT")?)?;
-    assert_eq!(rt; targets.to.len(), 1);
-    assert!(rt; !targets.keep);
+fn a_site_is_its_nodes_part(rt: HostRuntime) -> Result<(), Fail> {
+    for (node, parts) in [
+        ("CT1", Some([0, 0, 1, 1, 1])),
+        ("GATE", Some([1, 1, 0, 1, 1])),
+        ("ARCH", Some([1, 1, 0, 1, 0])),
+        ("NONE", None),
+    ] {
+        assert!(rt; parts_of(rt.alloc(), node)? == parts);
+    }
+    Ok(())
+}
+
+/// Whether GATE's site has a line for the caller and the key.
+fn gate_has_line(alloc: Global, caller: &str, modality: &str) -> Result<bool, Fail> {
+    let Some(site) = site(alloc, "GATE")? else {
+        return Ok(false);
+    };
+    let caller = text(alloc, caller)?;
+    let key = key(alloc, modality)?;
+    Ok(site.has_line(&caller, &key))
+}
+
+#[test]
+fn a_site_has_the_lines_of_its_node(rt: HostRuntime) -> Result<(), Fail> {
+    for (caller, modality, has) in [
+        ("CT1", "CT", true),
+        ("CT1", "MR", false),
+        ("-", "CT", false),
+        ("ARCH", "CT", false),
+    ] {
+        assert_eq!(rt; gate_has_line(rt.alloc(), caller, modality)?, has);
+    }
     Ok(())
 }
