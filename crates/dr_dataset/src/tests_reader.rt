@@ -175,7 +175,11 @@ fn vec_is_empty(bytes: &Vec<u8>) -> bool {
 }
 
 /// The answer that the scan should give.
-pub(super) fn plain_answer(alloc: Global, text: &[u8], syntax: Syntax) -> Result<Attributes, DataFault> {
+pub(super) fn plain_answer(
+    alloc: Global,
+    text: &[u8],
+    syntax: Syntax,
+) -> Result<Attributes, DataFault> {
     let mut place = 0;
     for _ in 0..text.len() {
         if place >= text.len() {
