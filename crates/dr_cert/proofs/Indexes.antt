@@ -15,8 +15,9 @@ use Rattle.dr_network.proofs.Gathered.{nothing_in_nil}
 use Rattle.dr_sound.specs.declared.certificate.Stop.{Stop}
 use Rattle.dr_sound.specs.declared.certificate.Line.{Line}
 use Rattle.dr_sound.specs.contracts.certificate.StopOrd.TheImpl.Laws as laws
-use Rattle.dr_cert.specs.Indexing.{stop_cmp, line_of, AreRanksOf, IsIndexOf}
-use Rattle.dr_cert.proofs.Stops.{stop_exact, same_stop_or_not}
+use Rattle.dr_sound.specs.Stops.{stop_cmp}
+use Rattle.dr_cert.specs.Indexing.{line_of, AreRanksOf, IsIndexOf}
+use Rattle.dr_sound.proofs.SameStops.{stop_exact, same_stop_or_not}
 
 not_at : (a b : Stop) → (b ≡ a → ⊥) → is_at (stop_cmp a) b ≡ false
 not_at a b apart = elim (cases_Bool (is_at (stop_cmp a) b)) [

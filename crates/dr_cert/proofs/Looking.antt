@@ -16,7 +16,8 @@ use Rattle.dr_sound.specs.declared.certificate.Line.{Line}
 use Rattle.dr_sound.specs.contracts.certificate.StopOrd.TheImpl.Laws as laws
 use Rattle.dr_sound.specs.Ranked.{SendsOn}
 use Rattle.dr_sound.proofs.Hopping.{reached_next}
-use Rattle.dr_cert.specs.Indexing.{stop_cmp, AreSorted, StandsAt}
+use Rattle.dr_sound.specs.Stops.{stop_cmp}
+use Rattle.dr_cert.specs.Indexing.{AreSorted, StandsAt}
 use Rattle.dr_cert.specs.Surveying.{IsLetIn, IsRankedAmong}
 use Rattle.dr_cert.specs.Walking.{IsComeTo, IsCalledFor, AfterTargets, AfterLook, next_stop}
 use Rattle.dr_cert.specs.declared.survey.Survey.{Survey}

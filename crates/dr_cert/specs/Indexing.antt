@@ -5,12 +5,9 @@ use Rattle.std.specs.declared.cmp.Ordering.{Ordering}
 use Rattle.std.specs.declared.cmp.Ordering.TheVariants.{Less}
 use Rattle.dr_sound.specs.declared.certificate.Stop.{Stop}
 use Rattle.dr_sound.specs.declared.certificate.Line.{Line}
+use Rattle.dr_sound.specs.Stops.{stop_cmp}
 use Rattle.dr_sound.specs.contracts.certificate.StopOrd.TheImpl as order
 use Rattle.dr_cert.specs.Conditions.{HasALine}
-
--- by caller, node and cell
-abbrev pub stop_cmp : Stop → Stop → Ordering
-stop_cmp = order.cmp-value.it
 
 -- in the order of their stops, each stop once
 abbrev pub AreSorted : List Line → Type 0

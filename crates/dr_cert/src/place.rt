@@ -4,7 +4,7 @@ ghost use Rattle.dr_base.specs.Texts.{text_cmp};
 ghost use Rattle.dr_route.specs.Cells.{owned_field};
 ghost use Rattle.dr_route.specs.contracts.cell.OwnedFieldOrd.TheImpl as fields;
 ghost use Rattle.dr_route.specs.contracts.cell.OwnedCellOrd.TheImpl as cells;
-ghost use Rattle.dr_cert.specs.Indexing.{stop_cmp};
+ghost use Rattle.dr_sound.specs.Stops.{stop_cmp};
 
 use dr_base::{Syntax, Text};
 use dr_route::cell::Field;

@@ -1,14 +1,11 @@
 //! What is right about lines.
-ghost use Rattle.std.specs.Prelude.{◌≡◌, ◌↔◌, ◌⊎◌, ◌&&◌, IsTrue, IfOk, Contains, true};
+ghost use Rattle.std.specs.Prelude.{◌≡◌, ◌↔◌, ◌⊎◌, ◌&&◌, IsTrue, Contains, true};
 ghost use Rattle.dr_base.specs.Texts.{Text as Words};
-ghost use Rattle.dr_route.specs.Laws.{key_of, value_of};
 ghost use Rattle.dr_cert.specs.Surveying.{IsLetIn};
 
-use dr_base::Text;
 use dr_network::{Plan, sending};
-use dr_route::{Key, OwnedCell, OwnedField, Targets, is_local};
+use dr_route::{Targets, is_local};
 use dr_sound::Line;
-use std::alloc::{AllocError, Global};
 
 /// What was found of lines of a certificate: whether each of their stops is let in, whether each goes on, and
 /// whether each rank is right among the others.
@@ -63,26 +60,4 @@ pub fn does_something(targets: &Targets) -> bool
     ensures { IsTrue result ↔ (IsTrue targets.now.keep ⊎ ((name : Words) × Contains targets.now.to name)) }
 {
     targets.keep || !targets.to.is_empty()
-}
-
-/// A value of the part of the field: its literal, or the text of the one byte 128, which no literal has.
-fn value_in(alloc: Global, field: &OwnedField) -> Result<Text, AllocError>
-    ensures { IfOk result (λ t. t ≡ value_of field.now) }
-{
-    match field {
-        OwnedField::Literal(literal) => literal.clone(),
-        OwnedField::Rest => Text::copy_of(alloc, &[128]),
-    }
-}
-
-/// One key of the cell.
-pub fn key_in(alloc: Global, cell: &OwnedCell) -> Result<Key, AllocError>
-    ensures { IfOk result (λ k. k ≡ key_of cell.now) }
-{
-    Ok(Key {
-        class: cell.class.clone()?,
-        syntax: cell.syntax,
-        modality: value_in(alloc, &cell.modality)?,
-        station: value_in(alloc, &cell.station)?,
-    })
 }

@@ -8,11 +8,12 @@ ghost use Rattle.dr_cert.specs.Indexing.{AreSorted};
 
 use crate::index::find;
 use crate::place::Place;
-use crate::survey::{Survey, does_something, is_let_in, key_in};
+use crate::survey::{Survey, does_something, is_let_in};
 use dr_base::Text;
 use dr_entry::EntryVisitor;
 use dr_network::{Plan, sending};
 use dr_route::OwnedCell;
+use dr_route::cell::key_in;
 use dr_sound::{Line, Stop};
 use std::alloc::{AllocError, Global};
 
@@ -110,6 +111,7 @@ impl<'a> Walker<'a> {
         }
         Ok(Some(place))
     }
+
     /// Goes to the stops at which the instances come to the targets, and gives the rank that they call for; None
     /// where one of them has no line.
     fn mark_targets(&mut self, stop: &Stop, targets: &[Text]) -> Result<Option<u64>, AllocError>

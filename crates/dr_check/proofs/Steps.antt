@@ -28,8 +28,10 @@ use Rattle.dr_check.specs.Shown.{IsTooLarge}
 use Rattle.dr_check.specs.declared.search.Search.{Search}
 use Rattle.dr_check.specs.declared.search.Mark.{Mark}
 use Rattle.dr_check.specs.declared.search.Mark.TheVariants.{Open, Finished}
-use Rattle.dr_check.specs.Searching.{stop_cmp, Marks, mark_at, stop_at, pairs_from, IsTrail, IsSearching, IsLater, IsLetIn, IsDone, IsFresh, IsInside, IsRankedBy}
-use Rattle.dr_check.proofs.Marking.{same_stop_or_not, Marks-set, open_is_not_finished, none_is_not_some, finished_same, unmarked, keys_apart, keys_marked}
+use Rattle.dr_sound.specs.Stops.{stop_cmp}
+use Rattle.dr_check.specs.Searching.{Marks, mark_at, stop_at, pairs_from, IsTrail, IsSearching, IsLater, IsLetIn, IsDone, IsFresh, IsInside, IsRankedBy}
+use Rattle.dr_sound.proofs.SameStops.{same_stop_or_not}
+use Rattle.dr_check.proofs.Marking.{Marks-set, open_is_not_finished, none_is_not_some, finished_same, unmarked, keys_apart, keys_marked}
 use Rattle.dr_check.proofs.Trails.{trail_pairs, trail_reaches, trail_goes_on, trail_begins}
 
 -- ---- too many stops

@@ -12,6 +12,7 @@ use Rattle.dr_network.specs.Laws.{IsCellOf}
 use Rattle.dr_network.specs.Walks.{Sends, Keeps, Accepts, IsWalk, last_place, IsEntry, IsReached}
 use Rattle.dr_sound.specs.declared.certificate.Stop.{Stop}
 use Rattle.dr_sound.specs.declared.certificate.Line.{Line}
+use Rattle.dr_sound.specs.Stops.{stop_cmp}
 use Rattle.dr_sound.specs.contracts.certificate.StopOrd.TheImpl as order
 use Rattle.dr_sound.specs.Ranked.{line_at, SendsOn, IsRanked}
 use Rattle.dr_check.specs.declared.search.Search.{Search}
@@ -25,10 +26,6 @@ use Rattle.dr_check.specs.declared.search.Reached.{Reached}
 use Rattle.dr_check.specs.declared.search.Reached.TheVariants as reached
 use Rattle.dr_check.specs.declared.fault.Fault.TheVariants as fault
 use Rattle.dr_check.specs.Shown.{IsShown, IsTooLarge}
-
--- the order of stops in a map
-abbrev pub stop_cmp : Stop → Stop → Ordering
-stop_cmp = order.cmp-value.it
 
 abbrev pub Marks : Type 0
 Marks = BTreeMap Stop Mark

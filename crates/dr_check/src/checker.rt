@@ -1,7 +1,6 @@
 //! The checker at each entry of a plan: it searches all walks from there.
 ghost use Rattle.std.specs.Prelude.{◌≡◌, IfOk};
 ghost use Rattle.dr_base.specs.Texts.{Text as Words};
-ghost use Rattle.dr_route.specs.Laws.{key_of, value_of};
 ghost use Rattle.dr_route.specs.Routes.{local};
 ghost use Rattle.dr_network.specs.Networks.{Network};
 ghost use Rattle.dr_check.specs.Checking.{IsReady};
@@ -13,7 +12,8 @@ use crate::search::{Reached, Search, Trouble, reach};
 use dr_base::{Seq, Text};
 use dr_entry::EntryVisitor;
 use dr_network::Plan;
-use dr_route::{Key, OwnedCell, OwnedField};
+use dr_route::OwnedCell;
+use dr_route::cell::key_in;
 use dr_sound::Line;
 use std::alloc::{AllocError, Global};
 use std::collections::BTreeMap;
@@ -63,28 +63,6 @@ impl<'a> Checker<'a> {
         let Search { lines, .. } = search;
         lines
     }
-}
-
-/// A value of the part of the field: its literal, or the text of the one byte 128, which no literal has.
-fn value_in(alloc: Global, field: &OwnedField) -> Result<Text, AllocError>
-    ensures { IfOk result (λ t. t ≡ value_of field.now) }
-{
-    match field {
-        OwnedField::Literal(literal) => literal.clone(),
-        OwnedField::Rest => Text::copy_of(alloc, &[128]),
-    }
-}
-
-/// One key of the cell.
-fn key_in(alloc: Global, cell: &OwnedCell) -> Result<Key, AllocError>
-    ensures { IfOk result (λ k. k ≡ key_of cell.now) }
-{
-    Ok(Key {
-        class: cell.class.clone()?,
-        syntax: cell.syntax,
-        modality: value_in(alloc, &cell.modality)?,
-        station: value_in(alloc, &cell.station)?,
-    })
 }
 
 /// A copy of the cell.

@@ -8,7 +8,7 @@ use Rattle.dr_dimse.specs.declared.fault.DimseFault.{DimseFault}
 use Rattle.dr_dimse.specs.declared.fault.DimseFault.TheVariants.{OutOfPlace, MixedContext, BadCommand, TooLong, Memory}
 use Rattle.dr_dimse.specs.Commands.{IsCommand, announces}
 use Rattle.dr_dimse.specs.Messages.{is_last, IsMessage}
-use Rattle.dr_dimse.specs.Taking.{Stage, Idle, InCommand, InData, wants_command, IsAwaited, EndsCommand, TakesCommand, TakesData, Takes, Waits}
+use Rattle.dr_dimse.specs.Taking.{Stage, Idle, InCommand, InData, wants_command, IsAwaited, EndsCommand, Begins, TakesData, Takes, Waits}
 use Rattle.dr_dimse.proofs.OneCommand.{one_command}
 use Rattle.dr_dimse.proofs.MessageLemmas.{fault_stays}
 use Rattle.dr_dimse.proofs.GivenLemmas.{is_given}
@@ -17,7 +17,7 @@ use Rattle.dr_dimse.proofs.GivenLemmas.{is_given}
 clash : (b : Bool) → b ≡ true → b ≡ false → ⊥
 clash b p q = absurd (cc)
 
-one_message : (p : Pdv) (c : Command) (m n : Option Message) (s t : Stage) → TakesCommand p c m s → TakesCommand p c n t → (m ≡ n) × (s ≡ t)
+one_message : (p : Pdv) (c : Command) (m n : Option Message) (s t : Stage) → Begins p.id c m s → Begins p.id c n t → (m ≡ n) × (s ≡ t)
 one_message p c None None s t h k = (refl, h.1 ∙ sym k.1)
 one_message p c (Some m) (Some n) s t h k = (ap Some (h.1 ∙ sym k.1), h.2 ∙ sym k.2)
 one_message p c None (Some n) s t h k = absurd (clash (announces c) h.0 k.0)
@@ -40,7 +40,7 @@ taken_once a u p m n s t (inl h) (inl k) = one_data u p m n s t h.2 k.2
 taken_once a u p m n s t (inr (inl h)) (inr (inl k)) = (h.2 ∙ sym k.2, h.3 ∙ sym k.3)
 taken_once a u p m n s t (inr (inr h)) (inr (inr k)) =
     let same = same_command u p h.0 k.0 h.1 k.1 h.2 k.2 h.3 k.3 in
-    one_message p k.1 m n s t (subst (λ (c : Command). TakesCommand p c m s) same h.5) k.5
+    one_message p k.1 m n s t (subst (λ (c : Command). Begins p.id c m s) same h.5) k.5
 taken_once a u p m n s t (inl h) (inr (inl k)) = absurd (clash (wants_command u) k.0.1 h.1)
 taken_once a u p m n s t (inl h) (inr (inr k)) = absurd (clash (wants_command u) k.2.0.1 h.1)
 taken_once a u p m n s t (inr (inl h)) (inl k) = absurd (clash (wants_command u) h.0.1 k.1)

@@ -10,8 +10,8 @@ use Rattle.dr_dimse.specs.declared.command.Command.{Command}
 use Rattle.dr_dimse.specs.declared.message.Body.{Body}
 use Rattle.dr_dimse.specs.declared.message.Message.{Message}
 use Rattle.dr_dimse.specs.Messages.{is_last}
-use Rattle.dr_dimse.specs.Stages.{stage_of, text_held, ReadsAwaited, Begins}
-use Rattle.dr_dimse.specs.Taking.{Stage, text_so_far, wants_command, InPlace, EndsCommand, Takes}
+use Rattle.dr_dimse.specs.Stages.{stage_of, text_held, ReadsAwaited}
+use Rattle.dr_dimse.specs.Taking.{Begins, Stage, text_so_far, wants_command, InPlace, EndsCommand, Takes}
 
 pub text_is_held : (u : UnderWay) (text : List ℕ) (body : Body) → text_so_far (stage_of u text body) ≡ text_held u text
 text_is_held Nothing text body = refl

@@ -35,8 +35,3 @@ ReadsAwaited awaited text (Err BadCommand) = (c : Command) → IsCommand text c 
 ReadsAwaited awaited text (Err OutOfPlace) = (c : Command) × IsCommand text c × (IsAwaited awaited c → ⊥)
 ReadsAwaited awaited text (Err Memory) = Unit {0}
 ReadsAwaited awaited text (Err fault) = ⊥
-
--- a whole command makes a message, or waits for its data set
-abbrev pub Begins : ℕ → Command → Option Message → Stage → Type 0
-Begins id c None new = (announces c ≡ true) × (new ≡ InData id c (Whole []))
-Begins id c (Some m) new = (announces c ≡ false) × (m ≡ record { id = id; command = c; body = None }) × (new ≡ Idle)

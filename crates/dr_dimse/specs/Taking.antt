@@ -72,10 +72,10 @@ IsShortEnough s p = InPlace s p × (wants_command s ≡ true) × (length (text_s
 abbrev pub EndsCommand : Stage → Pdv → List ℕ → Type 0
 EndsCommand s p text = IsShortEnough s p × (is_last p ≡ true) × (text ≡ text_so_far s ++ p.fragment)
 
--- a command is there: it is a message, or waits for its data set
-abbrev pub TakesCommand : Pdv → Command → Option Message → Stage → Type 0
-TakesCommand p c None new = (announces c ≡ true) × (new ≡ InData p.id c (Whole []))
-TakesCommand p c (Some m) new = (announces c ≡ false) × (m ≡ record { id = p.id; command = c; body = None }) × (new ≡ Idle)
+-- a whole command makes a message, or waits for its data set
+abbrev pub Begins : ℕ → Command → Option Message → Stage → Type 0
+Begins id c None new = (announces c ≡ true) × (new ≡ InData id c (Whole []))
+Begins id c (Some m) new = (announces c ≡ false) × (m ≡ record { id = id; command = c; body = None }) × (new ≡ Idle)
 
 -- a fragment of a data set is there
 abbrev pub TakesData : Stage → Pdv → Option Message → Stage → Type 0
@@ -89,7 +89,7 @@ abbrev pub Takes : Awaited → Stage → Pdv → Result (Option Message) DimseFa
 Takes awaited s p (Ok m) new =
     InPlace s p × (wants_command s ≡ false) × TakesData s p m new
     ⊎ (IsShortEnough s p × (is_last p ≡ false) × (m ≡ None) × (new ≡ InCommand p.id (text_so_far s ++ p.fragment))
-    ⊎ ((text : List ℕ) × (c : Command) × EndsCommand s p text × IsCommand text c × IsAwaited awaited c × TakesCommand p c m new))
+    ⊎ ((text : List ℕ) × (c : Command) × EndsCommand s p text × IsCommand text c × IsAwaited awaited c × Begins p.id c m new))
 Takes awaited s p (Err MixedContext) new = (new ≡ s) × (InContext s p → ⊥)
 Takes awaited s p (Err OutOfPlace) new = (new ≡ s)
     × (InContext s p × (is_command p ≢ wants_command s)

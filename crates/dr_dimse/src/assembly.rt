@@ -1,8 +1,8 @@
 //! Messages out of presentation data values, one after the other.
 ghost use Rattle.std.specs.Prelude.{◌≡◌, ◌%◌, ◌/◌, ◌==◌, true, false, IsTrue, ◌↔◌, OnOk, OnErr};
 ghost use Rattle.dr_dimse.specs.Messages.{is_command as starts_command, is_last as ends};
-ghost use Rattle.dr_dimse.specs.Stages.{so_far, text_held, ReadsAwaited, Begins};
-ghost use Rattle.dr_dimse.specs.Taking.{Idle, IsAwaited, InPlace, Takes, kept, wants_command};
+ghost use Rattle.dr_dimse.specs.Stages.{so_far, text_held, ReadsAwaited};
+ghost use Rattle.dr_dimse.specs.Taking.{Begins, Idle, IsAwaited, InPlace, Takes, kept, wants_command};
 
 use crate::command::Command;
 use crate::fault::DimseFault;

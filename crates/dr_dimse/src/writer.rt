@@ -2,6 +2,7 @@
 ghost use Rattle.std.specs.Prelude.{◌≡◌, ◌∷◌, ◌++◌, ◌^◌, ◌<◌, ◌≤◌, length, nat_le, if◌then◌else◌, IsTrue, ◌↔◌, IfOk, OnOk};
 ghost use Rattle.std.specs.Int.{w16, w32, to_le_bytes};
 ghost use Rattle.dr_dimse.specs.Commands.{element_text, HasNoName};
+ghost use Rattle.dr_dimse.specs.declared.command.Command.TheVariants.{StoreRq, StoreRsp, EchoRq, EchoRsp, Other};
 ghost use Rattle.dr_dimse.specs.Written.{number_element, text_element, data_element, if_some, elements_of, joined, written, Fits, FieldFits, IsText};
 
 use crate::command::Command;
@@ -27,73 +28,132 @@ fn elements_text(alloc: Global, command: &Command) -> Result<Vec<u8>, AllocError
     requires { Fits command.now }
     ensures { IfOk result (λ bytes. bytes.items ≡ joined (elements_of command.now)) }
 {
-    let mut out = Vec::new(alloc);
     match command {
         Command::StoreRq {
             id,
             class,
             instance,
-        } => {
-            put_text(&mut out, 0x0002, class)?;
-            put_number(&mut out, 0x0100, 0x0001)?;
-            put_number(&mut out, 0x0110, *id)?;
-            put_number(&mut out, 0x0700, 0)?;
-            put_data(&mut out, true)?;
-            put_text(&mut out, 0x1000, instance)?;
-            Ok(out)
-        }
+        } => store_request(alloc, *id, class, instance),
         Command::StoreRsp {
             to,
             status,
             class,
             instance,
             has_data,
-        } => {
-            put_text(&mut out, 0x0002, class)?;
-            put_number(&mut out, 0x0100, 0x8001)?;
-            put_number(&mut out, 0x0120, *to)?;
-            put_data(&mut out, *has_data)?;
-            put_number(&mut out, 0x0900, *status)?;
-            put_text(&mut out, 0x1000, instance)?;
-            Ok(out)
-        }
+        } => store_answer(alloc, *to, *status, class, instance, *has_data),
         Command::EchoRq {
             id,
             class,
             has_data,
-        } => {
-            put_text(&mut out, 0x0002, class)?;
-            put_number(&mut out, 0x0100, 0x0030)?;
-            put_number(&mut out, 0x0110, *id)?;
-            put_data(&mut out, *has_data)?;
-            Ok(out)
-        }
+        } => echo_request(alloc, *id, class, *has_data),
         Command::EchoRsp {
             to,
             status,
             class,
             has_data,
-        } => {
-            put_text(&mut out, 0x0002, class)?;
-            put_number(&mut out, 0x0100, 0x8030)?;
-            put_number(&mut out, 0x0120, *to)?;
-            put_data(&mut out, *has_data)?;
-            put_number(&mut out, 0x0900, *status)?;
-            Ok(out)
-        }
+        } => echo_answer(alloc, *to, *status, class, *has_data),
         Command::Other {
             field,
             id,
             status,
             has_data,
-        } => {
-            put_number(&mut out, 0x0100, *field)?;
-            put_if_some(&mut out, id_number(*field), *id)?;
-            put_data(&mut out, *has_data)?;
-            put_if_some(&mut out, 0x0900, *status)?;
-            Ok(out)
-        }
+        } => other_elements(alloc, *field, *id, *status, *has_data),
     }
+}
+
+/// The elements of a C-STORE-RQ.
+fn store_request(
+    alloc: Global,
+    id: u16,
+    class: &Text,
+    instance: &Text,
+) -> Result<Vec<u8>, AllocError>
+    requires class { length class.now ≤ 16384 }
+    requires instance { length instance.now ≤ 16384 }
+    ensures { IfOk result (λ bytes. bytes.items ≡ joined (elements_of (StoreRq id class.now instance.now))) }
+{
+    let mut out = Vec::new(alloc);
+    put_text(&mut out, 0x0002, class)?;
+    put_number(&mut out, 0x0100, 0x0001)?;
+    put_number(&mut out, 0x0110, id)?;
+    put_number(&mut out, 0x0700, 0)?;
+    put_data(&mut out, true)?;
+    put_text(&mut out, 0x1000, instance)?;
+    Ok(out)
+}
+
+/// The elements of a C-STORE-RSP.
+fn store_answer(
+    alloc: Global,
+    to: u16,
+    status: u16,
+    class: &Text,
+    instance: &Text,
+    has_data: bool,
+) -> Result<Vec<u8>, AllocError>
+    requires class { length class.now ≤ 16384 }
+    requires instance { length instance.now ≤ 16384 }
+    ensures { IfOk result (λ bytes. bytes.items ≡ joined (elements_of (StoreRsp to status class.now instance.now has_data))) }
+{
+    let mut out = Vec::new(alloc);
+    put_text(&mut out, 0x0002, class)?;
+    put_number(&mut out, 0x0100, 0x8001)?;
+    put_number(&mut out, 0x0120, to)?;
+    put_data(&mut out, has_data)?;
+    put_number(&mut out, 0x0900, status)?;
+    put_text(&mut out, 0x1000, instance)?;
+    Ok(out)
+}
+
+/// The elements of a C-ECHO-RQ.
+fn echo_request(alloc: Global, id: u16, class: &Text, has_data: bool) -> Result<Vec<u8>, AllocError>
+    requires { length class.now ≤ 16384 }
+    ensures { IfOk result (λ bytes. bytes.items ≡ joined (elements_of (EchoRq id class.now has_data))) }
+{
+    let mut out = Vec::new(alloc);
+    put_text(&mut out, 0x0002, class)?;
+    put_number(&mut out, 0x0100, 0x0030)?;
+    put_number(&mut out, 0x0110, id)?;
+    put_data(&mut out, has_data)?;
+    Ok(out)
+}
+
+/// The elements of a C-ECHO-RSP.
+fn echo_answer(
+    alloc: Global,
+    to: u16,
+    status: u16,
+    class: &Text,
+    has_data: bool,
+) -> Result<Vec<u8>, AllocError>
+    requires { length class.now ≤ 16384 }
+    ensures { IfOk result (λ bytes. bytes.items ≡ joined (elements_of (EchoRsp to status class.now has_data))) }
+{
+    let mut out = Vec::new(alloc);
+    put_text(&mut out, 0x0002, class)?;
+    put_number(&mut out, 0x0100, 0x8030)?;
+    put_number(&mut out, 0x0120, to)?;
+    put_data(&mut out, has_data)?;
+    put_number(&mut out, 0x0900, status)?;
+    Ok(out)
+}
+
+/// The elements of any other command.
+fn other_elements(
+    alloc: Global,
+    field: u16,
+    id: Option<u16>,
+    status: Option<u16>,
+    has_data: bool,
+) -> Result<Vec<u8>, AllocError>
+    ensures { IfOk result (λ bytes. bytes.items ≡ joined (elements_of (Other field id status has_data))) }
+{
+    let mut out = Vec::new(alloc);
+    put_number(&mut out, 0x0100, field)?;
+    put_if_some(&mut out, id_number(field), id)?;
+    put_data(&mut out, has_data)?;
+    put_if_some(&mut out, 0x0900, status)?;
+    Ok(out)
 }
 
 /// The number of the element that has the id: that of the message, or of the one that it answers.
@@ -169,7 +229,7 @@ pub fn fits(command: &Command) -> bool
             class,
             instance,
         } => {
-            let _id = *id;
+            let _id = *id; // that it fits two bytes is known of a value that is read
             is_uid(class.as_bytes()) && is_uid(instance.as_bytes())
         }
         Command::StoreRsp {

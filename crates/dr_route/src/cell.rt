@@ -1,10 +1,11 @@
 //! Cells: the sets of keys that no rule of a plan tells apart.
 ghost use Rattle.std.specs.Prelude.{◌≡◌, IfOk};
 ghost use Rattle.dr_route.specs.Cells.{InCell, InField, owned_field};
+ghost use Rattle.dr_route.specs.Laws.{key_of, value_of};
 
 use crate::key::Key;
 use dr_base::{Seq, Syntax, Text};
-use std::alloc::AllocError;
+use std::alloc::{AllocError, Global};
 use std::marker::Model;
 
 /// The values that a plan names for one of the two fields.
@@ -110,4 +111,26 @@ impl<'a> Cell<'a> {
             station: owned_part(&self.station)?,
         })
     }
+}
+
+/// A value of the part of the field: its literal, or the text of the one byte 128, which no literal has.
+fn value_in(alloc: Global, field: &OwnedField) -> Result<Text, AllocError>
+    ensures { IfOk result (λ t. t ≡ value_of field.now) }
+{
+    match field {
+        OwnedField::Literal(literal) => literal.clone(),
+        OwnedField::Rest => Text::copy_of(alloc, &[128]),
+    }
+}
+
+/// One key of the cell, which stands for all of them.
+pub fn key_in(alloc: Global, cell: &OwnedCell) -> Result<Key, AllocError>
+    ensures { IfOk result (λ k. k ≡ key_of cell.now) }
+{
+    Ok(Key {
+        class: cell.class.clone()?,
+        syntax: cell.syntax,
+        modality: value_in(alloc, &cell.modality)?,
+        station: value_in(alloc, &cell.station)?,
+    })
 }

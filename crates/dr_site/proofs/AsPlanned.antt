@@ -24,7 +24,8 @@ use Rattle.dr_sound.specs.declared.certificate.Line.{Line}
 use Rattle.dr_sound.specs.declared.certificate.Certificate.{Certificate}
 use Rattle.dr_sound.proofs.RankedLines.{some_cell}
 use Rattle.dr_sound.proofs.Ranks.{sound_has_rank}
-use Rattle.dr_site.specs.Parts.{Part, IsPartOf, AreItsLiterals, is_at, is_of}
+use Rattle.dr_cert.specs.Sealing.{AreLiteralsOf}
+use Rattle.dr_site.specs.Parts.{Part, IsPartOf, is_at, is_of}
 use Rattle.dr_site.specs.Sites.{IsCertified}
 use Rattle.dr_site.specs.Routing.{HasLineFor, SendsFrom, KeepsAt}
 
@@ -63,7 +64,7 @@ field_there v w same Rest value h = λ among. h ((same value).1 among)
 swapped : (v w : List Text) → ((t : Text) → Contains v t ↔ Contains w t) → (t : Text) → Contains w t ↔ Contains v t
 swapped v w same t = ((same t).1, (same t).0)
 
-cell_there : (plan : Network) (literals : Literals) → AreItsLiterals plan literals → (cell : OwnedCell) (key : Key) → InCell literals cell key → LiesIn plan cell key
+cell_there : (plan : Network) (literals : Literals) → AreLiteralsOf plan literals → (cell : OwnedCell) (key : Key) → InCell literals cell key → LiesIn plan cell key
 cell_there plan literals are cell key h = record {
   class = h.class;
   syntax = h.syntax;
@@ -71,7 +72,7 @@ cell_there plan literals are cell key h = record {
   station = field_there literals.stations (literals_of plan).stations are.stations cell.station key.station h.station;
 }
 
-cell_back : (plan : Network) (literals : Literals) → AreItsLiterals plan literals → (cell : OwnedCell) (key : Key) → LiesIn plan cell key → InCell literals cell key
+cell_back : (plan : Network) (literals : Literals) → AreLiteralsOf plan literals → (cell : OwnedCell) (key : Key) → LiesIn plan cell key → InCell literals cell key
 cell_back plan literals are cell key h = record {
   class = h.class;
   syntax = h.syntax;

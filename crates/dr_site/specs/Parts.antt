@@ -1,5 +1,5 @@
 -- The part of a plan and of its certificate that one node works by.
-use Rattle.std.specs.Prelude.{◌≡◌, ◌↔◌, ℕ, Bool, List, Contains, filter}
+use Rattle.std.specs.Prelude.{◌≡◌, ℕ, Bool, List, filter}
 use Rattle.std.specs.Str.{bytes_eq}
 use Rattle.dr_base.specs.Texts.{Text}
 use Rattle.dr_route.specs.declared.rule.Rule.{Rule}
@@ -8,11 +8,12 @@ use Rattle.dr_route.specs.declared.cell.Literals.{Literals}
 use Rattle.dr_network.specs.declared.plan.Node.{Node}
 use Rattle.dr_network.specs.declared.plan.Flow.{Flow}
 use Rattle.dr_network.specs.Networks.{Network}
-use Rattle.dr_network.specs.Plans.{IsTheNode, modalities_of, stations_of}
+use Rattle.dr_network.specs.Plans.{IsTheNode}
 use Rattle.dr_sound.specs.declared.certificate.Line.{Line}
 use Rattle.dr_sound.specs.declared.certificate.Hop.{Hop}
 use Rattle.dr_sound.specs.declared.certificate.Certificate.{Certificate}
 use Rattle.dr_cert.specs.Indexing.{IsIndexOf}
+use Rattle.dr_cert.specs.Sealing.{AreLiteralsOf}
 
 -- what contracts see of a site
 pub record Part : Type 0 where
@@ -36,11 +37,6 @@ is_of name line = bytes_eq line.stop.node name
 abbrev pub begins_at : Text → Hop → Bool
 begins_at name hop = bytes_eq hop.from name
 
--- the values that the plan names for modality and for station
-pub record AreItsLiterals (plan : Network) (literals : Literals) : Type 0 where
-  pub modalities : (t : Text) → Contains literals.modalities.literals t ↔ Contains (modalities_of plan) t
-  pub stations : (t : Text) → Contains literals.stations.literals t ↔ Contains (stations_of plan) t
-
 -- The node's own rules, accept rows and flows in the order of the plan's text, its own lines in the order of their stops, the
 -- hops that begin at it in the certificate's order, and the plan's digest and literals.
 pub record IsPartOf (plan : Network) (certificate : Certificate) (part : Part) : Type 0 where
@@ -49,4 +45,4 @@ pub record IsPartOf (plan : Network) (certificate : Certificate) (part : Part) :
   pub flows : part.flows ≡ filter (is_at part.name) plan.flows
   pub lines : IsIndexOf (filter (is_of part.name) certificate.lines) part.lines
   pub hops : part.hops ≡ filter (begins_at part.name) certificate.hops
-  pub literals : AreItsLiterals plan part.literals
+  pub literals : AreLiteralsOf plan part.literals

@@ -3,4 +3,5 @@ pub mod Listed
 pub mod Pigeons
 pub mod RankedLines
 pub mod Ranks
+pub mod SameStops
 pub mod TwoNodes

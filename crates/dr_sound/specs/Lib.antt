@@ -5,3 +5,4 @@ pub mod Printed
 pub mod Ranked
 pub mod Samples
 pub mod Soundness
+pub mod Stops

@@ -11,7 +11,8 @@ use Rattle.dr_sound.specs.Ranked.{line_at, SendsOn}
 use Rattle.dr_sound.proofs.Hopping.{reached_not_local}
 use Rattle.dr_check.specs.declared.search.Mark.{Mark}
 use Rattle.dr_check.specs.declared.search.Mark.TheVariants.{Open, Finished}
-use Rattle.dr_check.specs.Searching.{IsTrail, IsInside, IsRankedBy, IsDone, IsFresh, IsSearching, mark_at, stop_at, stop_cmp}
+use Rattle.dr_sound.specs.Stops.{stop_cmp}
+use Rattle.dr_check.specs.Searching.{IsTrail, IsInside, IsRankedBy, IsDone, IsFresh, IsSearching, mark_at, stop_at}
 use Rattle.dr_check.proofs.Marking.{marking}
 use Rattle.dr_check.proofs.Trails.{trail_goes_on, trail_reaches}
 use Rattle.dr_check.proofs.Steps.{entered, target_done, finished, done_before, popped}
