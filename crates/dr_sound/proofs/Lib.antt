@@ -1,5 +1,6 @@
 pub mod Hopping
 pub mod Listed
+pub mod PairLists
 pub mod Pigeons
 pub mod RankedLines
 pub mod Ranks

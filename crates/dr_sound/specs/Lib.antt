@@ -1,4 +1,5 @@
 pub mod Certificates
+pub mod HopLists
 pub mod HopPairs
 pub mod Laws
 pub mod Printed

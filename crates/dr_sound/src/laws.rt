@@ -1,4 +1,5 @@
 //! Laws of sound plans.
+ghost use Rattle.dr_sound.specs.HopLists.{HopsHaveLists};
 ghost use Rattle.dr_sound.specs.Laws.{RankedLinesAreTheLines, ShownPairsAreTheHops, RankedLinesAreSound, SoundPlansHaveRanks};
 ghost use Rattle.dr_sound.specs.Samples.{TwoNodesAreSound, WithoutKeepTheyAreNot};
 
@@ -12,6 +13,11 @@ pub fn ranked_lines_are_the_lines()
 pub fn ranked_lines_make_a_sound_plan()
     ensures pairs { ShownPairsAreTheHops }
     ensures sound { RankedLinesAreSound }
+{}
+
+/// The pairs that go over each hop of a sound plan with its certificate make a list in byte order.
+pub fn hops_have_lists()
+    ensures { HopsHaveLists }
 {}
 
 /// In a sound plan each place that a key comes to has a rank, so its walks end.
