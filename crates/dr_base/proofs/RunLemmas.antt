@@ -1,6 +1,6 @@
 -- Runs of parts: a run goes on by one more part, a text has one run that ends it, and what begins a text also begins
 -- the text with more behind it.
-use Rattle.std.proofs.Common.{◌≡◌, ◌≢◌, ℕ, List, [], ◌∷◌, ◌++◌, refl, sym, ap, subst, ◌∙◌, append_assoc, length}
+use Rattle.std.proofs.Common.{◌≡◌, ◌≢◌, ℕ, List, [], ◌∷◌, ◌++◌, refl, sym, ap, subst, ◌∙◌}
 use Rattle.std.proofs.lemmas.List.{append-nil}
 use Rattle.dr_base.specs.Runs.{Run, AreParts}
 

@@ -1,4 +1,5 @@
 pub mod Copies
+pub mod Padding
 pub mod Runs
 pub mod Syntaxes
 pub mod Texts

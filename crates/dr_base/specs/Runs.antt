@@ -1,5 +1,5 @@
 -- Texts that are made of parts, one after the other.
-use Rattle.std.specs.Prelude.{◌≡◌, ℕ, List, [], ◌∷◌, ◌++◌}
+use Rattle.std.specs.Prelude.{◌≡◌, ℕ, List, [], ◌∷◌}
 
 -- The text begins with these parts, in order, and then the rest follows. `Starts text x rest` says it of one part.
 abbrev pub Run : {X : Type 0} → (List ℕ → X → List ℕ → Type 0) → List X → List ℕ → List ℕ → Type 0

@@ -3,6 +3,7 @@
 #![tactic(auto)]
 
 pub mod laws;
+pub mod padding;
 pub mod seq;
 pub mod syntax;
 pub mod text;

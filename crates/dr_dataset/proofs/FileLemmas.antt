@@ -9,13 +9,14 @@ use Rattle.std.specs.List.{IsSplitAt}
 use Rattle.std.proofs.lemmas.List.{append-nil, length-append, take-append-drop, drop_at}
 use Rattle.std.proofs.lemmas.Bool.{eqb-true, eqb-false}
 use Rattle.dr_base.specs.Runs.{Run}
-use Rattle.dr_dataset.specs.declared.syntax.Syntax.{Syntax}
-use Rattle.dr_dataset.specs.declared.syntax.Syntax.TheVariants.{Explicit}
+use Rattle.dr_base.specs.declared.syntax.Syntax.{Syntax}
+use Rattle.dr_base.specs.declared.syntax.Syntax.TheVariants.{Explicit}
 use Rattle.dr_dataset.specs.declared.fault.DataFault.{DataFault}
 use Rattle.dr_dataset.specs.declared.fault.DataFault.TheVariants.{Memory}
 use Rattle.dr_dataset.specs.declared.header.Tag.{Tag}
 use Rattle.dr_dataset.specs.Elements.{Element, StartsTag, StartsElement}
-use Rattle.dr_dataset.specs.DataSet.{has_tag, is_key, first_value, without_end, StartsTop}
+use Rattle.dr_dataset.specs.DataSet.{has_tag, is_key, first_value, StartsTop}
+use Rattle.dr_base.specs.Padding.{unpadded}
 use Rattle.dr_dataset.specs.Reading.{tag_of}
 use Rattle.dr_dataset.specs.Wholes.{FailsAtOnce}
 use Rattle.dr_dataset.specs.Files.{IsFile, StartsMeta, EndsMeta, IsMeta, named}
@@ -115,10 +116,10 @@ ended text es rest run ends xs behind other stop =
 pub unnamed : (text : List ℕ) (es : List Element) (rest : List ℕ) → Run StartsMeta es text rest → EndsMeta rest → first_value 2 0x10 es ≡ None → (name behind : List ℕ) → IsMeta text name behind → ⊥
 unnamed text es rest run ends none name behind (xs, other, stop, is) =
     let same : xs ≡ es = ended text es rest run ends xs behind other stop in
-    cc (sym is ∙ ap named same ∙ ap (option_map without_end) none)
+    cc (sym is ∙ ap named same ∙ ap (option_map unpadded) none)
 
-pub meta_named : (text : List ℕ) (es : List Element) (rest name : List ℕ) → Run StartsMeta es text rest → EndsMeta rest → first_value 2 0x10 es ≡ Some name → IsMeta text (without_end name) rest
-meta_named text es rest name run ends is = (es, run, ends, ap (option_map without_end) is)
+pub meta_named : (text : List ℕ) (es : List Element) (rest name : List ℕ) → Run StartsMeta es text rest → EndsMeta rest → first_value 2 0x10 es ≡ Some name → IsMeta text (unpadded name) rest
+meta_named text es rest name run ends is = (es, run, ends, ap (option_map unpadded) is)
 
 -- behind the meta information: nothing, or a tag of another group
 pub ends_here : (rest : List ℕ) (o : Option (Tag × List ℕ)) → tag_of rest ≡ o → (rest ≢ [] → o ≢ None) → ((u : Tag) (more : List ℕ) → StartsTag rest u more → u.group ≢ 2) → EndsMeta rest

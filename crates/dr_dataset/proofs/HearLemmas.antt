@@ -5,7 +5,7 @@ use Rattle.std.specs.Option.{option_copied, option_or}
 use Rattle.std.proofs.lemmas.List.{length-append, append-nil, take_rest}
 use Rattle.std.proofs.lemmas.Bool.{or_parts}
 use Rattle.arrayvec.specs.ArrayVec.{ArrayVec}
-use Rattle.dr_dataset.specs.declared.syntax.Syntax.{Syntax}
+use Rattle.dr_base.specs.declared.syntax.Syntax.{Syntax}
 use Rattle.dr_dataset.specs.declared.fault.DataFault.{DataFault}
 use Rattle.dr_dataset.specs.declared.fault.DataFault.TheVariants.{Truncated, BadVr, BadLength, TooDeep, Memory}
 use Rattle.dr_dataset.specs.declared.header.Tag.{Tag}
@@ -20,7 +20,8 @@ use Rattle.dr_dataset.specs.declared.hearing.Scan.{Scan}
 use Rattle.dr_dataset.specs.declared.hearing.Place.{Place}
 use Rattle.dr_dataset.specs.declared.hearing.Place.TheVariants.{InHeader, InValue, Failed}
 use Rattle.dr_dataset.specs.Elements.{Element}
-use Rattle.dr_dataset.specs.DataSet.{has_tag, is_key, first_value, trimmed, Opens, FirstFault, Scans, IsDataSet}
+use Rattle.dr_dataset.specs.DataSet.{has_tag, is_key, first_value, Opens, FirstFault, Scans, IsDataSet}
+use Rattle.dr_base.specs.Padding.{trimmed}
 use Rattle.dr_dataset.specs.Tokens.{token_of, open_behind, is_nested}
 use Rattle.dr_dataset.specs.Wholes.{whole, elements_of}
 use Rattle.dr_dataset.specs.Hearing.{bytes_of_slot, AreCaught, IsShort, IsShortKey, value_header, is_kept, AreBytes, HearsAt, Hears, Begun, AreSlots}

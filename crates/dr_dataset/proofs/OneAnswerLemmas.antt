@@ -3,7 +3,7 @@ use Rattle.std.proofs.Common.{◌≡◌, ◌≢◌, ℕ, zero, suc, ◌<◌, ◌
 use Rattle.std.specs.Prelude.{option_and_then}
 use Rattle.std.proofs.lemmas.List.{take-append-drop, length-take-le}
 use Rattle.std.proofs.lemmas.Bool.{eqb-false, leb-true}
-use Rattle.dr_dataset.specs.declared.syntax.Syntax.{Syntax}
+use Rattle.dr_base.specs.declared.syntax.Syntax.{Syntax}
 use Rattle.dr_dataset.specs.declared.fault.DataFault.{DataFault}
 use Rattle.dr_dataset.specs.declared.fault.DataFault.TheVariants.{Truncated, BadVr, BadLength, TooDeep, Memory}
 use Rattle.dr_dataset.specs.declared.values.Attributes.{Attributes}

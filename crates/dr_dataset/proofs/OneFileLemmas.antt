@@ -3,13 +3,13 @@ use Rattle.std.proofs.Common.{◌≡◌, ℕ, ◌+◌, List, [], ◌∷◌, ◌+
 use Rattle.std.specs.Prelude.{codes}
 use Rattle.std.proofs.lemmas.List.{drop_at, append-nil}
 use Rattle.dr_base.specs.Runs.{Run}
-use Rattle.dr_dataset.specs.declared.syntax.Syntax.{Syntax}
-use Rattle.dr_dataset.specs.declared.syntax.Syntax.TheVariants.{Implicit, Explicit}
+use Rattle.dr_base.specs.declared.syntax.Syntax.{Syntax}
+use Rattle.dr_base.specs.declared.syntax.Syntax.TheVariants.{Implicit, Explicit}
 use Rattle.dr_dataset.specs.declared.values.Part10.{Part10}
 use Rattle.dr_dataset.specs.declared.fault.FileFault.{FileFault}
 use Rattle.dr_dataset.specs.declared.fault.FileFault.TheVariants.{NotDicom, Meta, OtherSyntax, Memory}
 use Rattle.dr_dataset.specs.Elements.{Element}
-use Rattle.dr_dataset.specs.Syntaxes.{uid_of}
+use Rattle.dr_base.specs.Syntaxes.{syntax_uid}
 use Rattle.dr_dataset.specs.Files.{IsFile, StartsMeta, IsMeta, named, ReadsFile}
 use Rattle.dr_dataset.proofs.FileLemmas.{goes_on, meta_then_end}
 
@@ -30,7 +30,7 @@ one_meta_end text m a n b (es, run, ends, is) (xs, other, stop, has) =
         (cc pair, r)
     by_later (x ∷ later) e r = absurd (meta_then_end a x r.0 ends r.1)
 
-uids_differ : (s t : Syntax) → uid_of s ≡ uid_of t → s ≡ t
+uids_differ : (s t : Syntax) → syntax_uid s ≡ syntax_uid t → s ≡ t
 uids_differ Implicit Implicit e = refl
 uids_differ Explicit Explicit e = refl
 uids_differ Implicit Explicit e = cc

@@ -3,8 +3,8 @@ use Rattle.std.proofs.Common.{◌≡◌, ℕ, ◌/◌, ◌%◌, ◌^◌, ◌<◌
 use Rattle.std.specs.Int.{w16, w32, to_le_bytes, from_le_bytes}
 use Rattle.std.proofs.lemmas.Bool.{lt-ltb, ltb-true}
 use Rattle.std.proofs.lemmas.Nat.{from_le_bytes-to_le_bytes_2, from_le_bytes-to_le_bytes_4}
-use Rattle.dr_dataset.specs.declared.syntax.Syntax.{Syntax}
-use Rattle.dr_dataset.specs.declared.syntax.Syntax.TheVariants.{Implicit, Explicit}
+use Rattle.dr_base.specs.declared.syntax.Syntax.{Syntax}
+use Rattle.dr_base.specs.declared.syntax.Syntax.TheVariants.{Implicit, Explicit}
 use Rattle.dr_dataset.specs.declared.fault.DataFault.{DataFault}
 use Rattle.dr_dataset.specs.declared.fault.DataFault.TheVariants.{Truncated, BadVr}
 use Rattle.dr_dataset.specs.declared.header.Tag.{Tag}

@@ -1,8 +1,8 @@
 -- The next token as a function is the next token as the grammar has it, and its faults are those that show.
 use Rattle.std.proofs.Common.{◌≡◌, ◌≢◌, ℕ, ◌<◌, ◌≤◌, Bool, true, false, cond, ltb, eqb, ◌&&◌, List, [], ◌∷◌, refl, sym, ap, subst, ◌∙◌, inl, inr, Option, Some, None, Result, Ok, Err, ◌⊎◌}
 use Rattle.std.proofs.lemmas.Bool.{lt-ltb, ltb-true, ltb-false, le-ltb, eqb-true, eqb-false, eq-eqb, ne_eqb, cases_eq, both_ways, and_parts, and_cases}
-use Rattle.dr_dataset.specs.declared.syntax.Syntax.{Syntax}
-use Rattle.dr_dataset.specs.declared.syntax.Syntax.TheVariants.{Explicit}
+use Rattle.dr_base.specs.declared.syntax.Syntax.{Syntax}
+use Rattle.dr_base.specs.declared.syntax.Syntax.TheVariants.{Explicit}
 use Rattle.dr_dataset.specs.declared.fault.DataFault.{DataFault}
 use Rattle.dr_dataset.specs.declared.fault.DataFault.TheVariants.{Truncated, BadVr, BadLength, TooDeep, Memory}
 use Rattle.dr_dataset.specs.declared.header.Tag.{Tag}

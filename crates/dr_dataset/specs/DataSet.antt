@@ -1,8 +1,9 @@
 -- Data sets (PS3.5 section 7), four of their values, and their first fault.
 use Rattle.std.specs.Prelude.{◌≡◌, ◌≢◌, ℕ, suc, ◌-◌, ◌<◌, ◌≤◌, Bool, true, false, List, [], ◌∷◌, length, ◌==◌, ◌&&◌, ◌||◌, if◌then◌else◌, Option, None, option_map, unwrap_or, ◌⊎◌, find, IfSome, Result, Ok, Err}
 use Rattle.dr_base.specs.Runs.{Run}
-use Rattle.dr_dataset.specs.declared.syntax.Syntax.{Syntax}
-use Rattle.dr_dataset.specs.declared.syntax.Syntax.TheVariants.{Explicit}
+use Rattle.dr_base.specs.Padding.{trimmed}
+use Rattle.dr_base.specs.declared.syntax.Syntax.{Syntax}
+use Rattle.dr_base.specs.declared.syntax.Syntax.TheVariants.{Explicit}
 use Rattle.dr_dataset.specs.declared.fault.DataFault.{DataFault}
 use Rattle.dr_dataset.specs.declared.fault.DataFault.TheVariants.{Truncated, BadVr, BadLength, TooDeep, Memory}
 use Rattle.dr_dataset.specs.declared.header.Tag.{Tag}
@@ -28,29 +29,9 @@ IsDataSet s text es = Run (StartsTop s) es text []
 
 -- ---- values
 
-abbrev pub is_padding : ℕ → Bool
-is_padding b = (b == 0) || (b == 32)
-
-abbrev pub onto : ℕ → List ℕ → List ℕ
-onto b [] = if is_padding b then [] else b ∷ []
-onto b (c ∷ cs) = b ∷ c ∷ cs
-
--- without the spaces and NULs at the end
-abbrev pub without_end : List ℕ → List ℕ
-without_end [] = []
-without_end (b ∷ bs) = onto b (without_end bs)
-
--- without the spaces in front
-abbrev pub without_spaces : List ℕ → List ℕ
-without_spaces [] = []
-without_spaces (b ∷ bs) = if b == 32 then without_spaces bs else b ∷ bs
-
 -- the bytes of the first element with the tag, none where its length is undefined
 abbrev pub first_value : ℕ → ℕ → List Element → Option (List ℕ)
 first_value group element es = option_map (λ (e : Element). unwrap_or e.value []) (find (λ (e : Element). has_tag group element e.tag) es)
-
-abbrev pub trimmed : List ℕ → List ℕ
-trimmed bytes = without_end (without_spaces bytes)
 
 -- the text of the first element with the tag, empty where there is none
 abbrev pub value_at : ℕ → ℕ → List Element → List ℕ

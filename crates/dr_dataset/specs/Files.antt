@@ -1,15 +1,16 @@
 -- Part 10 files (PS3.10 section 7.1).
 use Rattle.std.specs.Prelude.{◌≡◌, ◌≢◌, ℕ, ◌+◌, List, [], ◌++◌, length, Option, Some, option_map, ◌⊎◌, Result, Ok, Err, codes}
 use Rattle.dr_base.specs.Runs.{Run}
-use Rattle.dr_dataset.specs.declared.syntax.Syntax.{Syntax}
-use Rattle.dr_dataset.specs.declared.syntax.Syntax.TheVariants.{Explicit}
+use Rattle.dr_base.specs.declared.syntax.Syntax.{Syntax}
+use Rattle.dr_base.specs.declared.syntax.Syntax.TheVariants.{Explicit}
 use Rattle.dr_dataset.specs.declared.header.Tag.{Tag}
 use Rattle.dr_dataset.specs.declared.values.Part10.{Part10}
 use Rattle.dr_dataset.specs.declared.fault.FileFault.{FileFault}
 use Rattle.dr_dataset.specs.declared.fault.FileFault.TheVariants.{NotDicom, Meta, OtherSyntax, Memory}
 use Rattle.dr_dataset.specs.Elements.{Element, StartsTag, StartsElement}
-use Rattle.dr_dataset.specs.DataSet.{without_end, first_value}
-use Rattle.dr_dataset.specs.Syntaxes.{uid_of}
+use Rattle.dr_base.specs.Padding.{unpadded}
+use Rattle.dr_dataset.specs.DataSet.{first_value}
+use Rattle.dr_base.specs.Syntaxes.{syntax_uid}
 
 -- 128 bytes and DICM, and what follows
 abbrev pub IsFile : List ℕ → List ℕ → Type 0
@@ -25,15 +26,15 @@ EndsMeta text = (text ≡ []) ⊎ ((t : Tag) × (rest : List ℕ) × StartsTag t
 
 -- the transfer syntax UID of the first (0002,0010), without the padding at its end, and empty where its length is undefined
 abbrev pub named : List Element → Option (List ℕ)
-named es = option_map without_end (first_value 0x0002 0x0010 es)
+named es = option_map unpadded (first_value 0x0002 0x0010 es)
 
 -- elements of group 0002, one of them with that name, and then the data set; the group length isn't looked at
 abbrev pub IsMeta : List ℕ → List ℕ → List ℕ → Type 0
 IsMeta text name behind = (es : List Element) × Run StartsMeta es text behind × EndsMeta behind × (named es ≡ Some name)
 
 abbrev pub ReadsFile : List ℕ → Result Part10 FileFault → Type 0
-ReadsFile text (Ok p) = (rest name behind : List ℕ) × IsFile text rest × IsMeta rest name behind × (name ≡ uid_of p.syntax) × (p.start + length behind ≡ length text)
+ReadsFile text (Ok p) = (rest name behind : List ℕ) × IsFile text rest × IsMeta rest name behind × (name ≡ syntax_uid p.syntax) × (p.start + length behind ≡ length text)
 ReadsFile text (Err NotDicom) = (rest : List ℕ) → IsFile text rest → ⊥
 ReadsFile text (Err Meta) = (rest : List ℕ) × IsFile text rest × ((name behind : List ℕ) → IsMeta rest name behind → ⊥)
-ReadsFile text (Err OtherSyntax) = (rest name behind : List ℕ) × IsFile text rest × IsMeta rest name behind × ((s : Syntax) → name ≢ uid_of s)
+ReadsFile text (Err OtherSyntax) = (rest name behind : List ℕ) × IsFile text rest × IsMeta rest name behind × ((s : Syntax) → name ≢ syntax_uid s)
 ReadsFile text (Err Memory) = ⊥

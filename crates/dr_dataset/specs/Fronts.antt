@@ -1,6 +1,6 @@
 -- What is read of the front of a data set stays, whatever follows.
 use Rattle.std.specs.Prelude.{◌≢◌, List, ℕ, ◌++◌}
-use Rattle.dr_dataset.specs.declared.syntax.Syntax.{Syntax}
+use Rattle.dr_base.specs.declared.syntax.Syntax.{Syntax}
 use Rattle.dr_dataset.specs.declared.fault.DataFault.{DataFault}
 use Rattle.dr_dataset.specs.declared.fault.DataFault.TheVariants.{Truncated, Memory}
 use Rattle.dr_dataset.specs.declared.frame.Frame.{Frame}

@@ -3,7 +3,7 @@ use Rattle.std.specs.Prelude.{◌≡◌, ◌≢◌, ℕ, ◌+◌, ◌<◌, ◌�
 use Rattle.std.proofs.Common.{get_or}
 use Rattle.std.specs.Option.{option_copied}
 use Rattle.arrayvec.specs.ArrayVec.{ArrayVec}
-use Rattle.dr_dataset.specs.declared.syntax.Syntax.{Syntax}
+use Rattle.dr_base.specs.declared.syntax.Syntax.{Syntax}
 use Rattle.dr_dataset.specs.declared.fault.DataFault.{DataFault}
 use Rattle.dr_dataset.specs.declared.fault.DataFault.TheVariants.{Truncated, Memory}
 use Rattle.dr_dataset.specs.declared.header.Tag.{Tag}
@@ -17,7 +17,8 @@ use Rattle.dr_dataset.specs.declared.hearing.Scan.{Scan}
 use Rattle.dr_dataset.specs.declared.hearing.Place.{Place}
 use Rattle.dr_dataset.specs.declared.hearing.Place.TheVariants.{InHeader, InValue, Failed}
 use Rattle.dr_dataset.specs.Elements.{Element}
-use Rattle.dr_dataset.specs.DataSet.{is_key, first_value, trimmed, Opens, FirstFault}
+use Rattle.dr_dataset.specs.DataSet.{is_key, first_value, Opens, FirstFault}
+use Rattle.dr_base.specs.Padding.{trimmed}
 use Rattle.dr_dataset.specs.Tokens.{token_of, open_behind, is_nested}
 
 abbrev pub bytes_of_slot : Option (ArrayVec ℕ) → Option (List ℕ)

@@ -1,6 +1,5 @@
 pub mod Elements
 pub mod DataSet
-pub mod Syntaxes
 pub mod OneAnswer
 pub mod Reading
 pub mod Tokens

@@ -1,6 +1,6 @@
 -- A text of a data set has one answer.
 use Rattle.std.specs.Prelude.{◌≡◌, ◌≢◌, List, ℕ, Result, Err}
-use Rattle.dr_dataset.specs.declared.syntax.Syntax.{Syntax}
+use Rattle.dr_base.specs.declared.syntax.Syntax.{Syntax}
 use Rattle.dr_dataset.specs.declared.fault.DataFault.{DataFault}
 use Rattle.dr_dataset.specs.declared.fault.DataFault.TheVariants.{Memory}
 use Rattle.dr_dataset.specs.declared.values.Attributes.{Attributes}

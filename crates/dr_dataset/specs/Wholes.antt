@@ -2,7 +2,7 @@
 use Rattle.std.specs.Prelude.{◌≡◌, ℕ, List, [], ◌∷◌, Option, Some, None, unwrap_or}
 use Rattle.std.specs.Borrow.{Bor}
 use Rattle.std.specs.Option.{option_copied}
-use Rattle.dr_dataset.specs.declared.syntax.Syntax.{Syntax}
+use Rattle.dr_base.specs.declared.syntax.Syntax.{Syntax}
 use Rattle.dr_dataset.specs.declared.fault.DataFault.{DataFault}
 use Rattle.dr_dataset.specs.declared.header.Tag.{Tag}
 use Rattle.dr_dataset.specs.declared.frame.Frame.{Frame}
@@ -10,7 +10,8 @@ use Rattle.dr_dataset.specs.declared.whole.Whole.{Whole}
 use Rattle.dr_dataset.specs.declared.found.Found.{Found}
 use Rattle.dr_dataset.specs.declared.values.Attributes.{Attributes}
 use Rattle.dr_dataset.specs.Elements.{Element}
-use Rattle.dr_dataset.specs.DataSet.{first_value, trimmed, Opens, Shows}
+use Rattle.dr_base.specs.Padding.{trimmed}
+use Rattle.dr_dataset.specs.DataSet.{first_value, Opens, Shows}
 
 -- an element is one of the top level where nothing is open behind it
 abbrev pub whole : List Frame → Tag → Option (List ℕ) → List Element

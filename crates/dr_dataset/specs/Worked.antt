@@ -1,7 +1,7 @@
 -- Worked examples of the definitions.
 use Rattle.std.specs.Prelude.{◌≡◌, ℕ, List, [], ◌∷◌, codes}
-use Rattle.dr_dataset.specs.declared.syntax.Syntax.{Syntax}
-use Rattle.dr_dataset.specs.declared.syntax.Syntax.TheVariants.{Implicit, Explicit}
+use Rattle.dr_base.specs.declared.syntax.Syntax.{Syntax}
+use Rattle.dr_base.specs.declared.syntax.Syntax.TheVariants.{Implicit, Explicit}
 use Rattle.dr_dataset.specs.declared.fault.DataFault.TheVariants.{BadVr, BadLength}
 use Rattle.dr_dataset.specs.Elements.{Element}
 use Rattle.dr_dataset.specs.DataSet.{IsDataSet, FirstFault, value_at}

@@ -4,7 +4,7 @@ ghost use Rattle.std.specs.Bool.{MatchBool};
 ghost use Rattle.std.specs.Option.{option_copied};
 ghost use Rattle.dr_dataset.specs.declared.header.Tag.{Tag as TagName};
 ghost use Rattle.dr_dataset.specs.Elements.{StartsTag};
-ghost use Rattle.dr_dataset.specs.DataSet.{without_end};
+ghost use Rattle.dr_base.specs.Padding.{unpadded};
 ghost use Rattle.dr_dataset.specs.Reading.{tag_of};
 ghost use Rattle.dr_dataset.specs.Files.{IsFile, IsMeta, EndsMeta, ReadsFile};
 
@@ -12,9 +12,9 @@ use crate::fault::FileFault;
 use crate::found::{bytes_of, first_of};
 use crate::header::tag_at;
 use crate::scanner::Scanner;
-use crate::syntax::Syntax;
-use crate::trim::without_end;
 use crate::values::Part10;
+use dr_base::Syntax;
+use dr_base::padding::unpadded;
 
 const META_GROUP: u16 = 0x0002;
 
@@ -69,7 +69,7 @@ fn is_cut_tag(text: &[u8]) -> bool
 /// The transfer syntax UID, with its padding, and the data set behind the file meta information.
 fn meta_at(text: &[u8]) -> Option<(&[u8], &[u8])>
     ensures meta { MatchOption result ((name behind : List ℕ) → IsMeta text.now name behind → ⊥)
-        (λ r. IsMeta text.now (without_end r.0.now) r.1.now) }
+        (λ r. IsMeta text.now (unpadded r.0.now) r.1.now) }
     ensures within { IfSome result (λ r. length r.1.now ≤ length text.now) }
 {
     let mut scanner = Scanner::new(Syntax::Explicit);
@@ -102,7 +102,7 @@ pub fn part10(text: &[u8]) -> Result<Part10, FileFault>
     let Some((name, behind)) = meta_at(rest) else {
         return Err(FileFault::Meta);
     };
-    let Some(syntax) = Syntax::with_uid(without_end(name)) else {
+    let Some(syntax) = Syntax::of_uid(unpadded(name)) else {
         return Err(FileFault::OtherSyntax);
     };
     let start = text.len() - behind.len();

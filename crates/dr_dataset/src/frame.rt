@@ -1,6 +1,6 @@
 //! What is open at a place of a data set.
 use crate::header::Tag;
-use crate::syntax::Syntax;
+use dr_base::Syntax;
 
 /// A sequence or an item of undefined length whose end hasn't come yet (PS3.5 section 7.5).
 #[derive(Clone, Copy, Debug, PartialEq, Eq)]

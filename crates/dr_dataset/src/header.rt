@@ -6,7 +6,7 @@ ghost use Rattle.dr_dataset.specs.Reading.{Gives, GivesSome, short_of, long_of, 
 ghost use Rattle.dr_dataset.specs.Reading.{explicit_form_of, long_form_of, are_capitals};
 
 use crate::fault::DataFault;
-use crate::syntax::Syntax;
+use dr_base::Syntax;
 
 /// A data element's tag.
 #[derive(Clone, Copy, Debug, PartialEq, Eq)]

@@ -1,7 +1,7 @@
 //! A data set that is read while it is heard, in constant memory.
 ghost use Rattle.std.specs.Prelude.{true, ◌≡◌, ◌≢◌, ◌<◌, ◌≤◌, ◌+◌, ◌∷◌, ◌++◌, ℕ, [], List, length, IfOk, MatchResult};
 ghost use Rattle.std.specs.Bool.{MatchBool};
-ghost use Rattle.dr_dataset.specs.declared.syntax.Syntax.{Syntax as SyntaxName};
+ghost use Rattle.dr_base.specs.declared.syntax.Syntax.{Syntax as SyntaxName};
 ghost use Rattle.dr_dataset.specs.declared.fault.DataFault.{DataFault as FaultName};
 ghost use Rattle.dr_dataset.specs.declared.header.Tag.{Tag as TagName};
 ghost use Rattle.std.specs.Prelude.{Option as OptionName};
@@ -12,12 +12,11 @@ use crate::caught::{Caught, Kept};
 use crate::fault::DataFault;
 use crate::header::Tag;
 use crate::scanner::{Scanner, is_key};
-use crate::syntax::Syntax;
 use crate::token::Token;
-use crate::trim::trimmed;
 use crate::values::Attributes;
 use arrayvec::ArrayVec;
-use dr_base::Text;
+use dr_base::padding::trimmed;
+use dr_base::{Syntax, Text};
 use std::alloc::{AllocError, Global};
 
 /// Where a scan is.

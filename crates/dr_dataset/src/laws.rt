@@ -1,6 +1,6 @@
 //! Laws of data sets and files, as functions that do nothing.
 ghost use Rattle.std.specs.Prelude.{◌≡◌, ◌∷◌, [], codes, length};
-ghost use Rattle.dr_dataset.specs.DataSet.{trimmed};
+ghost use Rattle.dr_base.specs.Padding.{trimmed};
 ghost use Rattle.dr_dataset.specs.Elements.{short_letters};
 ghost use Rattle.dr_dataset.specs.Worked.{ModalityIsRead, NothingIsRead, ItemIsBad, SmallLettersAreBad};
 ghost use Rattle.dr_dataset.specs.OneAnswer.{OneAnswer, SomeAnswer, OneFileAnswer};

@@ -16,15 +16,12 @@ pub mod laws;
 pub mod scan;
 mod scanner;
 mod stack;
-pub mod syntax;
 mod token;
-mod trim;
 pub mod values;
 mod whole;
 
 pub use fault::{DataFault, FileFault};
 pub use hearing::Scan;
-pub use syntax::Syntax;
 pub use values::{Attributes, Part10};
 
 #[cfg(test)]

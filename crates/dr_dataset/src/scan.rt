@@ -2,16 +2,16 @@
 ghost use Rattle.std.specs.Prelude.{◌≡◌, ◌≢◌, [], List, IfOk, IfErr, unwrap_or};
 ghost use Rattle.std.specs.Option.{option_copied};
 ghost use Rattle.dr_dataset.specs.Elements.{Element};
-ghost use Rattle.dr_dataset.specs.DataSet.{IsDataSet, FirstFault, Scans, trimmed};
+ghost use Rattle.dr_base.specs.Padding.{trimmed};
+ghost use Rattle.dr_dataset.specs.DataSet.{IsDataSet, FirstFault, Scans};
 ghost use Rattle.dr_dataset.specs.Wholes.{AreFound, AreValues};
 
 use crate::fault::DataFault;
 use crate::found::{Found, bytes_of};
 use crate::scanner::Scanner;
-use crate::syntax::Syntax;
-use crate::trim::trimmed;
 use crate::values::Attributes;
-use dr_base::Text;
+use dr_base::padding::trimmed;
+use dr_base::{Syntax, Text};
 use std::alloc::{AllocError, Global};
 
 fn found_in(text: &[u8], syntax: Syntax) -> Result<Found<'_>, DataFault>

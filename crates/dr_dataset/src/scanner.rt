@@ -12,9 +12,9 @@ use crate::fault::DataFault;
 use crate::frame::Frame;
 use crate::header::{Tag, UNDEFINED, form_at, long_at, syntax_inside, tag_at};
 use crate::stack::Stack;
-use crate::syntax::Syntax;
 use crate::token::Token;
 use crate::whole::Whole;
+use dr_base::Syntax;
 
 const ITEM_GROUP: u16 = 0xFFFE;
 

@@ -2,7 +2,7 @@
 ghost use Rattle.std.specs.Prelude.{◌≡◌, ◌==◌, ◌<◌, ◌≤◌, ◌∷◌, [], length, slice_get};
 
 use crate::frame::Frame;
-use crate::syntax::Syntax;
+use dr_base::Syntax;
 use std::marker::Model;
 
 /// 32 sequences, with an item in each.

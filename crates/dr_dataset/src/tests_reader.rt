@@ -1,8 +1,7 @@
 //! A plain reader of data sets, place by place and by recursion: slow, and beside the scan.
 use crate::fault::DataFault;
-use crate::syntax::Syntax;
 use crate::values::Attributes;
-use dr_base::Text;
+use dr_base::{Syntax, Text};
 use std::alloc::{AllocError, Global};
 
 /// The number of that many bytes.

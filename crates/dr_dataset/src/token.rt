@@ -1,6 +1,6 @@
 //! Tokens of a data set: what an element or an item begins with, and what ends one.
 use crate::header::Tag;
-use crate::syntax::Syntax;
+use dr_base::Syntax;
 
 /// What comes next in a data set.
 #[derive(Clone, Copy, Debug, PartialEq, Eq)]

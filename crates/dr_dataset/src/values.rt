@@ -1,6 +1,5 @@
 //! What is read of data sets and files.
-use crate::syntax::Syntax;
-use dr_base::Text;
+use dr_base::{Syntax, Text};
 
 /// Four values of a data set, without the spaces in front and the spaces and NULs behind; each is empty where
 /// the data set has none.

@@ -3,7 +3,7 @@ use Rattle.std.proofs.Common.{◌≡◌, ℕ, ◌+◌, ◌≤◌, ◌%◌, Bool,
 use Rattle.std.specs.List.{AllByRecursion}
 use Rattle.std.proofs.lemmas.Bool.{ne_eqb}
 use Rattle.std.proofs.lemmas.List.{length-append}
-use Rattle.dr_pdu.specs.Items.{onto, unpadded}
+use Rattle.dr_base.specs.Padding.{onto, unpadded}
 use Rattle.dr_pdu.proofs.Trimming.{unpadded_short, unpadded_twice}
 use Rattle.dr_dimse.specs.Commands.{IsUid, text_of}
 use Rattle.dr_dimse.specs.Written.{even, IsText}

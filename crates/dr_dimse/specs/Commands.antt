@@ -5,7 +5,7 @@ use Rattle.std.specs.Prelude.{◌≡◌, ◌≢◌, ◌⊎◌, ℕ, ◌^◌, ◌
 use Rattle.std.specs.Int.{w16, w32, to_le_bytes}
 use Rattle.std.specs.List.{AllByRecursion}
 use Rattle.dr_base.specs.Runs.{Run}
-use Rattle.dr_pdu.specs.Items.{unpadded}
+use Rattle.dr_base.specs.Padding.{unpadded}
 use Rattle.dr_dimse.specs.declared.fault.DimseFault.{DimseFault}
 use Rattle.dr_dimse.specs.declared.fault.DimseFault.TheVariants.{BadCommand, Memory}
 use Rattle.dr_dimse.specs.declared.command.Command.{Command}

@@ -1,7 +1,6 @@
 //! The command of a text.
 ghost use Rattle.std.specs.Prelude.{◌≡◌, ◌≢◌, ◌<◌, ◌≤◌, IsTrue, ◌↔◌, IfOk};
 ghost use Rattle.std.specs.List.{AllByRecursion};
-ghost use Rattle.dr_pdu.specs.Items.{is_padding, unpadded};
 ghost use Rattle.dr_dimse.specs.Commands.{ReadsCommand, Says, IsUid, text_at};
 ghost use Rattle.dr_dimse.specs.Reads.{Reads, IsOf, elements};
 
@@ -9,6 +8,7 @@ use crate::command::Command;
 use crate::elements::{Element, are_numbers, elements_of, first, number_of};
 use crate::fault::DimseFault;
 use dr_base::Text;
+use dr_base::padding::unpadded;
 use std::alloc::{AllocError, Global};
 
 /// C-CANCEL-RQ, which alone has neither id nor status.
@@ -166,28 +166,8 @@ fn text_of(alloc: Global, found: &[Element<'_>], number: u16) -> Result<Text, Al
     let Some(value) = first(found, number) else {
         return Ok(Text::empty(alloc));
     };
-    let text = Text::copy_of(alloc, unpadded_of(value))?;
+    let text = Text::copy_of(alloc, unpadded(value))?;
     Ok(text)
-}
-
-fn is_pad(byte: u8) -> bool
-    ensures { result ≡ is_padding byte }
-{
-    byte == 0 || byte == 32
-}
-
-/// A text without the NULs and spaces at its end.
-pub fn unpadded_of(bytes: &[u8]) -> &[u8]
-    ensures { result.now ≡ unpadded bytes.now }
-{
-    let mut text = bytes;
-    while let [front @ .., last] = text {
-        if !is_pad(*last) {
-            break;
-        }
-        text = front;
-    }
-    text
 }
 
 /// Whether it is 1 to 64 bytes from 21H to 7EH.

@@ -6,8 +6,9 @@ ghost use Rattle.dr_dimse.specs.declared.command.Command.TheVariants.{StoreRq, S
 ghost use Rattle.dr_dimse.specs.Written.{number_element, text_element, data_element, if_some, elements_of, joined, written, Fits, FieldFits, IsText};
 
 use crate::command::Command;
-use crate::reader::{is_uid, unpadded_of};
+use crate::reader::is_uid;
 use dr_base::Text;
+use dr_base::padding::unpadded;
 use std::alloc::{AllocError, Global};
 
 /// The spelling of a command: the group length, and then its elements in the order of their tags, texts padded by one NUL
@@ -286,5 +287,5 @@ fn field_fits(field: u16, id: Option<u16>, status: Option<u16>) -> bool
 fn is_text(text: &Text) -> bool
     ensures { IsTrue result ↔ IsText text.now }
 {
-    unpadded_of(text.as_bytes()) == text.as_bytes() && text.len() <= 16384
+    unpadded(text.as_bytes()) == text.as_bytes() && text.len() <= 16384
 }

@@ -9,7 +9,8 @@ use Rattle.dr_base.specs.Runs.{Run, AreParts}
 use Rattle.dr_pdu.specs.declared.pdu.Pdv.{Pdv}
 use Rattle.dr_pdu.specs.declared.pdu.ContextProposal.{ContextProposal}
 use Rattle.dr_pdu.specs.declared.pdu.ContextAnswer.{ContextAnswer}
-use Rattle.dr_pdu.specs.Items.{Item, StartsItem, AreItems, StartsPdv, bodies, first_body, unpadded}
+use Rattle.dr_base.specs.Padding.{unpadded}
+use Rattle.dr_pdu.specs.Items.{Item, StartsItem, AreItems, StartsPdv, bodies, first_body}
 use Rattle.dr_pdu.specs.Grammar.{IsProposal, IsAnswer}
 use Rattle.dr_pdu.proofs.Bytes.{IsBytes, four_bytes}
 use Rattle.dr_pdu.proofs.ItemLemmas.{starts, item_parts}

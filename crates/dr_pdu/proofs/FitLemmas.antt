@@ -11,7 +11,8 @@ use Rattle.dr_pdu.specs.declared.pdu.Association.{Association}
 use Rattle.dr_pdu.specs.declared.pdu.Front.{Front}
 use Rattle.dr_pdu.specs.declared.pdu.ContextProposal.{ContextProposal}
 use Rattle.dr_pdu.specs.declared.pdu.ContextAnswer.{ContextAnswer}
-use Rattle.dr_pdu.specs.Items.{Item, AreItems, StartsPdv, pdv_text, bodies, first_body, unpadded, title}
+use Rattle.dr_base.specs.Padding.{unpadded, trimmed}
+use Rattle.dr_pdu.specs.Items.{Item, AreItems, StartsPdv, pdv_text, bodies, first_body}
 use Rattle.dr_pdu.specs.Grammar.{Each, IsProposal, IsAnswer, IsFront, IsGreatestLength, IsAssociation}
 use Rattle.dr_pdu.specs.Written.{item, proposal_body, answer_body, user_text}
 use Rattle.dr_pdu.specs.Fitting.{IsTitle, IsUnpadded, FrontFits, ProposalFits, AnswerFits, weight, AssociationFits}
@@ -81,10 +82,10 @@ answer_fits body c (r, s, items, rest, e, are, syntax) small = by_test (eqb c.re
 
 -- ---- associations
 
-title_fits : (body name : List ℕ) → length body ≡ 16 → title body ≡ name → IsTitle name
+title_fits : (body name : List ℕ) → length body ≡ 16 → trimmed body ≡ name → IsTitle name
 title_fits body name n e =
     let short = ap (λ (t : List ℕ). length t) e in
-    (omega (arith, n, short, title_short body), ap title (sym e) ∙ title_twice body ∙ e)
+    (omega (arith, n, short, title_short body), ap trimmed (sym e) ∙ title_twice body ∙ e)
 
 pub record FrontSays (body : List ℕ) (f : Front) (rest : List ℕ) : Type 0 where
   pub fits : FrontFits f

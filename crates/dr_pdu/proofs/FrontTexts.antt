@@ -3,7 +3,7 @@ use Rattle.std.proofs.Common.{◌≡◌, ℕ, ◌+◌, ◌-◌, ◌*◌, ◌/◌
 use Rattle.std.specs.Int.{w16, to_be_bytes}
 use Rattle.std.proofs.lemmas.List.{take_rest, take_at, drop_at, take-append-drop, length-take-le, length-drop, length-append}
 use Rattle.dr_pdu.specs.declared.pdu.Front.{Front}
-use Rattle.dr_pdu.specs.Items.{title}
+use Rattle.dr_base.specs.Padding.{trimmed}
 use Rattle.dr_pdu.specs.Grammar.{IsFront}
 use Rattle.dr_pdu.proofs.Bytes.{IsBytes, front4, two_bytes}
 
@@ -13,7 +13,7 @@ front_text body =
     let text = drop 4 body in
     let later = drop 16 text in
     let last = drop 16 later in
-    (record { version = get_or body 0 0 * 256 + get_or body 1 0; called = title (take 16 text); calling = title (take 16 later); reserved = take 32 last }, drop 32 last)
+    (record { version = get_or body 0 0 * 256 + get_or body 1 0; called = trimmed (take 16 text); calling = trimmed (take 16 later); reserved = take 32 last }, drop 32 last)
 
 front_is : (body : List ℕ) (f : Front) (rest : List ℕ) → IsFront body f rest → (f, rest) ≡ front_text body
 unfolding front_text
@@ -38,7 +38,7 @@ front_is_long body f rest (r, s, called, calling, small, ca, cl, re, tca, tcl, e
 
 -- 68 bytes and more begin with a front
 pub front_read : (body text : List ℕ) (f : Front) → text ≡ take (length body - 4) (drop 4 body) → 4 ≤ length body → 64 ≤ length text → IsBytes body
-    → f.version ≡ get_or body 0 0 * 256 + get_or body 1 0 → title (take 16 text) ≡ f.called → title (take 16 (drop 16 text)) ≡ f.calling → f.reserved ≡ take 32 (drop 16 (drop 16 text))
+    → f.version ≡ get_or body 0 0 * 256 + get_or body 1 0 → trimmed (take 16 text) ≡ f.called → trimmed (take 16 (drop 16 text)) ≡ f.calling → f.reserved ≡ take 32 (drop 16 (drop 16 text))
     → IsFront body f (drop 32 (drop 16 (drop 16 text)))
 front_read body text f is long more bytes number called calling reserved =
     let v = f.version in

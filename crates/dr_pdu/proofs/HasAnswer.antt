@@ -15,7 +15,8 @@ use Rattle.dr_pdu.specs.declared.pdu.ContextProposal.{ContextProposal}
 use Rattle.dr_pdu.specs.declared.pdu.ContextAnswer.{ContextAnswer}
 use Rattle.dr_pdu.specs.declared.fault.PduFault.{PduFault}
 use Rattle.dr_pdu.specs.declared.fault.PduFault.TheVariants.{More, BadItem, BadContextId, Memory}
-use Rattle.dr_pdu.specs.Items.{Item, AreItems, StartsPdv, bodies, first_body, unpadded, title}
+use Rattle.dr_base.specs.Padding.{unpadded, trimmed}
+use Rattle.dr_pdu.specs.Items.{Item, AreItems, StartsPdv, bodies, first_body}
 use Rattle.dr_pdu.specs.Grammar.{Each, IsProposal, IsAnswer, IsFront, IsGreatestLength, IsAssociation, IsBody, AreContextIds, HasContextIds, header_fault, Begins, IsWhole, Decodes}
 use Rattle.dr_pdu.proofs.Bytes.{IsBytes, four_bytes, front4}
 use Rattle.dr_pdu.proofs.DecodeLemmas.{begins, header_shows, whole, spelled, request_of, acceptance_of}
@@ -93,7 +94,7 @@ front_found body b = by_length (cases_lt (length body) 68)
     by_length (inl short) = inr (λ f rest h. omega (arith, front_is_long body f rest h, short))
     by_length (inr long) =
         let text = take (length body - 4) (drop 4 body) in
-        let f : Front = record { version = get_or body 0 0 * 256 + get_or body 1 0; called = title (take 16 text); calling = title (take 16 (drop 16 text)); reserved = take 32 (drop 16 (drop 16 text)) } in
+        let f : Front = record { version = get_or body 0 0 * 256 + get_or body 1 0; called = trimmed (take 16 text); calling = trimmed (take 16 (drop 16 text)); reserved = take 32 (drop 16 (drop 16 text)) } in
         let size : length text ≡ length body - 4 = length-take-le (length body - 4) (drop 4 body) (omega (arith, length-drop 4 body)) in
         inl (
           f,

@@ -13,7 +13,6 @@ pub mod ItemLemmas
 pub mod OneAnswer
 pub mod OneBody
 pub mod OneFeed
-pub mod Padding
 pub mod Parts
 pub mod PdvLemmas
 pub mod Refusals

@@ -10,7 +10,8 @@ use Rattle.dr_pdu.specs.declared.pdu.Association.{Association}
 use Rattle.dr_pdu.specs.declared.pdu.Front.{Front}
 use Rattle.dr_pdu.specs.declared.pdu.ContextProposal.{ContextProposal}
 use Rattle.dr_pdu.specs.declared.pdu.ContextAnswer.{ContextAnswer}
-use Rattle.dr_pdu.specs.Items.{Item, AreItems, StartsPdv, bodies, first_body, unpadded}
+use Rattle.dr_base.specs.Padding.{unpadded}
+use Rattle.dr_pdu.specs.Items.{Item, AreItems, StartsPdv, bodies, first_body}
 use Rattle.dr_pdu.specs.Grammar.{Each, IsProposal, IsAnswer, IsGreatestLength, IsAssociation, IsBody}
 use Rattle.dr_pdu.proofs.ContextLemmas.{same_items, proposal_says, answer_says, behind4}
 use Rattle.dr_pdu.proofs.FrontTexts.{same_front_part}

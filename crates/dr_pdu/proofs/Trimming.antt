@@ -1,7 +1,7 @@
 -- Names without their padding, and titles with it.
 use Rattle.std.proofs.Common.{◌≡◌, ℕ, zero, suc, ◌-◌, ◌≤◌, List, [], ◌∷◌, ◌++◌, length, replicate, Bool, true, false, cond, eqb, refl, ap, ◌∙◌, arith}
 use Rattle.std.proofs.lemmas.List.{length-append, length-replicate}
-use Rattle.dr_pdu.specs.Items.{is_padding, onto, unpadded, without_spaces, title}
+use Rattle.dr_base.specs.Padding.{is_padding, onto, unpadded, without_spaces, trimmed}
 use Rattle.dr_pdu.specs.Written.{padded}
 
 onto_short : (b : ℕ) (u : List ℕ) → length (onto b u) ≤ suc (length u)
@@ -24,7 +24,7 @@ without_short (b ∷ bs) = by_test (eqb b 32) (without_short bs)
     by_test true h = omega arith
     by_test false h = omega arith
 
-pub title_short : (t : List ℕ) → length (title t) ≤ length t
+pub title_short : (t : List ℕ) → length (trimmed t) ≤ length t
 title_short t = omega (arith, unpadded_short (without_spaces t), without_short t)
 
 -- what was trimmed stays
@@ -49,11 +49,11 @@ first_stays b [] h = by_test (is_padding b)
     by_test false = rw h refl
 first_stays b (c ∷ cs) h = rw h refl
 
-pub title_twice : (t : List ℕ) → title (title t) ≡ title t
+pub title_twice : (t : List ℕ) → trimmed (trimmed t) ≡ trimmed t
 title_twice [] = refl
 title_twice (b ∷ bs) = by_test (eqb b 32) refl (title_twice bs)
   where
-    by_test : (t : Bool) → eqb b 32 ≡ t → title (title bs) ≡ title bs → title (unpadded (cond t (without_spaces bs) (b ∷ bs))) ≡ unpadded (cond t (without_spaces bs) (b ∷ bs))
+    by_test : (t : Bool) → eqb b 32 ≡ t → trimmed (trimmed bs) ≡ trimmed bs → trimmed (unpadded (cond t (without_spaces bs) (b ∷ bs))) ≡ unpadded (cond t (without_spaces bs) (b ∷ bs))
     by_test true e h = h
     by_test false e h = ap unpadded (first_stays b (unpadded bs) e) ∙ unpadded_twice (b ∷ bs)
 
@@ -70,15 +70,15 @@ unpadded_behind : (t : List ℕ) (n : ℕ) → unpadded (t ++ replicate n 32) �
 unpadded_behind [] n = spaces_padding n
 unpadded_behind (b ∷ bs) n = ap (onto b) (unpadded_behind bs n)
 
-title_behind : (t : List ℕ) (n : ℕ) → title (t ++ replicate n 32) ≡ title t
+title_behind : (t : List ℕ) (n : ℕ) → trimmed (t ++ replicate n 32) ≡ trimmed t
 title_behind [] n = rw (no_spaces n) refl
 title_behind (b ∷ bs) n = by_test (eqb b 32) (title_behind bs n)
   where
-    by_test : (t : Bool) → title (bs ++ replicate n 32) ≡ title bs → unpadded (cond t (without_spaces (bs ++ replicate n 32)) (b ∷ bs ++ replicate n 32)) ≡ unpadded (cond t (without_spaces bs) (b ∷ bs))
+    by_test : (t : Bool) → trimmed (bs ++ replicate n 32) ≡ trimmed bs → unpadded (cond t (without_spaces (bs ++ replicate n 32)) (b ∷ bs ++ replicate n 32)) ≡ unpadded (cond t (without_spaces bs) (b ∷ bs))
     by_test true h = h
     by_test false h = unpadded_behind (b ∷ bs) n
 
-pub title_of_padded : (name : List ℕ) → title (padded name) ≡ title name
+pub title_of_padded : (name : List ℕ) → trimmed (padded name) ≡ trimmed name
 title_of_padded name = title_behind name (16 - length name)
 
 pub length_of_padded : (name : List ℕ) → length name ≤ 16 → length (padded name) ≡ 16

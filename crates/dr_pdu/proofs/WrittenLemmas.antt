@@ -14,7 +14,8 @@ use Rattle.dr_pdu.specs.declared.pdu.Pdv.{Pdv}
 use Rattle.dr_pdu.specs.declared.pdu.Association.{Association}
 use Rattle.dr_pdu.specs.declared.pdu.ContextProposal.{ContextProposal}
 use Rattle.dr_pdu.specs.declared.pdu.ContextAnswer.{ContextAnswer}
-use Rattle.dr_pdu.specs.Items.{Item, StartsItem, AreItems, StartsPdv, pdv_text, bodies, first_body, unpadded}
+use Rattle.dr_base.specs.Padding.{unpadded}
+use Rattle.dr_pdu.specs.Items.{Item, StartsItem, AreItems, StartsPdv, pdv_text, bodies, first_body}
 use Rattle.dr_pdu.specs.Grammar.{Each, IsProposal, IsAnswer, IsGreatestLength, IsAssociation, IsBody, AreContextIds, HasContextIds, header_fault, Spells}
 use Rattle.dr_pdu.specs.Written.{item, padded, implicit, implementation, version_name, proposal_body, answer_body, user_text, association_text, unless_long, request_text, acceptance_text, framed, written, body_text, Fits, MeetsLimit}
 use Rattle.dr_pdu.specs.Fitting.{IsUnpadded, FrontFits, ProposalFits, AnswerFits, weight, AssociationFits}

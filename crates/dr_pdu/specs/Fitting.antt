@@ -6,12 +6,12 @@ use Rattle.dr_pdu.specs.declared.pdu.Association.{Association}
 use Rattle.dr_pdu.specs.declared.pdu.Front.{Front}
 use Rattle.dr_pdu.specs.declared.pdu.ContextProposal.{ContextProposal}
 use Rattle.dr_pdu.specs.declared.pdu.ContextAnswer.{ContextAnswer}
-use Rattle.dr_pdu.specs.Items.{unpadded, title}
+use Rattle.dr_base.specs.Padding.{unpadded, trimmed}
 use Rattle.dr_pdu.specs.Written.{proposal_body, answer_body, user_text}
 
 -- a title that is read as it was written, padded to 16 bytes
 abbrev pub IsTitle : List ℕ → Type 0
-IsTitle name = (length name ≤ 16) × (title name ≡ name)
+IsTitle name = (length name ≤ 16) × (trimmed name ≡ name)
 
 -- a name or a UID that is read as it was written
 abbrev pub IsUnpadded : List ℕ → Type 0

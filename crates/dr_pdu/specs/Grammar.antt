@@ -11,7 +11,8 @@ use Rattle.dr_pdu.specs.declared.pdu.ContextProposal.{ContextProposal}
 use Rattle.dr_pdu.specs.declared.pdu.ContextAnswer.{ContextAnswer}
 use Rattle.dr_pdu.specs.declared.fault.PduFault.{PduFault}
 use Rattle.dr_pdu.specs.declared.fault.PduFault.TheVariants.{More, UnknownType, TooLong, BadItem, BadContextId, Memory, Failed}
-use Rattle.dr_pdu.specs.Items.{Item, AreItems, StartsPdv, bodies, first_body, unpadded, title}
+use Rattle.dr_base.specs.Padding.{unpadded, trimmed}
+use Rattle.dr_pdu.specs.Items.{Item, AreItems, StartsPdv, bodies, first_body}
 
 -- the two lists go together, one by one
 abbrev pub Each : {A B : Type 0} → (A → B → Type 0) → List A → List B → Type 0
@@ -40,7 +41,7 @@ IsGreatestLength (Some body) n = (items : List Item) × AreItems items body × M
 -- version (2), 2 reserved, called title (16), calling title (16), 32 reserved, and then the items
 abbrev pub IsFront : List ℕ → Front → List ℕ → Type 0
 IsFront body f rest = (r s : ℕ) × (called calling : List ℕ) × (f.version < 2 ^ 16) × (length called ≡ 16) × (length calling ≡ 16) × (length f.reserved ≡ 32)
-    × (title called ≡ f.called) × (title calling ≡ f.calling) × (body ≡ to_be_bytes w16 f.version ++ r ∷ s ∷ (called ++ (calling ++ (f.reserved ++ rest))))
+    × (trimmed called ≡ f.called) × (trimmed calling ≡ f.calling) × (body ≡ to_be_bytes w16 f.version ++ r ∷ s ∷ (called ++ (calling ++ (f.reserved ++ rest))))
 
 -- the body of an association PDU whose contexts are items of that type
 abbrev pub IsAssociation : {C : Type 0} → ℕ → (List ℕ → C → Type 0) → List ℕ → Association C → Type 0

@@ -1,6 +1,6 @@
 -- The parts that PDUs are made of (PS3.8 section 9.3). A text is a list of bytes; a number has its most significant
 -- byte first.
-use Rattle.std.specs.Prelude.{◌≡◌, ℕ, ◌+◌, ◌<◌, ◌^◌, Bool, List, [], ◌∷◌, ◌++◌, length, map, filter, ◌==◌, ◌||◌, if◌then◌else◌, Option, slice_get}
+use Rattle.std.specs.Prelude.{◌≡◌, ℕ, ◌+◌, ◌<◌, ◌^◌, List, [], ◌∷◌, ◌++◌, length, map, filter, ◌==◌, Option, slice_get}
 use Rattle.std.specs.Int.{w16, w32, to_be_bytes}
 use Rattle.dr_base.specs.Runs.{Run}
 use Rattle.dr_pdu.specs.declared.pdu.Pdv.{Pdv}
@@ -38,24 +38,3 @@ pdv_text p = to_be_bytes w32 (2 + length p.fragment) ++ p.id ∷ p.header ∷ p.
 
 abbrev pub StartsPdv : List ℕ → Pdv → List ℕ → Type 0
 StartsPdv text p rest = (2 + length p.fragment < 2 ^ 32) × (text ≡ pdv_text p ++ rest)
-
--- ---- padding: names and UIDs are read without NULs and spaces at their end, titles also without spaces in front
-
-abbrev pub is_padding : ℕ → Bool
-is_padding b = b == 0 || b == 32
-
-abbrev pub onto : ℕ → List ℕ → List ℕ
-onto b [] = if is_padding b then [] else b ∷ []
-onto b (c ∷ cs) = b ∷ c ∷ cs
-
--- without the padding at the end
-abbrev pub unpadded : List ℕ → List ℕ
-unpadded [] = []
-unpadded (b ∷ bs) = onto b (unpadded bs)
-
-abbrev pub without_spaces : List ℕ → List ℕ
-without_spaces [] = []
-without_spaces (b ∷ bs) = if b == 32 then without_spaces bs else b ∷ bs
-
-abbrev pub title : List ℕ → List ℕ
-title bytes = unpadded (without_spaces bytes)

@@ -10,8 +10,9 @@ ghost use Rattle.dr_pdu.specs.declared.pdu.Front.{Front as FrontText};
 
 use crate::contexts::{answer_bytes, answer_len, proposal_bytes, proposal_len};
 use crate::fault::PduFault;
-use crate::items::{Item, first, items_of, title_of, uids, unpadded_of};
+use crate::items::{Item, first, items_of, uids};
 use crate::pdu::{Association, ContextAnswer, ContextProposal, Front};
+use dr_base::padding::{trimmed, unpadded};
 use dr_base::{Seq, Text};
 use std::alloc::{AllocError, Global};
 
@@ -111,7 +112,7 @@ fn proposal_of(alloc: Global, body: &[u8]) -> Result<ContextProposal, PduFault>
     let Some(class) = first(&found, 0x30) else {
         return Err(PduFault::BadItem);
     };
-    let class = Text::copy_of(alloc, unpadded_of(class))?;
+    let class = Text::copy_of(alloc, unpadded(class))?;
     let syntaxes = uids(alloc, &found, 0x40)?;
     if syntaxes.is_empty() {
         return Err(PduFault::BadItem);
@@ -140,7 +141,7 @@ fn answer_of(alloc: Global, body: &[u8]) -> Result<ContextAnswer, PduFault>
     let Some(syntax) = first(&found, 0x40) else {
         return Err(PduFault::BadItem);
     };
-    let syntax = Text::copy_of(alloc, unpadded_of(syntax))?;
+    let syntax = Text::copy_of(alloc, unpadded(syntax))?;
     Ok(ContextAnswer {
         id: *id,
         result: *outcome,
@@ -194,8 +195,8 @@ fn front_of(alloc: Global, body: &[u8]) -> Result<(Front, &[u8]), PduFault>
     let (reserved, text) = text.split_at(32);
     let front = Front {
         version: u16::from_be_bytes([*high, *low]),
-        called: Text::copy_of(alloc, title_of(called))?,
-        calling: Text::copy_of(alloc, title_of(calling))?,
+        called: Text::copy_of(alloc, trimmed(called))?,
+        calling: Text::copy_of(alloc, trimmed(calling))?,
         reserved: Text::copy_of(alloc, reserved)?,
     };
     Ok((front, text))
@@ -214,7 +215,7 @@ pub fn association_of<C: Context>(
     let Some(application) = first(&found, 0x10) else {
         return Err(PduFault::BadItem);
     };
-    let application = Text::copy_of(alloc, unpadded_of(application))?;
+    let application = Text::copy_of(alloc, unpadded(application))?;
     let contexts = contexts_of(alloc, &found, kind)?;
     let max_pdu = greatest_length_of(alloc, &found)?;
     Ok(Association {

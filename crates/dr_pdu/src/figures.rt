@@ -1,7 +1,8 @@
 //! Worked figures of the definitions, by computation.
 ghost use Rattle.std.specs.Prelude.{◌≡◌, ◌∷◌, [], Some, None, Ok, length};
 ghost use Rattle.dr_pdu.specs.Grammar.{header_fault, AreContextIds, IsAnswer, IsProposal, Decodes, Shows};
-ghost use Rattle.dr_pdu.specs.Items.{first_body, title, unpadded};
+ghost use Rattle.dr_base.specs.Padding.{trimmed, unpadded};
+ghost use Rattle.dr_pdu.specs.Items.{first_body};
 ghost use Rattle.dr_pdu.specs.Vectors.{explicit, implicit, ct, verification, proposal, proposal_text, acceptance, refusal, rejection, rejection_text, echo, echo_text};
 ghost use Rattle.dr_pdu.specs.Written.{body_text, written};
 ghost use Rattle.dr_pdu.specs.declared.pdu.ContextAnswer.{ContextAnswer as Answer};
@@ -41,9 +42,9 @@ pub fn edges_of_lengths()
 
 /// What is trimmed: spaces in front of a title, NULs and spaces behind a name.
 pub fn trimmed_names()
-    ensures both_ends { title (32 ∷ 65 ∷ 32 ∷ 66 ∷ 0 ∷ 32 ∷ 0 ∷ []) ≡ 65 ∷ 32 ∷ 66 ∷ [] }
-    ensures nul_in_front { title (32 ∷ 0 ∷ 32 ∷ 65 ∷ []) ≡ 0 ∷ 32 ∷ 65 ∷ [] }
-    ensures spaces_alone { title (32 ∷ 32 ∷ []) ≡ [] }
+    ensures both_ends { trimmed (32 ∷ 65 ∷ 32 ∷ 66 ∷ 0 ∷ 32 ∷ 0 ∷ []) ≡ 65 ∷ 32 ∷ 66 ∷ [] }
+    ensures nul_in_front { trimmed (32 ∷ 0 ∷ 32 ∷ 65 ∷ []) ≡ 0 ∷ 32 ∷ 65 ∷ [] }
+    ensures spaces_alone { trimmed (32 ∷ 32 ∷ []) ≡ [] }
     ensures name { unpadded (32 ∷ 49 ∷ 46 ∷ 50 ∷ 0 ∷ []) ≡ 32 ∷ 49 ∷ 46 ∷ 50 ∷ [] }
 {}
 

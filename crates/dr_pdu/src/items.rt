@@ -1,10 +1,12 @@
 //! Items and sub-items: type, reserved, length (2), body.
 ghost use Rattle.std.specs.Prelude.{◌≡◌, ℕ, List, map, IfOk};
 ghost use Rattle.std.specs.Option.{option_copied};
-ghost use Rattle.dr_pdu.specs.Items.{Item as ItemText, AreItems, StartsItem, first_body, bodies, is_padding, unpadded, title};
+ghost use Rattle.dr_base.specs.Padding.{unpadded};
+ghost use Rattle.dr_pdu.specs.Items.{Item as ItemText, AreItems, StartsItem, first_body, bodies};
 ghost use Rattle.dr_pdu.specs.Reads.{Reads, item, items};
 
 use crate::fault::PduFault;
+use dr_base::padding::unpadded;
 use dr_base::{Seq, Text};
 use std::alloc::{AllocError, Global};
 
@@ -56,37 +58,6 @@ pub fn first<'a>(found: &[Item<'a>], kind: u8) -> Option<&'a [u8]>
     None
 }
 
-fn is_pad(byte: u8) -> bool
-    ensures { result ≡ is_padding byte }
-{
-    byte == 0 || byte == 32
-}
-
-/// A name or a UID without the padding at its end.
-pub fn unpadded_of(bytes: &[u8]) -> &[u8]
-    ensures { result.now ≡ unpadded bytes.now }
-{
-    let mut text = bytes;
-    while let [front @ .., last] = text {
-        if !is_pad(*last) {
-            break;
-        }
-        text = front;
-    }
-    text
-}
-
-/// A title without spaces in front and padding at its end.
-pub fn title_of(bytes: &[u8]) -> &[u8]
-    ensures { result.now ≡ title bytes.now }
-{
-    let mut text = bytes;
-    while let [32, rest @ ..] = text {
-        text = rest;
-    }
-    unpadded_of(text)
-}
-
 /// The UIDs of the items of one type, in order.
 pub fn uids(alloc: Global, found: &[Item<'_>], kind: u8) -> Result<Seq<Text>, AllocError>
     ensures { IfOk result (λ them. them ≡ map unpadded (bodies kind (items found.now))) }
@@ -94,7 +65,7 @@ pub fn uids(alloc: Global, found: &[Item<'_>], kind: u8) -> Result<Seq<Text>, Al
     let mut them = Vec::new(alloc);
     for item in found {
         if item.kind == kind {
-            them.push(Text::copy_of(alloc, unpadded_of(item.body))?)?;
+            them.push(Text::copy_of(alloc, unpadded(item.body))?)?;
         }
     }
     Ok(Seq::from_vec(them))

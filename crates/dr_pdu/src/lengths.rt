@@ -9,9 +9,9 @@ ghost use Rattle.dr_pdu.specs.Fitting.{IsTitle, IsUnpadded, FrontFits, Associati
 
 use crate::associate::Context;
 use crate::decoder::are_context_ids;
-use crate::items::{title_of, unpadded_of};
 use crate::pdu::{Association, Front, Pdu, Pdv};
 use dr_base::Text;
+use dr_base::padding::{trimmed, unpadded};
 
 /// The greatest length field of an association PDU, in bytes.
 pub const GREATEST_ASSOCIATION: usize = 262_144;
@@ -70,7 +70,7 @@ fn front_fits(front: &Front) -> bool
 fn is_title(name: &Text) -> bool
     ensures { IsTrue result ↔ IsTitle name.now }
 {
-    name.len() <= 16 && title_of(name.as_bytes()) == name.as_bytes()
+    name.len() <= 16 && trimmed(name.as_bytes()) == name.as_bytes()
 }
 
 /// How many bytes the shortest items of the contexts take, if they fit.
@@ -138,5 +138,5 @@ pub fn names_len(names: &[Text]) -> Option<usize>
 pub fn is_unpadded(name: &Text) -> bool
     ensures { IsTrue result ↔ IsUnpadded name.now }
 {
-    unpadded_of(name.as_bytes()) == name.as_bytes()
+    unpadded(name.as_bytes()) == name.as_bytes()
 }

@@ -1,6 +1,6 @@
 use Rattle.std.proofs.Common.{arith, sym, ap, subst, ◌∙◌, refl}
 use Rattle.std.specs.Option.{option_copied}
-use Rattle.dr_dataset.specs.declared.syntax.Syntax.{Syntax}
+use Rattle.dr_base.specs.declared.syntax.Syntax.{Syntax}
 use Rattle.dr_dataset.specs.Wholes.{FailsAtOnce, element_of}
 use Rattle.dr_dataset.proofs.FileLemmas.{fails, cut_tag, unnamed, meta_named, ends_here, meta_goes_on}
 use Rattle.dr_dataset.proofs.file.meta_at.Goals as goal

@@ -1,7 +1,7 @@
 use Rattle.std.proofs.Common.{◌≡◌, ◌≤◌, List, [], length}
 use Rattle.std.specs.Option.{option_copied}
 use Rattle.dr_base.specs.Runs.{Run}
-use Rattle.dr_dataset.specs.declared.syntax.Syntax.TheVariants.{Explicit}
+use Rattle.dr_base.specs.declared.syntax.Syntax.TheVariants.{Explicit}
 use Rattle.dr_dataset.specs.Elements.{Element}
 use Rattle.dr_dataset.specs.DataSet.{first_value}
 use Rattle.dr_dataset.specs.Files.{StartsMeta}

@@ -1,6 +1,7 @@
 use Rattle.std.proofs.Common.{◌≡◌, ap, sym, ◌∙◌, None, Some, cond, eqb, List, ℕ, [], get_or}
 use Rattle.std.specs.Option.{option_map}
-use Rattle.dr_pdu.specs.Items.{first_body, unpadded}
+use Rattle.dr_base.specs.Padding.{unpadded}
+use Rattle.dr_pdu.specs.Items.{first_body}
 use Rattle.dr_pdu.specs.Reads.{items}
 use Rattle.dr_pdu.proofs.ContextLemmas.{answer_says}
 use Rattle.dr_pdu.proofs.associate.answer_of.Goals as goal

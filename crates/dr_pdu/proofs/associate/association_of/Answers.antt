@@ -2,7 +2,8 @@ use Rattle.std.proofs.Common.{◌≡◌, ap, ◌∙◌, None, Some, List, ℕ}
 use Rattle.std.specs.Option.{option_map}
 use Rattle.std.proofs.lemmas.Result.{err_from_is_err_and}
 use Rattle.dr_pdu.specs.declared.pdu.Front.{Front}
-use Rattle.dr_pdu.specs.Items.{Item, AreItems, bodies, first_body, unpadded}
+use Rattle.dr_base.specs.Padding.{unpadded}
+use Rattle.dr_pdu.specs.Items.{Item, AreItems, bodies, first_body}
 use Rattle.dr_pdu.specs.Reads.{items}
 use Rattle.dr_pdu.specs.Grammar.{Each, IsFront, IsGreatestLength, IsAssociation}
 use Rattle.dr_pdu.proofs.ContextLemmas.{items_behind, association_says}

@@ -2,7 +2,8 @@ use Rattle.std.proofs.Common.{◌≡◌, ap, arith, refl, sym, ◌∙◌, None, 
 use Rattle.std.proofs.lemmas.Bool.{eqb-true, eqb-false}
 use Rattle.std.proofs.lemmas.List.{nil_from_length}
 use Rattle.std.specs.Option.{option_map}
-use Rattle.dr_pdu.specs.Items.{first_body, unpadded}
+use Rattle.dr_base.specs.Padding.{unpadded}
+use Rattle.dr_pdu.specs.Items.{first_body}
 use Rattle.dr_pdu.specs.Reads.{items}
 use Rattle.dr_pdu.proofs.ContextLemmas.{proposal_says, is_proposal}
 use Rattle.dr_pdu.proofs.associate.proposal_of.Goals as goal

@@ -1,6 +1,7 @@
 use Rattle.std.proofs.Common.{◌≡◌, ◌∙◌, refl, ap, List, ◌∷◌, [], ℕ, get_or, cond, eqb, None, Some}
 use Rattle.std.specs.Option.{option_map}
-use Rattle.dr_pdu.specs.Items.{first_body, unpadded}
+use Rattle.dr_base.specs.Padding.{unpadded}
+use Rattle.dr_pdu.specs.Items.{first_body}
 use Rattle.dr_pdu.proofs.ContextLemmas.{answer_says, proposal_says}
 use Rattle.dr_pdu.proofs.figures.contexts_without_items.Goals as goal
 

@@ -1,5 +1,6 @@
 use Rattle.std.proofs.Common.{◌≡◌, map, take}
-use Rattle.dr_pdu.specs.Items.{bodies, unpadded}
+use Rattle.dr_base.specs.Padding.{unpadded}
+use Rattle.dr_pdu.specs.Items.{bodies}
 use Rattle.dr_pdu.specs.Reads.{items}
 use Rattle.dr_pdu.proofs.items.uids.Given as goal
 

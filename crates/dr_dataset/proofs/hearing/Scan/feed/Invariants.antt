@@ -1,6 +1,6 @@
 use Rattle.std.proofs.Common.{◌≡◌, ◌++◌, ℕ, List, length}
 use Rattle.dr_dataset.specs.declared.fault.DataFault.{DataFault}
-use Rattle.dr_dataset.specs.declared.syntax.Syntax.{Syntax}
+use Rattle.dr_base.specs.declared.syntax.Syntax.{Syntax}
 use Rattle.dr_dataset.specs.Hearing.{Hears, HasFailed}
 use Rattle.dr_dataset.proofs.hearing.Scan.feed.Given as goal
 

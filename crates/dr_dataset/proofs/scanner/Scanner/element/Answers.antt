@@ -1,6 +1,6 @@
 use Rattle.std.proofs.Common.{subst}
 use Rattle.std.proofs.lemmas.Result.{err_from_is_err_and}
-use Rattle.dr_dataset.specs.declared.syntax.Syntax.{Syntax}
+use Rattle.dr_base.specs.declared.syntax.Syntax.{Syntax}
 use Rattle.dr_dataset.specs.DataSet.{Shows}
 use Rattle.dr_dataset.proofs.AdvanceLemmas.{whole_element}
 use Rattle.dr_dataset.proofs.scanner.Scanner.element.Goals as goal

@@ -1,9 +1,9 @@
 use Rattle.std.proofs.Common.{◌≡◌, length}
-use Rattle.dr_dataset.specs.DataSet.{without_end}
-use Rattle.dr_dataset.proofs.trim.without_end.Given as goal
+use Rattle.dr_base.specs.Padding.{unpadded}
+use Rattle.dr_base.proofs.padding.unpadded.Given as goal
 
 abbrev pub invariant-loop-text : goal.invariant-loop-text
-invariant-loop-text l = without_end l.text ≡ without_end l.bytes
+invariant-loop-text l = unpadded l.text ≡ unpadded l.bytes
 
 abbrev pub decreases-loop-text : goal.decreases-loop-text
 decreases-loop-text l = length l.text

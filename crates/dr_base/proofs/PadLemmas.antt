@@ -1,6 +1,6 @@
--- Padding at the end.
+-- Padding at the end of a text.
 use Rattle.std.proofs.Common.{◌≡◌, ℕ, suc, ◌-◌, ◌<◌, true, false, List, [], ◌∷◌, length, get_or, take, refl, ap, arith}
-use Rattle.dr_pdu.specs.Items.{is_padding, onto, unpadded}
+use Rattle.dr_base.specs.Padding.{is_padding, onto, unpadded}
 
 -- what a list ends with, when one more stands in front
 last_of : (b c : ℕ) (cs : List ℕ) → get_or (b ∷ c ∷ cs) (length (b ∷ c ∷ cs) - 1) 0 ≡ get_or (c ∷ cs) (length (c ∷ cs) - 1) 0

@@ -1,6 +1,6 @@
-//! Values without their padding (PS3.5 section 6.2).
+//! Names, UIDs and titles without their padding (PS3.5 section 6.2).
 ghost use Rattle.std.specs.Prelude.{◌≡◌};
-ghost use Rattle.dr_dataset.specs.DataSet.{is_padding, without_end, without_spaces, trimmed};
+ghost use Rattle.dr_base.specs.Padding.{is_padding, unpadded, without_spaces, trimmed};
 
 fn is_pad(byte: u8) -> bool
     ensures { result ≡ is_padding byte }
@@ -8,9 +8,9 @@ fn is_pad(byte: u8) -> bool
     byte == 0 || byte == b' '
 }
 
-/// Without the spaces and NULs at the end.
-pub fn without_end(bytes: &[u8]) -> &[u8]
-    ensures { result.now ≡ without_end bytes.now }
+/// The bytes without the NULs and spaces at their end, as names and UIDs are read.
+pub fn unpadded(bytes: &[u8]) -> &[u8]
+    ensures { result.now ≡ unpadded bytes.now }
 {
     let mut text = bytes;
     while let [front @ .., last] = text {
@@ -32,9 +32,9 @@ fn without_spaces(bytes: &[u8]) -> &[u8]
     text
 }
 
-/// Without the spaces in front and the spaces and NULs at the end.
+/// The bytes without the spaces in front and the NULs and spaces at their end, as titles are read.
 pub fn trimmed(bytes: &[u8]) -> &[u8]
     ensures { result.now ≡ trimmed bytes.now }
 {
-    without_end(without_spaces(bytes))
+    unpadded(without_spaces(bytes))
 }
