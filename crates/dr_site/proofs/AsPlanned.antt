@@ -53,7 +53,7 @@ keeps_by test (y ∷ ys) x h passes = elim (cases_Bool (test y)) [
   ])
 ]
 
-same_name : (a b : Text) → a ≡ b → bytes_eq a b ≡ true
+pub same_name : (a b : Text) → a ≡ b → bytes_eq a b ≡ true
 same_name a b h = (bytes_eq-Decides a b).1 h
 
 -- the same literals make the same parts

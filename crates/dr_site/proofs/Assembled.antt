@@ -13,7 +13,7 @@ use Rattle.dr_sound.specs.declared.certificate.Line.{Line}
 use Rattle.dr_sound.specs.declared.certificate.Hop.{Hop}
 use Rattle.dr_sound.specs.declared.certificate.Certificate.{Certificate}
 use Rattle.dr_cert.specs.Indexing.{IsIndexOf}
-use Rattle.dr_site.specs.Parts.{Part, IsPartOf, is_at, is_of, begins_at}
+use Rattle.dr_site.specs.Parts.{Part, IsPartOf, AreHopsFrom, is_at, is_of}
 use Rattle.dr_site.specs.Sites.{IsCertified, IsSite}
 
 -- the type of sites keeps what it must
@@ -30,7 +30,7 @@ pub assembled : (plan : Network) (certificate : Certificate) (name : Text) (node
     {all_flows : List Flow} → all_flows ≡ plan.flows → flows ≡ filter (is_at name) all_flows →
     {all_lines : List Line} → all_lines ≡ certificate.lines → {own : List Line} → own ≡ filter (is_of name) all_lines →
     {own_slice : List Line} → own_slice ≡ own → IsIndexOf own_slice lines →
-    {all_hops : List Hop} → all_hops ≡ certificate.hops → hops ≡ filter (begins_at name) all_hops →
+    {all_hops : List Hop} → all_hops ≡ certificate.hops → AreHopsFrom name all_hops hops →
     ((t : Text) → Contains literals.modalities.literals t ↔ Contains (modalities_of plan) t) →
     ((t : Text) → Contains literals.stations.literals t ↔ Contains (stations_of plan) t) →
     IsPartOf plan certificate (record { name = n; max_pdu = max_pdu; digest = digest; rules = rules; accepts = accepts; flows = flows; lines = lines; hops = hops; literals = literals })
@@ -38,11 +38,12 @@ assembled plan certificate name node is_node n max_pdu digest rules accepts flow
     all_flows at_flows all_lines own slice index all_hops from_hops modalities stations =
     let P : Text → Type 0 = λ m. IsPartOf plan certificate (record { name = m; max_pdu = max_pdu; digest = digest; rules = rules; accepts = accepts; flows = flows; lines = lines; hops = hops; literals = literals }) in
     let Q : List Line → Type 0 = λ ls. IsIndexOf ls lines in
+    let R : List Hop → Type 0 = λ hs. AreHopsFrom name hs hops in
     subst P (sym named) (record {
       node = (node, is_node, long, by_rules, by_accepts);
       digest = of_plan;
       flows = at_flows ∙ ap (filter (is_at name)) all_flows;
       lines = subst Q (slice ∙ (own ∙ ap (filter (is_of name)) all_lines)) index;
-      hops = from_hops ∙ ap (filter (begins_at name)) all_hops;
+      hops = subst R all_hops from_hops;
       literals = record { modalities = modalities; stations = stations };
     })

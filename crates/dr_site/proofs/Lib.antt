@@ -1,3 +1,5 @@
 pub mod AsPlanned
 pub mod Assembled
+pub mod ContextsAsPlanned
+pub mod FormedSites
 pub mod Looking

@@ -1,5 +1,6 @@
 -- The part of a plan and of its certificate that one node works by.
-use Rattle.std.specs.Prelude.{◌≡◌, ℕ, Bool, List, filter}
+use Rattle.std.specs.Prelude.{◌≡◌, ℕ, Bool, List, filter, IsPermutation}
+use Rattle.std.specs.List.Sorted.{IsNonDecreasingBy}
 use Rattle.std.specs.Str.{bytes_eq}
 use Rattle.dr_base.specs.Texts.{Text}
 use Rattle.dr_route.specs.declared.rule.Rule.{Rule}
@@ -27,7 +28,7 @@ pub record Part : Type 0 where
   pub hops : List Hop
   pub literals : Literals
 
--- the flow is at the site, the line is of the node, the hop begins there
+-- the flow is at the site, the line is of the node, the hop begins there, or ends there
 abbrev pub is_at : Text → Flow → Bool
 is_at name flow = bytes_eq flow.at name
 
@@ -37,12 +38,24 @@ is_of name line = bytes_eq line.stop.node name
 abbrev pub begins_at : Text → Hop → Bool
 begins_at name hop = bytes_eq hop.from name
 
--- The node's own rules, accept rows and flows in the order of the plan's text, its own lines in the order of their stops, the
--- hops that begin at it in the certificate's order, and the plan's digest and literals.
+abbrev pub ends_at : Text → Hop → Bool
+ends_at name hop = bytes_eq hop.to name
+
+-- the hops that begin at the node, by their ids
+pub record AreHopsFrom (name : Text) (all hops : List Hop) : Type 0 where
+  pub same : IsPermutation (filter (begins_at name) all) hops
+  pub by_id : IsNonDecreasingBy (λ (hop : Hop). hop.id) hops
+
+-- The node's own rules, accept rows and flows in the order of the plan's text, its own lines in the order of their
+-- stops, the hops that begin at it by their ids, and the plan's digest and literals.
 pub record IsPartOf (plan : Network) (certificate : Certificate) (part : Part) : Type 0 where
   pub node : (node : Node) × IsTheNode plan part.name node × (part.max_pdu ≡ node.max_pdu) × (part.rules ≡ node.rules) × (part.accepts ≡ node.accepts)
   pub digest : part.digest ≡ plan.digest
   pub flows : part.flows ≡ filter (is_at part.name) plan.flows
   pub lines : IsIndexOf (filter (is_of part.name) certificate.lines) part.lines
-  pub hops : part.hops ≡ filter (begins_at part.name) certificate.hops
+  pub hops : AreHopsFrom part.name certificate.hops part.hops
   pub literals : AreLiteralsOf plan part.literals
+
+-- the hops from the site's node to that one, by their ids
+abbrev pub hops_to : Part → Text → List Hop
+hops_to part dest = filter (ends_at dest) part.hops

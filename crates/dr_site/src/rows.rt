@@ -1,6 +1,6 @@
 //! Those of a plan's and of a certificate's rows that are one node's own.
 ghost use Rattle.std.specs.Prelude.{◌≡◌, IfOk, filter};
-ghost use Rattle.dr_site.specs.Parts.{is_at, is_of, begins_at};
+ghost use Rattle.dr_site.specs.Parts.{is_at, is_of, begins_at, ends_at, AreHopsFrom};
 
 use crate::copies::{copy_flow, copy_hop, copy_line};
 use dr_base::{Seq, Text};
@@ -35,12 +35,34 @@ pub fn lines_of(alloc: Global, lines: &[Line], node: &Text) -> Result<Vec<Line>,
 }
 
 /// The hops that begin at the node, in their order.
+fn unsorted_hops_from(alloc: Global, hops: &[Hop], node: &Text) -> Result<Vec<Hop>, AllocError>
+    ensures { IfOk result (λ v. v.items ≡ filter (begins_at node.now) hops.now) }
+{
+    let mut own = Vec::new(alloc);
+    for hop in hops {
+        if hop.from == *node {
+            own.push(copy_hop(hop)?)?;
+        }
+    }
+    Ok(own)
+}
+
+/// The hops that begin at the node, by their ids.
 pub fn hops_from(alloc: Global, hops: &[Hop], node: &Text) -> Result<Seq<Hop>, AllocError>
-    ensures { IfOk result (λ s. s ≡ filter (begins_at node.now) hops.now) }
+    ensures { IfOk result (λ s. AreHopsFrom node.now hops.now s) }
+{
+    let mut own = unsorted_hops_from(alloc, hops, node)?;
+    own.sort_by_key(|hop| hop.id)?;
+    Ok(Seq::from_vec(own))
+}
+
+/// Those of the hops that end at the node, in their order.
+pub fn hops_ending_at(alloc: Global, hops: &[Hop], node: &Text) -> Result<Seq<Hop>, AllocError>
+    ensures { IfOk result (λ s. s ≡ filter (ends_at node.now) hops.now) }
 {
     let mut own = Seq::new(alloc);
     for hop in hops {
-        if hop.from == *node {
+        if hop.to == *node {
             own.push(copy_hop(hop)?)?;
         }
     }

@@ -2,13 +2,13 @@
 ghost use Rattle.std.specs.Prelude.{◌≡◌, ◌↔◌, IfOk, IsTrue, Contains};
 ghost use Rattle.dr_base.specs.Texts.{Text as Words, IsInByteOrder};
 ghost use Rattle.dr_site.specs.Routing.{HasLineFor, SendsFrom, KeepsAt};
-ghost use Rattle.dr_site.specs.Parts.{Part, IsPartOf};
+ghost use Rattle.dr_site.specs.Parts.{Part, IsPartOf, hops_to};
 ghost use Rattle.dr_site.specs.Sites.{IsCertified, IsSite, IsSiteOf};
 
 use crate::copies::{
     copy_accepts, copy_flows, copy_hops, copy_lines, copy_literals, copy_name, copy_rules,
 };
-use crate::rows::{flows_at, hops_from, lines_of};
+use crate::rows::{flows_at, hops_ending_at, hops_from, lines_of};
 use dr_base::{Seq, Text};
 use dr_cert::Sealed;
 use dr_cert::index::{find, index_of};
@@ -146,7 +146,8 @@ impl Site {
 
     /// Its node's accept rows, in the order of the plan's text.
     pub fn accepts(&self) -> &[AcceptRow]
-        ensures { result.now ≡ self.now.accepts }
+        ensures same { result.now ≡ self.now.accepts }
+        ensures site { IsSite self.now }
     {
         self.accepts.as_slice()
     }
@@ -165,11 +166,22 @@ impl Site {
         self.lines.as_slice()
     }
 
-    /// The certificate's hops that begin at its node, in their printed order.
+    /// The presentation contexts of the hops that begin at its node, by their ids.
     pub fn hops(&self) -> &[Hop]
-        ensures { result.now ≡ self.now.hops }
+        ensures same { result.now ≡ self.now.hops }
+        ensures site { IsSite self.now }
     {
         self.hops.as_slice()
+    }
+
+    /// The presentation contexts of its node's hop to that node, by their ids (1, 3, 5 and so on); none where it
+    /// has no such hop.
+    pub fn hops_to(&self, alloc: Global, dest: &Text) -> Result<Seq<Hop>, AllocError>
+        ensures hops { IfOk result (λ s. s ≡ hops_to self.now dest.now) }
+        ensures site { IsSite self.now }
+    {
+        let hops = hops_ending_at(alloc, self.hops.as_slice(), dest)?;
+        Ok(hops)
     }
 
     /// Whether the certificate has a line for what the caller brings to this node with that key. It takes no
