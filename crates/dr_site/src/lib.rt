@@ -4,6 +4,7 @@
 mod copies;
 pub mod laws;
 mod rows;
+mod same;
 pub mod site;
 
 pub use site::{Site, SiteFault};

@@ -9,6 +9,7 @@ use crate::copies::{
     copy_accepts, copy_flows, copy_hops, copy_lines, copy_literals, copy_name, copy_rules,
 };
 use crate::rows::{flows_at, hops_ending_at, hops_from, lines_of};
+use crate::same::{Same, are_same};
 use dr_base::{Seq, Text};
 use dr_cert::Sealed;
 use dr_cert::index::{find, index_of};
@@ -214,6 +215,21 @@ impl Site {
         }
         let targets = targets(alloc, self.rules.as_slice(), caller, key)?;
         Ok(targets)
+    }
+
+    /// Whether the other is the same site, part by part. It takes no memory.
+    pub fn is_same(&self, other: &Site) -> bool
+        ensures { IsTrue result ↔ (self.now ≡ other.now) }
+    {
+        self.max_pdu == other.max_pdu
+            && self.digest == other.digest
+            && self.name.is_same(&other.name)
+            && are_same(self.rules.as_slice(), other.rules.as_slice())
+            && are_same(self.accepts.as_slice(), other.accepts.as_slice())
+            && are_same(self.flows.as_slice(), other.flows.as_slice())
+            && are_same(self.lines.as_slice(), other.lines.as_slice())
+            && are_same(self.hops.as_slice(), other.hops.as_slice())
+            && self.literals.is_same(&other.literals)
     }
 
     /// Another one, equal to it.
