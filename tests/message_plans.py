@@ -79,3 +79,18 @@ def random_plan(dice):
         plan = Plan(rules, accepts, flows)
         if plan.is_sound() and len(plan.ranks) > 2:
             return plan
+
+
+def grown(plan, dice):
+    """A sound plan that does all that this one does: a node keeps more, or sends all to a new node too, which keeps it."""
+    rules, accepts = {n: list(rs) for n, rs in plan.rules.items()}, dict(plan.accepts)
+    name = dice.choice(sorted(rules))
+    if len(rules) > 6 or dice.random() < 0.4:
+        rules[name].append(Rule('*', '*', '*', [], True))
+    else:
+        new = f'N{len(rules)}'
+        rules[name].append(Rule('*', '*', '*', [new], False))
+        rules[new], accepts[new] = [Rule('*', '*', '*', [], True)], [Accept('*', c, 'IE') for c in 'CD']
+    next_plan = Plan(rules, accepts, plan.flows)
+    assert next_plan.is_sound()
+    return next_plan

@@ -1,8 +1,9 @@
 #!/usr/bin/env python3
-"""Plays random events over random sound plans, by the definitions of crates/dr_message/specs written again in Python,
+"""Plays random events over random sound plans, by the definitions of crates/dr_model/specs written again in Python,
 and tests the four claims of docs/HEADLINE.md, and what lasts, after each event.
 
-    tests/message_world.py [RUNS] [SEED]       no claim may fail (2,000 runs: about half a minute)
+    tests/message_world.py [RUNS] [SEED]       no claim may fail, and each event and reply must have happened (2,000 runs:
+                                               about half a minute; at least 200)
     tests/message_world.py --wrong [RUNS]      each wrong definition must make some claim fail
 """
 import collections
@@ -11,12 +12,20 @@ import sys
 
 sys.dont_write_bytecode = True
 from message_claims import CONFLICT, Claim, NO_LINE, NO_STORE, SUCCESS, is_honest, lasts, none_refused, nothing_lost, seen
-from message_plans import KEYS, LOCAL, random_plan
+from message_plans import KEYS, LOCAL, grown, random_plan
 
 OTHERS = 2  # associations that a receiver takes; 256 in the definitions, few here so that rejections come
 WRONG = {
     'rows_for_new_uids_only', 'kept_for_new_uids_only', 'second_caller_dropped', 'body_overwritten', 'out_of_resources_is_done',
     'restart_drops_waiting_rows', 'success_without_an_arrival', 'done_rows_stand', 'adoption_forgets_what_is_kept', 'half_the_pairs_accepted',
+    'carried_rows_forgotten',
+}
+# what runs must reach: each event with each reply of its call that a sound plan allows
+REACHED = {
+    'take': {'New', 'Again', 'NoLine', 'Conflict', 'Store', 'Memory'}, 'receive': {'New', 'Again', 'Conflict', 'Store', 'Memory'},
+    'answered': {'Ok', 'NotWaiting', 'Store', 'Memory'}, 'agree_caller': {'opened', 'Ok', 'Store', 'idle'}, 'agree_receiver': {'accepted', 'rejected'},
+    'break_caller': {'Ok', 'Store', 'idle'}, 'close': {'Ok', 'Store', 'idle'}, 'restart': {'Ok', 'Store', 'idle'}, 'requeue': {'Ok', 'NotHeld', 'Store'},
+    'adopt': {'refused', 'the same', 'another', 'another with a row'}, 'ask': {'-'}, 'give': {'-'}, 'break_receiver': {'-'}, 'refuse': {'-'}, 'tick': {'-'},
 }
 Item = collections.namedtuple('Item', 'uid key body')
 
@@ -38,9 +47,13 @@ class World:
     def __init__(self, plan, dice, wrong):
         self.plan, self.dice, self.wrong = plan, dice, wrong
         self.time, self.links, self.opened, self.armed, self.standing = 0, {}, 0, set(), {n: {} for n in plan.rules}
+        self.next = None  # the plan to be adopted once no link is open
         self.books = {n: Book() for n in plan.rules}
 
     # calls of books
+    def wants_memory(self):
+        return self.dice.random() < 0.01  # a refusal that the store was told stands
+
     def store_fails(self, name):
         if self.dice.random() < 0.01:
             return True  # by itself: a refusal that it was told stands
@@ -54,6 +67,8 @@ class World:
             return 'NoLine'
         if known and book.items[item.uid] != item and 'body_overwritten' not in self.wrong:
             return 'Conflict'
+        if self.wants_memory():
+            return 'Memory'
         if self.store_fails(name):
             return 'Store'
         if (caller, item.uid) in book.arrivals:
@@ -76,6 +91,8 @@ class World:
         row = book.rows.get((uid, dest))
         if row is None or row[0] != 'waiting':
             return 'NotWaiting'
+        if self.wants_memory():
+            return 'Memory'
         if self.store_fails(name):
             return 'Store'
         if outcome == SUCCESS or (outcome == NO_STORE and 'out_of_resources_is_done' in self.wrong):
@@ -92,9 +109,9 @@ class World:
         due = [(r[2], uid) for (uid, d), r in self.books[name].rows.items() if d == dest and r[0] == 'waiting' and r[2] <= self.time]
         return self.books[name].items[min(due)[1]] if due else None
 
-    # events
+    # events; each gives its reply
     def take(self, name, item):
-        self.arrive(name, LOCAL, item)
+        return self.arrive(name, LOCAL, item)
 
     def ask(self, caller, receiver):
         self.opened += 1
@@ -104,63 +121,71 @@ class World:
         others = sum(1 for l in self.links.values() if l is not link and l.receiver == link.receiver and l.receiver_on and l.accepted is not None and l.stage != 'gone')
         if others >= OTHERS:
             link.stage, link.receiver_on = 'rejecting', False
-        else:
-            offered = sorted(self.plan.hops[link.caller, link.receiver])
-            link.accepted = {p for p in offered if self.plan.takes(link.receiver, link.caller, p)}
-            if 'half_the_pairs_accepted' in self.wrong:
-                link.accepted = set(offered[:len(offered) // 2])
-            link.stage = 'answering'
+            return 'rejected'
+        offered = sorted(self.plan.hops[link.caller, link.receiver])
+        link.accepted = {p for p in offered if self.plan.takes(link.receiver, link.caller, p)}
+        if 'half_the_pairs_accepted' in self.wrong:
+            link.accepted = set(offered[:len(offered) // 2])
+        link.stage = 'answering'
+        return 'accepted'
 
     def agree_caller(self, link):
         if link.stage == 'answering':
             link.stage = 'open'
-            return
+            return 'opened'
         item = self.first_due(link.caller, link.receiver)
-        if item:
-            self.settle(link.caller, item.uid, link.receiver, 'Broken')
         link.caller_on = False
+        return self.settle(link.caller, item.uid, link.receiver, 'Broken') if item else 'idle'
 
     def give(self, link):
         item = self.first_due(link.caller, link.receiver)
         if item.key[:2] in link.accepted:
             link.stage, link.item = 'storing', item
-        else:
-            link.caller_on = self.settle(link.caller, item.uid, link.receiver, 'NoContext') != 'Store'
+            return '-'
+        answer = self.settle(link.caller, item.uid, link.receiver, 'NoContext')
+        link.caller_on = answer not in ('Store', 'Memory')
+        return answer
 
     def receive(self, link):
         reply = self.arrive(link.receiver, link.caller, link.item)
         failed = SUCCESS if 'success_without_an_arrival' in self.wrong else NO_STORE
-        link.status = {'New': SUCCESS, 'Again': SUCCESS, 'NoLine': NO_LINE, 'Conflict': CONFLICT, 'Store': failed}[reply]
+        link.status = {'New': SUCCESS, 'Again': SUCCESS, 'NoLine': NO_LINE, 'Conflict': CONFLICT, 'Store': failed, 'Memory': failed}[reply]
         link.stage = 'replying'
+        return reply
 
     def answered(self, link):
-        link.caller_on = self.settle(link.caller, link.item.uid, link.receiver, link.status) != 'Store'
-        link.stage, link.item = 'open', None
+        answer = self.settle(link.caller, link.item.uid, link.receiver, link.status)
+        link.caller_on, link.stage, link.item = answer not in ('Store', 'Memory'), 'open', None
+        return answer
 
     def break_caller(self, link):
-        if link.caller_on and link.item:
-            self.settle(link.caller, link.item.uid, link.receiver, 'Broken')
+        pending = link.caller_on and link.item
         link.caller_on = False
+        return self.settle(link.caller, link.item.uid, link.receiver, 'Broken') if pending else 'idle'
 
     def break_receiver(self, link):
         link.receiver_on = False
 
     def close(self, link):
-        self.break_caller(link)
+        answer = self.break_caller(link)
         link.receiver_on, link.stage, link.item = False, 'gone', None
+        return answer
 
     def restart(self, name):
-        for number in sorted(self.links):
-            if self.links[number].receiver == name:
-                self.break_caller(self.links[number])
+        answers = [self.break_caller(self.links[number]) for number in sorted(self.links) if self.links[number].receiver == name]
         self.links = {n: l for n, l in self.links.items() if name not in (l.caller, l.receiver)}
         if 'restart_drops_waiting_rows' in self.wrong:
             self.books[name].rows = {at: r for at, r in self.books[name].rows.items() if r[0] != 'waiting'}
+        return next((a for a in answers if a != 'idle'), 'idle')
 
     def requeue(self, name, uid, dest):
-        if not self.store_fails(name):
-            self.books[name].rows[uid, dest] = ('waiting', 0, 0)
-            self.books[name].journal.append(('requeuing', uid, dest))
+        if self.books[name].rows.get((uid, dest), ('none',))[0] != 'held':
+            return 'NotHeld'
+        if self.store_fails(name):
+            return 'Store'
+        self.books[name].rows[uid, dest] = ('waiting', 0, 0)
+        self.books[name].journal.append(('requeuing', uid, dest))
+        return 'Ok'
 
     def refuse(self, name):
         self.armed.add(name)
@@ -173,8 +198,10 @@ class World:
             return row[0] != 'done' or 'done_rows_stand' in self.wrong
         unfit = any(r[0] != 'done' and key_of(b, uid) not in [k for k in KEYS if (n, to, k) in plan.ranks]
                     for n, b in self.books.items() for (uid, to), r in b.rows.items())
+        self.next = None
         if any(l.caller_on or l.receiver_on for l in self.links.values()) or self.armed or not set(self.books) <= set(plan.rules) or unfit:
-            return
+            return 'refused'
+        reply = 'the same' if plan is self.plan else 'another'
         self.plan, self.links = plan, {}
         for name in plan.rules:
             if name not in self.books:
@@ -184,8 +211,9 @@ class World:
             book.arrivals, book.rows = set(), {at: r for at, r in book.rows.items() if queued(r)}
             if 'adoption_forgets_what_is_kept' in self.wrong:
                 book.kept = set()
-            self.standing[name] = dict(book.rows)
+            self.standing[name] = {} if 'carried_rows_forgotten' in self.wrong else dict(book.rows)
             book.journal.append(('adoption',))
+        return 'another with a row' if reply == 'another' and any(b.rows for b in self.books.values()) else reply
 
 
 def key_of(book, uid):
@@ -198,15 +226,17 @@ def random_event(w, dice):
     """What may happen next, as a call; where nothing of a kind can, time passes."""
     plan, names = w.plan, sorted(w.books)
     links = [l for l in w.links.values() if l.caller_on or l.receiver_on]
+    if w.next:  # links are closed first, so that it may be adopted
+        return (w.close, links[0]) if links and dice.random() < 0.9 else (w.adopt, (w.next,))
     choice = dice.random()
-    if choice < 0.03:
-        return w.adopt, (random_plan(dice) if dice.random() < 0.7 else plan,)
+    if choice < 0.02:
+        w.next = dice.choice([plan, random_plan(dice), grown(plan, dice), grown(plan, dice)])
     if choice < 0.07 and links:
         return dice.choice([(w.break_caller, l) for l in links if l.caller_on] + [(w.break_receiver, l) for l in links if l.receiver_on])
     if choice < 0.14:
         entries = [(n, k) for c, n, k in plan.ranks if c == LOCAL]
-        name, key = dice.choice(sorted(entries)[:6])
-        return w.take, (name, Item(dice.choice(['u1', 'u2']), key, dice.choice('xxxxxy')))
+        name, key = dice.choice(sorted(entries)[:6]) if dice.random() < 0.97 else (dice.choice(names), dice.choice(KEYS))
+        return w.take, (name, Item(dice.choice(['u1', 'u2', 'u3']), key, dice.choice('xxxxxy')))
     ready = []
     for link in links:
         if link.receiver_on and link.stage == 'asking':
@@ -228,7 +258,7 @@ def random_event(w, dice):
         return w.close, dice.choice(links)
     if 0.86 <= choice < 0.88:
         return w.restart, (dice.choice(names),)
-    held = [(n, u, d) for n in names for (u, d), r in sorted(w.books[n].rows.items()) if r[0] == 'held']
+    held = [(n, u, d) for n in names for (u, d), r in sorted(w.books[n].rows.items()) if r[0] == 'held' or dice.random() < 0.02]
     if 0.88 <= choice < 0.92 and held:
         return w.requeue, dice.choice(held)
     if 0.92 <= choice < 0.94:
@@ -243,8 +273,8 @@ def play(seed, wrong, happened):
     for _ in range(dice.randint(20, 220)):
         event, told = random_event(w, dice)
         before = seen(w)
-        event(*told) if isinstance(told, tuple) else event(told)
-        happened[event.__name__] += 1
+        reply = event(*told) if isinstance(told, tuple) else event(told)
+        happened[event.__name__, reply or '-'] += 1
         try:
             none_refused(w)
             is_honest(w)
@@ -274,7 +304,11 @@ def main():
             print('run', i, 'fails', failed)
             sys.exit(1)
     print(f'{runs} runs, {sum(happened.values())} events, no claim fails')
-    print(', '.join(f'{n} {k}' for n, k in sorted(happened.items())))
+    for event, replies in REACHED.items():
+        print(event, ', '.join(f'{r} {k}' for (n, r), k in sorted(happened.items()) if n == event))
+        never = sorted(r for r in replies if not happened[event, r])
+        if never:
+            sys.exit(f'{event} never answered {never}')
 
 
 main()

@@ -1,0 +1,46 @@
+-- What the calls that read show, and when a failure counts: figures and laws that pin those definitions.
+use Rattle.std.specs.Prelude.{◌≡◌, ◌↔◌, ℕ, ◌<◌, ◌-◌, ◌^◌, true, List, [], ◌∷◌, Contains, codes, Some, Err}
+use Rattle.std.specs.FinMap as map
+use Rattle.std.specs.FinSet as set
+use Rattle.dr_base.specs.Texts.{Text}
+use Rattle.dr_base.specs.declared.syntax.Syntax.TheVariants.{Explicit}
+use Rattle.dr_route.specs.declared.key.Key.{Key}
+use Rattle.dr_ledger.specs.declared.fault.LedgerFault.TheVariants as fault
+use Rattle.dr_ledger.specs.declared.item.Entry.TheVariants as entry
+use Rattle.dr_ledger.specs.declared.item.Instance.{Instance}
+use Rattle.dr_ledger.specs.declared.item.Outcome.TheVariants.{Status}
+use Rattle.dr_ledger.specs.Books.{Book, Arrival, Repeat, Settling, Requeuing, Adoption}
+use Rattle.dr_ledger.specs.Replies.{AreKept, Counts, HasRisen, entry_of}
+
+-- a CT image of 70 bytes
+abbrev pub a_key : Key
+a_key = record { class = codes "1.2.840.10008.5.1.4.1.1.2"; syntax = Explicit; modality = codes "CT"; station = codes "S1" }
+
+abbrev pub an_image : Instance
+an_image = record { uid = codes "1.2.3.4"; key = a_key; size = 70; digest = [] }
+
+-- what is shown of a line of each kind
+pub record LinesAreShown : Type 0 where
+  pub arrival : entry_of (Arrival (codes "CT1") an_image (codes "ARCH" ∷ []) true)
+      ≡ entry.Arrival (codes "CT1") (codes "1.2.3.4") a_key 70 (codes "ARCH" ∷ []) true
+  pub repeat : entry_of (Repeat (codes "CT1") an_image) ≡ entry.Repeat (codes "CT1") (codes "1.2.3.4") a_key 70
+  pub settling : entry_of (Settling (codes "1.2.3.4") (codes "ARCH") (Status 0xA700) 5)
+      ≡ entry.Settling (codes "1.2.3.4") (codes "ARCH") (Status 0xA700) 5
+  pub requeuing : entry_of (Requeuing (codes "1.2.3.4") (codes "ARCH")) ≡ entry.Requeuing (codes "1.2.3.4") (codes "ARCH")
+  pub adoption : entry_of Adoption ≡ entry.Adoption
+
+-- The kept uids are shown, each with the length of its instance's data set, and nothing else is.
+abbrev pub KeptAreMeasured : Type 0
+KeptAreMeasured = (b : Book) (all : List (Text × ℕ)) → AreKept b all → (uid : Text) (size : ℕ) →
+    Contains all (uid, size)
+    ↔ ((set.contains b.kept uid ≡ true) × ((item : Instance) × (map.get b.items uid ≡ Some item) × (item.size ≡ size)))
+
+-- Where the store is the fault, the count of failures has risen, if it wasn't at its greatest value.
+abbrev pub FailuresAreCounted : Type 0
+FailuresAreCounted = (before now : ℕ) → Counts {A = Unit {0}} (Err fault.Store) before now → now < 2 ^ 64 - 1 → before < now
+
+-- 3 failures aren't more than 3, 4 are; at the greatest value the count stays
+pub record FiguresRise : Type 0 where
+  pub same : HasRisen 3 3 → ⊥
+  pub more : HasRisen 3 4
+  pub greatest : HasRisen (2 ^ 64 - 1) (2 ^ 64 - 1)

@@ -1,0 +1,16 @@
+pub mod Calls
+pub mod Claims
+pub mod Endings
+pub mod Events
+pub mod Failing
+pub mod Fitting
+pub mod Happening
+pub mod Laws
+pub mod Pinning
+pub mod Runs
+pub mod Spending
+pub mod Steps
+pub mod Strangers
+pub mod Theorem
+pub mod Unchanged
+pub mod Worlds
