@@ -1,0 +1,92 @@
+-- Laws of negotiation.
+use Rattle.std.specs.Prelude.{◌≡◌, ◌≢◌, ◌↔◌, ◌<◌, ◌≤◌, ◌⊎◌, ℕ, Bool, true, false, List, [], ◌∷◌, ◌++◌, map, Contains, AllPairs, All, Some, Result, Ok, Err}
+use Rattle.dr_base.specs.Texts.{Text}
+use Rattle.dr_base.specs.Syntaxes.{syntax_uid}
+use Rattle.dr_base.specs.declared.syntax.Syntax.{Syntax}
+use Rattle.dr_network.specs.Formed.{IsName}
+use Rattle.dr_network.specs.Networks.{Network}
+use Rattle.dr_network.specs.Walks.{GoesOver}
+use Rattle.dr_sound.specs.declared.certificate.Certificate.{Certificate}
+use Rattle.dr_sound.specs.declared.certificate.Hop.{Hop}
+use Rattle.dr_site.specs.Parts.{Part, IsPartOf}
+use Rattle.dr_site.specs.Sites.{IsCertified, IsSite}
+use Rattle.dr_pdu.specs.declared.pdu.ContextProposal.{ContextProposal}
+use Rattle.dr_pdu.specs.declared.pdu.ContextAnswer.{ContextAnswer}
+use Rattle.dr_pdu.specs.declared.pdu.Pdu.{Pdu}
+use Rattle.dr_pdu.specs.declared.pdu.Pdu.TheVariants as pdu
+use Rattle.dr_pdu.specs.Written.{Fits, MeetsLimit}
+use Rattle.dr_nego.specs.declared.agreed.Pair.{Pair}
+use Rattle.dr_nego.specs.declared.agreed.Agreed.{Agreed}
+use Rattle.dr_nego.specs.declared.answering.Answer.TheVariants.{Accept, Reject}
+use Rattle.dr_nego.specs.declared.fault.NegoFault.{NegoFault}
+use Rattle.dr_nego.specs.declared.fault.NegoFault.TheVariants.{Memory}
+use Rattle.dr_nego.specs.declared.fragment.Kind.{Kind}
+use Rattle.dr_nego.specs.Agreeing.{AssociateRq, AssociateAc, Concludes, AreAgreed, IsTooSmall, agreed_on, context_for}
+use Rattle.dr_nego.specs.Answering.{answer, acceptance_of, agreed_by}
+use Rattle.dr_nego.specs.Proposing.{IsProposal, IsHopTo, echo_proposal}
+use Rattle.dr_nego.specs.Fragments.{piece_size, pieces, ArePieces, value_pdu, value_pdus, fragment_pdus}
+
+-- the pairs of the plan among the accepted contexts are exactly those that go over the hop
+abbrev pub AgreesOnHop : Network → Text → Text → Agreed → Type 0
+AgreesOnHop plan from to agreed = (class : Text) (syntax : Syntax) →
+    ((x : Pair) × Contains agreed.pairs x × (x.class ≡ class) × (x.syntax ≡ syntax_uid syntax)) ↔ GoesOver plan from to (class, syntax)
+
+-- Over a hop of a sound plan the receiver accepts each pair that the caller proposes; with 256 others it rejects.
+abbrev pub HopsAreAgreed : Type 0
+HopsAreAgreed = (plan : Network) (certificate : Certificate) (from to : Part) → IsCertified plan certificate → IsPartOf plan certificate from → IsPartOf plan certificate to →
+    (rq : AssociateRq) (pair : Text × Syntax) → GoesOver plan from.name to.name pair → IsProposal from to.name rq → (others : ℕ) →
+    (others < 256) × (answer rq to others ≡ Accept (acceptance_of rq to) (agreed_by rq to)) × AgreesOnHop plan from.name to.name (agreed_by rq to)
+    ⊎ ((256 ≤ others) × (answer rq to others ≡ Reject 2 3 2))
+
+-- the contexts of a request have different ids
+abbrev pub HasApartIds : AssociateRq → Type 0
+HasApartIds rq = AllPairs (λ (a b : ContextProposal). a.id ≢ b.id) rq.contexts
+
+-- What a site's node accepts of a request, the caller that made it concludes, with the same contexts. Only the limits
+-- are each other's.
+abbrev pub BothSidesAgree : Type 0
+BothSidesAgree = (rq : AssociateRq) (site : Part) → IsSite site → HasApartIds rq →
+    Concludes rq (acceptance_of rq site) (Ok (record { pairs = (agreed_by rq site).pairs; limit = site.max_pdu }))
+
+-- what is agreed on are just the contexts that were proposed and accepted, by rising ids as they were proposed
+abbrev pub AgreementsAreWhole : Type 0
+AgreementsAreWhole = (rq : AssociateRq) (ac : AssociateAc) → AllPairs (λ (a b : ContextProposal). a.id < b.id) rq.contexts →
+    AllPairs (λ (a b : ContextAnswer). a.id ≢ b.id) ac.contexts → AreAgreed rq ac (agreed_on rq ac)
+
+-- a caller concludes one thing from an acceptance, but for want of memory
+abbrev pub OneConclusion : Type 0
+OneConclusion = (rq : AssociateRq) (ac : AssociateAc) (r s : Result Agreed NegoFault) → r ≢ Err Memory → s ≢ Err Memory → Concludes rq ac r → Concludes rq ac s → r ≡ s
+
+-- a site's proposal for a hop can be written
+abbrev pub ProposalsFit : Type 0
+ProposalsFit = (site : Part) (dest : Text) (hop : Hop) (rq : AssociateRq) → IsSite site → IsHopTo site dest hop → IsProposal site dest rq → Fits (pdu.AssociateRq rq)
+
+-- and so can the request of an echo between nodes
+abbrev pub EchoesFit : Type 0
+EchoesFit = (calling called : Text) → IsName calling → IsName called → Fits (pdu.AssociateRq (echo_proposal calling called))
+
+-- and what a site's node answers to a request that can be written, or that was read
+abbrev pub AcceptancesFit : Type 0
+AcceptancesFit = (rq : AssociateRq) (site : Part) → IsSite site → Fits (pdu.AssociateRq rq) → Fits (pdu.AssociateAc (acceptance_of rq site))
+
+-- where the ids rise, the context of a class and a syntax is that of the least id
+abbrev pub ContextsAreLeast : Type 0
+ContextsAreLeast = (agreed : Agreed) → AllPairs (λ (x y : Pair). x.id < y.id) agreed.pairs → (x : Pair) → Contains agreed.pairs x →
+    (id : ℕ) × (context_for agreed x.class x.syntax ≡ Some id) × (id ≤ x.id)
+
+-- pieces are as the relation has them, which leaves no choice
+abbrev pub PiecesAreWhole : Type 0
+PiecesAreWhole = (limit : ℕ) → (IsTooSmall limit → ⊥) → (text : List ℕ) → ArePieces (piece_size limit) text (pieces (piece_size limit) text)
+
+abbrev pub OneCut : Type 0
+OneCut = (size : ℕ) → 1 ≤ size → (text : List ℕ) (a b : List (List ℕ)) → ArePieces size text a → ArePieces size text b → a ≡ b
+
+-- the last of the PDUs alone says that it is the last
+abbrev pub LastIsMarked : Type 0
+LastIsMarked = (id : ℕ) (is_command : Bool) (front : List (List ℕ)) (final : List ℕ) →
+    value_pdus id is_command (front ++ final ∷ []) ≡ map (value_pdu id is_command false) front ++ value_pdu id is_command true final ∷ []
+
+-- each PDU of fragments can be written, and meets the limit
+abbrev pub FragmentsFit : Type 0
+FragmentsFit = (limit id : ℕ) (kind : Kind) (text : List ℕ) → (IsTooSmall limit → ⊥) →
+    All (λ (p : Pdu). Fits p × MeetsLimit limit p) (fragment_pdus limit id kind text)
