@@ -1,0 +1,108 @@
+#!/usr/bin/env python3
+"""Runs `rt ci`, and says what each crate cost: CPU seconds of its proof, its tests and its must-fail edits.
+
+The lines of `rt ci` go to standard output as they come, but for the last one, 'N passed, M failed', which stays the
+last: the table comes before it. With --quiet only the lines that say how a crate, a program or an edit came out are
+shown, each with the minutes since the start; the whole log is in the file that the first line names. The exit status
+is that of `rt ci`. The times are sampled from /proc, so a process that lives for less than the pause isn't counted.
+"""
+import collections
+import os
+import re
+import subprocess
+import sys
+import tempfile
+import threading
+import time
+
+PAUSE = 0.5
+TICKS = os.sysconf("SC_CLK_TCK")
+
+
+def children_of(root):
+    """The process and all below it, by their numbers."""
+    parents = {}
+    for name in os.listdir("/proc"):
+        if name.isdigit():
+            try:
+                with open(f"/proc/{name}/stat") as it:
+                    fields = it.read().rpartition(")")[2].split()
+                parents.setdefault(int(fields[1]), []).append(int(name))
+            except OSError:
+                pass
+    found, left = [], [root]
+    while left:
+        process = left.pop()
+        found.append(process)
+        left += parents.get(process, [])
+    return found
+
+
+def look(process):
+    """The crate that a process of the prover works at, what for, and its CPU seconds so far; None of any other process."""
+    try:
+        with open(f"/proc/{process}/cmdline", "rb") as it:
+            words = it.read().decode(errors="replace").split("\0")
+        if "--crate-name" not in words or not words[0].endswith("rattle"):
+            return None
+        with open(f"/proc/{process}/stat") as it:
+            fields = it.read().rpartition(")")[2].split()
+    except OSError:
+        return None
+    crate = words[words.index("--crate-name") + 1]
+    # a library's proof is its build, a program's is a check whose result is kept, and an edit's is a check like any
+    is_edit = words[1:2] == ["check"] and not any("rt-proved-" in word for word in words)
+    kind = "tests" if "--test" in words else "edits" if is_edit else "proof"
+    return crate, kind, (int(fields[11]) + int(fields[12])) / TICKS
+
+
+def sample(root, spent, ended):
+    """Notes the CPU seconds of each process of the prover, until the run has ended."""
+    while not ended.wait(PAUSE):
+        for process in children_of(root):
+            seen = look(process)
+            if seen:
+                spent[(process,) + seen[:2]] = seen[2]
+
+
+def table(spent):
+    """The costs of each crate, dearest first, and their sum."""
+    costs = collections.defaultdict(lambda: {"proof": 0.0, "tests": 0.0, "edits": 0.0})
+    for (_, crate, kind), seconds in spent.items():
+        costs[crate][kind] += seconds
+    rows = sorted(costs.items(), key=lambda it: -sum(it[1].values()))
+    lines = [f"{'crate':<22}{'proof':>8}{'tests':>8}{'edits':>8}   CPU seconds"]
+    for crate, cost in rows:
+        lines.append(f"{crate:<22}{cost['proof']:>8.0f}{cost['tests']:>8.0f}{cost['edits']:>8.0f}")
+    total = {kind: sum(cost[kind] for cost in costs.values()) for kind in ("proof", "tests", "edits")}
+    lines.append(f"{'sum':<22}{total['proof']:>8.0f}{total['tests']:>8.0f}{total['edits']:>8.0f}"
+                 f"   {sum(total.values()) / 60:.0f} CPU minutes")
+    return lines
+
+
+def main():
+    quiet = "--quiet" in sys.argv[1:]
+    start = time.time()
+    log = tempfile.NamedTemporaryFile("w", prefix="gate-", suffix=".log", delete=False)
+    print(f"the whole log of rt ci: {log.name}", flush=True)
+    gate = subprocess.Popen(["rt", "ci"], stdout=subprocess.PIPE, stderr=subprocess.STDOUT, text=True, errors="replace")
+    spent, ended = {}, threading.Event()
+    watcher = threading.Thread(target=sample, args=(gate.pid, spent, ended))
+    watcher.start()
+    last = ""
+    shown = re.compile(r"^(rt: |\S+ (ran|proved|NOT)|REFUSED|refused|BAD|.*must-fail|.*tests (passed|FAILED))")
+    for line in gate.stdout:
+        log.write(line)
+        if last and (not quiet or shown.match(last)):
+            print(f"[{(time.time() - start) / 60:4.0f} min] {last}" if quiet else last, end="", flush=True)
+        last = line
+    status = gate.wait()
+    ended.set()
+    watcher.join()
+    log.close()
+    print("\n".join(table(spent)))
+    print(last, end="")
+    return status
+
+
+sys.exit(main())
