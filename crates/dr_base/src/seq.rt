@@ -85,23 +85,3 @@ impl<T: Clone> Clone for Seq<T> {
         Ok(Seq { items })
     }
 }
-
-#[cfg(test)]
-mod tests {
-    use super::*;
-    use crate::text::Text;
-    use std::test::Fail;
-
-    #[test]
-    fn a_row_gives_back_what_it_was_given(rt: HostRuntime) -> Result<(), Fail> {
-        let mut names = Seq::new(rt.alloc());
-        assert!(rt; names.is_empty());
-        names.push(Text::copy_of(rt.alloc(), b"CT1")?)?;
-        names.push(Text::copy_of(rt.alloc(), b"GATE")?)?;
-        let copy: Seq<Text> = names.clone()?;
-        assert_eq!(rt; copy.len(), 2);
-        let back = Seq::from_vec(copy.into_vec());
-        assert!(rt; back.as_slice() == names.as_slice());
-        Ok(())
-    }
-}

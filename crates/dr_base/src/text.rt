@@ -129,22 +129,3 @@ impl Clone for Text {
         Ok(Text { bytes })
     }
 }
-
-#[cfg(test)]
-mod tests {
-    use super::*;
-    use std::test::Fail;
-
-    #[test]
-    fn texts_are_compared_byte_by_byte(rt: HostRuntime) -> Result<(), Fail> {
-        let short = Text::copy_of(rt.alloc(), b"CT")?;
-        let long = Text::copy_of(rt.alloc(), b"CT1")?;
-        assert!(rt; short < long);
-        assert!(rt; short != long);
-        assert!(rt; short == short.clone()?);
-        assert!(rt; !short.is_empty());
-        assert!(rt; Text::empty(rt.alloc()).is_empty());
-        assert_eq!(rt; long.into_vec().len(), 3);
-        Ok(())
-    }
-}

@@ -1,6 +1,7 @@
 -- Each step of a scan that hears a data set keeps what it knows of the bytes so far.
-use Rattle.std.proofs.Common.{◌≡◌, ◌≢◌, ℕ, zero, suc, ◌+◌, ◌-◌, ◌<◌, ◌≤◌, Bool, true, false, cond, ◌||◌, List, [], ◌∷◌, ◌++◌, length, get_or, take, drop, refl, sym, ap, subst, ◌∙◌, arith, inl, inr, Option, Some, None, Result, Ok, Err, ◌⊎◌}
+use Rattle.std.proofs.Common.{◌≡◌, ◌≢◌, ℕ, zero, suc, ◌+◌, ◌-◌, ◌<◌, ◌≤◌, Bool, true, false, cond, ◌||◌, List, [], ◌∷◌, ◌++◌, length, get_or, take, drop, refl, sym, ap, subst, ◌∙◌, arith, inl, inr, Option, Some, None, Result, Ok, Err, ◌⊎◌, append_assoc}
 use Rattle.std.specs.Prelude.{unwrap_or}
+use Rattle.std.specs.List.{flat_map}
 use Rattle.std.specs.Option.{option_copied, option_or}
 use Rattle.std.proofs.lemmas.List.{length-append, append-nil, take_rest}
 use Rattle.std.proofs.lemmas.Bool.{or_parts}
@@ -24,7 +25,7 @@ use Rattle.dr_dataset.specs.DataSet.{has_tag, is_key, first_value, Opens, FirstF
 use Rattle.dr_base.specs.Padding.{trimmed}
 use Rattle.dr_dataset.specs.Tokens.{token_of, open_behind, is_nested}
 use Rattle.dr_dataset.specs.Wholes.{whole, elements_of}
-use Rattle.dr_dataset.specs.Hearing.{bytes_of_slot, AreCaught, IsShort, IsShortKey, value_header, is_kept, AreBytes, HearsAt, Hears, Begun, AreSlots}
+use Rattle.dr_dataset.specs.Hearing.{bytes_of_slot, AreCaught, IsShort, IsShortKey, value_header, is_kept, AreBytes, HearsAt, Hears, HearsAlike, HasFailed, Finishes, GoesOn, GoesOnBy, Begun, AreSlots}
 use Rattle.dr_dataset.proofs.FoundLemmas.{first_value_more, found_more}
 use Rattle.dr_dataset.proofs.TokenLemmas.{token_sound, token_tells}
 use Rattle.dr_dataset.proofs.OpensLemmas.{Has, shows, cut_shows, after_value, after_plain_item}
@@ -338,6 +339,21 @@ all_taken piece taken (b ∷ bs) is none = absurd (omega (arith, none))
 
 pub failed_same : (f g : DataFault) → Failed f ≡ Failed g → f ≡ g
 failed_same f g e = cc
+
+-- a fault that has shown stays
+pub finishes_failed : (old new : Scan) (f : DataFault) → HearsAlike old new → HasFailed new f → Finishes old (Err f) new
+finishes_failed old new Memory alike is = alike
+finishes_failed old new Truncated alike is = is
+finishes_failed old new BadVr alike is = is
+finishes_failed old new BadLength alike is = is
+finishes_failed old new TooDeep alike is = is
+
+-- the pieces, one after the other, are heard as what they join to
+pub goes_on_joined : (old : Scan) (pieces : List (List ℕ)) (new : Scan) → GoesOnBy old pieces new → GoesOn old (flat_map (λ (piece : List ℕ). piece) pieces) new
+goes_on_joined old [] new h = λ s text heard. subst (λ (t : List ℕ). Hears s t new) (sym (append-nil text)) (subst (λ (x : Scan). Hears s text x) h heard)
+goes_on_joined old (piece ∷ pieces) new h = λ s text heard.
+    let later = flat_map (λ (x : List ℕ). x) pieces in
+    subst (λ (t : List ℕ). Hears s t new) (append_assoc text piece later) (goes_on_joined h.0 pieces new h.2 s (text ++ piece) (h.1 s text heard))
 
 -- the whole header at once
 pub begins_at_once : (scan : Scan) (scanner : Scanner) (piece : List ℕ) (token : Token) (rest : List ℕ) (new : Scan) → scan.header.items ≡ [] → scanner.syntax ≡ scan.scanner.syntax

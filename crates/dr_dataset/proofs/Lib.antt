@@ -1,5 +1,4 @@
 pub mod ReadingLemmas
-pub mod StackLemmas
 pub mod TokenLemmas
 pub mod NestLemmas
 pub mod OpensLemmas

@@ -1,5 +1,5 @@
 -- Data sets (PS3.5 section 7), four of their values, and their first fault.
-use Rattle.std.specs.Prelude.{◌≡◌, ◌≢◌, ℕ, suc, ◌-◌, ◌<◌, ◌≤◌, Bool, true, false, List, [], ◌∷◌, length, ◌==◌, ◌&&◌, ◌||◌, if◌then◌else◌, Option, None, option_map, unwrap_or, ◌⊎◌, find, IfSome, Result, Ok, Err}
+use Rattle.std.specs.Prelude.{◌≡◌, ◌≢◌, ℕ, suc, ◌-◌, ◌<◌, ◌≤◌, Bool, true, false, List, [], ◌∷◌, length, ◌==◌, ◌&&◌, ◌||◌, Option, None, option_map, unwrap_or, ◌⊎◌, find, IfSome, Result, Ok, Err}
 use Rattle.dr_base.specs.Runs.{Run}
 use Rattle.dr_base.specs.Padding.{trimmed}
 use Rattle.dr_base.specs.declared.syntax.Syntax.{Syntax}

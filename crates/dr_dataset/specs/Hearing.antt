@@ -1,5 +1,5 @@
 -- A data set while it is heard: what a scan knows of the bytes so far.
-use Rattle.std.specs.Prelude.{◌≡◌, ◌≢◌, ℕ, ◌+◌, ◌<◌, ◌≤◌, Bool, true, false, List, [], ◌∷◌, ◌++◌, length, Option, Some, None, option_map, unwrap_or, Ok, Err, ◌⊎◌}
+use Rattle.std.specs.Prelude.{◌≡◌, ◌≢◌, ℕ, ◌+◌, ◌<◌, ◌≤◌, Bool, true, false, List, [], ◌∷◌, ◌++◌, length, Option, Some, None, option_map, unwrap_or, Result, Ok, Err, ◌⊎◌}
 use Rattle.std.proofs.Common.{get_or}
 use Rattle.std.specs.Option.{option_copied}
 use Rattle.arrayvec.specs.ArrayVec.{ArrayVec}
@@ -74,6 +74,22 @@ HasFailed scan fault = scan.place ≡ Failed fault
 -- what was heard by the old scan and these bytes was heard by the new one
 abbrev pub GoesOn : Scan → List ℕ → Scan → Type 0
 GoesOn old bytes new = (s : Syntax) (text : List ℕ) → Hears s text old → Hears s (text ++ bytes) new
+
+-- the pieces, one after the other, take the old scan to the new one
+abbrev pub GoesOnBy : Scan → List (List ℕ) → Scan → Type 0
+GoesOnBy old [] new = old ≡ new
+GoesOnBy old (piece ∷ pieces) new = (mid : Scan) × GoesOn old piece mid × GoesOnBy mid pieces new
+
+-- the new scan has heard what the old one had
+abbrev pub HearsAlike : Scan → Scan → Type 0
+HearsAlike old new = (s : Syntax) (text : List ℕ) → Hears s text old → Hears s text new
+
+-- What the question for its attributes leaves of a scan. A fault but want of memory stays; else the scan has heard what it
+-- had heard before.
+abbrev pub Finishes : Scan → Result Attributes DataFault → Scan → Type 0
+Finishes old (Ok values) new = HearsAlike old new
+Finishes old (Err Memory) new = HearsAlike old new
+Finishes old (Err fault) new = HasFailed new fault
 
 -- nothing is wrong with the text so far: it may only be too short, or is a data set
 abbrev pub IsInOrderSoFar : Syntax → List ℕ → Type 0

@@ -10,3 +10,10 @@ pub enum Frame {
     /// An item of a sequence, with that syntax.
     InItem(Syntax),
 }
+
+/// What the places of a stack hold before anything was open.
+impl Default for Frame {
+    fn default() -> Frame {
+        Frame::InItem(Syntax::Implicit)
+    }
+}

@@ -6,7 +6,7 @@ ghost use Rattle.dr_dataset.specs.declared.fault.DataFault.{DataFault as FaultNa
 ghost use Rattle.dr_dataset.specs.declared.header.Tag.{Tag as TagName};
 ghost use Rattle.std.specs.Prelude.{Option as OptionName};
 ghost use Rattle.dr_dataset.specs.DataSet.{Scans, FirstFault};
-ghost use Rattle.dr_dataset.specs.Hearing.{Hears, HasFailed, IsInOrderSoFar, GoesOn, Begun, is_kept, text_of_slot, AreSlots};
+ghost use Rattle.dr_dataset.specs.Hearing.{Hears, HasFailed, Finishes, IsInOrderSoFar, GoesOn, Begun, is_kept, text_of_slot, AreSlots};
 
 use crate::caught::{Caught, Kept};
 use crate::fault::DataFault;
@@ -75,15 +75,19 @@ impl Scan {
         }
     }
 
-    /// The four attributes of what was heard, or its first fault.
-    pub fn finish(mut self, alloc: Global) -> Result<Attributes, DataFault>
-        ensures { (s : SyntaxName) (text : List ℕ) → Hears s text self → Scans s text result }
+    /// The four attributes of what was heard, or its first fault. A fault but `Memory` stays: every later call
+    /// answers it again. After `Memory`, and after the attributes, the scan is as before.
+    pub fn finish(&mut self, alloc: Global) -> Result<Attributes, DataFault>
+        ensures scans { (s : SyntaxName) (text : List ℕ) → Hears s text self.old → Scans s text result }
+        ensures behind { Finishes self.old result self.new }
+        ensures again { (f : FaultName) → HasFailed self.old f → result ≡ Err f }
     {
         self.settle();
         if let Place::Failed(fault) = self.place {
             return Err(fault);
         }
         if !self.is_at_end() {
+            self.place = Place::Failed(DataFault::Truncated);
             return Err(DataFault::Truncated);
         }
         let Ok(values) = values_of(alloc, &self.found) else {

@@ -6,25 +6,20 @@
 #![tactic(auto)]
 
 mod caught;
-pub mod fault;
+mod fault;
 pub mod file;
 mod found;
-pub mod frame;
-pub mod header;
-pub mod hearing;
+mod frame;
+mod header;
+mod hearing;
 pub mod laws;
 pub mod scan;
 mod scanner;
 mod stack;
 mod token;
-pub mod values;
+mod values;
 mod whole;
 
 pub use fault::{DataFault, FileFault};
 pub use hearing::Scan;
 pub use values::{Attributes, Part10};
-
-#[cfg(test)]
-mod tests;
-#[cfg(test)]
-mod tests_reader;

@@ -1,29 +1,26 @@
 //! What is open at a place of a data set, in an array that takes no memory from an allocator.
-ghost use Rattle.std.specs.Prelude.{◌≡◌, ◌==◌, ◌<◌, ◌≤◌, ◌∷◌, [], length, slice_get};
+ghost use Rattle.std.specs.Prelude.{◌≡◌, ◌==◌, ◌<◌, ◌∷◌, [], length, slice_get};
 
 use crate::frame::Frame;
-use dr_base::Syntax;
+use arrayvec::ArrayVec;
 use std::marker::Model;
 
 /// 32 sequences, with an item in each.
-pub const MOST_OPEN: usize = 64;
+const MOST_OPEN: usize = 64;
 
 /// Open sequences and items, which contracts see as their list, the innermost first.
 #[derive(Drop)]
 pub struct Stack {
-    frames: [Frame; 64],
-    len: usize,
+    frames: ArrayVec<Frame, MOST_OPEN>,
 }
 
 impl Model for Stack {
-    ghost use Rattle.std.specs.Prelude.{List, ◌≡◌, ◌≤◌, length, take, reverse};
+    ghost use Rattle.std.specs.Prelude.{List, reverse};
     ghost use Rattle.dr_dataset.specs.declared.frame.Frame.{Frame};
 
     ghost Value = { List Frame };
 
-    ghost view = { λ s. reverse (take s.len s.frames) };
-
-    ghost invariant = { λ s. (s.len ≤ 64) × (length s.frames ≡ 64) };
+    ghost view = { λ s. reverse s.frames.items };
 }
 
 impl Stack {
@@ -32,8 +29,7 @@ impl Stack {
         ensures { result ≡ [] }
     {
         Stack {
-            frames: [Frame::InItem(Syntax::Implicit); 64],
-            len: 0,
+            frames: ArrayVec::new(),
         }
     }
 
@@ -41,37 +37,38 @@ impl Stack {
     pub fn top(&self) -> Option<Frame>
         ensures { result ≡ slice_get self.now 0 }
     {
-        if self.len == 0 {
-            return None;
+        match self.frames.as_slice() {
+            [] => None,
+            [.., last] => Some(*last),
         }
-        Some(self.frames[self.len - 1])
     }
 
     pub fn is_empty(&self) -> bool
         ensures { result ≡ (length self.now == 0) }
     {
-        self.len == 0
+        self.frames.is_empty()
     }
 
     pub fn is_full(&self) -> bool
         ensures { result ≡ (length self.now == 64) }
     {
-        self.len == MOST_OPEN
+        self.frames.len() == MOST_OPEN
     }
 
     pub fn push(&mut self, frame: Frame)
         requires { length self.old < 64 }
         ensures { self.new ≡ frame ∷ self.old }
     {
-        self.frames[self.len] = frame;
-        self.len += 1;
+        self.frames.push(frame);
     }
 
     pub fn pop(&mut self) -> Frame
         requires { 0 < length self.old }
         ensures { self.old ≡ result ∷ self.new }
     {
-        self.len -= 1;
-        self.frames[self.len]
+        let Some(frame) = self.frames.pop() else {
+            unreachable!()
+        };
+        frame
     }
 }

@@ -23,5 +23,3 @@ pub use message::{Awaited, Body, Message};
 pub use reader::read_command;
 pub use writer::{fits, write_command};
 
-#[cfg(test)]
-mod tests;

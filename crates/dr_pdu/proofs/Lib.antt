@@ -20,3 +20,4 @@ pub mod StreamLemmas
 pub mod Trimming
 pub mod Weights
 pub mod WrittenLemmas
+pub mod Values

@@ -1,5 +1,5 @@
--- What the private readers of the decoder promise.
-use Rattle.std.specs.Prelude.{List, map, Result, Ok, Err}
+-- What the private readers of the decoder and writers of the encoder promise.
+use Rattle.std.specs.Prelude.{◌≡◌, ℕ, List, ◌++◌, map, Result, Ok, Err}
 use Rattle.dr_pdu.specs.declared.items.Item.{Item as Found}
 use Rattle.dr_pdu.specs.declared.fault.PduFault.{PduFault}
 use Rattle.dr_pdu.specs.declared.fault.PduFault.TheVariants.{BadItem, Memory}
@@ -21,3 +21,7 @@ item i = record { kind = i.kind; body = i.body.now }
 
 abbrev pub items : List Found → List Item
 items is = map item is
+
+-- what was there stays in front of what is there
+abbrev pub GoesOn : List ℕ → List ℕ → Type 0
+GoesOn old new = (more : List ℕ) × (new ≡ old ++ more)

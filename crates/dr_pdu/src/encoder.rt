@@ -1,9 +1,12 @@
 //! The spelling of a PDU that is written.
-ghost use Rattle.std.specs.Prelude.{◌≡◌, ◌+◌, ◌^◌, ◌<◌, ◌≤◌, ◌++◌, true, false, length, OnOk, IfOk};
+ghost use Rattle.std.specs.Prelude.{◌≡◌, ◌+◌, ◌^◌, ◌<◌, ◌≤◌, [], ◌∷◌, ◌++◌, true, false, length, OnOk, OnErr, IfOk};
+ghost use Rattle.std.specs.Int.{w32, to_be_bytes};
 ghost use Rattle.std.specs.List.{flat_map, AllByRecursion};
 ghost use Rattle.dr_pdu.specs.Items.{pdv_text};
 ghost use Rattle.dr_pdu.specs.Written.{item, padded, framed, user_text, association_text, unless_long, written, Fits};
 ghost use Rattle.dr_pdu.specs.Fitting.{AssociationFits};
+ghost use Rattle.dr_pdu.specs.Reads.{GoesOn};
+ghost use Rattle.dr_pdu.specs.declared.pdu.Pdu.TheVariants.{Transfer};
 
 use crate::associate::Context;
 use crate::lengths::{GREATEST_ASSOCIATION, values_len};
@@ -25,69 +28,116 @@ pub fn encode(alloc: Global, pdu: &Pdu) -> Result<Vec<u8>, AllocError>
     requires { Fits pdu.now }
     ensures { IfOk result (λ bytes. bytes.items ≡ written pdu.now) }
 {
-    match pdu {
-        Pdu::AssociateRq(rq) => {
-            let body = association_body(alloc, 0x20, rq)?;
-            framed_body(alloc, 1, &body)
-        }
-        Pdu::AssociateAc(ac) => {
-            let body = association_body(alloc, 0x21, ac)?;
-            framed_body(alloc, 2, &body)
-        }
-        Pdu::AssociateRj(rj) => framed_body(alloc, 3, &[0, rj.result, rj.source, rj.reason]),
-        Pdu::Transfer(pdvs) => framed_values(alloc, pdvs.as_slice()),
-        Pdu::ReleaseRq => framed_body(alloc, 5, &[0, 0, 0, 0]),
-        Pdu::ReleaseRp => framed_body(alloc, 6, &[0, 0, 0, 0]),
-        Pdu::Abort(abort) => framed_body(alloc, 7, &[0, 0, abort.source, abort.reason]),
-    }
-}
-
-/// The header and the body.
-fn framed_body(alloc: Global, kind: u8, body: &[u8]) -> Result<Vec<u8>, AllocError>
-    requires { length body.now < 2 ^ 32 }
-    ensures { IfOk result (λ bytes. bytes.items ≡ framed kind body.now) }
-{
-    let mut out = Vec::with_capacity(alloc, body.len() + 6)?;
-    out.extend_from_slice(&[kind, 0])?;
-    out.extend_from_slice(&(body.len() as u32).to_be_bytes())?;
-    out.extend_from_slice(body)?;
+    let mut out = Vec::new(alloc);
+    put(&mut out, pdu)?;
     Ok(out)
 }
 
+/// Puts the spelling of a PDU, as `encode` gives it, behind what `out` has. Without memory `out` has what it had.
+pub fn put(out: &mut Vec<u8>, pdu: &Pdu) -> Result<(), AllocError>
+    requires { Fits pdu.now }
+    ensures ok { OnOk result (out.new.items ≡ out.old.items ++ written pdu.now) }
+    ensures err { OnErr result (out.new.items ≡ out.old.items) }
+{
+    let alloc = *out.allocator();
+    match pdu {
+        Pdu::AssociateRq(rq) => {
+            let body = association_body(alloc, 0x20, rq)?;
+            put_framed(out, 1, &body)
+        }
+        Pdu::AssociateAc(ac) => {
+            let body = association_body(alloc, 0x21, ac)?;
+            put_framed(out, 2, &body)
+        }
+        Pdu::AssociateRj(rj) => put_framed(out, 3, &[0, rj.result, rj.source, rj.reason]),
+        Pdu::Transfer(pdvs) => put_transfer(out, pdvs.as_slice()),
+        Pdu::ReleaseRq => put_framed(out, 5, &[0, 0, 0, 0]),
+        Pdu::ReleaseRp => put_framed(out, 6, &[0, 0, 0, 0]),
+        Pdu::Abort(abort) => put_framed(out, 7, &[0, 0, abort.source, abort.reason]),
+    }
+}
+
+/// Puts a P-DATA-TF of one presentation data value, whose fragment is a slice, behind what `out` has: its context id, its
+/// message control header, and up to 134,217,722 bytes of a message. Without memory `out` has what it had.
+pub fn put_fragment(
+    out: &mut Vec<u8>,
+    id: u8,
+    header: u8,
+    fragment: &[u8],
+) -> Result<(), AllocError>
+    requires { length fragment.now ≤ 134217722 }
+    ensures ok { OnOk result (out.new.items
+        ≡ out.old.items ++ written (Transfer (record { id = id; header = header; fragment = fragment.now } ∷ []))) }
+    ensures err { OnErr result (out.new.items ≡ out.old.items) }
+{
+    let before = out.len();
+    out.extend_from_slice(&header_of(4, fragment.len() as u32 + 6))?;
+    let done = put_value(out, id, header, fragment);
+    if done.is_err() {
+        out.truncate(before);
+    }
+    done
+}
+
+/// Type, reserved, and the length of what follows (PS3.8 section 9.3.1).
+fn header_of(kind: u8, len: u32) -> [u8; 6]
+    ensures { result ≡ kind ∷ 0 ∷ to_be_bytes w32 len }
+{
+    let [a, b, c, d] = len.to_be_bytes();
+    [kind, 0, a, b, c, d]
+}
+
+/// The header and the body.
+fn put_framed(out: &mut Vec<u8>, kind: u8, body: &[u8]) -> Result<(), AllocError>
+    requires { length body.now < 2 ^ 32 }
+    ensures ok { OnOk result (out.new.items ≡ out.old.items ++ framed kind body.now) }
+    ensures err { OnErr result (out.new.items ≡ out.old.items) }
+{
+    let before = out.len();
+    out.extend_from_slice(&header_of(kind, body.len() as u32))?;
+    let done = out.extend_from_slice(body);
+    if done.is_err() {
+        out.truncate(before);
+    }
+    done
+}
+
 /// A P-DATA-TF of these values.
-fn framed_values(alloc: Global, pdvs: &[Pdv]) -> Result<Vec<u8>, AllocError>
+fn put_transfer(out: &mut Vec<u8>, pdvs: &[Pdv]) -> Result<(), AllocError>
     requires { length (flat_map pdv_text pdvs.now) ≤ 134217728 }
-    ensures { IfOk result (λ bytes. bytes.items ≡ framed 4 (flat_map pdv_text pdvs.now)) }
+    ensures ok { OnOk result (out.new.items ≡ out.old.items ++ framed 4 (flat_map pdv_text pdvs.now)) }
+    ensures err { OnErr result (out.new.items ≡ out.old.items) }
 {
     let Some(len) = values_len(pdvs) else {
         unreachable!();
     };
-    let mut out = Vec::with_capacity(alloc, len + 6)?;
-    out.extend_from_slice(&[4, 0])?;
-    out.extend_from_slice(&(len as u32).to_be_bytes())?;
-    put_values(&mut out, pdvs)?;
-    Ok(out)
+    let before = out.len();
+    out.extend_from_slice(&header_of(4, len as u32))?;
+    let done = put_values(out, pdvs);
+    if done.is_err() {
+        out.truncate(before);
+    }
+    done
 }
 
 fn put_values(out: &mut Vec<u8>, pdvs: &[Pdv]) -> Result<(), AllocError>
     requires { length (flat_map pdv_text pdvs.now) < 2 ^ 32 }
-    ensures { OnOk result (out.new.items ≡ out.old.items ++ flat_map pdv_text pdvs.now) }
+    ensures ok { OnOk result (out.new.items ≡ out.old.items ++ flat_map pdv_text pdvs.now) }
+    ensures err { OnErr result (GoesOn out.old.items out.new.items) }
 {
     for pdv in pdvs {
-        put_value(out, pdv)?;
+        put_value(out, pdv.id, pdv.header, pdv.fragment.as_bytes())?;
     }
     Ok(())
 }
 
-fn put_value(out: &mut Vec<u8>, pdv: &Pdv) -> Result<(), AllocError>
-    requires { 2 + length pdv.now.fragment < 2 ^ 32 }
-    ensures { OnOk result (out.new.items ≡ out.old.items ++ pdv_text pdv.now) }
+fn put_value(out: &mut Vec<u8>, id: u8, header: u8, fragment: &[u8]) -> Result<(), AllocError>
+    requires { 2 + length fragment.now < 2 ^ 32 }
+    ensures ok { OnOk result (out.new.items ≡ out.old.items ++ pdv_text (record { id = id; header = header; fragment = fragment.now })) }
+    ensures err { OnErr result (GoesOn out.old.items out.new.items) }
 {
-    let fragment = pdv.fragment.as_bytes();
-    let len = fragment.len() as u32 + 2;
-    out.extend_from_slice(&len.to_be_bytes())?;
-    out.push(pdv.id)?;
-    out.push(pdv.header)?;
+    let [a, b, c, d] = (fragment.len() as u32 + 2).to_be_bytes();
+    out.extend_from_slice(&[a, b, c, d, id, header])?;
     out.extend_from_slice(fragment)?;
     Ok(())
 }

@@ -1,10 +1,11 @@
 //! PDUs out of a stream that comes in pieces.
-ghost use Rattle.std.specs.Prelude.{◌≡◌, ◌≤◌, drop, vec_len};
+ghost use Rattle.std.specs.Prelude.{◌≡◌, ◌≤◌, [], false, drop, length};
 ghost use Rattle.dr_pdu.specs.Feeding.{Feeds, Gathers, fresh};
 
 use crate::decoder::decode;
 use crate::fault::PduFault;
 use crate::pdu::Pdu;
+use bytes::BytesMut;
 use dr_base::Seq;
 use std::alloc::Global;
 use std::marker::Model;
@@ -15,7 +16,7 @@ pub struct Feeder {
     alloc: Global,
     limit: u32,
     failed: bool,
-    kept: Vec<u8>,
+    kept: BytesMut,
 }
 
 impl Model for Feeder {
@@ -36,7 +37,7 @@ impl Feeder {
             alloc,
             limit,
             failed: false,
-            kept: Vec::new(alloc),
+            kept: BytesMut::new(alloc),
         }
     }
 
@@ -50,9 +51,41 @@ impl Feeder {
         if self.failed {
             return Err(PduFault::Failed);
         }
+        if self.kept.is_empty() {
+            return self.feed_alone(piece);
+        }
+        self.feed_behind(piece)
+    }
+
+    /// A piece where nothing is kept: its PDUs are read where they stand, and what is behind them is kept.
+    fn feed_alone(&mut self, piece: &[u8]) -> Result<Seq<Pdu>, PduFault>
+        requires works { self.old.failed ≡ false }
+        requires nothing_kept { self.old.kept ≡ [] }
+        ensures { Feeds self.old piece.now result self.new }
+    {
+        match gather(self.alloc, self.limit, piece) {
+            Ok((pdus, used)) => {
+                self.kept.extend_from_slice(&piece[used..])?;
+                Ok(pdus)
+            }
+            Err(fault) => match fault {
+                PduFault::Memory => Err(PduFault::Memory),
+                _ => {
+                    self.failed = true;
+                    Err(fault)
+                }
+            },
+        }
+    }
+
+    /// A piece behind what is kept.
+    fn feed_behind(&mut self, piece: &[u8]) -> Result<Seq<Pdu>, PduFault>
+        requires { self.old.failed ≡ false }
+        ensures { Feeds self.old piece.now result self.new }
+    {
         let before = self.kept.len();
         self.kept.extend_from_slice(piece)?;
-        match gather(self.alloc, self.limit, &self.kept) {
+        match gather(self.alloc, self.limit, self.kept.as_slice()) {
             Ok((pdus, used)) => {
                 drop_front(&mut self.kept, used);
                 Ok(pdus)
@@ -98,16 +131,14 @@ fn gather(alloc: Global, limit: u32, text: &[u8]) -> Result<(Seq<Pdu>, usize), P
     }
 }
 
-/// Drops the first bytes of a buffer. Where there are none nothing is moved, so that small pieces cost no more than
-/// their bytes.
-fn drop_front(kept: &mut Vec<u8>, used: usize)
-    requires { used ≤ vec_len kept.old }
+/// Drops the first bytes of a buffer. Nothing is moved; where all bytes go, all of its room is free again.
+fn drop_front(kept: &mut BytesMut, used: usize)
+    requires { used ≤ length kept.old.items }
     ensures { kept.new.items ≡ drop used kept.old.items }
 {
-    if used == 0 {
+    if used == kept.len() {
+        kept.clear();
         return;
     }
-    let left = kept.len() - used;
-    kept.copy_within(used.., 0);
-    kept.truncate(left);
+    kept.advance(used);
 }

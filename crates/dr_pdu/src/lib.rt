@@ -19,7 +19,7 @@ mod pdu;
 mod pdvs;
 
 pub use decoder::decode;
-pub use encoder::encode;
+pub use encoder::{encode, put, put_fragment};
 pub use fault::PduFault;
 pub use feeder::Feeder;
 pub use lengths::fits;
@@ -27,6 +27,3 @@ pub use pdu::{
     Abort, AssociateAc, AssociateRj, AssociateRq, Association, ContextAnswer, ContextProposal,
     Front, Pdu, Pdv,
 };
-
-#[cfg(test)]
-mod tests;

@@ -1,7 +1,6 @@
 //! A plain reader of data sets, place by place and by recursion: slow, and beside the scan.
-use crate::fault::DataFault;
-use crate::values::Attributes;
 use dr_base::{Syntax, Text};
+use dr_dataset::{Attributes, DataFault};
 use std::alloc::{AllocError, Global};
 
 /// The number of that many bytes.
@@ -174,11 +173,7 @@ fn vec_is_empty(bytes: &Vec<u8>) -> bool {
 }
 
 /// The answer that the scan should give.
-pub(super) fn plain_answer(
-    alloc: Global,
-    text: &[u8],
-    syntax: Syntax,
-) -> Result<Attributes, DataFault> {
+pub fn plain_answer(alloc: Global, text: &[u8], syntax: Syntax) -> Result<Attributes, DataFault> {
     let mut place = 0;
     for _ in 0..text.len() {
         if place >= text.len() {

@@ -1,13 +1,9 @@
 //! Vectors from outside, and a plain slow reader beside the scan.
-ghost use Rattle.std.specs.Prelude.{◌≤◌, length};
-ghost use Rattle.dr_dataset.specs.DataSet.{Scans};
-
-use crate::file::part10;
-use crate::hearing::Scan;
-use crate::scan::attributes;
-use crate::tests_reader::plain_answer;
-use crate::{Attributes, DataFault, FileFault, Part10};
+use crate::plain_reader::plain_answer;
 use dr_base::{Syntax, Text};
+use dr_dataset::file::part10;
+use dr_dataset::scan::attributes;
+use dr_dataset::{Attributes, DataFault, FileFault, Part10, Scan};
 use std::alloc::{AllocError, Global};
 use std::process::Abort;
 use std::test::Fail;
@@ -80,11 +76,10 @@ fn heard_in_two(
     text: &[u8],
     cut: usize,
     syntax: Syntax,
-) -> Result<Attributes, DataFault>
-    requires { cut ≤ length text.now }
-    ensures { Scans syntax text.now result }
-{
-    let (front, back) = text.split_at(cut);
+) -> Result<Attributes, DataFault> {
+    let Some((front, back)) = text.split_at_checked(cut) else {
+        return Err(DataFault::Memory);
+    };
     let mut scan = Scan::new(syntax);
     let _ = scan.feed(front);
     let _ = scan.feed(back);
@@ -190,6 +185,35 @@ fn a_fault_is_answered_again(rt: HostRuntime) -> Result<(), Fail> {
     assert!(rt; scan.feed(&[]) == Err(DataFault::BadVr));
     let answer = scan.finish(rt.alloc());
     assert!(rt; matches!(answer, Err(DataFault::BadVr)));
+    assert!(rt; scan.feed(&PLAIN) == Err(DataFault::BadVr));
+    Ok(())
+}
+
+/// At each cut: the end of a data set that is cut stays, and after the values of a whole one more may come.
+#[test]
+fn an_end_stays_or_leaves_the_scan(rt: HostRuntime) -> Result<(), Fail> {
+    let alloc = rt.alloc();
+    for text in [
+        NESTED.as_slice(),
+        PLAIN.as_slice(),
+        INSTANCE.as_slice(),
+        UNKNOWN.as_slice(),
+    ] {
+        let whole = shown(alloc, &attributes(alloc, text, Syntax::Explicit))?;
+        for cut in 0..text.len() {
+            let Some((front, back)) = text.split_at_checked(cut) else {
+                continue;
+            };
+            let mut scan = Scan::new(Syntax::Explicit);
+            let _ = scan.feed(front);
+            let before = shown(alloc, &attributes(alloc, front, Syntax::Explicit))?;
+            assert!(rt; shown(alloc, &scan.finish(alloc))? == before);
+            let is_cut = before.as_bytes() == b"Truncated".as_slice();
+            let _ = scan.feed(back);
+            let after = shown(alloc, &scan.finish(alloc))?;
+            assert!(rt; after == (if is_cut { before } else { whole.clone()? }));
+        }
+    }
     Ok(())
 }
 

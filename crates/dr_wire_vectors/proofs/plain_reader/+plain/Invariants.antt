@@ -1,5 +1,5 @@
 use Rattle.std.proofs.Common.{◌+◌, ◌*◌}
-use Rattle.dr_dataset.proofs.tests_reader.+plain.Given as goal
+use Rattle.dr_wire_vectors.proofs.plain_reader.+plain.Given as goal
 
 abbrev pub decreases-element_end : goal.decreases-element_end
 decreases-element_end l = 3 * l.levels

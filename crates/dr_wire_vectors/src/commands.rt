@@ -1,6 +1,8 @@
 //! Vectors from outside, hostile commands, and growths of memory that are refused (`rt try --test --fail-alloc N`).
-use super::*;
 use dr_base::{Seq, Text};
+use dr_dimse::{
+    Assembly, Awaited, Body, Command, DimseFault, Message, fits, read_command, write_command,
+};
 use dr_pdu::{Pdu, Pdv};
 use std::alloc::{AllocError, Global};
 use std::test::Fail;
