@@ -18,6 +18,7 @@ use Rattle.dr_dataset.specs.declared.hearing.Place.{Place}
 use Rattle.dr_dataset.specs.declared.hearing.Place.TheVariants.{InHeader, InValue, Failed}
 use Rattle.dr_dataset.specs.Elements.{Element}
 use Rattle.dr_dataset.specs.DataSet.{is_key, first_value, Opens, FirstFault}
+use Rattle.dr_base.specs.Calls.{Calls}
 use Rattle.dr_base.specs.Padding.{trimmed}
 use Rattle.dr_dataset.specs.Tokens.{token_of, open_behind, is_nested}
 
@@ -77,8 +78,7 @@ GoesOn old bytes new = (s : Syntax) (text : List ℕ) → Hears s text old → H
 
 -- the pieces, one after the other, take the old scan to the new one
 abbrev pub GoesOnBy : Scan → List (List ℕ) → Scan → Type 0
-GoesOnBy old [] new = old ≡ new
-GoesOnBy old (piece ∷ pieces) new = (mid : Scan) × GoesOn old piece mid × GoesOnBy mid pieces new
+GoesOnBy old pieces new = Calls GoesOn old pieces new
 
 -- the new scan has heard what the old one had
 abbrev pub HearsAlike : Scan → Scan → Type 0

@@ -7,7 +7,7 @@ use Rattle.dr_pdu.specs.declared.pdu.Pdu.{Pdu}
 use Rattle.dr_pdu.specs.declared.fault.PduFault.{PduFault}
 use Rattle.dr_pdu.specs.declared.fault.PduFault.TheVariants.{More, UnknownType, TooLong, BadItem, BadContextId, Memory, Failed}
 use Rattle.dr_pdu.specs.Grammar.{Begins, IsWhole, Shows}
-use Rattle.dr_pdu.specs.Feeding.{StartsPdu, Units, Feeding, Feeds, Call, Fed, taken_by, taken, given_by, given, Leaves, fresh}
+use Rattle.dr_pdu.specs.Feeding.{StartsPdu, Units, Feeding, Feeds, Call, Fed, taken_by, taken, given_by, given, shown_by, shown, KeepsNoPdu, Leaves, fresh}
 use Rattle.dr_pdu.proofs.FrontLemmas.{one_spelling, length_of}
 use Rattle.dr_pdu.proofs.FeedLemmas.{excludes}
 
@@ -59,11 +59,12 @@ shows_on limit text more Failed other h = h
 -- ---- calls
 
 -- a feeder that has failed gives nothing more
-failed_stays : (old : Feeding) (xs : List Call) (new : Feeding) → old.failed ≡ true → Fed old xs new → (given xs ≡ []) × (new.failed ≡ true)
-failed_stays old [] new f h = (refl, subst (λ (x : Feeding). x.failed ≡ true) h f)
+failed_stays : (old : Feeding) (xs : List Call) (new : Feeding) → old.failed ≡ true → Fed old xs new → (given xs ≡ []) × (new.failed ≡ true) × (shown xs ≡ [])
+failed_stays old [] new f h = (refl, subst (λ (x : Feeding). x.failed ≡ true) h f, refl)
 failed_stays old (x ∷ xs) new f h = by_answer (λ g. failed_stays h.0 xs new g h.2) x.0 x.1 h.1
   where
-    by_answer : (h.0.failed ≡ true → (given xs ≡ []) × (new.failed ≡ true)) → (piece : List ℕ) (r : Result (List Pdu) PduFault) → Feeds old piece r h.0 → (given_by r ++ given xs ≡ []) × (new.failed ≡ true)
+    by_answer : (h.0.failed ≡ true → (given xs ≡ []) × (new.failed ≡ true) × (shown xs ≡ [])) → (piece : List ℕ) (r : Result (List Pdu) PduFault) → Feeds old piece r h.0
+        → (given_by r ++ given xs ≡ []) × (new.failed ≡ true) × (shown_by r ++ shown xs ≡ [])
     by_answer later piece (Ok pdus) s = let e : true ≡ false = sym f ∙ s.0 in absurd cc
     by_answer later piece (Err Failed) s = later (ap (λ (x : Feeding). x.failed) s.1 ∙ f)
     by_answer later piece (Err More) s = absurd s
@@ -76,27 +77,29 @@ failed_stays old (x ∷ xs) new f h = by_answer (λ g. failed_stays h.0 xs new g
 abbrev Nothing : ℕ → List ℕ → Type 0
 Nothing limit text = (p : Pdu) (after : List ℕ) → StartsPdu limit text p after → ⊥
 
-abbrev Cut : ℕ → List ℕ → List Pdu → Feeding → Type 0
-Cut limit text pdus new = (rest : List ℕ) × Units limit text pdus rest × Leaves limit new rest
+abbrev Cut : ℕ → List ℕ → List Pdu → List PduFault → Feeding → Type 0
+Cut limit text pdus faults new = (rest : List ℕ) × Units limit text pdus rest × Leaves limit faults new rest
 
 -- a fault that the feeder answers ends the list
 ended : (limit : ℕ) (kept piece : List ℕ) (mid : Feeding) (xs : List Call) (new : Feeding) (fault : PduFault) → fault ≢ More → fault ≢ Memory → Shows limit (kept ++ piece) fault → mid.failed ≡ true → Fed mid xs new
-    → Cut limit (kept ++ (piece ++ taken xs)) (given xs) new
+    → Cut limit (kept ++ (piece ++ taken xs)) (given xs) (fault ∷ shown xs) new
 ended limit kept piece mid xs new fault m n shows f h =
     let stays = failed_stays mid xs new f h in
     let text = kept ++ (piece ++ taken xs) in
     let on : Shows limit text fault = subst (λ (t : List ℕ). Shows limit t fault) (append_assoc kept piece (taken xs)) (shows_on limit (kept ++ piece) (taken xs) fault m shows) in
-    (text, (subst (λ (ps : List Pdu). Run (StartsPdu limit) ps text text) (sym stays.0) refl, excludes limit text fault on n), inr (stays.1, (fault, m, n, on)))
+    (text, (subst (λ (ps : List Pdu). Run (StartsPdu limit) ps text text) (sym stays.0) refl, excludes limit text fault on n), inr (fault, ap (λ (fs : List PduFault). fault ∷ fs) stays.2, stays.1, m, n, on))
 
-pub cuts : (limit : ℕ) (old : Feeding) (xs : List Call) (new : Feeding) → old.limit ≡ limit → old.failed ≡ false → Nothing limit old.kept → Fed old xs new → Cut limit (old.kept ++ taken xs) (given xs) new
+pub cuts : (limit : ℕ) (old : Feeding) (xs : List Call) (new : Feeding) → old.limit ≡ limit → old.failed ≡ false → Nothing limit old.kept → Fed old xs new → Cut limit (old.kept ++ taken xs) (given xs) (shown xs) new
 cuts limit old [] new l f none h =
-    (old.kept, (append-nil old.kept, none), inl (subst (λ (x : Feeding). x.failed ≡ false) h f, ap (λ (x : Feeding). x.kept) h))
+    (old.kept, (append-nil old.kept, none), inl (refl, subst (λ (x : Feeding). x.failed ≡ false) h f, ap (λ (x : Feeding). x.kept) h))
 cuts limit old (x ∷ xs) new l f none h = by_answer (λ old' l' f' none' h'. cuts limit old' xs new l' f' none' h') x.0 x.1 h.1
   where
-    failing : (piece : List ℕ) (fault : PduFault) → fault ≢ More → fault ≢ Memory → Shows old.limit (old.kept ++ piece) fault → h.0 ≡ record { limit = old.limit; failed = true; kept = [] } → Cut limit (old.kept ++ (piece ++ taken xs)) (given xs) new
+    failing : (piece : List ℕ) (fault : PduFault) → fault ≢ More → fault ≢ Memory → Shows old.limit (old.kept ++ piece) fault → h.0 ≡ record { limit = old.limit; failed = true; kept = [] }
+        → Cut limit (old.kept ++ (piece ++ taken xs)) (given xs) (fault ∷ shown xs) new
     failing piece fault m n shows e = ended limit old.kept piece h.0 xs new fault m n (subst (λ (k : ℕ). Shows k (old.kept ++ piece) fault) l shows) (ap (λ (x : Feeding). x.failed) e) h.2
 
-    by_answer : ((old' : Feeding) → old'.limit ≡ limit → old'.failed ≡ false → Nothing limit old'.kept → Fed old' xs new → Cut limit (old'.kept ++ taken xs) (given xs) new) → (piece : List ℕ) (r : Result (List Pdu) PduFault) → Feeds old piece r h.0 → Cut limit (old.kept ++ (taken_by piece r ++ taken xs)) (given_by r ++ given xs) new
+    by_answer : ((old' : Feeding) → old'.limit ≡ limit → old'.failed ≡ false → Nothing limit old'.kept → Fed old' xs new → Cut limit (old'.kept ++ taken xs) (given xs) (shown xs) new) → (piece : List ℕ) (r : Result (List Pdu) PduFault) → Feeds old piece r h.0
+        → Cut limit (old.kept ++ (taken_by piece r ++ taken xs)) (given_by r ++ given xs) (shown_by r ++ shown xs) new
     by_answer later piece (Ok pdus) s =
         let units : Units limit (old.kept ++ piece) pdus h.0.kept = subst (λ (k : ℕ). Units k (old.kept ++ piece) pdus h.0.kept) l s.1 in
         let more = later h.0 (s.4 ∙ l) s.3 units.1 h.2 in
@@ -112,5 +115,42 @@ cuts limit old (x ∷ xs) new l f none h = by_answer (λ old' l' f' none' h'. cu
     by_answer later piece (Err BadItem) s = failing piece BadItem (λ e. cc) (λ e. cc) s.1 s.2
     by_answer later piece (Err BadContextId) s = failing piece BadContextId (λ e. cc) (λ e. cc) s.1 s.2
 
-pub cuts_of_a_stream : (limit : ℕ) (xs : List Call) (new : Feeding) → Fed (fresh limit) xs new → (rest : List ℕ) × Units limit (taken xs) (given xs) rest × Leaves limit new rest
+pub cuts_of_a_stream : (limit : ℕ) (xs : List Call) (new : Feeding) → Fed (fresh limit) xs new → (rest : List ℕ) × Units limit (taken xs) (given xs) rest × Leaves limit (shown xs) new rest
 cuts_of_a_stream limit xs new h = cuts limit (fresh limit) xs new refl refl (starts_nothing limit) h
+
+pub cuts_midstream : (old : Feeding) (xs : List Call) (new : Feeding) → old.failed ≡ false → KeepsNoPdu old → Fed old xs new → (rest : List ℕ) × Units old.limit (old.kept ++ taken xs) (given xs) rest × Leaves old.limit (shown xs) new rest
+cuts_midstream old xs new f none h = cuts old.limit old xs new refl f none h
+
+-- ---- what no call changes
+
+abbrev NoPdu : ℕ → List ℕ → Type 0
+NoPdu limit kept = (p : Pdu) (after : List ℕ) → StartsPdu limit kept p after → ⊥
+
+nothing_kept : (limit : ℕ) (new : Feeding) → new ≡ record { limit = limit; failed = true; kept = [] } → KeepsNoPdu new
+nothing_kept limit new e = subst KeepsNoPdu (sym e) (starts_nothing limit)
+
+-- no PDU starts what is kept, behind every call
+pub still_no_pdu : (old : Feeding) (piece : List ℕ) (r : Result (List Pdu) PduFault) (new : Feeding) → Feeds old piece r new → KeepsNoPdu old → KeepsNoPdu new
+still_no_pdu old piece (Ok pdus) new s none = subst (λ (l : ℕ). NoPdu l new.kept) (sym s.4) s.1.1
+still_no_pdu old piece (Err Memory) new s none = subst KeepsNoPdu (sym s.1) none
+still_no_pdu old piece (Err Failed) new s none = subst KeepsNoPdu (sym s.1) none
+still_no_pdu old piece (Err More) new s none = absurd s
+still_no_pdu old piece (Err UnknownType) new s none = nothing_kept old.limit new s.2
+still_no_pdu old piece (Err TooLong) new s none = nothing_kept old.limit new s.2
+still_no_pdu old piece (Err BadItem) new s none = nothing_kept old.limit new s.2
+still_no_pdu old piece (Err BadContextId) new s none = nothing_kept old.limit new s.2
+
+-- a call leaves the limit
+one_limit : (old : Feeding) (piece : List ℕ) (r : Result (List Pdu) PduFault) (new : Feeding) → Feeds old piece r new → new.limit ≡ old.limit
+one_limit old piece (Ok pdus) new s = s.4
+one_limit old piece (Err Memory) new s = ap (λ (f : Feeding). f.limit) s.1
+one_limit old piece (Err Failed) new s = ap (λ (f : Feeding). f.limit) s.1
+one_limit old piece (Err More) new s = absurd s
+one_limit old piece (Err UnknownType) new s = ap (λ (f : Feeding). f.limit) s.2
+one_limit old piece (Err TooLong) new s = ap (λ (f : Feeding). f.limit) s.2
+one_limit old piece (Err BadItem) new s = ap (λ (f : Feeding). f.limit) s.2
+one_limit old piece (Err BadContextId) new s = ap (λ (f : Feeding). f.limit) s.2
+
+pub same_limit : (old : Feeding) (xs : List Call) (new : Feeding) → Fed old xs new → new.limit ≡ old.limit
+same_limit old [] new h = ap (λ (f : Feeding). f.limit) (sym h)
+same_limit old (x ∷ xs) new h = same_limit h.0 xs new h.2 ∙ one_limit old x.0 x.1 h.0 h.1

@@ -21,3 +21,4 @@ pub mod Trimming
 pub mod Weights
 pub mod WrittenLemmas
 pub mod Values
+pub mod ReadFits

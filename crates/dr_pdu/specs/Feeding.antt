@@ -1,6 +1,7 @@
 -- A stream of PDUs that comes in pieces.
 use Rattle.std.specs.Prelude.{◌≡◌, ◌≢◌, ◌⊎◌, ℕ, Bool, true, false, List, [], ◌∷◌, ◌++◌, Result, Ok, Err, ◌≤◌, length, drop}
 use Rattle.std.specs.List.{flat_map}
+use Rattle.dr_base.specs.Calls.{Calls}
 use Rattle.dr_base.specs.Runs.{Run}
 use Rattle.dr_pdu.specs.declared.pdu.Pdu.{Pdu}
 use Rattle.dr_pdu.specs.declared.fault.PduFault.{PduFault}
@@ -50,24 +51,40 @@ Call = List ℕ × Result (List Pdu) PduFault
 
 -- what the calls make of a feeder, one after the other
 abbrev pub Fed : Feeding → List Call → Feeding → Type 0
-Fed old [] new = old ≡ new
-Fed old (x ∷ xs) new = (mid : Feeding) × Feeds old x.0 x.1 mid × Fed mid xs new
+Fed old calls new = Calls (λ before call after. Feeds before call.0 call.1 after) old calls new
 
--- a piece that was taken, and the PDUs that came out
+-- the bytes that a call took: none where memory ran out
 abbrev pub taken_by : List ℕ → Result (List Pdu) PduFault → List ℕ
 taken_by piece (Err Memory) = []
 taken_by piece r = piece
 
+-- the PDUs that came out of a call
 abbrev pub given_by : Result (List Pdu) PduFault → List Pdu
 given_by (Ok pdus) = pdus
 given_by (Err fault) = []
 
+-- the fault of the stream that a call answered: neither want of memory nor that the feeder had failed before
+abbrev pub shown_by : Result (List Pdu) PduFault → List PduFault
+shown_by (Ok pdus) = []
+shown_by (Err Memory) = []
+shown_by (Err Failed) = []
+shown_by (Err fault) = fault ∷ []
+
 abbrev pub taken : List Call → List ℕ
-taken xs = flat_map (λ (x : Call). taken_by x.0 x.1) xs
+taken calls = flat_map (λ (x : Call). taken_by x.0 x.1) calls
 
 abbrev pub given : List Call → List Pdu
-given xs = flat_map (λ (x : Call). given_by x.1) xs
+given calls = flat_map (λ (x : Call). given_by x.1) calls
 
--- where the calls left the stream: what is kept after the last whole PDU, or a text that shows a fault
-abbrev pub Leaves : ℕ → Feeding → List ℕ → Type 0
-Leaves limit new rest = (new.failed ≡ false) × (rest ≡ new.kept) ⊎ (new.failed ≡ true) × ((fault : PduFault) × (fault ≢ More) × (fault ≢ Memory) × Shows limit rest fault)
+abbrev pub shown : List Call → List PduFault
+shown calls = flat_map (λ (x : Call). shown_by x.1) calls
+
+-- no PDU starts what the feeder keeps, as it is of a fresh one and behind every call
+abbrev pub KeepsNoPdu : Feeding → Type 0
+KeepsNoPdu old = (p : Pdu) (after : List ℕ) → StartsPdu old.limit old.kept p after → ⊥
+
+-- Where calls that answered these faults left the stream. Without one, the rest behind the last whole PDU is kept; else
+-- there was one, which the rest shows, and the feeder has failed.
+abbrev pub Leaves : ℕ → List PduFault → Feeding → List ℕ → Type 0
+Leaves limit faults new rest = (faults ≡ []) × (new.failed ≡ false) × (rest ≡ new.kept)
+    ⊎ ((fault : PduFault) × (faults ≡ fault ∷ []) × (new.failed ≡ true) × (fault ≢ More) × (fault ≢ Memory) × Shows limit rest fault)

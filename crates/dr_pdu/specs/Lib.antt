@@ -5,3 +5,4 @@ pub mod Items
 pub mod Reads
 pub mod Vectors
 pub mod Written
+pub mod Reasons

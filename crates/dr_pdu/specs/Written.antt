@@ -85,7 +85,7 @@ framed kind body = kind ∷ 0 ∷ (to_be_bytes w32 (length body) ++ body)
 abbrev pub written : Pdu → List ℕ
 written p = framed (kind_of p) (body_text p)
 
--- it has a spelling, where nothing but the format bounds a P-DATA-TF
+-- it has a spelling, where a P-DATA-TF is bounded by 134,217,728 alone, as under the limit 0
 abbrev pub Fits : Pdu → Type 0
 Fits p = (text : List ℕ) × Spells 0 text p
 

@@ -1,8 +1,8 @@
 //! Laws of the definitions: a text has one reading, what is written is read, and cuts do not matter.
-ghost use Rattle.std.specs.Prelude.{◌≡◌, ◌≢◌, ◌<◌, ◌++◌, [], List, ℕ, Result, Err, Ok, length};
+ghost use Rattle.std.specs.Prelude.{◌≡◌, ◌≢◌, ◌<◌, ◌≤◌, false, ◌++◌, [], List, ℕ, Result, Err, Ok, length};
 ghost use Rattle.std.specs.List.{flat_map, AllByRecursion};
 ghost use Rattle.dr_pdu.specs.Grammar.{Spells, IsBody, Decodes, Shows};
-ghost use Rattle.dr_pdu.specs.Feeding.{Units, Feeding, Feeds, Call, Fed, taken, given, Leaves, fresh};
+ghost use Rattle.dr_pdu.specs.Feeding.{Units, Feeding, Feeds, Call, Fed, taken, given, shown, KeepsNoPdu, Leaves, fresh};
 ghost use Rattle.dr_pdu.specs.Written.{Fits, MeetsLimit, written};
 ghost use Rattle.dr_pdu.specs.declared.fault.PduFault.{PduFault as Fault};
 ghost use Rattle.dr_pdu.specs.declared.fault.PduFault.TheVariants.{More, Memory};
@@ -24,10 +24,16 @@ pub fn a_text_has_one_longest_list()
 {}
 
 /// However a stream is cut, the PDUs that a feeder gave are the longest list that begins the pieces which it took,
-/// joined. The rest is kept, or shows the fault that was answered.
+/// joined. The rest is kept, or shows the one fault that was answered. From the middle of a stream on, what was kept
+/// stands in front of the pieces; and no PDU starts what a feeder keeps.
 pub fn cuts_do_not_matter()
-    ensures { (limit : ℕ) (calls : List Call) (new : Feeding) → Fed (fresh limit) calls new
-        → (rest : List ℕ) × Units limit (taken calls) (given calls) rest × Leaves limit new rest }
+    ensures start { (limit : ℕ) (calls : List Call) (new : Feeding) → Fed (fresh limit) calls new
+        → (rest : List ℕ) × Units limit (taken calls) (given calls) rest × Leaves limit (shown calls) new rest }
+    ensures midstream { (old : Feeding) (calls : List Call) (new : Feeding) → old.failed ≡ false → KeepsNoPdu old → Fed old calls new
+        → (rest : List ℕ) × Units old.limit (old.kept ++ taken calls) (given calls) rest × Leaves old.limit (shown calls) new rest }
+    ensures kept { (old : Feeding) (piece : List ℕ) (r : Result (List PduValue) Fault) (new : Feeding) → Feeds old piece r new → KeepsNoPdu old → KeepsNoPdu new }
+    ensures kept_at_first { (limit : ℕ) → KeepsNoPdu (fresh limit) }
+    ensures limit { (old : Feeding) (calls : List Call) (new : Feeding) → Fed old calls new → new.limit ≡ old.limit }
 {}
 
 /// What is written is a spelling, under each limit that its length field meets, so it is read again whatever follows.
@@ -53,6 +59,13 @@ pub fn a_stream_of_written_pdus_is_read()
     ensures { (limit : ℕ) (pdus : List PduValue) (last : PduValue) (front back : List ℕ)
         → AllByRecursion (λ (p : PduValue). Fits p × MeetsLimit limit p) pdus → Fits last → MeetsLimit limit last → written last ≡ front ++ back → back ≢ []
         → Units limit (flat_map written pdus ++ front) pdus front × Shows limit front More }
+{}
+
+/// What was read fits, so it can be written: under a limit of at most 134,217,728, and under any limit whose length field
+/// is no greater than that.
+pub fn what_was_read_fits()
+    ensures within { (limit : ℕ) (text : List ℕ) (p : PduValue) → limit ≤ 134217728 → Spells limit text p → Fits p }
+    ensures any { (limit : ℕ) (text : List ℕ) (p : PduValue) → MeetsLimit 134217728 p → Spells limit text p → Fits p }
 {}
 
 /// Each text of bytes has an answer that isn't want of memory.
