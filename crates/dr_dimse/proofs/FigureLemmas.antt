@@ -1,8 +1,11 @@
--- The echo of the worked figures.
-use Rattle.std.proofs.Common.{◌≡◌, List, ℕ, refl, subst, arith}
-use Rattle.dr_dimse.specs.Commands.{IsCommand}
-use Rattle.dr_dimse.specs.Vectors.{echo_request, echo_answer, echo_text}
+-- The commands of the worked figures.
+use Rattle.std.proofs.Common.{◌≡◌, List, ℕ, ◌∷◌, ◌++◌, [], drop, refl, subst, arith, inl, inr}
+use Rattle.std.specs.Prelude.{codes}
+use Rattle.dr_dimse.specs.declared.command.Command.{Command}
+use Rattle.dr_dimse.specs.Commands.{Element, IsCommand}
+use Rattle.dr_dimse.specs.Vectors.{echo_request, echo_answer, echo_text, ct, store_request, moved_text, cancel, cancel_text}
 use Rattle.dr_dimse.specs.Written.{written, Fits}
+use Rattle.dr_dimse.proofs.OneCommand.{numbers_of}
 use Rattle.dr_dimse.proofs.WrittenLemmas.{written_reads}
 
 request_fits : Fits echo_request
@@ -16,3 +19,31 @@ request_read = let same : written echo_request ≡ echo_text = refl in subst (λ
 
 pub answer_read : IsCommand (written echo_answer) echo_answer
 answer_read = written_reads echo_answer answer_fits
+
+-- a request of a move: the elements where they stand, and what they say
+pub moved_read : IsCommand (moved_text (9 ∷ 0 ∷ [])) store_request
+moved_read =
+    let text = moved_text (9 ∷ 0 ∷ []) in
+    let elements : List Element = record { number = 0x0002; value = ct ++ 0 ∷ [] } ∷ record { number = 0x0100; value = 1 ∷ 0 ∷ [] } ∷ record { number = 0x0110; value = 7 ∷ 0 ∷ [] } ∷ record { number = 0x0700; value = 0 ∷ 0 ∷ [] } ∷ record { number = 0x0800; value = 1 ∷ 0 ∷ [] } ∷ record { number = 0x1000; value = 0x31 ∷ 0x2E ∷ 0x32 ∷ 0x2E ∷ 0x33 ∷ 0 ∷ [] } ∷ record { number = 0x1030; value = codes "GATE            " } ∷ record { number = 0x1031; value = 9 ∷ 0 ∷ [] } ∷ [] in (
+      elements,
+      (drop 34 text, (omega arith, omega arith, refl), (drop 44 text, (omega arith, omega arith, refl), (drop 54 text, (omega arith, omega arith, refl), (drop 64 text, (omega arith, omega arith, refl), (drop 74 text, (omega arith, omega arith, refl), (drop 88 text, (omega arith, omega arith, refl), (drop 112 text, (omega arith, omega arith, refl), (drop 122 text, (omega arith, omega arith, refl), refl)))))))),
+      (refl, refl, tt, refl, refl, tt, refl),
+      ((omega arith, refl), (1, (omega arith, refl), refl), inr (inl ((λ e. omega (arith, e)), omega arith, (7, refl, (omega arith, refl)), refl)), (refl, refl, (omega arith, omega arith, ((omega arith, omega arith), ((omega arith, omega arith), ((omega arith, omega arith), ((omega arith, omega arith), ((omega arith, omega arith), ((omega arith, omega arith), ((omega arith, omega arith), ((omega arith, omega arith), ((omega arith, omega arith), ((omega arith, omega arith), ((omega arith, omega arith), ((omega arith, omega arith), ((omega arith, omega arith), ((omega arith, omega arith), ((omega arith, omega arith), ((omega arith, omega arith), ((omega arith, omega arith), ((omega arith, omega arith), ((omega arith, omega arith), ((omega arith, omega arith), ((omega arith, omega arith), ((omega arith, omega arith), ((omega arith, omega arith), ((omega arith, omega arith), ((omega arith, omega arith), tt)))))))))))))))))))))))))), (omega arith, omega arith, ((omega arith, omega arith), ((omega arith, omega arith), ((omega arith, omega arith), ((omega arith, omega arith), ((omega arith, omega arith), tt)))))))),
+    )
+
+-- with an originator's message id of four bytes it is none
+pub long_id_bad : (c : Command) → IsCommand (moved_text (9 ∷ 0 ∷ 0 ∷ 0 ∷ [])) c → ⊥
+long_id_bad c h =
+    let text = moved_text (9 ∷ 0 ∷ 0 ∷ 0 ∷ []) in
+    let elements : List Element = record { number = 0x0002; value = ct ++ 0 ∷ [] } ∷ record { number = 0x0100; value = 1 ∷ 0 ∷ [] } ∷ record { number = 0x0110; value = 7 ∷ 0 ∷ [] } ∷ record { number = 0x0700; value = 0 ∷ 0 ∷ [] } ∷ record { number = 0x0800; value = 1 ∷ 0 ∷ [] } ∷ record { number = 0x1000; value = 0x31 ∷ 0x2E ∷ 0x32 ∷ 0x2E ∷ 0x33 ∷ 0 ∷ [] } ∷ record { number = 0x1030; value = codes "GATE            " } ∷ record { number = 0x1031; value = 9 ∷ 0 ∷ 0 ∷ 0 ∷ [] } ∷ [] in
+    let are = numbers_of elements text c (drop 34 text, (omega arith, omega arith, refl), (drop 44 text, (omega arith, omega arith, refl), (drop 54 text, (omega arith, omega arith, refl), (drop 64 text, (omega arith, omega arith, refl), (drop 74 text, (omega arith, omega arith, refl), (drop 88 text, (omega arith, omega arith, refl), (drop 112 text, (omega arith, omega arith, refl), (drop 124 text, (omega arith, omega arith, refl), refl)))))))) h in
+    omega (arith, are.6)
+
+pub cancel_read : IsCommand cancel_text cancel
+cancel_read =
+    let elements : List Element = record { number = 0x0100; value = 0xFF ∷ 0x0F ∷ [] } ∷ record { number = 0x0120; value = 7 ∷ 0 ∷ [] } ∷ record { number = 0x0800; value = 1 ∷ 1 ∷ [] } ∷ [] in (
+      elements,
+      (drop 10 cancel_text, (omega arith, omega arith, refl), (drop 20 cancel_text, (omega arith, omega arith, refl), (drop 30 cancel_text, (omega arith, omega arith, refl), refl))),
+      (refl, tt, refl, tt, refl, tt, tt),
+      ((omega arith, refl), (0x0101, (omega arith, refl), refl), inl (refl, refl, refl), ((λ e. omega (arith, e)), (λ e. omega (arith, e)), (λ e. omega (arith, e)), (λ e. omega (arith, e)))),
+    )

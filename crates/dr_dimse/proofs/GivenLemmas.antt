@@ -16,7 +16,7 @@ use Rattle.dr_dimse.proofs.MessageLemmas.{leaves_more, message_ends, kept_is, fa
 -- ---- what is given is the message
 
 -- the command before a data set was awaited
-abbrev IsKnown : Awaited → Stage → Type 0
+abbrev pub IsKnown : Awaited → Stage → Type 0
 IsKnown a (InData id c body) = IsAwaited a c
 IsKnown a s = Unit {0}
 
@@ -51,7 +51,7 @@ idle_then a s p m new (inl h) = data_idle s p m new h.2
 idle_then a s p m new (inr (inl h)) = let e = h.2 in absurd (cc)
 idle_then a s p m new (inr (inr h)) = h.5.2
 
-waits_leave : (a : Awaited) (qs ps : List Pdv) (s new : Stage) → Leaves ps s → IsKnown a s → Waits a s qs new → Leaves (ps ++ qs) new × IsKnown a new
+pub waits_leave : (a : Awaited) (qs ps : List Pdv) (s new : Stage) → Leaves ps s → IsKnown a s → Waits a s qs new → Leaves (ps ++ qs) new × IsKnown a new
 waits_leave a [] ps s new l k w = subst (λ (u : Stage). Leaves (ps ++ []) u × IsKnown a u) w (subst (λ (qs : List Pdv). Leaves qs s) (sym (append-nil ps)) l, k)
 waits_leave a (q ∷ qs) ps s new l k w =
     let it = waits_leave a qs (ps ++ q ∷ []) w.0 new (leaves_more a ps s q w.0 l w.1) (known_more a s q w.0 k w.1) w.2 in

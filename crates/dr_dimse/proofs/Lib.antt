@@ -10,3 +10,4 @@ pub mod StageLemmas
 pub mod TextLemmas
 pub mod WriteLemmas
 pub mod WrittenLemmas
+pub mod StageIsOne

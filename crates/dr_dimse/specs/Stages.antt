@@ -1,5 +1,6 @@
 -- What an assembly holds, as the stage that it is in.
 use Rattle.std.specs.Prelude.{◌≡◌, ℕ, Bool, true, false, List, [], Option, Some, None, Result, Ok, Err}
+use Rattle.std.specs.Borrow.{Bor}
 use Rattle.dr_dimse.specs.declared.assembly.UnderWay.{UnderWay}
 use Rattle.dr_dimse.specs.declared.assembly.UnderWay.TheVariants.{Nothing, ACommand, ADataSet}
 use Rattle.dr_dimse.specs.declared.command.Command.{Command}
@@ -27,6 +28,11 @@ stage_of (ADataSet id c) text body = InData id c body
 abbrev pub text_held : UnderWay → List ℕ → List ℕ
 text_held (ACommand id) text = text
 text_held u text = []
+
+-- an answer that borrows its command, without where that lies
+abbrev pub shown_of : Option (ℕ × Bor Command) → Option (ℕ × Command)
+shown_of None = None
+shown_of (Some x) = Some (x.0, x.1.now)
 
 -- the awaited command of a text, or why there is none
 abbrev pub ReadsAwaited : Awaited → List ℕ → Result Command DimseFault → Type 0

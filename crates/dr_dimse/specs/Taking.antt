@@ -1,6 +1,7 @@
 -- What an assembly makes of one value after the other.
 use Rattle.std.specs.Prelude.{◌≡◌, ◌≢◌, ◌⊎◌, ℕ, ◌<◌, ◌≤◌, Bool, true, false, List, [], ◌∷◌, ◌++◌, length, Option, Some, None, IfSome, Result, Ok, Err}
 use Rattle.std.specs.List.{flat_map}
+use Rattle.dr_base.specs.Calls.{Calls}
 use Rattle.dr_pdu.specs.declared.pdu.Pdv.{Pdv}
 use Rattle.dr_dimse.specs.declared.message.Body.{Body}
 use Rattle.dr_dimse.specs.declared.message.Body.TheVariants.{Whole, TooLarge}
@@ -30,6 +31,11 @@ Leaves ps Idle = ps ≡ []
 Leaves ps (InCommand id text) = (ps ≢ []) × AreInner true id ps × (text ≡ joined ps) × (length text ≤ 16384)
 Leaves ps (InData id c body) = (cs ds : List Pdv) × (text : List ℕ) × (ps ≡ cs ++ ds) × IsWhole true id cs text × (length text ≤ 16384) × IsCommand text c
     × (announces c ≡ true) × AreInner false id ds × (body ≡ body_of (joined ds))
+
+-- the command whose data set is under way, and its context
+abbrev pub data_of : Stage → Option (ℕ × Command)
+data_of (InData id c body) = Some (id, c)
+data_of s = None
 
 -- ---- one value
 
@@ -108,10 +114,9 @@ pub record Call : Type 0 where
 
 -- what the calls make of a stage, one after the other
 abbrev pub Took : Stage → List Call → Stage → Type 0
-Took old [] new = old ≡ new
-Took old (x ∷ xs) new = (mid : Stage) × Takes x.awaited old x.value x.answer mid × Took mid xs new
+Took old calls new = Calls (λ before call after. Takes call.awaited before call.value call.answer after) old calls new
 
--- a value that was taken, and the message that it ended
+-- the value that a call took, and the message that it ended
 abbrev pub taken_by : Pdv → Result (Option Message) DimseFault → List Pdv
 taken_by p (Ok m) = p ∷ []
 taken_by p (Err fault) = []
@@ -134,3 +139,13 @@ Waits awaited old (p ∷ ps) new = (mid : Stage) × Takes awaited old p (Ok None
 -- from a fresh assembly on, the last of the values ends the message, and none before it ends one
 abbrev pub Gives : Awaited → List Pdv → Message → Type 0
 Gives awaited ps m = (front : List Pdv) × (final : Pdv) × (mid : Stage) × (ps ≡ front ++ final ∷ []) × Waits awaited Idle front mid × Takes awaited mid final (Ok (Some m)) Idle
+
+-- the message, where no value of it is still to come
+abbrev pub ended_by : List Pdv → Message → Option Message
+ended_by [] m = Some m
+ended_by (p ∷ later) m = None
+
+-- the values since the last message, behind one more of a message of which these are still to come
+abbrev pub since : List Pdv → List Pdv → List Pdv
+since before [] = []
+since before (p ∷ later) = before

@@ -1,7 +1,7 @@
--- Worked figures: an echo, byte by byte.
-use Rattle.std.specs.Prelude.{ℕ, false, List, [], ◌∷◌, ◌++◌, length, codes}
+-- Worked figures: an echo, a store and a cancel, byte by byte.
+use Rattle.std.specs.Prelude.{ℕ, None, false, List, [], ◌∷◌, ◌++◌, length, codes}
 use Rattle.dr_dimse.specs.declared.command.Command.{Command}
-use Rattle.dr_dimse.specs.declared.command.Command.TheVariants.{EchoRq, EchoRsp}
+use Rattle.dr_dimse.specs.declared.command.Command.TheVariants.{StoreRq, StoreRsp, EchoRq, EchoRsp, Other}
 use Rattle.dr_dimse.specs.Written.{joined, elements_of}
 
 abbrev pub verification : List ℕ
@@ -20,3 +20,49 @@ group_length_of_answer = length (joined (elements_of echo_answer))
 abbrev pub echo_text : List ℕ
 echo_text = 0 ∷ 0 ∷ 0 ∷ 0 ∷ 4 ∷ 0 ∷ 0 ∷ 0 ∷ 0x38 ∷ 0 ∷ 0 ∷ 0 ∷ 0 ∷ 0 ∷ 2 ∷ 0 ∷ 0x12 ∷ 0 ∷ 0 ∷ 0 ∷ (verification
     ++ 0 ∷ 0 ∷ 0 ∷ 0 ∷ 1 ∷ 2 ∷ 0 ∷ 0 ∷ 0 ∷ 0x30 ∷ 0 ∷ 0 ∷ 0 ∷ 0x10 ∷ 1 ∷ 2 ∷ 0 ∷ 0 ∷ 0 ∷ 1 ∷ 0 ∷ 0 ∷ 0 ∷ 0 ∷ 8 ∷ 2 ∷ 0 ∷ 0 ∷ 0 ∷ 1 ∷ 1 ∷ [])
+
+-- CT Image Storage
+abbrev pub ct : List ℕ
+ct = codes "1.2.840.10008.5.1.4.1.1.2"
+
+-- an instance to be stored, with message id 7, and the answer to it, which has the status A700H
+abbrev pub store_request : Command
+store_request = StoreRq 7 ct (codes "1.2.3")
+
+abbrev pub store_answer : Command
+store_answer = StoreRsp 7 0xA700 ct (codes "1.2.3") false
+
+-- of both the affected SOP class (0000,0002)
+abbrev pub class_text : List ℕ
+class_text = 0 ∷ 0 ∷ 2 ∷ 0 ∷ 26 ∷ 0 ∷ 0 ∷ 0 ∷ (ct ++ 0 ∷ [])
+
+-- and the affected SOP instance (0000,1000)
+abbrev pub instance_text : List ℕ
+instance_text = 0 ∷ 0 ∷ 0 ∷ 0x10 ∷ 6 ∷ 0 ∷ 0 ∷ 0 ∷ 0x31 ∷ 0x2E ∷ 0x32 ∷ 0x2E ∷ 0x33 ∷ 0 ∷ []
+
+-- field (0000,0100), message id (0000,0110), priority (0000,0700), data set type (0000,0800)
+abbrev pub store_numbers : List ℕ
+store_numbers = 0 ∷ 0 ∷ 0 ∷ 1 ∷ 2 ∷ 0 ∷ 0 ∷ 0 ∷ 1 ∷ 0 ∷ 0 ∷ 0 ∷ 0x10 ∷ 1 ∷ 2 ∷ 0 ∷ 0 ∷ 0 ∷ 7 ∷ 0 ∷ 0 ∷ 0 ∷ 0 ∷ 7 ∷ 2 ∷ 0 ∷ 0 ∷ 0 ∷ 0 ∷ 0 ∷ 0 ∷ 0 ∷ 0 ∷ 8 ∷ 2 ∷ 0 ∷ 0 ∷ 0 ∷ 1 ∷ 0 ∷ []
+
+abbrev pub store_text : List ℕ
+store_text = 0 ∷ 0 ∷ 0 ∷ 0 ∷ 4 ∷ 0 ∷ 0 ∷ 0 ∷ 88 ∷ 0 ∷ 0 ∷ 0 ∷ (class_text ++ (store_numbers ++ instance_text))
+
+-- field, message id that is answered (0000,0120), data set type, status (0000,0900)
+abbrev pub store_answer_text : List ℕ
+store_answer_text = 0 ∷ 0 ∷ 0 ∷ 0 ∷ 4 ∷ 0 ∷ 0 ∷ 0 ∷ 88 ∷ 0 ∷ 0 ∷ 0 ∷ (class_text
+    ++ (0 ∷ 0 ∷ 0 ∷ 1 ∷ 2 ∷ 0 ∷ 0 ∷ 0 ∷ 1 ∷ 0x80 ∷ 0 ∷ 0 ∷ 0x20 ∷ 1 ∷ 2 ∷ 0 ∷ 0 ∷ 0 ∷ 7 ∷ 0 ∷ 0 ∷ 0 ∷ 0 ∷ 8 ∷ 2 ∷ 0 ∷ 0 ∷ 0 ∷ 1 ∷ 1 ∷ 0 ∷ 0 ∷ 0 ∷ 9 ∷ 2 ∷ 0 ∷ 0 ∷ 0 ∷ 0 ∷ 0xA7 ∷ instance_text))
+
+-- the move originator's title (0000,1030), of 16 bytes, and its message id (0000,1031), of that many bytes
+abbrev pub originator : List ℕ → List ℕ
+originator id = 0 ∷ 0 ∷ 0x30 ∷ 0x10 ∷ 16 ∷ 0 ∷ 0 ∷ 0 ∷ (codes "GATE            " ++ (0 ∷ 0 ∷ 0x31 ∷ 0x10 ∷ length id ∷ 0 ∷ 0 ∷ 0 ∷ id))
+
+-- a C-STORE-RQ of a C-MOVE, without its group length
+abbrev pub moved_text : List ℕ → List ℕ
+moved_text id = class_text ++ (store_numbers ++ (instance_text ++ originator id))
+
+-- a C-CANCEL-RQ to message 7
+abbrev pub cancel : Command
+cancel = Other 0x0FFF None None false
+
+abbrev pub cancel_text : List ℕ
+cancel_text = 0 ∷ 0 ∷ 0 ∷ 1 ∷ 2 ∷ 0 ∷ 0 ∷ 0 ∷ 0xFF ∷ 0x0F ∷ 0 ∷ 0 ∷ 0x20 ∷ 1 ∷ 2 ∷ 0 ∷ 0 ∷ 0 ∷ 7 ∷ 0 ∷ 0 ∷ 0 ∷ 0 ∷ 8 ∷ 2 ∷ 0 ∷ 0 ∷ 0 ∷ 1 ∷ 1 ∷ []

@@ -1,14 +1,14 @@
 //! Messages out of presentation data values, one after the other.
 ghost use Rattle.std.specs.Prelude.{◌≡◌, ◌%◌, ◌/◌, ◌==◌, true, false, IsTrue, ◌↔◌, OnOk, OnErr};
 ghost use Rattle.dr_dimse.specs.Messages.{is_command as starts_command, is_last as ends};
-ghost use Rattle.dr_dimse.specs.Stages.{so_far, text_held, ReadsAwaited};
-ghost use Rattle.dr_dimse.specs.Taking.{Begins, Idle, IsAwaited, InPlace, Takes, kept, wants_command};
+ghost use Rattle.dr_dimse.specs.Stages.{so_far, text_held, shown_of, ReadsAwaited};
+ghost use Rattle.dr_dimse.specs.Taking.{Begins, Idle, data_of, IsAwaited, InPlace, Takes, kept, wants_command};
 
 use crate::command::Command;
 use crate::fault::DimseFault;
 use crate::message::{Awaited, Body, Message};
 use crate::reader::read_command;
-use dr_base::Text;
+use dr_base::{Octets, Text};
 use dr_pdu::Pdv;
 use std::alloc::{AllocError, Global};
 use std::marker::Model;
@@ -113,6 +113,16 @@ impl Assembly {
         self.take_data(pdv)
     }
 
+    /// The command whose data set is under way, and its presentation context: None between messages and within a command.
+    pub fn data_of(&self) -> Option<(u8, &Command)>
+        ensures { shown_of result ≡ data_of self.now.stage }
+    {
+        match &self.under_way {
+            UnderWay::ADataSet(id, command) => Some((*id, command)),
+            _ => None,
+        }
+    }
+
     fn take_command(&mut self, pdv: Pdv) -> Result<Option<Message>, DimseFault>
         requires place { InPlace self.old.stage pdv }
         requires kind { wants_command self.old.stage ≡ true }
@@ -163,13 +173,14 @@ impl Assembly {
         ensures awaited { self.new.awaited ≡ self.old.awaited }
         ensures takes { Takes self.old.awaited self.old.stage pdv result self.new.stage }
     {
+        let ends = is_last(&pdv);
         keep(
             self.alloc,
             &mut self.body,
             &mut self.is_too_large,
-            pdv.fragment.as_bytes(),
+            pdv.fragment,
         )?;
-        if !is_last(&pdv) {
+        if !ends {
             return Ok(None);
         }
         let bytes = mem::replace(&mut self.body, Vec::new(self.alloc));
@@ -211,14 +222,14 @@ fn body_with(is_too_large: bool, bytes: Vec<u8>) -> Body
     Body::Whole(Text::from_vec(bytes))
 }
 
-/// One more fragment of a data set.
+/// One more fragment of a data set. The bytes of the first one become the body, and aren't copied.
 fn keep(
     alloc: Global,
     body: &mut Vec<u8>,
     is_too_large: &mut bool,
-    fragment: &[u8],
+    fragment: Octets,
 ) -> Result<(), AllocError>
-    ensures ok { OnOk result (so_far is_too_large.new body.new.items ≡ kept (so_far is_too_large.old body.old.items) fragment.now) }
+    ensures ok { OnOk result (so_far is_too_large.new body.new.items ≡ kept (so_far is_too_large.old body.old.items) fragment) }
     ensures err { OnErr result (so_far is_too_large.new body.new.items ≡ so_far is_too_large.old body.old.items) }
 {
     if *is_too_large {
@@ -229,7 +240,11 @@ fn keep(
         *is_too_large = true;
         return Ok(());
     }
-    body.extend_from_slice(fragment)?;
+    if body.is_empty() {
+        *body = fragment.into_vec();
+        return Ok(());
+    }
+    body.extend_from_slice(fragment.as_bytes())?;
     Ok(())
 }
 

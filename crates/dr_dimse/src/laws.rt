@@ -1,10 +1,10 @@
 //! Laws of the definitions.
-ghost use Rattle.std.specs.Prelude.{◌≡◌, ◌≢◌, ◌<◌, ◌≤◌, ◌+◌, ◌^◌, ◌∷◌, ◌++◌, [], List, ℕ, Bool, Option, Some, Result, Err, length};
+ghost use Rattle.std.specs.Prelude.{◌≡◌, ◌≢◌, ◌<◌, ◌≤◌, ◌+◌, ◌^◌, ◌∷◌, ◌++◌, [], List, ℕ, Bool, Option, Some, Result, Ok, Err, length};
 ghost use Rattle.std.specs.List.{AllByRecursion};
 ghost use Rattle.dr_pdu.specs.declared.pdu.Pdv.{Pdv as Value};
 ghost use Rattle.dr_dimse.specs.Commands.{IsCommand};
 ghost use Rattle.dr_dimse.specs.Messages.{IsMessage, AreMessages};
-ghost use Rattle.dr_dimse.specs.Taking.{Stage, Idle, Leaves, IsAwaited, Takes, Call, Took, taken, given, Waits, Gives};
+ghost use Rattle.dr_dimse.specs.Taking.{Stage, Idle, Leaves, IsAwaited, Takes, Call, Took, taken, given, Waits, Gives, ended_by, since};
 ghost use Rattle.dr_dimse.specs.declared.message.Awaited.{Awaited as Waiting};
 ghost use Rattle.dr_dimse.specs.declared.message.Message.{Message as MessageValue};
 ghost use Rattle.dr_dimse.specs.Written.{written, Fits};
@@ -35,13 +35,27 @@ pub fn an_assembly_gives_the_messages()
         → (rest : List Value) × AreMessages (before ++ taken calls) (given calls) rest × Leaves rest new }
 {}
 
+/// The values since the last message leave one stage at most: it is fixed by them.
+pub fn a_stage_is_one()
+    ensures { (ps : List Value) (s t : Stage) → Leaves ps s → Leaves ps t → s ≡ t }
+{}
+
+/// From any stage on: where the values since the last message, one more, and those that are still to come make a message
+/// that is awaited, the one is taken, and gives the message just where no more are to come.
+pub fn a_message_comes_value_by_value()
+    ensures { (awaited : Waiting) (before : List Value) (p : Value) (later : List Value) (m : MessageValue) (s : Stage)
+        → Leaves before s → IsMessage (before ++ p ∷ later) m → IsAwaited awaited m.command
+        → (new : Stage) × Takes awaited s p (Ok (ended_by later m)) new × Leaves (since (before ++ p ∷ []) later) new }
+{}
+
 /// A value has one answer, but for want of memory.
 pub fn a_value_has_one_answer()
     ensures { (awaited : Waiting) (old : Stage) (p : Value) (r s : Result (Option MessageValue) Fault) (new new' : Stage) → r ≢ Err Memory → s ≢ Err Memory
         → Takes awaited old p r new → Takes awaited old p s new' → (r ≡ s) × (new ≡ new') }
 {}
 
-/// A fault is told at the first value with which the values since the last message begin no message.
+/// No fault is told while a message can still come: after a fault, the values since the last message and the one that
+/// was refused begin no message that is awaited. (It may be told later than at the first value with which that is so.)
 pub fn after_a_fault_there_is_no_message()
     ensures { (awaited : Waiting) (ps : List Value) (p : Value) (fault : Fault) (old new : Stage) → fault ≢ Memory → Waits awaited Idle ps old → Takes awaited old p (Err fault) new
         → (more : List Value) (m : MessageValue) → IsMessage (ps ++ p ∷ more) m → IsAwaited awaited m.command → ⊥ }

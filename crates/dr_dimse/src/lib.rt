@@ -22,4 +22,3 @@ pub use fault::DimseFault;
 pub use message::{Awaited, Body, Message};
 pub use reader::read_command;
 pub use writer::{fits, write_command};
-

@@ -1,12 +1,12 @@
 //! Worked figures of the definitions, by computation.
 ghost use Rattle.std.specs.Prelude.{◌≡◌, ◌∷◌, [], Some, None, Ok, length};
-ghost use Rattle.dr_pdu.specs.Grammar.{header_fault, AreContextIds, IsAnswer, IsProposal, Decodes, Shows};
-ghost use Rattle.dr_base.specs.Padding.{trimmed, unpadded};
+ghost use Rattle.dr_pdu.specs.Grammar.{header_fault, AreContextIds, HasContextIds, IsAnswer, IsBody, IsProposal, Decodes, Shows};
 ghost use Rattle.dr_pdu.specs.Items.{first_body};
-ghost use Rattle.dr_pdu.specs.Vectors.{explicit, implicit, ct, verification, proposal, proposal_text, acceptance, refusal, rejection, rejection_text, echo, echo_text};
+ghost use Rattle.dr_pdu.specs.Vectors.{explicit, implicit, ct, verification, proposal, proposal_text, acceptance, refusal, rejection, rejection_text, transient_rejection, abort, echo, echo_text, foreign_request, foreign_text, syntax_alone, class_alone, bare_proposal, bare_body, repeated};
 ghost use Rattle.dr_pdu.specs.Written.{body_text, written};
 ghost use Rattle.dr_pdu.specs.declared.pdu.ContextAnswer.{ContextAnswer as Answer};
 ghost use Rattle.dr_pdu.specs.declared.pdu.ContextProposal.{ContextProposal as Proposal};
+ghost use Rattle.dr_pdu.specs.declared.pdu.Pdu.{Pdu as PduValue};
 ghost use Rattle.dr_pdu.specs.declared.pdu.Pdu.TheVariants.{ReleaseRq};
 ghost use Rattle.dr_pdu.specs.declared.fault.PduFault.TheVariants.{More, UnknownType, TooLong, BadItem};
 
@@ -19,6 +19,8 @@ pub fn what_is_written()
     ensures acceptance_of_echo { length (body_text (acceptance implicit)) ≡ 197 }
     ensures refusal { length (body_text refusal) ≡ 197 }
     ensures rejection { written rejection ≡ rejection_text }
+    ensures transient { written transient_rejection ≡ 3 ∷ 0 ∷ 0 ∷ 0 ∷ 0 ∷ 4 ∷ 0 ∷ 2 ∷ 3 ∷ 5 ∷ [] }
+    ensures abort { written abort ≡ 7 ∷ 0 ∷ 0 ∷ 0 ∷ 0 ∷ 4 ∷ 0 ∷ 0 ∷ 2 ∷ 6 ∷ [] }
     ensures echo { written echo ≡ echo_text }
 {}
 
@@ -40,14 +42,6 @@ pub fn edges_of_lengths()
     ensures eight { header_fault 0 8 4294967295 ≡ Some UnknownType }
 {}
 
-/// What is trimmed: spaces in front of a title, NULs and spaces behind a name.
-pub fn trimmed_names()
-    ensures both_ends { trimmed (32 ∷ 65 ∷ 32 ∷ 66 ∷ 0 ∷ 32 ∷ 0 ∷ []) ≡ 65 ∷ 32 ∷ 66 ∷ [] }
-    ensures nul_in_front { trimmed (32 ∷ 0 ∷ 32 ∷ 65 ∷ []) ≡ 0 ∷ 32 ∷ 65 ∷ [] }
-    ensures spaces_alone { trimmed (32 ∷ 32 ∷ []) ≡ [] }
-    ensures name { unpadded (32 ∷ 49 ∷ 46 ∷ 50 ∷ 0 ∷ []) ≡ 32 ∷ 49 ∷ 46 ∷ 50 ∷ [] }
-{}
-
 /// Of a repeated item the first counts, and items of other types are skipped.
 pub fn repeated_items()
     ensures first { first_body 0x51 (record { kind = 0x52; body = 7 ∷ [] } ∷ record { kind = 0x51; body = 8 ∷ [] } ∷ record { kind = 0x51; body = 9 ∷ [] } ∷ []) ≡ Some (8 ∷ []) }
@@ -60,18 +54,26 @@ pub fn context_ids()
     ensures good { AreContextIds (3 ∷ 1 ∷ 255 ∷ []) }
     ensures even { AreContextIds (1 ∷ 2 ∷ []) → ⊥ }
     ensures twice { AreContextIds (1 ∷ 3 ∷ 1 ∷ []) → ⊥ }
+    ensures request { HasContextIds (proposal ct explicit) }
+    ensures acceptance { HasContextIds repeated → ⊥ }
 {}
 
-/// A refused context needs no transfer syntax, an accepted one and a proposal do.
+/// A refused context needs no transfer syntax, an accepted one and a proposal do. A proposal needs an abstract syntax
+/// too, and a request an application context.
 pub fn contexts_without_items()
     ensures refused { IsAnswer (1 ∷ 9 ∷ 3 ∷ 9 ∷ []) (record { id = 1; result = 3; syntax = [] }) }
     ensures accepted { (c : Answer) → IsAnswer (1 ∷ 0 ∷ 0 ∷ 0 ∷ []) c → ⊥ }
     ensures proposed { (c : Proposal) → IsProposal (1 ∷ 0 ∷ 0 ∷ 0 ∷ []) c → ⊥ }
+    ensures no_class { (c : Proposal) → IsProposal syntax_alone c → ⊥ }
+    ensures no_syntax { (c : Proposal) → IsProposal class_alone c → ⊥ }
+    ensures both { IsProposal bare_proposal (record { id = 1; class = verification; syntaxes = implicit ∷ [] }) }
+    ensures no_application { (p : PduValue) → IsBody 1 bare_body p → ⊥ }
 {}
 
-/// A PDU that is read, and texts that show a fault.
+/// PDUs that are read, one of another product among them, and texts that show a fault.
 pub fn what_is_read()
     ensures echo { Decodes 16384 echo_text (Ok (echo, 80)) }
+    ensures foreign { Decodes 0 foreign_text (Ok (foreign_request, 267)) }
     ensures reserved_bytes { Decodes 16384 (5 ∷ 9 ∷ 0 ∷ 0 ∷ 0 ∷ 4 ∷ 1 ∷ 2 ∷ 3 ∷ 4 ∷ 5 ∷ []) (Ok (ReleaseRq, 10)) }
     ensures five_bytes { Shows 16384 (4 ∷ 0 ∷ 0 ∷ 0 ∷ 0 ∷ []) More }
     ensures header_alone { Shows 16384 (1 ∷ 0 ∷ 0 ∷ 4 ∷ 0 ∷ 0 ∷ []) More }
