@@ -1,14 +1,13 @@
 -- The values since the last message leave one stage, and a message comes value by value.
-use Rattle.std.proofs.Common.{◌≡◌, ◌≢◌, ℕ, true, false, List, [], ◌∷◌, ◌++◌, Option, Some, None, Ok, get_or, drop, refl, sym, ap, subst, ◌∙◌, append_assoc}
-use Rattle.std.proofs.lemmas.List.{append-nil}
+use Rattle.std.proofs.Common.{◌≡◌, ◌≢◌, ℕ, true, false, List, [], ◌∷◌, ◌++◌, Some, None, Ok, get_or, drop, refl, sym, ap, subst, ◌∙◌, append_assoc}
 use Rattle.dr_pdu.specs.declared.pdu.Pdv.{Pdv}
 use Rattle.dr_dimse.specs.declared.command.Command.{Command}
 use Rattle.dr_dimse.specs.declared.message.Awaited.{Awaited}
 use Rattle.dr_dimse.specs.declared.message.Body.{Body}
 use Rattle.dr_dimse.specs.declared.message.Message.{Message}
 use Rattle.dr_dimse.specs.Commands.{IsCommand}
-use Rattle.dr_dimse.specs.Messages.{is_last, joined, AreInner, IsWhole, body_of, IsMessage}
-use Rattle.dr_dimse.specs.Taking.{Stage, Idle, InCommand, InData, Leaves, IsAwaited, Takes, Waits, Gives, ended_by, since}
+use Rattle.dr_dimse.specs.Messages.{is_last, joined, AreInner, body_of, IsMessage}
+use Rattle.dr_dimse.specs.Taking.{Stage, Idle, InCommand, InData, Leaves, IsAwaited, Takes, Waits, ended_by, since}
 use Rattle.dr_dimse.proofs.OneCommand.{one_command}
 use Rattle.dr_dimse.proofs.MessageLemmas.{leaves_more}
 use Rattle.dr_dimse.proofs.GivenLemmas.{is_given, waits_leave}

@@ -1,5 +1,5 @@
 -- What an assembly holds, as the stage that it is in.
-use Rattle.std.specs.Prelude.{◌≡◌, ℕ, Bool, true, false, List, [], Option, Some, None, Result, Ok, Err}
+use Rattle.std.specs.Prelude.{ℕ, Bool, true, false, List, [], Option, Some, None, Result, Ok, Err}
 use Rattle.std.specs.Borrow.{Bor}
 use Rattle.dr_dimse.specs.declared.assembly.UnderWay.{UnderWay}
 use Rattle.dr_dimse.specs.declared.assembly.UnderWay.TheVariants.{Nothing, ACommand, ADataSet}
@@ -9,8 +9,7 @@ use Rattle.dr_dimse.specs.declared.fault.DimseFault.TheVariants.{OutOfPlace, Bad
 use Rattle.dr_dimse.specs.declared.message.Awaited.{Awaited}
 use Rattle.dr_dimse.specs.declared.message.Body.{Body}
 use Rattle.dr_dimse.specs.declared.message.Body.TheVariants.{Whole, TooLarge}
-use Rattle.dr_dimse.specs.declared.message.Message.{Message}
-use Rattle.dr_dimse.specs.Commands.{IsCommand, announces}
+use Rattle.dr_dimse.specs.Commands.{IsCommand}
 use Rattle.dr_dimse.specs.Taking.{Stage, Idle, InCommand, InData, IsAwaited}
 
 -- a body that is under way

@@ -1,12 +1,9 @@
 -- What was read under some limit has a spelling.
-use Rattle.std.proofs.Common.{◌≡◌, ℕ, ◌≤◌, ◌⊎◌, Bool, true, false, cond, eqb, ltb, List, length, Some, None, refl, sym, ap, subst, arith, inl, inr}
-use Rattle.std.proofs.lemmas.Bool.{ltb-false, eqb-true}
-use Rattle.std.specs.List.{flat_map}
-use Rattle.dr_pdu.specs.declared.pdu.Pdv.{Pdv}
+use Rattle.std.proofs.Common.{◌≡◌, ℕ, ◌≤◌, Bool, true, false, cond, eqb, ltb, List, length, Some, None, refl, sym, ap, subst, arith, inl, inr}
+use Rattle.std.proofs.lemmas.Bool.{ltb-false}
 use Rattle.dr_pdu.specs.declared.pdu.Pdu.{Pdu}
 use Rattle.dr_pdu.specs.declared.pdu.Pdu.TheVariants.{AssociateRq, AssociateAc, AssociateRj, Transfer, ReleaseRq, ReleaseRp, Abort}
 use Rattle.dr_pdu.specs.declared.fault.PduFault.TheVariants.{TooLong}
-use Rattle.dr_pdu.specs.Items.{pdv_text}
 use Rattle.dr_pdu.specs.Grammar.{header_fault, Spells}
 use Rattle.dr_pdu.specs.Written.{Fits, MeetsLimit}
 use Rattle.dr_pdu.proofs.FitLemmas.{values_are}

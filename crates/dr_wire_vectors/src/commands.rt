@@ -1,4 +1,4 @@
-//! Vectors from outside, hostile commands, and growths of memory that are refused (`rt try --test --fail-alloc N`).
+//! Vectors by the standard's tables, hostile commands, and growths of memory that are refused (`rt try --test --fail-alloc N`).
 use dr_base::{Seq, Text};
 use dr_dimse::{
     Assembly, Awaited, Body, Command, DimseFault, Message, fits, read_command, write_command,
@@ -46,6 +46,30 @@ const UNKNOWN_OPERATION: [u8; 52] = [
     0, 0, 0, 0, 4, 0, 0, 0, 40, 0, 0, 0, 0, 0, 0x00, 0x01, 2, 0, 0, 0, 0x20, 0x80, 0, 0, 0x20,
     0x01, 2, 0, 0, 0, 1, 0, 0, 0, 0x00, 0x08, 2, 0, 0, 0, 0x01, 0x01, 0, 0, 0x00, 0x09, 2, 0, 0, 0,
     0x11, 0x02,
+];
+
+/// A C-STORE-RQ by the tables of PS3.7 (9.3-1 and E.1): CT Image Storage, message id 7, medium priority, instance 1.2.3.
+const STORE: [u8; 100] = [
+    0, 0, 0, 0, 4, 0, 0, 0, 88, 0, 0, 0, 0, 0, 0x02, 0, 26, 0, 0, 0, 0x31, 0x2E, 0x32, 0x2E, 0x38,
+    0x34, 0x30, 0x2E, 0x31, 0x30, 0x30, 0x30, 0x38, 0x2E, 0x35, 0x2E, 0x31, 0x2E, 0x34, 0x2E, 0x31,
+    0x2E, 0x31, 0x2E, 0x32, 0, 0, 0, 0x00, 0x01, 2, 0, 0, 0, 0x01, 0x00, 0, 0, 0x10, 0x01, 2, 0, 0,
+    0, 7, 0, 0, 0, 0x00, 0x07, 2, 0, 0, 0, 0x00, 0x00, 0, 0, 0x00, 0x08, 2, 0, 0, 0, 0x01, 0x00, 0,
+    0, 0x00, 0x10, 6, 0, 0, 0, 0x31, 0x2E, 0x32, 0x2E, 0x33, 0,
+];
+
+/// Its answer, with status 0000H.
+const STORED: [u8; 100] = [
+    0, 0, 0, 0, 4, 0, 0, 0, 88, 0, 0, 0, 0, 0, 0x02, 0, 26, 0, 0, 0, 0x31, 0x2E, 0x32, 0x2E, 0x38,
+    0x34, 0x30, 0x2E, 0x31, 0x30, 0x30, 0x30, 0x38, 0x2E, 0x35, 0x2E, 0x31, 0x2E, 0x34, 0x2E, 0x31,
+    0x2E, 0x31, 0x2E, 0x32, 0, 0, 0, 0x00, 0x01, 2, 0, 0, 0, 0x01, 0x80, 0, 0, 0x20, 0x01, 2, 0, 0,
+    0, 7, 0, 0, 0, 0x00, 0x08, 2, 0, 0, 0, 0x01, 0x01, 0, 0, 0x00, 0x09, 2, 0, 0, 0, 0x00, 0x00, 0,
+    0, 0x00, 0x10, 6, 0, 0, 0, 0x31, 0x2E, 0x32, 0x2E, 0x33, 0,
+];
+
+/// The move originator's title (0000,1030) and message id (0000,1031), which a C-MOVE's store has too.
+const ORIGINATOR: [u8; 34] = [
+    0, 0, 0x30, 0x10, 16, 0, 0, 0, 0x47, 0x41, 0x54, 0x45, 0x20, 0x20, 0x20, 0x20, 0x20, 0x20, 0x20,
+    0x20, 0x20, 0x20, 0x20, 0x20, 0, 0, 0x31, 0x10, 2, 0, 0, 0, 9, 0,
 ];
 
 const VERIFICATION: &[u8] = b"1.2.840.10008.1.1";
@@ -236,6 +260,62 @@ fn what_lacks_an_element_is_refused(rt: HostRuntime) {
         assert!(rt; is_bad(rt.alloc(), text));
     }
     assert!(rt; !is_bad(rt.alloc(), &CANCEL));
+}
+
+/// Whether the text is a C-STORE-RQ with message id 7 of that instance.
+fn is_store(alloc: Global, text: &[u8]) -> bool {
+    match read_command(alloc, text) {
+        Ok(Command::StoreRq {
+            id,
+            class,
+            instance,
+        }) => {
+            id == 7
+                && class.as_bytes() == b"1.2.840.10008.5.1.4.1.1.2".as_slice()
+                && instance.as_bytes() == b"1.2.3".as_slice()
+        }
+        _ => false,
+    }
+}
+
+#[test]
+fn stores_of_others_are_read(rt: HostRuntime) -> Result<(), Fail> {
+    let alloc = rt.alloc();
+    assert!(rt; is_store(alloc, &STORE));
+    assert!(rt; store(alloc, b"1.2.3")?.as_slice() == STORE.as_slice());
+    let mut moved = STORE.to_vec(alloc)?;
+    moved.extend_from_slice(&ORIGINATOR)?;
+    assert!(rt; is_store(alloc, &moved));
+    let Ok(Command::StoreRsp {
+        to: 7,
+        status: 0,
+        class,
+        instance,
+        has_data: false,
+    }) = read_command(alloc, &STORED)
+    else {
+        return Err("no answer")?;
+    };
+    let answer = Command::StoreRsp {
+        to: 7,
+        status: 0,
+        class,
+        instance,
+        has_data: false,
+    };
+    assert!(rt; written(alloc, &answer)?.as_slice() == STORED.as_slice());
+    Ok(())
+}
+
+#[test]
+fn a_cancel_is_taken_where_requests_are_awaited(rt: HostRuntime) {
+    let alloc = rt.alloc();
+    let mut assembly = Assembly::new(alloc, Awaited::Requests);
+    assert!(rt; answer_to(alloc, &mut assembly, 1, 3, &CANCEL) == Answer::Ends);
+    assert!(rt; answer_to(alloc, &mut assembly, 1, 3, &STORE) == Answer::Waits);
+    assert!(rt; matches!(assembly.data_of(), Some((1, Command::StoreRq { id: 7, .. }))));
+    assert!(rt; answer_to(alloc, &mut assembly, 1, 2, b"ab") == Answer::Ends);
+    assert!(rt; assembly.data_of().is_none());
 }
 
 #[test]

@@ -158,6 +158,58 @@ fn what_does_not_count_is_not_looked_into(rt: HostRuntime) -> Result<(), Fail> {
     Ok(())
 }
 
+/// A rejection and an abort by the tables of PS3.8 (9.3.4 and 9.3.8), each with numbers that differ.
+#[test]
+fn numbers_stand_in_their_places(rt: HostRuntime) -> Result<(), Fail> {
+    let alloc = rt.alloc();
+    let (pdu, _) = decode(alloc, &[3, 0, 0, 0, 0, 4, 0, 2, 3, 1], 16384)?;
+    let Pdu::AssociateRj(rj) = pdu else {
+        return Err("no rejection")?;
+    };
+    assert_eq!(rt; [rj.result, rj.source, rj.reason].as_slice(), [2, 3, 1].as_slice());
+    let (pdu, _) = decode(alloc, &[7, 0, 0, 0, 0, 4, 9, 9, 2, 6], 16384)?;
+    let Pdu::Abort(abort) = pdu else {
+        return Err("no abort")?;
+    };
+    assert_eq!(rt; [abort.source, abort.reason].as_slice(), [2, 6].as_slice());
+    Ok(())
+}
+
+/// A header alone, of a PDU that may come and of one that is too long; what was announced takes no memory.
+#[test]
+fn what_is_announced_is_awaited(rt: HostRuntime) -> Result<(), Fail> {
+    let alloc = rt.alloc();
+    let mut feeder = Feeder::new(alloc, 0);
+    assert!(rt; feeder.feed(&[4, 0, 8, 0, 0, 0])?.is_empty());
+    assert!(rt; feeder.feed(&[])?.is_empty());
+    let mut other = Feeder::new(alloc, 0);
+    assert!(rt; other.feed(&[4, 0, 8, 0, 0, 1]).err() == Some(PduFault::TooLong));
+    assert!(rt; other.feed(&RELEASE).err() == Some(PduFault::Failed));
+    Ok(())
+}
+
+#[test]
+fn spellings_are_put_one_behind_the_other(rt: HostRuntime) -> Result<(), Fail> {
+    let alloc = rt.alloc();
+    let mut out = Vec::new(alloc);
+    put(&mut out, &Pdu::ReleaseRq)?;
+    put_fragment(&mut out, 1, 3, &ECHO[12..])?;
+    put(&mut out, &Pdu::ReleaseRp)?;
+    let mut wanted = RELEASE.to_vec(alloc)?;
+    wanted.extend_from_slice(&ECHO)?;
+    wanted.extend_from_slice(&[6, 0, 0, 0, 0, 4, 0, 0, 0, 0])?;
+    assert!(rt; out.as_slice() == wanted.as_slice());
+    // The same value, as a PDU.
+    let mut pdvs = Seq::new(alloc);
+    pdvs.push(Pdv {
+        id: 1,
+        header: 3,
+        fragment: Text::copy_of(alloc, &ECHO[12..])?,
+    })?;
+    assert!(rt; written(alloc, &Pdu::Transfer(pdvs))?.as_slice() == ECHO.as_slice());
+    Ok(())
+}
+
 #[test]
 fn a_title_of_17_bytes_does_not_fit(rt: HostRuntime) -> Result<(), Fail> {
     let alloc = rt.alloc();

@@ -1,4 +1,4 @@
-use Rattle.std.proofs.Common.{refl, inl, arith, ◌∷◌, []}
+use Rattle.std.proofs.Common.{refl, inl, arith}
 use Rattle.std.proofs.lemmas.List.{length-append}
 use Rattle.dr_dimse.proofs.figures.faults_of_values.Goals as goal
 

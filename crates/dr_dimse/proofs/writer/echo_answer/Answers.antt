@@ -1,4 +1,4 @@
-use Rattle.std.proofs.Common.{[], ◌∷◌, true}
+use Rattle.std.proofs.Common.{[], ◌∷◌}
 use Rattle.dr_dimse.specs.Written.{number_element, text_element, data_element}
 use Rattle.dr_dimse.proofs.WriteLemmas.{next}
 use Rattle.dr_dimse.proofs.writer.echo_answer.Goals as goal

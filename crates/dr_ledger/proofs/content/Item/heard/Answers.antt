@@ -9,4 +9,4 @@ pub returns-in-Err : goal.returns-in-Err
 returns-in-Err c =
     let P : ItemFault → Type 0 = λ f. ReadsItem c.args.syntax c.args.body (Err f) in
     let fits : length c.args.body ≤ largest_body = search rules in
-    subst P (sym c.fault_of.ensures) (refused c.args.syntax c.args.body fits c.in-Err.fault (c.in-Err.ensures c.args.syntax c.args.body c.requires))
+    subst P (sym c.fault_of.ensures) (refused c.args.syntax c.args.body fits c.in-Err.fault (c.in-Err.ensures.scans c.args.syntax c.args.body c.requires))
