@@ -37,6 +37,15 @@ abbrev pub data_of : Stage → Option (ℕ × Command)
 data_of (InData id c body) = Some (id, c)
 data_of s = None
 
+-- its bytes so far, none where they aren't kept
+abbrev pub bytes_of : Body → List ℕ
+bytes_of (Whole text) = text
+bytes_of TooLarge = []
+
+abbrev pub data_so_far : Stage → List ℕ
+data_so_far (InData id c body) = bytes_of body
+data_so_far s = []
+
 -- ---- one value
 
 abbrev pub context_of : Stage → Option ℕ

@@ -2,7 +2,7 @@
 ghost use Rattle.std.specs.Prelude.{◌≡◌, ◌%◌, ◌/◌, ◌==◌, true, false, IsTrue, ◌↔◌, OnOk, OnErr};
 ghost use Rattle.dr_dimse.specs.Messages.{is_command as starts_command, is_last as ends};
 ghost use Rattle.dr_dimse.specs.Stages.{so_far, text_held, shown_of, ReadsAwaited};
-ghost use Rattle.dr_dimse.specs.Taking.{Begins, Idle, data_of, IsAwaited, InPlace, Takes, kept, wants_command};
+ghost use Rattle.dr_dimse.specs.Taking.{Begins, Idle, data_of, data_so_far, IsAwaited, InPlace, Takes, kept, wants_command};
 
 use crate::command::Command;
 use crate::fault::DimseFault;
@@ -120,6 +120,17 @@ impl Assembly {
         match &self.under_way {
             UnderWay::ADataSet(id, command) => Some((*id, command)),
             _ => None,
+        }
+    }
+
+    /// The bytes of the data set that is under way, as far as they have come and are kept; none where there is no data
+    /// set, or where it is too large.
+    pub fn data_so_far(&self) -> &[u8]
+        ensures { result.now ≡ data_so_far self.now.stage }
+    {
+        match &self.under_way {
+            UnderWay::ADataSet(_, _) if !self.is_too_large => self.body.as_slice(),
+            _ => &[],
         }
     }
 

@@ -183,10 +183,5 @@ pub fn is_uid(text: &[u8]) -> bool
 fn are_graphic(text: &[u8]) -> bool
     ensures { IsTrue result ↔ AllByRecursion (λ b. (0x21 ≤ b) × (b ≤ 0x7E)) text.now }
 {
-    for byte in text {
-        if !byte.is_ascii_graphic() {
-            return false;
-        }
-    }
-    true
+    text.iter().all(|byte| byte.is_ascii_graphic())
 }

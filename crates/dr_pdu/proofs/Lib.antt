@@ -22,3 +22,4 @@ pub mod Weights
 pub mod WrittenLemmas
 pub mod Values
 pub mod ReadFits
+pub mod FeedAnswers

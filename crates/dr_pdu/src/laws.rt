@@ -68,7 +68,9 @@ pub fn what_was_read_fits()
     ensures any { (limit : ℕ) (text : List ℕ) (p : PduValue) → MeetsLimit 134217728 p → Spells limit text p → Fits p }
 {}
 
-/// Each text of bytes has an answer that isn't want of memory.
+/// Each text of bytes has an answer that isn't want of memory, and so has each piece that a feeder takes.
 pub fn a_text_has_an_answer()
-    ensures { (limit : ℕ) (text : List ℕ) → AllByRecursion (λ b. b < 256) text → (r : Result (PduValue × ℕ) Fault) × (r ≢ Err Memory) × Decodes limit text r }
+    ensures text { (limit : ℕ) (text : List ℕ) → AllByRecursion (λ b. b < 256) text → (r : Result (PduValue × ℕ) Fault) × (r ≢ Err Memory) × Decodes limit text r }
+    ensures piece { (old : Feeding) (piece : List ℕ) → AllByRecursion (λ b. b < 256) (old.kept ++ piece)
+        → (r : Result (List PduValue) Fault) × (new : Feeding) × (r ≢ Err Memory) × Feeds old piece r new }
 {}

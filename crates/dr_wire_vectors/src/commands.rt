@@ -68,8 +68,8 @@ const STORED: [u8; 100] = [
 
 /// The move originator's title (0000,1030) and message id (0000,1031), which a C-MOVE's store has too.
 const ORIGINATOR: [u8; 34] = [
-    0, 0, 0x30, 0x10, 16, 0, 0, 0, 0x47, 0x41, 0x54, 0x45, 0x20, 0x20, 0x20, 0x20, 0x20, 0x20, 0x20,
-    0x20, 0x20, 0x20, 0x20, 0x20, 0, 0, 0x31, 0x10, 2, 0, 0, 0, 9, 0,
+    0, 0, 0x30, 0x10, 16, 0, 0, 0, 0x47, 0x41, 0x54, 0x45, 0x20, 0x20, 0x20, 0x20, 0x20, 0x20,
+    0x20, 0x20, 0x20, 0x20, 0x20, 0x20, 0, 0, 0x31, 0x10, 2, 0, 0, 0, 9, 0,
 ];
 
 const VERIFICATION: &[u8] = b"1.2.840.10008.1.1";
@@ -265,11 +265,13 @@ fn what_lacks_an_element_is_refused(rt: HostRuntime) {
 /// Whether the text is a C-STORE-RQ with message id 7 of that instance.
 fn is_store(alloc: Global, text: &[u8]) -> bool {
     match read_command(alloc, text) {
-        Ok(Command::StoreRq {
-            id,
-            class,
-            instance,
-        }) => {
+        Ok(
+            Command::StoreRq {
+                id,
+                class,
+                instance,
+            },
+        ) => {
             id == 7
                 && class.as_bytes() == b"1.2.840.10008.5.1.4.1.1.2".as_slice()
                 && instance.as_bytes() == b"1.2.3".as_slice()
@@ -286,13 +288,15 @@ fn stores_of_others_are_read(rt: HostRuntime) -> Result<(), Fail> {
     let mut moved = STORE.to_vec(alloc)?;
     moved.extend_from_slice(&ORIGINATOR)?;
     assert!(rt; is_store(alloc, &moved));
-    let Ok(Command::StoreRsp {
-        to: 7,
-        status: 0,
-        class,
-        instance,
-        has_data: false,
-    }) = read_command(alloc, &STORED)
+    let Ok(
+        Command::StoreRsp {
+            to: 7,
+            status: 0,
+            class,
+            instance,
+            has_data: false,
+        },
+    ) = read_command(alloc, &STORED)
     else {
         return Err("no answer")?;
     };
@@ -313,7 +317,12 @@ fn a_cancel_is_taken_where_requests_are_awaited(rt: HostRuntime) {
     let mut assembly = Assembly::new(alloc, Awaited::Requests);
     assert!(rt; answer_to(alloc, &mut assembly, 1, 3, &CANCEL) == Answer::Ends);
     assert!(rt; answer_to(alloc, &mut assembly, 1, 3, &STORE) == Answer::Waits);
-    assert!(rt; matches!(assembly.data_of(), Some((1, Command::StoreRq { id: 7, .. }))));
+    assert!(rt;
+        matches!(
+            assembly.data_of(),
+            Some((1, Command::StoreRq { id: 7, .. }))
+        )
+    );
     assert!(rt; answer_to(alloc, &mut assembly, 1, 2, b"ab") == Answer::Ends);
     assert!(rt; assembly.data_of().is_none());
 }

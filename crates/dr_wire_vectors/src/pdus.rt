@@ -166,7 +166,10 @@ fn numbers_stand_in_their_places(rt: HostRuntime) -> Result<(), Fail> {
     let Pdu::AssociateRj(rj) = pdu else {
         return Err("no rejection")?;
     };
-    assert_eq!(rt; [rj.result, rj.source, rj.reason].as_slice(), [2, 3, 1].as_slice());
+    assert_eq!(rt;
+        [rj.result, rj.source, rj.reason].as_slice(),
+        [2, 3, 1].as_slice()
+    );
     let (pdu, _) = decode(alloc, &[7, 0, 0, 0, 0, 4, 9, 9, 2, 6], 16384)?;
     let Pdu::Abort(abort) = pdu else {
         return Err("no abort")?;
