@@ -1,6 +1,9 @@
 //! Vectors from outside, each cut of a stream, and growths of memory that are refused (`rt try --test --fail-alloc N`).
 use dr_base::{Seq, Text};
-use dr_pdu::{Association, ContextProposal, Feeder, Front, Pdu, PduFault, decode, encode, fits};
+use dr_pdu::{
+    Association, ContextProposal, Feeder, Front, Pdu, PduFault, Pdv, decode, encode, fits, put,
+    put_fragment,
+};
 use std::alloc::{AllocError, Global};
 use std::test::Fail;
 
