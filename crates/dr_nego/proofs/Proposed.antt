@@ -1,11 +1,16 @@
 -- A proposal is made of the hops to its destination.
-use Rattle.std.proofs.Common.{◌≡◌, ℕ, ◌<◌, List, [], ◌∷◌, length, map, Ok, Contains, sym, ap, subst, ◌∙◌, true, false, arith}
+use Rattle.std.proofs.Common.{◌≡◌, ℕ, ◌<◌, List, [], ◌∷◌, length, map, Ok, Contains, refl, sym, ap, subst, ◌∙◌, true, false, arith}
 use Rattle.std.specs.Prelude.{◌==◌, AllPairs, replicate}
-use Rattle.std.proofs.lemmas.Bool.{false≢true, eqb-true}
+use Rattle.std.proofs.lemmas.Bool.{false≢true, eqb-true, lt-ltb}
 use Rattle.dr_base.specs.Texts.{Text}
 use Rattle.dr_network.proofs.Gathered.{nothing_in_nil, Contains-here}
 use Rattle.dr_sound.specs.declared.certificate.Hop.{Hop}
-use Rattle.dr_hops.proofs.Rows.{map_has, map_of, map_pairs}
+use Rattle.std.specs.declared.cmp.Ordering.{Ordering}
+use Rattle.std.specs.declared.cmp.Ordering.TheVariants.{Less}
+use Rattle.std.specs.Ordering.{nat_cmp}
+use Rattle.std.specs.Cmp.{IsTotalOrder}
+use Rattle.std.proofs.lemmas.Cmp.{on_total, nat_cmp_total}
+use Rattle.dr_hops.proofs.Rows.{map_has, map_of, map_pairs, same_sorted}
 use Rattle.dr_site.specs.Parts.{Part, hops_to}
 use Rattle.dr_site.specs.Sites.{IsSite}
 use Rattle.dr_site.proofs.ContextsAsPlanned.{hop_to}
@@ -13,7 +18,9 @@ use Rattle.dr_site.proofs.FormedSites.{sites_are_formed}
 use Rattle.dr_pdu.specs.declared.pdu.ContextProposal.{ContextProposal}
 use Rattle.dr_pdu.specs.declared.pdu.Front.{Front}
 use Rattle.dr_nego.specs.Answering.{application_context}
-use Rattle.dr_nego.specs.Proposing.{context_of, IsHopTo, Proposes}
+use Rattle.dr_nego.specs.Agreeing.{AssociateRq}
+use Rattle.dr_nego.specs.Laws.{OneProposal}
+use Rattle.dr_nego.specs.Proposing.{context_of, IsHopTo, IsProposal, Proposes}
 
 -- no hop leads to a node to which there are none
 pub no_hop : (site : Part) (dest : Text) (hops : List Hop) → hops ≡ hops_to site dest → (length hops == 0) ≡ true → (hop : Hop) → IsHopTo site dest hop → ⊥
@@ -46,3 +53,37 @@ proposed site dest is hops same some front application contexts max_pdu front_is
         max_pdu = max_is;
       },
     )
+
+-- ---- one proposal
+
+by_id : ContextProposal → ContextProposal → Ordering
+by_id a b = nat_cmp a.id b.id
+
+by_id_total : IsTotalOrder by_id
+unfolding by_id
+by_id_total = on_total (λ (c : ContextProposal). c.id) nat_cmp_total
+
+less_is : (a b : ℕ) → a < b → nat_cmp a b ≡ Less
+less_is a b less = (let l = lt-ltb a b less in rw l refl)
+
+-- the contexts of a proposal are those of the hops to its destination, in their order
+pub proposal_contexts : (site : Part) (dest : Text) (rq : AssociateRq) → IsSite site → IsProposal site dest rq → rq.contexts ≡ map context_of (hops_to site dest)
+unfolding by_id
+proposal_contexts site dest rq is p =
+    let rises = map_pairs context_of (λ (a b : Hop). a.id < b.id) (λ (a b : ContextProposal). nat_cmp a.id b.id ≡ Less) (hops_to site dest) (λ a b _ _ less. less_is a.id b.id less) ((sites_are_formed site is).rising dest) in
+    same_sorted by_id by_id_total rq.contexts (map context_of (hops_to site dest)) (λ i j d lt h. less_is _ _ (p.rising i j d lt h)) rises (λ c. (
+      λ h.
+          let r = (p.each c).0 h in
+          let R : ContextProposal → Type 0 = λ x. Contains (map context_of (hops_to site dest)) x in
+          subst R (sym r.2) (map_of context_of (hops_to site dest) r.0 ((hop_to site dest r.0).1 r.1)),
+      λ h. (let r = map_has context_of (hops_to site dest) c h in (p.each c).1 (r.0, (hop_to site dest r.0).0 r.1, sym r.2)),
+    ))
+
+-- a site proposes one thing to a node
+pub one_proposal : OneProposal
+one_proposal site dest rq other is p q =
+    let made : Front → Text → List ContextProposal → ℕ → AssociateRq = λ f a cs n. record { front = f; application = a; contexts = cs; max_pdu = n } in
+    ap (λ (f : Front). made f rq.application rq.contexts rq.max_pdu) (p.front ∙ sym q.front)
+    ∙ (ap (λ (a : Text). made other.front a rq.contexts rq.max_pdu) (p.application ∙ sym q.application)
+    ∙ (ap (λ (cs : List ContextProposal). made other.front other.application cs rq.max_pdu) (proposal_contexts site dest rq is p ∙ sym (proposal_contexts site dest other is q))
+    ∙ ap (λ (n : ℕ). made other.front other.application other.contexts n) (p.max_pdu ∙ sym q.max_pdu)))

@@ -57,6 +57,10 @@ AgreementsAreWhole = (rq : AssociateRq) (ac : AssociateAc) → AllPairs (λ (a b
 abbrev pub OneConclusion : Type 0
 OneConclusion = (rq : AssociateRq) (ac : AssociateAc) (r s : Result Agreed NegoFault) → r ≢ Err Memory → s ≢ Err Memory → Concludes rq ac r → Concludes rq ac s → r ≡ s
 
+-- a site proposes one thing to a node
+abbrev pub OneProposal : Type 0
+OneProposal = (site : Part) (dest : Text) (rq other : AssociateRq) → IsSite site → IsProposal site dest rq → IsProposal site dest other → rq ≡ other
+
 -- a site's proposal for a hop can be written
 abbrev pub ProposalsFit : Type 0
 ProposalsFit = (site : Part) (dest : Text) (hop : Hop) (rq : AssociateRq) → IsSite site → IsHopTo site dest hop → IsProposal site dest rq → Fits (pdu.AssociateRq rq)

@@ -1,5 +1,5 @@
 //! Laws of negotiation.
-ghost use Rattle.dr_nego.specs.Laws.{HopsAreAgreed, BothSidesAgree, AgreementsAreWhole, OneConclusion, ContextsAreLeast, ProposalsFit, EchoesFit, AcceptancesFit, PiecesAreWhole, OneCut, LastIsMarked, FragmentsFit};
+ghost use Rattle.dr_nego.specs.Laws.{HopsAreAgreed, BothSidesAgree, AgreementsAreWhole, OneConclusion, ContextsAreLeast, OneProposal, ProposalsFit, EchoesFit, AcceptancesFit, PiecesAreWhole, OneCut, LastIsMarked, FragmentsFit};
 
 /// Over a hop of a sound plan, whose caller proposes its pairs, the receiver accepts just these, unless 256 others are
 /// open.
@@ -22,6 +22,11 @@ pub fn agreements_are_whole()
 /// Where ids rise, the context that is found for a class and a transfer syntax is that of the least id.
 pub fn contexts_are_least()
     ensures { ContextsAreLeast }
+{}
+
+/// A site proposes one thing to a node.
+pub fn there_is_one_proposal()
+    ensures { OneProposal }
 {}
 
 /// What is proposed for a hop, or for an echo, can be written; and so can the answer to a request that was read.
