@@ -28,7 +28,7 @@ def none_refused(w):
 
 def has_source(w, caller, name, item):
     sites = [(LOCAL, s) for s in w.books if has_arrival(w, s, LOCAL, item)]
-    sites += [(n, to) for n in w.books for (uid, to) in w.standing[n] if uid == item.uid and w.books[n].items.get(uid) == item]
+    sites += [(n, to) for n in w.books for (uid, to) in w.carried_over[n] if uid == item.uid and w.books[n].items.get(uid) == item]
     return any(walk[-1] == (caller, name) and len(walk) - 1 <= w.plan.ranks[first, site, item.key]
                for first, site in sites if (first, site, item.key) in w.plan.ranks for walk in w.plan.walks(first, site, item.key))
 
@@ -42,7 +42,7 @@ def is_honest(w):
             claim(item is not None and item.uid == uid, 'IsHonest', 'row without item', name, uid)
             claim(row[0] != 'done' or has_arrival(w, to, name, item), 'IsHonest', 'done', name, uid, to)
             brought = any(to in w.plan.sends(name, c, item.key) for c, u in book.arrivals if u == uid)
-            claim(brought or (uid, to) in w.standing[name], 'IsHonest', 'row', name, uid, to)
+            claim(brought or (uid, to) in w.carried_over[name], 'IsHonest', 'row', name, uid, to)
 
 
 def is_covered(w, caller, name, item, dest):
@@ -65,7 +65,7 @@ def nothing_lost(w):
             claim(dests, 'NothingLost', 'no destination', caller, name, uid)
             for dest in dests:
                 claim(is_covered(w, caller, name, item, dest), 'NothingLost', caller, name, uid, dest)
-        for uid, to in w.standing[name]:
+        for uid, to in w.carried_over[name]:
             item, row = book.items[uid], book.rows.get((uid, to))
             dests = w.plan.destinations(name, to, item.key)
             claim(dests, 'NothingLost', 'no destination of a row that stood', name, uid, to)

@@ -39,14 +39,14 @@ class Book:
 
 class Link:
     def __init__(self, caller, receiver):
-        self.caller, self.receiver, self.caller_on, self.receiver_on = caller, receiver, True, True
+        self.caller, self.receiver, self.caller_connected, self.receiver_connected = caller, receiver, True, True
         self.stage, self.accepted, self.item, self.status = 'asking', None, None, None
 
 
 class World:
     def __init__(self, plan, dice, wrong):
         self.plan, self.dice, self.wrong = plan, dice, wrong
-        self.time, self.links, self.opened, self.armed, self.standing = 0, {}, 0, set(), {n: {} for n in plan.rules}
+        self.time, self.links, self.opened, self.armed, self.carried_over = 0, {}, 0, set(), {n: {} for n in plan.rules}
         self.next = None  # the plan to be adopted once no link is open
         self.books = {n: Book() for n in plan.rules}
 
@@ -118,9 +118,9 @@ class World:
         self.links[self.opened] = Link(caller, receiver)
 
     def agree_receiver(self, link):
-        others = sum(1 for l in self.links.values() if l is not link and l.receiver == link.receiver and l.receiver_on and l.accepted is not None and l.stage != 'gone')
+        others = sum(1 for l in self.links.values() if l is not link and l.receiver == link.receiver and l.receiver_connected and l.accepted is not None and l.stage != 'gone')
         if others >= OTHERS:
-            link.stage, link.receiver_on = 'rejecting', False
+            link.stage, link.receiver_connected = 'rejecting', False
             return 'rejected'
         offered = sorted(self.plan.hops[link.caller, link.receiver])
         link.accepted = {p for p in offered if self.plan.takes(link.receiver, link.caller, p)}
@@ -134,7 +134,7 @@ class World:
             link.stage = 'open'
             return 'opened'
         item = self.first_due(link.caller, link.receiver)
-        link.caller_on = False
+        link.caller_connected = False
         return self.settle(link.caller, item.uid, link.receiver, 'Broken') if item else 'idle'
 
     def give(self, link):
@@ -143,7 +143,7 @@ class World:
             link.stage, link.item = 'storing', item
             return '-'
         answer = self.settle(link.caller, item.uid, link.receiver, 'NoContext')
-        link.caller_on = answer not in ('Store', 'Memory')
+        link.caller_connected = answer not in ('Store', 'Memory')
         return answer
 
     def receive(self, link):
@@ -155,20 +155,20 @@ class World:
 
     def answered(self, link):
         answer = self.settle(link.caller, link.item.uid, link.receiver, link.status)
-        link.caller_on, link.stage, link.item = answer not in ('Store', 'Memory'), 'open', None
+        link.caller_connected, link.stage, link.item = answer not in ('Store', 'Memory'), 'open', None
         return answer
 
     def break_caller(self, link):
-        pending = link.caller_on and link.item
-        link.caller_on = False
+        pending = link.caller_connected and link.item
+        link.caller_connected = False
         return self.settle(link.caller, link.item.uid, link.receiver, 'Broken') if pending else 'idle'
 
     def break_receiver(self, link):
-        link.receiver_on = False
+        link.receiver_connected = False
 
     def close(self, link):
         answer = self.break_caller(link)
-        link.receiver_on, link.stage, link.item = False, 'gone', None
+        link.receiver_connected, link.stage, link.item = False, 'gone', None
         return answer
 
     def restart(self, name):
@@ -199,19 +199,19 @@ class World:
         unfit = any(r[0] != 'done' and key_of(b, uid) not in [k for k in KEYS if (n, to, k) in plan.ranks]
                     for n, b in self.books.items() for (uid, to), r in b.rows.items())
         self.next = None
-        if any(l.caller_on or l.receiver_on for l in self.links.values()) or self.armed or not set(self.books) <= set(plan.rules) or unfit:
+        if any(l.caller_connected or l.receiver_connected for l in self.links.values()) or self.armed or not set(self.books) <= set(plan.rules) or unfit:
             return 'refused'
         reply = 'the same' if plan is self.plan else 'another'
         self.plan, self.links = plan, {}
         for name in plan.rules:
             if name not in self.books:
-                self.books[name], self.standing[name] = Book(), {}
+                self.books[name], self.carried_over[name] = Book(), {}
                 continue
             book = self.books[name]
             book.arrivals, book.rows = set(), {at: r for at, r in book.rows.items() if queued(r)}
             if 'adoption_forgets_what_is_kept' in self.wrong:
                 book.kept = set()
-            self.standing[name] = {} if 'carried_rows_forgotten' in self.wrong else dict(book.rows)
+            self.carried_over[name] = {} if 'carried_rows_forgotten' in self.wrong else dict(book.rows)
             book.journal.append(('adoption',))
         return 'another with a row' if reply == 'another' and any(b.rows for b in self.books.values()) else reply
 
@@ -225,29 +225,29 @@ def key_of(book, uid):
 def random_event(w, dice):
     """What may happen next, as a call; where nothing of a kind can, time passes."""
     plan, names = w.plan, sorted(w.books)
-    links = [l for l in w.links.values() if l.caller_on or l.receiver_on]
+    links = [l for l in w.links.values() if l.caller_connected or l.receiver_connected]
     if w.next:  # links are closed first, so that it may be adopted
         return (w.close, links[0]) if links and dice.random() < 0.9 else (w.adopt, (w.next,))
     choice = dice.random()
     if choice < 0.02:
         w.next = dice.choice([plan, random_plan(dice), grown(plan, dice), grown(plan, dice)])
     if choice < 0.07 and links:
-        return dice.choice([(w.break_caller, l) for l in links if l.caller_on] + [(w.break_receiver, l) for l in links if l.receiver_on])
+        return dice.choice([(w.break_caller, l) for l in links if l.caller_connected] + [(w.break_receiver, l) for l in links if l.receiver_connected])
     if choice < 0.14:
         entries = [(n, k) for c, n, k in plan.ranks if c == LOCAL]
         name, key = dice.choice(sorted(entries)[:6]) if dice.random() < 0.97 else (dice.choice(names), dice.choice(KEYS))
         return w.take, (name, Item(dice.choice(['u1', 'u2', 'u3']), key, dice.choice('xxxxxy')))
     ready = []
     for link in links:
-        if link.receiver_on and link.stage == 'asking':
+        if link.receiver_connected and link.stage == 'asking':
             ready.append((w.agree_receiver, link))
-        if link.receiver_on and link.stage == 'storing':
+        if link.receiver_connected and link.stage == 'storing':
             ready += [(w.receive, link)] * 2
-        if link.caller_on and link.stage in ('answering', 'rejecting'):
+        if link.caller_connected and link.stage in ('answering', 'rejecting'):
             ready.append((w.agree_caller, link))
-        if link.caller_on and link.stage == 'open' and w.first_due(link.caller, link.receiver):
+        if link.caller_connected and link.stage == 'open' and w.first_due(link.caller, link.receiver):
             ready += [(w.give, link)] * 2
-        if link.caller_on and link.stage == 'replying':
+        if link.caller_connected and link.stage == 'replying':
             ready += [(w.answered, link)] * 2
     if choice < 0.70 and ready:
         return dice.choice(ready)
