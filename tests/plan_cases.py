@@ -1,0 +1,309 @@
+"""Plans and certificates that are worked by hand, with what the program is to answer; for plans.py."""
+
+PLAN = '''\
+[[node]]
+name = "CT1"
+address = "127.0.0.1:11101"
+[[node]]
+name = "GATE"
+address = "127.0.0.1:11102"
+[[node.accept]]
+from = ["CT1"]
+class = "1.2.840.10008.5.1.4.1.1.2"
+syntax = ["1.2.840.10008.1.2.1"]
+[[node.rule]]
+from = "CT1"
+to = ["ARCH"]
+[[node]]
+name = "ARCH"
+address = "127.0.0.1:11103"
+[[node.accept]]
+from = "*"
+class = "1.2.840.10008.5.1.4.1.1.2"
+syntax = ["1.2.840.10008.1.2.1"]
+[[node.rule]]
+keep = true
+[[flow]]
+at = "CT1"
+to = "GATE"
+class = ["1.2.840.10008.5.1.4.1.1.2"]
+syntax = ["1.2.840.10008.1.2.1"]
+modality = ["CT"]
+station = ["S1"]
+'''
+"""Three nodes: what enters at CT1 goes to GATE, and from there to ARCH, which keeps it."""
+
+LOOP = '''\
+[[node]]
+name = "CT1"
+address = "127.0.0.1:11101"
+[[node]]
+name = "GATE"
+address = "127.0.0.1:11102"
+GATE_RULES
+[[node.accept]]
+from = "*"
+class = "1.2.840.10008.5.1.4.1.1.2"
+syntax = ["1.2.840.10008.1.2.1"]
+[[node]]
+name = "HUB"
+address = "127.0.0.1:11103"
+HUB_RULES
+[[node.accept]]
+from = "*"
+class = "1.2.840.10008.5.1.4.1.1.2"
+syntax = ["1.2.840.10008.1.2.1"]
+[[flow]]
+at = "CT1"
+to = "GATE"
+class = ["1.2.840.10008.5.1.4.1.1.2"]
+syntax = ["1.2.840.10008.1.2.1"]
+modality = ["CT"]
+station = ["S1"]
+'''
+"""Two nodes that send to each other, with the rules of GATE and HUB to be filled in."""
+
+# a text of the plan of three nodes, what stands in its place, and the fault that this makes
+TEXTS = [
+    # each fault alone
+    ('CT1', 'CT1', None),
+    ('[[flow]]', '[[flow]', 'L1 NotToml'),
+    ('keep = true', 'colour = 1', 'L2 Field'),
+    ('[[flow]]', '[[flow]]\ncolour = 1', 'L2 Field'),
+    ('class = [', 'class_ = [', 'L2 Field'),
+    ('"1.2.840.10008.1.2.1"]\n[[node.rule]]\nkeep', '"1.2.840.10008.1.2.2"]\n[[node.rule]]\nkeep', 'L7 Syntax'),
+    ('"1.2.840.10008.1.2.1"]\nmodality', '"1.2.840.10008.1.2.2"]\nmodality', 'L7 Syntax'),
+    ('to = ["ARCH"]', 'to = ["ARCH "]', 'L3 Name'),
+    ('name = "ARCH"', 'name = "GATE"', 'L3 Name'),
+    ('address = "127.0.0.1:11103"', 'address = "127.0.0.1:11103"\nmax_pdu = 1', 'L6 Limit'),
+    # routes go to other nodes
+    ('to = ["ARCH"]', 'to = ["NONE"]', 'L4 UnknownNode'),
+    ('from = ["CT1"]', 'from = ["NONE"]', 'L4 UnknownNode'),
+    ('from = "CT1"', 'from = "NONE"', 'L4 UnknownNode'),
+    ('at = "CT1"', 'at = "NONE"', 'L4 UnknownNode'),
+    ('to = "GATE"', 'to = "NONE"', 'L4 UnknownNode'),
+    ('to = ["ARCH"]', 'to = ["GATE"]', 'L5 SelfRoute'),
+    ('to = "GATE"', 'to = "CT1"', 'L5 SelfRoute'),
+    # two faults that are neighbours in the order of the tests, the later one first in the text
+    ('[[node.rule]]\nkeep = true\n[[flow]]', '[[node.rule]]\nkeep = 1\n[[flow]', 'L1 NotToml'),
+    ('["1.2.840.10008.1.2.1"]\nmodality = ["CT"]', '["1.2"]\nmodality = 1', 'L2 Field'),
+    ('name = "CT1"\n', 'name = ""\n[[node.accept]]\nfrom = []\nclass = "1"\nsyntax = ["1"]\n[[node]]\nname = "CT1"\n', 'L2 Field'),
+    ('[[node]]\nname = "CT1"',
+     '[[node]]\nname = ""\naddress = "h:1"\n[[node.accept]]\nfrom = []\nclass = "1"\nsyntax = ["1"]\n[[node]]\nname = "CT1"',
+     'L7 Syntax'),
+    ('address = "127.0.0.1:11101"', 'address = "h:1"\nmax_pdu = 1\n[[node.rule]]\nfrom = ""', 'L3 Name'),
+    ('address = "127.0.0.1:11101"', 'address = "h:1"\n[[node.rule]]\nfrom = "NONE"\n[[node]]\nname = "X"\naddress = "h:1"\nmax_pdu = 1', 'L6 Limit'),
+    ('to = ["ARCH"]', 'to = ["GATE", "NONE"]', 'L4 UnknownNode'),
+    # names and rules at their limits
+    ('ARCH', 'A', None),
+    ('ARCH', '0123456789ABCDEF', None),
+    ('ARCH', 'A B', None),
+    ('ARCH', '0123456789ABCDEFG', 'L3 Name'),
+    ('ARCH', '', 'L3 Name'),
+    ('ARCH', ' A', 'L3 Name'),
+    ('ARCH', 'A ', 'L3 Name'),
+    ('ARCH', 'A\\\\B', 'L3 Name'),
+    ('ARCH', '*', 'L3 Name'),
+    ('ARCH', '-', 'L3 Name'),
+    ('ARCH', 'A\\u007F', 'L3 Name'),
+    ('ARCH', 'A\\u00E4', 'L3 Name'),
+    ('keep = true', 'class = "*"', None),
+    ('keep = true', 'class = "0123456789012345678901234567890123456789012345678901234567890123"', None),
+    ('keep = true', 'class = "01234567890123456789012345678901234567890123456789012345678901234"', 'L2 Field'),
+    ('keep = true', 'class = ""', 'L2 Field'),
+    ('keep = true', 'class = "1.a"', 'L2 Field'),
+    ('keep = true', 'modality = "*"\nstation = ""', None),
+    ('keep = true', 'modality = "A B"', None),
+    ('keep = true', 'modality = "A*"', 'L2 Field'),
+    ('keep = true', 'modality = " "', 'L2 Field'),
+    ('keep = true', 'modality = "A "', 'L2 Field'),
+    ('keep = true', 'modality = "A\\u007F"', 'L2 Field'),
+    ('keep = true', 'modality = []', 'L2 Field'),
+    ('keep = true', 'from = ["CT1"]', 'L2 Field'),
+    ('keep = true', 'to = []', None),
+    ('keep = true', 'to = "CT1"', 'L2 Field'),
+    ('keep = true', 'to = ["CT1", "CT1"]', None),
+    ('keep = true', 'to = ["*"]', 'L3 Name'),
+    ('keep = true', 'to = [1]', 'L2 Field'),
+    ('keep = true', 'keep = 1', 'L2 Field'),
+    # flows at their limits
+    ('station = ["S1"]', 'station = "*"', None),
+    ('station = ["S1"]', 'station = []', None),
+    ('station = ["S1"]', 'station = ["", ""]', None),
+    ('station = ["S1"]', 'station = "S1"', 'L2 Field'),
+    ('station = ["S1"]', 'station = ["*"]', 'L2 Field'),
+    ('station = ["S1"]', '', 'L2 Field'),
+    ('S1', '0123456789012345678901234567890123456789012345678901234567890123', None),
+    ('S1', '01234567890123456789012345678901234567890123456789012345678901234', 'L2 Field'),
+    ('class = ["1.2.840.10008.5.1.4.1.1.2"]', 'class = []', 'L2 Field'),
+    ('class = ["1.2.840.10008.5.1.4.1.1.2"]', 'class = ["1", "1"]', None),
+    # lengths of PDUs at their limits
+    (':11103"', ':11103"\nmax_pdu = 0', None),
+    (':11103"', ':11103"\nmax_pdu = 1023', 'L6 Limit'),
+    (':11103"', ':11103"\nmax_pdu = 1024', None),
+    (':11103"', ':11103"\nmax_pdu = 1048576', None),
+    (':11103"', ':11103"\nmax_pdu = 1048577', 'L6 Limit'),
+    (':11103"', ':11103"\nmax_pdu = -1', 'L6 Limit'),
+    (':11103"', ':11103"\nmax_pdu = 4294968320', 'L6 Limit'),
+    (':11103"', ':11103"\nmax_pdu = 9223372036854775807', 'L6 Limit'),
+    (':11103"', ':11103"\nmax_pdu = 9223372036854775808', 'L1 NotToml'),
+    (':11103"', ':11103"\nmax_pdu = 1024.0', 'L2 Field'),
+    # addresses have a port
+    ('127.0.0.1:11103', '[::1]:65535', None),
+    ('127.0.0.1:11103', 'h:00001', None),
+    ('127.0.0.1:11103', 'h:65536', 'L2 Field'),
+    ('127.0.0.1:11103', 'h:000001', 'L2 Field'),
+    ('127.0.0.1:11103', 'h:', 'L2 Field'),
+    ('127.0.0.1:11103', ':1', 'L2 Field'),
+    ('127.0.0.1:11103', 'h', 'L2 Field'),
+    ('127.0.0.1:11103', 'h:1a', 'L2 Field'),
+    ('127.0.0.1:11103', 'h h:1', 'L2 Field'),
+    # the format is 1
+    ('[[node]]\nname = "CT1"', 'format = 1\n[[node]]\nname = "CT1"', None),
+    ('[[node]]\nname = "CT1"', 'format = 2\n[[node]]\nname = "CT1"', 'L2 Field'),
+    ('[[node]]\nname = "CT1"', 'format = "1"\n[[node]]\nname = "CT1"', 'L2 Field'),
+    ('[[node]]\nname = "CT1"', '[other]\n[[node]]\nname = "CT1"', 'L2 Field'),
+    ('name = "CT1"', '', 'L2 Field'),
+    # syntaxes and callers are lists
+    ('syntax = ["1.2.840.10008.1.2.1"]', 'syntax = ["1.2.840.10008.1.2", "1.2.840.10008.1.2.1"]', None),
+    ('syntax = ["1.2.840.10008.1.2.1"]', 'syntax = []', 'L2 Field'),
+    ('syntax = ["1.2.840.10008.1.2.1"]\n[[node.rule]]', 'syntax = ["1", "1"]\n[[node.rule]]', 'L2 Field'),
+    ('syntax = ["1.2.840.10008.1.2.1"]\nmodality', 'syntax = ["1", "1"]\nmodality', 'L7 Syntax'),
+    ('syntax = ["1.2.840.10008.1.2.1"]', 'syntax = "1.2.840.10008.1.2.1"', 'L2 Field'),
+    ('from = "*"', 'from = "CT1"', 'L2 Field'),
+    ('from = "*"', 'from = []', None),
+    ('from = "*"', 'from = ["*"]', 'L3 Name'),
+]
+
+KEY = '1.2.840.10008.5.1.4.1.1.2\t1.2.840.10008.1.2.1'
+ACCEPTS = '"1.2.840.10008.1.2.1"]\n[[node.rule]]\nkeep'
+OTHER_SYNTAX = '"1.2.840.10008.1.2"]\n[[node.rule]]\nkeep'
+KEEP = '[[node.rule]]\nkeep = true\n'
+
+
+def changed(text, *pairs):
+    for old, new in pairs:
+        assert old in text
+        text = text.replace(old, new)
+    return text
+
+
+def rules(text, gate, hub):
+    return changed(text, ('GATE_RULES', gate), ('HUB_RULES', hub))
+
+
+def rule(**fields):
+    written = [f'{"from" if key == "caller" else key} = {value}' for key, value in fields.items()]
+    return '\n'.join(['[[node.rule]]', *written])
+
+
+TO_ARCH = 'from = "CT1"\nto = ["ARCH"]\n'
+ANY = ('modality = ["CT"]', 'modality = "*"')
+ENDLESS = rules(LOOP, rule(to='["HUB"]'), rule(to='["GATE"]'))
+ONCE = rules(LOOP, rule(caller='"CT1"', to='["HUB"]') + '\n' + rule(caller='"HUB"', keep='true'), rule(caller='"GATE"', to='["GATE"]'))
+WRONG_SYNTAX = changed(PLAN, (ACCEPTS, OTHER_SYNTAX))
+NOWHERE = changed(PLAN, (KEEP, ''))
+
+# plans that aren't sound, and what is printed for them, with KEY for the class and the transfer syntax
+UNSOUND = [
+    (WRONG_SYNTAX, 'no\tNoContext\tKEY\tCT\tS1\tCT1\tGATE\tARCH\n'),
+    (NOWHERE, 'no\tDeadEnd\tKEY\tCT\tS1\tCT1\tGATE\tARCH\n'),
+    (changed(PLAN, ANY, (TO_ARCH, 'modality = "CT"\nto = ["ARCH"]\n[[node.rule]]\nmodality = "MR"\nto = ["ARCH"]\n')),
+     'no\tDeadEnd\tKEY\t*\tS1\tCT1\tGATE\n'),
+    (ENDLESS, 'no\tCycle\tKEY\tCT\tS1\tCT1\tGATE\tHUB\tGATE\tHUB\n'),
+    # where the last node neither accepts nor does anything, the hop is what is shown
+    (changed(PLAN, ('"1.2.840.10008.1.2.1"]\n' + KEEP, '"1.2.840.10008.1.2"]\n')), 'no\tNoContext\tKEY\tCT\tS1\tCT1\tGATE\tARCH\n'),
+]
+
+THREE_NODES = '''\
+hop	CT1	GATE	1	KEY
+hop	GATE	ARCH	1	KEY
+line	-	CT1	KEY	CT	S1	2
+line	CT1	GATE	KEY	CT	S1	1
+line	GATE	ARCH	KEY	CT	S1	0
+end
+'''
+
+# sound plans, and their certificates behind the digest
+SOUND = [
+    ('', 'end\n'),
+    (PLAN, THREE_NODES),
+    (ONCE, '''\
+hop	CT1	GATE	1	KEY
+hop	GATE	HUB	1	KEY
+hop	HUB	GATE	1	KEY
+line	-	CT1	KEY	CT	S1	3
+line	CT1	GATE	KEY	CT	S1	2
+line	GATE	HUB	KEY	CT	S1	1
+line	HUB	GATE	KEY	CT	S1	0
+end
+'''),
+    # what no rule names has cells too
+    (changed(PLAN, ANY, (TO_ARCH, 'to = ["ARCH"]\n' + rule(modality='"MR"', to='["ARCH"]') + '\n' + rule(modality='"CT"', to='["ARCH"]') + '\n')), '''\
+hop	CT1	GATE	1	KEY
+hop	GATE	ARCH	1	KEY
+line	-	CT1	KEY	*	S1	2
+line	-	CT1	KEY	CT	S1	2
+line	-	CT1	KEY	MR	S1	2
+line	CT1	GATE	KEY	*	S1	1
+line	CT1	GATE	KEY	CT	S1	1
+line	CT1	GATE	KEY	MR	S1	1
+line	GATE	ARCH	KEY	*	S1	0
+line	GATE	ARCH	KEY	CT	S1	0
+line	GATE	ARCH	KEY	MR	S1	0
+end
+'''),
+]
+
+FIRST, SECOND = THREE_NODES.splitlines(True)[:2]
+LAST = THREE_NODES.splitlines(True)[4]
+
+# what is changed in the certificate of the plan of three nodes, and the fault that this makes
+VERDICTS = [
+    ('S1\t2', 'S1\t3', 'C4 WrongRank'),
+    ('S1\t1', 'S1\t0', 'C4 WrongRank'),
+    (LAST, '', 'C3 MissingLine'),
+    ('ARCH\t1\tKEY', 'ARCH\t3\tKEY', 'C7 HopList'),
+    (SECOND, '', 'C7 HopList'),
+    (FIRST, 'hop\tARCH\tCT1\t1\tKEY\n' + FIRST, 'C7 HopList'),
+    ('line\tCT1', 'line\tARCH\tGATE\tKEY\tCT\tS1\t0\nline\tCT1', 'C8 Order'),
+    (LAST, LAST + LAST, 'C8 Order'),
+    (SECOND, SECOND + SECOND, 'C8 Order'),
+    (FIRST + SECOND, SECOND + FIRST, 'C8 Order'),
+    ('end\n', '', 'C1 Text'),
+    ('end\n', 'end\n\n', 'C1 Text'),
+    ('end\n', 'end\r\n', 'C1 Text'),
+    ('S1\t0', 'S1\t00', 'C1 Text'),
+    ('S1\t0', 'S1\t4294967296', 'C1 Text'),
+]
+
+# plans that aren't sound with a certificate's rows, and the fault
+UNSOUND_VERDICTS = [
+    (WRONG_SYNTAX, THREE_NODES, 'C5 NoContext'),
+    (NOWHERE, THREE_NODES, 'C6 DeadEnd'),
+    (ENDLESS, '''\
+hop	CT1	GATE	1	KEY
+hop	GATE	HUB	1	KEY
+hop	HUB	GATE	1	KEY
+line	-	CT1	KEY	CT	S1	4
+line	CT1	GATE	KEY	CT	S1	3
+line	GATE	HUB	KEY	CT	S1	2
+line	HUB	GATE	KEY	CT	S1	1
+end
+''', 'C4 WrongRank'),
+]
+
+LINE = 'line\t-\tCT1\tC\t1.2.840.10008.1.2.1\tCT\tS1\t'
+HOP = 'hop\tCT1\tGATE\t1\tC\t1.2.840.10008.1.2.1'
+
+# what can't stand behind the digest of a certificate
+NO_ROWS = [
+    '\r\nend\n', LINE + '00\nend\n', LINE + '4294967296\nend\n', LINE + '+1\nend\n', LINE.replace('1.2.1', '1.2.4.50') + '0\nend\n',
+    LINE.replace('S1\t', '') + '0\nend\n', HOP.replace('\t1\t', '\t256\t') + '\nend\n', HOP + '\t\nend\n', LINE + '0\n' + HOP + '\nend\n',
+    'end\n\n', 'end', '', 65537 * (LINE + '4294967295\n') + 'end\n',
+]
+MOST_ROWS = 65536 * (LINE + '4294967295\n') + 'end\n'
+"""A certificate's text of as many lines as there may be; but they are one, so not in order."""
+
+# SHA-256 of nothing (FIPS 180-4), whose digits are in lower case
+DIGEST_OF_NOTHING = 'e3b0c44298fc1c149afbf4c8996fb92427ae41e4649b934ca495991b7852b855'

@@ -1,0 +1,135 @@
+"""Reads the text of a plan: the plan that it writes, or the first of the seven faults; for plans.py.
+
+Written from the definitions in crates/dr_plan_text/specs, crates/dr_plan/specs and crates/dr_network/specs/Formed.antt.
+"""
+import re
+import tomllib
+
+IMPLICIT = '1.2.840.10008.1.2'
+EXPLICIT = '1.2.840.10008.1.2.1'
+SYNTAXES = (IMPLICIT, EXPLICIT)
+ANY = '*'
+
+
+class Refused(Exception):
+    """The text is no plan; the argument is the fault's code and name."""
+
+
+def need(condition, fault='L2 Field'):
+    if not condition:
+        raise Refused(fault)
+
+
+def printable(text, least, apart_from):
+    return all(least <= ord(it) <= 0x7E and it not in apart_from for it in text)
+
+
+def is_name(text):
+    return 1 <= len(text) <= 16 and printable(text, 0x20, '\\') and text == text.strip(' ') and text not in ('*', '-')
+
+
+def is_literal(text):
+    return len(text) <= 64 and printable(text, 0x20, '*') and text == text.strip(' ')
+
+
+def is_class(text):
+    return re.fullmatch('[0-9.]{1,64}', text) is not None
+
+
+def is_address(text):
+    parts = re.fullmatch('(.+):([0-9]{1,5})', text)
+    return len(text) <= 255 and printable(text, 0x21, '') and parts is not None and int(parts[2]) <= 65535
+
+
+def is_max_pdu(number):
+    return number == 0 or 1024 <= number <= 1048576
+
+
+def is_list(value, of=str):
+    return isinstance(value, list) and all(isinstance(it, of) for it in value)
+
+
+def too_big(value):
+    """Whether some whole number in the value has no 64 bits, which TOML doesn't promise to read."""
+    if isinstance(value, dict):
+        value = list(value.values())
+    if isinstance(value, list):
+        return any(map(too_big, value))
+    return type(value) is int and not -(2 ** 63) <= value < 2 ** 63
+
+
+def read_accept(row):
+    need(set(row) == {'from', 'class', 'syntax'})
+    need(row['from'] == ANY or is_list(row['from']))
+    need(isinstance(row['class'], str) and is_class(row['class']))
+    need(is_list(row['syntax']) and row['syntax'] and len(set(row['syntax'])) == len(row['syntax']))
+    return row
+
+
+def read_rule(rule):
+    need(set(rule) <= {'from', 'class', 'modality', 'station', 'to', 'keep'})
+    rule = {'from': ANY, 'class': ANY, 'modality': ANY, 'station': ANY, 'to': [], 'keep': False} | rule
+    need(all(isinstance(rule[it], str) for it in ('from', 'class', 'modality', 'station')))
+    need(rule['class'] == ANY or is_class(rule['class']))
+    need(all(rule[it] == ANY or is_literal(rule[it]) for it in ('modality', 'station')))
+    need(is_list(rule['to']) and type(rule['keep']) is bool)
+    return rule
+
+
+def read_node(node):
+    need(set(node) <= {'name', 'address', 'max_pdu', 'accept', 'rule'} and {'name', 'address'} <= set(node))
+    node = {'max_pdu': 16384, 'accept': [], 'rule': []} | node
+    need(isinstance(node['name'], str) and isinstance(node['address'], str) and is_address(node['address']))
+    need(type(node['max_pdu']) is int and is_list(node['accept'], dict) and is_list(node['rule'], dict))
+    accepts = [read_accept(it) for it in node['accept']]
+    return node | {'accept': accepts, 'rule': [read_rule(it) for it in node['rule']]}
+
+
+def read_flow(flow):
+    need(set(flow) == {'at', 'to', 'class', 'syntax', 'modality', 'station'})
+    need(isinstance(flow['at'], str) and isinstance(flow['to'], str))
+    need(is_list(flow['class']) and flow['class'] and all(map(is_class, flow['class'])))
+    need(is_list(flow['syntax']) and flow['syntax'])
+    for it in ('modality', 'station'):
+        need(flow[it] == ANY or (is_list(flow[it]) and all(map(is_literal, flow[it]))))
+    return flow
+
+
+def names_used(nodes, flows):
+    for node in nodes:
+        yield node['name']
+        for row in node['accept']:
+            yield from [] if row['from'] == ANY else row['from']
+        for rule in node['rule']:
+            yield from [] if rule['from'] == ANY else [rule['from']]
+            yield from rule['to']
+    for flow in flows:
+        yield from (flow['at'], flow['to'])
+
+
+def read_tables(root):
+    need(set(root) <= {'format', 'node', 'flow'})
+    need('format' not in root or (type(root['format']) is int and root['format'] == 1))
+    nodes, flows = root.get('node', []), root.get('flow', [])
+    need(is_list(nodes, dict) and is_list(flows, dict))
+    return [read_node(it) for it in nodes], [read_flow(it) for it in flows]
+
+
+def read_plan(text):
+    """The nodes and flows that the bytes write; raises Refused."""
+    try:
+        root = tomllib.loads(text.decode())
+    except (UnicodeDecodeError, tomllib.TOMLDecodeError, RecursionError):
+        raise Refused('L1 NotToml') from None
+    need(not too_big(root), 'L1 NotToml')
+    nodes, flows = read_tables(root)
+    lists = [row['syntax'] for node in nodes for row in node['accept']] + [flow['syntax'] for flow in flows]
+    need(all(set(it) <= set(SYNTAXES) for it in lists), 'L7 Syntax')
+    names, used = [it['name'] for it in nodes], list(names_used(nodes, flows))
+    need(all(map(is_name, used)) and len(set(names)) == len(names), 'L3 Name')
+    need(len(nodes) <= 64 and sum(len(it['rule']) for it in nodes) + len(flows) <= 1024, 'L6 Limit')
+    need(all(is_max_pdu(it['max_pdu']) for it in nodes), 'L6 Limit')
+    need(set(used) <= set(names), 'L4 UnknownNode')
+    need(all(node['name'] not in rule['to'] for node in nodes for rule in node['rule']), 'L5 SelfRoute')
+    need(all(it['at'] != it['to'] for it in flows), 'L5 SelfRoute')
+    return nodes, flows

@@ -1,0 +1,182 @@
+#!/usr/bin/env python3
+"""Compares the program, byte for byte, with what was worked by hand (plan_cases.py), and with readers of plans, walks and
+certificates that share nothing with it: random plans, certificates with faults, and texts with each of the seven faults,
+from a fixed seed.
+
+    tests/plans.py [TIMES] [SEED]      TIMES as many as the test of the repository tries (half a minute a time)
+    tests/plans.py --wrong             how many of its plans see each wrong definition
+
+It fails too where some definition, when it is wrong, would be seen by none of the plans.
+"""
+import collections
+import hashlib
+import os
+import random
+import resource
+import subprocess
+import sys
+import tempfile
+
+sys.dont_write_bytecode = True
+import plan_cases as worked
+from plan_model import WRONG, Model
+from plan_reader import Refused, read_plan
+from plan_texts import LARGE, LARGEST, OddTexts, hostile, mutated, over_limits, random_plan
+
+TOP = os.path.dirname(os.path.dirname(os.path.abspath(__file__)))
+PROGRAM = f'{TOP}/crates/dr_router/out/dr_router'
+PLANS, CERTIFICATES, TEXTS = 1000, 1000, 1500
+STACK = 256 * 1024  # bytes of stack that the longest walk may take: the search takes none
+sys.setrecursionlimit(10_000)
+
+
+def limit_stack():
+    resource.setrlimit(resource.RLIMIT_STACK, (STACK, STACK))
+
+
+def run(*words, given=b'', first=None):
+    ended = subprocess.run([PROGRAM, *words], input=given, capture_output=True, preexec_fn=first, close_fds=False)
+    return ended.stdout, ended.stderr, ended.returncode
+
+
+def model_of(text, kind=Model):
+    return kind(text, *read_plan(text))
+
+
+def expected(text):
+    """What `check` is to print, on both outputs, and its status."""
+    try:
+        answer = model_of(text).check()
+    except Refused as fault:
+        return b'', f'dr_router: {fault}\n'.encode(), 1
+    if answer is None:
+        return b'', b'dr_router: TooLarge\n', 1
+    printed, is_yes = answer
+    return printed, b'', 0 if is_yes else 1
+
+
+class Comparison:
+    """Counts answers, and stops at the first that differs."""
+
+    def __init__(self, room):
+        self.room, self.answers = room, collections.Counter()
+
+    def compare(self, what, want, got, **texts):
+        self.answers[want[0].split(b'\n')[0].split(b'\t')[:2][-1].decode() or want[1].decode().strip()] += 1
+        if want != got:
+            for name, text in texts.items():
+                with open(f'{self.room}/{name}', 'wb') as it:
+                    it.write(text)
+            print(f'{what}: expected {want}, got {got}; see {self.room}')
+            os._exit(1)
+
+    def check(self, what, text, first=None):
+        self.compare(what, expected(text), run('check', given=text, first=first), plan=text)
+
+    def verdict(self, what, verdict, plan, certificate):
+        want = (b'yes\n', b'', 0) if verdict == 'yes' else (f'no\t{verdict}\n'.encode(), b'', 1)
+        for name, text in (('plan', plan), ('certificate', certificate)):
+            with open(f'{self.room}/{name}', 'wb') as it:
+                it.write(text)
+        self.compare(what, want, run('verify', f'{self.room}/plan', f'{self.room}/certificate'))
+
+    def verify(self, what, model, plan, certificate):
+        self.verdict(what, model.verdict(certificate), plan, certificate)
+
+    def verify_mutated(self, what, dice):
+        text = random_plan(dice)
+        model = model_of(text)
+        certificate = model.certificate()
+        for _ in range(dice.choice([0, 1, 1, 1, 2])):
+            certificate = mutated(dice, certificate)
+        self.verify(what, model, text, certificate)
+
+
+def written_for(plan, rows):
+    """A certificate with the plan's digest and these rows."""
+    return f'certificate\t1\nplan\t{hashlib.sha256(plan).hexdigest()}\n{rows}'.replace('KEY', worked.KEY).encode()
+
+
+def compare_texts(it):
+    """Texts worked by hand, each with its fault or none."""
+    plan = worked.PLAN.encode()
+    it.compare('no UTF-8', (b'', b'dr_router: L1 NotToml\n', 1), run('check', given=b'# \xff'))
+    for old, new, fault in worked.TEXTS:
+        what, text = f'{old} as {new}', worked.changed(worked.PLAN, (old, new)).encode()
+        got = run('check', given=text)
+        want = (b'', f'dr_router: {fault}\n'.encode(), 1) if fault else (got[0], b'', 1 if got[0].startswith(b'no\t') else 0)
+        it.compare(what, want, got, plan=text)
+    digest = worked.DIGEST_OF_NOTHING.encode()
+    for what, other in (('in upper case', digest.upper()), ('of 31 bytes', digest[:-2])):
+        it.verdict(f'a digest {what}', 'C1 Text', b'', written_for(b'', 'end\n').replace(digest, other))
+    it.verdict('a digest of another plan', 'C2 OtherPlan', plan, written_for(b'', worked.THREE_NODES))
+    for rows in worked.NO_ROWS:
+        it.verdict(f'{rows[:80]}', 'C1 Text', b'', written_for(b'', rows))
+    it.verdict('65,536 lines', 'C8 Order', b'', written_for(b'', worked.MOST_ROWS))
+
+
+def compare_worked(it):
+    """Plans and certificates worked by hand."""
+    compare_texts(it)
+    for text, line in worked.UNSOUND:
+        it.compare(line, (line.replace('KEY', worked.KEY).encode(), b'', 1), run('check', given=text.encode()))
+    for text, rows in worked.SOUND:
+        certificate = written_for(text.encode(), rows)
+        it.compare('a sound plan', (certificate, b'', 0), run('check', given=text.encode()))
+        it.verdict('its certificate', 'yes', text.encode(), certificate)
+    plan = worked.PLAN.encode()
+    for old, new, fault in worked.VERDICTS:
+        it.verdict(f'{old} as {new}', fault, plan, written_for(plan, worked.changed(worked.THREE_NODES, (old, new))))
+    for text, rows, fault in worked.UNSOUND_VERDICTS:
+        it.verdict(fault, fault, text.encode(), written_for(text.encode(), rows))
+
+
+def compare_all(it, times, seed):
+    compare_worked(it)
+    for name, text in {**LARGE, **LARGEST}.items():
+        it.check(name, text, limit_stack if 'walk' in name else None)
+    for text in over_limits():
+        it.check('a text at its limits', text)
+    for i in range(times * PLANS):
+        it.check(f'plan {i}', random_plan(random.Random(f'plan {seed} {i}')))
+    for i in range(times * TEXTS):
+        it.check(f'text {i}', OddTexts(random.Random(f'text {seed} {i}')).text())
+    for i in range(times * CERTIFICATES):
+        it.verify_mutated(f'certificate {i}', random.Random(f'certificate {seed} {i}'))
+    plan = worked.PLAN.encode()
+    model = model_of(plan)
+    for i, text in enumerate(hostile(model.certificate())):
+        it.verify(f'hostile certificate {i}', model, plan, text)
+
+
+def seen_by(plans):
+    """How many of the plans see each wrong definition: the answer differs from the right one."""
+    read = [(text, *read_plan(text)) for text in plans]
+    right = [Model(*it).check() for it in read]
+    return {name: sum(kind(*it).check() != want for it, want in zip(read, right)) for name, kind in WRONG.items()}
+
+
+def main():
+    words = [int(it) for it in sys.argv[1:] if it != '--wrong']
+    times, seed = (words + [1, 1][len(words):])[:2]
+    hops = [text for name, text in LARGE.items() if 'hops' not in name or 'overfull' in name]
+    seen = seen_by(hops + [random_plan(random.Random(f'plan {seed} {i}')) for i in range(200)])
+    if '--wrong' in sys.argv:
+        for name, count in seen.items():
+            print(f'{name}: {count}')
+    unseen = [name for name, count in seen.items() if count == 0]
+    if unseen:
+        sys.exit(f'seen by no plan: {", ".join(unseen)}')
+    if '--wrong' in sys.argv:
+        return
+    if subprocess.run([f'{TOP}/dr_router', '--version'], stdout=subprocess.DEVNULL).returncode != 0:
+        sys.exit('the program is not built')
+    room = tempfile.mkdtemp(prefix='plans-')
+    it = Comparison(room)
+    compare_all(it, times, seed)
+    subprocess.run(['rm', '-rf', room])
+    print(f'plans.py: {it.answers.total()} answers are as expected, {len(seen)} wrong definitions seen')
+    print('  ' + ', '.join(f'{name}: {count}' for name, count in sorted(it.answers.items())))
+
+
+main()
