@@ -1,0 +1,110 @@
+#!/usr/bin/env python3
+"""Runs the built program with words, files and statuses: what no contract can say, since it is about the process.
+
+    tests/program.py
+"""
+import os
+import resource
+import subprocess
+import sys
+import tempfile
+
+TOP = os.path.dirname(os.path.dirname(os.path.abspath(__file__)))
+PROGRAM = f'{TOP}/crates/dr_router/out/dr_router'
+SOUND, CYCLE = f'{TOP}/plans/three-nodes.toml', f'{TOP}/plans/cycle.toml'
+OVERFULL = f'{TOP}/plans/overfull-hop.toml'
+
+
+def run(words, given=b'', output=subprocess.PIPE, memory=None):
+    """The status, and what was written to both outputs; memory is the most address space in bytes."""
+    def limit():
+        resource.setrlimit(resource.RLIMIT_AS, (memory, memory))
+    ended = subprocess.run([PROGRAM, *words], input=given, stdout=output, stderr=subprocess.PIPE, preexec_fn=memory and limit)
+    return ended.returncode, ended.stdout or b'', ended.stderr
+
+
+def content(path):
+    with open(path, 'rb') as it:
+        return it.read()
+
+
+def is_answer(what, got, status, output, faults):
+    """Outputs are whole texts, or parts of them where they are given as a tuple."""
+    whole = got[0] == status and all(
+        (all(part in text for part in want) and text) if isinstance(want, tuple) else text == want
+        for want, text in zip((output, faults), got[1:])
+    )
+    if not whole:
+        sys.exit(f'{what}: got {got}')
+
+
+def cycle_line():
+    key = b'1.2.840.10008.5.1.4.1.1.2\t1.2.840.10008.1.2.1\tCT\tS1'
+    return b'no\tCycle\t' + key + b'\tCT1\tGATE\tHUB\tGATE\tHUB\n'
+
+
+def checks(certificate):
+    status, printed, faults = run(['check', SOUND])
+    is_answer('check of a sound plan', (status, printed, faults), 0, (b'certificate\t1\nplan\t', b'\nend\n'), b'')
+    with open(certificate, 'wb') as it:
+        it.write(printed)
+    for words in ([], ['check']):
+        is_answer('a plan on standard input', run(words, content(SOUND)), 0, printed, b'')
+    for words, given in ((['check', CYCLE], b''), (['check'], content(CYCLE)), ([], content(CYCLE))):
+        is_answer('a plan with a cycle', run(words, given), 1, cycle_line(), b'')
+    is_answer('an overfull hop', run(['check', OVERFULL]), 1, b'no\tTooManyContexts\tCT1\tARCH\n', b'')
+    is_answer('no plan', run(['check'], b'[[node]'), 1, b'', b'dr_router: L1 NotToml\n')
+
+
+def verdicts(certificate):
+    is_answer('verify', run(['verify', SOUND, certificate]), 0, b'yes\n', b'')
+    is_answer('a certificate of another plan', run(['verify', CYCLE, certificate]), 1, b'no\tC2 OtherPlan\n', b'')
+    is_answer('no certificate', run(['verify', SOUND, SOUND]), 1, b'no\tC1 Text\n', b'')
+    is_answer('no plan', run(['verify', certificate, certificate]), 1, b'', b'dr_router: L1 NotToml\n')
+    is_answer('files turned round', run(['verify', SOUND, 'none']), 3, b'', (b'dr_router: none: ',))
+
+
+def words():
+    usage = (b'Usage: dr_router',)
+    for given in (['carry'], ['check', 'a', 'b'], ['check', '--fast'], ['verify'], ['verify', SOUND], ['verify', SOUND, 'a', 'b'], ['-x']):
+        is_answer(f'words {given}', run(given), 2, b'', usage)
+    for given in ([b'\xff'], [b'check', b'\xff'], [b'check', SOUND.encode(), b'\x80']):
+        is_answer(f'words {given}', run(given), 2, b'', b"dr_router: a word isn't UTF-8\n")
+    is_answer('help', run(['--help']), 0, (b'Usage: dr_router <COMMAND>', b'check', b'verify'), b'')
+    is_answer('help of check', run(['check', '--help']), 0, (b'Usage: dr_router check [PLAN]\n',), b'')
+    is_answer('help of verify', run(['verify', '--help']), 0, (b'Usage: dr_router verify <PLAN> <CERT>\n',), b'')
+    is_answer('version', run(['--version']), 0, b'dr_router 0.1.0\n', b'')
+
+
+def failures(room, large):
+    for path in ('none.toml', f'{room}/' + 120 * 'x', '/'):
+        is_answer(f'file {path}', run(['check', path]), 3, b'', (f'dr_router: {path}: '.encode(),))
+    with open('/dev/full', 'wb') as full:
+        is_answer('an output that is full', run(['check', SOUND], output=full), 3, b'', (b'dr_router: ',))
+    path = f'{room}/' + 120 * 'y'
+    with open(path, 'wb') as it:
+        it.write(content(CYCLE))
+    is_answer('a long path', run(['check', path]), 1, cycle_line(), b'')
+    for given in (['check'], ['check', large]):
+        got = run(given, content(large) if len(given) == 1 else b'', memory=20_000_000)
+        is_answer(f'want of memory, {given[0]}', got, 4, b'', b'dr_router: Memory\n')
+
+
+def main():
+    if subprocess.run([f'{TOP}/dr_router', '--version'], stdout=subprocess.DEVNULL).returncode != 0:
+        sys.exit('the program is not built')
+    sys.path.insert(0, f'{TOP}/tests')
+    sys.dont_write_bytecode = True
+    from plan_texts import LARGEST
+    with tempfile.TemporaryDirectory(prefix='program-') as room:
+        large = f'{room}/large.toml'
+        with open(large, 'wb') as it:
+            it.write(LARGEST['65,536 lines'])
+        checks(f'{room}/certificate')
+        verdicts(f'{room}/certificate')
+        words()
+        failures(room, large)
+    print('program.py: the program ends as it should')
+
+
+main()
