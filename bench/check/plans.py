@@ -55,7 +55,54 @@ def many_rules():
     return lines + flow(names[0], names[2], [name])
 
 
-PLANS = {"65,536 lines": many_lines, "64 nodes, 1,024 rules and flows": many_rules}
+def lists(at, to, classes, modalities, stations):
+    """A flow in Explicit VR with these lists."""
+    values = {"at": f'"{at}"', "to": f'"{to}"', "class": quoted(classes), "syntax": quoted(SYNTAXES[1:])}
+    values |= {"modality": quoted(modalities), "station": quoted(stations)}
+    return ["[[flow]]", *(f"{key} = {value}" for key, value in values.items())]
+
+
+def numbered(front, count):
+    return [f"{front}{it}" for it in range(count)]
+
+
+KEEP = ["[[node.rule]]", "keep = true"]
+
+
+def same_flows():
+    """1,000 flows at one site, each with the same 128 modalities and 255 stations."""
+    lines = [*node(1, "CT1"), *node(2, "ARCH"), *accept("1.2"), *KEEP]
+    return lines + 1000 * lists("CT1", "ARCH", ["1.2"], numbered("M", 128), numbered("S", 255))
+
+
+def repeated_targets():
+    """One rule that names its target 10,000 times, on the way of 12,800 cells."""
+    rule = ["[[node.rule]]", f"to = {quoted(10000 * ['ARCH'])}"]
+    lines = [*node(1, "CT1"), *node(2, "GATE"), *accept("1.2"), *rule, *node(3, "ARCH"), *accept("1.2"), *KEEP]
+    return lines + lists("CT1", "GATE", ["1.2"], numbered("M", 80), numbered("S", 160))
+
+
+def many_accepts():
+    """10,000 rows of accepts at a node, of which the last counts, with 32,000 lines."""
+    rows = [line for it in numbered("9.", 10000) for line in accept(it)]
+    lines = [*node(1, "CT1"), *node(2, "ARCH"), *rows, *accept("1.2"), *KEEP]
+    return lines + lists("CT1", "ARCH", ["1.2"], numbered("M", 160), numbered("S", 200))
+
+
+def many_values(count):
+    """A flow with so many modalities and one station, one with one modality and so many stations, and one of 200 classes
+    that takes in every modality, but no station: nothing enters by it."""
+    lines = [*node(1, "CT1"), *node(2, "ARCH"), *accept("1.2"), *KEEP]
+    lines += lists("CT1", "ARCH", ["1.2"], numbered("M", count), ["S"]) + lists("CT1", "ARCH", ["1.2"], ["M"], numbered("S", count))
+    nothing = lists("CT1", "ARCH", numbered("1.", 200), [], [])
+    return lines + ['modality = "*"' if it.startswith("modality") else it for it in nothing]
+
+
+PLANS = {
+    "65,536 lines": many_lines, "64 nodes, 1,024 rules and flows": many_rules, "1,000 flows with the same lists": same_flows,
+    "a target named 10,000 times": repeated_targets, "10,000 rows of accepts": many_accepts,
+    "4,000 modalities and stations": lambda: many_values(4000), "16,000 modalities and stations": lambda: many_values(16000),
+}
 
 
 def text_of(lines):

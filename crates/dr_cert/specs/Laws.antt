@@ -15,3 +15,7 @@ OwnCertificateIsTaken = (plan : Network) (certificate : Certificate) → IsSound
 -- each plan and certificate meets one fault at most, want of memory aside
 abbrev pub OneFaultAtMost : Type 0
 OneFaultAtMost = (plan : Network) (certificate : Certificate) (f g : CertFault) → f ≢ Memory → g ≢ Memory → IsRefused plan certificate f → IsRefused plan certificate g → f ≡ g
+
+-- a plan has one certificate at most
+abbrev pub OneCertificateAtMost : Type 0
+OneCertificateAtMost = (plan : Network) (a b : Certificate) → IsCertificateOf plan a → IsCertificateOf plan b → a ≡ b

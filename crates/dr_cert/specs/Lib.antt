@@ -3,6 +3,7 @@ pub mod Finding
 pub mod Indexing
 pub mod HopSets
 pub mod Laws
+pub mod ReadingBack
 pub mod Refusing
 pub mod Sealing
 pub mod Surveying

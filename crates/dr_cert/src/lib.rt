@@ -2,16 +2,20 @@
 //! plan, whose type keeps that the plan is sound and that this is its certificate.
 #![tactic(auto)]
 
-pub mod fault;
-pub mod hop_list;
+mod fault;
+mod hop_list;
 pub mod index;
 pub mod laws;
 pub mod place;
-pub mod sealed;
-pub mod survey;
-pub mod verify;
-pub mod walk;
-pub mod walker;
+mod read;
+mod sealed;
+mod survey;
+mod verify;
+mod walk;
+mod walker;
 
+pub use dr_cert_text::write_certificate;
+pub use dr_sound::Certificate;
 pub use fault::CertFault;
+pub use read::read_certificate;
 pub use sealed::Sealed;

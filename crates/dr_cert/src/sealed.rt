@@ -1,5 +1,5 @@
 //! A plan that is sealed with its certificate.
-ghost use Rattle.std.specs.Prelude.{◌≡◌};
+ghost use Rattle.std.specs.Prelude.{◌≡◌, IfOk};
 ghost use Rattle.dr_network.specs.Plans.{IsWellFormed};
 ghost use Rattle.dr_sound.specs.Soundness.{IsSound};
 ghost use Rattle.dr_sound.specs.Certificates.{IsCertificateOf};
@@ -14,7 +14,7 @@ use dr_network::literals::literals;
 use dr_route::cell::field_of;
 use dr_route::{Key, Literals};
 use dr_sound::{Certificate, Line};
-use std::alloc::Global;
+use std::alloc::{AllocError, Global};
 use std::marker::Model;
 
 /// A plan with its certificate. None can be made but of a sound plan with just its certificate.
@@ -34,6 +34,27 @@ impl Model for Sealed {
     ghost view = { λ s. record { plan = s.plan; certificate = s.certificate } };
 
     ghost invariant = { λ s. IsSealed s.plan s.certificate s.literals s.index.items };
+}
+
+fn copy_certificate(certificate: &Certificate) -> Result<Certificate, AllocError>
+    ensures { IfOk result (λ copy. copy ≡ certificate.now) }
+{
+    let copy = certificate.clone()?;
+    Ok(copy)
+}
+
+fn copy_literals(literals: &Literals) -> Result<Literals, AllocError>
+    ensures { IfOk result (λ copy. copy ≡ literals.now) }
+{
+    let copy = literals.clone()?;
+    Ok(copy)
+}
+
+fn copy_lines(lines: &Vec<Line>) -> Result<Vec<Line>, AllocError>
+    ensures { IfOk result (λ copy. copy.items ≡ lines.now.items) }
+{
+    let copy = lines.clone()?;
+    Ok(copy)
 }
 
 impl Sealed {
@@ -56,6 +77,18 @@ impl Sealed {
             certificate,
             literals,
             index,
+        })
+    }
+
+    /// A copy of it.
+    pub fn copy(&self) -> Result<Sealed, AllocError>
+        ensures { IfOk result (λ sealed. sealed ≡ self.now) }
+    {
+        Ok(Sealed {
+            plan: self.plan.copy()?,
+            certificate: copy_certificate(&self.certificate)?,
+            literals: copy_literals(&self.literals)?,
+            index: copy_lines(&self.index)?,
         })
     }
 

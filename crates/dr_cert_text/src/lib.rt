@@ -18,6 +18,3 @@ pub use order::{order_hops, order_lines};
 pub use reader::read_certificate;
 pub use sorted::{are_hops_in_order, are_lines_in_order};
 pub use writer::write_certificate;
-
-#[cfg(test)]
-mod tests;

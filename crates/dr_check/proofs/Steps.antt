@@ -29,7 +29,7 @@ use Rattle.dr_check.specs.declared.search.Search.{Search}
 use Rattle.dr_check.specs.declared.search.Mark.{Mark}
 use Rattle.dr_check.specs.declared.search.Mark.TheVariants.{Open, Finished}
 use Rattle.dr_sound.specs.Stops.{stop_cmp}
-use Rattle.dr_check.specs.Searching.{Marks, mark_at, stop_at, pairs_from, IsTrail, IsSearching, IsLater, IsLetIn, IsDone, IsFresh, IsInside, IsRankedBy}
+use Rattle.dr_check.specs.Searching.{Marks, mark_at, stop_at, pairs_from, IsTrail, IsSearching, IsLater, IsTaken, IsDone, IsNew, IsInside, IsRankedBy}
 use Rattle.dr_sound.proofs.SameStops.{same_stop_or_not}
 use Rattle.dr_check.proofs.Marking.{Marks-set, open_is_not_finished, none_is_not_some, finished_same, unmarked, keys_apart, keys_marked}
 use Rattle.dr_check.proofs.Trails.{trail_pairs, trail_reaches, trail_goes_on, trail_begins}
@@ -124,47 +124,56 @@ entered plan cell is old new caller node h trail none room path lines grown put 
       fresh = none;
     }
 
--- ---- a target is done
-pub target_done : (plan : Network) (cell : OwnedCell) (caller node : Text) (old s new : Search) (targets : List Text) (i rank below : ℕ) →
-    node ≢ local → IsInside plan cell caller node old s → IsRankedBy plan cell node s.lines.items targets i rank → IsDone plan cell node (get_or targets i []) below s new →
-    IsInside plan cell caller node old new × IsRankedBy plan cell node new.lines.items targets (i + 1) (max rank (below + 1))
-target_done plan cell caller node old s new targets i rank below other inside ranked done = (
-  record {
-    searching = done.searching;
-    later = record {
-      marks = λ stop m e. done.later.marks stop m (inside.later.marks stop m e);
-      lines = λ line e. done.later.lines line (inside.later.lines line e);
-      longer = let a = inside.later.longer in let b = done.later.longer in omega arith;
-    };
-    more = let a = inside.more in let b = done.later.longer in omega arith;
-    path = done.path ∙ inside.path;
-    here = done.later.marks _ Open inside.here;
-    fresh = inside.fresh;
-  },
-  record {
-    lower = below_more _ _
-        (λ k h. let l = ranked.lower k h in (l.0, (l.1.0, done.later.lines _ l.1.1, (let lt : l.1.0 < rank = l.1.2 in omega arith)))) (
-          ⊎_elim (λ same. absurd (other same)) (λ accepted. accepted) done.let_in,
-          (below, done.searching.marked _ below done.rank, omega arith),
-        );
-    next = elim (cases_lt rank (below + 1)) [
-      | inl more ↦ inr (i, below, omega arith, done.searching.marked _ below done.rank, omega arith)
-      | inr less ↦ ⊎_elim
-          (λ zero. absurd (omega arith))
-          (λ x. inr (x.0, x.1, (let a : x.0 < i = x.2 in omega arith), done.later.lines _ x.3, (let b : rank ≡ x.1 + 1 = x.4 in omega arith)))
-          ranked.next
-    ];
-  },
-)
+-- ---- one more target has its line
+pub ranked_more : (plan : Network) (cell : OwnedCell) (node : Text) (lines : List Line) (targets : List Text) (i rank below : ℕ) →
+    node ≢ local → IsRankedBy plan cell node lines targets i rank → Contains lines (line_at node (get_or targets i []) cell below) →
+    IsTaken plan cell node (get_or targets i []) → IsRankedBy plan cell node lines targets (i + 1) (max rank (below + 1))
+ranked_more plan cell node lines targets i rank below other ranked line taken = record {
+  lower = below_more _ _
+      (λ k h. let l = ranked.lower k h in (l.0, (l.1.0, l.1.1, (let lt : l.1.0 < rank = l.1.2 in omega arith)))) (
+        ⊎_elim (λ same. absurd (other same)) (λ accepted. accepted) taken,
+        (below, line, omega arith),
+      );
+  next = elim (cases_lt rank (below + 1)) [
+    | inl more ↦ inr (i, below, omega arith, line, omega arith)
+    | inr less ↦ ⊎_elim
+        (λ zero. absurd (omega arith))
+        (λ x. inr (x.0, x.1, (let a : x.0 < i = x.2 in omega arith), x.3, (let b : rank ≡ x.1 + 1 = x.4 in omega arith)))
+        ranked.next
+  ];
+}
+
+-- ---- what was right stays right while lines are added
+pub ranked_later : (plan : Network) (cell : OwnedCell) (node : Text) (old new : List Line) (targets : List Text) (i rank : ℕ) →
+    ((line : Line) → Contains old line → Contains new line) → IsRankedBy plan cell node old targets i rank → IsRankedBy plan cell node new targets i rank
+ranked_later plan cell node old new targets i rank grows ranked = record {
+  lower = λ k h. let l = ranked.lower k h in (l.0, (l.1.0, grows _ l.1.1, l.1.2));
+  next = ⊎_elim (λ e. inl e) (λ x. inr (x.0, x.1, x.2, grows _ x.3, x.4)) ranked.next;
+}
+
+pub inside_later : (plan : Network) (cell : OwnedCell) (caller node : Text) (start old new : Search) (from to : Text) (rank : ℕ) →
+    IsInside plan cell caller node start old → IsDone plan cell from to rank old new → IsInside plan cell caller node start new
+inside_later plan cell caller node start old new from to rank inside done = record {
+  searching = done.searching;
+  later = record {
+    marks = λ stop m e. done.later.marks stop m (inside.later.marks stop m e);
+    lines = λ line e. done.later.lines line (inside.later.lines line e);
+    longer = let a = inside.later.longer in let b = done.later.longer in omega arith;
+  };
+  more = let a = inside.more in let b = done.later.longer in omega arith;
+  path = done.path ∙ inside.path;
+  here = done.later.marks _ Open inside.here;
+  fresh = inside.fresh;
+}
 
 -- ---- all targets are done
 pub finished : (plan : Network) (cell : OwnedCell) (old s new : Search) (caller node : Text) (stop : Stop) (targets : List Text) (rank : ℕ) →
-    IsSearching plan cell old → IsTrail plan (key_of cell) (old.path.items ++ node ∷ []) caller node →
-    IsInside plan cell caller node old s → IsFresh plan cell caller node stop targets old → IsRankedBy plan cell node s.lines.items targets (length targets) rank →
+    IsTrail plan (key_of cell) (old.path.items ++ node ∷ []) caller node →
+    IsInside plan cell caller node old s → IsNew plan cell caller node stop targets old → IsRankedBy plan cell node s.lines.items targets (length targets) rank →
     new.path.items ≡ old.path.items → new.lines.items ≡ s.lines.items ++ (line_at caller node cell rank) ∷ [] →
     btree_map_len new.marks ≡ btree_map_len s.marks → Marks-set s.marks new.marks (stop_at caller node cell) (Finished rank) →
     IsDone plan cell caller node rank old new
-finished plan cell old s new caller node stop targets rank start trail inside fresh ranked path lines len put =
+finished plan cell old s new caller node stop targets rank trail inside fresh ranked path lines len put =
     let here : Stop = stop_at caller node cell in
     let line : Line = line_at caller node cell rank in
     let shorter : length new.path.items + 1 ≡ length s.path.items =
@@ -258,22 +267,11 @@ finished plan cell old s new caller node stop targets rank start trail inside fr
       };
       path = path;
       rank = put.here;
-      let_in = fresh.let_in;
+      taken = fresh.taken;
     }
   where
     stop_from : (a b : Text) (x : OwnedCell) (c d : Text) (y : OwnedCell) → a ≡ c → b ≡ d → x ≡ y → stop_at a b x ≡ stop_at c d y
     stop_from a b x c d y e f g = ap (λ (t : Text). stop_at t b x) e ∙ (ap (λ (t : Text). stop_at c t x) f ∙ ap (λ (z : OwnedCell). stop_at c d z) g)
-
--- ---- the stop was finished before
-pub done_before : (plan : Network) (cell : OwnedCell) (s : Search) (caller node : Text) (r : ℕ) → IsSearching plan cell s →
-    mark_at s.marks (stop_at caller node cell) ≡ Some (Finished r) → IsLetIn plan cell caller node → IsDone plan cell caller node r s s
-done_before plan cell s caller node r h marked let_in = record {
-  searching = h;
-  later = record { marks = λ x m e. e; lines = λ l e. e; longer = omega arith };
-  path = refl;
-  rank = marked;
-  let_in = let_in;
-}
 
 -- ---- what was pushed is popped again
 take_pushed : (xs : List Text) (x : Text) (k : ℕ) → k ≡ length xs → take k (xs ++ x ∷ []) ≡ xs

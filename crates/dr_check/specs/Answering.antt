@@ -4,15 +4,18 @@ use Rattle.dr_network.specs.Networks.{Network}
 use Rattle.dr_sound.specs.declared.certificate.Line.{Line}
 use Rattle.dr_sound.specs.Soundness.{IsSound}
 use Rattle.dr_sound.specs.Certificates.{IsCertificateOf}
+use Rattle.dr_cert_text.specs.Printable.{IsPrintable, IsDigest}
 use Rattle.dr_check.specs.declared.verdict.Verdict.{Verdict}
 use Rattle.dr_check.specs.declared.verdict.Verdict.TheVariants.{Yes, No}
 use Rattle.dr_check.specs.declared.verdict.CheckFault.{CheckFault}
 use Rattle.dr_check.specs.declared.verdict.CheckFault.TheVariants.{TooLarge, Memory}
 use Rattle.dr_check.specs.Shown.{IsShown, IsTooLarge}
 
--- yes: the plan is sound, and the certificate is its own and not too large; no: the fault shows itself
+-- Yes: the plan is sound, and the certificate is its own and not too large, and, as the plan's digest is a SHA-256, it can be
+-- read back from its text. No: the fault shows itself.
 abbrev pub Judges : Network → Verdict → Type 0
 Judges plan (Yes certificate) = IsSound plan × IsCertificateOf plan certificate × (length certificate.lines ≤ 65536)
+    × (IsDigest plan.digest → IsPrintable certificate)
 Judges plan (No fault) = IsShown plan fault
 
 -- a verdict, or more lines than a certificate may have, or want of memory

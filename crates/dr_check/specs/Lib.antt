@@ -3,4 +3,5 @@ pub mod Checking
 pub mod Laws
 pub mod Searching
 pub mod Shown
+pub mod Stacks
 pub mod Stopping

@@ -18,12 +18,12 @@ use Rattle.dr_sound.specs.Ranked.{line_at, SendsOn, IsRanked}
 use Rattle.dr_check.specs.declared.search.Search.{Search}
 use Rattle.dr_check.specs.declared.search.Mark.{Mark}
 use Rattle.dr_check.specs.declared.search.Mark.TheVariants.{Open, Finished}
-use Rattle.dr_check.specs.declared.search.Trouble.{Trouble}
-use Rattle.dr_check.specs.declared.search.Trouble.TheVariants as trouble
-use Rattle.dr_check.specs.declared.search.Sight.{Sight}
-use Rattle.dr_check.specs.declared.search.Sight.TheVariants as sight
-use Rattle.dr_check.specs.declared.search.Reached.{Reached}
-use Rattle.dr_check.specs.declared.search.Reached.TheVariants as reached
+use Rattle.dr_check.specs.declared.search.End.{End}
+use Rattle.dr_check.specs.declared.search.End.TheVariants as end
+use Rattle.dr_check.specs.declared.search.Seen.{Seen}
+use Rattle.dr_check.specs.declared.search.Seen.TheVariants as seen
+use Rattle.dr_check.specs.declared.search.Found.{Found}
+use Rattle.dr_check.specs.declared.search.Found.TheVariants as found
 use Rattle.dr_check.specs.declared.fault.Fault.TheVariants as fault
 use Rattle.dr_check.specs.Shown.{IsShown, IsTooLarge}
 
@@ -70,8 +70,8 @@ pub record IsLater (old new : Search) : Type 0 where
   pub longer : btree_map_len old.marks ≤ btree_map_len new.marks
 
 -- nobody asks where instances enter; elsewhere the node accepts
-abbrev pub IsLetIn : Network → OwnedCell → Text → Text → Type 0
-IsLetIn plan cell caller node = (caller ≡ local) ⊎ Accepts plan node caller cell.class cell.syntax
+abbrev pub IsTaken : Network → OwnedCell → Text → Text → Type 0
+IsTaken plan cell caller node = (caller ≡ local) ⊎ Accepts plan node caller cell.class cell.syntax
 
 -- all walks from the stop have been searched
 pub record IsDone (plan : Network) (cell : OwnedCell) (caller node : Text) (r : ℕ) (old new : Search) : Type 0 where
@@ -79,31 +79,34 @@ pub record IsDone (plan : Network) (cell : OwnedCell) (caller node : Text) (r : 
   pub later : IsLater old new
   pub path : new.path.items ≡ old.path.items
   pub rank : mark_at new.marks (stop_at caller node cell) ≡ Some (Finished r)
-  pub let_in : IsLetIn plan cell caller node
+  pub taken : IsTaken plan cell caller node
 
-abbrev pub IsTroubled : Network → OwnedCell → List Text → Trouble → Type 0
-IsTroubled plan cell walk trouble.NoContext = IsShown plan (fault.NoContext walk cell)
-IsTroubled plan cell walk trouble.Cycle = IsShown plan (fault.Cycle walk cell)
-IsTroubled plan cell walk trouble.DeadEnd = IsShown plan (fault.DeadEnd walk cell)
-IsTroubled plan cell walk trouble.TooLarge = IsTooLarge plan
+-- the search ends rightly at the end of the walk
+abbrev pub IsEnd : Network → OwnedCell → List Text → End → Type 0
+IsEnd plan cell walk end.NoContext = IsShown plan (fault.NoContext walk cell)
+IsEnd plan cell walk end.Cycle = IsShown plan (fault.Cycle walk cell)
+IsEnd plan cell walk end.DeadEnd = IsShown plan (fault.DeadEnd walk cell)
+IsEnd plan cell walk end.TooLarge = IsTooLarge plan
 
-abbrev pub AfterReach : Network → OwnedCell → Text → Text → Search → Search → Reached → Type 0
-AfterReach plan cell caller node old new (reached.Rank r) = IsDone plan cell caller node r old new
-AfterReach plan cell caller node old new (reached.Stuck trouble) = IsTroubled plan cell new.path.items trouble
+-- the whole search from a stop
+abbrev pub AfterReach : Network → OwnedCell → Text → Text → Search → Search → Found → Type 0
+AfterReach plan cell caller node old new (found.Rank r) = IsDone plan cell caller node r old new
+AfterReach plan cell caller node old new (found.End e) = IsEnd plan cell new.path.items e
 
 -- a stop that is seen for the first time: these are the nodes that it sends to, or it keeps
-pub record IsFresh (plan : Network) (cell : OwnedCell) (caller node : Text) (stop : Stop) (targets : List Text) (s : Search) : Type 0 where
+pub record IsNew (plan : Network) (cell : OwnedCell) (caller node : Text) (stop : Stop) (targets : List Text) (s : Search) : Type 0 where
   pub same : stop ≡ stop_at caller node cell
   pub fresh : mark_at s.marks (stop_at caller node cell) ≡ None
   pub small : btree_map_len s.marks ≢ 65536
   pub named : (to : Text) → Contains targets to ↔ SendsOn plan (stop_at caller node cell) to
   pub goes_on : Keeps plan node caller (key_of cell) ⊎ ((to : Text) × SendsOn plan (stop_at caller node cell) to)
-  pub let_in : IsLetIn plan cell caller node
+  pub taken : IsTaken plan cell caller node
 
-abbrev pub Sees : Network → OwnedCell → Text → Text → Search → Sight → Type 0
-Sees plan cell caller node s (sight.Known r) = (mark_at s.marks (stop_at caller node cell) ≡ Some (Finished r)) × IsLetIn plan cell caller node
-Sees plan cell caller node s (sight.Stuck trouble) = IsTroubled plan cell (s.path.items ++ node ∷ []) trouble
-Sees plan cell caller node s (sight.Fresh stop targets) = IsFresh plan cell caller node stop targets s
+-- what is found on looking at a stop
+abbrev pub Finds : Network → OwnedCell → Text → Text → Search → Seen → Type 0
+Finds plan cell caller node s (seen.Finished r) = (mark_at s.marks (stop_at caller node cell) ≡ Some (Finished r)) × IsTaken plan cell caller node
+Finds plan cell caller node s (seen.End e) = IsEnd plan cell (s.path.items ++ node ∷ []) e
+Finds plan cell caller node s (seen.New stop targets) = IsNew plan cell caller node stop targets s
 
 -- the search stands at the stop, which it has marked
 pub record IsInside (plan : Network) (cell : OwnedCell) (caller node : Text) (old new : Search) : Type 0 where

@@ -4,11 +4,11 @@ ghost use Rattle.dr_base.specs.Texts.{Text as Words};
 ghost use Rattle.dr_route.specs.Routes.{local};
 ghost use Rattle.dr_network.specs.Networks.{Network};
 ghost use Rattle.dr_check.specs.Checking.{IsReady};
-ghost use Rattle.dr_check.specs.Searching.{IsTroubled};
+ghost use Rattle.dr_check.specs.Searching.{IsEnd};
 ghost use Rattle.dr_check.specs.Stopping.{IsStopped};
 
 use crate::fault::Fault;
-use crate::search::{Reached, Search, Trouble, reach};
+use crate::search::{End, Found, Search, reach};
 use dr_base::{Seq, Text};
 use dr_entry::EntryVisitor;
 use dr_network::Plan;
@@ -73,16 +73,16 @@ fn copy_of(cell: &OwnedCell) -> Result<OwnedCell, AllocError>
     Ok(copy)
 }
 
-/// Why the checker stops at this trouble, at the end of this walk of the cell's keys.
-fn stopped_by(trouble: Trouble, walk: Vec<Text>, cell: OwnedCell) -> Stopped
-    ensures { (plan : Network) → IsTroubled plan cell walk.items trouble → IsStopped plan result }
+/// Why the checker stops where the search ended, at the end of this walk of the cell's keys.
+fn stopped_by(end: End, walk: Vec<Text>, cell: OwnedCell) -> Stopped
+    ensures { (plan : Network) → IsEnd plan cell walk.items end → IsStopped plan result }
 {
     let walk = Seq::from_vec(walk);
-    match trouble {
-        Trouble::NoContext => Stopped::Fault(Fault::NoContext { walk, cell }),
-        Trouble::Cycle => Stopped::Fault(Fault::Cycle { walk, cell }),
-        Trouble::DeadEnd => Stopped::Fault(Fault::DeadEnd { walk, cell }),
-        Trouble::TooLarge => Stopped::TooLarge,
+    match end {
+        End::NoContext => Stopped::Fault(Fault::NoContext { walk, cell }),
+        End::Cycle => Stopped::Fault(Fault::Cycle { walk, cell }),
+        End::DeadEnd => Stopped::Fault(Fault::DeadEnd { walk, cell }),
+        End::TooLarge => Stopped::TooLarge,
     }
 }
 
@@ -104,10 +104,10 @@ impl<'a> EntryVisitor for Checker<'a> {
         let key = key_in(alloc, cell)?;
         let plan = self.plan;
         match reach(&mut self.search, plan, cell, &key, &self.local, site)? {
-            Reached::Rank(_) => Ok(None),
-            Reached::Stuck(trouble) => {
+            Found::Rank(_) => Ok(None),
+            Found::End(end) => {
                 let walk = mem::replace(&mut self.search.path, Vec::new(alloc));
-                Ok(Some(stopped_by(trouble, walk, copy_of(cell)?)))
+                Ok(Some(stopped_by(end, walk, copy_of(cell)?)))
             }
         }
     }

@@ -1,7 +1,12 @@
 //! Laws of verdicts.
-ghost use Rattle.dr_check.specs.Laws.{ShownFaultsAreUnsound};
+ghost use Rattle.dr_check.specs.Laws.{ShownFaultsAreUnsound, TooLargeHasManyLines};
 
 /// What a no shows, no sound plan has: so yes and no exclude each other.
 pub fn shown_faults_are_unsound()
     ensures { ShownFaultsAreUnsound }
+{}
+
+/// A plan that is too large has no certificate that can be read back: so yes and too large exclude each other.
+pub fn too_large_has_many_lines()
+    ensures { TooLargeHasManyLines }
 {}

@@ -1,12 +1,14 @@
 //! The depth-first search over the walks of a plan's cells, with a mark for each stop that was entered.
-ghost use Rattle.std.specs.Prelude.{◌≡◌, ◌≢◌, ◌↔◌, ◌⊎◌, ◌++◌, ◌∷◌, [], IsTrue, IfOk, Contains, false};
+ghost use Rattle.std.specs.Prelude.{◌≡◌, ◌≢◌, ◌↔◌, ◌⊎◌, ◌++◌, ◌∷◌, [], IsTrue, IfOk, OnOk, Contains, false};
 ghost use Rattle.dr_base.specs.Texts.{Text as Words};
 ghost use Rattle.dr_route.specs.Routes.{local};
 ghost use Rattle.dr_route.specs.Laws.{key_of};
 ghost use Rattle.dr_network.specs.Plans.{IsWellFormed, LiesIn};
 ghost use Rattle.dr_network.specs.Walks.{Accepts};
 ghost use Rattle.dr_network.specs.Laws.{IsCellOf};
-ghost use Rattle.dr_check.specs.Searching.{IsSearching, IsTrail, Sees, AfterReach, stop_at, mark_at};
+ghost use Rattle.dr_check.specs.Searching.{IsSearching, IsTrail, Finds, AfterReach, stop_at, mark_at};
+ghost use Rattle.dr_check.specs.Stacks.{IsTop, Enters, Leaves, GoesOn, Steps};
+ghost use Rattle.dr_check.specs.declared.search.Frame.{Frame as FrameValue};
 
 use dr_base::{Seq, Text};
 use dr_network::{Plan, sending};
@@ -14,6 +16,7 @@ use dr_route::{Key, OwnedCell, Targets, is_local};
 use dr_sound::{Line, Stop};
 use std::alloc::{AllocError, Global};
 use std::collections::BTreeMap;
+use std::mem;
 
 /// How many lines a certificate may have.
 pub const MOST_LINES: usize = 65536;
@@ -37,9 +40,9 @@ pub struct Search {
     pub lines: Vec<Line>,
 }
 
-/// What is wrong at the end of the walk that is searched.
+/// Why the search ends at the end of the walk that it is on.
 #[derive(Clone, Copy, Debug, Drop)]
-pub enum Trouble {
+pub enum End {
     NoContext,
     Cycle,
     DeadEnd,
@@ -48,19 +51,49 @@ pub enum Trouble {
 
 /// What is found on looking at the next stop of a walk.
 #[derive(Drop)]
-enum Sight {
+enum Seen {
     /// It was finished before, with this rank.
-    Known(u32),
-    /// Something is wrong there.
-    Stuck(Trouble),
+    Finished(u32),
+    /// The search ends there.
+    End(End),
     /// It is to be entered for the first time, and sends on to these nodes.
-    Fresh { stop: Stop, targets: Seq<Text> },
+    New { stop: Stop, targets: Seq<Text> },
 }
 
+/// What is found on looking at the next targets of a stop, one after another.
+#[derive(Drop)]
+enum Next {
+    /// All of them have been searched.
+    Nothing,
+    /// The search ends at this one.
+    End {
+        node: Text,
+        end: End,
+    },
+    /// This one is to be entered for the first time, and sends on to these nodes.
+    New {
+        node: Text,
+        stop: Stop,
+        targets: Seq<Text>,
+    },
+}
+
+/// What a search comes to: the rank of the stop that it began at, or its end at some stop.
 #[derive(Clone, Copy, Drop)]
-pub enum Reached {
+pub enum Found {
     Rank(u32),
-    Stuck(Trouble),
+    End(End),
+}
+
+/// A stop that the search stands on: the nodes that it sends to, how many of them have been searched, and the rank that
+/// these call for.
+#[derive(Drop)]
+pub struct Frame {
+    caller: Text,
+    node: Text,
+    targets: Seq<Text>,
+    searched: usize,
+    rank: u32,
 }
 
 /// Whether the caller's association would have a presentation context for the cell at the node; nobody asks
@@ -107,37 +140,160 @@ fn look(
     key: &Key,
     caller: &Text,
     node: &Text,
-) -> Result<Sight, AllocError>
+) -> Result<Seen, AllocError>
     requires formed { IsWellFormed plan.now }
     requires cell { IsCellOf plan.now cell.now }
     requires key { key.now ≡ key_of cell.now }
     requires searching { IsSearching plan.now cell.now search.now }
     requires trail { IsTrail plan.now key.now (search.now.path.items ++ node.now ∷ []) caller.now node.now }
-    ensures { IfOk result (Sees plan.now cell.now caller.now node.now search.now) }
+    ensures { IfOk result (Finds plan.now cell.now caller.now node.now search.now) }
 {
     if !is_accepted(plan, caller, node, cell) {
-        return Ok(Sight::Stuck(Trouble::NoContext));
+        return Ok(Seen::End(End::NoContext));
     }
     let stop = stop_of(caller, node, cell)?;
     match mark_of(search, &stop) {
-        Some(Mark::Open) => return Ok(Sight::Stuck(Trouble::Cycle)),
-        Some(Mark::Finished(rank)) => return Ok(Sight::Known(rank)),
+        Some(Mark::Open) => return Ok(Seen::End(End::Cycle)),
+        Some(Mark::Finished(rank)) => return Ok(Seen::Finished(rank)),
         None => {}
     }
     let targets = sending::sends(search.alloc, plan, node, caller, key)?;
     if is_dead_end(&targets) {
-        return Ok(Sight::Stuck(Trouble::DeadEnd));
+        return Ok(Seen::End(End::DeadEnd));
     }
     if search.marks.len() == MOST_LINES {
-        return Ok(Sight::Stuck(Trouble::TooLarge));
+        return Ok(Seen::End(End::TooLarge));
     }
-    Ok(Sight::Fresh {
+    Ok(Seen::New {
         stop,
         targets: targets.to,
     })
 }
 
-/// Searches all walks that go on from the node, for the keys of the cell.
+/// Enters the stop: the search stands on it from here on.
+fn enter(
+    search: &mut Search,
+    caller: Text,
+    node: Text,
+    stop: Stop,
+    targets: Seq<Text>,
+) -> Result<Frame, AllocError>
+    ensures frame { IfOk result (λ frame. frame ≡ record { caller = caller; node = node; targets = targets; searched = 0; rank = 0 }) }
+    ensures search { OnOk result (Enters search.old search.new node stop) }
+{
+    search.path.push(node.clone()?)?;
+    search.marks.insert(stop, Mark::Open)?;
+    Ok(Frame {
+        caller,
+        node,
+        targets,
+        searched: 0,
+        rank: 0,
+    })
+}
+
+/// Finishes the stop that the search stands on, whose targets have all been searched: it has its line from here on.
+fn leave(search: &mut Search, cell: &OwnedCell, frame: &Frame) -> Result<(), AllocError>
+    ensures { OnOk result (Leaves search.old search.new (stop_at frame.now.caller frame.now.node cell.now) frame.now.rank) }
+{
+    search.marks.insert(
+        stop_of(&frame.caller, &frame.node, cell)?,
+        Mark::Finished(frame.rank),
+    )?;
+    search.lines.push(Line {
+        stop: stop_of(&frame.caller, &frame.node, cell)?,
+        rank: frame.rank,
+    })?;
+    search.path.pop();
+    Ok(())
+}
+
+/// Looks at the targets of the stop that the search stands on, from the first that hasn't been searched on: those that
+/// were finished before count for its rank.
+fn go_on(
+    search: &Search,
+    plan: &Plan,
+    cell: &OwnedCell,
+    key: &Key,
+    frame: &mut Frame,
+) -> Result<Next, AllocError>
+    requires formed { IsWellFormed plan.now }
+    requires cell { IsCellOf plan.now cell.now }
+    requires key { key.now ≡ key_of cell.now }
+    requires top { IsTop plan.now cell.now frame.old search.now }
+    ensures { IfOk result (GoesOn plan.now cell.now search.now frame.old frame.new) }
+{
+    while frame.searched < frame.targets.len() {
+        let node = &frame.targets.as_slice()[frame.searched];
+        match look(search, plan, cell, key, &frame.node, node)? {
+            Seen::Finished(rank) => {
+                frame.rank = frame.rank.max(rank + 1);
+                frame.searched += 1;
+            }
+            Seen::End(end) => {
+                let node = node.clone()?;
+                return Ok(Next::End { node, end });
+            }
+            Seen::New { stop, targets } => {
+                let node = node.clone()?;
+                return Ok(Next::New {
+                    node,
+                    stop,
+                    targets,
+                });
+            }
+        }
+    }
+    Ok(Next::Nothing)
+}
+
+/// One step of the search: it enters a stop behind the one that it stands on, or finishes that one. It is over where
+/// it finishes the stop that it began at, or ends on the way.
+fn step(
+    search: &mut Search,
+    plan: &Plan,
+    cell: &OwnedCell,
+    key: &Key,
+    top: &mut Frame,
+    below: &mut Vec<Frame>,
+) -> Result<Option<Found>, AllocError>
+    requires formed { IsWellFormed plan.now }
+    requires cell { IsCellOf plan.now cell.now }
+    requires key { key.now ≡ key_of cell.now }
+    requires top { IsTop plan.now cell.now top.old search.old }
+    ensures { IfOk result (Steps plan.now cell.now search.old top.old below.old.items search.new top.new below.new.items) }
+{
+    match go_on(search, plan, cell, key, top)? {
+        Next::End { node, end } => {
+            search.path.push(node)?;
+            Ok(Some(Found::End(end)))
+        }
+        Next::New {
+            node,
+            stop,
+            targets,
+        } => {
+            let caller = top.node.clone()?;
+            let next = enter(search, caller, node, stop, targets)?;
+            below.push(mem::replace(top, next))?;
+            Ok(None)
+        }
+        Next::Nothing => {
+            leave(search, cell, top)?;
+            let rank = top.rank;
+            match below.pop() {
+                Some(frame) => {
+                    *top = frame;
+                    Ok(None)
+                }
+                None => Ok(Some(Found::Rank(rank))),
+            }
+        }
+    }
+}
+
+/// Searches all walks that go on from the node, for the keys of the cell, each stop once. It takes no stack: what it
+/// stands on is in a list of its own.
 pub fn reach(
     search: &mut Search,
     plan: &Plan,
@@ -145,7 +301,7 @@ pub fn reach(
     key: &Key,
     caller: &Text,
     node: &Text,
-) -> Result<Reached, AllocError>
+) -> Result<Found, AllocError>
     requires formed { IsWellFormed plan.now }
     requires cell { IsCellOf plan.now cell.now }
     requires key { key.now ≡ key_of cell.now }
@@ -154,29 +310,18 @@ pub fn reach(
     ensures { IfOk result (AfterReach plan.now cell.now caller.now node.now search.old search.new) }
 {
     let (stop, targets) = match look(search, plan, cell, key, caller, node)? {
-        Sight::Known(rank) => return Ok(Reached::Rank(rank)),
-        Sight::Stuck(trouble) => {
+        Seen::Finished(rank) => return Ok(Found::Rank(rank)),
+        Seen::End(end) => {
             search.path.push(node.clone()?)?;
-            return Ok(Reached::Stuck(trouble));
+            return Ok(Found::End(end));
         }
-        Sight::Fresh { stop, targets } => (stop, targets),
+        Seen::New { stop, targets } => (stop, targets),
     };
-    search.path.push(node.clone()?)?;
-    search.marks.insert(stop, Mark::Open)?;
-    let mut rank: u32 = 0;
-    for next in targets.as_slice() {
-        match reach(search, plan, cell, key, node, next)? {
-            Reached::Rank(below) => rank = rank.max(below + 1),
-            stuck => return Ok(stuck),
+    let mut below = Vec::new(search.alloc);
+    let mut top = enter(search, caller.clone()?, node.clone()?, stop, targets)?;
+    'search: loop {
+        if let Some(found) = step(search, plan, cell, key, &mut top, &mut below)? {
+            return Ok(found);
         }
     }
-    search
-        .marks
-        .insert(stop_of(caller, node, cell)?, Mark::Finished(rank))?;
-    search.lines.push(Line {
-        stop: stop_of(caller, node, cell)?,
-        rank,
-    })?;
-    search.path.pop();
-    Ok(Reached::Rank(rank))
 }

@@ -29,6 +29,13 @@ SpeaksOf flow (part.Syntax syntax) = Contains flow.syntaxes syntax
 SpeaksOf flow (part.Modality field) = Admits flow.modalities field.now
 SpeaksOf flow (part.Station field) = Admits flow.stations field.now
 
+-- the flow at the place does, or none at one of the places
+abbrev pub SpeaksAt : List Flow → ℕ → Part → Type 0
+SpeaksAt flows k part = (flow : Flow) × (slice_get flows k ≡ Some flow) × SpeaksOf flow part
+
+abbrev pub NoneSpeaks : List Flow → List ℕ → Part → Type 0
+NoneSpeaks flows among part = (k : ℕ) → Contains among k → SpeaksAt flows k part → ⊥
+
 -- places in the list
 abbrev pub AllBelow : List ℕ → List Flow → Type 0
 AllBelow among flows = All (λ k. k < length flows) among

@@ -1,7 +1,10 @@
 //! Flows, and those of them that speak of one value.
-ghost use Rattle.std.specs.Prelude.{◌≡◌, ◌↔◌, IsTrue, IfOk, Contains, Some, slice_get, ℕ};
+ghost use Rattle.std.specs.Prelude.{◌≡◌, ◌↔◌, IsTrue, IfOk, MatchOption, Contains, Some, slice_get, ℕ, false};
+ghost use Rattle.dr_route.specs.declared.cell.OwnedField.{OwnedField as FieldValue};
+ghost use Rattle.dr_route.specs.declared.cell.OwnedCell.{OwnedCell as CellValue};
+ghost use Rattle.dr_network.specs.declared.plan.Flow.{Flow as FlowValue};
 ghost use Rattle.dr_route.specs.Cells.{owned_field};
-ghost use Rattle.dr_entry.specs.Entering.{Admits, SpeaksOf, AreNarrowed};
+ghost use Rattle.dr_entry.specs.Entering.{Admits, SpeaksOf, SpeaksAt, NoneSpeaks, TakesIn, AreNarrowed};
 ghost use Rattle.dr_entry.specs.Entering.{AllBelow};
 
 use dr_base::{Syntax, Text};
@@ -60,4 +63,48 @@ pub fn narrowed(
         }
     }
     Ok(found)
+}
+
+/// The first of the places at which a flow speaks of the value.
+pub fn first_that_speaks(flows: &[Flow], among: &[usize], part: &Part<'_>) -> Option<usize>
+    requires { AllBelow among.now flows.now }
+    ensures { MatchOption result (NoneSpeaks flows.now among.now part.now) (λ k. Contains among.now k × SpeaksAt flows.now k part.now) }
+{
+    for place in among {
+        if speaks_of(&flows[*place], part) {
+            return Some(*place);
+        }
+    }
+    None
+}
+
+/// Whether the flow may bring something in: none of its two lists is empty.
+fn may_enter(flow: &Flow) -> bool
+    ensures { result ≡ false → (cell : CellValue) → TakesIn flow.now cell → ⊥ }
+{
+    !is_empty(&flow.modalities) && !is_empty(&flow.stations)
+}
+
+/// Whether the values are a list of none.
+fn is_empty(values: &Values) -> bool
+    ensures { IsTrue result → (field : FieldValue) → Admits values.now field → ⊥ }
+{
+    match values {
+        Values::Any => false,
+        Values::Listed(texts) => texts.is_empty(),
+    }
+}
+
+/// The places of the flows that may bring something in.
+pub fn places_of(alloc: Global, flows: &[Flow]) -> Result<Vec<usize>, AllocError>
+    ensures below { IfOk result (λ v. AllBelow v.items flows.now) }
+    ensures whole { IfOk result (λ v. (k : ℕ) (flow : FlowValue) (cell : CellValue) → slice_get flows.now k ≡ Some flow → TakesIn flow cell → Contains v.items k) }
+{
+    let mut places = Vec::new(alloc);
+    for place in 0..flows.len() {
+        if may_enter(&flows[place]) {
+            places.push(place)?;
+        }
+    }
+    Ok(places)
 }

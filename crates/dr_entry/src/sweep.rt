@@ -7,7 +7,7 @@ ghost use Rattle.dr_entry.specs.Entering.{AllBelow, EachSpeaks, AreParts, HasPar
 ghost use Rattle.dr_entry.specs.Visiting.{AfterVisits, IsEntryCell};
 
 use crate::fields::parts_of;
-use crate::narrow::{Part, narrowed};
+use crate::narrow::{Part, first_that_speaks, narrowed, places_of};
 use crate::visit::EntryVisitor;
 use dr_base::{Seq, Syntax, Text};
 use dr_network::literals::literals;
@@ -52,17 +52,6 @@ fn sites_of(alloc: Global, flows: &[Flow]) -> Result<Seq<Text>, AllocError>
     Ok(sites)
 }
 
-/// All places in the list.
-fn all_places(alloc: Global, flows: &[Flow]) -> Result<Vec<usize>, AllocError>
-    ensures { IfOk result (λ v. (k : ℕ) → Contains v.items k ↔ (k < length flows.now)) }
-{
-    let mut places = Vec::new(alloc);
-    for place in 0..flows.len() {
-        places.push(place)?;
-    }
-    Ok(places)
-}
-
 /// The cell of these values.
 fn cell_from(
     class: &Text,
@@ -81,8 +70,8 @@ fn cell_from(
 }
 
 impl<'a> Sweep<'a> {
-    /// Visits the entry of these values, if some flow at the places takes it in.
-    fn visit_cell<V: EntryVisitor>(
+    /// Visits the entry of these values, if some flow at the places brings it in.
+    fn visit_station<V: EntryVisitor>(
         &self,
         visitor: &mut V,
         site: &Text,
@@ -97,13 +86,14 @@ impl<'a> Sweep<'a> {
         requires parts { HasParts self.now.plan.now self.now.modalities self.now.stations }
         requires modality_part { Contains self.now.modalities modality.now }
         requires station_part { Contains self.now.stations station.now }
-        requires fit { (flow : FlowValue) → (k : ℕ) → Contains among.now k → slice_get self.now.plan.now.flows k ≡ Some flow → FitsAll flow site.now class.now syntax modality.now station.now }
+        requires fit { (flow : FlowValue) → (k : ℕ) → Contains among.now k → slice_get self.now.plan.now.flows k ≡ Some flow → FitsModality flow site.now class.now syntax modality.now }
         requires below { AllBelow among.now self.now.plan.now.flows }
         ensures { IfOk result (AfterVisits V.plan V.is_ready V.has_visited V.shows (WantsStation self.now.plan.now site.now class.now syntax modality.now station.now among.now) visitor.old visitor.new) }
     {
-        if among.is_empty() {
+        let part = Part::Station(station);
+        let Some(_) = first_that_speaks(self.plan.flows(), among, &part) else {
             return Ok(None);
-        }
+        };
         let cell = cell_from(class, syntax, modality, station)?;
         let found = visitor.visit(site, &cell)?;
         Ok(found)
@@ -131,21 +121,7 @@ impl<'a> Sweep<'a> {
             return Ok(None);
         }
         for station in self.stations.as_slice() {
-            let here = narrowed(
-                self.alloc,
-                self.plan.flows(),
-                among,
-                &Part::Station(station),
-            )?;
-            let found = self.visit_cell(
-                visitor,
-                site,
-                class,
-                syntax,
-                modality,
-                station,
-                here.as_slice(),
-            )?;
+            let found = self.visit_station(visitor, site, class, syntax, modality, station, among)?;
             if found.is_some() {
                 return Ok(found);
             }
@@ -270,7 +246,7 @@ impl<'a> Sweep<'a> {
         requires parts { HasParts self.now.plan.now self.now.modalities self.now.stations }
         ensures { IfOk result (AfterVisits V.plan V.is_ready V.has_visited V.shows (WantsAny self.now.plan.now) visitor.old visitor.new) }
     {
-        let all = all_places(self.alloc, self.plan.flows())?;
+        let all = places_of(self.alloc, self.plan.flows())?;
         let sites = sites_of(self.alloc, self.plan.flows())?;
         for site in sites.as_slice() {
             let here = narrowed(

@@ -1,5 +1,5 @@
 -- The targets of flows, one flow after another.
-use Rattle.std.proofs.Common.{◌≡◌, ◌⊎◌, inl, inr, ◌∙◌, ap, List, ◌∷◌, [], ◌++◌, Contains}
+use Rattle.std.proofs.Common.{◌≡◌, ◌⊎◌, inl, inr, ◌∙◌, ap, subst, List, ◌∷◌, [], ◌++◌, Contains}
 use Rattle.std.specs.Prelude.{◌↔◌}
 use Rattle.std.proofs.lemmas.List.Elements.{Contains-push, Contains-push_cases, Contains-append_left}
 use Rattle.dr_base.specs.Texts.{Text}
@@ -34,5 +34,16 @@ flow_passed_over flows flow site key s fails so_far name = (
   λ f. elim (Contains-push_cases flows flow f.0 f.1) [
     | inl before ↦ (so_far name).1 (f.0, before, f.2, f.3, f.4)
     | inr same ↦ absurd (fails (rw same (f.2, f.4)))
+  ],
+)
+
+-- a flow to a node that is named already names no other
+pub flow_known : (flows : List Flow) (flow : Flow) (site : Text) (key : Key) (s : Text → Type 0) → s flow.to →
+    ((name : Text) → s name ↔ FlowsAmong flows site key name) → (name : Text) → s name ↔ FlowsAmong (flows ++ flow ∷ []) site key name
+flow_known flows flow site key s known so_far name = (
+  λ had. later flows flow site key name ((so_far name).0 had),
+  λ f. elim (Contains-push_cases flows flow f.0 f.1) [
+    | inl before ↦ (so_far name).1 (f.0, before, f.2, f.3, f.4)
+    | inr same ↦ subst s (ap (λ (x : Flow). x.to) same ∙ f.3) known
   ],
 )

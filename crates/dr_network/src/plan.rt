@@ -2,10 +2,11 @@
 ghost use Rattle.std.specs.Prelude.{◌≡◌};
 ghost use Rattle.dr_network.specs.Formed.{AreWellFormed};
 ghost use Rattle.dr_network.specs.Plans.{IsWellFormed, IsTheNode, NamesNoNode};
-ghost use Rattle.std.specs.Prelude.{MatchOption};
+ghost use Rattle.std.specs.Prelude.{IfOk, MatchOption};
 
 use dr_base::{Seq, Syntax, Text};
 use dr_route::{AcceptRow, Rule};
+use std::alloc::AllocError;
 use std::marker::Model;
 
 /// A node of the network: its title, where it listens, the greatest length of the P-DATA-TF PDUs that it
@@ -17,6 +18,36 @@ pub struct Node {
     pub max_pdu: u32,
     pub accepts: Seq<AcceptRow>,
     pub rules: Seq<Rule>,
+}
+
+fn copy_accepts(accepts: &Seq<AcceptRow>) -> Result<Seq<AcceptRow>, AllocError>
+    ensures { IfOk result (λ copy. copy ≡ accepts.now) }
+{
+    let copy = accepts.clone()?;
+    Ok(copy)
+}
+
+fn copy_rules(rules: &Seq<Rule>) -> Result<Seq<Rule>, AllocError>
+    ensures { IfOk result (λ copy. copy ≡ rules.now) }
+{
+    let copy = rules.clone()?;
+    Ok(copy)
+}
+
+impl Clone for Node {
+    ghost use Rattle.std.specs.Prelude.{◌≡◌};
+
+    ghost is_clone = { λ node copy. copy ≡ node };
+
+    fn clone(&self) -> Result<Node, AllocError> {
+        Ok(Node {
+            name: self.name.clone()?,
+            address: self.address.clone()?,
+            max_pdu: self.max_pdu,
+            accepts: copy_accepts(&self.accepts)?,
+            rules: copy_rules(&self.rules)?,
+        })
+    }
 }
 
 /// The values of one field that a flow speaks of.
@@ -58,6 +89,20 @@ impl Model for Plan {
     ghost invariant = { λ p. AreWellFormed p.nodes p.flows };
 }
 
+fn copy_nodes(nodes: &Seq<Node>) -> Result<Seq<Node>, AllocError>
+    ensures { IfOk result (λ copy. copy ≡ nodes.now) }
+{
+    let copy = nodes.clone()?;
+    Ok(copy)
+}
+
+fn copy_flows(flows: &Seq<Flow>) -> Result<Seq<Flow>, AllocError>
+    ensures { IfOk result (λ copy. copy ≡ flows.now) }
+{
+    let copy = flows.clone()?;
+    Ok(copy)
+}
+
 impl Plan {
     /// The plan of these nodes and flows, whose text has this SHA-256.
     pub fn new(nodes: Seq<Node>, flows: Seq<Flow>, digest: [u8; 32]) -> Plan
@@ -69,6 +114,15 @@ impl Plan {
             flows,
             digest,
         }
+    }
+
+    /// A copy of it.
+    pub fn copy(&self) -> Result<Plan, AllocError>
+        ensures { IfOk result (λ plan. plan ≡ self.now) }
+    {
+        let nodes = copy_nodes(&self.nodes)?;
+        let flows = copy_flows(&self.flows)?;
+        Ok(Plan::new(nodes, flows, self.digest))
     }
 
     /// Its nodes, in the order of its text.

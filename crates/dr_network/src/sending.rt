@@ -1,11 +1,12 @@
 //! What a node of a plan does with a key.
-ghost use Rattle.std.specs.Prelude.{◌≡◌, ◌↔◌, IsTrue, IfOk, OnOk, Contains};
+ghost use Rattle.std.specs.Prelude.{◌≡◌, ◌↔◌, ◌⊎◌, IsTrue, IfOk, OnOk, Contains, false};
 ghost use Rattle.dr_base.specs.Texts.{Text as Words, IsInByteOrder};
+ghost use Rattle.dr_route.specs.Names.{HasName};
 ghost use Rattle.dr_network.specs.Walks.{Fits, IsListed, FlowsAmong, Sends, Keeps, Accepts};
 
 use crate::plan::{Flow, Plan, Values};
 use dr_base::{Seq, Syntax, Text};
-use dr_route::names::{add_names, names_in_order};
+use dr_route::names::{add_names, has_name, names_in_order};
 use dr_route::{Key, Targets, is_local, routing};
 use std::alloc::{AllocError, Global};
 use std::collections::BTreeSet;
@@ -39,7 +40,16 @@ fn enters(flow: &Flow, site: &Text, key: &Key) -> bool
     flow.at == *site && fits(flow, key)
 }
 
-/// The nodes that those of the flows that are at the site send the key to, in byte order and each once.
+/// Whether the flow brings the key in at the site, and to a node that isn't among the names.
+fn names_another(names: &BTreeSet<Text>, flow: &Flow, site: &Text, key: &Key) -> bool
+    ensures another { IsTrue result → (flow.now.at ≡ site.now) × Fits flow.now key.now }
+    ensures none { result ≡ false → HasName names.now flow.now.to ⊎ ((flow.now.at ≡ site.now) × Fits flow.now key.now → ⊥) }
+{
+    !has_name(names, &flow.to) && enters(flow, site, key)
+}
+
+/// The nodes that those of the flows that are at the site send the key to, in byte order and each once. A flow to a
+/// node that is among them already isn't looked into.
 pub fn flow_targets(
     alloc: Global,
     flows: &[Flow],
@@ -51,7 +61,7 @@ pub fn flow_targets(
 {
     let mut names = BTreeSet::new(alloc);
     for flow in flows {
-        if enters(flow, site, key) {
+        if names_another(&names, flow, site, key) {
             add_names(&mut names, slice::from_ref(&flow.to))?;
         }
     }

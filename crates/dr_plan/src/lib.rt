@@ -8,8 +8,6 @@ mod names;
 mod read;
 mod routes;
 mod syntaxes;
-#[cfg(test)]
-mod tests;
 mod typed;
 
 pub use dr_network::literals::literals;

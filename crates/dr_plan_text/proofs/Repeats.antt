@@ -11,7 +11,8 @@ use Rattle.std.proofs.lemmas.List.Elements.{Contains-push_cases, Contains-push, 
 use Rattle.std.proofs.lemmas.List.Quantifiers.{all_pairs_push}
 use Rattle.dr_base.specs.Texts.{Text}
 use Rattle.dr_route.specs.Names.{HasName}
-use Rattle.dr_route.proofs.NameSets.{Adds, adds}
+use Rattle.dr_route.specs.Names.{Adds}
+use Rattle.dr_route.proofs.NameSets.{adds}
 
 -- the set has these texts, and none of them stands there twice
 pub record Seen (seen : BTreeSet Text) (done : List Text) : Type 0 where

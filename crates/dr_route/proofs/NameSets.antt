@@ -11,23 +11,21 @@ use Rattle.std.proofs.lemmas.Bool.{cases_Bool}
 use Rattle.std.proofs.lemmas.List.{get_or_default, take_more}
 use Rattle.std.proofs.lemmas.List.Elements.{Contains-push_cases, Contains-push, Contains-append_left}
 use Rattle.dr_base.specs.Texts.{Text}
-use Rattle.dr_route.specs.Names.{HasName}
+use Rattle.dr_route.specs.Names.{HasName, Adds}
 
 pub none_of_them : (xs : List Text) (v : Text) (n : ℕ) → n ≡ length xs → ((k : ℕ) → k < n → get_or xs k [] ≡ v → ⊥) → Contains xs v → ⊥
 none_of_them xs v n all none among =
     let lt : among.0 < length xs = among.1 in
     none among.0 (omega arith) (get_or_default xs among.0 [] v lt ∙ among.2)
 
-members : (s : BTreeSet Text) (m : Text) → IsTrue (contains (slice_cmp nat_cmp) s m) ↔ HasName s m
+pub members : (s : BTreeSet Text) (m : Text) → IsTrue (contains (slice_cmp nat_cmp) s m) ↔ HasName s m
 members s m = btree_set_contains_iff nat_list_cmp_total exact_bytes s m
 
 at_same : (k m : Text) → is_at (slice_cmp nat_cmp k) m ≡ true → k ≡ m
 at_same k m e = (bytes_eq-Decides k m).0 (sym (is_eq-slice_cmp k m) ∙ e)
 
-pub record Adds (s n : BTreeSet Text) (k : Text) : Type 0 where
-  pub kept : (m : Text) → HasName s m → HasName n m
-  pub added : HasName n k
-  pub only : (m : Text) → HasName n m → HasName s m ⊎ (k ≡ m)
+pub has_already : (s : BTreeSet Text) (k : Text) → HasName s k → Adds s s k
+has_already s k has = record { kept = λ m had. had; added = has; only = λ m had. inl had }
 
 pub adds : (s n : BTreeSet Text) (k : Text) → Updates (slice_cmp nat_cmp) s n k true → Adds s n k
 adds s n k h = record {

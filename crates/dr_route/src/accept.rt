@@ -1,6 +1,6 @@
 //! What a node accepts from whom.
 ghost use Rattle.std.specs.Prelude.{◌≡◌, ◌↔◌, IsTrue, Contains};
-ghost use Rattle.dr_route.specs.Routes.{Takes, AcceptsBy};
+ghost use Rattle.dr_route.specs.Routes.{IsCaller, Takes, AcceptsBy};
 
 use dr_base::{Seq, Syntax, Text};
 
@@ -35,15 +35,24 @@ fn is_syntax_listed(syntaxes: &[Syntax], syntax: Syntax) -> bool
     syntaxes.contains(&syntax)
 }
 
+/// Whether the callers have this one among them.
+fn is_caller(callers: &Callers, caller: &Text) -> bool
+    ensures { IsTrue result ↔ IsCaller callers.now caller.now }
+{
+    match callers {
+        Callers::Any => true,
+        Callers::Listed(names) => is_listed(names.as_slice(), caller),
+    }
+}
+
 /// Whether the row takes the class in that transfer syntax from the caller.
 fn takes(row: &AcceptRow, caller: &Text, class: &Text, syntax: Syntax) -> bool
     ensures { IsTrue result ↔ Takes row.now caller.now class.now syntax }
 {
-    let from = match &row.from {
-        Callers::Any => true,
-        Callers::Listed(names) => is_listed(names.as_slice(), caller),
-    };
-    from && row.class == *class && is_syntax_listed(row.syntaxes.as_slice(), syntax)
+    // Most rows are of another class, so that is tested first.
+    row.class == *class
+        && is_syntax_listed(row.syntaxes.as_slice(), syntax)
+        && is_caller(&row.from, caller)
 }
 
 /// Whether some row takes the class in that transfer syntax from the caller.

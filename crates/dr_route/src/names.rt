@@ -1,18 +1,36 @@
 //! Sets of names while they are gathered, and the rows that they end as.
-ghost use Rattle.std.specs.Prelude.{◌↔◌, ◌⊎◌, IfOk, OnOk, Contains};
+ghost use Rattle.std.specs.Prelude.{◌↔◌, ◌⊎◌, IsTrue, IfOk, OnOk, Contains};
 ghost use Rattle.dr_base.specs.Texts.{Text as Words, IsInByteOrder};
-ghost use Rattle.dr_route.specs.Names.{HasName};
+ghost use Rattle.dr_route.specs.Names.{HasName, Adds};
 
 use dr_base::{Seq, Text};
 use std::alloc::{AllocError, Global};
 use std::collections::BTreeSet;
+
+/// Whether the name is in the set.
+pub fn has_name(names: &BTreeSet<Text>, name: &Text) -> bool
+    ensures { IsTrue result ↔ HasName names.now name.now }
+{
+    names.contains(name)
+}
+
+/// Adds a copy of the name to the set, unless it is there already.
+fn add_name(names: &mut BTreeSet<Text>, name: &Text) -> Result<(), AllocError>
+    ensures { OnOk result (Adds names.old names.new name.now) }
+{
+    if has_name(names, name) {
+        return Ok(());
+    }
+    names.insert(name.clone()?)?;
+    Ok(())
+}
 
 /// Adds copies of the names to the set.
 pub fn add_names(names: &mut BTreeSet<Text>, more: &[Text]) -> Result<(), AllocError>
     ensures { OnOk result ((name : Words) → HasName names.new name ↔ (HasName names.old name ⊎ Contains more.now name)) }
 {
     for name in more {
-        names.insert(name.clone()?)?;
+        add_name(names, name)?;
     }
     Ok(())
 }

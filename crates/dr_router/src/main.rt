@@ -1,19 +1,7 @@
-//! The program `dr_router`: checks a plan of a network, and prints its certificate or what is wrong with it; and
-//! verifies a certificate for a plan.
+//! The program `dr_router`: the commands of `dr_commands` on the system's words, files, input and outputs.
 #![tactic(auto)]
 
-mod answer;
-mod print;
-mod run;
-mod status;
-#[cfg(test)]
-mod tests;
-#[cfg(test)]
-mod tests_verify;
-mod verify;
-mod words;
-
-use crate::run::{Files, run_words};
+use dr_commands::{Files, Status, run_words, tell_unread_words};
 use std::alloc::Global;
 use std::process::ExitCode;
 use std::{env, fs, io};
@@ -31,10 +19,11 @@ impl<'a> Files for Disk<'a> {
     }
 }
 
-fn main(rt: HostRuntime) -> io::Result<ExitCode> {
+/// Runs the program on its words, which fails only where they can't be read.
+fn run(rt: &HostRuntime) -> io::Result<Status> {
     let alloc = rt.alloc();
     let mut given = Vec::new(alloc);
-    for word in env::args(&rt)?.skip(1) {
+    for word in env::args(rt)?.skip(1) {
         given.push(word)?;
     }
     let mut words = Vec::new(alloc);
@@ -47,7 +36,15 @@ fn main(rt: HostRuntime) -> io::Result<ExitCode> {
         &mut rt.stdin(),
         &mut rt.stdout(),
         &mut rt.stderr(),
-        &Disk(&rt),
+        &Disk(rt),
     );
-    Ok(ExitCode::from(status.number()))
+    Ok(status)
+}
+
+fn main(rt: HostRuntime) -> ExitCode {
+    let status = match run(&rt) {
+        Ok(status) => status,
+        Err(error) => tell_unread_words(&error, &mut rt.stderr()),
+    };
+    ExitCode::from(status.number())
 }

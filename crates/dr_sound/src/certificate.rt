@@ -30,7 +30,7 @@ pub struct Hop {
 
 /// The certificate of a plan: the SHA-256 of the plan's text, the presentation contexts of its hops, and a line
 /// for each stop that an instance may come to.
-#[derive(Debug, Drop)]
+#[derive(Clone, Debug, Drop)]
 pub struct Certificate {
     pub digest: [u8; 32],
     pub hops: Seq<Hop>,

@@ -11,7 +11,7 @@ use Rattle.dr_network.proofs.Gathered.{nothing_in_nil}
 use Rattle.dr_sound.specs.declared.certificate.Stop.{Stop}
 use Rattle.dr_check.specs.declared.search.Mark.{Mark}
 use Rattle.dr_check.specs.declared.search.Mark.TheVariants.{Open, Finished}
-use Rattle.dr_check.specs.Searching.{IsTrail, mark_at, stop_at, IsLetIn}
+use Rattle.dr_check.specs.Searching.{IsTrail, mark_at, stop_at, IsTaken}
 use Rattle.dr_check.proofs.Trails.{shows_no_context, shows_cycle, shows_dead_end}
 use Rattle.dr_check.proofs.Steps.{too_large}
 use Rattle.dr_check.proofs.search.look.Goals as goal
@@ -20,7 +20,7 @@ pub returns-then-not-is_accepted : goal.returns-then-not-is_accepted
 returns-then-not-is_accepted c =
     let T : Key → Type 0 = λ k. IsTrail c.args.plan.now k (c.args.search.now.path.items ++ c.args.node.now ∷ []) c.args.caller.now c.args.node.now in
     let trail = subst T c.requires.key c.requires.trail in
-    let refused : IsLetIn c.args.plan.now c.args.cell.now c.args.caller.now c.args.node.now → ⊥ = λ let_in. false≢true (c.if-not-is_accepted.ensures.1 let_in) in
+    let refused : IsTaken c.args.plan.now c.args.cell.now c.args.caller.now c.args.node.now → ⊥ = λ taken. false≢true (c.if-not-is_accepted.ensures.1 taken) in
     shows_no_context c.args.plan.now c.requires.formed c.args.cell.now c.requires.cell _ c.args.caller.now c.args.node.now trail
     (λ here. refused (inl here)) (λ accepted. refused (inr accepted))
 
@@ -72,5 +72,5 @@ returns c =
           (λ kept. inl (subst K c.requires.key (c.in_ok-targets.ensures.keep.0 kept)))
           (λ named. inr (named.0, forth named.0 ((c.in_ok-targets.ensures.to named.0).0 named.1)))
           (c.if-is_dead_end.ensures.alive refl);
-      let_in = c.if-not-is_accepted.ensures.0 refl;
+      taken = c.if-not-is_accepted.ensures.0 refl;
     }

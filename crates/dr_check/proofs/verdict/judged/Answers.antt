@@ -1,4 +1,4 @@
-use Rattle.std.proofs.Common.{◌≡◌, sym, ◌∙◌, ap, subst, List, Contains, get_or, length, ◌≤◌, arith}
+use Rattle.std.proofs.Common.{◌≡◌, ℕ, sym, ◌∙◌, ap, subst, List, Contains, get_or, length, ◌≤◌, arith}
 use Rattle.std.specs.Prelude.{AllPairs, All, ◌↔◌}
 use Rattle.dr_base.specs.Texts.{Text}
 use Rattle.dr_base.specs.declared.syntax.Syntax.{Syntax}
@@ -8,7 +8,7 @@ use Rattle.dr_sound.specs.declared.certificate.Hop.{Hop}
 use Rattle.dr_sound.specs.HopPairs.{AreNumbered, AreTooMany}
 use Rattle.dr_sound.proofs.RankedLines.{lines_are_the_lines}
 use Rattle.dr_sound.proofs.Hopping.{over_goes, sound_by_lines}
-use Rattle.dr_cert_text.specs.Printable.{IsPrintableLine, IsPrintableHop}
+use Rattle.dr_cert_text.specs.Printable.{IsPrintableLine, IsPrintableHop, IsDigest}
 use Rattle.dr_hops.specs.Numbering.{Numbers}
 use Rattle.dr_check.proofs.Ready.{line_is_printable, hop_is_printable, hops_are_the_hops}
 use Rattle.dr_check.proofs.verdict.judged.Goals as goal
@@ -40,7 +40,11 @@ returns-in_ok-order_lines-in-Hops c =
     let lines = c.in_ok-order_lines-in-Hops.ensures in
     let hops = c.in_ok-order_hops-in-Hops.ensures in
     let are = lines_are_the_lines c.args.plan.now c.requires.formed c.args.lines.items c.requires.ranked in
-    let number = hops_are_the_hops c.args.plan.now c.requires.formed c.args.lines.items c.requires.ranked in (
+    let number = hops_are_the_hops c.args.plan.now c.requires.formed c.args.lines.items c.requires.ranked in
+    let long : length c.in_ok-order_lines-in-Hops.field-0 ≡ length c.args.lines.items = lines.long in
+    let all_few : length c.args.lines.items ≤ 65536 = c.requires.few.0 in
+    let few : length c.in_ok-order_lines-in-Hops.field-0 ≤ 65536 = omega (arith, long, all_few) in
+    let D : List ℕ → Type 0 = λ digest. IsDigest digest in (
       sound_by_lines c.args.plan.now c.requires.formed c.args.lines.items c.requires.ranked numbered.few,
       record {
         digest = c.digest.ensures;
@@ -49,7 +53,14 @@ returns-in_ok-order_lines-in-Hops c =
         lines_ordered = lines.ordered;
         hops_ordered = hops.ordered;
       },
-      (let long : length c.in_ok-order_lines-in-Hops.field-0 ≡ length c.args.lines.items = lines.long in
-          let few : length c.args.lines.items ≤ 65536 = c.requires.few.0 in
-          omega arith),
+      few,
+      λ digest. record {
+        digest = subst D (sym c.digest.ensures) digest;
+        hops = all_from_each IsPrintableHop c.in_ok-order_hops-in-Hops.field-0
+            (λ hop among. hop_is_printable c.args.plan.now c.requires.formed c.args.lines.items c.requires.ranked c.requires.few c.in-Hops.hops.items numbered
+            hop ((hops.same hop).0 among));
+        lines = all_from_each IsPrintableLine c.in_ok-order_lines-in-Hops.field-0
+            (λ line among. line_is_printable c.args.plan.now c.requires.formed c.args.lines.items c.requires.ranked c.requires.few line ((lines.same line).0 among));
+        few = few;
+      },
     )

@@ -1,24 +1,26 @@
-use Rattle.std.proofs.Common.{◌≡◌, ◌+◌, refl, ◌∷◌, [], ◌++◌, take, arith}
-use Rattle.std.proofs.lemmas.Bool.{false≢true}
+use Rattle.std.proofs.Common.{◌≡◌, ◌+◌, inl, inr, refl, ◌∷◌, [], ◌++◌, take, arith}
 use Rattle.std.proofs.lemmas.List.{take_more, take_all}
 use Rattle.dr_route.specs.Names.{HasName}
-use Rattle.dr_network.proofs.Flowing.{flow_added, flow_passed_over}
+use Rattle.dr_network.proofs.Flowing.{flow_added, flow_known, flow_passed_over}
 use Rattle.dr_network.proofs.sending.flow_targets.Goals as goal
-use Rattle.dr_network.proofs.sending.flow_targets.Goals.{then-enters+in_ok-add_names, else-enters}
+use Rattle.dr_network.proofs.sending.flow_targets.Goals.{then-names_another+in_ok-add_names, else-names_another}
 
 pub loop-flow-preserved : goal.loop-flow-preserved
 loop-flow-preserved c =
     let e = take_more c.args.flows.now c.loop-flow.flow-index c.flow-item.result c.loop-flow-test.true in
     let more : take (c.loop-flow.flow-index + 1) c.args.flows.now ≡ take c.loop-flow.flow-index c.args.flows.now ++ c.flow-item.result ∷ [] =
     rw (← c.flow-item.is) at e in
-    elim c.if-enters.branch [
-      | then-enters+in_ok-add_names w ↦ λ name. rw (w.names-is, more)
+    elim c.if-names_another.branch [
+      | then-names_another+in_ok-add_names w ↦ λ name. rw (w.names-is, more)
           (flow_added (take c.loop-flow.flow-index c.args.flows.now) c.flow-item.result c.args.site.now c.args.key.now
-          (HasName c.loop-flow.names) (HasName w.add_names.new.names) (w.if-enters.ensures.0 refl) c.loop-flow.invariant
+          (HasName c.loop-flow.names) (HasName w.add_names.new.names) (w.if-names_another.ensures.another refl) c.loop-flow.invariant
           (rw w.from_ref.ensures.value at w.in_ok-add_names.ensures) name)
-      | else-enters w ↦ λ name. rw (w.names-is, more)
-          (flow_passed_over (take c.loop-flow.flow-index c.args.flows.now) c.flow-item.result c.args.site.now c.args.key.now
-          (HasName c.loop-flow.names) (λ h. false≢true (w.if-enters.ensures.1 h)) c.loop-flow.invariant name)
+      | else-names_another w ↦ λ name. rw (w.names-is, more) (elim (w.if-names_another.ensures.none refl) [
+        | inl known ↦ flow_known (take c.loop-flow.flow-index c.args.flows.now) c.flow-item.result c.args.site.now c.args.key.now
+            (HasName c.loop-flow.names) known c.loop-flow.invariant name
+        | inr fails ↦ flow_passed_over (take c.loop-flow.flow-index c.args.flows.now) c.flow-item.result c.args.site.now c.args.key.now
+            (HasName c.loop-flow.names) fails c.loop-flow.invariant name
+      ])
     ]
 
 pub returns-clause-to : goal.returns-clause-to

@@ -5,7 +5,7 @@ use Rattle.dr_route.specs.Laws.{key_of}
 use Rattle.dr_route.specs.declared.key.Key.{Key}
 use Rattle.dr_route.specs.declared.cell.OwnedCell.{OwnedCell}
 use Rattle.dr_sound.specs.Ranked.{line_at}
-use Rattle.dr_check.specs.Searching.{IsDone, IsTrail, IsTroubled}
+use Rattle.dr_check.specs.Searching.{IsDone, IsTrail, IsEnd}
 use Rattle.dr_check.specs.Stopping.{IsStopped}
 use Rattle.dr_check.proofs.Trails.{trail_begins}
 use Rattle.dr_check.proofs.Steps.{any_cell}
@@ -46,8 +46,8 @@ returns-in-Rank c =
 
 pub returns : goal.returns
 returns c =
-    let T : List Text → Type 0 = λ walk. IsTroubled c.args.self.now.plan.now c.args.cell.now walk c.in-Stuck.trouble in
-    let troubled : T c.reach.new.search.path.items = rw c.in-Stuck.is at c.in_ok-reach.ensures in
-    let P : OwnedCell → Type 0 = λ x. IsTroubled c.args.self.now.plan.now x c.replace-walk.result.items c.in-Stuck.trouble in
+    let T : List Text → Type 0 = λ walk. IsEnd c.args.self.now.plan.now c.args.cell.now walk c.in-End.end in
+    let troubled : T c.reach.new.search.path.items = rw c.in-End.is at c.in_ok-reach.ensures in
+    let P : OwnedCell → Type 0 = λ x. IsEnd c.args.self.now.plan.now x c.replace-walk.result.items c.in-End.end in
     c.stopped_by.ensures c.args.self.now.plan.now
-    (subst P (sym c.in_ok-copy_of-in-Stuck.ensures) (subst T (sym (ap (λ v. v.items) c.replace-walk.ensures.value)) troubled))
+    (subst P (sym c.in_ok-copy_of-in-End.ensures) (subst T (sym (ap (λ v. v.items) c.replace-walk.ensures.value)) troubled))

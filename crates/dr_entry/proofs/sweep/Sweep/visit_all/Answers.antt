@@ -1,8 +1,8 @@
-use Rattle.std.proofs.Common.{◌≡◌, ℕ, ◌+◌, ◌<◌, ◌∙◌, sym, subst, List, [], ◌∷◌, ◌++◌, length, take, Contains, arith}
+use Rattle.std.proofs.Common.{◌≡◌, ℕ, ◌+◌, ◌∙◌, sym, subst, List, [], ◌∷◌, ◌++◌, take, Contains, Some, arith}
+use Rattle.std.specs.Prelude.{slice_get}
 use Rattle.std.proofs.lemmas.List.{take_more, take_all}
 use Rattle.dr_base.specs.Texts.{Text}
 use Rattle.dr_network.specs.declared.plan.Flow.{Flow}
-use Rattle.dr_network.proofs.WalksAlike.{all_from_each}
 use Rattle.dr_entry.specs.Entering.{AllBelow, SomeTakes, HasSites, WantsAny, WantsSite}
 use Rattle.dr_entry.specs.Visiting.{GoesOn}
 use Rattle.dr_entry.proofs.Entries.{place_of}
@@ -14,7 +14,7 @@ narrowed-requires g c =
     let P : List ℕ → Type 0 = λ ks. AllBelow ks c.flows-in-loop-site.result.now in
     let Q : List Flow → Type 0 = λ fs. AllBelow c.in_ok-all.all.items fs in
     subst P (sym c.as_slice.ensures.value) (subst Q (c.flows.ensures.same ∙ sym c.flows-in-loop-site.ensures.same)
-    (all_from_each (λ k. k < length c.flows.result.now) c.in_ok-all.all.items (λ k has. (c.in_ok-all.ensures k).0 has)))
+    c.in_ok-all.ensures.below)
 
 pub visit_site-requires-clause-fit : goal.visit_site-requires-clause-fit
 visit_site-requires-clause-fit g c = λ flow k has at.
@@ -31,7 +31,7 @@ visit_site-requires-clause-below g c =
     let Q : List Flow → Type 0 = λ fs. Picks fs c.as_slice.result.now S c.in_ok-here.here.items in
     let R : List Flow → Type 0 = λ fs. AllBelow c.in_ok-all.all.items fs in
     let below : AllBelow c.as_slice.result.now c.args.self.now.plan.now.flows = subst P (sym c.as_slice.ensures.value) (subst R c.flows.ensures.same
-    (all_from_each (λ k. k < length c.flows.result.now) c.in_ok-all.all.items (λ k has. (c.in_ok-all.ensures k).0 has))) in
+    c.in_ok-all.ensures.below) in
     subst P (sym c.as_slice-in-loop-site.ensures.value)
     (picked_below c.args.self.now.plan.now.flows c.as_slice.result.now c.in_ok-here.here.items S (subst Q c.flows-in-loop-site.ensures.same c.in_ok-here.ensures) below)
 
@@ -53,9 +53,9 @@ loop-site-preserved g c =
     (λ s x w same.
     let flow : Flow = w.1.0 in
     let place = place_of flows flow w.1.1 in
-    let A : List Flow → Type 0 = λ fs. place.0 < length fs in
+    let A : List Flow → Type 0 = λ fs. slice_get fs place.0 ≡ Some flow in
     let L : List ℕ → Type 0 = λ ks. Contains ks place.0 in
-    let among : Contains c.as_slice.result.now place.0 = subst L (sym c.as_slice.ensures.value) ((c.in_ok-all.ensures place.0).1 (subst A (sym c.flows.ensures.same) place.1)) in
+    let among : Contains c.as_slice.result.now place.0 = subst L (sym c.as_slice.ensures.value) (c.in_ok-all.ensures.whole place.0 flow x (subst A (sym c.flows.ensures.same) place.2) w.1.3) in
     let found : Contains c.in_ok-here.here.items place.0 = (picks place.0).1 (among, (flow, place.2, w.1.2 ∙ sym same)) in
     let R : List ℕ → Type 0 = λ ks. SomeTakes flows ks x in
     (sym same, w.0, subst R (sym c.as_slice-in-loop-site.ensures.value) (place.0, found, (flow, place.2, w.1.3))))

@@ -1,0 +1,59 @@
+-- What the program answers to the text of a plan.
+use Rattle.std.specs.Prelude.{◌≡◌, ◌≢◌, [], Ok, Err}
+use Rattle.dr_base.specs.Texts.{Text}
+use Rattle.dr_network.specs.Networks.{Network}
+use Rattle.dr_sound.specs.declared.certificate.Certificate.{Certificate}
+use Rattle.dr_sound.specs.Soundness.{IsSound}
+use Rattle.dr_sound.specs.Certificates.{IsCertificateOf}
+use Rattle.dr_cert_text.specs.CertificateText.{certificate_text}
+use Rattle.dr_cert_text.specs.Printable.{IsPrintable}
+use Rattle.dr_plan.specs.Reading.{Reads}
+use Rattle.dr_plan.specs.declared.fault.PlanFault.TheVariants.{Memory as NoMemory}
+use Rattle.dr_check.specs.declared.fault.Fault.{Fault}
+use Rattle.dr_check.specs.Shown.{IsShown, IsTooLarge}
+use Rattle.dr_commands.specs.Faults.{no_line}
+use Rattle.dr_commands.specs.declared.answer.Answer.{Answer}
+use Rattle.dr_commands.specs.declared.answer.Answer.TheVariants.{Sound, Unsound, NoPlan, TooLarge, Memory}
+use Rattle.dr_commands.specs.declared.status.Status.{Status}
+use Rattle.dr_commands.specs.declared.status.Status.TheVariants.{Success, Refused, Memory as OutOfMemory}
+
+-- the text writes a sound plan, and this is the text of the plan's certificate, which can be read back
+pub record IsProved (text output : Text) : Type 0 where
+  pub plan : Network
+  pub certificate : Certificate
+  pub reads : Reads text (Ok plan)
+  pub sound : IsSound plan
+  pub own : IsCertificateOf plan certificate
+  pub printable : IsPrintable certificate
+  pub printed : output ≡ certificate_text certificate
+
+-- the text writes a plan with this fault, and this is the fault's line
+pub record IsRefuted (text output : Text) : Type 0 where
+  pub plan : Network
+  pub fault : Fault
+  pub reads : Reads text (Ok plan)
+  pub shown : IsShown plan fault
+  pub printed : output ≡ no_line fault
+
+-- want of memory may be answered to any text
+abbrev pub IsAnswerTo : Text → Answer → Type 0
+IsAnswerTo text (Sound printed) = IsProved text printed
+IsAnswerTo text (Unsound printed) = IsRefuted text printed
+IsAnswerTo text (NoPlan fault) = Reads text (Err fault) × (fault ≢ NoMemory)
+IsAnswerTo text TooLarge = (plan : Network) × Reads text (Ok plan) × IsTooLarge plan
+IsAnswerTo text Memory = Unit {0}
+
+-- what is printed for an answer, and the status with which the program ends
+abbrev pub printed_for : Answer → Text
+printed_for (Sound printed) = printed
+printed_for (Unsound printed) = printed
+printed_for (NoPlan fault) = []
+printed_for TooLarge = []
+printed_for Memory = []
+
+abbrev pub status_for : Answer → Status
+status_for (Sound printed) = Success
+status_for (Unsound printed) = Refused
+status_for (NoPlan fault) = Refused
+status_for TooLarge = Refused
+status_for Memory = OutOfMemory

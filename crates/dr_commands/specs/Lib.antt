@@ -1,0 +1,8 @@
+pub mod Answers
+pub mod Faults
+pub mod Inputs
+pub mod Laws
+pub mod Runs
+pub mod Statuses
+pub mod Verdicts
+pub mod Words

@@ -1,0 +1,40 @@
+-- What a run of the program on the text of a plan does.
+use Rattle.std.specs.Prelude.{◌≡◌, ◌⊎◌, ℕ, List, [], Ok}
+use Rattle.std.specs.declared.option.Option.{Option}
+use Rattle.std.specs.Io.KnownBytes.{Appends}
+use Rattle.dr_base.specs.Texts.{Text}
+use Rattle.dr_commands.specs.declared.answer.Answer.{Answer}
+use Rattle.dr_commands.specs.declared.status.Status.{Status}
+use Rattle.dr_network.specs.Networks.{Network}
+use Rattle.dr_plan.specs.Reading.{Reads}
+use Rattle.dr_commands.specs.declared.verify.Verdict.{Verdict}
+use Rattle.dr_commands.specs.Answers.{IsAnswerTo, status_for, printed_for}
+use Rattle.dr_commands.specs.Verdicts.{IsVerdictOn, IsNoPlan, verdict_line, verdict_status}
+
+-- some answer to the text is printed after what the output held, and the program ends with its status
+pub record Answers (text : Text) (old new : Option (List ℕ)) (status : Status) : Type 0 where
+  pub answer : Answer
+  pub right : IsAnswerTo text answer
+  pub printed : Appends old new (printed_for answer)
+  pub ends : status ≡ status_for answer
+
+-- the first text has no plan, and nothing is printed
+pub record Refuses (text : Text) (old new : Option (List ℕ)) (status : Status) : Type 0 where
+  pub answer : Answer
+  pub right : IsNoPlan text answer
+  pub nothing : Appends old new []
+  pub ends : status ≡ status_for answer
+
+-- it has one, and the verdict on a text of which `Holds` holds is printed
+pub record Judges (Holds : Text → Type 0) (text : Text) (old new : Option (List ℕ)) (status : Status) : Type 0 where
+  pub plan : Network
+  pub reads : Reads text (Ok plan)
+  pub second : Text
+  pub held : Holds second
+  pub verdict : Verdict
+  pub right : IsVerdictOn plan second verdict
+  pub printed : Appends old new (verdict_line verdict)
+  pub ends : status ≡ verdict_status verdict
+
+abbrev pub Verifies : (Text → Type 0) → Text → Option (List ℕ) → Option (List ℕ) → Status → Type 0
+Verifies Holds text old new status = Refuses text old new status ⊎ Judges Holds text old new status

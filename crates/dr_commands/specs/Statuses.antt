@@ -1,0 +1,11 @@
+-- The exit statuses.
+use Rattle.std.specs.Prelude.{ℕ}
+use Rattle.dr_commands.specs.declared.status.Status.{Status}
+use Rattle.dr_commands.specs.declared.status.Status.TheVariants.{Success, Refused, Usage, InputOutput, Memory}
+
+abbrev pub status_number : Status → ℕ
+status_number Success = 0
+status_number Refused = 1
+status_number Usage = 2
+status_number InputOutput = 3
+status_number Memory = 4

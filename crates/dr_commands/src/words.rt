@@ -1,0 +1,112 @@
+//! What the words of the command line ask for.
+ghost use Rattle.std.specs.Prelude.{◌≡◌, ◌↔◌, ℕ, List, Some, IfOk, IsTrue};
+ghost use Rattle.std.specs.Borrow.{Bor};
+ghost use Rattle.dr_commands.specs.Words.{IsPlainCheck, IsCheckOf, IsVerifyOf, IsNoOption};
+ghost use Rattle.dr_commands.specs.declared.words.Asked.{Asked as AskedValue};
+ghost use Rattle.dr_commands.specs.declared.words.Asked.TheVariants as asks;
+
+use clap::{Arg, ArgAction, Command, Error};
+use std::alloc::{AllocError, Global};
+
+/// What the words ask for.
+#[derive(Drop)]
+pub enum Asked<'a> {
+    /// To check the plan whose text is on the standard input.
+    CheckInput,
+    /// To check the plan whose text is in this file.
+    CheckFile(&'a str),
+    /// To verify, for the plan whose text is in the first file, the certificate whose text is in the second.
+    Verify(&'a str, &'a str),
+    /// Help, or nothing that the program knows.
+    Told(Error),
+}
+
+/// Whether the word is no option of the command line.
+fn is_no_option(word: &str) -> bool
+    ensures { IsTrue result ↔ IsNoOption word.now }
+{
+    let Some(first) = word.as_bytes().first() else {
+        return true;
+    };
+    *first != b'-'
+}
+
+/// What plain words ask for: those of a known form, without options.
+fn read_plain<'a>(words: &'a [&'a str]) -> Option<Asked<'a>>
+    ensures input { IsPlainCheck words.now → result ≡ Some asks.CheckInput }
+    ensures file { (plan : Bor (List ℕ)) → IsCheckOf words.now plan → result ≡ Some (asks.CheckFile plan) }
+    ensures verify { (plan certificate : Bor (List ℕ)) → IsVerifyOf words.now plan certificate → result ≡ Some (asks.Verify plan certificate) }
+{
+    match words {
+        [] => Some(Asked::CheckInput),
+        [word] if *word == "check" => Some(Asked::CheckInput),
+        [word, plan] if *word == "check" && is_no_option(plan) => Some(Asked::CheckFile(plan)),
+        [word, plan, certificate]
+            if *word == "verify" && is_no_option(plan) && is_no_option(certificate) => {
+            Some(Asked::Verify(plan, certificate))
+        }
+        _ => None,
+    }
+}
+
+/// The command line of the program.
+fn command<'a>(alloc: Global) -> Result<Command<'a>, AllocError> {
+    let plan = Arg::new(alloc, "PLAN").action(ArgAction::Set).help(
+        "the file with the plan; without it the plan is read from the standard input",
+    );
+    let check = Command::new(alloc, "check")
+        .about("Checks a plan, and prints its certificate or what is wrong with it")
+        .arg(plan)?;
+    let plan = Arg::new(alloc, "PLAN")
+        .action(ArgAction::Set)
+        .required(true)
+        .help("the file with the plan");
+    let certificate = Arg::new(alloc, "CERT")
+        .action(ArgAction::Set)
+        .required(true)
+        .help("the file with the certificate");
+    let verify = Command::new(alloc, "verify")
+        .about("Verifies that the plan is sound and that the certificate is its own")
+        .arg(plan)?
+        .arg(certificate)?;
+    Command::new(alloc, "dr_router")
+        .bin_name("dr_router")?
+        .version("0.1.0")
+        .about("A DICOM store-and-forward router")
+        .no_binary_name(true)
+        .subcommand_required(true)
+        .subcommand(check)?
+        .subcommand(verify)
+}
+
+/// What clap makes of the words: options, help, and what the program doesn't know.
+fn read_others<'a>(alloc: Global, words: &'a [&'a str]) -> Result<Asked<'a>, AllocError> {
+    let matches = match command(alloc)?.try_get_matches_from(words) {
+        Ok(matches) => matches,
+        Err(error) => return Ok(Asked::Told(error)),
+    };
+    let Some((name, given)) = matches.subcommand() else {
+        return Ok(Asked::CheckInput);
+    };
+    let Some(plan) = given.get_str("PLAN") else {
+        return Ok(Asked::CheckInput);
+    };
+    if name == "check" {
+        return Ok(Asked::CheckFile(plan));
+    }
+    let certificate = given.get_str("CERT").unwrap_or("");
+    Ok(Asked::Verify(plan, certificate))
+}
+
+/// What the words ask for.
+pub fn read_words<'a>(alloc: Global, words: &'a [&'a str]) -> Result<Asked<'a>, AllocError>
+    ensures input { IfOk result (λ a. IsPlainCheck words.now → a ≡ asks.CheckInput) }
+    ensures file { IfOk result (λ a. (plan : Bor (List ℕ)) → IsCheckOf words.now plan → a ≡ asks.CheckFile plan) }
+    ensures verify { IfOk result (λ a. (plan certificate : Bor (List ℕ)) → IsVerifyOf words.now plan certificate → a ≡ asks.Verify plan certificate) }
+{
+    if let Some(asked) = read_plain(words) {
+        return Ok(asked);
+    }
+    let others = read_others(alloc, words)?;
+    Ok(others)
+}
