@@ -48,6 +48,14 @@ fn written(alloc: Global, pdu: &Pdu) -> Result<Vec<u8>, AllocError> {
     }
 }
 
+/// Puts the spelling of a PDU, if it has one.
+fn put_if_it_fits(out: &mut Vec<u8>, pdu: &Pdu) -> Result<(), AllocError> {
+    if fits(pdu) {
+        put(out, pdu)?;
+    }
+    Ok(())
+}
+
 fn fault_of(alloc: Global, text: &[u8]) -> Option<PduFault> {
     decode(alloc, text, 16384).err()
 }
@@ -198,9 +206,9 @@ fn what_is_announced_is_awaited(rt: HostRuntime) -> Result<(), Fail> {
 fn spellings_are_put_one_behind_the_other(rt: HostRuntime) -> Result<(), Fail> {
     let alloc = rt.alloc();
     let mut out = Vec::new(alloc);
-    put(&mut out, &Pdu::ReleaseRq)?;
+    put_if_it_fits(&mut out, &Pdu::ReleaseRq)?;
     put_fragment(&mut out, 1, 3, &ECHO[12..])?;
-    put(&mut out, &Pdu::ReleaseRp)?;
+    put_if_it_fits(&mut out, &Pdu::ReleaseRp)?;
     let mut wanted = RELEASE.to_vec(alloc)?;
     wanted.extend_from_slice(&ECHO)?;
     wanted.extend_from_slice(&[6, 0, 0, 0, 0, 4, 0, 0, 0, 0])?;
