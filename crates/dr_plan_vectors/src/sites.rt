@@ -1,0 +1,129 @@
+//! Ranks that a sealed plan gives, and the sites of its nodes.
+use crate::samples::{PLAN, ROWS};
+use dr_base::{Syntax, Text};
+use dr_cert::{Sealed, read_certificate};
+use dr_plan::read_plan;
+use dr_route::Key;
+use dr_site::{Site, SiteFault};
+use std::alloc::Global;
+use std::test::Fail;
+
+/// A certificate with the plan's own digest and these rows.
+fn certificate_of(alloc: Global, plan: &str, rows: &str) -> Result<String, Fail> {
+    let digest = *read_plan(alloc, plan.as_bytes())?.digest();
+    let mut text = String::from_str(alloc, "certificate\t1\nplan\t")?;
+    for byte in digest {
+        text.push_str(format!(in alloc; "{byte:02x}")?.as_str())?;
+    }
+    text.push_str("\n")?;
+    text.push_str(rows)?;
+    Ok(text)
+}
+
+/// The plan of three nodes, sealed with its certificate; a copy, which is equal.
+fn sealed(alloc: Global) -> Result<Sealed, Fail> {
+    let plan = read_plan(alloc, PLAN.as_bytes())?;
+    let text = certificate_of(alloc, PLAN, ROWS)?;
+    let certificate = read_certificate(alloc, text.as_bytes())?;
+    let sealed = Sealed::new(alloc, plan, certificate)?;
+    let copy = sealed.copy()?;
+    Ok(copy)
+}
+
+fn text(alloc: Global, bytes: &str) -> Result<Text, Fail> {
+    Ok(Text::copy_of(alloc, bytes.as_bytes())?)
+}
+
+fn key(alloc: Global, modality: &str) -> Result<Key, Fail> {
+    Ok(Key {
+        class: text(alloc, "1.2.840.10008.5.1.4.1.1.2")?,
+        syntax: Syntax::Explicit,
+        modality: text(alloc, modality)?,
+        station: text(alloc, "S1")?,
+    })
+}
+
+/// The rank that the sealed plan of three nodes gives.
+fn rank_of(alloc: Global, caller: &str, node: &str, modality: &str) -> Result<Option<u32>, Fail> {
+    let sealed = sealed(alloc)?;
+    let caller = text(alloc, caller)?;
+    let node = text(alloc, node)?;
+    let key = key(alloc, modality)?;
+    Ok(sealed.rank(&caller, &node, &key))
+}
+
+#[test]
+fn ranks_are_those_of_the_plan(rt: HostRuntime) -> Result<(), Fail> {
+    for (caller, node, modality, rank) in [
+        ("-", "CT1", "CT", Some(2)),
+        ("CT1", "GATE", "CT", Some(1)),
+        ("GATE", "ARCH", "CT", Some(0)),
+        ("-", "CT1", "MR", None),
+        ("-", "GATE", "CT", None),
+        ("CT1", "NONE", "CT", None),
+    ] {
+        assert_eq!(rt; rank_of(rt.alloc(), caller, node, modality)?, rank);
+    }
+    Ok(())
+}
+
+/// The site of a node of the plan of three nodes.
+fn site(alloc: Global, node: &str) -> Result<Option<Site>, Fail> {
+    let sealed = sealed(alloc)?;
+    let node = text(alloc, node)?;
+    match Site::of(alloc, &sealed, &node) {
+        Ok(site) => Ok(Some(site.copy()?)),
+        Err(SiteFault::NoNode) => Ok(None),
+        Err(fault) => Err(Fail::from(fault)),
+    }
+}
+
+/// How many rules, accept rows, flows, lines and hops it has.
+fn parts_of(alloc: Global, node: &str) -> Result<Option<[usize; 5]>, Fail> {
+    let Some(site) = site(alloc, node)? else {
+        return Ok(None);
+    };
+    Ok(Some([
+        site.rules().len(),
+        site.accepts().len(),
+        site.flows().len(),
+        site.lines().len(),
+        site.hops().len(),
+    ]))
+}
+
+#[test]
+fn a_site_is_its_nodes_part(rt: HostRuntime) -> Result<(), Fail> {
+    for (node, parts) in [
+        ("CT1", Some([0, 0, 1, 1, 1])),
+        ("GATE", Some([1, 1, 0, 1, 1])),
+        ("ARCH", Some([1, 1, 0, 1, 0])),
+        ("NONE", None),
+    ] {
+        assert!(rt; parts_of(rt.alloc(), node)? == parts);
+    }
+    Ok(())
+}
+
+/// Whether GATE's site has a line for the caller and the key.
+fn gate_has_line(alloc: Global, caller: &str, modality: &str) -> Result<bool, Fail> {
+    let Some(site) = site(alloc, "GATE")? else {
+        return Ok(false);
+    };
+    let caller = text(alloc, caller)?;
+    let key = key(alloc, modality)?;
+    Ok(site.has_line(&caller, &key))
+}
+
+#[test]
+fn a_site_has_the_lines_of_its_node(rt: HostRuntime) -> Result<(), Fail> {
+    for (caller, modality, has) in [
+        ("CT1", "CT", true),
+        ("CT1", "MR", false),
+        ("-", "CT", false),
+        ("ARCH", "CT", false),
+    ] {
+        assert_eq!(rt; gate_has_line(rt.alloc(), caller, modality)?, has);
+    }
+    Ok(())
+}
