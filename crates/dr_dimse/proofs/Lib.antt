@@ -6,6 +6,7 @@ pub mod MessageLemmas
 pub mod OneCommand
 pub mod OneTake
 pub mod Refusals
+pub mod SomeTake
 pub mod StageLemmas
 pub mod TextLemmas
 pub mod WriteLemmas

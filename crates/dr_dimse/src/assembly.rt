@@ -15,7 +15,7 @@ use std::marker::Model;
 use std::mem;
 
 /// The greatest length of a command, in bytes (16 KiB).
-const GREATEST_COMMAND: usize = 16_384;
+pub const GREATEST_COMMAND: usize = 16_384;
 
 /// The greatest length of a data set whose bytes are kept (64 MiB).
 const GREATEST_BODY: usize = 67_108_864;

@@ -54,6 +54,12 @@ pub fn a_value_has_one_answer()
         → Takes awaited old p r new → Takes awaited old p s new' → (r ≡ s) × (new ≡ new') }
 {}
 
+/// No value is without an answer other than want of memory: that each of the answers is wrong of it is absurd. (That
+/// says that there is one without saying which, as long as nobody has tried to read the command.)
+pub fn a_value_has_an_answer()
+    ensures { (awaited : Waiting) (old : Stage) (p : Value) → ((r : Result (Option MessageValue) Fault) (new : Stage) → r ≢ Err Memory → Takes awaited old p r new → ⊥) → ⊥ }
+{}
+
 /// No fault is told while a message can still come: after a fault, the values since the last message and the one that
 /// was refused begin no message that is awaited. (It may be told later than at the first value with which that is so.)
 pub fn after_a_fault_there_is_no_message()

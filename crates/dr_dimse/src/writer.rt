@@ -5,6 +5,7 @@ ghost use Rattle.dr_dimse.specs.Commands.{element_text, HasNoName};
 ghost use Rattle.dr_dimse.specs.declared.command.Command.TheVariants.{StoreRq, StoreRsp, EchoRq, EchoRsp, Other};
 ghost use Rattle.dr_dimse.specs.Written.{number_element, text_element, data_element, if_some, elements_of, joined, written, Fits, FieldFits, IsText};
 
+use crate::assembly::GREATEST_COMMAND;
 use crate::command::Command;
 use crate::reader::is_uid;
 use dr_base::Text;
@@ -287,5 +288,5 @@ fn field_fits(field: u16, id: Option<u16>, status: Option<u16>) -> bool
 fn is_text(text: &Text) -> bool
     ensures { IsTrue result ↔ IsText text.now }
 {
-    unpadded(text.as_bytes()) == text.as_bytes() && text.len() <= 16384
+    unpadded(text.as_bytes()) == text.as_bytes() && text.len() <= GREATEST_COMMAND
 }

@@ -1,6 +1,7 @@
 pub mod Concluded
 pub mod Cutting
 pub mod Faults
+pub mod Heard
 pub mod HopAgreed
 pub mod OneContext
 pub mod Proposed

@@ -1,5 +1,6 @@
 -- Laws of negotiation.
-use Rattle.std.specs.Prelude.{◌≡◌, ◌≢◌, ◌↔◌, ◌<◌, ◌≤◌, ◌⊎◌, ℕ, Bool, true, false, List, [], ◌∷◌, ◌++◌, map, Contains, AllPairs, All, Some, Result, Ok, Err}
+use Rattle.std.specs.Prelude.{◌≡◌, ◌≢◌, ◌↔◌, ◌<◌, ◌≤◌, ◌⊎◌, ℕ, Bool, true, false, List, [], ◌∷◌, ◌++◌, map, length, Contains, AllPairs, All, Option, Some, None, Result, Ok, Err}
+use Rattle.std.specs.List.{flat_map}
 use Rattle.dr_base.specs.Texts.{Text}
 use Rattle.dr_base.specs.Syntaxes.{syntax_uid}
 use Rattle.dr_base.specs.declared.syntax.Syntax.{Syntax}
@@ -14,17 +15,23 @@ use Rattle.dr_pdu.specs.declared.pdu.ContextProposal.{ContextProposal}
 use Rattle.dr_pdu.specs.declared.pdu.ContextAnswer.{ContextAnswer}
 use Rattle.dr_pdu.specs.declared.pdu.Pdu.{Pdu}
 use Rattle.dr_pdu.specs.declared.pdu.Pdu.TheVariants as pdu
+use Rattle.dr_pdu.specs.declared.pdu.Pdv.{Pdv}
 use Rattle.dr_pdu.specs.Written.{Fits, MeetsLimit}
+use Rattle.dr_dimse.specs.declared.command.Command.{Command as CommandValue}
+use Rattle.dr_dimse.specs.declared.message.Message.{Message}
+use Rattle.dr_dimse.specs.Commands.{IsCommand, announces}
+use Rattle.dr_dimse.specs.Messages.{IsWhole, IsMessage, body_of}
 use Rattle.dr_nego.specs.declared.agreed.Pair.{Pair}
 use Rattle.dr_nego.specs.declared.agreed.Agreed.{Agreed}
 use Rattle.dr_nego.specs.declared.answering.Answer.TheVariants.{Accept, Reject}
 use Rattle.dr_nego.specs.declared.fault.NegoFault.{NegoFault}
 use Rattle.dr_nego.specs.declared.fault.NegoFault.TheVariants.{Memory}
 use Rattle.dr_nego.specs.declared.fragment.Kind.{Kind}
+use Rattle.dr_nego.specs.declared.fragment.Kind.TheVariants.{Command, DataSet}
 use Rattle.dr_nego.specs.Agreeing.{AssociateRq, AssociateAc, Concludes, AreAgreed, IsTooSmall, agreed_on, context_for}
 use Rattle.dr_nego.specs.Answering.{answer, acceptance_of, agreed_by}
 use Rattle.dr_nego.specs.Proposing.{IsProposal, IsHopTo, echo_proposal}
-use Rattle.dr_nego.specs.Fragments.{piece_size, pieces, ArePieces, value_pdu, value_pdus, fragment_pdus}
+use Rattle.dr_nego.specs.Fragments.{piece_size, pieces, ArePieces, value_pdu, value_pdus, is_command, fragment_pdus}
 
 -- the pairs of the plan among the accepted contexts are exactly those that go over the hop
 abbrev pub AgreesOnHop : Network → Text → Text → Agreed → Type 0
@@ -94,3 +101,27 @@ LastIsMarked = (id : ℕ) (is_command : Bool) (front : List (List ℕ)) (final :
 abbrev pub FragmentsFit : Type 0
 FragmentsFit = (limit id : ℕ) (kind : Kind) (text : List ℕ) → (IsTooSmall limit → ⊥) →
     All (λ (p : Pdu). Fits p × MeetsLimit limit p) (fragment_pdus limit id kind text)
+
+-- ---- what hears fragments
+
+-- the presentation data values of PDUs, one after the other
+abbrev pub values_in : Pdu → List Pdv
+values_in (pdu.Transfer values) = values
+values_in p = []
+
+abbrev pub values_of : List Pdu → List Pdv
+values_of pdus = flat_map values_in pdus
+
+-- the values of a text's fragments are the whole of it, of its kind, in its context
+abbrev pub FragmentsAreWhole : Type 0
+FragmentsAreWhole = (limit id : ℕ) (kind : Kind) (text : List ℕ) → IsWhole (is_command kind) id (values_of (fragment_pdus limit id kind text)) text
+
+-- the fragments of a command that announces no data set are its message
+abbrev pub CommandsAreMessages : Type 0
+CommandsAreMessages = (limit id : ℕ) (c : CommandValue) (text : List ℕ) → IsCommand text c → length text ≤ 16384 → announces c ≡ false →
+    IsMessage (values_of (fragment_pdus limit id Command text)) (record { id = id; command = c; body = None })
+
+-- those of one that does, with those of the data set behind them, are theirs
+abbrev pub DataSetsAreMessages : Type 0
+DataSetsAreMessages = (limit id : ℕ) (c : CommandValue) (text body : List ℕ) → IsCommand text c → length text ≤ 16384 → announces c ≡ true →
+    IsMessage (values_of (fragment_pdus limit id Command text ++ fragment_pdus limit id DataSet body)) (record { id = id; command = c; body = Some (body_of body) })

@@ -1,5 +1,5 @@
 //! Laws of negotiation.
-ghost use Rattle.dr_nego.specs.Laws.{HopsAreAgreed, BothSidesAgree, AgreementsAreWhole, OneConclusion, ContextsAreLeast, OneProposal, ProposalsFit, EchoesFit, AcceptancesFit, PiecesAreWhole, OneCut, LastIsMarked, FragmentsFit};
+ghost use Rattle.dr_nego.specs.Laws.{HopsAreAgreed, BothSidesAgree, AgreementsAreWhole, OneConclusion, ContextsAreLeast, OneProposal, ProposalsFit, EchoesFit, AcceptancesFit, PiecesAreWhole, OneCut, LastIsMarked, FragmentsFit, FragmentsAreWhole, CommandsAreMessages, DataSetsAreMessages};
 
 /// Over a hop of a sound plan, whose caller proposes its pairs, the receiver accepts just these, unless 256 others are
 /// open.
@@ -47,4 +47,12 @@ pub fn pieces_are_whole()
 pub fn fragments_fit()
     ensures last { LastIsMarked }
     ensures fit { FragmentsFit }
+{}
+
+/// The values of a text's fragments are the whole of it. So the fragments of a command, with those of its data set behind
+/// them where it announces one, are heard as just its message (PS3.7 6.3, PS3.8 annex E), however they are cut.
+pub fn fragments_make_their_message()
+    ensures whole { FragmentsAreWhole }
+    ensures commands { CommandsAreMessages }
+    ensures data_sets { DataSetsAreMessages }
 {}

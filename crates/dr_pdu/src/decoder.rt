@@ -10,13 +10,13 @@ use crate::pdvs::pdvs_of;
 use std::alloc::Global;
 
 /// The greatest length field of an association PDU, in bytes.
-const GREATEST_ASSOCIATION: u32 = 262_144;
+pub const GREATEST_ASSOCIATION: u32 = 262_144;
 
 /// The least one: what stands in front of the items.
 const LEAST_ASSOCIATION: u32 = 68;
 
 /// The greatest length field of a P-DATA-TF where the limit is 0, in bytes.
-const GREATEST_TRANSFER: u32 = 134_217_728;
+pub const GREATEST_TRANSFER: u32 = 134_217_728;
 
 /// The PDU in front of a text, and the length of its spelling in bytes. `limit` bounds the length field of a P-DATA-TF;
 /// 0 stands for 134,217,728.

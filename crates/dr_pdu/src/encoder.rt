@@ -9,7 +9,7 @@ ghost use Rattle.dr_pdu.specs.Reads.{GoesOn};
 ghost use Rattle.dr_pdu.specs.declared.pdu.Pdu.TheVariants.{Transfer};
 
 use crate::associate::Context;
-use crate::lengths::{GREATEST_ASSOCIATION, values_len};
+use crate::lengths::{LONGEST_ASSOCIATION, values_len};
 use crate::pdu::{Association, Pdu, Pdv};
 use std::alloc::{AllocError, Global};
 
@@ -154,7 +154,7 @@ fn association_body<C: Context>(
         (association_text kind (C.body_text false) (user_text false association.now.max_pdu) association.now)) }
 {
     let full = association_with(alloc, true, kind, association)?;
-    if full.len() <= GREATEST_ASSOCIATION {
+    if full.len() <= LONGEST_ASSOCIATION {
         return Ok(full);
     }
     association_with(alloc, false, kind, association)

@@ -8,16 +8,16 @@ ghost use Rattle.dr_pdu.specs.Written.{Fits};
 ghost use Rattle.dr_pdu.specs.Fitting.{IsTitle, IsUnpadded, FrontFits, AssociationFits, weight};
 
 use crate::associate::Context;
-use crate::decoder::are_context_ids;
+use crate::decoder::{GREATEST_ASSOCIATION, GREATEST_TRANSFER, are_context_ids};
 use crate::pdu::{Association, Front, Pdu, Pdv};
 use dr_base::Text;
 use dr_base::padding::{trimmed, unpadded};
 
-/// The greatest length field of an association PDU, in bytes.
-pub const GREATEST_ASSOCIATION: usize = 262_144;
+/// The greatest length field of an association PDU, as a length.
+pub const LONGEST_ASSOCIATION: usize = GREATEST_ASSOCIATION as usize;
 
-/// The greatest length field of a P-DATA-TF, in bytes.
-const GREATEST_TRANSFER: usize = 134_217_728;
+/// The greatest length field of a P-DATA-TF where there is no limit, as a length.
+const LONGEST_TRANSFER: usize = GREATEST_TRANSFER as usize;
 
 /// Whether a PDU has a spelling: its lengths are those that the format holds, names are without the padding that reading
 /// drops, context ids are odd and distinct, a proposal has a transfer syntax, and a refused context has none.
@@ -54,7 +54,7 @@ fn association_fits<C: Context>(association: &Association<C>) -> bool
     let Some(contexts) = contexts_len(association.contexts.as_slice()) else {
         return false;
     };
-    if 72 + application + contexts + user > GREATEST_ASSOCIATION {
+    if 72 + application + contexts + user > LONGEST_ASSOCIATION {
         return false;
     }
     are_context_ids(association.contexts.as_slice())
@@ -84,11 +84,11 @@ fn contexts_len<C: Context>(contexts: &[C]) -> Option<usize>
         let Some(body) = context.bare_len() else {
             return None;
         };
-        if body > GREATEST_ASSOCIATION {
+        if body > LONGEST_ASSOCIATION {
             return None;
         }
         len += 4 + body;
-        if len > GREATEST_ASSOCIATION {
+        if len > LONGEST_ASSOCIATION {
             return None;
         }
     }
@@ -102,11 +102,11 @@ pub fn values_len(pdvs: &[Pdv]) -> Option<usize>
     let mut len = 0;
     for pdv in pdvs {
         let fragment = pdv.fragment.len();
-        if fragment > GREATEST_TRANSFER {
+        if fragment > LONGEST_TRANSFER {
             return None;
         }
         len += 6 + fragment;
-        if len > GREATEST_TRANSFER {
+        if len > LONGEST_TRANSFER {
             return None;
         }
     }
