@@ -4,3 +4,4 @@ pub mod Stacked
 pub mod Steps
 pub mod Trails
 pub mod Unsound
+pub mod Overfull

@@ -52,6 +52,7 @@ no_sound_plan plan (DeadEnd walk cell) shown sound =
       | inr sent ↦ e.2.1 sent.0 sent.1
     ]
 no_sound_plan plan (TooManyContexts from to) shown sound =
-    let few : length shown.0 ≤ 128 = sound.few_pairs from to shown.0 shown.1 shown.2 in
-    let many : length shown.0 ≡ 129 = shown.3 in
+    let many = shown.0 in
+    let few : length many.0 ≤ 128 = sound.few_pairs from to many.0 many.1 many.2 in
+    let long : length many.0 ≡ 129 = many.3 in
     omega arith

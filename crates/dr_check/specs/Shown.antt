@@ -1,5 +1,6 @@
 -- What a checker's no shows, and when a plan has too many lines.
 use Rattle.std.specs.Prelude.{◌≡◌, ◌≢◌, ℕ, ◌⊎◌, AllPairs, All, List, [], ◌∷◌, ◌++◌, length, Contains}
+use Rattle.std.specs.declared.cmp.Ordering.TheVariants.{Less}
 use Rattle.dr_base.specs.Texts.{Text}
 use Rattle.dr_base.specs.declared.syntax.Syntax.{Syntax}
 use Rattle.dr_route.specs.Routes.{local}
@@ -9,6 +10,7 @@ use Rattle.dr_network.specs.Networks.{Network}
 use Rattle.dr_network.specs.Plans.{LiesIn}
 use Rattle.dr_network.specs.Walks.{Sends, Keeps, Accepts, IsWalk, places, last_place, IsEntry, IsReached, GoesOver}
 use Rattle.dr_sound.specs.declared.certificate.Stop.{Stop}
+use Rattle.dr_sound.specs.HopPairs.{hop_cmp}
 use Rattle.dr_check.specs.declared.fault.Fault.{Fault}
 use Rattle.dr_check.specs.declared.fault.Fault.TheVariants.{NoContext, Cycle, DeadEnd, TooManyContexts}
 
@@ -25,6 +27,15 @@ pub record ShownBy (plan : Network) (walk : List Text) (cell : OwnedCell) (P : T
 abbrev pub ComesBack : Text → List Text → Type 0
 ComesBack site over = (before : List (Text × Text)) × (places local site over ≡ before ++ last_place local site over ∷ []) × Contains before (last_place local site over)
 
+-- more pairs go over the hop than an association has presentation contexts
+abbrev pub IsOverfull : Network → Text → Text → Type 0
+IsOverfull plan from to = (apart : List (Text × Syntax)) × AllPairs (λ p q. p ≢ q) apart × All (GoesOver plan from to) apart × (length apart ≡ 129)
+
+-- of those hops it is the first, by the bytes of the sender's name and then of the receiver's
+abbrev pub IsFirstOverfull : Network → Text → Text → Type 0
+IsFirstOverfull plan from to = IsOverfull plan from to × ((a b : Text) → IsOverfull plan a b → hop_cmp (a, b) (from, to) ≢ Less)
+
+-- the fault is in the plan: what it names can be followed by hand
 abbrev pub IsShown : Network → Fault → Type 0
 IsShown plan (NoContext walk cell) = ShownBy plan walk cell (λ site over key.
     (over ≢ []) × (Accepts plan (last_place local site over).1 (last_place local site over).0 key.class key.syntax → ⊥))
@@ -32,7 +43,7 @@ IsShown plan (Cycle walk cell) = ShownBy plan walk cell (λ site over key. Comes
 IsShown plan (DeadEnd walk cell) = ShownBy plan walk cell (λ site over key.
     (Keeps plan (last_place local site over).1 (last_place local site over).0 key → ⊥)
     × ((to : Text) → Sends plan (last_place local site over).1 (last_place local site over).0 key to → ⊥))
-IsShown plan (TooManyContexts from to) = (apart : List (Text × Syntax)) × AllPairs (λ p q. p ≢ q) apart × All (GoesOver plan from to) apart × (length apart ≡ 129)
+IsShown plan (TooManyContexts from to) = IsFirstOverfull plan from to
 
 -- more stops than a certificate may have lines: 65,537 of them, no two alike, to each of which some key of its cell comes
 pub record IsTooLarge (plan : Network) : Type 0 where

@@ -3,7 +3,7 @@ use Rattle.std.proofs.Common.{◌≡◌, ◌≢◌, ℕ, zero, suc, ◌+◌, ◌
 use Rattle.std.specs.Prelude.{◌↔◌, ◌&&◌, Bool, AllPairs, All, filter, map, slice_get}
 use Rattle.std.specs.declared.cmp.Ordering.{Ordering}
 use Rattle.std.specs.declared.cmp.Ordering.TheVariants.{Less, Equal, Greater}
-use Rattle.std.specs.Ordering.{ordering_then}
+use Rattle.std.specs.Ordering.{ordering_then, ordering_reverse}
 use Rattle.std.specs.Cmp.{IsTotalOrder}
 use Rattle.std.specs.Cmp.Lexicographic.{nat_list_cmp_total}
 use Rattle.std.specs.List.Sorted.{IsStrictlySortedBy}
@@ -25,7 +25,8 @@ use Rattle.dr_base.specs.contracts.syntax.SyntaxOrd.TheImpl as syntaxes
 use Rattle.dr_network.proofs.Gathered.{nothing_in_nil, Contains-cons_cases, Contains-there, Contains-here}
 use Rattle.dr_network.proofs.WalksAlike.{all_from_each}
 use Rattle.dr_sound.specs.Certificates.{pair_cmp}
-use Rattle.dr_sound.specs.HopPairs.{OverHop, AreOverHop, HasNumber, AreNumbered, AreTooMany}
+use Rattle.dr_sound.specs.HopPairs.{OverHop, AreOverHop, HasNumber, AreNumbered, AreTooMany, hop_cmp}
+use Rattle.dr_sound.proofs.Pigeons.{no_more_than}
 use Rattle.dr_sound.specs.declared.certificate.Line.{Line}
 use Rattle.dr_sound.specs.declared.certificate.Hop.{Hop}
 use Rattle.dr_hops.specs.declared.hops.Passage.{Passage}
@@ -35,7 +36,8 @@ use Rattle.dr_hops.specs.declared.hops.Numbered.TheVariants as numbered
 use Rattle.dr_hops.specs.contracts.hops.PassageOrd.TheImpl.Laws as passage_laws
 use Rattle.dr_hops.specs.Numbering.{passage_cmp, pair_of, ends_at, goes_over, count_over, hop_after, numbered_after, IsPassage, ArePassages, Numbers, NumbersAll}
 use Rattle.dr_hops.proofs.Keys.{goes_ends, goes_itself, same_passage}
-use Rattle.dr_hops.proofs.Rows.{filter_has, same_sorted, at_seam, map_has, map_of, map_pairs, unmap_apart}
+use Rattle.dr_hops.proofs.Counting.{one_over}
+use Rattle.dr_hops.proofs.Rows.{filter_has, tail_sorted, head_below, same_sorted, at_seam, map_has, map_of, map_pairs, unmap_apart}
 
 pair_total : IsTotalOrder pair_cmp
 pair_total = then_total (on_total (λ (p : Text × Syntax). p.0) nat_list_cmp_total) (on_total (λ (p : Text × Syntax). syntax_uid p.1) nat_list_cmp_total)
@@ -61,6 +63,44 @@ goes_from a b p e = let same = goes_ends a b p e in (sym (ap (λ (x : Ends). x.f
 
 sorted_pairs : (ps : List Passage) → IsStrictlySortedBy passage_cmp ps → AllPairs (λ p q. passage_cmp p q ≡ Less) ps
 sorted_pairs ps s i j d lt h = Less-from_sorted passage_cmp ps i j d s lt h
+
+-- ---- the order of hops
+hop_total : IsTotalOrder hop_cmp
+hop_total = then_total (on_total (λ (p : Text × Text). p.0) nat_list_cmp_total) (on_total (λ (p : Text × Text). p.1) nat_list_cmp_total)
+
+still_greater : (f t r : Ordering) → ordering_then f t ≡ Greater → ordering_then f (ordering_then t r) ≡ Greater
+still_greater Less t r e = e
+still_greater Greater t r e = e
+still_greater Equal Less r e = e
+still_greater Equal Equal r e = absurd (cc e)
+still_greater Equal Greater r e = refl
+
+not_before_itself : (q : Passage) → hop_cmp (q.from, q.to) (q.from, q.to) ≡ Less → ⊥
+not_before_itself q less = (let e : Less ≡ Equal = sym less ∙ tied_itself hop_total (q.from, q.to) in cc e)
+
+-- the hop of a passage that stands behind isn't before
+not_before : (q x : Passage) → passage_cmp q x ≡ Less → hop_cmp (x.from, x.to) (q.from, q.to) ≡ Less → ⊥
+not_before q x behind less =
+    let back : hop_cmp (q.from, q.to) (x.from, x.to) ≡ Greater = hop_total.antisymm (q.from, q.to) (x.from, x.to) ∙ ap ordering_reverse less in
+    let e : passage_cmp q x ≡ Greater =
+    still_greater (text_cmp q.from x.from) (text_cmp q.to x.to) (ordering_then (text_cmp q.class x.class) (syntaxes.cmp-value.it q.syntax x.syntax)) back in
+    let clash : Less ≡ Greater = sym behind ∙ e in
+    cc clash
+
+suffix_sorted : {X : Type 0} (R : X → X → Ordering) (front xs : List X) → AllPairs (λ p q. R p q ≡ Less) (front ++ xs) → AllPairs (λ p q. R p q ≡ Less) xs
+suffix_sorted R [] xs s = s
+suffix_sorted R (y ∷ front) xs s = suffix_sorted R front xs (tail_sorted R y (front ++ xs) s)
+
+count_parts : (c d : Text) (xs ys : List Passage) → count_over c d (xs ++ ys) ≡ count_over c d xs + count_over c d ys
+count_parts c d xs ys = ap (λ (zs : List Passage). length zs) (filter-append (goes_over c d) xs ys) ∙ length-append (filter (goes_over c d) xs) (filter (goes_over c d) ys)
+
+count_none : (c d : Text) (xs : List Passage) → ((x : Passage) → Contains xs x → goes_over c d x ≡ true → ⊥) → count_over c d xs ≡ 0
+count_none c d [] h = refl
+count_none c d (x ∷ xs) h = elim (cases_Bool (goes_over c d x)) [
+  | inl here ↦ absurd (h x (Contains-here x xs) here)
+  | inr other ↦ (let none : filter (goes_over c d) (x ∷ xs) ≡ filter (goes_over c d) xs = rw other refl in
+      ap (λ (zs : List Passage). length zs) none ∙ count_none c d xs (λ y among. h y (Contains-there x xs y among)))
+]
 
 -- ---- the pairs of a hop
 pub over : Text → Text → List Passage → List (Text × Syntax)
@@ -217,6 +257,50 @@ module _ (lines : List Line) (ps : List Passage) (are : ArePassages lines ps) wh
   unfolding over
   over_length a b front = length-map (filter (goes_over a b) front) pair_of
 
+  -- ---- a hop with too many pairs
+  too_many : (a b : Text) (front rest : List Passage) → ps ≡ front ++ rest → count_over a b front ≡ 129 → AreTooMany lines a b
+  too_many a b front rest is count =
+      let within : (p : Passage) → Contains front p → Contains ps p = λ p h. let P : List Passage → Type 0 = λ xs. Contains xs p in subst P (sym is) (Contains-append_left front rest p h) in
+      let sorted : AllPairs (λ p q. passage_cmp p q ≡ Less) front = λ i j d lt h.
+      let Q : List Passage → Type 0 = λ xs. AllPairs (λ p q. passage_cmp p q ≡ Less) xs in
+      let whole : AllPairs (λ p q. passage_cmp p q ≡ Less) (front ++ rest) = subst Q is (sorted_pairs ps are.ordered) in
+      let in_i : get_or (front ++ rest) i d ≡ get_or front i d = get_or_append_left front rest d i (omega arith) in
+      let in_j : get_or (front ++ rest) j d ≡ get_or front j d = get_or_append_left front rest d j h in
+      let longer : j < length (front ++ rest) = (let e = length-append front rest in omega (arith, e, h)) in
+      ap (λ (x : Passage). passage_cmp x (get_or front j d)) (sym in_i) ∙ (ap (λ (x : Passage). passage_cmp (get_or (front ++ rest) i d) x) (sym in_j) ∙ whole i j d lt longer) in
+      let ordered = over_ordered a b front sorted in (
+        over a b front,
+        (λ i j d lt h same.
+            let less : pair_cmp (get_or (over a b front) i d) (get_or (over a b front) j d) ≡ Less = ordered i j d lt h in
+            let tied : pair_cmp (get_or (over a b front) j d) (get_or (over a b front) j d) ≡ Equal = tied_itself pair_total (get_or (over a b front) j d) in
+            let e : Less ≡ Equal = sym less ∙ (ap (λ (x : Text × Syntax). pair_cmp x (get_or (over a b front) j d)) same ∙ tied) in
+            cc e),
+        all_from_each (OverHop lines a b) (over a b front) (λ pair h. over_shown a b front within pair h),
+        over_length a b front ∙ count,
+      )
+
+  -- no hop before that of the passage q, which is behind the front, has more pairs than it has in front
+  none_before : (front : List Passage) (q : Passage) (rest : List Passage) → ps ≡ front ++ q ∷ rest → ((c d : Text) → count_over c d front ≤ 128) →
+      (c d : Text) → AreTooMany lines c d → hop_cmp (c, d) (q.from, q.to) ≢ Less
+  none_before front q rest is few c d many less =
+      let Q : List Passage → Type 0 = λ xs. AllPairs (λ x y. passage_cmp x y ≡ Less) xs in
+      let behind : AllPairs (λ x y. passage_cmp x y ≡ Less) (q ∷ rest) = suffix_sorted passage_cmp front (q ∷ rest) (subst Q is (sorted_pairs ps are.ordered)) in
+      let none : count_over c d (q ∷ rest) ≡ 0 = count_none c d (q ∷ rest) (λ x among goes.
+      let ends = goes_from c d x goes in
+      let P : Text → Type 0 = λ t. hop_cmp (t, d) (q.from, q.to) ≡ Less in
+      let R : Text → Type 0 = λ t. hop_cmp (x.from, t) (q.from, q.to) ≡ Less in
+      let before : hop_cmp (x.from, x.to) (q.from, q.to) ≡ Less = subst R (sym ends.1) (subst P (sym ends.0) less) in
+      elim (Contains-cons_cases q rest x among) [
+        | inl same ↦ (let S : Passage → Type 0 = λ y. hop_cmp (y.from, y.to) (q.from, q.to) ≡ Less in not_before_itself q (subst S (sym same) before))
+        | inr later ↦ not_before q x (head_below passage_cmp q rest behind x later) before
+      ]) in
+      let sum : count_over c d ps ≡ count_over c d front + count_over c d (q ∷ rest) = ap (λ (xs : List Passage). count_over c d xs) is ∙ count_parts c d front (q ∷ rest) in
+      let long : length many.0 ≤ length (over c d ps) = no_more_than (over c d ps) many.0 many.1 (λ k y h. over_has c d (get_or many.0 k y) (many.2 k y h)) in
+      let e : length (over c d ps) ≡ count_over c d ps = over_length c d ps in
+      let n : length many.0 ≡ 129 = many.3 in
+      let f : count_over c d front ≤ 128 = few c d in
+      omega (arith, long, e, n, f, sum, none)
+
   pub are_numbered : (result : Numbered) → NumbersAll ps result → Numbers lines result
   are_numbered (numbered.Hops hops) all =
       let P : List Hop → Type 0 = λ hs. AreNumbered lines hs in
@@ -230,21 +314,17 @@ module _ (lines : List Line) (ps : List Passage) (are : ArePassages lines ps) wh
       })
   are_numbered (numbered.TooMany a b) all =
       let front : List Passage = all.0 in
-      let within : (p : Passage) → Contains front p → Contains ps p = λ p h. let P : List Passage → Type 0 = λ xs. Contains xs p in subst P (sym all.2) (Contains-append_left front all.1 p h) in
-      let sorted : AllPairs (λ p q. passage_cmp p q ≡ Less) front = λ i j d lt h.
-      let Q : List Passage → Type 0 = λ xs. AllPairs (λ p q. passage_cmp p q ≡ Less) xs in
-      let whole : AllPairs (λ p q. passage_cmp p q ≡ Less) (front ++ all.1) = subst Q all.2 (sorted_pairs ps are.ordered) in
-      let in_i : get_or (front ++ all.1) i d ≡ get_or front i d = get_or_append_left front all.1 d i (omega arith) in
-      let in_j : get_or (front ++ all.1) j d ≡ get_or front j d = get_or_append_left front all.1 d j h in
-      let longer : j < length (front ++ all.1) = (let e = length-append front all.1 in omega (arith, e, h)) in
-      ap (λ (x : Passage). passage_cmp x (get_or front j d)) (sym in_i) ∙ (ap (λ (x : Passage). passage_cmp (get_or (front ++ all.1) i d) x) (sym in_j) ∙ whole i j d lt longer) in
-      let ordered = over_ordered a b front sorted in (
-        over a b front,
-        (λ i j d lt h same.
-            let less : pair_cmp (get_or (over a b front) i d) (get_or (over a b front) j d) ≡ Less = ordered i j d lt h in
-            let tied : pair_cmp (get_or (over a b front) j d) (get_or (over a b front) j d) ≡ Equal = tied_itself pair_total (get_or (over a b front) j d) in
-            let e : Less ≡ Equal = sym less ∙ (ap (λ (x : Text × Syntax). pair_cmp x (get_or (over a b front) j d)) same ∙ tied) in
-            cc e),
-        all_from_each (OverHop lines a b) (over a b front) (λ pair h. over_shown a b front within pair h),
-        over_length a b front ∙ all.3,
+      let q : Passage = all.1 in
+      let rest : List Passage = all.2 in
+      let is : ps ≡ front ++ q ∷ rest = all.3 in
+      let P : Text → Type 0 = λ z. count_over z b front ≡ 128 in
+      let Q : Text → Type 0 = λ z. count_over q.from z front ≡ 128 in
+      let own : count_over q.from q.to front ≡ 128 = subst Q (sym all.5) (subst P (sym all.4) all.6) in
+      let R : Text → Type 0 = λ z. count_over z b (front ++ q ∷ []) ≡ 129 in
+      let S : Text → Type 0 = λ z. count_over q.from z (front ++ q ∷ []) ≡ 129 in
+      let full : count_over a b (front ++ q ∷ []) ≡ 129 = subst R all.4 (subst S all.5 (one_over q front 128 own)) in
+      let F : Text → Type 0 = λ z. (c d : Text) → AreTooMany lines c d → hop_cmp (c, d) (z, b) ≢ Less in
+      let T : Text → Type 0 = λ z. (c d : Text) → AreTooMany lines c d → hop_cmp (c, d) (q.from, z) ≢ Less in (
+        too_many a b (front ++ q ∷ []) rest (is ∙ sym (append_assoc front (q ∷ []) rest)) full,
+        subst F all.4 (subst T all.5 (none_before front q rest is all.7)),
       )

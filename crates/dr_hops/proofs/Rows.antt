@@ -38,10 +38,10 @@ module _ {X : Type 0} where
   ]
 
   -- ---- sorted rows with the same elements are equal
-  tail_sorted : (R : X → X → Ordering) (x : X) (xs : List X) → AllPairs (λ p q. R p q ≡ Less) (x ∷ xs) → AllPairs (λ p q. R p q ≡ Less) xs
+  pub tail_sorted : (R : X → X → Ordering) (x : X) (xs : List X) → AllPairs (λ p q. R p q ≡ Less) (x ∷ xs) → AllPairs (λ p q. R p q ≡ Less) xs
   tail_sorted R x xs s i j d lt h = s (suc i) (suc j) d (omega arith) (omega arith)
 
-  head_below : (R : X → X → Ordering) (x : X) (xs : List X) → AllPairs (λ p q. R p q ≡ Less) (x ∷ xs) → (y : X) → Contains xs y → R x y ≡ Less
+  pub head_below : (R : X → X → Ordering) (x : X) (xs : List X) → AllPairs (λ p q. R p q ≡ Less) (x ∷ xs) → (y : X) → Contains xs y → R x y ≡ Less
   head_below R x xs s y h =
       let at : R x (get_or xs h.0 y) ≡ Less = s 0 (suc h.0) y (omega arith) (let lt : h.0 < length xs = h.1 in omega arith) in
       ap (λ (z : X). R x z) (sym h.2) ∙ at

@@ -8,7 +8,7 @@ use Rattle.dr_base.specs.Texts.{Text}
 use Rattle.dr_base.specs.declared.syntax.Syntax.{Syntax}
 use Rattle.dr_sound.specs.declared.certificate.Line.{Line}
 use Rattle.dr_sound.specs.declared.certificate.Hop.{Hop}
-use Rattle.dr_sound.specs.HopPairs.{OverHop, AreNumbered, AreTooMany}
+use Rattle.dr_sound.specs.HopPairs.{OverHop, AreNumbered, IsFirstTooMany}
 use Rattle.dr_hops.specs.declared.hops.Passage.{Passage}
 use Rattle.dr_hops.specs.declared.hops.Ends.{Ends}
 use Rattle.dr_hops.specs.declared.hops.Numbered.{Numbered}
@@ -62,12 +62,14 @@ abbrev pub numbered_after : List Passage → List Passage → List Hop
 numbered_after before [] = []
 numbered_after before (p ∷ ps) = hop_after p (count_over p.from p.to before) ∷ numbered_after (before ++ p ∷ []) ps
 
--- the numbered hops of the lines, or a hop with too many pairs
+-- the numbered hops of the lines, or the first hop with too many pairs
 abbrev pub Numbers : List Line → Numbered → Type 0
 Numbers lines (numbered.Hops hops) = AreNumbered lines hops.items
-Numbers lines (numbered.TooMany a b) = AreTooMany lines a b
+Numbers lines (numbered.TooMany a b) = IsFirstTooMany lines a b
 
--- the same of the passages: all of them numbered, over no hop more than 128, or one more than 128 over a hop
+-- the same of the passages: all of them numbered, over no hop more than 128, or one more than 128 over a hop, and before
+-- it none over any
 abbrev pub NumbersAll : List Passage → Numbered → Type 0
 NumbersAll all (numbered.Hops hops) = (hops.items ≡ numbered_after [] all) × ((a b : Text) → count_over a b all ≤ 128)
-NumbersAll all (numbered.TooMany a b) = (front : List Passage) × (rest : List Passage) × (all ≡ front ++ rest) × (count_over a b front ≡ 129)
+NumbersAll all (numbered.TooMany a b) = (front : List Passage) × (q : Passage) × (rest : List Passage) × (all ≡ front ++ q ∷ rest) × (q.from ≡ a) × (q.to ≡ b)
+    × (count_over a b front ≡ 128) × ((c d : Text) → count_over c d front ≤ 128)

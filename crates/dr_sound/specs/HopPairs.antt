@@ -1,7 +1,9 @@
 -- The pairs that go over a hop, as lines show them, and their numbers.
 use Rattle.std.specs.Prelude.{◌≡◌, ◌≢◌, ℕ, ◌+◌, ◌*◌, ◌≤◌, ◌↔◌, List, AllPairs, All, Contains, Some, slice_get, length}
+use Rattle.std.specs.declared.cmp.Ordering.{Ordering}
 use Rattle.std.specs.declared.cmp.Ordering.TheVariants.{Less}
-use Rattle.dr_base.specs.Texts.{Text}
+use Rattle.std.specs.Ordering.{ordering_then}
+use Rattle.dr_base.specs.Texts.{Text, text_cmp}
 use Rattle.dr_base.specs.declared.syntax.Syntax.{Syntax}
 use Rattle.dr_route.specs.Routes.{local}
 use Rattle.dr_sound.specs.declared.certificate.Stop.{Stop}
@@ -32,3 +34,11 @@ pub record AreNumbered (lines : List Line) (hops : List Hop) : Type 0 where
 -- more pairs than a hop can carry
 abbrev pub AreTooMany : List Line → Text → Text → Type 0
 AreTooMany lines from to = (apart : List (Text × Syntax)) × AllPairs (λ p q. p ≢ q) apart × All (OverHop lines from to) apart × (length apart ≡ 129)
+
+-- byte order of hops, each its sender and its receiver: of the senders, then of the receivers
+abbrev pub hop_cmp : Text × Text → Text × Text → Ordering
+hop_cmp a b = ordering_then (text_cmp a.0 b.0) (text_cmp a.1 b.1)
+
+-- of the hops with more pairs than a hop can carry it is the first
+abbrev pub IsFirstTooMany : List Line → Text → Text → Type 0
+IsFirstTooMany lines from to = AreTooMany lines from to × ((a b : Text) → AreTooMany lines a b → hop_cmp (a, b) (from, to) ≢ Less)

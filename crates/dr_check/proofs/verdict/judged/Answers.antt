@@ -5,11 +5,12 @@ use Rattle.dr_base.specs.declared.syntax.Syntax.{Syntax}
 use Rattle.dr_network.proofs.WalksAlike.{all_from_each}
 use Rattle.dr_sound.specs.declared.certificate.Line.{Line}
 use Rattle.dr_sound.specs.declared.certificate.Hop.{Hop}
-use Rattle.dr_sound.specs.HopPairs.{AreNumbered, AreTooMany}
+use Rattle.dr_sound.specs.HopPairs.{AreNumbered, IsFirstTooMany}
 use Rattle.dr_sound.proofs.RankedLines.{lines_are_the_lines}
-use Rattle.dr_sound.proofs.Hopping.{over_goes, sound_by_lines}
+use Rattle.dr_sound.proofs.Hopping.{sound_by_lines}
 use Rattle.dr_cert_text.specs.Printable.{IsPrintableLine, IsPrintableHop, IsDigest}
 use Rattle.dr_hops.specs.Numbering.{Numbers}
+use Rattle.dr_check.proofs.Overfull.{first_overfull}
 use Rattle.dr_check.proofs.Ready.{line_is_printable, hop_is_printable, hops_are_the_hops}
 use Rattle.dr_check.proofs.verdict.judged.Goals as goal
 
@@ -25,13 +26,9 @@ order_lines-requires-clause-printable c =
 
 pub returns-in-TooMany : goal.returns-in-TooMany
 returns-in-TooMany c =
-    let P : List Line → Type 0 = λ ls. AreTooMany ls c.in-TooMany.from c.in-TooMany.to in
-    let many : AreTooMany c.args.lines.items c.in-TooMany.from c.in-TooMany.to = subst P c.as_slice.ensures.value (rw c.in-TooMany.is at c.in_ok-from.ensures) in (
-      many.0,
-      many.1,
-      (λ k d h. over_goes c.args.plan.now c.requires.formed c.args.lines.items c.requires.ranked c.in-TooMany.from c.in-TooMany.to (get_or many.0 k d) (many.2 k d h)),
-      many.3,
-    )
+    let P : List Line → Type 0 = λ ls. IsFirstTooMany ls c.in-TooMany.from c.in-TooMany.to in
+    let many : IsFirstTooMany c.args.lines.items c.in-TooMany.from c.in-TooMany.to = subst P c.as_slice.ensures.value (rw c.in-TooMany.is at c.in_ok-from.ensures) in
+    first_overfull c.args.plan.now c.requires.formed c.args.lines.items c.requires.ranked c.in-TooMany.from c.in-TooMany.to many
 
 pub returns-in_ok-order_lines-in-Hops : goal.returns-in_ok-order_lines-in-Hops
 returns-in_ok-order_lines-in-Hops c =

@@ -7,25 +7,31 @@ use Rattle.dr_sound.specs.declared.certificate.Hop.{Hop}
 use Rattle.dr_hops.specs.declared.hops.Passage.{Passage}
 use Rattle.dr_hops.specs.declared.hops.Ends.{Ends}
 use Rattle.dr_hops.specs.Numbering.{counted, count_over, numbered_after, ends_cmp, ends_at, hop_after}
-use Rattle.dr_hops.proofs.Counting.{counts_more, few_more, one_over}
+use Rattle.dr_hops.proofs.Counting.{counts_more, few_more}
 use Rattle.dr_hops.proofs.hops.number.Goals as goal
 
 pub returns-then-before-ge-MOST_CONTEXTS : goal.returns-then-before-ge-MOST_CONTEXTS
 returns-then-before-ge-MOST_CONTEXTS c =
     let i : ℕ = c.loop-passage.passage-index in
     let q : Passage = c.passage-item.result in
-    let e = take_more c.args.passages.now i q c.loop-passage-test.true in
-    let more : take (i + 1) c.args.passages.now ≡ take i c.args.passages.now ++ q ∷ [] = rw (← c.passage-item.is) at e in
+    let ps : List Passage = c.args.passages.now in
+    let d = drop_more ps i q c.loop-passage-test.true in
+    let split : drop i ps ≡ q ∷ drop (i + 1) ps = rw (← c.passage-item.is) at d in
     let value : c.unwrap_or-before.result ≡ counted c.loop-passage.counts q = c.unwrap_or-before.ensures ∙ (ap (λ o. unwrap_or o 0) (c.copied.ensures ∙ c.get.ensures.value) ∙ ap (λ (x : Ends). unwrap_or (get ends_cmp c.loop-passage.counts x) 0) c.in_ok-ends.ensures) in
-    let count : c.unwrap_or-before.result ≡ count_over q.from q.to (take i c.args.passages.now) = value ∙ c.loop-passage.invariant.counts q in
+    let count : c.unwrap_or-before.result ≡ count_over q.from q.to (take i ps) = value ∙ c.loop-passage.invariant.counts q in
     let few = c.loop-passage.invariant.few q.from q.to in
     let many : 128 ≤ c.unwrap_or-before.result = c.if-before-ge-MOST_CONTEXTS.true in
-    let exact : count_over q.from q.to (take i c.args.passages.now) ≡ 128 = omega (arith, few, count) in
-    let P : Ends → Type 0 = λ x. count_over x.from x.to (take i c.args.passages.now ++ q ∷ []) ≡ 129 in (
-      take i c.args.passages.now ++ q ∷ [],
-      drop (i + 1) c.args.passages.now,
-      sym (take-append-drop (i + 1) c.args.passages.now) ∙ ap (λ (ps : List Passage). ps ++ drop (i + 1) c.args.passages.now) more,
-      subst P (sym c.in_ok-ends.ensures) (one_over q (take i c.args.passages.now) 128 exact),
+    let exact : count_over q.from q.to (take i ps) ≡ 128 = omega (arith, few, count) in
+    let ends : ends_at q ≡ c.in_ok-ends.ends = sym c.in_ok-ends.ensures in
+    let P : Ends → Type 0 = λ x. count_over x.from x.to (take i ps) ≡ 128 in (
+      take i ps,
+      q,
+      drop (i + 1) ps,
+      sym (take-append-drop i ps) ∙ ap (λ (rest : List Passage). take i ps ++ rest) split,
+      ap (λ (x : Ends). x.from) ends,
+      ap (λ (x : Ends). x.to) ends,
+      subst P ends exact,
+      c.loop-passage.invariant.few,
     )
 
 pub loop-passage-preserved : goal.loop-passage-preserved
