@@ -5,13 +5,14 @@ use Rattle.std.specs.Ordering.{nat_cmp}
 use Rattle.std.specs.Cmp.Lexicographic.{slice_cmp}
 use Rattle.std.specs.List.Sorted.{IsStrictlySortedBy}
 
+-- a text, such as a title or a UID, as the list of its bytes
 abbrev pub Text : Type 0
 Text = List ℕ
 
--- byte by byte; a text comes before each longer one that it begins
+-- byte order: texts are compared byte by byte, and a text comes before each longer one that it begins
 abbrev pub text_cmp : Text → Text → Ordering
 text_cmp = slice_cmp nat_cmp
 
--- in byte order, each text once
+-- the texts stand in byte order, each of them once
 abbrev pub IsInByteOrder : List Text → Type 0
 IsInByteOrder texts = IsStrictlySortedBy text_cmp texts
