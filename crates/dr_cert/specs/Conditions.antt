@@ -18,13 +18,15 @@ use Rattle.dr_sound.specs.Printed.{printed_line, printed_hop}
 abbrev pub IsOfPlan : Network → Certificate → Type 0
 IsOfPlan plan certificate = certificate.digest ≡ plan.digest
 
--- lines and hops stand in the byte order of their printed rows, each once
+-- the lines stand in the byte order of their printed rows, each once
 abbrev pub AreLinesInOrder : List Line → Type 0
 AreLinesInOrder lines = AllPairs (λ a b. text_cmp (printed_line a) (printed_line b) ≡ Less) lines
 
+-- the hops stand in the byte order of their printed rows, each once
 abbrev pub AreHopsInOrder : List Hop → Type 0
 AreHopsInOrder hops = AllPairs (λ a b. text_cmp (printed_hop a) (printed_hop b) ≡ Less) hops
 
+-- the lines of a certificate stand in order, and so do its hops
 abbrev pub IsInOrder : Certificate → Type 0
 IsInOrder certificate = AreLinesInOrder certificate.lines × AreHopsInOrder certificate.hops
 
@@ -36,7 +38,7 @@ IsReachedStop plan stop = (key : Key) × LiesIn plan stop.cell key × IsReached 
 abbrev pub HasALine : List Line → Stop → Type 0
 HasALine lines stop = (rank : ℕ) × Contains lines (record { stop = stop; rank = rank })
 
--- each stop to which a walk comes has one
+-- each stop to which a walk from an entry comes has a line
 abbrev pub HasEachLine : Network → List Line → Type 0
 HasEachLine plan lines = (stop : Stop) → IsReachedStop plan stop → HasALine lines stop
 
@@ -65,20 +67,27 @@ abbrev pub HasRightHops : Network → List Hop → Type 0
 HasRightHops plan hops = HasFewPairs plan × ((hop : Hop) → Contains hops hop ↔ HasHop plan hop)
 
 -- ---- the first conditions, up to and with the one that gives the name
+
+-- the certificate is of this plan, and its lines and hops stand in order
 abbrev pub UpToOrder : Network → Certificate → Type 0
 UpToOrder plan certificate = IsOfPlan plan certificate × IsInOrder certificate
 
+-- the conditions up to here: digest, order, and each stop to which a walk comes has a line
 abbrev pub UpToLines : Network → Certificate → Type 0
 UpToLines plan certificate = UpToOrder plan certificate × HasEachLine plan certificate.lines
 
+-- the conditions up to here: digest, order, a line for each stop, and each hop of a walk is accepted
 abbrev pub UpToContexts : Network → Certificate → Type 0
 UpToContexts plan certificate = UpToLines plan certificate × AcceptsEachHop plan
 
+-- the conditions up to here: digest, order, lines, contexts, and no walk ends where nobody keeps
 abbrev pub UpToEnds : Network → Certificate → Type 0
 UpToEnds plan certificate = UpToContexts plan certificate × GoesOnEverywhere plan
 
+-- the conditions up to here: digest, order, lines, contexts, ends, and a walk comes to the stop of each line
 abbrev pub UpToReach : Network → Certificate → Type 0
 UpToReach plan certificate = UpToEnds plan certificate × ReachesEachLine plan certificate.lines
 
+-- all conditions but that of the hops: the last of them is that each line has the right rank
 abbrev pub UpToRanks : Network → Certificate → Type 0
 UpToRanks plan certificate = UpToReach plan certificate × HasRightRanks plan certificate.lines

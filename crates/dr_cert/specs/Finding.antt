@@ -18,7 +18,7 @@ pub record AreWalked (plan : Network) (lines : List Line) (w : Walked) : Type 0 
   pub ranked : IsTrue w.survey.accepted → IsTrue w.survey.goes_on → IsTrue w.reached → IsTrue w.survey.ranked → AreRanked plan lines
   pub wrong : w.survey.ranked ≡ false → HasRightRanks plan lines → ⊥
 
--- this, or some stop to which a walk comes has no line
+-- all lines are walked, as a finding says; or some stop to which a walk comes has no line
 abbrev pub Finds : Network → List Line → Option Walked → Type 0
 Finds plan lines (Some w) = AreWalked plan lines w
 Finds plan lines None = HasEachLine plan lines → ⊥

@@ -6,10 +6,11 @@ use Rattle.dr_sound.specs.declared.certificate.Hop.{Hop}
 use Rattle.dr_cert.specs.declared.hop_list.NumberedPassage.{NumberedPassage}
 use Rattle.dr_cert.specs.contracts.hop_list.NumberedPassageOrd.TheImpl as order
 
--- the pair of the hop, with its id
+-- a hop of a certificate as its pair (sender, receiver, class, transfer syntax) with its id
 abbrev pub numbered : Hop → NumberedPassage
 numbered hop = record { passage = record { «from» = hop.from; «to» = hop.to; class = hop.class; syntax = hop.syntax }; id = hop.id }
 
+-- the order of pairs with their ids: by sender, receiver, class, transfer syntax, and then the id
 abbrev pub numbered_cmp : NumberedPassage → NumberedPassage → Ordering
 numbered_cmp = order.cmp-value.it
 

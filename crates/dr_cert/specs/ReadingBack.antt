@@ -8,7 +8,7 @@ use Rattle.dr_cert_text.specs.Reading.{IsReadBack, HasNone}
 use Rattle.dr_cert.specs.declared.fault.CertFault.{CertFault}
 use Rattle.dr_cert.specs.declared.fault.CertFault.TheVariants.{Text, Memory}
 
--- the certificate that is written so, or that none is
+-- what reading a text answers: the certificate that is written so, or that none is
 abbrev pub ReadsCertificate : Words → Result Certificate CertFault → Type 0
 ReadsCertificate text (Ok certificate) = IsReadBack certificate_text IsPrintable text certificate
 ReadsCertificate text (Err Text) = HasNone certificate_text IsPrintable text

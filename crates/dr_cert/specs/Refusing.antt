@@ -11,7 +11,7 @@ use Rattle.dr_cert.specs.declared.fault.CertFault.{CertFault}
 use Rattle.dr_cert.specs.declared.fault.CertFault.TheVariants.{Text, OtherPlan, Order, MissingLine, NoContext, DeadEnd, WrongRank, HopList, Memory}
 use Rattle.dr_cert.specs.Conditions.{IsOfPlan, IsInOrder, HasEachLine, AcceptsEachHop, GoesOnEverywhere, ReachesEachLine, HasRightRanks, HasRightHops, UpToOrder, UpToLines, UpToContexts, UpToEnds, UpToReach, UpToRanks}
 
--- what comes before holds, and this doesn't
+-- the conditions before this one hold, and this one doesn't
 abbrev pub FailsAfter : Type 0 → Type 0 → Type 0
 FailsAfter before condition = before × (condition → ⊥)
 
@@ -28,12 +28,12 @@ IsRefused plan certificate WrongRank = FailsAfter (UpToReach plan certificate) (
 IsRefused plan certificate HopList = FailsAfter (UpToRanks plan certificate) (HasRightHops plan certificate.hops)
 IsRefused plan certificate Memory = Unit {0}
 
--- a text that isn't read, by the same name
+-- the fault of a certificate whose text isn't read, by the same name
 abbrev pub named_for : ReadFault → CertFault
 named_for read.Text = Text
 named_for read.Memory = Memory
 
--- yes to a sound plan with its certificate, which are kept as they are; else the first condition that fails
+-- what sealing answers: a sound plan with its own certificate, as they are; else the first condition that fails
 abbrev pub Seals : Network → Certificate → Result Certified CertFault → Type 0
 Seals plan certificate (Ok sealed) = (sealed ≡ record { plan = plan; certificate = certificate }) × IsSound plan × IsCertificateOf plan certificate
 Seals plan certificate (Err fault) = IsRefused plan certificate fault

@@ -13,12 +13,12 @@ use Rattle.dr_sound.specs.Certificates.{IsCertificateOf}
 use Rattle.dr_sound.specs.Ranked.{AreRanked}
 use Rattle.dr_cert.specs.Indexing.{AreSorted}
 
--- what contracts see of a sealed plan
+-- a plan with its certificate, as contracts see what is sealed
 pub record Certified : Type 0 where
   pub plan : Network
   pub certificate : Certificate
 
--- the values that the plan names
+-- the modalities and stations are those that the plan names
 pub record AreLiteralsOf (plan : Network) (literals : Literals) : Type 0 where
   pub modalities : (t : Text) → Contains literals.modalities.literals t ↔ Contains (modalities_of plan) t
   pub stations : (t : Text) → Contains literals.stations.literals t ↔ Contains (stations_of plan) t

@@ -9,15 +9,16 @@ use Rattle.dr_sound.specs.declared.certificate.Line.{Line}
 use Rattle.dr_sound.specs.Ranked.{line_at, SendsOn}
 use Rattle.dr_cert.specs.declared.survey.Survey.{Survey}
 
--- nobody asks where instances enter; elsewhere the node accepts
+-- the line's node takes the class and transfer syntax from the caller; nobody asks where instances enter
 abbrev pub IsLetIn : Network → Line → Type 0
 IsLetIn plan line = (line.stop.caller ≡ local) ⊎ Accepts plan line.stop.node line.stop.caller line.stop.cell.class line.stop.cell.syntax
 
--- the node keeps the instance or sends it on
+-- the line's node keeps the instances of its cell, or sends them on
 abbrev pub IsGoingOn : Network → Line → Type 0
 IsGoingOn plan line = Keeps plan line.stop.node line.stop.caller (key_of line.stop.cell) ⊎ ((to : Text) × SendsOn plan line.stop to)
 
--- each node that it is sent to has a lower rank, and one of them just the next lower one, unless the rank is 0
+-- the line's rank is right among the others: each node that it is sent to has a lower one, and one of them just the
+-- next lower one, unless the rank is 0
 pub record IsRankedAmong (plan : Network) (lines : List Line) (line : Line) : Type 0 where
   pub lower : (to : Text) → SendsOn plan line.stop to → (s : ℕ) × Contains lines (line_at line.stop.node to line.stop.cell s) × (s < line.rank)
   pub next : (line.rank ≡ 0) ⊎ ((to : Text) × (s : ℕ) × SendsOn plan line.stop to × Contains lines (line_at line.stop.node to line.stop.cell s) × (line.rank ≡ s + 1))
@@ -28,7 +29,7 @@ pub record IsSightOf (plan : Network) (lines : List Line) (line : Line) (survey 
   pub goes_on : IsTrue survey.goes_on ↔ IsGoingOn plan line
   pub ranked : IsTrue survey.ranked ↔ IsRankedAmong plan lines line
 
--- the lines at the places are such
+-- each line at one of these places of the list has the property
 abbrev pub EachAt : List Line → List ℕ → (Line → Type 0) → Type 0
 EachAt lines places P = (place : ℕ) (line : Line) → Contains places place → slice_get lines place ≡ Some line → P line
 

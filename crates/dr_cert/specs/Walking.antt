@@ -36,7 +36,7 @@ pub record IsWalking (w : Walker) : Type 0 where
   pub apart : AllPairs (λ a b. a ≢ b) w.reached.items
   pub come_to : EachAt w.lines.now w.reached.items (λ line. IsComeTo w.plan.now line.stop)
 
--- the same plan and lines, and what was reached stays so, in its place
+-- the walker has gone on: with the same plan and lines, and what was reached stays so, in its place
 pub record IsFurther (old new : Walker) : Type 0 where
   pub plan : new.plan.now ≡ old.plan.now
   pub lines : new.lines.now ≡ old.lines.now
@@ -56,7 +56,7 @@ pub record IsCalledFor (lines : List Line) (stop : Stop) (targets : List Text) (
   pub lower : (to : Text) → Contains targets to → (s : ℕ) × Contains lines (line_at stop.node to stop.cell s) × (s < rank)
   pub next : (rank ≡ 0) ⊎ ((to : Text) × (s : ℕ) × Contains targets to × Contains lines (line_at stop.node to stop.cell s) × (rank ≡ s + 1))
 
--- each of the next stops is marked
+-- each stop at which the targets have the instances next is marked as reached
 abbrev pub AreMarked : List Line → List ℕ → Stop → List Text → Type 0
 AreMarked lines reached stop targets = (to : Text) → Contains targets to → IsMarked lines reached (next_stop stop to)
 
@@ -65,7 +65,7 @@ abbrev pub AfterTargets : Walker → Walker → Stop → List Text → Option �
 AfterTargets old new stop targets (Some rank) = IsWalking new × IsFurther old new × AreMarked old.lines.now new.reached.items stop targets × IsCalledFor old.lines.now stop targets rank
 AfterTargets old new stop targets None = HasEachLine old.plan.now old.lines.now → ⊥
 
--- what the line's node sends to is marked
+-- each stop at which the line's node has its instances come next is marked as reached
 abbrev pub IsFollowed : Network → List Line → List ℕ → Line → Type 0
 IsFollowed plan lines reached line = (to : Text) → SendsOn plan line.stop to → IsMarked lines reached (next_stop line.stop to)
 
