@@ -7,17 +7,20 @@ use Rattle.dr_sound.specs.declared.certificate.Hop.{Hop}
 use Rattle.dr_sound.specs.declared.certificate.Certificate.{Certificate}
 use Rattle.dr_sound.specs.Printed.{printed_line, printed_hop}
 
--- its word, its other fields and the LF that ends it
+-- a row of the text: its word, a tab, its other fields, and the LF that ends it
 abbrev pub row : Text → Text → Text
 row word fields = word ++ (9 ∷ fields) ++ (10 ∷ [])
 
+-- the row of a hop: `hop`, and then sender, receiver, id, class and transfer syntax
 abbrev pub hop_row : Hop → Text
 hop_row hop = row (codes "hop") (printed_hop hop)
 
+-- the row of a line: `line`, and then caller, node, class, transfer syntax, modality, station and rank
 abbrev pub line_row : Line → Text
 line_row line = row (codes "line") (printed_line line)
 
--- the format and its version, the SHA-256 of the plan's text in lower-case hex, the hops, the lines, and nothing behind the end
+-- the text of a certificate: format and version, the SHA-256 of the plan's text in lower-case hex, the hops, the lines,
+-- and nothing behind the end
 abbrev pub certificate_text : Certificate → Text
 certificate_text certificate =
     row (codes "certificate") (codes "1") ++ row (codes "plan") (encode_lower certificate.digest)

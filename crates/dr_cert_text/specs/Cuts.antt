@@ -2,12 +2,12 @@
 use Rattle.std.specs.Prelude.{◌≡◌, ◌≢◌, ℕ, ◌==◌, if◌then◌else◌, List, [], ◌∷◌, ◌++◌, All}
 use Rattle.dr_cert_text.specs.Printable.{IsPlain}
 
--- one more byte at the front of the first part
+-- the parts of a cut text with one more byte in front of the first part
 unfoldable pub grown : ℕ → List (List ℕ) → List (List ℕ)
 grown byte [] = (byte ∷ []) ∷ []
 grown byte (part ∷ parts) = (byte ∷ part) ∷ parts
 
--- the parts between the marks: a text without one is one part
+-- the parts of a text between its marks: a text without a mark is one part
 unfoldable pub cuts : ℕ → List ℕ → List (List ℕ)
 cuts mark [] = [] ∷ []
 cuts mark (byte ∷ text) = if byte == mark then [] ∷ cuts mark text else grown byte (cuts mark text)
@@ -20,7 +20,7 @@ Lacks mark text = All (λ byte. byte ≢ mark) text
 abbrev pub SplitsAt : ℕ → List ℕ → List ℕ → List ℕ → Type 0
 SplitsAt mark text part rest = (text ≡ part ++ mark ∷ rest) × Lacks mark part
 
--- the first field of a row without LF, and what follows its tab
+-- the text's first field, and what follows the tab behind it; neither has an LF in it
 pub record CutsField (text field rest : List ℕ) : Type 0 where
   pub whole : text ≡ field ++ 9 ∷ rest
   pub plain : IsPlain field

@@ -7,15 +7,16 @@ use Rattle.dr_sound.specs.declared.certificate.Line.{Line}
 use Rattle.dr_sound.specs.declared.certificate.Hop.{Hop}
 use Rattle.dr_sound.specs.declared.certificate.Certificate.{Certificate}
 
--- a text with neither tab nor LF
+-- the text has neither a tab nor an LF, which part fields and rows
 abbrev pub IsPlain : Text → Type 0
 IsPlain text = All (λ byte. (byte ≢ 9) × (byte ≢ 10)) text
 
--- a literal isn't the text that stands for none of the plan's literals
+-- the field can be told from its text: a literal isn't `*`, which stands for none of the plan's literals
 abbrev pub IsPlainField : OwnedField → Type 0
 IsPlainField (Literal literal) = IsPlain literal × (literal ≢ codes "*")
 IsPlainField Rest = Unit {0}
 
+-- a line that can be read back from its row: texts without tab and LF, and a rank of 32 bits
 pub record IsPrintableLine (line : Line) : Type 0 where
   pub caller : IsPlain line.stop.caller
   pub node : IsPlain line.stop.node
@@ -24,16 +25,18 @@ pub record IsPrintableLine (line : Line) : Type 0 where
   pub station : IsPlainField line.stop.cell.station
   pub rank : line.rank ≤ 4294967295
 
+-- a hop that can be read back from its row: texts without tab and LF, and an id of one byte
 pub record IsPrintableHop (hop : Hop) : Type 0 where
   pub «from» : IsPlain hop.from
   pub «to» : IsPlain hop.to
   pub id : hop.id ≤ 255
   pub class : IsPlain hop.class
 
--- a SHA-256 has 32 bytes
+-- the bytes are those of a SHA-256: 32 of them
 abbrev pub IsDigest : List ℕ → Type 0
 IsDigest digest = (length digest ≡ 32) × All (λ byte. byte < 256) digest
 
+-- a certificate that can be read back from its text: digest, hops and lines can, and it has at most 65,536 lines
 pub record IsPrintable (certificate : Certificate) : Type 0 where
   pub digest : IsDigest certificate.digest
   pub hops : All IsPrintableHop certificate.hops

@@ -5,14 +5,15 @@ use Rattle.dr_cert_text.specs.CertificateText.{row}
 use Rattle.dr_cert_text.specs.declared.fault.ReadFault.{ReadFault}
 use Rattle.dr_cert_text.specs.declared.fault.ReadFault.TheVariants.{Text, Memory}
 
--- `written` gives a value's text, and the values of which `Can` holds can be read back: this one was
+-- `written` gives the text of a value, and `Can` says which values can be read back: this one can, and has this text
 abbrev pub IsReadBack : {X : Type 0} → (X → List ℕ) → (X → Type 0) → List ℕ → X → Type 0
 IsReadBack written Can text x = (written x ≡ text) × Can x
 
--- none of them has this text
+-- no value that can be read back has this text
 abbrev pub HasNone : {X : Type 0} → (X → List ℕ) → (X → Type 0) → List ℕ → Type 0
 HasNone {X} written Can text = (x : X) → Can x → written x ≡ text → ⊥
 
+-- what reading a text answers: the value that has it, or that none has; or memory ran out
 abbrev pub Reads : {X : Type 0} → (X → List ℕ) → (X → Type 0) → List ℕ → Result X ReadFault → Type 0
 Reads written Can text (Ok x) = IsReadBack written Can text x
 Reads written Can text (Err Text) = HasNone written Can text
@@ -26,6 +27,7 @@ BeginsWith word text = (rest : List ℕ) × (text ≡ word ++ (9 ∷ []) ++ rest
 abbrev pub AreRowsOf : {X : Type 0} → List ℕ → (X → List ℕ) → (X → Type 0) → List ℕ → List X → List ℕ → Type 0
 AreRowsOf word written Can text items rest = (text ≡ flat_map (λ item. row word (written item)) items ++ rest) × All Can items × (BeginsWith word rest → ⊥)
 
+-- what reading rows answers: their values and the text behind them, that it has no such rows, or want of memory
 abbrev pub ReadsRows : {X : Type 0} → List ℕ → (X → List ℕ) → (X → Type 0) → List ℕ → Result (List X × Bor (List ℕ)) ReadFault → Type 0
 ReadsRows word written Can text (Ok found) = AreRowsOf word written Can text found.0 found.1.now
 ReadsRows {X} word written Can text (Err Text) = (items : List X) (rest : List ℕ) → AreRowsOf word written Can text items rest → ⊥
