@@ -18,12 +18,12 @@ Judges plan (Yes certificate) = IsSound plan × IsCertificateOf plan certificate
     × (IsDigest plan.digest → IsPrintable certificate)
 Judges plan (No fault) = IsShown plan fault
 
--- a verdict, or more lines than a certificate may have, or want of memory
+-- what the checker answers: a verdict, or that there are more lines than a certificate may have, or want of memory
 abbrev pub Answers : Network → Result Verdict CheckFault → Type 0
 Answers plan (Ok verdict) = Judges plan verdict
 Answers plan (Err TooLarge) = IsTooLarge plan
 Answers plan (Err Memory) = Unit {0}
 
--- no more than the most lines, and no rank above their number
+-- at most 65,536 lines, and no rank above that number
 abbrev pub AreFew : List Line → Type 0
 AreFew lines = (length lines ≤ 65536) × ((line : Line) → Contains lines line → line.rank ≤ 65536)

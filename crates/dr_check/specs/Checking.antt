@@ -10,17 +10,17 @@ use Rattle.dr_check.specs.declared.checker.Stopped.{Stopped}
 use Rattle.dr_check.specs.Searching.{IsSearching}
 use Rattle.dr_check.specs.Stopping.{IsStopped}
 
--- it stands on no walk, and can search any cell
+-- the checker stands on no walk, and can search any cell
 pub record IsReady (c : Checker) : Type 0 where
   pub formed : IsWellFormed c.plan.now
   pub local_caller : c.local ≡ local
   pub no_walk : c.search.path.items ≡ []
   pub searching : (cell : OwnedCell) → IsSearching c.plan.now cell c.search
 
--- the site has a line for the cell
+-- the checker has a line for what enters at the site in the cell
 abbrev pub HasVisited : Checker → Text → OwnedCell → Type 0
 HasVisited c site cell = (rank : ℕ) × Contains c.search.lines.items (line_at local site cell rank)
 
--- what stops it is true of its plan
+-- what stops the checker is true of its plan
 abbrev pub ShowsStopped : Checker → Stopped → Type 0
 ShowsStopped c stopped = IsStopped c.plan.now stopped

@@ -7,7 +7,7 @@ use Rattle.dr_sound.specs.Certificates.{IsCertificateOf}
 use Rattle.dr_check.specs.declared.fault.Fault.{Fault}
 use Rattle.dr_check.specs.Shown.{IsShown, IsTooLarge}
 
--- what a no shows, no sound plan has
+-- a fault that is shown of a plan is one that no sound plan has
 abbrev pub ShownFaultsAreUnsound : Type 0
 ShownFaultsAreUnsound = (plan : Network) (fault : Fault) → IsShown plan fault → IsSound plan → ⊥
 

@@ -27,12 +27,15 @@ use Rattle.dr_check.specs.declared.search.Found.TheVariants as found
 use Rattle.dr_check.specs.declared.fault.Fault.TheVariants as fault
 use Rattle.dr_check.specs.Shown.{IsShown, IsTooLarge}
 
+-- what a search knows of the stops that it has entered: open, or finished with a rank
 abbrev pub Marks : Type 0
 Marks = BTreeMap Stop Mark
 
+-- the mark of a stop; none where the search hasn't entered it
 abbrev pub mark_at : Marks → Stop → Option Mark
 mark_at marks stop = get stop_cmp marks stop
 
+-- the stop of a cell at a node, to which the caller brings it
 abbrev pub stop_at : Text → Text → OwnedCell → Stop
 stop_at caller node cell = record { caller = caller; node = node; cell = cell }
 
@@ -63,17 +66,17 @@ pub record IsSearching (plan : Network) (cell : OwnedCell) (s : Search) : Type 0
   pub within : btree_map_len s.marks ≤ 65536
   pub apart : AllPairs (λ a b. a ≢ b) s.lines.items
 
--- what was marked stays marked, and what was listed stays listed
+-- a later state of the search: what was marked stays marked, and what was listed stays listed
 pub record IsLater (old new : Search) : Type 0 where
   pub marks : (stop : Stop) (m : Mark) → mark_at old.marks stop ≡ Some m → mark_at new.marks stop ≡ Some m
   pub lines : (line : Line) → Contains old.lines.items line → Contains new.lines.items line
   pub longer : btree_map_len old.marks ≤ btree_map_len new.marks
 
--- nobody asks where instances enter; elsewhere the node accepts
+-- the node takes the cell from the caller: its accept rows do, and nobody asks where instances enter
 abbrev pub IsTaken : Network → OwnedCell → Text → Text → Type 0
 IsTaken plan cell caller node = (caller ≡ local) ⊎ Accepts plan node caller cell.class cell.syntax
 
--- all walks from the stop have been searched
+-- all walks from the stop have been searched, and it is finished with this rank
 pub record IsDone (plan : Network) (cell : OwnedCell) (caller node : Text) (r : ℕ) (old new : Search) : Type 0 where
   pub searching : IsSearching plan cell new
   pub later : IsLater old new
@@ -81,14 +84,14 @@ pub record IsDone (plan : Network) (cell : OwnedCell) (caller node : Text) (r : 
   pub rank : mark_at new.marks (stop_at caller node cell) ≡ Some (Finished r)
   pub taken : IsTaken plan cell caller node
 
--- the search ends rightly at the end of the walk
+-- what a search that ends shows of the walk that it stands on: a fault there, or a plan with too many lines
 abbrev pub IsEnd : Network → OwnedCell → List Text → End → Type 0
 IsEnd plan cell walk end.NoContext = IsShown plan (fault.NoContext walk cell)
 IsEnd plan cell walk end.Cycle = IsShown plan (fault.Cycle walk cell)
 IsEnd plan cell walk end.DeadEnd = IsShown plan (fault.DeadEnd walk cell)
 IsEnd plan cell walk end.TooLarge = IsTooLarge plan
 
--- the whole search from a stop
+-- what the whole search from a stop comes to: its rank, or an end that is right
 abbrev pub AfterReach : Network → OwnedCell → Text → Text → Search → Search → Found → Type 0
 AfterReach plan cell caller node old new (found.Rank r) = IsDone plan cell caller node r old new
 AfterReach plan cell caller node old new (found.End e) = IsEnd plan cell new.path.items e
@@ -102,7 +105,7 @@ pub record IsNew (plan : Network) (cell : OwnedCell) (caller node : Text) (stop 
   pub goes_on : Keeps plan node caller (key_of cell) ⊎ ((to : Text) × SendsOn plan (stop_at caller node cell) to)
   pub taken : IsTaken plan cell caller node
 
--- what is found on looking at a stop
+-- what is found on looking at a stop: it is finished, or the search ends there, or it is new
 abbrev pub Finds : Network → OwnedCell → Text → Text → Search → Seen → Type 0
 Finds plan cell caller node s (seen.Finished r) = (mark_at s.marks (stop_at caller node cell) ≡ Some (Finished r)) × IsTaken plan cell caller node
 Finds plan cell caller node s (seen.End e) = IsEnd plan cell (s.path.items ++ node ∷ []) e

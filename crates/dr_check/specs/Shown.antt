@@ -23,19 +23,20 @@ pub record ShownBy (plan : Network) (walk : List Text) (cell : OwnedCell) (P : T
   pub some : (key : Key) × LiesIn plan cell key
   pub each : (key : Key) → LiesIn plan cell key → IsEntry plan site key × IsWalk plan key local site over × P site over key
 
--- the last pair of the walk stands in it before
+-- the last pair (caller, node) of the walk stands in it before: a circle
 abbrev pub ComesBack : Text → List Text → Type 0
 ComesBack site over = (before : List (Text × Text)) × (places local site over ≡ before ++ last_place local site over ∷ []) × Contains before (last_place local site over)
 
--- more pairs go over the hop than an association has presentation contexts
+-- more pairs of a class and a transfer syntax go over the hop than an association has presentation contexts: 129
 abbrev pub IsOverfull : Network → Text → Text → Type 0
 IsOverfull plan from to = (apart : List (Text × Syntax)) × AllPairs (λ p q. p ≢ q) apart × All (GoesOver plan from to) apart × (length apart ≡ 129)
 
--- of those hops it is the first, by the bytes of the sender's name and then of the receiver's
+-- the hop is the first over which too many pairs go, by the bytes of the sender's name and then of the receiver's
 abbrev pub IsFirstOverfull : Network → Text → Text → Type 0
 IsFirstOverfull plan from to = IsOverfull plan from to × ((a b : Text) → IsOverfull plan a b → hop_cmp (a, b) (from, to) ≢ Less)
 
--- the fault is in the plan: what it names can be followed by hand
+-- the fault is in the plan, as can be followed by hand: a hop that isn't accepted, a circle, a walk that ends where
+-- nobody keeps, or the first hop with too many pairs
 abbrev pub IsShown : Network → Fault → Type 0
 IsShown plan (NoContext walk cell) = ShownBy plan walk cell (λ site over key.
     (over ≢ []) × (Accepts plan (last_place local site over).1 (last_place local site over).0 key.class key.syntax → ⊥))

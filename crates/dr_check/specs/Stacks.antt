@@ -18,7 +18,7 @@ use Rattle.dr_check.specs.declared.search.Found.{Found}
 use Rattle.dr_check.specs.declared.search.Found.TheVariants as found
 use Rattle.dr_check.specs.Searching.{IsSearching, IsTrail, IsInside, IsDone, IsNew, IsRankedBy, IsEnd, IsTaken, mark_at, stop_at}
 
--- the stop of a frame
+-- the stop that the search stands on by this frame
 abbrev pub stop_of_frame : OwnedCell → Frame → Stop
 stop_of_frame cell f = stop_at f.caller f.node cell
 
@@ -54,23 +54,23 @@ pub record Leaves (old new : Search) (stop : Stop) (rank : ℕ) : Type 0 where
   pub put : Updates stop_cmp old.marks new.marks stop (Some (Finished rank))
   pub same_size : mark_at old.marks stop ≡ Some Open → btree_map_len new.marks ≡ btree_map_len old.marks
 
--- the frame is of the same stop
+-- the two frames are of the same stop
 pub record IsSameFrame (f g : Frame) : Type 0 where
   pub caller : g.caller ≡ f.caller
   pub node : g.node ≡ f.node
 
--- what is found among the targets of a frame
+-- what is found among the targets of a frame: nothing more, an end of the search, or a stop that is new
 abbrev pub GoesOn : Network → OwnedCell → Search → Frame → Frame → Next → Type 0
 GoesOn plan cell s f g next.Nothing = IsSameFrame f g × IsTop plan cell g s × (g.searched ≡ length g.targets)
 GoesOn plan cell s f g (next.End node e) = IsEnd plan cell (s.path.items ++ node ∷ []) e
 GoesOn plan cell s f g (next.New node stop targets) =
     IsSameFrame f g × IsTop plan cell g s × IsNew plan cell g.node node stop targets s × SendsOn plan (stop_of_frame cell g) node
 
--- what is left to be done: each stop is entered once and left once
+-- how many steps are left at the most: each stop is entered once and left once
 abbrev pub left_to_do : Search → List Frame → ℕ
 left_to_do s below = 2 * (65536 - btree_map_len s.marks) + length below
 
--- a step, whatever stop the search began at
+-- what one step of the search does, whatever stop it began at: less is left to do, or it is done
 abbrev pub Steps : Network → OwnedCell → Search → Frame → List Frame → Search → Frame → List Frame → Option Found → Type 0
 Steps plan cell old f below new g after None =
     (left_to_do new after < left_to_do old below)
