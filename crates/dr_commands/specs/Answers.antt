@@ -35,7 +35,7 @@ pub record IsRefuted (text output : Text) : Type 0 where
   pub shown : IsShown plan fault
   pub printed : output ≡ no_line fault
 
--- want of memory may be answered to any text
+-- what `check` may answer to a text; want of memory may be answered to any
 abbrev pub IsAnswerTo : Text → Answer → Type 0
 IsAnswerTo text (Sound printed) = IsProved text printed
 IsAnswerTo text (Unsound printed) = IsRefuted text printed
@@ -43,7 +43,7 @@ IsAnswerTo text (NoPlan fault) = Reads text (Err fault) × (fault ≢ NoMemory)
 IsAnswerTo text TooLarge = (plan : Network) × Reads text (Ok plan) × IsTooLarge plan
 IsAnswerTo text Memory = Unit {0}
 
--- what is printed for an answer, and the status with which the program ends
+-- what is printed for an answer: the certificate, or the line of a plan that isn't sound; else nothing
 abbrev pub printed_for : Answer → Text
 printed_for (Sound printed) = printed
 printed_for (Unsound printed) = printed
@@ -51,6 +51,7 @@ printed_for (NoPlan fault) = []
 printed_for TooLarge = []
 printed_for Memory = []
 
+-- the status with which the program ends for an answer: success for a sound plan, else refused, or out of memory
 abbrev pub status_for : Answer → Status
 status_for (Sound printed) = Success
 status_for (Unsound printed) = Refused

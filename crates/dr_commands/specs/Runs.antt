@@ -11,21 +11,21 @@ use Rattle.dr_commands.specs.declared.verify.Verdict.{Verdict}
 use Rattle.dr_commands.specs.Answers.{IsAnswerTo, status_for, printed_for}
 use Rattle.dr_commands.specs.Verdicts.{IsVerdictOn, IsNoPlan, verdict_line, verdict_status}
 
--- some answer to the text is printed after what the output held, and the program ends with its status
+-- a run of `check`: an answer to the text is printed after what the output held, and the program ends with its status
 pub record Answers (text : Text) (old new : Option (List ℕ)) (status : Status) : Type 0 where
   pub answer : Answer
   pub right : IsAnswerTo text answer
   pub printed : Appends old new (printed_for answer)
   pub ends : status ≡ status_for answer
 
--- the first text has no plan, and nothing is printed
+-- a run of `verify` on a text that has no plan: nothing is printed
 pub record Refuses (text : Text) (old new : Option (List ℕ)) (status : Status) : Type 0 where
   pub answer : Answer
   pub right : IsNoPlan text answer
   pub nothing : Appends old new []
   pub ends : status ≡ status_for answer
 
--- it has one, and the verdict on a text of which `Holds` holds is printed
+-- a run of `verify` on a text that has one: the verdict on the second text, of which `Holds` holds, is printed
 pub record Judges (Holds : Text → Type 0) (text : Text) (old new : Option (List ℕ)) (status : Status) : Type 0 where
   pub plan : Network
   pub reads : Reads text (Ok plan)
@@ -36,5 +36,6 @@ pub record Judges (Holds : Text → Type 0) (text : Text) (old new : Option (Lis
   pub printed : Appends old new (verdict_line verdict)
   pub ends : status ≡ verdict_status verdict
 
+-- a run of `verify`: the first text has no plan, or the verdict on the second text is printed
 abbrev pub Verifies : (Text → Type 0) → Text → Option (List ℕ) → Option (List ℕ) → Status → Type 0
 Verifies Holds text old new status = Refuses text old new status ⊎ Judges Holds text old new status

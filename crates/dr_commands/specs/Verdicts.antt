@@ -20,7 +20,7 @@ use Rattle.dr_commands.specs.declared.verify.Verdict.TheVariants.{Yes, No, Memor
 use Rattle.dr_commands.specs.declared.status.Status.{Status}
 use Rattle.dr_commands.specs.declared.status.Status.TheVariants.{Success, Refused, Memory as OutOfMemory}
 
--- the text is written for this certificate
+-- the text is written for this certificate, which can be read back
 abbrev pub IsTextOf : Text → Certificate → Type 0
 IsTextOf text certificate = IsReadBack certificate_text IsPrintable text certificate
 
@@ -32,13 +32,13 @@ IsTextOfNone text = HasNone certificate_text IsPrintable text
 abbrev pub IsFaultOf : Network → Text → CertFault → Type 0
 IsFaultOf plan text refused = ((refused ≡ fault.Text) × IsTextOfNone text) ⊎ ((certificate : Certificate) × IsTextOf text certificate × IsRefused plan certificate refused)
 
--- want of memory may be the answer to any text
+-- what `verify` may answer on a plan and a text; want of memory may be the answer to any
 abbrev pub IsVerdictOn : Network → Text → Verdict → Type 0
 IsVerdictOn plan text Yes = (certificate : Certificate) × IsTextOf text certificate × IsSound plan × IsCertificateOf plan certificate
 IsVerdictOn plan text (No refused) = (refused ≢ fault.Memory) × IsFaultOf plan text refused
 IsVerdictOn plan text Memory = Unit {0}
 
--- why a text has no plan
+-- the answer to a text that has no plan: its fault, or want of memory
 abbrev pub IsNoPlan : Text → Answer → Type 0
 IsNoPlan text (answer.NoPlan refused) = Reads text (Err refused) × (refused ≢ NoMemory)
 IsNoPlan text answer.Memory = Unit {0}
@@ -46,7 +46,7 @@ IsNoPlan text (answer.Sound printed) = ⊥
 IsNoPlan text (answer.Unsound printed) = ⊥
 IsNoPlan text answer.TooLarge = ⊥
 
--- the plan of a text, or why there is none
+-- what is read of a text: its plan, or the answer that it has none
 abbrev pub ReadsPlan : Text → Result Network Answer → Type 0
 ReadsPlan text (Ok plan) = Reads text (Ok plan)
 ReadsPlan text (Err told) = IsNoPlan text told
@@ -69,7 +69,7 @@ verdict_line Yes = codes "yes" ++ (10 ∷ [])
 verdict_line (No refused) = fault_line refused
 verdict_line Memory = []
 
--- the status with which the program ends
+-- the status with which the program ends for a verdict
 abbrev pub verdict_status : Verdict → Status
 verdict_status Yes = Success
 verdict_status (No refused) = Refused
