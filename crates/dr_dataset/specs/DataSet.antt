@@ -13,10 +13,12 @@ use Rattle.dr_dataset.specs.declared.frame.Frame.TheVariants.{InSequence, InItem
 use Rattle.dr_dataset.specs.declared.values.Attributes.{Attributes}
 use Rattle.dr_dataset.specs.Elements.{Element, undefined, item_group, is_capital, inside, StartsTag, StartsHeader, StartsPlain, OpensSequence, StartsPlainItem, OpensItem, StartsItem, EndsItem, EndsSequence, StartsElement}
 
+-- the tag has this group and this element number (PS3.5 7.1)
 abbrev pub has_tag : ℕ → ℕ → Tag → Bool
 has_tag group element t = (t.group == group) && (t.element == element)
 
--- SOP class UID, SOP instance UID, modality, station name
+-- one of the four whose values are read: SOP class UID (0008,0016), SOP instance UID (0008,0018), modality (0008,0060)
+-- and station name (0008,1010)
 abbrev pub is_key : Tag → Bool
 is_key t = has_tag 0x0008 0x0016 t || has_tag 0x0008 0x0018 t || has_tag 0x0008 0x0060 t || has_tag 0x0008 0x1010 t
 
@@ -24,6 +26,7 @@ is_key t = has_tag 0x0008 0x0016 t || has_tag 0x0008 0x0018 t || has_tag 0x0008 
 abbrev pub StartsTop : Syntax → List ℕ → Element → List ℕ → Type 0
 StartsTop s text e rest = StartsElement 32 s text e rest × (is_key e.tag ≡ true → IfSome e.value (λ v. length v ≤ 1024))
 
+-- the text, all of it, is a data set in that syntax, with these elements at its top level (PS3.5 7)
 abbrev pub IsDataSet : Syntax → List ℕ → List Element → Type 0
 IsDataSet s text es = Run (StartsTop s) es text []
 
@@ -45,6 +48,7 @@ in_force s [] = s
 in_force s (InSequence t within ∷ fs) = within
 in_force s (InItem within ∷ fs) = within
 
+-- how many sequences are open
 abbrev pub open_sequences : List Frame → ℕ
 open_sequences [] = 0
 open_sequences (InSequence t within ∷ fs) = suc (open_sequences fs)
@@ -85,28 +89,28 @@ StartsToken s (InItem u ∷ fs) text rest = ((e : Element) × StartsPlain u text
     ⊎ (((t : Tag) × (within : Syntax) × MayOpen s (InItem u ∷ fs) text t within rest) ⊎ EndsItem text rest)
 StartsToken s (InSequence t u ∷ fs) text rest = StartsPlainItem text rest ⊎ (OpensItem text rest ⊎ EndsSequence text rest)
 
--- a tag that can't stand there
+-- a tag that can't stand there: a sequence has items and its end, an item elements and its end, the top elements
 abbrev pub IsBadTag : List Frame → Tag → Type 0
 IsBadTag (InSequence u within ∷ fs) t = t.group ≡ item_group → (t.element ≢ 0xE000) × (t.element ≢ 0xE0DD)
 IsBadTag (InItem within ∷ fs) t = (t.group ≡ item_group) × (t.element ≢ 0xE00D)
 IsBadTag [] t = t.group ≡ item_group
 
--- two letters that aren't capitals
+-- an element in the explicit syntax whose value representation isn't two capital letters (PS3.5 6.2, 7.1.2)
 abbrev pub ShowsVr : Syntax → List Frame → List ℕ → Type 0
 ShowsVr s fs text = (t : Tag) × (a b : ℕ) × (rest : List ℕ) × (wants_elements fs ≡ true) × (in_force s fs ≡ Explicit) × StartsTag text t (a ∷ b ∷ rest)
     × (t.group ≢ item_group) × (is_capital a && is_capital b ≡ false)
 
--- a tag or a length that can't stand there
+-- a tag or a length that can't stand under what is open
 abbrev pub ShowsLength : Syntax → List Frame → List ℕ → Type 0
 ShowsLength s fs text = ((t : Tag) × (rest : List ℕ) × StartsTag text t rest × IsBadTag fs t)
     ⊎ ((t : Tag) × (f : Form) × (rest : List ℕ) × (wants_elements fs ≡ true) × StartsHeader (in_force s fs) text t f rest
     × (((f.len ≡ undefined) × (inside (in_force s fs) f.vr ≡ None)) ⊎ ((fs ≡ []) × (is_key t ≡ true) × (f.len ≢ undefined) × (1024 < f.len))))
 
--- one sequence more than may be open
+-- a sequence opens where 32 are open, which is the most
 abbrev pub ShowsDepth : Syntax → List Frame → List ℕ → Type 0
 ShowsDepth s fs text = (t : Tag) × (within : Syntax) × (rest : List ℕ) × (wants_elements fs ≡ true) × OpensSequence (in_force s fs) text t within rest × (open_sequences fs ≡ 32)
 
--- what is wrong with the text that comes next
+-- the text shows this fault, where these sequences and items are open
 abbrev pub Shows : Syntax → List Frame → List ℕ → DataFault → Type 0
 Shows s fs text BadVr = ShowsVr s fs text
 Shows s fs text BadLength = ShowsLength s fs text

@@ -9,10 +9,11 @@ use Rattle.dr_dataset.specs.declared.header.Tag.{Tag}
 use Rattle.dr_dataset.specs.declared.header.Vr.{Vr}
 use Rattle.dr_dataset.specs.declared.header.Form.{Form}
 
--- the length of what ends by a mark
+-- the undefined length, FFFFFFFFH, of what ends by a mark (PS3.5 7.1.1, 7.5)
 abbrev pub undefined : ℕ
 undefined = 4294967295
 
+-- a tag as it is written: group and element number of two bytes each (PS3.5 7.1)
 abbrev pub tag_text : Tag → List ℕ
 tag_text t = to_le_bytes w16 t.group ++ to_le_bytes w16 t.element
 
@@ -24,6 +25,7 @@ StartsTag text t rest = (t.group < 2 ^ 16) × (t.element < 2 ^ 16) × (text ≡ 
 abbrev pub item_group : ℕ
 item_group = 0xFFFE
 
+-- the byte is a capital letter, A to Z
 abbrev pub is_capital : ℕ → Bool
 is_capital c = nat_le 65 c && nat_le c 90
 
@@ -31,11 +33,12 @@ is_capital c = nat_le 65 c && nat_le c 90
 abbrev pub short_letters : List (ℕ × ℕ)
 short_letters = (65, 69) ∷ (65, 83) ∷ (65, 84) ∷ (67, 83) ∷ (68, 65) ∷ (68, 83) ∷ (68, 84) ∷ (70, 68) ∷ (70, 76) ∷ (73, 83) ∷ (76, 79) ∷ (76, 84) ∷ (80, 78) ∷ (83, 72) ∷ (83, 76) ∷ (83, 83) ∷ (83, 84) ∷ (84, 77) ∷ (85, 73) ∷ (85, 76) ∷ (85, 83) ∷ []
 
+-- in the explicit syntax the length of this value representation has two bytes (PS3.5 7.1.2)
 abbrev pub is_short : Vr → Bool
 is_short v = list_any (λ (p : ℕ × ℕ). (p.0 == v.first) && (p.1 == v.second)) short_letters
 
--- What stands behind the tag of an element. In the implicit syntax: a length of four bytes. In the explicit one: two
--- capital letters, and then a length of two bytes, or two reserved bytes and a length of four.
+-- What stands behind an element's tag (PS3.5 7.1.2, 7.1.3). Implicit: a length of four bytes. Explicit: two capital
+-- letters, and then a length of two bytes, or two reserved bytes and a length of four.
 abbrev pub StartsForm : Syntax → List ℕ → Form → List ℕ → Type 0
 StartsForm Implicit text f rest = (f.vr ≡ None) × (f.len < 2 ^ 32) × (text ≡ to_le_bytes w32 f.len ++ rest)
 StartsForm Explicit text f rest = (v : Vr) × (f.vr ≡ Some v) × (is_capital v.first && is_capital v.second ≡ true)
@@ -51,7 +54,7 @@ abbrev pub StartsMark : ℕ → List ℕ → ℕ → List ℕ → Type 0
 StartsMark element text len rest = (behind : List ℕ) × StartsTag text (record { group = item_group; element = element }) behind
     × (len < 2 ^ 32) × (behind ≡ to_le_bytes w32 len ++ rest)
 
--- of undefined length, what is a sequence, and the syntax inside it: SQ, and UN, whose inside is implicit
+-- the syntax inside an element of undefined length, if it is a sequence: SQ its own, UN the implicit one (PS3.5 6.2.2)
 abbrev pub inside : Syntax → Option Vr → Option Syntax
 inside Implicit v = Some Implicit
 inside Explicit None = None
@@ -79,10 +82,11 @@ StartsPlainItem text rest = (value : List ℕ) × (length value ≢ undefined) �
 abbrev pub OpensItem : List ℕ → List ℕ → Type 0
 OpensItem text rest = StartsMark 0xE000 text undefined rest
 
--- ends, whose length may be any number
+-- the text begins with an item delimitation, (FFFE,E00D), of whatever length, and then the rest follows (PS3.5 7.5)
 abbrev pub EndsItem : List ℕ → List ℕ → Type 0
 EndsItem text rest = (len : ℕ) × StartsMark 0xE00D text len rest
 
+-- the text begins with a sequence delimitation, (FFFE,E0DD), of whatever length, and then the rest follows (PS3.5 7.5)
 abbrev pub EndsSequence : List ℕ → List ℕ → Type 0
 EndsSequence text rest = (len : ℕ) × StartsMark 0xE0DD text len rest
 

@@ -12,7 +12,7 @@ use Rattle.dr_base.specs.Padding.{unpadded}
 use Rattle.dr_dataset.specs.DataSet.{first_value}
 use Rattle.dr_base.specs.Syntaxes.{syntax_uid}
 
--- 128 bytes and DICM, and what follows
+-- the text begins with a preamble of 128 bytes and DICM, and then the rest follows
 abbrev pub IsFile : List ℕ → List ℕ → Type 0
 IsFile text rest = (preamble : List ℕ) × (length preamble ≡ 128) × (text ≡ preamble ++ (codes "DICM" ++ rest))
 
@@ -20,7 +20,7 @@ IsFile text rest = (preamble : List ℕ) × (length preamble ≡ 128) × (text �
 abbrev pub StartsMeta : List ℕ → Element → List ℕ → Type 0
 StartsMeta text e rest = StartsElement 32 Explicit text e rest × (e.tag.group ≡ 0x0002)
 
--- it ends with the file, or before a tag of another group
+-- the file meta information ends here: with the file, or before a tag of another group
 abbrev pub EndsMeta : List ℕ → Type 0
 EndsMeta text = (text ≡ []) ⊎ ((t : Tag) × (rest : List ℕ) × StartsTag text t rest × (t.group ≢ 0x0002))
 
@@ -28,10 +28,12 @@ EndsMeta text = (text ≡ []) ⊎ ((t : Tag) × (rest : List ℕ) × StartsTag t
 abbrev pub named : List Element → Option (List ℕ)
 named es = option_map unpadded (first_value 0x0002 0x0010 es)
 
--- elements of group 0002, one of them with that name, and then the data set; the group length isn't looked at
+-- elements of group 0002, one of which names that transfer syntax, then the data set; the group length isn't looked at
 abbrev pub IsMeta : List ℕ → List ℕ → List ℕ → Type 0
 IsMeta text name behind = (es : List Element) × Run StartsMeta es text behind × EndsMeta behind × (named es ≡ Some name)
 
+-- what reading a file answers: its transfer syntax and where its data set starts, or the fault: no DICM, no file meta
+-- information that names a syntax, or a syntax that isn't routed
 abbrev pub ReadsFile : List ℕ → Result Part10 FileFault → Type 0
 ReadsFile text (Ok p) = (rest name behind : List ℕ) × IsFile text rest × IsMeta rest name behind × (name ≡ syntax_uid p.syntax) × (p.start + length behind ≡ length text)
 ReadsFile text (Err NotDicom) = (rest : List ℕ) → IsFile text rest → ⊥

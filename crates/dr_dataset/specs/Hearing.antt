@@ -22,19 +22,21 @@ use Rattle.dr_base.specs.Calls.{Calls}
 use Rattle.dr_base.specs.Padding.{trimmed}
 use Rattle.dr_dataset.specs.Tokens.{token_of, open_behind, is_nested}
 
+-- the bytes that a scan has caught of one of the four values, none where no element with its tag has come
 abbrev pub bytes_of_slot : Option (ArrayVec ℕ) → Option (List ℕ)
 bytes_of_slot slot = option_map (λ (v : ArrayVec ℕ). v.items) slot
 
--- the first bytes of each of the four tags in these elements
+-- the scan has caught the first bytes of each of the four tags in these elements
 abbrev pub AreCaught : Caught → List Element → Type 0
 AreCaught c es = (bytes_of_slot c.class ≡ first_value 0x0008 0x0016 es) × (bytes_of_slot c.instance ≡ first_value 0x0008 0x0018 es)
     × (bytes_of_slot c.modality ≡ first_value 0x0008 0x0060 es) × (bytes_of_slot c.station ≡ first_value 0x0008 0x1010 es)
 
+-- the value, if there is one, has at most 1024 bytes
 abbrev pub IsShort : Option (List ℕ) → Type 0
 IsShort None = Unit {0}
 IsShort (Some bytes) = length bytes ≤ 1024
 
--- one of the four has at most 1024 bytes
+-- if the element is one of the four, its value has at most 1024 bytes
 abbrev pub IsShortKey : Option Whole → Type 0
 IsShortKey None = Unit {0}
 IsShortKey (Some w) = is_key w.tag ≡ true → IsShort (option_copied w.value)
@@ -50,9 +52,11 @@ is_kept [] (Some t) = is_key t
 is_kept [] None = false
 is_kept (f ∷ fs) t = false
 
+-- each number of the list is a byte, below 256
 abbrev pub AreBytes : List ℕ → Type 0
 AreBytes text = (i : ℕ) → get_or text i 0 < 256
 
+-- what a scan that stands at this place knows of the text so far
 abbrev pub HearsAt : Syntax → List ℕ → Scan → Place → Type 0
 -- behind a front that is in order stand the bytes of a header that isn't whole
 HearsAt s text scan InHeader = (es : List Element) × Opens s scan.scanner.stack text es scan.header.items × AreCaught scan.found es
@@ -64,15 +68,15 @@ HearsAt s text scan (InValue t missing) = (es : List Element) × (token got : Li
 -- or the first fault has shown
 HearsAt s text scan (Failed fault) = (fault ≢ Truncated) × (fault ≢ Memory) × FirstFault s text fault
 
--- the scan has heard this text, in any pieces
+-- the scan has heard this text, in whatever pieces it came
 abbrev pub Hears : Syntax → List ℕ → Scan → Type 0
 Hears s text scan = (scan.scanner.syntax ≡ s) × HearsAt s text scan scan.place
 
--- the first fault has shown
+-- the scan stands at its end, where the first fault has shown
 abbrev pub HasFailed : Scan → DataFault → Type 0
 HasFailed scan fault = scan.place ≡ Failed fault
 
--- what was heard by the old scan and these bytes was heard by the new one
+-- whatever text the old scan had heard, the new one has heard with these bytes behind it
 abbrev pub GoesOn : Scan → List ℕ → Scan → Type 0
 GoesOn old bytes new = (s : Syntax) (text : List ℕ) → Hears s text old → Hears s (text ++ bytes) new
 
@@ -100,9 +104,10 @@ abbrev pub Begun : Syntax → List ℕ → Token → Scan → Type 0
 Begun s text token scan = (scan.scanner.syntax ≡ s) × (scan.place ≡ InHeader) × (scan.header.items ≡ []) × ((before : List Frame) × (es : List Element) × (header : List ℕ)
     × Opens s before text es header × AreCaught scan.found es × (token_of s before header ≡ Ok (token, [])) × (scan.scanner.stack ≡ open_behind s token before) × (is_nested before ≡ true))
 
+-- the text of a value that a scan has caught, without padding (PS3.5 6.2), empty where there is none
 abbrev pub text_of_slot : Option (ArrayVec ℕ) → List ℕ
 text_of_slot slot = trimmed (unwrap_or (bytes_of_slot slot) [])
 
--- the four values, trimmed
+-- the attributes are the four values that the scan has caught, trimmed
 abbrev pub AreSlots : Caught → Attributes → Type 0
 AreSlots c a = (a.class ≡ text_of_slot c.class) × (a.instance ≡ text_of_slot c.instance) × (a.modality ≡ text_of_slot c.modality) × (a.station ≡ text_of_slot c.station)

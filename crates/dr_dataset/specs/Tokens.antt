@@ -24,13 +24,16 @@ abbrev pub value_token : Bool → Tag → ℕ → List ℕ → Result (Token × 
 value_token true t len rest = Err BadLength
 value_token false t len rest = Ok (Value t len, rest)
 
+-- one of the four, at the top level, of more than 1024 bytes: longer than is read
 abbrev pub is_long_key : Bool → Tag → ℕ → Bool
 is_long_key top t len = top && (is_key t && nat_lt 1024 len)
 
+-- the token of an element by whether its length is undefined: a sequence then, and else a value
 abbrev pub element_token_by : Bool → Syntax → Bool → Bool → Tag → Form → List ℕ → Result (Token × List ℕ) DataFault
 element_token_by true s top full t f rest = sequence_token full t rest (inside s f.vr)
 element_token_by false s top full t f rest = value_token (is_long_key top t f.len) t f.len rest
 
+-- the token of an element whose tag is known, from its form or the fault of its form
 abbrev pub element_token_with : Syntax → Bool → Bool → Tag → Result (Form × List ℕ) DataFault → Result (Token × List ℕ) DataFault
 element_token_with s top full t (Err fault) = Err fault
 element_token_with s top full t (Ok p) = element_token_by (p.0.len == undefined) s top full t p.0 p.1
@@ -39,11 +42,12 @@ element_token_with s top full t (Ok p) = element_token_by (p.0.len == undefined)
 abbrev pub element_token : Syntax → Bool → Bool → Tag → List ℕ → Result (Token × List ℕ) DataFault
 element_token s top full t rest = if t.group == item_group then Err BadLength else element_token_with s top full t (form_of s rest)
 
--- an end, whatever its length
+-- the token of an end of an item or a sequence, whatever its length field says
 abbrev pub end_token : Token → Option (ℕ × List ℕ) → Result (Token × List ℕ) DataFault
 end_token token None = Err Truncated
 end_token token (Some p) = Ok (token, p.1)
 
+-- the token of an item: one of undefined length opens, another is passed over by its length (PS3.5 7.5)
 abbrev pub open_item_token : Option (ℕ × List ℕ) → Result (Token × List ℕ) DataFault
 open_item_token None = Err Truncated
 open_item_token (Some p) = if p.0 == undefined then Ok (Item, p.1) else Ok (PlainItem p.0, p.1)
@@ -53,9 +57,11 @@ abbrev pub item_token : Tag → Tag → List ℕ → Result (Token × List ℕ) 
 item_token sequence t rest = if has_tag item_group 0xE000 t then open_item_token (long_of rest)
     else (if has_tag item_group 0xE0DD t then end_token (SequenceEnd sequence) (long_of rest) else Err BadLength)
 
+-- 32 sequences are open, so no further one may be
 abbrev pub is_full : List Frame → Bool
 is_full fs = open_sequences fs == 32
 
+-- the token by its tag and by what is open: elements at the top and in an item, items in a sequence
 abbrev pub token_with : Syntax → List Frame → Option (Tag × List ℕ) → Result (Token × List ℕ) DataFault
 token_with s fs None = Err Truncated
 token_with s [] (Some p) = element_token s true (is_full []) p.0 p.1
@@ -66,11 +72,12 @@ token_with s (InSequence t within ∷ fs) (Some p) = item_token t p.0 p.1
 abbrev pub token_of : Syntax → List Frame → List ℕ → Result (Token × List ℕ) DataFault
 token_of s fs text = token_with s fs (tag_of text)
 
+-- what is open once the innermost has ended
 abbrev pub without_first : List Frame → List Frame
 without_first [] = []
 without_first (f ∷ fs) = fs
 
--- what is open behind a token
+-- what is open behind a token that came where these were open
 abbrev pub open_behind : Syntax → Token → List Frame → List Frame
 open_behind s (Value t len) fs = fs
 open_behind s (Sequence t within) fs = InSequence t within ∷ fs

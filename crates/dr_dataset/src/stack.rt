@@ -43,18 +43,21 @@ impl Stack {
         }
     }
 
+    /// Whether nothing is open: the place is in the top level of the data set.
     pub fn is_empty(&self) -> bool
         ensures { result ≡ (length self.now == 0) }
     {
         self.frames.is_empty()
     }
 
+    /// Whether 64 frames are open, 32 sequences with an item in each: no further one may be opened.
     pub fn is_full(&self) -> bool
         ensures { result ≡ (length self.now == 64) }
     {
         self.frames.len() == MOST_OPEN
     }
 
+    /// A sequence or an item opens, inside all that is open; there has to be room for it.
     pub fn push(&mut self, frame: Frame)
         requires { length self.old < 64 }
         ensures { self.new ≡ frame ∷ self.old }
@@ -62,6 +65,7 @@ impl Stack {
         self.frames.push(frame);
     }
 
+    /// The innermost ends, and is handed out; something has to be open.
     pub fn pop(&mut self) -> Frame
         requires { 0 < length self.old }
         ensures { self.old ≡ result ∷ self.new }
