@@ -18,7 +18,7 @@ pub record Element : Type 0 where
   pub number : ℕ
   pub value : List ℕ
 
--- tag (4), length (4), value
+-- an element as it is written, in the implicit syntax: tag (4), length (4), value (PS3.7 6.3.1, PS3.5 7.1.3)
 abbrev pub element_text : Element → List ℕ
 element_text e = 0 ∷ 0 ∷ (to_le_bytes w16 e.number ++ (to_le_bytes w32 (length e.value) ++ e.value))
 
@@ -26,10 +26,11 @@ element_text e = 0 ∷ 0 ∷ (to_le_bytes w16 e.number ++ (to_le_bytes w32 (leng
 abbrev pub StartsElement : List ℕ → Element → List ℕ → Type 0
 StartsElement text e rest = (e.number < 2 ^ 16) × (length e.value < 0xFFFFFFFF) × (text ≡ element_text e ++ rest)
 
--- the values of the elements of one number, in order, and the first of them
+-- the values of the elements of one number, in order
 abbrev pub values : ℕ → List Element → List (List ℕ)
 values number es = map (λ e. e.value) (filter (λ e. e.number == number) es)
 
+-- the value of the first element of a number: a later one of it counts for nothing
 abbrev pub first_value : ℕ → List Element → Option (List ℕ)
 first_value number es = slice_get (values number es) 0
 
@@ -40,6 +41,7 @@ abbrev pub text_of : Option (List ℕ) → List ℕ
 text_of None = []
 text_of (Some value) = unpadded value
 
+-- the text of the first element of a number, empty where there is none
 abbrev pub text_at : ℕ → List Element → List ℕ
 text_at number es = text_of (first_value number es)
 
@@ -77,6 +79,7 @@ id_of (EchoRq id class has_data) = Some id
 id_of (EchoRsp to status class has_data) = Some to
 id_of (Other field id status has_data) = id
 
+-- the status of an answer, (0000,0900) (PS3.7 annex C); requests have none
 abbrev pub status_of : Command → Option ℕ
 status_of (StoreRsp to status class instance has_data) = Some status
 status_of (EchoRsp to status class has_data) = Some status
@@ -115,6 +118,7 @@ HasTexts es (EchoRq id class has_data) = class ≡ text_at 0x0002 es
 HasTexts es (EchoRsp to status class has_data) = class ≡ text_at 0x0002 es
 HasTexts es (Other field id status has_data) = HasNoName field
 
+-- the elements say this command: its field, ids, status and texts, and whether a data set follows
 abbrev pub Says : List Element → Command → Type 0
 Says es c = HasNumber es 0x0100 (field_of c) × Announces es (announces c) × HasIds es (field_of c) (id_of c) (status_of c) × HasTexts es c
 

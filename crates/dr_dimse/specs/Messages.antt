@@ -8,18 +8,19 @@ use Rattle.dr_dimse.specs.declared.message.Body.TheVariants.{Whole, TooLarge}
 use Rattle.dr_dimse.specs.declared.message.Message.{Message}
 use Rattle.dr_dimse.specs.Commands.{IsCommand, announces}
 
--- the message control header (PS3.8 E.2): bit 0 is set for a command, bit 1 for the last fragment
+-- the value carries a fragment of a command, and not of a data set: bit 0 of its header (PS3.8 E.2)
 abbrev pub is_command : Pdv → Bool
 is_command p = p.header % 2 == 1
 
+-- the value carries the last fragment of its command or data set: bit 1 of its header (PS3.8 E.2)
 abbrev pub is_last : Pdv → Bool
 is_last p = p.header / 2 % 2 == 1
 
--- the fragments, one after the other
+-- the fragments of the values, one after the other
 abbrev pub joined : List Pdv → List ℕ
 joined ps = flat_map (λ (p : Pdv). p.fragment) ps
 
--- in that context and of that kind
+-- the value is in that context and of that kind: a command, or a data set
 abbrev pub IsOfKind : Bool → ℕ → Pdv → Type 0
 IsOfKind kind id p = (p.id ≡ id) × (is_command p ≡ kind)
 

@@ -17,9 +17,11 @@ abbrev pub Reads : {X Y : Type 0} → (X → Y) → Result X DimseFault → (Y �
 Reads view (Ok x) R = R (view x)
 Reads view (Err fault) R = Refuses fault R
 
+-- an element that a reader has found, as the grammar sees it
 abbrev pub element : Found → Element
 element e = record { number = e.number; value = e.value.now }
 
+-- the elements that a reader has found, in order, as the grammar sees them
 abbrev pub elements : List Found → List Element
 elements es = map element es
 

@@ -12,7 +12,7 @@ use Rattle.dr_dimse.specs.declared.message.Body.TheVariants.{Whole, TooLarge}
 use Rattle.dr_dimse.specs.Commands.{IsCommand}
 use Rattle.dr_dimse.specs.Taking.{Stage, Idle, InCommand, InData, IsAwaited}
 
--- a body that is under way
+-- the data set that is under way, by whether it is too large and its bytes so far
 abbrev pub so_far : Bool → List ℕ → Body
 so_far true bytes = TooLarge
 so_far false bytes = Whole bytes

@@ -37,17 +37,19 @@ abbrev pub data_of : Stage → Option (ℕ × Command)
 data_of (InData id c body) = Some (id, c)
 data_of s = None
 
--- its bytes so far, none where they aren't kept
+-- the bytes of a data set so far; none of one that is too large, as they aren't kept
 abbrev pub bytes_of : Body → List ℕ
 bytes_of (Whole text) = text
 bytes_of TooLarge = []
 
+-- the bytes so far of the data set that is under way, none where there is none
 abbrev pub data_so_far : Stage → List ℕ
 data_so_far (InData id c body) = bytes_of body
 data_so_far s = []
 
 -- ---- one value
 
+-- the presentation context of the message that is under way
 abbrev pub context_of : Stage → Option ℕ
 context_of Idle = None
 context_of (InCommand id text) = Some id
@@ -58,6 +60,7 @@ abbrev pub wants_command : Stage → Bool
 wants_command (InData id c body) = false
 wants_command s = true
 
+-- the bytes so far of the command that is under way, none where there is none
 abbrev pub text_so_far : Stage → List ℕ
 text_so_far (InCommand id text) = text
 text_so_far s = []
@@ -73,13 +76,15 @@ IsAwaited Requests c = field_of c < 0x8000
 IsAwaited (AnswerTo id) c = (0x8000 ≤ field_of c) × (id_of c ≡ Some id)
 IsAwaited Nothing c = ⊥
 
--- in the context of what is under way; of the kind that comes next; and a command that isn't too long
+-- the value is in the context of the message that is under way, if there is one
 abbrev pub InContext : Stage → Pdv → Type 0
 InContext s p = IfSome (context_of s) (λ id. p.id ≡ id)
 
+-- the value is in the context of what is under way, and of the kind that comes next: a command, or its data set
 abbrev pub InPlace : Stage → Pdv → Type 0
 InPlace s p = InContext s p × (is_command p ≡ wants_command s)
 
+-- the value is in place, and with it the command has at most 16,384 bytes
 abbrev pub IsShortEnough : Stage → Pdv → Type 0
 IsShortEnough s p = InPlace s p × (wants_command s ≡ true) × (length (text_so_far s ++ p.fragment) ≤ 16384)
 
@@ -125,22 +130,25 @@ pub record Call : Type 0 where
 abbrev pub Took : Stage → List Call → Stage → Type 0
 Took old calls new = Calls (λ before call after. Takes call.awaited before call.value call.answer after) old calls new
 
--- the value that a call took, and the message that it ended
+-- the value that a call took; a fault takes none
 abbrev pub taken_by : Pdv → Result (Option Message) DimseFault → List Pdv
 taken_by p (Ok m) = p ∷ []
 taken_by p (Err fault) = []
 
+-- the message that a call ended, if it did
 abbrev pub given_by : Result (Option Message) DimseFault → List Message
 given_by (Ok (Some m)) = m ∷ []
 given_by r = []
 
+-- the values that these calls took, in order
 abbrev pub taken : List Call → List Pdv
 taken xs = flat_map (λ (x : Call). taken_by x.value x.answer) xs
 
+-- the messages that these calls ended, in order
 abbrev pub given : List Call → List Message
 given xs = flat_map (λ (x : Call). given_by x.answer) xs
 
--- each of the values is taken and ends no message
+-- each of the values is taken, one after the other, and none ends a message
 abbrev pub Waits : Awaited → Stage → List Pdv → Stage → Type 0
 Waits awaited old [] new = old ≡ new
 Waits awaited old (p ∷ ps) new = (mid : Stage) × Takes awaited old p (Ok None) mid × Waits awaited mid ps new

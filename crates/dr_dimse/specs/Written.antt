@@ -8,13 +8,15 @@ use Rattle.dr_dimse.specs.declared.command.Command.{Command}
 use Rattle.dr_dimse.specs.declared.command.Command.TheVariants.{StoreRq, StoreRsp, EchoRq, EchoRsp, Other}
 use Rattle.dr_dimse.specs.Commands.{Element, element_text, IsUid, HasNoName}
 
--- a NUL makes the length even (PS3.5 section 9.1)
+-- a text of even length: a NUL is put behind one of odd length (PS3.5 9.1)
 abbrev pub even : List ℕ → List ℕ
 even text = if length text % 2 == 0 then text else text ++ 0 ∷ []
 
+-- the element of a text, padded to even length
 abbrev pub text_element : ℕ → List ℕ → Element
 text_element number text = record { number = number; value = even text }
 
+-- the element of a number of two bytes, the least significant first
 abbrev pub number_element : ℕ → ℕ → Element
 number_element number n = record { number = number; value = to_le_bytes w16 n }
 
@@ -22,11 +24,12 @@ number_element number n = record { number = number; value = to_le_bytes w16 n }
 abbrev pub data_element : Bool → Element
 data_element has_data = number_element 0x0800 (if has_data then 0x0001 else 0x0101)
 
+-- the element of a number that only some commands have, such as the status; none where it is missing
 abbrev pub if_some : ℕ → Option ℕ → List Element
 if_some number None = []
 if_some number (Some n) = number_element number n ∷ []
 
--- the elements behind the group length
+-- the elements of a command behind its group length, in the order of their tags
 abbrev pub elements_of : Command → List Element
 elements_of (StoreRq id class instance) = text_element 0x0002 class ∷ number_element 0x0100 0x0001 ∷ number_element 0x0110 id ∷ number_element 0x0700 0 ∷ data_element true ∷ text_element 0x1000 instance ∷ []
 elements_of (StoreRsp to status class instance has_data) = text_element 0x0002 class ∷ number_element 0x0100 0x8001 ∷ number_element 0x0120 to ∷ data_element has_data ∷ number_element 0x0900 status ∷ text_element 0x1000 instance ∷ []
@@ -35,6 +38,7 @@ elements_of (EchoRsp to status class has_data) = text_element 0x0002 class ∷ n
 elements_of (Other field id status has_data) =
     number_element 0x0100 field ∷ (if_some (if nat_le 0x8000 field then 0x0120 else 0x0110) id ++ (data_element has_data ∷ if_some 0x0900 status))
 
+-- what elements are written as, one after the other
 abbrev pub joined : List Element → List ℕ
 joined es = flat_map element_text es
 
@@ -42,6 +46,7 @@ joined es = flat_map element_text es
 abbrev pub group_length : List Element → Element
 group_length es = record { number = 0; value = to_le_bytes w32 (length (joined es)) }
 
+-- the spelling of a command: the group length, and then its other elements
 abbrev pub written : Command → List ℕ
 written c = joined (group_length (elements_of c) ∷ elements_of c)
 
@@ -51,7 +56,7 @@ written c = joined (group_length (elements_of c) ∷ elements_of c)
 abbrev pub IsText : List ℕ → Type 0
 IsText text = (unpadded text ≡ text) × (length text ≤ 16384)
 
--- a number of two bytes
+-- the number fits an element of two bytes
 abbrev pub IsNumber : ℕ → Type 0
 IsNumber n = n < 2 ^ 16
 
