@@ -16,12 +16,13 @@ use Rattle.dr_network.specs.declared.plan.Values.TheVariants as values
 use Rattle.dr_entry.specs.declared.narrow.Part.{Part}
 use Rattle.dr_entry.specs.declared.narrow.Part.TheVariants as part
 
--- the values take in the part of the field
+-- the values of a flow take in the part of the field: all of them do where any value will, else only listed literals
 abbrev pub Admits : Values → OwnedField → Type 0
 Admits values.Any field = Unit {0}
 Admits (values.Listed texts) (Literal literal) = Contains texts literal
 Admits (values.Listed texts) Rest = ⊥
 
+-- the flow speaks of the value: the site, a class, a transfer syntax, or a part of modality or station
 abbrev pub SpeaksOf : Flow → Part → Type 0
 SpeaksOf flow (part.Site site) = flow.at ≡ site.now
 SpeaksOf flow (part.Class class) = Contains flow.classes class.now
@@ -29,14 +30,15 @@ SpeaksOf flow (part.Syntax syntax) = Contains flow.syntaxes syntax
 SpeaksOf flow (part.Modality field) = Admits flow.modalities field.now
 SpeaksOf flow (part.Station field) = Admits flow.stations field.now
 
--- the flow at the place does, or none at one of the places
+-- the flow at that place of the list speaks of the value
 abbrev pub SpeaksAt : List Flow → ℕ → Part → Type 0
 SpeaksAt flows k part = (flow : Flow) × (slice_get flows k ≡ Some flow) × SpeaksOf flow part
 
+-- no flow at one of the places speaks of the value
 abbrev pub NoneSpeaks : List Flow → List ℕ → Part → Type 0
 NoneSpeaks flows among part = (k : ℕ) → Contains among k → SpeaksAt flows k part → ⊥
 
--- places in the list
+-- each of the numbers is a place in the list of flows
 abbrev pub AllBelow : List ℕ → List Flow → Type 0
 AllBelow among flows = All (λ k. k < length flows) among
 
@@ -51,7 +53,7 @@ pub record TakesIn (flow : Flow) (cell : OwnedCell) : Type 0 where
   pub modality : Admits flow.modalities cell.modality
   pub station : Admits flow.stations cell.station
 
--- a flow at one of the places does
+-- a flow at one of the places takes in the keys of the cell
 abbrev pub SomeTakes : List Flow → List ℕ → OwnedCell → Type 0
 SomeTakes flows among cell = (k : ℕ) × Contains among k × ((flow : Flow) × (slice_get flows k ≡ Some flow) × TakesIn flow cell)
 
@@ -59,36 +61,40 @@ SomeTakes flows among cell = (k : ℕ) × Contains among k × ((flow : Flow) × 
 abbrev pub EachSpeaks : List Flow → List ℕ → Part → Type 0
 EachSpeaks flows among part = (k : ℕ) (flow : Flow) → Contains among k → slice_get flows k ≡ Some flow → SpeaksOf flow part
 
--- the cells that are wanted: some flow at the site takes them in
+-- an entry, as a site and a cell of the plan: some flow at the site takes the cell in
 abbrev pub WantsAny : Network → Text → OwnedCell → Type 0
 WantsAny plan s c = IsCellOf plan c × ((flow : Flow) × Contains plan.flows flow × (flow.at ≡ s) × TakesIn flow c)
 
--- the cells that are wanted at a site: of all, of one class, of one transfer syntax of it, and of one modality of that
+-- the entries at one site, as far as the flows at these places take them in
 abbrev pub WantsSite : Network → Text → List ℕ → Text → OwnedCell → Type 0
 WantsSite plan site among s c = (s ≡ site) × IsCellOf plan c × SomeTakes plan.flows among c
 
+-- the entries at one site, of one class
 abbrev pub WantsClass : Network → Text → Text → List ℕ → Text → OwnedCell → Type 0
 WantsClass plan site class among s c = (c.class ≡ class) × WantsSite plan site among s c
 
+-- the entries at one site, of one class in one transfer syntax
 abbrev pub WantsSyntax : Network → Text → Text → Syntax → List ℕ → Text → OwnedCell → Type 0
 WantsSyntax plan site class syntax among s c = (c.syntax ≡ syntax) × WantsClass plan site class among s c
 
+-- the entries at one site, of one class in one transfer syntax and of one part of modality
 abbrev pub WantsModality : Network → Text → Text → Syntax → OwnedField → List ℕ → Text → OwnedCell → Type 0
 WantsModality plan site class syntax modality among s c = (c.modality ≡ modality) × WantsSyntax plan site class syntax among s c
 
+-- the entry at one site of one class, transfer syntax and parts of modality and station: one cell
 abbrev pub WantsStation : Network → Text → Text → Syntax → OwnedField → OwnedField → List ℕ → Text → OwnedCell → Type 0
 WantsStation plan site class syntax modality station among s c = (c.station ≡ station) × WantsModality plan site class syntax modality among s c
 
--- the part of one of these literals
+-- the part of the field is one of these literals
 abbrev pub IsLiteralOf : List Text → OwnedField → Type 0
 IsLiteralOf literals (Literal literal) = Contains literals literal
 IsLiteralOf literals Rest = ⊥
 
--- just the parts of a field of the plan
+-- the list has just the parts of a field of the plan: its literals, and the rest
 abbrev pub AreParts : FieldValues → List OwnedField → Type 0
 AreParts values fields = (field : OwnedField) → Contains fields field ↔ IsPart values field
 
--- the parts of a plan's two fields
+-- the two lists have just the parts of a plan's modality and of its station
 abbrev pub HasParts : Network → List OwnedField → List OwnedField → Type 0
 HasParts plan modalities stations = AreParts (literals_of plan).modalities modalities × AreParts (literals_of plan).stations stations
 
@@ -100,15 +106,18 @@ HasClasses flows among row = (k : ℕ) (flow : Flow) (class : Text) → Contains
 abbrev pub HasSites : List Flow → List Text → Type 0
 HasSites flows row = (flow : Flow) → Contains flows flow → Contains row flow.at
 
--- the flow is at the site and takes in the values so far
+-- the flow is at the site and has the class
 abbrev pub FitsClass : Flow → Text → Text → Type 0
 FitsClass flow site class = Contains flow.classes class × (flow.at ≡ site)
 
+-- the flow is at the site and has the class and the transfer syntax
 abbrev pub FitsSyntax : Flow → Text → Text → Syntax → Type 0
 FitsSyntax flow site class syntax = Contains flow.syntaxes syntax × FitsClass flow site class
 
+-- the flow is at the site, has the class and the transfer syntax, and takes in that part of modality
 abbrev pub FitsModality : Flow → Text → Text → Syntax → OwnedField → Type 0
 FitsModality flow site class syntax modality = Admits flow.modalities modality × FitsSyntax flow site class syntax
 
+-- the flow is at the site and takes in the class, the transfer syntax and the parts of modality and station
 abbrev pub FitsAll : Flow → Text → Text → Syntax → OwnedField → OwnedField → Type 0
 FitsAll flow site class syntax modality station = Admits flow.stations station × FitsModality flow site class syntax modality

@@ -16,14 +16,15 @@ pub record GoesOn {V F : Type 0} (plan : V → Network) (ready : V → Type 0) (
   pub kept : (site : Text) (cell : OwnedCell) → visited old site cell → visited new site cell
   pub wanted : (site : Text) (cell : OwnedCell) → Wanted site cell → visited new site cell
 
--- after visits of all entries that were wanted, or after a finding
+-- after visits: all entries that were wanted have been visited, or there is a finding
 abbrev pub AfterVisits : {V F : Type 0} → (V → Network) → (V → Type 0) → (V → Text → OwnedCell → Type 0) → (V → F → Type 0) → (Text → OwnedCell → Type 0) → V → V → Option F → Type 0
 AfterVisits plan ready visited shows Wanted old new None = GoesOn plan ready visited shows Wanted old new
 AfterVisits plan ready visited shows Wanted old new (Some finding) = shows old finding
 
+-- the entry is just this one, a site and a cell
 abbrev pub IsThis : Text → OwnedCell → Text → OwnedCell → Type 0
 IsThis site cell s c = (s ≡ site) × (c ≡ cell)
 
--- the entries of a plan, by their cells
+-- an entry of a plan by its cell: some key of the cell enters at the site
 abbrev pub IsEntryCell : Network → Text → OwnedCell → Type 0
 IsEntryCell plan site cell = (key : Key) × LiesIn plan cell key × IsEntry plan site key
