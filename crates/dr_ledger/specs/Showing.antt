@@ -12,14 +12,15 @@ use Rattle.dr_ledger.specs.declared.item.Outcome.TheVariants.{Status}
 use Rattle.dr_ledger.specs.Books.{Book, Arrival, Repeat, Settling, Requeuing, Adoption}
 use Rattle.dr_ledger.specs.Replies.{AreKept, Counts, HasRisen, entry_of}
 
--- a CT image of 70 bytes
+-- the key of a CT image in the explicit syntax, of station S1
 abbrev pub a_key : Key
 a_key = record { class = codes "1.2.840.10008.5.1.4.1.1.2"; syntax = Explicit; modality = codes "CT"; station = codes "S1" }
 
+-- a CT image of 70 bytes with the uid 1.2.3.4; no figure looks at its digest
 abbrev pub an_image : Instance
 an_image = record { uid = codes "1.2.3.4"; key = a_key; size = 70; digest = [] }
 
--- what is shown of a line of each kind
+-- what is shown of a line of each kind: an arrival shows the length of the data set and not its bytes
 pub record LinesAreShown : Type 0 where
   pub arrival : entry_of (Arrival (codes "CT1") an_image (codes "ARCH" ∷ []) true)
       ≡ entry.Arrival (codes "CT1") (codes "1.2.3.4") a_key 70 (codes "ARCH" ∷ []) true
