@@ -14,11 +14,11 @@ use Rattle.dr_ledger.specs.PlanRoutes.{plan_routing}
 use Rattle.dr_ledger.specs.Replies.{IsAdmitted, IsWaiting, IsHeld, Arrives, Settles, Requeues}
 use Rattle.dr_model.specs.Worlds.{World, with_book, with_armed}
 
--- what `arrive` answers
+-- what `arrive` answers to a C-STORE request in the message world
 abbrev pub Reply : Type 0
 Reply = Result Arrived LedgerFault
 
--- what `settle` and `requeue` answer
+-- what `settle` and `requeue` answer in the message world
 abbrev pub Answer : Type 0
 Answer = Result (Unit {0}) LedgerFault
 

@@ -20,7 +20,7 @@ use Rattle.dr_model.specs.Steps.{IsLink}
 
 -- ---- what a node has
 
--- the node has this very item
+-- the node's book has this very item
 abbrev pub Has : World → Text → Instance → Type 0
 Has w name item = map.get (w.books name).items item.uid ≡ Some item
 
@@ -37,7 +37,7 @@ HasArrival w name caller item = Brought (w.books name) caller item
 abbrev pub HasRow : World → Text → Text → Text → Progress → Type 0
 HasRow w name uid to row = map.get (w.books name).rows (uid, to) ≡ Some row
 
--- a row stood there when the plan was adopted
+-- a row for the uid and the destination stood in the node's book when the plan was adopted
 abbrev pub WasCarriedOver : World → Text → Text → Text → Type 0
 WasCarriedOver w name uid to = (row : Progress) × (map.get (w.carried_over name) (uid, to) ≡ Some row)
 
@@ -48,17 +48,17 @@ pub record HasItems (w : World) : Type 0 where
 
 -- ---- 1. nothing is refused for want of a presentation context
 
--- success; out of resources; other data under this uid
+-- a status that a sound plan leaves room for: success, out of resources, or other data under this uid
 abbrev pub IsFairStatus : ℕ → Type 0
 IsFairStatus status = (status ≡ 0) ⊎ ((status ≡ 0xA700) ⊎ (status ≡ 0xC0F1))
 
--- a try that ended without an answer is fair, one without a context is not
+-- the outcome of a try is fair: a fair status, or no answer; want of a presentation context is not
 abbrev pub IsFairOutcome : Outcome → Type 0
 IsFairOutcome (Status status) = IsFairStatus status
 IsFairOutcome Broken = Unit {0}
 IsFairOutcome NoContext = ⊥
 
--- each settling of a journal is
+-- each settling of a journal has a fair outcome; other lines have none
 abbrev pub IsFairLine : Line → Type 0
 IsFairLine (Arrival caller item to keep) = Unit {0}
 IsFairLine (Repeat caller item) = Unit {0}
@@ -117,7 +117,7 @@ pub record IsHonest (plan : Network) (w : World) : Type 0 where
 
 -- ---- 4. nothing acknowledged is lost
 
--- the row isn't done
+-- a row that isn't done: it waits, or is held
 abbrev pub IsQueued : Progress → Type 0
 IsQueued (Waiting tries due) = Unit {0}
 IsQueued (Held cause) = Unit {0}
@@ -134,12 +134,12 @@ pub record IsUnderway (plan : Network) (w : World) (caller name : Text) (item : 
   pub has : Has w (last_place caller name over).1 item
   pub goes : IsDestination plan (last_place caller name over).1 to item.key dest
 
--- the destination keeps it, unchanged
+-- the destination keeps the item, unchanged
 pub record IsKept (w : World) (item : Instance) (dest : Text) : Type 0 where
   pub kept : set.contains (w.books dest).kept item.uid ≡ true
   pub has : Has w dest item
 
--- it is kept there, or under way
+-- the destination keeps the item, or some node has it under way to there
 abbrev pub IsCovered : Network → World → Text → Text → Instance → Text → Type 0
 IsCovered plan w caller name item dest = IsKept w item dest ⊎ IsUnderway plan w caller name item dest
 
@@ -155,7 +155,7 @@ pub record NothingLost (plan : Network) (w : World) : Type 0 where
 
 -- ---- all of it
 
--- the four claims of the plan in force
+-- all four claims of the plan in force
 pub record Headline (plan : Network) (w : World) : Type 0 where
   pub items : HasItems w
   pub none_refused : NoneRefused plan w

@@ -19,15 +19,15 @@ abbrev pub LeavingTriesAgain : Type 0
 LeavingTriesAgain = (w v : World) (number : ℕ) (link : Link) (item : Instance) → IsLink w number link → IsUnderWay link.stage item → Leaves w number (Some (Ok tt)) v →
     (tries : ℕ) × (due : ℕ) × HasRow w link.caller item.uid link.receiver (Waiting tries due) × HasRow v link.caller item.uid link.receiver (tried tries w.time)
 
--- it does not leave without settling that
+-- a caller does not leave a link without settling what it has under way there
 abbrev pub LeavingSettles : Type 0
 LeavingSettles = (w v : World) (number : ℕ) (link : Link) (item : Instance) → IsLink w number link → IsUnderWay link.stage item → Leaves w number None v → ⊥
 
--- whoever left reads nothing more
+-- a caller that left the link reads nothing more
 abbrev pub LeftIsOff : Type 0
 LeftIsOff = (w v : World) (number : ℕ) (answer : Option Answer) → Leaves w number answer v → (link : Link) × IsLink v number link × (link.caller_connected ≡ false)
 
--- nor does a receiver that dropped the link
+-- a receiver that dropped the link reads nothing more
 abbrev pub DroppedIsOff : Type 0
 DroppedIsOff = (w v : World) (number : ℕ) → Drops w number v → (link : Link) × IsLink v number link × (link.receiver_connected ≡ false)
 
@@ -39,12 +39,12 @@ HasLeft w v number = ((link : Link) × IsLink v number link × (link.caller_conn
 abbrev pub RefusedCallersLeave : Type 0
 RefusedCallersLeave = (w v : World) (number : ℕ) → (ReadsReply w number (Err fault.Store) v) ⊎ (ReadsReply w number (Err fault.Memory) v) → HasLeft w v number
 
--- Where the row didn't wait any more, the caller stays, and the link is open again.
+-- Where the row of a reply didn't wait any more, the caller stays, and the link is open again.
 abbrev pub SettledBeforeStays : Type 0
 SettledBeforeStays = (w v : World) (number : ℕ) → ReadsReply w number (Err fault.NotWaiting) v →
     (link : Link) × (accepted : Contexts) × IsLink v number link × (link.caller_connected ≡ true) × (link.stage ≡ Open accepted)
 
--- after closing nobody reads, and nothing is under way
+-- after a link is closed nobody reads, and nothing is under way on it
 abbrev pub ClosedIsGone : Type 0
 ClosedIsGone = (w v : World) (number : ℕ) (answer : Option Answer) → Closes w number answer v →
     (link : Link) × IsLink v number link × (link.caller_connected ≡ false) × (link.receiver_connected ≡ false) × (link.stage ≡ Gone)

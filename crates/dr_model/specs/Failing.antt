@@ -18,7 +18,7 @@ use Rattle.dr_ledger.specs.Pairs.{pair_cmp}
 use Rattle.dr_model.specs.Worlds.{World, Link, Stage, Open, Replying, same_text, start, with_book, with_link}
 use Rattle.dr_model.specs.Claims.{NoneRefused, WithinRank, IsHonest, NothingLost}
 
--- a book with that item, brought by that caller
+-- a book with just that item, brought by that caller, and with these rows and kept uids
 abbrev pub brought_by : Text → Instance → FinMap pair_cmp Progress → FinSet text_cmp → Book
 brought_by caller item rows kept = record {
   items = map.insert map.empty item.uid item;
@@ -36,34 +36,37 @@ only name book = with_book start name book
 abbrev pub link_at : Text → Text → Stage → Link
 link_at caller receiver stage = record { caller = caller; receiver = receiver; caller_connected = true; receiver_connected = true; stage = stage }
 
--- 1. A row was settled for want of a context; over an open link a pair of the hop wasn't accepted.
+-- against claim 1: a row was settled for want of a presentation context
 abbrev pub settled_without_context : Text → Text → Text → World
 settled_without_context name uid dest =
     only name (record { items = map.empty; arrivals = set.empty; kept = set.empty; rows = map.empty; lines = Settling uid dest NoContext 0 ∷ [] })
 
+-- against claim 1: a link is open, and none of the pairs of its hop was accepted
 abbrev pub opened_without_pairs : Text → Text → World
 opened_without_pairs caller receiver = with_link start 1 (link_at caller receiver (Open set.empty))
 
--- 2. An instance came from another node, and entered nowhere.
+-- against claim 2: an instance has arrived from a caller that never had it
 abbrev pub come_from_nowhere : Text → Text → Instance → World
 come_from_nowhere caller name item = only name (brought_by caller item map.empty set.empty)
 
--- 3. A row is done, and the next node has no arrival; success is under way without one; a row has no reason.
+-- against claim 3: a row is done, and the node that it was for has no arrival
 abbrev pub done_for_nothing : Text → Text → Instance → World
 done_for_nothing name to item = only name (brought_by name item (map.insert map.empty (item.uid, to) Done) set.empty)
 
+-- against claim 3: success is under way on a link, and its receiver has no arrival
 abbrev pub success_for_nothing : Text → Text → Instance → World
 success_for_nothing caller receiver item = with_link start 1 (link_at caller receiver (Replying set.empty item 0))
 
--- 4. An arrival has a row that is done, and is nowhere else; every other node keeps the uid, of another item.
+-- against claim 4: the one row of an arrival is done, and no other node has anything
 abbrev pub done_and_gone : Text → Text → Text → Instance → World
 done_and_gone caller name to item = only name (brought_by caller item (map.insert map.empty (item.uid, to) Done) set.empty)
 
--- a book that keeps the uid
+-- a book that keeps another item under the uid
 abbrev pub keeps_instead : Text → Instance → Book
 keeps_instead uid other =
     record { items = map.insert map.empty uid other; arrivals = set.empty; kept = set.insert set.empty uid; rows = map.empty; lines = [] }
 
+-- against claim 4: an arrival has no row, and every other node keeps another item under its uid
 abbrev pub kept_as_another : Text → Text → Instance → Instance → World
 kept_as_another caller name item other = record {
   time = 0;
@@ -84,7 +87,7 @@ pub record ClaimsFail (plan : Network) (caller name to : Text) (item other : Ins
   pub gone : NothingLost plan (done_and_gone caller name to item) → ⊥
   pub kept : NothingLost plan (kept_as_another caller name item other) → ⊥
 
--- where the caller is no local one, and nodes and items differ
+-- each claim is false of some world, over every plan, where the caller is no local one and nodes and items differ
 abbrev pub ClaimsCanFail : Type 0
 ClaimsCanFail = (plan : Network) (caller name to : Text) (item other : Instance) → caller ≢ local → name ≢ to → other ≢ item →
     ClaimsFail plan caller name to item other

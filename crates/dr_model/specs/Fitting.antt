@@ -33,6 +33,7 @@ FitBooksMayTurn = (next : Network) (w : World) → w.books local ≡ empty_book 
 abbrev pub Spot : Type 0
 Spot = Text × Pair
 
+-- the order of spots: by the node's name, then by the uid and the destination
 abbrev pub spot_cmp : Spot → Spot → Ordering
 spot_cmp a b = ordering_then (text_cmp a.0 b.0) (pair_cmp a.1 b.1)
 
@@ -42,24 +43,25 @@ FindsUnfit next w None = (name : Text) → IsFit next name (w.books name)
 FindsUnfit next w (Some at) = IsUnfit next at.0 (w.books at.0) at.1
     × ((other : Spot) → IsUnfit next other.0 (w.books other.0) other.1 → spot_cmp at other ≢ Greater)
 
--- it is one
+-- two answers to which row of all nodes is the first that the next plan doesn't go on with are the same
 abbrev pub FirstUnfitIsOne : Type 0
 FirstUnfitIsOne = (next : Network) (w : World) (one other : Option Spot) → FindsUnfit next w one → FindsUnfit next w other → one ≡ other
 
--- What the ledgers find, asked in the order of their nodes' names, is it.
+-- What the ledgers find, asked in the order of their nodes' names, is the first unfit row of all nodes.
 abbrev pub LedgersFindTheFirst : Type 0
 LedgersFindTheFirst = (next : Network) (w : World) (name : Text) (at : Pair) → Unfits next name (w.books name) (Some at) →
     ((other : Text) → text_cmp other name ≡ Less → Unfits next other (w.books other) None) → FindsUnfit next w (Some (name, at))
 
--- Where one does, the plan isn't adopted.
+-- Where a node has an unfit row, the next plan may not be adopted.
 abbrev pub UnfitRowsForbid : Type 0
 UnfitRowsForbid = (plan : Network) (w : World) (next : Network) (name : Text) (at : Pair) → IsUnfit next name (w.books name) at → MayAdopt plan w next → ⊥
 
--- Nor is it where a link is connected at an end, or a node is armed.
+-- Where a link is connected at an end, no next plan may be adopted.
 abbrev pub OpenLinksForbid : Type 0
 OpenLinksForbid = (plan : Network) (w : World) (next : Network) (number : ℕ) (link : Link) → IsLink w number link →
     (link.caller_connected ≡ true) ⊎ (link.receiver_connected ≡ true) → MayAdopt plan w next → ⊥
 
+-- Where a node is armed, so that its store is to refuse the next line, no next plan may be adopted.
 abbrev pub ArmedNodesForbid : Type 0
 ArmedNodesForbid = (plan : Network) (w : World) (next : Network) (name : Text) → HasNode plan name → set.contains w.armed name ≡ true →
     MayAdopt plan w next → ⊥

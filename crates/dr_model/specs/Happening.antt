@@ -26,15 +26,15 @@ CanHappen plan w event = (new : World) × Step plan w event new
 abbrev pub Writes : World → Text → Type 0
 Writes w name = set.contains w.armed name ≡ false
 
--- a link whose caller is connected
+-- a link of that number whose caller is connected
 abbrev pub IsCallers : World → ℕ → Link → Type 0
 IsCallers w number link = IsLink w number link × (link.caller_connected ≡ true)
 
--- and one whose receiver is connected
+-- a link of that number whose receiver is connected
 abbrev pub IsReceivers : World → ℕ → Link → Type 0
 IsReceivers w number link = IsLink w number link × (link.receiver_connected ≡ true)
 
--- what enters at a node of the plan, with each reply
+-- an instance can enter at a node of the plan, with each reply of its book but want of memory
 pub record TakesHappen (plan : Network) (w : World) : Type 0 where
   pub new : (node : Text) (item : Instance) → HasNode plan node → Writes w node → IsAdmitted (plan_routing plan node) local item (w.books node) →
       set.contains (w.books node).arrivals (local, item.uid) ≡ false → CanHappen plan w (Take node item (Ok New))
@@ -45,7 +45,7 @@ pub record TakesHappen (plan : Network) (w : World) : Type 0 where
       CanHappen plan w (Take node item (Err fault.Conflict))
   pub store : (node : Text) (item : Instance) → HasNode plan node → IsReached plan item.key local node → CanHappen plan w (Take node item (Err fault.Store))
 
--- an association is asked for, accepted, rejected where 256 others stand, and opened
+-- an association can be asked for, accepted, rejected where 256 others stand, and opened
 pub record OpeningsHappen (plan : Network) (w : World) : Type 0 where
   pub ask : (caller receiver : Text) → IsHop plan caller receiver → CanHappen plan w (Ask caller receiver)
   pub accept : (number : ℕ) (link : Link) (accepted : Contexts) → IsReceivers w number link → link.stage ≡ Asking → others w number link.receiver < 256 →
@@ -58,7 +58,7 @@ pub record OpeningsHappen (plan : Network) (w : World) : Type 0 where
   pub rejected_idle : (number : ℕ) (link : Link) → IsCallers w number link → link.stage ≡ Rejecting →
       ((item : Instance) → IsNext (w.books link.caller) link.receiver w.time item → ⊥) → CanHappen plan w (AgreeCaller number None)
 
--- over an open link the first row that is due goes over, is taken, and is settled
+-- over an open link the first row that is due can go over, be taken or refused, and be settled
 pub record StoresHappen (plan : Network) (w : World) : Type 0 where
   pub give : (number : ℕ) (link : Link) (accepted : Contexts) (item : Instance) → IsCallers w number link → link.stage ≡ Open accepted →
       IsNext (w.books link.caller) link.receiver w.time item → set.contains accepted (item.key.class, item.key.syntax) ≡ true → CanHappen plan w (Give number None)
@@ -82,7 +82,7 @@ pub record StoresHappen (plan : Network) (w : World) : Type 0 where
   pub settled_before : (number : ℕ) (link : Link) (accepted : Contexts) (item : Instance) (status : ℕ) → IsCallers w number link → link.stage ≡ Replying accepted item status →
       (IsWaiting (w.books link.caller) item.uid link.receiver → ⊥) → CanHappen plan w (Answered number (Err fault.NotWaiting))
 
--- what a store that fails leaves
+-- a store that fails can refuse what is to be written of a reply, of a caller that leaves, and of a held row
 pub record RefusalsHappen (plan : Network) (w : World) : Type 0 where
   pub answered : (number : ℕ) (link : Link) (accepted : Contexts) (item : Instance) (status : ℕ) → IsCallers w number link → link.stage ≡ Replying accepted item status →
       CanHappen plan w (Answered number (Err fault.Store))
@@ -104,7 +104,7 @@ pub record EndingsHappen (plan : Network) (w : World) : Type 0 where
   pub refuse : (node : Text) → HasNode plan node → CanHappen plan w (Refuse node)
   pub tick : (ms : ℕ) → CanHappen plan w (Tick ms)
 
--- over every plan, in every world
+-- each event can happen over every plan, in every world that is ready for it
 abbrev pub EventsHappen : Type 0
 EventsHappen = (plan : Network) (w : World) → TakesHappen plan w × OpeningsHappen plan w × StoresHappen plan w × RefusalsHappen plan w × EndingsHappen plan w
 

@@ -39,7 +39,7 @@ abbrev pub one_store : Text → Text → Instance → Contexts → List Action
 one_store from to item accepted = Occurs (Take from item (Ok New)) ∷ Occurs (Ask from to) ∷ Occurs (AgreeReceiver 1 (Some accepted)) ∷ Occurs (AgreeCaller 1 None)
     ∷ Occurs (Give 1 None) ∷ Occurs (Receive 1 (Ok New)) ∷ Occurs (Answered 1 (Ok tt)) ∷ []
 
--- what came of it: the row is done, and the other has the very instance
+-- one store has come about: the row is done, and the receiver has the very instance
 abbrev pub IsStored : World → Text → Text → Instance → Type 0
 IsStored w from to item = HasRow w from item.uid to Done × HasArrival w to from item
 

@@ -20,10 +20,11 @@ use Rattle.dr_model.specs.Endings.{IsUnderWay}
 
 -- ---- one node, one link
 
--- the link has that caller, that receiver
+-- the link of that number is one that the node has asked for
 abbrev pub IsCallerOf : World → ℕ → Text → Type 0
 IsCallerOf w number name = (link : Link) × IsLink w number link × (link.caller ≡ name)
 
+-- the link of that number is one that the node was asked for
 abbrev pub IsReceiverOf : World → ℕ → Text → Type 0
 IsReceiverOf w number name = (link : Link) × IsLink w number link × (link.receiver ≡ name)
 
@@ -44,7 +45,7 @@ WritesAt w (Requeue node uid dest answer) name = name ≡ node
 WritesAt w (Refuse node) name = ⊥
 WritesAt w (Tick ms) name = ⊥
 
--- it may change the link of that number: its own, a new one, or one of a node that restarts
+-- the event may change the link of that number: its own, a new one, or one of a node that restarts
 abbrev pub Touches : World → Event → ℕ → Type 0
 Touches w (Take node item reply) number = ⊥
 Touches w (Ask caller receiver) number = number ≡ w.opened + 1
@@ -61,7 +62,7 @@ Touches w (Requeue node uid dest answer) number = ⊥
 Touches w (Refuse node) number = ⊥
 Touches w (Tick ms) number = ⊥
 
--- All other books and links are as they were.
+-- An event leaves all books and links as they were but those that it may change.
 abbrev pub EventsAreLocal : Type 0
 EventsAreLocal = (plan : Network) (w v : World) (event : Event) → Step plan w event v →
     ((name : Text) → WritesAt w event name ⊎ (v.books name ≡ w.books name)) × ((number : ℕ) → Touches w event number ⊎ (map.get v.links number ≡ map.get w.links number))
@@ -84,7 +85,7 @@ AgreesByCount w v number link (Some accepted) = (others w number link.receiver <
 AgreesByCount w v number link None = (256 ≤ others w number link.receiver)
     × ((is : Link) × IsLink v number is × (is.receiver_connected ≡ false) × (is.stage ≡ Rejecting))
 
--- whatever the answer
+-- Whatever a receiver answers to a request, it goes by the count of its other associations.
 abbrev pub AgreeingIsByCount : Type 0
 AgreeingIsByCount = (plan : Network) (w v : World) (number : ℕ) (link : Link) (answer : Option Contexts) → IsLink w number link →
     AnswersRequest plan w number answer v → AgreesByCount w v number link answer
@@ -98,7 +99,7 @@ pub data IsAccepted : Stage → Type 0 where
   storing : (accepted : Contexts) (item : Instance) → IsAccepted (Storing accepted item)
   replying : (accepted : Contexts) (item : Instance) (status : ℕ) → IsAccepted (Replying accepted item status)
 
--- Those are counted which the node accepted and hasn't left, but not the one that asks; each once.
+-- The associations are counted which the node accepted and hasn't left, but not the one that asks; each once.
 abbrev pub OthersAreCounted : Type 0
 OthersAreCounted = (w : World) (number : ℕ) (name : Text) → IsStrictlySortedBy nat_cmp (others_of w number name)
     × ((other : ℕ) → Contains (others_of w number name) other
@@ -119,18 +120,20 @@ AnsweredIsOpen = (w v : World) (number : ℕ) → ReadsReply w number (Ok tt) v 
 abbrev pub TriesAgain : World → World → Link → Instance → Type 0
 TriesAgain w v link item = (tries : ℕ) × (due : ℕ) × HasRow w link.caller item.uid link.receiver (Waiting tries due) × HasRow v link.caller item.uid link.receiver (tried tries w.time)
 
--- Where a link is closed, what was under way from a caller that is connected is to be tried again; it isn't closed without settling that.
+-- Where a link is closed, what was under way from a caller that is connected is to be tried again.
 abbrev pub ClosingTriesAgain : Type 0
 ClosingTriesAgain = (w v : World) (number : ℕ) (link : Link) (item : Instance) → IsLink w number link → link.caller_connected ≡ true → IsUnderWay link.stage item → Closes w number (Some (Ok tt)) v → TriesAgain w v link item
 
+-- A link isn't closed without settling what was under way from a caller that is connected.
 abbrev pub ClosingSettles : Type 0
 ClosingSettles = (w v : World) (number : ℕ) (link : Link) (item : Instance) → IsLink w number link → link.caller_connected ≡ true → IsUnderWay link.stage item → Closes w number None v → ⊥
 
--- Where an association was rejected, the first row that is due is to be tried again; the rejection isn't read without settling it.
+-- Where an association was rejected, the first row that is due is to be tried again.
 abbrev pub RejectedTriesAgain : Type 0
 RejectedTriesAgain = (w v : World) (number : ℕ) (link : Link) (item : Instance) → IsLink w number link → link.stage ≡ Rejecting → IsNext (w.books link.caller) link.receiver w.time item →
     ReadsAnswer w number (Some (Ok tt)) v → TriesAgain w v link item
 
+-- A rejection isn't read without settling the first row that is due.
 abbrev pub RejectedSettles : Type 0
 RejectedSettles = (w v : World) (number : ℕ) (link : Link) (item : Instance) → IsLink w number link → link.stage ≡ Rejecting → IsNext (w.books link.caller) link.receiver w.time item →
     ReadsAnswer w number None v → ⊥
@@ -139,7 +142,7 @@ RejectedSettles = (w v : World) (number : ℕ) (link : Link) (item : Instance) �
 abbrev pub RestartsAskAll : Type 0
 RestartsAskAll = (w v : World) (name : Text) (answers : List (Option Answer)) → Restarts w name answers v → length answers ≡ length (callers_of w name)
 
--- They answer in the order of their links' numbers.
+-- At a restart those who called the node answer in the order of their links' numbers.
 abbrev pub RestartsInOrder : Type 0
 RestartsInOrder = (w : World) (name : Text) → IsStrictlySortedBy nat_cmp (callers_of w name)
 

@@ -25,8 +25,8 @@ pub record MayAdopt (plan : Network) (old : World) (next : Network) : Type 0 whe
       map.get (old.books name).items uid ≡ Some item → Goes next item.key name to
   pub strangers : (name : Text) → (HasNode plan name → ⊥) → old.books name ≡ empty_book
 
--- They all do at once: arrivals and done rows leave the books, a node that joins has an empty one, and links are gone. The rows
--- that aren't done stand.
+-- All nodes take the next plan at once: arrivals and done rows leave the books, a node that joins has an empty one, and
+-- links are gone. The rows that aren't done stand.
 pub record Adopts (plan : Network) (old : World) (next : Network) (new : World) : Type 0 where
   pub may : MayAdopt plan old next
   pub books : (name : Text) → HasNode plan name → new.books name ≡ after Adoption (old.books name)
@@ -37,7 +37,7 @@ pub record Adopts (plan : Network) (old : World) (next : Network) (new : World) 
   pub armed : new.armed ≡ old.armed
   pub opened : new.opened ≡ old.opened
 
--- what can happen to the world
+-- what can happen to the world: an event, or the adoption of a new plan
 pub data Action : Type 0 where
   Occurs : (event : Event) → Action
   Adopt : (next : Network) → Action

@@ -18,17 +18,17 @@ pub record IsSpentWell {A : Type 0} (Would : Type 0) (old : World) (name : Text)
   pub spared : reply ≢ Err fault.Store → new.armed ≡ old.armed
   pub spent : (new.armed ≡ old.armed) ⊎ (Would × (new.armed ≡ set.remove old.armed name))
 
--- by an arrival
+-- an arrival spends a refusal only where the store fails and the arrival would have added a line
 abbrev pub ArrivalsSpendWell : Type 0
 ArrivalsSpendWell = (plan : Network) (old new : World) (name caller : Text) (item : Instance) (reply : Reply) →
     Arriving plan old name caller item reply new → IsSpentWell (IsAdmitted (plan_routing plan name) caller item (old.books name)) old name reply new
 
--- by a settling
+-- a settling spends a refusal only where the store fails and the settling would have added a line
 abbrev pub SettlingsSpendWell : Type 0
 SettlingsSpendWell = (old new : World) (name uid dest : Text) (outcome : Outcome) (answer : Answer) →
     Settlement old name uid dest outcome answer new → IsSpentWell (IsWaiting (old.books name) uid dest) old name answer new
 
--- by a requeuing
+-- a requeuing spends a refusal only where the store fails and the requeuing would have added a line
 abbrev pub RequeuingsSpendWell : Type 0
 RequeuingsSpendWell = (old new : World) (name uid dest : Text) (answer : Answer) →
     Requeueing old name uid dest answer new → IsSpentWell (IsHeld (old.books name) uid dest) old name answer new

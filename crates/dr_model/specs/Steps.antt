@@ -26,11 +26,11 @@ IsLink w number link = map.get w.links number ≡ Some link
 abbrev pub IsHop : Network → Text → Text → Type 0
 IsHop plan from to = (key : Key) × Goes plan key from to
 
--- both ends connected, the request under way
+-- a link that was asked for: both ends connected, the request under way
 abbrev pub new_link : Text → Text → Link
 new_link from to = record { caller = from; receiver = to; caller_connected = true; receiver_connected = true; stage = Asking }
 
--- a new link, by the next number
+-- the world with a new link between two nodes, under the next number
 abbrev pub asked : World → Text → Text → World
 asked w from to = record { time = w.time; books = w.books; carried_over = w.carried_over; armed = w.armed; opened = w.opened + 1; links = map.insert w.links (w.opened + 1) (new_link from to) }
 
@@ -54,7 +54,7 @@ abbrev pub has_accepted : Text → Option Link → Bool
 has_accepted name None = false
 has_accepted name (Some link) = same_text link.receiver name && (link.receiver_connected && is_accepted link.stage)
 
--- the numbers of those links but one, in order
+-- the numbers of the links that the node has accepted and not left, but one, in order
 unfoldable pub others_of : World → ℕ → Text → List ℕ
 others_of w number name =
     map.keys (map.retain_keys w.links (λ other. not (eq_by_cmp nat_cmp other number) && has_accepted name (map.get w.links other)))
@@ -84,7 +84,7 @@ SettlesFirst old link (Some answer) new = (item : Instance) × IsNext (old.books
     × Settlement old link.caller item.uid link.receiver Broken answer new
 SettlesFirst old link None new = ((item : Instance) → IsNext (old.books link.caller) link.receiver old.time item → ⊥) × (new ≡ old)
 
--- where an acceptance is under way, the link is open
+-- the caller reads an acceptance: the link is open, and nothing is settled
 abbrev pub OpensLink : World → ℕ → Link → Option Answer → World → Type 0
 OpensLink old number link None new = (accepted : Contexts) × (link.stage ≡ Answering accepted) × (new ≡ with_link old number (at_stage link (Open accepted)))
 OpensLink old number link (Some answer) new = ⊥
@@ -114,7 +114,7 @@ abbrev pub after_settling : Link → Answer → Contexts → Link
 after_settling link answer accepted =
     record { caller = link.caller; receiver = link.receiver; caller_connected = stays_connected answer; receiver_connected = link.receiver_connected; stage = Open accepted }
 
--- an instance whose pair was accepted goes over; another is settled as having no context
+-- an instance whose pair was accepted goes over the link; another is settled as having no presentation context
 abbrev pub GivesItem : World → ℕ → Link → Contexts → Instance → Option Answer → World → Type 0
 GivesItem old number link accepted item None new =
     (set.contains accepted (item.key.class, item.key.syntax) ≡ true) × (new ≡ with_link old number (at_stage link (Storing accepted item)))
@@ -170,7 +170,7 @@ pending (Open accepted) = None
 pending (Storing accepted item) = Some item
 pending (Replying accepted item status) = Some item
 
--- what was pending is settled as broken
+-- what the caller had pending is settled as broken; where nothing was, the world stays
 abbrev pub SettlesPending : World → Link → Option Instance → Option Answer → World → Type 0
 SettlesPending old link (Some item) (Some answer) new = Settlement old link.caller item.uid link.receiver Broken answer new
 SettlesPending old link None None new = new ≡ old
@@ -212,7 +212,7 @@ abbrev pub calls : Text → Option Link → Bool
 calls name None = false
 calls name (Some link) = same_text link.receiver name && link.caller_connected
 
--- the numbers of those links, in order
+-- the numbers of the links over which the node is called, in order
 unfoldable pub callers_of : World → Text → List ℕ
 callers_of w name = map.keys (map.retain_keys w.links (λ number. calls name (map.get w.links number)))
 
@@ -228,16 +228,16 @@ abbrev pub is_of : Text → Option Link → Bool
 is_of name None = false
 is_of name (Some link) = cond (same_text link.caller name) true (same_text link.receiver name)
 
--- the links that it takes no part in
+-- the links that the node takes no part in
 unfoldable pub links_without : FinMap nat_cmp Link → Text → FinMap nat_cmp Link
 links_without links name = map.retain_keys links (λ number. not (is_of name (map.get links number)))
 
--- Those who call the node leave; then its links are gone with all under way on them. Its book stays.
+-- Where a node restarts, those who call it leave; then its links are gone with all under way on them. Its book stays.
 abbrev pub Restarts : World → Text → List (Option Answer) → World → Type 0
 Restarts old name replies new = (mid : World) × LeaveAll old (callers_of old name) replies mid × (new ≡ with_links mid (links_without mid.links name))
 
 -- ---- time
 
--- so many milliseconds later, up to 2^62
+-- the world so many milliseconds later, up to 2^62
 abbrev pub passed : World → ℕ → World
 passed w ms = record { time = min (w.time + ms) (2 ^ 62); books = w.books; carried_over = w.carried_over; armed = w.armed; links = w.links; opened = w.opened }

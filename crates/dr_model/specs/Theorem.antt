@@ -15,7 +15,7 @@ use Rattle.dr_model.specs.Claims.{Headline}
 abbrev pub HeadlineHolds : Type 0
 HeadlineHolds = (plan : Network) → IsSound plan → (actions : List Action) (last : Network) (w : World) → Runs plan start actions last w → Headline last w
 
--- the same of a plan at hand
+-- the headline of one plan at hand
 abbrev pub HeadlineHoldsOf : Network → Type 0
 HeadlineHoldsOf plan = (actions : List Action) (last : Network) (w : World) → Runs plan start actions last w → Headline last w
 

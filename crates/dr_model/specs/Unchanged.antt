@@ -21,7 +21,7 @@ pub record AllWasSubmitted (actions : List Action) (w : World) : Type 0 where
   pub known : (name uid : Text) (item : Instance) → map.get (w.books name).items uid ≡ Some item → WasSubmitted actions item
   pub under_way : (number : ℕ) (link : Link) (item : Instance) → IsLink w number link → pending link.stage ≡ Some item → WasSubmitted actions item
 
--- over every plan, sound or not
+-- each instance that a node knows, or that is under way, was submitted; over every plan, sound or not
 abbrev pub NothingIsMadeUp : Type 0
 NothingIsMadeUp = (plan : Network) (actions : List Action) (last : Network) (w : World) → Runs plan start actions last w → AllWasSubmitted actions w
 

@@ -43,7 +43,7 @@ pub record World : Type 0 where
   pub links : FinMap nat_cmp Link  -- by number
   pub opened : ℕ  -- how many links were ever opened
 
--- before anything happens
+-- the world before anything happens
 abbrev pub start : World
 start = record { time = 0; books = λ name. empty_book; carried_over = λ name. map.empty; armed = set.empty; links = map.empty; opened = 0 }
 
@@ -55,25 +55,30 @@ same_text = eq_by_cmp text_cmp
 unfoldable pub books_with : (Text → Book) → Text → Book → Text → Book
 books_with books name book other = cond (same_text other name) book (books other)
 
--- the world with another book, other armed nodes, other links
+-- the world with this book at the node
 abbrev pub with_book : World → Text → Book → World
 with_book w name book = record { time = w.time; books = books_with w.books name book; carried_over = w.carried_over; armed = w.armed; links = w.links; opened = w.opened }
 
+-- the world with these nodes armed
 abbrev pub with_armed : World → FinSet text_cmp → World
 with_armed w armed = record { time = w.time; books = w.books; carried_over = w.carried_over; armed = armed; links = w.links; opened = w.opened }
 
+-- the world with these links
 abbrev pub with_links : World → FinMap nat_cmp Link → World
 with_links w links = record { time = w.time; books = w.books; carried_over = w.carried_over; armed = w.armed; links = links; opened = w.opened }
 
+-- the world with this link under its number, new or in place of the one that was there
 abbrev pub with_link : World → ℕ → Link → World
 with_link w number link = with_links w (map.insert w.links number link)
 
--- the link with its caller disconnected, its receiver disconnected, or at another stage
+-- the link with its caller disconnected
 abbrev pub without_caller : Link → Link
 without_caller link = record { caller = link.caller; receiver = link.receiver; caller_connected = false; receiver_connected = link.receiver_connected; stage = link.stage }
 
+-- the link with its receiver disconnected
 abbrev pub without_receiver : Link → Link
 without_receiver link = record { caller = link.caller; receiver = link.receiver; caller_connected = link.caller_connected; receiver_connected = false; stage = link.stage }
 
+-- the link at another stage
 abbrev pub at_stage : Link → Stage → Link
 at_stage link stage = record { caller = link.caller; receiver = link.receiver; caller_connected = link.caller_connected; receiver_connected = link.receiver_connected; stage = stage }
