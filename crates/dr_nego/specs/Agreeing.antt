@@ -11,9 +11,11 @@ use Rattle.dr_nego.specs.declared.agreed.Agreed.{Agreed}
 use Rattle.dr_nego.specs.declared.fault.NegoFault.{NegoFault}
 use Rattle.dr_nego.specs.declared.fault.NegoFault.TheVariants.{StrangeId, StrangeSyntax, LimitTooSmall, NoHop, Memory}
 
+-- an A-ASSOCIATE-RQ: titles, proposed contexts and a greatest length (PS3.8 9.3.2)
 abbrev pub AssociateRq : Type 0
 AssociateRq = Association ContextProposal
 
+-- an A-ASSOCIATE-AC: titles, an answer to each context and a greatest length (PS3.8 9.3.3)
 abbrev pub AssociateAc : Type 0
 AssociateAc = Association ContextAnswer
 
@@ -42,6 +44,7 @@ pair_of c a = if a.result == 0 then record { id = c.id; class = c.class; syntax 
 abbrev pub answer_to : List ContextAnswer → ContextProposal → Option ContextAnswer
 answer_to answers c = find (λ (a : ContextAnswer). a.id == c.id) answers
 
+-- the pair of a proposed context by its answer; none where there is no answer
 abbrev pub pair_if : ContextProposal → Option ContextAnswer → List Pair
 pair_if c None = []
 pair_if c (Some a) = pair_of c a
@@ -50,7 +53,7 @@ pair_if c (Some a) = pair_of c a
 abbrev pub agreed_on : AssociateRq → AssociateAc → Agreed
 agreed_on rq ac = record { pairs = flat_map (λ (c : ContextProposal). pair_if c (answer_to ac.contexts c)) rq.contexts; limit = ac.max_pdu }
 
--- what the caller concludes from an acceptance
+-- what the caller concludes from an acceptance: what is agreed on, or the first of the faults
 abbrev pub Concludes : AssociateRq → AssociateAc → Result Agreed NegoFault → Type 0
 Concludes rq ac (Ok agreed) = (HasStrangeId rq ac → ⊥) × (HasStrangeSyntax rq ac → ⊥) × (IsTooSmall ac.max_pdu → ⊥) × (agreed ≡ agreed_on rq ac)
 Concludes rq ac (Err StrangeId) = HasStrangeId rq ac
@@ -66,7 +69,7 @@ abbrev pub IsAgreed : AssociateRq → AssociateAc → Pair → Type 0
 IsAgreed rq ac x = (c : ContextProposal) × (a : ContextAnswer) × Contains rq.contexts c × Contains ac.contexts a
     × (c.id ≡ x.id) × (a.id ≡ x.id) × (a.result ≡ 0) × (c.class ≡ x.class) × (a.syntax ≡ x.syntax)
 
--- these and no others, by rising ids
+-- just the pairs that are agreed on, by rising ids, and the limit of the side that answered
 pub record AreAgreed (rq : AssociateRq) (ac : AssociateAc) (agreed : Agreed) : Type 0 where
   pub rising : AllPairs (λ x y. x.id < y.id) agreed.pairs
   pub each : (x : Pair) → IsAgreed rq ac x → Contains agreed.pairs x
@@ -75,17 +78,18 @@ pub record AreAgreed (rq : AssociateRq) (ac : AssociateAc) (agreed : Agreed) : T
 
 -- ---- the context of a class and a transfer syntax
 
--- the pair is of this class and syntax
+-- the pair is of this class and transfer syntax
 abbrev pub is_for : Text → Text → Pair → Bool
 is_for class syntax x = bytes_eq x.class class && bytes_eq x.syntax syntax
 
--- the id of the first such pair
+-- the id of the first agreed pair of a class and a transfer syntax: the context to send an instance in
 abbrev pub context_for : Agreed → Text → Text → Option ℕ
 context_for agreed class syntax = option_map (λ (x : Pair). x.id) (find (is_for class syntax) agreed.pairs)
 
--- the accepted context of an id
+-- the pair has this context id
 abbrev pub is_id : ℕ → Pair → Bool
 is_id id x = x.id == id
 
+-- the agreed pair with this context id
 abbrev pub pair_at : Agreed → ℕ → Option Pair
 pair_at agreed id = find (is_id id) agreed.pairs

@@ -19,23 +19,26 @@ use Rattle.dr_nego.specs.declared.answering.Answer.{Answer}
 use Rattle.dr_nego.specs.declared.answering.Answer.TheVariants.{Accept, Reject, TooSmall}
 use Rattle.dr_nego.specs.Agreeing.{AssociateRq, AssociateAc, pair_of}
 
--- the application context of DICOM (PS3.7 A.2.1), and the Verification class (PS3.4 A)
+-- the application context of DICOM (PS3.7 A.2.1)
 abbrev pub application_context : Text
 application_context = codes "1.2.840.10008.3.1.1.1"
 
+-- the Verification SOP class (PS3.4 annex A), which each node takes from everybody that may call it
 abbrev pub verification : Text
 verification = codes "1.2.840.10008.1.1"
 
 -- ---- one context
 
+-- the text is one of the list
 abbrev pub member : Text → List Text → Bool
 member x xs = list_any (bytes_eq x) xs
 
+-- the callers of an accept row are all, or this one is among them
 abbrev pub is_caller : Callers → Text → Bool
 is_caller callers.Any caller = true
 is_caller (callers.Listed names) caller = member caller names
 
--- the row is for the caller and the class
+-- the accept row is for the caller and the class
 abbrev pub is_row_for : Text → Text → AcceptRow → Bool
 is_row_for caller class row = is_caller row.from caller && bytes_eq row.class class
 
@@ -43,13 +46,15 @@ is_row_for caller class row = is_caller row.from caller && bytes_eq row.class cl
 abbrev pub syntaxes_for : List AcceptRow → Text → Text → List Syntax
 syntaxes_for rows caller class = flat_map (λ (r : AcceptRow). r.syntaxes) (filter (is_row_for caller class) rows)
 
--- the syntax was proposed in the context; and of those that are offered, the first that was
+-- the transfer syntax was proposed in the context
 abbrev pub is_proposed : ContextProposal → Syntax → Bool
 is_proposed c s = member (syntax_uid s) c.syntaxes
 
+-- of the transfer syntaxes that are offered, the first that was proposed in the context
 abbrev pub first_proposed : ContextProposal → List Syntax → Option Syntax
 first_proposed c offered = find (is_proposed c) offered
 
+-- the answer to a context whose class is taken: result 0 and the syntax, or 4, none in common (PS3.8 9.3.3.2)
 abbrev pub answer_with : ContextProposal → Option Syntax → ContextAnswer
 answer_with c None = record { id = c.id; result = 4; syntax = [] }
 answer_with c (Some s) = record { id = c.id; result = 0; syntax = syntax_uid s }
@@ -64,11 +69,12 @@ answer_of rows caller c =
 
 -- ---- the request
 
--- the caller is nobody's, or no row speaks of it
+-- the caller names itself `-`, or no accept row of the node is for it
 abbrev pub is_stranger : List AcceptRow → Text → Bool
 is_stranger rows caller = bytes_eq caller local || not (list_any (λ (r : AcceptRow). is_caller r.from caller) rows)
 
--- why it isn't accepted; the tests in their order
+-- why a request isn't accepted, by the first test that fails: application context, version, called title, calling
+-- title, 256 others, greatest length (PS3.8 9.3.4)
 abbrev pub refusal : AssociateRq → Part → ℕ → Option Answer
 refusal rq site others =
     if not (bytes_eq rq.application application_context) then Some (Reject 1 1 2)
@@ -79,10 +85,11 @@ refusal rq site others =
     else if nat_le 1 rq.max_pdu && nat_le rq.max_pdu 7 then Some TooSmall
     else None
 
--- the pairs of the accepted contexts, in the order of the request
+-- the pairs of the contexts that a node accepts, in the order of the request
 abbrev pub pairs_of : List AcceptRow → Text → List ContextProposal → List Pair
 pairs_of rows caller cs = flat_map (λ (c : ContextProposal). pair_of c (answer_of rows caller c)) cs
 
+-- the A-ASSOCIATE-AC that a node answers: the titles as they came, and each context answered in the request's order
 abbrev pub acceptance_of : AssociateRq → Part → AssociateAc
 acceptance_of rq site = record {
   front = record { version = 1; called = rq.front.called; calling = rq.front.calling; reserved = rq.front.reserved };
@@ -91,13 +98,15 @@ acceptance_of rq site = record {
   max_pdu = site.max_pdu;
 }
 
+-- what the acceptor agrees on: the pairs of the contexts that it accepts, and the caller's greatest length
 abbrev pub agreed_by : AssociateRq → Part → Agreed
 agreed_by rq site = record { pairs = pairs_of site.accepts rq.front.calling rq.contexts; limit = rq.max_pdu }
 
+-- the refusal where there is one, else the acceptance with what is agreed on
 abbrev pub answer_by : Option Answer → AssociateRq → Part → Answer
 answer_by None rq site = Accept (acceptance_of rq site) (agreed_by rq site)
 answer_by (Some refused) rq site = refused
 
--- what a request is answered where so many other associations are open
+-- what a node answers to a request while it has so many other associations
 abbrev pub answer : AssociateRq → Part → ℕ → Answer
 answer rq site others = answer_by (refusal rq site others) rq site

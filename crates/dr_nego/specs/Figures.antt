@@ -17,13 +17,15 @@ use Rattle.dr_nego.specs.Answering.{answer, answer_of, acceptance_of, applicatio
 use Rattle.dr_nego.specs.Proposing.{echo_proposal}
 use Rattle.dr_nego.specs.Fragments.{piece_size, pieces}
 
+-- the title of the gateway, which calls
 abbrev pub gate : Text
 gate = codes "GATE"
 
+-- the title of the archive, which is called
 abbrev pub arch : Text
 arch = codes "ARCH"
 
--- CT Image Storage (PS3.4 B.5)
+-- the CT Image Storage SOP class (PS3.4 B.5)
 abbrev pub image : Text
 image = codes "1.2.840.10008.5.1.4.1.1.2"
 
@@ -41,6 +43,7 @@ archive = record {
   literals = record { modalities = record { literals = [] }; stations = record { literals = [] } };
 }
 
+-- a context with this id that proposes a class in these transfer syntaxes
 abbrev pub context : ℕ → Text → List Syntax → ContextProposal
 context id class syntaxes = record { id = id; class = class; syntaxes = map syntax_uid syntaxes }
 
@@ -53,24 +56,29 @@ request called calling application version contexts max_pdu = record {
   max_pdu = max_pdu;
 }
 
--- what the gateway proposes to the archive
+-- the A-ASSOCIATE-RQ that the gateway sends to the archive: CT images, in the explicit syntax
 abbrev pub proposal : AssociateRq
 proposal = request arch gate application_context 1 (context 1 image (Explicit ∷ []) ∷ []) 16384
 
+-- the body of the gateway's proposal has 228 bytes
 abbrev pub ProposalIsLong : Type 0
 ProposalIsLong = length (body_text (pdu.AssociateRq proposal)) ≡ 228
 
+-- the body of the archive's acceptance of that proposal has 199 bytes
 abbrev pub AcceptanceIsLong : Type 0
 AcceptanceIsLong = length (body_text (pdu.AssociateAc (acceptance_of proposal archive))) ≡ 199
 
+-- the body of the gateway's request for an echo has 218 bytes
 abbrev pub EchoIsLong : Type 0
 EchoIsLong = length (body_text (pdu.AssociateRq (echo_proposal gate arch))) ≡ 218
 
+-- the body of the archive's acceptance of a request for an echo has 197 bytes
 abbrev pub EchoAnswerIsLong : Type 0
 EchoAnswerIsLong = length (body_text (pdu.AssociateAc (acceptance_of (echo_proposal gate arch) archive))) ≡ 197
 
 -- ---- answers
 
+-- a UID that is no application context, and no class or transfer syntax of a plan's row
 abbrev pub other : Text
 other = codes "1.2.3"
 
@@ -105,9 +113,11 @@ ContextsAreAnswered = (answer_of archive.accepts gate (context 1 image (Implicit
 
 -- ---- conclusions
 
+-- an acceptance of the gateway's proposal with these answers and this greatest length
 abbrev pub answered : List ContextAnswer → ℕ → AssociateAc
 answered contexts max_pdu = record { front = proposal.front; application = application_context; contexts = contexts; max_pdu = max_pdu }
 
+-- the answer that accepts the context with this id in a transfer syntax
 abbrev pub accepted : ℕ → Syntax → ContextAnswer
 accepted id syntax = record { id = id; result = 0; syntax = syntax_uid syntax }
 
@@ -123,9 +133,12 @@ ConclusionsAreDrawn = Concludes proposal (answered (accepted 3 Implicit ∷ []) 
 
 -- ---- pieces
 
+-- the lengths of the pieces that so many bytes are cut into under a greatest length
 abbrev pub lengths_of : ℕ → ℕ → List ℕ
 lengths_of limit bytes = map (λ (p : List ℕ). length p) (pieces (piece_size limit) (replicate bytes 65))
 
+-- 3 bytes under 9 are cut into 2 and 1; 2,036 under 1,024 into 1,018 twice; none into one empty piece; the size is
+-- even, and 1,048,570 at most
 abbrev pub TextsAreCut : Type 0
 TextsAreCut = (lengths_of 9 3 ≡ 2 ∷ 1 ∷ []) × (lengths_of 1024 2100 ≡ 1018 ∷ 1018 ∷ 64 ∷ []) × (lengths_of 1024 2036 ≡ 1018 ∷ 1018 ∷ []) × (lengths_of 1024 0 ≡ 0 ∷ [])
     × (piece_size 0 ≡ 1048570) × (piece_size 1048577 ≡ 1048570) × (piece_size 8 ≡ 2) × (piece_size 16384 ≡ 16378)

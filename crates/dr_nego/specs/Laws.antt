@@ -72,11 +72,11 @@ OneProposal = (site : Part) (dest : Text) (rq other : AssociateRq) → IsSite si
 abbrev pub ProposalsFit : Type 0
 ProposalsFit = (site : Part) (dest : Text) (hop : Hop) (rq : AssociateRq) → IsSite site → IsHopTo site dest hop → IsProposal site dest rq → Fits (pdu.AssociateRq rq)
 
--- and so can the request of an echo between nodes
+-- the request of an echo between two nodes can be written
 abbrev pub EchoesFit : Type 0
 EchoesFit = (calling called : Text) → IsName calling → IsName called → Fits (pdu.AssociateRq (echo_proposal calling called))
 
--- and what a site's node answers to a request that can be written, or that was read
+-- what a site's node answers to a request that can be written can be written itself
 abbrev pub AcceptancesFit : Type 0
 AcceptancesFit = (rq : AssociateRq) (site : Part) → IsSite site → Fits (pdu.AssociateRq rq) → Fits (pdu.AssociateAc (acceptance_of rq site))
 
@@ -85,10 +85,11 @@ abbrev pub ContextsAreLeast : Type 0
 ContextsAreLeast = (agreed : Agreed) → AllPairs (λ (x y : Pair). x.id < y.id) agreed.pairs → (x : Pair) → Contains agreed.pairs x →
     (id : ℕ) × (context_for agreed x.class x.syntax ≡ Some id) × (id ≤ x.id)
 
--- pieces are as the relation has them, which leaves no choice
+-- the pieces of a text within a limit are what the relation asks for
 abbrev pub PiecesAreWhole : Type 0
 PiecesAreWhole = (limit : ℕ) → (IsTooSmall limit → ⊥) → (text : List ℕ) → ArePieces (piece_size limit) text (pieces (piece_size limit) text)
 
+-- a text has one list of pieces of a size, as the relation asks for them
 abbrev pub OneCut : Type 0
 OneCut = (size : ℕ) → 1 ≤ size → (text : List ℕ) (a b : List (List ℕ)) → ArePieces size text a → ArePieces size text b → a ≡ b
 
@@ -104,11 +105,12 @@ FragmentsFit = (limit id : ℕ) (kind : Kind) (text : List ℕ) → (IsTooSmall 
 
 -- ---- what hears fragments
 
--- the presentation data values of PDUs, one after the other
+-- the presentation data values of a PDU; one that isn't a P-DATA-TF has none
 abbrev pub values_in : Pdu → List Pdv
 values_in (pdu.Transfer values) = values
 values_in p = []
 
+-- the presentation data values of PDUs, one after the other
 abbrev pub values_of : List Pdu → List Pdv
 values_of pdus = flat_map values_in pdus
 
@@ -121,7 +123,7 @@ abbrev pub CommandsAreMessages : Type 0
 CommandsAreMessages = (limit id : ℕ) (c : CommandValue) (text : List ℕ) → IsCommand text c → length text ≤ 16384 → announces c ≡ false →
     IsMessage (values_of (fragment_pdus limit id Command text)) (record { id = id; command = c; body = None })
 
--- those of one that does, with those of the data set behind them, are theirs
+-- the fragments of a command that announces a data set, and then those of the data set, are its message
 abbrev pub DataSetsAreMessages : Type 0
 DataSetsAreMessages = (limit id : ℕ) (c : CommandValue) (text body : List ℕ) → IsCommand text c → length text ≤ 16384 → announces c ≡ true →
     IsMessage (values_of (fragment_pdus limit id Command text ++ fragment_pdus limit id DataSet body)) (record { id = id; command = c; body = Some (body_of body) })

@@ -11,10 +11,11 @@ use Rattle.dr_nego.specs.declared.fault.NegoFault.TheVariants.{StrangeId, Strang
 use Rattle.dr_nego.specs.Agreeing.{AssociateRq}
 use Rattle.dr_nego.specs.Answering.{application_context, verification}
 
--- a context for a numbered pair of the hop
+-- the context that is proposed for a numbered pair of a hop: the pair's number, class and one transfer syntax
 abbrev pub context_of : Hop → ContextProposal
 context_of hop = record { id = hop.id; class = hop.class; syntaxes = syntax_uid hop.syntax ∷ [] }
 
+-- the hop is one of the site's, to that node
 abbrev pub IsHopTo : Part → Text → Hop → Type 0
 IsHopTo site dest hop = Contains site.hops hop × (hop.to ≡ dest)
 
@@ -26,6 +27,7 @@ pub record IsProposal (site : Part) (dest : Text) (rq : AssociateRq) : Type 0 wh
   pub each : (c : ContextProposal) → Contains rq.contexts c ↔ ((hop : Hop) × IsHopTo site dest hop × (c ≡ context_of hop))
   pub max_pdu : rq.max_pdu ≡ site.max_pdu
 
+-- what a site answers when its proposal for a node is asked for: the request, or that it has no hop to there
 abbrev pub Proposes : Part → Text → Result AssociateRq NegoFault → Type 0
 Proposes site dest (Ok rq) = ((hop : Hop) × IsHopTo site dest hop) × IsProposal site dest rq
 Proposes site dest (Err NoHop) = (hop : Hop) → IsHopTo site dest hop → ⊥
