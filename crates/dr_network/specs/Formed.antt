@@ -13,7 +13,7 @@ use Rattle.dr_network.specs.declared.plan.Flow.{Flow}
 use Rattle.dr_network.specs.declared.plan.Values.{Values}
 use Rattle.dr_network.specs.declared.plan.Values.TheVariants as values
 
--- no space stands at its start, nor at its end
+-- no space stands at the start of the text, nor at its end
 abbrev pub IsTrimmed : Text → Type 0
 IsTrimmed text = (rest : Text) → (text ≡ 32 ∷ rest → ⊥) × (text ≡ rest ++ 32 ∷ [] → ⊥)
 
@@ -32,6 +32,7 @@ pub record IsLiteral (text : Text) : Type 0 where
   pub printable : All (λ byte. (32 ≤ byte) × (byte < 127) × (byte ≢ 42)) text
   pub trimmed : IsTrimmed text
 
+-- the byte is a digit, 0 to 9
 abbrev pub IsDigit : ℕ → Type 0
 IsDigit byte = (48 ≤ byte) × (byte ≤ 57)
 
@@ -57,7 +58,7 @@ pub record IsAddress (text : Text) : Type 0 where
 abbrev pub IsMaxPdu : ℕ → Type 0
 IsMaxPdu bytes = (bytes ≡ 0) ⊎ ((1024 ≤ bytes) × (bytes ≤ 1048576))
 
--- the name of some node
+-- the name is that of some node
 abbrev pub IsKnownName : List Node → Text → Type 0
 IsKnownName nodes name = (node : Node) × Contains nodes node × (node.name ≡ name)
 
@@ -74,16 +75,19 @@ pub record IsRuleOf (nodes : List Node) (name : Text) (rule : Rule) : Type 0 whe
   pub station : HasForm IsLiteral rule.station
   pub to : All (λ target. IsKnownName nodes target × (target ≢ name)) rule.to
 
+-- the callers of an accept row are all, or names of nodes of the plan
 abbrev pub AreKnownCallers : List Node → Callers → Type 0
 AreKnownCallers nodes callers.Any = Unit {0}
 AreKnownCallers nodes (callers.Listed names) = All (IsKnownName nodes) names
 
+-- an accept row of a plan: known callers, a class, and one or more transfer syntaxes, none twice
 pub record IsAcceptRow (nodes : List Node) (row : AcceptRow) : Type 0 where
   pub from : AreKnownCallers nodes row.from
   pub class : IsClass row.class
   pub some : row.syntaxes ≢ []
   pub apart : AllPairs (λ a b. a ≢ b) row.syntaxes
 
+-- a node of a plan: its title, address and greatest length, its accept rows and its rules are each of the right form
 pub record IsWellFormedNode (nodes : List Node) (node : Node) : Type 0 where
   pub name : IsName node.name
   pub address : IsAddress node.address
@@ -91,10 +95,12 @@ pub record IsWellFormedNode (nodes : List Node) (node : Node) : Type 0 where
   pub accepts : All (IsAcceptRow nodes) node.accepts
   pub rules : All (IsRuleOf nodes node.name) node.rules
 
+-- the values of a flow are all, or literals of the right form
 abbrev pub AreLiterals : Values → Type 0
 AreLiterals values.Any = Unit {0}
 AreLiterals (values.Listed texts) = All IsLiteral texts
 
+-- a flow of a plan: from one node to another, with classes, transfer syntaxes, and values of the right form
 pub record IsWellFormedFlow (nodes : List Node) (flow : Flow) : Type 0 where
   pub at : IsKnownName nodes flow.at
   pub to : IsKnownName nodes flow.to
@@ -104,6 +110,7 @@ pub record IsWellFormedFlow (nodes : List Node) (flow : Flow) : Type 0 where
   pub modalities : AreLiterals flow.modalities
   pub stations : AreLiterals flow.stations
 
+-- the nodes and flows of a plan: at most 64 nodes, each name once, and at most 1,024 rules and flows together
 pub record AreWellFormed (nodes : List Node) (flows : List Flow) : Type 0 where
   pub few_nodes : length nodes ≤ 64
   pub few_rules : sum_by (λ node. length node.rules) nodes + length flows ≤ 1024

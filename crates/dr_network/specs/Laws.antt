@@ -9,7 +9,7 @@ use Rattle.dr_network.specs.Networks.{Network}
 use Rattle.dr_network.specs.Plans.{LiesIn, IsWellFormed, literals_of}
 use Rattle.dr_network.specs.Walks.{Sends, Keeps, IsEntry, IsWalk, IsReached}
 
--- nothing is kept for the local caller
+-- what enters at the node itself isn't kept there
 abbrev pub LocalNeverKeeps : Type 0
 LocalNeverKeeps = (plan : Network) (name : Text) (key : Key) → Keeps plan name local key → ⊥
 
@@ -17,21 +17,24 @@ LocalNeverKeeps = (plan : Network) (name : Text) (key : Key) → Keeps plan name
 abbrev pub LocalIsNoNode : Type 0
 LocalIsNoNode = (plan : Network) → IsWellFormed plan → (name caller : Text) (key : Key) → Sends plan name caller key local → ⊥
 
--- keys of one cell of the plan are sent and kept alike, enter alike and walk alike
+-- keys of one cell of the plan are sent alike
 abbrev pub SendAlike : Type 0
 SendAlike = (plan : Network) (cell : OwnedCell) (k l : Key) → LiesIn plan cell k → LiesIn plan cell l → (name caller to : Text) → Sends plan name caller k to → Sends plan name caller l to
 
+-- keys of one cell of the plan are kept alike
 abbrev pub KeepAlike : Type 0
 KeepAlike = (plan : Network) (cell : OwnedCell) (k l : Key) → LiesIn plan cell k → LiesIn plan cell l → (name caller : Text) → Keeps plan name caller k → Keeps plan name caller l
 
+-- keys of one cell of the plan enter at the same sites
 abbrev pub EnterAlike : Type 0
 EnterAlike = (plan : Network) (cell : OwnedCell) (k l : Key) → LiesIn plan cell k → LiesIn plan cell l → (site : Text) → IsEntry plan site k → IsEntry plan site l
 
+-- keys of one cell of the plan walk alike
 abbrev pub WalkAlike : Type 0
 WalkAlike = (plan : Network) (cell : OwnedCell) (k l : Key) → LiesIn plan cell k → LiesIn plan cell l →
     (caller name : Text) (over : List Text) → IsWalk plan k caller name over → IsWalk plan l caller name over
 
--- so they are brought to the same nodes
+-- keys of one cell of the plan are brought to the same nodes by the same callers
 abbrev pub ReachAlike : Type 0
 ReachAlike = (plan : Network) (cell : OwnedCell) (k l : Key) → LiesIn plan cell k → LiesIn plan cell l → (caller name : Text) → IsReached plan k caller name → IsReached plan l caller name
 

@@ -3,6 +3,7 @@ use Rattle.std.specs.Prelude.{ℕ, List}
 use Rattle.dr_network.specs.declared.plan.Node.{Node}
 use Rattle.dr_network.specs.declared.plan.Flow.{Flow}
 
+-- a plan: its nodes, its flows, and the SHA-256 of its text
 pub record Network : Type 0 where
   pub nodes : List Node
   pub flows : List Flow

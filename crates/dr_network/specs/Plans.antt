@@ -17,6 +17,7 @@ use Rattle.dr_network.specs.declared.literals.Attribute.TheVariants.{Modality, S
 use Rattle.dr_network.specs.Networks.{Network}
 use Rattle.dr_network.specs.Formed.{AreWellFormed}
 
+-- the plan's nodes and flows are well-formed
 abbrev pub IsWellFormed : Network → Type 0
 IsWellFormed plan = AreWellFormed plan.nodes plan.flows
 
@@ -24,10 +25,11 @@ IsWellFormed plan = AreWellFormed plan.nodes plan.flows
 abbrev pub IsNode : Network → Text → Node → Type 0
 IsNode plan name node = Contains plan.nodes node × (node.name ≡ name)
 
--- the one node of that name
+-- the one node of the plan with that name
 abbrev pub IsTheNode : Network → Text → Node → Type 0
 IsTheNode plan name node = IsNode plan name node × ((other : Node) → IsNode plan name other → other ≡ node)
 
+-- no node of the plan has that name
 abbrev pub NamesNoNode : Network → Text → Type 0
 NamesNoNode plan name = (node : Node) → IsNode plan name node → ⊥
 
@@ -36,36 +38,42 @@ abbrev pub literal_of : Pattern → List Text
 literal_of Any = []
 literal_of (Literal literal) = literal ∷ []
 
--- the texts of a flow's list
+-- the texts that a flow lists as values; none where any value will do
 abbrev pub listed : Values → List Text
 listed values.Any = []
 listed (values.Listed texts) = texts
 
--- what a rule asks of the attribute, and the values of it that a flow speaks of
+-- what a rule asks of the attribute, modality or station
 abbrev pub pattern_of : Attribute → Rule → Pattern
 pattern_of Modality rule = rule.modality
 pattern_of Station rule = rule.station
 
+-- the values of the attribute, modality or station, that a flow speaks of
 abbrev pub values_of : Attribute → Flow → Values
 values_of Modality flow = flow.modalities
 values_of Station flow = flow.stations
 
--- the values of the attribute that the plan names, in its rules and in its flows
+-- the values of the attribute that these rules name
 abbrev pub named_by_rules : Attribute → List Rule → List Text
 named_by_rules attribute rules = flat_map (λ (rule : Rule). literal_of (pattern_of attribute rule)) rules
 
+-- the values of the attribute that these flows name
 abbrev pub named_by_flows : Attribute → List Flow → List Text
 named_by_flows attribute flows = flat_map (λ (flow : Flow). listed (values_of attribute flow)) flows
 
+-- the values of the attribute that the plan names, in its rules and in its flows
 abbrev pub named_in : Attribute → Network → List Text
 named_in attribute plan = flat_map (λ (node : Node). named_by_rules attribute node.rules) plan.nodes ++ named_by_flows attribute plan.flows
 
+-- the modalities that the plan names
 abbrev pub modalities_of : Network → List Text
 modalities_of plan = named_in Modality plan
 
+-- the stations that the plan names
 abbrev pub stations_of : Network → List Text
 stations_of plan = named_in Station plan
 
+-- the modalities and stations that the plan names, which part all keys into cells
 abbrev pub literals_of : Network → Literals
 literals_of plan = record { modalities = record { literals = modalities_of plan }; stations = record { literals = stations_of plan } }
 

@@ -11,12 +11,12 @@ use Rattle.dr_network.specs.declared.plan.Values.TheVariants as values
 use Rattle.dr_network.specs.Networks.{Network}
 use Rattle.dr_network.specs.Plans.{IsNode}
 
--- the value is one that the flow speaks of
+-- the value is one that the flow speaks of: any one, or a listed one
 abbrev pub IsListed : Values → Text → Type 0
 IsListed values.Any value = Unit {0}
 IsListed (values.Listed texts) value = Contains texts value
 
--- the flow fits the key
+-- the flow brings the key: its class, transfer syntax, modality and station are ones that the flow speaks of
 pub record Fits (flow : Flow) (key : Key) : Type 0 where
   pub class : Contains flow.classes key.class
   pub syntax : Contains flow.syntaxes key.syntax
@@ -27,7 +27,7 @@ pub record Fits (flow : Flow) (key : Key) : Type 0 where
 abbrev pub FlowsAmong : List Flow → Text → Key → Text → Type 0
 FlowsAmong flows site key to = (flow : Flow) × Contains flows flow × (flow.at ≡ site) × (flow.to ≡ to) × Fits flow key
 
--- some flow of the plan does
+-- some flow of the plan, at the site and to that node, fits the key
 abbrev pub Flows : Network → Text → Key → Text → Type 0
 Flows plan site key to = FlowsAmong plan.flows site key to
 
@@ -43,25 +43,26 @@ Keeps plan name caller key = (node : Node) × IsNode plan name node × KeepsBy n
 abbrev pub Accepts : Network → Text → Text → Text → Syntax → Type 0
 Accepts plan name caller class syntax = (node : Node) × IsNode plan name node × AcceptsBy node.accepts caller class syntax
 
--- from (caller, name), over these further nodes: each sends the key on to the next
+-- a walk of the key from (caller, name), over these further nodes: each sends the key on to the next
 abbrev pub IsWalk : Network → Key → Text → Text → List Text → Type 0
 IsWalk plan key caller name [] = Unit {0}
 IsWalk plan key caller name (next ∷ rest) = Sends plan name caller key next × IsWalk plan key name next rest
 
--- the pairs (caller, node) of a walk, and the last of them
+-- the pairs (caller, node) of a walk: over CT1, GATE and ARCH they are (-, CT1), (CT1, GATE) and (GATE, ARCH)
 abbrev pub places : Text → Text → List Text → List (Text × Text)
 places caller name [] = (caller, name) ∷ []
 places caller name (next ∷ rest) = (caller, name) ∷ places name next rest
 
+-- the last pair (caller, node) of a walk
 abbrev pub last_place : Text → Text → List Text → Text × Text
 last_place caller name [] = (caller, name)
 last_place caller name (next ∷ rest) = last_place name next rest
 
--- some flow at the site fits the key
+-- the key enters at the site: some flow there fits it
 abbrev pub IsEntry : Network → Text → Key → Type 0
 IsEntry plan site key = (to : Text) × Flows plan site key to
 
--- the pair is the last of a walk from an entry
+-- a walk from an entry of the key ends with the pair (caller, name)
 abbrev pub IsReached : Network → Key → Text → Text → Type 0
 IsReached plan key caller name =
     (site : Text) × (over : List Text) × IsEntry plan site key × IsWalk plan key local site over × (last_place local site over ≡ (caller, name))
