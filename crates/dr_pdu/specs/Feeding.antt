@@ -22,6 +22,7 @@ pub record Feeding : Type 0 where
   pub failed : Bool
   pub kept : List ℕ
 
+-- a feeder to which nothing was fed yet
 abbrev pub fresh : ℕ → Feeding
 fresh limit = record { limit = limit; failed = false; kept = [] }
 
@@ -45,15 +46,15 @@ Gathers limit text (Err fault) = Shows limit text fault
 
 -- ---- many pieces
 
--- one call: its piece and its answer
+-- one call of a feeder: its piece of the stream and its answer
 abbrev pub Call : Type 0
 Call = List ℕ × Result (List Pdu) PduFault
 
--- what the calls make of a feeder, one after the other
+-- what calls make of a feeder, one after the other
 abbrev pub Fed : Feeding → List Call → Feeding → Type 0
 Fed old calls new = Calls (λ before call after. Feeds before call.0 call.1 after) old calls new
 
--- the bytes that a call took: none where memory ran out
+-- the bytes of the stream that a call took: none where memory ran out
 abbrev pub taken_by : List ℕ → Result (List Pdu) PduFault → List ℕ
 taken_by piece (Err Memory) = []
 taken_by piece r = piece
@@ -70,12 +71,15 @@ shown_by (Err Memory) = []
 shown_by (Err Failed) = []
 shown_by (Err fault) = fault ∷ []
 
+-- the bytes of the stream that these calls took, one after the other
 abbrev pub taken : List Call → List ℕ
 taken calls = flat_map (λ (x : Call). taken_by x.0 x.1) calls
 
+-- the PDUs that came out of these calls, in order
 abbrev pub given : List Call → List Pdu
 given calls = flat_map (λ (x : Call). given_by x.1) calls
 
+-- the faults of the stream that these calls answered, in order
 abbrev pub shown : List Call → List PduFault
 shown calls = flat_map (λ (x : Call). shown_by x.1) calls
 

@@ -17,6 +17,7 @@ IsTitle name = (length name ≤ 16) × (trimmed name ≡ name)
 abbrev pub IsUnpadded : List ℕ → Type 0
 IsUnpadded name = unpadded name ≡ name
 
+-- the front of an association that its fields can hold: two titles, and 32 reserved bytes
 abbrev pub FrontFits : Front → Type 0
 FrontFits f = IsTitle f.called × IsTitle f.calling × (length f.reserved ≡ 32)
 

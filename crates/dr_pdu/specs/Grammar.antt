@@ -65,6 +65,7 @@ abbrev pub AreContextIds : List ℕ → Type 0
 AreContextIds [] = Unit {0}
 AreContextIds (id ∷ ids) = (id % 2 ≡ 1) × (Contains ids id → ⊥) × AreContextIds ids
 
+-- the context ids of an association are odd, and no two are alike (PS3.8 9.3.2.2, 9.3.3.2); other PDUs are free
 abbrev pub HasContextIds : Pdu → Type 0
 HasContextIds (AssociateRq rq) = AreContextIds (map (λ c. c.id) rq.contexts)
 HasContextIds (AssociateAc ac) = AreContextIds (map (λ c. c.id) ac.contexts)

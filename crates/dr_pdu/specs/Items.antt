@@ -12,10 +12,11 @@ pub record Item : Type 0 where
   pub kind : ℕ
   pub body : List ℕ
 
--- type, reserved, length (2), body
+-- an item as it is written: type, reserved byte, length (2), body (PS3.8 9.3.2)
 abbrev pub item_text : ℕ → Item → List ℕ
 item_text reserved i = i.kind ∷ reserved ∷ (to_be_bytes w16 (length i.body) ++ i.body)
 
+-- the text begins with the item, whatever its reserved byte, and then the rest follows
 abbrev pub StartsItem : List ℕ → Item → List ℕ → Type 0
 StartsItem text i rest = (reserved : ℕ) × (length i.body < 2 ^ 16) × (text ≡ item_text reserved i ++ rest)
 
@@ -23,18 +24,20 @@ StartsItem text i rest = (reserved : ℕ) × (length i.body < 2 ^ 16) × (text �
 abbrev pub AreItems : List Item → List ℕ → Type 0
 AreItems is text = Run StartsItem is text []
 
--- the bodies of the items of one type, in order, and the first of them
+-- the bodies of the items of one type, in order
 abbrev pub bodies : ℕ → List Item → List (List ℕ)
 bodies kind is = map (λ i. i.body) (filter (λ i. i.kind == kind) is)
 
+-- the body of the first item of a type: a later one of it counts for nothing
 abbrev pub first_body : ℕ → List Item → Option (List ℕ)
 first_body kind is = slice_get (bodies kind is) 0
 
 -- ---- presentation data values (9.3.5.1)
 
--- length (4, counts what follows), context id, message control header, fragment
+-- a presentation data value as it is written: length (4, of what follows), context id, message control header, fragment
 abbrev pub pdv_text : Pdv → List ℕ
 pdv_text p = to_be_bytes w32 (2 + length p.fragment) ++ p.id ∷ p.header ∷ p.fragment
 
+-- the text begins with the presentation data value, and then the rest follows
 abbrev pub StartsPdv : List ℕ → Pdv → List ℕ → Type 0
 StartsPdv text p rest = (2 + length p.fragment < 2 ^ 32) × (text ≡ pdv_text p ++ rest)

@@ -16,12 +16,14 @@ abbrev pub Reads : {X Y : Type 0} → (X → Y) → Result X PduFault → (Y →
 Reads view (Ok x) R = R (view x)
 Reads view (Err fault) R = Refuses fault R
 
+-- an item that a reader has found, as the grammar sees it
 abbrev pub item : Found → Item
 item i = record { kind = i.kind; body = i.body.now }
 
+-- the items that a reader has found, in order, as the grammar sees them
 abbrev pub items : List Found → List Item
 items is = map item is
 
--- what was there stays in front of what is there
+-- the new bytes are the old ones, with more behind them
 abbrev pub GoesOn : List ℕ → List ℕ → Type 0
 GoesOn old new = (more : List ℕ) × (new ≡ old ++ more)
