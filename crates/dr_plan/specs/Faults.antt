@@ -4,6 +4,7 @@ use Rattle.dr_plan_text.specs.declared.fault.TextFault.TheVariants as text
 use Rattle.dr_plan.specs.declared.fault.PlanFault.{PlanFault}
 use Rattle.dr_plan.specs.declared.fault.PlanFault.TheVariants.{NotToml, Field, Memory}
 
+-- the fault of a plan for a fault of its text: the same name
 abbrev pub plan_fault : TextFault → PlanFault
 plan_fault text.NotToml = NotToml
 plan_fault text.Field = Field

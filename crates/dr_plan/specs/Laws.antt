@@ -11,5 +11,6 @@ use Rattle.dr_plan.specs.Reading.{Reads}
 abbrev pub EachTextHasOneAnswer : Type 0
 EachTextHasOneAnswer = (text : Text) (r s : Result Network PlanFault) → r ≢ Err Memory → s ≢ Err Memory → Reads text r → Reads text s → r ≡ s
 
+-- each plan that is read of a text is well-formed
 abbrev pub PlansAreWellFormed : Type 0
 PlansAreWellFormed = (text : Text) (plan : Network) → Reads text (Ok plan) → AreWellFormed plan.nodes plan.flows

@@ -15,49 +15,54 @@ use Rattle.dr_plan.specs.Spelling.{written_plan}
 use Rattle.dr_plan.specs.declared.fault.PlanFault.{PlanFault}
 use Rattle.dr_plan.specs.declared.fault.PlanFault.TheVariants as fault
 
--- each transfer syntax is one of the two that are routed
+-- the text is the UID of one of the two transfer syntaxes that are routed
 pub record IsSyntax (uid : Text) : Type 0 where
   pub syntax : Syntax
   pub is : uid ≡ syntax_uid syntax
 
+-- each transfer syntax of the plan's accept rows and flows is one of the two that are routed
 pub record KnowsSyntaxes (plan : PlanText) : Type 0 where
   pub nodes : All (λ node. All (λ row. All IsSyntax row.syntaxes) node.accepts) plan.nodes
   pub flows : All (λ flow. All IsSyntax flow.syntaxes) plan.flows
 
--- each name that the plan uses has the property
+-- each name of an accept row's callers has the property
 abbrev pub EachCaller : (Text → Type 0) → Callers → Type 0
 EachCaller P callers.Any = Unit {0}
 EachCaller P (callers.Listed names) = All P names
 
+-- each name that a node uses has the property: its own, and those of its accept rows and rules
 pub record EachNameOfNode (P : Text → Type 0) (node : NodeText) : Type 0 where
   pub name : P node.name
   pub accepts : All (λ row. EachCaller P row.from) node.accepts
   pub rules : All (λ rule. HasForm P rule.from × All P rule.to) node.rules
 
+-- each name that the plan uses has the property: those of its nodes, and those of its flows
 pub record EachName (P : Text → Type 0) (plan : PlanText) : Type 0 where
   pub nodes : All (EachNameOfNode P) plan.nodes
   pub flows : All (λ flow. P flow.at × P flow.to) plan.flows
 
+-- the names of the plan's nodes, in order
 abbrev pub node_names : PlanText → List Text
 node_names plan = map (λ (node : NodeText). node.name) plan.nodes
 
--- names are well-formed, and no two nodes have the same
+-- each name is well-formed, and no two nodes have the same
 pub record HasGoodNames (plan : PlanText) : Type 0 where
   pub formed : EachName IsName plan
   pub apart : AllPairs (λ a b. a ≢ b) (node_names plan)
 
--- at most 64 nodes, at most 1,024 rules and flows together, and each `max_pdu` in its range
+-- the node's `max_pdu` is in its range: 0, or 1,024 to 1,048,576
 pub record HasMaxPdu (node : NodeText) : Type 0 where
   pub bytes : ℕ
   pub is : node.max_pdu ≡ pos bytes
   pub in_range : IsMaxPdu bytes
 
+-- at most 64 nodes, at most 1,024 rules and flows together, and each `max_pdu` in its range
 pub record IsWithinLimits (plan : PlanText) : Type 0 where
   pub few_nodes : length plan.nodes ≤ 64
   pub few_rules : sum_by (λ node. length node.rules) plan.nodes + length plan.flows ≤ 1024
   pub max_pdu : All HasMaxPdu plan.nodes
 
--- each name that is used is a node's
+-- each name that the plan uses is a node's
 abbrev pub KnowsNames : PlanText → Type 0
 KnowsNames plan = EachName (Contains (node_names plan)) plan
 
