@@ -18,9 +18,11 @@ SaysText d text = d ≡ string text
 abbrev pub SaysFormed : (Text → Type 0) → Data → Text → Type 0
 SaysFormed IsFormed d text = (d ≡ string text) × IsFormed text
 
+-- an integer says its number
 abbrev pub SaysNumber : Data → ℤ → Type 0
 SaysNumber d number = d ≡ integer number
 
+-- a boolean says its flag
 abbrev pub SaysFlag : Data → Bool → Type 0
 SaysFlag d flag = d ≡ boolean flag
 
@@ -47,20 +49,21 @@ SaysTextsOnce d texts = IsSomeOf SaysText d texts × AllPairs (λ s t. s ≢ t) 
 abbrev pub SaysTable : {X : Type 0} → (Members → X → Type 0) → Data → X → Type 0
 SaysTable IsTable d x = (members : Members) × (d ≡ table members) × IsTable members x
 
--- `*` is any value; another value says a literal
+-- the string `*`, which is written for any value
 abbrev pub star : Data
 star = string (codes "*")
 
+-- `*` says any value; another value says a literal
 abbrev pub SaysPattern : (Data → Text → Type 0) → Data → Pattern → Type 0
 SaysPattern Says d pattern.Any = d ≡ star
 SaysPattern Says d (pattern.Literal literal) = (d ≢ star) × Says d literal
 
--- `*`, or a list of literals
+-- the values of a flow: `*`, or a list of literals
 abbrev pub SaysValues : Data → Values → Type 0
 SaysValues d values.Any = d ≡ star
 SaysValues d (values.Listed texts) = IsListOf (SaysFormed IsLiteral) d texts
 
--- `*`, or a list of names
+-- the callers of an accept row: `*`, or a list of names
 abbrev pub SaysCallers : Data → Callers → Type 0
 SaysCallers d callers.Any = d ≡ star
 SaysCallers d (callers.Listed names) = IsListOf SaysText d names

@@ -7,7 +7,7 @@ use Rattle.dr_network.specs.Formed.{IsDigit}
 abbrev pub SplitsAtLast : ℕ → Text → Text → Text → Type 0
 SplitsAtLast mark text before behind = (text ≡ before ++ mark ∷ behind) × (Contains behind mark → ⊥)
 
--- one to five digits
+-- the text is one to five digits
 pub record IsPort (digits : Text) : Type 0 where
   pub each : All IsDigit digits
   pub some : digits ≢ []

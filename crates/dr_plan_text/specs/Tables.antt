@@ -15,20 +15,22 @@ use Rattle.dr_plan_text.specs.declared.words.PlanText.{PlanText}
 use Rattle.dr_plan_text.specs.declared.fault.TextFault.{TextFault}
 use Rattle.dr_plan_text.specs.declared.fault.TextFault.TheVariants as fault
 
--- `[[node.accept]]`
+-- the keys of an accept row, `[[node.accept]]`
 abbrev pub accept_keys : List Text
 accept_keys = codes "from" ∷ codes "class" ∷ codes "syntax" ∷ []
 
+-- the table says the accept row: callers, class and transfer syntaxes have to be given
 pub record IsAcceptTable (fields : Members) (row : AcceptText) : Type 0 where
   pub only : HasOnly accept_keys fields
   pub from : Given SaysCallers (get_member (codes "from") fields) row.from
   pub class : Given (SaysFormed IsClass) (get_member (codes "class") fields) row.class
   pub syntax : Given SaysTextsOnce (get_member (codes "syntax") fields) row.syntaxes
 
--- `[[node.rule]]`
+-- the keys of a rule, `[[node.rule]]`
 abbrev pub rule_keys : List Text
 rule_keys = codes "from" ∷ codes "class" ∷ codes "modality" ∷ codes "station" ∷ codes "to" ∷ codes "keep" ∷ []
 
+-- the table says the rule: what isn't given is any value, no target, and not kept
 pub record IsRuleTable (fields : Members) (rule : Rule) : Type 0 where
   pub only : HasOnly rule_keys fields
   pub from : GivenOr Any (SaysPattern SaysText) (get_member (codes "from") fields) rule.from
@@ -38,10 +40,11 @@ pub record IsRuleTable (fields : Members) (rule : Rule) : Type 0 where
   pub to : GivenOr [] (IsListOf SaysText) (get_member (codes "to") fields) rule.to
   pub keep : GivenOr false SaysFlag (get_member (codes "keep") fields) rule.keep
 
--- `[[node]]`
+-- the keys of a node, `[[node]]`
 abbrev pub node_keys : List Text
 node_keys = codes "name" ∷ codes "address" ∷ codes "max_pdu" ∷ codes "accept" ∷ codes "rule" ∷ []
 
+-- the table says the node: name and address have to be given; `max_pdu` is 16,384 where it isn't
 pub record IsNodeTable (fields : Members) (node : NodeText) : Type 0 where
   pub only : HasOnly node_keys fields
   pub name : Given SaysText (get_member (codes "name") fields) node.name
@@ -50,10 +53,11 @@ pub record IsNodeTable (fields : Members) (node : NodeText) : Type 0 where
   pub accept : GivenOr [] (IsListOf (SaysTable IsAcceptTable)) (get_member (codes "accept") fields) node.accepts
   pub rule : GivenOr [] (IsListOf (SaysTable IsRuleTable)) (get_member (codes "rule") fields) node.rules
 
--- `[[flow]]`
+-- the keys of a flow, `[[flow]]`
 abbrev pub flow_keys : List Text
 flow_keys = codes "at" ∷ codes "to" ∷ codes "class" ∷ codes "syntax" ∷ codes "modality" ∷ codes "station" ∷ []
 
+-- the table says the flow: each of its six values has to be given
 pub record IsFlowTable (fields : Members) (flow : FlowText) : Type 0 where
   pub only : HasOnly flow_keys fields
   pub at : Given SaysText (get_member (codes "at") fields) flow.at
@@ -68,20 +72,22 @@ abbrev pub IsFormat : Option Data → Type 0
 IsFormat None = Unit {0}
 IsFormat (Some d) = d ≡ integer (pos 1)
 
--- the text as a whole
+-- the keys of the text as a whole
 abbrev pub root_keys : List Text
 root_keys = codes "format" ∷ codes "node" ∷ codes "flow" ∷ []
 
+-- the text's root table says the plan: its format, nodes and flows
 pub record IsRoot (fields : Members) (plan : PlanText) : Type 0 where
   pub only : HasOnly root_keys fields
   pub format : IsFormat (get_member (codes "format") fields)
   pub node : GivenOr [] (IsListOf (SaysTable IsNodeTable)) (get_member (codes "node") fields) plan.nodes
   pub flow : GivenOr [] (IsListOf (SaysTable IsFlowTable)) (get_member (codes "flow") fields) plan.flows
 
--- the bytes are text in TOML, of this tree
+-- the bytes are text in UTF-8, which TOML reads as this tree
 abbrev pub IsTree : Text → Members → Type 0
 IsTree text root = IsUtf8 text × (parse_document text ≡ Some root)
 
+-- the bytes are text in TOML, of some tree
 abbrev pub IsToml : Text → Type 0
 IsToml text = (root : Members) × IsTree text root
 
