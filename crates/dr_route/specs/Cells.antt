@@ -20,6 +20,7 @@ abbrev pub InField : FieldValues → OwnedField → Text → Type 0
 InField values (Literal literal) value = Contains values.literals literal × (literal ≡ value)
 InField values Rest value = Contains values.literals value → ⊥
 
+-- the key lies in the cell: same class and transfer syntax, and modality and station in the cell's parts
 pub record InCell (literals : Literals) (cell : OwnedCell) (key : Key) : Type 0 where
   pub class : cell.class ≡ key.class
   pub syntax : cell.syntax ≡ key.syntax

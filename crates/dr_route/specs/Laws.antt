@@ -26,21 +26,25 @@ IsKnown values (Literal literal) = Contains values.literals literal
 abbrev pub IsKnownRule : Literals → Rule → Type 0
 IsKnownRule literals rule = IsKnown literals.modalities rule.modality × IsKnown literals.stations rule.station
 
+-- keys of one cell are sent to the same nodes by rules whose literals the plan names
 abbrev pub AgreeInSends : Type 0
 AgreeInSends = (literals : Literals) (cell : OwnedCell) (k l : Key) → InCell literals cell k → InCell literals cell l →
     (rules : List Rule) → All (IsKnownRule literals) rules → (caller name : Text) → SendsBy rules caller k name → SendsBy rules caller l name
 
+-- keys of one cell are kept alike by rules whose literals the plan names
 abbrev pub AgreeInKeeps : Type 0
 AgreeInKeeps = (literals : Literals) (cell : OwnedCell) (k l : Key) → InCell literals cell k → InCell literals cell l →
     (rules : List Rule) → All (IsKnownRule literals) rules → (caller : Text) → KeepsBy rules caller k → KeepsBy rules caller l
 
+-- each key lies in some cell
 abbrev pub CellsCover : Type 0
 CellsCover = (literals : Literals) (key : Key) → (cell : OwnedCell) × InCell literals cell key
 
+-- each key lies in no more than one cell
 abbrev pub CellsAreApart : Type 0
 CellsAreApart = (literals : Literals) (key : Key) (a b : OwnedCell) → InCell literals a key → InCell literals b key → a ≡ b
 
--- each byte of each of them is printable ASCII
+-- each byte of each of the texts is below 127, as of printable ASCII
 abbrev pub ArePlain : List Text → Type 0
 ArePlain texts = All (All (λ byte. byte < 127)) texts
 
@@ -54,10 +58,11 @@ abbrev pub value_of : OwnedField → Text
 value_of (part.Literal literal) = literal
 value_of part.Rest = 128 ∷ []
 
--- one key of the cell
+-- one key of the cell, which stands for all of them
 abbrev pub key_of : OwnedCell → Key
 key_of cell = record { class = cell.class; syntax = cell.syntax; modality = value_of cell.modality; station = value_of cell.station }
 
+-- each cell has a key in it, where the literals are printable ASCII
 abbrev pub EachCellHasAKey : Type 0
 EachCellHasAKey = (literals : Literals) (cell : OwnedCell) → ArePlain literals.modalities.literals → ArePlain literals.stations.literals →
     IsPart literals.modalities cell.modality → IsPart literals.stations cell.station → InCell literals cell (key_of cell)

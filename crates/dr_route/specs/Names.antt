@@ -3,6 +3,7 @@ use Rattle.std.specs.Prelude.{◌≡◌, ◌⊎◌, Contains}
 use Rattle.std.specs.BTreeSet.{BTreeSet}
 use Rattle.dr_base.specs.Texts.{Text}
 
+-- the set has this name
 abbrev pub HasName : BTreeSet Text → Text → Type 0
 HasName names name = Contains names.keys name
 
