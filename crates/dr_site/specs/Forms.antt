@@ -30,6 +30,6 @@ pub record IsFormed (part : Part) : Type 0 where
   pub rising : (dest : Text) → AllPairs (λ (a b : Hop). a.id < b.id) (hops_to part dest)
   pub few : (dest : Text) → length (hops_to part dest) ≤ 128
 
--- each site has that form
+-- each site has names, classes and contexts that an association can carry
 abbrev pub SitesAreFormed : Type 0
 SitesAreFormed = (part : Part) → IsSite part → IsFormed part

@@ -16,7 +16,7 @@ use Rattle.dr_sound.specs.declared.certificate.Certificate.{Certificate}
 use Rattle.dr_cert.specs.Indexing.{IsIndexOf}
 use Rattle.dr_cert.specs.Sealing.{AreLiteralsOf}
 
--- what contracts see of a site
+-- what one node works by, its part of a plan and of the certificate, as contracts see a site
 pub record Part : Type 0 where
   pub name : Text
   pub max_pdu : ℕ
@@ -28,16 +28,19 @@ pub record Part : Type 0 where
   pub hops : List Hop
   pub literals : Literals
 
--- the flow is at the site, the line is of the node, the hop begins there, or ends there
+-- instances of the flow enter at the site of that name
 abbrev pub is_at : Text → Flow → Bool
 is_at name flow = bytes_eq flow.at name
 
+-- the line is of the node of that name
 abbrev pub is_of : Text → Line → Bool
 is_of name line = bytes_eq line.stop.node name
 
+-- the hop begins at the node of that name
 abbrev pub begins_at : Text → Hop → Bool
 begins_at name hop = bytes_eq hop.from name
 
+-- the hop ends at the node of that name
 abbrev pub ends_at : Text → Hop → Bool
 ends_at name hop = bytes_eq hop.to name
 

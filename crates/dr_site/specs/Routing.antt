@@ -29,12 +29,12 @@ abbrev pub LinesAreAsPlanned : Type 0
 LinesAreAsPlanned = (plan : Network) (certificate : Certificate) (part : Part) → IsCertified plan certificate → IsPartOf plan certificate part →
     (caller : Text) (key : Key) → HasLineFor part caller key ↔ IsReached plan key caller part.name
 
--- it sends a key where its node does
+-- a site sends a key where its node does by the plan
 abbrev pub SendsAsPlanned : Type 0
 SendsAsPlanned = (plan : Network) (certificate : Certificate) (part : Part) → IsPartOf plan certificate part →
     (caller : Text) (key : Key) (to : Text) → SendsFrom part caller key to ↔ Sends plan part.name caller key to
 
--- it keeps a key where its node does
+-- a site keeps a key where its node does by the plan
 abbrev pub KeepsAsPlanned : Type 0
 KeepsAsPlanned = (plan : Network) (certificate : Certificate) (part : Part) → IsPartOf plan certificate part →
     (caller : Text) (key : Key) → KeepsAt part caller key ↔ Keeps plan part.name caller key

@@ -7,6 +7,7 @@ use dr_route::{AcceptRow, Literals, Rule};
 use dr_sound::{Hop, Line};
 use std::alloc::AllocError;
 
+/// A copy of a title. It fails for want of memory alone.
 pub fn copy_name(name: &Text) -> Result<Text, AllocError>
     ensures { IfOk result (λ t. t ≡ name.now) }
 {
@@ -14,6 +15,7 @@ pub fn copy_name(name: &Text) -> Result<Text, AllocError>
     Ok(copy)
 }
 
+/// A copy of a flow. It fails for want of memory alone.
 pub fn copy_flow(flow: &Flow) -> Result<Flow, AllocError>
     ensures { IfOk result (λ f. f ≡ flow.now) }
 {
@@ -21,6 +23,7 @@ pub fn copy_flow(flow: &Flow) -> Result<Flow, AllocError>
     Ok(copy)
 }
 
+/// A copy of a line of a certificate. It fails for want of memory alone.
 pub fn copy_line(line: &Line) -> Result<Line, AllocError>
     ensures { IfOk result (λ l. l ≡ line.now) }
 {
@@ -28,6 +31,7 @@ pub fn copy_line(line: &Line) -> Result<Line, AllocError>
     Ok(copy)
 }
 
+/// A copy of a numbered pair of a hop. It fails for want of memory alone.
 pub fn copy_hop(hop: &Hop) -> Result<Hop, AllocError>
     ensures { IfOk result (λ h. h ≡ hop.now) }
 {
@@ -35,6 +39,7 @@ pub fn copy_hop(hop: &Hop) -> Result<Hop, AllocError>
     Ok(copy)
 }
 
+/// A copy of a node's rules, in order. It fails for want of memory alone.
 pub fn copy_rules(rules: &Seq<Rule>) -> Result<Seq<Rule>, AllocError>
     ensures { IfOk result (λ s. s ≡ rules.now) }
 {
@@ -42,6 +47,7 @@ pub fn copy_rules(rules: &Seq<Rule>) -> Result<Seq<Rule>, AllocError>
     Ok(copy)
 }
 
+/// A copy of a node's accept rows, in order. It fails for want of memory alone.
 pub fn copy_accepts(accepts: &Seq<AcceptRow>) -> Result<Seq<AcceptRow>, AllocError>
     ensures { IfOk result (λ s. s ≡ accepts.now) }
 {
@@ -49,6 +55,7 @@ pub fn copy_accepts(accepts: &Seq<AcceptRow>) -> Result<Seq<AcceptRow>, AllocErr
     Ok(copy)
 }
 
+/// A copy of flows, in order. It fails for want of memory alone.
 pub fn copy_flows(flows: &Seq<Flow>) -> Result<Seq<Flow>, AllocError>
     ensures { IfOk result (λ s. s ≡ flows.now) }
 {
@@ -56,6 +63,7 @@ pub fn copy_flows(flows: &Seq<Flow>) -> Result<Seq<Flow>, AllocError>
     Ok(copy)
 }
 
+/// A copy of the lines of a certificate, in order. It fails for want of memory alone.
 pub fn copy_lines(lines: &Vec<Line>) -> Result<Vec<Line>, AllocError>
     ensures { IfOk result (λ v. v.items ≡ lines.now.items) }
 {
@@ -63,6 +71,7 @@ pub fn copy_lines(lines: &Vec<Line>) -> Result<Vec<Line>, AllocError>
     Ok(copy)
 }
 
+/// A copy of the numbered pairs of hops, in order. It fails for want of memory alone.
 pub fn copy_hops(hops: &Seq<Hop>) -> Result<Seq<Hop>, AllocError>
     ensures { IfOk result (λ s. s ≡ hops.now) }
 {
@@ -70,6 +79,7 @@ pub fn copy_hops(hops: &Seq<Hop>) -> Result<Seq<Hop>, AllocError>
     Ok(copy)
 }
 
+/// A copy of the modalities and stations that a plan names. It fails for want of memory alone.
 pub fn copy_literals(literals: &Literals) -> Result<Literals, AllocError>
     ensures { IfOk result (λ l. l ≡ literals.now) }
 {
