@@ -31,14 +31,14 @@ pub record AreNumbered (lines : List Line) (hops : List Hop) : Type 0 where
   pub apart : AllPairs (λ a b. a ≢ b) hops
   pub few : (from to : Text) → (all : List (Text × Syntax)) × AreOverHop lines from to all × (length all ≤ 128)
 
--- more pairs than a hop can carry
+-- the lines show more pairs over the hop than it can carry: 129 of them
 abbrev pub AreTooMany : List Line → Text → Text → Type 0
 AreTooMany lines from to = (apart : List (Text × Syntax)) × AllPairs (λ p q. p ≢ q) apart × All (OverHop lines from to) apart × (length apart ≡ 129)
 
--- byte order of hops, each its sender and its receiver: of the senders, then of the receivers
+-- byte order of hops as pairs of titles: by the sender, and then by the receiver
 abbrev pub hop_cmp : Text × Text → Text × Text → Ordering
 hop_cmp a b = ordering_then (text_cmp a.0 b.0) (text_cmp a.1 b.1)
 
--- of the hops with more pairs than a hop can carry it is the first
+-- the hop is the first, in byte order, over which the lines show too many pairs
 abbrev pub IsFirstTooMany : List Line → Text → Text → Type 0
 IsFirstTooMany lines from to = AreTooMany lines from to × ((a b : Text) → AreTooMany lines a b → hop_cmp (a, b) (from, to) ≢ Less)

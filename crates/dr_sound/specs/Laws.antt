@@ -16,12 +16,12 @@ use Rattle.dr_sound.specs.Ranked.{AreRanked}
 abbrev pub RankedLinesAreTheLines : Type 0
 RankedLinesAreTheLines = (plan : Network) → IsWellFormed plan → (lines : List Line) → AreRanked plan lines → (line : Line) → Contains lines line ↔ HasLine plan line
 
--- so are the pairs that they show for each hop
+-- the pairs that lines which are right one by one show for each hop are exactly the plan's hops
 abbrev pub ShownPairsAreTheHops : Type 0
 ShownPairsAreTheHops = (plan : Network) → IsWellFormed plan → (lines : List Line) → AreRanked plan lines → (from to : Text) (pairs : List (Text × Syntax)) →
     AreOverHop lines from to pairs ↔ AreHopPairs plan from to pairs
 
--- and with at most 128 pairs over each hop the plan is sound
+-- where lines are right one by one and show at most 128 pairs over each hop, the plan is sound
 abbrev pub RankedLinesAreSound : Type 0
 RankedLinesAreSound = (plan : Network) → IsWellFormed plan → (lines : List Line) → AreRanked plan lines →
     ((from to : Text) → (pairs : List (Text × Syntax)) × AreOverHop lines from to pairs × (length pairs ≤ 128)) → IsSound plan

@@ -8,17 +8,17 @@ use Rattle.dr_route.specs.declared.cell.OwnedField.TheVariants.{Literal, Rest}
 use Rattle.dr_sound.specs.declared.certificate.Line.{Line}
 use Rattle.dr_sound.specs.declared.certificate.Hop.{Hop}
 
--- none of the plan's literals is written as an asterisk
+-- a part of modality or station as it is printed: a literal as it is, none of the plan's literals as an asterisk
 abbrev pub printed_field : OwnedField → Text
 printed_field (Literal literal) = literal
 printed_field Rest = codes "*"
 
--- caller, node, class, transfer syntax, modality, station and rank
+-- a line as it is printed: caller, node, class, transfer syntax, modality, station and rank, joined by tabs
 abbrev pub printed_line : Line → Text
 printed_line line =
     line.stop.caller ++ (9 ∷ line.stop.node) ++ (9 ∷ line.stop.cell.class) ++ (9 ∷ syntax_uid line.stop.cell.syntax)
     ++ (9 ∷ printed_field line.stop.cell.modality) ++ (9 ∷ printed_field line.stop.cell.station) ++ (9 ∷ decimal line.rank)
 
--- sender, receiver, id, class and transfer syntax
+-- a hop as it is printed: sender, receiver, id, class and transfer syntax, joined by tabs
 abbrev pub printed_hop : Hop → Text
 printed_hop hop = hop.from ++ (9 ∷ hop.to) ++ (9 ∷ decimal hop.id) ++ (9 ∷ hop.class) ++ (9 ∷ syntax_uid hop.syntax)

@@ -12,39 +12,46 @@ use Rattle.dr_network.specs.declared.plan.Values.TheVariants as values
 use Rattle.dr_network.specs.Networks.{Network}
 use Rattle.dr_sound.specs.Soundness.{IsSound}
 
+-- the title of the scanner, where instances enter
 abbrev pub scanner : Text
 scanner = codes "CT1"
 
+-- the title of the archive, to which the scanner sends
 abbrev pub archive : Text
 archive = codes "ARCH"
 
--- CT Image Storage (PS3.4 B.5)
+-- the CT Image Storage SOP class (PS3.4 B.5)
 abbrev pub image : Text
 image = codes "1.2.840.10008.5.1.4.1.1.2"
 
+-- a rule that keeps whatever comes
 abbrev pub keep_all : Rule
 keep_all = record { «from» = Any; class = Any; modality = Any; station = Any; to = []; keep = true }
 
+-- an accept row that takes CT images in the explicit syntax from everybody
 abbrev pub images_from_all : AcceptRow
 images_from_all = record { «from» = callers.Any; class = image; syntaxes = Explicit ∷ [] }
 
+-- the node of the scanner, which takes nothing and has no rule
 abbrev pub the_scanner : Node
 the_scanner = record { name = scanner; address = codes "ct1:104"; max_pdu = 0; accepts = []; rules = [] }
 
+-- the node of the archive, which takes CT images and has these rules
 abbrev pub the_archive : List Rule → Node
 the_archive rules = record { name = archive; address = codes "arch:104"; max_pdu = 0; accepts = images_from_all ∷ []; rules = rules }
 
+-- the flow of CT images in the explicit syntax that enter at the scanner and go to the archive
 abbrev pub the_flow : Flow
 the_flow = record { at = scanner; to = archive; classes = image ∷ []; syntaxes = Explicit ∷ []; modalities = values.Any; stations = values.Any }
 
--- the archive has these rules
+-- the plan of the two nodes and the flow, with these rules of the archive
 abbrev pub two_nodes : List Rule → Network
 two_nodes rules = record { nodes = the_scanner ∷ the_archive rules ∷ []; flows = the_flow ∷ []; digest = [] }
 
--- where the archive keeps, the plan is sound
+-- the plan of two nodes is sound where the archive keeps what comes
 abbrev pub TwoNodesAreSound : Type 0
 TwoNodesAreSound = IsSound (two_nodes (keep_all ∷ []))
 
--- where it doesn't, it isn't
+-- the plan of two nodes isn't sound where the archive has no rule: a walk ends where nobody keeps
 abbrev pub WithoutKeepTheyAreNot : Type 0
 WithoutKeepTheyAreNot = IsSound (two_nodes []) → ⊥
