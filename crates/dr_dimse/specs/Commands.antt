@@ -57,7 +57,7 @@ IsShort es number = IfSome (first_value number es) (λ value. length value ≡ 2
 abbrev pub AreNumbers : List Element → Type 0
 AreNumbers es = IsShort es 0x0100 × IsShort es 0x0110 × IsShort es 0x0120 × IsShort es 0x0700 × IsShort es 0x0800 × IsShort es 0x0900 × IsShort es 0x1031
 
--- 1 to 64 bytes, each from 21H to 7EH
+-- a UID as it is taken here: 1 to 64 bytes, each from 21H to 7EH; PS3.5 9.1 has digits and dots alone
 abbrev pub IsUid : List ℕ → Type 0
 IsUid uid = (1 ≤ length uid) × (length uid ≤ 64) × AllByRecursion (λ b. (0x21 ≤ b) × (b ≤ 0x7E)) uid
 

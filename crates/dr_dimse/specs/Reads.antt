@@ -6,7 +6,7 @@ use Rattle.dr_dimse.specs.declared.fault.DimseFault.TheVariants.{BadCommand, Mem
 use Rattle.dr_dimse.specs.declared.command.Command.{Command}
 use Rattle.dr_dimse.specs.Commands.{Element, field_of, announces, id_of, status_of, HasIds, HasTexts}
 
--- no value meets R, so the bytes are at fault; or memory ran out
+-- no value meets R, so the bytes are at fault (`BadCommand`); or memory ran out
 abbrev pub Refuses : {Y : Type 0} → DimseFault → (Y → Type 0) → Type 0
 Refuses {Y} BadCommand R = (y : Y) → R y → ⊥
 Refuses Memory R = Unit {0}

@@ -5,7 +5,7 @@ use Rattle.dr_pdu.specs.declared.fault.PduFault.{PduFault}
 use Rattle.dr_pdu.specs.declared.fault.PduFault.TheVariants.{BadItem, Memory}
 use Rattle.dr_pdu.specs.Items.{Item}
 
--- no value meets R, so the bytes are at fault; or memory ran out
+-- no value meets R, so the bytes are at fault (`BadItem`); or memory ran out
 abbrev pub Refuses : {Y : Type 0} → PduFault → (Y → Type 0) → Type 0
 Refuses {Y} BadItem R = (y : Y) → R y → ⊥
 Refuses Memory R = Unit {0}
