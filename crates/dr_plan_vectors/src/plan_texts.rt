@@ -1,36 +1,55 @@
 //! What the plan of a text holds.
 use crate::samples::PLAN;
 use dr_base::Syntax;
+use dr_network::{Node, Plan};
 use dr_plan::{literals, read_plan};
-use dr_route::{Callers, Pattern};
+use dr_route::{AcceptRow, Callers, Pattern, Rule};
+use std::alloc::Global;
 use std::test::Fail;
+
+/// The row of GATE: CT1 alone, in the explicit syntax.
+fn is_row_of_gate(row: &AcceptRow) -> bool {
+    matches!(&row.from, Callers::Listed(names) if names.len() == 1)
+        && row.syntaxes.as_slice() == [Syntax::Explicit].as_slice()
+}
+
+/// The rule of GATE: all that CT1 brings goes to one node, and nothing is kept.
+fn is_rule_of_gate(rule: &Rule) -> bool {
+    matches!(&rule.from, Pattern::Literal(name) if name.as_bytes() == b"CT1".as_slice())
+        && matches!(&rule.class, Pattern::Any)
+        && matches!(&rule.modality, Pattern::Any)
+        && matches!(&rule.station, Pattern::Any)
+        && rule.to.len() == 1
+        && !rule.keep
+}
+
+fn is_gate(node: &Node) -> bool {
+    node.name.as_bytes() == b"GATE".as_slice()
+        && node.address.as_bytes() == b"127.0.0.1:11102".as_slice()
+        && node.max_pdu == 16384
+        && node.accepts.len() == 1
+        && node.accepts.as_slice().iter().all(is_row_of_gate)
+        && node.rules.len() == 1
+        && node.rules.as_slice().iter().all(is_rule_of_gate)
+}
+
+/// Whether it is the sample plan's second node, and how many literals the plan names for each field.
+fn is_sample(alloc: Global, plan: &Plan) -> Result<bool, Fail> {
+    let values = literals(alloc, plan)?;
+    let [_, gate, _] = plan.nodes() else {
+        return Ok(false);
+    };
+    Ok(
+        is_gate(gate)
+            && values.modalities.literals.len() == 1
+            && values.stations.literals.len() == 1,
+    )
+}
 
 #[test]
 fn a_plan_holds_what_its_text_says(rt: HostRuntime) -> Result<(), Fail> {
-    let alloc = rt.alloc();
-    let plan = read_plan(alloc, PLAN.as_bytes())?;
-    assert_eq!(rt; plan.nodes().len(), 3);
-    let gate = &plan.nodes()[1];
-    assert!(rt; gate.name.as_bytes() == b"GATE".as_slice());
-    assert!(rt; gate.address.as_bytes() == b"127.0.0.1:11102".as_slice());
-    assert_eq!(rt; gate.max_pdu, 16384);
-    assert_eq!(rt; gate.accepts.len(), 1);
-    let row = &gate.accepts.as_slice()[0];
-    assert!(rt; matches!(&row.from, Callers::Listed(names) if names.len() == 1));
-    assert!(rt; row.syntaxes.as_slice() == [Syntax::Explicit].as_slice());
-    assert_eq!(rt; gate.rules.len(), 1);
-    let rule = &gate.rules.as_slice()[0];
-    assert!(rt;
-        matches!(&rule.from, Pattern::Literal(name) if name.as_bytes() == b"CT1".as_slice())
-    );
-    assert!(rt; matches!(&rule.class, Pattern::Any));
-    assert!(rt; matches!(&rule.modality, Pattern::Any));
-    assert!(rt; matches!(&rule.station, Pattern::Any));
-    assert_eq!(rt; rule.to.len(), 1);
-    assert!(rt; !rule.keep);
-    let values = literals(alloc, &plan)?;
-    assert_eq!(rt; values.modalities.literals.len(), 1);
-    assert_eq!(rt; values.stations.literals.len(), 1);
+    let plan = read_plan(rt.alloc(), PLAN.as_bytes())?;
+    assert!(rt; is_sample(rt.alloc(), &plan)?);
     Ok(())
 }
 

@@ -1,33 +1,22 @@
 //! Ranks that a sealed plan gives, and the sites of its nodes.
-use crate::samples::{PLAN, ROWS};
+use crate::samples::PLAN;
 use dr_base::{Syntax, Text};
-use dr_cert::{Sealed, read_certificate};
+use dr_cert::Sealed;
+use dr_check::{Verdict, check};
 use dr_plan::read_plan;
 use dr_route::Key;
 use dr_site::{Site, SiteFault};
 use std::alloc::Global;
 use std::test::Fail;
 
-/// A certificate with the plan's own digest and these rows.
-fn certificate_of(alloc: Global, plan: &str, rows: &str) -> Result<String, Fail> {
-    let digest = *read_plan(alloc, plan.as_bytes())?.digest();
-    let mut text = String::from_str(alloc, "certificate\t1\nplan\t")?;
-    for byte in digest {
-        text.push_str(format!(in alloc; "{byte:02x}")?.as_str())?;
-    }
-    text.push_str("\n")?;
-    text.push_str(rows)?;
-    Ok(text)
-}
-
 /// The plan of three nodes, sealed with its certificate; a copy, which is equal.
 fn sealed(alloc: Global) -> Result<Sealed, Fail> {
     let plan = read_plan(alloc, PLAN.as_bytes())?;
-    let text = certificate_of(alloc, PLAN, ROWS)?;
-    let certificate = read_certificate(alloc, text.as_bytes())?;
+    let Verdict::Yes(certificate) = check(alloc, &plan)? else {
+        return Err(Fail::from("the plan is not sound"));
+    };
     let sealed = Sealed::new(alloc, plan, certificate)?;
-    let copy = sealed.copy()?;
-    Ok(copy)
+    Ok(sealed.copy()?)
 }
 
 fn text(alloc: Global, bytes: &str) -> Result<Text, Fail> {
@@ -43,12 +32,24 @@ fn key(alloc: Global, modality: &str) -> Result<Key, Fail> {
     })
 }
 
+/// A caller, a node and a key.
+fn place(
+    alloc: Global,
+    caller: &str,
+    node: &str,
+    modality: &str,
+) -> Result<(Text, Text, Key), Fail> {
+    Ok((
+        text(alloc, caller)?,
+        text(alloc, node)?,
+        key(alloc, modality)?,
+    ))
+}
+
 /// The rank that the sealed plan of three nodes gives.
 fn rank_of(alloc: Global, caller: &str, node: &str, modality: &str) -> Result<Option<u32>, Fail> {
+    let (caller, node, key) = place(alloc, caller, node, modality)?;
     let sealed = sealed(alloc)?;
-    let caller = text(alloc, caller)?;
-    let node = text(alloc, node)?;
-    let key = key(alloc, modality)?;
     Ok(sealed.rank(&caller, &node, &key))
 }
 
