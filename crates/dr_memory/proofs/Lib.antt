@@ -1,0 +1,11 @@
+pub mod Always
+pub mod Content
+pub mod Jobs
+pub mod Kept
+pub mod Ledgers
+pub mod Lists
+pub mod Lookups
+pub mod NextDue
+pub mod Searching
+pub mod Trees
+pub mod Whole

@@ -1,0 +1,9 @@
+pub mod Bringings
+pub mod Changes
+pub mod Contents
+pub mod Dues
+pub mod Entries
+pub mod Jobs
+pub mod Notes
+pub mod Sound
+pub mod Tables

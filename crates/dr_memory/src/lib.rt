@@ -1,0 +1,12 @@
+//! The ledger of one node in memory.
+#![tactic(auto)]
+
+mod bringing;
+mod held;
+mod holding;
+pub mod ledger;
+mod note;
+mod parts;
+mod progress;
+mod table;
+mod waiting;

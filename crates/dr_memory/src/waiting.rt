@@ -1,0 +1,105 @@
+//! The waiting rows of all destinations, in the order in which they are due.
+ghost use Rattle.std.specs.Prelude.{◌≡◌, ℕ, OnOk, IfOk, Contains, None, Some, true, option_map, []};
+ghost use Rattle.std.specs.BTreeMap as tree;
+ghost use Rattle.std.specs.BTreeSet as sorted;
+ghost use Rattle.std.specs.declared.ops.Bound.TheVariants.{Included, Unbounded};
+ghost use Rattle.dr_base.specs.Texts.{Text as Words, text_cmp};
+ghost use Rattle.dr_memory.specs.Dues.{Covers, Grows, due_cmp, first_waiting, is_waiting as is_waiting_row, waits_since};
+ghost use Rattle.dr_memory.specs.Entries.{row_in};
+
+use crate::held::Held;
+use dr_base::Text;
+use dr_ledger::Progress;
+use std::alloc::{AllocError, Global};
+use std::collections::{BTreeMap, BTreeSet};
+
+/// A destination, since when a row to it is due (milliseconds), and the row's uid.
+pub type Due = (Text, (u64, Text));
+
+/// Adds the row's key, where it waits. No key goes, whatever the answer.
+pub fn expect_one(
+    keys: &mut BTreeSet<Due>,
+    uid: &Text,
+    row: &(Text, Progress),
+) -> Result<(), AllocError>
+    ensures grows { Grows keys.old keys.new }
+    ensures there { OnOk result ((tries due : ℕ) → row.now.1 ≡ Progress.Waiting tries due → sorted.contains due_cmp keys.new (row.now.0, (due, uid.now)) ≡ true) }
+{
+    if let Progress::Waiting { due, .. } = row.1 {
+        let key = (row.0.clone()?, (due, uid.clone()?));
+        keys.insert(key)?;
+    }
+    Ok(())
+}
+
+/// Adds the keys of the rows that wait. No key goes, whatever the answer.
+pub fn expect(
+    keys: &mut BTreeSet<Due>,
+    uid: &Text,
+    rows: &[(Text, Progress)],
+) -> Result<(), AllocError>
+    ensures grows { Grows keys.old keys.new }
+    ensures there { OnOk result ((dest : Words) (tries due : ℕ) → Contains rows.now (dest, Progress.Waiting tries due) → sorted.contains due_cmp keys.new (dest, (due, uid.now)) ≡ true) }
+{
+    for row in rows {
+        expect_one(keys, uid, row)?;
+    }
+    Ok(())
+}
+
+/// Whether the key is a waiting row's.
+fn is_waiting(held: &BTreeMap<Text, Held>, key: &Due) -> bool
+    ensures { result ≡ is_waiting_row held.now key.now }
+{
+    let Some(entry) = held.get(&key.1.1) else {
+        return false;
+    };
+    waits(entry.row(&key.0), key.1.0)
+}
+
+fn waits(row: Option<Progress>, moment: u64) -> bool
+    ensures { result ≡ waits_since row moment }
+{
+    match row {
+        Some(Progress::Waiting { due, .. }) => due == moment,
+        Some(Progress::Held(_)) => false,
+        Some(Progress::Done) => false,
+        None => false,
+    }
+}
+
+/// Takes the key out, if no waiting row has it.
+pub fn forget(keys: &mut BTreeSet<Due>, held: &BTreeMap<Text, Held>, key: &Due)
+    ensures { Covers keys.old held.now → Covers keys.new held.now }
+{
+    if !is_waiting(held, key) {
+        keys.remove(key);
+    }
+}
+
+/// The uid of the first row for the destination, by (due, uid), that waits and is due at the moment `now`
+/// (milliseconds).
+pub fn first_due(
+    alloc: Global,
+    held: &BTreeMap<Text, Held>,
+    keys: &BTreeSet<Due>,
+    dest: &Text,
+    now: u64,
+) -> Result<Option<Text>, AllocError>
+    ensures ordered { OnOk result (sorted.IsOrdered due_cmp keys.now) }
+    ensures first { IfOk result (λ uid. uid ≡ option_map (λ key. key.1.1) (first_waiting held.now dest.now now (sorted.keys_between due_cmp (Included (dest.now, (0, []))) Unbounded keys.now))) }
+{
+    let start = (dest.clone()?, (0, Text::empty(alloc)));
+    for key in keys.range(start..) {
+        if key.0 != *dest {
+            return Ok(None);
+        }
+        if key.1.0 > now {
+            return Ok(None);
+        }
+        if is_waiting(held, key) {
+            return Ok(Some(key.1.1.clone()?));
+        }
+    }
+    Ok(None)
+}
