@@ -1,5 +1,6 @@
 pub mod Always
 pub mod Content
+pub mod Fitting
 pub mod Jobs
 pub mod Kept
 pub mod Ledgers

@@ -29,10 +29,10 @@ abbrev pub found_in : {X : Type 0} → (Entry → Option X) → Option Entry →
 found_in f None = None
 found_in f (Some entry) = f entry
 
-abbrev Es : Type 0
+abbrev pub Es : Type 0
 Es = List (Text × Entry)
 
-abbrev In : Text → Es → Option Entry
+abbrev pub In : Text → Es → Option Entry
 In uid es = lookup (is_at (text_cmp uid)) es
 
 -- an order of the keys, as the maps of books know it
@@ -44,7 +44,7 @@ below x (e ∷ es) h = ap (λ r. cond (is_eq r) (Some e.1) (In x es)) h.0 ∙ be
 not_later : (uid x : Text) (es : Es) → eq_by_cmp text_cmp uid x ≡ true → AllByRecursion (λ y. text_cmp x y ≡ Less) (keys_of es) → In uid es ≡ None
 not_later uid x es t h = (let P : Text → Type 0 = λ u. In u es ≡ None in subst P (sym (tells_apart texts.exact uid x t)) (below x es h))
 
-abbrev IsInOrder : Es → Type 0
+abbrev pub IsInOrder : Es → Type 0
 IsInOrder es = IsStrictlySortedBy text_cmp (keys_of es)
 
 pub head_of : (e : Text × Entry) (es : Es) → IsInOrder (e ∷ es) → AllByRecursion (λ y. text_cmp e.0 y ≡ Less) (keys_of es)

@@ -7,3 +7,4 @@ pub mod Jobs
 pub mod Notes
 pub mod Sound
 pub mod Tables
+pub mod Unfits

@@ -90,7 +90,7 @@ pub fn first(instance: Instance, rows: Vec<(Text, Progress)>, keep: bool, body: 
 }
 
 /// Whether the row isn't done.
-fn is_open(row: &(Text, Progress)) -> bool
+pub fn is_open(row: &(Text, Progress)) -> bool
     ensures { result ≡ is_open_row row.now }
 {
     match row.1 {

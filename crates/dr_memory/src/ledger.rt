@@ -1,5 +1,5 @@
 //! The ledger of one node in memory.
-ghost use Rattle.std.specs.Prelude.{◌≡◌, ◌↔◌, ◌≤◌, ◌^◌, IsTrue, IfOk, OnOk, ◌++◌, None, Ok, Some, T, false, map as mapped, true};
+ghost use Rattle.std.specs.Prelude.{◌≡◌, ◌↔◌, ◌≤◌, ◌^◌, IsTrue, IfOk, OnOk, ◌++◌, None, Ok, Some, T, false, map as mapped, option_copied, true};
 ghost use Rattle.std.specs.BTreeMap.{IsOrdered};
 ghost use Rattle.std.specs.FinMap as map;
 ghost use Rattle.std.specs.FinMap.{is_sorted};
@@ -7,7 +7,7 @@ ghost use Rattle.std.specs.FinSet as set;
 ghost use Rattle.std.proofs.Props.{props};
 ghost use Rattle.dr_base.specs.Texts.{text_cmp};
 ghost use Rattle.dr_ledger.specs.Bodies.{HasBodies, NextsWith, OnlyLetsGo, OnlyTakes};
-ghost use Rattle.dr_ledger.specs.Adopting.{Adopting, site_after};
+ghost use Rattle.dr_ledger.specs.Adopting.{Adopting, Unfits, site_after};
 ghost use Rattle.dr_ledger.specs.Histories.{IsJournalled};
 ghost use Rattle.dr_ledger.specs.Items.{instance_of};
 ghost use Rattle.dr_ledger.specs.Replies.{Admits, AreKept, Arrives, IsAdmitted, Lists, Requeues, Settles, entry_of};
@@ -18,8 +18,11 @@ ghost use Rattle.dr_memory.specs.Contents.{content, data_sets, own_rows};
 ghost use Rattle.dr_memory.specs.Entries.{rows_in};
 ghost use Rattle.dr_memory.specs.Jobs.{IsJobOf};
 ghost use Rattle.dr_memory.specs.Sound.{IsSound, NeverFails, Shows};
+ghost use Rattle.dr_memory.specs.Unfits.{Fits, IsUnfitRow, UnfitsIn};
 
 use crate::bringing::bringing;
+use crate::held::Held;
+use crate::holding::is_open;
 use crate::note::{Note, key_of};
 use crate::parts::Parts;
 use crate::progress::moved;
@@ -33,7 +36,7 @@ use dr_site::Site;
 use std::alloc::{AllocError, Global};
 
 /// The ledger of one node, in memory. Its premise is none: each clause of `Ledger` holds always. It never answers
-/// Store, and counts no failure. `unfit` isn't written yet: it answers Memory.
+/// Store, and counts no failure.
 #[derive(Drop)]
 pub struct MemoryLedger {
     alloc: Global,
@@ -334,6 +337,19 @@ impl MemoryLedger {
         Ok(all)
     }
 
+    /// The first row that isn't done and that the next plan doesn't go on with.
+    fn first_unfit(&self, next: &Sealed) -> Result<Option<(Text, Text)>, LedgerFault>
+        ensures { Shows result (Unfits next.now.plan self.now.site.name (content self.now.parts)) }
+    {
+        for (uid, entry) in &self.parts.held {
+            if let Some(dest) = unfit_row(next, self.site.name(), entry) {
+                let at = (uid.clone()?, dest.clone()?);
+                return Ok(Some(at));
+            }
+        }
+        Ok(None)
+    }
+
     /// Lets arrivals and done rows go, and goes on by the next site.
     fn go_over(&mut self, own: Site) -> Result<(), LedgerFault>
         ensures reply { Adopting (content self.old.parts) result (content self.new.parts) }
@@ -363,6 +379,32 @@ fn push_rows(
         all.push((key, row.1))?;
     }
     Ok(())
+}
+
+/// The destination of the uid's first row that isn't done and that the next plan doesn't go on with.
+fn unfit_row<'a>(next: &Sealed, name: &Text, entry: &'a Held) -> Option<&'a Text>
+    ensures { UnfitsIn next.now.plan name.now entry.now (option_copied result) }
+{
+    for row in &entry.rows {
+        if is_unfit(next, name, entry, row) {
+            return Some(&row.0);
+        }
+    }
+    None
+}
+
+/// Whether the row isn't done and the next plan doesn't go on with it.
+fn is_unfit(next: &Sealed, name: &Text, entry: &Held, row: &(Text, Progress)) -> bool
+    ensures unfit { IsTrue result → IsUnfitRow next.now.plan name.now entry.now row.now.0 row.now.1 }
+    ensures fit { result ≡ false → Fits next.now.plan name.now entry.now row.now.0 row.now.1 }
+{
+    if !is_open(row) {
+        return false;
+    }
+    match next.rank(name, &row.0, &entry.instance.key) {
+        Some(_) => false,
+        None => true,
+    }
 }
 
 fn settling(uid: &Text, dest: &Text, outcome: Outcome, now: u64) -> Result<Note, AllocError>
@@ -472,8 +514,8 @@ impl Ledger for MemoryLedger {
         Ok(self.row(uid, dest))
     }
 
-    fn unfit(&mut self, _next: &Sealed) -> Result<Option<(Text, Text)>, LedgerFault> {
-        Err(LedgerFault::Memory)
+    fn unfit(&mut self, next: &Sealed) -> Result<Option<(Text, Text)>, LedgerFault> {
+        self.first_unfit(next)
     }
 
     fn adopt(&mut self, _next: &Sealed, own: Site) -> Result<(), LedgerFault> {
