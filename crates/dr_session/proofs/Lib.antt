@@ -1,0 +1,5 @@
+pub mod Ending
+pub mod Fitting
+pub mod Handing
+pub mod InTurn
+pub mod Playing

@@ -1,0 +1,4 @@
+use Rattle.dr_session.proofs.react.acceptor.accept.Goals as goal
+
+pub returns : goal.returns
+returns c = ?

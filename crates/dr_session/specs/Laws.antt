@@ -1,0 +1,28 @@
+-- The laws of an end.
+use Rattle.std.specs.Prelude.{◌≡◌, ℕ, List, ◌++◌, map, ◌↔◌}
+use Rattle.dr_pdu.specs.Feeding.{Feeding}
+use Rattle.dr_session.specs.declared.ends.Core.{Core}
+use Rattle.dr_session.specs.declared.ends.Effect.{Effect}
+use Rattle.dr_session.specs.Desks.{DeskCall, DeskAnswer}
+use Rattle.dr_session.specs.declared.ends.Moment.{Moment}
+use Rattle.dr_session.specs.Reactions.{Reaction}
+use Rattle.dr_session.specs.Turns.{Turns, Run, Makes}
+use Rattle.dr_session.specs.Plays.{PlaysBytes}
+
+abbrev pub answers : List (DeskCall × DeskAnswer) → List DeskAnswer
+answers made = map (λ x. x.1) made
+
+-- a piece, then another at the same moment, do what the joined bytes do
+abbrev pub Joins : {S : Type 0} → (S → DeskCall → DeskAnswer → S → Type 0) → Type 0
+Joins {S} step = (moment : Moment) (old mid new : Feeding) (c : Core) (x y : Effect) (a b : List ℕ) (s m t : S)
+    → PlaysBytes step moment old c a s mid x m → PlaysBytes step moment mid x.core b m new y t
+    → PlaysBytes step moment old c (a ++ b) s new (record { acts = x.acts ++ y.acts; core = y.core }) t
+
+-- at a port: some calls with their answers lead from s to t, and the turn makes just these
+abbrev pub TellsAll : {S : Type 0} → (S → DeskCall → DeskAnswer → S → Type 0) → Type 0
+TellsAll {S} step = (turn : Reaction) (s t : S) (x : Effect) → Turns step turn s x t ↔ ((made : List (DeskCall × DeskAnswer)) × Run step s made t × Makes turn made x)
+
+-- two ways that a turn may go have the same calls and effect where the answers are the same
+abbrev pub IsByReplies : Type 0
+IsByReplies = (turn : Reaction) (made made' : List (DeskCall × DeskAnswer)) (x x' : Effect)
+    → Makes turn made x → Makes turn made' x' → answers made ≡ answers made' → (made ≡ made') × (x ≡ x')

@@ -1,0 +1,11 @@
+pub mod Desks
+pub mod Ends
+pub mod Laws
+pub mod Ledgers
+pub mod Fits
+pub mod Messages
+pub mod Plays
+pub mod Reactions
+pub mod Telling
+pub mod Turns
+pub mod Links

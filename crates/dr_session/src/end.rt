@@ -1,0 +1,221 @@
+//! One end of a link, whole.
+ghost use Rattle.std.specs.Prelude.{◌≡◌, ◌≤◌, ◌^◌, IfOk};
+ghost use Rattle.dr_session.specs.Fits.{InputFits};
+ghost use Rattle.dr_session.specs.Ends.{accepting, begins, unmarked as no_marks, Meets, HearsOf, HearsBytes, TakesCore, state_in, over_of, ended_by};
+
+use crate::ends::{Core, Ended, Heard, Input, LinkAction, Marks, Moment, Over};
+use crate::hearing::{hear, react};
+use crate::listening::Listener;
+use crate::port::DeskPort;
+use dr_base::{Seq, Text};
+use dr_dimse::Awaited;
+use dr_pdu::Feeder;
+use dr_site::Site;
+use dr_ulstate::{Assoc, Next, Opening, State};
+use std::alloc::{AllocError, Global};
+use std::marker::Model;
+
+/// One end of a link: it keeps the bytes that end no PDU, and what it agreed on and is about. Calls give what the link's
+/// owner is to do, in order. After want of memory it is over.
+#[derive(Drop)]
+pub struct End {
+    alloc: Global,
+    ear: Feeder,
+    core: Option<Core>,
+}
+
+impl Model for End {
+    ghost use Rattle.dr_session.specs.Ends.{Terminal};
+
+    ghost Value = { Terminal };
+
+    ghost view = { λ e. record { ear = e.ear; core = e.core } };
+}
+
+/// No mark.
+fn unmarked() -> Marks
+    ensures { result ≡ no_marks }
+{
+    Marks {
+        rejection: None,
+        aborted: false,
+        released: false,
+        desk_failed: false,
+    }
+}
+
+impl End {
+    /// The acceptor of a transport connection that was opened at this moment, in milliseconds.
+    pub fn accept(alloc: Global, site: Site, now: u64) -> End
+        ensures { result ≡ begins site (accepting site now) }
+    {
+        let (_, end) = Assoc::<Opening>::indicate(now);
+        let core = Core {
+            peer: Text::empty(alloc),
+            phase: Next::Opening(end),
+            proposed: None,
+            agreed: None,
+            assembly: Listener::new(alloc, Awaited::Requests),
+            pending: None,
+            last: 0,
+            awaits: None,
+            marks: unmarked(),
+            site,
+        };
+        End {
+            alloc,
+            ear: Feeder::new(alloc, core.site.max_pdu()),
+            core: Some(core),
+        }
+    }
+
+    /// The state in which it is (PS3.8 9.2.1); it takes no memory.
+    pub fn state(&self) -> State
+        ensures { result ≡ state_in self.now.core }
+    {
+        match &self.core {
+            Some(core) => core.phase.state(),
+            None => State::Sta1,
+        }
+    }
+
+    /// How it is over, if it is; it takes no memory.
+    pub fn over(&self) -> Option<Over>
+        ensures { result ≡ over_of self.now.core }
+    {
+        let Some(core) = &self.core else {
+            return Some(Over::Memory);
+        };
+        if core.phase.state() != State::Sta1 {
+            return None;
+        }
+        if core.marks.desk_failed {
+            return Some(Over::Desk);
+        }
+        Some(Over::Ended(ended(&core.marks)))
+    }
+
+    /// What comes over the link at a moment (of at most 2^62 milliseconds), while the node has so many other associations
+    /// open.
+    ///
+    /// Errors: AllocError, after which it is over; some of the first calls may have been made.
+    pub fn hear<P: DeskPort>(
+        &mut self,
+        heard: Heard,
+        port: &mut P,
+        at: Moment,
+    ) -> Result<Seq<LinkAction>, AllocError>
+        requires { at.now ≤ 2 ^ 62 }
+        ensures { HearsOf P.step heard at self.old port.old result self.new port.new }
+    {
+        match heard {
+            Heard::Bytes(piece) => self.hear_bytes(piece.as_bytes(), port, at),
+            Heard::End => self.meet(Input::Ended, port, at),
+            Heard::Fault => self.meet(Input::Ended, port, at),
+            Heard::Late => self.meet(Input::Late, port, at),
+            Heard::Memory => {
+                self.core = None;
+                Err(AllocError)
+            }
+        }
+    }
+
+    /// The first row that is due is sent, where it is a requestor's end that is established with nothing pending.
+    pub fn push<P: DeskPort>(
+        &mut self,
+        port: &mut P,
+        at: Moment,
+    ) -> Result<Seq<LinkAction>, AllocError>
+        requires { at.now ≤ 2 ^ 62 }
+        ensures { Meets P.step at Input.PushAsked self.old port.old result self.new port.new }
+    {
+        self.meet(Input::PushAsked, port, at)
+    }
+
+    /// The local user aborts.
+    pub fn abort<P: DeskPort>(
+        &mut self,
+        port: &mut P,
+        at: Moment,
+    ) -> Result<Seq<LinkAction>, AllocError>
+        requires { at.now ≤ 2 ^ 62 }
+        ensures { Meets P.step at Input.AbortAsked self.old port.old result self.new port.new }
+    {
+        self.meet(Input::AbortAsked, port, at)
+    }
+
+    /// The release is asked for, where it is a requestor's end that is established with nothing pending.
+    pub fn release<P: DeskPort>(
+        &mut self,
+        port: &mut P,
+        at: Moment,
+    ) -> Result<Seq<LinkAction>, AllocError>
+        requires { at.now ≤ 2 ^ 62 }
+        ensures { Meets P.step at Input.ReleaseAsked self.old port.old result self.new port.new }
+    {
+        self.meet(Input::ReleaseAsked, port, at)
+    }
+
+    /// An input other than bytes.
+    fn meet<P: DeskPort>(
+        &mut self,
+        input: Input,
+        port: &mut P,
+        at: Moment,
+    ) -> Result<Seq<LinkAction>, AllocError>
+        requires now { at.now ≤ 2 ^ 62 }
+        requires fits { InputFits input }
+        ensures { Meets P.step at input self.old port.old result self.new port.new }
+    {
+        let Some(core) = self.take_core() else {
+            return Ok(Seq::new(self.alloc));
+        };
+        let effect = react(self.alloc, input, core, port, at)?;
+        self.core = Some(effect.core);
+        Ok(effect.acts)
+    }
+
+    /// A piece of the bytes.
+    fn hear_bytes<P: DeskPort>(
+        &mut self,
+        piece: &[u8],
+        port: &mut P,
+        at: Moment,
+    ) -> Result<Seq<LinkAction>, AllocError>
+        requires { at.now ≤ 2 ^ 62 }
+        ensures { HearsBytes P.step self.old.core at piece.now self.old port.old result self.new port.new }
+    {
+        let Some(core) = self.take_core() else {
+            return Ok(Seq::new(self.alloc));
+        };
+        let effect = hear(self.alloc, &mut self.ear, core, piece, port, at)?;
+        self.core = Some(effect.core);
+        Ok(effect.acts)
+    }
+
+    /// Its core, unless it is over.
+    fn take_core(&mut self) -> Option<Core>
+        ensures { TakesCore self.old result self.new }
+    {
+        if self.state() == State::Sta1 {
+            return None;
+        }
+        self.core.take()
+    }
+}
+
+/// How the association ended, by what was written and read.
+fn ended(marks: &Marks) -> Ended
+    ensures { result ≡ ended_by marks.now }
+{
+    if let Some(rejection) = marks.rejection {
+        return Ended::Rejected(rejection);
+    }
+    if marks.aborted {
+        return Ended::Aborted;
+    }
+    if marks.released {
+        return Ended::Released;
+    }
+    Ended::Closed
+}
