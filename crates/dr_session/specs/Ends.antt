@@ -44,14 +44,14 @@ unmarked = record { rejection = None; aborted = false; released = false; desk_fa
 abbrev pub accepting : Part → ℕ → Core
 accepting site now = record {
   site = site; peer = []; phase = Opening (standing Sta2 false now); proposed = None; agreed = None; assembly = assembling Requests Idle;
-  pending = None; last = 0; awaits = None; marks = unmarked;
+  pending = None; last = 0; awaits = None; dry = false; marks = unmarked;
 }
 
 -- a requestor that has sent its request at that moment
 abbrev pub requesting : Part → Text → AssociateRq → ℕ → Core
 requesting site dest rq now = record {
   site = site; peer = dest; phase = Asked (standing Sta5 true now); proposed = Some rq; agreed = None; assembly = assembling Nothing Idle;
-  pending = None; last = 0; awaits = Some now; marks = unmarked;
+  pending = None; last = 0; awaits = Some now; dry = false; marks = unmarked;
 }
 
 abbrev pub begins : Part → Core → Terminal

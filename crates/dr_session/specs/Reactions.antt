@@ -93,6 +93,10 @@ settled_with c = record c { pending = None; awaits = None; assembly = assembling
 abbrev pub left : Core → Core
 left c = record c { pending = None; awaits = None }
 
+-- a push found no row due
+abbrev pub dried : Core → Core
+dried c = record c { dry = true }
+
 abbrev pub write : List Pdu → LinkAction
 write pdus = Write (spellings pdus)
 
@@ -261,7 +265,7 @@ gives None at item c = quiet c
 
 abbrev pub due : Moment → Core → Result (Option Job) LedgerFault → Reaction
 due at c (Ok (Some item)) = gives c.agreed at item c
-due at c (Ok None) = quiet c
+due at c (Ok None) = quiet (dried c)
 due at c (Err fault.Memory) = Fails
 due at c (Err why) = aborts_desk at c
 

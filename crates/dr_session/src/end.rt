@@ -59,6 +59,7 @@ impl End {
             pending: None,
             last: 0,
             awaits: None,
+            dry: false,
             marks: unmarked(),
             site,
         };

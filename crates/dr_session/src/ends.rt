@@ -148,6 +148,8 @@ pub struct Core {
     pub last: u16,
     /// Since when a requestor awaits an answer, in milliseconds.
     pub awaits: Option<u64>,
+    /// A push has found no row due.
+    pub dry: bool,
     pub marks: Marks,
 }
 

@@ -4,7 +4,7 @@ ghost use Rattle.dr_base.specs.Syntaxes.{syntax_uid};
 ghost use Rattle.dr_nego.specs.Agreeing.{context_for};
 ghost use Rattle.dr_nego.specs.declared.fault.NegoFault.TheVariants as negofault;
 ghost use Rattle.dr_session.specs.declared.ends.LinkAction.TheVariants.{Close};
-ghost use Rattle.dr_session.specs.Reactions.{agrees, refuses, settles_refused, replied, effect, gives, gives_in, id_after, due, pushes, gives_nothing, write, store_pdus, awaiting, pending, settled_with, desk_failed};
+ghost use Rattle.dr_session.specs.Reactions.{agrees, refuses, settles_refused, replied, effect, gives, gives_in, id_after, due, pushes, gives_nothing, write, store_pdus, awaiting, pending, settled_with, desk_failed, dried};
 ghost use Rattle.dr_session.specs.Turns.{Turns, Broke, Ends};
 
 use crate::ends::{Core, Effect, LinkAction, Moment, Pending};
@@ -166,10 +166,17 @@ pub fn push<P: DeskPort>(
 {
     match port.next(&core.peer, at.now) {
         Ok(Some(job)) => give(alloc, job, core, port, at),
-        Ok(None) => Ok(quiet(alloc, core)),
+        Ok(None) => Ok(quiet(alloc, run_dry(core))),
         Err(LedgerFault::Memory) => Err(AllocError),
         Err(_) => abort_desk(alloc, core, at),
     }
+}
+
+/// No row is due.
+fn run_dry(core: Core) -> Core
+    ensures { result ≡ dried core }
+{
+    Core { dry: true, ..core }
 }
 
 /// An instance goes over in a context of its class and transfer syntax; where there is none the row is settled so.
