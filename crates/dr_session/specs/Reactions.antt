@@ -39,6 +39,7 @@ use Rattle.dr_nego.specs.declared.answering.Answer.{Answer}
 use Rattle.dr_nego.specs.declared.answering.Answer.TheVariants.{Accept, Reject, TooSmall}
 use Rattle.dr_nego.specs.Agreeing.{AssociateRq, AssociateAc, context_for}
 use Rattle.dr_nego.specs.Answering.{answer}
+use Rattle.dr_site.specs.Parts.{Part}
 use Rattle.dr_session.specs.declared.ends.Input.{Input}
 use Rattle.dr_session.specs.declared.ends.Input.TheVariants.{Request, Acceptance, Rejection, Value, NoValue, ReleaseRq, ReleaseRp, Abort, Unknown, Invalid, Ended, Late, AbortAsked, ReleaseAsked, PushAsked}
 use Rattle.dr_session.specs.declared.ends.Found.{Found}
@@ -170,6 +171,11 @@ decides (Accept ac agreed) at rq c =
 decides (Reject result source reason) at rq c =
     Ends (effect (write (pdu.AssociateRj (rj result source reason) ∷ []) ∷ []) (rejected (rj result source reason) (stepped_by RejectResponse at.now c)))
 decides TooSmall at rq c = aborts at c
+
+-- an end without a site answers none (every acceptor has one)
+abbrev pub decides_at : Option Part → Moment → AssociateRq → Core → Reaction
+decides_at (Some site) at rq c = decides (answer rq site at.others) at rq c
+decides_at None at rq c = quiet c
 
 -- the service provider rejects what is of source 2 or 3
 abbrev pub is_acceptable : Answer → Bool
@@ -309,7 +315,7 @@ collides now c = if is_requestor c then Ends (effect (write (pdu.ReleaseRp ∷ [
 abbrev pub acts : Action → Moment → Told → Core → Reaction
 acts Ae3 at (Agreement answer) c = agrees answer at c
 acts Ae4 at (Plain (Rejection rj)) c = refuses at (rejected rj (left c))
-acts Ae6 at (Plain (Request rq)) c = decides (answer rq c.site at.others) at rq c
+acts Ae6 at (Plain (Request rq)) c = decides_at c.site at rq c
 acts Dt1 at told c = pushes at c
 acts Dt2 at told c = hears told at c
 acts Ar6 at told c = hears told at c
@@ -365,8 +371,12 @@ event_of Strange at c = Some InvalidPdu
 event_of (Agreement answer) at c = Some AssociateAcPdu
 event_of told at c = Some DataPdu
 
+abbrev pub is_taken_at : Option Part → AssociateRq → Moment → Bool
+is_taken_at (Some site) rq at = is_acceptable (answer rq site at.others)
+is_taken_at None rq at = true
+
 abbrev pub is_taken : Told → Moment → Core → Bool
-is_taken (Plain (Request rq)) at c = is_acceptable (answer rq c.site at.others)
+is_taken (Plain (Request rq)) at c = is_taken_at c.site rq at
 is_taken told at c = true
 
 -- the action of the cell, in the phase that follows; nothing where there is none

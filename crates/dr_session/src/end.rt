@@ -47,9 +47,10 @@ fn unmarked() -> Marks
 impl End {
     /// The acceptor of a transport connection that was opened at this moment, in milliseconds.
     pub fn accept(alloc: Global, site: Site, now: u64) -> End
-        ensures { result ≡ begins site (accepting site now) }
+        ensures { result ≡ begins site.max_pdu (accepting site now) }
     {
         let (_, end) = Assoc::<Opening>::indicate(now);
+        let ear = Feeder::new(alloc, site.max_pdu());
         let core = Core {
             peer: Text::empty(alloc),
             phase: Next::Opening(end),
@@ -61,11 +62,11 @@ impl End {
             awaits: None,
             dry: false,
             marks: unmarked(),
-            site,
+            site: Some(site),
         };
         End {
             alloc,
-            ear: Feeder::new(alloc, core.site.max_pdu()),
+            ear,
             core: Some(core),
         }
     }

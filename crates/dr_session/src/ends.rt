@@ -135,7 +135,8 @@ pub struct Marks {
 /// One end, without the bytes that it keeps.
 #[derive(Drop)]
 pub struct Core {
-    pub site: Site,
+    /// Of its node; the requestor of an echo has none.
+    pub site: Option<Site>,
     /// The other end's title: empty at an acceptor that has heard no request.
     pub peer: Text,
     pub phase: Next,

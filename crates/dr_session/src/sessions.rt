@@ -95,7 +95,7 @@ pub fn receive<L: Link, P: DeskPort, C: Clock>(
     port: &mut P,
     clock: &C,
 ) -> Result<Ended, SessionFault>
-    ensures { EndsAs L.hears L.sends L.closes P.step result link.old port.old (begins site.now (accepting site.now (L.opened_at link.old))) link.new port.new }
+    ensures { EndsAs L.hears L.sends L.closes P.step result link.old port.old (begins site.now.max_pdu (accepting site.now (L.opened_at link.old))) link.new port.new }
 {
     let opened = link.opened();
     let mut end = End::accept(alloc, site.copy()?, opened);

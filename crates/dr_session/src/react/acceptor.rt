@@ -6,7 +6,7 @@ ghost use Rattle.dr_nego.specs.declared.answering.Answer.TheVariants as answers;
 ghost use Rattle.dr_nego.specs.Answering.{answer as answered};
 ghost use Rattle.dr_pdu.specs.Written.{Fits as PduFits};
 ghost use Rattle.dr_pdu.specs.declared.pdu.Pdu.TheVariants as pdu;
-ghost use Rattle.dr_session.specs.Reactions.{arrives, stores, stored, status_of, echo_status as status_of_echo, effect, is_named, brings, says, requested, requested_other, decides, stepped_by, write, rejected as rejected_with};
+ghost use Rattle.dr_session.specs.Reactions.{arrives, stores, stored, status_of, echo_status as status_of_echo, effect, is_named, brings, says, requested, requested_other, decides, decides_at, stepped_by, write, rejected as rejected_with};
 ghost use Rattle.dr_session.specs.Turns.{Turns, Broke, Ends};
 ghost use Rattle.dr_ulstate.specs.declared.table.Event.TheVariants.{AcceptResponse, RejectResponse};
 
@@ -241,10 +241,13 @@ pub fn decide<P: DeskPort>(
 ) -> Result<Effect, AllocError>
     requires now { at.now ≤ 2 ^ 62 }
     requires fits { PduFits (pdu.AssociateRq rq) }
-    ensures done { IfOk result (λ e. Turns P.step (decides (answered rq core.site at.others) at rq core) port.old e port.new) }
-    ensures broke { OnErr result (Broke P.step (decides (answered rq core.site at.others) at rq core) port.old port.new) }
+    ensures done { IfOk result (λ e. Turns P.step (decides_at core.site at rq core) port.old e port.new) }
+    ensures broke { OnErr result (Broke P.step (decides_at core.site at rq core) port.old port.new) }
 {
-    match answer(alloc, &rq, &Policy { site: &core.site }, at.others)? {
+    let Some(site) = &core.site else {
+        return Ok(quiet(alloc, core));
+    };
+    match answer(alloc, &rq, &Policy { site }, at.others)? {
         Answer::Accept(ac, agreed) => accept(alloc, ac, agreed, rq, core, at),
         Answer::Reject(outcome, source, reason) => {
             let rejection = AssociateRj {

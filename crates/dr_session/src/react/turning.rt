@@ -1,11 +1,10 @@
 //! The table's actions (PS3.8 9.2.2) and events: what an end does with what it was told.
 ghost use Rattle.std.specs.Prelude.{◌≡◌, ◌∷◌, [], ◌≤◌, ◌^◌, IfOk, OnErr, Some, None, true};
 ghost use Rattle.dr_dimse.specs.Commands.{status_of as status_in};
-ghost use Rattle.dr_nego.specs.Answering.{answer as answered};
 ghost use Rattle.dr_pdu.specs.declared.pdu.Pdu.TheVariants as pdu;
 ghost use Rattle.dr_session.specs.declared.ends.LinkAction.TheVariants.{Close};
 ghost use Rattle.dr_session.specs.Fits.{ToldFits, IsHeard, heard_as};
-ghost use Rattle.dr_session.specs.Reactions.{acts, hears, turn, event_of, is_taken, is_acceptable as is_acceptable_answer, effect, write, abort_pdu, aborted, leaves, reason_of, has_waited, is_idle, stepped_by, released, collides};
+ghost use Rattle.dr_session.specs.Reactions.{acts, hears, turn, event_of, is_taken, is_taken_at, effect, write, abort_pdu, aborted, leaves, reason_of, has_waited, is_idle, stepped_by, released, collides};
 ghost use Rattle.dr_session.specs.Turns.{Turns, Broke, Ends};
 ghost use Rattle.dr_ulstate.specs.Phases.{event_of as event_of_incoming, is_acceptable as is_acceptable_incoming};
 ghost use Rattle.dr_ulstate.specs.declared.table.Action.TheVariants.{Ae3, Ae4, Ae6};
@@ -473,9 +472,12 @@ fn is_acceptable(
     core: &Core,
     at: Moment,
 ) -> Result<bool, AllocError>
-    ensures { IfOk result (λ b. b ≡ is_acceptable_answer (answered rq.now core.now.site at.others)) }
+    ensures { IfOk result (λ b. b ≡ is_taken_at core.now.site rq.now at) }
 {
-    match answer(alloc, rq, &Policy { site: &core.site }, at.others)? {
+    let Some(site) = &core.site else {
+        return Ok(true);
+    };
+    match answer(alloc, rq, &Policy { site }, at.others)? {
         Answer::Reject(_, source, _) => Ok(source == 1),
         Answer::Accept(_, _) => Ok(true),
         Answer::TooSmall => Ok(true),
