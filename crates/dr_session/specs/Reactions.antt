@@ -13,8 +13,8 @@ use Rattle.dr_ulstate.specs.declared.table.Action.TheVariants.{Ae1, Ae2, Ae3, Ae
 use Rattle.dr_ulstate.specs.declared.phase.Next.{Next}
 use Rattle.dr_ulstate.specs.declared.phase.Next.TheVariants.{Idle}
 use Rattle.dr_ulstate.specs.Table.{cell}
-use Rattle.dr_ulstate.specs.Standing.{Standing, moved, runs_artim}
-use Rattle.dr_ulstate.specs.Phases.{standing_of, side_of, next_stepped}
+use Rattle.dr_ulstate.specs.Standing.{Standing}
+use Rattle.dr_ulstate.specs.Phases.{side_of, next_stepped, next_expired, may_send}
 use Rattle.dr_pdu.specs.declared.pdu.Pdu.{Pdu}
 use Rattle.dr_pdu.specs.declared.pdu.Pdu.TheVariants as pdu
 use Rattle.dr_pdu.specs.declared.pdu.AssociateRj.{AssociateRj}
@@ -312,6 +312,11 @@ reason_of told = 2
 abbrev pub collides : ℕ → Core → Reaction
 collides now c = if is_requestor c then Ends (effect (write (pdu.ReleaseRp ∷ []) ∷ []) (released (stepped_by ReleaseResponse now c))) else quiet c
 
+-- an A-ABORT that was read is noted, also where the table has nothing to tell the user (AA-2)
+abbrev pub noted : Told → Core → Core
+noted (Plain (Abort a)) c = aborted c
+noted told c = c
+
 abbrev pub acts : Action → Moment → Told → Core → Reaction
 acts Ae3 at (Agreement answer) c = agrees answer at c
 acts Ae4 at (Plain (Rejection rj)) c = refuses at (rejected rj (left c))
@@ -325,7 +330,7 @@ acts Ar3 at told c = Ends (effect (Close ∷ []) (released c))
 acts Ar8 at told c = collides at.now c
 acts Ar10 at told c = Ends (effect (write (pdu.ReleaseRp ∷ []) ∷ []) (released (stepped_by ReleaseResponse at.now c)))
 acts Aa1 at told c = leaves at (write (abort_pdu 0 0 ∷ []) ∷ []) (aborted c)
-acts Aa2 at told c = leaves at (Close ∷ []) c
+acts Aa2 at told c = leaves at (Close ∷ []) (noted told c)
 acts Aa3 at told c = leaves at (Close ∷ []) (aborted c)
 acts Aa4 at told c = leaves at [] c
 acts Aa5 at told c = leaves at [] c
@@ -335,14 +340,15 @@ acts a at told c = quiet c
 
 -- ---- events
 
--- a requestor that is established and has nothing pending
+-- a requestor that has nothing pending
 abbrev pub is_idle : Core → Bool
 is_idle c = is_requestor c && not (is_some c.pending)
 
-abbrev pub has_expired : Option Standing → ℕ → Bool
-has_expired None now = false
-has_expired (Some a) now = runs_artim a.state && nat_le (a.since + 30000) now
+-- an established one, which may send
+abbrev pub is_ready : Core → Bool
+is_ready c = is_idle c && may_send c.phase
 
+-- for 60,000 milliseconds
 abbrev pub has_waited : Option ℕ → ℕ → Bool
 has_waited None now = false
 has_waited (Some since) now = nat_le (since + 60000) now
@@ -360,10 +366,10 @@ event_of_plain Unknown at c = Some InvalidPdu
 event_of_plain Invalid at c = Some InvalidPdu
 event_of_plain Ended at c = Some TransportClosed
 event_of_plain Late at c =
-    if has_expired (standing_of c.phase) at.now then Some ArtimExpired else if is_requestor c && has_waited c.awaits at.now then Some AbortRequest else None
+    if next_expired c.phase at.now then Some ArtimExpired else if is_requestor c && has_waited c.awaits at.now then Some AbortRequest else None
 event_of_plain AbortAsked at c = Some AbortRequest
 event_of_plain ReleaseAsked at c = if is_idle c then Some ReleaseRequest else None
-event_of_plain PushAsked at c = if is_idle c then Some DataRequest else None
+event_of_plain PushAsked at c = if is_ready c then Some DataRequest else None
 
 abbrev pub event_of : Told → Moment → Core → Option Event
 event_of (Plain i) at c = event_of_plain i at c

@@ -29,7 +29,8 @@ use Rattle.dr_ledger.specs.declared.content.ItemFault.TheVariants as items
 use Rattle.dr_ledger.specs.Items.{ReadsItem}
 use Rattle.dr_nego.specs.declared.agreed.Pair.{Pair}
 use Rattle.dr_nego.specs.declared.agreed.Agreed.{Agreed}
-use Rattle.dr_nego.specs.Agreeing.{AssociateRq, pair_at, Concludes}
+use Rattle.dr_nego.specs.Agreeing.{AssociateRq, AssociateAc, pair_at, Concludes}
+use Rattle.dr_nego.specs.declared.fault.NegoFault.{NegoFault}
 use Rattle.dr_session.specs.declared.ends.Input.{Input}
 use Rattle.dr_session.specs.declared.ends.Input.TheVariants.{Request, Acceptance, Rejection, Value, NoValue, ReleaseRq, ReleaseRp, Abort, Unknown, Invalid, Ended, Late, AbortAsked, ReleaseAsked, PushAsked}
 use Rattle.dr_session.specs.declared.ends.Found.{Found}
@@ -85,13 +86,20 @@ TellsValue (Some agreed) c p told stage = TellsIn (pair_at agreed p.id) c p told
 abbrev pub TakesData : State → Type 0
 TakesData s = (s ≡ Sta6) ⊎ (s ≡ Sta7)
 
+-- ---- an acceptance
+
+-- what it agrees on with the request that was proposed; an end that awaits an answer has proposed one
+abbrev pub TellsAcceptance : Option AssociateRq → AssociateAc → Told → Type 0
+TellsAcceptance None ac told = told ≡ Plain (Acceptance ac)
+TellsAcceptance (Some rq) ac told = (answer : Result Agreed NegoFault) × Concludes rq ac answer × (told ≡ Agreement answer)
+
 -- ---- any input
 
 -- a value is looked into where the table takes data, an acceptance where it awaits one
 abbrev pub Looks : Option Action → Core → Input → Told → Stage → Type 0
 Looks (Some Dt2) c (Value p) told stage = TellsValue c.agreed c p told stage
 Looks (Some Ar6) c (Value p) told stage = TellsValue c.agreed c p told stage
-Looks (Some Ae3) c (Acceptance ac) told stage = (rq : AssociateRq) × (answer : _) × (c.proposed ≡ Some rq) × Concludes rq ac answer × (told ≡ Agreement answer) × (stage ≡ c.assembly.stage)
+Looks (Some Ae3) c (Acceptance ac) told stage = TellsAcceptance c.proposed ac told × (stage ≡ c.assembly.stage)
 Looks a c i told stage = (told ≡ Plain i) × (stage ≡ c.assembly.stage)
 
 abbrev pub event_of_input : Input → Option Event

@@ -126,8 +126,7 @@ fn tell_acceptance(alloc: Global, ac: AssociateAc, core: Core) -> Result<(Told, 
     ensures fits { IfOk result (λ r. ToldFits r.0) }
 {
     let Some(rq) = &core.proposed else {
-        // An end that awaits an answer has proposed.
-        return Err(AllocError);
+        return Ok((Told::Plain(Input::Acceptance(ac)), core));
     };
     let answer = conclude(alloc, rq, &ac);
     Ok((Told::Agreement(answer), core))

@@ -4,7 +4,7 @@ ghost use Rattle.dr_dimse.specs.Commands.{status_of as status_in};
 ghost use Rattle.dr_pdu.specs.declared.pdu.Pdu.TheVariants as pdu;
 ghost use Rattle.dr_session.specs.declared.ends.LinkAction.TheVariants.{Close};
 ghost use Rattle.dr_session.specs.Fits.{ToldFits, IsHeard, heard_as};
-ghost use Rattle.dr_session.specs.Reactions.{acts, hears, turn, event_of, is_taken, is_taken_at, effect, write, abort_pdu, aborted, leaves, reason_of, has_waited, is_idle, stepped_by, released, collides};
+ghost use Rattle.dr_session.specs.Reactions.{acts, hears, turn, event_of, is_taken, is_taken_at, effect, write, abort_pdu, aborted, leaves, reason_of, has_waited, is_idle, is_ready, stepped_by, released, collides, noted};
 ghost use Rattle.dr_session.specs.Turns.{Turns, Broke, Ends};
 ghost use Rattle.dr_ulstate.specs.Phases.{event_of as event_of_incoming, is_acceptable as is_acceptable_incoming};
 ghost use Rattle.dr_ulstate.specs.declared.table.Action.TheVariants.{Ae3, Ae4, Ae6};
@@ -256,6 +256,16 @@ fn leave_released<P: DeskPort>(
     leave(acts, step_respond(core, at.now), port, at)
 }
 
+/// An A-ABORT that was read is noted.
+fn note(told: &Told, core: Core) -> Core
+    ensures { result ≡ noted told.now core }
+{
+    match told {
+        Told::Plain(Input::Abort(_)) => mark_aborted(core),
+        _ => core,
+    }
+}
+
 /// An A-ABORT of the service provider as the connection closes (AA-7).
 fn abort_closing(alloc: Global, core: Core) -> Result<Effect, AllocError>
     ensures { IfOk result (λ e. e ≡ effect (write (abort_pdu 2 0 ∷ []) ∷ []) (aborted core)) }
@@ -305,7 +315,7 @@ fn act<P: DeskPort>(
         Action::Ar8 => act_collision(alloc, core, at.now),
         Action::Ar10 => answer_release(alloc, core, at.now),
         Action::Aa1 => leave_aborting(alloc, 0, 0, core, port, at),
-        Action::Aa2 => leave_closing(alloc, core, port, at),
+        Action::Aa2 => leave_closing(alloc, note(&told, core), port, at),
         Action::Aa3 => leave_closing(alloc, mark_aborted(core), port, at),
         Action::Aa4 => leave(none(alloc), core, port, at),
         Action::Aa5 => leave(none(alloc), core, port, at),
@@ -392,10 +402,10 @@ fn meet_push<P: DeskPort>(
     ensures done { IfOk result (λ e. Turns P.step (turn at core (Told.Plain Input.PushAsked)) port.old e port.new) }
     ensures broke { OnErr result (Broke P.step (turn at core (Told.Plain Input.PushAsked)) port.old port.new) }
 {
-    if !is_idle_requestor(&core) {
+    if !may_push(&core) {
         return Ok(quiet(alloc, core));
     }
-    match core.phase.offer(at.now) {
+    match core.phase.send(at.now) {
         Ok((action, phase)) => {
             let told = Told::Plain(Input::PushAsked);
             act(alloc, action, told, Core { phase, ..core }, port, at)
@@ -409,6 +419,13 @@ fn is_idle_requestor(core: &Core) -> bool
     ensures { result ≡ is_idle core.now }
 {
     core.phase.is_requestor() && core.pending.is_none()
+}
+
+/// Whether it is one that is established.
+fn may_push(core: &Core) -> bool
+    ensures { result ≡ is_ready core.now }
+{
+    is_idle_requestor(core) && core.phase.may_send()
 }
 
 /// Time has passed: the table's timer ends, or a requestor that has awaited an answer for too long aborts.
