@@ -1,5 +1,6 @@
 pub mod Desks
 pub mod Ends
+pub mod Figures
 pub mod Laws
 pub mod Ledgers
 pub mod Fits

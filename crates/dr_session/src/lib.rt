@@ -4,6 +4,7 @@
 pub mod desk;
 pub mod end;
 pub mod ends;
+pub mod figures;
 pub mod find;
 pub mod hearing;
 pub mod laws;

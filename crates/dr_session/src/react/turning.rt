@@ -321,7 +321,16 @@ fn act<P: DeskPort>(
         Action::Aa5 => leave(none(alloc), core, port, at),
         Action::Aa7 => abort_closing(alloc, core),
         Action::Aa8 => leave_aborting(alloc, 2, reason(&told), core, port, at),
-        _ => Ok(quiet(alloc, core)),
+        Action::Ae1 => Ok(quiet(alloc, core)),
+        Action::Ae2 => Ok(quiet(alloc, core)),
+        Action::Ae5 => Ok(quiet(alloc, core)),
+        Action::Ae7 => Ok(quiet(alloc, core)),
+        Action::Ae8 => Ok(quiet(alloc, core)),
+        Action::Ar4 => Ok(quiet(alloc, core)),
+        Action::Ar5 => Ok(quiet(alloc, core)),
+        Action::Ar7 => Ok(quiet(alloc, core)),
+        Action::Ar9 => Ok(quiet(alloc, core)),
+        Action::Aa6 => Ok(quiet(alloc, core)),
     }
 }
 
@@ -522,7 +531,18 @@ fn turn_plain<P: DeskPort>(
         }
         Input::ReleaseAsked => meet_release(alloc, core, port, at),
         Input::PushAsked => meet_push(alloc, core, port, at),
-        other => turn_heard(alloc, other, core, port, at),
+        Input::Acceptance(ac) => turn_heard(alloc, Input::Acceptance(ac), core, port, at),
+        Input::Rejection(rejection) => {
+            turn_heard(alloc, Input::Rejection(rejection), core, port, at)
+        }
+        Input::Value(pdv) => turn_heard(alloc, Input::Value(pdv), core, port, at),
+        Input::NoValue => turn_heard(alloc, Input::NoValue, core, port, at),
+        Input::ReleaseRq => turn_heard(alloc, Input::ReleaseRq, core, port, at),
+        Input::ReleaseRp => turn_heard(alloc, Input::ReleaseRp, core, port, at),
+        Input::Abort(abort) => turn_heard(alloc, Input::Abort(abort), core, port, at),
+        Input::Unknown => turn_heard(alloc, Input::Unknown, core, port, at),
+        Input::Invalid => turn_heard(alloc, Input::Invalid, core, port, at),
+        Input::Ended => turn_heard(alloc, Input::Ended, core, port, at),
     }
 }
 
@@ -558,7 +578,12 @@ fn incoming_of(input: &Input) -> Incoming
         Input::Abort(_) => Incoming::Aborted,
         Input::Unknown => Incoming::Unrecognized,
         Input::Invalid => Incoming::Unrecognized,
-        _ => Incoming::ConnectionClosed,
+        Input::Ended => Incoming::ConnectionClosed,
+        Input::Request(_) => Incoming::ConnectionClosed,
+        Input::Late => Incoming::ConnectionClosed,
+        Input::AbortAsked => Incoming::ConnectionClosed,
+        Input::ReleaseAsked => Incoming::ConnectionClosed,
+        Input::PushAsked => Incoming::ConnectionClosed,
     }
 }
 

@@ -1,0 +1,2 @@
+//! Worked figures, by computation.
+pub mod table;
