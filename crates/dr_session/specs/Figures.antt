@@ -128,7 +128,7 @@ pub record Rejections (c : Core) (at : Moment) (rj : AssociateRj) : Type 0 where
 -- ---- events 6 to 8: an A-ASSOCIATE-RQ and its answer, at the archive
 
 abbrev pub at_archive : Core → Core
-at_archive c = record c { site = archive }
+at_archive c = record c { site = Some archive }
 
 pub record Requests (c : Core) (now : ℕ) (rq : AssociateRq) : Type 0 where
   pub accepted : Does (at_archive c) (moment now 0) (acceptor Sta2 ∷ []) (told.Plain (input.Request proposal)) 6
