@@ -3,3 +3,4 @@ pub mod Fitting
 pub mod Handing
 pub mod InTurn
 pub mod Playing
+pub mod Storing

@@ -1,11 +1,17 @@
 -- The laws of an end.
-use Rattle.std.specs.Prelude.{◌≡◌, ℕ, List, ◌++◌, map, ◌↔◌}
+use Rattle.std.specs.Prelude.{◌≡◌, ℕ, false, List, [], ◌∷◌, ◌++◌, map, ◌↔◌, Ok}
+use Rattle.dr_base.specs.Texts.{Text}
 use Rattle.dr_pdu.specs.Feeding.{Feeding}
+use Rattle.dr_dimse.specs.declared.command.Command.TheVariants.{StoreRsp}
+use Rattle.dr_ledger.specs.declared.content.Job.{Job}
+use Rattle.dr_ledger.specs.declared.item.Arrived.{Arrived}
+use Rattle.dr_session.specs.declared.ends.Found.{Found}
+use Rattle.dr_session.specs.declared.ends.Found.TheVariants.{Read}
 use Rattle.dr_session.specs.declared.ends.Core.{Core}
 use Rattle.dr_session.specs.declared.ends.Effect.{Effect}
-use Rattle.dr_session.specs.Desks.{DeskCall, DeskAnswer}
+use Rattle.dr_session.specs.Desks.{DeskCall, DeskAnswer, Arrive, Arrival}
 use Rattle.dr_session.specs.declared.ends.Moment.{Moment}
-use Rattle.dr_session.specs.Reactions.{Reaction}
+use Rattle.dr_session.specs.Reactions.{Reaction, says, stores}
 use Rattle.dr_session.specs.Turns.{Turns, Run, Makes}
 use Rattle.dr_session.specs.Plays.{PlaysBytes}
 
@@ -26,3 +32,15 @@ TellsAll {S} step = (turn : Reaction) (s t : S) (x : Effect) → Turns step turn
 abbrev pub IsByReplies : Type 0
 IsByReplies = (turn : Reaction) (made made' : List (DeskCall × DeskAnswer)) (x x' : Effect)
     → Makes turn made x → Makes turn made' x' → answers made ≡ answers made' → (made ≡ made') × (x ≡ x')
+
+-- What is written for a C-STORE-RQ: one response, and it is a success (0000H) only where its instance was brought to the port,
+-- which answered New or Again.
+pub record AnswersStore {S : Type 0} (step : S → DeskCall → DeskAnswer → S → Type 0) (c : Core) (context id : ℕ) (class instance : Text) (found : Found) (s : S) (x : Effect) (t : S) : Type 0 where
+  pub status : ℕ
+  pub written : x.acts ≡ says c context (StoreRsp id status class instance false) ∷ []
+  pub brought : status ≡ 0 → (item : Job) × (value : Arrived) × (found ≡ Read item) × step s (Arrive c.peer item) (Arrival (Ok value)) t
+
+-- a C-STORE-RQ is answered so
+abbrev pub SuccessIsOfArrivals : {S : Type 0} → (S → DeskCall → DeskAnswer → S → Type 0) → Type 0
+SuccessIsOfArrivals {S} step = (c : Core) (context : ℕ) (class_of : Text) (id : ℕ) (class instance : Text) (found : Found) (s t : S) (x : Effect)
+    → Turns step (stores c context class_of id class instance found) s x t → AnswersStore step c context id class instance found s x t

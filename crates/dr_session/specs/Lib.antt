@@ -7,6 +7,7 @@ pub mod Fits
 pub mod Messages
 pub mod Plays
 pub mod Reactions
+pub mod Statuses
 pub mod Telling
 pub mod Turns
 pub mod Links

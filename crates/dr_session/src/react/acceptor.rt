@@ -6,6 +6,7 @@ ghost use Rattle.dr_nego.specs.declared.answering.Answer.TheVariants as answers;
 ghost use Rattle.dr_nego.specs.Answering.{answer as answered};
 ghost use Rattle.dr_pdu.specs.Written.{Fits as PduFits};
 ghost use Rattle.dr_pdu.specs.declared.pdu.Pdu.TheVariants as pdu;
+ghost use Rattle.dr_session.specs.Laws.{AnswersStore};
 ghost use Rattle.dr_session.specs.Reactions.{arrives, stores, stored, status_of, echo_status as status_of_echo, effect, is_named, brings, says, requested, requested_other, decides, decides_at, stepped_by, write, rejected as rejected_with};
 ghost use Rattle.dr_session.specs.Turns.{Turns, Broke, Ends};
 ghost use Rattle.dr_ulstate.specs.declared.table.Event.TheVariants.{AcceptResponse, RejectResponse};
@@ -40,13 +41,17 @@ fn say(alloc: Global, core: &Core, context: u8, command: Command) -> Result<Link
     ensures { IfOk result (λ a. a ≡ says core.now context command) }
 {
     match &core.agreed {
-        Some(agreed) => write_response(alloc, agreed, context, &command),
+        Some(agreed) => {
+            let action = write_response(alloc, agreed, context, &command)?;
+            Ok(action)
+        }
         None => {
             let agreed = Agreed {
                 pairs: Seq::new(alloc),
                 limit: 0,
             };
-            write_response(alloc, &agreed, context, &command)
+            let action = write_response(alloc, &agreed, context, &command)?;
+            Ok(action)
         }
     }
 }
@@ -129,7 +134,7 @@ fn store_found<P: DeskPort>(
 }
 
 /// A C-STORE-RQ with its data set, in a context of that class.
-pub fn store<P: DeskPort>(
+fn store_in<P: DeskPort>(
     alloc: Global,
     context: u8,
     of: Text,
@@ -148,6 +153,28 @@ pub fn store<P: DeskPort>(
         return respond(alloc, context, id, class, instance, 0x0122, core);
     }
     store_found(alloc, context, id, class, instance, found, core, port)
+}
+
+/// A C-STORE-RQ with its data set, in a context of that class. A success is written only behind an arrival that the port
+/// answered New or Again.
+pub fn store<P: DeskPort>(
+    alloc: Global,
+    context: u8,
+    of: Text,
+    id: u16,
+    class: Text,
+    instance: Text,
+    found: Found,
+    core: Core,
+    port: &mut P,
+) -> Result<Effect, AllocError>
+    requires { Fits (StoreRq id class instance) }
+    ensures done { IfOk result (λ e. Turns P.step (stores core context of id class instance found) port.old e port.new) }
+    ensures broke { OnErr result (Broke P.step (stores core context of id class instance found) port.old port.new) }
+    ensures answered { IfOk result (λ e. AnswersStore P.step core context id class instance found port.old e port.new) }
+{
+    let done = store_in(alloc, context, of, id, class, instance, found, core, port)?;
+    Ok(done)
 }
 
 /// The status of the response to a C-ECHO-RQ (PS3.7 9.1.5): its class, where it names one, is the context's.
@@ -175,23 +202,41 @@ pub fn answer_request(
 {
     match command {
         Command::EchoRq { id, class, .. } => {
-            let status = echo_status(&class, &of);
-            let response = Command::EchoRsp {
-                to: id,
-                status,
-                class,
-                has_data: false,
-            };
-            let acts = one(alloc, say(alloc, &core, context, response)?)?;
-            Ok(Effect { acts, core })
+            let done = answer_echo(alloc, context, of, id, class, core)?;
+            Ok(done)
         }
         Command::Other {
             field, id, status, ..
-        } => answer_other(alloc, context, field, id, status, core),
+        } => {
+            let done = answer_other(alloc, context, field, id, status, core)?;
+            Ok(done)
+        }
         Command::StoreRq { .. } => Ok(quiet(alloc, core)),
         Command::StoreRsp { .. } => Ok(quiet(alloc, core)),
         Command::EchoRsp { .. } => Ok(quiet(alloc, core)),
     }
+}
+
+/// The response to a C-ECHO-RQ.
+fn answer_echo(
+    alloc: Global,
+    context: u8,
+    of: Text,
+    id: u16,
+    class: Text,
+    core: Core,
+) -> Result<Effect, AllocError>
+    requires { Fits (EchoRq id class false) }
+    ensures { IfOk result (λ e. e ≡ effect (says core context (EchoRsp id (status_of_echo class of) class false) ∷ []) core) }
+{
+    let response = Command::EchoRsp {
+        to: id,
+        status: echo_status(&class, &of),
+        class,
+        has_data: false,
+    };
+    let acts = one(alloc, say(alloc, &core, context, response)?)?;
+    Ok(Effect { acts, core })
 }
 
 /// A request that isn't known is answered by its field or 8000H; one without an id isn't answered.
@@ -209,9 +254,26 @@ fn answer_other(
     let Some(id) = id else {
         return Ok(quiet(alloc, core));
     };
-    if status.is_some() {
-        return Ok(quiet(alloc, core));
+    match status {
+        Some(_) => Ok(quiet(alloc, core)),
+        None => {
+            let done = answer_unknown(alloc, context, field, id, core)?;
+            Ok(done)
+        }
     }
+}
+
+/// The response to a request that isn't known: unrecognized operation (PS3.7 C.5.12).
+fn answer_unknown(
+    alloc: Global,
+    context: u8,
+    field: u16,
+    id: u16,
+    core: Core,
+) -> Result<Effect, AllocError>
+    requires { Fits (Other field (Some id) None false) }
+    ensures { IfOk result (λ e. e ≡ effect (says core context (Other (0x8000 + field) (Some id) (Some 0x0211) false) ∷ []) core) }
+{
     let response = Command::Other {
         field: answer_field(field),
         id: Some(id),
