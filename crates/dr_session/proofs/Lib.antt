@@ -4,3 +4,5 @@ pub mod Handing
 pub mod InTurn
 pub mod Playing
 pub mod Storing
+pub mod Resting
+pub mod Spelt

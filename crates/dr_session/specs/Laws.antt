@@ -1,5 +1,5 @@
 -- The laws of an end.
-use Rattle.std.specs.Prelude.{◌≡◌, ℕ, false, List, [], ◌∷◌, ◌++◌, map, ◌↔◌, Ok}
+use Rattle.std.specs.Prelude.{◌≡◌, ℕ, false, List, [], ◌∷◌, ◌++◌, map, ◌↔◌, Some, Ok}
 use Rattle.dr_base.specs.Texts.{Text}
 use Rattle.dr_pdu.specs.Feeding.{Feeding}
 use Rattle.dr_dimse.specs.declared.command.Command.TheVariants.{StoreRsp}
@@ -11,7 +11,14 @@ use Rattle.dr_session.specs.declared.ends.Core.{Core}
 use Rattle.dr_session.specs.declared.ends.Effect.{Effect}
 use Rattle.dr_session.specs.Desks.{DeskCall, DeskAnswer, Arrive, Arrival}
 use Rattle.dr_session.specs.declared.ends.Moment.{Moment}
-use Rattle.dr_session.specs.Reactions.{Reaction, says, stores}
+use Rattle.std.specs.List.{AllByRecursion}
+use Rattle.dr_pdu.specs.declared.pdu.Pdu.{Pdu}
+use Rattle.dr_nego.specs.Fragments.{spellings}
+use Rattle.dr_session.specs.declared.ends.LinkAction.{LinkAction}
+use Rattle.dr_session.specs.declared.ends.LinkAction.TheVariants.{Write, Close}
+use Rattle.dr_session.specs.declared.ends.Told.{Told}
+use Rattle.dr_session.specs.Ends.{IsOver}
+use Rattle.dr_session.specs.Reactions.{Reaction, turn, quiet, says, stores}
 use Rattle.dr_session.specs.Turns.{Turns, Run, Makes}
 use Rattle.dr_session.specs.Plays.{PlaysBytes}
 
@@ -44,3 +51,16 @@ pub record AnswersStore {S : Type 0} (step : S → DeskCall → DeskAnswer → S
 abbrev pub SuccessIsOfArrivals : {S : Type 0} → (S → DeskCall → DeskAnswer → S → Type 0) → Type 0
 SuccessIsOfArrivals {S} step = (c : Core) (context : ℕ) (class_of : Text) (id : ℕ) (class instance : Text) (found : Found) (s t : S) (x : Effect)
     → Turns step (stores c context class_of id class instance found) s x t → AnswersStore step c context id class instance found s x t
+
+-- what is written is the spellings of PDUs, joined
+abbrev pub IsSpelled : LinkAction → Type 0
+IsSpelled (Write bytes) = (pdus : List Pdu) × (bytes ≡ spellings pdus)
+IsSpelled Close = Unit {0}
+
+-- each turn writes PDUs, whatever the port answers
+abbrev pub WritesPdus : {S : Type 0} → (S → DeskCall → DeskAnswer → S → Type 0) → Type 0
+WritesPdus {S} step = (at : Moment) (c : Core) (told : Told) (s t : S) (x : Effect) → Turns step (turn at c told) s x t → AllByRecursion IsSpelled x.acts
+
+-- an end that is over writes nothing and calls nothing, whatever it is told
+abbrev pub RestsWhenOver : Type 0
+RestsWhenOver = (at : Moment) (c : Core) (told : Told) → IsOver (Some c) → turn at c told ≡ quiet c
