@@ -2,7 +2,9 @@ pub mod Ending
 pub mod Fitting
 pub mod Handing
 pub mod InTurn
+pub mod Joining
+pub mod Pieces
 pub mod Playing
-pub mod Storing
 pub mod Resting
 pub mod Spelt
+pub mod Storing
