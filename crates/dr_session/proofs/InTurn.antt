@@ -1,5 +1,6 @@
 -- What an end does over inputs, one after the other.
-use Rattle.std.proofs.Common.{◌≡◌, ℕ, Bool, true, false, List, [], ◌∷◌, ◌++◌, map, refl, sym, ap, subst, ◌∙◌, inl, inr, append_assoc}
+use Rattle.std.proofs.Common.{◌≡◌, ℕ, Bool, true, false, List, [], ◌∷◌, ◌++◌, map, length, Result, Ok, Err, refl, sym, ap, subst, ◌∙◌, inl, inr, append_assoc, arith}
+use Rattle.std.specs.Prelude.{OnErr}
 use Rattle.std.proofs.lemmas.List.{append-nil, map-append}
 use Rattle.dr_session.specs.declared.ends.Input.{Input}
 use Rattle.dr_session.specs.declared.ends.LinkAction.{LinkAction}
@@ -46,9 +47,10 @@ module _ {S : Type 0} (step : S → DeskCall → DeskAnswer → S → Type 0) wh
     pub broke : (t : S) → BreaksOff step d left m t → BreaksOff step c all s t
 
   pub toward_all : (c : Core) (all : List At) (s : S) → Toward c all s [] c all s
+  toward_all c all s = record { done = λ later e t h. h; broke = λ t h. h }
+
   pub toward_next : (c : Core) (all front left : List At) (s m u : S) (acts xs : List LinkAction) (d e : Core)
       → Toward c all s acts d (front ++ left) m → Plays step d front m xs e u → Toward c all s (acts ++ xs) e left u
-  toward_all c all s = record { done = λ later e t h. h; broke = λ t h. h }
   toward_next c all front left s m u acts xs d e h plays = record {
     done = λ later f t more. subst (λ (l : List LinkAction). Plays step c all s l f t) (sym (append_assoc acts xs later))
         (h.done (xs ++ later) f t (plays_append front left d e f m u t xs later plays more));
@@ -60,3 +62,42 @@ module _ {S : Type 0} (step : S → DeskCall → DeskAnswer → S → Type 0) wh
 
   pub toward_break : (c d : Core) (all front left : List At) (s m t : S) (acts : List LinkAction) → Toward c all s acts d (front ++ left) m → BreaksOff step d front m t → BreaksOff step c all s t
   toward_break c d all front left s m t acts h broke = h.broke t (breaks_first front left d m t broke)
+
+  -- ---- a loop over inputs at one moment
+
+  pub toward_from : (c : Core) (all left : List At) (s : S) (acts : List LinkAction) → acts ≡ [] → left ≡ all → Toward c all s acts c left s
+  toward_from c all left s acts none same =
+      subst (λ (l : List LinkAction). Toward c all s l c left s) (sym none) (subst (λ (l : List At). Toward c all s [] c l s) (sym same) (toward_all c all s))
+
+  -- some inputs were done
+  pub toward_more : (c d e : Core) (all left front later : List At) (s m u : S) (acts xs new : List LinkAction) → Toward c all s acts d left m → left ≡ front ++ later
+      → Plays step d front m xs e u → new ≡ acts ++ xs → Toward c all s new e later u
+  toward_more c d e all left front later s m u acts xs new h split plays same =
+      subst (λ (l : List LinkAction). Toward c all s l e later u) (sym same)
+      (toward_next c all front later s m u acts xs d e (subst (λ (l : List At). Toward c all s acts d l m) split h) plays)
+
+  -- the next ones were left on the way
+  pub toward_stop : (c d : Core) (all left front later : List At) (s m t : S) (acts : List LinkAction) → Toward c all s acts d left m → left ≡ front ++ later → BreaksOff step d front m t → BreaksOff step c all s t
+  toward_stop c d all left front later s m t acts h split broke =
+      toward_break c d all front later s m t acts (subst (λ (l : List At). Toward c all s acts d l m) split h) broke
+
+  -- the next ones were done, and memory ended behind them
+  pub toward_stop_behind : (c d e : Core) (all left front later : List At) (s m u : S) (acts xs : List LinkAction) → Toward c all s acts d left m → left ≡ front ++ later
+      → Plays step d front m xs e u → BreaksOff step c all s u
+  toward_stop_behind c d e all left front later s m u acts xs h split plays =
+      (toward_more c d e all left front later s m u acts xs (acts ++ xs) h split plays refl).broke u (breaks_none later e u)
+
+  -- nothing is left
+  pub toward_done : (c d : Core) (all left : List At) (s m : S) (acts new : List LinkAction) → Toward c all s acts d left m → left ≡ [] → new ≡ acts → Plays step c all s new d m
+  toward_done c d all left s m acts new h none same =
+      subst (λ (l : List LinkAction). Plays step c all s l d m) (sym same) (toward_end c d all s m acts (subst (λ (l : List At). Toward c all s acts d l m) none h))
+
+-- what holds of a fault holds of a result that is one
+pub on_err : {A E : Type 0} (r : Result A E) (P : Type 0) → P → OnErr r P
+on_err (Ok x) P h = tt
+on_err (Err e) P h = h
+
+-- a loop has come to its end
+pub no_items : {X : Type 0} (items : List X) (n : ℕ) → n ≡ length items → n ≡ 0 → items ≡ []
+no_items [] n e zero = refl
+no_items (x ∷ items) n e zero = absurd (let l : length (x ∷ items) ≡ 0 = sym e ∙ zero in omega arith)

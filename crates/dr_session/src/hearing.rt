@@ -62,8 +62,8 @@ fn hear_values<P: DeskPort>(
     let mut acts = Vec::new(alloc);
     for pdv in pdvs {
         let effect = react(alloc, Input::Value(pdv), core, port, at)?;
-        acts.append(&mut effect.acts.into_vec())?;
         core = effect.core;
+        acts.append(&mut effect.acts.into_vec())?;
     }
     Ok(Effect {
         acts: Seq::from_vec(acts),
@@ -117,8 +117,8 @@ fn hear_pdus<P: DeskPort>(
     let mut acts = Vec::new(alloc);
     for pdu in pdus {
         let effect = hear_pdu(alloc, pdu, core, port, at)?;
-        acts.append(&mut effect.acts.into_vec())?;
         core = effect.core;
+        acts.append(&mut effect.acts.into_vec())?;
     }
     Ok(Effect {
         acts: Seq::from_vec(acts),
