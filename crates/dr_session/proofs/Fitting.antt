@@ -98,4 +98,4 @@ answer_fits rq site others is fits = answered_by rq site (refusal rq site others
 pub small_field : (field id : ℕ) → FieldFits field (Some id) None → field < 0x8000
 small_field field id (inl (cancel, none, n)) = absurd (let e : Some id ≡ None = none in cc)
 small_field field id (inr (inl h)) = h.1
-small_field field id (inr (inr (large, has, n, is, small))) = absurd (let e : None ≡ Some n = is in cc)
+small_field field id (inr (inr (large, id_is, (n, is, small)))) = absurd (let e : None ≡ Some n = is in cc)

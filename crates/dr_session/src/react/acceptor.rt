@@ -1,7 +1,9 @@
 //! What an acceptor does: its answer to a request for an association, and to the messages that it hears.
 ghost use Rattle.std.specs.Prelude.{◌≡◌, ◌∷◌, [], ◌<◌, ◌≤◌, ◌^◌, ◌+◌, IfOk, OnErr, Some, None, false};
+ghost use Rattle.std.specs.Option.{option_map_or};
 ghost use Rattle.dr_dimse.specs.Written.{Fits};
 ghost use Rattle.dr_dimse.specs.declared.command.Command.TheVariants.{StoreRq, StoreRsp, EchoRq, EchoRsp, Other};
+ghost use Rattle.dr_nego.specs.declared.agreed.Agreed.{Agreed as AgreedOn};
 ghost use Rattle.dr_nego.specs.declared.answering.Answer.TheVariants as answers;
 ghost use Rattle.dr_nego.specs.Answering.{answer as answered};
 ghost use Rattle.dr_pdu.specs.Written.{Fits as PduFits};
@@ -40,19 +42,21 @@ fn say(alloc: Global, core: &Core, context: u8, command: Command) -> Result<Link
     requires { Fits command }
     ensures { IfOk result (λ a. a ≡ says core.now context command) }
 {
+    let agreed = Agreed {
+        pairs: Seq::new(alloc),
+        limit: limit_of(core),
+    };
+    let action = write_response(alloc, &agreed, context, &command)?;
+    Ok(action)
+}
+
+/// The greatest length that the other side takes; none where nothing is agreed on.
+fn limit_of(core: &Core) -> u32
+    ensures { result ≡ option_map_or (λ (a : AgreedOn). a.limit) core.now.agreed 0 }
+{
     match &core.agreed {
-        Some(agreed) => {
-            let action = write_response(alloc, agreed, context, &command)?;
-            Ok(action)
-        }
-        None => {
-            let agreed = Agreed {
-                pairs: Seq::new(alloc),
-                limit: 0,
-            };
-            let action = write_response(alloc, &agreed, context, &command)?;
-            Ok(action)
-        }
+        Some(agreed) => agreed.limit,
+        None => 0,
     }
 }
 
@@ -337,10 +341,9 @@ fn accept(
 {
     let acts = one(alloc, write_pdu(alloc, &Pdu::AssociateAc(ac))?)?;
     let front = rq.front;
-    let peer = front.calling;
     let core = Core {
         phase: after(core.phase.accept(at.now)),
-        peer,
+        peer: front.calling,
         agreed: Some(agreed),
         ..core
     };
