@@ -7,7 +7,11 @@ use Rattle.dr_session.specs.declared.ends.LinkAction.{LinkAction}
 use Rattle.dr_session.specs.declared.ends.Core.{Core}
 use Rattle.dr_session.specs.declared.ends.Effect.{Effect}
 use Rattle.dr_session.specs.Desks.{DeskCall, DeskAnswer}
-use Rattle.dr_session.specs.Plays.{At, Reacts, Stops, Plays, BreaksOff}
+use Rattle.std.specs.Prelude.{◌==◌}
+use Rattle.std.proofs.lemmas.Bool.{false≢true, eqb-true}
+use Rattle.dr_pdu.specs.declared.pdu.Pdv.{Pdv}
+use Rattle.dr_session.specs.declared.ends.Input.TheVariants.{Value, NoValue}
+use Rattle.dr_session.specs.Plays.{At, Reacts, Stops, Plays, BreaksOff, values_of}
 
 module _ {S : Type 0} (step : S → DeskCall → DeskAnswer → S → Type 0) where
   pub plays_one : (c : Core) (i : At) (s t : S) (x : Effect) → Reacts step c i s x t → Plays step c (i ∷ []) s x.acts x.core t
@@ -101,3 +105,12 @@ on_err (Err e) P h = h
 pub no_items : {X : Type 0} (items : List X) (n : ℕ) → n ≡ length items → n ≡ 0 → items ≡ []
 no_items [] n e zero = refl
 no_items (x ∷ items) n e zero = absurd (let l : length (x ∷ items) ≡ 0 = sym e ∙ zero in omega arith)
+
+-- the inputs of the values of a P-DATA-TF
+pub values_none : (pdvs : List Pdv) → (length pdvs == 0) ≡ true → values_of pdvs ≡ NoValue ∷ []
+values_none [] e = refl
+values_none (p ∷ ps) e = absurd (let l : length (p ∷ ps) ≡ 0 = eqb-true (length (p ∷ ps)) 0 e in omega (arith, l))
+
+pub values_some : (pdvs : List Pdv) → (length pdvs == 0) ≡ false → values_of pdvs ≡ map Value pdvs
+values_some [] e = absurd (false≢true (sym e))
+values_some (p ∷ ps) e = refl
