@@ -45,6 +45,10 @@ module _ {S : Type 0} (step : S → DeskCall → DeskAnswer → S → Type 0) wh
   breaks_first (i ∷ is) js c s t (inl h) = inl h
   breaks_first (i ∷ is) js c s t (inr (x, m, one, more)) = inr (x, m, one, breaks_first is js x.core m t more)
 
+  -- an input was done, and memory ended behind it
+  pub breaks_behind : (c d : Core) (i : At) (s t : S) (acts : List LinkAction) → Plays step c (i ∷ []) s acts d t → BreaksOff step c (i ∷ []) s t
+  breaks_behind c d i s t acts (x, m, later, one, (none, same, t_is), joined) = inr (x, m, one, t_is)
+
   -- what is still to be done decides what is done of all
   pub record Toward (c : Core) (all : List At) (s : S) (acts : List LinkAction) (d : Core) (left : List At) (m : S) : Type 0 where
     pub done : (later : List LinkAction) (e : Core) (t : S) → Plays step d left m later e t → Plays step c all s (acts ++ later) e t

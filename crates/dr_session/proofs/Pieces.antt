@@ -1,6 +1,7 @@
 -- What is heard of a piece of the bytes.
 use Rattle.std.proofs.Common.{◌≡◌, ◌≢◌, ℕ, Bool, true, false, List, [], ◌∷◌, ◌++◌, map, Result, Ok, Err, refl, sym, ap, subst, ◌∙◌, inl, inr, append_assoc}
-use Rattle.std.specs.Prelude.{◌⊎◌}
+use Rattle.std.specs.Prelude.{◌⊎◌, IfOk, OnErr}
+use Rattle.std.proofs.lemmas.Bool.{false≢true}
 use Rattle.std.specs.List.{flat_map, AllByRecursion}
 use Rattle.std.proofs.lemmas.List.{append-nil, map-append}
 use Rattle.std.proofs.lemmas.List.Concat.{flat_map-append}
@@ -20,8 +21,8 @@ use Rattle.dr_session.specs.declared.ends.Core.{Core}
 use Rattle.dr_session.specs.declared.ends.Effect.{Effect}
 use Rattle.dr_session.specs.declared.ends.Moment.{Moment}
 use Rattle.dr_session.specs.Desks.{DeskCall, DeskAnswer}
-use Rattle.dr_session.specs.Fits.{PduFits}
-use Rattle.dr_session.specs.Plays.{At, Plays, BreaksOff, inputs_of, input_of, IsFault, HearsLast, HearsOn, HearsBy, Hears, PlaysBytes, EndsThere, PlaysOn, IsLast, BreaksOn, BreaksBytes, at_moment}
+use Rattle.dr_session.specs.Fits.{PduFits, InputFits}
+use Rattle.dr_session.specs.Plays.{At, Plays, PlaysMore, BreaksOff, inputs_of, input_of, IsFault, HearsLast, HearsOn, HearsBy, Hears, PlaysBytes, EndsThere, PlaysOn, IsLast, BreaksOn, BreaksBytes, at_moment}
 use Rattle.dr_session.proofs.InTurn.{plays_append, breaks_none, breaks_later, breaks_first}
 
 -- ---- what was read can be written
@@ -161,3 +162,65 @@ module _ {S : Type 0} (step : S → DeskCall → DeskAnswer → S → Type 0) (a
     subst (λ (is : List At). BreaksOff step c is s t) (sym (map-append (at_moment at) (flat_map inputs_of pdus) (input_of fault ∷ [])))
         (breaks_later step (ins (flat_map inputs_of pdus)) (at_moment at (input_of fault) ∷ []) c d s m t acts first broke),
   )
+
+  -- one more input behind the PDUs, the fault
+  pub on_fault_more : (old : Feeding) (pdus : List Pdu) (fault : PduFault) (input : Input) (c : Core) (s m t : S) (new : Feeding) (first x : Effect) → IsFault fault → Shows old.limit (old.kept ++ []) fault
+      → new ≡ record { limit = old.limit; failed = true; kept = [] } → input ≡ input_of fault → Plays step c (ins (flat_map inputs_of pdus)) s first.acts first.core m
+      → PlaysMore step first (at_moment at input) m x t → PlaysOn step at old pdus c s new x t
+  on_fault_more old pdus fault input c s m t new first x is shows e says plays (more, last, acts) =
+      subst (λ (l : List LinkAction). PlaysOn step at old pdus c s new (record { acts = l; core = x.core }) t) (sym acts)
+      (on_fault old pdus fault c first.core s m t new first.acts (record { acts = more; core = x.core }) is shows e plays (subst (λ (i : Input). Plays step first.core (at_moment at i ∷ []) m more x.core t) says last))
+
+  pub on_fault_broke : (old : Feeding) (pdus : List Pdu) (fault : PduFault) (input : Input) (c : Core) (s m t : S) (first : Effect) → IsFault fault → Shows old.limit (old.kept ++ []) fault
+      → input ≡ input_of fault → Plays step c (ins (flat_map inputs_of pdus)) s first.acts first.core m → BreaksOff step first.core (at_moment at input ∷ []) m t → BreaksOn step at old pdus c s t
+  on_fault_broke old pdus fault input c s m t first is shows says plays broke =
+      on_broke_fault old pdus fault c first.core s m t first.acts is shows plays (subst (λ (i : Input). BreaksOff step first.core (at_moment at i ∷ []) m t) says broke)
+
+-- ---- a call of the feeder that answers a fault
+
+-- it had not failed before, as the bytes show it now
+pub record Refused (old : Feeding) (piece : List ℕ) (fault : PduFault) (new : Feeding) : Type 0 where
+  pub is : IsFault fault
+  pub works : old.failed ≡ false
+  pub shows : Shows old.limit (old.kept ++ piece) fault
+  pub after : new ≡ record { limit = old.limit; failed = true; kept = [] }
+
+pub refused : (old : Feeding) (piece : List ℕ) (fault : PduFault) (new : Feeding) → fault ≢ More → fault ≢ Memory → fault ≢ Failed → Feeds old piece (Err fault) new → Refused old piece fault new
+refused old piece More new a b c f = absurd (a refl)
+refused old piece Memory new a b c f = absurd (b refl)
+refused old piece Failed new a b c f = absurd (c refl)
+refused old piece UnknownType new a b c (works, shows, after) = record { is = tt; works = works; shows = shows; after = after }
+refused old piece TooLong new a b c (works, shows, after) = record { is = tt; works = works; shows = shows; after = after }
+refused old piece BadItem new a b c (works, shows, after) = record { is = tt; works = works; shows = shows; after = after }
+refused old piece BadContextId new a b c (works, shows, after) = record { is = tt; works = works; shows = shows; after = after }
+
+pub more_never : (old : Feeding) (piece : List ℕ) (fault : PduFault) (new : Feeding) → fault ≡ More → Feeds old piece (Err fault) new → ⊥
+more_never old piece fault new e f = subst (λ (x : PduFault). Feeds old piece (Err x) new) e f
+
+pub failed_never : (old : Feeding) (piece : List ℕ) (fault : PduFault) (new : Feeding) → old.failed ≡ false → fault ≡ Failed → Feeds old piece (Err fault) new → ⊥
+failed_never old piece fault new works e f = let h : Feeds old piece (Err Failed) new = subst (λ (x : PduFault). Feeds old piece (Err x) new) e f in false≢true (sym works ∙ h.0)
+
+pub failed_before : (old : Feeding) (piece : List ℕ) (fault : PduFault) (new : Feeding) → fault ≡ Failed → Feeds old piece (Err fault) new → (old.failed ≡ true) × (new ≡ old)
+failed_before old piece fault new e f = subst (λ (x : PduFault). Feeds old piece (Err x) new) e f
+
+pub fault_fits : (input : Input) (fault : PduFault) → input ≡ input_of fault → InputFits input
+fault_fits input fault e = subst InputFits (sym e) (by_fault fault)
+  where
+    by_fault : (f : PduFault) → InputFits (input_of f)
+    by_fault More = tt
+    by_fault Memory = tt
+    by_fault Failed = tt
+    by_fault UnknownType = tt
+    by_fault TooLong = tt
+    by_fault BadItem = tt
+    by_fault BadContextId = tt
+
+-- ---- clauses on results
+
+pub if_ok : {A E : Type 0} (r : Result A E) (P Q : A → Type 0) → ((x : A) → P x → Q x) → IfOk r P → IfOk r Q
+if_ok (Ok x) P Q on h = on x h
+if_ok (Err e) P Q on h = tt
+
+pub if_err : {A E : Type 0} (r : Result A E) (P Q : Type 0) → (P → Q) → OnErr r P → OnErr r Q
+if_err (Ok x) P Q on h = tt
+if_err (Err e) P Q on h = on h

@@ -1,15 +1,24 @@
 //! One end of a link, whole.
-ghost use Rattle.std.specs.Prelude.{◌≡◌, ◌≤◌, ◌^◌, IfOk};
+ghost use Rattle.std.specs.Prelude.{◌≡◌, ◌∷◌, [], ◌≤◌, ◌^◌, IfOk};
 ghost use Rattle.dr_session.specs.Fits.{InputFits};
-ghost use Rattle.dr_session.specs.Ends.{accepting, begins, unmarked as no_marks, Meets, HearsOf, HearsBytes, TakesCore, state_in, over_of, ended_by};
+ghost use Rattle.dr_network.specs.Formed.{IsName};
+ghost use Rattle.dr_nego.specs.Proposing.{echo_proposal};
+ghost use Rattle.dr_pdu.specs.Written.{Fits};
+ghost use Rattle.dr_pdu.specs.declared.pdu.Pdu.TheVariants as pdu;
+ghost use Rattle.dr_session.specs.Ends.{accepting, requesting, requesting_echo, begins, unmarked as no_marks, Requests, Meets, HearsOf, HearsBytes, TakesCore, EchoesIn, is_free_in, is_dry_in, state_in, over_of, ended_by};
+ghost use Rattle.dr_session.specs.Reactions.{write};
 
+use crate::echoing::{ask_echo, is_free};
 use crate::ends::{Core, Ended, Heard, Input, LinkAction, Marks, Moment, Over};
 use crate::hearing::{hear, react};
 use crate::listening::Listener;
 use crate::port::DeskPort;
+use crate::react::one;
+use crate::writing::write_pdu;
 use dr_base::{Seq, Text};
 use dr_dimse::Awaited;
-use dr_pdu::Feeder;
+use dr_nego::{NegoFault, propose, propose_echo};
+use dr_pdu::{AssociateRq, Feeder, Pdu};
 use dr_site::Site;
 use dr_ulstate::{Assoc, Next, Opening, State};
 use std::alloc::{AllocError, Global};
@@ -31,6 +40,9 @@ impl Model for End {
 
     ghost view = { λ e. record { ear = e.ear; core = e.core } };
 }
+
+/// The greatest length, in bytes, of the P-DATA-TF PDUs that the requestor of an echo takes.
+const ECHO_LIMIT: u32 = 16_384;
 
 /// No mark.
 fn unmarked() -> Marks
@@ -71,6 +83,54 @@ impl End {
         }
     }
 
+    /// The requestor of an association for a hop of the site, whose transport connection is open at this moment, in
+    /// milliseconds. Its request goes out at once.
+    ///
+    /// Errors: NoHop where the site has no hop to that node; Memory.
+    pub fn request(
+        alloc: Global,
+        site: Site,
+        dest: &Text,
+        now: u64,
+    ) -> Result<(End, Seq<LinkAction>), NegoFault>
+        ensures { Requests site dest.now now result }
+    {
+        let proposal = propose(alloc, &site, dest)?;
+        let (proposal, actions) = write_request(alloc, proposal)?;
+        let ear = Feeder::new(alloc, site.max_pdu());
+        let core = requestor(alloc, Some(site), dest.clone()?, proposal, now);
+        let end = End {
+            alloc,
+            ear,
+            core: Some(core),
+        };
+        Ok((end, actions))
+    }
+
+    /// The requestor of an echo between nodes of those names. It proposes Verification in context 1, in the implicit syntax
+    /// alone, and takes P-DATA-TF PDUs of at most 16,384 bytes.
+    pub fn request_echo(
+        alloc: Global,
+        caller: &Text,
+        called: &Text,
+        now: u64,
+    ) -> Result<(End, Seq<LinkAction>), AllocError>
+        requires caller { IsName caller.now }
+        requires called { IsName called.now }
+        ensures end { IfOk result (λ r. r.0 ≡ requesting_echo caller.now called.now now) }
+        ensures actions { IfOk result (λ r. r.1 ≡ write (pdu.AssociateRq (echo_proposal caller.now called.now) ∷ []) ∷ []) }
+    {
+        let proposal = propose_echo(alloc, caller, called)?;
+        let (proposal, actions) = write_request(alloc, proposal)?;
+        let core = requestor(alloc, None, called.clone()?, proposal, now);
+        let end = End {
+            alloc,
+            ear: Feeder::new(alloc, ECHO_LIMIT),
+            core: Some(core),
+        };
+        Ok((end, actions))
+    }
+
     /// The state in which it is (PS3.8 9.2.1); it takes no memory.
     pub fn state(&self) -> State
         ensures { result ≡ state_in self.now.core }
@@ -95,6 +155,41 @@ impl End {
             return Some(Over::Desk);
         }
         Some(Over::Ended(ended(&core.marks)))
+    }
+
+    /// Whether it is a requestor's end that may send: established, with nothing pending. It takes no memory.
+    pub fn is_free(&self) -> bool
+        ensures { result ≡ is_free_in self.now.core }
+    {
+        match &self.core {
+            Some(core) => is_free(core),
+            None => false,
+        }
+    }
+
+    /// Whether a push has found no row due. It takes no memory.
+    pub fn is_dry(&self) -> bool
+        ensures { result ≡ is_dry_in self.now.core }
+    {
+        match &self.core {
+            Some(core) => core.dry,
+            None => false,
+        }
+    }
+
+    /// A C-ECHO-RQ is sent, where it is a requestor's end that may send and has a context of Verification.
+    pub fn echo(&mut self, now: u64) -> Result<Seq<LinkAction>, AllocError>
+        ensures { EchoesIn self.old.core now self.old result self.new }
+    {
+        if !self.is_free() {
+            return Ok(Seq::new(self.alloc));
+        }
+        let Some(core) = self.core.take() else {
+            return Ok(Seq::new(self.alloc));
+        };
+        let effect = ask_echo(self.alloc, core, now)?;
+        self.core = Some(effect.core);
+        Ok(effect.acts)
     }
 
     /// What comes over the link at a moment (of at most 2^62 milliseconds), while the node has so many other associations
@@ -204,6 +299,51 @@ impl End {
         }
         self.core.take()
     }
+}
+
+/// A requestor that has sent its request at that moment.
+fn requestor(
+    alloc: Global,
+    site: Option<Site>,
+    peer: Text,
+    proposal: AssociateRq,
+    now: u64,
+) -> Core
+    ensures { result ≡ requesting site peer proposal now }
+{
+    let (_, opening) = Assoc::<Opening>::request(now);
+    let (_, asked) = opening.connected(now);
+    Core {
+        peer,
+        phase: Next::Asked(asked),
+        proposed: Some(proposal),
+        agreed: None,
+        assembly: Listener::new(alloc, Awaited::Nothing),
+        pending: None,
+        last: 0,
+        awaits: Some(now),
+        dry: false,
+        marks: unmarked(),
+        site,
+    }
+}
+
+/// A request, and what writes it.
+fn write_request(
+    alloc: Global,
+    proposal: AssociateRq,
+) -> Result<(AssociateRq, Seq<LinkAction>), AllocError>
+    requires { Fits (pdu.AssociateRq proposal) }
+    ensures same { IfOk result (λ r. r.0 ≡ proposal) }
+    ensures actions { IfOk result (λ r. r.1 ≡ write (pdu.AssociateRq proposal ∷ []) ∷ []) }
+{
+    let pdu = Pdu::AssociateRq(proposal);
+    let action = write_pdu(alloc, &pdu)?;
+    let actions = one(alloc, action)?;
+    let Pdu::AssociateRq(proposal) = pdu else {
+        unreachable!()
+    };
+    Ok((proposal, actions))
 }
 
 /// How the association ended, by what was written and read.

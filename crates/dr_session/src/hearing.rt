@@ -2,7 +2,7 @@
 ghost use Rattle.std.specs.Prelude.{◌≡◌, ◌∷◌, [], ◌≤◌, ◌^◌, IfOk, OnErr, map};
 ghost use Rattle.std.specs.List.{AllByRecursion, flat_map};
 ghost use Rattle.dr_session.specs.Fits.{InputFits, PduFits};
-ghost use Rattle.dr_session.specs.Plays.{Reacts, Stops, Plays, BreaksOff, PlaysBytes, BreaksBytes, PlaysOn, BreaksOn, EndsThere, at_moment, inputs_of, input_of};
+ghost use Rattle.dr_session.specs.Plays.{Reacts, Stops, Plays, PlaysMore, BreaksOff, PlaysBytes, BreaksBytes, PlaysOn, BreaksOn, EndsThere, at_moment, inputs_of, input_of};
 
 use crate::ends::{Core, Effect, Input, Moment};
 use crate::port::DeskPort;
@@ -187,15 +187,31 @@ fn hear_on<P: DeskPort>(
             PduFault::Memory => Err(AllocError),
             PduFault::Failed => unreachable!(),
             PduFault::More => unreachable!(),
-            _ => {
-                let last = hear_one(alloc, fault_input(fault), first.core, port, at)?;
-                let mut acts = first.acts.into_vec();
-                acts.append(&mut last.acts.into_vec())?;
-                Ok(Effect {
-                    acts: Seq::from_vec(acts),
-                    core: last.core,
-                })
-            }
+            _ => hear_more(alloc, first, fault_input(fault), port, at),
         },
     }
+}
+
+/// One more input, behind what was done.
+fn hear_more<P: DeskPort>(
+    alloc: Global,
+    first: Effect,
+    input: Input,
+    port: &mut P,
+    at: Moment,
+) -> Result<Effect, AllocError>
+    requires now { at.now ≤ 2 ^ 62 }
+    requires fits { InputFits input }
+    ensures done { IfOk result (λ e. PlaysMore P.step first (at_moment at input) port.old e port.new) }
+    ensures broke { OnErr result (BreaksOff P.step first.core (at_moment at input ∷ []) port.old port.new) }
+{
+    let Effect { acts, core } = first;
+    let last = hear_one(alloc, input, core, port, at)?;
+    let mut all = acts.into_vec();
+    let core = last.core;
+    all.append(&mut last.acts.into_vec())?;
+    Ok(Effect {
+        acts: Seq::from_vec(all),
+        core,
+    })
 }

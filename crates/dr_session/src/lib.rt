@@ -2,6 +2,7 @@
 #![tactic(auto)]
 
 pub mod desk;
+pub mod echoing;
 pub mod end;
 pub mod ends;
 pub mod figures;

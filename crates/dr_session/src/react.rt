@@ -4,5 +4,6 @@ mod leaving;
 mod requestor;
 mod turning;
 
-pub use leaving::quiet;
+pub use leaving::{one, quiet};
+pub use requestor::{await_response, next_id};
 pub use turning::take_turn;

@@ -132,14 +132,14 @@ fn settle_core(core: Core) -> Core
 }
 
 /// The message id after this one: from 1 to 65,535, and then from 1 again.
-fn next_id(last: u16) -> u16
+pub fn next_id(last: u16) -> u16
     ensures { result ≡ id_after last }
 {
     if last == 65535 { 1 } else { last + 1 }
 }
 
 /// A store is under way, and its response is awaited.
-fn await_response(core: Core, id: u16, uid: Text, now: u64) -> Core
+pub fn await_response(core: Core, id: u16, uid: Text, now: u64) -> Core
     ensures { result ≡ awaiting (pending id uid) now core }
 {
     let mut assembly = core.assembly;

@@ -1,0 +1,4 @@
+use Rattle.dr_session.proofs.hearing.hear.Goals as goal
+
+pub nothing : goal.nothing
+nothing g c = ?
