@@ -1,7 +1,7 @@
 -- What is heard of a piece of the bytes.
-use Rattle.std.proofs.Common.{◌≡◌, ◌≢◌, ℕ, Bool, true, false, List, [], ◌∷◌, ◌++◌, map, Result, Ok, Err, refl, sym, ap, subst, ◌∙◌, inl, inr, append_assoc}
-use Rattle.std.specs.Prelude.{◌⊎◌, IfOk, OnErr}
-use Rattle.std.proofs.lemmas.Bool.{false≢true}
+use Rattle.std.proofs.Common.{◌≡◌, ◌≢◌, ℕ, Bool, true, false, List, [], ◌∷◌, ◌++◌, map, length, Result, Ok, Err, refl, sym, ap, subst, ◌∙◌, inl, inr, append_assoc, arith}
+use Rattle.std.specs.Prelude.{◌⊎◌, ◌==◌, IfOk, OnErr}
+use Rattle.std.proofs.lemmas.Bool.{false≢true, eqb-true}
 use Rattle.std.specs.List.{flat_map, AllByRecursion}
 use Rattle.std.proofs.lemmas.List.{append-nil, map-append}
 use Rattle.std.proofs.lemmas.List.Concat.{flat_map-append}
@@ -175,6 +175,17 @@ module _ {S : Type 0} (step : S → DeskCall → DeskAnswer → S → Type 0) (a
       → input ≡ input_of fault → Plays step c (ins (flat_map inputs_of pdus)) s first.acts first.core m → BreaksOff step first.core (at_moment at input ∷ []) m t → BreaksOn step at old pdus c s t
   on_fault_broke old pdus fault input c s m t first is shows says plays broke =
       on_broke_fault old pdus fault c first.core s m t first.acts is shows plays (subst (λ (i : Input). BreaksOff step first.core (at_moment at i ∷ []) m t) says broke)
+
+-- ---- a call of the feeder that answers PDUs
+
+pub nothing_fed : (pdus : List Pdu) → (length pdus == 0) ≡ true → pdus ≡ []
+nothing_fed [] e = refl
+nothing_fed (p ∷ ps) e = absurd (let l : length (p ∷ ps) ≡ 0 = eqb-true (length (p ∷ ps)) 0 e in omega (arith, l))
+
+pub ends_there : (old : Feeding) (piece : List ℕ) (pdus : List Pdu) (new : Feeding) → Feeds old piece (Ok pdus) new → EndsThere new
+ends_there old piece pdus new (works, units, more, still, limit) =
+    let P : ℕ → Type 0 = λ k. (p : Pdu) (after : List ℕ) → StartsPdu k new.kept p after → ⊥ in
+    (still, subst P (sym limit) units.1)
 
 -- ---- a call of the feeder that answers a fault
 

@@ -164,12 +164,12 @@ EchoesIn (Some c) now old result new = EchoesBy (is_free c) now c old result new
 -- ---- how it begins
 
 -- a requestor's end for a hop of the site, which asks for the association at once; or there is none
-abbrev pub Requests : Part → Text → ℕ → Result (Terminal × List LinkAction) NegoFault → Type 0
-Requests site dest now (Ok x) = (rq : AssociateRq) × IsProposal site dest rq × (x.0 ≡ begins site.max_pdu (requesting (Some site) dest rq now))
+abbrev pub OpensTo : Part → Text → ℕ → Result (Terminal × List LinkAction) NegoFault → Type 0
+OpensTo site dest now (Ok x) = (rq : AssociateRq) × IsProposal site dest rq × (x.0 ≡ begins site.max_pdu (requesting (Some site) dest rq now))
     × (x.1 ≡ write (pdu.AssociateRq rq ∷ []) ∷ [])
-Requests site dest now (Err NoHop) = (hop : Hop) → IsHopTo site dest hop → ⊥
-Requests site dest now (Err Memory) = Unit {0}
-Requests site dest now (Err why) = ⊥
+OpensTo site dest now (Err NoHop) = (hop : Hop) → IsHopTo site dest hop → ⊥
+OpensTo site dest now (Err Memory) = Unit {0}
+OpensTo site dest now (Err why) = ⊥
 
 -- a requestor's end for an echo between nodes of those names, which takes PDUs of at most 16,384 bytes
 abbrev pub requesting_echo : Text → Text → ℕ → Terminal

@@ -5,7 +5,7 @@ ghost use Rattle.dr_network.specs.Formed.{IsName};
 ghost use Rattle.dr_nego.specs.Proposing.{echo_proposal};
 ghost use Rattle.dr_pdu.specs.Written.{Fits};
 ghost use Rattle.dr_pdu.specs.declared.pdu.Pdu.TheVariants as pdu;
-ghost use Rattle.dr_session.specs.Ends.{accepting, requesting, requesting_echo, begins, unmarked as no_marks, Requests, Meets, HearsOf, HearsBytes, TakesCore, EchoesIn, is_free_in, is_dry_in, state_in, over_of, ended_by};
+ghost use Rattle.dr_session.specs.Ends.{accepting, requesting, requesting_echo, begins, unmarked as no_marks, OpensTo, Meets, HearsOf, HearsBytes, TakesCore, EchoesIn, is_free_in, is_dry_in, state_in, over_of, ended_by};
 ghost use Rattle.dr_session.specs.Reactions.{write};
 
 use crate::echoing::{ask_echo, is_free};
@@ -93,7 +93,7 @@ impl End {
         dest: &Text,
         now: u64,
     ) -> Result<(End, Seq<LinkAction>), NegoFault>
-        ensures { Requests site dest.now now result }
+        ensures { OpensTo site dest.now now result }
     {
         let proposal = propose(alloc, &site, dest)?;
         let (proposal, actions) = write_request(alloc, proposal)?;
