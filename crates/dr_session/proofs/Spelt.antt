@@ -1,14 +1,19 @@
 -- Whatever a desk answers, an end writes spellings of PDUs.
 use Rattle.std.proofs.Common.{◌≡◌, ℕ, Bool, true, false, List, [], ◌∷◌, Option, Some, None, Result, Ok, Err, refl, sym, subst}
-use Rattle.std.specs.Prelude.{if◌then◌else◌}
+use Rattle.std.specs.Prelude.{◌+◌, if◌then◌else◌}
+use Rattle.std.specs.Option.{option_map_or}
+use Rattle.std.specs.Str.{bytes_eq}
+use Rattle.dr_base.specs.Syntaxes.{syntax_uid}
 use Rattle.std.specs.List.{AllByRecursion}
 use Rattle.dr_base.specs.Texts.{Text}
 use Rattle.dr_ulstate.specs.declared.table.Event.{Event}
+use Rattle.dr_ulstate.specs.declared.table.Event.TheVariants.{ReleaseResponse, AbortRequest}
 use Rattle.dr_ulstate.specs.declared.table.Action.{Action}
 use Rattle.dr_ulstate.specs.declared.table.Action.TheVariants.{Ae1, Ae2, Ae3, Ae4, Ae5, Ae6, Ae7, Ae8, Dt1, Dt2, Ar1, Ar2, Ar3, Ar4, Ar5, Ar6, Ar7, Ar8, Ar9, Ar10, Aa1, Aa2, Aa3, Aa4, Aa5, Aa6, Aa7, Aa8}
 use Rattle.dr_ulstate.specs.declared.phase.Next.{Next}
 use Rattle.dr_ulstate.specs.Phases.{next_stepped}
 use Rattle.dr_pdu.specs.declared.pdu.Pdu.{Pdu}
+use Rattle.dr_pdu.specs.declared.pdu.Pdu.TheVariants as pdu
 use Rattle.dr_dimse.specs.declared.command.Command.{Command}
 use Rattle.dr_dimse.specs.declared.command.Command.TheVariants.{StoreRq, StoreRsp, EchoRq, EchoRsp, Other}
 use Rattle.dr_dimse.specs.Commands as commands
@@ -22,7 +27,7 @@ use Rattle.dr_nego.specs.declared.answering.Answer.{Answer}
 use Rattle.dr_nego.specs.declared.answering.Answer.TheVariants.{Accept, Reject, TooSmall}
 use Rattle.dr_nego.specs.declared.fault.NegoFault.{NegoFault}
 use Rattle.dr_nego.specs.declared.fault.NegoFault.TheVariants as negofault
-use Rattle.dr_nego.specs.Agreeing.{AssociateRq}
+use Rattle.dr_nego.specs.Agreeing.{AssociateRq, context_for}
 use Rattle.dr_nego.specs.Answering.{answer}
 use Rattle.dr_session.specs.declared.ends.Core.{Core}
 use Rattle.dr_session.specs.declared.ends.Effect.{Effect}
@@ -35,8 +40,10 @@ use Rattle.dr_session.specs.declared.ends.Moment.{Moment}
 use Rattle.dr_session.specs.declared.ends.Pending.{Pending}
 use Rattle.dr_session.specs.declared.ends.Told.{Told}
 use Rattle.dr_session.specs.declared.ends.Told.TheVariants.{Plain, Quiet, Fault, Strange, Store, Whole, Agreement}
-use Rattle.dr_session.specs.Desks.{DeskCall, DeskAnswer, Arrival, Upcoming, Settling}
-use Rattle.dr_session.specs.Reactions.{Reaction, turn, occurs, moves, acts, hears, stores, arrives, brings, requested, requested_other, replied, decides, decides_at, agrees, pushes, due, gives, gives_in, refuses, refused, collides, leaves_by, aborts, settling, arrival, job, write, event_of}
+use Rattle.dr_session.specs.Desks.{DeskCall, DeskAnswer, Arrive, Arrival, Upcoming, Settling}
+use Rattle.dr_session.specs.Reactions.{Reaction, turn, occurs, moves, acts, hears, stores, stored, status_of, arrives, brings, is_named, requested, requested_other, echo_status, replied, decides, decides_at, rj, agrees, due, gives, gives_in, store_pdus, id_after, refused, leaves_by, aborts, aborts_desk, abort_pdu, aborted, released, desk_failed, settled_with, left, stepped_by, noted, reason_of, says, settling, arrival, job, write, effect, quiet, is_requestor, is_taken, event_of, rejected as marked}
+use Rattle.dr_session.specs.Messages.{command_pdus}
+use Rattle.dr_session.specs.declared.ends.LinkAction.TheVariants.{Write, Close}
 use Rattle.dr_session.specs.Turns.{Turn, Ends, Asks, Fails, Turns}
 use Rattle.dr_session.specs.Laws.{IsSpelled, WritesPdus}
 
@@ -55,6 +62,9 @@ ends_spelled step (Asks call follow) s t x h (reply, m, one, more) = ends_spelle
 
 wrote : (pdus : List Pdu) → AllByRecursion IsSpelled (write pdus ∷ [])
 wrote pdus = ((pdus, refl), tt)
+
+said : (c : Core) (context : ℕ) (command : Command) → AllByRecursion IsSpelled (says c context command ∷ [])
+said c context command = wrote (command_pdus (option_map_or (λ (a : Agreed). a.limit) c.agreed 0) context command)
 
 either : (b : Bool) (x y : Reaction) → Spells x → Spells y → Spells (if b then x else y)
 either true x y h k = h
@@ -86,13 +96,13 @@ leaving None now done c h = h
 leaving (Some p) now done c h = λ reply. settled _ _ h h reply
 
 aborting : (at : Moment) (c : Core) → Spells (aborts at c)
-aborting at c = leaving c.pending at.now _ _ (wrote _)
+aborting at c = leaving c.pending at.now (write (abort_pdu 0 0 ∷ []) ∷ []) (aborted (stepped_by AbortRequest at.now c)) (wrote (abort_pdu 0 0 ∷ []))
 
 -- ---- reactions
 
 deciding : (a : Answer) (at : Moment) (rq : AssociateRq) (c : Core) → Spells (decides a at rq c)
-deciding (Accept ac agreed) at rq c = wrote _
-deciding (Reject result source reason) at rq c = wrote _
+deciding (Accept ac agreed) at rq c = wrote (pdu.AssociateAc ac ∷ [])
+deciding (Reject result source reason) at rq c = wrote (pdu.AssociateRj (rj result source reason) ∷ [])
 deciding TooSmall at rq c = aborting at c
 
 deciding_at : (site : Option Part) (at : Moment) (rq : AssociateRq) (c : Core) → Spells (decides_at site at rq c)
@@ -100,36 +110,43 @@ deciding_at (Some site) at rq c = deciding (answer rq site at.others) at rq c
 deciding_at None at rq c = tt
 
 bringing : (c : Core) (context id : ℕ) (class instance : Text) (item : Job) → Spells (brings c context id class instance item)
-bringing c context id class instance item = either _ _ _ (λ reply. came _ (λ r. wrote _) reply) (wrote _)
+bringing c context id class instance item =
+    let follow : Result Arrived LedgerFault → Reaction = λ r. Ends (stored c context id class instance (status_of r)) in
+    either (is_named item class instance) (Asks (Arrive c.peer item) (arrival follow)) (Ends (stored c context id class instance 0xA900))
+        (λ reply. came follow (λ r. said c context (StoreRsp id (status_of r) class instance false)) reply)
+        (said c context (StoreRsp id 0xA900 class instance false))
 
 arriving : (c : Core) (context id : ℕ) (class instance : Text) (found : Found) → Spells (arrives c context id class instance found)
-arriving c context id class instance TooLarge = wrote _
-arriving c context id class instance Unreadable = wrote _
+arriving c context id class instance TooLarge = said c context (StoreRsp id 0xA700 class instance false)
+arriving c context id class instance Unreadable = said c context (StoreRsp id 0xC000 class instance false)
 arriving c context id class instance (Read item) = bringing c context id class instance item
 
 storing : (c : Core) (context : ℕ) (of : Text) (id : ℕ) (class instance : Text) (found : Found) → Spells (stores c context of id class instance found)
-storing c context of id class instance found = either _ _ _ (arriving c context id class instance found) (wrote _)
+storing c context of id class instance found =
+    either (bytes_eq class of) (arrives c context id class instance found) (Ends (stored c context id class instance 0x0122))
+        (arriving c context id class instance found) (said c context (StoreRsp id 0x0122 class instance false))
 
 asked_other : (c : Core) (context field : ℕ) (id status : Option ℕ) → Spells (requested_other c context field id status)
-asked_other c context field (Some id) None = wrote _
+asked_other c context field (Some id) None = said c context (Other (0x8000 + field) (Some id) (Some 0x0211) false)
 asked_other c context field (Some id) (Some status) = tt
 asked_other c context field None status = tt
 
 asked : (c : Core) (context : ℕ) (of : Text) (command : Command) → Spells (requested c context of command)
-asked c context of (EchoRq id class has_data) = wrote _
+asked c context of (EchoRq id class has_data) = said c context (EchoRsp id (echo_status class of) class false)
 asked c context of (Other field id status has_data) = asked_other c context field id status
 asked c context of (StoreRq id class instance) = tt
 asked c context of (StoreRsp to status class instance has_data) = tt
 asked c context of (EchoRsp to status class has_data) = tt
 
 answered : (p : Option Pending) (status : Option ℕ) (at : Moment) (c : Core) → Spells (replied p status at c)
-answered (Some p) (Some status) at c = λ reply. settled _ _ tt (wrote _) reply
+answered (Some p) (Some status) at c = λ reply. settled (Ends (effect [] (settled_with c))) (aborts_desk at c) tt (wrote (abort_pdu 0 0 ∷ [])) reply
 answered (Some p) None at c = aborting at c
 answered None status at c = aborting at c
 
 hearing : (told : Told) (at : Moment) (c : Core) → Spells (hears told at c)
 hearing (Store context of id class instance found) at c = storing c context of id class instance found
-hearing (Whole context of command) at c = either _ _ _ (answered c.pending (commands.status_of command) at c) (asked c context of command)
+hearing (Whole context of command) at c =
+    either (is_requestor c) (replied c.pending (commands.status_of command) at c) (requested c context of command) (answered c.pending (commands.status_of command) at c) (asked c context of command)
 hearing Fault at c = aborting at c
 hearing (Plain i) at c = tt
 hearing Quiet at c = tt
@@ -137,25 +154,25 @@ hearing Strange at c = tt
 hearing (Agreement a) at c = tt
 
 giving_in : (context : Option ℕ) (agreed : Agreed) (at : Moment) (item : Job) (c : Core) → Spells (gives_in context agreed at item c)
-giving_in (Some context) agreed at item c = wrote _
-giving_in None agreed at item c = λ reply. settled _ _ tt (wrote _) reply
+giving_in (Some context) agreed at item c = wrote (store_pdus agreed context (id_after c.last) item)
+giving_in None agreed at item c = λ reply. settled (quiet c) (aborts_desk at c) tt (wrote (abort_pdu 0 0 ∷ [])) reply
 
 giving : (agreed : Option Agreed) (at : Moment) (item : Job) (c : Core) → Spells (gives agreed at item c)
-giving (Some agreed) at item c = giving_in _ agreed at item c
+giving (Some agreed) at item c = giving_in (context_for agreed item.key.class (syntax_uid item.key.syntax)) agreed at item c
 giving None at item c = tt
 
 pushing : (at : Moment) (c : Core) (d : Result (Option Job) LedgerFault) → Spells (due at c d)
 pushing at c (Ok (Some item)) = giving c.agreed at item c
 pushing at c (Ok None) = tt
 pushing at c (Err fault.Memory) = tt
-pushing at c (Err fault.NoLine) = wrote _
-pushing at c (Err fault.Conflict) = wrote _
-pushing at c (Err fault.Store) = wrote _
-pushing at c (Err fault.NotWaiting) = wrote _
-pushing at c (Err fault.NotHeld) = wrote _
+pushing at c (Err fault.NoLine) = wrote (abort_pdu 0 0 ∷ [])
+pushing at c (Err fault.Conflict) = wrote (abort_pdu 0 0 ∷ [])
+pushing at c (Err fault.Store) = wrote (abort_pdu 0 0 ∷ [])
+pushing at c (Err fault.NotWaiting) = wrote (abort_pdu 0 0 ∷ [])
+pushing at c (Err fault.NotHeld) = wrote (abort_pdu 0 0 ∷ [])
 
 refusing : (at : Moment) (c : Core) (d : Result (Option Job) LedgerFault) → Spells (refused at c d)
-refusing at c (Ok (Some item)) = λ reply. settled _ _ (tt, tt) (tt, tt) reply
+refusing at c (Ok (Some item)) = λ reply. settled (Ends (effect (Close ∷ []) c)) (Ends (effect (Close ∷ []) (desk_failed c))) (tt, tt) (tt, tt) reply
 refusing at c (Ok None) = (tt, tt)
 refusing at c (Err fault.Memory) = tt
 refusing at c (Err fault.NoLine) = (tt, tt)
@@ -184,7 +201,7 @@ accepted (Store context of id class instance found) at c = tt
 accepted (Whole context of command) at c = tt
 
 rejected_by : (i : Input) (at : Moment) (c : Core) → Spells (acts Ae4 at (Plain i) c)
-rejected_by (input.Rejection rj) at c = λ reply. handed _ (λ d. refusing at _ d) reply
+rejected_by (input.Rejection rj) at c = λ reply. handed (refused at (marked rj (left c))) (λ d. refusing at (marked rj (left c)) d) reply
 rejected_by (input.Request rq) at c = tt
 rejected_by (input.Acceptance ac) at c = tt
 rejected_by (input.Value p) at c = tt
@@ -241,21 +258,22 @@ acting : (a : Action) (at : Moment) (told : Told) (c : Core) → Spells (acts a 
 acting Ae3 at told c = accepted told at c
 acting Ae4 at told c = rejected told at c
 acting Ae6 at told c = requests told at c
-acting Dt1 at told c = λ reply. handed _ (λ d. pushing at c d) reply
+acting Dt1 at told c = λ reply. handed (due at c) (λ d. pushing at c d) reply
 acting Dt2 at told c = hearing told at c
 acting Ar6 at told c = hearing told at c
-acting Ar1 at told c = wrote _
-acting Ar2 at told c = leaving _ at.now _ _ (wrote _)
+acting Ar1 at told c = wrote (pdu.ReleaseRq ∷ [])
+acting Ar2 at told c = leaving c.pending at.now (write (pdu.ReleaseRp ∷ []) ∷ []) (released (stepped_by ReleaseResponse at.now c)) (wrote (pdu.ReleaseRp ∷ []))
 acting Ar3 at told c = (tt, tt)
-acting Ar8 at told c = either _ _ _ (wrote _) tt
-acting Ar10 at told c = wrote _
-acting Aa1 at told c = leaving _ at.now _ _ (wrote _)
-acting Aa2 at told c = leaving _ at.now _ _ (tt, tt)
-acting Aa3 at told c = leaving _ at.now _ _ (tt, tt)
-acting Aa4 at told c = leaving _ at.now _ _ tt
-acting Aa5 at told c = leaving _ at.now _ _ tt
-acting Aa7 at told c = wrote _
-acting Aa8 at told c = leaving _ at.now _ _ (wrote _)
+acting Ar8 at told c =
+    either (is_requestor c) (Ends (effect (write (pdu.ReleaseRp ∷ []) ∷ []) (released (stepped_by ReleaseResponse at.now c)))) (quiet c) (wrote (pdu.ReleaseRp ∷ [])) tt
+acting Ar10 at told c = wrote (pdu.ReleaseRp ∷ [])
+acting Aa1 at told c = leaving c.pending at.now (write (abort_pdu 0 0 ∷ []) ∷ []) (aborted c) (wrote (abort_pdu 0 0 ∷ []))
+acting Aa2 at told c = leaving (noted told c).pending at.now (Close ∷ []) (noted told c) (tt, tt)
+acting Aa3 at told c = leaving c.pending at.now (Close ∷ []) (aborted c) (tt, tt)
+acting Aa4 at told c = leaving c.pending at.now [] c tt
+acting Aa5 at told c = leaving c.pending at.now [] c tt
+acting Aa7 at told c = wrote (abort_pdu 2 0 ∷ [])
+acting Aa8 at told c = leaving c.pending at.now (write (abort_pdu 2 (reason_of told) ∷ []) ∷ []) (aborted c) (wrote (abort_pdu 2 (reason_of told) ∷ []))
 acting Ae1 at told c = tt
 acting Ae2 at told c = tt
 acting Ae5 at told c = tt
@@ -273,7 +291,7 @@ moving (Err same) at told c = tt
 
 occurring : (e : Option Event) (at : Moment) (told : Told) (c : Core) → Spells (occurs e at told c)
 occurring None at told c = tt
-occurring (Some e) at told c = moving _ at told c
+occurring (Some e) at told c = moving (next_stepped e (is_taken told at c) c.phase at.now) at told c
 
 pub writes_pdus : {S : Type 0} (step : S → DeskCall → DeskAnswer → S → Type 0) → WritesPdus step
 writes_pdus step at c told s t x turns = ends_spelled step (turn at c told) s t x (occurring (event_of told at c) at told c) turns
