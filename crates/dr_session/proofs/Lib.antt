@@ -1,3 +1,4 @@
+pub mod Acting
 pub mod Effects
 pub mod Ending
 pub mod Fitting

@@ -353,6 +353,10 @@ abbrev pub has_waited : Option ℕ → ℕ → Bool
 has_waited None now = false
 has_waited (Some since) now = nat_le (since + 60000) now
 
+-- a requestor that has awaited an answer for so long
+abbrev pub is_impatient : Core → ℕ → Bool
+is_impatient c now = is_requestor c && has_waited c.awaits now
+
 abbrev pub event_of_plain : Input → Moment → Core → Option Event
 event_of_plain (Request rq) at c = Some AssociateRqPdu
 event_of_plain (Acceptance ac) at c = Some AssociateAcPdu
@@ -366,7 +370,7 @@ event_of_plain Unknown at c = Some InvalidPdu
 event_of_plain Invalid at c = Some InvalidPdu
 event_of_plain Ended at c = Some TransportClosed
 event_of_plain Late at c =
-    if next_expired c.phase at.now then Some ArtimExpired else if is_requestor c && has_waited c.awaits at.now then Some AbortRequest else None
+    if next_expired c.phase at.now then Some ArtimExpired else if is_impatient c at.now then Some AbortRequest else None
 event_of_plain AbortAsked at c = Some AbortRequest
 event_of_plain ReleaseAsked at c = if is_idle c then Some ReleaseRequest else None
 event_of_plain PushAsked at c = if is_ready c then Some DataRequest else None

@@ -4,7 +4,7 @@ ghost use Rattle.dr_dimse.specs.Commands.{status_of as status_in};
 ghost use Rattle.dr_pdu.specs.declared.pdu.Pdu.TheVariants as pdu;
 ghost use Rattle.dr_session.specs.declared.ends.LinkAction.TheVariants.{Close};
 ghost use Rattle.dr_session.specs.Fits.{ToldFits, IsHeard, heard_as};
-ghost use Rattle.dr_session.specs.Reactions.{acts, hears, turn, event_of, is_taken, is_taken_at, effect, write, abort_pdu, aborted, leaves, reason_of, has_waited, is_idle, is_ready, stepped_by, released, collides, noted};
+ghost use Rattle.dr_session.specs.Reactions.{acts, hears, turn, event_of, is_taken, is_taken_at, effect, write, abort_pdu, aborted, leaves, reason_of, has_waited, is_impatient as is_impatient_since, is_idle, is_ready, stepped_by, released, collides, noted};
 ghost use Rattle.dr_session.specs.Turns.{Turns, Broke, Ends};
 ghost use Rattle.dr_ulstate.specs.Phases.{event_of as event_of_incoming, is_acceptable as is_acceptable_incoming};
 ghost use Rattle.dr_ulstate.specs.declared.table.Action.TheVariants.{Ae3, Ae4, Ae6};
@@ -457,13 +457,20 @@ fn meet_late<P: DeskPort>(
             Err(phase) => Ok(quiet(alloc, Core { phase, ..core })),
         };
     }
-    if core.phase.is_requestor() && has_awaited(core.awaits, at.now) {
+    if is_impatient(&core, at.now) {
         return meet_abort(alloc, Told::Plain(Input::Late), core, port, at);
     }
     Ok(quiet(alloc, core))
 }
 
-/// Whether a requestor has awaited an answer for 60,000 milliseconds.
+/// Whether it is a requestor that has awaited an answer for so long.
+fn is_impatient(core: &Core, now: u64) -> bool
+    ensures { result ≡ is_impatient_since core.now now }
+{
+    core.phase.is_requestor() && has_awaited(core.awaits, now)
+}
+
+/// Whether an answer was awaited for 60,000 milliseconds.
 fn has_awaited(awaits: Option<u64>, now: u64) -> bool
     ensures { result ≡ has_waited awaits now }
 {
