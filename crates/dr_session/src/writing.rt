@@ -53,6 +53,8 @@ pub fn write_release_answer(alloc: Global) -> Result<LinkAction, AllocError>
 }
 
 /// A command in a context, in fragments within the other side's limit.
+///
+/// Errors: AllocError; also where the limit is 1 to 7, which no association is agreed on with (PS3.8 annex D.1).
 pub fn write_response(
     alloc: Global,
     agreed: &Agreed,
@@ -63,7 +65,6 @@ pub fn write_response(
     ensures { IfOk result (λ a. a ≡ write (command_pdus agreed.now.limit context command.now)) }
 {
     if is_too_small(agreed.limit) {
-        // No association is agreed on with such a limit.
         return Err(AllocError);
     }
     let text = write_command(alloc, command)?;
@@ -73,6 +74,10 @@ pub fn write_response(
 }
 
 /// A C-STORE-RQ with its data set.
+///
+/// Errors: AllocError; also where the limit is 1 to 7, which no association is agreed on with, and where the job's class
+/// or uid is no UID: a desk that stands hands out no such job, and with one that does the end is over as if memory had
+/// ended.
 pub fn write_store(
     alloc: Global,
     agreed: &Agreed,
@@ -88,7 +93,6 @@ pub fn write_store(
         instance: job.uid.clone()?,
     };
     if is_too_small(agreed.limit) || !fits(&command) {
-        // No association is agreed on with such a limit, and no instance has other names than UIDs.
         return Err(AllocError);
     }
     let text = write_command(alloc, &command)?;
