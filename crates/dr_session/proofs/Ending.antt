@@ -1,5 +1,10 @@
 -- An end that is over, and one that isn't.
-use Rattle.std.proofs.Common.{◌≡◌, ℕ, Bool, true, false, List, [], Option, Some, None, Result, Ok, Err, refl, sym, ap, subst}
+use Rattle.std.proofs.Common.{◌≡◌, ℕ, Bool, true, false, List, [], Option, Some, None, Result, Ok, Err, refl, sym, ap, subst, ◌∙◌}
+use Rattle.std.specs.Result.{IsErr}
+use Rattle.std.proofs.lemmas.Bool.{false≢true}
+use Rattle.dr_pdu.specs.Feeding.{Feeding}
+use Rattle.dr_session.specs.declared.ends.Effect.{Effect}
+use Rattle.dr_session.specs.Plays.{Reacts, Stops, PlaysBytes, BreaksBytes, at_moment}
 use Rattle.std.specs.declared.alloc.AllocError.{AllocError}
 use Rattle.dr_ulstate.specs.Phases.{state_of}
 use Rattle.dr_session.specs.declared.ends.Core.{Core}
@@ -7,7 +12,7 @@ use Rattle.dr_session.specs.declared.ends.Input.{Input}
 use Rattle.dr_session.specs.declared.ends.LinkAction.{LinkAction}
 use Rattle.dr_session.specs.declared.ends.Moment.{Moment}
 use Rattle.dr_session.specs.Desks.{DeskCall, DeskAnswer}
-use Rattle.dr_session.specs.Ends.{Terminal, IsOver, is_gone, MeetsBy, MeetsIn, Meets, HearsPiece, HearsBytes}
+use Rattle.dr_session.specs.Ends.{Terminal, IsOver, TakesCore, is_gone, MeetsBy, MeetsIn, Meets, HearsPiece, HearsBytes}
 
 module _ {S : Type 0} (step : S → DeskCall → DeskAnswer → S → Type 0) (at : Moment) where
   meets_none : (core : Option Core) (i : Input) (old : Terminal) (s : S) → IsOver core → MeetsIn step core at i old s (Ok []) old s
@@ -33,3 +38,47 @@ module _ {S : Type 0} (step : S → DeskCall → DeskAnswer → S → Type 0) (a
       → HearsPiece step false at piece c old s result new t → HearsBytes step old.core at piece old s result new t
   hears_live piece c old new s t result is live h =
       subst (λ (o : Option Core). HearsBytes step o at piece old s result new t) (sym is) (subst (λ (b : Bool). HearsPiece step b at piece c old s result new t) (sym live) h)
+
+  -- ---- the same by what was taken and put back
+
+  pub meets_over_as : (i : Input) (old new : Terminal) (s : S) (acts : List LinkAction) → IsOver old.core × (new ≡ old) → acts ≡ [] → Meets step at i old s (Ok acts) new s
+  meets_over_as i old new s acts (over, same) none =
+      subst (λ (l : List LinkAction). Meets step at i old s (Ok l) new s) (sym none) (subst (λ (x : Terminal). Meets step at i old s (Ok []) x s) (sym same) (meets_over i old s over))
+
+  pub meets_done : (i : Input) (c : Core) (old mid new : Terminal) (s t : S) (x : Effect) → TakesCore old (Some c) mid → new ≡ record { ear = mid.ear; core = Some x.core } → Reacts step c (at_moment at i) s x t
+      → Meets step at i old s (Ok x.acts) new t
+  meets_done i c old mid new s t x (is, live, taken) put reacts =
+      meets_live i c old new s t (Ok x.acts) is live (x, reacts, refl, put ∙ ap (λ (y : Terminal). let z : Terminal = record { ear = y.ear; core = Some x.core } in z) taken)
+
+  pub meets_broke : (i : Input) (c : Core) (old mid : Terminal) (s t : S) (r : Result (List LinkAction) AllocError) → TakesCore old (Some c) mid → IsErr r → Stops step c (at_moment at i) s t → Meets step at i old s r mid t
+  meets_broke i c old mid s t (Ok acts) taken no_err stops = absurd (false≢true no_err)
+  meets_broke i c old mid s t (Err e) (is, live, taken) is_err stops = meets_live i c old mid s t (Err e) is live (stops, taken)
+
+  pub hears_over_as : (piece : List ℕ) (old new : Terminal) (s : S) (acts : List LinkAction) → IsOver old.core × (new ≡ old) → acts ≡ [] → HearsBytes step old.core at piece old s (Ok acts) new s
+  hears_over_as piece old new s acts (over, same) none =
+      subst (λ (l : List LinkAction). HearsBytes step old.core at piece old s (Ok l) new s) (sym none)
+      (subst (λ (x : Terminal). HearsBytes step old.core at piece old s (Ok []) x s) (sym same) (hears_over piece old s over))
+
+  pub hears_done : (piece : List ℕ) (c : Core) (old mid new : Terminal) (s t : S) (ear : Feeding) (x : Effect) → TakesCore old (Some c) mid → new ≡ record { ear = ear; core = Some x.core }
+      → PlaysBytes step at mid.ear c piece s ear x t → HearsBytes step old.core at piece old s (Ok x.acts) new t
+  hears_done piece c old mid new s t ear x (is, live, taken) put plays =
+      let same : mid.ear ≡ old.ear = ap (λ (y : Terminal). y.ear) taken in
+      let all : PlaysBytes step at old.ear c piece s new.ear x t =
+          subst (λ (e : Feeding). PlaysBytes step at old.ear c piece s e x t) (sym (ap (λ (y : Terminal). y.ear) put)) (subst (λ (e : Feeding). PlaysBytes step at e c piece s ear x t) same plays) in
+      hears_live piece c old new s t (Ok x.acts) is live (x, all, refl, ap (λ (y : Terminal). y.core) put)
+
+  pub hears_broke : (piece : List ℕ) (c : Core) (old mid new : Terminal) (s t : S) (r : Result (List LinkAction) AllocError) → TakesCore old (Some c) mid → new.core ≡ mid.core → IsErr r
+      → BreaksBytes step at mid.ear c piece s t → HearsBytes step old.core at piece old s r new t
+  hears_broke piece c old mid new s t (Ok acts) taken still no_err broke = absurd (false≢true no_err)
+  hears_broke piece c old mid new s t (Err e) (is, live, taken) still is_err broke =
+      let same : mid.ear ≡ old.ear = ap (λ (y : Terminal). y.ear) taken in
+      hears_live piece c old new s t (Err e) is live
+      (subst (λ (f : Feeding). BreaksBytes step at f c piece s t) same broke, still ∙ ap (λ (y : Terminal). y.core) taken)
+
+abbrev pub terminal : Feeding → Option Core → Terminal
+terminal ear core = record { ear = ear; core = core }
+
+-- a core was taken, and what is left is seen by its fields
+pub taken_as : (old mid seen : Terminal) (o : Option Core) (c : Core) → o ≡ Some c → seen ≡ mid → TakesCore old o mid → TakesCore old (Some c) seen
+taken_as old mid seen o c is view taken =
+    subst (λ (x : Terminal). TakesCore old (Some c) x) (sym view) (subst (λ (x : Option Core). TakesCore old x mid) is taken)

@@ -1,5 +1,5 @@
 //! One end of a link, whole.
-ghost use Rattle.std.specs.Prelude.{◌≡◌, ◌∷◌, [], ◌≤◌, ◌^◌, IfOk};
+ghost use Rattle.std.specs.Prelude.{◌≡◌, ◌∷◌, [], ◌≤◌, ◌^◌, IfOk, Some, None};
 ghost use Rattle.dr_session.specs.Fits.{InputFits};
 ghost use Rattle.dr_network.specs.Formed.{IsName};
 ghost use Rattle.dr_nego.specs.Proposing.{echo_proposal};
@@ -9,7 +9,7 @@ ghost use Rattle.dr_session.specs.Ends.{accepting, requesting, requesting_echo, 
 ghost use Rattle.dr_session.specs.Reactions.{write};
 
 use crate::echoing::{ask_echo, is_free};
-use crate::ends::{Core, Ended, Heard, Input, LinkAction, Marks, Moment, Over};
+use crate::ends::{Core, Effect, Ended, Heard, Input, LinkAction, Marks, Moment, Over};
 use crate::hearing::{hear, react};
 use crate::listening::Listener;
 use crate::port::DeskPort;
@@ -188,8 +188,9 @@ impl End {
             return Ok(Seq::new(self.alloc));
         };
         let effect = ask_echo(self.alloc, core, now)?;
-        self.core = Some(effect.core);
-        Ok(effect.acts)
+        let Effect { acts, core } = effect;
+        self.put(core);
+        Ok(acts)
     }
 
     /// What comes over the link at a moment (of at most 2^62 milliseconds), while the node has so many other associations
@@ -211,7 +212,7 @@ impl End {
             Heard::Fault => self.meet(Input::Ended, port, at),
             Heard::Late => self.meet(Input::Late, port, at),
             Heard::Memory => {
-                self.core = None;
+                self.lose();
                 Err(AllocError)
             }
         }
@@ -268,8 +269,9 @@ impl End {
             return Ok(Seq::new(self.alloc));
         };
         let effect = react(self.alloc, input, core, port, at)?;
-        self.core = Some(effect.core);
-        Ok(effect.acts)
+        let Effect { acts, core } = effect;
+        self.put(core);
+        Ok(acts)
     }
 
     /// A piece of the bytes.
@@ -286,8 +288,24 @@ impl End {
             return Ok(Seq::new(self.alloc));
         };
         let effect = hear(self.alloc, &mut self.ear, core, piece, port, at)?;
-        self.core = Some(effect.core);
-        Ok(effect.acts)
+        let Effect { acts, core } = effect;
+        self.put(core);
+        Ok(acts)
+    }
+
+    /// Memory ended.
+    fn lose(&mut self)
+        ensures { self.new ≡ record { ear = self.old.ear; core = None } }
+    {
+        self.core = None;
+    }
+
+    /// Its core again.
+    fn put(&mut self, core: Core)
+        requires { self.old.core ≡ None }
+        ensures { self.new ≡ record { ear = self.old.ear; core = Some core } }
+    {
+        self.core = Some(core);
     }
 
     /// Its core, unless it is over.
@@ -340,10 +358,10 @@ fn write_request(
     let pdu = Pdu::AssociateRq(proposal);
     let action = write_pdu(alloc, &pdu)?;
     let actions = one(alloc, action)?;
-    let Pdu::AssociateRq(proposal) = pdu else {
-        unreachable!()
-    };
-    Ok((proposal, actions))
+    match pdu {
+        Pdu::AssociateRq(proposal) => Ok((proposal, actions)),
+        _other => unreachable!(),
+    }
 }
 
 /// How the association ended, by what was written and read.
