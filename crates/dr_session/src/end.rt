@@ -4,7 +4,7 @@ ghost use Rattle.dr_session.specs.Fits.{InputFits};
 ghost use Rattle.dr_network.specs.Formed.{IsName};
 ghost use Rattle.dr_nego.specs.Proposing.{echo_proposal};
 ghost use Rattle.dr_pdu.specs.Written.{Fits};
-ghost use Rattle.dr_pdu.specs.declared.pdu.Pdu.TheVariants as pdu;
+ghost use Rattle.dr_pdu.specs.declared.pdu.Pdu.TheVariants as pdus;
 ghost use Rattle.dr_session.specs.Ends.{accepting, requesting, requesting_echo, begins, unmarked as no_marks, OpensTo, Meets, HearsOf, HearsBytes, TakesCore, EchoesIn, is_free_in, is_dry_in, state_in, over_of, ended_by};
 ghost use Rattle.dr_session.specs.Reactions.{write};
 
@@ -118,7 +118,7 @@ impl End {
         requires caller { IsName caller.now }
         requires called { IsName called.now }
         ensures end { IfOk result (λ r. r.0 ≡ requesting_echo caller.now called.now now) }
-        ensures actions { IfOk result (λ r. r.1 ≡ write (pdu.AssociateRq (echo_proposal caller.now called.now) ∷ []) ∷ []) }
+        ensures actions { IfOk result (λ r. r.1 ≡ write (pdus.AssociateRq (echo_proposal caller.now called.now) ∷ []) ∷ []) }
     {
         let proposal = propose_echo(alloc, caller, called)?;
         let (proposal, actions) = write_request(alloc, proposal)?;
@@ -346,22 +346,30 @@ fn requestor(
     }
 }
 
+/// The request that a PDU is.
+fn request_of(pdu: Pdu) -> Result<AssociateRq, AllocError>
+    ensures { IfOk result (λ rq. pdu ≡ pdus.AssociateRq rq) }
+{
+    match pdu {
+        Pdu::AssociateRq(proposal) => Ok(proposal),
+        _other => Err(AllocError),
+    }
+}
+
 /// A request, and what writes it.
 fn write_request(
     alloc: Global,
     proposal: AssociateRq,
 ) -> Result<(AssociateRq, Seq<LinkAction>), AllocError>
-    requires { Fits (pdu.AssociateRq proposal) }
+    requires { Fits (pdus.AssociateRq proposal) }
     ensures same { IfOk result (λ r. r.0 ≡ proposal) }
-    ensures actions { IfOk result (λ r. r.1 ≡ write (pdu.AssociateRq proposal ∷ []) ∷ []) }
+    ensures actions { IfOk result (λ r. r.1 ≡ write (pdus.AssociateRq proposal ∷ []) ∷ []) }
 {
     let pdu = Pdu::AssociateRq(proposal);
     let action = write_pdu(alloc, &pdu)?;
     let actions = one(alloc, action)?;
-    match pdu {
-        Pdu::AssociateRq(proposal) => Ok((proposal, actions)),
-        _other => unreachable!(),
-    }
+    let proposal = request_of(pdu)?;
+    Ok((proposal, actions))
 }
 
 /// How the association ended, by what was written and read.
