@@ -1,12 +1,15 @@
 -- What was done by a reaction was done by one that is equal to it.
-use Rattle.std.proofs.Common.{◌≡◌, ℕ, Bool, true, false, Result, Ok, Err, refl, sym, ap, subst, ◌∙◌, inl}
+use Rattle.std.proofs.Common.{◌≡◌, ℕ, Bool, true, false, List, [], Result, Ok, Err, refl, sym, ap, subst, ◌∙◌, inl}
 use Rattle.std.specs.Prelude.{◌&&◌, if◌then◌else◌, Option, Some, None, IfOk, OnErr}
 use Rattle.std.specs.declared.alloc.AllocError.{AllocError}
 use Rattle.dr_ulstate.specs.declared.table.Action.{Action}
 use Rattle.dr_ulstate.specs.declared.table.Event.{Event}
 use Rattle.dr_ulstate.specs.declared.table.Event.TheVariants.{DataRequest, ReleaseRequest, AbortRequest, ArtimExpired}
 use Rattle.dr_ulstate.specs.declared.phase.Next.{Next}
-use Rattle.dr_ulstate.specs.Phases.{next_stepped, next_expired, next_late, next_sent, may_send, event_of as event_of_incoming, is_acceptable}
+use Rattle.dr_ulstate.specs.declared.table.State.{State}
+use Rattle.dr_ulstate.specs.Table.{cell}
+use Rattle.dr_ulstate.specs.Standing.{Standing, moved}
+use Rattle.dr_ulstate.specs.Phases.{standing_of, stepped_from, after_cell, in_its_phase, next_stepped, next_expired, next_late, next_sent, may_send, event_of as event_of_incoming, is_acceptable}
 use Rattle.dr_session.specs.declared.ends.Core.{Core}
 use Rattle.dr_session.specs.declared.ends.Effect.{Effect}
 use Rattle.dr_session.specs.declared.ends.Input.{Input}
@@ -16,7 +19,7 @@ use Rattle.dr_session.specs.declared.ends.Told.{Told}
 use Rattle.dr_session.specs.declared.ends.Told.TheVariants.{Plain}
 use Rattle.dr_session.specs.Desks.{DeskCall, DeskAnswer}
 use Rattle.dr_session.specs.Fits.{IsHeard, heard_as}
-use Rattle.dr_session.specs.Reactions.{Reaction, turn, occurs, moves, collides, effect, quiet, is_requestor, is_idle, is_ready, is_impatient, event_of, is_taken}
+use Rattle.dr_session.specs.Reactions.{Reaction, turn, occurs, moves, acts, effect, quiet, is_requestor, is_idle, is_ready, is_impatient, event_of, is_taken}
 use Rattle.dr_session.specs.Turns.{Turn, Ends, Asks, Fails, Turns, Broke}
 
 module _ {S : Type 0} (step : S → DeskCall → DeskAnswer → S → Type 0) where
@@ -123,3 +126,44 @@ heard_taken input.Late at c h = absurd h
 heard_taken input.AbortAsked at c h = absurd h
 heard_taken input.ReleaseAsked at c h = absurd h
 heard_taken input.PushAsked at c h = absurd h
+
+-- ---- where the table has no cell
+
+cell_stays : (x : Option (Action × State)) (a : Standing) (now : ℕ) (next same : Next) → after_cell x a now next ≡ Err same → same ≡ next
+cell_stays None a now next same h = cc
+cell_stays (Some x) a now next same h = absurd (let k : Ok (x.0, in_its_phase (moved a x.1 now)) ≡ Err same = h in cc)
+
+stays : (o : Option Standing) (e : Event) (acceptable : Bool) (next same : Next) (now : ℕ) → stepped_from o e acceptable next now ≡ Err same → same ≡ next
+stays None e acceptable next same now h = cc
+stays (Some a) e acceptable next same now h = cell_stays (cell e a.state a.requestor acceptable) a now next same h
+
+module _ {S : Type 0} (step : S → DeskCall → DeskAnswer → S → Type 0) where
+  -- it was met, and what its action does was done
+  pub done_moved : (at : Moment) (told : Told) (c : Core) (e : Event) (acceptable : Bool) (r : Result (Action × Next) Next) (a : Action) (next : Next)
+      → event_of told at c ≡ Some e → is_taken told at c ≡ acceptable → r ≡ next_stepped e acceptable c.phase at.now → r ≡ Ok (a, next)
+      → (result : Result Effect AllocError) (s t : S)
+      → IfOk result (λ (x : Effect). Turns step (acts a at told (record c { phase = next })) s x t) → IfOk result (λ (x : Effect). Turns step (turn at c told) s x t)
+  done_moved at told c e acceptable r a next event taken is ok result s t h =
+      done_by step (turn at c told) (acts a at told (record c { phase = next })) result s t
+          (met at told c e acceptable r event taken is ∙ ap (λ (x : Result (Action × Next) Next). moves x at told c) ok) h
+
+  pub broke_moved : (at : Moment) (told : Told) (c : Core) (e : Event) (acceptable : Bool) (r : Result (Action × Next) Next) (a : Action) (next : Next)
+      → event_of told at c ≡ Some e → is_taken told at c ≡ acceptable → r ≡ next_stepped e acceptable c.phase at.now → r ≡ Ok (a, next)
+      → (result : Result Effect AllocError) (s t : S)
+      → OnErr result (Broke step (acts a at told (record c { phase = next })) s t) → OnErr result (Broke step (turn at c told) s t)
+  broke_moved at told c e acceptable r a next event taken is ok result s t h =
+      broke_by step (turn at c told) (acts a at told (record c { phase = next })) result s t
+          (met at told c e acceptable r event taken is ∙ ap (λ (x : Result (Action × Next) Next). moves x at told c) ok) h
+
+  -- it was met, and nothing was done
+  pub done_unmoved : (at : Moment) (told : Told) (c : Core) (e : Event) (acceptable : Bool) (r : Result (Action × Next) Next) (same : Next)
+      → event_of told at c ≡ Some e → is_taken told at c ≡ acceptable → r ≡ next_stepped e acceptable c.phase at.now → r ≡ Err same
+      → (x : Effect) (s : S) → x ≡ effect [] (record c { phase = same }) → Turns step (turn at c told) s x s
+  done_unmoved at told c e acceptable r same event taken is err x s value =
+      let kept : same ≡ c.phase = stays (standing_of c.phase) e acceptable c.phase same at.now (sym is ∙ err) in
+      let none : turn at c told ≡ quiet c = met at told c e acceptable r event taken is ∙ ap (λ (y : Result (Action × Next) Next). moves y at told c) err in
+      done_at step (turn at c told) (effect [] c) (Ok x) s none (value ∙ ap (λ (n : Next). effect [] (record c { phase = n })) kept)
+
+  -- it was no event, and nothing was done
+  pub done_unmet : (at : Moment) (told : Told) (c : Core) → event_of told at c ≡ None → (x : Effect) (s : S) → x ≡ effect [] c → Turns step (turn at c told) s x s
+  done_unmet at told c none x s value = done_at step (turn at c told) (effect [] c) (Ok x) s (unmet at told c none) value
