@@ -10,3 +10,4 @@ pub mod Playing
 pub mod Resting
 pub mod Spelt
 pub mod Storing
+pub mod Named

@@ -41,7 +41,7 @@ use Rattle.dr_session.specs.declared.ends.Pending.{Pending}
 use Rattle.dr_session.specs.declared.ends.Told.{Told}
 use Rattle.dr_session.specs.declared.ends.Told.TheVariants.{Plain, Quiet, Fault, Strange, Store, Whole, Agreement}
 use Rattle.dr_session.specs.Desks.{DeskCall, DeskAnswer, Arrive, Arrival, Upcoming, Settling}
-use Rattle.dr_session.specs.Reactions.{Reaction, turn, occurs, moves, acts, hears, stores, stored, status_of, arrives, brings, is_named, requested, requested_other, echo_status, replied, decides, decides_at, rj, agrees, due, gives, gives_in, store_pdus, id_after, refused, leaves_by, aborts, aborts_desk, abort_pdu, aborted, released, desk_failed, settled_with, left, stepped_by, noted, reason_of, says, settling, arrival, job, write, effect, quiet, is_requestor, is_taken, event_of, rejected as marked}
+use Rattle.dr_session.specs.Reactions.{Reaction, turn, occurs, moves, acts, hears, stores, stored, status_of, arrives, brings, is_named, requested, requested_other, echo_status, replied, decides, decides_at, rj, agrees, can_be_named, due, gives, gives_in, store_pdus, id_after, refused, leaves_by, aborts, aborts_desk, abort_pdu, aborted, released, desk_failed, settled_with, left, stepped_by, noted, reason_of, says, settling, arrival, job, write, effect, quiet, is_requestor, is_taken, event_of, rejected as marked}
 use Rattle.dr_session.specs.Messages.{command_pdus}
 use Rattle.dr_session.specs.declared.ends.LinkAction.TheVariants.{Write, Close}
 use Rattle.dr_session.specs.Turns.{Turn, Ends, Asks, Fails, Turns}
@@ -162,7 +162,7 @@ giving (Some agreed) at item c = giving_in (context_for agreed item.key.class (s
 giving None at item c = tt
 
 pushing : (at : Moment) (c : Core) (d : Result (Option Job) LedgerFault) → Spells (due at c d)
-pushing at c (Ok (Some item)) = giving c.agreed at item c
+pushing at c (Ok (Some item)) = either (can_be_named item) (gives c.agreed at item c) (aborts_desk at c) (giving c.agreed at item c) (wrote (abort_pdu 0 0 ∷ []))
 pushing at c (Ok None) = tt
 pushing at c (Err fault.Memory) = tt
 pushing at c (Err fault.NoLine) = wrote (abort_pdu 0 0 ∷ [])

@@ -1,14 +1,14 @@
 //! What an end writes: the spellings of PDUs, and messages in fragments (PS3.8 annex E).
-ghost use Rattle.std.specs.Prelude.{◌≡◌, ◌∷◌, [], IfOk};
+ghost use Rattle.std.specs.Prelude.{◌≡◌, ◌∷◌, [], IfOk, true};
 ghost use Rattle.dr_dimse.specs.Written.{Fits as IsFit};
 ghost use Rattle.dr_pdu.specs.Written.{Fits};
 ghost use Rattle.dr_pdu.specs.declared.pdu.Pdu.TheVariants as pdu;
 ghost use Rattle.dr_session.specs.Messages.{command_pdus};
-ghost use Rattle.dr_session.specs.Reactions.{write, store_pdus, abort_pdu};
+ghost use Rattle.dr_session.specs.Reactions.{write, store_pdus, abort_pdu, can_be_named};
 
 use crate::ends::LinkAction;
 use dr_base::Text;
-use dr_dimse::{Command, fits, write_command};
+use dr_dimse::{Command, write_command};
 use dr_ledger::Job;
 use dr_nego::concluding::is_too_small;
 use dr_nego::{Agreed, Kind, put_fragments};
@@ -75,9 +75,7 @@ pub fn write_response(
 
 /// A C-STORE-RQ with its data set.
 ///
-/// Errors: AllocError; also where the limit is 1 to 7, which no association is agreed on with, and where the job's class
-/// or uid is no UID: a desk that stands hands out no such job, and with one that does the end is over as if memory had
-/// ended.
+/// Errors: AllocError; also where the limit is 1 to 7, which no association is agreed on with (PS3.8 annex D.1).
 pub fn write_store(
     alloc: Global,
     agreed: &Agreed,
@@ -85,6 +83,7 @@ pub fn write_store(
     id: u16,
     job: &Job,
 ) -> Result<LinkAction, AllocError>
+    requires { can_be_named job.now ≡ true }
     ensures { IfOk result (λ a. a ≡ write (store_pdus agreed.now context id job.now)) }
 {
     let command = Command::StoreRq {
@@ -92,7 +91,7 @@ pub fn write_store(
         class: job.key.class.clone()?,
         instance: job.uid.clone()?,
     };
-    if is_too_small(agreed.limit) || !fits(&command) {
+    if is_too_small(agreed.limit) {
         return Err(AllocError);
     }
     let text = write_command(alloc, &command)?;

@@ -1,10 +1,11 @@
 //! What a requestor does: what it concludes from an answer, what it sends, and the responses that it hears.
-ghost use Rattle.std.specs.Prelude.{◌≡◌, ◌∷◌, [], ◌≤◌, ◌^◌, IfOk, OnErr, Option, Some, None, Ok, Err};
+ghost use Rattle.std.specs.Prelude.{◌≡◌, ◌∷◌, [], ◌≤◌, ◌^◌, IfOk, OnErr, Option, Some, None, Ok, Err, true};
+ghost use Rattle.std.specs.List.{list_all};
 ghost use Rattle.dr_base.specs.Syntaxes.{syntax_uid};
 ghost use Rattle.dr_nego.specs.Agreeing.{context_for};
 ghost use Rattle.dr_nego.specs.declared.fault.NegoFault.TheVariants as negofault;
 ghost use Rattle.dr_session.specs.declared.ends.LinkAction.TheVariants.{Close};
-ghost use Rattle.dr_session.specs.Reactions.{agrees, refuses, settles_refused, replied, effect, gives, gives_in, id_after, due, pushes, gives_nothing, write, store_pdus, awaiting, pending, settled_with, desk_failed, dried};
+ghost use Rattle.dr_session.specs.Reactions.{agrees, refuses, settles_refused, replied, effect, gives, gives_in, hands, can_be_named, is_uid, is_graphic, id_after, due, pushes, gives_nothing, write, store_pdus, awaiting, pending, settled_with, desk_failed, dried};
 ghost use Rattle.dr_session.specs.Turns.{Turns, Broke, Ends};
 
 use crate::ends::{Core, Effect, LinkAction, Moment, Pending};
@@ -165,7 +166,7 @@ pub fn push<P: DeskPort>(
     ensures broke { OnErr result (Broke P.step (pushes at core) port.old port.new) }
 {
     match port.next(&core.peer, at.now) {
-        Ok(Some(job)) => give(alloc, job, core, port, at),
+        Ok(Some(job)) => hand(alloc, job, core, port, at),
         Ok(None) => Ok(quiet(alloc, run_dry(core))),
         Err(LedgerFault::Memory) => Err(AllocError),
         Err(_) => abort_desk(alloc, core, at),
@@ -179,6 +180,53 @@ fn run_dry(core: Core) -> Core
     Core { dry: true, ..core }
 }
 
+/// Whether a text is a UID: 1 to 64 bytes from 21H to 7EH.
+fn is_uid(uid: &Text) -> bool
+    ensures { result ≡ is_uid uid.now }
+{
+    let bytes = uid.as_bytes();
+    1 <= bytes.len() && bytes.len() <= 64 && are_graphic(bytes)
+}
+
+/// Whether all bytes are from 21H to 7EH.
+fn are_graphic(bytes: &[u8]) -> bool
+    ensures { result ≡ list_all is_graphic bytes.now }
+{
+    bytes.iter().all(|byte| is_graphic(*byte))
+}
+
+fn is_graphic(byte: u8) -> bool
+    ensures { result ≡ is_graphic byte }
+{
+    0x21 <= byte && byte <= 0x7E
+}
+
+/// Whether a C-STORE-RQ can name the instance and its class.
+fn can_be_named(job: &Job) -> bool
+    ensures { result ≡ can_be_named job.now }
+{
+    is_uid(&job.key.class) && is_uid(&job.uid)
+}
+
+/// What the desk handed out goes over; a desk that hands out what can't be named has failed.
+fn hand<P: DeskPort>(
+    alloc: Global,
+    job: Job,
+    core: Core,
+    port: &mut P,
+    at: Moment,
+) -> Result<Effect, AllocError>
+    requires { at.now ≤ 2 ^ 62 }
+    ensures done { IfOk result (λ e. Turns P.step (hands at core job) port.old e port.new) }
+    ensures broke { OnErr result (Broke P.step (hands at core job) port.old port.new) }
+{
+    if can_be_named(&job) {
+        let done = give(alloc, job, core, port, at)?;
+        return Ok(done);
+    }
+    abort_desk(alloc, core, at)
+}
+
 /// An instance goes over in a context of its class and transfer syntax; where there is none the row is settled so.
 fn give<P: DeskPort>(
     alloc: Global,
@@ -187,7 +235,8 @@ fn give<P: DeskPort>(
     port: &mut P,
     at: Moment,
 ) -> Result<Effect, AllocError>
-    requires { at.now ≤ 2 ^ 62 }
+    requires now { at.now ≤ 2 ^ 62 }
+    requires named { can_be_named job ≡ true }
     ensures done { IfOk result (λ e. Turns P.step (gives core.agreed at job core) port.old e port.new) }
     ensures broke { OnErr result (Broke P.step (gives core.agreed at job core) port.old port.new) }
 {
