@@ -1,8 +1,14 @@
 -- An end that is over, and one that isn't.
 use Rattle.std.proofs.Common.{◌≡◌, ℕ, Bool, true, false, List, [], Option, Some, None, Result, Ok, Err, refl, sym, ap, subst, ◌∙◌}
-use Rattle.std.specs.Result.{IsErr}
+use Rattle.std.specs.Result.{IsErr, IsErrAnd}
+use Rattle.dr_base.specs.Texts.{Text}
+use Rattle.dr_site.specs.Parts.{Part}
+use Rattle.dr_nego.specs.Agreeing.{AssociateRq}
+use Rattle.dr_nego.specs.declared.fault.NegoFault.{NegoFault}
+use Rattle.dr_nego.specs.declared.fault.NegoFault.TheVariants as negofault
+use Rattle.dr_nego.specs.Proposing.{Proposes}
 use Rattle.std.proofs.lemmas.Bool.{false≢true}
-use Rattle.dr_pdu.specs.Feeding.{Feeding}
+use Rattle.dr_pdu.specs.Feeding.{Feeding, fresh}
 use Rattle.dr_session.specs.declared.ends.Effect.{Effect}
 use Rattle.dr_session.specs.Plays.{Reacts, Stops, PlaysBytes, BreaksBytes, at_moment}
 use Rattle.std.specs.declared.alloc.AllocError.{AllocError}
@@ -12,7 +18,7 @@ use Rattle.dr_session.specs.declared.ends.Input.{Input}
 use Rattle.dr_session.specs.declared.ends.LinkAction.{LinkAction}
 use Rattle.dr_session.specs.declared.ends.Moment.{Moment}
 use Rattle.dr_session.specs.Desks.{DeskCall, DeskAnswer}
-use Rattle.dr_session.specs.Ends.{Terminal, IsOver, TakesCore, is_gone, MeetsBy, MeetsIn, Meets, HearsPiece, HearsBytes}
+use Rattle.dr_session.specs.Ends.{Terminal, IsOver, TakesCore, OpensTo, begins, requesting, is_gone, MeetsBy, MeetsIn, Meets, HearsPiece, HearsBytes}
 
 module _ {S : Type 0} (step : S → DeskCall → DeskAnswer → S → Type 0) (at : Moment) where
   meets_none : (core : Option Core) (i : Input) (old : Terminal) (s : S) → IsOver core → MeetsIn step core at i old s (Ok []) old s
@@ -82,3 +88,21 @@ terminal ear core = record { ear = ear; core = core }
 pub taken_as : (old mid seen : Terminal) (o : Option Core) (c : Core) → o ≡ Some c → seen ≡ mid → TakesCore old o mid → TakesCore old (Some c) seen
 taken_as old mid seen o c is view taken =
     subst (λ (x : Terminal). TakesCore old (Some c) x) (sym view) (subst (λ (x : Option Core). TakesCore old x mid) is taken)
+
+pub begin_as : (ear : Feeding) (core c : Core) (limit n : ℕ) → ear ≡ fresh n → n ≡ limit → core ≡ c → terminal ear (Some core) ≡ begins limit c
+begin_as ear core c limit n fed same is =
+    ap (λ (e : Feeding). terminal e (Some core)) (fed ∙ ap (λ (k : ℕ). fresh k) same) ∙ ap (λ (x : Core). terminal (fresh limit) (Some x)) is
+
+pub requesting_as : (site : Option Part) (peer dest : Text) (p rq : AssociateRq) (now : ℕ) → peer ≡ dest → p ≡ rq → requesting site peer p now ≡ requesting site dest rq now
+requesting_as site peer dest p rq now e f = ap (λ (t : Text). requesting site t p now) e ∙ ap (λ (x : AssociateRq). requesting site dest x now) f
+
+opens_refused : (site : Part) (dest : Text) (now : ℕ) (why : NegoFault) → Proposes site dest (Err why) → OpensTo site dest now (Err why)
+opens_refused site dest now negofault.NoHop h = h
+opens_refused site dest now negofault.StrangeId h = absurd h
+opens_refused site dest now negofault.StrangeSyntax h = absurd h
+opens_refused site dest now negofault.LimitTooSmall h = absurd h
+opens_refused site dest now negofault.Memory h = tt
+
+pub opens_not : (site : Part) (dest : Text) (now : ℕ) (why : NegoFault) (r : Result (Terminal × List LinkAction) NegoFault) → IsErr r → IsErrAnd r (λ (e : NegoFault). e ≡ why) → Proposes site dest (Err why) → OpensTo site dest now r
+opens_not site dest now why (Ok x) no_err is h = absurd (false≢true no_err)
+opens_not site dest now why (Err e) err is h = subst (λ (x : NegoFault). OpensTo site dest now (Err x)) (sym is) (opens_refused site dest now why h)

@@ -8,6 +8,7 @@ pub mod Joining
 pub mod Pieces
 pub mod Playing
 pub mod Resting
+pub mod Serving
 pub mod Spelt
 pub mod Storing
 pub mod Named

@@ -1,7 +1,6 @@
 -- Sessions over a link: what is heard or asked, what it does, and all that is written, sent.
-use Rattle.std.specs.Prelude.{◌≡◌, ◌⊎◌, ◌<◌, ◌≤◌, ◌^◌, ◌-◌, ◌+◌, ◌==◌, ◌||◌, nat_le, ℕ, Bool, true, false, List, [], ◌∷◌, if◌then◌else◌, Some, None, Result, Ok, Err}
+use Rattle.std.specs.Prelude.{◌≡◌, ◌⊎◌, ◌<◌, ◌≤◌, ◌^◌, ◌-◌, ◌+◌, ◌||◌, not, nat_le, ℕ, Bool, true, false, List, [], ◌∷◌, if◌then◌else◌, Some, None, Result, Ok, Err}
 use Rattle.std.specs.declared.alloc.AllocError.{AllocError}
-use Rattle.dr_base.specs.Calls.{Calls}
 use Rattle.dr_base.specs.Texts.{Text}
 use Rattle.dr_sound.specs.declared.certificate.Hop.{Hop}
 use Rattle.dr_site.specs.Parts.{Part}
@@ -19,6 +18,10 @@ use Rattle.dr_session.specs.declared.ends.LinkAction.TheVariants.{Write, Close}
 use Rattle.dr_session.specs.declared.ends.Moment.{Moment}
 use Rattle.dr_session.specs.declared.ends.Over.{Over}
 use Rattle.dr_session.specs.declared.ends.Over.TheVariants as over
+use Rattle.dr_session.specs.declared.wishes.Kind.{Kind}
+use Rattle.dr_session.specs.declared.wishes.Kind.TheVariants.{Receive, Deliver, EchoOnce}
+use Rattle.dr_session.specs.declared.wishes.Wish.{Wish}
+use Rattle.dr_session.specs.declared.wishes.Wish.TheVariants.{Listen, Push, Release, Echo}
 use Rattle.dr_session.specs.declared.sessions.SessionFault.{SessionFault}
 use Rattle.dr_session.specs.declared.sessions.SessionFault.TheVariants as fault
 use Rattle.dr_session.specs.Desks.{DeskCall, DeskAnswer}
@@ -62,23 +65,47 @@ PerformsOne sends closes ok k Close l = (ok ≡ true) × closes k l
 
 -- ---- what a session wants of its end
 
--- to hear what comes next, or to ask for something
-pub data Wish : Type 0 where
-  Listen : Wish
-  Ask : (input : Input) → Wish
-  AskEcho : Wish
+-- what is done at the end, at a moment: something came over the link, or something was asked of it
+pub data Doing : Type 0 where
+  Hears : (moment : Moment) → (came : Heard) → Doing
+  Asks : (moment : Moment) → (input : Input) → Doing
+  Echoes : (moment : Moment) → Doing
 
--- an acceptor listens
-abbrev pub receiving : ℕ → Terminal → Wish
-receiving asked terminal = Listen
+-- An acceptor listens.
+abbrev pub receives : ℕ → Terminal → Wish
+receives asked terminal = Listen
 
--- A requestor pushes rows until none is due, at most 65,535 of them, and then asks for the release; it listens while it may not send.
-abbrev pub delivering : ℕ → Terminal → Wish
-delivering asked terminal = if is_free_in terminal.core then (if is_dry_in terminal.core || nat_le 65535 asked then Ask ReleaseAsked else Ask PushAsked) else Listen
+-- A requestor that may send pushes rows until none is due, at most 65,535 of them, and then asks for the release.
+abbrev pub delivers : ℕ → Terminal → Wish
+delivers asked terminal =
+    if not (is_free_in terminal.core) || nat_le 65536 asked then Listen else if is_dry_in terminal.core || nat_le 65535 asked then Release else Push
 
 -- One asks for an echo, and then for the release.
-abbrev pub echoing : ℕ → Terminal → Wish
-echoing asked terminal = if is_free_in terminal.core then (if asked == 0 then AskEcho else Ask ReleaseAsked) else Listen
+abbrev pub echoes : ℕ → Terminal → Wish
+echoes asked terminal = if not (is_free_in terminal.core) || nat_le 2 asked then Listen else if nat_le 1 asked then Release else Echo
+
+abbrev pub wants : Kind → ℕ → Terminal → Wish
+wants Receive asked terminal = receives asked terminal
+wants Deliver asked terminal = delivers asked terminal
+wants EchoOnce asked terminal = echoes asked terminal
+
+abbrev pub IsWished : Wish → Doing → Type 0
+IsWished Listen (Hears at came) = Unit {0}
+IsWished Push (Asks at input) = input ≡ PushAsked
+IsWished Release (Asks at input) = input ≡ ReleaseAsked
+IsWished Echo (Echoes at) = Unit {0}
+IsWished wish x = ⊥
+
+-- how often something was asked
+abbrev pub asked_after : Doing → ℕ → ℕ
+asked_after (Hears at came) asked = asked
+asked_after x asked = asked + 1
+
+-- how many reads of the link are among them
+abbrev pub reads : List Doing → ℕ
+reads [] = 0
+reads (Hears moment came ∷ xs) = reads xs + 1
+reads (x ∷ xs) = reads xs
 
 -- ---- sessions
 
@@ -88,94 +115,118 @@ Finishes (over.Ended ended) result = result ≡ Ok ended
 Finishes over.Desk result = result ≡ Err fault.Desk
 Finishes over.Memory result = result ≡ Err fault.Memory
 
--- what is done at the end, at a moment: something came over the link, or something was asked of it
-pub data Doing : Type 0 where
-  Hears : (moment : Moment) → (came : Heard) → Doing
-  Asks : (moment : Moment) → (input : Input) → Doing
-  Echoes : (moment : Moment) → Doing
-
--- how many reads of the link are among them
-abbrev pub reads : List Doing → ℕ
-reads [] = 0
-reads (Hears moment came ∷ xs) = reads xs + 1
-reads (x ∷ xs) = reads xs
-
--- how far a session has come: how often it asked its end for something, the link, the port, and its end
-pub record Progress (L S : Type 0) : Type 0 where
-  pub asked : ℕ
+-- a link, a port and an end
+pub record Place (L S : Type 0) : Type 0 where
   pub link : L
   pub port : S
   pub terminal : Terminal
 
-abbrev pub progress : {L S : Type 0} → ℕ → L → S → Terminal → Progress L S
-progress asked link port terminal = record { asked = asked; link = link; port = port; terminal = terminal }
+abbrev pub place : {L S : Type 0} → L → S → Terminal → Place L S
+place link port terminal = record { link = link; port = port; terminal = terminal }
 
--- `tells` are the moments that the clock may tell, `others` is the number of the node's other associations, `wish` what the session wants
+-- a moment that the clock may tell, and the number of the node's other associations
+abbrev pub IsMoment : (ℕ → Type 0) → ℕ → Moment → Type 0
+IsMoment tells others at = tells at.now × (at.others ≡ others)
+
 module _ {L S : Type 0} (hears : L → Heard → L → Type 0) (sends : L → List ℕ → Bool → L → Type 0) (closes : L → L → Type 0) (step : S → DeskCall → DeskAnswer → S → Type 0)
-         (tells : ℕ → Type 0) (others : ℕ) (wish : ℕ → Terminal → Wish) where
-  abbrev pub IsMoment : Moment → Type 0
-  IsMoment at = tells at.now × (at.others ≡ others)
-
-  -- what is wanted of an end that isn't over
-  abbrev pub Wants : Progress L S → Wish → Type 0
-  Wants old wanted = (over_of old.terminal.core ≡ None) × (wish old.asked old.terminal ≡ wanted)
-
+         (tells : ℕ → Type 0) (others : ℕ) where
   -- the doing, before the end's actions are performed
-  abbrev pub Does : Doing → Progress L S → Result (List LinkAction) AllocError → Progress L S → Type 0
-  Does (Hears at came) old result new = Wants old Listen × IsMoment at × hears old.link came new.link
-      × HearsOf step came at old.terminal old.port result new.terminal new.port × (new.asked ≡ old.asked)
-  Does (Asks at input) old result new = Wants old (Ask input) × IsMoment at × (new.link ≡ old.link)
-      × Meets step at input old.terminal old.port result new.terminal new.port × (new.asked ≡ old.asked + 1)
-  Does (Echoes at) old result new = Wants old AskEcho × IsMoment at × (new.link ≡ old.link) × (new.port ≡ old.port)
-      × EchoesIn old.terminal.core at.now old.terminal result new.terminal × (new.asked ≡ old.asked + 1)
+  abbrev pub Does : Doing → Place L S → Result (List LinkAction) AllocError → Place L S → Type 0
+  Does (Hears at came) old result new = IsMoment tells others at × hears old.link came new.link × HearsOf step came at old.terminal old.port result new.terminal new.port
+  Does (Asks at input) old result new = IsMoment tells others at × (new.link ≡ old.link) × Meets step at input old.terminal old.port result new.terminal new.port
+  Does (Echoes at) old result new = IsMoment tells others at × (new.link ≡ old.link) × (new.port ≡ old.port) × EchoesIn old.terminal.core at.now old.terminal result new.terminal
 
-  -- the doing, and all of its actions
-  abbrev pub Serves : Progress L S → Doing → Progress L S → Type 0
-  Serves old x new = (acts : List LinkAction) × (mid : Progress L S) × Does x old (Ok acts) mid
-      × Performs sends closes mid.link acts new.link × (new ≡ progress mid.asked new.link mid.port mid.terminal)
+  -- the end's actions, in order; a fault of the link is none of them
+  abbrev pub Performed : Doing → Place L S → List LinkAction → Place L S → Type 0
+  Performed (Hears at heard.Fault) mid acts new = ⊥
+  Performed x mid acts new = Performs sends closes mid.link acts new.link × (new.port ≡ mid.port) × (new.terminal ≡ mid.terminal)
 
-  -- A write failed. The end is told that the link is gone, so that what is pending is settled, and what it then wants to be written is dropped.
+  -- the doing, with all of its actions
+  abbrev pub Did : Place L S → Doing → Place L S → Type 0
+  Did old x new = (acts : List LinkAction) × (mid : Place L S) × Does x old (Ok acts) mid × Performed x mid acts new
+
+  -- The end's actions are performed. Where a write fails the end is told that the link is gone, and what it then wants to be written is dropped.
+  abbrev pub CarriesOut : Moment → List LinkAction → Place L S → Result (Unit {0}) SessionFault → Place L S → Type 0
+  CarriesOut at acts mid (Ok done) new = Performs sends closes mid.link acts new.link × (new.port ≡ mid.port) × (new.terminal ≡ mid.terminal)
+  CarriesOut at acts mid (Err fault.Write) new = FailsToPerform sends closes mid.link acts new.link
+      × ((dropped : List LinkAction) × HearsOf step heard.Fault at mid.terminal mid.port (Ok dropped) new.terminal new.port)
+  CarriesOut at acts mid (Err fault.Memory) new = FailsToPerform sends closes mid.link acts new.link
+      × ((e : AllocError) × HearsOf step heard.Fault at mid.terminal mid.port (Err e) new.terminal new.port)
+  CarriesOut at acts mid (Err why) new = ⊥
+
+  -- A write failed. The end is told that the link is gone, so that what is pending is settled; what it then wants to be written is dropped.
   abbrev pub Leaves : Terminal → S → Result (List LinkAction) AllocError → S → Type 0
-  Leaves old s result t = (at : Moment) × (new : Terminal) × IsMoment at × HearsOf step heard.Fault at old s result new t
+  Leaves old s result t = (at : Moment) × (new : Terminal) × IsMoment tells others at × HearsOf step heard.Fault at old s result new t
 
-  -- Why a session stops in the midst of a doing. A fault of the link is heard as its end. Memory ends before a doing, in it, or while leaving.
-  abbrev pub Stops : SessionFault → Progress L S → L → S → Type 0
-  Stops fault.Read old l t = (at : Moment) × (acts : List LinkAction) × (new : Terminal) × Does (Hears at heard.Fault) old (Ok acts) (progress old.asked l t new)
-  Stops fault.Write old l t = (x : Doing) × (acts dropped : List LinkAction) × (mid : Progress L S) × Does x old (Ok acts) mid
+  -- Why a session stops in the midst of such a doing. A fault of the link is heard as its end, so that what is pending is settled. Memory ends
+  -- in the doing, or while leaving.
+  abbrev pub Stops : (Doing → Type 0) → SessionFault → Place L S → L → S → Type 0
+  Stops Is fault.Read old l t = (at : Moment) × (acts : List LinkAction) × (new : Terminal) × Is (Hears at heard.Fault) × Does (Hears at heard.Fault) old (Ok acts) (place l t new)
+  Stops Is fault.Write old l t = (x : Doing) × (acts dropped : List LinkAction) × (mid : Place L S) × Is x × Does x old (Ok acts) mid
       × FailsToPerform sends closes mid.link acts l × Leaves mid.terminal mid.port (Ok dropped) t
-  Stops fault.Memory old l t = ((l ≡ old.link) × (t ≡ old.port))
-      ⊎ ((x : Doing) × (e : AllocError) × (asked : ℕ) × (new : Terminal) × Does x old (Err e) (progress asked l t new))
-      ⊎ ((x : Doing) × (acts : List LinkAction) × (e : AllocError) × (mid : Progress L S) × Does x old (Ok acts) mid
+  Stops Is fault.Memory old l t = ((x : Doing) × (e : AllocError) × (new : Terminal) × Is x × Does x old (Err e) (place l t new))
+      ⊎ ((x : Doing) × (acts : List LinkAction) × (e : AllocError) × (mid : Place L S) × Is x × Does x old (Ok acts) mid
           × FailsToPerform sends closes mid.link acts l × Leaves mid.terminal mid.port (Err e) t)
-  Stops why old l t = ⊥
+  Stops Is why old l t = ⊥
 
-  -- one doing, or why the session stops
-  abbrev pub GoesOn : (Doing → Type 0) → Result (Unit {0}) SessionFault → Progress L S → Progress L S → Type 0
-  GoesOn Is (Ok done) old new = (x : Doing) × Is x × Serves old x new
-  GoesOn Is (Err why) old new = Stops why old new.link new.port
+  -- one such doing, or why the session stops
+  abbrev pub GoesOn : (Doing → Type 0) → Result (Unit {0}) SessionFault → Place L S → Place L S → Type 0
+  GoesOn Is (Ok done) old new = (x : Doing) × Is x × Did old x new
+  GoesOn Is (Err why) old new = Stops Is why old new.link new.port
 
-  -- these were done, one after the other
-  abbrev pub Served : Progress L S → List Doing → Progress L S → Type 0
-  Served old xs new = Calls Serves old xs new
+  -- What was done, one after the other, each as it was wished of an end that wasn't over. The number says how often something had been asked before.
+  abbrev pub Served : Kind → ℕ → Place L S → List Doing → ℕ → Place L S → Type 0
+  Served kind asked old [] told new = (told ≡ asked) × (new ≡ old)
+  Served kind asked old (x ∷ xs) told new = (over_of old.terminal.core ≡ None) × IsWished (wants kind asked old.terminal) x
+      × ((mid : Place L S) × Did old x mid × Served kind (asked_after x asked) mid xs told new)
+
+  -- it stops in the midst of a doing, or, for want of memory, before one
+  abbrev pub StopsAt : Kind → SessionFault → ℕ → Place L S → L → S → Type 0
+  StopsAt kind fault.Memory asked old l t = ((l ≡ old.link) × (t ≡ old.port)) ⊎ Stops (IsWished (wants kind asked old.terminal)) fault.Memory old l t
+  StopsAt kind why asked old l t = Stops (IsWished (wants kind asked old.terminal)) why old l t
 
   -- a session from there on: how it ended
-  abbrev pub EndsAs : Result Ended SessionFault → Progress L S → L → S → Type 0
-  EndsAs (Ok ended) old l t = (xs : List Doing) × (asked : ℕ) × (new : Terminal) × Served old xs (progress asked l t new) × (over_of new.core ≡ Some (over.Ended ended))
-  EndsAs (Err fault.Desk) old l t = (xs : List Doing) × (asked : ℕ) × (new : Terminal) × Served old xs (progress asked l t new) × (over_of new.core ≡ Some over.Desk)
-  EndsAs (Err fault.TooManyReads) old l t = (xs : List Doing) × (asked : ℕ) × (new : Terminal) × Served old xs (progress asked l t new) × (over_of new.core ≡ None) × (reads xs ≡ 2 ^ 40)
-  EndsAs (Err why) old l t = (xs : List Doing) × (mid : Progress L S) × Served old xs mid × Stops why mid l t
+  abbrev pub EndsAs : Kind → Result Ended SessionFault → Place L S → L → S → Type 0
+  EndsAs kind (Ok ended) old l t = (xs : List Doing) × (asked : ℕ) × (new : Terminal) × Served kind 0 old xs asked (place l t new) × (over_of new.core ≡ Some (over.Ended ended))
+  EndsAs kind (Err fault.Desk) old l t = (xs : List Doing) × (asked : ℕ) × (new : Terminal) × Served kind 0 old xs asked (place l t new) × (over_of new.core ≡ Some over.Desk)
+  EndsAs kind (Err fault.TooManyReads) old l t = (xs : List Doing) × (asked : ℕ) × (new : Terminal) × Served kind 0 old xs asked (place l t new) × (reads xs ≡ 2 ^ 40)
+  EndsAs kind (Err why) old l t = (xs : List Doing) × (asked : ℕ) × (mid : Place L S) × Served kind 0 old xs asked mid × StopsAt kind why asked mid l t
 
-  -- a requestor's session: its request goes out, and then the session, or the write failed
-  abbrev pub Begins : Bool → Result Ended SessionFault → L → List ℕ → S → Terminal → L → S → Type 0
-  Begins true result k bytes s terminal l t = (m : L) × sends k bytes true m × EndsAs result (progress 0 m s terminal) l t
-  Begins false (Err fault.Write) k bytes s terminal l t = sends k bytes false l × ((dropped : List LinkAction) × Leaves terminal s (Ok dropped) t)
-  Begins false (Err fault.Memory) k bytes s terminal l t = sends k bytes false l × ((e : AllocError) × Leaves terminal s (Err e) t)
-  Begins false result k bytes s terminal l t = ⊥
+  -- a requestor's session: its request goes out, and then the session; or the write failed
+  abbrev pub Begins : Kind → Bool → Result Ended SessionFault → L → List ℕ → S → Terminal → L → S → Type 0
+  Begins kind true result k bytes s terminal l t = (m : L) × sends k bytes true m × EndsAs kind result (place m s terminal) l t
+  Begins kind false (Err fault.Write) k bytes s terminal l t = sends k bytes false l × ((dropped : List LinkAction) × Leaves terminal s (Ok dropped) t)
+  Begins kind false (Err fault.Memory) k bytes s terminal l t = sends k bytes false l × ((e : AllocError) × Leaves terminal s (Err e) t)
+  Begins kind false result k bytes s terminal l t = ⊥
 
--- how a session for a hop ends: there is none (and nothing was called), memory ended before the request went out, or it was sent
-abbrev pub Delivers : {L S : Type 0} → (L → Heard → L → Type 0) → (L → List ℕ → Bool → L → Type 0) → (L → L → Type 0) → (S → DeskCall → DeskAnswer → S → Type 0) → (ℕ → Type 0)
-    → Part → Text → Result Ended SessionFault → L → S → L → S → Type 0
-Delivers hears sends closes step tells site dest (Err fault.NoHop) k s l t = ((hop : Hop) → IsHopTo site dest hop → ⊥) × (l ≡ k) × (t ≡ s)
-Delivers hears sends closes step tells site dest result k s l t = ((result ≡ Err fault.Memory) × (l ≡ k) × (t ≡ s))
-    ⊎ ((rq : AssociateRq) × (now : ℕ) × (sent : Bool) × IsProposal site dest rq × tells now
-        × Begins hears sends closes step tells 0 delivering sent result k (spellings (pdu.AssociateRq rq ∷ [])) s (begins site.max_pdu (requesting (Some site) dest rq now)) l t)
+  -- A session for a hop of the site. Its request is the site's proposal, at a moment that the clock told.
+  abbrev pub SessionTo : Part → Text → Result Ended SessionFault → L → S → L → S → Type 0
+  SessionTo site dest result k s l t = (rq : AssociateRq) × (now : ℕ) × (sent : Bool) × IsProposal site dest rq × tells now
+      × Begins Deliver sent result k (spellings (pdu.AssociateRq rq ∷ [])) s (begins site.max_pdu (requesting (Some site) dest rq now)) l t
+
+  -- There is no hop (and nothing was called), memory ended before the request went out, or it is a session.
+  abbrev pub DeliversAs : Part → Text → Result Ended SessionFault → L → S → L → S → Type 0
+  DeliversAs site dest (Ok ended) k s l t = SessionTo site dest (Ok ended) k s l t
+  DeliversAs site dest (Err fault.NoHop) k s l t = ((hop : Hop) → IsHopTo site dest hop → ⊥) × (l ≡ k) × (t ≡ s)
+  DeliversAs site dest (Err fault.Memory) k s l t = ((l ≡ k) × (t ≡ s)) ⊎ SessionTo site dest (Err fault.Memory) k s l t
+  DeliversAs site dest (Err why) k s l t = SessionTo site dest (Err why) k s l t
+
+-- whether it is the link's fault
+abbrev pub IsFaultBy : Bool → Heard → Type 0
+IsFaultBy true came = came ≡ heard.Fault
+IsFaultBy false came = came ≡ heard.Fault → ⊥
+
+-- the counts of reads and of what was asked, behind a wish
+abbrev pub reads_by : Wish → ℕ → ℕ
+reads_by Listen reads = reads + 1
+reads_by wish reads = reads
+
+abbrev pub asked_by : Wish → ℕ → ℕ
+asked_by Listen asked = asked
+asked_by wish asked = asked + 1
+
+-- Read and Write say that a call of the link failed.
+abbrev pub IsLinkFailure : {X : Type 0} → Result X SessionFault → Type 0
+IsLinkFailure (Err fault.Read) = Unit {0}
+IsLinkFailure (Err fault.Write) = Unit {0}
+IsLinkFailure result = ⊥

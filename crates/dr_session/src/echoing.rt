@@ -1,5 +1,5 @@
 //! The echo of a requestor.
-ghost use Rattle.std.specs.Prelude.{◌≡◌, ◌∷◌, [], IfOk};
+ghost use Rattle.std.specs.Prelude.{◌≡◌, ◌∷◌, [], IfOk, false};
 ghost use Rattle.dr_base.specs.Syntaxes.{syntax_uid};
 ghost use Rattle.dr_base.specs.declared.syntax.Syntax.TheVariants.{Implicit};
 ghost use Rattle.dr_dimse.specs.declared.command.Command.TheVariants.{EchoRq};

@@ -15,6 +15,7 @@ pub mod port;
 pub mod react;
 pub mod sessions;
 pub mod telling;
+pub mod wishes;
 pub mod writing;
 
 pub use end::End;

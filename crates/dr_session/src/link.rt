@@ -1,5 +1,5 @@
 //! The transport of an association, and the clock, as a session sees them.
-ghost use Rattle.std.specs.Prelude.{ℕ, List, Bool, ◌≡◌, ◌≤◌, ◌^◌};
+ghost use Rattle.std.specs.Prelude.{ℕ, List, Bool, false, ◌≡◌, ◌≤◌, ◌^◌};
 ghost use Rattle.dr_session.specs.declared.ends.Heard.{Heard};
 ghost use Rattle.dr_session.specs.Links.{Counts, IsLinkFault};
 
@@ -39,8 +39,11 @@ pub trait Link {
         ensures { result ≡ failed self.now };
 }
 
-/// Tells the moment, in milliseconds, at most 2^62.
+/// Tells the moment, in milliseconds. Its relation says which moments it may tell.
 pub trait Clock {
+    ghost tells: { Self → ℕ → Type 0 };
+
     fn now(&self) -> u64
-        ensures { result ≤ 2 ^ 62 };
+        ensures tells { tells self.now result }
+        ensures early { result ≤ 2 ^ 62 };
 }
