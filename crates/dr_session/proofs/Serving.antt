@@ -1,7 +1,7 @@
 -- A session, step by step.
 use Rattle.std.specs.Prelude.{◌≡◌, ◌⊎◌, ◌^◌, ℕ, Bool, true, false, List, [], ◌∷◌, ◌++◌, drop, length, ◌<◌, ◌≤◌, ◌+◌, suc, not, ◌||◌, nat_le, Some, None, Result, Ok, Err}
 use Rattle.std.proofs.Common.{refl, sym, ap, subst, ◌∙◌, drop-cons, get_or, arith, inl, inr}
-use Rattle.std.specs.Result.{IsErr}
+use Rattle.std.specs.Result.{IsErr, IsErrAnd}
 use Rattle.std.proofs.lemmas.Bool.{false≢true}
 use Rattle.std.proofs.Math.ListN.{drop_of_length-le}
 use Rattle.std.specs.declared.alloc.AllocError.{AllocError}
@@ -76,3 +76,66 @@ risen_on a b c h top (inr most) = inr (omega (arith, h, most, top))
 
 pub counts_later : (Failed : Type 0) (a b c : ℕ) → a ≤ b → Counts Failed b c → Counts Failed a c
 counts_later Failed a b c h (grows, risen) = (omega (arith, h, grows), λ f. risen_later a b c h (risen f))
+
+pub no_failure : {X : Type 0} (r : Result X SessionFault) (a b : ℕ) → a ≤ b → (IsLinkFailure r → ⊥) → Counts (IsLinkFailure r) a b
+no_failure r a b h none = (h, λ f. absurd (none f))
+
+memory_is_none : {X : Type 0} (r : Result X SessionFault) → IsErr r → IsErrAnd r (λ (e : SessionFault). e ≡ fault.Memory) → IsLinkFailure r → ⊥
+memory_is_none (Ok x) no_err is f = f
+memory_is_none {X = X} (Err e) err is f = subst (λ (w : SessionFault). IsLinkFailure {X = X} (Err w)) is f
+
+-- want of memory is no failure of the link
+pub memory_counts : {X : Type 0} (r : Result X SessionFault) (a b : ℕ) → IsErr r → IsErrAnd r (λ (e : SessionFault). e ≡ fault.Memory) → a ≤ b → Counts (IsLinkFailure r) a b
+memory_counts r a b err is h = no_failure r a b h (memory_is_none r err is)
+
+-- ---- one doing
+
+module _ {L S : Type 0} (hears : L → Heard → L → Type 0) (sends : L → List ℕ → Bool → L → Type 0) (closes : L → L → Type 0) (step : S → DeskCall → DeskAnswer → S → Type 0)
+         (tells : ℕ → Type 0) (others : ℕ) where
+  abbrev pub IsPerformed : List LinkAction → Place L S → Place L S → Type 0
+  IsPerformed acts mid new = Performs sends closes mid.link acts new.link × (new.port ≡ mid.port) × (new.terminal ≡ mid.terminal)
+
+  pub performed_hears : (at : Moment) (came : Heard) (mid new : Place L S) (acts : List LinkAction) → (came ≡ heard.Fault → ⊥) → IsPerformed acts mid new
+      → Performed hears sends closes step tells others (Hears at came) mid acts new
+  performed_hears at heard.Fault mid new acts other h = absurd (other refl)
+  performed_hears at heard.End mid new acts other h = h
+  performed_hears at heard.Late mid new acts other h = h
+  performed_hears at heard.Memory mid new acts other h = h
+  performed_hears at (heard.Bytes piece) mid new acts other h = h
+
+  pub goes_on : (Is : Doing → Type 0) (x : Doing) (at : Moment) (acts : List LinkAction) (old mid new : Place L S) (r : Result (Unit {0}) SessionFault)
+      → Is x → Does hears sends closes step tells others x old (Ok acts) mid → IsMoment tells others at
+      → (IsPerformed acts mid new → Performed hears sends closes step tells others x mid acts new)
+      → CarriesOut sends closes step at acts mid r new → GoesOn hears sends closes step tells others Is r old new
+  goes_on Is x at acts old mid new (Ok done) is does moment performed h = (x, is, (acts, mid, does, performed h))
+  goes_on Is x at acts old mid new (Err fault.Write) is does moment performed (fails, (dropped, h)) = (x, acts, dropped, mid, is, does, fails, (at, new.terminal, moment, h))
+  goes_on Is x at acts old mid new (Err fault.Memory) is does moment performed (fails, (e, h)) = inr (x, acts, e, mid, is, does, fails, (at, new.terminal, moment, h))
+  goes_on Is x at acts old mid new (Err fault.NoHop) is does moment performed h = absurd h
+  goes_on Is x at acts old mid new (Err fault.Read) is does moment performed h = absurd h
+  goes_on Is x at acts old mid new (Err fault.TooManyReads) is does moment performed h = absurd h
+  goes_on Is x at acts old mid new (Err fault.Desk) is does moment performed h = absurd h
+
+  memory_as : (Is : Doing → Type 0) (old new : Place L S) (e : SessionFault) → e ≡ fault.Memory → Stops hears sends closes step tells others Is fault.Memory old new.link new.port
+      → GoesOn hears sends closes step tells others Is (Err e) old new
+  memory_as Is old new e is h = subst (λ (w : SessionFault). GoesOn hears sends closes step tells others Is (Err w) old new) (sym is) h
+
+  pub memory_ends : (Is : Doing → Type 0) (x : Doing) (e : AllocError) (old new : Place L S) (r : Result (Unit {0}) SessionFault) → IsErr r → IsErrAnd r (λ (w : SessionFault). w ≡ fault.Memory)
+      → Is x → Does hears sends closes step tells others x old (Err e) new → GoesOn hears sends closes step tells others Is r old new
+  memory_ends Is x e old new (Ok done) no_err gives is does = absurd (false≢true no_err)
+  memory_ends Is x e old new (Err w) err gives is does = memory_as Is old new w gives (inl (x, e, new.terminal, is, does))
+
+  -- an action could not be performed, and memory ended while leaving
+  pub carries_memory : (at : Moment) (acts : List LinkAction) (e : AllocError) (mid new : Place L S) (r : Result (Unit {0}) SessionFault) → IsErr r → IsErrAnd r (λ (w : SessionFault). w ≡ fault.Memory)
+      → FailsToPerform sends closes mid.link acts new.link → HearsOf step heard.Fault at mid.terminal mid.port (Err e) new.terminal new.port
+      → CarriesOut sends closes step at acts mid r new
+  carries_memory at acts e mid new (Ok done) no_err gives fails h = absurd (false≢true no_err)
+  carries_memory at acts e mid new (Err w) err gives fails h =
+      subst (λ (x : SessionFault). CarriesOut sends closes step at acts mid (Err x) new) (sym gives) (fails, (e, h))
+
+module _ {L S : Type 0} (hears : L → Heard → L → Type 0) (step : S → DeskCall → DeskAnswer → S → Type 0) (tells : ℕ → Type 0) (others : ℕ) where
+  -- the link's fault was heard
+  pub heard_fault : (at : Moment) (came : Heard) (acts : List LinkAction) (k l : L) (old new : Terminal) (s t : S) → came ≡ heard.Fault → IsMoment tells others at → hears k came l
+      → HearsOf step came at old s (Ok acts) new t
+      → (at' : Moment) × (acts' : List LinkAction) × (new' : Terminal) × Unit {0} × (IsMoment tells others at' × hears k heard.Fault l × HearsOf step heard.Fault at' old s (Ok acts') new' t)
+  heard_fault at came acts k l old new s t is moment comes h =
+      (at, acts, new, tt, (moment, subst (λ (x : Heard). hears k x l) is comes, subst (λ (x : Heard). HearsOf step x at old s (Ok acts) new t) is h))

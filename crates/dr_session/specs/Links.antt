@@ -128,6 +128,16 @@ place link port terminal = record { link = link; port = port; terminal = termina
 abbrev pub IsMoment : (ℕ → Type 0) → ℕ → Moment → Type 0
 IsMoment tells others at = tells at.now × (at.others ≡ others)
 
+-- The end's actions are performed. Where a write fails the end is told that the link is gone, and what it then wants to be written is dropped.
+abbrev pub CarriesOut : {L S : Type 0} → (L → List ℕ → Bool → L → Type 0) → (L → L → Type 0) → (S → DeskCall → DeskAnswer → S → Type 0) → Moment → List LinkAction
+    → Place L S → Result (Unit {0}) SessionFault → Place L S → Type 0
+CarriesOut sends closes step at acts mid (Ok done) new = Performs sends closes mid.link acts new.link × (new.port ≡ mid.port) × (new.terminal ≡ mid.terminal)
+CarriesOut sends closes step at acts mid (Err fault.Write) new = FailsToPerform sends closes mid.link acts new.link
+    × ((dropped : List LinkAction) × HearsOf step heard.Fault at mid.terminal mid.port (Ok dropped) new.terminal new.port)
+CarriesOut sends closes step at acts mid (Err fault.Memory) new = FailsToPerform sends closes mid.link acts new.link
+    × ((e : AllocError) × HearsOf step heard.Fault at mid.terminal mid.port (Err e) new.terminal new.port)
+CarriesOut sends closes step at acts mid (Err why) new = ⊥
+
 module _ {L S : Type 0} (hears : L → Heard → L → Type 0) (sends : L → List ℕ → Bool → L → Type 0) (closes : L → L → Type 0) (step : S → DeskCall → DeskAnswer → S → Type 0)
          (tells : ℕ → Type 0) (others : ℕ) where
   -- the doing, before the end's actions are performed
@@ -144,15 +154,6 @@ module _ {L S : Type 0} (hears : L → Heard → L → Type 0) (sends : L → Li
   -- the doing, with all of its actions
   abbrev pub Did : Place L S → Doing → Place L S → Type 0
   Did old x new = (acts : List LinkAction) × (mid : Place L S) × Does x old (Ok acts) mid × Performed x mid acts new
-
-  -- The end's actions are performed. Where a write fails the end is told that the link is gone, and what it then wants to be written is dropped.
-  abbrev pub CarriesOut : Moment → List LinkAction → Place L S → Result (Unit {0}) SessionFault → Place L S → Type 0
-  CarriesOut at acts mid (Ok done) new = Performs sends closes mid.link acts new.link × (new.port ≡ mid.port) × (new.terminal ≡ mid.terminal)
-  CarriesOut at acts mid (Err fault.Write) new = FailsToPerform sends closes mid.link acts new.link
-      × ((dropped : List LinkAction) × HearsOf step heard.Fault at mid.terminal mid.port (Ok dropped) new.terminal new.port)
-  CarriesOut at acts mid (Err fault.Memory) new = FailsToPerform sends closes mid.link acts new.link
-      × ((e : AllocError) × HearsOf step heard.Fault at mid.terminal mid.port (Err e) new.terminal new.port)
-  CarriesOut at acts mid (Err why) new = ⊥
 
   -- A write failed. The end is told that the link is gone, so that what is pending is settled; what it then wants to be written is dropped.
   abbrev pub Leaves : Terminal → S → Result (List LinkAction) AllocError → S → Type 0
