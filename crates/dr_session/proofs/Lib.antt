@@ -5,10 +5,11 @@ pub mod Fitting
 pub mod Handing
 pub mod InTurn
 pub mod Joining
+pub mod Named
 pub mod Pieces
 pub mod Playing
 pub mod Resting
+pub mod Saying
 pub mod Serving
 pub mod Spelt
 pub mod Storing
-pub mod Named
