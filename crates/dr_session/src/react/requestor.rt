@@ -166,7 +166,10 @@ pub fn push<P: DeskPort>(
     ensures broke { OnErr result (Broke P.step (pushes at core) port.old port.new) }
 {
     match port.next(&core.peer, at.now) {
-        Ok(Some(job)) => hand(alloc, job, core, port, at),
+        Ok(Some(job)) => {
+            let done = hand(alloc, job, core, port, at)?;
+            Ok(done)
+        }
         Ok(None) => Ok(quiet(alloc, run_dry(core))),
         Err(LedgerFault::Memory) => Err(AllocError),
         Err(_) => abort_desk(alloc, core, at),
