@@ -1,5 +1,5 @@
 -- An end that is over does nothing.
-use Rattle.std.proofs.Common.{◌≡◌, ℕ, Bool, true, false, not, cond, Option, Some, None, Result, Ok, Err, refl, sym, ap, subst, ◌∙◌}
+use Rattle.std.proofs.Common.{◌≡◌, ℕ, Bool, true, false, not, List, Option, Some, None, Result, Ok, Err, refl, sym, ap, subst, ◌∙◌}
 use Rattle.std.specs.Prelude.{if◌then◌else◌}
 use Rattle.std.specs.Option.{option_map_or}
 use Rattle.dr_ulstate.specs.declared.table.State.{State}
@@ -17,9 +17,12 @@ use Rattle.dr_session.specs.declared.ends.Input.TheVariants.{Request, Acceptance
 use Rattle.dr_session.specs.declared.ends.Moment.{Moment}
 use Rattle.dr_session.specs.declared.ends.Told.{Told}
 use Rattle.dr_session.specs.declared.ends.Told.TheVariants.{Plain, Quiet, Fault, Strange, Store, Whole, Agreement}
-use Rattle.dr_session.specs.Ends.{is_gone}
+use Rattle.dr_session.specs.Ends.{Terminal, IsOver, is_gone, MeetsIn, MeetsBy, HearsBytes, HearsPiece}
 use Rattle.dr_session.specs.Reactions.{turn, quiet, occurs, moves, event_of, event_of_plain}
-use Rattle.dr_session.specs.Laws.{RestsWhenOver}
+use Rattle.dr_session.specs.Laws.{RestsWhenOver, IsStill, StaysOver, HearsNothing}
+use Rattle.dr_session.specs.Desks.{DeskCall, DeskAnswer}
+use Rattle.dr_session.specs.declared.ends.LinkAction.{LinkAction}
+use Rattle.std.specs.declared.alloc.AllocError.{AllocError}
 
 -- what opens a connection; no turn meets it
 abbrev opens : Event → Bool
@@ -116,3 +119,20 @@ meets (Agreement answer) at c = refl
 
 pub rests : RestsWhenOver
 rests at c told over = occurs_rests (event_of told at c) at told c over (meets told at c)
+
+-- ---- at each call of an end
+
+module _ {S : Type 0} (step : S → DeskCall → DeskAnswer → S → Type 0) (at : Moment) (old new : Terminal) (s t : S) (result : Result (List LinkAction) AllocError) where
+  meets_still : (o : Option Core) (i : Input) → IsOver o → MeetsIn step o at i old s result new t → IsStill old s result new t
+  meets_still None i over h = h
+  meets_still (Some c) i over h = subst (λ (b : Bool). MeetsBy step b at i c old s result new t) over h
+
+  hears_still : (o : Option Core) (piece : List ℕ) → IsOver o → HearsBytes step o at piece old s result new t → IsStill old s result new t
+  hears_still None piece over h = h
+  hears_still (Some c) piece over h = subst (λ (b : Bool). HearsPiece step b at piece c old s result new t) over h
+
+pub stays_over : {S : Type 0} (step : S → DeskCall → DeskAnswer → S → Type 0) → StaysOver step
+stays_over step i at old new s t result over h = meets_still step at old new s t result old.core i over h
+
+pub hears_nothing : {S : Type 0} (step : S → DeskCall → DeskAnswer → S → Type 0) → HearsNothing step
+hears_nothing step piece at old new s t result over h = hears_still step at old new s t result old.core piece over h

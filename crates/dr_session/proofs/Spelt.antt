@@ -1,5 +1,5 @@
 -- Whatever a desk answers, an end writes spellings of PDUs.
-use Rattle.std.proofs.Common.{◌≡◌, ℕ, Bool, true, false, List, [], ◌∷◌, Option, Some, None, Result, Ok, Err, refl, sym, subst}
+use Rattle.std.proofs.Common.{◌≡◌, ℕ, Bool, true, false, List, [], ◌∷◌, ◌++◌, map, Option, Some, None, Result, Ok, Err, refl, sym, subst}
 use Rattle.std.specs.Prelude.{◌+◌, if◌then◌else◌}
 use Rattle.std.specs.Option.{option_map_or}
 use Rattle.std.specs.Str.{bytes_eq}
@@ -45,7 +45,13 @@ use Rattle.dr_session.specs.Reactions.{Reaction, turn, occurs, moves, acts, hear
 use Rattle.dr_session.specs.Messages.{command_pdus}
 use Rattle.dr_session.specs.declared.ends.LinkAction.TheVariants.{Write, Close}
 use Rattle.dr_session.specs.Turns.{Turn, Ends, Asks, Fails, Turns}
-use Rattle.dr_session.specs.Laws.{IsSpelled, WritesPdus}
+use Rattle.dr_session.specs.Laws.{IsSpelled, WritesPdus, GivesPdus, AsksPdus}
+use Rattle.dr_session.specs.declared.ends.Heard.{Heard}
+use Rattle.dr_session.specs.declared.ends.Heard.TheVariants as heard
+use Rattle.dr_session.specs.Ends.{Terminal, is_gone, Meets, MeetsIn, MeetsBy, HearsOf, HearsBytes, HearsPiece}
+use Rattle.dr_session.specs.Plays.{At, Plays, with_stage, at_moment}
+use Rattle.dr_ulstate.specs.Phases.{state_of}
+use Rattle.std.specs.declared.alloc.AllocError.{AllocError}
 
 -- whatever the desk answers, what is written is spelled
 abbrev Spells : Reaction → Type 0
@@ -295,3 +301,50 @@ occurring (Some e) at told c = moving (next_stepped e (is_taken told at c) c.pha
 
 pub writes_pdus : {S : Type 0} (step : S → DeskCall → DeskAnswer → S → Type 0) → WritesPdus step
 writes_pdus step at c told s t x turns = ends_spelled step (turn at c told) s t x (occurring (event_of told at c) at told c) turns
+
+-- ---- over inputs, and at each call of an end
+
+append_spelled : (xs ys : List LinkAction) → AllByRecursion IsSpelled xs → AllByRecursion IsSpelled ys → AllByRecursion IsSpelled (xs ++ ys)
+append_spelled [] ys h k = k
+append_spelled (x ∷ xs) ys h k = (h.0, append_spelled xs ys h.1 k)
+
+plays_spelled : {S : Type 0} (step : S → DeskCall → DeskAnswer → S → Type 0) (c d : Core) (is : List At) (s t : S) (done : List LinkAction) → Plays step c is s done d t → AllByRecursion IsSpelled done
+plays_spelled step c d [] s t done (none, same, stood) = subst (λ (l : List LinkAction). AllByRecursion IsSpelled l) (sym none) tt
+plays_spelled step c d (i ∷ is) s t done (x, m, later, one, more, are) =
+    subst (λ (l : List LinkAction). AllByRecursion IsSpelled l) (sym are)
+        (append_spelled x.acts later (writes_pdus step i.moment (with_stage one.stage c) one.told s m x one.turns) (plays_spelled step x.core d is m t later more))
+
+module _ {S : Type 0} (step : S → DeskCall → DeskAnswer → S → Type 0) (at : Moment) (old new : Terminal) (s t : S) (done : List LinkAction) where
+  nothing_spelled : (r : Result (List LinkAction) AllocError) → r ≡ Ok done → r ≡ Ok [] → AllByRecursion IsSpelled done
+  nothing_spelled r is none = let none : done ≡ [] = cc in subst (λ (l : List LinkAction). AllByRecursion IsSpelled l) (sym none) tt
+
+  meets_by : (over : Bool) (i : Input) (c : Core) → MeetsBy step over at i c old s (Ok done) new t → AllByRecursion IsSpelled done
+  meets_by true i c h = nothing_spelled (Ok done) refl h.0
+  meets_by false i c (x, one, are, stands) =
+      subst (λ (l : List LinkAction). AllByRecursion IsSpelled l) (sym are) (writes_pdus step at (with_stage one.stage c) one.told s t x one.turns)
+
+  meets_in : (o : Option Core) (i : Input) → MeetsIn step o at i old s (Ok done) new t → AllByRecursion IsSpelled done
+  meets_in None i h = nothing_spelled (Ok done) refl h.0
+  meets_in (Some c) i h = meets_by (is_gone (state_of c.phase)) i c h
+
+  hears_by : (over : Bool) (piece : List ℕ) (c : Core) → HearsPiece step over at piece c old s (Ok done) new t → AllByRecursion IsSpelled done
+  hears_by true piece c h = nothing_spelled (Ok done) refl h.0
+  hears_by false piece c (x, plays, are, stands) =
+      subst (λ (l : List LinkAction). AllByRecursion IsSpelled l) (sym are) (plays_spelled step c x.core (map (at_moment at) plays.0) s t x.acts plays.2)
+
+  hears_in : (o : Option Core) (piece : List ℕ) → HearsBytes step o at piece old s (Ok done) new t → AllByRecursion IsSpelled done
+  hears_in None piece h = nothing_spelled (Ok done) refl h.0
+  hears_in (Some c) piece h = hears_by (is_gone (state_of c.phase)) piece c h
+
+  hears_of : (heard : Heard) → HearsOf step heard at old s (Ok done) new t → AllByRecursion IsSpelled done
+  hears_of (heard.Bytes piece) h = hears_in old.core piece h
+  hears_of heard.End h = meets_in old.core input.Ended h
+  hears_of heard.Late h = meets_in old.core input.Late h
+  hears_of heard.Fault h = meets_in old.core input.Ended h
+  hears_of heard.Memory h = absurd h.0
+
+pub gives_pdus : {S : Type 0} (step : S → DeskCall → DeskAnswer → S → Type 0) → GivesPdus step
+gives_pdus step came at old new s t done h = hears_of step at old new s t done came h
+
+pub asks_pdus : {S : Type 0} (step : S → DeskCall → DeskAnswer → S → Type 0) → AsksPdus step
+asks_pdus step i at old new s t done h = meets_in step at old new s t done old.core i h

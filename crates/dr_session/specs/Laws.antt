@@ -1,5 +1,5 @@
 -- The laws of an end.
-use Rattle.std.specs.Prelude.{◌≡◌, ℕ, false, List, [], ◌∷◌, ◌++◌, map, ◌↔◌, Some, Ok}
+use Rattle.std.specs.Prelude.{◌≡◌, ℕ, false, List, [], ◌∷◌, ◌++◌, map, ◌↔◌, Some, Result, Ok}
 use Rattle.dr_base.specs.Texts.{Text}
 use Rattle.dr_pdu.specs.Feeding.{Feeding}
 use Rattle.dr_dimse.specs.declared.command.Command.TheVariants.{StoreRsp}
@@ -16,8 +16,11 @@ use Rattle.dr_pdu.specs.declared.pdu.Pdu.{Pdu}
 use Rattle.dr_nego.specs.Fragments.{spellings}
 use Rattle.dr_session.specs.declared.ends.LinkAction.{LinkAction}
 use Rattle.dr_session.specs.declared.ends.LinkAction.TheVariants.{Write, Close}
+use Rattle.dr_session.specs.declared.ends.Heard.{Heard}
+use Rattle.dr_session.specs.declared.ends.Input.{Input}
 use Rattle.dr_session.specs.declared.ends.Told.{Told}
-use Rattle.dr_session.specs.Ends.{IsOver}
+use Rattle.std.specs.declared.alloc.AllocError.{AllocError}
+use Rattle.dr_session.specs.Ends.{Terminal, IsOver, Meets, HearsOf, HearsBytes}
 use Rattle.dr_session.specs.Reactions.{Reaction, turn, quiet, says, stores}
 use Rattle.dr_session.specs.Turns.{Turns, Run, Makes}
 use Rattle.dr_session.specs.Plays.{PlaysBytes}
@@ -61,6 +64,23 @@ IsSpelled Close = Unit {0}
 abbrev pub WritesPdus : {S : Type 0} → (S → DeskCall → DeskAnswer → S → Type 0) → Type 0
 WritesPdus {S} step = (at : Moment) (c : Core) (told : Told) (s t : S) (x : Effect) → Turns step (turn at c told) s x t → AllByRecursion IsSpelled x.acts
 
+-- so does each call of an end: what comes over the link, and what is asked
+abbrev pub GivesPdus : {S : Type 0} → (S → DeskCall → DeskAnswer → S → Type 0) → Type 0
+GivesPdus {S} step = (came : Heard) (at : Moment) (old new : Terminal) (s t : S) (acts : List LinkAction) → HearsOf step came at old s (Ok acts) new t → AllByRecursion IsSpelled acts
+
+abbrev pub AsksPdus : {S : Type 0} → (S → DeskCall → DeskAnswer → S → Type 0) → Type 0
+AsksPdus {S} step = (input : Input) (at : Moment) (old new : Terminal) (s t : S) (acts : List LinkAction) → Meets step at input old s (Ok acts) new t → AllByRecursion IsSpelled acts
+
 -- an end that is over writes nothing and calls nothing, whatever it is told
 abbrev pub RestsWhenOver : Type 0
 RestsWhenOver = (at : Moment) (c : Core) (told : Told) → IsOver (Some c) → turn at c told ≡ quiet c
+
+-- a call of it answers an empty list; the end and the port stay as they were
+abbrev pub IsStill : {S : Type 0} → Terminal → S → Result (List LinkAction) AllocError → Terminal → S → Type 0
+IsStill old s result new t = (result ≡ Ok []) × (new ≡ old) × (t ≡ s)
+
+abbrev pub StaysOver : {S : Type 0} → (S → DeskCall → DeskAnswer → S → Type 0) → Type 0
+StaysOver {S} step = (input : Input) (at : Moment) (old new : Terminal) (s t : S) (result : Result (List LinkAction) AllocError) → IsOver old.core → Meets step at input old s result new t → IsStill old s result new t
+
+abbrev pub HearsNothing : {S : Type 0} → (S → DeskCall → DeskAnswer → S → Type 0) → Type 0
+HearsNothing {S} step = (piece : List ℕ) (at : Moment) (old new : Terminal) (s t : S) (result : Result (List LinkAction) AllocError) → IsOver old.core → HearsBytes step old.core at piece old s result new t → IsStill old s result new t
