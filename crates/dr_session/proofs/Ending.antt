@@ -18,7 +18,7 @@ use Rattle.dr_session.specs.declared.ends.Input.{Input}
 use Rattle.dr_session.specs.declared.ends.LinkAction.{LinkAction}
 use Rattle.dr_session.specs.declared.ends.Moment.{Moment}
 use Rattle.dr_session.specs.Desks.{DeskCall, DeskAnswer}
-use Rattle.dr_session.specs.Ends.{Terminal, IsOver, TakesCore, OpensTo, begins, requesting, is_gone, MeetsBy, MeetsIn, Meets, HearsPiece, HearsBytes}
+use Rattle.dr_session.specs.Ends.{Terminal, IsOver, TakesCore, TakesFree, EchoesBy, EchoesIn, echoes_by, is_free, is_free_in, OpensTo, begins, requesting, is_gone, MeetsBy, MeetsIn, Meets, HearsPiece, HearsBytes}
 
 module _ {S : Type 0} (step : S → DeskCall → DeskAnswer → S → Type 0) (at : Moment) where
   meets_none : (core : Option Core) (i : Input) (old : Terminal) (s : S) → IsOver core → MeetsIn step core at i old s (Ok []) old s
@@ -106,3 +106,26 @@ opens_refused site dest now negofault.Memory h = tt
 pub opens_not : (site : Part) (dest : Text) (now : ℕ) (why : NegoFault) (r : Result (Terminal × List LinkAction) NegoFault) → IsErr r → IsErrAnd r (λ (e : NegoFault). e ≡ why) → Proposes site dest (Err why) → OpensTo site dest now r
 opens_not site dest now why (Ok x) no_err is h = absurd (false≢true no_err)
 opens_not site dest now why (Err e) err is h = subst (λ (x : NegoFault). OpensTo site dest now (Err x)) (sym is) (opens_refused site dest now why h)
+
+-- ---- an echo
+
+echoes_none : (core : Option Core) (now : ℕ) (old : Terminal) → is_free_in core ≡ false → EchoesIn core now old (Ok []) old
+echoes_none None now old e = (refl, refl)
+echoes_none (Some c) now old e = subst (λ (b : Bool). EchoesBy b now c old (Ok []) old) (sym e) (refl, refl)
+
+pub echoes_not : (now : ℕ) (old new : Terminal) (acts : List LinkAction) → TakesFree old None new → acts ≡ [] → EchoesIn old.core now old (Ok acts) new
+echoes_not now old new acts (e, same) none =
+    subst (λ (l : List LinkAction). EchoesIn old.core now old (Ok l) new) (sym none) (subst (λ (x : Terminal). EchoesIn old.core now old (Ok []) x) (sym same) (echoes_none old.core now old e))
+
+echoes_live : (now : ℕ) (c : Core) (old new : Terminal) (r : Result (List LinkAction) AllocError) → old.core ≡ Some c → is_free c ≡ true → EchoesBy true now c old r new → EchoesIn old.core now old r new
+echoes_live now c old new r is free h = subst (λ (o : Option Core). EchoesIn o now old r new) (sym is) (subst (λ (b : Bool). EchoesBy b now c old r new) (sym free) h)
+
+pub echoes_done : (now : ℕ) (c : Core) (old mid new : Terminal) (x : Effect) → TakesFree old (Some c) mid → new ≡ record { ear = mid.ear; core = Some x.core } → x ≡ echoes_by c.agreed now c
+    → EchoesIn old.core now old (Ok x.acts) new
+echoes_done now c old mid new x (is, free, taken) put e =
+    echoes_live now c old new (Ok x.acts) is free
+    (ap (λ (y : Effect). y.acts) e, put ∙ (ap (λ (y : Terminal). terminal y.ear (Some x.core)) taken ∙ ap (λ (y : Effect). terminal old.ear (Some y.core)) e))
+
+pub echoes_broke : (now : ℕ) (c : Core) (old mid : Terminal) (r : Result (List LinkAction) AllocError) → TakesFree old (Some c) mid → IsErr r → EchoesIn old.core now old r mid
+echoes_broke now c old mid (Ok acts) taken no_err = absurd (false≢true no_err)
+echoes_broke now c old mid (Err e) (is, free, taken) err = echoes_live now c old mid (Err e) is free taken

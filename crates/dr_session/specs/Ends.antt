@@ -161,6 +161,11 @@ abbrev pub EchoesIn : Option Core → ℕ → Terminal → Result (List LinkActi
 EchoesIn None now old result new = (result ≡ Ok []) × (new ≡ old)
 EchoesIn (Some c) now old result new = EchoesBy (is_free c) now c old result new
 
+-- an end's core is taken out of it, where it may send
+abbrev pub TakesFree : Terminal → Option Core → Terminal → Type 0
+TakesFree old None new = (is_free_in old.core ≡ false) × (new ≡ old)
+TakesFree old (Some c) new = (old.core ≡ Some c) × (is_free c ≡ true) × (new ≡ record { ear = old.ear; core = None })
+
 -- ---- how it begins
 
 -- a requestor's end for a hop of the site, which asks for the association at once; or there is none

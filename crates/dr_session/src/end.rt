@@ -5,7 +5,7 @@ ghost use Rattle.dr_network.specs.Formed.{IsName};
 ghost use Rattle.dr_nego.specs.Proposing.{echo_proposal};
 ghost use Rattle.dr_pdu.specs.Written.{Fits};
 ghost use Rattle.dr_pdu.specs.declared.pdu.Pdu.TheVariants as pdus;
-ghost use Rattle.dr_session.specs.Ends.{accepting, requesting, requesting_echo, begins, unmarked as no_marks, OpensTo, Meets, HearsOf, HearsBytes, TakesCore, EchoesIn, is_free_in, is_dry_in, state_in, over_of, ended_by};
+ghost use Rattle.dr_session.specs.Ends.{accepting, requesting, requesting_echo, begins, unmarked as no_marks, OpensTo, Meets, HearsOf, HearsBytes, TakesCore, TakesFree, EchoesIn, is_free_in, is_dry_in, state_in, over_of, ended_by};
 ghost use Rattle.dr_session.specs.Reactions.{write};
 
 use crate::echoing::{ask_echo, is_free};
@@ -181,10 +181,7 @@ impl End {
     pub fn echo(&mut self, now: u64) -> Result<Seq<LinkAction>, AllocError>
         ensures { EchoesIn self.old.core now self.old result self.new }
     {
-        if !self.is_free() {
-            return Ok(Seq::new(self.alloc));
-        }
-        let Some(core) = self.core.take() else {
+        let Some(core) = self.take_free() else {
             return Ok(Seq::new(self.alloc));
         };
         let effect = ask_echo(self.alloc, core, now)?;
@@ -291,6 +288,16 @@ impl End {
         let Effect { acts, core } = effect;
         self.put(core);
         Ok(acts)
+    }
+
+    /// Its core, where it may send.
+    fn take_free(&mut self) -> Option<Core>
+        ensures { TakesFree self.old result self.new }
+    {
+        if !self.is_free() {
+            return None;
+        }
+        self.core.take()
     }
 
     /// Memory ended.
