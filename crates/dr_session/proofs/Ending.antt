@@ -129,3 +129,11 @@ echoes_done now c old mid new x (is, free, taken) put e =
 pub echoes_broke : (now : ℕ) (c : Core) (old mid : Terminal) (r : Result (List LinkAction) AllocError) → TakesFree old (Some c) mid → IsErr r → EchoesIn old.core now old r mid
 echoes_broke now c old mid (Ok acts) taken no_err = absurd (false≢true no_err)
 echoes_broke now c old mid (Err e) (is, free, taken) err = echoes_live now c old mid (Err e) is free taken
+
+pub takes_free : (old : Terminal) (ear : Feeding) (core r after : Option Core) → r ≡ core → after ≡ None → terminal ear core ≡ old → is_free_in old.core ≡ true → TakesFree old r (terminal ear after)
+takes_free old ear core None after same none view free =
+    let is : old.core ≡ None = ap (λ (y : Terminal). y.core) (sym view) ∙ sym same in
+    absurd (false≢true (subst (λ (o : Option Core). is_free_in o ≡ true) is free))
+takes_free old ear core (Some c) after same none view free =
+    let is : old.core ≡ Some c = ap (λ (y : Terminal). y.core) (sym view) ∙ sym same in
+    (is, subst (λ (o : Option Core). is_free_in o ≡ true) is free, ap (λ (o : Option Core). terminal ear o) none ∙ ap (λ (y : Terminal). terminal y.ear None) view)
