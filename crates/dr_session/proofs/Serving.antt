@@ -1,8 +1,8 @@
 -- A session, step by step.
-use Rattle.std.specs.Prelude.{◌≡◌, ◌⊎◌, ◌^◌, ℕ, Bool, true, false, List, [], ◌∷◌, ◌++◌, drop, length, ◌<◌, ◌≤◌, ◌+◌, suc, not, ◌||◌, nat_le, Some, None, Result, Ok, Err}
+use Rattle.std.specs.Prelude.{◌≡◌, ◌⊎◌, ◌^◌, ℕ, Bool, true, false, List, [], ◌∷◌, ◌++◌, drop, length, ◌<◌, ◌≤◌, ◌+◌, suc, not, ◌||◌, nat_le, if◌then◌else◌, Some, None, Result, Ok, Err}
 use Rattle.std.proofs.Common.{refl, sym, ap, subst, ◌∙◌, drop-cons, get_or, arith, inl, inr}
 use Rattle.std.specs.Result.{IsErr, IsErrAnd}
-use Rattle.std.proofs.lemmas.Bool.{false≢true}
+use Rattle.std.proofs.lemmas.Bool.{false≢true, leb-false}
 use Rattle.std.proofs.Math.ListN.{drop_of_length-le}
 use Rattle.std.specs.declared.alloc.AllocError.{AllocError}
 use Rattle.dr_session.specs.declared.ends.Heard.{Heard}
@@ -20,7 +20,7 @@ use Rattle.dr_session.specs.declared.wishes.Kind.TheVariants.{Receive, Deliver, 
 use Rattle.dr_session.specs.declared.wishes.Wish.{Wish}
 use Rattle.dr_session.specs.declared.wishes.Wish.TheVariants.{Listen, Push, Release, Echo}
 use Rattle.dr_session.specs.Desks.{DeskCall, DeskAnswer}
-use Rattle.dr_session.specs.Ends.{Terminal, HearsOf, over_of, is_free_in}
+use Rattle.dr_session.specs.Ends.{Terminal, HearsOf, over_of, is_free_in, is_dry_in}
 use Rattle.dr_session.specs.Links.{HasRisen, Counts, Performs, FailsToPerform, PerformsOne, Doing, Hears, Asks, Echoes, wants, IsWished, asked_after, reads, Finishes, Place, place, IsMoment, Does, Performed, Did, CarriesOut, Leaves, Stops, GoesOn, Served, StopsAt, EndsAs, IsLinkFailure, reads_by, asked_by}
 
 -- ---- actions
@@ -139,3 +139,173 @@ module _ {L S : Type 0} (hears : L → Heard → L → Type 0) (step : S → Des
       → (at' : Moment) × (acts' : List LinkAction) × (new' : Terminal) × Unit {0} × (IsMoment tells others at' × hears k heard.Fault l × HearsOf step heard.Fault at' old s (Ok acts') new' t)
   heard_fault at came acts k l old new s t is moment comes h =
       (at, acts, new, tt, (moment, subst (λ (x : Heard). hears k x l) is comes, subst (λ (x : Heard). HearsOf step x at old s (Ok acts) new t) is h))
+
+-- ---- counts of reads, and of what was asked
+
+abbrev pub reads_after : Doing → ℕ → ℕ
+reads_after (Hears at came) n = n + 1
+reads_after (Asks at input) n = n
+reads_after (Echoes at) n = n
+
+after_suc : (x : Doing) (n : ℕ) → reads_after x n + 1 ≡ reads_after x (n + 1)
+after_suc (Hears at came) n = refl
+after_suc (Asks at input) n = refl
+after_suc (Echoes at) n = refl
+
+reads_more : (xs : List Doing) (x : Doing) → reads (xs ++ x ∷ []) ≡ reads_after x (reads xs)
+reads_more [] (Hears at came) = refl
+reads_more [] (Asks at input) = refl
+reads_more [] (Echoes at) = refl
+reads_more (Hears at came ∷ xs) x = ap (λ (n : ℕ). n + 1) (reads_more xs x) ∙ after_suc x (reads xs)
+reads_more (Asks at input ∷ xs) x = reads_more xs x
+reads_more (Echoes at ∷ xs) x = reads_more xs x
+
+read_as : (w : Wish) (x : Doing) (n : ℕ) → IsWished w x → reads_after x n ≡ reads_by w n
+read_as Listen (Hears at came) n is = refl
+read_as Listen (Asks at input) n is = absurd is
+read_as Listen (Echoes at) n is = absurd is
+read_as Push (Hears at came) n is = absurd is
+read_as Push (Asks at input) n is = refl
+read_as Push (Echoes at) n is = absurd is
+read_as Release (Hears at came) n is = absurd is
+read_as Release (Asks at input) n is = refl
+read_as Release (Echoes at) n is = absurd is
+read_as Echo (Hears at came) n is = absurd is
+read_as Echo (Asks at input) n is = absurd is
+read_as Echo (Echoes at) n is = refl
+
+asked_as : (w : Wish) (x : Doing) (n : ℕ) → IsWished w x → asked_after x n ≡ asked_by w n
+asked_as Listen (Hears at came) n is = refl
+asked_as Listen (Asks at input) n is = absurd is
+asked_as Listen (Echoes at) n is = absurd is
+asked_as Push (Hears at came) n is = absurd is
+asked_as Push (Asks at input) n is = refl
+asked_as Push (Echoes at) n is = absurd is
+asked_as Release (Hears at came) n is = absurd is
+asked_as Release (Asks at input) n is = refl
+asked_as Release (Echoes at) n is = absurd is
+asked_as Echo (Hears at came) n is = absurd is
+asked_as Echo (Asks at input) n is = absurd is
+asked_as Echo (Echoes at) n is = refl
+
+pub both_count : (w : Wish) (reads asked done : ℕ) → reads + asked ≡ done → reads_by w reads + asked_by w asked ≡ done + 1
+both_count Listen reads asked done e = omega (arith, e)
+both_count Push reads asked done e = omega (arith, e)
+both_count Release reads asked done e = omega (arith, e)
+both_count Echo reads asked done e = omega (arith, e)
+
+pub reads_below : (w : Wish) (reads : ℕ) → reads < 2 ^ 40 → reads_by w reads ≤ 2 ^ 40
+reads_below Listen reads h = omega (arith, h)
+reads_below Push reads h = omega (arith, h)
+reads_below Release reads h = omega (arith, h)
+reads_below Echo reads h = omega (arith, h)
+
+-- one that asked 65,536 times listens
+asked_by_test : (free full dry : Bool) (n : ℕ) → nat_le 65536 n ≡ full → n ≤ 65536 → asked_by (if not free || full then Listen else if dry then Release else Push) n ≤ 65536
+asked_by_test false full dry n e h = h
+asked_by_test true true dry n e h = h
+asked_by_test true false true n e h = (let l = leb-false 65536 n e in omega (arith, l))
+asked_by_test true false false n e h = (let l = leb-false 65536 n e in omega (arith, l))
+
+echo_by_test : (free full dry : Bool) (n : ℕ) → nat_le 2 n ≡ full → n ≤ 65536 → asked_by (if not free || full then Listen else if dry then Release else Echo) n ≤ 65536
+echo_by_test false full dry n e h = h
+echo_by_test true true dry n e h = h
+echo_by_test true false true n e h = (let l = leb-false 2 n e in omega (arith, l))
+echo_by_test true false false n e h = (let l = leb-false 2 n e in omega (arith, l))
+
+pub asked_below : (kind : Kind) (n : ℕ) (t : Terminal) → n ≤ 65536 → asked_by (wants kind n t) n ≤ 65536
+asked_below Receive n t h = h
+asked_below Deliver n t h = asked_by_test (is_free_in t.core) (nat_le 65536 n) (is_dry_in t.core || nat_le 65535 n) n refl h
+asked_below EchoOnce n t h = echo_by_test (is_free_in t.core) (nat_le 2 n) (nat_le 1 n) n refl h
+
+-- ---- a session so far
+
+module _ {L S : Type 0} (hears : L → Heard → L → Type 0) (sends : L → List ℕ → Bool → L → Type 0) (closes : L → L → Type 0) (step : S → DeskCall → DeskAnswer → S → Type 0)
+         (tells : ℕ → Type 0) (others : ℕ) (kind : Kind) where
+  served_more : (xs : List Doing) (x : Doing) (asked told : ℕ) (old mid new : Place L S) → Served hears sends closes step tells others kind asked old xs told mid
+      → over_of mid.terminal.core ≡ None → IsWished (wants kind told mid.terminal) x → Did hears sends closes step tells others mid x new
+      → Served hears sends closes step tells others kind asked old (xs ++ x ∷ []) (asked_after x told) new
+  served_more [] x asked told old mid new (t, same) going is did = (
+    subst (λ (m : Place L S). over_of m.terminal.core ≡ None) same going,
+    subst (λ (n : ℕ). IsWished (wants kind n old.terminal) x) t (subst (λ (m : Place L S). IsWished (wants kind told m.terminal) x) same is),
+    (new, subst (λ (m : Place L S). Did hears sends closes step tells others m x new) same did, (ap (λ (n : ℕ). asked_after x n) t, refl)),
+  )
+  served_more (y ∷ ys) x asked told old mid new (going', is', (next, did', later)) going is did =
+      (going', is', (next, did', served_more ys x (asked_after y asked) told next mid new later going is did))
+
+  -- what has been done so far, with its counts
+  pub record SoFar (old : Place L S) (done reads_made asked : ℕ) (now : Place L S) : Type 0 where
+    pub doings : List Doing
+    pub served : Served hears sends closes step tells others kind 0 old doings asked now
+    pub reads_are : reads doings ≡ reads_made
+    pub few : asked ≤ 65536
+    pub below : reads_made ≤ 2 ^ 40
+    pub counted : reads_made + asked ≡ done
+
+  pub so_far : (old : Place L S) → SoFar old 0 0 0 old
+  so_far old = record { doings = []; served = (refl, refl); reads_are = refl; few = omega arith; below = omega arith; counted = refl }
+
+  pub more_done : (w : Wish) (old now new : Place L S) (done reads_made asked : ℕ) → SoFar old done reads_made asked now → over_of now.terminal.core ≡ None → w ≡ wants kind asked now.terminal → reads_made < 2 ^ 40
+      → GoesOn hears sends closes step tells others (IsWished w) (Ok tt) now new → SoFar old (done + 1) (reads_by w reads_made) (asked_by w asked) new
+  more_done w old now new done reads_made asked h going wished few_reads (x, is, did) = record {
+    doings = h.doings ++ x ∷ [];
+    served = subst (λ (n : ℕ). Served hears sends closes step tells others kind 0 old (h.doings ++ x ∷ []) n new) (asked_as w x asked is)
+        (served_more h.doings x 0 asked old now new h.served going (subst (λ (v : Wish). IsWished v x) wished is) did);
+    reads_are = reads_more h.doings x ∙ (ap (λ (n : ℕ). reads_after x n) h.reads_are ∙ read_as w x reads_made is);
+    few = subst (λ (v : Wish). asked_by v asked ≤ 65536) (sym wished) (asked_below kind asked now.terminal h.few);
+    below = reads_below w reads_made few_reads;
+    counted = both_count w reads_made asked done h.counted;
+  }
+
+  pub more_done_as : (w : Wish) (old now new : Place L S) (done reads_made asked r a : ℕ) → SoFar old done reads_made asked now → over_of now.terminal.core ≡ None → w ≡ wants kind asked now.terminal → reads_made < 2 ^ 40
+      → GoesOn hears sends closes step tells others (IsWished w) (Ok tt) now new → r ≡ reads_by w reads_made → a ≡ asked_by w asked → SoFar old (done + 1) r a new
+  more_done_as w old now new done reads_made asked r a h going wished few_reads goes e f =
+      subst (λ (n : ℕ). SoFar old (done + 1) n a new) (sym e) (subst (λ (n : ℕ). SoFar old (done + 1) (reads_by w reads_made) n new) (sym f) (more_done w old now new done reads_made asked h going wished few_reads goes))
+
+  pub ends_over : (o : Over) (r : Result Ended SessionFault) (old now : Place L S) (done reads_made asked : ℕ) → SoFar old done reads_made asked now → over_of now.terminal.core ≡ Some o → Finishes o r
+      → EndsAs hears sends closes step tells others kind r old now.link now.port
+  ends_over (over.Ended e) r old now done reads_made asked h is f =
+      subst (λ (x : Result Ended SessionFault). EndsAs hears sends closes step tells others kind x old now.link now.port) (sym f) (h.doings, asked, now.terminal, h.served, is)
+  ends_over over.Desk r old now done reads_made asked h is f =
+      subst (λ (x : Result Ended SessionFault). EndsAs hears sends closes step tells others kind x old now.link now.port) (sym f) (h.doings, asked, now.terminal, h.served, is)
+  ends_over over.Memory r old now done reads_made asked h is f =
+      subst (λ (x : Result Ended SessionFault). EndsAs hears sends closes step tells others kind x old now.link now.port) (sym f) (h.doings, asked, now, h.served, inl (refl, refl))
+
+  stops_as : (why : SessionFault) (old now : Place L S) (done reads_made asked : ℕ) (l : L) (t : S) → SoFar old done reads_made asked now
+      → Stops hears sends closes step tells others (IsWished (wants kind asked now.terminal)) why now l t → EndsAs hears sends closes step tells others kind (Err why) old l t
+  stops_as fault.Read old now done reads_made asked l t h s = (h.doings, asked, now, h.served, s)
+  stops_as fault.Write old now done reads_made asked l t h s = (h.doings, asked, now, h.served, s)
+  stops_as fault.Memory old now done reads_made asked l t h s = (h.doings, asked, now, h.served, inr s)
+  stops_as fault.NoHop old now done reads_made asked l t h s = absurd s
+  stops_as fault.TooManyReads old now done reads_made asked l t h s = absurd s
+  stops_as fault.Desk old now done reads_made asked l t h s = absurd s
+
+  pub ends_stopped : (w : Wish) (why : SessionFault) (r : Result Ended SessionFault) (old now new : Place L S) (done reads_made asked : ℕ) → SoFar old done reads_made asked now → w ≡ wants kind asked now.terminal
+      → IsErr r → IsErrAnd r (λ (e : SessionFault). e ≡ why) → GoesOn hears sends closes step tells others (IsWished w) (Err why) now new → EndsAs hears sends closes step tells others kind r old new.link new.port
+  ends_stopped w why (Ok e) old now new done reads_made asked h wished no_err gives s = absurd (false≢true no_err)
+  ends_stopped w why (Err e) old now new done reads_made asked h wished err gives s =
+      subst (λ (x : SessionFault). EndsAs hears sends closes step tells others kind (Err x) old new.link new.port) (sym gives)
+      (stops_as why old now done reads_made asked new.link new.port h (subst (λ (v : Wish). Stops hears sends closes step tells others (IsWished v) why now new.link new.port) wished s))
+
+pub failure_same : {X : Type 0} (Y : Type 0) (r : Result X SessionFault) (why : SessionFault) (a b : ℕ) → IsErr r → IsErrAnd r (λ (e : SessionFault). e ≡ why) → Counts (IsLinkFailure {X = Y} (Err why)) a b → Counts (IsLinkFailure r) a b
+failure_same Y (Ok x) why a b no_err gives h = absurd (false≢true no_err)
+failure_same {X = X} Y (Err e) why a b err gives h = (h.0, λ f. h.1 (across e why gives f))
+  where
+    same : (w : SessionFault) → IsLinkFailure {X = X} (Err w) → IsLinkFailure {X = Y} (Err w)
+    same fault.Read f = f
+    same fault.Write f = f
+    same fault.NoHop f = f
+    same fault.TooManyReads f = f
+    same fault.Desk f = f
+    same fault.Memory f = f
+
+    across : (e why : SessionFault) → e ≡ why → IsLinkFailure {X = X} (Err e) → IsLinkFailure {X = Y} (Err why)
+    across e why is f = same why (subst (λ (w : SessionFault). IsLinkFailure {X = X} (Err w)) is f)
+
+pub finish_counts : (o : Over) (r : Result Ended SessionFault) (a b : ℕ) → Finishes o r → a ≤ b → Counts (IsLinkFailure r) a b
+finish_counts o r a b f h = no_failure r a b h (by_over o r f)
+  where
+    by_over : (o : Over) (r : Result Ended SessionFault) → Finishes o r → IsLinkFailure r → ⊥
+    by_over (over.Ended e) r f g = subst (λ (x : Result Ended SessionFault). IsLinkFailure x) f g
+    by_over over.Desk r f g = subst (λ (x : Result Ended SessionFault). IsLinkFailure x) f g
+    by_over over.Memory r f g = subst (λ (x : Result Ended SessionFault). IsLinkFailure x) f g
