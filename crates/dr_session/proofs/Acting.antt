@@ -145,7 +145,7 @@ module _ {S : Type 0} (step : S → DeskCall → DeskAnswer → S → Type 0) wh
       → IfOk result (λ (x : Effect). Turns step (acts a at told (record c { phase = next })) s x t) → IfOk result (λ (x : Effect). Turns step (turn at c told) s x t)
   done_moved at told c e acceptable r a next event taken is ok result s t h =
       done_by step (turn at c told) (acts a at told (record c { phase = next })) result s t
-          (met at told c e acceptable r event taken is ∙ ap (λ (x : Result (Action × Next) Next). moves x at told c) ok) h
+      (met at told c e acceptable r event taken is ∙ ap (λ (x : Result (Action × Next) Next). moves x at told c) ok) h
 
   pub broke_moved : (at : Moment) (told : Told) (c : Core) (e : Event) (acceptable : Bool) (r : Result (Action × Next) Next) (a : Action) (next : Next)
       → event_of told at c ≡ Some e → is_taken told at c ≡ acceptable → r ≡ next_stepped e acceptable c.phase at.now → r ≡ Ok (a, next)
@@ -153,7 +153,7 @@ module _ {S : Type 0} (step : S → DeskCall → DeskAnswer → S → Type 0) wh
       → OnErr result (Broke step (acts a at told (record c { phase = next })) s t) → OnErr result (Broke step (turn at c told) s t)
   broke_moved at told c e acceptable r a next event taken is ok result s t h =
       broke_by step (turn at c told) (acts a at told (record c { phase = next })) result s t
-          (met at told c e acceptable r event taken is ∙ ap (λ (x : Result (Action × Next) Next). moves x at told c) ok) h
+      (met at told c e acceptable r event taken is ∙ ap (λ (x : Result (Action × Next) Next). moves x at told c) ok) h
 
   -- it was met, and nothing was done
   pub done_unmoved : (at : Moment) (told : Told) (c : Core) (e : Event) (acceptable : Bool) (r : Result (Action × Next) Next) (same : Next)

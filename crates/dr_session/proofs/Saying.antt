@@ -30,20 +30,22 @@ pub tells_unagreed : (c : Core) (p : Pdv) → c.agreed ≡ None → TellsValueTo
 tells_unagreed c p none = (c.assembly.stage, subst (λ (o : Option Agreed). TellsValue o c p Strange c.assembly.stage) (sym none) (refl, refl), refl)
 
 pub tells_strange : (c : Core) (p : Pdv) (agreed : Agreed) → c.agreed ≡ Some agreed → None ≡ pair_at agreed p.id → TellsValueTo c p Strange c
-tells_strange c p agreed some none =
-    (c.assembly.stage,
-    subst (λ (o : Option Agreed). TellsValue o c p Strange c.assembly.stage) (sym some)
-        (subst (λ (o : Option Pair). TellsIn o c p Strange c.assembly.stage) none (refl, refl)),
-    refl)
+tells_strange c p agreed some none = (
+  c.assembly.stage,
+  subst (λ (o : Option Agreed). TellsValue o c p Strange c.assembly.stage) (sym some)
+      (subst (λ (o : Option Pair). TellsIn o c p Strange c.assembly.stage) none (refl, refl)),
+  refl,
+)
 
 pub tells_taken : (c : Core) (p : Pdv) (agreed : Agreed) (x : Pair) (answer : Result (Option Message) DimseFault) (new : Assembling) (told : Told)
     → c.agreed ≡ Some agreed → Some x ≡ pair_at agreed p.id → Takes c.assembly.awaited c.assembly.stage p answer new.stage
     → new.awaited ≡ c.assembly.awaited → Says x answer told → TellsValueTo c p told (record c { assembly = new })
-tells_taken c p agreed x answer new told some pair takes awaited says =
-    (new.stage,
-    subst (λ (o : Option Agreed). TellsValue o c p told new.stage) (sym some)
-        (subst (λ (o : Option Pair). TellsIn o c p told new.stage) pair (answer, takes, says)),
-    ap (λ (w : Awaited). record c { assembly = assembling w new.stage }) awaited)
+tells_taken c p agreed x answer new told some pair takes awaited says = (
+  new.stage,
+  subst (λ (o : Option Agreed). TellsValue o c p told new.stage) (sym some)
+      (subst (λ (o : Option Pair). TellsIn o c p told new.stage) pair (answer, takes, says)),
+  ap (λ (w : Awaited). record c { assembly = assembling w new.stage }) awaited,
+)
 
 -- by the assembly's answer
 pub says_by : (x : Pair) (told : Told) (r answer : Result (Option Message) DimseFault) → r ≡ answer → Says x answer told → Says x r told

@@ -119,8 +119,8 @@ bringing : (c : Core) (context id : ℕ) (class instance : Text) (item : Job) �
 bringing c context id class instance item =
     let follow : Result Arrived LedgerFault → Reaction = λ r. Ends (stored c context id class instance (status_of r)) in
     either (is_named item class instance) (Asks (Arrive c.peer item) (arrival follow)) (Ends (stored c context id class instance 0xA900))
-        (λ reply. came follow (λ r. said c context (StoreRsp id (status_of r) class instance false)) reply)
-        (said c context (StoreRsp id 0xA900 class instance false))
+    (λ reply. came follow (λ r. said c context (StoreRsp id (status_of r) class instance false)) reply)
+    (said c context (StoreRsp id 0xA900 class instance false))
 
 arriving : (c : Core) (context id : ℕ) (class instance : Text) (found : Found) → Spells (arrives c context id class instance found)
 arriving c context id class instance TooLarge = said c context (StoreRsp id 0xA700 class instance false)
@@ -130,7 +130,7 @@ arriving c context id class instance (Read item) = bringing c context id class i
 storing : (c : Core) (context : ℕ) (of : Text) (id : ℕ) (class instance : Text) (found : Found) → Spells (stores c context of id class instance found)
 storing c context of id class instance found =
     either (bytes_eq class of) (arrives c context id class instance found) (Ends (stored c context id class instance 0x0122))
-        (arriving c context id class instance found) (said c context (StoreRsp id 0x0122 class instance false))
+    (arriving c context id class instance found) (said c context (StoreRsp id 0x0122 class instance false))
 
 asked_other : (c : Core) (context field : ℕ) (id status : Option ℕ) → Spells (requested_other c context field id status)
 asked_other c context field (Some id) None = said c context (Other (0x8000 + field) (Some id) (Some 0x0211) false)
@@ -312,7 +312,7 @@ plays_spelled : {S : Type 0} (step : S → DeskCall → DeskAnswer → S → Typ
 plays_spelled step c d [] s t done (none, same, stood) = subst (λ (l : List LinkAction). AllByRecursion IsSpelled l) (sym none) tt
 plays_spelled step c d (i ∷ is) s t done (x, m, later, one, more, are) =
     subst (λ (l : List LinkAction). AllByRecursion IsSpelled l) (sym are)
-        (append_spelled x.acts later (writes_pdus step i.moment (with_stage one.stage c) one.told s m x one.turns) (plays_spelled step x.core d is m t later more))
+    (append_spelled x.acts later (writes_pdus step i.moment (with_stage one.stage c) one.told s m x one.turns) (plays_spelled step x.core d is m t later more))
 
 module _ {S : Type 0} (step : S → DeskCall → DeskAnswer → S → Type 0) (at : Moment) (old new : Terminal) (s t : S) (done : List LinkAction) where
   nothing_spelled : (r : Result (List LinkAction) AllocError) → r ≡ Ok done → r ≡ Ok [] → AllByRecursion IsSpelled done

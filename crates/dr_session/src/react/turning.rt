@@ -181,7 +181,8 @@ fn act_rejection<P: DeskPort>(
     };
     match input {
         Input::Rejection(rejection) => {
-            refuse(alloc, mark_rejected(rejection, leave_pending(core)), port, at)
+            let core = mark_rejected(rejection, leave_pending(core));
+            refuse(alloc, core, port, at)
         }
         _ => Ok(quiet(alloc, core)),
     }
@@ -321,16 +322,7 @@ fn act<P: DeskPort>(
         Action::Aa5 => leave(none(alloc), core, port, at),
         Action::Aa7 => abort_closing(alloc, core),
         Action::Aa8 => leave_aborting(alloc, 2, reason(&told), core, port, at),
-        Action::Ae1 => Ok(quiet(alloc, core)),
-        Action::Ae2 => Ok(quiet(alloc, core)),
-        Action::Ae5 => Ok(quiet(alloc, core)),
-        Action::Ae7 => Ok(quiet(alloc, core)),
-        Action::Ae8 => Ok(quiet(alloc, core)),
-        Action::Ar4 => Ok(quiet(alloc, core)),
-        Action::Ar5 => Ok(quiet(alloc, core)),
-        Action::Ar7 => Ok(quiet(alloc, core)),
-        Action::Ar9 => Ok(quiet(alloc, core)),
-        Action::Aa6 => Ok(quiet(alloc, core)),
+        _ => Ok(quiet(alloc, core)),
     }
 }
 
@@ -495,7 +487,8 @@ fn meet_request<P: DeskPort>(
 {
     let acceptable = is_acceptable(alloc, &rq, &core, at)?;
     let incoming = Incoming::AssociateRq { acceptable };
-    meet(alloc, incoming, Told::Plain(Input::Request(rq)), core, port, at)
+    let told = Told::Plain(Input::Request(rq));
+    meet(alloc, incoming, told, core, port, at)
 }
 
 /// Whether the service provider doesn't reject it.
@@ -533,9 +526,7 @@ fn turn_plain<P: DeskPort>(
     match input {
         Input::Request(rq) => meet_request(alloc, rq, core, port, at),
         Input::Late => meet_late(alloc, core, port, at),
-        Input::AbortAsked => {
-            meet_abort(alloc, Told::Plain(Input::AbortAsked), core, port, at)
-        }
+        Input::AbortAsked => { meet_abort(alloc, Told::Plain(Input::AbortAsked), core, port, at) }
         Input::ReleaseAsked => meet_release(alloc, core, port, at),
         Input::PushAsked => meet_push(alloc, core, port, at),
         Input::Acceptance(ac) => turn_heard(alloc, Input::Acceptance(ac), core, port, at),
@@ -613,7 +604,8 @@ pub fn take_turn<P: DeskPort>(
         Told::Quiet => meet(alloc, Incoming::DataTf, Told::Quiet, core, port, at),
         Told::Fault => meet(alloc, Incoming::DataTf, Told::Fault, core, port, at),
         Told::Agreement(answer) => {
-            meet(alloc, Incoming::AssociateAc, Told::Agreement(answer), core, port, at)
+            let told = Told::Agreement(answer);
+            meet(alloc, Incoming::AssociateAc, told, core, port, at)
         }
         Told::Whole {
             context,

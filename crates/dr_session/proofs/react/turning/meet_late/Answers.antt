@@ -8,17 +8,17 @@ use Rattle.dr_session.proofs.react.turning.meet_late.Goals as goal
 pub returns-in-Ok-clause-done : goal.returns-in-Ok-clause-done
 returns-in-Ok-clause-done g c =
     done_moved g.P.DeskPort.step c.args.at (Plain Late) c.args.core ArtimExpired true c.late.result c.in-Ok.action c.in-Ok.phase (expires c.args.at c.args.core (sym c.artim_has_expired.ensures ∙ c.if-artim_has_expired.true)) refl (c.late.ensures ∙ late_steps c.args.core.phase c.args.at.now (sym c.artim_has_expired.ensures ∙ c.if-artim_has_expired.true)) c.in-Ok.is
-        c.act.result c.args.port.now c.act.new.port c.act.ensures.done
+    c.act.result c.args.port.now c.act.new.port c.act.ensures.done
 
 pub returns-in-Ok-clause-broke : goal.returns-in-Ok-clause-broke
 returns-in-Ok-clause-broke g c =
     broke_moved g.P.DeskPort.step c.args.at (Plain Late) c.args.core ArtimExpired true c.late.result c.in-Ok.action c.in-Ok.phase (expires c.args.at c.args.core (sym c.artim_has_expired.ensures ∙ c.if-artim_has_expired.true)) refl (c.late.ensures ∙ late_steps c.args.core.phase c.args.at.now (sym c.artim_has_expired.ensures ∙ c.if-artim_has_expired.true)) c.in-Ok.is
-        c.act.result c.args.port.now c.act.new.port c.act.ensures.broke
+    c.act.result c.args.port.now c.act.new.port c.act.ensures.broke
 
 pub returns-in-Err-clause-done : goal.returns-in-Err-clause-done
 returns-in-Err-clause-done g c =
     done_unmoved g.P.DeskPort.step c.args.at (Plain Late) c.args.core ArtimExpired true c.late.result c.in-Err.phase (expires c.args.at c.args.core (sym c.artim_has_expired.ensures ∙ c.if-artim_has_expired.true)) refl (c.late.ensures ∙ late_steps c.args.core.phase c.args.at.now (sym c.artim_has_expired.ensures ∙ c.if-artim_has_expired.true)) c.in-Err.is
-        c.quiet.result c.args.port.now c.quiet.ensures
+    c.quiet.result c.args.port.now c.quiet.ensures
 
 pub meet_abort-requires-clause-event : goal.meet_abort-requires-clause-event
 meet_abort-requires-clause-event g c = waits_long c.args.at c.args.core (sym c.artim_has_expired.ensures ∙ c.if-artim_has_expired.false) (sym c.is_impatient.ensures ∙ c.if-is_impatient.true)

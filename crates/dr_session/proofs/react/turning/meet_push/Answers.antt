@@ -12,14 +12,14 @@ returns-then-not-may_push-clause-done g c =
 pub returns-in-Ok-clause-done : goal.returns-in-Ok-clause-done
 returns-in-Ok-clause-done g c =
     done_moved g.P.DeskPort.step c.args.at (Plain PushAsked) c.args.core DataRequest true c.send.result c.in-Ok.action c.in-Ok.phase (push_is c.args.at c.args.core true (sym c.may_push.ensures ∙ c.if-not-may_push.false)) refl (c.send.ensures ∙ push_steps c.args.core c.args.at.now (sym c.may_push.ensures ∙ c.if-not-may_push.false)) c.in-Ok.is
-        c.act.result c.args.port.now c.act.new.port c.act.ensures.done
+    c.act.result c.args.port.now c.act.new.port c.act.ensures.done
 
 pub returns-in-Ok-clause-broke : goal.returns-in-Ok-clause-broke
 returns-in-Ok-clause-broke g c =
     broke_moved g.P.DeskPort.step c.args.at (Plain PushAsked) c.args.core DataRequest true c.send.result c.in-Ok.action c.in-Ok.phase (push_is c.args.at c.args.core true (sym c.may_push.ensures ∙ c.if-not-may_push.false)) refl (c.send.ensures ∙ push_steps c.args.core c.args.at.now (sym c.may_push.ensures ∙ c.if-not-may_push.false)) c.in-Ok.is
-        c.act.result c.args.port.now c.act.new.port c.act.ensures.broke
+    c.act.result c.args.port.now c.act.new.port c.act.ensures.broke
 
 pub returns-in-Err-clause-done : goal.returns-in-Err-clause-done
 returns-in-Err-clause-done g c =
     done_unmoved g.P.DeskPort.step c.args.at (Plain PushAsked) c.args.core DataRequest true c.send.result c.in-Err.phase (push_is c.args.at c.args.core true (sym c.may_push.ensures ∙ c.if-not-may_push.false)) refl (c.send.ensures ∙ push_steps c.args.core c.args.at.now (sym c.may_push.ensures ∙ c.if-not-may_push.false)) c.in-Err.is
-        c.quiet-in-Err.result c.args.port.now c.quiet-in-Err.ensures
+    c.quiet-in-Err.result c.args.port.now c.quiet-in-Err.ensures

@@ -12,14 +12,14 @@ returns-then-not-is_idle_requestor-clause-done g c =
 pub returns-in-Ok-clause-done : goal.returns-in-Ok-clause-done
 returns-in-Ok-clause-done g c =
     done_moved g.P.DeskPort.step c.args.at (Plain ReleaseAsked) c.args.core ReleaseRequest true c.release.result c.in-Ok.action c.in-Ok.phase (release_is c.args.at c.args.core true (sym c.is_idle_requestor.ensures ∙ c.if-not-is_idle_requestor.false)) refl c.release.ensures c.in-Ok.is
-        c.act.result c.args.port.now c.act.new.port c.act.ensures.done
+    c.act.result c.args.port.now c.act.new.port c.act.ensures.done
 
 pub returns-in-Ok-clause-broke : goal.returns-in-Ok-clause-broke
 returns-in-Ok-clause-broke g c =
     broke_moved g.P.DeskPort.step c.args.at (Plain ReleaseAsked) c.args.core ReleaseRequest true c.release.result c.in-Ok.action c.in-Ok.phase (release_is c.args.at c.args.core true (sym c.is_idle_requestor.ensures ∙ c.if-not-is_idle_requestor.false)) refl c.release.ensures c.in-Ok.is
-        c.act.result c.args.port.now c.act.new.port c.act.ensures.broke
+    c.act.result c.args.port.now c.act.new.port c.act.ensures.broke
 
 pub returns-in-Err-clause-done : goal.returns-in-Err-clause-done
 returns-in-Err-clause-done g c =
     done_unmoved g.P.DeskPort.step c.args.at (Plain ReleaseAsked) c.args.core ReleaseRequest true c.release.result c.in-Err.phase (release_is c.args.at c.args.core true (sym c.is_idle_requestor.ensures ∙ c.if-not-is_idle_requestor.false)) refl c.release.ensures c.in-Err.is
-        c.quiet-in-Err.result c.args.port.now c.quiet-in-Err.ensures
+    c.quiet-in-Err.result c.args.port.now c.quiet-in-Err.ensures
