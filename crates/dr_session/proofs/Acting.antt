@@ -16,9 +16,9 @@ use Rattle.dr_session.specs.declared.ends.Input.{Input}
 use Rattle.dr_session.specs.declared.ends.Input.TheVariants as input
 use Rattle.dr_session.specs.declared.ends.Moment.{Moment}
 use Rattle.dr_session.specs.declared.ends.Told.{Told}
-use Rattle.dr_session.specs.declared.ends.Told.TheVariants.{Plain}
+use Rattle.dr_session.specs.declared.ends.Told.TheVariants.{Plain, Quiet, Fault, Strange, Store, Whole, Agreement}
 use Rattle.dr_session.specs.Desks.{DeskCall, DeskAnswer}
-use Rattle.dr_session.specs.Fits.{IsHeard, heard_as}
+use Rattle.dr_session.specs.Fits.{IsHeard, heard_as, IsLooked, told_as}
 use Rattle.dr_session.specs.Reactions.{Reaction, turn, occurs, moves, acts, effect, quiet, is_requestor, is_idle, is_ready, is_impatient, event_of, is_taken}
 use Rattle.dr_session.specs.Turns.{Turn, Ends, Asks, Fails, Turns, Broke}
 
@@ -126,6 +126,33 @@ heard_taken input.Late at c h = absurd h
 heard_taken input.AbortAsked at c h = absurd h
 heard_taken input.ReleaseAsked at c h = absurd h
 heard_taken input.PushAsked at c h = absurd h
+
+pub looked_event : (told : Told) (at : Moment) (c : Core) → IsLooked told → event_of told at c ≡ Some (event_of_incoming (told_as told))
+looked_event (Plain i) at c h = absurd h
+looked_event Quiet at c h = refl
+looked_event Fault at c h = refl
+looked_event Strange at c h = refl
+looked_event (Store context of id class instance found) at c h = refl
+looked_event (Whole context of command) at c h = refl
+looked_event (Agreement answer) at c h = refl
+
+pub looked_taken : (told : Told) (at : Moment) (c : Core) → IsLooked told → is_taken told at c ≡ is_acceptable (told_as told)
+looked_taken (Plain i) at c h = absurd h
+looked_taken Quiet at c h = refl
+looked_taken Fault at c h = refl
+looked_taken Strange at c h = refl
+looked_taken (Store context of id class instance found) at c h = refl
+looked_taken (Whole context of command) at c h = refl
+looked_taken (Agreement answer) at c h = refl
+
+pub looked_by : (told : Told) → ((i : Input) → told ≡ Plain i → ⊥) → IsLooked told
+looked_by (Plain i) h = absurd (h i refl)
+looked_by Quiet h = tt
+looked_by Fault h = tt
+looked_by Strange h = tt
+looked_by (Store context of id class instance found) h = tt
+looked_by (Whole context of command) h = tt
+looked_by (Agreement answer) h = tt
 
 -- ---- where the table has no cell
 

@@ -56,3 +56,14 @@ heard_as (Abort a) = Aborted
 heard_as Unknown = Unrecognized
 heard_as Invalid = Unrecognized
 heard_as i = ConnectionClosed
+
+-- it was looked into
+abbrev pub IsLooked : Told → Type 0
+IsLooked (Plain i) = ⊥
+IsLooked told = Unit {0}
+
+-- what was looked into, as the association sees it: a value in a context that wasn't accepted is no valid PDU
+abbrev pub told_as : Told → Incoming
+told_as Strange = Unrecognized
+told_as (Agreement answer) = AssociateAc
+told_as told = DataTf

@@ -3,7 +3,7 @@ ghost use Rattle.std.specs.Prelude.{◌≡◌, ◌∷◌, [], ◌≤◌, ◌^◌
 ghost use Rattle.dr_dimse.specs.Commands.{status_of as status_in};
 ghost use Rattle.dr_pdu.specs.declared.pdu.Pdu.TheVariants as pdu;
 ghost use Rattle.dr_session.specs.declared.ends.LinkAction.TheVariants.{Close};
-ghost use Rattle.dr_session.specs.Fits.{ToldFits, IsHeard, heard_as};
+ghost use Rattle.dr_session.specs.Fits.{ToldFits, IsHeard, heard_as, IsLooked, told_as};
 ghost use Rattle.dr_session.specs.Reactions.{acts, hears, turn, event_of, is_taken, is_taken_at, effect, write, abort_pdu, aborted, leaves, reason_of, has_waited, is_impatient as is_impatient_since, is_idle, is_ready, stepped_by, released, collides, noted};
 ghost use Rattle.dr_session.specs.Turns.{Turns, Broke, Ends};
 ghost use Rattle.dr_ulstate.specs.Phases.{event_of as event_of_incoming, is_acceptable as is_acceptable_incoming};
@@ -600,42 +600,35 @@ pub fn take_turn<P: DeskPort>(
 {
     match told {
         Told::Plain(input) => turn_plain(alloc, input, core, port, at),
-        Told::Strange => meet(alloc, Incoming::Unrecognized, Told::Strange, core, port, at),
-        Told::Quiet => meet(alloc, Incoming::DataTf, Told::Quiet, core, port, at),
-        Told::Fault => meet(alloc, Incoming::DataTf, Told::Fault, core, port, at),
-        Told::Agreement(answer) => {
-            let told = Told::Agreement(answer);
-            meet(alloc, Incoming::AssociateAc, told, core, port, at)
-        }
-        Told::Whole {
-            context,
-            of,
-            command,
-        } => {
-            let told = Told::Whole {
-                context,
-                of,
-                command,
-            };
-            meet(alloc, Incoming::DataTf, told, core, port, at)
-        }
-        Told::Store {
-            context,
-            of,
-            id,
-            class,
-            instance,
-            found,
-        } => {
-            let told = Told::Store {
-                context,
-                of,
-                id,
-                class,
-                instance,
-                found,
-            };
-            meet(alloc, Incoming::DataTf, told, core, port, at)
-        }
+        looked => turn_looked(alloc, looked, core, port, at),
+    }
+}
+
+/// What was looked into: a value, or an acceptance.
+fn turn_looked<P: DeskPort>(
+    alloc: Global,
+    told: Told,
+    core: Core,
+    port: &mut P,
+    at: Moment,
+) -> Result<Effect, AllocError>
+    requires now { at.now ≤ 2 ^ 62 }
+    requires fits { ToldFits told }
+    requires looked { IsLooked told }
+    ensures done { IfOk result (λ e. Turns P.step (turn at core told) port.old e port.new) }
+    ensures broke { OnErr result (Broke P.step (turn at core told) port.old port.new) }
+{
+    let incoming = looked_as(&told);
+    meet(alloc, incoming, told, core, port, at)
+}
+
+/// What was looked into, as the association sees it.
+fn looked_as(told: &Told) -> Incoming
+    ensures { result ≡ told_as told.now }
+{
+    match told {
+        Told::Strange => Incoming::Unrecognized,
+        Told::Agreement(_) => Incoming::AssociateAc,
+        _ => Incoming::DataTf,
     }
 }
