@@ -21,7 +21,7 @@ use Rattle.dr_session.specs.declared.wishes.Wish.{Wish}
 use Rattle.dr_session.specs.declared.wishes.Wish.TheVariants.{Listen, Push, Release, Echo}
 use Rattle.dr_session.specs.Desks.{DeskCall, DeskAnswer}
 use Rattle.dr_session.specs.Ends.{Terminal, HearsOf, over_of, is_free_in, is_dry_in}
-use Rattle.dr_session.specs.Links.{HasRisen, Counts, Performs, FailsToPerform, PerformsOne, Doing, Hears, Asks, Echoes, wants, IsWished, asked_after, reads, Finishes, Place, place, IsMoment, Does, Performed, Did, CarriesOut, Leaves, Stops, GoesOn, Served, StopsAt, EndsAs, IsLinkFailure, reads_by, asked_by}
+use Rattle.dr_session.specs.Links.{HasRisen, Counts, Performs, FailsToPerform, PerformsOne, Doing, Hears, Asks, Echoes, wants, IsWished, asked_after, reads, Finishes, Place, place, IsMoment, Does, Performed, Did, CarriesOut, Leaves, Stops, GoesOn, Served, StopsAt, EndsAs, Begins, StartsAs, IsLinkFailure, reads_by, asked_by}
 
 -- ---- actions
 
@@ -286,6 +286,40 @@ module _ {L S : Type 0} (hears : L → Heard → L → Type 0) (sends : L → Li
   ends_stopped w why (Err e) old now new done reads_made asked h wished err gives s =
       subst (λ (x : SessionFault). EndsAs hears sends closes step tells others kind (Err x) old new.link new.port) (sym gives)
       (stops_as why old now done reads_made asked new.link new.port h (subst (λ (v : Wish). Stops hears sends closes step tells others (IsWished v) why now new.link new.port) wished s))
+
+  -- memory ended before anything was done
+  pub ends_unbegun : (r : Result Ended SessionFault) (old : Place L S) → IsErr r → IsErrAnd r (λ (e : SessionFault). e ≡ fault.Memory) → EndsAs hears sends closes step tells others kind r old old.link old.port
+  ends_unbegun (Ok e) old no_err gives = absurd (false≢true no_err)
+  ends_unbegun (Err e) old err gives =
+      subst (λ (x : SessionFault). EndsAs hears sends closes step tells others kind (Err x) old old.link old.port) (sym gives) ([], 0, old, (refl, refl), inl (refl, refl))
+
+  -- ---- a requestor's session
+
+  -- its request went out, and the session followed
+  pub starts : (result : Result Ended SessionFault) (acts : List LinkAction) (at : Moment) (old mid : Place L S) (l : L) (t : S) → CarriesOut sends closes step at acts old (Ok tt) mid
+      → EndsAs hears sends closes step tells others kind result mid l t → StartsAs hears sends closes step tells others kind result old.link acts old.port old.terminal l t
+  starts result acts at old mid l t (performs, port, terminal) ends bytes are =
+      let one : Performs sends closes old.link (Write bytes ∷ []) mid.link = subst (λ (x : List LinkAction). Performs sends closes old.link x mid.link) are performs in
+      let E : L → S → Terminal → Type 0 = λ k s x. EndsAs hears sends closes step tells others kind result (place k s x) l t in
+      (true, (one.0, one.1, subst (λ (k : L). E k old.port old.terminal) one.2 (subst (λ (s : S). E mid.link s old.terminal) port (subst (λ (x : Terminal). E mid.link mid.port x) terminal ends))))
+
+  starts_err : (why : SessionFault) (bytes : List ℕ) (at : Moment) (old new : Place L S) → IsMoment tells others at → CarriesOut sends closes step at (Write bytes ∷ []) old (Err why) new
+      → (sent : Bool) × Begins hears sends closes step tells others kind sent (Err why) old.link bytes old.port old.terminal new.link new.port
+  starts_err fault.Write bytes at old new moment (inl fails, (dropped, h)) = (false, (fails, (dropped, (at, new.terminal, moment, h))))
+  starts_err fault.Write bytes at old new moment (inr more, rest) = absurd more.2
+  starts_err fault.Memory bytes at old new moment (inl fails, (e, h)) = (false, (fails, (e, (at, new.terminal, moment, h))))
+  starts_err fault.Memory bytes at old new moment (inr more, rest) = absurd more.2
+  starts_err fault.Read bytes at old new moment h = absurd h
+  starts_err fault.NoHop bytes at old new moment h = absurd h
+  starts_err fault.TooManyReads bytes at old new moment h = absurd h
+  starts_err fault.Desk bytes at old new moment h = absurd h
+
+  pub starts_not : (why : SessionFault) (r : Result Ended SessionFault) (acts : List LinkAction) (at : Moment) (old new : Place L S) → IsErr r → IsErrAnd r (λ (e : SessionFault). e ≡ why) → IsMoment tells others at
+      → CarriesOut sends closes step at acts old (Err why) new → StartsAs hears sends closes step tells others kind r old.link acts old.port old.terminal new.link new.port
+  starts_not why (Ok e) acts at old new no_err gives moment h bytes are = absurd (false≢true no_err)
+  starts_not why (Err e) acts at old new err gives moment h bytes are =
+      subst (λ (x : SessionFault). (sent : Bool) × Begins hears sends closes step tells others kind sent (Err x) old.link bytes old.port old.terminal new.link new.port) (sym gives)
+      (starts_err why bytes at old new moment (subst (λ (l : List LinkAction). CarriesOut sends closes step at l old (Err why) new) are h))
 
 pub failure_same : {X : Type 0} (Y : Type 0) (r : Result X SessionFault) (why : SessionFault) (a b : ℕ) → IsErr r → IsErrAnd r (λ (e : SessionFault). e ≡ why) → Counts (IsLinkFailure {X = Y} (Err why)) a b → Counts (IsLinkFailure r) a b
 failure_same Y (Ok x) why a b no_err gives h = absurd (false≢true no_err)

@@ -7,7 +7,7 @@ use Rattle.dr_site.specs.Parts.{Part}
 use Rattle.dr_pdu.specs.declared.pdu.Pdu.TheVariants as pdu
 use Rattle.dr_nego.specs.Agreeing.{AssociateRq}
 use Rattle.dr_nego.specs.Fragments.{spellings}
-use Rattle.dr_nego.specs.Proposing.{IsProposal, IsHopTo}
+use Rattle.dr_nego.specs.Proposing.{IsProposal, IsHopTo, echo_proposal}
 use Rattle.dr_session.specs.declared.ends.Ended.{Ended}
 use Rattle.dr_session.specs.declared.ends.Heard.{Heard}
 use Rattle.dr_session.specs.declared.ends.Heard.TheVariants as heard
@@ -24,8 +24,14 @@ use Rattle.dr_session.specs.declared.wishes.Wish.{Wish}
 use Rattle.dr_session.specs.declared.wishes.Wish.TheVariants.{Listen, Push, Release, Echo}
 use Rattle.dr_session.specs.declared.sessions.SessionFault.{SessionFault}
 use Rattle.dr_session.specs.declared.sessions.SessionFault.TheVariants as fault
-use Rattle.dr_session.specs.Desks.{DeskCall, DeskAnswer}
-use Rattle.dr_session.specs.Ends.{Terminal, HearsOf, Meets, EchoesIn, over_of, is_free_in, is_dry_in, begins, requesting}
+use Rattle.dr_session.specs.Desks.{DeskCall, DeskAnswer, Arrive, Next, Settle, Arrival, Upcoming, Settling}
+use Rattle.dr_nego.specs.declared.fault.NegoFault.{NegoFault}
+use Rattle.dr_nego.specs.declared.fault.NegoFault.TheVariants as negofault
+use Rattle.dr_ledger.specs.declared.item.Outcome.TheVariants.{Status}
+use Rattle.dr_ledger.specs.declared.fault.LedgerFault.TheVariants as ledger
+use Rattle.dr_session.specs.declared.echo_desk.EchoDesk.{EchoDesk}
+use Rattle.dr_session.specs.declared.echo_desk.Echoed.{Echoed}
+use Rattle.dr_session.specs.Ends.{Terminal, HearsOf, Meets, EchoesIn, over_of, is_free_in, is_dry_in, begins, requesting, requesting_echo}
 
 -- ---- the count of failures
 
@@ -200,6 +206,10 @@ module _ {L S : Type 0} (hears : L → Heard → L → Type 0) (sends : L → Li
   Begins kind false (Err fault.Memory) k bytes s terminal l t = sends k bytes false l × ((e : AllocError) × Leaves terminal s (Err e) t)
   Begins kind false result k bytes s terminal l t = ⊥
 
+  -- the same, of the one action of an end that asks for an association
+  abbrev pub StartsAs : Kind → Result Ended SessionFault → L → List LinkAction → S → Terminal → L → S → Type 0
+  StartsAs kind result k acts s terminal l t = (bytes : List ℕ) → acts ≡ Write bytes ∷ [] → (sent : Bool) × Begins kind sent result k bytes s terminal l t
+
   -- A session for a hop of the site. Its request is the site's proposal, at a moment that the clock told.
   abbrev pub SessionTo : Part → Text → Result Ended SessionFault → L → S → L → S → Type 0
   SessionTo site dest result k s l t = (rq : AssociateRq) × (now : ℕ) × (sent : Bool) × IsProposal site dest rq × tells now
@@ -211,6 +221,32 @@ module _ {L S : Type 0} (hears : L → Heard → L → Type 0) (sends : L → Li
   DeliversAs site dest (Err fault.NoHop) k s l t = ((hop : Hop) → IsHopTo site dest hop → ⊥) × (l ≡ k) × (t ≡ s)
   DeliversAs site dest (Err fault.Memory) k s l t = ((l ≡ k) × (t ≡ s)) ⊎ SessionTo site dest (Err fault.Memory) k s l t
   DeliversAs site dest (Err why) k s l t = SessionTo site dest (Err why) k s l t
+
+-- why a requestor has no session
+abbrev pub refusal_of : NegoFault → SessionFault
+refusal_of negofault.NoHop = fault.NoHop
+refusal_of why = fault.Memory
+
+-- ---- echoes
+
+-- The desk of an echo keeps the status of the response that settles it. Nothing is due there, and nothing arrives.
+abbrev pub EchoStep : EchoDesk → DeskCall → DeskAnswer → EchoDesk → Type 0
+EchoStep old (Arrive caller item) (Arrival reply) new = (reply ≡ Err ledger.NoLine) × (new ≡ old)
+EchoStep old (Next dest now) (Upcoming due) new = (due ≡ Ok None) × (new ≡ old)
+EchoStep old (Settle uid dest (Status status) now) (Settling answer) new = (answer ≡ Ok tt) × (new ≡ record { status = Some status })
+EchoStep old (Settle uid dest outcome now) (Settling answer) new = (answer ≡ Ok tt) × (new ≡ old)
+EchoStep old call answer new = ⊥
+
+module _ {L : Type 0} (hears : L → Heard → L → Type 0) (sends : L → List ℕ → Bool → L → Type 0) (closes : L → L → Type 0) (tells : ℕ → Type 0) where
+  abbrev pub EchoSession : Text → Text → Result Ended SessionFault → L → L → EchoDesk → Type 0
+  EchoSession caller called result k l t = (now : ℕ) × (sent : Bool) × tells now
+      × Begins hears sends closes EchoStep tells 0 EchoOnce sent result k (spellings (pdu.AssociateRq (echo_proposal caller called) ∷ [])) (record { status = None }) (requesting_echo caller called now) l t
+
+  -- How an echo ends: as its association does, with the status of the response, if one came. Memory may end before the request went out.
+  abbrev pub EchoesAs : Text → Text → Result Echoed SessionFault → L → L → Type 0
+  EchoesAs caller called (Ok x) k l = EchoSession caller called (Ok x.ended) k l (record { status = x.status })
+  EchoesAs caller called (Err fault.Memory) k l = (l ≡ k) ⊎ ((t : EchoDesk) × EchoSession caller called (Err fault.Memory) k l t)
+  EchoesAs caller called (Err why) k l = (t : EchoDesk) × EchoSession caller called (Err why) k l t
 
 -- whether it is the link's fault
 abbrev pub IsFaultBy : Bool → Heard → Type 0

@@ -2,6 +2,7 @@
 #![tactic(auto)]
 
 pub mod desk;
+pub mod echo_desk;
 pub mod echoing;
 pub mod end;
 pub mod ends;
@@ -24,4 +25,5 @@ pub use ends::{
 };
 pub use link::{Clock, Link};
 pub use port::DeskPort;
-pub use sessions::{SessionFault, receive};
+pub use echo_desk::Echoed;
+pub use sessions::{SessionFault, deliver, echo, receive};

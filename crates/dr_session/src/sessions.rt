@@ -1,10 +1,12 @@
 //! Sessions over any link.
 ghost use Rattle.std.specs.Prelude.{◌≡◌, ◌≤◌, ◌<◌, ◌^◌, ◌+◌, false};
 ghost use Rattle.dr_session.specs.Ends.{accepting, begins};
-ghost use Rattle.dr_session.specs.Links.{Counts, PerformsOne, PerformsOr, CarriesOut, GoesOn, EndsAs, DeliversAs, Finishes, IsFaultBy, IsLinkFailure, IsMoment, IsWished, asked_by, place, reads_by, wants};
+ghost use Rattle.dr_session.specs.Links.{Counts, PerformsOne, PerformsOr, CarriesOut, GoesOn, EndsAs, DeliversAs, EchoesAs, StartsAs, Finishes, IsFaultBy, IsLinkFailure, IsMoment, IsWished, asked_by, place, reads_by, refusal_of};
+ghost use Rattle.dr_network.specs.Formed.{IsName};
 ghost use Rattle.dr_session.specs.declared.wishes.Kind.TheVariants as kinds;
 ghost use Rattle.dr_session.specs.declared.wishes.Wish.TheVariants as wishes;
 
+use crate::echo_desk::{EchoDesk, Echoed};
 use crate::end::End;
 use crate::ends::{Ended, Heard, LinkAction, Moment, Over};
 use crate::link::{Clock, Link};
@@ -291,8 +293,30 @@ pub fn receive<L: Link, P: DeskPort, C: Clock>(
     run(Kind::Receive, &mut end, link, port, clock, others)
 }
 
+/// A requestor's session, from its request on.
+fn start<L: Link, P: DeskPort, C: Clock>(
+    kind: Kind,
+    end: End,
+    actions: Seq<LinkAction>,
+    link: &mut L,
+    port: &mut P,
+    clock: &C,
+    at: Moment,
+) -> Result<Ended, SessionFault>
+    requires is { IsMoment (C.tells clock.now) 0 at }
+    requires early { at.now ≤ 2 ^ 62 }
+    ensures starts { StartsAs L.hears L.sends L.closes P.step (C.tells clock.now) 0 kind result link.old actions port.old end link.new port.new }
+    ensures counts { Counts (IsLinkFailure result) (L.failed link.old) (L.failed link.new) }
+{
+    let mut end = end;
+    carry_out(actions, &mut end, link, port, at)?;
+    run(kind, &mut end, link, port, clock, 0)
+}
+
 /// Why there is no requestor's end.
-fn refusal(fault: NegoFault) -> SessionFault {
+fn refusal(fault: NegoFault) -> SessionFault
+    ensures { result ≡ refusal_of fault }
+{
     match fault {
         NegoFault::NoHop => SessionFault::NoHop,
         _ => SessionFault::Memory,
@@ -315,10 +339,34 @@ pub fn deliver<L: Link, P: DeskPort, C: Clock>(
 {
     let site = site.copy()?;
     let at = moment(clock, 0);
-    let (mut end, actions) = match End::request(alloc, site, dest, at.now) {
-        Ok(begun) => begun,
-        Err(fault) => return Err(refusal(fault)),
-    };
-    carry_out(actions, &mut end, link, port, at)?;
-    run(Kind::Deliver, &mut end, link, port, clock, 0)
+    match End::request(alloc, site, dest, at.now) {
+        Ok((end, actions)) => start(Kind::Deliver, end, actions, link, port, clock, at),
+        Err(fault) => Err(refusal(fault)),
+    }
+}
+
+/// Asks the node of the second name for an association as the node of the first one, for one echo (PS3.7 9.1.5), and
+/// releases it.
+///
+/// Errors: those of `receive`, but for `Desk`.
+pub fn echo<L: Link, C: Clock>(
+    alloc: Global,
+    link: &mut L,
+    caller: &Text,
+    called: &Text,
+    clock: &C,
+) -> Result<Echoed, SessionFault>
+    requires caller { IsName caller.now }
+    requires called { IsName called.now }
+    ensures echoes { EchoesAs L.hears L.sends L.closes (C.tells clock.now) caller.now called.now result link.old link.new }
+    ensures counts { Counts (IsLinkFailure result) (L.failed link.old) (L.failed link.new) }
+{
+    let at = moment(clock, 0);
+    let (end, actions) = End::request_echo(alloc, caller, called, at.now)?;
+    let mut desk = EchoDesk { status: None };
+    let ended = start(Kind::EchoOnce, end, actions, link, &mut desk, clock, at)?;
+    Ok(Echoed {
+        ended,
+        status: desk.status,
+    })
 }
