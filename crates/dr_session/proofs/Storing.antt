@@ -36,10 +36,10 @@ module _ {S : Type 0} (step : S → DeskCall → DeskAnswer → S → Type 0) (c
     status = status_of r;
     written = ap (λ (y : Effect). y.acts) h.0;
     brought = λ e.
-      let value = taken r e in
-      let P : Result Arrived LedgerFault → Type 0 = λ q. step s (Arrive c.peer item) (Arrival q) m in
-      let Q : S → Type 0 = λ n. step s (Arrive c.peer item) (Arrival (Ok value.0)) n in
-      (item, value.0, refl, subst Q (sym h.1) (subst P value.1 did));
+        let value = taken r e in
+        let P : Result Arrived LedgerFault → Type 0 = λ q. step s (Arrive c.peer item) (Arrival q) m in
+        let Q : S → Type 0 = λ n. step s (Arrive c.peer item) (Arrival (Ok value.0)) n in
+        (item, value.0, refl, subst Q (sym h.1) (subst P value.1 did));
   }
   by_reply item m (Upcoming d) did h = absurd h
   by_reply item m (Settling r) did h = absurd h

@@ -97,6 +97,12 @@ pub fn write_store(
     let text = write_command(alloc, &command)?;
     let mut out = Vec::new(alloc);
     put_fragments(&mut out, agreed, context, Kind::Command, &text)?;
-    put_fragments(&mut out, agreed, context, Kind::DataSet, job.body.as_bytes())?;
+    put_fragments(
+        &mut out,
+        agreed,
+        context,
+        Kind::DataSet,
+        job.body.as_bytes(),
+    )?;
     Ok(LinkAction::Write(Text::from_vec(out)))
 }

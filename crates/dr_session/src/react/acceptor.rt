@@ -210,7 +210,10 @@ pub fn answer_request(
             Ok(done)
         }
         Command::Other {
-            field, id, status, ..
+            field,
+            id,
+            status,
+            ..
         } => {
             let done = answer_other(alloc, context, field, id, status, core)?;
             Ok(done)

@@ -14,6 +14,6 @@ returns c =
     let peered : Next → Core = λ p. record c.args.core { phase = p; peer = c.args.rq.front.calling; agreed = Some c.args.agreed } in
     let phase : c.after.result ≡ phase_after c.accept.result = c.after.ensures in
     let core : peered c.after.result ≡ record (stepped_by AcceptResponse c.args.at.now c.args.core) { peer = c.args.rq.front.calling; agreed = Some c.args.agreed } =
-        ap peered (c.after.ensures ∙ ap phase_after c.accept.ensures) in
+    ap peered (c.after.ensures ∙ ap phase_after c.accept.ensures) in
     sym (ap (λ (x : Effect). Ends x) (same_effect c.in_ok-acts.acts c.in_ok-write_pdu.field-0 (write (AssociateAc c.args.ac ∷ [])) (peered c.after.result)
-        (record (stepped_by AcceptResponse c.args.at.now c.args.core) { peer = c.args.rq.front.calling; agreed = Some c.args.agreed }) c.in_ok-acts.ensures c.in_ok-write_pdu.ensures core))
+    (record (stepped_by AcceptResponse c.args.at.now c.args.core) { peer = c.args.rq.front.calling; agreed = Some c.args.agreed }) c.in_ok-acts.ensures c.in_ok-write_pdu.ensures core))

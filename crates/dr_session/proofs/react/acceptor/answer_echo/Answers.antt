@@ -11,4 +11,4 @@ say-requires c = echo_answer_fits c.args.id c.echo_status.result c.args.class fa
 pub returns : goal.returns
 returns c =
     same_effect c.in_ok-acts.acts c.in_ok-say.field-0 (says c.args.core c.args.context (EchoRsp c.args.id (echo_status c.args.class c.args.of) c.args.class false)) c.args.core c.args.core
-        c.in_ok-acts.ensures (c.in_ok-say.ensures ∙ ap (λ (n : ℕ). says c.args.core c.args.context (EchoRsp c.args.id n c.args.class false)) c.echo_status.ensures) refl
+    c.in_ok-acts.ensures (c.in_ok-say.ensures ∙ ap (λ (n : ℕ). says c.args.core c.args.context (EchoRsp c.args.id n c.args.class false)) c.echo_status.ensures) refl

@@ -18,4 +18,4 @@ say-requires c =
 pub returns : goal.returns
 returns c =
     same_effect c.in_ok-acts.acts c.in_ok-say.field-0 (says c.args.core c.args.context (Other (0x8000 + c.args.field) (Some c.args.id) (Some 0x0211) false)) c.args.core c.args.core
-        c.in_ok-acts.ensures (c.in_ok-say.ensures ∙ ap (λ (n : ℕ). says c.args.core c.args.context (Other n (Some c.args.id) (Some 0x0211) false)) c.answer_field.ensures) refl
+    c.in_ok-acts.ensures (c.in_ok-say.ensures ∙ ap (λ (n : ℕ). says c.args.core c.args.context (Other n (Some c.args.id) (Some 0x0211) false)) c.answer_field.ensures) refl

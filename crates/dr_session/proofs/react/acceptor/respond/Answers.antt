@@ -11,4 +11,4 @@ say-requires c = store_answer_fits c.args.id c.args.status c.args.class c.args.i
 pub returns : goal.returns
 returns c =
     same_effect c.in_ok-acts.acts c.in_ok-say.field-0 (says c.args.core c.args.context (StoreRsp c.args.id c.args.status c.args.class c.args.instance false)) c.args.core c.args.core
-        c.in_ok-acts.ensures c.in_ok-say.ensures refl
+    c.in_ok-acts.ensures c.in_ok-say.ensures refl
