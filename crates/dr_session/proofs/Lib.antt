@@ -1,5 +1,6 @@
 pub mod Acting
 pub mod Effects
+pub mod Asking
 pub mod Ending
 pub mod Fitting
 pub mod Handing
