@@ -1,5 +1,5 @@
 -- What was done by a reaction was done by one that is equal to it.
-use Rattle.std.proofs.Common.{◌≡◌, ℕ, Bool, true, false, List, [], Result, Ok, Err, refl, sym, ap, subst, ◌∙◌, inl}
+use Rattle.std.proofs.Common.{◌≡◌, ℕ, Bool, true, false, [], Result, Ok, Err, refl, sym, ap, subst, ◌∙◌, inl}
 use Rattle.std.specs.Prelude.{◌&&◌, if◌then◌else◌, Option, Some, None, IfOk, OnErr}
 use Rattle.std.specs.declared.alloc.AllocError.{AllocError}
 use Rattle.dr_ulstate.specs.declared.table.Action.{Action}
@@ -19,8 +19,8 @@ use Rattle.dr_session.specs.declared.ends.Told.{Told}
 use Rattle.dr_session.specs.declared.ends.Told.TheVariants.{Plain, Quiet, Fault, Strange, Store, Whole, Agreement}
 use Rattle.dr_session.specs.Desks.{DeskCall, DeskAnswer}
 use Rattle.dr_session.specs.Fits.{IsHeard, heard_as, IsLooked, told_as}
-use Rattle.dr_session.specs.Reactions.{Reaction, turn, occurs, moves, acts, effect, quiet, is_requestor, is_idle, is_ready, is_impatient, event_of, is_taken}
-use Rattle.dr_session.specs.Turns.{Turn, Ends, Asks, Fails, Turns, Broke}
+use Rattle.dr_session.specs.Reactions.{Reaction, turn, occurs, moves, acts, effect, quiet, is_idle, is_ready, is_impatient, event_of, is_taken}
+use Rattle.dr_session.specs.Turns.{Ends, Asks, Fails, Turns, Broke}
 
 module _ {S : Type 0} (step : S → DeskCall → DeskAnswer → S → Type 0) where
   pub done_by : (x y : Reaction) (r : Result Effect AllocError) (s t : S) → x ≡ y → IfOk r (λ (e : Effect). Turns step y s e t) → IfOk r (λ (e : Effect). Turns step x s e t)

@@ -43,12 +43,12 @@ use Rattle.dr_session.specs.declared.ends.Told.TheVariants.{Plain, Quiet, Fault,
 use Rattle.dr_session.specs.Desks.{DeskCall, DeskAnswer, Arrive, Arrival, Upcoming, Settling}
 use Rattle.dr_session.specs.Reactions.{Reaction, turn, occurs, moves, acts, hears, stores, stored, status_of, arrives, brings, is_named, requested, requested_other, echo_status, replied, decides, decides_at, rj, agrees, can_be_named, due, gives, gives_in, store_pdus, id_after, refused, leaves_by, aborts, aborts_desk, abort_pdu, aborted, released, desk_failed, settled_with, left, stepped_by, noted, reason_of, says, settling, arrival, job, write, effect, quiet, is_requestor, is_taken, event_of, rejected as marked}
 use Rattle.dr_session.specs.Messages.{command_pdus}
-use Rattle.dr_session.specs.declared.ends.LinkAction.TheVariants.{Write, Close}
-use Rattle.dr_session.specs.Turns.{Turn, Ends, Asks, Fails, Turns}
+use Rattle.dr_session.specs.declared.ends.LinkAction.TheVariants.{Close}
+use Rattle.dr_session.specs.Turns.{Ends, Asks, Fails, Turns}
 use Rattle.dr_session.specs.Laws.{IsSpelled, WritesPdus, GivesPdus, AsksPdus}
 use Rattle.dr_session.specs.declared.ends.Heard.{Heard}
 use Rattle.dr_session.specs.declared.ends.Heard.TheVariants as heard
-use Rattle.dr_session.specs.Ends.{Terminal, is_gone, Meets, MeetsIn, MeetsBy, HearsOf, HearsBytes, HearsPiece}
+use Rattle.dr_session.specs.Ends.{Terminal, is_gone, MeetsIn, MeetsBy, HearsOf, HearsBytes, HearsPiece}
 use Rattle.dr_session.specs.Plays.{At, Plays, with_stage, at_moment}
 use Rattle.dr_ulstate.specs.Phases.{state_of}
 use Rattle.std.specs.declared.alloc.AllocError.{AllocError}

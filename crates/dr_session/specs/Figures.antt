@@ -1,6 +1,5 @@
 -- Worked figures of turns: each row of the state table (PS3.8 section 9.2.3) that a session can meet, whatever the end is like.
-use Rattle.std.specs.Prelude.{◌≡◌, ℕ, Bool, true, false, List, [], ◌∷◌, map, Option, Some, None, Result, Ok, Err}
-use Rattle.dr_base.specs.Texts.{Text}
+use Rattle.std.specs.Prelude.{◌≡◌, ℕ, Bool, true, false, List, [], ◌∷◌, map, Option, Some, None, Ok, Err}
 use Rattle.dr_ulstate.specs.declared.table.State.{State}
 use Rattle.dr_ulstate.specs.declared.table.State.TheVariants.{Sta2, Sta5, Sta6, Sta7, Sta11, Sta13}
 use Rattle.dr_ulstate.specs.Table.{state_number}
@@ -14,7 +13,7 @@ use Rattle.dr_nego.specs.declared.agreed.Agreed.{Agreed}
 use Rattle.dr_nego.specs.declared.fault.NegoFault.TheVariants.{StrangeId}
 use Rattle.dr_nego.specs.Agreeing.{AssociateRq, AssociateAc}
 use Rattle.dr_nego.specs.Answering.{application_context}
-use Rattle.dr_nego.specs.Figures.{archive, arch, gate, image, other, context, request, proposal}
+use Rattle.dr_nego.specs.Figures.{archive, arch, gate, image, context, request, proposal}
 use Rattle.dr_nego.specs.Answering.{acceptance_of}
 use Rattle.dr_base.specs.declared.syntax.Syntax.TheVariants.{Explicit}
 use Rattle.dr_pdu.specs.declared.pdu.Pdu.TheVariants as pdu

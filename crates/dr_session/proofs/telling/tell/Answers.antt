@@ -1,4 +1,4 @@
-use Rattle.std.proofs.Common.{◌≡◌, true, false, sym, subst, ◌∙◌}
+use Rattle.std.proofs.Common.{sym, subst, ◌∙◌}
 use Rattle.dr_ulstate.specs.declared.table.State.{State}
 use Rattle.dr_session.specs.declared.ends.Input.TheVariants.{Value, Acceptance}
 use Rattle.dr_session.specs.declared.ends.Told.TheVariants.{Plain}

@@ -8,7 +8,7 @@ use Rattle.dr_session.specs.declared.ends.LinkAction.{LinkAction}
 use Rattle.dr_session.specs.declared.ends.LinkAction.TheVariants.{Close}
 use Rattle.dr_session.specs.declared.ends.Moment.{Moment}
 use Rattle.dr_session.specs.declared.ends.Told.{Told}
-use Rattle.dr_session.specs.Reactions.{Reaction, acts, quiet, hears, pushes, collides, leaves, effect, write, abort_pdu, aborted, released, stepped_by}
+use Rattle.dr_session.specs.Reactions.{acts, quiet, hears, pushes, collides, leaves, effect, write, abort_pdu, aborted, released, stepped_by}
 use Rattle.dr_session.specs.Turns.{Ends}
 use Rattle.dr_session.proofs.Acting.{done_by, broke_by, done_at, done_as, broke_at}
 use Rattle.dr_session.proofs.react.turning.act.Goals as goal

@@ -1,4 +1,4 @@
-use Rattle.std.proofs.Common.{◌≡◌, true, false, refl, sym, ◌∙◌}
+use Rattle.std.proofs.Common.{true, false, refl, sym, ◌∙◌}
 use Rattle.dr_ulstate.specs.declared.table.Event.TheVariants.{ReleaseRequest}
 use Rattle.dr_session.specs.declared.ends.Input.TheVariants.{ReleaseAsked}
 use Rattle.dr_session.specs.declared.ends.Told.TheVariants.{Plain}
