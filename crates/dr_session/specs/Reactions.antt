@@ -263,7 +263,7 @@ abbrev pub gives : Option Agreed → Moment → Job → Core → Reaction
 gives (Some agreed) at item c = gives_in (context_for agreed item.key.class (syntax_uid item.key.syntax)) agreed at item c
 gives None at item c = quiet c
 
--- 1 to 64 bytes, each from 21H to 7EH
+-- a UID is 1 to 64 bytes, each from 21H to 7EH
 abbrev pub is_graphic : ℕ → Bool
 is_graphic b = nat_le 0x21 b && nat_le b 0x7E
 
@@ -274,7 +274,7 @@ is_uid uid = nat_le 1 (length uid) && (nat_le (length uid) 64 && list_all is_gra
 abbrev pub can_be_named : Job → Bool
 can_be_named item = is_uid item.key.class && is_uid item.uid
 
--- a desk that hands out what can't be named has failed
+-- a desk that hands out what can't be named has failed (what is an item always can be)
 abbrev pub hands : Moment → Core → Job → Reaction
 hands at c item = if can_be_named item then gives c.agreed at item c else aborts_desk at c
 

@@ -198,6 +198,7 @@ fn are_graphic(bytes: &[u8]) -> bool
     bytes.iter().all(|byte| is_graphic(*byte))
 }
 
+/// Whether a byte is from 21H to 7EH.
 fn is_graphic(byte: u8) -> bool
     ensures { result ≡ is_graphic byte }
 {
