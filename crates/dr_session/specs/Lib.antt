@@ -10,4 +10,5 @@ pub mod Reactions
 pub mod Statuses
 pub mod Telling
 pub mod Turns
+pub mod Waits
 pub mod Links

@@ -16,6 +16,7 @@ pub mod port;
 pub mod react;
 pub mod sessions;
 pub mod telling;
+pub mod waiting;
 pub mod wishes;
 pub mod writing;
 
