@@ -26,7 +26,7 @@ use Rattle.dr_session.specs.Reactions.{write}
 use Rattle.dr_session.proofs.Serving.{no_failure}
 
 module _ {L S : Type 0} (hears : L → Heard → L → Type 0) (sends : L → List ℕ → Bool → L → Type 0) (closes : L → L → Type 0) (step : S → DeskCall → DeskAnswer → S → Type 0)
-         (tells : ℕ → Type 0) (site : Part) (dest : Text) where
+    (tells : ℕ → Type 0) (site : Part) (dest : Text) where
   pub delivers_unbegun : (r : Result Ended SessionFault) (k : L) (s : S) → IsErr r → IsErrAnd r (λ (e : SessionFault). e ≡ fault.Memory) → DeliversAs hears sends closes step tells 0 site dest r k s k s
   delivers_unbegun (Ok e) k s no_err gives = absurd (false≢true no_err)
   delivers_unbegun (Err e) k s err gives = subst (λ (x : SessionFault). DeliversAs hears sends closes step tells 0 site dest (Err x) k s k s) (sym gives) (inl (refl, refl))
@@ -46,9 +46,14 @@ module _ {L S : Type 0} (hears : L → Heard → L → Type 0) (sends : L → Li
   session_to : (r : Result Ended SessionFault) (terminal : Terminal) (acts : List LinkAction) (now : ℕ) (k l : L) (s t : S) → OpensTo site dest now (Ok (terminal, acts)) → tells now
       → StartsAs hears sends closes step tells 0 Deliver r k acts s terminal l t → SessionTo hears sends closes step tells 0 site dest r k s l t
   session_to r terminal acts now k l s t (rq, proposal, is, written) told h =
-      let begun = h (spellings (pdu.AssociateRq rq ∷ [])) written in
-      (rq, now, begun.0, proposal, told,
-      subst (λ (x : Terminal). Begins hears sends closes step tells 0 Deliver begun.0 r k (spellings (pdu.AssociateRq rq ∷ [])) s x l t) is begun.1)
+      let begun = h (spellings (pdu.AssociateRq rq ∷ [])) written in (
+        rq,
+        now,
+        begun.0,
+        proposal,
+        told,
+        subst (λ (x : Terminal). Begins hears sends closes step tells 0 Deliver begun.0 r k (spellings (pdu.AssociateRq rq ∷ [])) s x l t) is begun.1,
+      )
 
   never_no_hop : (sent : Bool) (k l : L) (bytes : List ℕ) (s t : S) (terminal : Terminal) → Begins hears sends closes step tells 0 Deliver sent (Err fault.NoHop) k bytes s terminal l t → ⊥
   never_no_hop true k l bytes s t terminal (m, sent, (xs, asked, mid, served, stops)) = stops
@@ -68,7 +73,7 @@ module _ {L S : Type 0} (hears : L → Heard → L → Type 0) (sends : L → Li
       → DeliversAs hears sends closes step tells 0 site dest r k s l t
   delivers_started copied answer r terminal acts now k l s t same is h told started =
       let opens : OpensTo site dest now (Ok (terminal, acts)) =
-          subst (λ (x : Result (Terminal × List LinkAction) NegoFault). OpensTo site dest now x) is (subst (λ (x : Part). OpensTo x dest now answer) same h) in
+      subst (λ (x : Result (Terminal × List LinkAction) NegoFault). OpensTo site dest now x) is (subst (λ (x : Part). OpensTo x dest now answer) same h) in
       delivers_as r k l s t (session_to r terminal acts now k l s t opens told started)
 
 pub refusal_counts : (X : Type 0) (answer : SessionFault) (why : NegoFault) (a b : ℕ) → answer ≡ refusal_of why → a ≤ b → Counts (IsLinkFailure {X = X} (Err answer)) a b
@@ -93,10 +98,13 @@ module _ {L : Type 0} (hears : L → Heard → L → Type 0) (sends : L → List
       → StartsAs hears sends closes EchoStep tells 0 EchoOnce r k acts s terminal l t → EchoSession hears sends closes tells caller called r k l t
   echo_session r terminal acts now k l s t is written none told h =
       let bytes = spellings (pdu.AssociateRq (echo_proposal caller called) ∷ []) in
-      let begun = h (spellings (pdu.AssociateRq (echo_proposal caller called) ∷ [])) written in
-      (now, begun.0, told,
-      subst (λ (x : Terminal). Begins hears sends closes EchoStep tells 0 EchoOnce begun.0 r k (spellings (pdu.AssociateRq (echo_proposal caller called) ∷ [])) (record { status = None }) x l t) is
-      (subst (λ (y : EchoDesk). Begins hears sends closes EchoStep tells 0 EchoOnce begun.0 r k (spellings (pdu.AssociateRq (echo_proposal caller called) ∷ [])) y terminal l t) none begun.1))
+      let begun = h (spellings (pdu.AssociateRq (echo_proposal caller called) ∷ [])) written in (
+        now,
+        begun.0,
+        told,
+        subst (λ (x : Terminal). Begins hears sends closes EchoStep tells 0 EchoOnce begun.0 r k (spellings (pdu.AssociateRq (echo_proposal caller called) ∷ [])) (record { status = None }) x l t) is
+            (subst (λ (y : EchoDesk). Begins hears sends closes EchoStep tells 0 EchoOnce begun.0 r k (spellings (pdu.AssociateRq (echo_proposal caller called) ∷ [])) y terminal l t) none begun.1),
+      )
 
   stopped_by : (why : SessionFault) (k l : L) (t : EchoDesk) → EchoSession hears sends closes tells caller called (Err why) k l t → EchoesAs hears sends closes tells caller called (Err why) k l
   stopped_by fault.Memory k l t h = inr (t, h)

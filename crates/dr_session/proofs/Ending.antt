@@ -70,7 +70,7 @@ module _ {S : Type 0} (step : S → DeskCall → DeskAnswer → S → Type 0) (a
   hears_done piece c old mid new s t ear x (is, live, taken) put plays =
       let same : mid.ear ≡ old.ear = ap (λ (y : Terminal). y.ear) taken in
       let all : PlaysBytes step at old.ear c piece s new.ear x t =
-          subst (λ (e : Feeding). PlaysBytes step at old.ear c piece s e x t) (sym (ap (λ (y : Terminal). y.ear) put)) (subst (λ (e : Feeding). PlaysBytes step at e c piece s ear x t) same plays) in
+      subst (λ (e : Feeding). PlaysBytes step at old.ear c piece s e x t) (sym (ap (λ (y : Terminal). y.ear) put)) (subst (λ (e : Feeding). PlaysBytes step at e c piece s ear x t) same plays) in
       hears_live piece c old new s t (Ok x.acts) is live (x, all, refl, ap (λ (y : Terminal). y.core) put)
 
   pub hears_broke : (piece : List ℕ) (c : Core) (old mid new : Terminal) (s t : S) (r : Result (List LinkAction) AllocError) → TakesCore old (Some c) mid → new.core ≡ mid.core → IsErr r

@@ -34,6 +34,6 @@ module _ {S : Type 0} (step : S → DeskCall → DeskAnswer → S → Type 0) wh
   pub closes : ClosesAfterWaiting step
   closes site opened at s t x h =
       let turns : Turns step (turn at (with_stage Idle (accepting site opened)) (Plain Late)) s x t =
-          subst (λ (y : Told). Turns step (turn at (with_stage Idle (accepting site opened)) y) s x t) h.tells.0
-          (subst (λ (z : Stage). Turns step (turn at (with_stage z (accepting site opened)) h.told) s x t) h.tells.1 h.turns) in
+      subst (λ (y : Told). Turns step (turn at (with_stage Idle (accepting site opened)) y) s x t) h.tells.0
+      (subst (λ (z : Stage). Turns step (turn at (with_stage z (accepting site opened)) h.told) s x t) h.tells.1 h.turns) in
       by_test (nat_le (opened + 30000) at.now) site opened at s t x refl turns

@@ -32,9 +32,9 @@ fault_stays limit text more BadContextId is h = shows_on limit text more BadCont
 inputs_join : (ps qs : List Pdu) (last is js : List Input) → is ≡ flat_map inputs_of ps ++ [] → js ≡ flat_map inputs_of qs ++ last → is ++ js ≡ flat_map inputs_of (ps ++ qs) ++ last
 inputs_join ps qs last is js first second =
     ap (λ (x : List Input). x ++ js) (first ∙ append-nil (flat_map inputs_of ps))
-        ∙ (ap (λ (x : List Input). flat_map inputs_of ps ++ x) second
-        ∙ (sym (append_assoc (flat_map inputs_of ps) (flat_map inputs_of qs) last)
-        ∙ ap (λ (x : List Input). x ++ last) (sym (flat_map-append inputs_of ps qs))))
+    ∙ (ap (λ (x : List Input). flat_map inputs_of ps ++ x) second
+    ∙ (sym (append_assoc (flat_map inputs_of ps) (flat_map inputs_of qs) last)
+    ∙ ap (λ (x : List Input). x ++ last) (sym (flat_map-append inputs_of ps qs))))
 
 -- a second piece behind a first one, which ended in no PDU
 behind_more : (limit : ℕ) (kept a b : List ℕ) (is js : List Input) (mid new : Feeding) (h : HearsOn limit kept a is mid) (k : HearsOn mid.limit mid.kept b js new)

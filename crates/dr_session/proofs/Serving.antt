@@ -91,7 +91,7 @@ memory_counts r a b err is h = no_failure r a b h (memory_is_none r err is)
 -- ---- one doing
 
 module _ {L S : Type 0} (hears : L → Heard → L → Type 0) (sends : L → List ℕ → Bool → L → Type 0) (closes : L → L → Type 0) (step : S → DeskCall → DeskAnswer → S → Type 0)
-         (tells : ℕ → Type 0) (others : ℕ) where
+    (tells : ℕ → Type 0) (others : ℕ) where
   abbrev pub IsPerformed : List LinkAction → Place L S → Place L S → Type 0
   IsPerformed acts mid new = Performs sends closes mid.link acts new.link × (new.port ≡ mid.port) × (new.terminal ≡ mid.terminal)
 
@@ -221,7 +221,7 @@ asked_below EchoOnce n t h = echo_by_test (is_free_in t.core) (nat_le 2 n) (nat_
 -- ---- a session so far
 
 module _ {L S : Type 0} (hears : L → Heard → L → Type 0) (sends : L → List ℕ → Bool → L → Type 0) (closes : L → L → Type 0) (step : S → DeskCall → DeskAnswer → S → Type 0)
-         (tells : ℕ → Type 0) (others : ℕ) (kind : Kind) where
+    (tells : ℕ → Type 0) (others : ℕ) (kind : Kind) where
   served_more : (xs : List Doing) (x : Doing) (asked told : ℕ) (old mid new : Place L S) → Served hears sends closes step tells others kind asked old xs told mid
       → over_of mid.terminal.core ≡ None → IsWished (wants kind told mid.terminal) x → Did hears sends closes step tells others mid x new
       → Served hears sends closes step tells others kind asked old (xs ++ x ∷ []) (asked_after x told) new

@@ -54,15 +54,33 @@ unmarked = record { rejection = None; aborted = false; released = false; desk_fa
 -- an acceptor whose transport connection was opened at that moment
 abbrev pub accepting : Part → ℕ → Core
 accepting site now = record {
-  site = Some site; peer = []; phase = Opening (standing Sta2 false now); proposed = None; agreed = None; assembly = assembling Requests Idle;
-  pending = None; last = 0; awaits = None; dry = false; marks = unmarked;
+  site = Some site;
+  peer = [];
+  phase = Opening (standing Sta2 false now);
+  proposed = None;
+  agreed = None;
+  assembly = assembling Requests Idle;
+  pending = None;
+  last = 0;
+  awaits = None;
+  dry = false;
+  marks = unmarked;
 }
 
 -- a requestor that has sent its request at that moment
 abbrev pub requesting : Option Part → Text → AssociateRq → ℕ → Core
 requesting site dest rq now = record {
-  site = site; peer = dest; phase = Asked (standing Sta5 true now); proposed = Some rq; agreed = None; assembly = assembling Nothing Idle;
-  pending = None; last = 0; awaits = Some now; dry = false; marks = unmarked;
+  site = site;
+  peer = dest;
+  phase = Asked (standing Sta5 true now);
+  proposed = Some rq;
+  agreed = None;
+  assembly = assembling Nothing Idle;
+  pending = None;
+  last = 0;
+  awaits = Some now;
+  dry = false;
+  marks = unmarked;
 }
 
 -- it takes P-DATA-TF PDUs of at most that length

@@ -145,7 +145,7 @@ CarriesOut sends closes step at acts mid (Err fault.Memory) new = FailsToPerform
 CarriesOut sends closes step at acts mid (Err why) new = ⊥
 
 module _ {L S : Type 0} (hears : L → Heard → L → Type 0) (sends : L → List ℕ → Bool → L → Type 0) (closes : L → L → Type 0) (step : S → DeskCall → DeskAnswer → S → Type 0)
-         (tells : ℕ → Type 0) (others : ℕ) where
+    (tells : ℕ → Type 0) (others : ℕ) where
   -- the doing, before the end's actions are performed
   abbrev pub Does : Doing → Place L S → Result (List LinkAction) AllocError → Place L S → Type 0
   Does (Hears at came) old result new = IsMoment tells others at × hears old.link came new.link × HearsOf step came at old.terminal old.port result new.terminal new.port
@@ -173,7 +173,7 @@ module _ {L S : Type 0} (hears : L → Heard → L → Type 0) (sends : L → Li
       × FailsToPerform sends closes mid.link acts l × Leaves mid.terminal mid.port (Ok dropped) t
   Stops Is fault.Memory old l t = ((x : Doing) × (e : AllocError) × (new : Terminal) × Is x × Does x old (Err e) (place l t new))
       ⊎ ((x : Doing) × (acts : List LinkAction) × (e : AllocError) × (mid : Place L S) × Is x × Does x old (Ok acts) mid
-          × FailsToPerform sends closes mid.link acts l × Leaves mid.terminal mid.port (Err e) t)
+      × FailsToPerform sends closes mid.link acts l × Leaves mid.terminal mid.port (Err e) t)
   Stops Is why old l t = ⊥
 
   -- one such doing, or why the session stops

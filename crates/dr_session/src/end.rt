@@ -327,13 +327,7 @@ impl End {
 }
 
 /// A requestor that has sent its request at that moment.
-fn requestor(
-    alloc: Global,
-    site: Option<Site>,
-    peer: Text,
-    proposal: AssociateRq,
-    now: u64,
-) -> Core
+fn requestor(alloc: Global, site: Option<Site>, peer: Text, proposal: AssociateRq, now: u64) -> Core
     ensures { result ≡ requesting site peer proposal now }
 {
     let (_, opening) = Assoc::<Opening>::request(now);

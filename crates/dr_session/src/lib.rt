@@ -20,11 +20,11 @@ pub mod waiting;
 pub mod wishes;
 pub mod writing;
 
+pub use echo_desk::Echoed;
 pub use end::End;
 pub use ends::{
     Core, Effect, Ended, Found, Heard, Input, LinkAction, Marks, Moment, Over, Pending, Told,
 };
 pub use link::{Clock, Link};
 pub use port::DeskPort;
-pub use echo_desk::Echoed;
 pub use sessions::{SessionFault, deliver, echo, receive};

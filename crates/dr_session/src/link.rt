@@ -9,9 +9,13 @@ use crate::ends::Heard;
 /// failures, and the count never falls.
 pub trait Link {
     ghost hears: { Self → Heard → Self → Type 0 };
+
     ghost sends: { Self → List ℕ → Bool → Self → Type 0 };
+
     ghost closes: { Self → Self → Type 0 };
+
     ghost failed: { Self → ℕ };
+
     ghost opened_at: { Self → ℕ };
 
     /// The moment at which the connection came, in milliseconds, at most 2^62.

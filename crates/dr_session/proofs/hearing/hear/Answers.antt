@@ -33,7 +33,7 @@ returns-else-is_empty-clause-done g c =
     if_ok c.hear_on.result (λ (e : Effect). PlaysOn g.P.DeskPort.step c.args.at c.feed.new.self c.in-Ok.pdus c.args.core c.args.port.now c.hear_on.new.ear e c.hear_on.new.port)
     (λ (e : Effect). PlaysBytes g.P.DeskPort.step c.args.at c.args.ear.now c.args.core c.args.piece.now c.args.port.now c.hear_on.new.ear e c.hear_on.new.port)
     (λ (e : Effect) (h : PlaysOn g.P.DeskPort.step c.args.at c.feed.new.self c.in-Ok.pdus c.args.core c.args.port.now c.hear_on.new.ear e c.hear_on.new.port).
-        plays_pdus g.P.DeskPort.step c.args.at c.args.ear.now c.args.piece.now c.in-Ok.pdus c.args.core c.args.port.now c.hear_on.new.port c.feed.new.self c.hear_on.new.ear e (subst F c.in-Ok.is c.feed.ensures) h)
+    plays_pdus g.P.DeskPort.step c.args.at c.args.ear.now c.args.piece.now c.in-Ok.pdus c.args.core c.args.port.now c.hear_on.new.port c.feed.new.self c.hear_on.new.ear e (subst F c.in-Ok.is c.feed.ensures) h)
     c.hear_on.ensures.done
 
 pub returns-else-is_empty-clause-broke : goal.returns-else-is_empty-clause-broke
@@ -41,7 +41,7 @@ returns-else-is_empty-clause-broke g c =
     let F : Result (List Pdu) PduFault → Type 0 = λ r. Feeds c.args.ear.now c.args.piece.now r c.feed.new.self in
     if_err c.hear_on.result _ _
     (λ (h : BreaksOn g.P.DeskPort.step c.args.at c.feed.new.self c.in-Ok.pdus c.args.core c.args.port.now c.hear_on.new.port).
-        breaks_pdus g.P.DeskPort.step c.args.at c.args.ear.now c.args.piece.now c.in-Ok.pdus c.args.core c.args.port.now c.hear_on.new.port c.feed.new.self (subst F c.in-Ok.is c.feed.ensures) h)
+    breaks_pdus g.P.DeskPort.step c.args.at c.args.ear.now c.args.piece.now c.in-Ok.pdus c.args.core c.args.port.now c.hear_on.new.port c.feed.new.self (subst F c.in-Ok.is c.feed.ensures) h)
     c.hear_on.ensures.broke
 
 pub returns-in-Memory-clause-broke : goal.returns-in-Memory-clause-broke
@@ -70,8 +70,8 @@ returns-in_default-clause-done g c =
     if_ok c.hear_one.result (λ (e : Effect). Plays g.P.DeskPort.step c.args.core (at_moment c.args.at (input_of c.in-Err.fault) ∷ []) c.args.port.now e.acts e.core c.hear_one.new.port)
     (λ (e : Effect). PlaysBytes g.P.DeskPort.step c.args.at c.args.ear.now c.args.core c.args.piece.now c.args.port.now c.feed.new.self e c.hear_one.new.port)
     (λ (e : Effect) (h : Plays g.P.DeskPort.step c.args.core (at_moment c.args.at (input_of c.in-Err.fault) ∷ []) c.args.port.now e.acts e.core c.hear_one.new.port).
-        plays_fault g.P.DeskPort.step c.args.at c.args.ear.now c.args.piece.now c.in-Err.fault c.args.core c.args.port.now c.hear_one.new.port c.feed.new.self e
-        (hears_fault c.args.ear.now c.args.piece.now c.in-Err.fault c.feed.new.self r.is r.works r.shows r.after) h)
+    plays_fault g.P.DeskPort.step c.args.at c.args.ear.now c.args.piece.now c.in-Err.fault c.args.core c.args.port.now c.hear_one.new.port c.feed.new.self e
+    (hears_fault c.args.ear.now c.args.piece.now c.in-Err.fault c.feed.new.self r.is r.works r.shows r.after) h)
     (subst P c.fault_input.ensures c.hear_one.ensures.done)
 
 pub returns-in_default-clause-broke : goal.returns-in_default-clause-broke
@@ -81,5 +81,5 @@ returns-in_default-clause-broke g c =
     let P : Input → Type 0 = λ i. OnErr c.hear_one.result (BreaksOff g.P.DeskPort.step c.args.core (at_moment c.args.at i ∷ []) c.args.port.now c.hear_one.new.port) in
     if_err c.hear_one.result _ _
     (λ (h : BreaksOff g.P.DeskPort.step c.args.core (at_moment c.args.at (input_of c.in-Err.fault) ∷ []) c.args.port.now c.hear_one.new.port).
-        breaks_fault g.P.DeskPort.step c.args.at c.args.ear.now c.args.piece.now c.in-Err.fault c.args.core c.args.port.now c.hear_one.new.port r.is r.shows h)
+    breaks_fault g.P.DeskPort.step c.args.at c.args.ear.now c.args.piece.now c.in-Err.fault c.args.core c.args.port.now c.hear_one.new.port r.is r.shows h)
     (subst P c.fault_input.ensures c.hear_one.ensures.broke)

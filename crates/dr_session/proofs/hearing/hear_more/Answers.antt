@@ -5,9 +5,11 @@ use Rattle.dr_session.proofs.InTurn.{breaks_behind, on_err}
 use Rattle.dr_session.proofs.hearing.hear_more.Goals as goal
 
 pub returns-clause-done : goal.returns-clause-done
-returns-clause-done g c =
-    (c.in_ok-last.last.acts, c.in_ok-last.ensures.done,
-    c.from_vec.ensures ∙ (c.in_ok-append.ensures.items ∙ (ap (λ (l : List LinkAction). l ++ c.into_vec.result.items) c.into_vec-all.ensures ∙ ap (λ (l : List LinkAction). c.args.first.acts ++ l) c.into_vec.ensures)))
+returns-clause-done g c = (
+  c.in_ok-last.last.acts,
+  c.in_ok-last.ensures.done,
+  c.from_vec.ensures ∙ (c.in_ok-append.ensures.items ∙ (ap (λ (l : List LinkAction). l ++ c.into_vec.result.items) c.into_vec-all.ensures ∙ ap (λ (l : List LinkAction). c.args.first.acts ++ l) c.into_vec.ensures)),
+)
 
 pub returns-in_err-append-clause-broke : goal.returns-in_err-append-clause-broke
 returns-in_err-append-clause-broke g c = on_err _ _

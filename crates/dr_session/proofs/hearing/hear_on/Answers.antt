@@ -48,8 +48,8 @@ returns-in_default-clause-done g c =
     if_ok c.hear_more.result (λ (e : Effect). PlaysMore g.P.DeskPort.step c.in_ok-first.first (at_moment c.args.at c.fault_input.result) c.hear_pdus.new.port e c.hear_more.new.port)
     (λ (e : Effect). PlaysOn g.P.DeskPort.step c.args.at c.args.ear.now c.args.pdus c.args.core c.args.port.now c.feed.new.self e c.hear_more.new.port)
     (λ (e : Effect) (h : PlaysMore g.P.DeskPort.step c.in_ok-first.first (at_moment c.args.at c.fault_input.result) c.hear_pdus.new.port e c.hear_more.new.port).
-        on_fault_more g.P.DeskPort.step c.args.at c.args.ear.now c.args.pdus c.in-Err.fault c.fault_input.result c.args.core c.args.port.now c.hear_pdus.new.port c.hear_more.new.port c.feed.new.self c.in_ok-first.first e
-        r.is r.shows r.after c.fault_input.ensures (subst P c.into_vec.ensures c.in_ok-first.ensures.done) h)
+    on_fault_more g.P.DeskPort.step c.args.at c.args.ear.now c.args.pdus c.in-Err.fault c.fault_input.result c.args.core c.args.port.now c.hear_pdus.new.port c.hear_more.new.port c.feed.new.self c.in_ok-first.first e
+    r.is r.shows r.after c.fault_input.ensures (subst P c.into_vec.ensures c.in_ok-first.ensures.done) h)
     c.hear_more.ensures.done
 
 pub returns-in_default-clause-broke : goal.returns-in_default-clause-broke
@@ -59,6 +59,6 @@ returns-in_default-clause-broke g c =
     let r = refused c.args.ear.now [] c.in-Err.fault c.feed.new.self c.in_default.not-More c.in_default.not-Memory c.in_default.not-Failed (subst F c.in-Err.is c.feed.ensures) in
     if_err c.hear_more.result _ _
     (λ (h : BreaksOff g.P.DeskPort.step c.in_ok-first.first.core (at_moment c.args.at c.fault_input.result ∷ []) c.hear_pdus.new.port c.hear_more.new.port).
-        on_fault_broke g.P.DeskPort.step c.args.at c.args.ear.now c.args.pdus c.in-Err.fault c.fault_input.result c.args.core c.args.port.now c.hear_pdus.new.port c.hear_more.new.port c.in_ok-first.first
-        r.is r.shows c.fault_input.ensures (subst P c.into_vec.ensures c.in_ok-first.ensures.done) h)
+    on_fault_broke g.P.DeskPort.step c.args.at c.args.ear.now c.args.pdus c.in-Err.fault c.fault_input.result c.args.core c.args.port.now c.hear_pdus.new.port c.hear_more.new.port c.in_ok-first.first
+    r.is r.shows c.fault_input.ensures (subst P c.into_vec.ensures c.in_ok-first.ensures.done) h)
     c.hear_more.ensures.broke

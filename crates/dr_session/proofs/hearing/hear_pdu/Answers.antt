@@ -24,13 +24,13 @@ returns-then-is_empty-clause-broke g c =
 pub returns-else-is_empty-clause-done : goal.returns-else-is_empty-clause-done
 returns-else-is_empty-clause-done g c =
     let inputs : inputs_of c.args.pdu ≡ map Value c.into_vec.result.items =
-        ap (λ (p : Pdu). inputs_of p) c.in-Transfer.is ∙ (values_some c.in-Transfer.pdvs (sym c.is_empty.ensures ∙ c.if-is_empty.false) ∙ ap (λ (l : List Pdv). map Value l) (sym c.into_vec.ensures)) in
+    ap (λ (p : Pdu). inputs_of p) c.in-Transfer.is ∙ (values_some c.in-Transfer.pdvs (sym c.is_empty.ensures ∙ c.if-is_empty.false) ∙ ap (λ (l : List Pdv). map Value l) (sym c.into_vec.ensures)) in
     let P : List Input → Type 0 = λ is. IfOk c.hear_values.result (λ (e : Effect). Plays g.P.DeskPort.step c.args.core (map (at_moment c.args.at) is) c.args.port.now e.acts e.core c.hear_values.new.port) in
     subst P (sym inputs) c.hear_values.ensures.done
 
 pub returns-else-is_empty-clause-broke : goal.returns-else-is_empty-clause-broke
 returns-else-is_empty-clause-broke g c =
     let inputs : inputs_of c.args.pdu ≡ map Value c.into_vec.result.items =
-        ap (λ (p : Pdu). inputs_of p) c.in-Transfer.is ∙ (values_some c.in-Transfer.pdvs (sym c.is_empty.ensures ∙ c.if-is_empty.false) ∙ ap (λ (l : List Pdv). map Value l) (sym c.into_vec.ensures)) in
+    ap (λ (p : Pdu). inputs_of p) c.in-Transfer.is ∙ (values_some c.in-Transfer.pdvs (sym c.is_empty.ensures ∙ c.if-is_empty.false) ∙ ap (λ (l : List Pdv). map Value l) (sym c.into_vec.ensures)) in
     let P : List Input → Type 0 = λ is. OnErr c.hear_values.result (BreaksOff g.P.DeskPort.step c.args.core (map (at_moment c.args.at) is) c.args.port.now c.hear_values.new.port) in
     subst P (sym inputs) c.hear_values.ensures.broke

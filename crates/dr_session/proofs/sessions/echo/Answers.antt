@@ -19,7 +19,7 @@ returns-in_err-ended-clause-echoes g c =
     echoes_stopped g.L.Link.hears g.L.Link.sends g.L.Link.closes (g.C.Clock.tells c.args.clock.now) c.args.caller.now c.args.called.now c.in_err-ended.field-0.0 c.from_residual-in_err-ended.result c.args.link.now c.start.new.link c.start.new.port
     c.from_residual-in_err-ended.ensures.0 c.from_residual-in_err-ended.ensures.1
     (echo_session g.L.Link.hears g.L.Link.sends g.L.Link.closes (g.C.Clock.tells c.args.clock.now) c.args.caller.now c.args.called.now (Err c.in_err-ended.field-0.0) c.in_ok-end.end c.in_ok-end.actions c.moment-at.result.now
-        c.args.link.now c.start.new.link _ c.start.new.port c.in_ok-end.ensures.end c.in_ok-end.ensures.actions refl c.moment-at.ensures.is.0 c.in_err-ended.ensures.starts)
+    c.args.link.now c.start.new.link _ c.start.new.port c.in_ok-end.ensures.end c.in_ok-end.ensures.actions refl c.moment-at.ensures.is.0 c.in_err-ended.ensures.starts)
 
 pub returns-in_err-ended-clause-counts : goal.returns-in_err-ended-clause-counts
 returns-in_err-ended-clause-counts g c =

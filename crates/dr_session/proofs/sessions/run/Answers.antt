@@ -8,12 +8,13 @@ loop-done-init g c =
     (so_far g.L.Link.hears g.L.Link.sends g.L.Link.closes g.P.DeskPort.step (g.C.Clock.tells c.args.clock.now) c.args.others c.args.kind (place c.args.link.now c.args.port.now c.args.end.now), omega arith)
 
 pub loop-done-preserved : goal.loop-done-preserved
-loop-done-preserved g c =
-    (more_done_as g.L.Link.hears g.L.Link.sends g.L.Link.closes g.P.DeskPort.step (g.C.Clock.tells c.args.clock.now) c.args.others c.args.kind c.next_wish-wish.result (place c.args.link.now c.args.port.now c.args.end.now)
-        (place c.loop-done.link c.loop-done.port c.loop-done.end) (place c.go_on.new.link c.go_on.new.port c.go_on.new.end) c.loop-done._done c.loop-done.reads c.loop-done.asked c.count_reads-reads.result c.count_asked-asked.result
-        c.loop-done.invariant.0 (sym c.over.ensures ∙ c.in_default.is) c.next_wish-wish.ensures (omega (arith, c.loop-done.invariant.0.below, c.if-reads-eq-MOST_READS.false)) c.in_ok-go_on.ensures.does
-        c.count_reads-reads.ensures c.count_asked-asked.ensures,
-    omega (arith, c.loop-done.invariant.1, c.go_on.ensures.counts.0))
+loop-done-preserved g c = (
+  more_done_as g.L.Link.hears g.L.Link.sends g.L.Link.closes g.P.DeskPort.step (g.C.Clock.tells c.args.clock.now) c.args.others c.args.kind c.next_wish-wish.result (place c.args.link.now c.args.port.now c.args.end.now)
+      (place c.loop-done.link c.loop-done.port c.loop-done.end) (place c.go_on.new.link c.go_on.new.port c.go_on.new.end) c.loop-done._done c.loop-done.reads c.loop-done.asked c.count_reads-reads.result c.count_asked-asked.result
+      c.loop-done.invariant.0 (sym c.over.ensures ∙ c.in_default.is) c.next_wish-wish.ensures (omega (arith, c.loop-done.invariant.0.below, c.if-reads-eq-MOST_READS.false)) c.in_ok-go_on.ensures.does
+      c.count_reads-reads.ensures c.count_asked-asked.ensures,
+  omega (arith, c.loop-done.invariant.1, c.go_on.ensures.counts.0),
+)
 
 pub count_reads-reads-requires : goal.count_reads-reads-requires
 count_reads-reads-requires g c = omega (arith, c.loop-done.invariant.0.below, c.if-reads-eq-MOST_READS.false)
