@@ -134,7 +134,8 @@ place link port terminal = record { link = link; port = port; terminal = termina
 abbrev pub IsMoment : (ℕ → Type 0) → ℕ → Moment → Type 0
 IsMoment tells others at = tells at.now × (at.others ≡ others)
 
--- The end's actions are performed. Where a write fails the end is told that the link is gone, and what it then wants to be written is dropped.
+-- The end's actions are performed. Where a write fails the end is told that the link is gone, and what it then wants to
+-- be written is dropped.
 abbrev pub CarriesOut : {L S : Type 0} → (L → List ℕ → Bool → L → Type 0) → (L → L → Type 0) → (S → DeskCall → DeskAnswer → S → Type 0) → Moment → List LinkAction
     → Place L S → Result (Unit {0}) SessionFault → Place L S → Type 0
 CarriesOut sends closes step at acts mid (Ok done) new = Performs sends closes mid.link acts new.link × (new.port ≡ mid.port) × (new.terminal ≡ mid.terminal)
@@ -161,12 +162,13 @@ module _ {L S : Type 0} (hears : L → Heard → L → Type 0) (sends : L → Li
   abbrev pub Did : Place L S → Doing → Place L S → Type 0
   Did old x new = (acts : List LinkAction) × (mid : Place L S) × Does x old (Ok acts) mid × Performed x mid acts new
 
-  -- A write failed. The end is told that the link is gone, so that what is pending is settled; what it then wants to be written is dropped.
+  -- A write failed. The end is told that the link is gone, so that what is pending is settled; what it then wants to be
+  -- written is dropped.
   abbrev pub Leaves : Terminal → S → Result (List LinkAction) AllocError → S → Type 0
   Leaves old s result t = (at : Moment) × (new : Terminal) × IsMoment tells others at × HearsOf step heard.Fault at old s result new t
 
-  -- Why a session stops in the midst of such a doing. A fault of the link is heard as its end, so that what is pending is settled. Memory ends
-  -- in the doing, or while leaving.
+  -- Why a session stops in the midst of such a doing. A fault of the link is heard as its end, so that what is pending
+  -- is settled. Memory ends in the doing, or while leaving.
   abbrev pub Stops : (Doing → Type 0) → SessionFault → Place L S → L → S → Type 0
   Stops Is fault.Read old l t = (at : Moment) × (acts : List LinkAction) × (new : Terminal) × Is (Hears at heard.Fault) × Does (Hears at heard.Fault) old (Ok acts) (place l t new)
   Stops Is fault.Write old l t = (x : Doing) × (acts dropped : List LinkAction) × (mid : Place L S) × Is x × Does x old (Ok acts) mid
@@ -181,7 +183,8 @@ module _ {L S : Type 0} (hears : L → Heard → L → Type 0) (sends : L → Li
   GoesOn Is (Ok done) old new = (x : Doing) × Is x × Did old x new
   GoesOn Is (Err why) old new = Stops Is why old new.link new.port
 
-  -- What was done, one after the other, each as it was wished of an end that wasn't over. The number says how often something had been asked before.
+  -- What was done, one after the other, each as it was wished of an end that wasn't over. The number says how often
+  -- something had been asked before.
   abbrev pub Served : Kind → ℕ → Place L S → List Doing → ℕ → Place L S → Type 0
   Served kind asked old [] told new = (told ≡ asked) × (new ≡ old)
   Served kind asked old (x ∷ xs) told new = (over_of old.terminal.core ≡ None) × IsWished (wants kind asked old.terminal) x
@@ -242,7 +245,8 @@ module _ {L : Type 0} (hears : L → Heard → L → Type 0) (sends : L → List
   EchoSession caller called result k l t = (now : ℕ) × (sent : Bool) × tells now
       × Begins hears sends closes EchoStep tells 0 EchoOnce sent result k (spellings (pdu.AssociateRq (echo_proposal caller called) ∷ [])) (record { status = None }) (requesting_echo caller called now) l t
 
-  -- How an echo ends: as its association does, with the status of the response, if one came. Memory may end before the request went out.
+  -- How an echo ends: as its association does, with the status of the response, if one came. Memory may end before the
+  -- request went out.
   abbrev pub EchoesAs : Text → Text → Result Echoed SessionFault → L → L → Type 0
   EchoesAs caller called (Ok x) k l = EchoSession caller called (Ok x.ended) k l (record { status = x.status })
   EchoesAs caller called (Err fault.Memory) k l = (l ≡ k) ⊎ ((t : EchoDesk) × EchoSession caller called (Err fault.Memory) k l t)

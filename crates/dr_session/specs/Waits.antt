@@ -12,7 +12,8 @@ use Rattle.dr_session.specs.Ends.{accepting}
 use Rattle.dr_session.specs.Plays.{Reacts, at_moment}
 use Rattle.dr_session.specs.Reactions.{effect}
 
--- At a late mark 30,000 ms or more behind the moment when the connection came, however long it had waited for somebody to serve it, the end closes it and is gone. Before, nothing
+-- At a late mark 30,000 ms or more behind the moment when the connection came, however long it had waited for somebody
+-- to serve it, the end closes it and is gone. Before, nothing
 -- is done. Nothing is called.
 abbrev pub ClosesAfterWaiting : {S : Type 0} → (S → DeskCall → DeskAnswer → S → Type 0) → Type 0
 ClosesAfterWaiting {S} step = (site : Part) (opened : ℕ) (at : Moment) (s t : S) (x : Effect) → Reacts step (accepting site opened) (at_moment at Late) s x t
