@@ -19,7 +19,7 @@ use Rattle.dr_session.specs.declared.ends.Told.{Told}
 use Rattle.dr_session.specs.declared.ends.Told.TheVariants.{Plain, Quiet, Fault, Strange, Store, Whole, Agreement}
 use Rattle.dr_session.specs.Desks.{DeskCall, DeskAnswer}
 use Rattle.dr_session.specs.Fits.{IsHeard, heard_as, IsLooked, told_as}
-use Rattle.dr_session.specs.Reactions.{Reaction, turn, occurs, moves, acts, effect, quiet, is_idle, is_ready, is_impatient, event_of, is_taken}
+use Rattle.dr_session.specs.Reactions.{Reaction, turn, occurs, moves, acts, effect, quiet, is_idle, is_free, is_impatient, event_of, is_taken}
 use Rattle.dr_session.specs.Turns.{Ends, Asks, Fails, Turns, Broke}
 
 module _ {S : Type 0} (step : S → DeskCall → DeskAnswer → S → Type 0) where
@@ -83,14 +83,14 @@ waits_on at c h k = late_by at c false h k
 pub release_is : (at : Moment) (c : Core) (b : Bool) → is_idle c ≡ b → event_of (Plain input.ReleaseAsked) at c ≡ (if b then Some ReleaseRequest else None)
 release_is at c b h = ap (λ (x : Bool). if x then Some ReleaseRequest else None) h
 
-pub push_is : (at : Moment) (c : Core) (b : Bool) → is_ready c ≡ b → event_of (Plain input.PushAsked) at c ≡ (if b then Some DataRequest else None)
+pub push_is : (at : Moment) (c : Core) (b : Bool) → is_free c ≡ b → event_of (Plain input.PushAsked) at c ≡ (if b then Some DataRequest else None)
 push_is at c b h = ap (λ (x : Bool). if x then Some DataRequest else None) h
 
 second : (a b : Bool) → (a && b) ≡ true → b ≡ true
 second true b h = h
 second false b h = absurd (let k : false ≡ true = h in cc)
 
-pub push_steps : (c : Core) (now : ℕ) → is_ready c ≡ true → next_sent c.phase now ≡ next_stepped DataRequest true c.phase now
+pub push_steps : (c : Core) (now : ℕ) → is_free c ≡ true → next_sent c.phase now ≡ next_stepped DataRequest true c.phase now
 push_steps c now h = ap (λ (b : Bool). if b then next_stepped DataRequest true c.phase now else Err c.phase) (second (is_idle c) (may_send c.phase) h)
 
 pub heard_event : (i : Input) (at : Moment) (c : Core) → IsHeard i → event_of (Plain i) at c ≡ Some (event_of_incoming (heard_as i))

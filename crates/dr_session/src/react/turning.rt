@@ -4,12 +4,13 @@ ghost use Rattle.dr_dimse.specs.Commands.{status_of as status_in};
 ghost use Rattle.dr_pdu.specs.declared.pdu.Pdu.TheVariants as pdu;
 ghost use Rattle.dr_session.specs.declared.ends.LinkAction.TheVariants.{Close};
 ghost use Rattle.dr_session.specs.Fits.{ToldFits, IsHeard, heard_as, IsLooked, told_as};
-ghost use Rattle.dr_session.specs.Reactions.{acts, hears, turn, event_of, is_taken, is_taken_at, effect, write, abort_pdu, aborted, leaves, reason_of, has_waited, is_impatient as is_impatient_since, is_idle, is_ready, stepped_by, released, collides, noted};
+ghost use Rattle.dr_session.specs.Reactions.{acts, hears, turn, event_of, is_taken, is_taken_at, effect, write, abort_pdu, aborted, leaves, reason_of, has_waited, is_impatient as is_impatient_since, is_idle, stepped_by, released, collides, noted};
 ghost use Rattle.dr_session.specs.Turns.{Turns, Broke, Ends};
 ghost use Rattle.dr_ulstate.specs.Phases.{event_of as event_of_incoming, is_acceptable as is_acceptable_incoming};
 ghost use Rattle.dr_ulstate.specs.declared.table.Action.TheVariants.{Ae3, Ae4, Ae6};
 ghost use Rattle.dr_ulstate.specs.declared.table.Event.TheVariants.{ReleaseResponse, AbortRequest};
 
+use crate::echoing::is_free;
 use crate::ends::{Core, Effect, Input, LinkAction, Moment, Told};
 use crate::port::DeskPort;
 use crate::react::acceptor::{answer_request, decide, store};
@@ -403,7 +404,7 @@ fn meet_push<P: DeskPort>(
     ensures done { IfOk result (λ e. Turns P.step (turn at core (Told.Plain Input.PushAsked)) port.old e port.new) }
     ensures broke { OnErr result (Broke P.step (turn at core (Told.Plain Input.PushAsked)) port.old port.new) }
 {
-    if !may_push(&core) {
+    if !is_free(&core) {
         return Ok(quiet(alloc, core));
     }
     match core.phase.send(at.now) {
@@ -420,13 +421,6 @@ fn is_idle_requestor(core: &Core) -> bool
     ensures { result ≡ is_idle core.now }
 {
     core.phase.is_requestor() && core.pending.is_none()
-}
-
-/// Whether it is one that is established.
-fn may_push(core: &Core) -> bool
-    ensures { result ≡ is_ready core.now }
-{
-    is_idle_requestor(core) && core.phase.may_send()
 }
 
 /// Time has passed: the table's timer ends, or a requestor that has awaited an answer for too long aborts.
