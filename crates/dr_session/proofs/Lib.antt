@@ -8,6 +8,7 @@ pub mod Idle
 pub mod InTurn
 pub mod Joining
 pub mod Named
+pub mod Owning
 pub mod Pieces
 pub mod Playing
 pub mod Resting

@@ -1,5 +1,5 @@
 -- The laws of an end.
-use Rattle.std.specs.Prelude.{◌≡◌, ℕ, false, List, [], ◌∷◌, ◌++◌, map, ◌↔◌, Some, Result, Ok}
+use Rattle.std.specs.Prelude.{◌≡◌, ℕ, false, List, [], ◌∷◌, ◌++◌, map, ◌↔◌, Some, Result, Ok, ◌⊎◌, Option, None}
 use Rattle.dr_base.specs.Texts.{Text}
 use Rattle.dr_pdu.specs.Feeding.{Feeding}
 use Rattle.dr_dimse.specs.declared.command.Command.TheVariants.{StoreRsp}
@@ -9,7 +9,8 @@ use Rattle.dr_session.specs.declared.ends.Found.{Found}
 use Rattle.dr_session.specs.declared.ends.Found.TheVariants.{Read}
 use Rattle.dr_session.specs.declared.ends.Core.{Core}
 use Rattle.dr_session.specs.declared.ends.Effect.{Effect}
-use Rattle.dr_session.specs.Desks.{DeskCall, DeskAnswer, Arrive, Arrival}
+use Rattle.dr_session.specs.declared.ends.Pending.{Pending}
+use Rattle.dr_session.specs.Desks.{DeskCall, DeskAnswer, Arrive, Next, Settle, Arrival, Upcoming}
 use Rattle.dr_session.specs.declared.ends.Moment.{Moment}
 use Rattle.std.specs.List.{AllByRecursion}
 use Rattle.dr_pdu.specs.declared.pdu.Pdu.{Pdu}
@@ -22,7 +23,7 @@ use Rattle.dr_session.specs.declared.ends.Told.{Told}
 use Rattle.std.specs.declared.alloc.AllocError.{AllocError}
 use Rattle.dr_session.specs.Ends.{Terminal, IsOver, Meets, HearsOf, HearsBytes}
 use Rattle.dr_session.specs.Reactions.{Reaction, turn, quiet, says, stores}
-use Rattle.dr_session.specs.Turns.{Turns, Run, Makes}
+use Rattle.dr_session.specs.Turns.{Ends, Asks, Fails, Turns, Run, Makes}
 use Rattle.dr_session.specs.Plays.{PlaysBytes}
 
 abbrev pub answers : List (DeskCall × DeskAnswer) → List DeskAnswer
@@ -84,3 +85,27 @@ StaysOver {S} step = (input : Input) (at : Moment) (old new : Terminal) (s t : S
 
 abbrev pub HearsNothing : {S : Type 0} → (S → DeskCall → DeskAnswer → S → Type 0) → Type 0
 HearsNothing {S} step = (piece : List ℕ) (at : Moment) (old new : Terminal) (s t : S) (result : Result (List LinkAction) AllocError) → IsOver old.core → HearsBytes step old.core at piece old s result new t → IsStill old s result new t
+
+-- ---- what is settled
+
+-- the answer hands out that instance
+abbrev pub Given : DeskAnswer → Text → Type 0
+Given (Upcoming (Ok (Some item))) uid = uid ≡ item.uid
+Given reply uid = ⊥
+
+abbrev pub Pends : Option Pending → Text → Type 0
+Pends None uid = ⊥
+Pends (Some p) uid = uid ≡ p.uid
+
+-- Whatever the desk answers, each settling is of such an instance or of one that the desk has just handed out, for that peer
+-- and at that moment.
+abbrev pub SettlesOwn : Reaction → Text → ℕ → (Text → Type 0) → Type 0
+SettlesOwn (Ends x) peer now Own = Unit {0}
+SettlesOwn (Asks (Settle uid dest outcome moment) follow) peer now Own = Own uid × (dest ≡ peer) × (moment ≡ now) × ((reply : DeskAnswer) → SettlesOwn (follow reply) peer now Own)
+SettlesOwn (Asks (Next dest moment) follow) peer now Own = (reply : DeskAnswer) → SettlesOwn (follow reply) peer now (λ uid. Own uid ⊎ Given reply uid)
+SettlesOwn (Asks (Arrive caller item) follow) peer now Own = (reply : DeskAnswer) → SettlesOwn (follow reply) peer now (λ uid. Own uid ⊎ Given reply uid)
+SettlesOwn Fails peer now Own = Unit {0}
+
+-- a turn settles what pends, or what it was handed out
+abbrev pub SettlesOwnAlone : Type 0
+SettlesOwnAlone = (at : Moment) (c : Core) (told : Told) → SettlesOwn (turn at c told) c.peer at.now (λ uid. Pends c.pending uid)
