@@ -10,3 +10,5 @@ mod parts;
 mod progress;
 mod table;
 mod waiting;
+
+pub use ledger::MemoryLedger;
