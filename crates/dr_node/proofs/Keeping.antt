@@ -16,6 +16,11 @@ use Rattle.dr_session.specs.Plays.{At, Reacts, Stops, Plays, BreaksOff, PlaysByt
 use Rattle.dr_session.specs.Reactions.{Reaction}
 use Rattle.dr_session.specs.Turns.{Turn, Turns, Broke, Ends, Asks, Fails}
 use Rattle.dr_ulstate.specs.Phases.{state_of}
+use Rattle.dr_site.specs.Parts.{Part}
+use Rattle.dr_ledger.specs.Bodies.{Bodies}
+use Rattle.dr_ledger.specs.Books.{Book}
+use Rattle.dr_session.specs.declared.desk.LedgerDesk.{LedgerDesk}
+use Rattle.dr_node.specs.Desks.{LedgerStep}
 use Rattle.dr_node.specs.declared.event.LinkEvent.{LinkEvent}
 use Rattle.dr_node.specs.declared.event.LinkEvent.TheVariants as event
 use Rattle.dr_node.specs.declared.fault.NodeFault.{NodeFault}
@@ -24,7 +29,7 @@ use Rattle.dr_node.specs.declared.links.Side.{Side}
 use Rattle.dr_node.specs.Sides.{Sides, Deed, Does, DoesIn, DoesAt, MeetsEvent, Pushes, moment_at}
 use Rattle.std.specs.FinMap as map
 
-Acts : Type 0
+abbrev pub Acts : Type 0
 Acts = Result (List LinkAction) AllocError
 
 module _ {S : Type 0} (step : S → DeskCall → DeskAnswer → S → Type 0) (R : S → S → Type 0) (same : (s : S) → R s s) (more : (s m t : S) → R s m → R m t → R s t)
@@ -47,11 +52,7 @@ module _ {S : Type 0} (step : S → DeskCall → DeskAnswer → S → Type 0) (R
   reacts c i s t x h = turns _ s t x h.turns
 
   stops : (c : Core) (i : At) (s t : S) → Stops step c i s t → R s t
-  stops c i s t h = by_case h.by
-    where
-      by_case : _ → R s t
-      by_case (inl e) = as_it_was s t e
-      by_case (inr x) = broke _ s t x.3
+  stops c i s t h = elim h.by [ inl e ↦ as_it_was s t e | inr x ↦ broke _ s t x.3 ]
 
   plays : (c : Core) (is : List At) (s t : S) (acts : List LinkAction) (d : Core) → Plays step c is s acts d t → R s t
   plays c [] s t acts d h = as_it_was s t h.2
@@ -116,3 +117,22 @@ module _ {S : Type 0} (step : S → DeskCall → DeskAnswer → S → Type 0) (R
 
   pub pushes_keep : (now link : ℕ) (old new : Sides) (s t : S) (result : Result (List LinkAction) NodeFault) → Does (Pushes step) now link old s result new t → R s t
   pushes_keep now link old new s t result h = deeds (Pushes step) (λ at. meets at input.PushAsked) now link (map.get old link) old new s t result h
+
+-- ---- a ledger stays of its site, and its premise goes back to the start
+
+module _ {L : Type 0} (site : L → Part) (book : L → Book) (bodies : L → Bodies) (armed : L → Bool) (trusts stands : L → Type 0) where
+  pub input_stays : (what : LinkEvent) (now link : ℕ) (old new : Sides) (s t : LedgerDesk L) (result : Result (List LinkAction) NodeFault) →
+      Does (MeetsEvent (LedgerStep site book bodies armed trusts stands) what) now link old s result new t → site t.ledger ≡ site s.ledger
+  input_stays = inputs_keep (LedgerStep site book bodies armed trusts stands) (λ s t. site t.ledger ≡ site s.ledger) (λ s. refl) (λ s m t a b. b ∙ a) (λ s call answer t h. h.1)
+
+  pub push_stays : (now link : ℕ) (old new : Sides) (s t : LedgerDesk L) (result : Result (List LinkAction) NodeFault) →
+      Does (Pushes (LedgerStep site book bodies armed trusts stands)) now link old s result new t → site t.ledger ≡ site s.ledger
+  push_stays = pushes_keep (LedgerStep site book bodies armed trusts stands) (λ s t. site t.ledger ≡ site s.ledger) (λ s. refl) (λ s m t a b. b ∙ a) (λ s call answer t h. h.1)
+
+  pub input_stood : (what : LinkEvent) (now link : ℕ) (old new : Sides) (s t : LedgerDesk L) (result : Result (List LinkAction) NodeFault) →
+      Does (MeetsEvent (LedgerStep site book bodies armed trusts stands) what) now link old s result new t → stands t.ledger → stands s.ledger
+  input_stood = inputs_keep (LedgerStep site book bodies armed trusts stands) (λ s t. stands t.ledger → stands s.ledger) (λ s h. h) (λ s m t a b h. a (b h)) (λ s call answer t h. h.0)
+
+  pub push_stood : (now link : ℕ) (old new : Sides) (s t : LedgerDesk L) (result : Result (List LinkAction) NodeFault) →
+      Does (Pushes (LedgerStep site book bodies armed trusts stands)) now link old s result new t → stands t.ledger → stands s.ledger
+  push_stood = pushes_keep (LedgerStep site book bodies armed trusts stands) (λ s t. stands t.ledger → stands s.ledger) (λ s h. h) (λ s m t a b h. a (b h)) (λ s call answer t h. h.0)

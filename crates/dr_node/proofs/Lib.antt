@@ -1,3 +1,4 @@
 pub mod Mapped
 pub mod Linked
 pub mod Keeping
+pub mod Opening

@@ -8,6 +8,7 @@ ghost use Rattle.dr_ledger.specs.Pairs.{pair_cmp};
 ghost use Rattle.dr_ledger.specs.Refusals.{Arms};
 ghost use Rattle.dr_ledger.specs.Replies.{AreKept, Arrives, Counts, IsAdmitted, IsHeld, Lasts, Lists, Reads, Requeues, entry_of};
 ghost use Rattle.dr_ledger.specs.SiteRoutes.{site_routing};
+ghost use Rattle.std.proofs.Props.{props};
 ghost use Rattle.dr_route.specs.Routes.{local as local_caller};
 ghost use Rattle.dr_node.specs.Desks.{LedgerStep};
 ghost use Rattle.dr_node.specs.Sides.{Accepts, Does, MeetsEvent, Opens, Pushes, state_of_side};
@@ -33,7 +34,7 @@ pub struct Node<L: Ledger> {
     local: Text,
     desk: LedgerDesk<L>,
     links: Links,
-    ghost is_local: { ∥ local ≡ local_caller ∥₁ },
+    ghost is_local: { local ≡ local_caller } by { Prim.hlevel props },
     ghost of: { ∥ L.site desk.ledger ≡ site ∥₁ },
 }
 
