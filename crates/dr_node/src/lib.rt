@@ -4,6 +4,7 @@
 
 pub mod event;
 pub mod fault;
+pub mod laws;
 pub mod links;
 pub mod node;
 
