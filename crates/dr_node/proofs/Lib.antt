@@ -4,3 +4,4 @@ pub mod Keeping
 pub mod Opening
 pub mod Booked
 pub mod Alone
+pub mod Counting

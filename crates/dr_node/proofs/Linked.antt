@@ -27,7 +27,7 @@ met does m n old link side new answer s t same there accepted did updates =
     let is : new ≡ with_end side new.end = λ i. record { end = new.end; accepted = accepted i } in
     let Q : Sides → Type 0 = λ x. seen n ≡ map.insert x link (with_end side new.end) in
     subst P (there ∙ (sym (seen_at m link) ∙ ap (λ x. map.get x link) same))
-        (new.end, did, subst Q same (inserted m n link new updates ∙ ap (map.insert (seen m) link) is))
+    (new.end, did, subst Q same (inserted m n link new updates ∙ ap (map.insert (seen m) link) is))
 
 -- of one that isn't
 pub unmet : {S : Type 0} (does : Terminal → S → Acts → Terminal → S → Type 0) (m n : Tree) (old : Sides) (link : ℕ) (s : S) →
@@ -44,8 +44,8 @@ again false side o = refl
 pub taken_out : (old : Sides) (link : ℕ) (side : Side) → map.remove (map.insert old link side) link ≡ map.remove old link
 taken_out old link side = map.same_map nat_cmp_total map.nat_cmp-IsAntisymmetric _ _
     (λ q. map.get-remove nat_cmp_total (map.insert old link side) link q
-        ∙ (ap (cond (eq_by_cmp nat_cmp q link) None) (map.get-insert nat_cmp_total old link side q)
-        ∙ (again (eq_by_cmp nat_cmp q link) side (map.get old q) ∙ sym (map.get-remove nat_cmp_total old link q))))
+    ∙ (ap (cond (eq_by_cmp nat_cmp q link) None) (map.get-insert nat_cmp_total old link side q)
+    ∙ (again (eq_by_cmp nat_cmp q link) side (map.get old q) ∙ sym (map.get-remove nat_cmp_total old link q))))
 
 -- ---- the answers of a node
 

@@ -35,12 +35,12 @@ seen_at m q = map.get-from_entries nat_cmp_total m.entries q ∙ find_lookup q m
 pub inserted : (m n : Tree) (k : ℕ) (w : Side) → ((q : ℕ) → tree.get nat_cmp n q ≡ cond (is_at (nat_cmp k) q) (Some w) (tree.get nat_cmp m q)) → seen n ≡ map.insert (seen m) k w
 inserted m n k w u = map.same_map nat_cmp_total map.nat_cmp-IsAntisymmetric (seen n) (map.insert (seen m) k w)
     (λ q. seen_at n q ∙ (u q ∙ (ap (λ b. cond b (Some w) (tree.get nat_cmp m q)) ((eq_by_cmp_equiv nat_cmp_total).symm k q)
-        ∙ sym (map.get-insert nat_cmp_total (seen m) k w q ∙ ap (cond (eq_by_cmp nat_cmp q k) (Some w)) (seen_at m q)))))
+    ∙ sym (map.get-insert nat_cmp_total (seen m) k w q ∙ ap (cond (eq_by_cmp nat_cmp q k) (Some w)) (seen_at m q)))))
 
 pub removed : (m n : Tree) (k : ℕ) → ((q : ℕ) → tree.get nat_cmp n q ≡ cond (is_at (nat_cmp k) q) None (tree.get nat_cmp m q)) → seen n ≡ map.remove (seen m) k
 removed m n k u = map.same_map nat_cmp_total map.nat_cmp-IsAntisymmetric (seen n) (map.remove (seen m) k)
     (λ q. seen_at n q ∙ (u q ∙ (ap (λ b. cond b None (tree.get nat_cmp m q)) ((eq_by_cmp_equiv nat_cmp_total).symm k q)
-        ∙ sym (map.get-remove nat_cmp_total (seen m) k q ∙ ap (cond (eq_by_cmp nat_cmp q k) None) (seen_at m q)))))
+    ∙ sym (map.get-remove nat_cmp_total (seen m) k q ∙ ap (cond (eq_by_cmp nat_cmp q k) None) (seen_at m q)))))
 
 -- ---- its entries
 

@@ -1,5 +1,5 @@
 -- The laws of a node's calls.
-use Rattle.std.specs.Prelude.{◌≡◌, ◌≢◌, ℕ, Bool, List, [], Option, Some, None, Result, Ok, Err}
+use Rattle.std.specs.Prelude.{◌≡◌, ◌≢◌, ℕ, Bool, false, List, [], Option, Some, None, Result, Ok, Err}
 use Rattle.std.specs.FinMap as map
 use Rattle.dr_base.specs.Texts.{Text}
 use Rattle.dr_ledger.specs.Bodies.{Bodies}
@@ -16,10 +16,10 @@ use Rattle.dr_session.specs.Ledgers.{Desk, RoutedStep, desk}
 use Rattle.dr_node.specs.declared.event.LinkEvent.{LinkEvent}
 use Rattle.dr_node.specs.declared.event.LinkEvent.TheVariants as event
 use Rattle.dr_node.specs.declared.fault.NodeFault.{NodeFault}
-use Rattle.dr_node.specs.declared.fault.NodeFault.TheVariants.{LinkKnown, LinkUnknown, Memory}
+use Rattle.dr_node.specs.declared.fault.NodeFault.TheVariants.{LinkKnown, LinkUnknown}
 use Rattle.dr_node.specs.declared.links.Side.{Side}
 use Rattle.dr_node.specs.Desks.{LedgerStep}
-use Rattle.dr_node.specs.Sides.{Sides, Accepts, Deed, Does, MeetsEvent, Opens, Pushes, accepts_at, others, with_end}
+use Rattle.dr_node.specs.Sides.{Sides, Accepts, Deed, Does, MeetsEvent, Opens, Pushes, accepts_at, is_taken, others}
 
 -- all other links are as they were
 abbrev pub OnlyAt : ℕ → Sides → Sides → Type 0
@@ -50,6 +50,14 @@ UnknownIsRefused {S} step = (what : LinkEvent) (now link : ℕ) (old : Sides) (s
 abbrev pub OverDoesNothing : {S : Type 0} → (S → DeskCall → DeskAnswer → S → Type 0) → Type 0
 OverDoesNothing {S} step = (what : LinkEvent) → what ≢ event.Heard heard.Memory → (now link : ℕ) (old new : Sides) (s t : S) (side : Side) (result : Result (List LinkAction) NodeFault) →
     map.get old link ≡ Some side → IsOver side.end.core → Does (MeetsEvent step what) now link old s result new t → (result ≡ Ok []) × (t ≡ s) × (map.get new link ≡ Some side)
+
+-- What becomes of a link's own side makes no difference to how many others there are.
+abbrev pub CountsOthersAlone : Type 0
+CountsOthersAlone = (link : ℕ) (old : Sides) (side : Side) → others link (map.insert old link side) ≡ others link old
+
+-- A connection that was opened to the node counts only once its association is accepted.
+abbrev pub NewLinksAreNotCounted : Type 0
+NewLinksAreNotCounted = (site : Part) (now : ℕ) → is_taken (accepts_at site now) ≡ false
 
 -- ---- ledgers
 

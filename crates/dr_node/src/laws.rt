@@ -1,5 +1,5 @@
 //! Laws of a node's calls.
-ghost use Rattle.dr_node.specs.Laws.{ChangesOneLink, IsAcceptedWhereFree, IsDoneAtBooks, KnownIsRefused, OverDoesNothing, PushIsDoneAtBooks, PushesChangeOneLink, StaysOfItsSite, UnknownIsRefused};
+ghost use Rattle.dr_node.specs.Laws.{ChangesOneLink, CountsOthersAlone, IsAcceptedWhereFree, IsDoneAtBooks, KnownIsRefused, NewLinksAreNotCounted, OverDoesNothing, PushIsDoneAtBooks, PushesChangeOneLink, StaysOfItsSite, UnknownIsRefused};
 
 use dr_ledger::Ledger;
 use dr_session::DeskPort;
@@ -20,6 +20,12 @@ pub fn accepts_where_free()
 pub fn rests<P: DeskPort>()
     ensures unknown { UnknownIsRefused P.step }
     ensures over { OverDoesNothing P.step }
+{}
+
+/// The others of a link are counted without its own side; a link that was opened to the node isn't counted yet.
+pub fn counts_others()
+    ensures alone { CountsOthersAlone }
+    ensures new { NewLinksAreNotCounted }
 {}
 
 /// A node's ledger stays of its site, and where its premise stands as a call ends it stood before.

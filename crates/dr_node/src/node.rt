@@ -115,12 +115,7 @@ impl<L: Ledger> Node<L> {
     /// A transport connection to that node is open, at a moment in milliseconds: the association is asked for at once.
     ///
     /// Errors: LinkKnown, NoHop where the site has no hop to that node, Memory; after them nothing has changed.
-    pub fn open(
-        &mut self,
-        link: u64,
-        dest: &Text,
-        now: u64,
-    ) -> Result<Seq<LinkAction>, NodeFault>
+    pub fn open(&mut self, link: u64, dest: &Text, now: u64) -> Result<Seq<LinkAction>, NodeFault>
         ensures opens { Opens self.old.site dest.now link now self.old.links result self.new.links }
         ensures desk { self.new.desk ≡ self.old.desk }
         ensures site { self.new.site ≡ self.old.site }

@@ -11,7 +11,7 @@ loop-number-init c = refl
 pub overflow_add-count : goal.overflow_add-count
 overflow_add-count c =
     let turn = iter_turn deref_pair c.self.inside.sides.entries c.loop-number.yielded c.into_iter-number-iterator.result c.loop-number.number-iterator c.next.new.self c.next.result
-        (c.into_iter-number-iterator.ensures.into_iter_gives ∙ c.iter-number-items.ensures.rest) c.loop-number.yielded_by (c.in-Some.number, c.in-Some.side) c.in-Some.is c.next.ensures.steps in
+    (c.into_iter-number-iterator.ensures.into_iter_gives ∙ c.iter-number-items.ensures.rest) c.loop-number.yielded_by (c.in-Some.number, c.in-Some.side) c.in-Some.is c.next.ensures.steps in
     room c.args.link c.loop-number.yielded c.loop-number.count (length c.self.inside.sides.entries) c.loop-number.invariant turn.0 c.iter-number-items.ensures.fits
 
 pub loop-number-preserved-then-is_other : goal.loop-number-preserved-then-is_other
@@ -23,5 +23,5 @@ loop-number-preserved c = passed c.args.link c.loop-number.yielded (c.in-Some.nu
 pub returns : goal.returns
 returns c =
     let end = iter_end deref_pair c.self.inside.sides.entries c.loop-number.yielded c.into_iter-number-iterator.result c.loop-number.number-iterator c.next.new.self c.next.result
-        (c.into_iter-number-iterator.ensures.into_iter_gives ∙ c.iter-number-items.ensures.rest) c.loop-number.yielded_by c.in-None.is c.next.ensures.steps in
+    (c.into_iter-number-iterator.ensures.into_iter_gives ∙ c.iter-number-items.ensures.rest) c.loop-number.yielded_by c.in-None.is c.next.ensures.steps in
     c.loop-number.invariant ∙ (all_counted c.args.link c.self.inside.sides c.loop-number.yielded c.self.invariant end.0 ∙ ap (others c.args.link) c.self.view_is)
