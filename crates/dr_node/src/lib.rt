@@ -1,0 +1,14 @@
+//! One node: the ends of its links over its one ledger. Each call is what one end does at the ledger, or a call on the
+//! ledger; the ledger itself is never handed out, so that it stays of its site.
+#![tactic(auto)]
+
+pub mod event;
+pub mod fault;
+pub mod laws;
+pub mod links;
+pub mod node;
+
+pub use event::LinkEvent;
+pub use fault::NodeFault;
+pub use links::{Links, Side};
+pub use node::Node;
