@@ -1,6 +1,0 @@
-use Rattle.dr_dimse.proofs.FitLemmas.{store_answer_fits}
-use Rattle.std.proofs.Common.{false, arith}
-use Rattle.dr_session.proofs.react.acceptor.respond.Goals as goal
-
-pub say-requires : goal.say-requires
-say-requires c = store_answer_fits c.args.id c.args.status c.args.class c.args.instance false c.requires (omega arith)
