@@ -74,7 +74,7 @@ use Rattle.dr_model.specs.Worlds.{with_book, with_armed, same_text}
 use Rattle.dr_base.specs.Texts.{text_cmp}
 use Rattle.dr_tie.specs.Desks.{Desk, ArmedBy, LedgerStep}
 use Rattle.std.proofs.lemmas.Option.{same_Some}
-use Rattle.dr_tie.specs.Channels.{contexts_of, hop_contexts, IsAsking, IsReceiver, Terminal, Channel, Carries, ShowsLink, ToCaller, ToReceiver, IsCaller, IsAt, IsOff, IsControl, bytes_of}
+use Rattle.dr_tie.specs.Channels.{contexts_of, hop_contexts, IsAsking, IsReceiver, Terminal, Channel, Carries, ShowsLink, ToCaller, ToReceiver, IsCaller, IsAt, IsOff, IsControl, bytes_of, site_of}
 use Rattle.dr_tie.specs.Ties.{IsFirst, caller_read, HearsAcceptance, IsDeskOf, OnlyHere, Happens, caller_as, caller_did, IsLeaving}
 use Rattle.dr_tie.proofs.Leaving.{AreFit, only_link, acts_by}
 use Rattle.dr_tie.proofs.Agreeing.{front_is, plays_alone}
@@ -114,8 +114,8 @@ module _ (plan : Network) (certificate : Certificate) (w : World) (number : ℕ)
   asking : IsAsking c link.receiver
   asking = subst (λ (st : Stage). IsCaller true st link.receiver c) answering (subst (λ (b : Bool). IsCaller b link.stage link.receiver c) on shows.caller)
 
-  carries : Carries k.caller k.to_caller (ToCaller (Answering accepted) k.receiver.core.site c) link.receiver_connected
-  carries = subst (λ (st : Stage). Carries k.caller k.to_caller (ToCaller st k.receiver.core.site c) link.receiver_connected) answering (shows.to_caller on)
+  carries : Carries k.caller k.to_caller (ToCaller (Answering accepted) (site_of k.receiver.core) c) link.receiver_connected
+  carries = subst (λ (st : Stage). Carries k.caller k.to_caller (ToCaller st (site_of k.receiver.core) c) link.receiver_connected) answering (shows.to_caller on)
 
   abbrev new_ear : Feeding
   new_ear = record { limit = k.caller.ear.limit; failed = false; kept = [] }
@@ -135,7 +135,7 @@ module _ (plan : Network) (certificate : Certificate) (w : World) (number : ℕ)
       let b : (x ≡ effect [] (opened r.0)) × (t ≡ s) = subst (λ (y : Result Agreed NegoFault). Turns cstep (agrees y moment (record c { phase = in_its_phase (moved asking.0.0 Sta6 moment.now) })) s x t) r.1 a in
       (r.0, r.2, b.0, b.1)
 
-  event : (other : Agreed) → other ≡ record { pairs = hop_contexts c.site k.receiver.core.site; limit = k.receiver.core.site.max_pdu } → accepted ≡ contexts_of other.pairs → drop n k.to_caller ≡ spellings carries.controls → AreFit k.caller.ear.limit carries.controls → Happens plan certificate w number (AgreeCaller number None) link.caller s (caller_read k n new_ear (effect [] (opened other)))
+  event : (other : Agreed) → other ≡ record { pairs = hop_contexts (site_of c) (site_of k.receiver.core); limit = (site_of k.receiver.core).max_pdu } → accepted ≡ contexts_of other.pairs → drop n k.to_caller ≡ spellings carries.controls → AreFit k.caller.ear.limit carries.controls → Happens plan certificate w number (AgreeCaller number None) link.caller s (caller_read k n new_ear (effect [] (opened other)))
   event other is same rest fits = record {
     after = with_link w number (at_stage link (Open accepted));
     link = at_stage link (Open accepted);

@@ -41,7 +41,7 @@ use Rattle.dr_nego.specs.declared.answering.Answer.TheVariants.{Accept, Reject, 
 use Rattle.dr_nego.specs.declared.agreed.Agreed.{Agreed}
 use Rattle.dr_nego.specs.Agreeing.{AssociateRq, AssociateAc}
 use Rattle.dr_nego.specs.Answering.{answer}
-use Rattle.dr_tie.specs.Channels.{Terminal, Channel, Carries, ShowsLink, bytes_of, IsAt}
+use Rattle.dr_tie.specs.Channels.{Terminal, Channel, Carries, ShowsLink, bytes_of, IsAt, site_of}
 use Rattle.dr_tie.specs.Ties.{IsFirst}
 
 -- ---- which PDU is the front one
@@ -87,16 +87,16 @@ module _ {S : Type 0} (step : S → DeskCall → DeskAnswer → S → Type 0) (m
   abbrev told : Told
   told = Plain (Request rq)
 
-  by_cell : (acceptable : Bool) → is_acceptable (answer rq c.site moment.others) ≡ acceptable → Turns step (moves (after_cell (cell AssociateRqPdu Sta2 false acceptable) at.0 moment.now c.phase) moment told c) s x u
+  by_cell : (acceptable : Bool) → is_acceptable (answer rq (site_of c) moment.others) ≡ acceptable → Turns step (moves (after_cell (cell AssociateRqPdu Sta2 false acceptable) at.0 moment.now c.phase) moment told c) s x u
   by_cell acceptable e =
-      let t0 : Turns step (moves (next_stepped AssociateRqPdu (is_acceptable (answer rq c.site moment.others)) c.phase moment.now) moment told c) s x u = h in
+      let t0 : Turns step (moves (next_stepped AssociateRqPdu (is_acceptable (answer rq (site_of c) moment.others)) c.phase moment.now) moment told c) s x u = h in
       let t1 = subst (λ (b : Bool). Turns step (moves (next_stepped AssociateRqPdu b c.phase moment.now) moment told c) s x u) e t0 in
       subst (λ (r : Result (Action × Next) Next). Turns step (moves r moment told c) s x u) (stepped_at AssociateRqPdu acceptable c.phase moment.now false Sta2 at.0 at.1 at.2 at.3) t1
 
-  pub accept_turns : (ac : AssociateAc) (agreed : Agreed) → answer rq c.site moment.others ≡ Accept ac agreed → (x ≡ effect (write (pdu.AssociateAc ac ∷ []) ∷ []) (accepted_core moment rq agreed at.0 c)) × (u ≡ s)
+  pub accept_turns : (ac : AssociateAc) (agreed : Agreed) → answer rq (site_of c) moment.others ≡ Accept ac agreed → (x ≡ effect (write (pdu.AssociateAc ac ∷ []) ∷ []) (accepted_core moment rq agreed at.0 c)) × (u ≡ s)
   accept_turns ac agreed e =
       subst (λ (a : Answer). Turns step (decides a moment rq (record c { phase = in_its_phase (moved at.0 Sta3 moment.now) })) s x u) e (by_cell true (ap is_acceptable e))
 
-  pub refuse_turns : answer rq c.site moment.others ≡ Reject 2 3 2 → (x ≡ effect (write (pdu.AssociateRj (rj 2 3 2) ∷ []) ∷ []) (refused_core moment at.0 c)) × (u ≡ s)
+  pub refuse_turns : answer rq (site_of c) moment.others ≡ Reject 2 3 2 → (x ≡ effect (write (pdu.AssociateRj (rj 2 3 2) ∷ []) ∷ []) (refused_core moment at.0 c)) × (u ≡ s)
   refuse_turns e =
       subst (λ (a : Answer). Turns step (decides a moment rq (record c { phase = in_its_phase (moved at.0 Sta13 moment.now) })) s x u) e (by_cell false (ap is_acceptable e))

@@ -58,7 +58,7 @@ use Rattle.dr_model.specs.Calls.{StoreOutcome, Written, Untried, Failed}
 use Rattle.dr_model.specs.Worlds.{with_book, with_armed, same_text}
 use Rattle.dr_base.specs.Texts.{text_cmp}
 use Rattle.dr_tie.specs.Desks.{Desk, ArmedBy, LedgerStep}
-use Rattle.dr_tie.specs.Channels.{Terminal, Channel, Carries, ShowsLink, ToCaller, ToReceiver, IsCaller, IsAt, IsOff, IsControl, bytes_of, AgreesOn}
+use Rattle.dr_tie.specs.Channels.{Terminal, Channel, Carries, ShowsLink, ToCaller, ToReceiver, IsCaller, IsAt, IsOff, IsControl, bytes_of, AgreesOn, site_of}
 use Rattle.dr_tie.specs.Ties.{IsDeskOf, OnlyHere, Happens, caller_as, caller_did, IsLeaving, CallerLeaves, LateAtCaller, ReleaseLeaves}
 use Rattle.dr_tie.proofs.Leaving.{AreFit, carries_more, only_link, acts_by, plain_turn, abort_fits}
 
@@ -209,7 +209,7 @@ module _ (plan : Network) (certificate : Certificate) (w : World) (number : ℕ)
       to = shows.to;
       peer = peer ∙ shows.peer;
       caller_agrees = λ o. absurd (false≢true o);
-      receiver_agrees = λ o. (let A : Part → Type 0 = λ p. AgreesOn p k.receiver.core.site p.max_pdu k.receiver.core in subst A (sym site) (shows.receiver_agrees o));
+      receiver_agrees = λ o. (let A : Part → Type 0 = λ p. AgreesOn p (site_of k.receiver.core) p.max_pdu k.receiver.core in subst A (sym site) (shows.receiver_agrees o));
       caller = off;
       receiver = shows.receiver;
       to_receiver = λ o. subst (λ (l : List ℕ). Carries k.receiver (k.to_receiver ++ l) (ToReceiver link.stage link.receiver x.core k.receiver.core) false) (sym bytes)

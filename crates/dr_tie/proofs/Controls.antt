@@ -52,7 +52,7 @@ use Rattle.dr_session.specs.Turns.{Turn, Ends, Turns}
 use Rattle.dr_session.specs.Plays.{Plays, PlaysBytes, Hears, inputs_of, Reacts, At, at_moment}
 use Rattle.dr_session.specs.Telling.{event_of_input}
 use Rattle.dr_tie.specs.Desks.{Desk, LedgerStep}
-use Rattle.dr_tie.specs.Channels.{alone, IsReceiver, Terminal, Channel, Carries, ShowsLink, ToCaller, ToReceiver, IsCaller, IsAt, IsOff, IsControl, bytes_of}
+use Rattle.dr_tie.specs.Channels.{alone, IsReceiver, Terminal, Channel, Carries, ShowsLink, ToCaller, ToReceiver, IsCaller, IsAt, IsOff, IsControl, bytes_of, site_of}
 use Rattle.dr_tie.specs.Ties.{IsFirst, receiver_read, caller_read, receiver_as, ReceiverHearsControl, CallerHearsControl, IsDeskOf, OnlyHere, Happens, caller_as, caller_did, IsLeaving}
 use Rattle.dr_tie.proofs.Leaving.{AreFit, acts_by, plain_turn, abort_fits, left_nothing, receiver_done, receiver_at as receiver_stands_at}
 use Rattle.dr_tie.proofs.CallerLeaving.{left_from, caller_at}
@@ -167,7 +167,7 @@ module _ (plan : Network) (certificate : Certificate) (w : World) (number : ℕ)
   abbrev CResult : Type 0
   CResult = (answer : Option Answer) × Happens plan certificate w number (BreakCaller number answer) link.caller t (caller_read k n new x)
 
-  ccarries : Carries k.caller k.to_caller (ToCaller link.stage k.receiver.core.site k.caller.core) link.receiver_connected
+  ccarries : Carries k.caller k.to_caller (ToCaller link.stage (site_of k.receiver.core) k.caller.core) link.receiver_connected
   ccarries = shows.to_caller on
 
   cturn_of : (front : Pdu) (i : Input) → AsInput front i → IsFirst k.caller k.to_caller front → k.caller.ear.kept ++ take n k.to_caller ≡ written front

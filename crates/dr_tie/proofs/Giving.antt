@@ -45,7 +45,7 @@ use Rattle.dr_nego.specs.Agreeing.{context_for, is_for}
 use Rattle.dr_session.specs.Reactions.{awaiting, effect, gives_in, id_after, pending, store_pdus, write}
 use Rattle.dr_session.specs.Turns.{Turns}
 use Rattle.dr_tie.specs.Desks.{Desk, LedgerStep}
-use Rattle.dr_tie.specs.Channels.{Brings, Channel, Carries, ShowsLink, ToCaller, ToReceiver, IsAt, IsCaller, IsReceiver, contexts_of}
+use Rattle.dr_tie.specs.Channels.{Brings, Channel, Carries, ShowsLink, ToCaller, ToReceiver, IsAt, IsCaller, IsReceiver, contexts_of, site_of}
 use Rattle.dr_tie.specs.Ties.{IsDeskOf, Happens, caller_did, GivesStore}
 use Rattle.dr_tie.proofs.ContextSets.{has_context}
 use Rattle.dr_tie.proofs.Leaving.{only_link}
@@ -123,8 +123,8 @@ module _ (plan : Network) (certificate : Certificate) (w : World) (number : ℕ)
   carried : IsItem job → (o : link.receiver_connected ≡ true) →
       Carries k.receiver (k.to_receiver ++ (spellings (store_pdus agreed context (id_after k.caller.core.last) job) ++ [])) (ToReceiver (Storing accepted (instance_of job)) link.receiver core k.receiver.core) link.caller_connected
   carried is_item o =
-      let from = k.caller.core.site in
-      let to = k.receiver.core.site in
+      let from = (site_of k.caller.core) in
+      let to = (site_of k.receiver.core) in
       let listens : IsReceiver true (Open accepted) link.caller k.receiver.core = subst (λ (b : Bool). IsReceiver b (Open accepted) link.caller k.receiver.core) o (subst (λ (st : Stage). IsReceiver link.receiver_connected st link.caller k.receiver.core) is_open shows.receiver) in
       let there = listens.0.0.1.0 in
       let has_there = listens.0.0.1.1 in
@@ -164,7 +164,7 @@ module _ (plan : Network) (certificate : Certificate) (w : World) (number : ℕ)
           (((moved at.0 Sta6 moment.now, refl, at.2, refl), at_open.0.1), (id_after k.caller.core.last, refl, refl), at_open.3);
       receiver = receiver_at;
       to_receiver = λ o. carried is_item o;
-      to_caller = λ o. (let old = subst (λ (st : Stage). Carries k.caller k.to_caller (ToCaller st k.receiver.core.site k.caller.core) link.receiver_connected) is_open (shows.to_caller o) in record {
+      to_caller = λ o. (let old = subst (λ (st : Stage). Carries k.caller k.to_caller (ToCaller st (site_of k.receiver.core) k.caller.core) link.receiver_connected) is_open (shows.to_caller o) in record {
         coming = old.coming;
         is = old.is;
         controls = old.controls;

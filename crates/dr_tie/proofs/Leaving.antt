@@ -53,7 +53,7 @@ use Rattle.dr_session.specs.Telling.{Looks, action_at, event_of_input}
 use Rattle.dr_session.specs.Plays.{Reacts, At, at_moment, with_stage}
 use Rattle.dr_dimse.specs.Taking.{Stage as Taken}
 use Rattle.dr_tie.specs.Desks.{Desk, LedgerStep}
-use Rattle.dr_tie.specs.Channels.{Terminal, Channel, Carries, ShowsLink, ToCaller, ToReceiver, IsReceiver, IsCaller, IsAt, IsOff, IsControl, bytes_of, AgreesOn}
+use Rattle.dr_tie.specs.Channels.{Terminal, Channel, Carries, ShowsLink, ToCaller, ToReceiver, IsReceiver, IsCaller, IsAt, IsOff, IsControl, bytes_of, AgreesOn, site_of}
 use Rattle.dr_tie.specs.Ties.{IsDeskOf, OnlyHere, Happens, receiver_as, receiver_did, caller_did, IsLeaving, ReceiverLeaves, CallerLeaves, LateAtReceiver}
 use Rattle.dr_tie.proofs.Agreeing.{stepped_at}
 
@@ -140,13 +140,13 @@ module _ (plan : Network) (certificate : Certificate) (w : World) (number : ℕ)
       from = shows.from;
       to = subst (λ (p : Part). IsPartOf plan certificate p × (p.name ≡ link.receiver) × (ear.limit ≡ p.max_pdu)) (sym site) (shows.to.0, shows.to.1, limit ∙ shows.to.2);
       peer = shows.peer;
-      caller_agrees = λ o. (let A : Part → Type 0 = λ p. AgreesOn k.caller.core.site p p.max_pdu k.caller.core × (k.caller.core.last < 2 ^ 16) in subst A (sym site) (shows.caller_agrees o));
+      caller_agrees = λ o. (let A : Part → Type 0 = λ p. AgreesOn (site_of k.caller.core) p p.max_pdu k.caller.core × (k.caller.core.last < 2 ^ 16) in subst A (sym site) (shows.caller_agrees o));
       receiver_agrees = λ o. absurd (false≢true o);
       caller = shows.caller;
       receiver = off;
       to_receiver = λ o. absurd (false≢true o);
-      to_caller = λ o. subst (λ (p : Part). Carries k.caller (k.to_caller ++ bytes_of acts) (ToCaller link.stage p k.caller.core) false) (sym site) (subst (λ (l : List ℕ). Carries k.caller (k.to_caller ++ l) (ToCaller link.stage k.receiver.core.site k.caller.core) false) (sym bytes)
-          (carries_more k.caller k.to_caller (ToCaller link.stage k.receiver.core.site k.caller.core) link.receiver_connected (shows.to_caller o) pdus control fits));
+      to_caller = λ o. subst (λ (p : Part). Carries k.caller (k.to_caller ++ bytes_of acts) (ToCaller link.stage p k.caller.core) false) (sym site) (subst (λ (l : List ℕ). Carries k.caller (k.to_caller ++ l) (ToCaller link.stage (site_of k.receiver.core) k.caller.core) false) (sym bytes)
+          (carries_more k.caller k.to_caller (ToCaller link.stage (site_of k.receiver.core) k.caller.core) link.receiver_connected (shows.to_caller o) pdus control fits));
     };
   }
 

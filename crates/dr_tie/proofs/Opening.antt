@@ -14,7 +14,7 @@ use Rattle.dr_nego.specs.Proposing.{IsProposal}
 use Rattle.dr_session.specs.declared.ends.Core.{Core}
 use Rattle.dr_nego.specs.Fragments.{spellings}
 use Rattle.dr_tie.specs.Ties.{IsOpened, OpensAreAsks}
-use Rattle.dr_tie.specs.Channels.{Terminal, Carries}
+use Rattle.dr_tie.specs.Channels.{Terminal, Carries, site_of}
 use Rattle.dr_tie.proofs.Fronts.{nothing_yet}
 
 kept_none : (t : Terminal) (wire : List ℕ) → t.ear ≡ fresh t.ear.limit → t.ear.kept ++ wire ≡ wire
@@ -42,7 +42,7 @@ opens_are_asks plan certificate w caller receiver k hop opened = (
     receiver = opened.listening;
     to_receiver = λ o. record {
       coming = pdu.AssociateRq opened.rq ∷ [];
-      is = (opened.rq, opened.proposed, subst (λ (r : AssociateRq). IsProposal k.caller.core.site receiver r)
+      is = (opened.rq, opened.proposed, subst (λ (r : AssociateRq). IsProposal (site_of k.caller.core) receiver r)
           (some_same opened.asking.5.0 opened.rq (sym opened.asking.5.1 ∙ opened.proposed)) opened.asking.5.2, refl);
       controls = [];
       joined = kept_none k.receiver k.to_receiver opened.ears.1 ∙ opened.wires.1;

@@ -36,7 +36,7 @@ use Rattle.dr_nego.specs.Agreeing.{context_for, is_for}
 use Rattle.dr_session.specs.Reactions.{aborted, aborts_desk, abort_pdu, desk_failed, due, event_of, gives, is_idle, is_requestor, job, left, quiet, settling, stepped_by, awaiting, effect, gives_in, id_after, pending, store_pdus, write}
 use Rattle.dr_session.specs.Turns.{Turns, Ends}
 use Rattle.dr_tie.specs.Desks.{Desk, LedgerStep}
-use Rattle.dr_tie.specs.Channels.{IsOff, bytes_of, Brings, Channel, Carries, ShowsLink, ToCaller, ToReceiver, IsAt, IsCaller, IsReceiver, contexts_of}
+use Rattle.dr_tie.specs.Channels.{IsOff, bytes_of, Brings, Channel, Carries, ShowsLink, ToCaller, ToReceiver, IsAt, IsCaller, IsReceiver, contexts_of, site_of}
 use Rattle.dr_tie.specs.Ties.{IsDeskOf, OnlyHere, Happens, caller_did, PushGives}
 use Rattle.dr_tie.proofs.ContextSets.{from_context}
 use Rattle.dr_tie.proofs.Leaving.{AreFit, only_link, acts_by, plain_turn, carries_more, abort_fits}
@@ -107,7 +107,7 @@ module _ (plan : Network) (certificate : Certificate) (w : World) (number : ℕ)
   to_receiver_at o = subst (λ (st : Stage). Carries k.receiver k.to_receiver (ToReceiver st link.receiver k.caller.core k.receiver.core) link.caller_connected) is_open (shows.to_receiver o)
 
   to_caller_at : (o : link.caller_connected ≡ true) → Carries k.caller k.to_caller (λ pdus. pdus ≡ []) link.receiver_connected
-  to_caller_at o = subst (λ (st : Stage). Carries k.caller k.to_caller (ToCaller st k.receiver.core.site k.caller.core) link.receiver_connected) is_open (shows.to_caller o)
+  to_caller_at o = subst (λ (st : Stage). Carries k.caller k.to_caller (ToCaller st (site_of k.receiver.core) k.caller.core) link.receiver_connected) is_open (shows.to_caller o)
 
   receiver_at : IsReceiver link.receiver_connected (Open accepted) link.caller k.receiver.core
   receiver_at = subst (λ (st : Stage). IsReceiver link.receiver_connected st link.caller k.receiver.core) is_open shows.receiver

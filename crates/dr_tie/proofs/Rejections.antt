@@ -35,7 +35,7 @@ use Rattle.dr_nego.specs.Agreeing.{context_for, is_for}
 use Rattle.dr_session.specs.Reactions.{aborted, aborts_desk, abort_pdu, desk_failed, due, event_of, refused, rejected, gives, is_idle, is_requestor, job, left, quiet, settling, stepped_by, awaiting, effect, gives_in, id_after, pending, store_pdus, write}
 use Rattle.dr_session.specs.Turns.{Turns, Ends}
 use Rattle.dr_tie.specs.Desks.{Desk, LedgerStep}
-use Rattle.dr_tie.specs.Channels.{IsOff, bytes_of, Brings, Channel, Carries, ShowsLink, ToCaller, ToReceiver, IsAt, IsCaller, IsReceiver, contexts_of}
+use Rattle.dr_tie.specs.Channels.{IsOff, bytes_of, Brings, Channel, Carries, ShowsLink, ToCaller, ToReceiver, IsAt, IsCaller, IsReceiver, contexts_of, site_of}
 use Rattle.dr_tie.specs.Ties.{IsDeskOf, IsFirst, OnlyHere, Happens, caller_read, HearsRejection}
 use Rattle.dr_tie.proofs.ContextSets.{from_context}
 use Rattle.dr_tie.proofs.Leaving.{AreFit, only_link, acts_by, plain_turn, carries_more, abort_fits}
@@ -85,8 +85,8 @@ module _ (plan : Network) (certificate : Certificate) (w : World) (number : ℕ)
   abbrev at : IsAt k.caller.core true Sta5
   at = asking.0
 
-  carries : Carries k.caller k.to_caller (ToCaller Rejecting k.receiver.core.site k.caller.core) link.receiver_connected
-  carries = subst (λ (st : Stage). Carries k.caller k.to_caller (ToCaller st k.receiver.core.site k.caller.core) link.receiver_connected) rejecting (shows.to_caller on)
+  carries : Carries k.caller k.to_caller (ToCaller Rejecting (site_of k.receiver.core) k.caller.core) link.receiver_connected
+  carries = subst (λ (st : Stage). Carries k.caller k.to_caller (ToCaller st (site_of k.receiver.core) k.caller.core) link.receiver_connected) rejecting (shows.to_caller on)
 
   abbrev Result_is : Type 0
   Result_is = ((answer : Option Answer) × Happens plan certificate w number (AgreeCaller number answer) link.caller t (caller_read k n new x)) ⊎ Happens plan certificate w number (BreakCaller number None) link.caller t (caller_read k n new x)

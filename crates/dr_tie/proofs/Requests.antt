@@ -58,7 +58,7 @@ use Rattle.dr_nego.proofs.Concluded.{both_sides_agree}
 use Rattle.dr_nego.proofs.Sized.{acceptances_fit}
 use Rattle.dr_nego.proofs.HopAgreed.{answered}
 use Rattle.dr_tie.specs.Desks.{Desk, LedgerStep}
-use Rattle.dr_tie.specs.Channels.{Terminal, Channel, Carries, ShowsLink, ToReceiver, ToCaller, IsCaller, IsReceiver, IsAt, contexts_of, bytes_of, IsControl, hop_contexts}
+use Rattle.dr_tie.specs.Channels.{Terminal, Channel, Carries, ShowsLink, ToReceiver, ToCaller, IsCaller, IsReceiver, IsAt, contexts_of, bytes_of, IsControl, hop_contexts, site_of}
 use Rattle.dr_tie.specs.Ties.{IsDeskOf, IsFirst, receiver_read, AgreesAtReceiver}
 use Rattle.dr_tie.proofs.Fronts.{hears_one, nothing_yet}
 use Rattle.dr_tie.proofs.Agreeing.{front_is, plays_alone, accepted_core, refused_core, accept_turns, refuse_turns}
@@ -86,10 +86,10 @@ module _ (plan : Network) (certificate : Certificate) (c : IsCertified plan cert
     (w : World) (number : ℕ) (link : Link) (k : Channel) (s : Desk) (here : IsLink w number link) (desk : IsDeskOf w link.receiver s) (shows : ShowsLink plan certificate k link)
     (on : link.receiver_connected ≡ true) (asking : link.stage ≡ Asking) (moment : Moment) (others_is : moment.others ≡ others w number link.receiver) (n : ℕ) where
   abbrev from : Part
-  from = k.caller.core.site
+  from = (site_of k.caller.core)
 
   abbrev to : Part
-  to = k.receiver.core.site
+  to = (site_of k.receiver.core)
 
   receiver_at : IsReceiver true Asking link.caller k.receiver.core
   receiver_at = subst (λ (st : Stage). IsReceiver true st link.caller k.receiver.core) asking (subst (λ (b : Bool). IsReceiver b link.stage link.caller k.receiver.core) on shows.receiver)
@@ -101,8 +101,8 @@ module _ (plan : Network) (certificate : Certificate) (c : IsCertified plan cert
   carries = subst (λ (st : Stage). Carries k.receiver k.to_receiver (ToReceiver st link.receiver k.caller.core k.receiver.core) link.caller_connected) asking (shows.to_receiver on)
 
   -- nothing was on the way to the caller
-  nothing_there : (o : link.caller_connected ≡ true) → Carries k.caller k.to_caller (ToCaller Asking k.receiver.core.site k.caller.core) true
-  nothing_there o = subst (λ (st : Stage). Carries k.caller k.to_caller (ToCaller st k.receiver.core.site k.caller.core) true) asking (subst (λ (b : Bool). Carries k.caller k.to_caller (ToCaller link.stage k.receiver.core.site k.caller.core) b) on (shows.to_caller o))
+  nothing_there : (o : link.caller_connected ≡ true) → Carries k.caller k.to_caller (ToCaller Asking (site_of k.receiver.core) k.caller.core) true
+  nothing_there o = subst (λ (st : Stage). Carries k.caller k.to_caller (ToCaller st (site_of k.receiver.core) k.caller.core) true) asking (subst (λ (b : Bool). Carries k.caller k.to_caller (ToCaller link.stage (site_of k.receiver.core) k.caller.core) b) on (shows.to_caller o))
 
   empty_there : (o : link.caller_connected ≡ true) → k.caller.ear.kept ++ k.to_caller ≡ []
   empty_there o =

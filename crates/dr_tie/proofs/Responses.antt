@@ -73,7 +73,7 @@ use Rattle.dr_model.specs.Calls.{StoreOutcome, Written, Untried, Failed}
 use Rattle.dr_model.specs.Worlds.{with_book, with_armed, same_text}
 use Rattle.dr_base.specs.Texts.{text_cmp}
 use Rattle.dr_tie.specs.Desks.{Desk, ArmedBy, LedgerStep}
-use Rattle.dr_tie.specs.Channels.{alone, message, Gets, IsMessageFor, IsListening, IsReceiver, Terminal, Channel, Carries, ShowsLink, ToCaller, ToReceiver, IsCaller, IsAt, IsOff, IsControl, bytes_of}
+use Rattle.dr_tie.specs.Channels.{alone, message, Gets, IsMessageFor, IsListening, IsReceiver, Terminal, Channel, Carries, ShowsLink, ToCaller, ToReceiver, IsCaller, IsAt, IsOff, IsControl, bytes_of, site_of}
 use Rattle.dr_tie.specs.Ties.{IsFirst, caller_read, HearsReply, IsDeskOf, OnlyHere, Happens, caller_as, caller_did, IsLeaving}
 use Rattle.dr_tie.proofs.Leaving.{AreFit, only_link, carries_more, acts_by, abort_fits}
 use Rattle.dr_tie.proofs.CallerLeaving.{armed_after}
@@ -156,8 +156,8 @@ module _ (plan : Network) (certificate : Certificate) (w : World) (number : ℕ)
   established : IsCaller true (Replying accepted item status) link.receiver c
   established = subst (λ (st : Stage). IsCaller true st link.receiver c) replying (subst (λ (b : Bool). IsCaller b link.stage link.receiver c) on shows.caller)
 
-  carries : Carries k.caller k.to_caller (ToCaller (Replying accepted item status) k.receiver.core.site c) link.receiver_connected
-  carries = subst (λ (st : Stage). Carries k.caller k.to_caller (ToCaller st k.receiver.core.site c) link.receiver_connected) replying (shows.to_caller on)
+  carries : Carries k.caller k.to_caller (ToCaller (Replying accepted item status) (site_of k.receiver.core) c) link.receiver_connected
+  carries = subst (λ (st : Stage). Carries k.caller k.to_caller (ToCaller st (site_of k.receiver.core) c) link.receiver_connected) replying (shows.to_caller on)
 
   receiver_at : IsReceiver link.receiver_connected (Replying accepted item status) link.caller k.receiver.core
   receiver_at = subst (λ (st : Stage). IsReceiver link.receiver_connected st link.caller k.receiver.core) replying shows.receiver
@@ -196,7 +196,7 @@ module _ (plan : Network) (certificate : Certificate) (w : World) (number : ℕ)
           receiver = shows.receiver;
           to_receiver = λ o. subst (λ (st : Stage). Carries k.receiver (k.to_receiver ++ []) (ToReceiver st link.receiver (stays next) k.receiver.core) link.caller_connected) (sym replying)
               (subst (λ (l : List ℕ). Carries k.receiver l (λ pdus. pdus ≡ []) link.caller_connected) (sym (append-nil k.to_receiver)) (to_receiver_at o));
-          to_caller = λ o. subst (λ (st : Stage). Carries (record { core = stays next; ear = new_ear }) (drop n k.to_caller) (ToCaller st k.receiver.core.site (stays next)) link.receiver_connected) (sym replying) record {
+          to_caller = λ o. subst (λ (st : Stage). Carries (record { core = stays next; ear = new_ear }) (drop n k.to_caller) (ToCaller st (site_of k.receiver.core) (stays next)) link.receiver_connected) (sym replying) record {
             coming = map alone vs;
             is = (id, number_of, has_pending, record { agreed = m.agreed; values = vs; context = m.context; has = m.has; found = m.found; of = m.of; are = refl; in_context = in_context.1; gets = later; at = m.at });
             controls = carries.controls;

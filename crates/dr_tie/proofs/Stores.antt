@@ -76,7 +76,7 @@ use Rattle.dr_model.specs.Calls.{StoreOutcome, Written, Untried, Failed}
 use Rattle.dr_model.specs.Worlds.{with_book, with_armed, same_text}
 use Rattle.dr_base.specs.Texts.{text_cmp}
 use Rattle.dr_tie.specs.Desks.{Desk, ArmedBy, LedgerStep}
-use Rattle.dr_tie.specs.Channels.{Brings, alone, message, Gets, IsMessageFor, IsListening, IsReceiver, Terminal, Channel, Carries, ShowsLink, ToCaller, ToReceiver, IsCaller, IsAt, IsOff, IsControl, bytes_of, hop_contexts}
+use Rattle.dr_tie.specs.Channels.{Brings, alone, message, Gets, IsMessageFor, IsListening, IsReceiver, Terminal, Channel, Carries, ShowsLink, ToCaller, ToReceiver, IsCaller, IsAt, IsOff, IsControl, bytes_of, hop_contexts, site_of}
 use Rattle.dr_tie.specs.Ties.{IsFirst, receiver_read, HearsStore, IsDeskOf, OnlyHere, Happens, caller_as, caller_did, IsLeaving}
 use Rattle.dr_tie.proofs.Leaving.{AreFit, only_link}
 use Rattle.dr_tie.proofs.CallerLeaving.{armed_after}
@@ -128,9 +128,9 @@ module _ (plan : Network) (certificate : Certificate) (w : World) (number : ℕ)
   caller_at : IsCaller link.caller_connected (Storing accepted (instance_of item)) link.receiver k.caller.core
   caller_at = subst (λ (st : Stage). IsCaller link.caller_connected st link.receiver k.caller.core) storing shows.caller
 
-  old_there : (o : link.caller_connected ≡ true) → Carries k.caller k.to_caller (ToCaller (Storing accepted (instance_of item)) k.receiver.core.site k.caller.core) true
+  old_there : (o : link.caller_connected ≡ true) → Carries k.caller k.to_caller (ToCaller (Storing accepted (instance_of item)) (site_of k.receiver.core) k.caller.core) true
   old_there o =
-          subst (λ (st : Stage). Carries k.caller k.to_caller (ToCaller st k.receiver.core.site k.caller.core) true) storing (subst (λ (b : Bool). Carries k.caller k.to_caller (ToCaller link.stage k.receiver.core.site k.caller.core) b) on (shows.to_caller o))
+          subst (λ (st : Stage). Carries k.caller k.to_caller (ToCaller st (site_of k.receiver.core) k.caller.core) true) storing (subst (λ (b : Bool). Carries k.caller k.to_caller (ToCaller link.stage (site_of k.receiver.core) k.caller.core) b) on (shows.to_caller o))
 
   empty_there : (o : link.caller_connected ≡ true) → k.caller.ear.kept ++ k.to_caller ≡ []
   empty_there o =
@@ -180,10 +180,10 @@ module _ (plan : Network) (certificate : Certificate) (w : World) (number : ℕ)
 
     -- what is answered comes to the caller, in the context of the request and with its id
     carried_back : (status : ℕ) → status < 2 ^ 16 → (o : link.caller_connected ≡ true) →
-        Carries k.caller (k.to_caller ++ bytes_of (stored (stays NothingTaken) number_of id item.key.class item.uid status).acts) (ToCaller (Replying accepted (instance_of item) status) k.receiver.core.site k.caller.core) true
+        Carries k.caller (k.to_caller ++ bytes_of (stored (stays NothingTaken) number_of id item.key.class item.uid status).acts) (ToCaller (Replying accepted (instance_of item) status) (site_of k.receiver.core) k.caller.core) true
     carried_back status status_is o =
-        let from = k.caller.core.site in
-        let to = k.receiver.core.site in
+        let from = (site_of k.caller.core) in
+        let to = (site_of k.receiver.core) in
         let storer : IsCaller true (Storing accepted (instance_of item)) link.receiver k.caller.core = subst (λ (b : Bool). IsCaller b (Storing accepted (instance_of item)) link.receiver k.caller.core) o caller_at in
         let agreed = storer.0.1.0 in
         let has = storer.0.1.1 in
@@ -271,7 +271,7 @@ module _ (plan : Network) (certificate : Certificate) (w : World) (number : ℕ)
                 control = carries.control;
                 none = carries.none;
               };
-              to_caller = λ o. subst (λ (b : Bool). Carries k.caller (k.to_caller ++ bytes_of (stored (stays NothingTaken) number_of id item.key.class item.uid (calls.status_of reply)).acts) (ToCaller (Replying accepted (instance_of item) (calls.status_of reply)) k.receiver.core.site k.caller.core) b) (sym on)
+              to_caller = λ o. subst (λ (b : Bool). Carries k.caller (k.to_caller ++ bytes_of (stored (stays NothingTaken) number_of id item.key.class item.uid (calls.status_of reply)).acts) (ToCaller (Replying accepted (instance_of item) (calls.status_of reply)) (site_of k.receiver.core) k.caller.core) b) (sym on)
                   (carried_back (calls.status_of reply) (status_small reply) o);
             };
           })

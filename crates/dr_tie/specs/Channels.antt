@@ -48,6 +48,14 @@ use Rattle.dr_ledger.specs.declared.content.Job.{Job}
 use Rattle.dr_model.specs.Worlds.{Link, Contexts, Stage, Asking, Answering, Rejecting, Open, Storing, Replying, Gone}
 use Rattle.dr_model.specs.Steps.{IsHop}
 
+-- the site of an end; one without a site, which no link has, counts as one of nothing
+abbrev pub site_in : Option Part → Part
+site_in None = record { name = []; max_pdu = 0; digest = []; rules = []; accepts = []; flows = []; lines = []; hops = []; literals = record { modalities = record { literals = [] }; stations = record { literals = [] } } }
+site_in (Some site) = site
+
+abbrev pub site_of : Core → Part
+site_of c = site_in c.site
+
 -- an end, and what it keeps of the bytes that it heard
 pub record Terminal : Type 0 where
   pub core : Core
@@ -95,7 +103,7 @@ IsOff c requestor = (c.pending ≡ None) × ((standing_of c.phase ≡ None) ⊎ 
 -- it awaits an answer to its proposal
 abbrev pub IsAsking : Core → Text → Type 0
 IsAsking c receiver = IsAt c true Sta5 × (c.pending ≡ None) × (c.agreed ≡ None) × (c.assembly.stage ≡ Idle) × (c.assembly.awaited ≡ Nothing)
-    × ((rq : AssociateRq) × (c.proposed ≡ Some rq) × IsProposal c.site receiver rq)
+    × ((rq : AssociateRq) × (c.proposed ≡ Some rq) × IsProposal (site_of c) receiver rq)
 
 abbrev pub IsEstablished : Core → Bool → Contexts → Type 0
 IsEstablished c requestor accepted = IsAt c requestor Sta6 × ((agreed : Agreed) × (c.agreed ≡ Some agreed) × (accepted ≡ contexts_of agreed.pairs))
@@ -173,14 +181,14 @@ AgreesOn from to limit c = (agreed : Agreed) → c.agreed ≡ Some agreed → ag
 
 -- what comes to the receiver
 abbrev pub ToReceiver : Stage → Text → Core → Core → List Pdu → Type 0
-ToReceiver Asking receiver from c pdus = (rq : AssociateRq) × (from.proposed ≡ Some rq) × IsProposal from.site receiver rq × (pdus ≡ pdu.AssociateRq rq ∷ [])
+ToReceiver Asking receiver from c pdus = (rq : AssociateRq) × (from.proposed ≡ Some rq) × IsProposal (site_of from) receiver rq × (pdus ≡ pdu.AssociateRq rq ∷ [])
 ToReceiver (Storing accepted item) receiver from c pdus = (job : Job) × (instance_of job ≡ item) × Brings job from c pdus
 ToReceiver stage receiver from c pdus = pdus ≡ []
 
 -- what comes to the caller
 abbrev pub ToCaller : Stage → Part → Core → List Pdu → Type 0
 ToCaller (Answering accepted) to c pdus = (rq : AssociateRq) × (ac : AssociateAc) × (agreed : Agreed) × (c.proposed ≡ Some rq) × Concludes rq ac (Ok agreed)
-    × (accepted ≡ contexts_of agreed.pairs) × (pdus ≡ pdu.AssociateAc ac ∷ []) × (agreed ≡ record { pairs = hop_contexts c.site to; limit = to.max_pdu })
+    × (accepted ≡ contexts_of agreed.pairs) × (pdus ≡ pdu.AssociateAc ac ∷ []) × (agreed ≡ record { pairs = hop_contexts (site_of c) to; limit = to.max_pdu })
 ToCaller Rejecting to c pdus = (rj : AssociateRj) × (pdus ≡ pdu.AssociateRj rj ∷ [])
 ToCaller (Replying accepted item status) to c pdus = (id context : ℕ) × (c.pending ≡ Some (pending id item.uid))
     × IsMessageFor c (message context (StoreRsp id status item.key.class item.uid false) None) item.key.class item.key.syntax pdus
@@ -208,7 +216,7 @@ pub record Carries (t : Terminal) (wire : List ℕ) (IsComing : List Pdu → Typ
 -- ---- a link
 
 abbrev pub IsSideOf : Network → Certificate → Text → Core → Feeding → Type 0
-IsSideOf plan certificate name c ear = IsPartOf plan certificate c.site × (c.site.name ≡ name) × (ear.limit ≡ c.site.max_pdu)
+IsSideOf plan certificate name c ear = IsPartOf plan certificate (site_of c) × ((site_of c).name ≡ name) × (ear.limit ≡ (site_of c).max_pdu) × (c.site ≡ Some (site_of c))
 
 -- The channel is this link. What is on the wire of an end that is off counts for nothing.
 pub record ShowsLink (plan : Network) (certificate : Certificate) (channel : Channel) (link : Link) : Type 0 where
@@ -217,9 +225,9 @@ pub record ShowsLink (plan : Network) (certificate : Certificate) (channel : Cha
   pub to : IsSideOf plan certificate link.receiver channel.receiver.core channel.receiver.ear
   pub peer : channel.caller.core.peer ≡ link.receiver
   pub caller_agrees : link.caller_connected ≡ true →
-      AgreesOn channel.caller.core.site channel.receiver.core.site channel.receiver.core.site.max_pdu channel.caller.core × (channel.caller.core.last < 2 ^ 16)
-  pub receiver_agrees : link.receiver_connected ≡ true → AgreesOn channel.caller.core.site channel.receiver.core.site channel.caller.core.site.max_pdu channel.receiver.core
+      AgreesOn (site_of channel.caller.core) (site_of channel.receiver.core) (site_of channel.receiver.core).max_pdu channel.caller.core × (channel.caller.core.last < 2 ^ 16)
+  pub receiver_agrees : link.receiver_connected ≡ true → AgreesOn (site_of channel.caller.core) (site_of channel.receiver.core) (site_of channel.caller.core).max_pdu channel.receiver.core
   pub caller : IsCaller link.caller_connected link.stage link.receiver channel.caller.core
   pub receiver : IsReceiver link.receiver_connected link.stage link.caller channel.receiver.core
   pub to_receiver : link.receiver_connected ≡ true → Carries channel.receiver channel.to_receiver (ToReceiver link.stage link.receiver channel.caller.core channel.receiver.core) link.caller_connected
-  pub to_caller : link.caller_connected ≡ true → Carries channel.caller channel.to_caller (ToCaller link.stage channel.receiver.core.site channel.caller.core) link.receiver_connected
+  pub to_caller : link.caller_connected ≡ true → Carries channel.caller channel.to_caller (ToCaller link.stage (site_of channel.receiver.core) channel.caller.core) link.receiver_connected
