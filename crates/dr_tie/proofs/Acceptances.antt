@@ -58,7 +58,7 @@ use Rattle.dr_session.specs.declared.ends.LinkAction.{LinkAction}
 use Rattle.dr_session.specs.Desks.{DeskCall, DeskAnswer, Settle, Arrival, Upcoming, Settling}
 use Rattle.dr_nego.specs.Fragments.{spellings}
 use Rattle.dr_session.specs.declared.ends.Moment.{Moment}
-use Rattle.dr_session.specs.Reactions.{Reaction, turn, occurs, event_of, has_expired, has_waited, is_requestor, agrees, leaves_by, left, aborted, desk_failed, settling, effect, write, abort_pdu, pending}
+use Rattle.dr_session.specs.Reactions.{Reaction, turn, occurs, event_of, has_waited, is_requestor, agrees, leaves_by, left, aborted, desk_failed, settling, effect, write, abort_pdu, pending}
 use Rattle.dr_session.specs.Turns.{Turn, Ends, Turns}
 use Rattle.dr_session.specs.Plays.{PlaysBytes, Reacts, at_moment, with_stage}
 use Rattle.dr_session.specs.Telling.{Looks}
@@ -151,7 +151,7 @@ module _ (plan : Network) (certificate : Certificate) (w : World) (number : ℕ)
       caller_agrees = λ o. ((λ a e. (let f : Some other ≡ Some a = e in sym (same_Some other a f) ∙ is)), (shows.caller_agrees on).1);
       receiver_agrees = shows.receiver_agrees;
       caller = subst (λ (b : Bool). IsCaller b (Open accepted) link.receiver (opened other)) (sym on)
-          (((moved asking.0.0 Sta6 moment.now, refl, asking.0.2, refl), (other, refl, same)), asking.1, asking.4, asking.3);
+          (((moved asking.0.0 Sta6 moment.now, refl, asking.0.2, refl), (other, refl, same)), asking.1, asking.4, asking.3, refl);
       receiver = open_still link.receiver_connected accepted link.caller k.receiver.core (subst (λ (st : Stage). IsReceiver link.receiver_connected st link.caller k.receiver.core) answering shows.receiver);
       to_receiver = λ o. (
           let old : Carries k.receiver k.to_receiver (ToReceiver (Answering accepted) link.receiver c k.receiver.core) link.caller_connected =

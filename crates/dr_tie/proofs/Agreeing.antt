@@ -7,6 +7,7 @@ use Rattle.std.specs.FinMap as map_of
 use Rattle.std.specs.FinSet as set
 use Rattle.std.proofs.lemmas.List.{append-nil, take-append-drop, append_cancel_left}
 use Rattle.dr_base.specs.Texts.{Text}
+use Rattle.dr_site.specs.Parts.{Part}
 use Rattle.dr_ulstate.specs.declared.table.State.{State}
 use Rattle.dr_ulstate.specs.declared.table.State.TheVariants.{Sta1, Sta2, Sta3, Sta6, Sta13}
 use Rattle.dr_ulstate.specs.declared.table.Action.{Action}
@@ -33,7 +34,7 @@ use Rattle.dr_session.specs.declared.ends.LinkAction.{LinkAction}
 use Rattle.dr_session.specs.Desks.{DeskCall, DeskAnswer}
 use Rattle.dr_nego.specs.Fragments.{spellings}
 use Rattle.dr_session.specs.declared.ends.Moment.{Moment}
-use Rattle.dr_session.specs.Reactions.{Reaction, turn, moves, is_acceptable, decides, stepped_by, effect, write, rejected, rj}
+use Rattle.dr_session.specs.Reactions.{Reaction, turn, moves, is_acceptable, is_taken_at, decides, decides_at, stepped_by, effect, write, rejected, rj}
 use Rattle.dr_session.specs.Turns.{Turns}
 use Rattle.dr_session.specs.Plays.{Plays, PlaysBytes, Reacts, At, at_moment, with_stage}
 use Rattle.dr_nego.specs.declared.answering.Answer.{Answer}
@@ -41,7 +42,7 @@ use Rattle.dr_nego.specs.declared.answering.Answer.TheVariants.{Accept, Reject, 
 use Rattle.dr_nego.specs.declared.agreed.Agreed.{Agreed}
 use Rattle.dr_nego.specs.Agreeing.{AssociateRq, AssociateAc}
 use Rattle.dr_nego.specs.Answering.{answer}
-use Rattle.dr_tie.specs.Channels.{Terminal, Channel, Carries, ShowsLink, bytes_of, IsAt, site_of}
+use Rattle.dr_tie.specs.Channels.{Terminal, Channel, Carries, ShowsLink, bytes_of, IsAt}
 use Rattle.dr_tie.specs.Ties.{IsFirst}
 
 -- ---- which PDU is the front one
@@ -83,20 +84,23 @@ accepted_core moment rq agreed a c = record (stepped_by AcceptResponse moment.no
 abbrev pub refused_core : Moment → Standing → Core → Core
 refused_core moment a c = rejected (rj 2 3 2) (stepped_by RejectResponse moment.now (record c { phase = in_its_phase (moved a Sta13 moment.now) }))
 
-module _ {S : Type 0} (step : S → DeskCall → DeskAnswer → S → Type 0) (moment : Moment) (c : Core) (rq : AssociateRq) (at : IsAt c false Sta2) (s u : S) (x : Effect) (h : Turns step (turn moment c (Plain (Request rq))) s x u) where
+module _ {S : Type 0} (step : S → DeskCall → DeskAnswer → S → Type 0) (moment : Moment) (c : Core) (site : Part) (has : c.site ≡ Some site) (rq : AssociateRq) (at : IsAt c false Sta2) (s u : S) (x : Effect) (h : Turns step (turn moment c (Plain (Request rq))) s x u) where
   abbrev told : Told
   told = Plain (Request rq)
 
-  by_cell : (acceptable : Bool) → is_acceptable (answer rq (site_of c) moment.others) ≡ acceptable → Turns step (moves (after_cell (cell AssociateRqPdu Sta2 false acceptable) at.0 moment.now c.phase) moment told c) s x u
+  by_cell : (acceptable : Bool) → is_acceptable (answer rq site moment.others) ≡ acceptable → Turns step (moves (after_cell (cell AssociateRqPdu Sta2 false acceptable) at.0 moment.now c.phase) moment told c) s x u
   by_cell acceptable e =
-      let t0 : Turns step (moves (next_stepped AssociateRqPdu (is_acceptable (answer rq (site_of c) moment.others)) c.phase moment.now) moment told c) s x u = h in
-      let t1 = subst (λ (b : Bool). Turns step (moves (next_stepped AssociateRqPdu b c.phase moment.now) moment told c) s x u) e t0 in
+      let taken : is_taken_at c.site rq moment ≡ acceptable = ap (λ (o : Option Part). is_taken_at o rq moment) has ∙ e in
+      let t1 = subst (λ (b : Bool). Turns step (moves (next_stepped AssociateRqPdu b c.phase moment.now) moment told c) s x u) taken h in
       subst (λ (r : Result (Action × Next) Next). Turns step (moves r moment told c) s x u) (stepped_at AssociateRqPdu acceptable c.phase moment.now false Sta2 at.0 at.1 at.2 at.3) t1
 
-  pub accept_turns : (ac : AssociateAc) (agreed : Agreed) → answer rq (site_of c) moment.others ≡ Accept ac agreed → (x ≡ effect (write (pdu.AssociateAc ac ∷ []) ∷ []) (accepted_core moment rq agreed at.0 c)) × (u ≡ s)
-  accept_turns ac agreed e =
-      subst (λ (a : Answer). Turns step (decides a moment rq (record c { phase = in_its_phase (moved at.0 Sta3 moment.now) })) s x u) e (by_cell true (ap is_acceptable e))
+  decided : (d : Core) (a : Answer) → answer rq site moment.others ≡ a → Turns step (decides_at c.site moment rq d) s x u → Turns step (decides a moment rq d) s x u
+  decided d a e t =
+      let t0 : Turns step (decides (answer rq site moment.others) moment rq d) s x u = subst (λ (o : Option Part). Turns step (decides_at o moment rq d) s x u) has t in
+      subst (λ (b : Answer). Turns step (decides b moment rq d) s x u) e t0
 
-  pub refuse_turns : answer rq (site_of c) moment.others ≡ Reject 2 3 2 → (x ≡ effect (write (pdu.AssociateRj (rj 2 3 2) ∷ []) ∷ []) (refused_core moment at.0 c)) × (u ≡ s)
-  refuse_turns e =
-      subst (λ (a : Answer). Turns step (decides a moment rq (record c { phase = in_its_phase (moved at.0 Sta13 moment.now) })) s x u) e (by_cell false (ap is_acceptable e))
+  pub accept_turns : (ac : AssociateAc) (agreed : Agreed) → answer rq site moment.others ≡ Accept ac agreed → (x ≡ effect (write (pdu.AssociateAc ac ∷ []) ∷ []) (accepted_core moment rq agreed at.0 c)) × (u ≡ s)
+  accept_turns ac agreed e = decided (record c { phase = in_its_phase (moved at.0 Sta3 moment.now) }) (Accept ac agreed) e (by_cell true (ap is_acceptable e))
+
+  pub refuse_turns : answer rq site moment.others ≡ Reject 2 3 2 → (x ≡ effect (write (pdu.AssociateRj (rj 2 3 2) ∷ []) ∷ []) (refused_core moment at.0 c)) × (u ≡ s)
+  refuse_turns e = decided (record c { phase = in_its_phase (moved at.0 Sta13 moment.now) }) (Reject 2 3 2) e (by_cell false (ap is_acceptable e))

@@ -16,8 +16,8 @@ use Rattle.dr_ulstate.specs.declared.table.Event.{Event as UpperEvent}
 use Rattle.dr_ulstate.specs.declared.table.Event.TheVariants.{TransportClosed, AbortRequest, ArtimExpired, ReleaseRequest}
 use Rattle.dr_ulstate.specs.declared.table.State.TheVariants.{Sta1, Sta5, Sta6, Sta7, Sta13}
 use Rattle.dr_ulstate.specs.declared.phase.Next.TheVariants.{Idle}
-use Rattle.dr_ulstate.specs.Standing.{Standing, moved, runs_artim}
-use Rattle.dr_ulstate.specs.Phases.{in_its_phase, standing_of}
+use Rattle.dr_ulstate.specs.Standing.{Standing, moved, runs_artim, has_expired}
+use Rattle.dr_ulstate.specs.Phases.{in_its_phase, standing_of, next_expired}
 use Rattle.std.specs.Option.{option_map_or}
 use Rattle.std.specs.Prelude.{is_some}
 use Rattle.dr_pdu.specs.declared.pdu.Pdu.{Pdu}
@@ -46,7 +46,7 @@ use Rattle.dr_session.specs.declared.ends.LinkAction.{LinkAction}
 use Rattle.dr_session.specs.Desks.{DeskCall, DeskAnswer, Settle, Arrival, Upcoming, Settling}
 use Rattle.dr_nego.specs.Fragments.{spellings}
 use Rattle.dr_session.specs.declared.ends.Moment.{Moment}
-use Rattle.dr_session.specs.Reactions.{Reaction, turn, occurs, event_of, has_expired, has_waited, is_requestor, is_idle, leaves_by, left, aborted, desk_failed, settling, effect, write, abort_pdu, pending}
+use Rattle.dr_session.specs.Reactions.{Reaction, turn, occurs, event_of, has_waited, is_requestor, is_idle, leaves_by, left, aborted, desk_failed, settling, effect, write, abort_pdu, pending}
 use Rattle.dr_session.specs.Turns.{Turn, Ends, Turns}
 use Rattle.dr_session.specs.Plays.{Reacts, At, at_moment}
 use Rattle.std.specs.FinSet as set
@@ -58,7 +58,7 @@ use Rattle.dr_model.specs.Calls.{StoreOutcome, Written, Untried, Failed}
 use Rattle.dr_model.specs.Worlds.{with_book, with_armed, same_text}
 use Rattle.dr_base.specs.Texts.{text_cmp}
 use Rattle.dr_tie.specs.Desks.{Desk, ArmedBy, LedgerStep}
-use Rattle.dr_tie.specs.Channels.{Terminal, Channel, Carries, ShowsLink, ToCaller, ToReceiver, IsCaller, IsAt, IsOff, IsControl, bytes_of, AgreesOn, site_of}
+use Rattle.dr_tie.specs.Channels.{Terminal, Channel, Carries, ShowsLink, ToCaller, ToReceiver, IsCaller, IsAt, IsOff, IsControl, bytes_of, AgreesOn, site_of, site_in}
 use Rattle.dr_tie.specs.Ties.{IsDeskOf, OnlyHere, Happens, caller_as, caller_did, IsLeaving, CallerLeaves, LateAtCaller, ReleaseLeaves}
 use Rattle.dr_tie.proofs.Leaving.{AreFit, carries_more, only_link, acts_by, plain_turn, abort_fits}
 
@@ -115,7 +115,7 @@ left_of plan name (Some item) now acts c s t x (id, has) h =
 -- ---- the wire to the receiver
 
 still_coming : (stage : Stage) (receiver : Text) (old new c : Core) (pdus : List Pdu) → new.proposed ≡ old.proposed → new.site ≡ old.site → new.pending ≡ None → ToReceiver stage receiver old c pdus → ToReceiver stage receiver new c pdus
-still_coming Asking receiver old new c pdus p s none (rq, has, is, e) = (rq, p ∙ has, subst (λ (z : Part). Rattle.dr_nego.specs.Proposing.IsProposal z receiver rq) (sym s) is, e)
+still_coming Asking receiver old new c pdus p s none (rq, has, is, e) = (rq, p ∙ has, subst (λ (z : Option Part). Rattle.dr_nego.specs.Proposing.IsProposal (site_in z) receiver rq) (sym s) is, e)
 still_coming (Answering accepted) receiver old new c pdus p s none h = h
 still_coming Rejecting receiver old new c pdus p s none h = h
 still_coming (Open accepted) receiver old new c pdus p s none h = h
@@ -205,11 +205,11 @@ module _ (plan : Network) (certificate : Certificate) (w : World) (number : ℕ)
     };
     shows = record {
       hop = shows.hop;
-      from = subst (λ (p : Part). IsPartOf plan certificate p × (p.name ≡ link.caller) × (ear.limit ≡ p.max_pdu)) (sym site) (shows.from.0, shows.from.1, limit ∙ shows.from.2);
+      from = subst (λ (p : Option Part). IsPartOf plan certificate (site_in p) × ((site_in p).name ≡ link.caller) × (ear.limit ≡ (site_in p).max_pdu) × (p ≡ Some (site_in p))) (sym site) (shows.from.0, shows.from.1, limit ∙ shows.from.2, shows.from.3);
       to = shows.to;
       peer = peer ∙ shows.peer;
       caller_agrees = λ o. absurd (false≢true o);
-      receiver_agrees = λ o. (let A : Part → Type 0 = λ p. AgreesOn p (site_of k.receiver.core) p.max_pdu k.receiver.core in subst A (sym site) (shows.receiver_agrees o));
+      receiver_agrees = λ o. (let A : Option Part → Type 0 = λ p. AgreesOn (site_in p) (site_of k.receiver.core) (site_in p).max_pdu k.receiver.core in subst A (sym site) (shows.receiver_agrees o));
       caller = off;
       receiver = shows.receiver;
       to_receiver = λ o. subst (λ (l : List ℕ). Carries k.receiver (k.to_receiver ++ l) (ToReceiver link.stage link.receiver x.core k.receiver.core) false) (sym bytes)
@@ -287,11 +287,11 @@ module _ (plan : Network) (certificate : Certificate) (w : World) (number : ℕ)
 
   late_in : (state : State) → (runs_artim state ≡ false) → (cell AbortRequest state true true ≡ Some (Aa1, Sta13)) → IsAt k.caller.core true state → LateResult
   late_in state artim is at =
-      let e : has_expired (standing_of k.caller.core.phase) moment.now ≡ false =
-          ap (λ (o : Option Standing). has_expired o moment.now) at.1 ∙ (ap (λ (st : State). runs_artim st && nat_le (at.0.since + 30000) moment.now) at.3 ∙ ap (λ (b : Bool). b && nat_le (at.0.since + 30000) moment.now) artim) in
+      let e : next_expired k.caller.core.phase moment.now ≡ false =
+          ap (λ (o : Option Standing). option_map_or (λ (a : Standing). has_expired a moment.now) o false) at.1 ∙ (ap (λ (st : State). runs_artim st && nat_le (at.0.since + 30000) moment.now) at.3 ∙ ap (λ (b : Bool). b && nat_le (at.0.since + 30000) moment.now) artim) in
       by_wait (is_requestor k.caller.core && has_waited k.caller.core.awaits moment.now) refl e
     where
-    by_wait : (b : Bool) → (is_requestor k.caller.core && has_waited k.caller.core.awaits moment.now) ≡ b → has_expired (standing_of k.caller.core.phase) moment.now ≡ false → LateResult
+    by_wait : (b : Bool) → (is_requestor k.caller.core && has_waited k.caller.core.awaits moment.now) ≡ b → next_expired k.caller.core.phase moment.now ≡ false → LateResult
     by_wait true waited e =
         let event : event_of (Plain Late) moment k.caller.core ≡ Some AbortRequest = ap (λ (b : Bool). late_event b (is_requestor k.caller.core && has_waited k.caller.core.awaits moment.now)) e ∙ ap (λ (b : Bool). late_event false b) waited in
         inl (left_from plan certificate w number link k s here desk shows on k.caller.ear k.to_caller refl x t moment time (aborted (record k.caller.core { phase = in_its_phase (moved at.0 Sta13 moment.now) })) (write (abort_pdu 0 0 ∷ []) ∷ []) (abort_pdu 0 0 ∷ []) refl refl refl refl

@@ -120,7 +120,7 @@ pair_for agreed class syntax context h = by_found (find (is_for class syntax) ag
 -- ---- commands are short
 
 element_long : (e : Element) → length (element_text e) ≡ 8 + length e.value
-element_long e = first_of (omega arith, simp length-append (omega arith))
+element_long e = simp length-append (omega arith)
 
 joined_long : (e : Element) (es : List Element) → length (commands.joined (e ∷ es)) ≡ (8 + length e.value) + length (commands.joined es)
 joined_long e es = length-append (element_text e) (commands.joined es) ∙ ap (λ (n : ℕ). n + length (commands.joined es)) (element_long e)

@@ -15,9 +15,8 @@ use Rattle.dr_dimse.specs.Messages.{body_of}
 use Rattle.dr_dimse.specs.declared.message.Body.{Body}
 use Rattle.dr_dimse.specs.declared.message.Body.TheVariants.{Whole}
 use Rattle.dr_dimse.specs.declared.message.Message.{Message}
-use Rattle.dr_nego.specs.Agreeing.{piece_size}
 use Rattle.dr_session.specs.Messages.{command_pdus}
-use Rattle.dr_nego.specs.Fragments.{cut, pieces, header_of, value_pdu, value_pdus}
+use Rattle.dr_nego.specs.Fragments.{piece_size, cut, pieces, header_of, value_pdu, value_pdus}
 use Rattle.dr_tie.specs.Channels.{Gets, alone, message}
 use Rattle.dr_tie.specs.Ties.{joined_pieces, PiecesMakeCommands, PiecesMakeStores}
 

@@ -20,8 +20,8 @@ use Rattle.dr_site.specs.Parts.{Part, IsPartOf}
 use Rattle.dr_ulstate.specs.declared.phase.Next.{Next}
 use Rattle.dr_ulstate.specs.declared.phase.Next.TheVariants.{Idle}
 use Rattle.dr_ulstate.specs.Table.{cell}
-use Rattle.dr_ulstate.specs.Standing.{Standing, moved, runs_artim}
-use Rattle.dr_ulstate.specs.Phases.{standing_of, next_stepped, after_cell, in_its_phase}
+use Rattle.dr_ulstate.specs.Standing.{Standing, moved, runs_artim, has_expired}
+use Rattle.dr_ulstate.specs.Phases.{standing_of, next_stepped, after_cell, in_its_phase, next_expired}
 use Rattle.dr_pdu.specs.declared.pdu.Pdu.{Pdu}
 use Rattle.dr_pdu.specs.declared.pdu.Pdu.TheVariants as pdu
 use Rattle.dr_pdu.specs.Feeding.{Feeding}
@@ -47,13 +47,13 @@ use Rattle.dr_session.specs.declared.ends.LinkAction.{LinkAction}
 use Rattle.dr_session.specs.Desks.{DeskCall, DeskAnswer, Settle, Arrival, Upcoming, Settling}
 use Rattle.dr_nego.specs.Fragments.{spellings}
 use Rattle.dr_session.specs.declared.ends.Moment.{Moment}
-use Rattle.dr_session.specs.Reactions.{Reaction, turn, occurs, moves, acts, event_of, is_taken, leaves, leaves_by, left, aborted, desk_failed, settling, effect, write, abort_pdu, pending, has_expired, has_waited, is_requestor}
+use Rattle.dr_session.specs.Reactions.{Reaction, turn, occurs, moves, acts, event_of, is_taken, leaves, leaves_by, left, aborted, desk_failed, settling, effect, write, abort_pdu, pending, has_waited, is_requestor}
 use Rattle.dr_session.specs.Turns.{Turn, Ends, Turns}
 use Rattle.dr_session.specs.Telling.{Looks, action_at, event_of_input}
 use Rattle.dr_session.specs.Plays.{Reacts, At, at_moment, with_stage}
 use Rattle.dr_dimse.specs.Taking.{Stage as Taken}
 use Rattle.dr_tie.specs.Desks.{Desk, LedgerStep}
-use Rattle.dr_tie.specs.Channels.{Terminal, Channel, Carries, ShowsLink, ToCaller, ToReceiver, IsReceiver, IsCaller, IsAt, IsOff, IsControl, bytes_of, AgreesOn, site_of}
+use Rattle.dr_tie.specs.Channels.{Terminal, Channel, Carries, ShowsLink, ToCaller, ToReceiver, IsReceiver, IsCaller, IsAt, IsOff, IsControl, bytes_of, AgreesOn, site_of, site_in}
 use Rattle.dr_tie.specs.Ties.{IsDeskOf, OnlyHere, Happens, receiver_as, receiver_did, caller_did, IsLeaving, ReceiverLeaves, CallerLeaves, LateAtReceiver}
 use Rattle.dr_tie.proofs.Agreeing.{stepped_at}
 
@@ -138,14 +138,14 @@ module _ (plan : Network) (certificate : Certificate) (w : World) (number : ℕ)
     shows = record {
       hop = shows.hop;
       from = shows.from;
-      to = subst (λ (p : Part). IsPartOf plan certificate p × (p.name ≡ link.receiver) × (ear.limit ≡ p.max_pdu)) (sym site) (shows.to.0, shows.to.1, limit ∙ shows.to.2);
+      to = subst (λ (p : Option Part). IsPartOf plan certificate (site_in p) × ((site_in p).name ≡ link.receiver) × (ear.limit ≡ (site_in p).max_pdu) × (p ≡ Some (site_in p))) (sym site) (shows.to.0, shows.to.1, limit ∙ shows.to.2, shows.to.3);
       peer = shows.peer;
-      caller_agrees = λ o. (let A : Part → Type 0 = λ p. AgreesOn (site_of k.caller.core) p p.max_pdu k.caller.core × (k.caller.core.last < 2 ^ 16) in subst A (sym site) (shows.caller_agrees o));
+      caller_agrees = λ o. (let A : Option Part → Type 0 = λ p. AgreesOn (site_of k.caller.core) (site_in p) (site_in p).max_pdu k.caller.core × (k.caller.core.last < 2 ^ 16) in subst A (sym site) (shows.caller_agrees o));
       receiver_agrees = λ o. absurd (false≢true o);
       caller = shows.caller;
       receiver = off;
       to_receiver = λ o. absurd (false≢true o);
-      to_caller = λ o. subst (λ (p : Part). Carries k.caller (k.to_caller ++ bytes_of acts) (ToCaller link.stage p k.caller.core) false) (sym site) (subst (λ (l : List ℕ). Carries k.caller (k.to_caller ++ l) (ToCaller link.stage (site_of k.receiver.core) k.caller.core) false) (sym bytes)
+      to_caller = λ o. subst (λ (p : Option Part). Carries k.caller (k.to_caller ++ bytes_of acts) (ToCaller link.stage (site_in p) k.caller.core) false) (sym site) (subst (λ (l : List ℕ). Carries k.caller (k.to_caller ++ l) (ToCaller link.stage (site_of k.receiver.core) k.caller.core) false) (sym bytes)
           (carries_more k.caller k.to_caller (ToCaller link.stage (site_of k.receiver.core) k.caller.core) link.receiver_connected (shows.to_caller o) pdus control fits));
     };
   }
@@ -214,13 +214,13 @@ module _ (plan : Network) (certificate : Certificate) (w : World) (number : ℕ)
       let side : is_requestor k.receiver.core ≡ false = ap (λ (o : Option Standing). option_map_or (λ (b : Standing). b.requestor) o false) at.1 ∙ at.2 in
       ap (λ (b : Bool). b && has_waited k.receiver.core.awaits moment.now) side
 
-  in_time : (state : State) → IsAt k.receiver.core false state → has_expired (standing_of k.receiver.core.phase) moment.now ≡ false → Turns rstep (turn moment k.receiver.core (Plain Late)) s x t → LateResult
+  in_time : (state : State) → IsAt k.receiver.core false state → next_expired k.receiver.core.phase moment.now ≡ false → Turns rstep (turn moment k.receiver.core (Plain Late)) s x t → LateResult
   in_time state at e h =
       let event : event_of (Plain Late) moment k.receiver.core ≡ None = ap (λ (b : Bool). late_event b (is_requestor k.receiver.core && has_waited k.receiver.core.awaits moment.now)) e ∙ ap (λ (b : Bool). late_event false b) (never_waits state at) in
       let r : (x ≡ effect [] k.receiver.core) × (t ≡ s) = subst (λ (o : Option UpperEvent). Turns rstep (occurs o moment (Plain Late) k.receiver.core) s x t) event h in
       inr (r.1, r.0)
 
-  too_late : IsAt k.receiver.core false Sta2 → has_expired (standing_of k.receiver.core.phase) moment.now ≡ true → Turns rstep (turn moment k.receiver.core (Plain Late)) s x t → LateResult
+  too_late : IsAt k.receiver.core false Sta2 → next_expired k.receiver.core.phase moment.now ≡ true → Turns rstep (turn moment k.receiver.core (Plain Late)) s x t → LateResult
   too_late at e h =
       let event : event_of (Plain Late) moment k.receiver.core ≡ Some ArtimExpired = ap (λ (b : Bool). late_event b (is_requestor k.receiver.core && has_waited k.receiver.core.awaits moment.now)) e in
       inl (receiver_done (Close ∷ []) (left (record k.receiver.core { phase = in_its_phase (moved at.0 Sta1 moment.now) })) [] refl (refl, inl refl) refl tt tt
@@ -228,10 +228,10 @@ module _ (plan : Network) (certificate : Certificate) (w : World) (number : ℕ)
       (acts_by rstep moment k.receiver.core (Plain Late) ArtimExpired false Sta2 Aa2 Sta1 s t x at event refl refl h)))
 
   pub receiver_late : Turns rstep (turn moment k.receiver.core (Plain Late)) s x t → LateResult
-  receiver_late h = elim (cases_Bool (has_expired (standing_of k.receiver.core.phase) moment.now)) [
+  receiver_late h = elim (cases_Bool (next_expired k.receiver.core.phase moment.now)) [
     | inl expired ↦ elim receiver_at.1 [
       | inl at ↦ too_late at.0 expired h
-      | inr at ↦ absurd (false≢true (sym (ap (λ (o : Option Standing). has_expired o moment.now) at.1 ∙ ap (λ (st : State). runs_artim st && nat_le (at.0.since + 30000) moment.now) at.3) ∙ expired))
+      | inr at ↦ absurd (false≢true (sym (ap (λ (o : Option Standing). option_map_or (λ (a : Standing). has_expired a moment.now) o false) at.1 ∙ ap (λ (st : State). runs_artim st && nat_le (at.0.since + 30000) moment.now) at.3) ∙ expired))
     ]
     | inr waiting ↦ elim receiver_at.1 [ inl at ↦ in_time Sta2 at.0 waiting h | inr at ↦ in_time Sta6 at waiting h ]
   ]

@@ -51,7 +51,7 @@ module _ {S : Type 0} (step : S → DeskCall → DeskAnswer → S → Type 0) wh
       (b.0, b.1, rw (b.1) record {
         hop = shows.hop;
         from = shows.from;
-        to = (shows.to.0, shows.to.1, a.2 ∙ shows.to.2);
+        to = (shows.to.0, shows.to.1, a.2 ∙ shows.to.2, shows.to.3);
         peer = shows.peer;
         caller_agrees = shows.caller_agrees;
         receiver_agrees = shows.receiver_agrees;

@@ -33,7 +33,7 @@ use Rattle.dr_session.specs.Ledgers.{Hands}
 use Rattle.dr_nego.specs.Fragments.{spellings}
 use Rattle.dr_session.specs.declared.ends.Moment.{Moment}
 use Rattle.dr_nego.specs.Agreeing.{context_for, is_for}
-use Rattle.dr_session.specs.Reactions.{aborted, aborts_desk, abort_pdu, desk_failed, due, event_of, gives, is_idle, is_requestor, job, left, quiet, settling, stepped_by, awaiting, effect, gives_in, id_after, pending, store_pdus, write}
+use Rattle.dr_session.specs.Reactions.{aborted, aborts_desk, abort_pdu, desk_failed, due, event_of, gives, is_idle, is_ready, is_requestor, job, left, quiet, settling, stepped_by, awaiting, effect, gives_in, id_after, pending, store_pdus, write}
 use Rattle.dr_session.specs.Turns.{Turns, Ends}
 use Rattle.dr_tie.specs.Desks.{Desk, LedgerStep}
 use Rattle.dr_tie.specs.Channels.{IsOff, bytes_of, Brings, Channel, Carries, ShowsLink, ToCaller, ToReceiver, IsAt, IsCaller, IsReceiver, contexts_of, site_of}
@@ -116,20 +116,23 @@ module _ (plan : Network) (certificate : Certificate) (w : World) (number : ℕ)
   with_core c old = record { coming = old.coming; is = old.is; controls = old.controls; joined = old.joined; works = old.works; waits = old.waits; fits = old.fits; control = old.control; none = old.none }
 
   -- the end goes on, and the link is as it was
-  goes_on : (after : Link) → after.caller ≡ link.caller → after ≡ record { caller = link.caller; receiver = link.receiver; caller_connected = true; receiver_connected = link.receiver_connected; stage = Open accepted } → ShowsLink plan certificate (caller_did k (effect [] core)) after
-  goes_on after c e = subst (λ (l : Link). ShowsLink plan certificate (caller_did k (effect [] core)) l) (sym e) record {
+  goes_on_as : (dry : Bool) (after : Link) → after ≡ record { caller = link.caller; receiver = link.receiver; caller_connected = true; receiver_connected = link.receiver_connected; stage = Open accepted } → ShowsLink plan certificate (caller_did k (effect [] (record core { dry = dry }))) after
+  goes_on_as dry after e = subst (λ (l : Link). ShowsLink plan certificate (caller_did k (effect [] (record core { dry = dry }))) l) (sym e) record {
     hop = shows.hop;
     from = shows.from;
     to = shows.to;
     peer = shows.peer;
     caller_agrees = λ o. shows.caller_agrees on;
     receiver_agrees = shows.receiver_agrees;
-    caller = (((moved at.0 Sta6 moment.now, refl, at.2, refl), at_open.0.1), at_open.1, at_open.2, at_open.3);
+    caller = (((moved at.0 Sta6 moment.now, refl, at.2, refl), at_open.0.1), at_open.1, at_open.2, at_open.3, refl);
     receiver = receiver_at;
     to_receiver = λ o. subst (λ (b : Bool). Carries k.receiver (k.to_receiver ++ []) (λ pdus. pdus ≡ []) b) on
         (subst (λ (l : List ℕ). Carries k.receiver l (λ pdus. pdus ≡ []) link.caller_connected) (sym (append-nil k.to_receiver)) (to_receiver_at o));
-    to_caller = λ o. with_core core (to_caller_at on);
+    to_caller = λ o. with_core (record core { dry = dry }) (to_caller_at on);
   }
+
+  goes_on : (after : Link) → after ≡ record { caller = link.caller; receiver = link.receiver; caller_connected = true; receiver_connected = link.receiver_connected; stage = Open accepted } → ShowsLink plan certificate (caller_did k (effect [] core)) after
+  goes_on after e = goes_on_as core.dry after e
 
   is_link : link ≡ record { caller = link.caller; receiver = link.receiver; caller_connected = true; receiver_connected = link.receiver_connected; stage = Open accepted }
   is_link = ap (λ (b : Bool). let l : Link = record { caller = link.caller; receiver = link.receiver; caller_connected = b; receiver_connected = link.receiver_connected; stage = link.stage } in l) on
@@ -211,8 +214,8 @@ module _ (plan : Network) (certificate : Certificate) (w : World) (number : ℕ)
 
   settles : (item : Instance) → IsNext (w.books link.caller) link.receiver w.time item → set.contains accepted (item.key.class, item.key.syntax) ≡ false → (answer : Answer)
       → cstep s (Settle item.uid k.caller.core.peer NoContext moment.now) (Settling answer) t → Goes answer x → (a : Option Answer) × Happens plan certificate w number (Give number a) link.caller t (caller_did k x)
-  settles item first lacks (Ok r) h g = (Some (Ok r), subst (λ (y : Effect). Given_as item first lacks (Ok r) h y) (sym g) (given_by item first lacks (Ok r) h (effect [] core) (goes_on (after_settling link (Ok r) accepted) refl refl)))
-  settles item first lacks (Err fault.NotWaiting) h g = (Some (Err fault.NotWaiting), subst (λ (y : Effect). Given_as item first lacks (Err fault.NotWaiting) h y) (sym g) (given_by item first lacks (Err fault.NotWaiting) h (effect [] core) (goes_on (after_settling link (Err fault.NotWaiting) accepted) refl refl)))
+  settles item first lacks (Ok r) h g = (Some (Ok r), subst (λ (y : Effect). Given_as item first lacks (Ok r) h y) (sym g) (given_by item first lacks (Ok r) h (effect [] core) (goes_on (after_settling link (Ok r) accepted) refl)))
+  settles item first lacks (Err fault.NotWaiting) h g = (Some (Err fault.NotWaiting), subst (λ (y : Effect). Given_as item first lacks (Err fault.NotWaiting) h y) (sym g) (given_by item first lacks (Err fault.NotWaiting) h (effect [] core) (goes_on (after_settling link (Err fault.NotWaiting) accepted) refl)))
   settles item first lacks (Err fault.Store) h g = (Some (Err fault.Store), subst (λ (y : Effect). Given_as item first lacks (Err fault.Store) h y) (sym g) (given_by item first lacks (Err fault.Store) h (effect (write (abort_pdu 0 0 ∷ []) ∷ []) failed_core) (left_shown item first lacks (Err fault.Store) h refl)))
   settles item first lacks (Err fault.Memory) h g = absurd g
   settles item first lacks (Err fault.NoLine) h g = absurd g
@@ -249,7 +252,7 @@ module _ (plan : Network) (certificate : Certificate) (w : World) (number : ℕ)
   by_next : (d : DeskAnswer) (m : Desk) → cstep s (Next core.peer moment.now) d m → Turns cstep (job (due moment core) d) m x t → Result_is
   by_next (Arrival r) m one h = absurd one
   by_next (Settling r) m one h = absurd one
-  by_next (Upcoming (Ok None)) m one h = inr (inr (h.1 ∙ one.1, subst (λ (y : Effect). ShowsLink plan certificate (caller_did k y) link) (sym h.0) (goes_on link refl is_link), λ item next. (let n = next_was item next in one.0 item.uid n.due n.row)))
+  by_next (Upcoming (Ok None)) m one h = inr (inr (h.1 ∙ one.1, subst (λ (y : Effect). ShowsLink plan certificate (caller_did k y) link) (sym h.0) (goes_on_as true link is_link), λ item next. (let n = next_was item next in one.0 item.uid n.due n.row)))
   by_next (Upcoming (Ok (Some one_job))) m one h =
       let g : Turns cstep (gives (Some agreed) moment one_job core) s x t = subst (λ (d : Desk). Turns cstep (gives (Some agreed) moment one_job core) d x t) one.1
           (subst (λ (o : Option Agreed). Turns cstep (gives o moment one_job core) m x t) at_open.0.1.1 h) in
@@ -265,7 +268,8 @@ module _ (plan : Network) (certificate : Certificate) (w : World) (number : ℕ)
   pushed r =
       let side : is_requestor k.caller.core ≡ true = ap (λ (o : Option Standing). option_map_or (λ (b : Standing). b.requestor) o false) at.1 ∙ at.2 in
       let idle : is_idle k.caller.core ≡ true = ap (λ (o : Option Pending). is_requestor k.caller.core && not (is_some o)) at_open.1 ∙ ap (λ (b : Bool). b && true) side in
-      let event : event_of (Plain PushAsked) moment k.caller.core ≡ Some DataRequest = ap (λ (b : Bool). if b then Some DataRequest else None) idle in
+      let ready : is_ready k.caller.core ≡ true = ap (λ (b : Bool). b && may_send k.caller.core.phase) idle ∙ at_open.4 in
+      let event : event_of (Plain PushAsked) moment k.caller.core ≡ Some DataRequest = ap (λ (b : Bool). if b then Some DataRequest else None) ready in
       let a = acts_by cstep moment k.caller.core (Plain PushAsked) DataRequest true Sta6 Dt1 Sta6 s t x at event refl refl (plain_turn cstep moment k.caller.core PushAsked s t x refl r) in
       by_next a.0 a.1 a.2 a.3
 

@@ -35,7 +35,7 @@ use Rattle.dr_nego.specs.Agreeing.{context_for, is_for}
 use Rattle.dr_session.specs.Reactions.{aborted, aborts_desk, abort_pdu, desk_failed, due, event_of, refused, rejected, gives, is_idle, is_requestor, job, left, quiet, settling, stepped_by, awaiting, effect, gives_in, id_after, pending, store_pdus, write}
 use Rattle.dr_session.specs.Turns.{Turns, Ends}
 use Rattle.dr_tie.specs.Desks.{Desk, LedgerStep}
-use Rattle.dr_tie.specs.Channels.{IsOff, bytes_of, Brings, Channel, Carries, ShowsLink, ToCaller, ToReceiver, IsAt, IsCaller, IsReceiver, contexts_of, site_of}
+use Rattle.dr_tie.specs.Channels.{IsOff, bytes_of, Brings, Channel, Carries, ShowsLink, ToCaller, ToReceiver, IsAt, IsCaller, IsReceiver, contexts_of, site_of, site_in}
 use Rattle.dr_tie.specs.Ties.{IsDeskOf, IsFirst, OnlyHere, Happens, caller_read, HearsRejection}
 use Rattle.dr_tie.proofs.ContextSets.{from_context}
 use Rattle.dr_tie.proofs.Leaving.{AreFit, only_link, acts_by, plain_turn, carries_more, abort_fits}
@@ -98,9 +98,11 @@ module _ (plan : Network) (certificate : Certificate) (w : World) (number : ℕ)
     off_shown : (y : Core) → y.site ≡ k.caller.core.site → y.peer ≡ k.caller.core.peer → IsOff y true → ShowsLink plan certificate (caller_read k n new (effect (Close ∷ []) y)) (without_caller link)
     off_shown y site peer off = record {
       hop = shows.hop;
-      from = subst (λ (p : Part). IsPartOf plan certificate p × (p.name ≡ link.caller) × (new.limit ≡ p.max_pdu)) (sym site) (shows.from.0, shows.from.1, limit ∙ shows.from.2);
+      from = subst (λ (p : Option Part). IsPartOf plan certificate (site_in p) × ((site_in p).name ≡ link.caller) × (new.limit ≡ (site_in p).max_pdu) × (p ≡ Some (site_in p))) (sym site) (shows.from.0, shows.from.1, limit ∙ shows.from.2, shows.from.3);
       to = shows.to;
       peer = peer ∙ shows.peer;
+      caller_agrees = λ o. absurd (false≢true o);
+      receiver_agrees = λ o. absurd (subst (λ (st : Stage). IsReceiver true st link.caller k.receiver.core) rejecting (subst (λ (b : Bool). IsReceiver b link.stage link.caller k.receiver.core) o shows.receiver));
       caller = off;
       receiver = shows.receiver;
       to_receiver = λ o. absurd (subst (λ (st : Stage). IsReceiver true st link.caller k.receiver.core) rejecting (subst (λ (b : Bool). IsReceiver b link.stage link.caller k.receiver.core) o shows.receiver));

@@ -252,10 +252,10 @@ module _ (plan : Network) (certificate : Certificate) (c : IsCertified plan cert
         ((moment.others < 256) × (answer rq to moment.others ≡ Accept (acceptance_of rq to) (agreed_by rq to)) × AgreesOnHop plan from.name to.name (agreed_by rq to))
         ⊎ ((256 ≤ moment.others) × (answer rq to moment.others ≡ Reject 2 3 2)) → Result_at x new_ear t
     by_answer x t h (inl (few, e, agrees)) =
-        let a = accept_turns (LedgerStep plan link.receiver) moment k.receiver.core rq receiver_at.0 s t x h (acceptance_of rq to) (agreed_by rq to) e in
+        let a = accept_turns (LedgerStep plan link.receiver) moment k.receiver.core to shows.to.3 rq receiver_at.0 s t x h (acceptance_of rq to) (agreed_by rq to) e in
         subst (λ (y : Effect). Result_at y new_ear t) (sym a.0) (subst (λ (d : Desk). Result_at taken new_ear d) (sym a.1) (accepted_case (subst (λ (m : ℕ). m < 256) others_is few) agrees))
     by_answer x t h (inr (many, e)) =
-        let a = refuse_turns (LedgerStep plan link.receiver) moment k.receiver.core rq receiver_at.0 s t x h e in
+        let a = refuse_turns (LedgerStep plan link.receiver) moment k.receiver.core to shows.to.3 rq receiver_at.0 s t x h e in
         subst (λ (y : Effect). Result_at y new_ear t) (sym a.0) (subst (λ (d : Desk). Result_at turned new_ear d) (sym a.1) (refused_case (subst (λ (m : ℕ). 256 ≤ m) others_is many)))
 
   pub agrees : (front : Pdu) (new : Feeding) (x : Effect) (t : Desk) → IsFirst k.receiver k.to_receiver front → k.receiver.ear.kept ++ take n k.to_receiver ≡ written front →

@@ -55,7 +55,7 @@ use Rattle.dr_session.specs.declared.ends.LinkAction.{LinkAction}
 use Rattle.dr_session.specs.Desks.{DeskCall, DeskAnswer, Arrive, Settle, Arrival, Upcoming, Settling}
 use Rattle.dr_nego.specs.Fragments.{spellings}
 use Rattle.dr_session.specs.declared.ends.Moment.{Moment}
-use Rattle.dr_session.specs.Reactions.{Reaction, turn, occurs, event_of, has_expired, has_waited, is_requestor, replied, settled_with, aborts_desk, stepped_by, is_requestor, leaves_by, left, aborted, desk_failed, settling, effect, write, abort_pdu, pending}
+use Rattle.dr_session.specs.Reactions.{Reaction, turn, occurs, event_of, has_waited, is_requestor, replied, settled_with, aborts_desk, stepped_by, leaves_by, left, aborted, desk_failed, settling, effect, write, abort_pdu, pending}
 use Rattle.dr_session.specs.Turns.{Turn, Ends, Turns}
 use Rattle.dr_session.specs.Plays.{PlaysBytes, Reacts, at_moment, with_stage}
 use Rattle.dr_session.specs.declared.ends.Told.{Told}
@@ -258,7 +258,7 @@ module _ (plan : Network) (certificate : Certificate) (w : World) (number : ℕ)
           peer = shows.peer;
           caller_agrees = λ o. shows.caller_agrees on;
           receiver_agrees = shows.receiver_agrees;
-          caller = subst (λ (b : Bool). IsCaller b (Open accepted) link.receiver (settled_with (stays NothingTaken))) (sym still) (((moved at.0 Sta6 moment.now, refl, at.2, refl), established.0.1), refl, refl, refl);
+          caller = subst (λ (b : Bool). IsCaller b (Open accepted) link.receiver (settled_with (stays NothingTaken))) (sym still) (((moved at.0 Sta6 moment.now, refl, at.2, refl), established.0.1), refl, refl, refl, refl);
           receiver = open_again link.receiver_connected accepted item status link.caller k.receiver.core receiver_at;
           to_receiver = λ o. subst (λ (b : Bool). Carries k.receiver (k.to_receiver ++ []) (λ pdus. pdus ≡ []) b) (on ∙ sym still)
               (subst (λ (l : List ℕ). Carries k.receiver l (λ pdus. pdus ≡ []) link.caller_connected) (sym (append-nil k.to_receiver)) (to_receiver_at o));

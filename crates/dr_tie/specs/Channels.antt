@@ -12,7 +12,7 @@ use Rattle.dr_sound.specs.declared.certificate.Certificate.{Certificate}
 use Rattle.dr_site.specs.Parts.{Part, IsPartOf, hops_to}
 use Rattle.dr_ulstate.specs.declared.table.State.{State}
 use Rattle.dr_ulstate.specs.declared.table.State.TheVariants.{Sta1, Sta2, Sta5, Sta6, Sta7, Sta13}
-use Rattle.dr_ulstate.specs.Phases.{standing_of, state_of}
+use Rattle.dr_ulstate.specs.Phases.{standing_of, may_send}
 use Rattle.dr_ulstate.specs.Standing.{Standing}
 use Rattle.dr_pdu.specs.declared.pdu.Pdu.{Pdu}
 use Rattle.dr_pdu.specs.declared.pdu.Pdu.TheVariants as pdu
@@ -118,7 +118,7 @@ IsCaller false stage receiver c = IsOff c true
 IsCaller true Asking receiver c = IsAsking c receiver
 IsCaller true (Answering accepted) receiver c = IsAsking c receiver
 IsCaller true Rejecting receiver c = IsAsking c receiver
-IsCaller true (Open accepted) receiver c = IsEstablished c true accepted × (c.pending ≡ None) × (c.assembly.awaited ≡ Nothing) × (c.assembly.stage ≡ Idle)
+IsCaller true (Open accepted) receiver c = IsEstablished c true accepted × (c.pending ≡ None) × (c.assembly.awaited ≡ Nothing) × (c.assembly.stage ≡ Idle) × (may_send c.phase ≡ true)
 IsCaller true (Storing accepted item) receiver c = IsEstablished c true accepted × HasPending c item × (c.assembly.stage ≡ Idle)
 IsCaller true (Replying accepted item status) receiver c = IsEstablished c true accepted × HasPending c item
 IsCaller true Gone receiver c = ⊥
