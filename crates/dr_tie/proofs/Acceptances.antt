@@ -61,7 +61,7 @@ use Rattle.dr_session.specs.declared.ends.Moment.{Moment}
 use Rattle.dr_session.specs.Reactions.{Reaction, turn, occurs, event_of, has_waited, is_requestor, agrees, leaves_by, left, aborted, desk_failed, settling, effect, write, abort_pdu, pending}
 use Rattle.dr_session.specs.Turns.{Turn, Ends, Turns}
 use Rattle.dr_session.specs.Plays.{PlaysBytes, Reacts, at_moment, with_stage}
-use Rattle.dr_session.specs.Telling.{Looks}
+use Rattle.dr_session.specs.Telling.{Looks, TellsAcceptance}
 use Rattle.dr_session.specs.declared.ends.Told.{Told}
 use Rattle.dr_session.specs.declared.ends.Told.TheVariants.{Agreement}
 use Rattle.std.specs.FinSet as set
@@ -184,8 +184,8 @@ module _ (plan : Network) (certificate : Certificate) (w : World) (number : ℕ)
       let action : action_of AssociateAcPdu (state_of c.phase) ≡ Some Ae3 =
           ap (λ (z : State). action_of AssociateAcPdu z) (ap (λ (o : Option Standing). option_map_or (λ (b : Standing). b.state) o Sta1) asking.0.1 ∙ asking.0.3) in
       let looked = subst (λ (a : Option Action). Looks a c (Acceptance ac) r.told r.stage) action r.tells in
-      let same : looked.0 ≡ rq = some_rq looked.0 rq (sym looked.2 ∙ carries.is.3) in
-      let b = turned r.told r.stage rq ac agreed carries.is.4 looked.1 (subst (λ (q : AssociateRq). Concludes q ac looked.1) same looked.3) looked.4 looked.5 r.turns in
+      let told : TellsAcceptance (Some rq) ac r.told = subst (λ (o : Option AssociateRq). TellsAcceptance o ac r.told) carries.is.3 looked.0 in
+      let b = turned r.told r.stage rq ac agreed carries.is.4 told.0 told.1 told.2 looked.1 r.turns in
       let contexts : accepted ≡ contexts_of b.0.pairs = carries.is.5 ∙ ap (λ (a : Agreed). contexts_of a.pairs) (sym b.1) in
       subst (λ (y : Effect). Happens plan certificate w number (AgreeCaller number None) link.caller t (caller_read k n new y)) (sym b.2)
       (subst (λ (y : Feeding). Happens plan certificate w number (AgreeCaller number None) link.caller t (caller_read k n y (effect [] (opened b.0)))) (sym h.1)

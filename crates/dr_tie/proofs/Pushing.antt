@@ -51,7 +51,7 @@ use Rattle.dr_ulstate.specs.declared.table.Action.TheVariants.{Dt1}
 use Rattle.dr_ulstate.specs.declared.table.Event.TheVariants.{AbortRequest, DataRequest}
 use Rattle.dr_ulstate.specs.declared.table.State.TheVariants.{Sta13}
 use Rattle.dr_ulstate.specs.Standing.{Standing}
-use Rattle.dr_ulstate.specs.Phases.{standing_of}
+use Rattle.dr_ulstate.specs.Phases.{standing_of, may_send}
 use Rattle.dr_ledger.specs.declared.item.Instance.{Instance}
 use Rattle.dr_ledger.specs.declared.item.Outcome.TheVariants.{NoContext}
 use Rattle.dr_ledger.specs.declared.fault.LedgerFault.TheVariants as fault
