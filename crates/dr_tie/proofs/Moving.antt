@@ -15,7 +15,7 @@ use Rattle.dr_session.specs.Reactions.{effect}
 use Rattle.dr_session.specs.Plays.{Plays, PlaysBytes, At, at_moment}
 use Rattle.dr_model.specs.Worlds.{Link}
 use Rattle.dr_tie.specs.Channels.{Terminal, Channel, Carries, ShowsLink, bytes_of}
-use Rattle.dr_tie.specs.Ties.{IsFirst, IsWithin, HearsNothing, receiver_read}
+use Rattle.dr_tie.specs.Ties.{IsFirst, IsWithin, ReceiverHearsNothing, CallerHearsNothing, receiver_read, caller_read}
 use Rattle.dr_tie.proofs.Fronts.{hears_none}
 
 -- what is under way stays under way
@@ -43,7 +43,7 @@ module _ {S : Type 0} (step : S → DeskCall → DeskAnswer → S → Type 0) wh
       let p : Plays step c [] s x.acts x.core u = subst (λ (is : List Input). Plays step c (map (at_moment moment) is) s x.acts x.core u) none h in
       (p.2, ap (λ (l : List LinkAction). effect l x.core) p.0 ∙ ap (λ (d : Core). effect [] d) p.1)
 
-  pub nothing_heard : HearsNothing step
+  pub nothing_heard : ReceiverHearsNothing step
   nothing_heard plan certificate link k shows on moment n front new x s u first within (inputs, heard, plays) =
       let carries = shows.to_receiver on in
       let a = still_carries k.receiver k.to_receiver _ link.caller_connected carries n front new inputs first within heard in
@@ -59,4 +59,22 @@ module _ {S : Type 0} (step : S → DeskCall → DeskAnswer → S → Type 0) wh
         receiver = shows.receiver;
         to_receiver = λ o. a.1;
         to_caller = rw (append-nil) shows.to_caller;
+      })
+
+  pub nothing_heard_back : CallerHearsNothing step
+  nothing_heard_back plan certificate link k shows on moment n front new x s u first within (inputs, heard, plays) =
+      let carries = shows.to_caller on in
+      let a = still_carries k.caller k.to_caller _ link.receiver_connected carries n front new inputs first within heard in
+      let b = plays_none moment k.caller.core inputs s u x a.0 plays in
+      (b.0, b.1, rw (b.1) record {
+        hop = shows.hop;
+        from = (shows.from.0, shows.from.1, a.2 ∙ shows.from.2, shows.from.3);
+        to = shows.to;
+        peer = shows.peer;
+        caller_agrees = shows.caller_agrees;
+        receiver_agrees = shows.receiver_agrees;
+        caller = shows.caller;
+        receiver = shows.receiver;
+        to_receiver = rw (append-nil) shows.to_receiver;
+        to_caller = λ o. a.1;
       })

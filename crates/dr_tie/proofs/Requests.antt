@@ -59,8 +59,9 @@ use Rattle.dr_nego.proofs.Sized.{acceptances_fit}
 use Rattle.dr_nego.proofs.HopAgreed.{answered}
 use Rattle.dr_tie.specs.Desks.{Desk, LedgerStep}
 use Rattle.dr_tie.specs.Channels.{Terminal, Channel, Carries, ShowsLink, ToReceiver, ToCaller, IsCaller, IsReceiver, IsAt, contexts_of, bytes_of, IsControl, hop_contexts, site_of}
-use Rattle.dr_tie.specs.Ties.{IsDeskOf, IsFirst, receiver_read, AgreesAtReceiver}
+use Rattle.dr_tie.specs.Ties.{IsDeskOf, IsFirst, receiver_read, AgreesAtReceiver, Happens}
 use Rattle.dr_tie.proofs.Fronts.{hears_one, nothing_yet}
+use Rattle.dr_tie.proofs.Leaving.{only_link}
 use Rattle.dr_tie.proofs.Agreeing.{front_is, plays_alone, accepted_core, refused_core, accept_turns, refuse_turns}
 use Rattle.dr_tie.proofs.ContextSets.{has_context, from_context}
 
@@ -142,7 +143,7 @@ module _ (plan : Network) (certificate : Certificate) (c : IsCertified plan cert
     new_ear = record { limit = k.receiver.ear.limit; failed = false; kept = [] }
 
     abbrev Result_at : Effect → Feeding → Desk → Type 0
-    Result_at x new t = (answer : Option Contexts) × (v : World) × (after : Link) × Step plan w (AgreeReceiver number answer) v × IsLink v number after × IsDeskOf v link.receiver t × ShowsLink plan certificate (receiver_read k n new x) after
+    Result_at x new t = (answer : Option Contexts) × Happens plan certificate w number (AgreeReceiver number answer) link.receiver t (receiver_read k n new x)
 
     apart : HasApartIds rq
     apart i j d lt h same = (let less : (get_or rq.contexts i d).id < (get_or rq.contexts j d).id = proposal.rising i j d lt h in omega (arith, less, same))
@@ -168,12 +169,14 @@ module _ (plan : Network) (certificate : Certificate) (c : IsCertified plan cert
     accepted_case : others w number link.receiver < 256 → AgreesOnHop plan from.name to.name (agreed_by rq to) → Result_at taken new_ear s
     accepted_case few agrees = (
       Some accepted,
-      with_link w number (at_stage link (Answering accepted)),
-      at_stage link (Answering accepted),
-      record { link = link; at = here; on = on; stage = asking; then = (few, offers agrees, refl) },
-      get_new numbers w.links number (at_stage link (Answering accepted)),
-      desk,
       record {
+        after = with_link w number (at_stage link (Answering accepted));
+        link = at_stage link (Answering accepted);
+        step = record { link = link; at = here; on = on; stage = asking; then = (few, offers agrees, refl) };
+        here = get_new numbers w.links number (at_stage link (Answering accepted));
+        desk = desk;
+        only = only_link w number (at_stage link (Answering accepted)) link.receiver;
+        shows = record {
         hop = shows.hop;
         from = shows.from;
         to = shows.to;
@@ -207,6 +210,7 @@ module _ (plan : Network) (certificate : Certificate) (c : IsCertified plan cert
               control = tt;
               none = λ e. refl;
             });
+      };
       },
     )
 
@@ -216,12 +220,14 @@ module _ (plan : Network) (certificate : Certificate) (c : IsCertified plan cert
     refused_case : 256 ≤ others w number link.receiver → Result_at turned new_ear s
     refused_case many = (
       None,
-      with_link w number (at_stage (without_receiver link) Rejecting),
-      at_stage (without_receiver link) Rejecting,
-      record { link = link; at = here; on = on; stage = asking; then = (many, refl) },
-      get_new numbers w.links number (at_stage (without_receiver link) Rejecting),
-      desk,
       record {
+        after = with_link w number (at_stage (without_receiver link) Rejecting);
+        link = at_stage (without_receiver link) Rejecting;
+        step = record { link = link; at = here; on = on; stage = asking; then = (many, refl) };
+        here = get_new numbers w.links number (at_stage (without_receiver link) Rejecting);
+        desk = desk;
+        only = only_link w number (at_stage (without_receiver link) Rejecting) link.receiver;
+        shows = record {
         hop = shows.hop;
         from = shows.from;
         to = shows.to;
@@ -244,6 +250,7 @@ module _ (plan : Network) (certificate : Certificate) (c : IsCertified plan cert
               control = tt;
               none = λ e. refl;
             });
+      };
       },
     )
 
@@ -260,7 +267,7 @@ module _ (plan : Network) (certificate : Certificate) (c : IsCertified plan cert
 
   pub agrees : (front : Pdu) (new : Feeding) (x : Effect) (t : Desk) → IsFirst k.receiver k.to_receiver front → k.receiver.ear.kept ++ take n k.to_receiver ≡ written front →
       PlaysBytes (LedgerStep plan link.receiver) moment k.receiver.ear k.receiver.core (take n k.to_receiver) s new x t →
-      (answer : Option Contexts) × (v : World) × (after : Link) × Step plan w (AgreeReceiver number answer) v × IsLink v number after × IsDeskOf v link.receiver t × ShowsLink plan certificate (receiver_read k n new x) after
+      (answer : Option Contexts) × Happens plan certificate w number (AgreeReceiver number answer) link.receiver t (receiver_read k n new x)
   agrees front new x t first whole (inputs, heard, plays) =
       let rq = carries.is.0 in
       let one : carries.coming ++ carries.controls ≡ pdu.AssociateRq rq ∷ carries.controls = ap (λ (l : List Pdu). l ++ carries.controls) carries.is.3 in

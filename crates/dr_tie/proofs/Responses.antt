@@ -334,5 +334,5 @@ module _ (plan : Network) (certificate : Certificate) (w : World) (number : ℕ)
   reply_result = by_values carries.is.0 carries.is.1 carries.is.2 carries.is.3 carries.is.3.values refl
 
 pub hears_reply : HearsReply
-hears_reply plan certificate certified w number link k s here desk shows on accepted item status replying moment time n front new x t not_control first whole plays =
+hears_reply plan certificate certified w number link k s here desk shows on accepted item status replying moment time n front new x t first whole plays =
     reply_result plan certificate w number link k s here desk shows on accepted item status replying moment time n front new x t first whole plays

@@ -89,11 +89,17 @@ abbrev pub IsWithin : List ℕ → Pdu → Type 0
 IsWithin text p = (back : List ℕ) × (written p ≡ text ++ back) × (back ≢ [])
 
 -- Some first bytes of the wire, which end no PDU: nothing is done or called, and the channel is the same link.
-abbrev pub HearsNothing : {S : Type 0} → (S → DeskCall → DeskAnswer → S → Type 0) → Type 0
-HearsNothing {S} step = (plan : Network) (certificate : Certificate) (link : Link) (k : Channel) → ShowsLink plan certificate k link → link.receiver_connected ≡ true →
+abbrev pub ReceiverHearsNothing : {S : Type 0} → (S → DeskCall → DeskAnswer → S → Type 0) → Type 0
+ReceiverHearsNothing {S} step = (plan : Network) (certificate : Certificate) (link : Link) (k : Channel) → ShowsLink plan certificate k link → link.receiver_connected ≡ true →
     (moment : Moment) (n : ℕ) (front : Pdu) (new : Feeding) (x : Effect) (s u : S) → IsFirst k.receiver k.to_receiver front →
     IsWithin (k.receiver.ear.kept ++ take n k.to_receiver) front → PlaysBytes step moment k.receiver.ear k.receiver.core (take n k.to_receiver) s new x u →
     (u ≡ s) × (x ≡ effect [] k.receiver.core) × ShowsLink plan certificate (receiver_read k n new x) link
+
+abbrev pub CallerHearsNothing : {S : Type 0} → (S → DeskCall → DeskAnswer → S → Type 0) → Type 0
+CallerHearsNothing {S} step = (plan : Network) (certificate : Certificate) (link : Link) (k : Channel) → ShowsLink plan certificate k link → link.caller_connected ≡ true →
+    (moment : Moment) (n : ℕ) (front : Pdu) (new : Feeding) (x : Effect) (s u : S) → IsFirst k.caller k.to_caller front →
+    IsWithin (k.caller.ear.kept ++ take n k.to_caller) front → PlaysBytes step moment k.caller.ear k.caller.core (take n k.to_caller) s new x u →
+    (u ≡ s) × (x ≡ effect [] k.caller.core) × ShowsLink plan certificate (caller_read k n new x) link
 
 -- all else is as it was
 pub record OnlyHere (w v : World) (number : ℕ) (name : Text) : Type 0 where
@@ -121,7 +127,7 @@ AgreesAtReceiver = (plan : Network) (certificate : Certificate) → IsCertified 
     (moment : Moment) → moment.now ≡ w.time → moment.others ≡ others w number link.receiver →
     (n : ℕ) (front : Pdu) (new : Feeding) (x : Effect) (t : Desk) → IsFirst k.receiver k.to_receiver front → k.receiver.ear.kept ++ take n k.to_receiver ≡ written front →
     PlaysBytes (LedgerStep plan link.receiver) moment k.receiver.ear k.receiver.core (take n k.to_receiver) s new x t →
-    (answer : Option Contexts) × (v : World) × (after : Link) × Step plan w (AgreeReceiver number answer) v × IsLink v number after × IsDeskOf v link.receiver t × ShowsLink plan certificate (receiver_read k n new x) after
+    (answer : Option Contexts) × Happens plan certificate w number (AgreeReceiver number answer) link.receiver t (receiver_read k n new x)
 
 -- what is asked of an end, or happens to it, that makes it leave
 abbrev pub IsLeaving : Input → Type 0
@@ -169,16 +175,6 @@ HearsAcceptance = (plan : Network) (certificate : Certificate) (w : World) (numb
     PlaysBytes (LedgerStep plan link.caller) moment k.caller.ear k.caller.core (take n k.to_caller) s new x t →
     Happens plan certificate w number (AgreeCaller number None) link.caller t (caller_read k n new x)
 
--- A Move that ends the answer to the request.
-abbrev pub AgreesAtCaller : Type 0
-AgreesAtCaller = (plan : Network) (certificate : Certificate) → IsCertified plan certificate → (w : World) (number : ℕ) (link : Link) (k : Channel) (s : Desk) →
-    IsLink w number link → IsDeskOf w link.caller s → ShowsLink plan certificate k link → link.caller_connected ≡ true → ((accepted : Contexts) × (link.stage ≡ Answering accepted)) ⊎ (link.stage ≡ Rejecting) →
-    (moment : Moment) → moment.now ≡ w.time → (n : ℕ) (front : Pdu) (new : Feeding) (x : Effect) (t : Desk) → (IsControl front → ⊥) →
-    IsFirst k.caller k.to_caller front → k.caller.ear.kept ++ take n k.to_caller ≡ written front →
-    PlaysBytes (LedgerStep plan link.caller) moment k.caller.ear k.caller.core (take n k.to_caller) s new x t →
-    ((answer : Option Answer) × Happens plan certificate w number (AgreeCaller number answer) link.caller t (caller_read k n new x))
-    ⊎ Happens plan certificate w number (BreakCaller number None) link.caller t (caller_read k n new x)
-
 -- A Move that ends a rejection: the first due row is settled as broken, and the caller is off; where the store fails at once it leaves.
 abbrev pub HearsRejection : Type 0
 HearsRejection = (plan : Network) (certificate : Certificate) (w : World) (number : ℕ) (link : Link) (k : Channel) (s : Desk) →
@@ -203,7 +199,7 @@ HearsStore = (plan : Network) (certificate : Certificate) → IsCertified plan c
 abbrev pub HearsReply : Type 0
 HearsReply = (plan : Network) (certificate : Certificate) → IsCertified plan certificate → (w : World) (number : ℕ) (link : Link) (k : Channel) (s : Desk) →
     IsLink w number link → IsDeskOf w link.caller s → ShowsLink plan certificate k link → link.caller_connected ≡ true → (accepted : Contexts) (item : Instance) (status : ℕ) → link.stage ≡ Replying accepted item status →
-    (moment : Moment) → moment.now ≡ w.time → (n : ℕ) (front : Pdu) (new : Feeding) (x : Effect) (t : Desk) → (IsControl front → ⊥) →
+    (moment : Moment) → moment.now ≡ w.time → (n : ℕ) (front : Pdu) (new : Feeding) (x : Effect) (t : Desk) →
     IsFirst k.caller k.to_caller front → k.caller.ear.kept ++ take n k.to_caller ≡ written front →
     PlaysBytes (LedgerStep plan link.caller) moment k.caller.ear k.caller.core (take n k.to_caller) s new x t →
     ((answer : Answer) × Happens plan certificate w number (Answered number answer) link.caller t (caller_read k n new x))

@@ -1,7 +1,7 @@
 //! What ends do with bytes is what the message world's events do.
 #![tactic(auto)]
 
-ghost use Rattle.dr_tie.specs.Ties.{HearsNothing, AgreesAtReceiver, CallerLeaves, ReceiverLeaves, ReceiverHearsControl, CallerHearsControl, AgreesAtCaller, HearsStore, HearsReply, PushGives, LateAtCaller, LateAtReceiver, ReleaseLeaves, OffStaysOff, PiecesMakeCommands, PiecesMakeStores, HearsAcceptance, OpensAreAsks, RestartLeaves, GivesStore, HearsRejection};
+ghost use Rattle.dr_tie.specs.Ties.{ReceiverHearsNothing, CallerHearsNothing, AgreesAtReceiver, CallerLeaves, ReceiverLeaves, ReceiverHearsControl, CallerHearsControl, HearsStore, HearsReply, PushGives, LateAtCaller, LateAtReceiver, ReleaseLeaves, OffStaysOff, PiecesMakeCommands, PiecesMakeStores, HearsAcceptance, OpensAreAsks, RestartLeaves, GivesStore, HearsRejection};
 
 ghost use Rattle.dr_tie.specs.Desks.{SiteStepsArePlanSteps};
 
@@ -9,7 +9,8 @@ use dr_session::DeskPort;
 
 /// Bytes that end no PDU are no event.
 pub fn hears_nothing<P: DeskPort>()
-    ensures { HearsNothing P.step }
+    ensures receiver { ReceiverHearsNothing P.step }
+    ensures caller { CallerHearsNothing P.step }
 {}
 
 /// The request's last byte is the receiver's agreement.
