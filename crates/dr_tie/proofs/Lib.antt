@@ -8,6 +8,7 @@ pub mod ContextSets
 pub mod Fragments
 pub mod Fronts
 pub mod Giving
+pub mod Moves
 pub mod Moving
 pub mod Opening
 pub mod Pushing

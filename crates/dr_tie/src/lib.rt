@@ -4,6 +4,7 @@
 ghost use Rattle.dr_tie.specs.Ties.{ReceiverHearsNothing, CallerHearsNothing, AgreesAtReceiver, CallerLeaves, ReceiverLeaves, ReceiverHearsControl, CallerHearsControl, HearsStore, HearsReply, PushGives, LateAtCaller, LateAtReceiver, ReleaseLeaves, OffStaysOff, PiecesMakeCommands, PiecesMakeStores, HearsAcceptance, OpensAreAsks, RestartLeaves, GivesStore, HearsRejection};
 
 ghost use Rattle.dr_tie.specs.Desks.{SiteStepsArePlanSteps};
+ghost use Rattle.dr_tie.specs.Moves.{ReceiverMoves, CallerMoves};
 
 use dr_session::DeskPort;
 
@@ -82,4 +83,10 @@ pub fn pushes_give()
 /// A rejection is heard: the first row that is due is settled as broken.
 pub fn hears_rejections()
     ensures { HearsRejection }
+{}
+
+/// Bytes that are moved from a wire to an end that is on are an event where they end one, or else nothing.
+pub fn moves_are_events()
+    ensures receiver { ReceiverMoves }
+    ensures caller { CallerMoves }
 {}
