@@ -24,6 +24,7 @@ use Rattle.dr_pdu.specs.declared.pdu.Pdu.{Pdu}
 use Rattle.dr_pdu.specs.declared.pdu.Pdu.TheVariants as pdu
 use Rattle.dr_pdu.proofs.WrittenLemmas.{others_fit}
 use Rattle.dr_pdu.specs.Feeding.{Feeding}
+use Rattle.dr_dimse.specs.Taking.{data_of}
 use Rattle.dr_ledger.specs.declared.item.Instance.{Instance}
 use Rattle.dr_ledger.specs.declared.item.Outcome.TheVariants.{Broken}
 use Rattle.dr_ledger.specs.declared.fault.LedgerFault.TheVariants as fault
@@ -331,5 +332,5 @@ release_leaves plan certificate w number link k s here desk shows on accepted is
     caller_gone plan certificate w number link k s here desk shows on k.caller.ear k.to_caller refl x t None (pdu.ReleaseRq ∷ [])
     (subst (λ (st : Stage). Does plan link.caller k.caller.core w.time (pending_of st) None s t) (sym is_open) same)
     (ap (λ (y : Effect). y.core.site) e) (ap (λ (y : Effect). y.core.peer) e) (ap (λ (y : Effect). y.core.proposed) e)
-    (subst (λ (y : Effect). IsOff y.core true) (sym e) (at_open.1, inr (inl (moved at.0 Sta7 moment.now, refl, at.2, refl))))
+    (subst (λ (y : Effect). IsOff y.core true) (sym e) (at_open.1, inr (inl (refl, inl (moved at.0 Sta7 moment.now, refl, at.2, refl), at_open.2, ap data_of at_open.3))))
     (ap (λ (y : Effect). bytes_of y.acts) e ∙ append-nil (spellings (pdu.ReleaseRq ∷ []))) (tt, tt) (release_fits k.receiver.ear.limit)

@@ -98,7 +98,7 @@ front_control t wire n front (p ∷ ps) controls control first whole none joined
 abbrev AsInput : Pdu → Input → Type 0
 AsInput p i = (inputs_of p ≡ i ∷ []) × (event_of_input i ≡ None)
 
-close_fits : (limit : ℕ) → AreFit limit (pdu.ReleaseRp ∷ [])
+pub close_fits : (limit : ℕ) → AreFit limit (pdu.ReleaseRp ∷ [])
 close_fits limit = ((others_fit pdu.ReleaseRp (λ a e. cc) (λ a e. cc) (λ a e. cc), tt), tt)
 
 module _ (plan : Network) (certificate : Certificate) (w : World) (number : ℕ) (link : Link) (k : Channel) (s : Desk) (here : IsLink w number link) (desk : IsDeskOf w link.receiver s) (shows : ShowsLink plan certificate k link) (on : link.receiver_connected ≡ true)

@@ -10,6 +10,7 @@ pub mod Fronts
 pub mod Giving
 pub mod Moves
 pub mod Moving
+pub mod Off
 pub mod Opening
 pub mod Pushing
 pub mod Rejections

@@ -11,7 +11,7 @@ use Rattle.dr_network.specs.Networks.{Network}
 use Rattle.dr_sound.specs.declared.certificate.Certificate.{Certificate}
 use Rattle.dr_site.specs.Parts.{Part, IsPartOf, hops_to}
 use Rattle.dr_ulstate.specs.declared.table.State.{State}
-use Rattle.dr_ulstate.specs.declared.table.State.TheVariants.{Sta1, Sta2, Sta5, Sta6, Sta7, Sta13}
+use Rattle.dr_ulstate.specs.declared.table.State.TheVariants.{Sta2, Sta5, Sta6, Sta7, Sta11, Sta13}
 use Rattle.dr_ulstate.specs.Phases.{standing_of, may_send}
 use Rattle.dr_ulstate.specs.Standing.{Standing}
 use Rattle.dr_pdu.specs.declared.pdu.Pdu.{Pdu}
@@ -30,7 +30,7 @@ use Rattle.dr_dimse.specs.declared.command.Command.{Command}
 use Rattle.dr_dimse.specs.declared.message.Body.{Body}
 use Rattle.dr_dimse.specs.declared.command.Command.TheVariants.{StoreRq, StoreRsp}
 use Rattle.dr_dimse.specs.Commands.{status_of}
-use Rattle.dr_dimse.specs.Taking.{Stage as Taken, Idle, Takes}
+use Rattle.dr_dimse.specs.Taking.{Stage as Taken, Idle, Takes, data_of}
 use Rattle.dr_ledger.specs.declared.item.Instance.{Instance}
 use Rattle.dr_nego.specs.declared.agreed.Pair.{Pair}
 use Rattle.dr_nego.specs.declared.agreed.Agreed.{Agreed}
@@ -96,9 +96,13 @@ contexts_of (x ∷ xs) = with_context x.class (syntaxes_named x.syntax) (context
 abbrev pub IsAt : Core → Bool → State → Type 0
 IsAt c requestor state = (a : Standing) × (standing_of c.phase ≡ Some a) × (a.requestor ≡ requestor) × (a.state ≡ state)
 
+-- a requestor that has asked for the release awaits no message, and no data set is under way
+abbrev pub IsReleasing : Core → Bool → Type 0
+IsReleasing c requestor = (requestor ≡ true) × (IsAt c true Sta7 ⊎ IsAt c true Sta11) × (c.assembly.awaited ≡ Nothing) × (data_of c.assembly.stage ≡ None)
+
 -- an end that is off: over, or on its way there, with nothing pending
 abbrev pub IsOff : Core → Bool → Type 0
-IsOff c requestor = (c.pending ≡ None) × ((standing_of c.phase ≡ None) ⊎ (IsAt c requestor Sta7 ⊎ IsAt c requestor Sta13))
+IsOff c requestor = (c.pending ≡ None) × ((standing_of c.phase ≡ None) ⊎ (IsReleasing c requestor ⊎ IsAt c requestor Sta13))
 
 -- it awaits an answer to its proposal
 abbrev pub IsAsking : Core → Text → Type 0

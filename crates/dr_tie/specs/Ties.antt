@@ -239,9 +239,25 @@ LateAtReceiver = (plan : Network) (certificate : Certificate) (w : World) (numbe
     (moment : Moment) → moment.now ≡ w.time → (x : Effect) (t : Desk) → Reacts (LedgerStep plan link.receiver) k.receiver.core (at_moment moment Late) s x t →
     Happens plan certificate w number (BreakReceiver number) link.receiver t (receiver_did k x) ⊎ ((t ≡ s) × (x ≡ effect [] k.receiver.core))
 
+-- what an end that is off does: it stays off, of the same node and with the same peer, and writes at most what one writes that leaves
+abbrev pub StaysOff : Core → Bool → Effect → Type 0
+StaysOff c requestor x = IsOff x.core requestor × (x.core.site ≡ c.site) × (x.core.peer ≡ c.peer) × (x.core.proposed ≡ c.proposed)
+    × ((pdus : List Pdu) × (bytes_of x.acts ≡ spellings pdus) × AllByRecursion IsControl pdus × ((limit : ℕ) → AllByRecursion (λ p. Fits p × MeetsLimit limit p) pdus))
+
 -- An end that is off: whatever it is told, it calls nothing and stays off.
 abbrev pub OffStaysOff : {S : Type 0} → (S → DeskCall → DeskAnswer → S → Type 0) → Type 0
-OffStaysOff {S} step = (c : Core) (requestor : Bool) → IsOff c requestor → (i : At) (s u : S) (x : Effect) → Reacts step c i s x u → (u ≡ s) × IsOff x.core requestor
+OffStaysOff {S} step = (c : Core) (requestor : Bool) → IsOff c requestor → (i : At) (s u : S) (x : Effect) → Reacts step c i s x u → (u ≡ s) × StaysOff c requestor x
+
+-- So what it hears and is asked is no event: the channel is the same link.
+abbrev pub OffCallerIsNoEvent : {S : Type 0} → (S → DeskCall → DeskAnswer → S → Type 0) → Type 0
+OffCallerIsNoEvent {S} step = (plan : Network) (certificate : Certificate) (link : Link) (k : Channel) → ShowsLink plan certificate k link → link.caller_connected ≡ false → (s u : S) (x : Effect) →
+    ((i : At) → Reacts step k.caller.core i s x u → (u ≡ s) × ShowsLink plan certificate (caller_did k x) link)
+    × ((moment : Moment) (n : ℕ) (new : Feeding) → PlaysBytes step moment k.caller.ear k.caller.core (take n k.to_caller) s new x u → (u ≡ s) × ShowsLink plan certificate (caller_read k n new x) link)
+
+abbrev pub OffReceiverIsNoEvent : {S : Type 0} → (S → DeskCall → DeskAnswer → S → Type 0) → Type 0
+OffReceiverIsNoEvent {S} step = (plan : Network) (certificate : Certificate) (link : Link) (k : Channel) → ShowsLink plan certificate k link → link.receiver_connected ≡ false → (s u : S) (x : Effect) →
+    ((i : At) → Reacts step k.receiver.core i s x u → (u ≡ s) × ShowsLink plan certificate (receiver_did k x) link)
+    × ((moment : Moment) (n : ℕ) (new : Feeding) → PlaysBytes step moment k.receiver.ear k.receiver.core (take n k.to_receiver) s new x u → (u ≡ s) × ShowsLink plan certificate (receiver_read k n new x) link)
 
 -- ---- a restart
 

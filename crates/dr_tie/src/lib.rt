@@ -90,3 +90,8 @@ pub fn moves_are_events()
     ensures receiver { ReceiverMoves }
     ensures caller { CallerMoves }
 {}
+
+/// An end that is off calls nothing and stays off, whatever it hears and is asked.
+pub fn stays_off<P: DeskPort>()
+    ensures { OffStaysOff P.step }
+{}
