@@ -115,7 +115,7 @@ left_of plan name (Some item) now acts c s t x (id, has) h =
 
 -- ---- the wire to the receiver
 
-still_coming : (stage : Stage) (receiver : Text) (old new c : Core) (pdus : List Pdu) → new.proposed ≡ old.proposed → new.site ≡ old.site → new.pending ≡ None → ToReceiver stage receiver old c pdus → ToReceiver stage receiver new c pdus
+pub still_coming : (stage : Stage) (receiver : Text) (old new c : Core) (pdus : List Pdu) → new.proposed ≡ old.proposed → new.site ≡ old.site → new.pending ≡ None → ToReceiver stage receiver old c pdus → ToReceiver stage receiver new c pdus
 still_coming Asking receiver old new c pdus p s none (rq, has, is, e) = (rq, p ∙ has, subst (λ (z : Option Part). Rattle.dr_nego.specs.Proposing.IsProposal (site_in z) receiver rq) (sym s) is, e)
 still_coming (Answering accepted) receiver old new c pdus p s none h = h
 still_coming Rejecting receiver old new c pdus p s none h = h
@@ -124,7 +124,7 @@ still_coming (Storing accepted item) receiver old new c pdus p s none (job, same
 still_coming (Replying accepted item status) receiver old new c pdus p s none h = h
 still_coming Gone receiver old new c pdus p s none h = h
 
-carries_map : (t : Terminal) (wire : List ℕ) (P Q : List Pdu → Type 0) (b : Bool) → ((l : List Pdu) → P l → Q l) → Carries t wire P b → Carries t wire Q b
+pub carries_map : (t : Terminal) (wire : List ℕ) (P Q : List Pdu → Type 0) (b : Bool) → ((l : List Pdu) → P l → Q l) → Carries t wire P b → Carries t wire Q b
 carries_map t wire P Q b f c = record { coming = c.coming; is = f c.coming c.is; controls = c.controls; joined = c.joined; works = c.works; waits = c.waits; fits = c.fits; control = c.control; none = c.none }
 
 -- ---- who is armed

@@ -1,4 +1,5 @@
 pub mod Acceptances
+pub mod Closing
 pub mod Controls
 pub mod CallerLeaving
 pub mod Carrying
@@ -10,6 +11,7 @@ pub mod Fronts
 pub mod Giving
 pub mod Moves
 pub mod Moving
+pub mod Nodes
 pub mod Off
 pub mod Opening
 pub mod Pushing

@@ -20,7 +20,7 @@ use Rattle.dr_session.specs.Desks.{DeskCall, DeskAnswer, Arrive, Next, Settle, A
 use Rattle.dr_session.specs.Ledgers.{Desk, RoutedStep}
 use Rattle.dr_tie.specs.Desks.{ArmedBy, LedgerStep, SiteStepsArePlanSteps}
 
-armed_by : {A : Type 0} (W V : Type 0) (old new : Bool) (reply : Result A LedgerFault) → (W → V) → Arms W old reply new → ArmedBy V old (store_outcome_of reply) new
+pub armed_by : {A : Type 0} (W V : Type 0) (old new : Bool) (reply : Result A LedgerFault) → (W → V) → Arms W old reply new → ArmedBy V old (store_outcome_of reply) new
 armed_by W V old new (Ok value) f h = (h.0, h.1 ∙ sym h.0)
 armed_by W V old new (Err fault.Store) f (inl same) = inl same
 armed_by W V old new (Err fault.Store) f (inr (would, was, now)) = inr (f would, was, now)

@@ -1,9 +1,11 @@
 //! What ends do with bytes is what the message world's events do.
 #![tactic(auto)]
 
-ghost use Rattle.dr_tie.specs.Ties.{ReceiverHearsNothing, CallerHearsNothing, AgreesAtReceiver, CallerLeaves, ReceiverLeaves, ReceiverHearsControl, CallerHearsControl, HearsStore, HearsReply, PushGives, LateAtCaller, LateAtReceiver, ReleaseLeaves, OffStaysOff, PiecesMakeCommands, PiecesMakeStores, HearsAcceptance, OpensAreAsks, RestartLeaves, GivesStore, HearsRejection};
+ghost use Rattle.dr_tie.specs.Ties.{ReceiverHearsNothing, CallerHearsNothing, AgreesAtReceiver, CallerLeaves, ReceiverLeaves, ReceiverHearsControl, CallerHearsControl, HearsStore, HearsReply, PushGives, LateAtCaller, LateAtReceiver, ReleaseLeaves, OffStaysOff, OffCallerIsNoEvent, OffReceiverIsNoEvent, PiecesMakeCommands, PiecesMakeStores, HearsAcceptance, OpensAreAsks, RestartLeaves, GivesStore, HearsRejection};
 
+ghost use Rattle.dr_tie.specs.Closing.{ClosingIsClose};
 ghost use Rattle.dr_tie.specs.Desks.{SiteStepsArePlanSteps};
+ghost use Rattle.dr_tie.specs.Nodes.{SubmittingTakes, RequeueingIsRequeue, RefusingIsRefuse, TimePasses};
 ghost use Rattle.dr_tie.specs.Moves.{ReceiverMoves, CallerMoves};
 
 use dr_session::DeskPort;
@@ -93,5 +95,20 @@ pub fn moves_are_events()
 
 /// An end that is off calls nothing and stays off, whatever it hears and is asked.
 pub fn stays_off<P: DeskPort>()
-    ensures { OffStaysOff P.step }
+    ensures off { OffStaysOff P.step }
+    ensures caller { OffCallerIsNoEvent P.step }
+    ensures receiver { OffReceiverIsNoEvent P.step }
+{}
+
+/// Closing a link at both ends is its close.
+pub fn closes()
+    ensures { ClosingIsClose }
+{}
+
+/// What is done at a node alone is the event of that node, and time passes for all.
+pub fn nodes_act()
+    ensures submitting { SubmittingTakes }
+    ensures requeueing { RequeueingIsRequeue }
+    ensures refusing { RefusingIsRefuse }
+    ensures time { TimePasses }
 {}
