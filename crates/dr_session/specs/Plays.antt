@@ -54,6 +54,10 @@ Plays step c [] s acts d t = (acts ≡ []) × (d ≡ c) × (t ≡ s)
 Plays step c (i ∷ is) s acts d t =
     (x : Effect) × (m : _) × (later : List LinkAction) × Reacts step c i s x m × Plays step x.core is m later d t × (acts ≡ x.acts ++ later)
 
+-- one more input behind what was done, and all that is written
+abbrev pub PlaysMore : {S : Type 0} → (S → DeskCall → DeskAnswer → S → Type 0) → Effect → At → S → Effect → S → Type 0
+PlaysMore step first i s x t = (more : List LinkAction) × Plays step first.core (i ∷ []) s more x.core t × (x.acts ≡ first.acts ++ more)
+
 -- the inputs were left on the way, as memory ended: some first ones were done, and the next one was left on the way
 abbrev pub BreaksOff : {S : Type 0} → (S → DeskCall → DeskAnswer → S → Type 0) → Core → List At → S → S → Type 0
 BreaksOff step c [] s t = t ≡ s

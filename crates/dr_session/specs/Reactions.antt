@@ -1,5 +1,6 @@
 -- What one end does at each event: the table's action (PS3.8 section 9.2), the services behind it, and the calls on the desk.
 use Rattle.std.specs.Prelude.{◌≡◌, ℕ, ◌+◌, ◌<◌, ◌==◌, length, ◌&&◌, ◌||◌, nat_le, not, Bool, true, false, List, [], ◌∷◌, ◌++◌, if◌then◌else◌, find, option_map, Option, Some, None, is_some, Result, Ok, Err}
+use Rattle.std.specs.List.{list_all}
 use Rattle.std.specs.Option.{option_map_or}
 use Rattle.std.specs.Str.{bytes_eq}
 use Rattle.dr_base.specs.Texts.{Text}
@@ -269,8 +270,23 @@ abbrev pub gives : Option Agreed → Moment → Job → Core → Reaction
 gives (Some agreed) at item c = gives_in (context_for agreed item.key.class (syntax_uid item.key.syntax)) agreed at item c
 gives None at item c = quiet c
 
+-- 1 to 64 bytes, each from 21H to 7EH
+abbrev pub is_graphic : ℕ → Bool
+is_graphic b = nat_le 0x21 b && nat_le b 0x7E
+
+abbrev pub is_uid : Text → Bool
+is_uid uid = nat_le 1 (length uid) && (nat_le (length uid) 64 && list_all is_graphic uid)
+
+-- a C-STORE-RQ can name the instance and its class
+abbrev pub can_be_named : Job → Bool
+can_be_named item = is_uid item.key.class && is_uid item.uid
+
+-- a desk that hands out what can't be named has failed
+abbrev pub hands : Moment → Core → Job → Reaction
+hands at c item = if can_be_named item then gives c.agreed at item c else aborts_desk at c
+
 abbrev pub due : Moment → Core → Result (Option Job) LedgerFault → Reaction
-due at c (Ok (Some item)) = gives c.agreed at item c
+due at c (Ok (Some item)) = hands at c item
 due at c (Ok None) = quiet (dried c)
 due at c (Err fault.Memory) = Fails
 due at c (Err why) = aborts_desk at c
@@ -353,6 +369,10 @@ abbrev pub has_waited : Option ℕ → ℕ → Bool
 has_waited None now = false
 has_waited (Some since) now = nat_le (since + 60000) now
 
+-- a requestor that has awaited an answer for so long
+abbrev pub is_impatient : Core → ℕ → Bool
+is_impatient c now = is_requestor c && has_waited c.awaits now
+
 abbrev pub event_of_plain : Input → Moment → Core → Option Event
 event_of_plain (Request rq) at c = Some AssociateRqPdu
 event_of_plain (Acceptance ac) at c = Some AssociateAcPdu
@@ -366,7 +386,7 @@ event_of_plain Unknown at c = Some InvalidPdu
 event_of_plain Invalid at c = Some InvalidPdu
 event_of_plain Ended at c = Some TransportClosed
 event_of_plain Late at c =
-    if next_expired c.phase at.now then Some ArtimExpired else if is_requestor c && has_waited c.awaits at.now then Some AbortRequest else None
+    if next_expired c.phase at.now then Some ArtimExpired else if is_impatient c at.now then Some AbortRequest else None
 event_of_plain AbortAsked at c = Some AbortRequest
 event_of_plain ReleaseAsked at c = if is_idle c then Some ReleaseRequest else None
 event_of_plain PushAsked at c = if is_ready c then Some DataRequest else None

@@ -2,6 +2,7 @@
 #![tactic(auto)]
 
 pub mod ends;
+pub mod laws;
 pub mod listening;
 pub mod port;
 pub mod sessions;
