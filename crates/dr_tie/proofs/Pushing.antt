@@ -33,7 +33,7 @@ use Rattle.dr_session.specs.Ledgers.{Hands}
 use Rattle.dr_nego.specs.Fragments.{spellings}
 use Rattle.dr_session.specs.declared.ends.Moment.{Moment}
 use Rattle.dr_nego.specs.Agreeing.{context_for, is_for}
-use Rattle.dr_session.specs.Reactions.{aborted, aborts_desk, abort_pdu, desk_failed, due, event_of, gives, is_idle, is_ready, is_requestor, job, left, quiet, settling, stepped_by, awaiting, effect, gives_in, id_after, pending, store_pdus, write}
+use Rattle.dr_session.specs.Reactions.{can_be_named, aborted, aborts_desk, abort_pdu, desk_failed, due, event_of, gives, is_idle, is_ready, is_requestor, job, left, quiet, settling, stepped_by, awaiting, effect, gives_in, id_after, pending, store_pdus, write}
 use Rattle.dr_session.specs.Turns.{Turns, Ends}
 use Rattle.dr_tie.specs.Desks.{Desk, LedgerStep}
 use Rattle.dr_tie.specs.Channels.{IsOff, bytes_of, Brings, Channel, Carries, ShowsLink, ToCaller, ToReceiver, IsAt, IsCaller, IsReceiver, contexts_of, site_of}
@@ -61,6 +61,8 @@ use Rattle.dr_session.specs.declared.ends.Pending.{Pending}
 use Rattle.dr_session.specs.declared.ends.Told.TheVariants.{Plain}
 use Rattle.dr_session.specs.Desks.{DeskCall, DeskAnswer, Next, Settle, Arrival, Upcoming, Settling}
 use Rattle.dr_session.specs.Plays.{Reacts, at_moment}
+use Rattle.dr_session.proofs.Named.{items_are_named}
+use Rattle.std.proofs.Math.Logic.{∥∥₁_elim}
 use Rattle.dr_tie.proofs.CallerLeaving.{Does, caller_gone}
 use Rattle.dr_tie.proofs.Giving.{happens}
 use Rattle.dr_tie.proofs.Responses.{Settled, settled}
@@ -254,8 +256,13 @@ module _ (plan : Network) (certificate : Certificate) (w : World) (number : ℕ)
   by_next (Settling r) m one h = absurd one
   by_next (Upcoming (Ok None)) m one h = inr (inr (h.1 ∙ one.1, subst (λ (y : Effect). ShowsLink plan certificate (caller_did k y) link) (sym h.0) (goes_on_as true link is_link), λ item next. (let n = next_was item next in one.0 item.uid n.due n.row)))
   by_next (Upcoming (Ok (Some one_job))) m one h =
+      let named : can_be_named one_job ≡ true = elim (cases_Bool (can_be_named one_job)) [
+        | inl yes_it_can ↦ yes_it_can
+        | inr it_cannot ↦ absurd (∥∥₁_elim one.0.1 (λ a b. absurd a) (λ is. false≢true (sym it_cannot ∙ items_are_named one_job is)))
+      ] in
+      let h1 : Turns cstep (gives core.agreed moment one_job core) m x t = subst (λ (b : Bool). Turns cstep (if b then gives core.agreed moment one_job core else aborts_desk moment core) m x t) named h in
       let g : Turns cstep (gives (Some agreed) moment one_job core) s x t = subst (λ (d : Desk). Turns cstep (gives (Some agreed) moment one_job core) d x t) one.1
-          (subst (λ (o : Option Agreed). Turns cstep (gives o moment one_job core) m x t) at_open.0.1.1 h) in
+          (subst (λ (o : Option Agreed). Turns cstep (gives o moment one_job core) m x t) at_open.0.1.1 h1) in
       by_context one_job one.0 (context_for agreed one_job.key.class (syntax_uid one_job.key.syntax)) refl g
   by_next (Upcoming (Err fault.Store)) m one h = breaks h.0 (h.1 ∙ one.1)
   by_next (Upcoming (Err fault.Memory)) m one h = absurd h
