@@ -1,4 +1,5 @@
 pub mod Desks
+pub mod Ends
 pub mod Ledgers
 pub mod Fits
 pub mod Messages

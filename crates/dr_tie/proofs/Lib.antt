@@ -13,6 +13,7 @@ pub mod Moves
 pub mod Moving
 pub mod Nodes
 pub mod Off
+pub mod Others
 pub mod Opening
 pub mod Pushing
 pub mod Rejections
@@ -20,5 +21,7 @@ pub mod Requests
 pub mod Responses
 pub mod Restarting
 pub mod Sites
+pub mod Shown
 pub mod Stores
 pub mod Values
+pub mod World

@@ -25,7 +25,7 @@ abbrev AreDesks : World → (Text → Desk) → Type 0
 AreDesks w desks = (name : Text) → IsDeskOf w name (desks name)
 
 -- the desks after one node's call
-desks_after : (w v : World) (number : ℕ) (caller : Text) (desks : Text → Desk) (t : Desk) → AreDesks w desks → IsDeskOf v caller t → OnlyHere w v number caller → AreDesks v (with_desk desks caller t)
+pub desks_after : (w v : World) (number : ℕ) (caller : Text) (desks : Text → Desk) (t : Desk) → AreDesks w desks → IsDeskOf v caller t → OnlyHere w v number caller → AreDesks v (with_desk desks caller t)
 desks_after w v number caller desks t all here only name = elim (same_or_not texts name caller) [
   | inl same ↦ subst (λ (n : Text). IsDeskOf v n (with_desk desks caller t n)) (sym same)
       (subst (λ (b : Bool). IsDeskOf v caller (if b then t else desks caller)) (sym (ties_itself texts caller)) here)

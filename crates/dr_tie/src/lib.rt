@@ -1,6 +1,7 @@
 //! What ends do with bytes is what the message world's events do.
 #![tactic(auto)]
 
+ghost use Rattle.dr_tie.specs.Shown.{WorldStepsAreEvents, RunsKeepTheHeadline};
 ghost use Rattle.dr_tie.specs.Ties.{ReceiverHearsNothing, CallerHearsNothing, AgreesAtReceiver, CallerLeaves, ReceiverLeaves, ReceiverHearsControl, CallerHearsControl, HearsStore, HearsReply, PushGives, LateAtCaller, LateAtReceiver, ReleaseLeaves, OffStaysOff, OffCallerIsNoEvent, OffReceiverIsNoEvent, PiecesMakeCommands, PiecesMakeStores, HearsAcceptance, OpensAreAsks, RestartLeaves, GivesStore, HearsRejection};
 
 ghost use Rattle.dr_tie.specs.Closing.{ClosingIsClose};
@@ -111,4 +112,14 @@ pub fn nodes_act()
     ensures requeueing { RequeueingIsRequeue }
     ensures refusing { RefusingIsRefuse }
     ensures time { TimePasses }
+{}
+
+/// A step of a whole world of bytes is an event of the message world beside it, or none.
+pub fn world_steps_are_events()
+    ensures { WorldStepsAreEvents }
+{}
+
+/// After any steps from the beginning the headline's four claims hold of the books.
+pub fn runs_keep_the_headline()
+    ensures { RunsKeepTheHeadline }
 {}
