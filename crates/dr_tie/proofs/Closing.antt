@@ -134,7 +134,7 @@ off_receiver_is_no_event step plan certificate link k shows off s u x = (
 same_link : (a b : Link) → Some a ≡ Some b → a ≡ b
 same_link a b e = cc
 
-same_world_link : (w : World) (number : ℕ) (a b : Link) → IsLink w number a → IsLink w number b → a ≡ b
+pub same_world_link : (w : World) (number : ℕ) (a b : Link) → IsLink w number a → IsLink w number b → a ≡ b
 same_world_link w number a b ha hb = same_link a b (sym ha ∙ hb)
 
 -- after a caller left, its link

@@ -19,6 +19,7 @@ pub mod Pushing
 pub mod Rejections
 pub mod Requests
 pub mod Responses
+pub mod Restarted
 pub mod Restarting
 pub mod Sites
 pub mod Shown

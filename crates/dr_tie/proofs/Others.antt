@@ -71,7 +71,7 @@ open_there stage caller c h (opened accepted) = ap is_open (state_is c false Sta
 open_there stage caller c h (storing accepted item) = ap is_open (state_is c false Sta6 h.0.0)
 open_there stage caller c h (replying accepted item status) = ap is_open (state_is c false Sta6 h.0.0.0)
 
-as_pairs : (xs : List ℕ) → IsStrictlySortedBy nat_cmp xs → AllPairs (λ p q. nat_cmp p q ≡ Less) xs
+pub as_pairs : (xs : List ℕ) → IsStrictlySortedBy nat_cmp xs → AllPairs (λ p q. nat_cmp p q ≡ Less) xs
 unfolding IsStrictlySortedBy
 as_pairs [] h = λ i j d before inside. absurd (omega (arith, inside))
 as_pairs (x ∷ xs) h = AllPairs-cons (λ p q. nat_cmp p q ≡ Less) x xs (All-from_recursion (λ (y : ℕ). nat_cmp x y ≡ Less) xs h.0) (as_pairs xs h.1)

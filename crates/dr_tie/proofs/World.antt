@@ -1,4 +1,4 @@
--- A whole world of bytes: every step of it but a restart, and runs of such steps.
+-- A whole world of bytes: each step of it, and runs of steps.
 use Rattle.std.proofs.Common.{◌≡◌, ◌≢◌, ℕ, ◌+◌, ◌≤◌, ◌^◌, Bool, true, false, List, [], ◌∷◌, Option, Some, None, Result, Ok, Err, refl, sym, ap, subst, ◌∙◌, inl, inr, ◌⊎◌, arith}
 use Rattle.std.proofs.Math.Logic.{∥∥₁_map, ∥∥₁_elim, ∥∥₁_prop}
 use Rattle.std.specs.Prelude.{min, not, ◌&&◌}
@@ -38,6 +38,7 @@ use Rattle.dr_tie.specs.ByteWorlds.{ByteWorld, beginning, WorldStep, Submit, Ope
 use Rattle.dr_tie.specs.Shown.{Shows, ShowsAt, Comes, IsNamed, WorldStepsAreEvents, RunsOf, RunsKeepTheHeadline}
 use Rattle.dr_tie.proofs.Others.{shown_link}
 use Rattle.dr_site.proofs.Assembled.{is_site}
+use Rattle.dr_tie.proofs.Restarted.{restarted}
 use Rattle.dr_tie.proofs.Restarting.{desks_after}
 use Rattle.dr_tie.proofs.Opening.{opens_are_asks}
 use Rattle.dr_tie.proofs.Nodes.{submitting_takes, requeueing_is_requeue, refusing_is_refuse}
@@ -143,7 +144,8 @@ module _ (plan : Network) (certificate : Certificate) (certified : IsCertified p
   each (Tick ms) (noted, is) =
       ∣ (passed w ms, inr (event.Tick ms, refl, refl), subst (λ (z : ByteWorld). Shows plan certificate z (passed w ms)) (sym is)
           (record { time = ap (λ (n : ℕ). min (n + ms) (2 ^ 62)) s.time; opened = s.opened; desks = s.desks; links = s.links })) ∣₁
-  each (Restart node) h = absurd h
+  each (Restart node) (inr h) = ∣ skips plan certificate (Restart node) b new w note s h.1 ∣₁
+  each (Restart node) (inl (is_node, (noted, h))) = (let r = restarted plan certificate b node w s new h in ∣ (r.0, inr (event.Restart node r.1, refl, r.2), r.3) ∣₁)
 
 pub world_steps : WorldStepsAreEvents
 world_steps plan certificate certified b new w step note s h = each plan certificate certified b new w note s step h

@@ -34,6 +34,7 @@ use Rattle.dr_session.specs.Ends.{accepting, requesting, is_gone}
 use Rattle.dr_session.specs.Ledgers.{desk}
 use Rattle.dr_session.specs.Plays.{Reacts, PlaysBytes, at_moment}
 use Rattle.dr_session.specs.Reactions.{is_idle, is_ready, is_impatient}
+use Rattle.dr_model.specs.Worlds.{same_text}
 use Rattle.dr_model.specs.Calls.{Reply, Answer}
 use Rattle.dr_model.specs.Events.{HasNode}
 use Rattle.dr_tie.specs.Desks.{Desk, LedgerStep}
@@ -215,7 +216,39 @@ note_of (Err fault) = Refused fault
 abbrev pub NodeStep : Network → Text → ByteWorld → StepNote → ByteWorld → Type 0 → Type 0
 NodeStep plan name b note new What = (HasNode plan name × What) ⊎ ((HasNode plan name → ⊥) × Skips b note new)
 
--- ---- each step but the restart
+-- ---- a restart
+
+-- the node has an end of the link
+abbrev pub is_there : Text → Option Channel → Bool
+is_there node None = false
+is_there node (Some k) = same_text (caller_of k) node || same_text (receiver_of k) node
+
+-- the links of the node, each once and by rising numbers
+abbrev pub AreLinksOf : ByteWorld → Text → List ℕ → Type 0
+AreLinksOf b node all = IsStrictlySortedBy nat_cmp all × ((number : ℕ) → Contains all number ↔ (is_there node (map.get b.links number) ≡ true))
+
+-- The far end of a link of the node has its connection ended: the requestor of a link at which the node is called, or else its acceptor.
+abbrev pub FarEnds : Network → ℕ → Bool → Channel → (Text → Desk) → (Text → Desk) → Type 0
+FarEnds plan now true k desks new = (at : Moment) × (x : Effect) × (t : Desk) × (at.now ≡ now)
+    × IsEnded (LedgerStep plan (caller_of k)) k.caller.core at (desks (caller_of k)) x t × (new ≡ with_desk desks (caller_of k) t)
+FarEnds plan now false k desks new = (at : Moment) × (y : Effect) × (u : Desk) × (at.now ≡ now)
+    × IsEnded (LedgerStep plan (receiver_of k)) k.receiver.core at (desks (receiver_of k)) y u × (new ≡ with_desk desks (receiver_of k) u)
+
+abbrev pub FarEndsOf : Network → ByteWorld → Text → Option Channel → (Text → Desk) → (Text → Desk) → Type 0
+FarEndsOf plan b node None desks new = new ≡ desks
+FarEndsOf plan b node (Some k) desks new = FarEnds plan b.time (same_text (receiver_of k) node) k desks new
+
+-- one link after the other
+abbrev pub AllFarEnd : Network → ByteWorld → Text → List ℕ → (Text → Desk) → (Text → Desk) → Type 0
+AllFarEnd plan b node [] desks new = new ≡ desks
+AllFarEnd plan b node (number ∷ more) desks new = (mid : Text → Desk) × FarEndsOf plan b node (map.get b.links number) desks mid × AllFarEnd plan b node more mid new
+
+-- its links are gone with all that was on their wires; its book stays
+abbrev pub Restarts : Network → ByteWorld → Text → ByteWorld → Type 0
+Restarts plan b node new = (numbers : List ℕ) × (desks : Text → Desk) × AreLinksOf b node numbers × AllFarEnd plan b node numbers b.desks desks
+    × (new ≡ record { time = b.time; desks = desks; links = map.retain_keys b.links (λ number. not (is_there node (map.get b.links number))); opened = b.opened })
+
+-- ---- each step
 
 abbrev pub Steps : Network → Certificate → ByteWorld → WorldStep → StepNote → ByteWorld → Type 0
 Steps plan certificate b (Submit node item) note new = NodeStep plan node b note new ((reply : Reply) × (t : Desk)
@@ -228,7 +261,7 @@ Steps plan certificate b (Release link) note new =
     LinkStep (map.get b.links link) b note new (λ k. DoesIf (is_idle k.caller.core && has_cell ReleaseRequest k.caller.core) b note new (CallerMeets plan b link k ReleaseAsked new))
 Steps plan certificate b (Close link) note new = LinkStep (map.get b.links link) b note new (λ k. DoesIf (not (is_over k.caller.core && is_over k.receiver.core)) b note new (Closes plan b link k new))
 Steps plan certificate b (Delay link side) note new = LinkStep (map.get b.links link) b note new (λ k. DoesIf (is_late (core_at k side) b.time) b note new (Meets plan b link k side Late new))
-Steps plan certificate b (Restart node) note new = ⊥
+Steps plan certificate b (Restart node) note new = NodeStep plan node b note new ((note ≡ Done) × Restarts plan b node new)
 Steps plan certificate b (Requeue node uid dest) note new = NodeStep plan node b note new ((answer : Answer) × (t : Desk)
     × RequeuesAt (b.desks node) uid dest answer t × (note ≡ note_of answer) × (new ≡ with_call b node t))
 Steps plan certificate b (Tick ms) note new = (note ≡ Done) × (new ≡ record { time = min (b.time + ms) (2 ^ 62); desks = b.desks; links = b.links; opened = b.opened })
