@@ -9,7 +9,7 @@ use Rattle.dr_network.specs.Networks.{Network}
 use Rattle.dr_sound.specs.declared.certificate.Certificate.{Certificate}
 use Rattle.dr_site.specs.Parts.{Part, IsPartOf}
 use Rattle.dr_ulstate.specs.declared.table.Action.TheVariants.{Aa1, Aa4, Ar1}
-use Rattle.std.specs.Prelude.{◌&&◌, ◌+◌, nat_le, if◌then◌else◌}
+use Rattle.std.specs.Prelude.{◌&&◌, ◌+◌, nat_le, if◌then◌else◌, ◌||◌}
 use Rattle.dr_ulstate.specs.Table.{cell}
 use Rattle.dr_ulstate.specs.declared.table.State.{State}
 use Rattle.dr_ulstate.specs.declared.table.Event.{Event as UpperEvent}
@@ -60,7 +60,7 @@ use Rattle.dr_model.specs.Worlds.{with_book, with_armed, same_text}
 use Rattle.dr_base.specs.Texts.{text_cmp}
 use Rattle.dr_tie.specs.Desks.{Desk, ArmedBy, LedgerStep}
 use Rattle.dr_tie.specs.Channels.{Terminal, Channel, Carries, ShowsLink, ToCaller, ToReceiver, IsCaller, IsAt, IsOff, IsControl, bytes_of, AgreesOn, site_of, site_in}
-use Rattle.dr_tie.specs.Ties.{IsDeskOf, OnlyHere, Happens, caller_as, caller_did, IsLeaving, CallerLeaves, LateAtCaller, ReleaseLeaves}
+use Rattle.dr_tie.specs.Ties.{IsDeskOf, OnlyHere, Happens, caller_as, caller_did, IsLeaving, CallerLeaves, LateAtCaller, ReleaseLeaves, is_late}
 use Rattle.dr_tie.proofs.Leaving.{AreFit, carries_more, only_link, acts_by, plain_turn, abort_fits}
 
 -- ---- what is pending
@@ -281,7 +281,7 @@ module _ (plan : Network) (certificate : Certificate) (w : World) (number : ℕ)
   lstep = LedgerStep plan link.caller
 
   abbrev LateResult : Type 0
-  LateResult = ((answer : Option Answer) × Happens plan certificate w number (BreakCaller number answer) link.caller t (caller_did k x)) ⊎ ((t ≡ s) × (x ≡ effect [] k.caller.core))
+  LateResult = ((answer : Option Answer) × Happens plan certificate w number (BreakCaller number answer) link.caller t (caller_did k x)) ⊎ ((t ≡ s) × (x ≡ effect [] k.caller.core) × (is_late k.caller.core moment.now ≡ false))
 
   abbrev late_event : Bool → Bool → Option UpperEvent
   late_event expired waited = if expired then Some ArtimExpired else if waited then Some AbortRequest else None
@@ -301,7 +301,7 @@ module _ (plan : Network) (certificate : Certificate) (w : World) (number : ℕ)
     by_wait false waited e =
         let event : event_of (Plain Late) moment k.caller.core ≡ None = ap (λ (b : Bool). late_event b (is_requestor k.caller.core && has_waited k.caller.core.awaits moment.now)) e ∙ ap (λ (b : Bool). late_event false b) waited in
         let r : (x ≡ effect [] k.caller.core) × (t ≡ s) = subst (λ (o : Option UpperEvent). Turns lstep (occurs o moment (Plain Late) k.caller.core) s x t) event h in
-        inr (r.1, r.0)
+        inr (r.1, r.0, ap (λ (b : Bool). b || (is_requestor k.caller.core && has_waited k.caller.core.awaits moment.now)) e ∙ waited)
 
   pub late_result : LateResult
   late_result = elim (caller_at plan certificate w number link k s here desk shows on k.caller.ear k.to_caller refl x t).0 [

@@ -4,7 +4,7 @@ use Rattle.std.specs.List.{AllByRecursion, flat_map}
 use Rattle.std.specs.FinMap as map_of
 use Rattle.std.proofs.lemmas.List.{append-nil}
 use Rattle.std.proofs.lemmas.Bool.{false≢true, cases_Bool}
-use Rattle.std.specs.Prelude.{◌&&◌, ◌+◌, nat_le, if◌then◌else◌}
+use Rattle.std.specs.Prelude.{◌&&◌, ◌+◌, nat_le, if◌then◌else◌, ◌||◌}
 use Rattle.std.specs.Option.{option_map_or}
 use Rattle.dr_session.specs.declared.ends.LinkAction.TheVariants.{Close}
 use Rattle.dr_base.specs.Texts.{Text}
@@ -54,7 +54,7 @@ use Rattle.dr_session.specs.Plays.{Reacts, At, at_moment, with_stage}
 use Rattle.dr_dimse.specs.Taking.{Stage as Taken}
 use Rattle.dr_tie.specs.Desks.{Desk, LedgerStep}
 use Rattle.dr_tie.specs.Channels.{Terminal, Channel, Carries, ShowsLink, ToCaller, ToReceiver, IsReceiver, IsCaller, IsAt, IsOff, IsControl, bytes_of, AgreesOn, site_of, site_in}
-use Rattle.dr_tie.specs.Ties.{IsDeskOf, OnlyHere, Happens, receiver_as, receiver_did, caller_did, IsLeaving, ReceiverLeaves, CallerLeaves, LateAtReceiver}
+use Rattle.dr_tie.specs.Ties.{IsDeskOf, OnlyHere, Happens, receiver_as, receiver_did, caller_did, IsLeaving, ReceiverLeaves, CallerLeaves, LateAtReceiver, is_late}
 use Rattle.dr_tie.proofs.Agreeing.{stepped_at}
 
 -- ---- wires
@@ -203,7 +203,7 @@ module _ (plan : Network) (certificate : Certificate) (w : World) (number : ℕ)
   ]
 
   abbrev LateResult : Type 0
-  LateResult = Happens plan certificate w number (BreakReceiver number) link.receiver t (receiver_as k wire ear x) ⊎ ((t ≡ s) × (x ≡ effect [] k.receiver.core))
+  LateResult = Happens plan certificate w number (BreakReceiver number) link.receiver t (receiver_as k wire ear x) ⊎ ((t ≡ s) × (x ≡ effect [] k.receiver.core) × (is_late k.receiver.core moment.now ≡ false))
 
   abbrev late_event : Bool → Bool → Option UpperEvent
   late_event expired waited = if expired then Some ArtimExpired else if waited then Some AbortRequest else None
@@ -218,7 +218,7 @@ module _ (plan : Network) (certificate : Certificate) (w : World) (number : ℕ)
   in_time state at e h =
       let event : event_of (Plain Late) moment k.receiver.core ≡ None = ap (λ (b : Bool). late_event b (is_requestor k.receiver.core && has_waited k.receiver.core.awaits moment.now)) e ∙ ap (λ (b : Bool). late_event false b) (never_waits state at) in
       let r : (x ≡ effect [] k.receiver.core) × (t ≡ s) = subst (λ (o : Option UpperEvent). Turns rstep (occurs o moment (Plain Late) k.receiver.core) s x t) event h in
-      inr (r.1, r.0)
+      inr (r.1, r.0, ap (λ (b : Bool). b || (is_requestor k.receiver.core && has_waited k.receiver.core.awaits moment.now)) e ∙ never_waits state at)
 
   too_late : IsAt k.receiver.core false Sta2 → next_expired k.receiver.core.phase moment.now ≡ true → Turns rstep (turn moment k.receiver.core (Plain Late)) s x t → LateResult
   too_late at e h =

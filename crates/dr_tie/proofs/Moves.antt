@@ -25,7 +25,7 @@ use Rattle.dr_model.specs.Steps.{IsLink, others}
 use Rattle.dr_model.specs.Events.{Event, AgreeReceiver, AgreeCaller, Receive, Answered, BreakCaller, BreakReceiver}
 use Rattle.dr_tie.specs.Desks.{Desk, LedgerStep}
 use Rattle.dr_tie.specs.Channels.{Terminal, Channel, Carries, ShowsLink, ToReceiver, ToCaller, IsReceiver, IsCaller, IsControl, site_of}
-use Rattle.dr_tie.specs.Ties.{IsDeskOf, IsFirst, IsWithin, Happens, receiver_read, caller_read}
+use Rattle.dr_tie.specs.Ties.{IsDeskOf, IsFirst, IsWithin, IsData, Happens, receiver_read, caller_read}
 use Rattle.dr_tie.specs.Moves.{IsLeft, IsOfReceiver, IsOfCaller, ReceiverMoves, CallerMoves}
 use Rattle.dr_tie.proofs.Fronts.{more_not_memory}
 use Rattle.dr_tie.proofs.Agreeing.{front_is}
@@ -89,7 +89,7 @@ carried_front t wire P b c some = front_of t wire (c.coming ++ c.controls) c.joi
 
 -- the bytes of a Move are all that is left of the front PDU, or they end nothing
 moves : (t : Terminal) (wire : List ℕ) (front : Pdu) (left : List ℕ) (n : ℕ) → IsLeft t wire front left → n ≤ length left
-    → ((n ≡ length left) × (t.ear.kept ++ take n wire ≡ written front)) ⊎ IsWithin (t.ear.kept ++ take n wire) front
+    → ((n ≡ length left) × (t.ear.kept ++ take n wire ≡ written front)) ⊎ ((n < length left) × IsWithin (t.ear.kept ++ take n wire) front)
 moves t wire front left n l few =
     let same : take n wire ≡ take n left = ap (λ (z : List ℕ). take n z) l.wire_is ∙ take-append-le n left l.rest few in
     elim (cases_Bool (n == length left)) [
@@ -98,8 +98,8 @@ moves t wire front left n l few =
       | inr other ↦ (
           let apart : n ≢ length left = eqb-false n (length left) other in
           let less : n < length left = less_of n (length left) few apart in
-          inr (drop n left, sym l.joined ∙ (ap (λ (z : List ℕ). t.ear.kept ++ z) (sym (take-append-drop n left)) ∙ (sym (append_assoc t.ear.kept (take n left) (drop n left))
-              ∙ ap (λ (z : List ℕ). (t.ear.kept ++ z) ++ drop n left) (sym same))), drop_some n left less))
+          inr (less, (drop n left, sym l.joined ∙ (ap (λ (z : List ℕ). t.ear.kept ++ z) (sym (take-append-drop n left)) ∙ (sym (append_assoc t.ear.kept (take n left) (drop n left))
+              ∙ ap (λ (z : List ℕ). (t.ear.kept ++ z) ++ drop n left) (sym same))), drop_some n left less)))
     ]
 
 -- where nothing is under way but what the writer wrote as it left
@@ -120,7 +120,7 @@ module _ (plan : Network) (certificate : Certificate) (certified : IsCertified p
     (plays : PlaysBytes (LedgerStep plan link.receiver) moment k.receiver.ear k.receiver.core (take n k.to_receiver) s new x t) where
   abbrev RResult : Type 0
   RResult = ((event : Event) × IsOfReceiver number event × (n ≡ length left) × Happens plan certificate w number event link.receiver t (receiver_read k n new x))
-      ⊎ ((t ≡ s) × ShowsLink plan certificate (receiver_read k n new x) link)
+      ⊎ ((t ≡ s) × ShowsLink plan certificate (receiver_read k n new x) link × ((n < length left) ⊎ IsData front))
 
   rcarries : Carries k.receiver k.to_receiver (ToReceiver link.stage link.receiver k.caller.core k.receiver.core) link.caller_connected
   rcarries = shows.to_receiver on
@@ -142,7 +142,7 @@ module _ (plan : Network) (certificate : Certificate) (certified : IsCertified p
       inl (AgreeReceiver number a.0, refl, all, a.1)
   rwhole all whole (Storing accepted item) e = elim (hears_store plan certificate certified w number link k s here desk shows on accepted item e moment time n front new x t l.first whole plays) [
     | inl a ↦ inl (Receive number a.0, refl, all, a.1)
-    | inr a ↦ inr a
+    | inr a ↦ inr (a.0, a.1, inr a.2)
   ]
   rwhole all whole (Answering accepted) e = rcontrol all whole (rcoming (Answering accepted) e)
   rwhole all whole (Open accepted) e = rcontrol all whole (rcoming (Open accepted) e)
@@ -153,7 +153,7 @@ module _ (plan : Network) (certificate : Certificate) (certified : IsCertified p
   receiver_result : RResult
   receiver_result = elim (moves k.receiver k.to_receiver front left n l few) [
     | inl a ↦ rwhole a.0 a.1 link.stage refl
-    | inr within ↦ (let a = nothing_heard (LedgerStep plan link.receiver) plan certificate link k shows on moment n front new x s t l.first within plays in inr (a.0, a.2))
+    | inr within ↦ (let a = nothing_heard (LedgerStep plan link.receiver) plan certificate link k shows on moment n front new x s t l.first within.1 plays in inr (a.0, a.2, inl within.0))
   ]
 
 pub receiver_moves : ReceiverMoves
@@ -169,7 +169,7 @@ module _ (plan : Network) (certificate : Certificate) (certified : IsCertified p
     (plays : PlaysBytes (LedgerStep plan link.caller) moment k.caller.ear k.caller.core (take n k.to_caller) s new x t) where
   abbrev CResult : Type 0
   CResult = ((event : Event) × IsOfCaller number event × (n ≡ length left) × Happens plan certificate w number event link.caller t (caller_read k n new x))
-      ⊎ ((t ≡ s) × ShowsLink plan certificate (caller_read k n new x) link)
+      ⊎ ((t ≡ s) × ShowsLink plan certificate (caller_read k n new x) link × ((n < length left) ⊎ IsData front))
 
   ccarries : Carries k.caller k.to_caller (ToCaller link.stage (site_of k.receiver.core) k.caller.core) link.receiver_connected
   ccarries = shows.to_caller on
@@ -195,7 +195,7 @@ module _ (plan : Network) (certificate : Certificate) (certified : IsCertified p
   ]
   cwhole all whole (Replying accepted item status) e = elim (hears_reply plan certificate certified w number link k s here desk shows on accepted item status e moment time n front new x t l.first whole plays) [
     | inl a ↦ inl (Answered number a.0, refl, all, a.1)
-    | inr a ↦ inr a
+    | inr a ↦ inr (a.0, a.1, inr a.2)
   ]
   cwhole all whole Asking e = ccontrol all whole (ccoming Asking e)
   cwhole all whole (Open accepted) e = ccontrol all whole (ccoming (Open accepted) e)
@@ -205,7 +205,7 @@ module _ (plan : Network) (certificate : Certificate) (certified : IsCertified p
   caller_result : CResult
   caller_result = elim (moves k.caller k.to_caller front left n l few) [
     | inl a ↦ cwhole a.0 a.1 link.stage refl
-    | inr within ↦ (let a = nothing_heard_back (LedgerStep plan link.caller) plan certificate link k shows on moment n front new x s t l.first within plays in inr (a.0, a.2))
+    | inr within ↦ (let a = nothing_heard_back (LedgerStep plan link.caller) plan certificate link k shows on moment n front new x s t l.first within.1 plays in inr (a.0, a.2, inl within.0))
   ]
 
 pub caller_moves : CallerMoves

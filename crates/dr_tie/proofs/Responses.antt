@@ -74,7 +74,7 @@ use Rattle.dr_model.specs.Worlds.{with_book, with_armed, same_text}
 use Rattle.dr_base.specs.Texts.{text_cmp}
 use Rattle.dr_tie.specs.Desks.{Desk, ArmedBy, LedgerStep}
 use Rattle.dr_tie.specs.Channels.{alone, message, Gets, IsMessageFor, IsListening, IsReceiver, Terminal, Channel, Carries, ShowsLink, ToCaller, ToReceiver, IsCaller, IsAt, IsOff, IsControl, bytes_of, site_of}
-use Rattle.dr_tie.specs.Ties.{IsFirst, caller_read, HearsReply, IsDeskOf, OnlyHere, Happens, caller_as, caller_did, IsLeaving}
+use Rattle.dr_tie.specs.Ties.{IsData, IsFirst, caller_read, HearsReply, IsDeskOf, OnlyHere, Happens, caller_as, caller_did, IsLeaving}
 use Rattle.dr_tie.proofs.Leaving.{AreFit, only_link, carries_more, acts_by, abort_fits}
 use Rattle.dr_tie.proofs.CallerLeaving.{armed_after}
 use Rattle.dr_tie.proofs.Agreeing.{front_is, plays_alone}
@@ -151,7 +151,7 @@ module _ (plan : Network) (certificate : Certificate) (w : World) (number : ℕ)
   c = k.caller.core
 
   abbrev Result_is : Type 0
-  Result_is = ((answer : Answer) × Happens plan certificate w number (Answered number answer) link.caller t (caller_read k n new x)) ⊎ ((t ≡ s) × ShowsLink plan certificate (caller_read k n new x) link)
+  Result_is = ((answer : Answer) × Happens plan certificate w number (Answered number answer) link.caller t (caller_read k n new x)) ⊎ ((t ≡ s) × ShowsLink plan certificate (caller_read k n new x) link × IsData front)
 
   established : IsCaller true (Replying accepted item status) link.receiver c
   established = subst (λ (st : Stage). IsCaller true st link.receiver c) replying (subst (λ (b : Bool). IsCaller b link.stage link.receiver c) on shows.caller)
@@ -324,7 +324,7 @@ module _ (plan : Network) (certificate : Certificate) (w : World) (number : ℕ)
       let within = subst (λ (l : List Pdv). AllByRecursion (λ (p : Pdv). p.id ≡ m.context.id) l) e m.in_context in
       let gets = subst (λ (l : List Pdv). Gets c.assembly.awaited c.assembly.stage l (message number_of (StoreRsp id status item.key.class item.uid false) None)) e m.gets in
       elim gets [
-        | inl more ↦ inr (part id number_of has_pending m v vs f.1 fits.1 h.1 within r more.0 more.1 more.2)
+        | inl more ↦ (let one = part id number_of has_pending m v vs f.1 fits.1 h.1 within r more.0 more.1 more.2 in inr (one.0, one.1, (v, f.0)))
         | inr last ↦ inl (
             let a = settles id number_of has_pending m v vs f.1 fits.1 h.1 within r last.0 in
             (a.0, event id number_of has_pending m v vs f.1 fits.1 h.1 within r last.1 a.0 a.1 a.2))

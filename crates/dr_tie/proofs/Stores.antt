@@ -77,7 +77,7 @@ use Rattle.dr_model.specs.Worlds.{with_book, with_armed, same_text}
 use Rattle.dr_base.specs.Texts.{text_cmp}
 use Rattle.dr_tie.specs.Desks.{Desk, ArmedBy, LedgerStep}
 use Rattle.dr_tie.specs.Channels.{Brings, alone, message, Gets, IsMessageFor, IsListening, IsReceiver, Terminal, Channel, Carries, ShowsLink, ToCaller, ToReceiver, IsCaller, IsAt, IsOff, IsControl, bytes_of, hop_contexts, site_of}
-use Rattle.dr_tie.specs.Ties.{IsFirst, receiver_read, HearsStore, IsDeskOf, OnlyHere, Happens, caller_as, caller_did, IsLeaving}
+use Rattle.dr_tie.specs.Ties.{IsData, IsFirst, receiver_read, HearsStore, IsDeskOf, OnlyHere, Happens, caller_as, caller_did, IsLeaving}
 use Rattle.dr_tie.proofs.Leaving.{AreFit, only_link}
 use Rattle.dr_tie.proofs.CallerLeaving.{armed_after}
 use Rattle.dr_tie.proofs.Agreeing.{front_is, plays_alone}
@@ -120,7 +120,7 @@ module _ (plan : Network) (certificate : Certificate) (w : World) (number : ℕ)
   c = k.receiver.core
 
   abbrev Result_is : Type 0
-  Result_is = ((reply : Reply) × Happens plan certificate w number (Receive number reply) link.receiver t (receiver_read k n new x)) ⊎ ((t ≡ s) × ShowsLink plan certificate (receiver_read k n new x) link)
+  Result_is = ((reply : Reply) × Happens plan certificate w number (Receive number reply) link.receiver t (receiver_read k n new x)) ⊎ ((t ≡ s) × ShowsLink plan certificate (receiver_read k n new x) link × IsData front)
 
   listening : IsListening c link.caller accepted
   listening = subst (λ (st : Stage). IsReceiver true st link.caller c) storing (subst (λ (b : Bool). IsReceiver b link.stage link.caller c) on shows.receiver)
@@ -287,7 +287,7 @@ module _ (plan : Network) (certificate : Certificate) (w : World) (number : ℕ)
       let within = subst (λ (l : List Pdv). AllByRecursion (λ (p : Pdv). p.id ≡ m.context.id) l) e m.in_context in
       let gets = subst (λ (l : List Pdv). Gets c.assembly.awaited c.assembly.stage l (message number_of (StoreRq id item.key.class item.uid) (Some (body.Whole item.body)))) e m.gets in
       elim gets [
-        | inl more ↦ inr (part id number_of is_item asked small m v vs f.1 fits.1 h.1 within r more.0 more.1 more.2)
+        | inl more ↦ (let one = part id number_of is_item asked small m v vs f.1 fits.1 h.1 within r more.0 more.1 more.2 in inr (one.0, one.1, (v, f.0)))
         | inr last ↦ inl (arrived id number_of is_item asked small m v vs f.1 fits.1 h.1 within r last.1 last.0)
       ]
 

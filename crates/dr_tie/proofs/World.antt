@@ -28,6 +28,7 @@ use Rattle.dr_model.specs.Steps.{IsLink, IsHop, asked, new_link, passed}
 use Rattle.dr_model.specs.Events.{Event, Step, Take, Ask}
 use Rattle.dr_model.specs.Events as event
 use Rattle.dr_model.specs.Claims.{Headline}
+use Rattle.dr_session.specs.Reactions.{is_ready}
 use Rattle.dr_session.specs.Ends.{accepting, requesting}
 use Rattle.dr_session.specs.Ledgers.{desk}
 use Rattle.dr_tie.specs.Desks.{Desk, LedgerStep}
@@ -47,14 +48,14 @@ use Rattle.dr_tie.proofs.Shown.{Result_of, after, at_node, skips, moved, pushed,
 
 module _ (plan : Network) (certificate : Certificate) (certified : IsCertified plan certificate) (b new : ByteWorld) (w : World) (note : StepNote) (s : Shows plan certificate b w) where
   abbrev Res : WorldStep → Type 0
-  Res step = ∥ Result_of plan certificate step w new ∥₁
+  Res step = ∥ Result_of plan certificate b step note w new ∥₁
 
-  at_link : (step : WorldStep) (number : ℕ) (What : Channel → Type 0) → ((k : Channel) (link : Link) → IsLink w number link → ShowsLink plan certificate k link → What k → Res step)
+  at_link : (step : WorldStep) (number : ℕ) (What : Channel → Type 0) → ((k : Channel) (link : Link) → map_of.get b.links number ≡ Some k → IsLink w number link → ShowsLink plan certificate k link → What k → Res step)
       → (o : Option Channel) → map_of.get b.links number ≡ o → LinkStep o b note new What → Res step
   at_link step number What f None e h = ∣ skips plan certificate step b new w note s h ∣₁
-  at_link step number What f (Some k) e h = (let l = shown_link plan certificate b w number k s e in f k l.0 l.1 l.2 h)
+  at_link step number What f (Some k) e h = (let l = shown_link plan certificate b w number k s e in f k l.0 e l.1 l.2 h)
 
-  closes : (number : ℕ) (k : Channel) (link : Link) → IsLink w number link → ShowsLink plan certificate k link → Closes plan b number k new → Result_of plan certificate (Close number) w new
+  closes : (number : ℕ) (k : Channel) (link : Link) → IsLink w number link → ShowsLink plan certificate k link → Closes plan b number k new → Result_of plan certificate b (Close number) note w new
   closes number k link here shows (early, late, x, y, t, u, early_is, late_is, r, c, is) =
       let to : receiver_of k ≡ link.receiver = shows.to.1 in
       let from : caller_of k ≡ link.caller = shows.from.1 in
@@ -79,7 +80,7 @@ module _ (plan : Network) (certificate : Certificate) (certified : IsCertified p
 
   -- ---- opening
 
-  opens : (from to : Text) → Opens plan certificate b from to new → Result_of plan certificate (Open from to) w new
+  opens : (from to : Text) → Opens plan certificate b from to new → Result_of plan certificate b (Open from to) note w new
   opens from to (caller, receiver, rq, hop, is_from, named_from, is_to, named_to, hop_is, proposal, is) =
       let k : Channel = opened_between caller receiver rq b.time in
       let site = is_site plan certificate caller certified is_from in
@@ -90,7 +91,7 @@ module _ (plan : Network) (certificate : Certificate) (certified : IsCertified p
         from = (is_from, named_from, refl, refl);
         to = (is_to, named_to, refl, refl);
         peer = dest;
-        asking = ((standing Sta5 true b.time, refl, refl, refl), refl, refl, refl, refl, (rq, refl, proposal));
+        asking = ((standing Sta5 true b.time, refl, refl, refl), refl, refl, refl, refl, (rq, refl, proposal), refl);
         last = omega arith;
         listening = ((standing Sta2 false b.time, refl, refl, refl), refl, refl, refl, refl);
         ears = (refl, refl);
@@ -121,12 +122,12 @@ module _ (plan : Network) (certificate : Certificate) (certified : IsCertified p
             (subst (λ (o : Option Link). ShowsAt plan certificate (map_of.get b.links other) o) (sym (get_other numbers w.links (w.opened + 1) (new_link from to) other apart)) (s.links other))
 
   pub each : (step : WorldStep) → Steps plan certificate b step note new → Res step
-  each (Push link) h = at_link (Push link) link _ (λ k l here shows d. pushed plan certificate certified b w s link l k here shows note new d) (map_of.get b.links link) refl h
-  each (Move link side n) h = at_link (Move link side n) link _ (λ k l here shows d. moved plan certificate certified b w s link l k here shows side n note new d) (map_of.get b.links link) refl h
-  each (Abort link side) h = at_link (Abort link side) link _ (λ k l here shows d. aborted plan certificate certified b w s link l k here shows side note new d) (map_of.get b.links link) refl h
-  each (Release link) h = at_link (Release link) link _ (λ k l here shows d. released plan certificate certified b w s link l k here shows note new d) (map_of.get b.links link) refl h
-  each (Delay link side) h = at_link (Delay link side) link _ (λ k l here shows d. delayed plan certificate certified b w s link l k here shows side note new d) (map_of.get b.links link) refl h
-  each (Close link) h = at_link (Close link) link _ (λ k l here shows d. close_if link k l here shows (not (is_over k.caller.core && is_over k.receiver.core)) d) (map_of.get b.links link) refl h
+  each (Push link) h = at_link (Push link) link _ (λ k l has here shows d. pushed plan certificate certified b w s link l k has here shows note new (is_ready k.caller.core) refl d) (map_of.get b.links link) refl h
+  each (Move link side n) h = at_link (Move link side n) link _ (λ k l has here shows d. moved plan certificate certified b w s link l k has here shows side n note new d) (map_of.get b.links link) refl h
+  each (Abort link side) h = at_link (Abort link side) link _ (λ k l has here shows d. aborted plan certificate certified b w s link l k has here shows side note new d) (map_of.get b.links link) refl h
+  each (Release link) h = at_link (Release link) link _ (λ k l has here shows d. released plan certificate certified b w s link l k has here shows note new d) (map_of.get b.links link) refl h
+  each (Delay link side) h = at_link (Delay link side) link _ (λ k l has here shows d. delayed plan certificate certified b w s link l k has here shows side note new d) (map_of.get b.links link) refl h
+  each (Close link) h = at_link (Close link) link _ (λ k l has here shows d. close_if link k l here shows (not (is_over k.caller.core && is_over k.receiver.core)) d) (map_of.get b.links link) refl h
   each (Open from to) (inl h) = ∣ opens from to h.1 ∣₁
   each (Open from to) (inr h) = ∣ skips plan certificate (Open from to) b new w note s h.1 ∣₁
   each (Submit node item) (inr h) = ∣ skips plan certificate (Submit node item) b new w note s h.1 ∣₁
@@ -156,15 +157,15 @@ world_steps plan certificate certified b new w step note s h = each plan certifi
 abbrev IsGood : Network → Certificate → ByteWorld → Type 0
 IsGood plan certificate b = (w : World) × Shows plan certificate b w × IsSafe plan w
 
-come_safe : (plan : Network) (certificate : Certificate) → IsCertified plan certificate → (step : WorldStep) (w v : World) → IsSafe plan w → Comes plan step w v → IsSafe plan v
-come_safe plan certificate certified step w v safe (inl same) = subst (λ (z : World). IsSafe plan z) (sym same) safe
-come_safe plan certificate certified step w v safe (inr (e, named, h)) = (step_kept plan certified.sound e w v safe h).safe
+come_safe : (plan : Network) (certificate : Certificate) → IsCertified plan certificate → (b : ByteWorld) (step : WorldStep) (note : StepNote) (w v : World) → IsSafe plan w → Comes plan b step note w v → IsSafe plan v
+come_safe plan certificate certified b step note w v safe (inl same) = subst (λ (z : World). IsSafe plan z) (sym same.0) safe
+come_safe plan certificate certified b step note w v safe (inr (e, named, h)) = (step_kept plan certified.sound e w v safe h).safe
 
 run_good : (plan : Network) (certificate : Certificate) → IsCertified plan certificate → (steps : List WorldStep) (b new : ByteWorld) → ∥ IsGood plan certificate b ∥₁ → RunsOf plan certificate b steps new → ∥ IsGood plan certificate new ∥₁
 run_good plan certificate certified [] b new good h = subst (λ (z : ByteWorld). ∥ IsGood plan certificate z ∥₁) (sym h) good
 run_good plan certificate certified (step ∷ steps) b new good (note, mid, h, rest) =
     run_good plan certificate certified steps mid new (∥∥₁_elim good ∥∥₁_prop (λ g.
-        ∥∥₁_map (world_steps plan certificate certified b mid g.0 step note g.1 h) (λ r. (r.0, r.2, come_safe plan certificate certified step g.0 r.0 g.2 r.1)))) rest
+        ∥∥₁_map (world_steps plan certificate certified b mid g.0 step note g.1 h) (λ r. (r.0, r.2, come_safe plan certificate certified b step note g.0 r.0 g.2 r.1)))) rest
 
 pub runs_keep : RunsKeepTheHeadline
 runs_keep plan certificate certified steps b h =

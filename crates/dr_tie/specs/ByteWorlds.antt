@@ -14,7 +14,7 @@ use Rattle.dr_ulstate.specs.declared.table.State.{State}
 use Rattle.dr_ulstate.specs.declared.table.Event.{Event as UpperEvent}
 use Rattle.dr_ulstate.specs.declared.table.Event.TheVariants.{AbortRequest, ReleaseRequest}
 use Rattle.dr_ulstate.specs.Table.{action_of, state_number, has}
-use Rattle.dr_ulstate.specs.Phases.{state_of, next_expired}
+use Rattle.dr_ulstate.specs.Phases.{state_of}
 use Rattle.dr_pdu.specs.declared.pdu.Pdu.{Pdu}
 use Rattle.dr_pdu.specs.declared.pdu.Pdu.TheVariants as pdu
 use Rattle.dr_pdu.specs.Feeding.{Feeding, fresh}
@@ -33,13 +33,13 @@ use Rattle.dr_session.specs.Desks.{Arrive, Arrival}
 use Rattle.dr_session.specs.Ends.{accepting, requesting, is_gone}
 use Rattle.dr_session.specs.Ledgers.{desk}
 use Rattle.dr_session.specs.Plays.{Reacts, PlaysBytes, at_moment}
-use Rattle.dr_session.specs.Reactions.{is_idle, is_ready, is_impatient}
+use Rattle.dr_session.specs.Reactions.{is_idle, is_ready}
 use Rattle.dr_model.specs.Worlds.{same_text}
 use Rattle.dr_model.specs.Calls.{Reply, Answer}
 use Rattle.dr_model.specs.Events.{HasNode}
 use Rattle.dr_tie.specs.Desks.{Desk, LedgerStep}
 use Rattle.dr_tie.specs.Channels.{Terminal, Channel, site_of}
-use Rattle.dr_tie.specs.Ties.{with_desk, caller_did, receiver_did, caller_read, receiver_read}
+use Rattle.dr_tie.specs.Ties.{is_late, with_desk, caller_did, receiver_did, caller_read, receiver_read}
 use Rattle.dr_tie.specs.Moves.{IsLeft}
 use Rattle.dr_tie.specs.Nodes.{RequeuesAt}
 use Rattle.dr_tie.specs.Closing.{IsEnded, closed}
@@ -121,6 +121,18 @@ abbrev pub CallerMeets : Network → ByteWorld → ℕ → Channel → Input →
 CallerMeets plan b number k i new = (at : Moment) × (x : Effect) × (t : Desk) × IsMoment b number (caller_of k) at
     × Reacts (LedgerStep plan (caller_of k)) k.caller.core (at_moment at i) (b.desks (caller_of k)) x t × (new ≡ with_done b (caller_of k) t number (caller_did k x))
 
+-- A push: it is noted as skipped where nothing was written and the desk is as it was.
+abbrev pub PushNote : StepNote → Desk → Effect → Desk → Type 0
+PushNote note s x t = ((note ≡ Done) × ((x.acts ≡ []) × (t ≡ s) → ⊥)) ⊎ ((note ≡ Skipped) × (x.acts ≡ []) × (t ≡ s))
+
+abbrev pub CallerPushes : Network → ByteWorld → ℕ → Channel → StepNote → ByteWorld → Type 0
+CallerPushes plan b number k note new = (at : Moment) × (x : Effect) × (t : Desk) × IsMoment b number (caller_of k) at × PushNote note (b.desks (caller_of k)) x t
+    × Reacts (LedgerStep plan (caller_of k)) k.caller.core (at_moment at PushAsked) (b.desks (caller_of k)) x t × (new ≡ with_done b (caller_of k) t number (caller_did k x))
+
+abbrev pub PushesIf : Bool → Network → ByteWorld → ℕ → Channel → StepNote → ByteWorld → Type 0
+PushesIf true plan b number k note new = CallerPushes plan b number k note new
+PushesIf false plan b number k note new = Skips b note new
+
 abbrev pub ReceiverMeets : Network → ByteWorld → ℕ → Channel → Input → ByteWorld → Type 0
 ReceiverMeets plan b number k i new = (at : Moment) × (x : Effect) × (t : Desk) × IsMoment b number (receiver_of k) at
     × Reacts (LedgerStep plan (receiver_of k)) k.receiver.core (at_moment at i) (b.desks (receiver_of k)) x t × (new ≡ with_done b (receiver_of k) t number (receiver_did k x))
@@ -139,10 +151,6 @@ is_over c = is_gone (state_of c.phase)
 -- the table has a cell for it there
 abbrev pub has_cell : UpperEvent → Core → Bool
 has_cell e c = is_some (action_of e (state_of c.phase))
-
--- a late mark acts: the timer has expired, or a requestor has awaited an answer for too long
-abbrev pub is_late : Core → ℕ → Bool
-is_late c now = next_expired c.phase now || is_impatient c now
 
 -- ---- bytes
 
@@ -254,7 +262,7 @@ abbrev pub Steps : Network → Certificate → ByteWorld → WorldStep → StepN
 Steps plan certificate b (Submit node item) note new = NodeStep plan node b note new ((reply : Reply) × (t : Desk)
     × LedgerStep plan node (b.desks node) (Arrive local item) (Arrival reply) t × (note ≡ note_of reply) × (new ≡ with_call b node t))
 Steps plan certificate b (Open from to) note new = ((note ≡ Done) × Opens plan certificate b from to new) ⊎ (HasNoHop plan certificate from to × Skips b note new)
-Steps plan certificate b (Push link) note new = LinkStep (map.get b.links link) b note new (λ k. DoesIf (is_ready k.caller.core) b note new (CallerMeets plan b link k PushAsked new))
+Steps plan certificate b (Push link) note new = LinkStep (map.get b.links link) b note new (λ k. PushesIf (is_ready k.caller.core) plan b link k note new)
 Steps plan certificate b (Move link reader n) note new = LinkStep (map.get b.links link) b note new (λ k. Moves plan b link k reader n note new)
 Steps plan certificate b (Abort link side) note new = LinkStep (map.get b.links link) b note new (λ k. DoesIf (has_cell AbortRequest (core_at k side)) b note new (Meets plan b link k side AbortAsked new))
 Steps plan certificate b (Release link) note new =

@@ -107,7 +107,7 @@ IsOff c requestor = (c.pending ≡ None) × ((standing_of c.phase ≡ None) ⊎ 
 -- it awaits an answer to its proposal
 abbrev pub IsAsking : Core → Text → Type 0
 IsAsking c receiver = IsAt c true Sta5 × (c.pending ≡ None) × (c.agreed ≡ None) × (c.assembly.stage ≡ Idle) × (c.assembly.awaited ≡ Nothing)
-    × ((rq : AssociateRq) × (c.proposed ≡ Some rq) × IsProposal (site_of c) receiver rq)
+    × ((rq : AssociateRq) × (c.proposed ≡ Some rq) × IsProposal (site_of c) receiver rq) × (may_send c.phase ≡ false)
 
 abbrev pub IsEstablished : Core → Bool → Contexts → Type 0
 IsEstablished c requestor accepted = IsAt c requestor Sta6 × ((agreed : Agreed) × (c.agreed ≡ Some agreed) × (accepted ≡ contexts_of agreed.pairs))

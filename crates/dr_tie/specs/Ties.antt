@@ -1,5 +1,5 @@
 -- What a Move of bytes does in the message world.
-use Rattle.std.specs.Prelude.{◌<◌, ◌^◌, if◌then◌else◌, ◌+◌, ◌≡◌, ◌≢◌, ◌⊎◌, ℕ, Bool, true, false, List, [], ◌∷◌, ◌++◌, take, drop, Option, Some, None, Result, Ok, Err}
+use Rattle.std.specs.Prelude.{◌<◌, ◌^◌, if◌then◌else◌, ◌||◌, ◌+◌, ◌≡◌, ◌≢◌, ◌⊎◌, ℕ, Bool, true, false, List, [], ◌∷◌, ◌++◌, take, drop, Option, Some, None, Result, Ok, Err}
 use Rattle.dr_base.specs.Texts.{Text}
 use Rattle.dr_network.specs.Networks.{Network}
 use Rattle.dr_sound.specs.declared.certificate.Certificate.{Certificate}
@@ -17,7 +17,7 @@ use Rattle.dr_session.specs.declared.ends.Core.{Core}
 use Rattle.dr_session.specs.declared.ends.Effect.{Effect}
 use Rattle.dr_session.specs.declared.ends.Moment.{Moment}
 use Rattle.dr_nego.specs.Agreeing.{context_for}
-use Rattle.dr_session.specs.Reactions.{effect, gives_in, id_after, store_pdus, stored}
+use Rattle.dr_session.specs.Reactions.{is_impatient, effect, gives_in, id_after, store_pdus, stored}
 use Rattle.dr_session.specs.Messages.{command_pdus, data_pdus}
 use Rattle.dr_nego.specs.Fragments.{spellings}
 use Rattle.dr_dimse.specs.declared.command.Command.TheVariants.{StoreRq}
@@ -48,7 +48,7 @@ use Rattle.dr_session.specs.Ledgers.{Hands}
 use Rattle.dr_session.specs.Turns.{Turns}
 use Rattle.dr_ulstate.specs.declared.table.State.TheVariants.{Sta6}
 use Rattle.dr_ulstate.specs.Standing.{moved}
-use Rattle.dr_ulstate.specs.Phases.{in_its_phase}
+use Rattle.dr_ulstate.specs.Phases.{in_its_phase, next_expired}
 use Rattle.dr_model.specs.Worlds.{Contexts}
 use Rattle.dr_model.specs.Calls.{Reply, Answer}
 use Rattle.dr_model.specs.Events.{Event, Step, Ask, AgreeReceiver, AgreeCaller, Give, Receive, Answered, BreakCaller, BreakReceiver, Close, Restart}
@@ -185,6 +185,10 @@ HearsRejection = (plan : Network) (certificate : Certificate) (w : World) (numbe
     ((answer : Option Answer) × Happens plan certificate w number (AgreeCaller number answer) link.caller t (caller_read k n new x))
     ⊎ Happens plan certificate w number (BreakCaller number None) link.caller t (caller_read k n new x)
 
+-- the PDU is one value of data
+abbrev pub IsData : Pdu → Type 0
+IsData p = (value : Pdv) × (p ≡ alone value)
+
 -- A Move that ends a PDU of a store: its last is the arrival, another is no event.
 abbrev pub HearsStore : Type 0
 HearsStore = (plan : Network) (certificate : Certificate) → IsCertified plan certificate → (w : World) (number : ℕ) (link : Link) (k : Channel) (s : Desk) →
@@ -193,7 +197,7 @@ HearsStore = (plan : Network) (certificate : Certificate) → IsCertified plan c
     IsFirst k.receiver k.to_receiver front → k.receiver.ear.kept ++ take n k.to_receiver ≡ written front →
     PlaysBytes (LedgerStep plan link.receiver) moment k.receiver.ear k.receiver.core (take n k.to_receiver) s new x t →
     ((reply : Reply) × Happens plan certificate w number (Receive number reply) link.receiver t (receiver_read k n new x))
-    ⊎ ((t ≡ s) × ShowsLink plan certificate (receiver_read k n new x) link)
+    ⊎ ((t ≡ s) × ShowsLink plan certificate (receiver_read k n new x) link × IsData front)
 
 -- A Move that ends a PDU of a response.
 abbrev pub HearsReply : Type 0
@@ -203,7 +207,7 @@ HearsReply = (plan : Network) (certificate : Certificate) → IsCertified plan c
     IsFirst k.caller k.to_caller front → k.caller.ear.kept ++ take n k.to_caller ≡ written front →
     PlaysBytes (LedgerStep plan link.caller) moment k.caller.ear k.caller.core (take n k.to_caller) s new x t →
     ((answer : Answer) × Happens plan certificate w number (Answered number answer) link.caller t (caller_read k n new x))
-    ⊎ ((t ≡ s) × ShowsLink plan certificate (caller_read k n new x) link)
+    ⊎ ((t ≡ s) × ShowsLink plan certificate (caller_read k n new x) link × IsData front)
 
 -- The part of a push where a ledger hands out a job and the caller has a context for it.
 abbrev pub GivesStore : Type 0
@@ -225,19 +229,23 @@ PushGives = (plan : Network) (certificate : Certificate) → IsCertified plan ce
     ⊎ (Happens plan certificate w number (BreakCaller number None) link.caller t (caller_did k x)
     ⊎ ((t ≡ s) × ShowsLink plan certificate (caller_did k x) link × ((item : Instance) → IsNext (w.books link.caller) link.receiver w.time item → ⊥)))
 
+-- a late mark acts: the timer has expired, or a requestor has awaited an answer for too long
+abbrev pub is_late : Core → ℕ → Bool
+is_late c now = next_expired c.phase now || is_impatient c now
+
 -- A late mark: where it acts the end leaves, else nothing happens.
 abbrev pub LateAtCaller : Type 0
 LateAtCaller = (plan : Network) (certificate : Certificate) (w : World) (number : ℕ) (link : Link) (k : Channel) (s : Desk) →
     IsLink w number link → IsDeskOf w link.caller s → ShowsLink plan certificate k link → link.caller_connected ≡ true →
     (moment : Moment) → moment.now ≡ w.time → (x : Effect) (t : Desk) → Reacts (LedgerStep plan link.caller) k.caller.core (at_moment moment Late) s x t →
-    ((answer : Option Answer) × Happens plan certificate w number (BreakCaller number answer) link.caller t (caller_did k x)) ⊎ ((t ≡ s) × (x ≡ effect [] k.caller.core))
+    ((answer : Option Answer) × Happens plan certificate w number (BreakCaller number answer) link.caller t (caller_did k x)) ⊎ ((t ≡ s) × (x ≡ effect [] k.caller.core) × (is_late k.caller.core moment.now ≡ false))
 
 -- A late mark at the receiver: where no request came in time it leaves, else nothing happens.
 abbrev pub LateAtReceiver : Type 0
 LateAtReceiver = (plan : Network) (certificate : Certificate) (w : World) (number : ℕ) (link : Link) (k : Channel) (s : Desk) →
     IsLink w number link → IsDeskOf w link.receiver s → ShowsLink plan certificate k link → link.receiver_connected ≡ true →
     (moment : Moment) → moment.now ≡ w.time → (x : Effect) (t : Desk) → Reacts (LedgerStep plan link.receiver) k.receiver.core (at_moment moment Late) s x t →
-    Happens plan certificate w number (BreakReceiver number) link.receiver t (receiver_did k x) ⊎ ((t ≡ s) × (x ≡ effect [] k.receiver.core))
+    Happens plan certificate w number (BreakReceiver number) link.receiver t (receiver_did k x) ⊎ ((t ≡ s) × (x ≡ effect [] k.receiver.core) × (is_late k.receiver.core moment.now ≡ false))
 
 -- what an end that is off does: it stays off, of the same node and with the same peer, and writes at most what one writes that leaves
 abbrev pub StaysOff : Core → Bool → Effect → Type 0
