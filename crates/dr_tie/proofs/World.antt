@@ -1,7 +1,8 @@
 -- A whole world of bytes: each step of it, and runs of steps.
-use Rattle.std.proofs.Common.{◌≡◌, ◌≢◌, ℕ, ◌+◌, ◌≤◌, ◌^◌, Bool, true, false, List, [], ◌∷◌, Option, Some, None, Result, Ok, Err, refl, sym, ap, subst, ◌∙◌, inl, inr, ◌⊎◌, arith}
+use Rattle.std.proofs.Common.{◌≡◌, ◌≢◌, ℕ, ◌+◌, ◌≤◌, ◌^◌, Bool, true, false, List, [], ◌∷◌, ◌++◌, append_assoc, Option, Some, None, Result, Ok, Err, refl, sym, ap, subst, ◌∙◌, inl, inr, ◌⊎◌, arith}
 use Rattle.std.proofs.Math.Logic.{∥∥₁_map, ∥∥₁_elim, ∥∥₁_prop}
 use Rattle.std.specs.Prelude.{min, not, ◌&&◌}
+use Rattle.std.proofs.lemmas.List.{append-nil}
 use Rattle.std.specs.FinMap as map_of
 use Rattle.std.specs.Ordering.{nat_cmp, eq_by_cmp}
 use Rattle.dr_base.specs.Texts.{Text}
@@ -21,13 +22,14 @@ use Rattle.dr_ledger.specs.Books.{empty_book}
 use Rattle.dr_ledger.proofs.Maps.{get_new, get_other, same_or_not, ties_itself}
 use Rattle.dr_model.proofs.Lookups.{numbers}
 use Rattle.dr_model.proofs.FromSafety.{safe_headline, start_safe}
-use Rattle.dr_model.proofs.Safety.{IsSafe}
+use Rattle.dr_model.proofs.Safety.{IsSafe, WorldGrows}
 use Rattle.dr_model.proofs.EventsKept.{step_kept}
 use Rattle.dr_model.specs.Worlds.{World, Link, start}
 use Rattle.dr_model.specs.Steps.{IsLink, IsHop, asked, new_link, passed}
 use Rattle.dr_model.specs.Events.{Event, Step, Take, Ask}
 use Rattle.dr_model.specs.Events as event
 use Rattle.dr_model.specs.Claims.{Headline}
+use Rattle.dr_model.specs.Theorem.{Lasts}
 use Rattle.dr_session.specs.Reactions.{is_ready}
 use Rattle.dr_session.specs.Ends.{accepting, requesting}
 use Rattle.dr_session.specs.Ledgers.{desk}
@@ -36,7 +38,7 @@ use Rattle.dr_tie.specs.Channels.{Channel, ShowsLink}
 use Rattle.dr_tie.specs.Ties.{IsDeskOf, IsOpened, with_desk, Happens}
 use Rattle.dr_tie.specs.Closing.{IsEnded, closed}
 use Rattle.dr_tie.specs.ByteWorlds.{ByteWorld, beginning, WorldStep, Submit, Open, Push, Move, Abort, Release, Close, Delay, Restart, Requeue, Tick, Refuse, StepNote, Done, Skipped, Skips, DoesIf, LinkStep, NodeStep, Steps, Opens, Closes, is_over, caller_of, receiver_of, with_done, with_call, opened_between}
-use Rattle.dr_tie.specs.Shown.{Shows, ShowsAt, Comes, IsNamed, WorldStepsAreEvents, RunsOf, RunsKeepTheHeadline}
+use Rattle.dr_tie.specs.Shown.{Shows, ShowsAt, Comes, IsNamed, WorldStepsAreEvents, RunsOf, RunsKeepTheHeadline, WhatIsKeptStaysKept}
 use Rattle.dr_tie.proofs.Others.{shown_link}
 use Rattle.dr_site.proofs.Assembled.{is_site}
 use Rattle.dr_tie.proofs.Restarted.{restarted}
@@ -167,10 +169,52 @@ run_good plan certificate certified (step ∷ steps) b new good (note, mid, h, r
     run_good plan certificate certified steps mid new (∥∥₁_elim good ∥∥₁_prop (λ g.
         ∥∥₁_map (world_steps plan certificate certified b mid g.0 step note g.1 h) (λ r. (r.0, r.2, come_safe plan certificate certified b step note g.0 r.0 g.2 r.1)))) rest
 
-pub runs_keep : RunsKeepTheHeadline
-runs_keep plan certificate certified steps b h =
+-- ---- what lasts
+
+lasts_grown : (old new : World) → WorldGrows old new → Lasts old new
+lasts_grown old new g = record { items = λ name. (g.books name).items; kept = λ name. (g.books name).kept; journal = λ name. (g.books name).lines }
+
+lasts_same : (w : World) → Lasts w w
+lasts_same w = record { items = λ name uid item h. h; kept = λ name uid h. h; journal = λ name. ([], sym (append-nil (w.books name).lines)) }
+
+lasts_on : (a b c : World) → Lasts a b → Lasts b c → Lasts a c
+lasts_on a b c f g = record {
+  items = λ name uid item h. g.items name uid item (f.items name uid item h);
+  kept = λ name uid h. g.kept name uid (f.kept name uid h);
+  journal = λ name.
+      let x = f.journal name in
+      let y = g.journal name in
+      (x.0 ++ y.0, y.1 ∙ (ap (λ l. l ++ y.0) x.1 ∙ append_assoc (a.books name).lines x.0 y.0));
+}
+
+come_lasting : (plan : Network) (certificate : Certificate) → IsCertified plan certificate → (b : ByteWorld) (step : WorldStep) (note : StepNote) (w v : World) → IsSafe plan w → Comes plan b step note w v → Lasts w v
+come_lasting plan certificate certified b step note w v safe (inl same) = subst (λ (z : World). Lasts w z) (sym same.0) (lasts_same w)
+come_lasting plan certificate certified b step note w v safe (inr (e, named, h)) = lasts_grown w v (step_kept plan certified.sound e w v safe h).grows
+
+-- a world beside the bytes, and one from which it came
+abbrev Lasting : Network → Certificate → World → ByteWorld → Type 0
+Lasting plan certificate v c = (w : World) × Shows plan certificate c w × IsSafe plan w × Lasts v w
+
+run_lasting : (plan : Network) (certificate : Certificate) → IsCertified plan certificate → (v : World) (steps : List WorldStep) (b new : ByteWorld) → ∥ Lasting plan certificate v b ∥₁ → RunsOf plan certificate b steps new
+    → ∥ Lasting plan certificate v new ∥₁
+run_lasting plan certificate certified v [] b new good h = subst (λ (z : ByteWorld). ∥ Lasting plan certificate v z ∥₁) (sym h) good
+run_lasting plan certificate certified v (step ∷ steps) b new good (note, mid, h, rest) =
+    run_lasting plan certificate certified v steps mid new (∥∥₁_elim good ∥∥₁_prop (λ g.
+        ∥∥₁_map (world_steps plan certificate certified b mid g.0 step note g.1 h) (λ r. (r.0, r.2, come_safe plan certificate certified b step note g.0 r.0 g.2 r.1,
+            lasts_on v g.0 r.0 g.3 (come_lasting plan certificate certified b step note g.0 r.0 g.2 r.1))))) rest
+
+first_good : (plan : Network) (certificate : Certificate) → IsGood plan certificate beginning
+first_good plan certificate =
     let none : (number : ℕ) → ShowsAt plan certificate (map_of.get beginning.links number) (map_of.get start.links number) = λ number.
         subst (λ (o : Option Channel). ShowsAt plan certificate o (map_of.get start.links number)) (sym (map_of.get-empty nat_cmp number))
             (subst (λ (o : Option Link). ShowsAt plan certificate None o) (sym (map_of.get-empty nat_cmp number)) tt) in
-    let first : IsGood plan certificate beginning = (start, record { time = refl; opened = refl; desks = λ name. (refl, sym (Rattle.std.specs.FinSet.contains-empty Rattle.dr_base.specs.Texts.text_cmp name)); links = none }, start_safe plan) in
-    ∥∥₁_map (run_good plan certificate certified steps beginning b ∣ first ∣₁ h) (λ g. (g.0, g.1, safe_headline plan g.0 certified.sound g.2))
+    (start, record { time = refl; opened = refl; desks = λ name. (refl, sym (Rattle.std.specs.FinSet.contains-empty Rattle.dr_base.specs.Texts.text_cmp name)); links = none }, start_safe plan)
+
+pub runs_keep : RunsKeepTheHeadline
+runs_keep plan certificate certified steps b h =
+    ∥∥₁_map (run_good plan certificate certified steps beginning b ∣ first_good plan certificate ∣₁ h) (λ g. (g.0, g.1, safe_headline plan g.0 certified.sound g.2))
+
+pub kept_stays : WhatIsKeptStaysKept
+kept_stays plan certificate certified steps more b c h k =
+    ∥∥₁_elim (run_good plan certificate certified steps beginning b ∣ first_good plan certificate ∣₁ h) ∥∥₁_prop (λ g.
+        ∥∥₁_map (run_lasting plan certificate certified g.0 more b c ∣ (g.0, g.1, g.2, lasts_same g.0) ∣₁ k) (λ z. (g.0, z.0, g.1, z.1, z.3)))

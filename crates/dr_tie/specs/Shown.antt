@@ -14,6 +14,7 @@ use Rattle.dr_model.specs.Steps.{IsLink}
 use Rattle.dr_model.specs.Events.{Event, Step, Take, Ask, Give, BreakCaller, BreakReceiver}
 use Rattle.dr_model.specs.Events as event
 use Rattle.dr_model.specs.Claims.{Headline}
+use Rattle.dr_model.specs.Theorem.{Lasts}
 use Rattle.dr_tie.specs.Channels.{Terminal, Channel, ShowsLink}
 use Rattle.dr_tie.specs.Ties.{IsDeskOf, IsData}
 use Rattle.dr_tie.specs.Moves.{IsLeft, IsOfReceiver, IsOfCaller}
@@ -99,3 +100,9 @@ RunsOf plan certificate b (step ∷ steps) new = (note : StepNote) × (mid : Byt
 abbrev pub RunsKeepTheHeadline : Type 0
 RunsKeepTheHeadline = (plan : Network) (certificate : Certificate) → IsCertified plan certificate → (steps : List WorldStep) (b : ByteWorld) → RunsOf plan certificate beginning steps b →
     ∥ ((w : World) × Shows plan certificate b w × Headline plan w) ∥₁
+
+-- What a node has and keeps after some steps it has and keeps after any further ones, unchanged, and its journal has grown at its end.
+abbrev pub WhatIsKeptStaysKept : Type 0
+WhatIsKeptStaysKept = (plan : Network) (certificate : Certificate) → IsCertified plan certificate → (steps more : List WorldStep) (b c : ByteWorld) →
+    RunsOf plan certificate beginning steps b → RunsOf plan certificate b more c →
+    ∥ ((v : World) × (w : World) × Shows plan certificate b v × Shows plan certificate c w × Lasts v w) ∥₁

@@ -1,7 +1,7 @@
 //! What ends do with bytes is what the message world's events do.
 #![tactic(auto)]
 
-ghost use Rattle.dr_tie.specs.Shown.{WorldStepsAreEvents, RunsKeepTheHeadline};
+ghost use Rattle.dr_tie.specs.Shown.{WorldStepsAreEvents, RunsKeepTheHeadline, WhatIsKeptStaysKept};
 ghost use Rattle.dr_tie.specs.Ties.{ReceiverHearsNothing, CallerHearsNothing, AgreesAtReceiver, CallerLeaves, ReceiverLeaves, ReceiverHearsControl, CallerHearsControl, HearsStore, HearsReply, PushGives, LateAtCaller, LateAtReceiver, ReleaseLeaves, OffStaysOff, OffCallerIsNoEvent, OffReceiverIsNoEvent, PiecesMakeCommands, PiecesMakeStores, HearsAcceptance, OpensAreAsks, RestartLeaves, GivesStore, HearsRejection};
 
 ghost use Rattle.dr_tie.specs.Closing.{ClosingIsClose};
@@ -119,7 +119,8 @@ pub fn world_steps_are_events()
     ensures { WorldStepsAreEvents }
 {}
 
-/// After any steps from the beginning the headline's four claims hold of the books.
+/// After any steps from the beginning the headline's four claims hold of the books, and what was kept stays kept.
 pub fn runs_keep_the_headline()
-    ensures { RunsKeepTheHeadline }
+    ensures headline { RunsKeepTheHeadline }
+    ensures kept { WhatIsKeptStaysKept }
 {}
