@@ -29,7 +29,7 @@ is_a_uid uid h =
 uid_is : (uid : Text) → IsUid uid → is_uid uid ≡ true
 uid_is uid h =
     and_from (nat_le 1 (length uid)) (nat_le (length uid) 64 && list_all is_graphic uid) (le-leb 1 (length uid) h.0)
-        (and_from (nat_le (length uid) 64) (list_all is_graphic uid) (le-leb (length uid) 64 h.1) (all_graphic uid h.2))
+    (and_from (nat_le (length uid) 64) (list_all is_graphic uid) (le-leb (length uid) 64 h.1) (all_graphic uid h.2))
 
 pub named : (item : Job) → can_be_named item ≡ true → IsUid item.key.class × IsUid item.uid
 named item h =

@@ -54,15 +54,33 @@ unmarked = record { rejection = None; aborted = false; released = false; desk_fa
 -- an acceptor whose transport connection was opened at that moment
 abbrev pub accepting : Part → ℕ → Core
 accepting site now = record {
-  site = Some site; peer = []; phase = Opening (standing Sta2 false now); proposed = None; agreed = None; assembly = assembling Requests Idle;
-  pending = None; last = 0; awaits = None; dry = false; marks = unmarked;
+  site = Some site;
+  peer = [];
+  phase = Opening (standing Sta2 false now);
+  proposed = None;
+  agreed = None;
+  assembly = assembling Requests Idle;
+  pending = None;
+  last = 0;
+  awaits = None;
+  dry = false;
+  marks = unmarked;
 }
 
 -- a requestor that has sent its request at that moment
 abbrev pub requesting : Option Part → Text → AssociateRq → ℕ → Core
 requesting site dest rq now = record {
-  site = site; peer = dest; phase = Asked (standing Sta5 true now); proposed = Some rq; agreed = None; assembly = assembling Nothing Idle;
-  pending = None; last = 0; awaits = Some now; dry = false; marks = unmarked;
+  site = site;
+  peer = dest;
+  phase = Asked (standing Sta5 true now);
+  proposed = Some rq;
+  agreed = None;
+  assembly = assembling Nothing Idle;
+  pending = None;
+  last = 0;
+  awaits = Some now;
+  dry = false;
+  marks = unmarked;
 }
 
 -- it takes P-DATA-TF PDUs of at most that length
@@ -160,6 +178,11 @@ EchoesBy true now c old (Err e) new = new ≡ record { ear = old.ear; core = Non
 abbrev pub EchoesIn : Option Core → ℕ → Terminal → Result (List LinkAction) AllocError → Terminal → Type 0
 EchoesIn None now old result new = (result ≡ Ok []) × (new ≡ old)
 EchoesIn (Some c) now old result new = EchoesBy (is_free c) now c old result new
+
+-- an end's core is taken out of it, where it may send
+abbrev pub TakesFree : Terminal → Option Core → Terminal → Type 0
+TakesFree old None new = (is_free_in old.core ≡ false) × (new ≡ old)
+TakesFree old (Some c) new = (old.core ≡ Some c) × (is_free c ≡ true) × (new ≡ record { ear = old.ear; core = None })
 
 -- ---- how it begins
 

@@ -1,5 +1,4 @@
 -- What an end may rely on as it reacts: what it was told can be answered.
-use Rattle.std.specs.Prelude.{ℕ}
 use Rattle.dr_pdu.specs.Written as pdus
 use Rattle.dr_pdu.specs.declared.pdu.Pdu.{Pdu}
 use Rattle.dr_pdu.specs.declared.pdu.Pdu.TheVariants as pdu
@@ -9,9 +8,9 @@ use Rattle.dr_dimse.specs.declared.command.Command.TheVariants.{StoreRq}
 use Rattle.dr_ulstate.specs.declared.step.Incoming.{Incoming}
 use Rattle.dr_ulstate.specs.declared.step.Incoming.TheVariants.{AssociateAc, AssociateRj, DataTf, ReleaseRq as ReleaseAskedFor, ReleaseRp as ReleaseAnswered, Aborted, Unrecognized, ConnectionClosed}
 use Rattle.dr_session.specs.declared.ends.Input.{Input}
-use Rattle.dr_session.specs.declared.ends.Input.TheVariants.{Request, Acceptance, Rejection, Value, NoValue, ReleaseRq, ReleaseRp, Abort, Unknown, Invalid, Ended, Late, AbortAsked, ReleaseAsked, PushAsked}
+use Rattle.dr_session.specs.declared.ends.Input.TheVariants.{Request, Acceptance, Rejection, Value, NoValue, ReleaseRq, ReleaseRp, Abort, Unknown, Invalid, Late, AbortAsked, ReleaseAsked, PushAsked}
 use Rattle.dr_session.specs.declared.ends.Told.{Told}
-use Rattle.dr_session.specs.declared.ends.Told.TheVariants.{Plain, Quiet, Fault, Strange, Store, Whole, Agreement}
+use Rattle.dr_session.specs.declared.ends.Told.TheVariants.{Plain, Strange, Store, Whole, Agreement}
 
 -- the command whose data set is under way can be written again
 abbrev pub StageFits : Stage → Type 0
@@ -56,3 +55,14 @@ heard_as (Abort a) = Aborted
 heard_as Unknown = Unrecognized
 heard_as Invalid = Unrecognized
 heard_as i = ConnectionClosed
+
+-- it was looked into
+abbrev pub IsLooked : Told → Type 0
+IsLooked (Plain i) = ⊥
+IsLooked told = Unit {0}
+
+-- what was looked into, as the association sees it: a value in a context that wasn't accepted is no valid PDU
+abbrev pub told_as : Told → Incoming
+told_as Strange = Unrecognized
+told_as (Agreement answer) = AssociateAc
+told_as told = DataTf

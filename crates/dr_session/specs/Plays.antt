@@ -141,4 +141,4 @@ BreaksOn step moment ear pdus core s t =
 abbrev pub BreaksBytes : {S : Type 0} → (S → DeskCall → DeskAnswer → S → Type 0) → Moment → Feeding → Core → List ℕ → S → S → Type 0
 BreaksBytes step moment ear core piece s t = (t ≡ s)
     ⊎ ((pdus : List Pdu) × (rest : List ℕ) × (last : List Input) × Run (StartsPdu ear.limit) pdus (ear.kept ++ piece) rest × IsLast ear.limit rest last
-        × BreaksOff step core (map (at_moment moment) (flat_map inputs_of pdus ++ last)) s t)
+    × BreaksOff step core (map (at_moment moment) (flat_map inputs_of pdus ++ last)) s t)

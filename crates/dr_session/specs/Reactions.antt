@@ -1,44 +1,37 @@
 -- What one end does at each event: the table's action (PS3.8 section 9.2), the services behind it, and the calls on the desk.
-use Rattle.std.specs.Prelude.{◌≡◌, ℕ, ◌+◌, ◌<◌, ◌==◌, length, ◌&&◌, ◌||◌, nat_le, not, Bool, true, false, List, [], ◌∷◌, ◌++◌, if◌then◌else◌, find, option_map, Option, Some, None, is_some, Result, Ok, Err}
+use Rattle.std.specs.Prelude.{ℕ, ◌+◌, ◌==◌, length, ◌&&◌, ◌||◌, nat_le, not, Bool, true, false, List, [], ◌∷◌, ◌++◌, if◌then◌else◌, Option, Some, None, is_some, Result, Ok, Err}
 use Rattle.std.specs.List.{list_all}
 use Rattle.std.specs.Option.{option_map_or}
 use Rattle.std.specs.Str.{bytes_eq}
 use Rattle.dr_base.specs.Texts.{Text}
 use Rattle.dr_base.specs.Syntaxes.{syntax_uid}
-use Rattle.dr_ulstate.specs.declared.table.State.{State}
-use Rattle.dr_ulstate.specs.declared.table.State.TheVariants.{Sta1, Sta2, Sta3, Sta4, Sta5, Sta6, Sta7, Sta8, Sta9, Sta10, Sta11, Sta12, Sta13}
 use Rattle.dr_ulstate.specs.declared.table.Event.{Event}
-use Rattle.dr_ulstate.specs.declared.table.Event.TheVariants.{AssociateRequest, TransportConfirm, AssociateAcPdu, AssociateRjPdu, TransportIndication, AssociateRqPdu, AcceptResponse, RejectResponse, DataRequest, DataPdu, ReleaseRequest, ReleaseRqPdu, ReleaseRpPdu, ReleaseResponse, AbortRequest, AbortPdu, TransportClosed, ArtimExpired, InvalidPdu}
+use Rattle.dr_ulstate.specs.declared.table.Event.TheVariants.{AssociateAcPdu, AssociateRjPdu, AssociateRqPdu, AcceptResponse, RejectResponse, DataRequest, DataPdu, ReleaseRequest, ReleaseRqPdu, ReleaseRpPdu, ReleaseResponse, AbortRequest, AbortPdu, TransportClosed, ArtimExpired, InvalidPdu}
 use Rattle.dr_ulstate.specs.declared.table.Action.{Action}
-use Rattle.dr_ulstate.specs.declared.table.Action.TheVariants.{Ae1, Ae2, Ae3, Ae4, Ae5, Ae6, Ae7, Ae8, Dt1, Dt2, Ar1, Ar2, Ar3, Ar4, Ar5, Ar6, Ar7, Ar8, Ar9, Ar10, Aa1, Aa2, Aa3, Aa4, Aa5, Aa6, Aa7, Aa8}
+use Rattle.dr_ulstate.specs.declared.table.Action.TheVariants.{Ae3, Ae4, Ae6, Dt1, Dt2, Ar1, Ar2, Ar3, Ar6, Ar8, Ar10, Aa1, Aa2, Aa3, Aa4, Aa5, Aa7, Aa8}
 use Rattle.dr_ulstate.specs.declared.phase.Next.{Next}
-use Rattle.dr_ulstate.specs.declared.phase.Next.TheVariants.{Idle}
 use Rattle.dr_ulstate.specs.Table.{cell}
-use Rattle.dr_ulstate.specs.Standing.{Standing}
 use Rattle.dr_ulstate.specs.Phases.{side_of, next_stepped, next_expired, may_send}
 use Rattle.dr_pdu.specs.declared.pdu.Pdu.{Pdu}
 use Rattle.dr_pdu.specs.declared.pdu.Pdu.TheVariants as pdu
 use Rattle.dr_pdu.specs.declared.pdu.AssociateRj.{AssociateRj}
-use Rattle.dr_pdu.specs.Written.{written}
 use Rattle.dr_dimse.specs.declared.command.Command.{Command}
 use Rattle.dr_dimse.specs.declared.command.Command.TheVariants.{StoreRq, StoreRsp, EchoRq, EchoRsp, Other}
 use Rattle.dr_dimse.specs.declared.message.Awaited.{Awaited}
-use Rattle.dr_dimse.specs.declared.message.Awaited.TheVariants.{Requests, AnswerTo, Nothing}
+use Rattle.dr_dimse.specs.declared.message.Awaited.TheVariants.{AnswerTo, Nothing}
 use Rattle.dr_dimse.specs.Commands as commands
 use Rattle.dr_dimse.specs.Taking.{Stage, Assembling}
 use Rattle.dr_ledger.specs.declared.content.Job.{Job}
 use Rattle.dr_ledger.specs.declared.item.Arrived.{Arrived}
-use Rattle.dr_ledger.specs.declared.item.Outcome.{Outcome}
 use Rattle.dr_ledger.specs.declared.item.Outcome.TheVariants.{Status, Broken, NoContext}
 use Rattle.dr_ledger.specs.declared.fault.LedgerFault.{LedgerFault}
 use Rattle.dr_ledger.specs.declared.fault.LedgerFault.TheVariants as fault
-use Rattle.dr_nego.specs.declared.agreed.Pair.{Pair}
 use Rattle.dr_nego.specs.declared.agreed.Agreed.{Agreed}
 use Rattle.dr_nego.specs.declared.fault.NegoFault.{NegoFault}
 use Rattle.dr_nego.specs.declared.fault.NegoFault.TheVariants as negofault
 use Rattle.dr_nego.specs.declared.answering.Answer.{Answer}
 use Rattle.dr_nego.specs.declared.answering.Answer.TheVariants.{Accept, Reject, TooSmall}
-use Rattle.dr_nego.specs.Agreeing.{AssociateRq, AssociateAc, context_for}
+use Rattle.dr_nego.specs.Agreeing.{AssociateRq, context_for}
 use Rattle.dr_nego.specs.Answering.{answer}
 use Rattle.dr_site.specs.Parts.{Part}
 use Rattle.dr_session.specs.declared.ends.Input.{Input}
@@ -46,7 +39,7 @@ use Rattle.dr_session.specs.declared.ends.Input.TheVariants.{Request, Acceptance
 use Rattle.dr_session.specs.declared.ends.Found.{Found}
 use Rattle.dr_session.specs.declared.ends.Found.TheVariants.{Read, Unreadable, TooLarge}
 use Rattle.dr_session.specs.declared.ends.Told.{Told}
-use Rattle.dr_session.specs.declared.ends.Told.TheVariants.{Plain, Quiet, Fault, Strange, Store, Whole, Agreement}
+use Rattle.dr_session.specs.declared.ends.Told.TheVariants.{Plain, Fault, Strange, Store, Whole, Agreement}
 use Rattle.dr_session.specs.declared.ends.LinkAction.{LinkAction}
 use Rattle.dr_session.specs.declared.ends.LinkAction.TheVariants.{Write, Close}
 use Rattle.dr_session.specs.declared.ends.Pending.{Pending}
@@ -270,7 +263,7 @@ abbrev pub gives : Option Agreed → Moment → Job → Core → Reaction
 gives (Some agreed) at item c = gives_in (context_for agreed item.key.class (syntax_uid item.key.syntax)) agreed at item c
 gives None at item c = quiet c
 
--- 1 to 64 bytes, each from 21H to 7EH
+-- a UID is 1 to 64 bytes, each from 21H to 7EH
 abbrev pub is_graphic : ℕ → Bool
 is_graphic b = nat_le 0x21 b && nat_le b 0x7E
 
@@ -281,7 +274,7 @@ is_uid uid = nat_le 1 (length uid) && (nat_le (length uid) 64 && list_all is_gra
 abbrev pub can_be_named : Job → Bool
 can_be_named item = is_uid item.key.class && is_uid item.uid
 
--- a desk that hands out what can't be named has failed
+-- a desk that hands out what can't be named has failed (what is an item always can be)
 abbrev pub hands : Moment → Core → Job → Reaction
 hands at c item = if can_be_named item then gives c.agreed at item c else aborts_desk at c
 

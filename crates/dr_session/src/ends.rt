@@ -69,7 +69,11 @@ pub enum Told {
         found: Found,
     },
     /// Any other message, in a context of that class.
-    Whole { context: u8, of: Text, command: Command },
+    Whole {
+        context: u8,
+        of: Text,
+        command: Command,
+    },
     /// What an acceptance agrees on.
     Agreement(Result<Agreed, NegoFault>),
 }
