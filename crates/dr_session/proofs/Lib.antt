@@ -1,17 +1,1 @@
-pub mod Acting
-pub mod Effects
-pub mod Asking
-pub mod Ending
-pub mod Fitting
-pub mod Handing
-pub mod Idle
-pub mod InTurn
-pub mod Joining
 pub mod Named
-pub mod Pieces
-pub mod Playing
-pub mod Resting
-pub mod Saying
-pub mod Serving
-pub mod Spelt
-pub mod Storing

@@ -36,7 +36,7 @@ use Rattle.dr_model.specs.Events as event
 use Rattle.dr_session.specs.declared.ends.Core.{Core}
 use Rattle.dr_session.specs.declared.ends.Effect.{Effect}
 use Rattle.dr_session.specs.declared.ends.Input.{Input}
-use Rattle.dr_session.specs.declared.ends.Input.TheVariants.{Ended, Late, AbortAsked, ReleaseAsked, PushAsked}
+use Rattle.dr_session.specs.declared.ends.Input.TheVariants.{Ended, Late as LateMark, AbortAsked, ReleaseAsked, PushAsked}
 use Rattle.dr_session.specs.declared.ends.Moment.{Moment}
 use Rattle.dr_session.specs.declared.ends.Pending.{Pending}
 use Rattle.dr_session.specs.declared.ends.Told.TheVariants.{Plain}
@@ -48,7 +48,7 @@ use Rattle.dr_tie.specs.Channels.{Terminal, Channel, ShowsLink, IsCaller, IsRece
 use Rattle.dr_tie.specs.Ties.{IsData, IsDeskOf, OnlyHere, Happens, with_desk, caller_as, receiver_as, caller_did, receiver_did, caller_read, receiver_read, is_late}
 use Rattle.dr_tie.specs.Nodes.{HappensAt, OnlyAt}
 use Rattle.dr_tie.specs.Moves.{IsLeft, IsOfCaller, IsOfReceiver}
-use Rattle.dr_tie.specs.ByteWorlds.{ByteWorld, WorldStep, Submit, Open, Push, Move, Abort, Release, Close, Delay, Restart, Requeue, Tick, Refuse, Side, Requestor, Acceptor, StepNote, Done, Skipped, Skips, DoesIf, ReadsIf, LinkStep, NodeStep, Steps, CallerMeets, CallerPushes, PushesIf, ReceiverMeets, Meets, CallerHears, ReceiverHears, CallerReads, ReceiverReads, Moves, Closes, IsMoment, IsMoved, caller_of, receiver_of, with_done, with_call, has_cell, is_over}
+use Rattle.dr_tie.specs.ByteWorlds.{ByteWorld, WorldStep, Submit, Open, Push, Move, Abort, Release, Close, Late, Restart, Requeue, Tick, Refuse, Side, Requestor, Acceptor, StepNote, Done, Skipped, Skips, DoesIf, ReadsIf, LinkStep, NodeStep, Steps, CallerMeets, CallerPushes, PushesIf, ReceiverMeets, Meets, CallerHears, ReceiverHears, CallerReads, ReceiverReads, Moves, Closes, IsMoment, IsMoved, caller_of, receiver_of, with_done, with_call, has_cell, is_over}
 use Rattle.dr_tie.specs.Shown.{Shows, ShowsAt, IsNamed, Comes, IsOffAt, IsSilent, EndsNone, HasNoneDue}
 use Rattle.dr_tie.proofs.Others.{shown_link, same_others, state_is}
 use Rattle.dr_tie.proofs.Restarting.{desks_after}
@@ -215,22 +215,22 @@ module _ (plan : Network) (certificate : Certificate) where
 
     -- ---- late marks
 
-    pub caller_late : is_late k.caller.core b.time ≡ true → (at : Moment) → at.now ≡ w.time → (x : Effect) (t : Desk) → Reacts (LedgerStep plan link.caller) k.caller.core (at_moment at Late) (b.desks link.caller) x t → CallerOutcome (Delay number Requestor) t (caller_did k x)
+    pub caller_late : is_late k.caller.core b.time ≡ true → (at : Moment) → at.now ≡ w.time → (x : Effect) (t : Desk) → Reacts (LedgerStep plan link.caller) k.caller.core (at_moment at LateMark) (b.desks link.caller) x t → CallerOutcome (Late number Requestor) t (caller_did k x)
     caller_late acts_late at time x t r = elim (cases_Bool link.caller_connected) [
       | inl on ↦ elim (late_at_caller plan certificate w number link k (b.desks link.caller) here (s.desks link.caller) shows on at time x t r) [
         | inl a ↦ inl (BreakCaller number a.0, refl, a.1)
         | inr a ↦ absurd (false≢true (sym a.2 ∙ (ap (λ (m : ℕ). is_late k.caller.core m) (time ∙ s.time) ∙ acts_late)))
       ]
-      | inr off ↦ off_caller (Delay number Requestor) (λ o. o) at Late x t off r
+      | inr off ↦ off_caller (Late number Requestor) (λ o. o) at LateMark x t off r
     ]
 
-    pub receiver_late : is_late k.receiver.core b.time ≡ true → (at : Moment) → at.now ≡ w.time → (x : Effect) (t : Desk) → Reacts (LedgerStep plan link.receiver) k.receiver.core (at_moment at Late) (b.desks link.receiver) x t → ReceiverOutcome (Delay number Acceptor) t (receiver_did k x)
+    pub receiver_late : is_late k.receiver.core b.time ≡ true → (at : Moment) → at.now ≡ w.time → (x : Effect) (t : Desk) → Reacts (LedgerStep plan link.receiver) k.receiver.core (at_moment at LateMark) (b.desks link.receiver) x t → ReceiverOutcome (Late number Acceptor) t (receiver_did k x)
     receiver_late acts_late at time x t r = elim (cases_Bool link.receiver_connected) [
       | inl on ↦ elim (late_at_receiver plan certificate w number link k (b.desks link.receiver) here (s.desks link.receiver) shows on at time x t r) [
         | inl a ↦ inl (BreakReceiver number, refl, a)
         | inr a ↦ absurd (false≢true (sym a.2 ∙ (ap (λ (m : ℕ). is_late k.receiver.core m) (time ∙ s.time) ∙ acts_late)))
       ]
-      | inr off ↦ off_receiver (Delay number Acceptor) (λ o. o) at Late x t off r
+      | inr off ↦ off_receiver (Late number Acceptor) (λ o. o) at LateMark x t off r
     ]
 
     -- ---- a release
@@ -379,8 +379,8 @@ module _ (plan : Network) (certificate : Certificate) where
     aborted Acceptor note new h = does_if (Abort number Acceptor) (has_cell AbortRequest k.receiver.core) note new (ReceiverMeets plan b number k AbortAsked new)
         (λ has m. receiver_met (Abort number Acceptor) note AbortAsked new (λ at time x t r. ∣ receiver_aborted has at time x t r ∣₁) m) h
 
-    pub delayed : (side : Side) (note : StepNote) (new : ByteWorld) → DoesIf (is_late (Rattle.dr_tie.specs.ByteWorlds.core_at k side) b.time) b note new (Meets plan b number k side Late new) → ∥ Result_of b (Delay number side) note w new ∥₁
-    delayed Requestor note new h = does_if (Delay number Requestor) (is_late k.caller.core b.time) note new (CallerMeets plan b number k Late new)
-        (λ acts_late m. caller_met (Delay number Requestor) note Late new (λ at time x t r. ∣ caller_late acts_late at time x t r ∣₁) m) h
-    delayed Acceptor note new h = does_if (Delay number Acceptor) (is_late k.receiver.core b.time) note new (ReceiverMeets plan b number k Late new)
-        (λ acts_late m. receiver_met (Delay number Acceptor) note Late new (λ at time x t r. ∣ receiver_late acts_late at time x t r ∣₁) m) h
+    pub delayed : (side : Side) (note : StepNote) (new : ByteWorld) → DoesIf (is_late (Rattle.dr_tie.specs.ByteWorlds.core_at k side) b.time) b note new (Meets plan b number k side LateMark new) → ∥ Result_of b (Late number side) note w new ∥₁
+    delayed Requestor note new h = does_if (Late number Requestor) (is_late k.caller.core b.time) note new (CallerMeets plan b number k LateMark new)
+        (λ acts_late m. caller_met (Late number Requestor) note LateMark new (λ at time x t r. ∣ caller_late acts_late at time x t r ∣₁) m) h
+    delayed Acceptor note new h = does_if (Late number Acceptor) (is_late k.receiver.core b.time) note new (ReceiverMeets plan b number k LateMark new)
+        (λ acts_late m. receiver_met (Late number Acceptor) note LateMark new (λ at time x t r. ∣ receiver_late acts_late at time x t r ∣₁) m) h

@@ -37,7 +37,7 @@ use Rattle.dr_tie.specs.Desks.{Desk, LedgerStep}
 use Rattle.dr_tie.specs.Channels.{Channel, ShowsLink}
 use Rattle.dr_tie.specs.Ties.{IsDeskOf, IsOpened, with_desk, Happens}
 use Rattle.dr_tie.specs.Closing.{IsEnded, closed}
-use Rattle.dr_tie.specs.ByteWorlds.{ByteWorld, beginning, WorldStep, Submit, Open, Push, Move, Abort, Release, Close, Delay, Restart, Requeue, Tick, Refuse, StepNote, Done, Skipped, Skips, DoesIf, LinkStep, NodeStep, Steps, Opens, Closes, is_over, caller_of, receiver_of, with_done, with_call, opened_between}
+use Rattle.dr_tie.specs.ByteWorlds.{ByteWorld, beginning, WorldStep, Submit, Open, Push, Move, Abort, Release, Close, Late, Restart, Requeue, Tick, Refuse, StepNote, Done, Skipped, Skips, DoesIf, LinkStep, NodeStep, Steps, Opens, Closes, is_over, caller_of, receiver_of, with_done, with_call, opened_between}
 use Rattle.dr_tie.specs.Shown.{Shows, ShowsAt, Comes, IsNamed, WorldStepsAreEvents, RunsOf, RunsKeepTheHeadline, WhatIsKeptStaysKept}
 use Rattle.dr_tie.proofs.Others.{shown_link}
 use Rattle.dr_site.proofs.Assembled.{is_site}
@@ -128,7 +128,7 @@ module _ (plan : Network) (certificate : Certificate) (certified : IsCertified p
   each (Move link side n) h = at_link (Move link side n) link _ (λ k l has here shows d. moved plan certificate certified b w s link l k has here shows side n note new d) (map_of.get b.links link) refl h
   each (Abort link side) h = at_link (Abort link side) link _ (λ k l has here shows d. aborted plan certificate certified b w s link l k has here shows side note new d) (map_of.get b.links link) refl h
   each (Release link) h = at_link (Release link) link _ (λ k l has here shows d. released plan certificate certified b w s link l k has here shows note new d) (map_of.get b.links link) refl h
-  each (Delay link side) h = at_link (Delay link side) link _ (λ k l has here shows d. delayed plan certificate certified b w s link l k has here shows side note new d) (map_of.get b.links link) refl h
+  each (Late link side) h = at_link (Late link side) link _ (λ k l has here shows d. delayed plan certificate certified b w s link l k has here shows side note new d) (map_of.get b.links link) refl h
   each (Close link) h = at_link (Close link) link _ (λ k l has here shows d. close_if link k l here shows (not (is_over k.caller.core && is_over k.receiver.core)) d) (map_of.get b.links link) refl h
   each (Open from to) (inl h) = ∣ opens from to h.1 ∣₁
   each (Open from to) (inr h) = ∣ skips plan certificate (Open from to) b new w note s h.1 ∣₁

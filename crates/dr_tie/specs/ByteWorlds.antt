@@ -27,7 +27,7 @@ use Rattle.dr_nego.specs.Fragments.{spellings}
 use Rattle.dr_session.specs.declared.ends.Core.{Core}
 use Rattle.dr_session.specs.declared.ends.Effect.{Effect}
 use Rattle.dr_session.specs.declared.ends.Input.{Input}
-use Rattle.dr_session.specs.declared.ends.Input.TheVariants.{Ended, Late, AbortAsked, ReleaseAsked, PushAsked}
+use Rattle.dr_session.specs.declared.ends.Input.TheVariants.{Ended, Late as LateMark, AbortAsked, ReleaseAsked, PushAsked}
 use Rattle.dr_session.specs.declared.ends.Moment.{Moment}
 use Rattle.dr_session.specs.Desks.{Arrive, Arrival}
 use Rattle.dr_session.specs.Ends.{accepting, requesting, is_gone}
@@ -95,7 +95,7 @@ pub data WorldStep : Type 0 where
   Abort : (link : ℕ) → (side : Side) → WorldStep
   Release : (link : ℕ) → WorldStep
   Close : (link : ℕ) → WorldStep
-  Delay : (link : ℕ) → (side : Side) → WorldStep  -- a late mark
+  Late : (link : ℕ) → (side : Side) → WorldStep
   Restart : (node : Text) → WorldStep
   Requeue : (node : Text) → (uid : Text) → (dest : Text) → WorldStep
   Tick : (ms : ℕ) → WorldStep
@@ -268,7 +268,7 @@ Steps plan certificate b (Abort link side) note new = LinkStep (map.get b.links 
 Steps plan certificate b (Release link) note new =
     LinkStep (map.get b.links link) b note new (λ k. DoesIf (is_idle k.caller.core && has_cell ReleaseRequest k.caller.core) b note new (CallerMeets plan b link k ReleaseAsked new))
 Steps plan certificate b (Close link) note new = LinkStep (map.get b.links link) b note new (λ k. DoesIf (not (is_over k.caller.core && is_over k.receiver.core)) b note new (Closes plan b link k new))
-Steps plan certificate b (Delay link side) note new = LinkStep (map.get b.links link) b note new (λ k. DoesIf (is_late (core_at k side) b.time) b note new (Meets plan b link k side Late new))
+Steps plan certificate b (Late link side) note new = LinkStep (map.get b.links link) b note new (λ k. DoesIf (is_late (core_at k side) b.time) b note new (Meets plan b link k side LateMark new))
 Steps plan certificate b (Restart node) note new = NodeStep plan node b note new ((note ≡ Done) × Restarts plan b node new)
 Steps plan certificate b (Requeue node uid dest) note new = NodeStep plan node b note new ((answer : Answer) × (t : Desk)
     × RequeuesAt (b.desks node) uid dest answer t × (note ≡ note_of answer) × (new ≡ with_call b node t))

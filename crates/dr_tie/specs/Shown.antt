@@ -18,7 +18,7 @@ use Rattle.dr_model.specs.Theorem.{Lasts}
 use Rattle.dr_tie.specs.Channels.{Terminal, Channel, ShowsLink}
 use Rattle.dr_tie.specs.Ties.{IsDeskOf, IsData}
 use Rattle.dr_tie.specs.Moves.{IsLeft, IsOfReceiver, IsOfCaller}
-use Rattle.dr_tie.specs.ByteWorlds.{ByteWorld, beginning, WorldStep, Submit, Open, Push, Move, Abort, Release, Close, Delay, Restart, Requeue, Tick, Refuse, Side, Requestor, Acceptor, StepNote, Skipped, Steps}
+use Rattle.dr_tie.specs.ByteWorlds.{ByteWorld, beginning, WorldStep, Submit, Open, Push, Move, Abort, Release, Close, Late, Restart, Requeue, Tick, Refuse, Side, Requestor, Acceptor, StepNote, Skipped, Steps}
 
 -- a number has a channel and the link that it is, or neither
 abbrev pub ShowsAt : Network → Certificate → Option Channel → Option Link → Type 0
@@ -46,8 +46,8 @@ IsNamed (Abort link Requestor) (BreakCaller number answer) = number ≡ link
 IsNamed (Abort link Acceptor) (BreakReceiver number) = number ≡ link
 IsNamed (Release link) (BreakCaller number answer) = number ≡ link
 IsNamed (Close link) (event.Close number answer) = number ≡ link
-IsNamed (Delay link Requestor) (BreakCaller number answer) = number ≡ link
-IsNamed (Delay link Acceptor) (BreakReceiver number) = number ≡ link
+IsNamed (Late link Requestor) (BreakCaller number answer) = number ≡ link
+IsNamed (Late link Acceptor) (BreakReceiver number) = number ≡ link
 IsNamed (Restart node) (event.Restart name answers) = name ≡ node
 IsNamed (Requeue node uid dest) (event.Requeue name row to answer) = (name ≡ node) × (row ≡ uid) × (to ≡ dest)
 IsNamed (Tick ms) (event.Tick passed) = passed ≡ ms
@@ -79,7 +79,7 @@ abbrev pub IsSilent : ByteWorld → World → WorldStep → Type 0
 IsSilent b w (Push number) = IsOffAt w number Requestor ⊎ ((link : Link) × IsLink w number link × HasNoneDue w link)
 IsSilent b w (Move number side n) = IsOffAt w number side ⊎ ((k : Channel) × (map.get b.links number ≡ Some k) × EndsNoneAt k side n)
 IsSilent b w (Abort number side) = IsOffAt w number side
-IsSilent b w (Delay number side) = IsOffAt w number side
+IsSilent b w (Late number side) = IsOffAt w number side
 IsSilent b w step = ⊥
 
 -- no event, where the step is skipped or silent, or one that the step may be

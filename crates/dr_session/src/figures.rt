@@ -1,3 +1,0 @@
-//! Worked figures, by computation.
-pub mod statuses;
-pub mod table;
