@@ -1,87 +1,52 @@
 -- A Move that ends an acceptance.
-use Rattle.std.proofs.Common.{◌≡◌, ◌≢◌, ℕ, Bool, true, false, List, [], ◌∷◌, ◌++◌, length, map, take, drop, Option, Some, None, Result, Ok, Err, refl, sym, ap, subst, ◌∙◌, append_assoc, inl, inr, ◌⊎◌}
-use Rattle.std.specs.List.{AllByRecursion, flat_map}
-use Rattle.std.specs.FinMap as map_of
+use Rattle.std.proofs.Common.{◌≡◌, ◌≢◌, ℕ, Bool, true, false, List, [], ◌∷◌, ◌++◌, take, drop, Option, Some, None, Result, Ok, Err, refl, sym, ap, subst, ◌∙◌, inl}
 use Rattle.std.proofs.lemmas.List.{append-nil}
-use Rattle.std.proofs.lemmas.Bool.{false≢true}
 use Rattle.dr_base.specs.Texts.{Text}
 use Rattle.dr_network.specs.Networks.{Network}
 use Rattle.dr_sound.specs.declared.certificate.Certificate.{Certificate}
-use Rattle.dr_site.specs.Parts.{Part, IsPartOf}
 use Rattle.dr_ulstate.specs.declared.table.Action.TheVariants.{Ae3}
-use Rattle.std.specs.Prelude.{◌&&◌, ◌+◌, nat_le, if◌then◌else◌}
-use Rattle.dr_ulstate.specs.Table.{cell}
 use Rattle.dr_ulstate.specs.declared.table.State.{State}
-use Rattle.dr_ulstate.specs.declared.table.Event.{Event as UpperEvent}
 use Rattle.dr_ulstate.specs.declared.table.Event.TheVariants.{AssociateAcPdu}
 use Rattle.dr_ulstate.specs.declared.table.State.TheVariants.{Sta1, Sta5, Sta6}
-use Rattle.dr_ulstate.specs.declared.phase.Next.TheVariants.{Idle}
-use Rattle.dr_ulstate.specs.Standing.{Standing, moved, runs_artim}
-use Rattle.dr_ulstate.specs.Phases.{in_its_phase, standing_of}
-use Rattle.std.specs.Prelude.{Contains, All}
+use Rattle.dr_ulstate.specs.Standing.{Standing, moved}
+use Rattle.dr_ulstate.specs.Phases.{in_its_phase}
 use Rattle.std.specs.Option.{option_map_or}
-use Rattle.std.proofs.lemmas.List.Elements.{All-contains}
-use Rattle.dr_base.specs.Syntaxes.{syntax_uid}
-use Rattle.dr_base.specs.declared.syntax.Syntax.{Syntax}
 use Rattle.dr_ulstate.specs.declared.table.Action.{Action}
 use Rattle.dr_ulstate.specs.Table.{action_of}
 use Rattle.dr_ulstate.specs.Phases.{state_of}
 use Rattle.dr_pdu.specs.declared.pdu.Pdu.{Pdu}
 use Rattle.dr_pdu.specs.declared.pdu.Pdu.TheVariants as pdu
-use Rattle.dr_pdu.specs.Written.{Fits, MeetsLimit, written}
+use Rattle.dr_pdu.specs.Written.{written}
 use Rattle.dr_dimse.specs.Taking.{Stage as Taken}
 use Rattle.dr_nego.specs.declared.agreed.Agreed.{Agreed}
-use Rattle.dr_nego.specs.declared.agreed.Pair.{Pair}
 use Rattle.dr_nego.specs.declared.fault.NegoFault.{NegoFault}
 use Rattle.dr_nego.specs.declared.fault.NegoFault.TheVariants as nego
-use Rattle.dr_nego.specs.Agreeing.{AssociateRq, AssociateAc, Concludes, AreAgreed, IsAgreed}
+use Rattle.dr_nego.specs.Agreeing.{AssociateRq, AssociateAc, Concludes}
 use Rattle.dr_pdu.specs.Feeding.{Feeding}
-use Rattle.dr_ledger.specs.declared.item.Instance.{Instance}
-use Rattle.dr_ledger.specs.declared.item.Outcome.TheVariants.{Broken}
-use Rattle.dr_ledger.specs.declared.fault.LedgerFault.TheVariants as fault
-use Rattle.dr_ledger.specs.Books.{Book}
-use Rattle.dr_ledger.specs.Replies.{Settles, IsWaiting}
 use Rattle.dr_ledger.proofs.Maps.{get_new}
 use Rattle.dr_model.proofs.Lookups.{numbers}
-use Rattle.dr_model.proofs.Safety.{book_here, book_there}
-use Rattle.dr_model.specs.Worlds.{World, Link, Stage, Contexts, Asking, Answering, Rejecting, Open, Storing, Replying, Gone, with_link, at_stage}
-use Rattle.dr_model.specs.Calls.{Answer, Settlement, ArmedAfter, store_outcome_of}
-use Rattle.dr_model.specs.Steps.{IsLink, Leaves, SettlesPending, pending as pending_of}
-use Rattle.dr_model.specs.Events.{Event, Step, AgreeCaller}
+use Rattle.dr_model.specs.Worlds.{World, Link, Stage, Contexts, Answering, Open, with_link, at_stage}
+use Rattle.dr_model.specs.Steps.{IsLink}
+use Rattle.dr_model.specs.Events.{AgreeCaller}
 use Rattle.dr_session.specs.declared.ends.Core.{Core}
 use Rattle.dr_session.specs.declared.ends.Effect.{Effect}
-use Rattle.dr_session.specs.declared.ends.Input.{Input}
 use Rattle.dr_session.specs.declared.ends.Input.TheVariants.{Acceptance}
-use Rattle.dr_session.specs.declared.ends.Pending.{Pending}
-use Rattle.dr_session.specs.declared.ends.Told.TheVariants.{Plain}
-use Rattle.dr_session.specs.declared.ends.LinkAction.{LinkAction}
-use Rattle.dr_session.specs.Desks.{DeskCall, DeskAnswer, Settle, Arrival, Upcoming, Settling}
+use Rattle.dr_session.specs.Desks.{DeskCall, DeskAnswer}
 use Rattle.dr_nego.specs.Fragments.{spellings}
 use Rattle.dr_session.specs.declared.ends.Moment.{Moment}
-use Rattle.dr_session.specs.Reactions.{Reaction, turn, occurs, event_of, has_waited, is_requestor, agrees, leaves_by, left, aborted, desk_failed, settling, effect, write, abort_pdu, pending}
-use Rattle.dr_session.specs.Turns.{Turn, Ends, Turns}
-use Rattle.dr_session.specs.Plays.{PlaysBytes, Reacts, at_moment, with_stage}
+use Rattle.dr_session.specs.Reactions.{turn, agrees, effect}
+use Rattle.dr_session.specs.Turns.{Turns}
+use Rattle.dr_session.specs.Plays.{PlaysBytes, with_stage}
 use Rattle.dr_session.specs.Telling.{Looks, TellsAcceptance}
 use Rattle.dr_session.specs.declared.ends.Told.{Told}
 use Rattle.dr_session.specs.declared.ends.Told.TheVariants.{Agreement}
-use Rattle.std.specs.FinSet as set
-use Rattle.std.specs.FinSet.{FinSet}
-use Rattle.std.specs.Prelude.{not}
-use Rattle.std.proofs.lemmas.Cmp.{nat_list_cmp_total}
-use Rattle.dr_ledger.proofs.Maps.{texts, ties_itself}
-use Rattle.dr_model.specs.Calls.{StoreOutcome, Written, Untried, Failed}
-use Rattle.dr_model.specs.Worlds.{with_book, with_armed, same_text}
-use Rattle.dr_base.specs.Texts.{text_cmp}
-use Rattle.dr_tie.specs.Desks.{Desk, ArmedBy, LedgerStep}
+use Rattle.dr_tie.specs.Desks.{Desk, LedgerStep}
 use Rattle.std.proofs.lemmas.Option.{same_Some}
-use Rattle.dr_tie.specs.Channels.{contexts_of, hop_contexts, IsAsking, IsReceiver, Terminal, Channel, Carries, ShowsLink, ToCaller, ToReceiver, IsCaller, IsAt, IsOff, IsControl, bytes_of, site_of}
-use Rattle.dr_tie.specs.Ties.{IsFirst, caller_read, HearsAcceptance, IsDeskOf, OnlyHere, Happens, caller_as, caller_did, IsLeaving}
+use Rattle.dr_tie.specs.Channels.{contexts_of, hop_contexts, IsAsking, IsReceiver, Channel, Carries, ShowsLink, ToCaller, ToReceiver, IsCaller, site_of}
+use Rattle.dr_tie.specs.Ties.{IsFirst, caller_read, HearsAcceptance, IsDeskOf, Happens}
 use Rattle.dr_tie.proofs.Leaving.{AreFit, only_link, acts_by}
 use Rattle.dr_tie.proofs.Agreeing.{front_is, plays_alone}
 use Rattle.dr_tie.proofs.Fronts.{hears_one, nothing_yet}
-use Rattle.dr_tie.proofs.ContextSets.{has_context, from_context}
-use Rattle.dr_model.proofs.OneReply.{contexts_exact, contexts_total}
-use Rattle.std.specs.Cmp.{both_ways}
 
 -- ---- one acceptance agrees on one set of contexts
 
@@ -130,7 +95,7 @@ module _ (plan : Network) (certificate : Certificate) (w : World) (number : ℕ)
       let t1 : Turns cstep (turn moment (with_stage stage c) (Agreement answer)) s x t = subst (λ (y : Told). Turns cstep (turn moment (with_stage stage c) y) s x t) is turns in
       let t2 : Turns cstep (turn moment c (Agreement answer)) s x t = subst (λ (y : Taken). Turns cstep (turn moment (with_stage y c) (Agreement answer)) s x t) same t1 in
       let a : Turns cstep (agrees answer moment (record c { phase = in_its_phase (moved asking.0.0 Sta6 moment.now) })) s x t =
-          acts_by cstep moment c (Agreement answer) AssociateAcPdu true Sta5 Ae3 Sta6 s t x asking.0 refl refl refl t2 in
+      acts_by cstep moment c (Agreement answer) AssociateAcPdu true Sta5 Ae3 Sta6 s t x asking.0 refl refl refl t2 in
       let r = concluded rq ac agreed answer good h (λ e. subst (λ (y : Result Agreed NegoFault). Turns cstep (agrees y moment (record c { phase = in_its_phase (moved asking.0.0 Sta6 moment.now) })) s x t) e a) in
       let b : (x ≡ effect [] (opened r.0)) × (t ≡ s) = subst (λ (y : Result Agreed NegoFault). Turns cstep (agrees y moment (record c { phase = in_its_phase (moved asking.0.0 Sta6 moment.now) })) s x t) r.1 a in
       (r.0, r.2, b.0, b.1)
@@ -155,7 +120,7 @@ module _ (plan : Network) (certificate : Certificate) (w : World) (number : ℕ)
       receiver = open_still link.receiver_connected accepted link.caller k.receiver.core (subst (λ (st : Stage). IsReceiver link.receiver_connected st link.caller k.receiver.core) answering shows.receiver);
       to_receiver = λ o. (
           let old : Carries k.receiver k.to_receiver (ToReceiver (Answering accepted) link.receiver c k.receiver.core) link.caller_connected =
-              subst (λ (st : Stage). Carries k.receiver k.to_receiver (ToReceiver st link.receiver c k.receiver.core) link.caller_connected) answering (shows.to_receiver o) in
+          subst (λ (st : Stage). Carries k.receiver k.to_receiver (ToReceiver st link.receiver c k.receiver.core) link.caller_connected) answering (shows.to_receiver o) in
           record { coming = old.coming; is = old.is; controls = old.controls; joined = ap (λ (l : List ℕ). k.receiver.ear.kept ++ l) (append-nil k.to_receiver) ∙ old.joined; works = old.works; waits = old.waits; fits = old.fits; control = old.control; none = old.none });
       to_caller = λ o. record {
         coming = [];
@@ -182,7 +147,7 @@ module _ (plan : Network) (certificate : Certificate) (w : World) (number : ℕ)
       let h = hears_one k.caller.ear new (take n k.to_caller) plays.0 (pdu.AssociateAc ac) carries.works fits.0.0 fits.0.1 (whole ∙ ap written f.0) plays.1 in
       let r = plays_alone cstep moment c (Acceptance ac) plays.0 s t x h.0 plays.2 in
       let action : action_of AssociateAcPdu (state_of c.phase) ≡ Some Ae3 =
-          ap (λ (z : State). action_of AssociateAcPdu z) (ap (λ (o : Option Standing). option_map_or (λ (b : Standing). b.state) o Sta1) asking.0.1 ∙ asking.0.3) in
+      ap (λ (z : State). action_of AssociateAcPdu z) (ap (λ (o : Option Standing). option_map_or (λ (b : Standing). b.state) o Sta1) asking.0.1 ∙ asking.0.3) in
       let looked = subst (λ (a : Option Action). Looks a c (Acceptance ac) r.told r.stage) action r.tells in
       let told : TellsAcceptance (Some rq) ac r.told = subst (λ (o : Option AssociateRq). TellsAcceptance o ac r.told) carries.is.3 looked.0 in
       let b = turned r.told r.stage rq ac agreed carries.is.4 told.0 told.1 told.2 looked.1 r.turns in

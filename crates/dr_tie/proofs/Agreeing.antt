@@ -1,15 +1,9 @@
 -- A Move that ends the request.
-use Rattle.std.proofs.Common.{◌≡◌, ◌≢◌, ℕ, ◌<◌, ◌≤◌, Bool, true, false, List, [], ◌∷◌, ◌++◌, length, map, take, drop, Option, Some, None, Result, Ok, Err, Contains, refl, sym, ap, subst, ◌∙◌, append_assoc, inl, inr, ◌⊎◌}
-use Rattle.std.specs.Prelude.{◌==◌, ◌↔◌}
-use Rattle.std.specs.List.{AllByRecursion, flat_map}
-use Rattle.std.specs.Option.{option_map_or}
-use Rattle.std.specs.FinMap as map_of
-use Rattle.std.specs.FinSet as set
+use Rattle.std.proofs.Common.{◌≡◌, ℕ, Bool, true, false, List, [], ◌∷◌, ◌++◌, map, take, drop, Option, Some, Result, sym, ap, subst, ◌∙◌, append_assoc}
 use Rattle.std.proofs.lemmas.List.{append-nil, take-append-drop, append_cancel_left}
-use Rattle.dr_base.specs.Texts.{Text}
 use Rattle.dr_site.specs.Parts.{Part}
 use Rattle.dr_ulstate.specs.declared.table.State.{State}
-use Rattle.dr_ulstate.specs.declared.table.State.TheVariants.{Sta1, Sta2, Sta3, Sta6, Sta13}
+use Rattle.dr_ulstate.specs.declared.table.State.TheVariants.{Sta2, Sta3, Sta13}
 use Rattle.dr_ulstate.specs.declared.table.Action.{Action}
 use Rattle.dr_ulstate.specs.declared.table.Event.{Event}
 use Rattle.dr_ulstate.specs.declared.table.Event.TheVariants.{AssociateRqPdu, AcceptResponse, RejectResponse}
@@ -19,11 +13,9 @@ use Rattle.dr_ulstate.specs.Standing.{Standing, moved}
 use Rattle.dr_ulstate.specs.Phases.{standing_of, next_stepped, stepped_from, after_cell, in_its_phase}
 use Rattle.dr_pdu.specs.declared.pdu.Pdu.{Pdu}
 use Rattle.dr_pdu.specs.declared.pdu.Pdu.TheVariants as pdu
-use Rattle.dr_pdu.specs.Feeding.{Feeding}
 use Rattle.dr_pdu.specs.Written.{Fits, MeetsLimit, written}
 use Rattle.dr_pdu.proofs.FrontLemmas.{one_spelling}
 use Rattle.dr_pdu.proofs.WrittenLemmas.{written_spells}
-use Rattle.dr_dimse.specs.Taking.{Stage as Taken}
 use Rattle.dr_session.specs.declared.ends.Core.{Core}
 use Rattle.dr_session.specs.declared.ends.Effect.{Effect}
 use Rattle.dr_session.specs.declared.ends.Input.{Input}
@@ -34,15 +26,15 @@ use Rattle.dr_session.specs.declared.ends.LinkAction.{LinkAction}
 use Rattle.dr_session.specs.Desks.{DeskCall, DeskAnswer}
 use Rattle.dr_nego.specs.Fragments.{spellings}
 use Rattle.dr_session.specs.declared.ends.Moment.{Moment}
-use Rattle.dr_session.specs.Reactions.{Reaction, turn, moves, is_acceptable, is_taken_at, decides, decides_at, stepped_by, effect, write, rejected, rj}
+use Rattle.dr_session.specs.Reactions.{turn, moves, is_acceptable, is_taken_at, decides, decides_at, stepped_by, effect, write, rejected, rj}
 use Rattle.dr_session.specs.Turns.{Turns}
-use Rattle.dr_session.specs.Plays.{Plays, PlaysBytes, Reacts, At, at_moment, with_stage}
+use Rattle.dr_session.specs.Plays.{Plays, Reacts, at_moment}
 use Rattle.dr_nego.specs.declared.answering.Answer.{Answer}
-use Rattle.dr_nego.specs.declared.answering.Answer.TheVariants.{Accept, Reject, TooSmall}
+use Rattle.dr_nego.specs.declared.answering.Answer.TheVariants.{Accept, Reject}
 use Rattle.dr_nego.specs.declared.agreed.Agreed.{Agreed}
 use Rattle.dr_nego.specs.Agreeing.{AssociateRq, AssociateAc}
 use Rattle.dr_nego.specs.Answering.{answer}
-use Rattle.dr_tie.specs.Channels.{Terminal, Channel, Carries, ShowsLink, bytes_of, IsAt}
+use Rattle.dr_tie.specs.Channels.{Terminal, IsAt}
 use Rattle.dr_tie.specs.Ties.{IsFirst}
 
 -- ---- which PDU is the front one
@@ -53,7 +45,7 @@ front_is t wire n front p pdus (more, all, fits, meets) whole joined fits_p meet
     let same : written front ++ spellings more ≡ written p ++ spellings pdus = sym all ∙ joined in
     let one = one_spelling t.ear.limit t.ear.limit (written front) (written p) (spellings more) (spellings pdus) front p (written_spells t.ear.limit front fits meets) (written_spells t.ear.limit p fits_p meets_p) same in
     let text : written p ++ drop n wire ≡ written p ++ spellings pdus =
-        ap (λ (l : List ℕ). l ++ drop n wire) (sym one.0 ∙ sym whole) ∙ (append_assoc t.ear.kept (take n wire) (drop n wire) ∙ (ap (λ (l : List ℕ). t.ear.kept ++ l) (take-append-drop n wire) ∙ joined)) in
+    ap (λ (l : List ℕ). l ++ drop n wire) (sym one.0 ∙ sym whole) ∙ (append_assoc t.ear.kept (take n wire) (drop n wire) ∙ (ap (λ (l : List ℕ). t.ear.kept ++ l) (take-append-drop n wire) ∙ joined)) in
     (one.1, append_cancel_left (written p) (drop n wire) (spellings pdus) text)
 
 module _ {S : Type 0} (step : S → DeskCall → DeskAnswer → S → Type 0) where
@@ -63,10 +55,10 @@ module _ {S : Type 0} (step : S → DeskCall → DeskAnswer → S → Type 0) wh
       let p : Plays step c (at_moment moment i ∷ []) s x.acts x.core u = subst (λ (is : List Input). Plays step c (map (at_moment moment) is) s x.acts x.core u) one h in
       by_one p
     where
-    by_one : Plays step c (at_moment moment i ∷ []) s x.acts x.core u → Reacts step c (at_moment moment i) s x u
-    by_one (y, m, later, r, (none, core, port), acts) =
-        let same : y ≡ x = ap (λ (l : List LinkAction). effect l y.core) (sym (acts ∙ (ap (λ (l : List LinkAction). y.acts ++ l) none ∙ append-nil y.acts))) ∙ ap (λ (d : Core). effect x.acts d) (sym core) in
-        subst (λ (e : Effect). Reacts step c (at_moment moment i) s e u) same (subst (λ (v : S). Reacts step c (at_moment moment i) s y v) (sym port) r)
+      by_one : Plays step c (at_moment moment i ∷ []) s x.acts x.core u → Reacts step c (at_moment moment i) s x u
+      by_one (y, m, later, r, (none, core, port), acts) =
+          let same : y ≡ x = ap (λ (l : List LinkAction). effect l y.core) (sym (acts ∙ (ap (λ (l : List LinkAction). y.acts ++ l) none ∙ append-nil y.acts))) ∙ ap (λ (d : Core). effect x.acts d) (sym core) in
+          subst (λ (e : Effect). Reacts step c (at_moment moment i) s e u) same (subst (λ (v : S). Reacts step c (at_moment moment i) s y v) (sym port) r)
 
 -- ---- steps of an end that stands somewhere
 

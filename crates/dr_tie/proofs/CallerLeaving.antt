@@ -1,6 +1,6 @@
 -- A caller leaves, and settles what it had pending.
-use Rattle.std.proofs.Common.{◌≡◌, ◌≢◌, ℕ, Bool, true, false, List, [], ◌∷◌, ◌++◌, length, map, take, drop, Option, Some, None, Result, Ok, Err, refl, sym, ap, subst, ◌∙◌, append_assoc, inl, inr, ◌⊎◌}
-use Rattle.std.specs.List.{AllByRecursion, flat_map}
+use Rattle.std.proofs.Common.{◌≡◌, ℕ, Bool, true, false, List, [], ◌∷◌, ◌++◌, Option, Some, None, Ok, Err, refl, sym, ap, subst, ◌∙◌, inl, inr, ◌⊎◌}
+use Rattle.std.specs.List.{AllByRecursion}
 use Rattle.std.specs.FinMap as map_of
 use Rattle.std.proofs.lemmas.List.{append-nil}
 use Rattle.std.proofs.lemmas.Bool.{false≢true}
@@ -17,7 +17,7 @@ use Rattle.dr_ulstate.specs.declared.table.Event.TheVariants.{TransportClosed, A
 use Rattle.dr_ulstate.specs.declared.table.State.TheVariants.{Sta1, Sta5, Sta6, Sta7, Sta13}
 use Rattle.dr_ulstate.specs.declared.phase.Next.TheVariants.{Idle}
 use Rattle.dr_ulstate.specs.Standing.{Standing, moved, runs_artim, has_expired}
-use Rattle.dr_ulstate.specs.Phases.{in_its_phase, standing_of, next_expired}
+use Rattle.dr_ulstate.specs.Phases.{in_its_phase, next_expired}
 use Rattle.std.specs.Option.{option_map_or}
 use Rattle.std.specs.Prelude.{is_some}
 use Rattle.dr_pdu.specs.declared.pdu.Pdu.{Pdu}
@@ -33,10 +33,10 @@ use Rattle.dr_ledger.specs.Replies.{Settles, IsWaiting}
 use Rattle.dr_ledger.proofs.Maps.{get_new}
 use Rattle.dr_model.proofs.Lookups.{numbers}
 use Rattle.dr_model.proofs.Safety.{book_here, book_there}
-use Rattle.dr_model.specs.Worlds.{World, Link, Stage, Contexts, Asking, Answering, Rejecting, Open, Storing, Replying, Gone, with_link, without_caller}
-use Rattle.dr_model.specs.Calls.{Answer, Settlement, ArmedAfter, store_outcome_of}
-use Rattle.dr_model.specs.Steps.{IsLink, Leaves, SettlesPending, pending as pending_of}
-use Rattle.dr_model.specs.Events.{Event, Step, BreakCaller}
+use Rattle.dr_model.specs.Worlds.{World, Link, Stage, Asking, Answering, Rejecting, Open, Storing, Replying, Gone, with_link, without_caller}
+use Rattle.dr_model.specs.Calls.{Answer, ArmedAfter, store_outcome_of}
+use Rattle.dr_model.specs.Steps.{IsLink, SettlesPending, pending as pending_of}
+use Rattle.dr_model.specs.Events.{BreakCaller}
 use Rattle.dr_session.specs.declared.ends.Core.{Core}
 use Rattle.dr_session.specs.declared.ends.Effect.{Effect}
 use Rattle.dr_session.specs.declared.ends.Input.{Input}
@@ -47,9 +47,9 @@ use Rattle.dr_session.specs.declared.ends.LinkAction.{LinkAction}
 use Rattle.dr_session.specs.Desks.{DeskCall, DeskAnswer, Settle, Arrival, Upcoming, Settling}
 use Rattle.dr_nego.specs.Fragments.{spellings}
 use Rattle.dr_session.specs.declared.ends.Moment.{Moment}
-use Rattle.dr_session.specs.Reactions.{Reaction, turn, occurs, event_of, has_waited, is_requestor, is_idle, leaves_by, left, aborted, desk_failed, settling, effect, write, abort_pdu, pending}
-use Rattle.dr_session.specs.Turns.{Turn, Ends, Turns}
-use Rattle.dr_session.specs.Plays.{Reacts, At, at_moment}
+use Rattle.dr_session.specs.Reactions.{turn, occurs, event_of, has_waited, is_requestor, is_idle, leaves_by, left, aborted, desk_failed, settling, effect, write, abort_pdu, pending}
+use Rattle.dr_session.specs.Turns.{Ends, Turns}
+use Rattle.dr_session.specs.Plays.{Reacts, at_moment}
 use Rattle.std.specs.FinSet as set
 use Rattle.std.specs.FinSet.{FinSet}
 use Rattle.std.specs.Prelude.{not}
@@ -59,8 +59,8 @@ use Rattle.dr_model.specs.Calls.{StoreOutcome, Written, Untried, Failed}
 use Rattle.dr_model.specs.Worlds.{with_book, with_armed, same_text}
 use Rattle.dr_base.specs.Texts.{text_cmp}
 use Rattle.dr_tie.specs.Desks.{Desk, ArmedBy, LedgerStep}
-use Rattle.dr_tie.specs.Channels.{Terminal, Channel, Carries, ShowsLink, ToCaller, ToReceiver, IsCaller, IsAt, IsOff, IsControl, bytes_of, AgreesOn, site_of, site_in}
-use Rattle.dr_tie.specs.Ties.{IsDeskOf, OnlyHere, Happens, caller_as, caller_did, IsLeaving, CallerLeaves, LateAtCaller, ReleaseLeaves, is_late}
+use Rattle.dr_tie.specs.Channels.{Terminal, Channel, Carries, ShowsLink, ToReceiver, IsCaller, IsAt, IsOff, IsControl, bytes_of, AgreesOn, site_of, site_in}
+use Rattle.dr_tie.specs.Ties.{IsDeskOf, Happens, caller_as, caller_did, CallerLeaves, LateAtCaller, ReleaseLeaves, is_late}
 use Rattle.dr_tie.proofs.Leaving.{AreFit, carries_more, only_link, acts_by, plain_turn, abort_fits}
 
 -- ---- what is pending
@@ -137,10 +137,11 @@ armed_after Would armed name Failed old new is (inl same) = (armed, inl refl, sa
 armed_after Would armed name Failed old new is (inr (would, was, now)) =
     (set.remove armed name, inr (would, sym is ∙ was, refl), now ∙ sym (removed name (ties_itself texts name)), λ other apart. kept other apart)
   where
-  removed : (q : Text) → same_text q name ≡ true → set.contains (set.remove armed name) q ≡ false
-  removed q tie = set.contains-remove nat_list_cmp_total armed name q ∙ ap (λ (b : Bool). not b && set.contains armed q) tie
-  kept : (q : Text) → same_text q name ≡ false → set.contains (set.remove armed name) q ≡ set.contains armed q
-  kept q apart = set.contains-remove nat_list_cmp_total armed name q ∙ ap (λ (b : Bool). not b && set.contains armed q) apart
+    removed : (q : Text) → same_text q name ≡ true → set.contains (set.remove armed name) q ≡ false
+    removed q tie = set.contains-remove nat_list_cmp_total armed name q ∙ ap (λ (b : Bool). not b && set.contains armed q) tie
+
+    kept : (q : Text) → same_text q name ≡ false → set.contains (set.remove armed name) q ≡ set.contains armed q
+    kept q apart = set.contains-remove nat_list_cmp_total armed name q ∙ ap (λ (b : Bool). not b && set.contains armed q) apart
 
 -- ---- the event
 
@@ -168,8 +169,8 @@ module _ (plan : Network) (certificate : Certificate) (w : World) (number : ℕ)
   }
   middle (Some item) (Some answer) h =
       let would : ArmedBy (IsWaiting (w.books link.caller) item.uid link.receiver) s.armed (store_outcome_of answer) t.armed =
-          subst (λ (p : Text). ArmedBy (IsWaiting (w.books link.caller) item.uid p) s.armed (store_outcome_of answer) t.armed) shows.peer
-          (subst (λ (b : Book). ArmedBy (IsWaiting b item.uid k.caller.core.peer) s.armed (store_outcome_of answer) t.armed) desk.0 h.1) in
+      subst (λ (p : Text). ArmedBy (IsWaiting (w.books link.caller) item.uid p) s.armed (store_outcome_of answer) t.armed) shows.peer
+      (subst (λ (b : Book). ArmedBy (IsWaiting b item.uid k.caller.core.peer) s.armed (store_outcome_of answer) t.armed) desk.0 h.1) in
       let a = armed_after (IsWaiting (w.books link.caller) item.uid link.receiver) w.armed link.caller (store_outcome_of answer) s.armed t.armed desk.1 would in
       record {
         mid = with_armed (with_book w link.caller t.book) a.0;
@@ -191,35 +192,35 @@ module _ (plan : Network) (certificate : Certificate) (w : World) (number : ℕ)
       → IsOff x.core true → bytes_of x.acts ≡ spellings pdus → AllByRecursion IsControl pdus → AreFit k.receiver.ear.limit pdus
       → Happens plan certificate w number (BreakCaller number answer) link.caller t (caller_as k wire ear x)
   caller_gone answer pdus does site peer proposed off bytes control fits = (
-    let m = middle (pending_of link.stage) answer does in
-    record {
-    after = with_link m.mid number (without_caller link);
-    link = without_caller link;
-    step = record { link = link; at = here; on = on; mid = m.mid; broken = m.settles; is = refl };
-    here = get_new numbers m.mid.links number (without_caller link);
-    desk = m.desk_is;
-    only = record {
-      books = m.books;
-      links = λ other apart. (only_link m.mid number (without_caller link) link.caller).links other apart ∙ ap (λ (l : _). map_of.get l other) m.links;
-      armed = m.armed;
-      rest = m.rest;
-    };
-    shows = record {
-      hop = shows.hop;
-      from = subst (λ (p : Option Part). IsPartOf plan certificate (site_in p) × ((site_in p).name ≡ link.caller) × (ear.limit ≡ (site_in p).max_pdu) × (p ≡ Some (site_in p))) (sym site) (shows.from.0, shows.from.1, limit ∙ shows.from.2, shows.from.3);
-      to = shows.to;
-      peer = peer ∙ shows.peer;
-      caller_agrees = λ o. absurd (false≢true o);
-      receiver_agrees = λ o. (let A : Option Part → Type 0 = λ p. AgreesOn (site_in p) (site_of k.receiver.core) (site_in p).max_pdu k.receiver.core in subst A (sym site) (shows.receiver_agrees o));
-      caller = off;
-      receiver = shows.receiver;
-      to_receiver = λ o. subst (λ (l : List ℕ). Carries k.receiver (k.to_receiver ++ l) (ToReceiver link.stage link.receiver x.core k.receiver.core) false) (sym bytes)
-          (carries_map k.receiver (k.to_receiver ++ spellings pdus) (ToReceiver link.stage link.receiver k.caller.core k.receiver.core) (ToReceiver link.stage link.receiver x.core k.receiver.core) false
-          (λ l h. still_coming link.stage link.receiver k.caller.core x.core k.receiver.core l proposed site off.0 h)
-          (carries_more k.receiver k.to_receiver (ToReceiver link.stage link.receiver k.caller.core k.receiver.core) link.caller_connected (shows.to_receiver o) pdus control fits));
-      to_caller = λ o. absurd (false≢true o);
-    };
-  })
+      let m = middle (pending_of link.stage) answer does in
+      record {
+        after = with_link m.mid number (without_caller link);
+        link = without_caller link;
+        step = record { link = link; at = here; on = on; mid = m.mid; broken = m.settles; is = refl };
+        here = get_new numbers m.mid.links number (without_caller link);
+        desk = m.desk_is;
+        only = record {
+          books = m.books;
+          links = λ other apart. (only_link m.mid number (without_caller link) link.caller).links other apart ∙ ap (λ (l : _). map_of.get l other) m.links;
+          armed = m.armed;
+          rest = m.rest;
+        };
+        shows = record {
+          hop = shows.hop;
+          from = subst (λ (p : Option Part). IsPartOf plan certificate (site_in p) × ((site_in p).name ≡ link.caller) × (ear.limit ≡ (site_in p).max_pdu) × (p ≡ Some (site_in p))) (sym site) (shows.from.0, shows.from.1, limit ∙ shows.from.2, shows.from.3);
+          to = shows.to;
+          peer = peer ∙ shows.peer;
+          caller_agrees = λ o. absurd (false≢true o);
+          receiver_agrees = λ o. (let A : Option Part → Type 0 = λ p. AgreesOn (site_in p) (site_of k.receiver.core) (site_in p).max_pdu k.receiver.core in subst A (sym site) (shows.receiver_agrees o));
+          caller = off;
+          receiver = shows.receiver;
+          to_receiver = λ o. subst (λ (l : List ℕ). Carries k.receiver (k.to_receiver ++ l) (ToReceiver link.stage link.receiver x.core k.receiver.core) false) (sym bytes)
+              (carries_map k.receiver (k.to_receiver ++ spellings pdus) (ToReceiver link.stage link.receiver k.caller.core k.receiver.core) (ToReceiver link.stage link.receiver x.core k.receiver.core) false
+              (λ l h. still_coming link.stage link.receiver k.caller.core x.core k.receiver.core l proposed site off.0 h)
+              (carries_more k.receiver k.to_receiver (ToReceiver link.stage link.receiver k.caller.core k.receiver.core) link.caller_connected (shows.to_receiver o) pdus control fits));
+          to_caller = λ o. absurd (false≢true o);
+        };
+      })
 
   abbrev cstep : Desk → DeskCall → DeskAnswer → Desk → Type 0
   cstep = LedgerStep plan link.caller
@@ -235,19 +236,21 @@ module _ (plan : Network) (certificate : Certificate) (w : World) (number : ℕ)
       let r = left_of plan link.caller (pending_of link.stage) moment.now acts core s t x (has_still (pending_of link.stage) caller_at.1) h in
       (r.0, by_left r.0 (at_time (pending_of link.stage) r.0 r.1) r.2)
     where
-    has_still : (item : Option Instance) → HasPendingOf item k.caller.core → HasPendingOf item core
-    has_still None none = same ∙ none
-    has_still (Some item) (id, has) = (id, same ∙ has)
-    at_time : (item : Option Instance) (answer : Option Answer) → Does plan link.caller core moment.now item answer s t → Does plan link.caller k.caller.core w.time item answer s t
-    at_time None None d = d
-    at_time (Some item) (Some answer) d = subst (λ (n : ℕ). cstep s (Settle item.uid k.caller.core.peer Broken n) (Settling answer) t) time (subst (λ (p : Text). cstep s (Settle item.uid p Broken moment.now) (Settling answer) t) peer d)
-    at_time None (Some answer) d = absurd d
-    at_time (Some item) None d = absurd d
-    by_left : (answer : Option Answer) → Does plan link.caller k.caller.core w.time (pending_of link.stage) answer s t → IsLeft acts core x → Happens plan certificate w number (BreakCaller number answer) link.caller t (caller_as k wire ear x)
-    by_left answer d (inl e) = caller_gone answer pdus d (ap (λ (y : Effect). y.core.site) e ∙ site) (ap (λ (y : Effect). y.core.peer) e ∙ peer) (ap (λ (y : Effect). y.core.proposed) e ∙ proposed)
-        (subst (λ (y : Effect). IsOff y.core true) (sym e) off) (ap (λ (y : Effect). bytes_of y.acts) e ∙ bytes) control fits
-    by_left answer d (inr e) = caller_gone answer pdus d (ap (λ (y : Effect). y.core.site) e ∙ site) (ap (λ (y : Effect). y.core.peer) e ∙ peer) (ap (λ (y : Effect). y.core.proposed) e ∙ proposed)
-        (subst (λ (y : Effect). IsOff y.core true) (sym e) off) (ap (λ (y : Effect). bytes_of y.acts) e ∙ bytes) control fits
+      has_still : (item : Option Instance) → HasPendingOf item k.caller.core → HasPendingOf item core
+      has_still None none = same ∙ none
+      has_still (Some item) (id, has) = (id, same ∙ has)
+
+      at_time : (item : Option Instance) (answer : Option Answer) → Does plan link.caller core moment.now item answer s t → Does plan link.caller k.caller.core w.time item answer s t
+      at_time None None d = d
+      at_time (Some item) (Some answer) d = subst (λ (n : ℕ). cstep s (Settle item.uid k.caller.core.peer Broken n) (Settling answer) t) time (subst (λ (p : Text). cstep s (Settle item.uid p Broken moment.now) (Settling answer) t) peer d)
+      at_time None (Some answer) d = absurd d
+      at_time (Some item) None d = absurd d
+
+      by_left : (answer : Option Answer) → Does plan link.caller k.caller.core w.time (pending_of link.stage) answer s t → IsLeft acts core x → Happens plan certificate w number (BreakCaller number answer) link.caller t (caller_as k wire ear x)
+      by_left answer d (inl e) = caller_gone answer pdus d (ap (λ (y : Effect). y.core.site) e ∙ site) (ap (λ (y : Effect). y.core.peer) e ∙ peer) (ap (λ (y : Effect). y.core.proposed) e ∙ proposed)
+          (subst (λ (y : Effect). IsOff y.core true) (sym e) off) (ap (λ (y : Effect). bytes_of y.acts) e ∙ bytes) control fits
+      by_left answer d (inr e) = caller_gone answer pdus d (ap (λ (y : Effect). y.core.site) e ∙ site) (ap (λ (y : Effect). y.core.peer) e ∙ peer) (ap (λ (y : Effect). y.core.proposed) e ∙ proposed)
+          (subst (λ (y : Effect). IsOff y.core true) (sym e) off) (ap (λ (y : Effect). bytes_of y.acts) e ∙ bytes) control fits
 
   pub caller_ended : (moment : Moment) → moment.now ≡ w.time → Turns cstep (turn moment k.caller.core (Plain Ended)) s x t → (answer : Option Answer) × Happens plan certificate w number (BreakCaller number answer) link.caller t (caller_as k wire ear x)
   caller_ended moment time h = left_from moment time (record k.caller.core { phase = Idle }) [] [] refl refl refl refl (refl, inl refl) refl tt tt (elim caller_at.0 [
@@ -289,19 +292,19 @@ module _ (plan : Network) (certificate : Certificate) (w : World) (number : ℕ)
   late_in : (state : State) → (runs_artim state ≡ false) → (cell AbortRequest state true true ≡ Some (Aa1, Sta13)) → IsAt k.caller.core true state → LateResult
   late_in state artim is at =
       let e : next_expired k.caller.core.phase moment.now ≡ false =
-          ap (λ (o : Option Standing). option_map_or (λ (a : Standing). has_expired a moment.now) o false) at.1 ∙ (ap (λ (st : State). runs_artim st && nat_le (at.0.since + 30000) moment.now) at.3 ∙ ap (λ (b : Bool). b && nat_le (at.0.since + 30000) moment.now) artim) in
+      ap (λ (o : Option Standing). option_map_or (λ (a : Standing). has_expired a moment.now) o false) at.1 ∙ (ap (λ (st : State). runs_artim st && nat_le (at.0.since + 30000) moment.now) at.3 ∙ ap (λ (b : Bool). b && nat_le (at.0.since + 30000) moment.now) artim) in
       by_wait (is_requestor k.caller.core && has_waited k.caller.core.awaits moment.now) refl e
     where
-    by_wait : (b : Bool) → (is_requestor k.caller.core && has_waited k.caller.core.awaits moment.now) ≡ b → next_expired k.caller.core.phase moment.now ≡ false → LateResult
-    by_wait true waited e =
-        let event : event_of (Plain Late) moment k.caller.core ≡ Some AbortRequest = ap (λ (b : Bool). late_event b (is_requestor k.caller.core && has_waited k.caller.core.awaits moment.now)) e ∙ ap (λ (b : Bool). late_event false b) waited in
-        inl (left_from plan certificate w number link k s here desk shows on k.caller.ear k.to_caller refl x t moment time (aborted (record k.caller.core { phase = in_its_phase (moved at.0 Sta13 moment.now) })) (write (abort_pdu 0 0 ∷ []) ∷ []) (abort_pdu 0 0 ∷ []) refl refl refl refl
-            (refl, inr (inr (moved at.0 Sta13 moment.now, refl, at.2, refl))) (append-nil (spellings (abort_pdu 0 0 ∷ []))) (tt, tt) (abort_fits k.receiver.ear.limit 0 0)
-            (acts_by lstep moment k.caller.core (Plain Late) AbortRequest true state Aa1 Sta13 s t x at event refl is h))
-    by_wait false waited e =
-        let event : event_of (Plain Late) moment k.caller.core ≡ None = ap (λ (b : Bool). late_event b (is_requestor k.caller.core && has_waited k.caller.core.awaits moment.now)) e ∙ ap (λ (b : Bool). late_event false b) waited in
-        let r : (x ≡ effect [] k.caller.core) × (t ≡ s) = subst (λ (o : Option UpperEvent). Turns lstep (occurs o moment (Plain Late) k.caller.core) s x t) event h in
-        inr (r.1, r.0, ap (λ (b : Bool). b || (is_requestor k.caller.core && has_waited k.caller.core.awaits moment.now)) e ∙ waited)
+      by_wait : (b : Bool) → (is_requestor k.caller.core && has_waited k.caller.core.awaits moment.now) ≡ b → next_expired k.caller.core.phase moment.now ≡ false → LateResult
+      by_wait true waited e =
+          let event : event_of (Plain Late) moment k.caller.core ≡ Some AbortRequest = ap (λ (b : Bool). late_event b (is_requestor k.caller.core && has_waited k.caller.core.awaits moment.now)) e ∙ ap (λ (b : Bool). late_event false b) waited in
+          inl (left_from plan certificate w number link k s here desk shows on k.caller.ear k.to_caller refl x t moment time (aborted (record k.caller.core { phase = in_its_phase (moved at.0 Sta13 moment.now) })) (write (abort_pdu 0 0 ∷ []) ∷ []) (abort_pdu 0 0 ∷ []) refl refl refl refl
+          (refl, inr (inr (moved at.0 Sta13 moment.now, refl, at.2, refl))) (append-nil (spellings (abort_pdu 0 0 ∷ []))) (tt, tt) (abort_fits k.receiver.ear.limit 0 0)
+          (acts_by lstep moment k.caller.core (Plain Late) AbortRequest true state Aa1 Sta13 s t x at event refl is h))
+      by_wait false waited e =
+          let event : event_of (Plain Late) moment k.caller.core ≡ None = ap (λ (b : Bool). late_event b (is_requestor k.caller.core && has_waited k.caller.core.awaits moment.now)) e ∙ ap (λ (b : Bool). late_event false b) waited in
+          let r : (x ≡ effect [] k.caller.core) × (t ≡ s) = subst (λ (o : Option UpperEvent). Turns lstep (occurs o moment (Plain Late) k.caller.core) s x t) event h in
+          inr (r.1, r.0, ap (λ (b : Bool). b || (is_requestor k.caller.core && has_waited k.caller.core.awaits moment.now)) e ∙ waited)
 
   pub late_result : LateResult
   late_result = elim (caller_at plan certificate w number link k s here desk shows on k.caller.ear k.to_caller refl x t).0 [

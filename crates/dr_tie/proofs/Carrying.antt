@@ -1,8 +1,7 @@
 -- A store and its response are carried: what one end writes is a message for the other, in the context that both have.
-use Rattle.std.proofs.Common.{◌≡◌, ◌≢◌, ℕ, suc, ◌+◌, ◌<◌, ◌≤◌, ◌^◌, Bool, true, false, List, [], ◌∷◌, ◌++◌, length, map, get_or, Option, Some, None, Contains, refl, sym, ap, subst, ◌∙◌, inl, inr, ◌⊎◌, arith}
-use Rattle.std.specs.Prelude.{find, ◌==◌, ◌&&◌, if◌then◌else◌, All, AllPairs, option_map}
-use Rattle.std.specs.List.{AllByRecursion, flat_map}
-use Rattle.std.specs.Int.{w16, w32, to_le_bytes}
+use Rattle.std.proofs.Common.{◌≡◌, ℕ, ◌+◌, ◌<◌, ◌≤◌, ◌^◌, Bool, true, false, List, [], ◌∷◌, ◌++◌, length, map, Option, Some, None, Contains, refl, sym, ap, subst, ◌∙◌, inl, inr, arith}
+use Rattle.std.specs.Prelude.{find, ◌==◌, ◌&&◌, if◌then◌else◌, AllPairs, option_map}
+use Rattle.std.specs.List.{AllByRecursion}
 use Rattle.std.specs.Str.{bytes_eq}
 use Rattle.std.proofs.lemmas.Bool.{cases_Bool, false≢true, eqb-true, eqb-false}
 use Rattle.std.proofs.lemmas.List.{length-append}
@@ -43,7 +42,6 @@ use Rattle.dr_nego.specs.declared.fragment.Kind.TheVariants as kind
 use Rattle.dr_nego.specs.Agreeing.{IsTooSmall, pair_of, pair_at, is_id, is_for, context_for}
 use Rattle.dr_nego.specs.Answering.{answer_of, pairs_of}
 use Rattle.dr_nego.specs.Proposing.{context_of}
-use Rattle.dr_nego.specs.Fragments.{piece_size, pieces}
 use Rattle.dr_nego.proofs.OneContext.{found_is}
 use Rattle.dr_nego.proofs.Concluded.{tail_pairs, head_pairs}
 use Rattle.dr_nego.proofs.Cutting.{fragments_fit}
@@ -76,6 +74,7 @@ module _ (rows : List AcceptRow) (caller : Text) where
           let r = from_pairs cs y m in
           let l : c.id < r.0.id = head_pairs (λ (a b : ContextProposal). a.id < b.id) c cs h r.0 r.1 in
           omega (arith, l, r.2)
+
       by_result : (zero : Bool) → AllPairs (λ (x y : Pair). x.id < y.id) (pairs_of rows caller cs) →
           AllPairs (λ (x y : Pair). x.id < y.id) ((if zero then record { id = c.id; class = c.class; syntax = (answer_of rows caller c).syntax } ∷ [] else []) ++ pairs_of rows caller cs)
       by_result false later = later
@@ -108,6 +107,7 @@ pair_for agreed class syntax context h = by_found (find (is_for class syntax) ag
     both : (a b : Bool) → (a && b) ≡ true → (a ≡ true) × (b ≡ true)
     both true b e = (refl, e)
     both false b e = absurd (false≢true e)
+
     by_found : (o : Option Pair) → find (is_for class syntax) agreed.pairs ≡ o → option_map (λ (x : Pair). x.id) o ≡ Some context →
         (x : Pair) × Contains agreed.pairs x × (x.id ≡ context) × (x.class ≡ class) × (x.syntax ≡ syntax)
     by_found None e g = absurd (cc g)

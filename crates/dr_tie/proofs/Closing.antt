@@ -1,9 +1,8 @@
 -- A link that is closed at both ends, and what an end that is off does to its link.
-use Rattle.std.proofs.Common.{◌≡◌, ◌≢◌, ℕ, ◌<◌, ◌^◌, Bool, true, false, List, [], ◌∷◌, ◌++◌, map, take, drop, Option, Some, None, refl, sym, ap, subst, ◌∙◌, append_assoc, inl, inr, ◌⊎◌}
+use Rattle.std.proofs.Common.{◌≡◌, ◌≢◌, ℕ, ◌<◌, ◌^◌, Bool, true, false, List, [], ◌∷◌, ◌++◌, map, take, drop, Option, Some, None, refl, sym, ap, subst, ◌∙◌, append_assoc, inl, inr}
 use Rattle.std.specs.List.{AllByRecursion}
 use Rattle.std.specs.FinMap as map_of
 use Rattle.std.specs.Option.{option_map_or}
-use Rattle.std.proofs.lemmas.List.{append-nil}
 use Rattle.std.proofs.lemmas.Bool.{false≢true, cases_Bool}
 use Rattle.dr_network.specs.Networks.{Network}
 use Rattle.dr_sound.specs.declared.certificate.Certificate.{Certificate}
@@ -13,16 +12,15 @@ use Rattle.dr_ulstate.specs.declared.table.State.TheVariants.{Sta1, Sta2, Sta5, 
 use Rattle.dr_ulstate.specs.Table.{state_number}
 use Rattle.dr_ulstate.specs.Standing.{Standing}
 use Rattle.dr_ulstate.specs.Phases.{state_of}
-use Rattle.dr_pdu.specs.declared.pdu.Pdu.{Pdu}
 use Rattle.dr_pdu.specs.Feeding.{Feeding}
 use Rattle.dr_pdu.specs.Written.{Fits, MeetsLimit}
 use Rattle.dr_nego.specs.Fragments.{spellings}
 use Rattle.dr_ledger.proofs.Maps.{get_new}
 use Rattle.dr_model.proofs.Lookups.{numbers}
-use Rattle.dr_model.specs.Worlds.{World, Link, Stage, Gone, with_link, without_caller, without_receiver, at_stage}
+use Rattle.dr_model.specs.Worlds.{World, Link, Gone, with_link, without_caller, without_receiver, at_stage}
 use Rattle.dr_model.specs.Calls.{Answer}
 use Rattle.dr_model.specs.Steps.{IsLink, Leaves, Drops}
-use Rattle.dr_model.specs.Events.{Event, Step, Close, BreakCaller, BreakReceiver}
+use Rattle.dr_model.specs.Events.{BreakCaller, BreakReceiver}
 use Rattle.dr_session.specs.declared.ends.Core.{Core}
 use Rattle.dr_session.specs.declared.ends.Effect.{Effect}
 use Rattle.dr_session.specs.declared.ends.Input.{Input}
@@ -32,12 +30,12 @@ use Rattle.dr_session.specs.declared.ends.LinkAction.TheVariants as action
 use Rattle.dr_session.specs.declared.ends.Moment.{Moment}
 use Rattle.dr_session.specs.Desks.{DeskCall, DeskAnswer}
 use Rattle.dr_session.specs.Reactions.{effect}
-use Rattle.dr_session.specs.Plays.{Reacts, At, at_moment, Plays, PlaysBytes, Hears, HearsBy}
+use Rattle.dr_session.specs.Plays.{At, at_moment, Plays, HearsBy}
 use Rattle.dr_tie.specs.Desks.{Desk, LedgerStep}
 use Rattle.dr_tie.specs.Channels.{Channel, Carries, ShowsLink, ToReceiver, ToCaller, IsCaller, IsReceiver, IsOff, IsAt, IsControl, IsSideOf, AgreesOn, bytes_of, site_of, site_in}
-use Rattle.dr_tie.specs.Ties.{IsDeskOf, OnlyHere, Happens, caller_as, receiver_as, caller_did, receiver_did, caller_read, receiver_read, StaysOff, OffCallerIsNoEvent, OffReceiverIsNoEvent}
-use Rattle.dr_tie.specs.Closing.{IsEnded, closed, ClosingIsClose}
-use Rattle.dr_tie.proofs.Leaving.{AreFit, all_append, spellings_append, carries_more, only_link, receiver_leaves, receiver_at as receiver_stands}
+use Rattle.dr_tie.specs.Ties.{IsDeskOf, OnlyHere, Happens, caller_as, receiver_as, caller_did, receiver_did, StaysOff, OffCallerIsNoEvent, OffReceiverIsNoEvent}
+use Rattle.dr_tie.specs.Closing.{IsEnded, ClosingIsClose}
+use Rattle.dr_tie.proofs.Leaving.{all_append, spellings_append, carries_more, only_link, receiver_leaves, receiver_at as receiver_stands}
 use Rattle.dr_tie.proofs.CallerLeaving.{caller_leaves, caller_at as caller_stands, still_coming, carries_map}
 use Rattle.dr_tie.proofs.Off.{off_stays_off}
 
@@ -58,11 +56,18 @@ module _ {S : Type 0} (step : S → DeskCall → DeskAnswer → S → Type 0) wh
       let one = off_stays_off step c requestor off i s m y r in
       let z : Effect = effect later x.core in
       let more = stays_many is y.core requestor one.1.0 m u z rest in
-      let w : StaysOff c requestor (effect (y.acts ++ later) x.core) = (more.1.0, more.1.1 ∙ one.1.1, more.1.2 ∙ one.1.2, more.1.3 ∙ one.1.3,
-          (one.1.4.0 ++ more.1.4.0,
+      let w : StaysOff c requestor (effect (y.acts ++ later) x.core) = (
+        more.1.0,
+        more.1.1 ∙ one.1.1,
+        more.1.2 ∙ one.1.2,
+        more.1.3 ∙ one.1.3,
+        (
+          one.1.4.0 ++ more.1.4.0,
           bytes_append y.acts later ∙ (ap (λ (l : List ℕ). l ++ bytes_of later) one.1.4.1 ∙ (ap (λ (l : List ℕ). spellings one.1.4.0 ++ l) more.1.4.1 ∙ sym (spellings_append one.1.4.0 more.1.4.0))),
           all_append IsControl one.1.4.0 more.1.4.0 one.1.4.2 more.1.4.2,
-          λ limit. all_append (λ p. Fits p × MeetsLimit limit p) one.1.4.0 more.1.4.0 (one.1.4.3 limit) (more.1.4.3 limit))) in
+          λ limit. all_append (λ p. Fits p × MeetsLimit limit p) one.1.4.0 more.1.4.0 (one.1.4.3 limit) (more.1.4.3 limit),
+        ),
+      ) in
       (more.0 ∙ one.0, subst (λ (l : List LinkAction). StaysOff c requestor (effect l x.core)) (sym acts) w)
 
 hears_limit : (failed : Bool) (old new : Feeding) (piece : List ℕ) (inputs : List Input) → HearsBy failed old piece inputs new → new.limit ≡ old.limit
@@ -191,29 +196,30 @@ module _ (plan : Network) (certificate : Certificate) (w : World) (number : ℕ)
     | inr off ↦ by_off off ended
   ]
     where
-    by_on : link.caller_connected ≡ true → IsEnded (LedgerStep plan link.caller) k.caller.core moment s x t → CallerEnds x t
-    by_on on (inl reacts) =
-        let a = caller_leaves plan certificate w number link k s here caller_desk shows on moment time Ended (inl refl) x t reacts in
-        let l = left_link plan certificate w number a.0 link.caller t (caller_did k x) link here a.1 in
-        let shown : ShowsLink plan certificate (caller_did k x) (without_caller link) = subst (λ (y : Link). ShowsLink plan certificate (caller_did k x) y) l.0 a.1.shows in
-        record {
-          answer = a.0;
-          mid = a.1.after;
-          left = inl l.1;
-          desk_is = a.1.desk;
-          only = a.1.only;
-          side = shown.from;
-          peer = shown.peer;
-          off = shown.caller;
-        }
-    by_on on (inr (gone, e, same)) = elim (caller_stands plan certificate w number link k s here caller_desk shows on k.caller.ear k.to_caller refl x t).0 [
-      | inl at ↦ absurd (not_gone k.caller.core true Sta5 at (λ e. cc) gone)
-      | inr at ↦ absurd (not_gone k.caller.core true Sta6 at (λ e. cc) gone)
-    ]
-    by_off : link.caller_connected ≡ false → IsEnded (LedgerStep plan link.caller) k.caller.core moment s x t → CallerEnds x t
-    by_off off (inl reacts) = (let h = (off_caller_is_no_event (LedgerStep plan link.caller) plan certificate link k shows off s t x).0 (at_moment moment Ended) reacts in off_still off x t h.0 h.1)
-    by_off off (inr (gone, e, same)) = off_still off x t same (off_caller_shown plan certificate link k shows off k.caller.ear k.to_caller refl x
-        (subst (λ (y : Effect). StaysOff k.caller.core true y) (sym e) (caller_off plan certificate link k shows off, refl, refl, refl, ([], refl, tt, λ limit. tt))))
+      by_on : link.caller_connected ≡ true → IsEnded (LedgerStep plan link.caller) k.caller.core moment s x t → CallerEnds x t
+      by_on on (inl reacts) =
+          let a = caller_leaves plan certificate w number link k s here caller_desk shows on moment time Ended (inl refl) x t reacts in
+          let l = left_link plan certificate w number a.0 link.caller t (caller_did k x) link here a.1 in
+          let shown : ShowsLink plan certificate (caller_did k x) (without_caller link) = subst (λ (y : Link). ShowsLink plan certificate (caller_did k x) y) l.0 a.1.shows in
+          record {
+            answer = a.0;
+            mid = a.1.after;
+            left = inl l.1;
+            desk_is = a.1.desk;
+            only = a.1.only;
+            side = shown.from;
+            peer = shown.peer;
+            off = shown.caller;
+          }
+      by_on on (inr (gone, e, same)) = elim (caller_stands plan certificate w number link k s here caller_desk shows on k.caller.ear k.to_caller refl x t).0 [
+        | inl at ↦ absurd (not_gone k.caller.core true Sta5 at (λ e. cc) gone)
+        | inr at ↦ absurd (not_gone k.caller.core true Sta6 at (λ e. cc) gone)
+      ]
+
+      by_off : link.caller_connected ≡ false → IsEnded (LedgerStep plan link.caller) k.caller.core moment s x t → CallerEnds x t
+      by_off off (inl reacts) = (let h = (off_caller_is_no_event (LedgerStep plan link.caller) plan certificate link k shows off s t x).0 (at_moment moment Ended) reacts in off_still off x t h.0 h.1)
+      by_off off (inr (gone, e, same)) = off_still off x t same (off_caller_shown plan certificate link k shows off k.caller.ear k.to_caller refl x
+          (subst (λ (y : Effect). StaysOff k.caller.core true y) (sym e) (caller_off plan certificate link k shows off, refl, refl, refl, ([], refl, tt, λ limit. tt))))
 
   -- the receiver is off, and its node as it was
   pub record ReceiverEnds (y : Effect) (u : Desk) : Type 0 where
@@ -233,54 +239,60 @@ module _ (plan : Network) (certificate : Certificate) (w : World) (number : ℕ)
     | inr off ↦ by_off off ended
   ]
     where
-    by_on : link.receiver_connected ≡ true → IsEnded (LedgerStep plan link.receiver) k.receiver.core moment r y u → ReceiverEnds y u
-    by_on on (inl reacts) =
-        let a = receiver_leaves plan certificate w number link k r here receiver_desk shows on moment time Ended (inl refl) (λ e. cc e) y u reacts in
-        let l = dropped_link plan certificate w number link.receiver u (receiver_did k y) link here a in
-        let shown : ShowsLink plan certificate (receiver_did k y) (without_receiver link) = subst (λ (z : Link). ShowsLink plan certificate (receiver_did k y) z) l.0 a.shows in
-        let books : a.after.books link.receiver ≡ w.books link.receiver = ap (λ (v : World). v.books link.receiver) l.1.is in
-        let armed : Rattle.std.specs.FinSet.contains a.after.armed link.receiver ≡ Rattle.std.specs.FinSet.contains w.armed link.receiver = ap (λ (v : World). Rattle.std.specs.FinSet.contains v.armed link.receiver) l.1.is in
-        record {
-          same = desk_eq u r (a.desk.0 ∙ (books ∙ sym receiver_desk.0)) (a.desk.1 ∙ (armed ∙ sym receiver_desk.1));
-          side = shown.to;
-          off = shown.receiver;
-        }
-    by_on on (inr (gone, e, same)) = elim (receiver_stands plan certificate w number link k r here receiver_desk shows on moment k.receiver.ear k.to_receiver refl y u).1 [
-      | inl at ↦ absurd (not_gone k.receiver.core false Sta2 at.0 (λ e. cc) gone)
-      | inr at ↦ absurd (not_gone k.receiver.core false Sta6 at (λ e. cc) gone)
-    ]
-    by_off : link.receiver_connected ≡ false → IsEnded (LedgerStep plan link.receiver) k.receiver.core moment r y u → ReceiverEnds y u
-    by_off off (inl reacts) = (let h = (off_receiver_is_no_event (LedgerStep plan link.receiver) plan certificate link k shows off r u y).0 (at_moment moment Ended) reacts in receiver_still off y u h.0 h.1)
-    by_off off (inr (gone, e, same)) = receiver_still off y u same (off_receiver_shown plan certificate link k shows off k.receiver.ear k.to_receiver refl y
-        (subst (λ (z : Effect). StaysOff k.receiver.core false z) (sym e) (receiver_off plan certificate link k shows off, refl, refl, refl, ([], refl, tt, λ limit. tt))))
+      by_on : link.receiver_connected ≡ true → IsEnded (LedgerStep plan link.receiver) k.receiver.core moment r y u → ReceiverEnds y u
+      by_on on (inl reacts) =
+          let a = receiver_leaves plan certificate w number link k r here receiver_desk shows on moment time Ended (inl refl) (λ e. cc e) y u reacts in
+          let l = dropped_link plan certificate w number link.receiver u (receiver_did k y) link here a in
+          let shown : ShowsLink plan certificate (receiver_did k y) (without_receiver link) = subst (λ (z : Link). ShowsLink plan certificate (receiver_did k y) z) l.0 a.shows in
+          let books : a.after.books link.receiver ≡ w.books link.receiver = ap (λ (v : World). v.books link.receiver) l.1.is in
+          let armed : Rattle.std.specs.FinSet.contains a.after.armed link.receiver ≡ Rattle.std.specs.FinSet.contains w.armed link.receiver = ap (λ (v : World). Rattle.std.specs.FinSet.contains v.armed link.receiver) l.1.is in
+          record {
+            same = desk_eq u r (a.desk.0 ∙ (books ∙ sym receiver_desk.0)) (a.desk.1 ∙ (armed ∙ sym receiver_desk.1));
+            side = shown.to;
+            off = shown.receiver;
+          }
+      by_on on (inr (gone, e, same)) = elim (receiver_stands plan certificate w number link k r here receiver_desk shows on moment k.receiver.ear k.to_receiver refl y u).1 [
+        | inl at ↦ absurd (not_gone k.receiver.core false Sta2 at.0 (λ e. cc) gone)
+        | inr at ↦ absurd (not_gone k.receiver.core false Sta6 at (λ e. cc) gone)
+      ]
+
+      by_off : link.receiver_connected ≡ false → IsEnded (LedgerStep plan link.receiver) k.receiver.core moment r y u → ReceiverEnds y u
+      by_off off (inl reacts) = (let h = (off_receiver_is_no_event (LedgerStep plan link.receiver) plan certificate link k shows off r u y).0 (at_moment moment Ended) reacts in receiver_still off y u h.0 h.1)
+      by_off off (inr (gone, e, same)) = receiver_still off y u same (off_receiver_shown plan certificate link k shows off k.receiver.ear k.to_receiver refl y
+          (subst (λ (z : Effect). StaysOff k.receiver.core false z) (sym e) (receiver_off plan certificate link k shows off, refl, refl, refl, ([], refl, tt, λ limit. tt))))
 
 pub closing_is_close : ClosingIsClose
 closing_is_close plan certificate w number link k s r here caller_desk receiver_desk shows moment later time later_time x y t u caller_ended receiver_ended =
     let a = caller_ends plan certificate w number link k s r here caller_desk receiver_desk shows moment time x t caller_ended in
     let b = receiver_ends plan certificate w number link k s r here caller_desk receiver_desk shows later later_time y u receiver_ended in
-    let gone : Link = at_stage (without_receiver (without_caller link)) Gone in
-    (b.same, (a.answer, record {
-      after = with_link a.mid number gone;
-      link = gone;
-      step = record { link = link; at = here; mid = a.mid; left = a.left; is = refl };
-      here = get_new numbers a.mid.links number gone;
-      desk = a.desk_is;
-      only = record {
-        books = a.only.books;
-        links = λ other apart. (only_link a.mid number gone link.caller).links other apart ∙ a.only.links other apart;
-        armed = a.only.armed;
-        rest = a.only.rest;
-      };
-      shows = record {
-        hop = shows.hop;
-        from = a.side;
-        to = b.side;
-        peer = a.peer;
-        caller_agrees = λ o. absurd (false≢true o);
-        receiver_agrees = λ o. absurd (false≢true o);
-        caller = a.off;
-        receiver = b.off;
-        to_receiver = λ o. absurd (false≢true o);
-        to_caller = λ o. absurd (false≢true o);
-      };
-    }))
+    let gone : Link = at_stage (without_receiver (without_caller link)) Gone in (
+      b.same,
+      (
+        a.answer,
+        record {
+          after = with_link a.mid number gone;
+          link = gone;
+          step = record { link = link; at = here; mid = a.mid; left = a.left; is = refl };
+          here = get_new numbers a.mid.links number gone;
+          desk = a.desk_is;
+          only = record {
+            books = a.only.books;
+            links = λ other apart. (only_link a.mid number gone link.caller).links other apart ∙ a.only.links other apart;
+            armed = a.only.armed;
+            rest = a.only.rest;
+          };
+          shows = record {
+            hop = shows.hop;
+            from = a.side;
+            to = b.side;
+            peer = a.peer;
+            caller_agrees = λ o. absurd (false≢true o);
+            receiver_agrees = λ o. absurd (false≢true o);
+            caller = a.off;
+            receiver = b.off;
+            to_receiver = λ o. absurd (false≢true o);
+            to_caller = λ o. absurd (false≢true o);
+          };
+        },
+      ),
+    )

@@ -1,8 +1,8 @@
 -- Agreed contexts as a set of pairs.
-use Rattle.std.proofs.Common.{◌≡◌, ℕ, Bool, true, false, List, [], ◌∷◌, Contains, refl, sym, ap, subst, ◌∙◌, inl, inr, ◌⊎◌}
+use Rattle.std.proofs.Common.{◌≡◌, Bool, true, false, List, [], ◌∷◌, Contains, refl, sym, ap, subst, ◌∙◌, inl, inr, ◌⊎◌}
 use Rattle.std.specs.FinSet as set
 use Rattle.std.specs.Str.{bytes_eq}
-use Rattle.std.proofs.lemmas.Bool.{cases_Bool, false≢true}
+use Rattle.std.proofs.lemmas.Bool.{false≢true}
 use Rattle.std.proofs.lemmas.Slice.Eq.{bytes_eq-Decides}
 use Rattle.dr_base.specs.Texts.{Text}
 use Rattle.dr_base.specs.Syntaxes.{syntax_uid}
@@ -25,11 +25,11 @@ named_by true true uid i e s h = elim (Contains-cons_cases Implicit (Explicit �
   | inr later ↦ only s later
 ]
   where
-  only : (s : Syntax) → Contains (Explicit ∷ []) s → uid ≡ syntax_uid s
-  only s h = elim (Contains-cons_cases Explicit [] s h) [
-    | inl same ↦ subst (λ (r : Syntax). uid ≡ syntax_uid r) same ((bytes_eq-Decides uid (syntax_uid Explicit)).0 e)
-    | inr later ↦ absurd (nothing_in_nil s later)
-  ]
+    only : (s : Syntax) → Contains (Explicit ∷ []) s → uid ≡ syntax_uid s
+    only s h = elim (Contains-cons_cases Explicit [] s h) [
+      | inl same ↦ subst (λ (r : Syntax). uid ≡ syntax_uid r) same ((bytes_eq-Decides uid (syntax_uid Explicit)).0 e)
+      | inr later ↦ absurd (nothing_in_nil s later)
+    ]
 named_by true false uid i e s h = elim (Contains-cons_cases Implicit [] s h) [
   | inl same ↦ subst (λ (r : Syntax). uid ≡ syntax_uid r) same ((bytes_eq-Decides uid (syntax_uid Implicit)).0 i)
   | inr later ↦ absurd (nothing_in_nil s later)

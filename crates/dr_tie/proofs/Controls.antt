@@ -1,59 +1,44 @@
 -- A Move that ends what the writer wrote as it left.
-use Rattle.std.proofs.Common.{◌≡◌, ◌≢◌, ℕ, Bool, true, false, List, [], ◌∷◌, ◌++◌, length, map, take, drop, Option, Some, None, Result, Ok, Err, refl, sym, ap, subst, ◌∙◌, append_assoc, inl, inr, ◌⊎◌}
-use Rattle.std.specs.List.{AllByRecursion, flat_map}
-use Rattle.std.specs.FinMap as map_of
+use Rattle.std.proofs.Common.{◌≡◌, ◌≢◌, ℕ, true, false, List, [], ◌∷◌, ◌++◌, map, take, drop, Option, Some, None, refl, sym, ap, subst, ◌∙◌, inl, inr, ◌⊎◌}
+use Rattle.std.specs.List.{AllByRecursion}
 use Rattle.std.proofs.lemmas.List.{append-nil}
-use Rattle.std.proofs.lemmas.Bool.{false≢true}
 use Rattle.dr_base.specs.Texts.{Text}
 use Rattle.dr_network.specs.Networks.{Network}
 use Rattle.dr_sound.specs.declared.certificate.Certificate.{Certificate}
-use Rattle.dr_site.specs.Parts.{Part, IsPartOf}
+use Rattle.dr_site.specs.Parts.{Part}
 use Rattle.dr_ulstate.specs.declared.table.Action.TheVariants.{Aa3, Aa8, Ar2}
-use Rattle.std.specs.Prelude.{◌&&◌, ◌+◌, nat_le, if◌then◌else◌}
-use Rattle.dr_ulstate.specs.Table.{cell}
-use Rattle.dr_ulstate.specs.declared.table.State.{State}
 use Rattle.dr_ulstate.specs.declared.table.Event.{Event as UpperEvent}
 use Rattle.dr_ulstate.specs.declared.table.Event.TheVariants.{AbortPdu, ReleaseRqPdu, ReleaseRpPdu}
 use Rattle.dr_ulstate.specs.declared.table.State.TheVariants.{Sta1, Sta5, Sta6, Sta8, Sta13}
 use Rattle.dr_ulstate.specs.declared.phase.Next.TheVariants.{Idle}
-use Rattle.dr_ulstate.specs.Standing.{Standing, moved, runs_artim}
+use Rattle.dr_ulstate.specs.Standing.{Standing, moved}
 use Rattle.dr_ulstate.specs.Phases.{in_its_phase, standing_of}
 use Rattle.dr_pdu.specs.declared.pdu.Pdu.{Pdu}
 use Rattle.dr_pdu.specs.declared.pdu.Pdu.TheVariants as pdu
 use Rattle.dr_pdu.specs.declared.pdu.Pdv.{Pdv}
-use Rattle.dr_pdu.specs.Written.{Fits, MeetsLimit, written}
+use Rattle.dr_pdu.specs.Written.{written}
 use Rattle.dr_pdu.proofs.WrittenLemmas.{others_fit}
 use Rattle.dr_pdu.specs.Feeding.{Feeding}
-use Rattle.dr_ledger.specs.declared.item.Instance.{Instance}
-use Rattle.dr_ledger.specs.declared.item.Outcome.TheVariants.{Broken}
-use Rattle.dr_ledger.specs.declared.fault.LedgerFault.TheVariants as fault
-use Rattle.dr_ledger.specs.Books.{Book}
-use Rattle.dr_ledger.specs.Replies.{Settles, IsWaiting}
-use Rattle.dr_ledger.proofs.Maps.{get_new}
-use Rattle.dr_model.proofs.Lookups.{numbers}
-use Rattle.dr_model.proofs.Safety.{book_here, book_there}
-use Rattle.dr_model.specs.Worlds.{World, Link, Stage, Contexts, Asking, Answering, Rejecting, Open, Storing, Replying, Gone, with_link, without_caller}
-use Rattle.dr_model.specs.Calls.{Answer, Settlement, ArmedAfter, store_outcome_of}
-use Rattle.dr_model.specs.Steps.{IsLink, Leaves, SettlesPending, pending as pending_of}
-use Rattle.dr_model.specs.Events.{Event, Step, BreakCaller, BreakReceiver}
+use Rattle.dr_model.specs.Worlds.{World, Link, Stage, Asking, Answering, Rejecting, Open, Storing, Replying, Gone}
+use Rattle.dr_model.specs.Calls.{Answer}
+use Rattle.dr_model.specs.Steps.{IsLink}
+use Rattle.dr_model.specs.Events.{BreakCaller, BreakReceiver}
 use Rattle.dr_session.specs.declared.ends.Core.{Core}
 use Rattle.dr_session.specs.declared.ends.Effect.{Effect}
 use Rattle.dr_session.specs.declared.ends.Input.{Input}
 use Rattle.dr_session.specs.declared.ends.Input.TheVariants.{ReleaseRq, ReleaseRp, Abort}
-use Rattle.dr_session.specs.declared.ends.Pending.{Pending}
 use Rattle.dr_session.specs.declared.ends.Told.TheVariants.{Plain}
-use Rattle.dr_session.specs.declared.ends.LinkAction.{LinkAction}
 use Rattle.dr_session.specs.declared.ends.LinkAction.TheVariants.{Close}
-use Rattle.dr_session.specs.Desks.{DeskCall, DeskAnswer, Settle, Arrival, Upcoming, Settling}
+use Rattle.dr_session.specs.Desks.{DeskCall, DeskAnswer}
 use Rattle.dr_nego.specs.Fragments.{spellings}
 use Rattle.dr_session.specs.declared.ends.Moment.{Moment}
-use Rattle.dr_session.specs.Reactions.{Reaction, turn, stepped_by, released, leaves_by, left, aborted, desk_failed, settling, effect, write, abort_pdu, pending}
-use Rattle.dr_session.specs.Turns.{Turn, Ends, Turns}
-use Rattle.dr_session.specs.Plays.{Plays, PlaysBytes, Hears, inputs_of, Reacts, At, at_moment}
+use Rattle.dr_session.specs.Reactions.{turn, stepped_by, released, leaves_by, left, aborted, write, abort_pdu}
+use Rattle.dr_session.specs.Turns.{Turns}
+use Rattle.dr_session.specs.Plays.{PlaysBytes, inputs_of}
 use Rattle.dr_session.specs.Telling.{event_of_input}
 use Rattle.dr_tie.specs.Desks.{Desk, LedgerStep}
-use Rattle.dr_tie.specs.Channels.{alone, IsReceiver, Terminal, Channel, Carries, ShowsLink, ToCaller, ToReceiver, IsCaller, IsAt, IsOff, IsControl, bytes_of, site_of}
-use Rattle.dr_tie.specs.Ties.{IsFirst, receiver_read, caller_read, receiver_as, ReceiverHearsControl, CallerHearsControl, IsDeskOf, OnlyHere, Happens, caller_as, caller_did, IsLeaving}
+use Rattle.dr_tie.specs.Channels.{alone, Terminal, Channel, Carries, ShowsLink, ToCaller, ToReceiver, IsAt, IsControl, site_of}
+use Rattle.dr_tie.specs.Ties.{IsFirst, receiver_read, caller_read, ReceiverHearsControl, CallerHearsControl, IsDeskOf, Happens}
 use Rattle.dr_tie.proofs.Leaving.{AreFit, acts_by, plain_turn, abort_fits, left_nothing, receiver_done, receiver_at as receiver_stands_at}
 use Rattle.dr_tie.proofs.CallerLeaving.{left_from, caller_at}
 use Rattle.dr_tie.proofs.Agreeing.{front_is, plays_alone}

@@ -1,6 +1,6 @@
 -- The fragments of a command make it again.
-use Rattle.std.proofs.Common.{◌≡◌, ◌≢◌, ℕ, zero, suc, ◌+◌, ◌≤◌, Bool, true, false, List, [], ◌∷◌, ◌++◌, length, map, take, drop, Option, Some, None, Ok, refl, sym, ap, subst, ◌∙◌, append_assoc, inl, inr, ◌⊎◌, arith}
-use Rattle.std.specs.Prelude.{nat_le, if◌then◌else◌}
+use Rattle.std.proofs.Common.{◌≡◌, ◌≢◌, ℕ, zero, suc, ◌≤◌, Bool, true, false, List, [], ◌∷◌, ◌++◌, length, map, take, drop, Some, None, refl, sym, ap, subst, ◌∙◌, append_assoc, inl, inr, arith}
+use Rattle.std.specs.Prelude.{nat_le}
 use Rattle.std.specs.List.{AllByRecursion}
 use Rattle.std.proofs.lemmas.Bool.{cases_Bool, le-ltb}
 use Rattle.std.proofs.lemmas.List.{append-nil, length-append, take-append-drop, map-append}
@@ -10,12 +10,11 @@ use Rattle.dr_dimse.specs.declared.message.Awaited.{Awaited}
 use Rattle.dr_dimse.specs.declared.command.Command.{Command}
 use Rattle.dr_dimse.specs.Commands.{IsCommand, announces}
 use Rattle.dr_dimse.specs.Written as commands
-use Rattle.dr_dimse.specs.Taking.{Stage, Idle, InCommand, InData, Takes, IsAwaited}
+use Rattle.dr_dimse.specs.Taking.{Idle, InCommand, InData, IsAwaited}
 use Rattle.dr_dimse.specs.Messages.{body_of}
 use Rattle.dr_dimse.specs.declared.message.Body.{Body}
 use Rattle.dr_dimse.specs.declared.message.Body.TheVariants.{Whole}
 use Rattle.dr_dimse.specs.declared.message.Message.{Message}
-use Rattle.dr_session.specs.Messages.{command_pdus}
 use Rattle.dr_nego.specs.Fragments.{piece_size, cut, pieces, header_of, value_pdu, value_pdus}
 use Rattle.dr_tie.specs.Channels.{Gets, alone, message}
 use Rattle.dr_tie.specs.Ties.{joined_pieces, PiecesMakeCommands, PiecesMakeStores}
@@ -126,8 +125,9 @@ pub pieces_make_stores : PiecesMakeStores
 pieces_make_stores awaited limit id c body is short wanted followed small =
     let ps : List (List ℕ) = pieces (piece_size limit) (commands.written c) in
     let qs : List (List ℕ) = pieces (piece_size limit) body in
-    let data_gets : Gets awaited (InData id c (Whole [])) (values id false qs) (message id c (Some (Whole body))) = gets_data awaited id c body small [] qs (cut_some (length body) (piece_size limit) body) (cut_joined (length body) (piece_size limit) body) in
-    (values id true ps ++ values id false qs,
-    ap (λ (l : List Pdu). l ++ value_pdus id false qs) (same_pdus id true ps) ∙ (ap (λ (l : List Pdu). map alone (values id true ps) ++ l) (same_pdus id false qs) ∙ sym (map-append alone (values id true ps) (values id false qs))),
-    all_values (values id true ps) (values id false qs) id (all_in id true ps) (all_in id false qs),
-    begins_all awaited id c (commands.written c) is short wanted followed (values id false qs) (message id c (Some (Whole body))) data_gets ps (cut_some (length (commands.written c)) (piece_size limit) (commands.written c)) (cut_joined (length (commands.written c)) (piece_size limit) (commands.written c)))
+    let data_gets : Gets awaited (InData id c (Whole [])) (values id false qs) (message id c (Some (Whole body))) = gets_data awaited id c body small [] qs (cut_some (length body) (piece_size limit) body) (cut_joined (length body) (piece_size limit) body) in (
+      values id true ps ++ values id false qs,
+      ap (λ (l : List Pdu). l ++ value_pdus id false qs) (same_pdus id true ps) ∙ (ap (λ (l : List Pdu). map alone (values id true ps) ++ l) (same_pdus id false qs) ∙ sym (map-append alone (values id true ps) (values id false qs))),
+      all_values (values id true ps) (values id false qs) id (all_in id true ps) (all_in id false qs),
+      begins_all awaited id c (commands.written c) is short wanted followed (values id false qs) (message id c (Some (Whole body))) data_gets ps (cut_some (length (commands.written c)) (piece_size limit) (commands.written c)) (cut_joined (length (commands.written c)) (piece_size limit) (commands.written c)),
+    )

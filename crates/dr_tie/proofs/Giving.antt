@@ -1,5 +1,5 @@
 -- A job that a ledger hands out goes over as a store.
-use Rattle.std.proofs.Common.{◌≡◌, ℕ, Bool, true, false, List, [], ◌∷◌, ◌++◌, Contains, Option, Some, None, refl, sym, ap, subst, ◌∙◌, inl, inr, ◌+◌, ◌<◌, ◌^◌, arith}
+use Rattle.std.proofs.Common.{◌≡◌, ℕ, Bool, true, false, List, [], ◌∷◌, ◌++◌, Contains, Some, None, refl, sym, ap, subst, ◌∙◌, inl, inr, ◌+◌, ◌<◌, ◌^◌, arith}
 use Rattle.std.proofs.Math.Logic.{∥∥₁_map}
 use Rattle.std.specs.Prelude.{◌&&◌, if◌then◌else◌, find, option_map, ◌==◌}
 use Rattle.std.specs.FinSet as set
@@ -11,7 +11,6 @@ use Rattle.std.proofs.lemmas.Option.{same_Some}
 use Rattle.std.specs.List.{AllByRecursion}
 use Rattle.dr_pdu.specs.Written.{Fits, MeetsLimit}
 use Rattle.dr_session.specs.declared.ends.Pending.{Pending}
-use Rattle.dr_site.specs.Parts.{Part}
 use Rattle.dr_site.specs.Sites.{IsCertified}
 use Rattle.dr_site.proofs.Assembled.{is_site}
 use Rattle.dr_tie.proofs.Carrying.{store_carried}
@@ -45,7 +44,7 @@ use Rattle.dr_nego.specs.Agreeing.{context_for, is_for}
 use Rattle.dr_session.specs.Reactions.{awaiting, effect, gives_in, id_after, pending, store_pdus, write}
 use Rattle.dr_session.specs.Turns.{Turns}
 use Rattle.dr_tie.specs.Desks.{Desk, LedgerStep}
-use Rattle.dr_tie.specs.Channels.{Brings, Channel, Carries, ShowsLink, ToCaller, ToReceiver, IsAt, IsCaller, IsReceiver, contexts_of, site_of}
+use Rattle.dr_tie.specs.Channels.{Channel, Carries, ShowsLink, ToCaller, ToReceiver, IsAt, IsCaller, IsReceiver, contexts_of, site_of}
 use Rattle.dr_tie.specs.Ties.{IsDeskOf, Happens, caller_did, GivesStore}
 use Rattle.dr_tie.proofs.ContextSets.{has_context}
 use Rattle.dr_tie.proofs.Leaving.{only_link}
@@ -129,7 +128,7 @@ module _ (plan : Network) (certificate : Certificate) (w : World) (number : ℕ)
       let there = listens.0.0.1.0 in
       let has_there = listens.0.0.1.1 in
       let m = store_carried from to (is_site plan certificate from certified shows.from.0) (is_site plan certificate to certified shows.to.0) job is_item agreed ((shows.caller_agrees on).0 agreed has) context found
-          (id_after k.caller.core.last) (id_small k.caller.core.last (shows.caller_agrees on).1) k.receiver.core there has_there (shows.receiver_agrees o there has_there) listens.0.3 listens.1 in
+      (id_after k.caller.core.last) (id_small k.caller.core.last (shows.caller_agrees on).1) k.receiver.core there has_there (shows.receiver_agrees o there has_there) listens.0.3 listens.1 in
       let old = old_there o in
       let pdus = store_pdus agreed context (id_after k.caller.core.last) job in
       let F : ℕ → Type 0 = λ l. AllByRecursion (λ (p : Pdu). Fits p × MeetsLimit l p) pdus in

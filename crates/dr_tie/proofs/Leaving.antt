@@ -1,6 +1,6 @@
 -- An end leaves: it is a break in the message world.
-use Rattle.std.proofs.Common.{◌≡◌, ◌≢◌, ℕ, Bool, true, false, List, [], ◌∷◌, ◌++◌, length, map, take, drop, Option, Some, None, Result, Ok, Err, refl, sym, ap, subst, ◌∙◌, append_assoc, inl, inr, ◌⊎◌, ◌<◌, ◌^◌}
-use Rattle.std.specs.List.{AllByRecursion, flat_map}
+use Rattle.std.proofs.Common.{◌≡◌, ◌≢◌, ℕ, Bool, true, false, List, [], ◌∷◌, ◌++◌, Option, Some, None, Result, refl, sym, ap, subst, ◌∙◌, append_assoc, inl, inr, ◌⊎◌, ◌<◌, ◌^◌}
+use Rattle.std.specs.List.{AllByRecursion}
 use Rattle.std.specs.FinMap as map_of
 use Rattle.std.proofs.lemmas.List.{append-nil}
 use Rattle.std.proofs.lemmas.Bool.{false≢true, cases_Bool}
@@ -15,27 +15,22 @@ use Rattle.dr_ulstate.specs.declared.table.Action.TheVariants.{Aa1, Aa4, Aa5, Aa
 use Rattle.dr_ulstate.specs.declared.table.Event.{Event as UpperEvent}
 use Rattle.dr_ulstate.specs.declared.table.Event.TheVariants.{TransportClosed, AbortRequest, ArtimExpired}
 use Rattle.dr_ulstate.specs.declared.table.State.{State}
-use Rattle.dr_ulstate.specs.declared.table.State.TheVariants.{Sta1, Sta2, Sta5, Sta6, Sta13}
+use Rattle.dr_ulstate.specs.declared.table.State.TheVariants.{Sta1, Sta2, Sta6, Sta13}
 use Rattle.dr_site.specs.Parts.{Part, IsPartOf}
 use Rattle.dr_ulstate.specs.declared.phase.Next.{Next}
 use Rattle.dr_ulstate.specs.declared.phase.Next.TheVariants.{Idle}
 use Rattle.dr_ulstate.specs.Table.{cell}
 use Rattle.dr_ulstate.specs.Standing.{Standing, moved, runs_artim, has_expired}
-use Rattle.dr_ulstate.specs.Phases.{standing_of, next_stepped, after_cell, in_its_phase, next_expired}
+use Rattle.dr_ulstate.specs.Phases.{next_stepped, after_cell, in_its_phase, next_expired}
 use Rattle.dr_pdu.specs.declared.pdu.Pdu.{Pdu}
-use Rattle.dr_pdu.specs.declared.pdu.Pdu.TheVariants as pdu
 use Rattle.dr_pdu.specs.Feeding.{Feeding}
 use Rattle.dr_pdu.specs.Written.{Fits, MeetsLimit, written}
 use Rattle.dr_pdu.proofs.WrittenLemmas.{others_fit}
-use Rattle.dr_ledger.specs.declared.item.Instance.{Instance}
-use Rattle.dr_ledger.specs.declared.item.Outcome.TheVariants.{Broken}
-use Rattle.dr_ledger.specs.declared.fault.LedgerFault.{LedgerFault}
-use Rattle.dr_ledger.specs.declared.fault.LedgerFault.TheVariants as fault
 use Rattle.dr_ledger.proofs.Maps.{get_new, get_other, same_or_not}
 use Rattle.dr_model.proofs.Lookups.{numbers}
-use Rattle.dr_model.specs.Worlds.{World, Link, Stage, Contexts, Asking, Answering, Rejecting, Open, Storing, Replying, Gone, with_link, without_receiver, without_caller}
+use Rattle.dr_model.specs.Worlds.{World, Link, Stage, Asking, Answering, Rejecting, Open, Storing, Replying, Gone, with_link, without_receiver}
 use Rattle.dr_model.specs.Steps.{IsLink}
-use Rattle.dr_model.specs.Events.{Event, Step, BreakCaller, BreakReceiver}
+use Rattle.dr_model.specs.Events.{BreakReceiver}
 use Rattle.dr_session.specs.declared.ends.Core.{Core}
 use Rattle.dr_session.specs.declared.ends.Effect.{Effect}
 use Rattle.dr_session.specs.declared.ends.Input.{Input}
@@ -44,17 +39,17 @@ use Rattle.dr_session.specs.declared.ends.Pending.{Pending}
 use Rattle.dr_session.specs.declared.ends.Told.{Told}
 use Rattle.dr_session.specs.declared.ends.Told.TheVariants.{Plain}
 use Rattle.dr_session.specs.declared.ends.LinkAction.{LinkAction}
-use Rattle.dr_session.specs.Desks.{DeskCall, DeskAnswer, Settle, Arrival, Upcoming, Settling}
+use Rattle.dr_session.specs.Desks.{DeskCall, DeskAnswer}
 use Rattle.dr_nego.specs.Fragments.{spellings}
 use Rattle.dr_session.specs.declared.ends.Moment.{Moment}
-use Rattle.dr_session.specs.Reactions.{Reaction, turn, occurs, moves, acts, event_of, is_taken, leaves, leaves_by, left, aborted, desk_failed, settling, effect, write, abort_pdu, pending, has_waited, is_requestor}
-use Rattle.dr_session.specs.Turns.{Turn, Ends, Turns}
+use Rattle.dr_session.specs.Reactions.{turn, occurs, moves, acts, event_of, is_taken, leaves_by, left, aborted, effect, write, abort_pdu, has_waited, is_requestor}
+use Rattle.dr_session.specs.Turns.{Turns}
 use Rattle.dr_session.specs.Telling.{Looks, action_at, event_of_input}
-use Rattle.dr_session.specs.Plays.{Reacts, At, at_moment, with_stage}
+use Rattle.dr_session.specs.Plays.{Reacts, at_moment, with_stage}
 use Rattle.dr_dimse.specs.Taking.{Stage as Taken}
 use Rattle.dr_tie.specs.Desks.{Desk, LedgerStep}
-use Rattle.dr_tie.specs.Channels.{Terminal, Channel, Carries, ShowsLink, ToCaller, ToReceiver, IsReceiver, IsCaller, IsAt, IsOff, IsControl, bytes_of, AgreesOn, site_of, site_in}
-use Rattle.dr_tie.specs.Ties.{IsDeskOf, OnlyHere, Happens, receiver_as, receiver_did, caller_did, IsLeaving, ReceiverLeaves, CallerLeaves, LateAtReceiver, is_late}
+use Rattle.dr_tie.specs.Channels.{Terminal, Channel, Carries, ShowsLink, ToCaller, IsReceiver, IsAt, IsOff, IsControl, bytes_of, AgreesOn, site_of, site_in}
+use Rattle.dr_tie.specs.Ties.{IsDeskOf, OnlyHere, Happens, receiver_as, IsLeaving, ReceiverLeaves, LateAtReceiver, is_late}
 use Rattle.dr_tie.proofs.Agreeing.{stepped_at}
 
 -- ---- wires
@@ -96,11 +91,11 @@ only_link w number link name = record {
   rest = (refl, refl, refl);
 }
   where
-  other_link : (other : ℕ) → other ≢ number → map_of.get (map_of.insert w.links number link) other ≡ map_of.get w.links other
-  other_link other apart = elim (same_or_not numbers other number) [
-    | inl same ↦ absurd (apart same)
-    | inr is_not ↦ get_other numbers w.links number link other is_not
-  ]
+    other_link : (other : ℕ) → other ≢ number → map_of.get (map_of.insert w.links number link) other ≡ map_of.get w.links other
+    other_link other apart = elim (same_or_not numbers other number) [
+      | inl same ↦ absurd (apart same)
+      | inr is_not ↦ get_other numbers w.links number link other is_not
+    ]
 
 -- ---- turns
 
@@ -113,7 +108,7 @@ module _ {S : Type 0} (step : S → DeskCall → DeskAnswer → S → Type 0) (m
       let t1 : Turns step (moves (next_stepped e (is_taken told moment c) c.phase moment.now) moment told c) s x u = subst (λ (o : Option UpperEvent). Turns step (occurs o moment told c) s x u) event h in
       let t2 : Turns step (moves (next_stepped e true c.phase moment.now) moment told c) s x u = subst (λ (b : Bool). Turns step (moves (next_stepped e b c.phase moment.now) moment told c) s x u) taken t1 in
       let t3 : Turns step (moves (after_cell (cell e state requestor true) at.0 moment.now c.phase) moment told c) s x u =
-          subst (λ (r : Result (Action × Next) Next). Turns step (moves r moment told c) s x u) (stepped_at e true c.phase moment.now requestor state at.0 at.1 at.2 at.3) t2 in
+      subst (λ (r : Result (Action × Next) Next). Turns step (moves r moment told c) s x u) (stepped_at e true c.phase moment.now requestor state at.0 at.1 at.2 at.3) t2 in
       subst (λ (o : Option (Action × State)). Turns step (moves (after_cell o at.0 moment.now c.phase) moment told c) s x u) is t3
 
   -- an input that isn't looked into

@@ -1,5 +1,5 @@
 -- A Move of bytes, whatever is under way.
-use Rattle.std.proofs.Common.{◌≡◌, ◌≢◌, ℕ, suc, ◌+◌, ◌≤◌, ◌<◌, Bool, true, false, List, [], ◌∷◌, ◌++◌, length, take, drop, Option, Some, None, refl, sym, ap, subst, ◌∙◌, append_assoc, inl, inr, ◌⊎◌, arith}
+use Rattle.std.proofs.Common.{◌≡◌, ◌≢◌, ℕ, ◌≤◌, ◌<◌, Bool, true, List, [], ◌∷◌, ◌++◌, length, take, drop, None, refl, sym, ap, subst, ◌∙◌, append_assoc, inl, inr, ◌⊎◌, arith}
 use Rattle.std.specs.List.{AllByRecursion}
 use Rattle.std.specs.Prelude.{◌==◌, ◌-◌}
 use Rattle.std.proofs.Math.Seq.{take-length}
@@ -10,22 +10,21 @@ use Rattle.dr_sound.specs.declared.certificate.Certificate.{Certificate}
 use Rattle.dr_site.specs.Sites.{IsCertified}
 use Rattle.dr_pdu.specs.declared.pdu.Pdu.{Pdu}
 use Rattle.dr_pdu.specs.declared.fault.PduFault.TheVariants.{More}
-use Rattle.dr_pdu.specs.Grammar.{Shows, Spells}
-use Rattle.dr_pdu.specs.Feeding.{StartsPdu, Feeding}
-use Rattle.dr_pdu.specs.Written.{Fits, MeetsLimit, written}
+use Rattle.dr_pdu.specs.Grammar.{Shows}
+use Rattle.dr_pdu.specs.Feeding.{Feeding}
+use Rattle.dr_pdu.specs.Written.{written}
 use Rattle.dr_pdu.proofs.FeedLemmas.{excludes}
 use Rattle.dr_pdu.proofs.WrittenLemmas.{written_spells}
 use Rattle.dr_nego.specs.Fragments.{spellings}
-use Rattle.dr_ledger.specs.declared.item.Instance.{Instance}
 use Rattle.dr_session.specs.declared.ends.Effect.{Effect}
 use Rattle.dr_session.specs.declared.ends.Moment.{Moment}
 use Rattle.dr_session.specs.Plays.{PlaysBytes}
-use Rattle.dr_model.specs.Worlds.{World, Link, Contexts, Stage, Asking, Answering, Rejecting, Open, Storing, Replying, Gone}
+use Rattle.dr_model.specs.Worlds.{World, Link, Stage, Asking, Answering, Rejecting, Open, Storing, Replying, Gone}
 use Rattle.dr_model.specs.Steps.{IsLink, others}
 use Rattle.dr_model.specs.Events.{Event, AgreeReceiver, AgreeCaller, Receive, Answered, BreakCaller, BreakReceiver}
 use Rattle.dr_tie.specs.Desks.{Desk, LedgerStep}
 use Rattle.dr_tie.specs.Channels.{Terminal, Channel, Carries, ShowsLink, ToReceiver, ToCaller, IsReceiver, IsCaller, IsControl, site_of}
-use Rattle.dr_tie.specs.Ties.{IsDeskOf, IsFirst, IsWithin, IsData, Happens, receiver_read, caller_read}
+use Rattle.dr_tie.specs.Ties.{IsDeskOf, IsWithin, IsData, Happens, receiver_read, caller_read}
 use Rattle.dr_tie.specs.Moves.{IsLeft, IsOfReceiver, IsOfCaller, ReceiverMoves, CallerMoves}
 use Rattle.dr_tie.proofs.Fronts.{more_not_memory}
 use Rattle.dr_tie.proofs.Agreeing.{front_is}
@@ -52,11 +51,12 @@ splits [] b c d e = inl (c, refl, e)
 splits (x ∷ xs) b [] d e = inr (x ∷ xs, refl, sym e)
 splits (x ∷ xs) b (y ∷ ys) d e = by_tail (splits xs b ys d h.1)
   where
-  h : (x ≡ y) × (xs ++ b ≡ ys ++ d)
-  h = head_is x y (xs ++ b) (ys ++ d) e
-  by_tail : Splits xs b ys d → Splits (x ∷ xs) b (y ∷ ys) d
-  by_tail (inl (z, p, q)) = inl (z, ap (λ (n : ℕ). n ∷ ys) (sym h.0) ∙ ap (λ (l : List ℕ). x ∷ l) p, q)
-  by_tail (inr (z, p, q)) = inr (z, ap (λ (n : ℕ). n ∷ xs) h.0 ∙ ap (λ (l : List ℕ). y ∷ l) p, q)
+    h : (x ≡ y) × (xs ++ b ≡ ys ++ d)
+    h = head_is x y (xs ++ b) (ys ++ d) e
+
+    by_tail : Splits xs b ys d → Splits (x ∷ xs) b (y ∷ ys) d
+    by_tail (inl (z, p, q)) = inl (z, ap (λ (n : ℕ). n ∷ ys) (sym h.0) ∙ ap (λ (l : List ℕ). x ∷ l) p, q)
+    by_tail (inr (z, p, q)) = inr (z, ap (λ (n : ℕ). n ∷ xs) h.0 ∙ ap (λ (l : List ℕ). y ∷ l) p, q)
 
 less_of : (n m : ℕ) → n ≤ m → n ≢ m → n < m
 less_of n m le apart = omega (arith, le, apart)
@@ -72,17 +72,22 @@ front_of : (t : Terminal) (wire : List ℕ) (pdus : List Pdu) → t.ear.kept ++ 
 front_of t wire [] joined waits fits some = absurd (some (nothing_both t.ear.kept wire joined).1)
 front_of t wire (p ∷ ps) joined waits fits some = by_split (splits t.ear.kept wire (written p) (spellings ps) joined)
   where
-  starts : (e : List ℕ) → t.ear.kept ≡ written p ++ e → ⊥
-  starts e same = excludes t.ear.limit t.ear.kept More waits more_not_memory p e (written p, same, written_spells t.ear.limit p fits.0.0 fits.0.1)
-  by_split : Splits t.ear.kept wire (written p) (spellings ps) → (front : Pdu) × (left : List ℕ) × IsLeft t wire front left
-  by_split (inl (e, whole, is)) = (p, e, record {
-    first = (ps, joined, fits.0.0, fits.0.1);
-    joined = sym whole;
-    some = λ none. starts [] (sym (append-nil t.ear.kept) ∙ (ap (λ (l : List ℕ). t.ear.kept ++ l) (sym none) ∙ (sym whole ∙ sym (append-nil (written p)))));
-    rest = spellings ps;
-    wire_is = is;
-  })
-  by_split (inr (e, more, is)) = absurd (starts e more)
+    starts : (e : List ℕ) → t.ear.kept ≡ written p ++ e → ⊥
+    starts e same = excludes t.ear.limit t.ear.kept More waits more_not_memory p e (written p, same, written_spells t.ear.limit p fits.0.0 fits.0.1)
+
+    by_split : Splits t.ear.kept wire (written p) (spellings ps) → (front : Pdu) × (left : List ℕ) × IsLeft t wire front left
+    by_split (inl (e, whole, is)) = (
+      p,
+      e,
+      record {
+        first = (ps, joined, fits.0.0, fits.0.1);
+        joined = sym whole;
+        some = λ none. starts [] (sym (append-nil t.ear.kept) ∙ (ap (λ (l : List ℕ). t.ear.kept ++ l) (sym none) ∙ (sym whole ∙ sym (append-nil (written p)))));
+        rest = spellings ps;
+        wire_is = is;
+      },
+    )
+    by_split (inr (e, more, is)) = absurd (starts e more)
 
 carried_front : (t : Terminal) (wire : List ℕ) (P : List Pdu → Type 0) (b : Bool) → Carries t wire P b → wire ≢ [] → (front : Pdu) × (left : List ℕ) × IsLeft t wire front left
 carried_front t wire P b c some = front_of t wire (c.coming ++ c.controls) c.joined c.waits c.fits some
@@ -98,8 +103,15 @@ moves t wire front left n l few =
       | inr other ↦ (
           let apart : n ≢ length left = eqb-false n (length left) other in
           let less : n < length left = less_of n (length left) few apart in
-          inr (less, (drop n left, sym l.joined ∙ (ap (λ (z : List ℕ). t.ear.kept ++ z) (sym (take-append-drop n left)) ∙ (sym (append_assoc t.ear.kept (take n left) (drop n left))
-              ∙ ap (λ (z : List ℕ). (t.ear.kept ++ z) ++ drop n left) (sym same))), drop_some n left less)))
+          inr (
+            less,
+            (
+              drop n left,
+              sym l.joined ∙ (ap (λ (z : List ℕ). t.ear.kept ++ z) (sym (take-append-drop n left)) ∙ (sym (append_assoc t.ear.kept (take n left) (drop n left))
+                  ∙ ap (λ (z : List ℕ). (t.ear.kept ++ z) ++ drop n left) (sym same))),
+              drop_some n left less,
+            ),
+          ))
     ]
 
 -- where nothing is under way but what the writer wrote as it left
@@ -108,9 +120,9 @@ control_front : (t : Terminal) (wire : List ℕ) (n : ℕ) (front : Pdu) (left :
 control_front t wire n front left coming controls l whole none joined fits control =
     by_controls controls (subst (λ (c : List Pdu). t.ear.kept ++ wire ≡ spellings (c ++ controls)) none joined) (subst (λ (c : List Pdu). AreFit t.ear.limit (c ++ controls)) none fits) control
   where
-  by_controls : (cs : List Pdu) → t.ear.kept ++ wire ≡ spellings cs → AreFit t.ear.limit cs → AllByRecursion IsControl cs → IsControl front
-  by_controls [] j f c = absurd (l.some (nothing_both left l.rest (sym l.wire_is ∙ (nothing_both t.ear.kept wire j).1)).0)
-  by_controls (c ∷ cs) j f h = (let e = front_is t wire n front c cs l.first whole j f.0.0 f.0.1 in subst (λ (q : Pdu). IsControl q) (sym e.0) h.0)
+    by_controls : (cs : List Pdu) → t.ear.kept ++ wire ≡ spellings cs → AreFit t.ear.limit cs → AllByRecursion IsControl cs → IsControl front
+    by_controls [] j f c = absurd (l.some (nothing_both left l.rest (sym l.wire_is ∙ (nothing_both t.ear.kept wire j).1)).0)
+    by_controls (c ∷ cs) j f h = (let e = front_is t wire n front c cs l.first whole j f.0.0 f.0.1 in subst (λ (q : Pdu). IsControl q) (sym e.0) h.0)
 
 -- ---- at a receiver
 

@@ -1,25 +1,19 @@
 -- What is done at a node alone.
-use Rattle.std.proofs.Common.{◌≡◌, ℕ, Bool, true, false, Result, Ok, Err, refl, sym, ap, subst, ◌∙◌, inl, inr}
+use Rattle.std.proofs.Common.{Bool, refl, sym, ap, subst, ◌∙◌}
 use Rattle.std.specs.Prelude.{◌||◌}
 use Rattle.std.specs.FinSet as set
-use Rattle.dr_base.specs.Texts.{Text}
 use Rattle.dr_route.specs.Routes.{local}
-use Rattle.dr_network.specs.Networks.{Network}
-use Rattle.dr_ledger.specs.declared.content.Job.{Job}
 use Rattle.dr_ledger.specs.Books.{Book}
 use Rattle.dr_ledger.specs.Items.{instance_of}
 use Rattle.dr_ledger.specs.PlanRoutes.{plan_routing}
 use Rattle.dr_ledger.specs.Replies.{Arrives, Requeues, IsAdmitted, IsHeld}
 use Rattle.dr_ledger.proofs.Maps.{texts, contains_new}
-use Rattle.dr_model.specs.Worlds.{World, same_text, with_book, with_armed}
-use Rattle.dr_model.specs.Calls.{Reply, Answer, StoreOutcome, store_outcome_of}
+use Rattle.dr_model.specs.Worlds.{with_book, with_armed}
+use Rattle.dr_model.specs.Calls.{store_outcome_of}
 use Rattle.dr_model.specs.Steps.{passed}
-use Rattle.dr_model.specs.Events.{Take, Requeue, Refuse, Tick, HasNode}
 use Rattle.dr_model.proofs.Safety.{book_here, book_there}
-use Rattle.dr_session.specs.Ledgers.{desk}
-use Rattle.dr_tie.specs.Desks.{Desk, ArmedBy, LedgerStep}
-use Rattle.dr_tie.specs.Ties.{IsDeskOf}
-use Rattle.dr_tie.specs.Nodes.{OnlyAt, HappensAt, SubmittingTakes, RequeuesAt, RequeueingIsRequeue, RefusingIsRefuse, TimePasses}
+use Rattle.dr_tie.specs.Desks.{ArmedBy}
+use Rattle.dr_tie.specs.Nodes.{SubmittingTakes, RequeueingIsRequeue, RefusingIsRefuse, TimePasses}
 use Rattle.dr_tie.proofs.CallerLeaving.{armed_after}
 use Rattle.dr_tie.proofs.Sites.{armed_by}
 
@@ -30,11 +24,14 @@ submitting_takes plan w name job s t reply node at h =
     let a = armed_after (Would (w.books name)) w.armed name (store_outcome_of reply) s.armed t.armed at.1 would in
     record {
       after = with_armed (with_book w name t.book) a.0;
-      step = (node, record {
-        book = t.book;
-        call = subst (λ (b : Book). Arrives (plan_routing plan name) local (instance_of job) b reply t.book) at.0 h.0;
-        called = record { armed = a.0; store = a.1; is = refl };
-      });
+      step = (
+        node,
+        record {
+          book = t.book;
+          call = subst (λ (b : Book). Arrives (plan_routing plan name) local (instance_of job) b reply t.book) at.0 h.0;
+          called = record { armed = a.0; store = a.1; is = refl };
+        },
+      );
       desk_is = (sym (book_here w.books name t.book), a.2);
       only = record {
         books = λ other apart. book_there w.books name t.book other apart;
@@ -51,11 +48,14 @@ requeueing_is_requeue plan w name uid dest s t answer node at h =
     let a = armed_after (IsHeld (w.books name) uid dest) w.armed name (store_outcome_of answer) s.armed t.armed at.1 would in
     record {
       after = with_armed (with_book w name t.book) a.0;
-      step = (node, record {
-        book = t.book;
-        call = subst (λ (b : Book). Requeues uid dest b answer t.book) at.0 h.0;
-        called = record { armed = a.0; store = a.1; is = refl };
-      });
+      step = (
+        node,
+        record {
+          book = t.book;
+          call = subst (λ (b : Book). Requeues uid dest b answer t.book) at.0 h.0;
+          called = record { armed = a.0; store = a.1; is = refl };
+        },
+      );
       desk_is = (sym (book_here w.books name t.book), a.2);
       only = record {
         books = λ other apart. book_there w.books name t.book other apart;

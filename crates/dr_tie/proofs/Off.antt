@@ -1,15 +1,10 @@
 -- An end that is off stays off.
-use Rattle.std.proofs.Common.{◌≡◌, ◌≢◌, ℕ, ◌<◌, ◌^◌, Bool, true, false, List, [], ◌∷◌, ◌++◌, map, take, drop, Option, Some, None, Result, Ok, Err, refl, sym, ap, subst, ◌∙◌, append_assoc, inl, inr, ◌⊎◌}
-use Rattle.std.specs.List.{AllByRecursion, flat_map}
+use Rattle.std.proofs.Common.{◌≡◌, ℕ, Bool, true, List, [], ◌∷◌, Option, Some, None, Result, Ok, Err, refl, sym, ap, subst, ◌∙◌, inl, inr, ◌⊎◌}
+use Rattle.std.specs.List.{AllByRecursion}
 use Rattle.std.specs.Prelude.{if◌then◌else◌}
 use Rattle.std.specs.Option.{option_map_or}
 use Rattle.std.proofs.lemmas.List.{append-nil}
-use Rattle.std.proofs.lemmas.Bool.{false≢true}
-use Rattle.dr_network.specs.Networks.{Network}
-use Rattle.dr_sound.specs.declared.certificate.Certificate.{Certificate}
-use Rattle.dr_site.specs.Parts.{Part, IsPartOf}
 use Rattle.dr_ulstate.specs.declared.table.Action.{Action}
-use Rattle.dr_ulstate.specs.declared.table.Action.TheVariants.{Ar6, Aa8}
 use Rattle.dr_ulstate.specs.declared.table.Event.{Event as UpperEvent}
 use Rattle.dr_ulstate.specs.declared.table.Event.TheVariants.{AssociateRequest, TransportConfirm, AssociateAcPdu, AssociateRjPdu, TransportIndication, AssociateRqPdu, AcceptResponse, RejectResponse, DataRequest, DataPdu, ReleaseRequest, ReleaseRqPdu, ReleaseRpPdu, ReleaseResponse, AbortRequest, AbortPdu, TransportClosed, ArtimExpired, InvalidPdu}
 use Rattle.dr_ulstate.specs.declared.table.State.{State}
@@ -27,8 +22,7 @@ use Rattle.dr_dimse.specs.declared.message.Awaited.TheVariants.{Nothing}
 use Rattle.dr_dimse.specs.declared.message.Message.{Message}
 use Rattle.dr_dimse.specs.declared.fault.DimseFault.{DimseFault}
 use Rattle.dr_dimse.specs.declared.fault.DimseFault.TheVariants as dimse
-use Rattle.dr_dimse.specs.declared.command.Command.{Command}
-use Rattle.dr_dimse.specs.Taking.{Stage as Taken, Idle, InCommand, InData, Takes, data_of, wants_command}
+use Rattle.dr_dimse.specs.Taking.{Stage as Taken, Idle, InCommand, InData, Takes, data_of}
 use Rattle.dr_nego.specs.Fragments.{spellings}
 use Rattle.dr_nego.specs.declared.agreed.Agreed.{Agreed}
 use Rattle.dr_nego.specs.declared.agreed.Pair.{Pair}
@@ -40,15 +34,14 @@ use Rattle.dr_session.specs.declared.ends.Input.TheVariants as input
 use Rattle.dr_session.specs.declared.ends.LinkAction.{LinkAction}
 use Rattle.dr_session.specs.declared.ends.LinkAction.TheVariants.{Close}
 use Rattle.dr_session.specs.declared.ends.Moment.{Moment}
-use Rattle.dr_session.specs.declared.ends.Pending.{Pending}
 use Rattle.dr_session.specs.declared.ends.Told.{Told}
 use Rattle.dr_session.specs.declared.ends.Told.TheVariants.{Plain, Quiet, Fault, Strange, Store, Whole, Agreement}
 use Rattle.dr_session.specs.Desks.{DeskCall, DeskAnswer}
 use Rattle.dr_session.specs.Reactions.{Reaction, turn, occurs, moves, event_of, is_taken, is_requestor, left, aborted, released, noted, collides, stepped_by, effect, write, abort_pdu, reason_of}
-use Rattle.dr_session.specs.Telling.{Looks, Tells, TellsValue, TellsIn, Says, SaysOf, action_at, event_of_input}
+use Rattle.dr_session.specs.Telling.{Looks, Tells, TellsValue, TellsIn, Says}
 use Rattle.dr_session.specs.Turns.{Turns, Ends}
-use Rattle.dr_session.specs.Plays.{Reacts, At, with_stage, Plays, PlaysBytes, at_moment, Hears, HearsBy}
-use Rattle.dr_tie.specs.Channels.{IsAt, IsOff, IsReleasing, IsControl, bytes_of, site_of, site_in}
+use Rattle.dr_session.specs.Plays.{with_stage}
+use Rattle.dr_tie.specs.Channels.{IsAt, IsOff, IsControl, bytes_of}
 use Rattle.dr_tie.specs.Ties.{StaysOff, OffStaysOff}
 use Rattle.dr_tie.proofs.Agreeing.{stepped_at}
 use Rattle.dr_tie.proofs.Leaving.{AreFit, left_nothing, abort_fits}
@@ -243,7 +236,7 @@ module _ {S : Type 0} (step : S → DeskCall → DeskAnswer → S → Type 0) (m
       answered h =
           let d : Core = released (stepped_by ReleaseResponse moment.now answering) in
           let h1 : (x ≡ effect (write (pdu.ReleaseRp ∷ []) ∷ []) d) × (u ≡ s) =
-              subst (λ (b : Bool). Turns step (if b then Ends (effect (write (pdu.ReleaseRp ∷ []) ∷ []) d) else Ends (effect [] answering)) s x u) at.2 h in
+          subst (λ (b : Bool). Turns step (if b then Ends (effect (write (pdu.ReleaseRp ∷ []) ∷ []) d) else Ends (effect [] answering)) s x u) at.2 h in
           out (write (pdu.ReleaseRp ∷ []) ∷ []) d (pdu.ReleaseRp ∷ []) h1 (free, inr (inl (side, inr (moved (moved at.0 Sta9 moment.now) Sta11 moment.now, refl, at.2, refl), awaits, no_data))) refl refl refl
           (append-nil (spellings (pdu.ReleaseRp ∷ []))) (tt, tt) close_fits
 

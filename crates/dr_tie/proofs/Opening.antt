@@ -1,7 +1,5 @@
 -- A link that was opened.
-use Rattle.std.proofs.Common.{◌≡◌, ◌≢◌, ℕ, ◌+◌, Bool, true, false, List, [], ◌∷◌, ◌++◌, Option, Some, None, refl, sym, ap, subst, ◌∙◌, inl, inr}
-use Rattle.dr_base.specs.Texts.{Text}
-use Rattle.dr_pdu.specs.declared.pdu.Pdu.{Pdu}
+use Rattle.std.proofs.Common.{◌≡◌, ℕ, ◌+◌, List, [], ◌∷◌, ◌++◌, Some, None, refl, sym, ap, subst, ◌∙◌}
 use Rattle.dr_pdu.specs.declared.pdu.Pdu.TheVariants as pdu
 use Rattle.dr_pdu.specs.declared.fault.PduFault.TheVariants.{More}
 use Rattle.dr_pdu.specs.Grammar.{Shows}
@@ -11,10 +9,8 @@ use Rattle.dr_model.proofs.Lookups.{numbers}
 use Rattle.dr_model.specs.Steps.{new_link, asked}
 use Rattle.dr_nego.specs.Agreeing.{AssociateRq}
 use Rattle.dr_nego.specs.Proposing.{IsProposal}
-use Rattle.dr_session.specs.declared.ends.Core.{Core}
-use Rattle.dr_nego.specs.Fragments.{spellings}
-use Rattle.dr_tie.specs.Ties.{IsOpened, OpensAreAsks}
-use Rattle.dr_tie.specs.Channels.{Terminal, Carries, site_of}
+use Rattle.dr_tie.specs.Ties.{OpensAreAsks}
+use Rattle.dr_tie.specs.Channels.{Terminal, site_of}
 use Rattle.dr_tie.proofs.Fronts.{nothing_yet}
 
 kept_none : (t : Terminal) (wire : List ℕ) → t.ear ≡ fresh t.ear.limit → t.ear.kept ++ wire ≡ wire
@@ -42,8 +38,13 @@ opens_are_asks plan certificate w caller receiver k hop opened = (
     receiver = opened.listening;
     to_receiver = λ o. record {
       coming = pdu.AssociateRq opened.rq ∷ [];
-      is = (opened.rq, opened.proposed, subst (λ (r : AssociateRq). IsProposal (site_of k.caller.core) receiver r)
-          (some_same opened.asking.5.0 opened.rq (sym opened.asking.5.1 ∙ opened.proposed)) opened.asking.5.2, refl);
+      is = (
+        opened.rq,
+        opened.proposed,
+        subst (λ (r : AssociateRq). IsProposal (site_of k.caller.core) receiver r)
+            (some_same opened.asking.5.0 opened.rq (sym opened.asking.5.1 ∙ opened.proposed)) opened.asking.5.2,
+        refl,
+      );
       controls = [];
       joined = kept_none k.receiver k.to_receiver opened.ears.1 ∙ opened.wires.1;
       works = ap (λ (f : Feeding). f.failed) opened.ears.1;

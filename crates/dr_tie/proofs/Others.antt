@@ -1,12 +1,12 @@
 -- Who is counted as another association, in both worlds.
-use Rattle.std.proofs.Common.{◌≡◌, ◌≢◌, ℕ, Bool, true, false, List, [], ◌∷◌, length, Option, Some, None, Contains, refl, sym, ap, subst, ◌∙◌, inl, inr, ◌⊎◌, arith}
-use Rattle.std.specs.Prelude.{◌↔◌, AllPairs}
+use Rattle.std.proofs.Common.{◌≡◌, ℕ, Bool, true, false, List, [], ◌∷◌, Option, Some, None, refl, sym, ap, subst, ◌∙◌, inl, inr, arith}
+use Rattle.std.specs.Prelude.{AllPairs}
 use Rattle.std.specs.Ordering.{nat_cmp}
 use Rattle.std.specs.declared.cmp.Ordering.TheVariants.{Less}
 use Rattle.std.specs.List.Sorted.{IsStrictlySortedBy}
 use Rattle.std.specs.Option.{option_map_or}
 use Rattle.std.specs.FinMap as map_of
-use Rattle.std.proofs.lemmas.Bool.{false≢true, cases_Bool}
+use Rattle.std.proofs.lemmas.Bool.{false≢true}
 use Rattle.std.proofs.lemmas.List.Kept.{AllPairs-cons}
 use Rattle.std.proofs.lemmas.List.Elements.{All-from_recursion}
 use Rattle.dr_base.specs.Texts.{Text}
@@ -16,15 +16,15 @@ use Rattle.dr_hops.proofs.Rows.{same_sorted}
 use Rattle.dr_ulstate.specs.declared.table.State.{State}
 use Rattle.dr_ulstate.specs.declared.table.State.TheVariants.{Sta1, Sta2, Sta6, Sta13}
 use Rattle.dr_ulstate.specs.Standing.{Standing}
-use Rattle.dr_ulstate.specs.Phases.{standing_of, state_of}
+use Rattle.dr_ulstate.specs.Phases.{state_of}
 use Rattle.dr_session.specs.declared.ends.Core.{Core}
 use Rattle.dr_model.specs.Worlds.{World, Link, Stage, Asking, Answering, Rejecting, Open, Storing, Replying, Gone}
-use Rattle.dr_model.specs.Steps.{IsLink, others, others_of}
+use Rattle.dr_model.specs.Steps.{IsLink, others_of}
 use Rattle.dr_model.specs.Pinning.{IsAccepted, answering, opened, storing, replying}
 use Rattle.dr_model.proofs.Counted.{others_are_counted}
 use Rattle.dr_model.proofs.Lookups.{numbers}
-use Rattle.dr_tie.specs.Channels.{Channel, ShowsLink, IsReceiver, IsOff, IsAt}
-use Rattle.dr_tie.specs.ByteWorlds.{ByteWorld, AreOthers, receiver_of, is_open}
+use Rattle.dr_tie.specs.Channels.{Channel, ShowsLink, IsReceiver, IsAt}
+use Rattle.dr_tie.specs.ByteWorlds.{ByteWorld, AreOthers, is_open}
 use Rattle.dr_tie.specs.Shown.{Shows, ShowsAt}
 
 pub state_is : (c : Core) (requestor : Bool) (state : State) → IsAt c requestor state → state_of c.phase ≡ state
@@ -36,18 +36,18 @@ pub shown_link : (plan : Network) (certificate : Certificate) (b : ByteWorld) (w
 shown_link plan certificate b w number k s has =
     by_get (map_of.get w.links number) refl (subst (λ (o : Option Channel). ShowsAt plan certificate o (map_of.get w.links number)) has (s.links number))
   where
-  by_get : (o : Option Link) → map_of.get w.links number ≡ o → ShowsAt plan certificate (Some k) (map_of.get w.links number) → (link : Link) × IsLink w number link × ShowsLink plan certificate k link
-  by_get (Some link) e h = (link, e, subst (λ (o : Option Link). ShowsAt plan certificate (Some k) o) e h)
-  by_get None e h = absurd (subst (λ (o : Option Link). ShowsAt plan certificate (Some k) o) e h)
+    by_get : (o : Option Link) → map_of.get w.links number ≡ o → ShowsAt plan certificate (Some k) (map_of.get w.links number) → (link : Link) × IsLink w number link × ShowsLink plan certificate k link
+    by_get (Some link) e h = (link, e, subst (λ (o : Option Link). ShowsAt plan certificate (Some k) o) e h)
+    by_get None e h = absurd (subst (λ (o : Option Link). ShowsAt plan certificate (Some k) o) e h)
 
 pub shown_channel : (plan : Network) (certificate : Certificate) (b : ByteWorld) (w : World) (number : ℕ) (link : Link) → Shows plan certificate b w → IsLink w number link
     → (k : Channel) × (map_of.get b.links number ≡ Some k) × ShowsLink plan certificate k link
 shown_channel plan certificate b w number link s here =
     by_get (map_of.get b.links number) refl (subst (λ (o : Option Link). ShowsAt plan certificate (map_of.get b.links number) o) here (s.links number))
   where
-  by_get : (o : Option Channel) → map_of.get b.links number ≡ o → ShowsAt plan certificate (map_of.get b.links number) (Some link) → (k : Channel) × (map_of.get b.links number ≡ Some k) × ShowsLink plan certificate k link
-  by_get (Some k) e h = (k, e, subst (λ (o : Option Channel). ShowsAt plan certificate o (Some link)) e h)
-  by_get None e h = absurd (subst (λ (o : Option Channel). ShowsAt plan certificate o (Some link)) e h)
+    by_get : (o : Option Channel) → map_of.get b.links number ≡ o → ShowsAt plan certificate (map_of.get b.links number) (Some link) → (k : Channel) × (map_of.get b.links number ≡ Some k) × ShowsLink plan certificate k link
+    by_get (Some k) e h = (k, e, subst (λ (o : Option Channel). ShowsAt plan certificate o (Some link)) e h)
+    by_get None e h = absurd (subst (λ (o : Option Channel). ShowsAt plan certificate o (Some link)) e h)
 
 not_open : (c : Core) (state : State) → state_of c.phase ≡ state → is_open state ≡ false → is_open (state_of c.phase) ≡ true → ⊥
 not_open c state e f h = false≢true (sym f ∙ (sym (ap is_open e) ∙ h))

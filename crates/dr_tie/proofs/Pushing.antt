@@ -1,28 +1,25 @@
 -- A push.
-use Rattle.std.proofs.Common.{◌≡◌, ℕ, Bool, true, false, List, [], ◌∷◌, ◌++◌, Contains, Option, Some, None, Result, Ok, Err, refl, sym, ap, subst, ◌∙◌, inl, inr, ◌⊎◌}
+use Rattle.std.proofs.Common.{◌≡◌, ℕ, Bool, true, false, List, [], ◌∷◌, ◌++◌, Contains, Option, Some, None, Ok, Err, refl, sym, ap, subst, ◌∙◌, inl, inr, ◌⊎◌}
 use Rattle.std.proofs.Math.Logic.{∥∥₁_map}
 use Rattle.std.specs.Prelude.{◌&&◌, if◌then◌else◌, find, option_map}
 use Rattle.std.specs.FinSet as set
 use Rattle.std.specs.Str.{bytes_eq}
 use Rattle.std.proofs.lemmas.Bool.{cases_Bool, false≢true}
-use Rattle.std.proofs.lemmas.Slice.Eq.{bytes_eq-Decides}
 use Rattle.dr_site.specs.Sites.{IsCertified}
 use Rattle.dr_base.specs.Texts.{Text}
 use Rattle.dr_base.specs.Syntaxes.{syntax_uid}
 use Rattle.dr_network.specs.Networks.{Network}
-use Rattle.dr_network.proofs.Gathered.{Contains-there, Contains-here}
 use Rattle.dr_sound.specs.declared.certificate.Certificate.{Certificate}
 use Rattle.dr_ulstate.specs.declared.table.State.TheVariants.{Sta6}
 use Rattle.dr_ulstate.specs.Standing.{moved}
 use Rattle.dr_ulstate.specs.Phases.{in_its_phase}
-use Rattle.dr_pdu.specs.declared.pdu.Pdu.{Pdu}
 use Rattle.dr_ledger.specs.declared.content.Job.{Job}
 use Rattle.dr_ledger.specs.Books.{Book}
-use Rattle.dr_ledger.specs.Items.{IsItem, instance_of}
+use Rattle.dr_ledger.specs.Items.{instance_of}
 use Rattle.dr_ledger.specs.Replies.{IsNext}
 use Rattle.dr_ledger.proofs.Maps.{get_new}
 use Rattle.dr_model.proofs.Lookups.{numbers}
-use Rattle.dr_model.specs.Worlds.{World, Link, Stage, Contexts, Open, Storing, with_link, at_stage}
+use Rattle.dr_model.specs.Worlds.{World, Link, Stage, Contexts, Open, with_link}
 use Rattle.dr_model.specs.Steps.{IsLink, after_settling, stays_connected, pending as pending_of}
 use Rattle.dr_model.specs.Events.{Give, BreakCaller}
 use Rattle.dr_nego.specs.declared.agreed.Agreed.{Agreed}
@@ -33,14 +30,13 @@ use Rattle.dr_session.specs.Ledgers.{Hands}
 use Rattle.dr_nego.specs.Fragments.{spellings}
 use Rattle.dr_session.specs.declared.ends.Moment.{Moment}
 use Rattle.dr_nego.specs.Agreeing.{context_for, is_for}
-use Rattle.dr_session.specs.Reactions.{can_be_named, aborted, aborts_desk, abort_pdu, desk_failed, due, event_of, gives, is_idle, is_ready, is_requestor, job, left, quiet, settling, stepped_by, awaiting, effect, gives_in, id_after, pending, store_pdus, write}
-use Rattle.dr_session.specs.Turns.{Turns, Ends}
+use Rattle.dr_session.specs.Reactions.{can_be_named, aborted, aborts_desk, abort_pdu, desk_failed, due, event_of, gives, is_idle, is_ready, is_requestor, job, left, quiet, settling, stepped_by, effect, gives_in, write}
+use Rattle.dr_session.specs.Turns.{Turns}
 use Rattle.dr_tie.specs.Desks.{Desk, LedgerStep}
-use Rattle.dr_tie.specs.Channels.{IsOff, bytes_of, Brings, Channel, Carries, ShowsLink, ToCaller, ToReceiver, IsAt, IsCaller, IsReceiver, contexts_of, site_of}
+use Rattle.dr_tie.specs.Channels.{IsOff, bytes_of, Channel, Carries, ShowsLink, ToCaller, ToReceiver, IsAt, IsCaller, IsReceiver, site_of}
 use Rattle.dr_tie.specs.Ties.{IsDeskOf, OnlyHere, Happens, caller_did, PushGives}
 use Rattle.dr_tie.proofs.ContextSets.{from_context}
-use Rattle.dr_tie.proofs.Leaving.{AreFit, only_link, acts_by, plain_turn, carries_more, abort_fits}
-
+use Rattle.dr_tie.proofs.Leaving.{only_link, acts_by, plain_turn, carries_more, abort_fits}
 use Rattle.std.specs.Prelude.{not, is_some}
 use Rattle.std.specs.Option.{option_map_or}
 use Rattle.std.specs.FinMap as map_of
@@ -51,7 +47,7 @@ use Rattle.dr_ulstate.specs.declared.table.Action.TheVariants.{Dt1}
 use Rattle.dr_ulstate.specs.declared.table.Event.TheVariants.{AbortRequest, DataRequest}
 use Rattle.dr_ulstate.specs.declared.table.State.TheVariants.{Sta13}
 use Rattle.dr_ulstate.specs.Standing.{Standing}
-use Rattle.dr_ulstate.specs.Phases.{standing_of, may_send}
+use Rattle.dr_ulstate.specs.Phases.{may_send}
 use Rattle.dr_ledger.specs.declared.item.Instance.{Instance}
 use Rattle.dr_ledger.specs.declared.item.Outcome.TheVariants.{NoContext}
 use Rattle.dr_ledger.specs.declared.fault.LedgerFault.TheVariants as fault
@@ -262,7 +258,7 @@ module _ (plan : Network) (certificate : Certificate) (w : World) (number : ℕ)
       ] in
       let h1 : Turns cstep (gives core.agreed moment one_job core) m x t = subst (λ (b : Bool). Turns cstep (if b then gives core.agreed moment one_job core else aborts_desk moment core) m x t) named h in
       let g : Turns cstep (gives (Some agreed) moment one_job core) s x t = subst (λ (d : Desk). Turns cstep (gives (Some agreed) moment one_job core) d x t) one.1
-          (subst (λ (o : Option Agreed). Turns cstep (gives o moment one_job core) m x t) at_open.0.1.1 h1) in
+      (subst (λ (o : Option Agreed). Turns cstep (gives o moment one_job core) m x t) at_open.0.1.1 h1) in
       by_context one_job one.0 (context_for agreed one_job.key.class (syntax_uid one_job.key.syntax)) refl g
   by_next (Upcoming (Err fault.Store)) m one h = breaks h.0 (h.1 ∙ one.1)
   by_next (Upcoming (Err fault.Memory)) m one h = absurd h

@@ -1,70 +1,46 @@
 -- A Move that ends a rejection.
-use Rattle.std.proofs.Common.{◌≡◌, ℕ, Bool, true, false, List, take, drop, [], ◌∷◌, ◌++◌, Contains, Option, Some, None, Result, Ok, Err, refl, sym, ap, subst, ◌∙◌, inl, inr, ◌⊎◌}
-use Rattle.std.proofs.Math.Logic.{∥∥₁_map}
-use Rattle.std.specs.Prelude.{◌&&◌, if◌then◌else◌, find, option_map}
-use Rattle.std.specs.FinSet as set
-use Rattle.std.specs.Str.{bytes_eq}
-use Rattle.std.proofs.lemmas.Bool.{cases_Bool, false≢true}
-use Rattle.std.proofs.lemmas.Slice.Eq.{bytes_eq-Decides}
+use Rattle.std.proofs.Common.{◌≡◌, ℕ, Bool, true, List, take, drop, [], ◌∷◌, ◌++◌, Option, Some, None, Ok, Err, refl, sym, ap, subst, ◌∙◌, inl, inr, ◌⊎◌}
+use Rattle.std.proofs.lemmas.Bool.{false≢true}
 use Rattle.dr_base.specs.Texts.{Text}
-use Rattle.dr_base.specs.Syntaxes.{syntax_uid}
 use Rattle.dr_network.specs.Networks.{Network}
-use Rattle.dr_network.proofs.Gathered.{Contains-there, Contains-here}
 use Rattle.dr_sound.specs.declared.certificate.Certificate.{Certificate}
-use Rattle.dr_ulstate.specs.declared.table.State.TheVariants.{Sta6}
 use Rattle.dr_ulstate.specs.Standing.{moved}
 use Rattle.dr_ulstate.specs.Phases.{in_its_phase}
 use Rattle.dr_pdu.specs.declared.pdu.Pdu.{Pdu}
-use Rattle.dr_ledger.specs.declared.content.Job.{Job}
 use Rattle.dr_ledger.specs.Books.{Book}
-use Rattle.dr_ledger.specs.Items.{IsItem, instance_of}
+use Rattle.dr_ledger.specs.Items.{instance_of}
 use Rattle.dr_ledger.specs.Replies.{IsNext}
 use Rattle.dr_ledger.proofs.Maps.{get_new}
 use Rattle.dr_model.proofs.Lookups.{numbers}
 use Rattle.dr_model.specs.Worlds.{World, Link, Stage, Rejecting, without_caller, with_link}
-use Rattle.dr_model.specs.Steps.{IsLink, SettlesFirst, pending as pending_of}
+use Rattle.dr_model.specs.Steps.{IsLink, pending as pending_of}
 use Rattle.dr_model.specs.Events.{AgreeCaller, BreakCaller}
-use Rattle.dr_nego.specs.declared.agreed.Agreed.{Agreed}
-use Rattle.dr_nego.specs.declared.agreed.Pair.{Pair}
 use Rattle.dr_session.specs.declared.ends.Core.{Core}
 use Rattle.dr_session.specs.declared.ends.Effect.{Effect}
-use Rattle.dr_session.specs.Ledgers.{Hands}
 use Rattle.dr_nego.specs.Fragments.{spellings}
 use Rattle.dr_session.specs.declared.ends.Moment.{Moment}
-use Rattle.dr_nego.specs.Agreeing.{context_for, is_for}
-use Rattle.dr_session.specs.Reactions.{aborted, aborts_desk, abort_pdu, desk_failed, due, event_of, refused, rejected, gives, is_idle, is_requestor, job, left, quiet, settling, stepped_by, awaiting, effect, gives_in, id_after, pending, store_pdus, write}
+use Rattle.dr_session.specs.Reactions.{desk_failed, refused, rejected, job, left, settling, effect}
 use Rattle.dr_session.specs.Turns.{Turns, Ends}
 use Rattle.dr_tie.specs.Desks.{Desk, LedgerStep}
-use Rattle.dr_tie.specs.Channels.{IsOff, bytes_of, Brings, Channel, Carries, ShowsLink, ToCaller, ToReceiver, IsAt, IsCaller, IsReceiver, contexts_of, site_of, site_in}
-use Rattle.dr_tie.specs.Ties.{IsDeskOf, IsFirst, OnlyHere, Happens, caller_read, HearsRejection}
-use Rattle.dr_tie.proofs.ContextSets.{from_context}
-use Rattle.dr_tie.proofs.Leaving.{AreFit, only_link, acts_by, plain_turn, carries_more, abort_fits}
-
-use Rattle.std.specs.Prelude.{not, is_some}
-use Rattle.std.specs.Option.{option_map_or}
+use Rattle.dr_tie.specs.Channels.{IsOff, bytes_of, Channel, Carries, ShowsLink, ToCaller, IsAt, IsCaller, IsReceiver, site_of, site_in}
+use Rattle.dr_tie.specs.Ties.{IsDeskOf, IsFirst, Happens, caller_read, HearsRejection}
+use Rattle.dr_tie.proofs.Leaving.{AreFit, only_link, acts_by, plain_turn}
 use Rattle.std.specs.FinMap as map_of
-use Rattle.std.proofs.lemmas.List.{append-nil}
-use Rattle.dr_network.proofs.Gathered.{nothing_in_nil, Contains-cons_cases}
-use Rattle.dr_nego.proofs.OneContext.{same_texts}
 use Rattle.dr_ulstate.specs.declared.table.Action.TheVariants.{Ae4}
 use Rattle.dr_ulstate.specs.declared.table.Event.TheVariants.{AssociateRjPdu}
 use Rattle.dr_ulstate.specs.declared.table.State.TheVariants.{Sta1, Sta5}
-use Rattle.dr_ulstate.specs.Standing.{Standing}
-use Rattle.dr_ulstate.specs.Phases.{standing_of}
 use Rattle.dr_ledger.specs.declared.item.Instance.{Instance}
 use Rattle.dr_ledger.specs.declared.item.Outcome.TheVariants.{Broken}
 use Rattle.dr_ledger.specs.declared.fault.LedgerFault.TheVariants as fault
 use Rattle.dr_model.specs.Calls.{Answer}
 use Rattle.dr_session.specs.declared.ends.Input.TheVariants.{Rejection}
-use Rattle.dr_session.specs.declared.ends.Pending.{Pending}
 use Rattle.dr_session.specs.declared.ends.Told.TheVariants.{Plain}
 use Rattle.dr_session.specs.Desks.{DeskCall, DeskAnswer, Next, Settle, Arrival, Upcoming, Settling}
-use Rattle.dr_session.specs.Plays.{PlaysBytes, Reacts, at_moment}
+use Rattle.dr_session.specs.Plays.{PlaysBytes}
 use Rattle.dr_tie.proofs.CallerLeaving.{Does, caller_gone}
 use Rattle.dr_tie.proofs.Agreeing.{front_is, plays_alone}
 use Rattle.dr_tie.proofs.Fronts.{hears_one}
 use Rattle.dr_tie.proofs.Responses.{Settled, settled}
-
 use Rattle.dr_pdu.specs.declared.pdu.Pdu.TheVariants as pdu
 use Rattle.dr_pdu.specs.declared.pdu.AssociateRj.{AssociateRj}
 use Rattle.dr_pdu.specs.Feeding.{Feeding}

@@ -1,23 +1,17 @@
 -- A Move that ends the request is the receiver's agreement.
-use Rattle.std.proofs.Common.{get_or, arith, ◌≡◌, ◌≢◌, ℕ, ◌<◌, ◌≤◌, Bool, true, false, List, [], ◌∷◌, ◌++◌, length, map, take, drop, Option, Some, None, Result, Ok, Err, Contains, refl, sym, ap, subst, ◌∙◌, append_assoc, inl, inr, ◌⊎◌}
-use Rattle.std.specs.Prelude.{◌==◌, ◌↔◌}
-use Rattle.std.specs.List.{AllByRecursion, flat_map}
-use Rattle.std.specs.FinMap as map_of
-use Rattle.std.specs.FinSet as set
+use Rattle.std.proofs.Common.{get_or, arith, ◌≡◌, ℕ, ◌<◌, ◌≤◌, Bool, true, false, List, [], ◌∷◌, ◌++◌, take, drop, Option, Some, None, refl, sym, ap, subst, ◌∙◌, inl, inr, ◌⊎◌}
+use Rattle.std.specs.List.{AllByRecursion}
 use Rattle.std.proofs.lemmas.List.{append-nil}
 use Rattle.std.proofs.lemmas.Bool.{false≢true}
 use Rattle.dr_base.specs.Texts.{Text}
 use Rattle.dr_base.specs.declared.syntax.Syntax.{Syntax}
-use Rattle.std.proofs.lemmas.List.Elements.{All-contains}
-use Rattle.dr_network.specs.Formed.{IsMaxPdu, IsWellFormedNode}
 use Rattle.dr_network.specs.Networks.{Network}
-use Rattle.dr_network.specs.Walks.{GoesOver, Goes, Accepts}
+use Rattle.dr_network.specs.Walks.{GoesOver, Accepts}
 use Rattle.dr_sound.specs.declared.certificate.Certificate.{Certificate}
-use Rattle.dr_site.specs.Parts.{Part, IsPartOf}
-use Rattle.dr_site.specs.Sites.{IsCertified, IsSite}
+use Rattle.dr_site.specs.Parts.{Part}
+use Rattle.dr_site.specs.Sites.{IsCertified}
 use Rattle.dr_site.proofs.Assembled.{is_site}
-use Rattle.dr_ulstate.specs.declared.table.State.{State}
-use Rattle.dr_ulstate.specs.declared.table.State.TheVariants.{Sta1, Sta2, Sta3, Sta6, Sta13}
+use Rattle.dr_ulstate.specs.declared.table.State.TheVariants.{Sta3, Sta6, Sta13}
 use Rattle.dr_ulstate.specs.Standing.{moved}
 use Rattle.dr_pdu.specs.declared.pdu.Pdu.{Pdu}
 use Rattle.dr_pdu.specs.declared.pdu.Pdu.TheVariants as pdu
@@ -28,24 +22,22 @@ use Rattle.dr_pdu.proofs.WrittenLemmas.{others_fit}
 use Rattle.dr_ledger.proofs.Maps.{get_new}
 use Rattle.dr_model.proofs.Lookups.{numbers}
 use Rattle.dr_model.specs.Worlds.{World, Link, Contexts, Stage, Asking, Answering, Rejecting, with_link, at_stage, without_receiver}
-use Rattle.dr_model.specs.Steps.{IsLink, IsHop, AcceptsOffered, AnswersRequest, others}
-use Rattle.dr_model.specs.Events.{Event, Step, AgreeReceiver}
+use Rattle.dr_model.specs.Steps.{IsLink, AcceptsOffered, others}
+use Rattle.dr_model.specs.Events.{AgreeReceiver}
 use Rattle.dr_session.specs.declared.ends.Core.{Core}
 use Rattle.dr_session.specs.declared.ends.Effect.{Effect}
-use Rattle.dr_session.specs.declared.ends.Input.{Input}
 use Rattle.dr_session.specs.declared.ends.Input.TheVariants.{Request}
 use Rattle.dr_session.specs.declared.ends.Told.{Told}
 use Rattle.dr_session.specs.declared.ends.Told.TheVariants.{Plain}
-use Rattle.dr_session.specs.declared.ends.LinkAction.{LinkAction}
 use Rattle.dr_nego.specs.Fragments.{spellings}
 use Rattle.dr_session.specs.declared.ends.Moment.{Moment}
-use Rattle.dr_session.specs.Reactions.{Reaction, turn, effect, write, rj}
+use Rattle.dr_session.specs.Reactions.{turn, effect, write, rj}
 use Rattle.dr_session.specs.Turns.{Turns}
 use Rattle.dr_session.specs.Plays.{PlaysBytes, with_stage}
 use Rattle.dr_nego.specs.declared.answering.Answer.TheVariants.{Accept, Reject}
 use Rattle.dr_dimse.specs.Taking.{Stage as Taken}
 use Rattle.dr_nego.specs.declared.agreed.Agreed.{Agreed}
-use Rattle.dr_nego.specs.Agreeing.{AssociateRq, AssociateAc}
+use Rattle.dr_nego.specs.Agreeing.{AssociateRq}
 use Rattle.dr_nego.specs.Answering.{answer, acceptance_of, agreed_by}
 use Rattle.dr_nego.specs.Proposing.{IsProposal}
 use Rattle.dr_nego.specs.Laws.{AgreesOnHop, HasApartIds}
@@ -58,7 +50,7 @@ use Rattle.dr_nego.proofs.Concluded.{both_sides_agree}
 use Rattle.dr_nego.proofs.Sized.{acceptances_fit}
 use Rattle.dr_nego.proofs.HopAgreed.{answered}
 use Rattle.dr_tie.specs.Desks.{Desk, LedgerStep}
-use Rattle.dr_tie.specs.Channels.{Terminal, Channel, Carries, ShowsLink, ToReceiver, ToCaller, IsCaller, IsReceiver, IsAt, contexts_of, bytes_of, IsControl, hop_contexts, site_of}
+use Rattle.dr_tie.specs.Channels.{Terminal, Channel, Carries, ShowsLink, ToReceiver, ToCaller, IsCaller, IsReceiver, contexts_of, hop_contexts, site_of}
 use Rattle.dr_tie.specs.Ties.{IsDeskOf, IsFirst, receiver_read, AgreesAtReceiver, Happens}
 use Rattle.dr_tie.proofs.Fronts.{hears_one, nothing_yet}
 use Rattle.dr_tie.proofs.Leaving.{only_link}
@@ -135,9 +127,9 @@ module _ (plan : Network) (certificate : Certificate) (c : IsCertified plan cert
           has_context (agreed_by rq to).pairs x.0 pair.0 pair.1 x.1 x.2 x.3,
     )
       where
-      sound_accepts : (pair : Text × Syntax) → GoesOver plan link.caller link.receiver pair → Accepts plan link.receiver link.caller pair.0 pair.1
-      sound_accepts pair g =
-          subst (λ (p : Text × Syntax). Accepts plan link.receiver link.caller p.0 p.1) (sym g.1) (c.sound.accepted g.0 link.caller link.receiver g.2)
+        sound_accepts : (pair : Text × Syntax) → GoesOver plan link.caller link.receiver pair → Accepts plan link.receiver link.caller pair.0 pair.1
+        sound_accepts pair g =
+            subst (λ (p : Text × Syntax). Accepts plan link.receiver link.caller p.0 p.1) (sym g.1) (c.sound.accepted g.0 link.caller link.receiver g.2)
 
     abbrev new_ear : Feeding
     new_ear = record { limit = k.receiver.ear.limit; failed = false; kept = [] }
@@ -177,40 +169,40 @@ module _ (plan : Network) (certificate : Certificate) (c : IsCertified plan cert
         desk = desk;
         only = only_link w number (at_stage link (Answering accepted)) link.receiver;
         shows = record {
-        hop = shows.hop;
-        from = shows.from;
-        to = shows.to;
-        peer = shows.peer;
-        caller_agrees = shows.caller_agrees;
-        receiver_agrees = λ o a e. (let f : Some (agreed_by rq to) ≡ Some a = e in sym (same_Some (agreed_by rq to) a f) ∙ agreed_is);
-        caller = answering_still link.caller_connected link.receiver k.caller.core accepted caller_at;
-        receiver = subst (λ (b : Bool). IsReceiver b (Answering accepted) link.caller taken.core) (sym on)
-            ((((moved (moved receiver_at.0.0 Sta3 moment.now) Sta6 moment.now, refl, receiver_at.0.2, refl), (agreed_by rq to, refl, refl)), calling, receiver_at.1, receiver_at.3), receiver_at.4);
-        to_receiver = λ o. record {
-          coming = [];
-          is = refl;
-          controls = carries.controls;
-          joined = rest;
-          works = refl;
-          waits = nothing_yet k.receiver.ear.limit;
-          fits = fits_more;
-          control = carries.control;
-          none = carries.none;
+          hop = shows.hop;
+          from = shows.from;
+          to = shows.to;
+          peer = shows.peer;
+          caller_agrees = shows.caller_agrees;
+          receiver_agrees = λ o a e. (let f : Some (agreed_by rq to) ≡ Some a = e in sym (same_Some (agreed_by rq to) a f) ∙ agreed_is);
+          caller = answering_still link.caller_connected link.receiver k.caller.core accepted caller_at;
+          receiver = subst (λ (b : Bool). IsReceiver b (Answering accepted) link.caller taken.core) (sym on)
+              ((((moved (moved receiver_at.0.0 Sta3 moment.now) Sta6 moment.now, refl, receiver_at.0.2, refl), (agreed_by rq to, refl, refl)), calling, receiver_at.1, receiver_at.3), receiver_at.4);
+          to_receiver = λ o. record {
+            coming = [];
+            is = refl;
+            controls = carries.controls;
+            joined = rest;
+            works = refl;
+            waits = nothing_yet k.receiver.ear.limit;
+            fits = fits_more;
+            control = carries.control;
+            none = carries.none;
+          };
+          to_caller = λ o. (
+              let old = nothing_there o in
+              record {
+                coming = pdu.AssociateAc (acceptance_of rq to) ∷ [];
+                is = (rq, acceptance_of rq to, record { pairs = (agreed_by rq to).pairs; limit = to.max_pdu }, proposed, both_sides_agree rq to (is_site plan certificate to c shows.to.0) apart, refl, refl, (let made : List Pair → Agreed = λ ps. record { pairs = ps; limit = to.max_pdu } in ap made hop_pairs));
+                controls = [];
+                joined = written_on k.caller k.to_caller (spellings (pdu.AssociateAc (acceptance_of rq to) ∷ [])) (empty_there o);
+                works = old.works;
+                waits = old.waits;
+                fits = ((acceptances_fit rq to (is_site plan certificate to c shows.to.0) fits_rq, tt), tt);
+                control = tt;
+                none = λ e. refl;
+              });
         };
-        to_caller = λ o. (
-            let old = nothing_there o in
-            record {
-              coming = pdu.AssociateAc (acceptance_of rq to) ∷ [];
-              is = (rq, acceptance_of rq to, record { pairs = (agreed_by rq to).pairs; limit = to.max_pdu }, proposed, both_sides_agree rq to (is_site plan certificate to c shows.to.0) apart, refl, refl, (let made : List Pair → Agreed = λ ps. record { pairs = ps; limit = to.max_pdu } in ap made hop_pairs));
-              controls = [];
-              joined = written_on k.caller k.to_caller (spellings (pdu.AssociateAc (acceptance_of rq to) ∷ [])) (empty_there o);
-              works = old.works;
-              waits = old.waits;
-              fits = ((acceptances_fit rq to (is_site plan certificate to c shows.to.0) fits_rq, tt), tt);
-              control = tt;
-              none = λ e. refl;
-            });
-      };
       },
     )
 
@@ -228,29 +220,29 @@ module _ (plan : Network) (certificate : Certificate) (c : IsCertified plan cert
         desk = desk;
         only = only_link w number (at_stage (without_receiver link) Rejecting) link.receiver;
         shows = record {
-        hop = shows.hop;
-        from = shows.from;
-        to = shows.to;
-        peer = shows.peer;
-        caller_agrees = shows.caller_agrees;
-        receiver_agrees = λ o. absurd (false≢true o);
-        caller = rejecting_still link.caller_connected link.receiver k.caller.core caller_at;
-        receiver = (receiver_at.1, inr (inr (moved receiver_at.0.0 Sta13 moment.now, refl, receiver_at.0.2, refl)));
-        to_receiver = λ o. absurd (false≢true o);
-        to_caller = λ o. (
-            let old = nothing_there o in
-            record {
-              coming = pdu.AssociateRj (rj 2 3 2) ∷ [];
-              is = (rj 2 3 2, refl);
-              controls = [];
-              joined = written_on k.caller k.to_caller (spellings (pdu.AssociateRj (rj 2 3 2) ∷ [])) (empty_there o);
-              works = old.works;
-              waits = old.waits;
-              fits = ((others_fit (pdu.AssociateRj (rj 2 3 2)) (λ a e. cc) (λ a e. cc) (λ a e. cc), tt), tt);
-              control = tt;
-              none = λ e. refl;
-            });
-      };
+          hop = shows.hop;
+          from = shows.from;
+          to = shows.to;
+          peer = shows.peer;
+          caller_agrees = shows.caller_agrees;
+          receiver_agrees = λ o. absurd (false≢true o);
+          caller = rejecting_still link.caller_connected link.receiver k.caller.core caller_at;
+          receiver = (receiver_at.1, inr (inr (moved receiver_at.0.0 Sta13 moment.now, refl, receiver_at.0.2, refl)));
+          to_receiver = λ o. absurd (false≢true o);
+          to_caller = λ o. (
+              let old = nothing_there o in
+              record {
+                coming = pdu.AssociateRj (rj 2 3 2) ∷ [];
+                is = (rj 2 3 2, refl);
+                controls = [];
+                joined = written_on k.caller k.to_caller (spellings (pdu.AssociateRj (rj 2 3 2) ∷ [])) (empty_there o);
+                works = old.works;
+                waits = old.waits;
+                fits = ((others_fit (pdu.AssociateRj (rj 2 3 2)) (λ a e. cc) (λ a e. cc) (λ a e. cc), tt), tt);
+                control = tt;
+                none = λ e. refl;
+              });
+        };
       },
     )
 
@@ -272,15 +264,15 @@ module _ (plan : Network) (certificate : Certificate) (c : IsCertified plan cert
       let rq = carries.is.0 in
       let one : carries.coming ++ carries.controls ≡ pdu.AssociateRq rq ∷ carries.controls = ap (λ (l : List Pdu). l ++ carries.controls) carries.is.3 in
       let fits : (Fits (pdu.AssociateRq rq) × MeetsLimit k.receiver.ear.limit (pdu.AssociateRq rq)) × AllByRecursion (λ p. Fits p × MeetsLimit k.receiver.ear.limit p) carries.controls =
-          subst (λ (l : List Pdu). AllByRecursion (λ p. Fits p × MeetsLimit k.receiver.ear.limit p) l) one carries.fits in
+      subst (λ (l : List Pdu). AllByRecursion (λ p. Fits p × MeetsLimit k.receiver.ear.limit p) l) one carries.fits in
       let f = front_is k.receiver k.to_receiver n front (pdu.AssociateRq rq) carries.controls first whole (carries.joined ∙ ap (λ (l : List Pdu). spellings l) one) fits.0.0 fits.0.1 in
       let h = hears_one k.receiver.ear new (take n k.to_receiver) inputs (pdu.AssociateRq rq) carries.works fits.0.0 fits.0.1 (whole ∙ ap written f.0) heard in
       let r = plays_alone (LedgerStep plan link.receiver) moment k.receiver.core (Request rq) inputs s t x h.0 plays in
       let told : (r.told ≡ Plain (Request rq)) × (r.stage ≡ k.receiver.core.assembly.stage) = r.tells in
       let t1 : Turns (LedgerStep plan link.receiver) (turn moment (with_stage r.stage k.receiver.core) (Plain (Request rq))) s x t =
-          subst (λ (y : Told). Turns (LedgerStep plan link.receiver) (turn moment (with_stage r.stage k.receiver.core) y) s x t) told.0 r.turns in
+      subst (λ (y : Told). Turns (LedgerStep plan link.receiver) (turn moment (with_stage r.stage k.receiver.core) y) s x t) told.0 r.turns in
       let t2 : Turns (LedgerStep plan link.receiver) (turn moment k.receiver.core (Plain (Request rq))) s x t =
-          subst (λ (y : Taken). Turns (LedgerStep plan link.receiver) (turn moment (with_stage y k.receiver.core) (Plain (Request rq))) s x t) told.1 t1 in
+      subst (λ (y : Taken). Turns (LedgerStep plan link.receiver) (turn moment (with_stage y k.receiver.core) (Plain (Request rq))) s x t) told.1 t1 in
       let goes = goes_back rq carries.is.1 carries.is.2 fits.0.0 f.1 fits.1 shows.hop.0.class shows.hop.0.syntax (shows.hop.0, refl, shows.hop.1) in
       let nego = answered plan certificate c from to shows.from.0 shows.to.0 rq (named rq carries.is.1 carries.is.2 fits.0.0 f.1 fits.1) shows.hop.0.class shows.hop.0.syntax goes moment.others in
       subst (λ (y : Feeding). Result_at rq carries.is.1 carries.is.2 fits.0.0 f.1 fits.1 x y t) (sym h.1) (by_answer rq carries.is.1 carries.is.2 fits.0.0 f.1 fits.1 x t t2 nego)

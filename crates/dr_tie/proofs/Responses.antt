@@ -1,62 +1,45 @@
 -- A Move that ends a PDU of a response.
-use Rattle.std.proofs.Common.{◌≡◌, ◌≢◌, ℕ, Bool, true, false, List, [], ◌∷◌, ◌++◌, length, map, take, drop, Option, Some, None, Result, Ok, Err, refl, sym, ap, subst, ◌∙◌, append_assoc, inl, inr, ◌⊎◌}
-use Rattle.std.specs.List.{AllByRecursion, flat_map}
+use Rattle.std.proofs.Common.{◌≡◌, ℕ, Bool, true, false, List, [], ◌∷◌, ◌++◌, map, take, drop, Option, Some, None, Ok, Err, refl, sym, ap, subst, ◌∙◌, inl, inr, ◌⊎◌}
+use Rattle.std.specs.List.{AllByRecursion}
 use Rattle.std.specs.FinMap as map_of
 use Rattle.std.proofs.lemmas.List.{append-nil}
 use Rattle.std.proofs.lemmas.Bool.{false≢true}
 use Rattle.dr_base.specs.Texts.{Text}
 use Rattle.dr_network.specs.Networks.{Network}
 use Rattle.dr_sound.specs.declared.certificate.Certificate.{Certificate}
-use Rattle.dr_site.specs.Parts.{Part, IsPartOf}
-use Rattle.dr_ulstate.specs.declared.table.Action.TheVariants.{Aa1, Aa4}
-use Rattle.std.specs.Prelude.{◌&&◌, ◌+◌, nat_le, if◌then◌else◌}
-use Rattle.dr_ulstate.specs.Table.{cell}
-use Rattle.dr_ulstate.specs.declared.table.State.{State}
-use Rattle.dr_ulstate.specs.declared.table.Event.{Event as UpperEvent}
-use Rattle.dr_ulstate.specs.declared.table.Event.TheVariants.{TransportClosed, AbortRequest, ArtimExpired}
-use Rattle.dr_ulstate.specs.declared.table.State.TheVariants.{Sta1, Sta5, Sta6, Sta13}
-use Rattle.dr_ulstate.specs.declared.phase.Next.TheVariants.{Idle}
-use Rattle.dr_ulstate.specs.Standing.{Standing, moved, runs_artim}
-use Rattle.dr_ulstate.specs.Phases.{in_its_phase, standing_of}
+use Rattle.std.specs.Prelude.{if◌then◌else◌}
+use Rattle.dr_ulstate.specs.declared.table.Event.TheVariants.{AbortRequest}
+use Rattle.dr_ulstate.specs.declared.table.State.TheVariants.{Sta6, Sta13}
+use Rattle.dr_ulstate.specs.Standing.{moved}
+use Rattle.dr_ulstate.specs.Phases.{in_its_phase}
 use Rattle.dr_pdu.specs.declared.pdu.Pdu.{Pdu}
 use Rattle.dr_pdu.specs.declared.pdu.Pdv.{Pdv}
-use Rattle.dr_pdu.specs.Written.{Fits, MeetsLimit, written}
-use Rattle.dr_dimse.specs.declared.message.Body.TheVariants as body
+use Rattle.dr_pdu.specs.Written.{written}
 use Rattle.dr_dimse.specs.declared.command.Command.TheVariants.{StoreRsp}
 use Rattle.dr_dimse.specs.Taking.{Stage as Taken, Idle as NothingTaken, Takes}
-use Rattle.dr_nego.specs.declared.agreed.Agreed.{Agreed}
-use Rattle.dr_nego.specs.declared.agreed.Pair.{Pair}
 use Rattle.dr_nego.specs.Agreeing.{pair_at}
-use Rattle.dr_ledger.specs.PlanRoutes.{plan_routing}
-use Rattle.dr_ledger.specs.Replies.{Arrives, IsAdmitted}
-use Rattle.dr_model.specs.Calls.{Reply, Arriving}
-use Rattle.dr_model.specs.Calls as calls
 use Rattle.dr_pdu.specs.Feeding.{Feeding}
 use Rattle.dr_ledger.specs.declared.item.Instance.{Instance}
-use Rattle.dr_ledger.specs.declared.item.Outcome.TheVariants.{Broken}
 use Rattle.dr_ledger.specs.declared.fault.LedgerFault.TheVariants as fault
 use Rattle.dr_ledger.specs.Books.{Book}
 use Rattle.dr_ledger.specs.Replies.{Settles, IsWaiting}
 use Rattle.dr_ledger.proofs.Maps.{get_new}
 use Rattle.dr_model.proofs.Lookups.{numbers}
 use Rattle.dr_model.proofs.Safety.{book_here, book_there}
-use Rattle.dr_model.specs.Worlds.{World, Link, Stage, Contexts, Asking, Answering, Rejecting, Open, Storing, Replying, Gone, with_link, at_stage}
-use Rattle.dr_model.specs.Calls.{Answer, Settlement, ArmedAfter, store_outcome_of}
-use Rattle.dr_model.specs.Steps.{IsLink, Leaves, SettlesPending, pending as pending_of}
-use Rattle.dr_model.specs.Steps.{ReadsReply, after_settling, stays_connected}
-use Rattle.dr_model.specs.Events.{Event, Step, Answered}
+use Rattle.dr_model.specs.Worlds.{World, Link, Stage, Contexts, Open, Replying, with_link}
+use Rattle.dr_model.specs.Calls.{Answer, Settlement, store_outcome_of}
+use Rattle.dr_model.specs.Steps.{IsLink}
+use Rattle.dr_model.specs.Steps.{after_settling, stays_connected}
+use Rattle.dr_model.specs.Events.{Answered}
 use Rattle.dr_session.specs.declared.ends.Core.{Core}
 use Rattle.dr_session.specs.declared.ends.Effect.{Effect}
-use Rattle.dr_session.specs.declared.ends.Input.{Input}
 use Rattle.dr_session.specs.declared.ends.Input.TheVariants.{Value}
 use Rattle.dr_session.specs.declared.ends.Pending.{Pending}
-use Rattle.dr_session.specs.declared.ends.Told.TheVariants.{Plain}
-use Rattle.dr_session.specs.declared.ends.LinkAction.{LinkAction}
-use Rattle.dr_session.specs.Desks.{DeskCall, DeskAnswer, Arrive, Settle, Arrival, Upcoming, Settling}
+use Rattle.dr_session.specs.Desks.{DeskCall, DeskAnswer, Settle, Arrival, Upcoming, Settling}
 use Rattle.dr_nego.specs.Fragments.{spellings}
 use Rattle.dr_session.specs.declared.ends.Moment.{Moment}
 use Rattle.dr_session.specs.Reactions.{Reaction, turn, occurs, event_of, has_waited, is_requestor, replied, settled_with, aborts_desk, stepped_by, leaves_by, left, aborted, desk_failed, settling, effect, write, abort_pdu, pending}
-use Rattle.dr_session.specs.Turns.{Turn, Ends, Turns}
+use Rattle.dr_session.specs.Turns.{Ends, Turns}
 use Rattle.dr_session.specs.Plays.{PlaysBytes, Reacts, at_moment, with_stage}
 use Rattle.dr_session.specs.declared.ends.Told.{Told}
 use Rattle.dr_session.specs.declared.ends.Told.TheVariants.{Whole}
@@ -65,24 +48,15 @@ use Rattle.dr_ulstate.specs.declared.table.Event.TheVariants.{DataPdu}
 use Rattle.dr_ledger.specs.declared.item.Outcome.{Outcome}
 use Rattle.dr_ledger.specs.declared.item.Outcome.TheVariants.{Status}
 use Rattle.std.specs.FinSet as set
-use Rattle.std.specs.FinSet.{FinSet}
-use Rattle.std.specs.Prelude.{not}
-use Rattle.std.proofs.lemmas.Cmp.{nat_list_cmp_total}
-use Rattle.dr_ledger.proofs.Maps.{texts, ties_itself}
-use Rattle.dr_model.specs.Calls.{StoreOutcome, Written, Untried, Failed}
 use Rattle.dr_model.specs.Worlds.{with_book, with_armed, same_text}
-use Rattle.dr_base.specs.Texts.{text_cmp}
 use Rattle.dr_tie.specs.Desks.{Desk, ArmedBy, LedgerStep}
-use Rattle.dr_tie.specs.Channels.{alone, message, Gets, IsMessageFor, IsListening, IsReceiver, Terminal, Channel, Carries, ShowsLink, ToCaller, ToReceiver, IsCaller, IsAt, IsOff, IsControl, bytes_of, site_of}
-use Rattle.dr_tie.specs.Ties.{IsData, IsFirst, caller_read, HearsReply, IsDeskOf, OnlyHere, Happens, caller_as, caller_did, IsLeaving}
+use Rattle.dr_tie.specs.Channels.{alone, message, Gets, IsMessageFor, IsReceiver, Channel, Carries, ShowsLink, ToCaller, ToReceiver, IsCaller, IsAt, site_of}
+use Rattle.dr_tie.specs.Ties.{IsData, IsFirst, caller_read, HearsReply, IsDeskOf, OnlyHere, Happens}
 use Rattle.dr_tie.proofs.Leaving.{AreFit, only_link, carries_more, acts_by, abort_fits}
 use Rattle.dr_tie.proofs.CallerLeaving.{armed_after}
 use Rattle.dr_tie.proofs.Agreeing.{front_is, plays_alone}
 use Rattle.dr_tie.proofs.Fronts.{hears_one, nothing_yet}
 use Rattle.dr_tie.proofs.Values.{quiet_by, told_by}
-
-use Rattle.dr_tie.proofs.Requests.{nothing_both}
-
 
 open_again : (b : Bool) (accepted : Contexts) (item : Instance) (status : ℕ) (caller : Text) (c : Core) → IsReceiver b (Replying accepted item status) caller c → IsReceiver b (Open accepted) caller c
 open_again true accepted item status caller c h = h
@@ -103,7 +77,7 @@ pub settled : (plan : Network) (w : World) (link : Link) (peer uid : Text) (outc
     → LedgerStep plan link.caller s (Settle uid peer outcome now) (Settling answer) t → Settled w link uid outcome answer t
 settled plan w link peer uid outcome now answer s t desk peer_is time h =
     let would : ArmedBy (IsWaiting (w.books link.caller) uid link.receiver) s.armed (store_outcome_of answer) t.armed =
-        subst (λ (p : Text). ArmedBy (IsWaiting (w.books link.caller) uid p) s.armed (store_outcome_of answer) t.armed) peer_is (subst (λ (b : Book). ArmedBy (IsWaiting b uid peer) s.armed (store_outcome_of answer) t.armed) desk.0 h.1) in
+    subst (λ (p : Text). ArmedBy (IsWaiting (w.books link.caller) uid p) s.armed (store_outcome_of answer) t.armed) peer_is (subst (λ (b : Book). ArmedBy (IsWaiting b uid peer) s.armed (store_outcome_of answer) t.armed) desk.0 h.1) in
     let a = armed_after (IsWaiting (w.books link.caller) uid link.receiver) w.armed link.caller (store_outcome_of answer) s.armed t.armed desk.1 would in
     record {
       mid = with_armed (with_book w link.caller t.book) a.0;
@@ -183,31 +157,33 @@ module _ (plan : Network) (certificate : Certificate) (w : World) (number : ℕ)
 
     part : (next : Taken) → Takes c.assembly.awaited c.assembly.stage v (Ok None) next → Gets c.assembly.awaited next vs (message number_of (StoreRsp id status item.key.class item.uid false) None) → (t ≡ s) × ShowsLink plan certificate (caller_read k n new x) link
     part next takes later =
-        let q = quiet_by cstep moment c v m.agreed m.context true at m.has found s t x r next takes in
-        (q.1, subst (λ (y : Effect). ShowsLink plan certificate (caller_read k n new y) link) (sym q.0) (subst (λ (f : Feeding). ShowsLink plan certificate (caller_read k n f (effect [] (stays next))) link) (sym ear_is) record {
-          hop = shows.hop;
-          from = shows.from;
-          to = shows.to;
-          peer = shows.peer;
-          caller_agrees = λ o. shows.caller_agrees on;
-          receiver_agrees = shows.receiver_agrees;
-          caller = subst (λ (b : Bool). IsCaller b link.stage link.receiver (stays next)) (sym on) (subst (λ (st : Stage). IsCaller true st link.receiver (stays next)) (sym replying)
-              (((moved at.0 Sta6 moment.now, refl, at.2, refl), established.0.1), established.1));
-          receiver = shows.receiver;
-          to_receiver = λ o. subst (λ (st : Stage). Carries k.receiver (k.to_receiver ++ []) (ToReceiver st link.receiver (stays next) k.receiver.core) link.caller_connected) (sym replying)
-              (subst (λ (l : List ℕ). Carries k.receiver l (λ pdus. pdus ≡ []) link.caller_connected) (sym (append-nil k.to_receiver)) (to_receiver_at o));
-          to_caller = λ o. subst (λ (st : Stage). Carries (record { core = stays next; ear = new_ear }) (drop n k.to_caller) (ToCaller st (site_of k.receiver.core) (stays next)) link.receiver_connected) (sym replying) record {
-            coming = map alone vs;
-            is = (id, number_of, has_pending, record { agreed = m.agreed; values = vs; context = m.context; has = m.has; found = m.found; of = m.of; are = refl; in_context = in_context.1; gets = later; at = m.at });
-            controls = carries.controls;
-            joined = rest;
-            works = refl;
-            waits = nothing_yet k.caller.ear.limit;
-            fits = fits;
-            control = carries.control;
-            none = carries.none;
-          };
-        }))
+        let q = quiet_by cstep moment c v m.agreed m.context true at m.has found s t x r next takes in (
+          q.1,
+          subst (λ (y : Effect). ShowsLink plan certificate (caller_read k n new y) link) (sym q.0) (subst (λ (f : Feeding). ShowsLink plan certificate (caller_read k n f (effect [] (stays next))) link) (sym ear_is) record {
+            hop = shows.hop;
+            from = shows.from;
+            to = shows.to;
+            peer = shows.peer;
+            caller_agrees = λ o. shows.caller_agrees on;
+            receiver_agrees = shows.receiver_agrees;
+            caller = subst (λ (b : Bool). IsCaller b link.stage link.receiver (stays next)) (sym on) (subst (λ (st : Stage). IsCaller true st link.receiver (stays next)) (sym replying)
+                (((moved at.0 Sta6 moment.now, refl, at.2, refl), established.0.1), established.1));
+            receiver = shows.receiver;
+            to_receiver = λ o. subst (λ (st : Stage). Carries k.receiver (k.to_receiver ++ []) (ToReceiver st link.receiver (stays next) k.receiver.core) link.caller_connected) (sym replying)
+                (subst (λ (l : List ℕ). Carries k.receiver l (λ pdus. pdus ≡ []) link.caller_connected) (sym (append-nil k.to_receiver)) (to_receiver_at o));
+            to_caller = λ o. subst (λ (st : Stage). Carries (record { core = stays next; ear = new_ear }) (drop n k.to_caller) (ToCaller st (site_of k.receiver.core) (stays next)) link.receiver_connected) (sym replying) record {
+              coming = map alone vs;
+              is = (id, number_of, has_pending, record { agreed = m.agreed; values = vs; context = m.context; has = m.has; found = m.found; of = m.of; are = refl; in_context = in_context.1; gets = later; at = m.at });
+              controls = carries.controls;
+              joined = rest;
+              works = refl;
+              waits = nothing_yet k.caller.ear.limit;
+              fits = fits;
+              control = carries.control;
+              none = carries.none;
+            };
+          }),
+        )
 
     -- the response settles the row
     settles : Takes c.assembly.awaited c.assembly.stage v (Ok (Some (message number_of (StoreRsp id status item.key.class item.uid false) None))) NothingTaken
@@ -218,9 +194,9 @@ module _ (plan : Network) (certificate : Certificate) (w : World) (number : ℕ)
         let h : Turns cstep (turn moment (with_stage NothingTaken c) told) s x t = subst (λ (y : Told). Turns cstep (turn moment (with_stage NothingTaken c) y) s x t) td.1 td.2 in
         let core : Core = stays NothingTaken in
         let a : Turns cstep (if is_requestor core then replied core.pending (Some status) moment core else Rattle.dr_session.specs.Reactions.requested core number_of m.context.class (StoreRsp id status item.key.class item.uid false)) s x t =
-            acts_by cstep moment (with_stage NothingTaken c) told DataPdu true Sta6 Dt2 Sta6 s t x at refl refl refl h in
+        acts_by cstep moment (with_stage NothingTaken c) told DataPdu true Sta6 Dt2 Sta6 s t x at refl refl refl h in
         let b : Turns cstep (replied core.pending (Some status) moment core) s x t =
-            subst (λ (y : Bool). Turns cstep (if y then replied core.pending (Some status) moment core else Rattle.dr_session.specs.Reactions.requested core number_of m.context.class (StoreRsp id status item.key.class item.uid false)) s x t) at.2 a in
+        subst (λ (y : Bool). Turns cstep (if y then replied core.pending (Some status) moment core else Rattle.dr_session.specs.Reactions.requested core number_of m.context.class (StoreRsp id status item.key.class item.uid false)) s x t) at.2 a in
         let d : Turns cstep (replied (Some (pending id item.uid)) (Some status) moment core) s x t = subst (λ (o : Option Pending). Turns cstep (replied o (Some status) moment core) s x t) has_pending b in
         by_answer plan link.caller (pending id item.uid) (Status status) moment core s d.1 t x d.0 d.2 d.3
 

@@ -1,29 +1,27 @@
 -- A restart of a node of a world of bytes.
-use Rattle.std.proofs.Common.{◌≡◌, ◌≢◌, ℕ, Bool, true, false, List, [], ◌∷◌, Option, Some, None, Contains, refl, sym, ap, subst, ◌∙◌, inl, inr, ◌⊎◌}
-use Rattle.std.specs.Prelude.{AllPairs, filter, cond, not, ◌&&◌, ◌||◌, ◌↔◌}
+use Rattle.std.proofs.Common.{◌≡◌, ◌≢◌, ℕ, Bool, true, false, List, [], ◌∷◌, Option, Some, None, Contains, refl, sym, ap, subst, ◌∙◌, inl, inr}
+use Rattle.std.specs.Prelude.{AllPairs, filter, cond, not, ◌&&◌, ◌||◌}
 use Rattle.std.specs.declared.cmp.Ordering.TheVariants.{Less, Equal}
 use Rattle.std.specs.Ordering.{nat_cmp, eq_by_cmp}
 use Rattle.std.specs.FinMap as map_of
-use Rattle.std.proofs.lemmas.Bool.{false≢true, cases_Bool, and_parts, and_from}
+use Rattle.std.proofs.lemmas.Bool.{false≢true, and_parts, and_from}
 use Rattle.std.proofs.lemmas.List.Kept.{AllPairs-filter}
 use Rattle.std.proofs.lemmas.Cmp.{tied_itself}
 use Rattle.std.proofs.lemmas.Map.Views.{tells_apart}
 use Rattle.dr_base.specs.Texts.{Text}
 use Rattle.dr_network.specs.Networks.{Network}
-use Rattle.dr_network.proofs.Gathered.{Contains-cons_cases, Contains-here, Contains-there, nothing_in_nil}
+use Rattle.dr_network.proofs.Gathered.{Contains-here, Contains-there}
 use Rattle.dr_sound.specs.declared.certificate.Certificate.{Certificate}
 use Rattle.dr_hops.proofs.Rows.{same_sorted, filter_has}
 use Rattle.dr_nego.proofs.Concluded.{tail_pairs, head_pairs}
-use Rattle.dr_ledger.proofs.Maps.{get_new, get_other, same_or_not, ties_itself, texts}
+use Rattle.dr_ledger.proofs.Maps.{get_new, same_or_not, ties_itself, texts}
 use Rattle.dr_model.proofs.Lookups.{numbers}
 use Rattle.dr_model.proofs.Pinned.{restarts_in_order}
 use Rattle.dr_model.proofs.Restarting.{callers_are_those_who_call}
-use Rattle.dr_model.specs.Worlds.{World, Link, same_text, with_links, without_caller, with_link}
+use Rattle.dr_model.specs.Worlds.{World, Link, same_text, with_links, without_caller}
 use Rattle.dr_model.specs.Calls.{Answer}
 use Rattle.dr_model.specs.Steps.{IsLink, Leaves, LeaveAll, callers_of, calls, is_of, links_without}
 use Rattle.dr_model.specs.Steps as model
-use Rattle.dr_session.specs.declared.ends.Effect.{Effect}
-use Rattle.dr_session.specs.declared.ends.Moment.{Moment}
 use Rattle.dr_tie.specs.Desks.{Desk, LedgerStep}
 use Rattle.dr_tie.specs.Channels.{Channel, ShowsLink}
 use Rattle.dr_tie.specs.Ties.{IsDeskOf, OnlyHere, with_desk}
@@ -95,45 +93,46 @@ module _ (plan : Network) (certificate : Certificate) (b : ByteWorld) (node : Te
         let named : AreDesks e.mid (with_desk desks (caller_of k) t) = subst (λ (n : Text). AreDesks e.mid (with_desk desks n t)) (sym from) next_desks in
         let r = rec e.mid (subst (λ (d : Text → Desk). AreDesks e.mid d) (sym is) named) (e.only.rest.0 ∙ time) (λ other among. e.only.links other (later_apart other among) ∙ kept other (Contains-there number more other among)) in
         let others : (other : ℕ) → (Contains (number ∷ more) other → ⊥) → map_of.get r.mid.links other ≡ map_of.get w.links other = λ other no.
-            r.others other (λ c. no (Contains-there number more other c)) ∙ e.only.links other (λ same. no (subst (λ (n : ℕ). Contains (number ∷ more) n) (sym same) (Contains-here number more))) in
+        r.others other (λ c. no (Contains-there number more other c)) ∙ e.only.links other (λ same. no (subst (λ (n : ℕ). Contains (number ∷ more) n) (sym same) (Contains-here number more))) in
         by_left e.mid e.answer e.left r others (λ other apart. ap (λ (o : Option Link). is_of node o) (e.only.links other apart)) (r.rest.0 ∙ e.only.rest.0, r.rest.1 ∙ e.only.rest.1, r.rest.2 ∙ e.only.rest.2)
       where
-      of_all : (v : World) (answer : Option Answer) → model.LeavesIfOn w number link answer v → ((other : ℕ) → other ≢ number → is_of node (map_of.get v.links other) ≡ is_of node (map_of.get w.links other))
-          → (other : ℕ) → is_of node (map_of.get v.links other) ≡ is_of node (map_of.get w.links other)
-      of_all v answer (inr (off, none, same)) f other = ap (λ (u : World). is_of node (map_of.get u.links other)) same
-      of_all v answer (inl leaves) f other = elim (same_or_not numbers other number) [
-        | inl same ↦ (
-            let there : map_of.get v.links number ≡ Some (without_caller leaves.link) = ap (λ (u : World). map_of.get u.links number) leaves.is ∙ get_new numbers leaves.mid.links number (without_caller leaves.link) in
-            let P : ℕ → Type 0 = λ n. is_of node (map_of.get v.links n) ≡ is_of node (map_of.get w.links n) in
-            subst P (sym same) (ap (λ (o : Option Link). is_of node o) there ∙ sym (ap (λ (o : Option Link). is_of node o) leaves.at)))
-        | inr apart ↦ f other (λ e. false≢true (sym apart ∙ (ap (λ (n : ℕ). eq_by_cmp nat_cmp n number) e ∙ ties_itself numbers number)))
-      ]
-      by_left : (v : World) (answer : Option Answer) → model.LeavesIfOn w number link answer v → (r : Went v more new) → ((other : ℕ) → (Contains (number ∷ more) other → ⊥) → map_of.get r.mid.links other ≡ map_of.get w.links other)
-          → ((other : ℕ) → other ≢ number → is_of node (map_of.get v.links other) ≡ is_of node (map_of.get w.links other))
-          → (r.mid.time ≡ w.time) × (r.mid.carried_over ≡ w.carried_over) × (r.mid.opened ≡ w.opened) → Went w (number ∷ more) new
-      by_left v answer (inl leaves) r others f rest =
-          let on : link.caller_connected ≡ true = ap (λ (z : Link). z.caller_connected) (sym (same_world_link w number leaves.link link leaves.at here)) ∙ leaves.on in
-          let P : Bool → Type 0 = λ z. LeaveAll w (cond z (number ∷ filter is_called more) (filter is_called more)) (answer ∷ r.answers) r.mid in
-          record {
-            mid = r.mid;
-            answers = answer ∷ r.answers;
-            leave = subst P (sym (called_is true called true on)) (v, leaves, r.leave);
-            are = r.are;
-            others = others;
-            of = λ other. r.of other ∙ of_all v answer (inl leaves) f other;
-            rest = rest;
-          }
-      by_left v answer (inr (off, none, same)) r others f rest =
-          let P : Bool → Type 0 = λ z. LeaveAll w (cond z (number ∷ filter is_called more) (filter is_called more)) r.answers r.mid in
-          record {
-            mid = r.mid;
-            answers = r.answers;
-            leave = subst P (sym (called_is true called false off)) (subst (λ (u : World). LeaveAll u (filter is_called more) r.answers r.mid) same r.leave);
-            are = r.are;
-            others = others;
-            of = λ other. r.of other ∙ of_all v answer (inr (off, none, same)) f other;
-            rest = rest;
-          }
+        of_all : (v : World) (answer : Option Answer) → model.LeavesIfOn w number link answer v → ((other : ℕ) → other ≢ number → is_of node (map_of.get v.links other) ≡ is_of node (map_of.get w.links other))
+            → (other : ℕ) → is_of node (map_of.get v.links other) ≡ is_of node (map_of.get w.links other)
+        of_all v answer (inr (off, none, same)) f other = ap (λ (u : World). is_of node (map_of.get u.links other)) same
+        of_all v answer (inl leaves) f other = elim (same_or_not numbers other number) [
+          | inl same ↦ (
+              let there : map_of.get v.links number ≡ Some (without_caller leaves.link) = ap (λ (u : World). map_of.get u.links number) leaves.is ∙ get_new numbers leaves.mid.links number (without_caller leaves.link) in
+              let P : ℕ → Type 0 = λ n. is_of node (map_of.get v.links n) ≡ is_of node (map_of.get w.links n) in
+              subst P (sym same) (ap (λ (o : Option Link). is_of node o) there ∙ sym (ap (λ (o : Option Link). is_of node o) leaves.at)))
+          | inr apart ↦ f other (λ e. false≢true (sym apart ∙ (ap (λ (n : ℕ). eq_by_cmp nat_cmp n number) e ∙ ties_itself numbers number)))
+        ]
+
+        by_left : (v : World) (answer : Option Answer) → model.LeavesIfOn w number link answer v → (r : Went v more new) → ((other : ℕ) → (Contains (number ∷ more) other → ⊥) → map_of.get r.mid.links other ≡ map_of.get w.links other)
+            → ((other : ℕ) → other ≢ number → is_of node (map_of.get v.links other) ≡ is_of node (map_of.get w.links other))
+            → (r.mid.time ≡ w.time) × (r.mid.carried_over ≡ w.carried_over) × (r.mid.opened ≡ w.opened) → Went w (number ∷ more) new
+        by_left v answer (inl leaves) r others f rest =
+            let on : link.caller_connected ≡ true = ap (λ (z : Link). z.caller_connected) (sym (same_world_link w number leaves.link link leaves.at here)) ∙ leaves.on in
+            let P : Bool → Type 0 = λ z. LeaveAll w (cond z (number ∷ filter is_called more) (filter is_called more)) (answer ∷ r.answers) r.mid in
+            record {
+              mid = r.mid;
+              answers = answer ∷ r.answers;
+              leave = subst P (sym (called_is true called true on)) (v, leaves, r.leave);
+              are = r.are;
+              others = others;
+              of = λ other. r.of other ∙ of_all v answer (inl leaves) f other;
+              rest = rest;
+            }
+        by_left v answer (inr (off, none, same)) r others f rest =
+            let P : Bool → Type 0 = λ z. LeaveAll w (cond z (number ∷ filter is_called more) (filter is_called more)) r.answers r.mid in
+            record {
+              mid = r.mid;
+              answers = r.answers;
+              leave = subst P (sym (called_is true called false off)) (subst (λ (u : World). LeaveAll u (filter is_called more) r.answers r.mid) same r.leave);
+              are = r.are;
+              others = others;
+              of = λ other. r.of other ∙ of_all v answer (inr (off, none, same)) f other;
+              rest = rest;
+            }
 
     -- a receiver that the node called is told of the end, and does nothing at its desk
     receiver_far : same_text (receiver_of k) node ≡ false → (mid : Text → Desk) → FarEnds plan b.time false k desks mid → Rec mid → Went w (number ∷ more) new
@@ -204,7 +203,7 @@ module _ (plan : Network) (certificate : Certificate) (b : ByteWorld) (node : Te
             let named : same_text (receiver_of k.0) node ≡ true = ap (λ (t : Text). same_text t node) (k.2.to.1 ∙ c.2) ∙ ties_itself texts node in
             let there : is_there node (map_of.get b.links number) ≡ true = ap (λ (o : Option Channel). is_there node o) k.1 ∙ or_true (same_text (caller_of k.0) node) (same_text (receiver_of k.0) node) named in
             let called : is_called number ≡ true = ap (λ (o : Option Link). calls node o) c.1
-                ∙ and_from (same_text c.0.receiver node) c.0.caller_connected (ap (λ (t : Text). same_text t node) c.2 ∙ ties_itself texts node) c.3 in
+            ∙ and_from (same_text c.0.receiver node) c.0.caller_connected (ap (λ (t : Text). same_text t node) c.2 ∙ ties_itself texts node) c.3 in
             (filter_has is_called all number).1 ((are.1 number).1 there, called)),
       ))
 
@@ -231,22 +230,25 @@ module _ (plan : Network) (certificate : Certificate) (b : ByteWorld) (node : Te
       let there : Bool = is_there node (map_of.get b.links number) in
       let left : map_of.get (map_of.retain_keys b.links pb) number ≡ cond (not there) (map_of.get b.links number) None = map_of.get-retain_keys b.links pb number (λ x e. ap pb (sym (numbers.exact number x e))) in
       let right : map_of.get (map_of.retain_keys mid.links pw) number ≡ cond (not (is_of node (map_of.get mid.links number))) (map_of.get mid.links number) None =
-          map_of.get-retain_keys mid.links pw number (λ x e. ap pw (sym (numbers.exact number x e))) in
+      map_of.get-retain_keys mid.links pw number (λ x e. ap pw (sym (numbers.exact number x e))) in
       let same : is_of node (map_of.get mid.links number) ≡ there = of number ∙ sym (same_there (map_of.get b.links number) (map_of.get start.links number) (s.links number)) in
       let right1 : map_of.get (map_of.retain_keys mid.links pw) number ≡ cond (not there) (map_of.get mid.links number) None = right ∙ ap (λ (z : Bool). cond (not z) (map_of.get mid.links number) None) same in
       subst (λ (o : Option Channel). ShowsAt plan certificate o (map_of.get (map_of.retain_keys mid.links pw) number)) (sym left)
-          (subst (λ (q : Option Link). ShowsAt plan certificate (cond (not there) (map_of.get b.links number) None) q) (sym right1)
-          (shown_or_gone there (map_of.get b.links number) (map_of.get mid.links number) (λ none.
-              subst (λ (q : Option Link). ShowsAt plan certificate (map_of.get b.links number) q) (sym (others number (λ c. false≢true (sym none ∙ (are.1 number).0 c)))) (s.links number))))
+      (subst (λ (q : Option Link). ShowsAt plan certificate (cond (not there) (map_of.get b.links number) None) q) (sym right1)
+      (shown_or_gone there (map_of.get b.links number) (map_of.get mid.links number) (λ none.
+      subst (λ (q : Option Link). ShowsAt plan certificate (map_of.get b.links number) q) (sym (others number (λ c. false≢true (sym none ∙ (are.1 number).0 c)))) (s.links number))))
 
   pub restarted : (new : ByteWorld) → Restarts plan b node new → (v : World) × (answers : List (Option Answer)) × model.Restarts start node answers v × Shows plan certificate new v
   restarted new (all, desks, are, ends, is) =
       let r = far all (as_pairs all are.0) (λ number c. (are.1 number).0 c) start b.desks desks s.desks s.time (λ number c. refl) ends in
-      let v : World = with_links r.mid (links_without r.mid.links node) in
-      (v, r.answers, (r.mid, subst (λ (ns : List ℕ). LeaveAll start ns r.answers r.mid) (are_called all are) r.leave, refl),
-      subst (λ (z : ByteWorld). Shows plan certificate z v) (sym is) (record {
-        time = r.rest.0 ∙ s.time;
-        opened = r.rest.2 ∙ s.opened;
-        desks = r.are;
-        links = left_shown all are r.mid r.others r.of;
-      }))
+      let v : World = with_links r.mid (links_without r.mid.links node) in (
+        v,
+        r.answers,
+        (r.mid, subst (λ (ns : List ℕ). LeaveAll start ns r.answers r.mid) (are_called all are) r.leave, refl),
+        subst (λ (z : ByteWorld). Shows plan certificate z v) (sym is) (record {
+          time = r.rest.0 ∙ s.time;
+          opened = r.rest.2 ∙ s.opened;
+          desks = r.are;
+          links = left_shown all are r.mid r.others r.of;
+        }),
+      )

@@ -1,23 +1,18 @@
 -- A restart: the callers of the node leave, one after the other.
-use Rattle.std.proofs.Common.{◌≡◌, ◌≢◌, ℕ, Bool, true, false, List, [], ◌∷◌, Option, Some, None, refl, sym, ap, subst, ◌∙◌, inl, inr}
+use Rattle.std.proofs.Common.{◌≡◌, ◌≢◌, ℕ, Bool, List, [], ◌∷◌, Option, refl, sym, subst, ◌∙◌, inl, inr}
 use Rattle.std.specs.Prelude.{if◌then◌else◌}
 use Rattle.std.specs.List.{AllByRecursion}
-use Rattle.std.specs.FinMap as map_of
-use Rattle.std.specs.FinSet as set
 use Rattle.dr_base.specs.Texts.{Text}
 use Rattle.dr_network.specs.Networks.{Network}
 use Rattle.dr_sound.specs.declared.certificate.Certificate.{Certificate}
 use Rattle.dr_ledger.proofs.Maps.{texts, same_or_not, ties_itself}
-use Rattle.dr_model.specs.Worlds.{World, Link, same_text, with_links}
+use Rattle.dr_model.specs.Worlds.{World, Link, with_links}
 use Rattle.dr_model.specs.Calls.{Answer}
-use Rattle.dr_model.specs.Steps.{IsLink, LeaveAll, callers_of, links_without}
-use Rattle.dr_model.specs.Events.{Step, Restart}
-use Rattle.dr_session.specs.declared.ends.Effect.{Effect}
+use Rattle.dr_model.specs.Steps.{LeaveAll, callers_of, links_without}
 use Rattle.dr_session.specs.declared.ends.Input.TheVariants.{Ended}
 use Rattle.dr_session.specs.declared.ends.Moment.{Moment}
-use Rattle.dr_session.specs.Plays.{Reacts, at_moment}
-use Rattle.dr_tie.specs.Desks.{Desk, LedgerStep}
-use Rattle.dr_tie.specs.Channels.{Channel, ShowsLink}
+use Rattle.dr_tie.specs.Desks.{Desk}
+use Rattle.dr_tie.specs.Channels.{Channel}
 use Rattle.dr_tie.specs.Ties.{IsDeskOf, OnlyHere, with_desk, EndAll, AreCallers, RestartLeaves}
 use Rattle.dr_tie.proofs.CallerLeaving.{caller_leaves}
 
@@ -47,8 +42,8 @@ end_all plan certificate links channels moment (number ∷ more) w desks new all
     let one = caller_leaves plan certificate w number (links number) (channels number) (desks (links number).caller) at (all (links number).caller) shows on moment time Ended (inl refl) x t r in
     let h = one.1 in
     let i = end_all plan certificate links channels moment more h.after (with_desk desks (links number).caller t) new
-        (desks_after w h.after number (links number).caller desks t all h.desk h.only)
-        (callers_still plan certificate w h.after number (links number).caller links channels more h.only distinct rest) (time ∙ sym h.only.rest.0) later in
+    (desks_after w h.after number (links number).caller desks t all h.desk h.only)
+    (callers_still plan certificate w h.after number (links number).caller links channels more h.only distinct rest) (time ∙ sym h.only.rest.0) later in
     (i.0, one.0 ∷ i.1, (h.after, h.step, i.2), i.3)
 
 pub restart_leaves : RestartLeaves

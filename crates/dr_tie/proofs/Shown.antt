@@ -1,9 +1,8 @@
 -- Steps of a world of bytes are events of the message world beside it.
-use Rattle.std.proofs.Common.{◌≡◌, ◌≢◌, ℕ, ◌+◌, ◌≤◌, ◌<◌, ◌^◌, Bool, true, false, List, [], ◌∷◌, ◌++◌, length, take, drop, Option, Some, None, Result, Ok, Err, refl, sym, ap, subst, ◌∙◌, inl, inr, ◌⊎◌, arith}
-use Rattle.std.proofs.Math.Logic.{∥∥₁_map, ∥∥₁_elim, ∥∥₁_prop}
-use Rattle.std.specs.Prelude.{◌&&◌, ◌||◌, not, is_some, nat_le, min, if◌then◌else◌}
+use Rattle.std.proofs.Common.{◌≡◌, ◌≢◌, ℕ, ◌<◌, Bool, true, false, List, [], ◌∷◌, length, take, Option, Some, None, refl, sym, ap, subst, ◌∙◌, inl, inr, ◌⊎◌, arith}
+use Rattle.std.proofs.Math.Logic.{∥∥₁_map}
+use Rattle.std.specs.Prelude.{◌&&◌, not, is_some, nat_le}
 use Rattle.std.specs.FinMap as map_of
-use Rattle.std.specs.FinSet as set
 use Rattle.std.specs.Ordering.{nat_cmp, eq_by_cmp}
 use Rattle.std.specs.Option.{option_map_or}
 use Rattle.std.proofs.lemmas.List.{append-nil}
@@ -11,51 +10,38 @@ use Rattle.std.proofs.lemmas.Bool.{false≢true, cases_Bool, and_parts}
 use Rattle.dr_base.specs.Texts.{Text}
 use Rattle.dr_network.specs.Networks.{Network}
 use Rattle.dr_sound.specs.declared.certificate.Certificate.{Certificate}
-use Rattle.dr_sound.specs.declared.certificate.Hop.{Hop}
-use Rattle.dr_site.specs.Parts.{Part, IsPartOf}
 use Rattle.dr_site.specs.Sites.{IsCertified}
-use Rattle.dr_site.proofs.ContextsAsPlanned.{hop_to, pairs_as_planned}
 use Rattle.dr_ulstate.specs.declared.table.State.{State}
-use Rattle.dr_ulstate.specs.declared.table.State.TheVariants.{Sta1, Sta2, Sta5, Sta6, Sta7, Sta11, Sta13}
+use Rattle.dr_ulstate.specs.declared.table.State.TheVariants.{Sta1, Sta2, Sta5, Sta7, Sta11, Sta13}
 use Rattle.dr_ulstate.specs.declared.table.Event.{Event as UpperEvent}
-use Rattle.dr_ulstate.specs.declared.table.Event.TheVariants.{AbortRequest, ReleaseRequest, DataRequest}
-use Rattle.dr_ulstate.specs.declared.table.Action.{Action}
-use Rattle.dr_ulstate.specs.declared.phase.Next.{Next}
-use Rattle.dr_ulstate.specs.Table.{action_of, cell}
+use Rattle.dr_ulstate.specs.declared.table.Event.TheVariants.{AbortRequest, ReleaseRequest}
+use Rattle.dr_ulstate.specs.Table.{action_of}
 use Rattle.dr_ulstate.specs.Standing.{Standing}
-use Rattle.dr_ulstate.specs.Phases.{state_of, standing_of, next_stepped, may_send}
-use Rattle.dr_pdu.specs.Feeding.{Feeding}
-use Rattle.dr_ledger.specs.Items.{instance_of}
-use Rattle.dr_ledger.specs.declared.content.Job.{Job}
-use Rattle.dr_ledger.proofs.Maps.{get_new, get_other, same_or_not, ties_itself, texts}
+use Rattle.dr_ulstate.specs.Phases.{state_of, may_send}
+use Rattle.dr_ledger.proofs.Maps.{get_new, get_other, same_or_not, ties_itself}
 use Rattle.dr_model.proofs.Lookups.{numbers}
-use Rattle.dr_model.specs.Worlds.{World, Link, Contexts, Stage, Asking, Answering, Rejecting, Open as OpenStage, Storing, Replying, Gone, same_text}
-use Rattle.dr_model.specs.Steps.{IsLink, others, others_of}
-use Rattle.dr_model.specs.Events.{Event, Step, Take, Ask, Give, BreakCaller, BreakReceiver}
-use Rattle.dr_model.specs.Events as event
+use Rattle.dr_model.specs.Worlds.{World, Link, Stage, Asking, Answering, Rejecting, Open as OpenStage, Storing, Replying, Gone}
+use Rattle.dr_model.specs.Steps.{IsLink, others}
+use Rattle.dr_model.specs.Events.{Event, Give, BreakCaller, BreakReceiver}
 use Rattle.dr_session.specs.declared.ends.Core.{Core}
 use Rattle.dr_session.specs.declared.ends.Effect.{Effect}
 use Rattle.dr_session.specs.declared.ends.Input.{Input}
 use Rattle.dr_session.specs.declared.ends.Input.TheVariants.{Ended, Late as LateMark, AbortAsked, ReleaseAsked, PushAsked}
 use Rattle.dr_session.specs.declared.ends.Moment.{Moment}
 use Rattle.dr_session.specs.declared.ends.Pending.{Pending}
-use Rattle.dr_session.specs.declared.ends.Told.TheVariants.{Plain}
 use Rattle.dr_session.specs.Plays.{Reacts, PlaysBytes, at_moment}
-use Rattle.dr_session.specs.Reactions.{effect, is_idle, is_ready, is_requestor, turn, occurs, moves, event_of}
-use Rattle.dr_session.specs.Turns.{Turns}
+use Rattle.dr_session.specs.Reactions.{effect, is_idle, is_ready, is_requestor}
 use Rattle.dr_tie.specs.Desks.{Desk, LedgerStep}
 use Rattle.dr_tie.specs.Channels.{Terminal, Channel, ShowsLink, IsCaller, IsReceiver, IsAt, IsOff, site_of}
-use Rattle.dr_tie.specs.Ties.{IsData, IsDeskOf, OnlyHere, Happens, with_desk, caller_as, receiver_as, caller_did, receiver_did, caller_read, receiver_read, is_late}
-use Rattle.dr_tie.specs.Nodes.{HappensAt, OnlyAt}
-use Rattle.dr_tie.specs.Moves.{IsLeft, IsOfCaller, IsOfReceiver}
+use Rattle.dr_tie.specs.Ties.{IsData, IsDeskOf, Happens, caller_did, receiver_did, caller_read, receiver_read, is_late}
+use Rattle.dr_tie.specs.Nodes.{HappensAt}
 use Rattle.dr_tie.specs.ByteWorlds.{ByteWorld, WorldStep, Submit, Open, Push, Move, Abort, Release, Close, Late, Restart, Requeue, Tick, Refuse, Side, Requestor, Acceptor, StepNote, Done, Skipped, Skips, DoesIf, ReadsIf, LinkStep, NodeStep, Steps, CallerMeets, CallerPushes, PushesIf, ReceiverMeets, Meets, CallerHears, ReceiverHears, CallerReads, ReceiverReads, Moves, Closes, IsMoment, IsMoved, caller_of, receiver_of, with_done, with_call, has_cell, is_over}
-use Rattle.dr_tie.specs.Shown.{Shows, ShowsAt, IsNamed, Comes, IsOffAt, IsSilent, EndsNone, HasNoneDue}
-use Rattle.dr_tie.proofs.Others.{shown_link, same_others, state_is}
+use Rattle.dr_tie.specs.Shown.{Shows, ShowsAt, IsNamed, Comes, IsOffAt, IsSilent}
+use Rattle.dr_tie.proofs.Others.{same_others, state_is}
 use Rattle.dr_tie.proofs.Restarting.{desks_after}
 use Rattle.dr_tie.proofs.CallerLeaving.{caller_leaves, late_at_caller, release_leaves}
-use Rattle.dr_tie.proofs.Leaving.{receiver_leaves, late_at_receiver, plain_turn}
-use Rattle.dr_tie.proofs.Agreeing.{stepped_at}
-use Rattle.dr_tie.proofs.Closing.{off_caller_is_no_event, off_receiver_is_no_event, closing_is_close}
+use Rattle.dr_tie.proofs.Leaving.{receiver_leaves, late_at_receiver}
+use Rattle.dr_tie.proofs.Closing.{off_caller_is_no_event, off_receiver_is_no_event}
 use Rattle.dr_tie.proofs.Moves.{caller_moves, receiver_moves}
 use Rattle.dr_tie.proofs.Pushing.{push_gives}
 
@@ -77,10 +63,10 @@ module _ (plan : Network) (certificate : Certificate) where
       | inl same ↦ (
           let P : ℕ → Type 0 = λ n. ShowsAt plan certificate (map_of.get (map_of.insert b.links number k) n) (map_of.get h.after.links n) in
           subst P (sym same) (subst (λ (o : Option Channel). ShowsAt plan certificate o (map_of.get h.after.links number)) (sym (get_new numbers b.links number k))
-              (subst (λ (o : Option Link). ShowsAt plan certificate (Some k) o) (sym h.here) h.shows)))
+          (subst (λ (o : Option Link). ShowsAt plan certificate (Some k) o) (sym h.here) h.shows)))
       | inr apart ↦ (
           subst (λ (o : Option Channel). ShowsAt plan certificate o (map_of.get h.after.links other)) (sym (get_other numbers b.links number k other apart))
-              (subst (λ (o : Option Link). ShowsAt plan certificate (map_of.get b.links other) o) (sym (h.only.links other (other_apart other number apart))) (s.links other)))
+          (subst (λ (o : Option Link). ShowsAt plan certificate (map_of.get b.links other) o) (sym (h.only.links other (other_apart other number apart))) (s.links other)))
     ];
   }
 
@@ -94,7 +80,7 @@ module _ (plan : Network) (certificate : Certificate) where
       | inl e ↦ (
           let P : ℕ → Type 0 = λ n. ShowsAt plan certificate (map_of.get (map_of.insert b.links number k) n) (map_of.get w.links n) in
           subst P (sym e) (subst (λ (o : Option Channel). ShowsAt plan certificate o (map_of.get w.links number)) (sym (get_new numbers b.links number k))
-              (subst (λ (o : Option Link). ShowsAt plan certificate (Some k) o) (sym here) shows)))
+          (subst (λ (o : Option Link). ShowsAt plan certificate (Some k) o) (sym here) shows)))
       | inr apart ↦ subst (λ (o : Option Channel). ShowsAt plan certificate o (map_of.get w.links other)) (sym (get_other numbers b.links number k other apart)) (s.links other)
     ];
   }
@@ -156,14 +142,14 @@ module _ (plan : Network) (certificate : Certificate) where
         → CallerMeets plan b number k i new → ∥ Result_of b step note w new ∥₁
     caller_met step note i new f (at, x, t, m, r, is) =
         let r1 : Reacts (LedgerStep plan link.caller) k.caller.core (at_moment at i) (b.desks link.caller) x t =
-            subst (λ (n : Text). Reacts (LedgerStep plan n) k.caller.core (at_moment at i) (b.desks n) x t) from_is r in
+        subst (λ (n : Text). Reacts (LedgerStep plan n) k.caller.core (at_moment at i) (b.desks n) x t) from_is r in
         ∥∥₁_map (f at (now_is (caller_of k) at m) x t r1) (λ o. subst (λ (c : ByteWorld). Result_of b step note w c) (sym is) (comes step note b w number link link.caller (caller_of k) t (caller_did k x) s here from_is o))
 
     receiver_met : (step : WorldStep) (note : StepNote) (i : Input) (new : ByteWorld) → ((at : Moment) → at.now ≡ w.time → (x : Effect) (t : Desk) → Reacts (LedgerStep plan link.receiver) k.receiver.core (at_moment at i) (b.desks link.receiver) x t → ∥ ReceiverOutcome step t (receiver_did k x) ∥₁)
         → ReceiverMeets plan b number k i new → ∥ Result_of b step note w new ∥₁
     receiver_met step note i new f (at, x, t, m, r, is) =
         let r1 : Reacts (LedgerStep plan link.receiver) k.receiver.core (at_moment at i) (b.desks link.receiver) x t =
-            subst (λ (n : Text). Reacts (LedgerStep plan n) k.receiver.core (at_moment at i) (b.desks n) x t) to_is r in
+        subst (λ (n : Text). Reacts (LedgerStep plan n) k.receiver.core (at_moment at i) (b.desks n) x t) to_is r in
         ∥∥₁_map (f at (now_is (receiver_of k) at m) x t r1) (λ o. subst (λ (c : ByteWorld). Result_of b step note w c) (sym is) (comes step note b w number link link.receiver (receiver_of k) t (receiver_did k x) s here to_is o))
 
     off_caller : (step : WorldStep) → (IsOffAt w number Requestor → IsSilent b w step) → (at : Moment) (i : Input) (x : Effect) (t : Desk) → link.caller_connected ≡ false → Reacts (LedgerStep plan link.caller) k.caller.core (at_moment at i) (b.desks link.caller) x t → CallerOutcome step t (caller_did k x)
@@ -245,14 +231,14 @@ module _ (plan : Network) (certificate : Certificate) where
     off_cannot : link.caller_connected ≡ false → has_cell ReleaseRequest k.caller.core ≡ true → ⊥
     off_cannot off cell_there = by_off (subst (λ (z : Bool). IsCaller z link.stage link.receiver k.caller.core) off shows.caller)
       where
-      by_off : IsOff k.caller.core true → ⊥
-      by_off (free, inl none) = (
-          let gone : state_of k.caller.core.phase ≡ Sta1 = ap (λ (o : Option Standing). option_map_or (λ (z : Standing). z.state) o Sta1) none in
-          let is_none : is_some (action_of ReleaseRequest Sta1) ≡ false = refl in
-          false≢true (sym is_none ∙ (sym (ap (λ (z : State). is_some (action_of ReleaseRequest z)) gone) ∙ cell_there)))
-      by_off (free, inr (inl (side, inl at, awaits, none))) = no_cell k.caller.core true Sta7 ReleaseRequest at refl cell_there
-      by_off (free, inr (inl (side, inr at, awaits, none))) = no_cell k.caller.core true Sta11 ReleaseRequest at refl cell_there
-      by_off (free, inr (inr at)) = no_cell k.caller.core true Sta13 ReleaseRequest at refl cell_there
+        by_off : IsOff k.caller.core true → ⊥
+        by_off (free, inl none) = (
+            let gone : state_of k.caller.core.phase ≡ Sta1 = ap (λ (o : Option Standing). option_map_or (λ (z : Standing). z.state) o Sta1) none in
+            let is_none : is_some (action_of ReleaseRequest Sta1) ≡ false = refl in
+            false≢true (sym is_none ∙ (sym (ap (λ (z : State). is_some (action_of ReleaseRequest z)) gone) ∙ cell_there)))
+        by_off (free, inr (inl (side, inl at, awaits, none))) = no_cell k.caller.core true Sta7 ReleaseRequest at refl cell_there
+        by_off (free, inr (inl (side, inr at, awaits, none))) = no_cell k.caller.core true Sta11 ReleaseRequest at refl cell_there
+        by_off (free, inr (inr at)) = no_cell k.caller.core true Sta13 ReleaseRequest at refl cell_there
 
     pub caller_released : (is_idle k.caller.core && has_cell ReleaseRequest k.caller.core) ≡ true → (at : Moment) → at.now ≡ w.time → (x : Effect) (t : Desk)
         → Reacts (LedgerStep plan link.caller) k.caller.core (at_moment at ReleaseAsked) (b.desks link.caller) x t → CallerOutcome (Release number) t (caller_did k x)
@@ -261,16 +247,17 @@ module _ (plan : Network) (certificate : Certificate) where
       | inr off ↦ absurd (off_cannot off both.1)
     ]
       where
-      both : (is_idle k.caller.core ≡ true) × (has_cell ReleaseRequest k.caller.core ≡ true)
-      both = and_parts (is_idle k.caller.core) (has_cell ReleaseRequest k.caller.core) h
-      by_stage : link.caller_connected ≡ true → (stage : Stage) → link.stage ≡ stage → IsCaller true stage link.receiver k.caller.core → CallerOutcome (Release number) t (caller_did k x)
-      by_stage on (OpenStage accepted) e c = inl (BreakCaller number None, refl, release_leaves plan certificate w number link k (b.desks link.caller) here (s.desks link.caller) shows on accepted e at time x t r)
-      by_stage on Asking e c = absurd (no_cell k.caller.core true Sta5 ReleaseRequest c.0 refl both.1)
-      by_stage on (Answering accepted) e c = absurd (no_cell k.caller.core true Sta5 ReleaseRequest c.0 refl both.1)
-      by_stage on Rejecting e c = absurd (no_cell k.caller.core true Sta5 ReleaseRequest c.0 refl both.1)
-      by_stage on (Storing accepted item) e c = absurd (idle_pends_none both.0 _ c.1.1)
-      by_stage on (Replying accepted item status) e c = absurd (idle_pends_none both.0 _ c.1.1)
-      by_stage on Gone e c = absurd c
+        both : (is_idle k.caller.core ≡ true) × (has_cell ReleaseRequest k.caller.core ≡ true)
+        both = and_parts (is_idle k.caller.core) (has_cell ReleaseRequest k.caller.core) h
+
+        by_stage : link.caller_connected ≡ true → (stage : Stage) → link.stage ≡ stage → IsCaller true stage link.receiver k.caller.core → CallerOutcome (Release number) t (caller_did k x)
+        by_stage on (OpenStage accepted) e c = inl (BreakCaller number None, refl, release_leaves plan certificate w number link k (b.desks link.caller) here (s.desks link.caller) shows on accepted e at time x t r)
+        by_stage on Asking e c = absurd (no_cell k.caller.core true Sta5 ReleaseRequest c.0 refl both.1)
+        by_stage on (Answering accepted) e c = absurd (no_cell k.caller.core true Sta5 ReleaseRequest c.0 refl both.1)
+        by_stage on Rejecting e c = absurd (no_cell k.caller.core true Sta5 ReleaseRequest c.0 refl both.1)
+        by_stage on (Storing accepted item) e c = absurd (idle_pends_none both.0 _ c.1.1)
+        by_stage on (Replying accepted item status) e c = absurd (idle_pends_none both.0 _ c.1.1)
+        by_stage on Gone e c = absurd c
 
     -- ---- a push
 
@@ -284,22 +271,23 @@ module _ (plan : Network) (certificate : Certificate) where
       | inr off ↦ ∣ off_caller (Push number) (λ o. inl o) at PushAsked x t off r ∣₁
     ]
       where
-      idle : is_idle k.caller.core ≡ true
-      idle = (and_parts (is_idle k.caller.core) (may_send k.caller.core.phase) ready).0
-      by_stage : link.caller_connected ≡ true → (stage : Stage) → link.stage ≡ stage → IsCaller true stage link.receiver k.caller.core → ∥ CallerOutcome (Push number) t (caller_did k x) ∥₁
-      by_stage on (OpenStage accepted) e c = elim (push_gives plan certificate certified w number link k (b.desks link.caller) here (s.desks link.caller) shows on accepted e at time x t r) [
-        | inl given ↦ ∥∥₁_map given (λ g. inl (Give number g.0, refl, g.1))
-        | inr more ↦ elim more [
-          | inl broke ↦ ∣ inl (BreakCaller number None, refl, broke) ∣₁
-          | inr none ↦ ∣ inr (none.0, none.1, inr (link, here, none.2)) ∣₁
+        idle : is_idle k.caller.core ≡ true
+        idle = (and_parts (is_idle k.caller.core) (may_send k.caller.core.phase) ready).0
+
+        by_stage : link.caller_connected ≡ true → (stage : Stage) → link.stage ≡ stage → IsCaller true stage link.receiver k.caller.core → ∥ CallerOutcome (Push number) t (caller_did k x) ∥₁
+        by_stage on (OpenStage accepted) e c = elim (push_gives plan certificate certified w number link k (b.desks link.caller) here (s.desks link.caller) shows on accepted e at time x t r) [
+          | inl given ↦ ∥∥₁_map given (λ g. inl (Give number g.0, refl, g.1))
+          | inr more ↦ elim more [
+            | inl broke ↦ ∣ inl (BreakCaller number None, refl, broke) ∣₁
+            | inr none ↦ ∣ inr (none.0, none.1, inr (link, here, none.2)) ∣₁
+          ]
         ]
-      ]
-      by_stage on Asking e c = absurd (asking_sends_none link.receiver c ready)
-      by_stage on (Answering accepted) e c = absurd (asking_sends_none link.receiver c ready)
-      by_stage on Rejecting e c = absurd (asking_sends_none link.receiver c ready)
-      by_stage on (Storing accepted item) e c = absurd (idle_pends_none idle _ c.1.1)
-      by_stage on (Replying accepted item status) e c = absurd (idle_pends_none idle _ c.1.1)
-      by_stage on Gone e c = absurd c
+        by_stage on Asking e c = absurd (asking_sends_none link.receiver c ready)
+        by_stage on (Answering accepted) e c = absurd (asking_sends_none link.receiver c ready)
+        by_stage on Rejecting e c = absurd (asking_sends_none link.receiver c ready)
+        by_stage on (Storing accepted item) e c = absurd (idle_pends_none idle _ c.1.1)
+        by_stage on (Replying accepted item status) e c = absurd (idle_pends_none idle _ c.1.1)
+        by_stage on Gone e c = absurd c
 
     -- ---- bytes
 
@@ -314,7 +302,7 @@ module _ (plan : Network) (certificate : Certificate) where
     caller_heard : (note : StepNote) (n : ℕ) (new : ByteWorld) → k.to_caller ≢ [] → CallerHears plan b number k n new → Result_of b (Move number Requestor n) note w new
     caller_heard note n new some (m, at, ear, x, t, moved, moment, p, is) =
         let q : PlaysBytes (LedgerStep plan link.caller) at k.caller.ear k.caller.core (take m k.to_caller) (b.desks link.caller) ear x t =
-            subst (λ (z : Text). PlaysBytes (LedgerStep plan z) at k.caller.ear k.caller.core (take m k.to_caller) (b.desks z) ear x t) from_is p in
+        subst (λ (z : Text). PlaysBytes (LedgerStep plan z) at k.caller.ear k.caller.core (take m k.to_caller) (b.desks z) ear x t) from_is p in
         let o : CallerOutcome (Move number Requestor n) t (caller_read k m ear x) = elim (cases_Bool link.caller_connected) [
           | inl on ↦ (
               let f = caller_moves plan certificate certified w number link k (b.desks link.caller) here (s.desks link.caller) shows on some at (now_is (caller_of k) at moment) in
@@ -329,9 +317,9 @@ module _ (plan : Network) (certificate : Certificate) where
     receiver_heard : (note : StepNote) (n : ℕ) (new : ByteWorld) → k.to_receiver ≢ [] → ReceiverHears plan b number k n new → Result_of b (Move number Acceptor n) note w new
     receiver_heard note n new some (m, at, ear, x, t, moved, moment, p, is) =
         let q : PlaysBytes (LedgerStep plan link.receiver) at k.receiver.ear k.receiver.core (take m k.to_receiver) (b.desks link.receiver) ear x t =
-            subst (λ (z : Text). PlaysBytes (LedgerStep plan z) at k.receiver.ear k.receiver.core (take m k.to_receiver) (b.desks z) ear x t) to_is p in
+        subst (λ (z : Text). PlaysBytes (LedgerStep plan z) at k.receiver.ear k.receiver.core (take m k.to_receiver) (b.desks z) ear x t) to_is p in
         let others_is : at.others ≡ others w number link.receiver =
-            moment.1.2 ∙ ap (λ (l : List ℕ). length l) (same_others plan certificate b w number (receiver_of k) moment.1.0 s moment.1.1) ∙ ap (λ (z : Text). others w number z) to_is in
+        moment.1.2 ∙ ap (λ (l : List ℕ). length l) (same_others plan certificate b w number (receiver_of k) moment.1.0 s moment.1.1) ∙ ap (λ (z : Text). others w number z) to_is in
         let o : ReceiverOutcome (Move number Acceptor n) t (receiver_read k m ear x) = elim (cases_Bool link.receiver_connected) [
           | inl on ↦ (
               let f = receiver_moves plan certificate certified w number link k (b.desks link.receiver) here (s.desks link.receiver) shows on some at (now_is (receiver_of k) at moment) others_is in

@@ -1,15 +1,14 @@
 -- What a ledger does by its site's routes is what its node does by the plan.
-use Rattle.std.proofs.Common.{◌≡◌, Bool, true, false, Option, Some, None, Result, Ok, Err, refl, sym, ap, subst, ◌∙◌, inl, inr, ℕ}
+use Rattle.std.proofs.Common.{Bool, Result, Ok, Err, sym, ap, ◌∙◌, inl, inr}
 use Rattle.dr_base.specs.Texts.{Text}
 use Rattle.dr_network.specs.Networks.{Network}
 use Rattle.dr_ledger.specs.declared.item.Instance.{Instance}
-use Rattle.dr_ledger.specs.declared.item.Outcome.{Outcome}
 use Rattle.dr_ledger.specs.declared.fault.LedgerFault.{LedgerFault}
 use Rattle.dr_ledger.specs.declared.fault.LedgerFault.TheVariants as fault
 use Rattle.dr_ledger.specs.Books.{Book}
 use Rattle.dr_ledger.specs.PlanRoutes.{plan_routing}
 use Rattle.dr_ledger.specs.Refusals.{Arms}
-use Rattle.dr_ledger.specs.Replies.{Arrives, IsAdmitted, IsWaiting}
+use Rattle.dr_ledger.specs.Replies.{IsAdmitted, IsWaiting}
 use Rattle.dr_ledger.specs.Items.{instance_of}
 use Rattle.dr_ledger.specs.Routings.{Routing, Agree}
 use Rattle.dr_ledger.specs.SiteRoutes.{site_routing}
@@ -34,9 +33,10 @@ admitted : (site plan : Routing) → Agree site plan → (caller : Text) (item :
 admitted site plan agree caller item b h = record { line = (agree.lines caller item.key).0 h.line; same = h.same }
 
 steps : (plan : Network) (name : Text) (site : Routing) → Agree site (plan_routing plan name) → (old new : Desk) (call : DeskCall) (answer : DeskAnswer) → RoutedStep site old call answer new → LedgerStep plan name old call answer new
-steps plan name site agree old new (Arrive caller item) (Arrival reply) h =
-    (agree_in_arrivals site (plan_routing plan name) agree caller (instance_of item) old.book new.book reply h.0,
-    armed_by (IsAdmitted site caller (instance_of item) old.book) (IsAdmitted (plan_routing plan name) caller (instance_of item) old.book) old.armed new.armed reply (admitted site (plan_routing plan name) agree caller (instance_of item) old.book) h.1)
+steps plan name site agree old new (Arrive caller item) (Arrival reply) h = (
+  agree_in_arrivals site (plan_routing plan name) agree caller (instance_of item) old.book new.book reply h.0,
+  armed_by (IsAdmitted site caller (instance_of item) old.book) (IsAdmitted (plan_routing plan name) caller (instance_of item) old.book) old.armed new.armed reply (admitted site (plan_routing plan name) agree caller (instance_of item) old.book) h.1,
+)
 steps plan name site agree old new (Next dest now) (Upcoming due) h = (h.0, ap (λ (b : Book). let d : Desk = record { book = b; armed = new.armed } in d) h.1 ∙ ap (λ (a : Bool). let d : Desk = record { book = old.book; armed = a } in d) h.2)
 steps plan name site agree old new (Settle uid dest outcome now) (Settling answer) h =
     (h.0, armed_by (IsWaiting old.book uid dest) (IsWaiting old.book uid dest) old.armed new.armed answer (λ y. y) h.1)

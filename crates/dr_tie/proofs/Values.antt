@@ -1,9 +1,8 @@
 -- One value of a P-DATA-TF, at an established end.
-use Rattle.std.proofs.Common.{◌≡◌, ◌≢◌, ℕ, Bool, true, false, List, [], ◌∷◌, ◌++◌, Option, Some, None, Result, Ok, Err, refl, sym, ap, subst, ◌∙◌, inl, inr, ◌⊎◌, length, arith}
+use Rattle.std.proofs.Common.{◌≡◌, ◌≢◌, ℕ, Bool, true, false, [], Option, Some, None, Result, Ok, Err, refl, sym, ap, subst, ◌∙◌, inl, inr, length, arith}
 use Rattle.std.specs.Prelude.{◌&&◌, if◌then◌else◌}
 use Rattle.std.specs.Option.{option_map_or}
 use Rattle.std.specs.Str.{bytes_eq}
-use Rattle.std.proofs.lemmas.Slice.Eq.{bytes_eq-Decides}
 use Rattle.dr_base.specs.Texts.{Text}
 use Rattle.dr_base.specs.Syntaxes.{syntax_uid}
 use Rattle.dr_base.specs.declared.syntax.Syntax.{Syntax}
@@ -11,13 +10,12 @@ use Rattle.dr_base.specs.declared.syntax.Syntax.TheVariants.{Implicit, Explicit}
 use Rattle.dr_network.specs.Networks.{Network}
 use Rattle.dr_ulstate.specs.declared.table.Action.{Action}
 use Rattle.dr_ulstate.specs.declared.table.Action.TheVariants.{Dt2}
-use Rattle.dr_ulstate.specs.declared.table.Event.{Event as UpperEvent}
 use Rattle.dr_ulstate.specs.declared.table.Event.TheVariants.{DataPdu}
 use Rattle.dr_ulstate.specs.declared.table.State.{State}
 use Rattle.dr_ulstate.specs.declared.table.State.TheVariants.{Sta1, Sta6}
 use Rattle.dr_ulstate.specs.Standing.{Standing, moved}
 use Rattle.dr_ulstate.specs.Table.{action_of}
-use Rattle.dr_ulstate.specs.Phases.{standing_of, state_of, in_its_phase}
+use Rattle.dr_ulstate.specs.Phases.{state_of, in_its_phase}
 use Rattle.dr_pdu.specs.declared.pdu.Pdv.{Pdv}
 use Rattle.dr_dimse.specs.declared.command.Command.TheVariants.{StoreRq}
 use Rattle.dr_dimse.specs.declared.message.Message.{Message}
@@ -39,13 +37,13 @@ use Rattle.dr_nego.proofs.OneContext.{same_texts}
 use Rattle.dr_session.specs.declared.ends.Core.{Core}
 use Rattle.dr_session.specs.declared.ends.Effect.{Effect}
 use Rattle.dr_session.specs.declared.ends.Found.{Found}
-use Rattle.dr_session.specs.declared.ends.Found.TheVariants.{Read, Unreadable, TooLarge}
+use Rattle.dr_session.specs.declared.ends.Found.TheVariants.{Read}
 use Rattle.dr_session.specs.declared.ends.Input.TheVariants.{Value}
 use Rattle.dr_session.specs.declared.ends.Told.{Told}
 use Rattle.dr_session.specs.declared.ends.Told.TheVariants.{Quiet, Store}
 use Rattle.dr_session.specs.Desks.{DeskCall, DeskAnswer, Arrive, Arrival, Upcoming, Settling}
 use Rattle.dr_session.specs.declared.ends.Moment.{Moment}
-use Rattle.dr_session.specs.Reactions.{Reaction, turn, stores, arrives, brings, is_named, arrival, stored, status_of, effect, quiet}
+use Rattle.dr_session.specs.Reactions.{turn, stores, arrives, is_named, arrival, stored, status_of, effect}
 use Rattle.dr_session.specs.Telling.{Looks, TellsValue, TellsIn, Says, Finds, FindsIn}
 use Rattle.dr_session.specs.Turns.{Turns, Ends, Asks}
 use Rattle.dr_session.specs.Plays.{Reacts, at_moment, with_stage}
@@ -101,7 +99,7 @@ module _ (plan : Network) (name : Text) (moment : Moment) (c : Core) (v : Pdv) (
   found_is f (inl (t, read, uid, reads, finds)) =
       let same : t ≡ item.key.syntax = uids_apart t item.key.syntax (sym uid ∙ of.1) in
       let is : read ≡ Ok item = items_are_one item.key.syntax item.body read (Ok item) (no_memory read f finds) (λ e. cc)
-          (subst (λ (z : Syntax). ReadsItem z item.body read) same reads) (is_item, refl, refl) in
+      (subst (λ (z : Syntax). ReadsItem z item.body read) same reads) (is_item, refl, refl) in
       subst (λ (r : Result Job ItemFault). Finds r f) is finds
   found_is f (inr (none, e)) = absurd (none item.key.syntax of.1)
 
@@ -125,7 +123,7 @@ module _ (plan : Network) (name : Text) (moment : Moment) (c : Core) (v : Pdv) (
       let h : Turns pstep (turn moment (with_stage next c) told) s x u = subst (λ (y : Told). Turns pstep (turn moment (with_stage next c) y) s x u) is t.2 in
       let a : Turns pstep (stores core n context.class id item.key.class item.uid (Read item)) s x u = acts_by pstep moment (with_stage next c) told DataPdu false Sta6 Dt2 Sta6 s u x at refl refl refl h in
       let b : Turns pstep (arrives core n id item.key.class item.uid (Read item)) s x u =
-          subst (λ (y : Bool). Turns pstep (if y then arrives core n id item.key.class item.uid (Read item) else Ends (stored core n id item.key.class item.uid 0x0122)) s x u) (same_texts item.key.class context.class (sym of.0)) a in
+      subst (λ (y : Bool). Turns pstep (if y then arrives core n id item.key.class item.uid (Read item) else Ends (stored core n id item.key.class item.uid 0x0122)) s x u) (same_texts item.key.class context.class (sym of.0)) a in
       let d : Turns pstep (Asks (Arrive core.peer item) (arrival (λ reply. Ends (stored core n id item.key.class item.uid (status_of reply))))) s x u =
-          subst (λ (y : Bool). Turns pstep (if y then Asks (Arrive core.peer item) (arrival (λ reply. Ends (stored core n id item.key.class item.uid (status_of reply)))) else Ends (stored core n id item.key.class item.uid 0xA900)) s x u) named b in
+      subst (λ (y : Bool). Turns pstep (if y then Asks (Arrive core.peer item) (arrival (λ reply. Ends (stored core n id item.key.class item.uid (status_of reply)))) else Ends (stored core n id item.key.class item.uid 0xA900)) s x u) named b in
       by_answer core n d.0 d.1 d.2 d.3

@@ -1,5 +1,5 @@
 -- A whole world of bytes: each step of it, and runs of steps.
-use Rattle.std.proofs.Common.{◌≡◌, ◌≢◌, ℕ, ◌+◌, ◌≤◌, ◌^◌, Bool, true, false, List, [], ◌∷◌, ◌++◌, append_assoc, Option, Some, None, Result, Ok, Err, refl, sym, ap, subst, ◌∙◌, inl, inr, ◌⊎◌, arith}
+use Rattle.std.proofs.Common.{◌≡◌, ℕ, ◌+◌, ◌^◌, Bool, true, false, List, [], ◌∷◌, ◌++◌, append_assoc, Option, Some, None, refl, sym, ap, subst, ◌∙◌, inl, inr, ◌⊎◌, arith}
 use Rattle.std.proofs.Math.Logic.{∥∥₁_map, ∥∥₁_elim, ∥∥₁_prop}
 use Rattle.std.specs.Prelude.{min, not, ◌&&◌}
 use Rattle.std.proofs.lemmas.List.{append-nil}
@@ -8,18 +8,13 @@ use Rattle.std.specs.Ordering.{nat_cmp, eq_by_cmp}
 use Rattle.dr_base.specs.Texts.{Text}
 use Rattle.dr_network.specs.Networks.{Network}
 use Rattle.dr_sound.specs.declared.certificate.Certificate.{Certificate}
-use Rattle.dr_sound.specs.declared.certificate.Hop.{Hop}
-use Rattle.dr_site.specs.Parts.{Part, IsPartOf}
 use Rattle.dr_site.specs.Sites.{IsCertified}
 use Rattle.dr_site.proofs.ContextsAsPlanned.{hop_to, pairs_as_planned}
-use Rattle.dr_nego.specs.Agreeing.{AssociateRq}
-use Rattle.dr_nego.specs.Proposing.{IsProposal, IsHopTo}
 use Rattle.dr_nego.proofs.Sized.{proposals_fit}
 use Rattle.dr_ulstate.specs.declared.table.State.TheVariants.{Sta2, Sta5}
 use Rattle.dr_ulstate.specs.Standing.{standing}
 use Rattle.dr_ledger.specs.Items.{instance_of}
-use Rattle.dr_ledger.specs.Books.{empty_book}
-use Rattle.dr_ledger.proofs.Maps.{get_new, get_other, same_or_not, ties_itself}
+use Rattle.dr_ledger.proofs.Maps.{get_new, get_other, same_or_not}
 use Rattle.dr_model.proofs.Lookups.{numbers}
 use Rattle.dr_model.proofs.FromSafety.{safe_headline, start_safe}
 use Rattle.dr_model.proofs.Safety.{IsSafe, WorldGrows}
@@ -28,17 +23,15 @@ use Rattle.dr_model.specs.Worlds.{World, Link, start}
 use Rattle.dr_model.specs.Steps.{IsLink, IsHop, asked, new_link, passed}
 use Rattle.dr_model.specs.Events.{Event, Step, Take, Ask}
 use Rattle.dr_model.specs.Events as event
-use Rattle.dr_model.specs.Claims.{Headline}
 use Rattle.dr_model.specs.Theorem.{Lasts}
 use Rattle.dr_session.specs.Reactions.{is_ready}
-use Rattle.dr_session.specs.Ends.{accepting, requesting}
 use Rattle.dr_session.specs.Ledgers.{desk}
 use Rattle.dr_tie.specs.Desks.{Desk, LedgerStep}
 use Rattle.dr_tie.specs.Channels.{Channel, ShowsLink}
-use Rattle.dr_tie.specs.Ties.{IsDeskOf, IsOpened, with_desk, Happens}
+use Rattle.dr_tie.specs.Ties.{IsDeskOf, IsOpened, with_desk}
 use Rattle.dr_tie.specs.Closing.{IsEnded, closed}
-use Rattle.dr_tie.specs.ByteWorlds.{ByteWorld, beginning, WorldStep, Submit, Open, Push, Move, Abort, Release, Close, Late, Restart, Requeue, Tick, Refuse, StepNote, Done, Skipped, Skips, DoesIf, LinkStep, NodeStep, Steps, Opens, Closes, is_over, caller_of, receiver_of, with_done, with_call, opened_between}
-use Rattle.dr_tie.specs.Shown.{Shows, ShowsAt, Comes, IsNamed, WorldStepsAreEvents, RunsOf, RunsKeepTheHeadline, WhatIsKeptStaysKept}
+use Rattle.dr_tie.specs.ByteWorlds.{ByteWorld, beginning, WorldStep, Submit, Open, Push, Move, Abort, Release, Close, Late, Restart, Requeue, Tick, Refuse, StepNote, DoesIf, LinkStep, Steps, Opens, Closes, is_over, caller_of, receiver_of, with_done, with_call, opened_between}
+use Rattle.dr_tie.specs.Shown.{Shows, ShowsAt, Comes, WorldStepsAreEvents, RunsOf, RunsKeepTheHeadline, WhatIsKeptStaysKept}
 use Rattle.dr_tie.proofs.Others.{shown_link}
 use Rattle.dr_site.proofs.Assembled.{is_site}
 use Rattle.dr_tie.proofs.Restarted.{restarted}
@@ -65,15 +58,15 @@ module _ (plan : Network) (certificate : Certificate) (certified : IsCertified p
       let mid : Text → Desk = with_desk b.desks (receiver_of k) u in
       let ends = Rattle.dr_tie.proofs.Closing.receiver_ends plan certificate w number link k (b.desks link.caller) (b.desks link.receiver) here (s.desks link.caller) (s.desks link.receiver) shows early (early_is ∙ sym s.time) y u r1 in
       let still : (name : Text) → IsDeskOf w name (mid name) = desks_after w w number (receiver_of k) b.desks u s.desks
-          (subst (λ (d : Desk). IsDeskOf w (receiver_of k) d) (sym (ends.same ∙ ap b.desks (sym to))) (s.desks (receiver_of k)))
-          (record { books = λ other apart. refl; links = λ other apart. refl; armed = λ other apart. refl; rest = (refl, refl, refl) }) in
+      (subst (λ (d : Desk). IsDeskOf w (receiver_of k) d) (sym (ends.same ∙ ap b.desks (sym to))) (s.desks (receiver_of k)))
+      (record { books = λ other apart. refl; links = λ other apart. refl; armed = λ other apart. refl; rest = (refl, refl, refl) }) in
       let c1 : IsEnded (LedgerStep plan link.caller) k.caller.core late (mid link.caller) x t = subst (λ (n : Text). IsEnded (LedgerStep plan n) k.caller.core late (mid n) x t) from c in
       let h = closing_is_close plan certificate w number link k (mid link.caller) (b.desks link.receiver) here (still link.caller) (s.desks link.receiver) shows late early (late_is ∙ sym s.time) (early_is ∙ sym s.time) x y t u c1 r1 in
       let mid_world : ByteWorld = with_call b (receiver_of k) u in
       let shown : Shows plan certificate mid_world w = record { time = s.time; opened = s.opened; desks = still; links = s.links } in
       let result : Shows plan certificate (with_done mid_world link.caller t number (closed k x y)) h.1.1.after = after plan certificate mid_world w number (event.Close number h.1.0) link.caller t (closed k x y) shown h.1.1 in
       let named : Shows plan certificate (with_done mid_world (caller_of k) t number (closed k x y)) h.1.1.after =
-          subst (λ (n : Text). Shows plan certificate (with_done mid_world n t number (closed k x y)) h.1.1.after) (sym from) result in
+      subst (λ (n : Text). Shows plan certificate (with_done mid_world n t number (closed k x y)) h.1.1.after) (sym from) result in
       (h.1.1.after, inr (event.Close number h.1.0, refl, h.1.1.step), subst (λ (z : ByteWorld). Shows plan certificate z h.1.1.after) (sym is) named)
 
   close_if : (number : ℕ) (k : Channel) (link : Link) → IsLink w number link → ShowsLink plan certificate k link → (go : Bool) → DoesIf go b note new (Closes plan b number k new) → Res (Close number)
@@ -113,15 +106,15 @@ module _ (plan : Network) (certificate : Certificate) (certified : IsCertified p
       } in
       (asked w from to, inr (Ask from to, (refl, refl), (goes, refl)), subst (λ (z : ByteWorld). Shows plan certificate z (asked w from to)) (sym is) shown)
     where
-    by_number : (other : ℕ) → (other ≡ w.opened + 1) ⊎ (eq_by_cmp nat_cmp other (w.opened + 1) ≡ false) → (k : Channel) → ShowsLink plan certificate k (new_link from to)
-        → ShowsAt plan certificate (map_of.get (map_of.insert b.links (w.opened + 1) k) other) (map_of.get (map_of.insert w.links (w.opened + 1) (new_link from to)) other)
-    by_number other (inl same) k shows =
-        let P : ℕ → Type 0 = λ n. ShowsAt plan certificate (map_of.get (map_of.insert b.links (w.opened + 1) k) n) (map_of.get (map_of.insert w.links (w.opened + 1) (new_link from to)) n) in
-        subst P (sym same) (subst (λ (o : Option Channel). ShowsAt plan certificate o (map_of.get (map_of.insert w.links (w.opened + 1) (new_link from to)) (w.opened + 1))) (sym (get_new numbers b.links (w.opened + 1) k))
-            (subst (λ (o : Option Link). ShowsAt plan certificate (Some k) o) (sym (get_new numbers w.links (w.opened + 1) (new_link from to))) shows))
-    by_number other (inr apart) k shows =
-        subst (λ (o : Option Channel). ShowsAt plan certificate o (map_of.get (map_of.insert w.links (w.opened + 1) (new_link from to)) other)) (sym (get_other numbers b.links (w.opened + 1) k other apart))
-            (subst (λ (o : Option Link). ShowsAt plan certificate (map_of.get b.links other) o) (sym (get_other numbers w.links (w.opened + 1) (new_link from to) other apart)) (s.links other))
+      by_number : (other : ℕ) → (other ≡ w.opened + 1) ⊎ (eq_by_cmp nat_cmp other (w.opened + 1) ≡ false) → (k : Channel) → ShowsLink plan certificate k (new_link from to)
+          → ShowsAt plan certificate (map_of.get (map_of.insert b.links (w.opened + 1) k) other) (map_of.get (map_of.insert w.links (w.opened + 1) (new_link from to)) other)
+      by_number other (inl same) k shows =
+          let P : ℕ → Type 0 = λ n. ShowsAt plan certificate (map_of.get (map_of.insert b.links (w.opened + 1) k) n) (map_of.get (map_of.insert w.links (w.opened + 1) (new_link from to)) n) in
+          subst P (sym same) (subst (λ (o : Option Channel). ShowsAt plan certificate o (map_of.get (map_of.insert w.links (w.opened + 1) (new_link from to)) (w.opened + 1))) (sym (get_new numbers b.links (w.opened + 1) k))
+          (subst (λ (o : Option Link). ShowsAt plan certificate (Some k) o) (sym (get_new numbers w.links (w.opened + 1) (new_link from to))) shows))
+      by_number other (inr apart) k shows =
+          subst (λ (o : Option Channel). ShowsAt plan certificate o (map_of.get (map_of.insert w.links (w.opened + 1) (new_link from to)) other)) (sym (get_other numbers b.links (w.opened + 1) k other apart))
+          (subst (λ (o : Option Link). ShowsAt plan certificate (map_of.get b.links other) o) (sym (get_other numbers w.links (w.opened + 1) (new_link from to) other apart)) (s.links other))
 
   pub each : (step : WorldStep) → Steps plan certificate b step note new → Res step
   each (Push link) h = at_link (Push link) link _ (λ k l has here shows d. pushed plan certificate certified b w s link l k has here shows note new (is_ready k.caller.core) refl d) (map_of.get b.links link) refl h
@@ -145,8 +138,12 @@ module _ (plan : Network) (certificate : Certificate) (certified : IsCertified p
       let h = refusing_is_refuse plan w node (b.desks node) is_node (s.desks node) in
       ∣ (h.after, inr (event.Refuse node, refl, h.step), subst (λ (z : ByteWorld). Shows plan certificate z h.after) (sym is) (at_node plan certificate b w (event.Refuse node) node (desk (b.desks node).book true) s h)) ∣₁
   each (Tick ms) (noted, is) =
-      ∣ (passed w ms, inr (event.Tick ms, refl, refl), subst (λ (z : ByteWorld). Shows plan certificate z (passed w ms)) (sym is)
-          (record { time = ap (λ (n : ℕ). min (n + ms) (2 ^ 62)) s.time; opened = s.opened; desks = s.desks; links = s.links })) ∣₁
+      ∣ (
+        passed w ms,
+        inr (event.Tick ms, refl, refl),
+        subst (λ (z : ByteWorld). Shows plan certificate z (passed w ms)) (sym is)
+            (record { time = ap (λ (n : ℕ). min (n + ms) (2 ^ 62)) s.time; opened = s.opened; desks = s.desks; links = s.links }),
+      ) ∣₁
   each (Restart node) (inr h) = ∣ skips plan certificate (Restart node) b new w note s h.1 ∣₁
   each (Restart node) (inl (is_node, (noted, h))) = (let r = restarted plan certificate b node w s new h in ∣ (r.0, inr (event.Restart node r.1, refl, r.2), r.3) ∣₁)
 
@@ -167,7 +164,7 @@ run_good : (plan : Network) (certificate : Certificate) → IsCertified plan cer
 run_good plan certificate certified [] b new good h = subst (λ (z : ByteWorld). ∥ IsGood plan certificate z ∥₁) (sym h) good
 run_good plan certificate certified (step ∷ steps) b new good (note, mid, h, rest) =
     run_good plan certificate certified steps mid new (∥∥₁_elim good ∥∥₁_prop (λ g.
-        ∥∥₁_map (world_steps plan certificate certified b mid g.0 step note g.1 h) (λ r. (r.0, r.2, come_safe plan certificate certified b step note g.0 r.0 g.2 r.1)))) rest
+    ∥∥₁_map (world_steps plan certificate certified b mid g.0 step note g.1 h) (λ r. (r.0, r.2, come_safe plan certificate certified b step note g.0 r.0 g.2 r.1)))) rest
 
 -- ---- what lasts
 
@@ -200,14 +197,18 @@ run_lasting : (plan : Network) (certificate : Certificate) → IsCertified plan 
 run_lasting plan certificate certified v [] b new good h = subst (λ (z : ByteWorld). ∥ Lasting plan certificate v z ∥₁) (sym h) good
 run_lasting plan certificate certified v (step ∷ steps) b new good (note, mid, h, rest) =
     run_lasting plan certificate certified v steps mid new (∥∥₁_elim good ∥∥₁_prop (λ g.
-        ∥∥₁_map (world_steps plan certificate certified b mid g.0 step note g.1 h) (λ r. (r.0, r.2, come_safe plan certificate certified b step note g.0 r.0 g.2 r.1,
-            lasts_on v g.0 r.0 g.3 (come_lasting plan certificate certified b step note g.0 r.0 g.2 r.1))))) rest
+    ∥∥₁_map (world_steps plan certificate certified b mid g.0 step note g.1 h) (λ r. (
+      r.0,
+      r.2,
+      come_safe plan certificate certified b step note g.0 r.0 g.2 r.1,
+      lasts_on v g.0 r.0 g.3 (come_lasting plan certificate certified b step note g.0 r.0 g.2 r.1),
+    )))) rest
 
 first_good : (plan : Network) (certificate : Certificate) → IsGood plan certificate beginning
 first_good plan certificate =
     let none : (number : ℕ) → ShowsAt plan certificate (map_of.get beginning.links number) (map_of.get start.links number) = λ number.
-        subst (λ (o : Option Channel). ShowsAt plan certificate o (map_of.get start.links number)) (sym (map_of.get-empty nat_cmp number))
-            (subst (λ (o : Option Link). ShowsAt plan certificate None o) (sym (map_of.get-empty nat_cmp number)) tt) in
+    subst (λ (o : Option Channel). ShowsAt plan certificate o (map_of.get start.links number)) (sym (map_of.get-empty nat_cmp number))
+    (subst (λ (o : Option Link). ShowsAt plan certificate None o) (sym (map_of.get-empty nat_cmp number)) tt) in
     (start, record { time = refl; opened = refl; desks = λ name. (refl, sym (Rattle.std.specs.FinSet.contains-empty Rattle.dr_base.specs.Texts.text_cmp name)); links = none }, start_safe plan)
 
 pub runs_keep : RunsKeepTheHeadline
@@ -217,4 +218,4 @@ runs_keep plan certificate certified steps b h =
 pub kept_stays : WhatIsKeptStaysKept
 kept_stays plan certificate certified steps more b c h k =
     ∥∥₁_elim (run_good plan certificate certified steps beginning b ∣ first_good plan certificate ∣₁ h) ∥∥₁_prop (λ g.
-        ∥∥₁_map (run_lasting plan certificate certified g.0 more b c ∣ (g.0, g.1, g.2, lasts_same g.0) ∣₁ k) (λ z. (g.0, z.0, g.1, z.1, z.3)))
+    ∥∥₁_map (run_lasting plan certificate certified g.0 more b c ∣ (g.0, g.1, g.2, lasts_same g.0) ∣₁ k) (λ z. (g.0, z.0, g.1, z.1, z.3)))

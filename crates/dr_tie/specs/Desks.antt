@@ -1,5 +1,5 @@
 -- A node's ledger as the desk of its sessions.
-use Rattle.std.specs.Prelude.{◌≡◌, ◌⊎◌, ℕ, Bool, true, false, Option, Some, None, Result, Ok, Err}
+use Rattle.std.specs.Prelude.{◌≡◌, ◌⊎◌, Bool, true, false}
 use Rattle.dr_base.specs.Texts.{Text}
 use Rattle.dr_network.specs.Networks.{Network}
 use Rattle.dr_ledger.specs.PlanRoutes.{plan_routing}

@@ -46,9 +46,9 @@ ReceiverMoves = (plan : Network) (certificate : Certificate) → IsCertified pla
     IsLink w number link → IsDeskOf w link.receiver s → ShowsLink plan certificate k link → link.receiver_connected ≡ true → k.to_receiver ≢ [] →
     (moment : Moment) → moment.now ≡ w.time → moment.others ≡ others w number link.receiver →
     (front : Pdu) × (left : List ℕ) × IsLeft k.receiver k.to_receiver front left × ((n : ℕ) → n ≤ length left → (new : Feeding) (x : Effect) (t : Desk) →
-        PlaysBytes (LedgerStep plan link.receiver) moment k.receiver.ear k.receiver.core (take n k.to_receiver) s new x t →
-        ((event : Event) × IsOfReceiver number event × (n ≡ length left) × Happens plan certificate w number event link.receiver t (receiver_read k n new x))
-        ⊎ ((t ≡ s) × ShowsLink plan certificate (receiver_read k n new x) link × ((n < length left) ⊎ IsData front)))
+    PlaysBytes (LedgerStep plan link.receiver) moment k.receiver.ear k.receiver.core (take n k.to_receiver) s new x t →
+    ((event : Event) × IsOfReceiver number event × (n ≡ length left) × Happens plan certificate w number event link.receiver t (receiver_read k n new x))
+    ⊎ ((t ≡ s) × ShowsLink plan certificate (receiver_read k n new x) link × ((n < length left) ⊎ IsData front)))
 
 -- the same of a caller
 abbrev pub CallerMoves : Type 0
@@ -56,6 +56,6 @@ CallerMoves = (plan : Network) (certificate : Certificate) → IsCertified plan 
     IsLink w number link → IsDeskOf w link.caller s → ShowsLink plan certificate k link → link.caller_connected ≡ true → k.to_caller ≢ [] →
     (moment : Moment) → moment.now ≡ w.time →
     (front : Pdu) × (left : List ℕ) × IsLeft k.caller k.to_caller front left × ((n : ℕ) → n ≤ length left → (new : Feeding) (x : Effect) (t : Desk) →
-        PlaysBytes (LedgerStep plan link.caller) moment k.caller.ear k.caller.core (take n k.to_caller) s new x t →
-        ((event : Event) × IsOfCaller number event × (n ≡ length left) × Happens plan certificate w number event link.caller t (caller_read k n new x))
-        ⊎ ((t ≡ s) × ShowsLink plan certificate (caller_read k n new x) link × ((n < length left) ⊎ IsData front)))
+    PlaysBytes (LedgerStep plan link.caller) moment k.caller.ear k.caller.core (take n k.to_caller) s new x t →
+    ((event : Event) × IsOfCaller number event × (n ≡ length left) × Happens plan certificate w number event link.caller t (caller_read k n new x))
+    ⊎ ((t ≡ s) × ShowsLink plan certificate (caller_read k n new x) link × ((n < length left) ⊎ IsData front)))

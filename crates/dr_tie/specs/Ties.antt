@@ -1,26 +1,21 @@
 -- What a Move of bytes does in the message world.
-use Rattle.std.specs.Prelude.{◌<◌, ◌^◌, if◌then◌else◌, ◌||◌, ◌+◌, ◌≡◌, ◌≢◌, ◌⊎◌, ℕ, Bool, true, false, List, [], ◌∷◌, ◌++◌, take, drop, Option, Some, None, Result, Ok, Err}
+use Rattle.std.specs.Prelude.{◌<◌, ◌^◌, if◌then◌else◌, ◌||◌, ◌+◌, ◌≡◌, ◌≢◌, ◌⊎◌, ℕ, Bool, true, false, List, [], ◌∷◌, ◌++◌, take, drop, Option, Some, None}
 use Rattle.dr_base.specs.Texts.{Text}
 use Rattle.dr_network.specs.Networks.{Network}
 use Rattle.dr_sound.specs.declared.certificate.Certificate.{Certificate}
-use Rattle.dr_site.specs.Sites.{IsCertified, IsSite}
-use Rattle.dr_network.specs.Formed.{IsMaxPdu}
-use Rattle.dr_site.specs.Parts.{Part}
+use Rattle.dr_site.specs.Sites.{IsCertified}
 use Rattle.dr_pdu.specs.declared.pdu.Pdu.{Pdu}
 use Rattle.dr_pdu.specs.declared.pdu.Pdu.TheVariants as pdu
-use Rattle.dr_nego.specs.Agreeing.{AssociateRq, Concludes}
-use Rattle.dr_nego.specs.Answering.{acceptance_of, agreed_by}
-use Rattle.dr_nego.specs.Proposing.{IsProposal}
+use Rattle.dr_nego.specs.Agreeing.{AssociateRq}
 use Rattle.dr_pdu.specs.Feeding.{Feeding, fresh}
 use Rattle.dr_pdu.specs.Written.{Fits, MeetsLimit, written}
 use Rattle.dr_session.specs.declared.ends.Core.{Core}
 use Rattle.dr_session.specs.declared.ends.Effect.{Effect}
 use Rattle.dr_session.specs.declared.ends.Moment.{Moment}
 use Rattle.dr_nego.specs.Agreeing.{context_for}
-use Rattle.dr_session.specs.Reactions.{is_impatient, effect, gives_in, id_after, store_pdus, stored}
+use Rattle.dr_session.specs.Reactions.{is_impatient, effect, gives_in}
 use Rattle.dr_session.specs.Messages.{command_pdus, data_pdus}
 use Rattle.dr_nego.specs.Fragments.{spellings}
-use Rattle.dr_dimse.specs.declared.command.Command.TheVariants.{StoreRq}
 use Rattle.dr_dimse.specs.declared.message.Body.TheVariants.{Whole}
 use Rattle.std.specs.Prelude.{map as map_over, length, ◌≤◌}
 use Rattle.dr_pdu.specs.declared.pdu.Pdv.{Pdv}
@@ -37,11 +32,10 @@ use Rattle.dr_session.specs.Plays.{At, Reacts, at_moment, PlaysBytes}
 use Rattle.std.specs.List.{AllByRecursion}
 use Rattle.std.specs.FinMap as map
 use Rattle.std.specs.FinSet as set
-use Rattle.dr_model.specs.Worlds.{World, Link, Stage, Asking, Answering, Rejecting, Open, Storing, Replying, with_link, with_book, with_armed, same_text}
+use Rattle.dr_model.specs.Worlds.{World, Link, Asking, Answering, Rejecting, Open, Storing, Replying, same_text}
 use Rattle.dr_model.specs.Steps.{IsLink, IsHop, new_link, others, callers_of}
 use Rattle.dr_ledger.specs.declared.item.Instance.{Instance}
 use Rattle.dr_ledger.specs.declared.content.Job.{Job}
-use Rattle.dr_ledger.specs.Items.{IsItem, instance_of}
 use Rattle.dr_base.specs.Syntaxes.{syntax_uid}
 use Rattle.dr_nego.specs.declared.agreed.Agreed.{Agreed}
 use Rattle.dr_session.specs.Ledgers.{Hands}
@@ -51,9 +45,9 @@ use Rattle.dr_ulstate.specs.Standing.{moved}
 use Rattle.dr_ulstate.specs.Phases.{in_its_phase, next_expired}
 use Rattle.dr_model.specs.Worlds.{Contexts}
 use Rattle.dr_model.specs.Calls.{Reply, Answer}
-use Rattle.dr_model.specs.Events.{Event, Step, Ask, AgreeReceiver, AgreeCaller, Give, Receive, Answered, BreakCaller, BreakReceiver, Close, Restart}
+use Rattle.dr_model.specs.Events.{Event, Step, Ask, AgreeReceiver, AgreeCaller, Give, Receive, Answered, BreakCaller, BreakReceiver, Restart}
 use Rattle.dr_tie.specs.Desks.{Desk, LedgerStep}
-use Rattle.dr_tie.specs.Channels.{Brings, IsAt, IsMessageFor, alone, message, Gets, Terminal, Channel, Carries, ShowsLink, ToCaller, bytes_of, IsControl, IsOff, IsSideOf, IsAsking, IsReceiver}
+use Rattle.dr_tie.specs.Channels.{IsAt, alone, message, Gets, Terminal, Channel, ShowsLink, bytes_of, IsControl, IsOff, IsSideOf, IsAsking, IsReceiver}
 
 -- the desk of a node of the world
 abbrev pub IsDeskOf : World → Text → Desk → Type 0
