@@ -1,12 +1,12 @@
 -- One end over its life: how it begins, what each call does, and how it ended.
-use Rattle.std.specs.Prelude.{◌≡◌, ◌⊎◌, ℕ, Bool, true, false, ◌&&◌, List, [], ◌∷◌, if◌then◌else◌, Option, Some, None, Result, Ok, Err}
+use Rattle.std.specs.Prelude.{◌≡◌, ◌⊎◌, ℕ, Bool, true, false, List, [], ◌∷◌, if◌then◌else◌, Option, Some, None, Result, Ok, Err}
 use Rattle.std.specs.declared.alloc.AllocError.{AllocError}
 use Rattle.dr_base.specs.Texts.{Text}
 use Rattle.dr_ulstate.specs.declared.table.State.{State}
 use Rattle.dr_ulstate.specs.declared.table.State.TheVariants.{Sta1, Sta2, Sta5}
 use Rattle.dr_ulstate.specs.declared.phase.Next.{Next}
 use Rattle.dr_ulstate.specs.declared.phase.Next.TheVariants.{Opening, Asked}
-use Rattle.dr_ulstate.specs.Phases.{state_of, may_send}
+use Rattle.dr_ulstate.specs.Phases.{state_of}
 use Rattle.dr_ulstate.specs.Standing.{standing}
 use Rattle.dr_ulstate.specs.Table.{state_number}
 use Rattle.dr_pdu.specs.Feeding.{Feeding, fresh}
@@ -41,7 +41,8 @@ use Rattle.dr_session.specs.declared.ends.Over.TheVariants as over
 use Rattle.dr_session.specs.Desks.{DeskCall, DeskAnswer}
 use Rattle.dr_session.specs.Plays.{At, Reacts, Stops, PlaysBytes, BreaksBytes, at_moment}
 use Rattle.dr_session.specs.Messages.{command_pdus}
-use Rattle.dr_session.specs.Reactions.{assembling, is_idle, effect, write, awaiting, pending, id_after}
+use Rattle.dr_session.specs.Reactions.{assembling, effect, write, awaiting, pending, id_after}
+pub use Rattle.dr_session.specs.Reactions.{is_free}
 
 -- an end with the bytes that it keeps; none of it is there once memory ended
 pub record Terminal : Type 0 where
@@ -145,10 +146,6 @@ HearsOf step heard.Late at old s result new t = Meets step at input.Late old s r
 HearsOf step heard.Memory at old s result new t = IsMemory result × (t ≡ s) × (new ≡ record { ear = old.ear; core = None })
 
 -- ---- sending
-
--- a requestor that is established, has nothing pending and may send (PS3.8 table 9-10, event 9)
-abbrev pub is_free : Core → Bool
-is_free c = is_idle c && may_send c.phase
 
 abbrev pub is_free_in : Option Core → Bool
 is_free_in None = false

@@ -353,9 +353,9 @@ acts a at told c = quiet c
 abbrev pub is_idle : Core → Bool
 is_idle c = is_requestor c && not (is_some c.pending)
 
--- an established one, which may send
-abbrev pub is_ready : Core → Bool
-is_ready c = is_idle c && may_send c.phase
+-- a requestor that is established, has nothing pending and may send (PS3.8 table 9-10, event 9)
+abbrev pub is_free : Core → Bool
+is_free c = is_idle c && may_send c.phase
 
 -- for 60,000 milliseconds
 abbrev pub has_waited : Option ℕ → ℕ → Bool
@@ -382,7 +382,7 @@ event_of_plain Late at c =
     if next_expired c.phase at.now then Some ArtimExpired else if is_impatient c at.now then Some AbortRequest else None
 event_of_plain AbortAsked at c = Some AbortRequest
 event_of_plain ReleaseAsked at c = if is_idle c then Some ReleaseRequest else None
-event_of_plain PushAsked at c = if is_ready c then Some DataRequest else None
+event_of_plain PushAsked at c = if is_free c then Some DataRequest else None
 
 abbrev pub event_of : Told → Moment → Core → Option Event
 event_of (Plain i) at c = event_of_plain i at c

@@ -30,7 +30,7 @@ use Rattle.dr_session.specs.Ledgers.{Hands}
 use Rattle.dr_nego.specs.Fragments.{spellings}
 use Rattle.dr_session.specs.declared.ends.Moment.{Moment}
 use Rattle.dr_nego.specs.Agreeing.{context_for, is_for}
-use Rattle.dr_session.specs.Reactions.{can_be_named, aborted, aborts_desk, abort_pdu, desk_failed, due, event_of, gives, is_idle, is_ready, is_requestor, job, left, quiet, settling, stepped_by, effect, gives_in, write}
+use Rattle.dr_session.specs.Reactions.{can_be_named, aborted, aborts_desk, abort_pdu, desk_failed, due, event_of, gives, is_idle, is_free, is_requestor, job, left, quiet, settling, stepped_by, effect, gives_in, write}
 use Rattle.dr_session.specs.Turns.{Turns}
 use Rattle.dr_tie.specs.Desks.{Desk, LedgerStep}
 use Rattle.dr_tie.specs.Channels.{IsOff, bytes_of, Channel, Carries, ShowsLink, ToCaller, ToReceiver, IsAt, IsCaller, IsReceiver, site_of}
@@ -271,7 +271,7 @@ module _ (plan : Network) (certificate : Certificate) (w : World) (number : ℕ)
   pushed r =
       let side : is_requestor k.caller.core ≡ true = ap (λ (o : Option Standing). option_map_or (λ (b : Standing). b.requestor) o false) at.1 ∙ at.2 in
       let idle : is_idle k.caller.core ≡ true = ap (λ (o : Option Pending). is_requestor k.caller.core && not (is_some o)) at_open.1 ∙ ap (λ (b : Bool). b && true) side in
-      let ready : is_ready k.caller.core ≡ true = ap (λ (b : Bool). b && may_send k.caller.core.phase) idle ∙ at_open.4 in
+      let ready : is_free k.caller.core ≡ true = ap (λ (b : Bool). b && may_send k.caller.core.phase) idle ∙ at_open.4 in
       let event : event_of (Plain PushAsked) moment k.caller.core ≡ Some DataRequest = ap (λ (b : Bool). if b then Some DataRequest else None) ready in
       let a = acts_by cstep moment k.caller.core (Plain PushAsked) DataRequest true Sta6 Dt1 Sta6 s t x at event refl refl (plain_turn cstep moment k.caller.core PushAsked s t x refl r) in
       by_next a.0 a.1 a.2 a.3

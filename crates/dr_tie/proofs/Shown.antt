@@ -30,7 +30,7 @@ use Rattle.dr_session.specs.declared.ends.Input.TheVariants.{Ended, Late as Late
 use Rattle.dr_session.specs.declared.ends.Moment.{Moment}
 use Rattle.dr_session.specs.declared.ends.Pending.{Pending}
 use Rattle.dr_session.specs.Plays.{Reacts, PlaysBytes, at_moment}
-use Rattle.dr_session.specs.Reactions.{effect, is_idle, is_ready, is_requestor}
+use Rattle.dr_session.specs.Reactions.{effect, is_idle, is_free, is_requestor}
 use Rattle.dr_tie.specs.Desks.{Desk, LedgerStep}
 use Rattle.dr_tie.specs.Channels.{Terminal, Channel, ShowsLink, IsCaller, IsReceiver, IsAt, IsOff, site_of}
 use Rattle.dr_tie.specs.Ties.{IsData, IsDeskOf, Happens, caller_did, receiver_did, caller_read, receiver_read, is_late}
@@ -261,10 +261,10 @@ module _ (plan : Network) (certificate : Certificate) where
 
     -- ---- a push
 
-    asking_sends_none : (receiver : Text) → Rattle.dr_tie.specs.Channels.IsAsking k.caller.core receiver → is_ready k.caller.core ≡ true → ⊥
+    asking_sends_none : (receiver : Text) → Rattle.dr_tie.specs.Channels.IsAsking k.caller.core receiver → is_free k.caller.core ≡ true → ⊥
     asking_sends_none receiver asking ready = false≢true (sym asking.6 ∙ (and_parts (is_idle k.caller.core) (may_send k.caller.core.phase) ready).1)
 
-    pub caller_pushed : is_ready k.caller.core ≡ true → (at : Moment) → at.now ≡ w.time → (x : Effect) (t : Desk)
+    pub caller_pushed : is_free k.caller.core ≡ true → (at : Moment) → at.now ≡ w.time → (x : Effect) (t : Desk)
         → Reacts (LedgerStep plan link.caller) k.caller.core (at_moment at PushAsked) (b.desks link.caller) x t → ∥ CallerOutcome (Push number) t (caller_did k x) ∥₁
     caller_pushed ready at time x t r = elim (cases_Bool link.caller_connected) [
       | inl on ↦ by_stage on link.stage refl (con on)
@@ -353,7 +353,7 @@ module _ (plan : Network) (certificate : Certificate) where
     moved Requestor n note new h = reads_if (Move number Requestor n) (is_over k.caller.core) note new (CallerReads k.to_caller plan b number k n note new) (λ m. caller_reads n note new k.to_caller refl m) h
     moved Acceptor n note new h = reads_if (Move number Acceptor n) (is_over k.receiver.core) note new (ReceiverReads k.to_receiver plan b number k n note new) (λ m. receiver_reads n note new k.to_receiver refl m) h
 
-    pub pushed : (note : StepNote) (new : ByteWorld) (ready : Bool) → is_ready k.caller.core ≡ ready → PushesIf ready plan b number k note new → ∥ Result_of b (Push number) note w new ∥₁
+    pub pushed : (note : StepNote) (new : ByteWorld) (ready : Bool) → is_free k.caller.core ≡ ready → PushesIf ready plan b number k note new → ∥ Result_of b (Push number) note w new ∥₁
     pushed note new false e h = ∣ skips (Push number) b new w note s h ∣₁
     pushed note new true ready (at, x, t, m, noted, r, is) = caller_met (Push number) note PushAsked new (λ at time x t r. caller_pushed ready at time x t r) (at, x, t, m, r, is)
 

@@ -24,7 +24,7 @@ use Rattle.dr_model.specs.Steps.{IsLink, IsHop, asked, new_link, passed}
 use Rattle.dr_model.specs.Events.{Event, Step, Take, Ask}
 use Rattle.dr_model.specs.Events as event
 use Rattle.dr_model.specs.Theorem.{Lasts}
-use Rattle.dr_session.specs.Reactions.{is_ready}
+use Rattle.dr_session.specs.Reactions.{is_free}
 use Rattle.dr_session.specs.Ledgers.{desk}
 use Rattle.dr_tie.specs.Desks.{Desk, LedgerStep}
 use Rattle.dr_tie.specs.Channels.{Channel, ShowsLink}
@@ -117,7 +117,7 @@ module _ (plan : Network) (certificate : Certificate) (certified : IsCertified p
           (subst (λ (o : Option Link). ShowsAt plan certificate (map_of.get b.links other) o) (sym (get_other numbers w.links (w.opened + 1) (new_link from to) other apart)) (s.links other))
 
   pub each : (step : WorldStep) → Steps plan certificate b step note new → Res step
-  each (Push link) h = at_link (Push link) link _ (λ k l has here shows d. pushed plan certificate certified b w s link l k has here shows note new (is_ready k.caller.core) refl d) (map_of.get b.links link) refl h
+  each (Push link) h = at_link (Push link) link _ (λ k l has here shows d. pushed plan certificate certified b w s link l k has here shows note new (is_free k.caller.core) refl d) (map_of.get b.links link) refl h
   each (Move link side n) h = at_link (Move link side n) link _ (λ k l has here shows d. moved plan certificate certified b w s link l k has here shows side n note new d) (map_of.get b.links link) refl h
   each (Abort link side) h = at_link (Abort link side) link _ (λ k l has here shows d. aborted plan certificate certified b w s link l k has here shows side note new d) (map_of.get b.links link) refl h
   each (Release link) h = at_link (Release link) link _ (λ k l has here shows d. released plan certificate certified b w s link l k has here shows note new d) (map_of.get b.links link) refl h

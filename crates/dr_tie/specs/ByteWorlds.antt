@@ -33,7 +33,7 @@ use Rattle.dr_session.specs.Desks.{Arrive, Arrival}
 use Rattle.dr_session.specs.Ends.{accepting, requesting, is_gone}
 use Rattle.dr_session.specs.Ledgers.{desk}
 use Rattle.dr_session.specs.Plays.{Reacts, PlaysBytes, at_moment}
-use Rattle.dr_session.specs.Reactions.{is_idle, is_ready}
+use Rattle.dr_session.specs.Reactions.{is_idle, is_free}
 use Rattle.dr_model.specs.Worlds.{same_text}
 use Rattle.dr_model.specs.Calls.{Reply, Answer}
 use Rattle.dr_model.specs.Events.{HasNode}
@@ -262,7 +262,7 @@ abbrev pub Steps : Network → Certificate → ByteWorld → WorldStep → StepN
 Steps plan certificate b (Submit node item) note new = NodeStep plan node b note new ((reply : Reply) × (t : Desk)
     × LedgerStep plan node (b.desks node) (Arrive local item) (Arrival reply) t × (note ≡ note_of reply) × (new ≡ with_call b node t))
 Steps plan certificate b (Open from to) note new = ((note ≡ Done) × Opens plan certificate b from to new) ⊎ (HasNoHop plan certificate from to × Skips b note new)
-Steps plan certificate b (Push link) note new = LinkStep (map.get b.links link) b note new (λ k. PushesIf (is_ready k.caller.core) plan b link k note new)
+Steps plan certificate b (Push link) note new = LinkStep (map.get b.links link) b note new (λ k. PushesIf (is_free k.caller.core) plan b link k note new)
 Steps plan certificate b (Move link reader n) note new = LinkStep (map.get b.links link) b note new (λ k. Moves plan b link k reader n note new)
 Steps plan certificate b (Abort link side) note new = LinkStep (map.get b.links link) b note new (λ k. DoesIf (has_cell AbortRequest (core_at k side)) b note new (Meets plan b link k side AbortAsked new))
 Steps plan certificate b (Release link) note new =
