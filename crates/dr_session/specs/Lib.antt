@@ -1,9 +1,14 @@
 pub mod Desks
 pub mod Ends
+pub mod Figures
+pub mod Laws
 pub mod Ledgers
 pub mod Fits
 pub mod Messages
 pub mod Plays
 pub mod Reactions
+pub mod Statuses
 pub mod Telling
 pub mod Turns
+pub mod Waits
+pub mod Links

@@ -1,5 +1,11 @@
 //! The messages that an end is hearing.
-use dr_dimse::Assembly;
+ghost use Rattle.std.specs.Prelude.{◌≡◌, IfOk, IfSome};
+ghost use Rattle.dr_dimse.specs.Taking.{Idle, Takes};
+ghost use Rattle.dr_dimse.specs.Written.{Fits};
+
+use dr_dimse::{Assembly, Awaited, DimseFault, Message};
+use dr_pdu::Pdv;
+use std::alloc::Global;
 use std::marker::Model;
 
 /// An assembly in which the command whose data set is under way is one that was read, so that it can be answered.
@@ -18,4 +24,31 @@ impl Model for Listener {
     ghost view = { λ l. l.assembly };
 
     ghost invariant = { λ l. StageFits l.assembly.stage };
+}
+
+impl Listener {
+    /// Nothing is under way; it takes no memory.
+    pub fn new(alloc: Global, awaited: Awaited) -> Listener
+        ensures { result ≡ record { awaited = awaited; stage = Idle } }
+    {
+        Listener {
+            assembly: Assembly::new(alloc, awaited),
+        }
+    }
+
+    /// Other commands are awaited from now on.
+    pub fn await_other(&mut self, awaited: Awaited)
+        ensures { self.new ≡ record { awaited = awaited; stage = self.old.stage } }
+    {
+        self.assembly.set_awaited(awaited);
+    }
+
+    /// One more value, as the assembly takes it. The command of a message that it ends can be written.
+    pub fn take(&mut self, pdv: Pdv) -> Result<Option<Message>, DimseFault>
+        ensures awaited { self.new.awaited ≡ self.old.awaited }
+        ensures takes { Takes self.old.awaited self.old.stage pdv result self.new.stage }
+        ensures fits { IfOk result (λ ended. IfSome ended (λ m. Fits m.command)) }
+    {
+        self.assembly.take(pdv)
+    }
 }

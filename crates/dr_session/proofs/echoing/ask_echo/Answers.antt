@@ -1,0 +1,48 @@
+use Rattle.std.proofs.Common.{◌≡◌, ℕ, List, [], ◌∷◌, Option, Some, None, false, refl, sym, subst, ap, ◌∙◌}
+use Rattle.dr_base.specs.Texts.{Text}
+use Rattle.dr_base.specs.Syntaxes.{syntax_uid}
+use Rattle.dr_base.specs.declared.syntax.Syntax.TheVariants.{Implicit}
+use Rattle.dr_dimse.specs.declared.command.Command.TheVariants.{EchoRq}
+use Rattle.dr_nego.specs.declared.agreed.Agreed.{Agreed}
+use Rattle.dr_nego.specs.Agreeing.{context_for}
+use Rattle.dr_nego.specs.Answering.{verification}
+use Rattle.dr_session.specs.declared.ends.Core.{Core}
+use Rattle.dr_session.specs.declared.ends.Effect.{Effect}
+use Rattle.dr_session.specs.declared.ends.LinkAction.{LinkAction}
+use Rattle.dr_session.specs.Ends.{echoes_by, echoes_in}
+use Rattle.dr_session.specs.Messages.{command_pdus}
+use Rattle.dr_session.specs.Reactions.{effect, write, awaiting, pending, id_after}
+use Rattle.dr_session.proofs.echoing.ask_echo.Goals as goal
+
+pub returns-in_default : goal.returns-in_default
+returns-in_default c =
+    let P : Option Agreed → Type 0 = λ o. c.quiet.result ≡ echoes_by o c.args.now c.args.core in
+    subst P (sym c.in_default.is) c.quiet.ensures
+
+pub returns-in_default-context_for : goal.returns-in_default-context_for
+returns-in_default-context_for c =
+    let none : context_for c.in-Some.agreed verification (syntax_uid Implicit) ≡ None =
+    ap (λ (t : Text). context_for c.in-Some.agreed t (syntax_uid Implicit)) (sym c.in_ok-class.ensures) ∙ (sym c.context_for.ensures ∙ c.in_default-context_for.is) in
+    let P : Option Agreed → Type 0 = λ o. c.quiet-in_default-context_for.result ≡ echoes_by o c.args.now c.args.core in
+    let Q : Option ℕ → Type 0 = λ o. c.quiet-in_default-context_for.result ≡ echoes_in o c.in-Some.agreed c.args.now c.args.core in
+    subst P (sym c.in-Some.is) (subst Q (sym none) c.quiet-in_default-context_for.ensures)
+
+pub write_echo-requires : goal.write_echo-requires
+write_echo-requires c = c.in_ok-class.ensures
+
+pub returns : goal.returns
+returns c =
+    let some : context_for c.in-Some.agreed verification (syntax_uid Implicit) ≡ Some c.in-Some-context_for.context =
+    ap (λ (t : Text). context_for c.in-Some.agreed t (syntax_uid Implicit)) (sym c.in_ok-class.ensures) ∙ (sym c.context_for.ensures ∙ c.in-Some-context_for.is) in
+    let acts : c.in_ok-acts.acts ≡ write (command_pdus c.in-Some.agreed.limit c.in-Some-context_for.context (EchoRq (id_after c.args.core.last) verification false)) ∷ [] =
+    c.in_ok-acts.ensures ∙ ap (λ (a : LinkAction). a ∷ [])
+    (c.in_ok-action.ensures ∙ ap (λ (i : ℕ). write (command_pdus c.in-Some.agreed.limit c.in-Some-context_for.context (EchoRq i verification false))) c.next_id-id.ensures) in
+    let core : c.await_response-core.result ≡ awaiting (pending (id_after c.args.core.last) []) c.args.now c.args.core =
+    c.await_response-core.ensures ∙ (ap (λ (i : ℕ). awaiting (pending i c.empty.result) c.args.now c.args.core) c.next_id-id.ensures
+    ∙ ap (λ (t : Text). awaiting (pending (id_after c.args.core.last) t) c.args.now c.args.core) c.empty.ensures) in
+    let done : Effect = effect c.in_ok-acts.acts c.await_response-core.result in
+    let P : Option Agreed → Type 0 = λ o. done ≡ echoes_by o c.args.now c.args.core in
+    let Q : Option ℕ → Type 0 = λ o. done ≡ echoes_in o c.in-Some.agreed c.args.now c.args.core in
+    subst P (sym c.in-Some.is) (subst Q (sym some)
+    (ap (λ (l : List LinkAction). effect l c.await_response-core.result) acts
+    ∙ ap (λ (x : Core). effect (write (command_pdus c.in-Some.agreed.limit c.in-Some-context_for.context (EchoRq (id_after c.args.core.last) verification false)) ∷ []) x) core))

@@ -1,0 +1,9 @@
+use Rattle.std.proofs.Common.{◌≡◌, sym, subst, ◌∙◌}
+use Rattle.dr_nego.specs.declared.answering.Answer.{Answer}
+use Rattle.dr_session.proofs.Fitting.{AnswerFits, answer_fits}
+use Rattle.dr_session.proofs.react.acceptor.decide.Goals as goal
+
+pub accept-requires : goal.accept-requires
+accept-requires g c =
+    let P : Answer → Type 0 = λ a. AnswerFits a in
+    subst P (sym c.in_ok-ac.ensures.answer ∙ c.in-Accept.is) (answer_fits c.args.rq c.in-Some.site c.args.at.others c.answer.ensures.site c.requires.fits)

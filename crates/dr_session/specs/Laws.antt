@@ -1,0 +1,111 @@
+-- The laws of an end.
+use Rattle.std.specs.Prelude.{◌≡◌, ℕ, false, List, [], ◌∷◌, ◌++◌, map, ◌↔◌, Some, Result, Ok, ◌⊎◌, Option, None}
+use Rattle.dr_base.specs.Texts.{Text}
+use Rattle.dr_pdu.specs.Feeding.{Feeding}
+use Rattle.dr_dimse.specs.declared.command.Command.TheVariants.{StoreRsp}
+use Rattle.dr_ledger.specs.declared.content.Job.{Job}
+use Rattle.dr_ledger.specs.declared.item.Arrived.{Arrived}
+use Rattle.dr_session.specs.declared.ends.Found.{Found}
+use Rattle.dr_session.specs.declared.ends.Found.TheVariants.{Read}
+use Rattle.dr_session.specs.declared.ends.Core.{Core}
+use Rattle.dr_session.specs.declared.ends.Effect.{Effect}
+use Rattle.dr_session.specs.declared.ends.Pending.{Pending}
+use Rattle.dr_session.specs.Desks.{DeskCall, DeskAnswer, Arrive, Next, Settle, Arrival, Upcoming}
+use Rattle.dr_session.specs.declared.ends.Moment.{Moment}
+use Rattle.std.specs.List.{AllByRecursion}
+use Rattle.dr_pdu.specs.declared.pdu.Pdu.{Pdu}
+use Rattle.dr_nego.specs.Fragments.{spellings}
+use Rattle.dr_session.specs.declared.ends.LinkAction.{LinkAction}
+use Rattle.dr_session.specs.declared.ends.LinkAction.TheVariants.{Write, Close}
+use Rattle.dr_session.specs.declared.ends.Heard.{Heard}
+use Rattle.dr_session.specs.declared.ends.Input.{Input}
+use Rattle.dr_session.specs.declared.ends.Told.{Told}
+use Rattle.std.specs.declared.alloc.AllocError.{AllocError}
+use Rattle.dr_session.specs.Ends.{Terminal, IsOver, Meets, HearsOf, HearsBytes}
+use Rattle.dr_session.specs.Reactions.{Reaction, turn, quiet, says, stores}
+use Rattle.dr_session.specs.Turns.{Ends, Asks, Fails, Turns, Run, Makes}
+use Rattle.dr_session.specs.Plays.{PlaysBytes}
+
+abbrev pub answers : List (DeskCall × DeskAnswer) → List DeskAnswer
+answers made = map (λ x. x.1) made
+
+-- a piece, then another at the same moment, do what the joined bytes do
+abbrev pub Joins : {S : Type 0} → (S → DeskCall → DeskAnswer → S → Type 0) → Type 0
+Joins {S} step = (moment : Moment) (old mid new : Feeding) (c : Core) (x y : Effect) (a b : List ℕ) (s m t : S)
+    → PlaysBytes step moment old c a s mid x m → PlaysBytes step moment mid x.core b m new y t
+    → PlaysBytes step moment old c (a ++ b) s new (record { acts = x.acts ++ y.acts; core = y.core }) t
+
+-- at a port: some calls with their answers lead from s to t, and the turn makes just these
+abbrev pub TellsAll : {S : Type 0} → (S → DeskCall → DeskAnswer → S → Type 0) → Type 0
+TellsAll {S} step = (turn : Reaction) (s t : S) (x : Effect) → Turns step turn s x t ↔ ((made : List (DeskCall × DeskAnswer)) × Run step s made t × Makes turn made x)
+
+-- two ways that a turn may go have the same calls and effect where the answers are the same
+abbrev pub IsByReplies : Type 0
+IsByReplies = (turn : Reaction) (made made' : List (DeskCall × DeskAnswer)) (x x' : Effect)
+    → Makes turn made x → Makes turn made' x' → answers made ≡ answers made' → (made ≡ made') × (x ≡ x')
+
+-- What is written for a C-STORE-RQ: one response, and it is a success (0000H) only where its instance was brought to the port,
+-- which answered New or Again.
+pub record AnswersStore {S : Type 0} (step : S → DeskCall → DeskAnswer → S → Type 0) (c : Core) (context id : ℕ) (class instance : Text) (found : Found) (s : S) (x : Effect) (t : S) : Type 0 where
+  pub status : ℕ
+  pub written : x.acts ≡ says c context (StoreRsp id status class instance false) ∷ []
+  pub brought : status ≡ 0 → (item : Job) × (value : Arrived) × (found ≡ Read item) × step s (Arrive c.peer item) (Arrival (Ok value)) t
+
+-- a C-STORE-RQ is answered so
+abbrev pub SuccessIsOfArrivals : {S : Type 0} → (S → DeskCall → DeskAnswer → S → Type 0) → Type 0
+SuccessIsOfArrivals {S} step = (c : Core) (context : ℕ) (class_of : Text) (id : ℕ) (class instance : Text) (found : Found) (s t : S) (x : Effect)
+    → Turns step (stores c context class_of id class instance found) s x t → AnswersStore step c context id class instance found s x t
+
+-- what is written is the spellings of PDUs, joined
+abbrev pub IsSpelled : LinkAction → Type 0
+IsSpelled (Write bytes) = (pdus : List Pdu) × (bytes ≡ spellings pdus)
+IsSpelled Close = Unit {0}
+
+-- each turn writes PDUs, whatever the port answers
+abbrev pub WritesPdus : {S : Type 0} → (S → DeskCall → DeskAnswer → S → Type 0) → Type 0
+WritesPdus {S} step = (at : Moment) (c : Core) (told : Told) (s t : S) (x : Effect) → Turns step (turn at c told) s x t → AllByRecursion IsSpelled x.acts
+
+-- so does each call of an end: what comes over the link, and what is asked
+abbrev pub GivesPdus : {S : Type 0} → (S → DeskCall → DeskAnswer → S → Type 0) → Type 0
+GivesPdus {S} step = (came : Heard) (at : Moment) (old new : Terminal) (s t : S) (acts : List LinkAction) → HearsOf step came at old s (Ok acts) new t → AllByRecursion IsSpelled acts
+
+abbrev pub AsksPdus : {S : Type 0} → (S → DeskCall → DeskAnswer → S → Type 0) → Type 0
+AsksPdus {S} step = (input : Input) (at : Moment) (old new : Terminal) (s t : S) (acts : List LinkAction) → Meets step at input old s (Ok acts) new t → AllByRecursion IsSpelled acts
+
+-- an end that is over writes nothing and calls nothing, whatever it is told
+abbrev pub RestsWhenOver : Type 0
+RestsWhenOver = (at : Moment) (c : Core) (told : Told) → IsOver (Some c) → turn at c told ≡ quiet c
+
+-- a call of it answers an empty list; the end and the port stay as they were
+abbrev pub IsStill : {S : Type 0} → Terminal → S → Result (List LinkAction) AllocError → Terminal → S → Type 0
+IsStill old s result new t = (result ≡ Ok []) × (new ≡ old) × (t ≡ s)
+
+abbrev pub StaysOver : {S : Type 0} → (S → DeskCall → DeskAnswer → S → Type 0) → Type 0
+StaysOver {S} step = (input : Input) (at : Moment) (old new : Terminal) (s t : S) (result : Result (List LinkAction) AllocError) → IsOver old.core → Meets step at input old s result new t → IsStill old s result new t
+
+abbrev pub HearsNothing : {S : Type 0} → (S → DeskCall → DeskAnswer → S → Type 0) → Type 0
+HearsNothing {S} step = (piece : List ℕ) (at : Moment) (old new : Terminal) (s t : S) (result : Result (List LinkAction) AllocError) → IsOver old.core → HearsBytes step old.core at piece old s result new t → IsStill old s result new t
+
+-- ---- what is settled
+
+-- the answer hands out that instance
+abbrev pub Given : DeskAnswer → Text → Type 0
+Given (Upcoming (Ok (Some item))) uid = uid ≡ item.uid
+Given reply uid = ⊥
+
+abbrev pub Pends : Option Pending → Text → Type 0
+Pends None uid = ⊥
+Pends (Some p) uid = uid ≡ p.uid
+
+-- Whatever the desk answers, each settling is of such an instance or of one that the desk has just handed out, for that peer
+-- and at that moment.
+abbrev pub SettlesOwn : Reaction → Text → ℕ → (Text → Type 0) → Type 0
+SettlesOwn (Ends x) peer now Own = Unit {0}
+SettlesOwn (Asks (Settle uid dest outcome moment) follow) peer now Own = Own uid × (dest ≡ peer) × (moment ≡ now) × ((reply : DeskAnswer) → SettlesOwn (follow reply) peer now Own)
+SettlesOwn (Asks (Next dest moment) follow) peer now Own = (reply : DeskAnswer) → SettlesOwn (follow reply) peer now (λ uid. Own uid ⊎ Given reply uid)
+SettlesOwn (Asks (Arrive caller item) follow) peer now Own = (reply : DeskAnswer) → SettlesOwn (follow reply) peer now (λ uid. Own uid ⊎ Given reply uid)
+SettlesOwn Fails peer now Own = Unit {0}
+
+-- a turn settles what pends, or what it was handed out
+abbrev pub SettlesOwnAlone : Type 0
+SettlesOwnAlone = (at : Moment) (c : Core) (told : Told) → SettlesOwn (turn at c told) c.peer at.now (λ uid. Pends c.pending uid)

@@ -1,0 +1,390 @@
+//! One end of a link, whole.
+ghost use Rattle.std.specs.Prelude.{◌≡◌, ◌∷◌, [], ◌≤◌, ◌^◌, IfOk, Some, None};
+ghost use Rattle.dr_session.specs.Fits.{InputFits};
+ghost use Rattle.dr_network.specs.Formed.{IsName};
+ghost use Rattle.dr_nego.specs.Proposing.{echo_proposal};
+ghost use Rattle.dr_pdu.specs.Written.{Fits};
+ghost use Rattle.dr_pdu.specs.declared.pdu.Pdu.TheVariants as pdus;
+ghost use Rattle.dr_session.specs.Ends.{accepting, requesting, requesting_echo, begins, unmarked as no_marks, OpensTo, Meets, HearsOf, HearsBytes, TakesCore, TakesFree, EchoesIn, is_free_in, is_dry_in, state_in, over_of, ended_by};
+ghost use Rattle.dr_session.specs.Reactions.{write};
+
+use crate::echoing::{ask_echo, is_free};
+use crate::ends::{Core, Effect, Ended, Heard, Input, LinkAction, Marks, Moment, Over};
+use crate::hearing::{hear, react};
+use crate::listening::Listener;
+use crate::port::DeskPort;
+use crate::react::one;
+use crate::writing::write_pdu;
+use dr_base::{Seq, Text};
+use dr_dimse::Awaited;
+use dr_nego::{NegoFault, propose, propose_echo};
+use dr_pdu::{AssociateRq, Feeder, Pdu};
+use dr_site::Site;
+use dr_ulstate::{Assoc, Next, Opening, State};
+use std::alloc::{AllocError, Global};
+use std::marker::Model;
+
+/// One end of a link: it keeps the bytes that end no PDU, and what it agreed on and is about. Calls give what the link's
+/// owner is to do, in order. After want of memory it is over.
+#[derive(Drop)]
+pub struct End {
+    alloc: Global,
+    ear: Feeder,
+    core: Option<Core>,
+}
+
+impl Model for End {
+    ghost use Rattle.dr_session.specs.Ends.{Terminal};
+
+    ghost Value = { Terminal };
+
+    ghost view = { λ e. record { ear = e.ear; core = e.core } };
+}
+
+/// The greatest length, in bytes, of the P-DATA-TF PDUs that the requestor of an echo takes.
+const ECHO_LIMIT: u32 = 16_384;
+
+/// No mark.
+fn unmarked() -> Marks
+    ensures { result ≡ no_marks }
+{
+    Marks {
+        rejection: None,
+        aborted: false,
+        released: false,
+        desk_failed: false,
+    }
+}
+
+impl End {
+    /// The acceptor of a transport connection that was opened at this moment, in milliseconds.
+    pub fn accept(alloc: Global, site: Site, now: u64) -> End
+        ensures { result ≡ begins site.max_pdu (accepting site now) }
+    {
+        let (_, end) = Assoc::<Opening>::indicate(now);
+        let ear = Feeder::new(alloc, site.max_pdu());
+        let core = Core {
+            peer: Text::empty(alloc),
+            phase: Next::Opening(end),
+            proposed: None,
+            agreed: None,
+            assembly: Listener::new(alloc, Awaited::Requests),
+            pending: None,
+            last: 0,
+            awaits: None,
+            dry: false,
+            marks: unmarked(),
+            site: Some(site),
+        };
+        End {
+            alloc,
+            ear,
+            core: Some(core),
+        }
+    }
+
+    /// The requestor of an association for a hop of the site, whose transport connection is open at this moment, in
+    /// milliseconds. Its request goes out at once.
+    ///
+    /// Errors: NoHop where the site has no hop to that node; Memory.
+    pub fn request(
+        alloc: Global,
+        site: Site,
+        dest: &Text,
+        now: u64,
+    ) -> Result<(End, Seq<LinkAction>), NegoFault>
+        ensures { OpensTo site dest.now now result }
+    {
+        let proposal = propose(alloc, &site, dest)?;
+        let (proposal, actions) = write_request(alloc, proposal)?;
+        let ear = Feeder::new(alloc, site.max_pdu());
+        let core = requestor(alloc, Some(site), dest.clone()?, proposal, now);
+        let end = End {
+            alloc,
+            ear,
+            core: Some(core),
+        };
+        Ok((end, actions))
+    }
+
+    /// The requestor of an echo between nodes of those names. It proposes Verification in context 1, in the implicit syntax
+    /// alone, and takes P-DATA-TF PDUs of at most 16,384 bytes.
+    pub fn request_echo(
+        alloc: Global,
+        caller: &Text,
+        called: &Text,
+        now: u64,
+    ) -> Result<(End, Seq<LinkAction>), AllocError>
+        requires caller { IsName caller.now }
+        requires called { IsName called.now }
+        ensures end { IfOk result (λ r. r.0 ≡ requesting_echo caller.now called.now now) }
+        ensures actions { IfOk result (λ r. r.1 ≡ write (pdus.AssociateRq (echo_proposal caller.now called.now) ∷ []) ∷ []) }
+    {
+        let proposal = propose_echo(alloc, caller, called)?;
+        let (proposal, actions) = write_request(alloc, proposal)?;
+        let core = requestor(alloc, None, called.clone()?, proposal, now);
+        let end = End {
+            alloc,
+            ear: Feeder::new(alloc, ECHO_LIMIT),
+            core: Some(core),
+        };
+        Ok((end, actions))
+    }
+
+    /// The state in which it is (PS3.8 9.2.1); it takes no memory.
+    pub fn state(&self) -> State
+        ensures { result ≡ state_in self.now.core }
+    {
+        match &self.core {
+            Some(core) => core.phase.state(),
+            None => State::Sta1,
+        }
+    }
+
+    /// How it is over, if it is; it takes no memory.
+    pub fn over(&self) -> Option<Over>
+        ensures { result ≡ over_of self.now.core }
+    {
+        let Some(core) = &self.core else {
+            return Some(Over::Memory);
+        };
+        if core.phase.state() != State::Sta1 {
+            return None;
+        }
+        if core.marks.desk_failed {
+            return Some(Over::Desk);
+        }
+        Some(Over::Ended(ended(&core.marks)))
+    }
+
+    /// Whether it is a requestor's end that may send: established, with nothing pending. It takes no memory.
+    pub fn is_free(&self) -> bool
+        ensures { result ≡ is_free_in self.now.core }
+    {
+        match &self.core {
+            Some(core) => is_free(core),
+            None => false,
+        }
+    }
+
+    /// Whether a push has found no row due. It takes no memory.
+    pub fn is_dry(&self) -> bool
+        ensures { result ≡ is_dry_in self.now.core }
+    {
+        match &self.core {
+            Some(core) => core.dry,
+            None => false,
+        }
+    }
+
+    /// A C-ECHO-RQ is sent, where it is a requestor's end that may send and has a context of Verification.
+    pub fn echo(&mut self, now: u64) -> Result<Seq<LinkAction>, AllocError>
+        ensures { EchoesIn self.old.core now self.old result self.new }
+    {
+        let Some(core) = self.take_free() else {
+            return Ok(Seq::new(self.alloc));
+        };
+        let effect = ask_echo(self.alloc, core, now)?;
+        let Effect { acts, core } = effect;
+        self.put(core);
+        Ok(acts)
+    }
+
+    /// What comes over the link at a moment (of at most 2^62 milliseconds), while the node has so many other associations
+    /// open.
+    ///
+    /// Errors: AllocError, after which it is over; some of the first calls may have been made.
+    pub fn hear<P: DeskPort>(
+        &mut self,
+        heard: Heard,
+        port: &mut P,
+        at: Moment,
+    ) -> Result<Seq<LinkAction>, AllocError>
+        requires { at.now ≤ 2 ^ 62 }
+        ensures { HearsOf P.step heard at self.old port.old result self.new port.new }
+    {
+        match heard {
+            Heard::Bytes(piece) => self.hear_bytes(piece.as_bytes(), port, at),
+            Heard::End => self.meet(Input::Ended, port, at),
+            Heard::Fault => self.meet(Input::Ended, port, at),
+            Heard::Late => self.meet(Input::Late, port, at),
+            Heard::Memory => {
+                self.lose();
+                Err(AllocError)
+            }
+        }
+    }
+
+    /// The first row that is due is sent, where it is a requestor's end that is established with nothing pending.
+    pub fn push<P: DeskPort>(
+        &mut self,
+        port: &mut P,
+        at: Moment,
+    ) -> Result<Seq<LinkAction>, AllocError>
+        requires { at.now ≤ 2 ^ 62 }
+        ensures { Meets P.step at Input.PushAsked self.old port.old result self.new port.new }
+    {
+        self.meet(Input::PushAsked, port, at)
+    }
+
+    /// The local user aborts.
+    pub fn abort<P: DeskPort>(
+        &mut self,
+        port: &mut P,
+        at: Moment,
+    ) -> Result<Seq<LinkAction>, AllocError>
+        requires { at.now ≤ 2 ^ 62 }
+        ensures { Meets P.step at Input.AbortAsked self.old port.old result self.new port.new }
+    {
+        self.meet(Input::AbortAsked, port, at)
+    }
+
+    /// The release is asked for, where it is a requestor's end that is established with nothing pending.
+    pub fn release<P: DeskPort>(
+        &mut self,
+        port: &mut P,
+        at: Moment,
+    ) -> Result<Seq<LinkAction>, AllocError>
+        requires { at.now ≤ 2 ^ 62 }
+        ensures { Meets P.step at Input.ReleaseAsked self.old port.old result self.new port.new }
+    {
+        self.meet(Input::ReleaseAsked, port, at)
+    }
+
+    /// An input other than bytes.
+    fn meet<P: DeskPort>(
+        &mut self,
+        input: Input,
+        port: &mut P,
+        at: Moment,
+    ) -> Result<Seq<LinkAction>, AllocError>
+        requires now { at.now ≤ 2 ^ 62 }
+        requires fits { InputFits input }
+        ensures { Meets P.step at input self.old port.old result self.new port.new }
+    {
+        let Some(core) = self.take_core() else {
+            return Ok(Seq::new(self.alloc));
+        };
+        let effect = react(self.alloc, input, core, port, at)?;
+        let Effect { acts, core } = effect;
+        self.put(core);
+        Ok(acts)
+    }
+
+    /// A piece of the bytes.
+    fn hear_bytes<P: DeskPort>(
+        &mut self,
+        piece: &[u8],
+        port: &mut P,
+        at: Moment,
+    ) -> Result<Seq<LinkAction>, AllocError>
+        requires { at.now ≤ 2 ^ 62 }
+        ensures { HearsBytes P.step self.old.core at piece.now self.old port.old result self.new port.new }
+    {
+        let Some(core) = self.take_core() else {
+            return Ok(Seq::new(self.alloc));
+        };
+        let effect = hear(self.alloc, &mut self.ear, core, piece, port, at)?;
+        let Effect { acts, core } = effect;
+        self.put(core);
+        Ok(acts)
+    }
+
+    /// Its core, where it may send.
+    fn take_free(&mut self) -> Option<Core>
+        ensures { TakesFree self.old result self.new }
+    {
+        if !self.is_free() {
+            return None;
+        }
+        self.core.take()
+    }
+
+    /// Memory ended.
+    fn lose(&mut self)
+        ensures { self.new ≡ record { ear = self.old.ear; core = None } }
+    {
+        self.core = None;
+    }
+
+    /// Its core again.
+    fn put(&mut self, core: Core)
+        requires { self.old.core ≡ None }
+        ensures { self.new ≡ record { ear = self.old.ear; core = Some core } }
+    {
+        self.core = Some(core);
+    }
+
+    /// Its core, unless it is over.
+    fn take_core(&mut self) -> Option<Core>
+        ensures { TakesCore self.old result self.new }
+    {
+        if self.state() == State::Sta1 {
+            return None;
+        }
+        self.core.take()
+    }
+}
+
+/// A requestor that has sent its request at that moment.
+fn requestor(alloc: Global, site: Option<Site>, peer: Text, proposal: AssociateRq, now: u64) -> Core
+    ensures { result ≡ requesting site peer proposal now }
+{
+    let (_, opening) = Assoc::<Opening>::request(now);
+    let (_, asked) = opening.connected(now);
+    Core {
+        peer,
+        phase: Next::Asked(asked),
+        proposed: Some(proposal),
+        agreed: None,
+        assembly: Listener::new(alloc, Awaited::Nothing),
+        pending: None,
+        last: 0,
+        awaits: Some(now),
+        dry: false,
+        marks: unmarked(),
+        site,
+    }
+}
+
+/// The request that a PDU is.
+fn request_of(pdu: Pdu) -> Result<AssociateRq, AllocError>
+    ensures { IfOk result (λ rq. pdu ≡ pdus.AssociateRq rq) }
+{
+    match pdu {
+        Pdu::AssociateRq(proposal) => Ok(proposal),
+        _other => Err(AllocError),
+    }
+}
+
+/// A request, and what writes it.
+fn write_request(
+    alloc: Global,
+    proposal: AssociateRq,
+) -> Result<(AssociateRq, Seq<LinkAction>), AllocError>
+    requires { Fits (pdus.AssociateRq proposal) }
+    ensures same { IfOk result (λ r. r.0 ≡ proposal) }
+    ensures actions { IfOk result (λ r. r.1 ≡ write (pdus.AssociateRq proposal ∷ []) ∷ []) }
+{
+    let pdu = Pdu::AssociateRq(proposal);
+    let action = write_pdu(alloc, &pdu)?;
+    let actions = one(alloc, action)?;
+    let proposal = request_of(pdu)?;
+    Ok((proposal, actions))
+}
+
+/// How the association ended, by what was written and read.
+fn ended(marks: &Marks) -> Ended
+    ensures { result ≡ ended_by marks.now }
+{
+    if let Some(rejection) = marks.rejection {
+        return Ended::Rejected(rejection);
+    }
+    if marks.aborted {
+        return Ended::Aborted;
+    }
+    if marks.released {
+        return Ended::Released;
+    }
+    Ended::Closed
+}

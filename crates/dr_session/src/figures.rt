@@ -1,0 +1,3 @@
+//! Worked figures, by computation.
+pub mod statuses;
+pub mod table;

@@ -1,0 +1,9 @@
+//! What an end does at an event: one function a reaction.
+mod acceptor;
+mod leaving;
+mod requestor;
+mod turning;
+
+pub use leaving::{one, quiet};
+pub use requestor::{await_response, next_id};
+pub use turning::take_turn;

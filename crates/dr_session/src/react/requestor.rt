@@ -1,0 +1,285 @@
+//! What a requestor does: what it concludes from an answer, what it sends, and the responses that it hears.
+ghost use Rattle.std.specs.Prelude.{◌≡◌, ◌∷◌, [], ◌≤◌, ◌^◌, IfOk, OnErr, Option, Some, None, Ok, Err, true};
+ghost use Rattle.std.specs.List.{list_all};
+ghost use Rattle.dr_base.specs.Syntaxes.{syntax_uid};
+ghost use Rattle.dr_nego.specs.Agreeing.{context_for};
+ghost use Rattle.dr_nego.specs.declared.fault.NegoFault.TheVariants as negofault;
+ghost use Rattle.dr_session.specs.declared.ends.LinkAction.TheVariants.{Close};
+ghost use Rattle.dr_session.specs.Reactions.{agrees, refuses, settles_refused, replied, effect, gives, gives_in, hands, can_be_named, is_uid, is_graphic, id_after, due, pushes, gives_nothing, write, store_pdus, awaiting, pending, settled_with, desk_failed, dried};
+ghost use Rattle.dr_session.specs.Turns.{Turns, Broke, Ends};
+
+use crate::ends::{Core, Effect, LinkAction, Moment, Pending};
+use crate::port::DeskPort;
+use crate::react::leaving::{abort, abort_desk, fail_desk, one, quiet};
+use crate::writing::write_store;
+use dr_base::Text;
+use dr_dimse::Awaited;
+use dr_ledger::{Job, LedgerFault, Outcome};
+use dr_nego::{Agreed, NegoFault};
+use std::alloc::{AllocError, Global};
+
+/// What an acceptance agrees on, or why it doesn't: then the end aborts.
+pub fn agree<P: DeskPort>(
+    alloc: Global,
+    answer: Result<Agreed, NegoFault>,
+    core: Core,
+    port: &mut P,
+    at: Moment,
+) -> Result<Effect, AllocError>
+    requires { at.now ≤ 2 ^ 62 }
+    ensures done { IfOk result (λ e. Turns P.step (agrees answer at core) port.old e port.new) }
+    ensures broke { OnErr result (Broke P.step (agrees answer at core) port.old port.new) }
+{
+    match answer {
+        Ok(agreed) => {
+            let core = Core {
+                agreed: Some(agreed),
+                awaits: None,
+                ..core
+            };
+            Ok(quiet(alloc, core))
+        }
+        Err(NegoFault::Memory) => Err(AllocError),
+        Err(NegoFault::StrangeId) => abort(alloc, core, port, at),
+        Err(NegoFault::StrangeSyntax) => abort(alloc, core, port, at),
+        Err(NegoFault::LimitTooSmall) => abort(alloc, core, port, at),
+        Err(NegoFault::NoHop) => abort(alloc, core, port, at),
+    }
+}
+
+/// The association was rejected: the first row that is due is settled as broken.
+pub fn refuse<P: DeskPort>(
+    alloc: Global,
+    core: Core,
+    port: &mut P,
+    at: Moment,
+) -> Result<Effect, AllocError>
+    requires { at.now ≤ 2 ^ 62 }
+    ensures done { IfOk result (λ e. Turns P.step (refuses at core) port.old e port.new) }
+    ensures broke { OnErr result (Broke P.step (refuses at core) port.old port.new) }
+{
+    match port.next(&core.peer, at.now) {
+        Ok(Some(job)) => settle_refused(alloc, job.uid, core, port, at),
+        Ok(None) => close(alloc, core),
+        Err(LedgerFault::Memory) => Err(AllocError),
+        Err(_) => close(alloc, fail_desk(core)),
+    }
+}
+
+/// The transport connection is closed.
+pub fn close(alloc: Global, core: Core) -> Result<Effect, AllocError>
+    ensures { IfOk result (λ e. e ≡ effect (Close ∷ []) core) }
+{
+    let acts = one(alloc, LinkAction::Close)?;
+    Ok(Effect { acts, core })
+}
+
+/// A row whose association was rejected.
+fn settle_refused<P: DeskPort>(
+    alloc: Global,
+    uid: Text,
+    core: Core,
+    port: &mut P,
+    at: Moment,
+) -> Result<Effect, AllocError>
+    requires { at.now ≤ 2 ^ 62 }
+    ensures done { IfOk result (λ e. Turns P.step (settles_refused at uid core) port.old e port.new) }
+    ensures broke { OnErr result (Broke P.step (settles_refused at uid core) port.old port.new) }
+{
+    match port.settle(&uid, &core.peer, Outcome::Broken, at.now) {
+        Ok(()) | Err(LedgerFault::NotWaiting) => close(alloc, core),
+        Err(LedgerFault::Memory) => Err(AllocError),
+        Err(_) => close(alloc, fail_desk(core)),
+    }
+}
+
+/// A response: where a store awaits it, its row is settled by its status; else the end aborts.
+pub fn hear_response<P: DeskPort>(
+    alloc: Global,
+    status: Option<u16>,
+    core: Core,
+    port: &mut P,
+    at: Moment,
+) -> Result<Effect, AllocError>
+    requires { at.now ≤ 2 ^ 62 }
+    ensures done { IfOk result (λ e. Turns P.step (replied core.pending status at core) port.old e port.new) }
+    ensures broke { OnErr result (Broke P.step (replied core.pending status at core) port.old port.new) }
+{
+    let Some(status) = status else {
+        return abort(alloc, core, port, at);
+    };
+    let Some(pending) = &core.pending else {
+        return abort(alloc, core, port, at);
+    };
+    match port.settle(&pending.uid, &core.peer, Outcome::Status(status), at.now) {
+        Ok(()) | Err(LedgerFault::NotWaiting) => Ok(quiet(alloc, settle_core(core))),
+        Err(LedgerFault::Memory) => Err(AllocError),
+        Err(_) => abort_desk(alloc, core, at),
+    }
+}
+
+/// Nothing is pending, and nothing is awaited.
+fn settle_core(core: Core) -> Core
+    ensures { result ≡ settled_with core }
+{
+    let mut assembly = core.assembly;
+    assembly.await_other(Awaited::Nothing);
+    Core {
+        pending: None,
+        awaits: None,
+        assembly,
+        ..core
+    }
+}
+
+/// The message id after this one: from 1 to 65,535, and then from 1 again.
+pub fn next_id(last: u16) -> u16
+    ensures { result ≡ id_after last }
+{
+    if last == 65535 { 1 } else { last + 1 }
+}
+
+/// A store is under way, and its response is awaited.
+pub fn await_response(core: Core, id: u16, uid: Text, now: u64) -> Core
+    ensures { result ≡ awaiting (pending id uid) now core }
+{
+    let mut assembly = core.assembly;
+    assembly.await_other(Awaited::AnswerTo(id));
+    Core {
+        pending: Some(Pending { id, uid }),
+        last: id,
+        awaits: Some(now),
+        assembly,
+        ..core
+    }
+}
+
+/// The first row that is due is sent.
+pub fn push<P: DeskPort>(
+    alloc: Global,
+    core: Core,
+    port: &mut P,
+    at: Moment,
+) -> Result<Effect, AllocError>
+    requires { at.now ≤ 2 ^ 62 }
+    ensures done { IfOk result (λ e. Turns P.step (pushes at core) port.old e port.new) }
+    ensures broke { OnErr result (Broke P.step (pushes at core) port.old port.new) }
+{
+    match port.next(&core.peer, at.now) {
+        Ok(Some(job)) => {
+            let done = hand(alloc, job, core, port, at)?;
+            Ok(done)
+        }
+        Ok(None) => Ok(quiet(alloc, run_dry(core))),
+        Err(LedgerFault::Memory) => Err(AllocError),
+        Err(_) => abort_desk(alloc, core, at),
+    }
+}
+
+/// No row is due.
+fn run_dry(core: Core) -> Core
+    ensures { result ≡ dried core }
+{
+    Core { dry: true, ..core }
+}
+
+/// Whether a text is a UID: 1 to 64 bytes from 21H to 7EH.
+fn is_uid(uid: &Text) -> bool
+    ensures { result ≡ is_uid uid.now }
+{
+    let bytes = uid.as_bytes();
+    1 <= bytes.len() && bytes.len() <= 64 && are_graphic(bytes)
+}
+
+/// Whether all bytes are from 21H to 7EH.
+fn are_graphic(bytes: &[u8]) -> bool
+    ensures { result ≡ list_all is_graphic bytes.now }
+{
+    bytes.iter().all(|byte| is_graphic(*byte))
+}
+
+/// Whether a byte is from 21H to 7EH.
+fn is_graphic(byte: u8) -> bool
+    ensures { result ≡ is_graphic byte }
+{
+    0x21 <= byte && byte <= 0x7E
+}
+
+/// Whether a C-STORE-RQ can name the instance and its class.
+fn can_be_named(job: &Job) -> bool
+    ensures { result ≡ can_be_named job.now }
+{
+    is_uid(&job.key.class) && is_uid(&job.uid)
+}
+
+/// What the desk handed out goes over; a desk that hands out what can't be named has failed.
+fn hand<P: DeskPort>(
+    alloc: Global,
+    job: Job,
+    core: Core,
+    port: &mut P,
+    at: Moment,
+) -> Result<Effect, AllocError>
+    requires { at.now ≤ 2 ^ 62 }
+    ensures done { IfOk result (λ e. Turns P.step (hands at core job) port.old e port.new) }
+    ensures broke { OnErr result (Broke P.step (hands at core job) port.old port.new) }
+{
+    if can_be_named(&job) {
+        let done = give(alloc, job, core, port, at)?;
+        return Ok(done);
+    }
+    abort_desk(alloc, core, at)
+}
+
+/// An instance goes over in a context of its class and transfer syntax; where there is none the row is settled so.
+fn give<P: DeskPort>(
+    alloc: Global,
+    job: Job,
+    core: Core,
+    port: &mut P,
+    at: Moment,
+) -> Result<Effect, AllocError>
+    requires now { at.now ≤ 2 ^ 62 }
+    requires named { can_be_named job ≡ true }
+    ensures done { IfOk result (λ e. Turns P.step (gives core.agreed at job core) port.old e port.new) }
+    ensures broke { OnErr result (Broke P.step (gives core.agreed at job core) port.old port.new) }
+{
+    let Some(agreed) = &core.agreed else {
+        return Ok(quiet(alloc, core));
+    };
+    match context_of(agreed, &job) {
+        None => settle_without(alloc, job.uid, core, port, at),
+        Some(context) => {
+            let id = next_id(core.last);
+            let acts = one(alloc, write_store(alloc, agreed, context, id, &job)?)?;
+            let core = await_response(core, id, job.uid, at.now);
+            Ok(Effect { acts, core })
+        }
+    }
+}
+
+/// The context in which an instance can go over.
+fn context_of(agreed: &Agreed, job: &Job) -> Option<u8>
+    ensures { result ≡ context_for agreed.now job.now.key.class (syntax_uid job.now.key.syntax) }
+{
+    agreed.context_for(&job.key.class, job.key.syntax)
+}
+
+/// A row without a context.
+fn settle_without<P: DeskPort>(
+    alloc: Global,
+    uid: Text,
+    core: Core,
+    port: &mut P,
+    at: Moment,
+) -> Result<Effect, AllocError>
+    requires { at.now ≤ 2 ^ 62 }
+    ensures done { IfOk result (λ e. Turns P.step (gives_nothing at uid core) port.old e port.new) }
+    ensures broke { OnErr result (Broke P.step (gives_nothing at uid core) port.old port.new) }
+{
+    match port.settle(&uid, &core.peer, Outcome::NoContext, at.now) {
+        Ok(()) | Err(LedgerFault::NotWaiting) => Ok(quiet(alloc, core)),
+        Err(LedgerFault::Memory) => Err(AllocError),
+        Err(_) => abort_desk(alloc, core, at),
+    }
+}

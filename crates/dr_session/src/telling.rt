@@ -1,0 +1,133 @@
+//! What an input comes to, for an end that knows what it agreed on and what is under way.
+ghost use Rattle.std.specs.Prelude.{◌≡◌, IfOk, IsTrue, ◌↔◌};
+ghost use Rattle.dr_dimse.specs.Written.{Fits};
+ghost use Rattle.dr_session.specs.Fits.{InputFits, ToldFits};
+ghost use Rattle.dr_session.specs.Plays.{TellsTo, TellsValueTo};
+ghost use Rattle.dr_session.specs.Telling.{SaysOf, TakesData, state_at};
+ghost use Rattle.dr_ulstate.specs.declared.table.State.TheVariants.{Sta5};
+
+use crate::ends::{Core, Input, Told};
+use crate::find::find;
+use dr_dimse::{Command, DimseFault, Message};
+use dr_nego::{Pair, conclude};
+use dr_pdu::{AssociateAc, Pdv};
+use dr_ulstate::State;
+use std::alloc::{AllocError, Global};
+
+/// What an input comes to, and the end after it: what is under way may have changed.
+pub fn tell(alloc: Global, input: Input, core: Core) -> Result<(Told, Core), AllocError>
+    requires { InputFits input }
+    ensures tells { IfOk result (λ r. TellsTo core input r.0 r.1) }
+    ensures fits { IfOk result (λ r. ToldFits r.0) }
+{
+    match input {
+        Input::Value(pdv) => {
+            if takes_data(core.phase.state()) {
+                return tell_value(alloc, pdv, core);
+            }
+            Ok((Told::Plain(Input::Value(pdv)), core))
+        }
+        Input::Acceptance(ac) => {
+            if awaits_answer(core.phase.state()) {
+                return tell_acceptance(alloc, ac, core);
+            }
+            Ok((Told::Plain(Input::Acceptance(ac)), core))
+        }
+        other => Ok((Told::Plain(other), core)),
+    }
+}
+
+/// Whether the table takes data in this state.
+fn takes_data(state: State) -> bool
+    ensures { IsTrue result ↔ TakesData state }
+{
+    matches!(state, State::Sta6 | State::Sta7)
+}
+
+/// Whether the table takes an A-ASSOCIATE-AC in this state.
+fn awaits_answer(state: State) -> bool
+    ensures { IsTrue result ↔ (state ≡ Sta5) }
+{
+    matches!(state, State::Sta5)
+}
+
+/// A value where data is taken: in an accepted context it goes to the assembly.
+fn tell_value(alloc: Global, pdv: Pdv, core: Core) -> Result<(Told, Core), AllocError>
+    ensures tells { IfOk result (λ r. TellsValueTo core pdv r.0 r.1) }
+    ensures fits { IfOk result (λ r. ToldFits r.0) }
+{
+    let mut core = core;
+    let Some(agreed) = &core.agreed else {
+        return Ok((Told::Strange, core));
+    };
+    let Some(pair) = agreed.context(pdv.id) else {
+        return Ok((Told::Strange, core));
+    };
+    match core.assembly.take(pdv) {
+        Ok(None) => Ok((Told::Quiet, core)),
+        Ok(Some(message)) => {
+            let told = tell_message(alloc, pair, message)?;
+            Ok((told, core))
+        }
+        Err(fault) => match fault {
+            DimseFault::Memory => Err(AllocError),
+            DimseFault::OutOfPlace => Ok((Told::Fault, core)),
+            DimseFault::MixedContext => Ok((Told::Fault, core)),
+            DimseFault::BadCommand => Ok((Told::Fault, core)),
+            DimseFault::TooLong => Ok((Told::Fault, core)),
+        },
+    }
+}
+
+/// A whole message in a context: a store with what its data set was read as, or another command.
+fn tell_message(alloc: Global, pair: &Pair, message: Message) -> Result<Told, AllocError>
+    requires { Fits message.command }
+    ensures tells { IfOk result (λ told. SaysOf pair.now message.id message.body message.command told) }
+    ensures fits { IfOk result ToldFits }
+{
+    let of = pair.class.clone()?;
+    let context = message.id;
+    let command = message.command;
+    let Some(body) = message.body else {
+        return Ok(Told::Whole {
+            context,
+            of,
+            command,
+        });
+    };
+    match command {
+        Command::StoreRq {
+            id,
+            class,
+            instance,
+        } => {
+            let found = find(alloc, &pair.syntax, body)?;
+            Ok(Told::Store {
+                context,
+                of,
+                id,
+                class,
+                instance,
+                found,
+            })
+        }
+        command => Ok(Told::Whole {
+            context,
+            of,
+            command,
+        }),
+    }
+}
+
+/// What an acceptance agrees on.
+fn tell_acceptance(alloc: Global, ac: AssociateAc, core: Core) -> Result<(Told, Core), AllocError>
+    requires { state_at core ≡ Sta5 }
+    ensures tells { IfOk result (λ r. TellsTo core (Input.Acceptance ac) r.0 r.1) }
+    ensures fits { IfOk result (λ r. ToldFits r.0) }
+{
+    let Some(rq) = &core.proposed else {
+        return Ok((Told::Plain(Input::Acceptance(ac)), core));
+    };
+    let answer = conclude(alloc, rq, &ac);
+    Ok((Told::Agreement(answer), core))
+}
