@@ -54,11 +54,12 @@ IsNamed (Tick ms) (event.Tick passed) = passed ≡ ms
 IsNamed (Refuse node) (event.Refuse name) = name ≡ node
 IsNamed step event = ⊥
 
--- the side of the link doesn't read any more
+-- whether the side of the link is connected
 abbrev pub is_on : Side → Link → Bool
 is_on Requestor link = link.caller_connected
 is_on Acceptor link = link.receiver_connected
 
+-- it isn't any more
 abbrev pub IsOffAt : World → ℕ → Side → Type 0
 IsOffAt w number side = (link : Link) × IsLink w number link × (is_on side link ≡ false)
 
