@@ -1,6 +1,8 @@
 -- Texts split at the first mark, and into parts.
 use Rattle.std.proofs.Common.{◌≡◌, ◌≢◌, ℕ, ◌+◌, ◌<◌, ◌==◌, Bool, true, false, List, [], ◌∷◌, ◌++◌, length, map, take, drop, get_or, refl, sym, ap, ◌∙◌, arith, Some, None, Option}
 use Rattle.std.proofs.lemmas.List.{map_push}
+use Rattle.std.proofs.Math.Seq.{append_snoc}
+use Rattle.std.proofs.Common.{append_assoc}
 use Rattle.std.specs.Borrow.{Bor}
 use Rattle.dr_cert_text.specs.Cuts.{Lacks, SplitsAt, cuts}
 use Rattle.dr_cert_text.proofs.Cuts.{cuts-at, cuts-last}
@@ -12,7 +14,8 @@ pub one_more : (mark : ℕ) (text : List ℕ) (parts : List (Bor (List ℕ))) (r
 one_more mark text parts rest part behind so_far split =
     let here : cuts mark rest ≡ part.now ∷ cuts mark behind = ap (cuts mark) split.0 ∙ cuts-at mark part.now behind split.1 in
     let pushed = map_push (λ (p : Bor (List ℕ)). p.now) parts part in
-    rw (pushed) (append_snoc (map (λ (p : Bor (List ℕ)). p.now) parts) part.now (cuts mark behind)) ∙ ap (λ t. map (λ (p : Bor (List ℕ)). p.now) parts ++ t) (sym here) ∙ so_far
+    let before = map (λ (p : Bor (List ℕ)). p.now) parts in
+    ap (λ t. t ++ cuts mark behind) pushed ∙ append_assoc before (part.now ∷ []) (cuts mark behind) ∙ ap (λ t. before ++ t) (sym here) ∙ so_far
 
 -- what is left is the last part
 pub last_one : (mark : ℕ) (text : List ℕ) (parts : List (Bor (List ℕ))) (rest : Bor (List ℕ)) →

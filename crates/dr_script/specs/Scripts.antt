@@ -125,3 +125,9 @@ abbrev pub DecodesBody : Text → Result (List ℕ) LineFault → Type 0
 DecodesBody digits (Ok bytes) = decode_of digits ≡ Ok bytes
 DecodesBody digits (Err lines.NoStep) = (bytes : List ℕ) → decode_of digits ≡ Ok bytes → ⊥
 DecodesBody digits (Err lines.Memory) = Unit {0}
+
+-- what taking a data set as an item answers: the item that it has in the transfer syntax, or that it has none
+abbrev pub TakesItem : Syntax → List ℕ → Result Job LineFault → Type 0
+TakesItem syntax body (Ok item) = IsItem item × (item.key.syntax ≡ syntax) × (item.body ≡ body)
+TakesItem syntax body (Err lines.NoStep) = (item : Job) → IsItem item → item.key.syntax ≡ syntax → item.body ≡ body → ⊥
+TakesItem syntax body (Err lines.Memory) = Unit {0}

@@ -1,14 +1,14 @@
 //! What stands behind a word.
-ghost use Rattle.std.specs.Prelude.{◌≡◌, ℕ, map, MatchOption};
+ghost use Rattle.std.specs.Prelude.{◌≡◌, ◌∷◌, [], ℕ, map, MatchOption};
 ghost use Rattle.dr_base.specs.Texts.{Text as TextValue};
-ghost use Rattle.dr_script.specs.Scripts.{AreNumber, AreEnd, ReadsFields, ReadsLine};
+ghost use Rattle.dr_script.specs.Scripts.{AreNumber, AreEnd, ReadsFields, ReadsLine, TakesItem};
 ghost use Rattle.dr_script.specs.declared.step.Side.{Side as SideValue};
 ghost use Rattle.dr_script.specs.declared.step.Word.TheVariants as words;
 
 use crate::fault::LineFault;
 use crate::fields::{parts_of, read_bytes, read_number, read_side, read_syntax, read_word};
 use crate::step::{Side, Step, Word};
-use dr_base::Text;
+use dr_base::{Octets, Syntax, Text};
 use dr_ledger::{Item, ItemFault};
 use std::alloc::Global;
 
@@ -165,6 +165,21 @@ fn read_requeue(alloc: Global, fields: &[&[u8]]) -> Result<Step, LineFault>
     Ok(Step::Requeue { node, uid, dest })
 }
 
+/// The item of a data set.
+fn item_of(alloc: Global, syntax: Syntax, body: Octets) -> Result<Item, LineFault>
+    ensures { TakesItem syntax body result }
+{
+    match Item::read(alloc, syntax, body) {
+        Ok(item) => Ok(item),
+        Err(fault) => match fault {
+            ItemFault::TooLarge => Err(LineFault::NoStep),
+            ItemFault::Data => Err(LineFault::NoStep),
+            ItemFault::NoUid => Err(LineFault::NoStep),
+            ItemFault::Memory => Err(LineFault::Memory),
+        },
+    }
+}
+
 fn read_submit(alloc: Global, fields: &[&[u8]]) -> Result<Step, LineFault>
     ensures { ReadsFields words.Submit (map (λ f. f.now) fields.now) result }
 {
@@ -178,10 +193,9 @@ fn read_submit(alloc: Global, fields: &[&[u8]]) -> Result<Step, LineFault>
         Ok(body) => body,
         Err(fault) => return Err(fault),
     };
-    let item = match Item::read(alloc, syntax, body) {
+    let item = match item_of(alloc, syntax, body) {
         Ok(item) => item,
-        Err(ItemFault::Memory) => return Err(LineFault::Memory),
-        Err(_) => return Err(LineFault::NoStep),
+        Err(fault) => return Err(fault),
     };
     let node = Text::copy_of(alloc, first)?;
     Ok(Step::Submit { node, item })

@@ -33,7 +33,8 @@ fn put_cause(out: &mut Vec<u8>, cause: Cause) -> Result<(), AllocError>
     match cause {
         Cause::Status(status) => {
             let bytes = status.to_be_bytes();
-            let digits = hex::encode_upper(out.allocator(), bytes.as_slice())?;
+            let alloc = *out.allocator();
+            let digits = hex::encode_upper(alloc, bytes.as_slice())?;
             put_field(out, digits.as_bytes())
         }
         Cause::NoContext => put_field(out, b"no-context"),
@@ -58,28 +59,61 @@ fn put_progress(out: &mut Vec<u8>, progress: Progress) -> Result<(), AllocError>
     }
 }
 
+/// Adds the line of an arrival.
+fn put_arrival(out: &mut Vec<u8>, caller: &Text, uid: &Text) -> Result<(), AllocError>
+    ensures { OnOk result (out.new.items ≡ out.old.items ++ arrival_line (caller.now, uid.now)) }
+{
+    out.extend_from_slice(b"arrival")?;
+    put_field(out, caller.as_bytes())?;
+    put_field(out, uid.as_bytes())?;
+    out.push(LF)?;
+    Ok(())
+}
+
+/// Adds the line of a kept instance.
+fn put_kept(out: &mut Vec<u8>, uid: &Text, bytes: u64) -> Result<(), AllocError>
+    ensures { OnOk result (out.new.items ≡ out.old.items ++ kept_line (uid.now, bytes)) }
+{
+    out.extend_from_slice(b"kept")?;
+    put_field(out, uid.as_bytes())?;
+    put_number(out, bytes)?;
+    out.push(LF)?;
+    Ok(())
+}
+
+/// Adds the line of a row.
+fn put_row(
+    out: &mut Vec<u8>,
+    uid: &Text,
+    dest: &Text,
+    progress: Progress,
+) -> Result<(), AllocError>
+    ensures { OnOk result (out.new.items ≡ out.old.items ++ row_line ((uid.now, dest.now), progress)) }
+{
+    out.extend_from_slice(b"row")?;
+    put_field(out, uid.as_bytes())?;
+    put_field(out, dest.as_bytes())?;
+    put_progress(out, progress)?;
+    out.push(LF)?;
+    Ok(())
+}
+
 /// Adds a line for each arrival.
 fn put_arrivals(out: &mut Vec<u8>, arrivals: &[(Text, Text)]) -> Result<(), AllocError>
     ensures { OnOk result (out.new.items ≡ out.old.items ++ flat_map arrival_line arrivals.now) }
 {
-    for (caller, uid) in arrivals {
-        out.extend_from_slice(b"arrival")?;
-        put_field(out, caller.as_bytes())?;
-        put_field(out, uid.as_bytes())?;
-        out.push(LF)?;
+    for arrival in arrivals {
+        put_arrival(out, &arrival.0, &arrival.1)?;
     }
     Ok(())
 }
 
 /// Adds a line for each kept instance.
-fn put_kept(out: &mut Vec<u8>, kept: &[(Text, u64)]) -> Result<(), AllocError>
+fn put_all_kept(out: &mut Vec<u8>, kept: &[(Text, u64)]) -> Result<(), AllocError>
     ensures { OnOk result (out.new.items ≡ out.old.items ++ flat_map kept_line kept.now) }
 {
-    for (uid, bytes) in kept {
-        out.extend_from_slice(b"kept")?;
-        put_field(out, uid.as_bytes())?;
-        put_number(out, *bytes)?;
-        out.push(LF)?;
+    for one in kept {
+        put_kept(out, &one.0, one.1)?;
     }
     Ok(())
 }
@@ -88,12 +122,8 @@ fn put_kept(out: &mut Vec<u8>, kept: &[(Text, u64)]) -> Result<(), AllocError>
 fn put_rows(out: &mut Vec<u8>, rows: &[((Text, Text), Progress)]) -> Result<(), AllocError>
     ensures { OnOk result (out.new.items ≡ out.old.items ++ flat_map row_line rows.now) }
 {
-    for ((uid, dest), progress) in rows {
-        out.extend_from_slice(b"row")?;
-        put_field(out, uid.as_bytes())?;
-        put_field(out, dest.as_bytes())?;
-        put_progress(out, *progress)?;
-        out.push(LF)?;
+    for row in rows {
+        put_row(out, &row.0.0, &row.0.1, row.1)?;
     }
     Ok(())
 }
@@ -104,7 +134,8 @@ pub fn put_name(out: &mut Vec<u8>, name: &Text) -> Result<(), AllocError>
 {
     out.extend_from_slice(b"node")?;
     put_field(out, name.as_bytes())?;
-    out.push(LF)
+    out.push(LF)?;
+    Ok(())
 }
 
 /// Adds what a book has, as a ledger lists it: its arrivals (caller, uid), its kept uids with the lengths of their data
@@ -119,9 +150,10 @@ pub fn put_report(
     ensures { OnOk result (out.new.items ≡ out.old.items ++ report_of arrivals.now kept.now rows.now lines) }
 {
     put_arrivals(out, arrivals)?;
-    put_kept(out, kept)?;
+    put_all_kept(out, kept)?;
     put_rows(out, rows)?;
     out.extend_from_slice(b"lines")?;
     put_number(out, lines)?;
-    out.push(LF)
+    out.push(LF)?;
+    Ok(())
 }
