@@ -11,5 +11,5 @@ pub no_item : (syntax : Syntax) (body : List ℕ) (fault : ItemFault) → fault 
     (item : Job) → IsItem item → item.key.syntax ≡ syntax → item.body ≡ body → ⊥
 no_item syntax body fault other refused item is of_syntax of_body =
     let both : ◌≡◌ {A = Result Job ItemFault} (Err fault) (Ok item) =
-        items_are_one syntax body (Err fault) (Ok item) (λ e. other (cc)) (λ e. cc) refused (is, of_syntax, of_body) in
+    items_are_one syntax body (Err fault) (Ok item) (λ e. other (cc)) (λ e. cc) refused (is, of_syntax, of_body) in
     cc

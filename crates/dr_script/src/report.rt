@@ -82,12 +82,7 @@ fn put_kept(out: &mut Vec<u8>, uid: &Text, bytes: u64) -> Result<(), AllocError>
 }
 
 /// Adds the line of a row.
-fn put_row(
-    out: &mut Vec<u8>,
-    uid: &Text,
-    dest: &Text,
-    progress: Progress,
-) -> Result<(), AllocError>
+fn put_row(out: &mut Vec<u8>, uid: &Text, dest: &Text, progress: Progress) -> Result<(), AllocError>
     ensures { OnOk result (out.new.items ≡ out.old.items ++ row_line ((uid.now, dest.now), progress)) }
 {
     out.extend_from_slice(b"row")?;
