@@ -1,0 +1,9 @@
+pub mod Adds
+pub mod Casts
+pub mod Commands
+pub mod Inserted
+pub mod Keeping
+pub mod Keys
+pub mod Maps
+pub mod Sets
+pub mod Updated
