@@ -1,1 +1,4 @@
+pub mod LettingGo
+pub mod Movements
+pub mod Steps
 pub mod Transactions
