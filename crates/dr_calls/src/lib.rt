@@ -2,6 +2,7 @@
 #![tactic(auto)]
 
 mod bodies;
+pub mod laws;
 pub mod moving;
 pub mod writing;
 
