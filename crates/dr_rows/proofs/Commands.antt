@@ -1,10 +1,10 @@
 -- The statements as commands, by computation.
-use Rattle.std.proofs.Common.{◌≡◌, ℕ, List, [], ◌∷◌, refl, None, false, pos, negsuc}
+use Rattle.std.proofs.Common.{codes, ◌≡◌, ℕ, List, [], ◌∷◌, refl, None, false, pos, negsuc}
 use Rattle.sqlite.specs.Collation.TheVariants.{Binary}
 use Rattle.sqlite.specs.Command.{Command}
-use Rattle.sqlite.specs.Command.TheVariants.{Insert, Update, Delete}
+use Rattle.sqlite.specs.Command.TheVariants.{Insert, Select, Update, Delete}
 use Rattle.sqlite.specs.declared.types.Value.TheVariants.{Null, Int}
-use Rattle.sqlite.specs.Listing.{understood}
+use Rattle.sqlite.specs.Listing.{understood, reads_listing}
 use Rattle.sqlite.specs.Query.{Query, inner, end}
 use Rattle.sqlite.specs.Source.TheVariants.{Values}
 use Rattle.sqlite.specs.Term.{Term, lit, col, op2}
@@ -154,3 +154,17 @@ drop_done_shown = col 1 0 ∷ []
 pub drop_done : Is text.drop_done (Delete 5 (record { lets = []; body = over 9 is_done drop_done_shown }))
 unfolding understood everything
 drop_done = (refl, (refl, refl))
+
+-- ---- SELECT
+
+abbrev pub find_row_shown : List Term
+find_row_shown = col 1 3 ∷ col 1 4 ∷ col 1 5 ∷ col 1 6 ∷ []
+
+pub find_row : (command_of (understood tables text.find_row) ≡ Select (record { lets = []; body = over 9 by_key find_row_shown }) (codes "state" ∷ codes "tries" ∷ codes "due" ∷ codes "cause" ∷ []))
+    × (reads_listing tables text.find_row ≡ false)
+unfolding understood everything
+find_row = (refl, refl)
+
+pub find_row_plain : IsPlain (understood tables text.find_row)
+unfolding understood everything
+find_row_plain = (refl, refl)

@@ -6,6 +6,10 @@
 pub mod adding;
 mod cells;
 pub mod changing;
+pub mod finding;
+pub mod listing;
+mod queries;
+pub mod rowids;
 mod running;
 
 pub use adding::{
@@ -13,3 +17,6 @@ pub use adding::{
     add_settled, add_target,
 };
 pub use changing::{set_body, set_row, set_whole};
+pub use finding::{fault_of, find};
+pub use listing::all_rows;
+pub use rowids::test_rowids;
