@@ -1,0 +1,5 @@
+pub mod Bookings
+pub mod LettingGo
+pub mod Movements
+pub mod Steps
+pub mod Transactions

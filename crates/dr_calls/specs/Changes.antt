@@ -1,0 +1,57 @@
+-- What the calls that write make of the tables.
+use Rattle.std.specs.Prelude.{◌≡◌, Bool, cond}
+use Rattle.std.specs.FinMap as map
+use Rattle.sqlite.specs.Order.{Row}
+use Rattle.sqlite.specs.State.{State}
+use Rattle.sqlite.specs.Tree.{Trees, put_row}
+use Rattle.dr_base.specs.Texts.{Text}
+use Rattle.dr_ledger.specs.declared.item.Progress.{Progress}
+use Rattle.dr_ledger.specs.Pairs.{Pair}
+use Rattle.dr_tables.specs.Books.{bodies_of, items_of, rows_of}
+use Rattle.dr_rows.specs.Effects.{GoesOn, HasItem, HasPrint, HasRow}
+
+-- ---- a data set is let go
+
+-- the item and its print are there
+abbrev pub HasBoth : Text → Trees → Type 0
+HasBoth uid db = HasItem uid db × HasPrint uid db
+
+-- the data set of that uid is gone; what is known of the items stays, and so do all other tables
+pub record LetsGo (uid : Text) (old new : Trees) : Type 0 where
+  pub items : items_of new ≡ items_of old
+  pub bodies : bodies_of new ≡ map.remove (bodies_of old) uid
+  pub site : new 0 ≡ old 0
+  pub arrivals : new 5 ≡ old 5
+  pub kept : new 7 ≡ old 7
+  pub queue : new 9 ≡ old 9
+  pub journal : new 11 ≡ old 11
+  pub targets : new 12 ≡ old 12
+
+-- ---- a row moves on: a settling, or a requeuing
+
+-- inside a transaction a row moved on, and the line stands in the journal; all other tables are as they were
+pub record Moved (at : Pair) (to : Progress) (line : Row) (old new : State) : Type 0 where
+  pub goes_on : GoesOn old new
+  pub rows : rows_of new.now.trees ≡ map.insert (rows_of old.now.trees) at to
+  pub journal : new.now.trees 11 ≡ put_row line (old.now.trees 11)
+  pub site : new.now.trees 0 ≡ old.now.trees 0
+  pub items : new.now.trees 1 ≡ old.now.trees 1
+  pub prints : new.now.trees 3 ≡ old.now.trees 3
+  pub arrivals : new.now.trees 5 ≡ old.now.trees 5
+  pub kept : new.now.trees 7 ≡ old.now.trees 7
+  pub targets : new.now.trees 12 ≡ old.now.trees 12
+
+-- The row moves on, the line stands in the journal, and the data set goes if it is to go. All else stays.
+pub record MovesOn (at : Pair) (to : Progress) (line : Row) (lets_go : Bool) (old new : Trees) : Type 0 where
+  pub rows : rows_of new ≡ map.insert (rows_of old) at to
+  pub journal : new 11 ≡ put_row line (old 11)
+  pub items : items_of new ≡ items_of old
+  pub bodies : bodies_of new ≡ cond lets_go (map.remove (bodies_of old) at.0) (bodies_of old)
+  pub site : new 0 ≡ old 0
+  pub arrivals : new 5 ≡ old 5
+  pub kept : new 7 ≡ old 7
+  pub targets : new 12 ≡ old 12
+
+-- what it asks: the row is there, and its item
+abbrev pub AsksForRow : Pair → Trees → Type 0
+AsksForRow at db = HasRow at db × HasBoth at.0 db

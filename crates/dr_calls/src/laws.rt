@@ -1,0 +1,17 @@
+//! What the calls that write make of the book.
+ghost use Rattle.dr_calls.specs.Laws.{RequeuingsRequeue, SettlingsSettle, WhatIsNeededStays};
+
+/// To move a waiting row on with the line of its settling is to settle it.
+pub fn settlings_settle()
+    ensures { SettlingsSettle }
+{}
+
+/// To let a held row wait again with the line of its requeuing is to queue it again.
+pub fn requeuings_requeue()
+    ensures { RequeuingsRequeue }
+{}
+
+/// Where a data set goes just if it is needed no more, those that are there are those that are needed.
+pub fn what_is_needed_stays()
+    ensures { WhatIsNeededStays }
+{}

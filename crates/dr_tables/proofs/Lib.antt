@@ -1,0 +1,2 @@
+pub mod WhatIsWritten
+pub mod Understood
