@@ -1,0 +1,4 @@
+pub mod Apart
+pub mod Figures
+pub mod Journals
+pub mod Recorded

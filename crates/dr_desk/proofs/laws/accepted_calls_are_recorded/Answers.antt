@@ -1,0 +1,11 @@
+use Rattle.dr_desk.proofs.Recorded.{arrivals_are_recorded, requeuings_are_recorded, settlings_are_recorded}
+use Rattle.dr_desk.proofs.laws.accepted_calls_are_recorded.Goals as goal
+
+pub returns-clause-arrive : goal.returns-clause-arrive
+returns-clause-arrive g c = arrivals_are_recorded g.R.Routed.routing
+
+pub returns-clause-settle : goal.returns-clause-settle
+returns-clause-settle g c = settlings_are_recorded
+
+pub returns-clause-requeue : goal.returns-clause-requeue
+returns-clause-requeue g c = requeuings_are_recorded

@@ -1,0 +1,5 @@
+pub mod Agreeing
+pub mod Growing
+pub mod Laws
+pub mod Receipts
+pub mod Sharings

@@ -1,0 +1,243 @@
+//! What lies under the lock of a shared desk.
+ghost use Rattle.std.specs.Prelude.{◌≡◌, ◌≤◌, ◌+◌, ◌^◌, [], All, IfErr, IfOk, MatchResult, Ok, OnOk, length, map as mapped, sum_by};
+ghost use Rattle.std.specs.List.{AllByRecursion, flat_map};
+ghost use Rattle.std.proofs.Props.{props};
+ghost use Rattle.dr_ledger.specs.Items.{instance_of};
+ghost use Rattle.dr_ledger.specs.Histories.{IsJournalled};
+ghost use Rattle.dr_ledger.specs.Replies.{Arrives, Requeues, Settles, entry_of};
+ghost use Rattle.dr_ledger.specs.SiteRoutes.{site_routing};
+ghost use Rattle.dr_desk.specs.Agreeing.{AreApart, Fails, IsOfLine, Rises, numbers};
+ghost use Rattle.dr_desk.specs.Growing.{BeginWith, Grows};
+
+use crate::closing::{Closed, NotClosed, agree, joined, unread};
+use crate::desk::Desk;
+use crate::pass::{Made, Pass, TooManyPasses};
+use crate::sharing::Sharing;
+use dr_base::{Seq, Text};
+use dr_cert::Sealed;
+use dr_ledger::{Arrived, Entry, Item, Job, Ledger, LedgerFault, Outcome, Progress};
+use std::alloc::Global;
+use std::sync::ledger::{Book, Share};
+
+/// How many passes can be made.
+const MOST_PASSES: u64 = 65_535;
+
+/// The desk, with a copy of the lines that it had when it was shared, the number of its last line, how many passes were made, and
+/// the sum of the lines that they count. What is done under the lock is one call of the ledger, and the counting of its line; no item
+/// is read or hashed there, no receipt is made or dropped.
+#[derive(Drop)]
+pub(crate) struct Held<L: Ledger, B: Sharing> {
+    pub(crate) desk: Desk<L>,
+    pub(crate) kept: Seq<Entry>,
+    pub(crate) number: u64,
+    pub(crate) passes: u64,
+    pub(crate) full: u64,
+    pub(crate) tally: Book<B>,
+    pub(crate) rest: Share<B>,
+    pub ghost parts: { rest.parts + passes ≡ B.all },
+    pub ghost idle: { rest.amount ≡ 0 },
+    pub ghost all_is: { B.all ≡ 65536 },
+    pub ghost total: { length kept + tally.total ≡ number },
+    pub ghost of: { L.site desk.ledger ≡ B.site } by { Prim.hlevel props },
+    pub ghost history: { L.stands desk.ledger → ∥ IsJournalled (site_routing (L.site desk.ledger)) (L.book desk.ledger) ∥₁ } by { Prim.hlevel props },
+    pub ghost grows: { L.stands desk.ledger → Grows B.first kept (L.book desk.ledger).lines number } by { Prim.hlevel props },
+}
+
+impl<L: Ledger, B: Sharing> Held<L, B> {
+    /// No line more can be numbered: that counts as a failed store.
+    fn refuse(&mut self) -> LedgerFault
+        ensures { result ≡ LedgerFault.Store }
+    {
+        self.full = self.full.saturating_add(1);
+        LedgerFault::Store
+    }
+
+    /// The ledger's `arrive`, with the number of the line.
+    pub(crate) fn arrive(
+        &mut self,
+        made: &mut Made<B>,
+        caller: &Text,
+        item: Item,
+    ) -> Result<(u64, Arrived), LedgerFault>
+        ensures count { MatchResult result (λ r. made.new.count ≡ made.old.count + 1) (λ why. made.new.count ≡ made.old.count) }
+        ensures reply { IfOk result (λ r. L.stands self.new.desk.ledger → Arrives (site_routing (L.site self.old.desk.ledger)) caller.now (instance_of item) (L.book self.old.desk.ledger) (Ok r.1) (L.book self.new.desk.ledger)) }
+        ensures number { IfOk result (λ r. L.stands self.new.desk.ledger → r.0 ≡ length (L.book self.new.desk.ledger).lines) }
+    {
+        if self.number == u64::MAX {
+            return Err(self.refuse());
+        }
+        let Held {
+            desk,
+            number,
+            tally,
+            ..
+        } = self;
+        let arrived = desk.arrive(caller, item)?;
+        Ok((made.count_line(tally, number), arrived))
+    }
+
+    /// The ledger's `settle`, with the number of the line.
+    pub(crate) fn settle(
+        &mut self,
+        made: &mut Made<B>,
+        uid: &Text,
+        dest: &Text,
+        outcome: Outcome,
+        now: u64,
+    ) -> Result<u64, LedgerFault>
+        requires { now ≤ 2 ^ 62 }
+        ensures count { MatchResult result (λ n. made.new.count ≡ made.old.count + 1) (λ why. made.new.count ≡ made.old.count) }
+        ensures reply { IfOk result (λ n. L.stands self.new.desk.ledger → Settles uid.now dest.now outcome now (L.book self.old.desk.ledger) (Ok tt) (L.book self.new.desk.ledger)) }
+        ensures number { IfOk result (λ n. L.stands self.new.desk.ledger → n ≡ length (L.book self.new.desk.ledger).lines) }
+    {
+        if self.number == u64::MAX {
+            return Err(self.refuse());
+        }
+        let Held {
+            desk,
+            number,
+            tally,
+            ..
+        } = self;
+        desk.settle(uid, dest, outcome, now)?;
+        Ok(made.count_line(tally, number))
+    }
+
+    /// The ledger's `requeue`, with the number of the line.
+    pub(crate) fn requeue(
+        &mut self,
+        made: &mut Made<B>,
+        uid: &Text,
+        dest: &Text,
+    ) -> Result<u64, LedgerFault>
+        ensures count { MatchResult result (λ n. made.new.count ≡ made.old.count + 1) (λ why. made.new.count ≡ made.old.count) }
+        ensures reply { IfOk result (λ n. L.stands self.new.desk.ledger → Requeues uid.now dest.now (L.book self.old.desk.ledger) (Ok tt) (L.book self.new.desk.ledger)) }
+        ensures number { IfOk result (λ n. L.stands self.new.desk.ledger → n ≡ length (L.book self.new.desk.ledger).lines) }
+    {
+        if self.number == u64::MAX {
+            return Err(self.refuse());
+        }
+        let Held {
+            desk,
+            number,
+            tally,
+            ..
+        } = self;
+        desk.requeue(uid, dest)?;
+        Ok(made.count_line(tally, number))
+    }
+
+    /// Makes a pass; the last part stays.
+    pub(crate) fn pass(&mut self, alloc: Global) -> Result<Pass<B>, TooManyPasses>
+        ensures { IfOk result (λ p. (p.made.count ≡ 0) × (p.receipts.items ≡ [])) }
+    {
+        if self.passes >= MOST_PASSES {
+            return Err(TooManyPasses);
+        }
+        self.passes += 1;
+        let share = self.rest.split_off(1, 0);
+        Ok(Pass::new(alloc, share))
+    }
+
+    pub(crate) fn next(&mut self, dest: &Text, now: u64) -> Result<Option<Job>, LedgerFault> {
+        self.desk.next(dest, now)
+    }
+
+    pub(crate) fn admits(&mut self, caller: &Text, item: &Item) -> Result<(), LedgerFault> {
+        self.desk.admits(caller, item)
+    }
+
+    pub(crate) fn has(&mut self, uid: &Text) -> Result<bool, LedgerFault> {
+        self.desk.has(uid)
+    }
+
+    pub(crate) fn has_body(&mut self, uid: &Text) -> Result<bool, LedgerFault> {
+        self.desk.has_body(uid)
+    }
+
+    pub(crate) fn arrivals(&mut self) -> Result<Seq<(Text, Text)>, LedgerFault> {
+        self.desk.arrivals()
+    }
+
+    pub(crate) fn kept(&mut self) -> Result<Seq<(Text, u64)>, LedgerFault> {
+        self.desk.kept()
+    }
+
+    pub(crate) fn rows(&mut self) -> Result<Seq<((Text, Text), Progress)>, LedgerFault> {
+        self.desk.rows()
+    }
+
+    pub(crate) fn lines(&mut self) -> Result<Seq<Entry>, LedgerFault> {
+        self.desk.lines()
+    }
+
+    pub(crate) fn progress(
+        &mut self,
+        uid: &Text,
+        dest: &Text,
+    ) -> Result<Option<Progress>, LedgerFault> {
+        self.desk.progress(uid, dest)
+    }
+
+    pub(crate) fn unfit(&mut self, next: &Sealed) -> Result<Option<(Text, Text)>, LedgerFault> {
+        self.desk.unfit(next)
+    }
+
+    pub(crate) fn failures(&self) -> u64 {
+        self.desk.failures().saturating_add(self.full)
+    }
+
+    /// Ends the sharing, as `SharedDesk::close`.
+    pub(crate) fn close(
+        self,
+        alloc: Global,
+        passes: Vec<Pass<B>>,
+    ) -> Result<Closed<L>, NotClosed<L, B>>
+        requires { B.all ≡ B.parts }
+        ensures begins { IfOk result (λ c. L.stands c.desk.ledger → BeginWith B.first (L.book c.desk.ledger).lines) }
+        ensures history { IfOk result (λ c. L.stands c.desk.ledger → ∥ IsJournalled (site_routing B.site) (L.book c.desk.ledger) ∥₁) }
+        ensures of_lines { IfOk result (λ c. L.stands c.desk.ledger → AllByRecursion (λ p. All (IsOfLine (mapped entry_of (L.book c.desk.ledger).lines)) p.receipts.items) passes.items) }
+        ensures rise { OnOk result (AllByRecursion (λ p. Rises p.receipts.items) passes.items) }
+        ensures apart { OnOk result (AreApart (flat_map (λ p. numbers p.receipts.items) passes.items)) }
+        ensures sum { IfOk result (λ c. c.sum ≡ sum_by (λ p. p.made.count) passes.items) }
+        ensures some { IfOk result (λ c. L.stands c.desk.ledger → length B.first + c.sum ≤ length (L.book c.desk.ledger).lines) }
+        ensures all { IfOk result (λ c. L.stands c.desk.ledger → length passes.items ≡ c.passes → length B.first + c.sum ≡ length (L.book c.desk.ledger).lines) }
+        ensures of { MatchResult result (λ c. L.site c.desk.ledger ≡ B.site) (λ e. L.site e.desk.ledger ≡ B.site) }
+        ensures back { IfErr result (λ e. e.passes ≡ passes) }
+        ensures fault { IfErr result (λ e. L.stands e.desk.ledger → Fails e.fault (BeginWith B.first (L.book e.desk.ledger).lines) (AllByRecursion (λ p. All (IsOfLine (mapped entry_of (L.book e.desk.ledger).lines)) p.receipts.items) passes.items) (AllByRecursion (λ p. Rises p.receipts.items) passes.items) (AreApart (flat_map (λ p. numbers p.receipts.items) passes.items))) }
+    {
+        let Held {
+            desk,
+            kept,
+            number: _,
+            passes: made,
+            full: _,
+            tally,
+            rest,
+        } = self;
+        let mut desk = desk;
+        let lines = match desk.lines() {
+            Ok(lines) => lines,
+            Err(why) => {
+                return Err(NotClosed {
+                    fault: unread(why),
+                    desk,
+                    passes,
+                });
+            }
+        };
+        if let Err(fault) = agree(alloc, kept.as_slice(), lines.as_slice(), passes.as_slice()) {
+            return Err(NotClosed {
+                fault,
+                desk,
+                passes,
+            });
+        }
+        let sum = joined(tally, rest, passes);
+        Ok(Closed {
+            desk,
+            sum,
+            passes: made,
+        })
+    }
+}

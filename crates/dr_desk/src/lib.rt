@@ -1,0 +1,23 @@
+//! The desk of a node: its ledger with one owner, or shared by threads.
+//!
+//! A `Desk` is called by its owner alone. `SharedDesk` puts it under one lock, which is held for one call of the ledger
+//! and never longer; each thread has a `Pass`, which counts the lines that its calls made and holds receipts for the
+//! last of them. `close` ends the sharing and compares the receipts with the journal.
+#![tactic(auto)]
+
+pub mod closing;
+pub mod desk;
+mod held;
+pub mod laws;
+pub mod pass;
+pub mod receipt;
+mod same;
+pub mod shared;
+pub mod sharing;
+
+pub use closing::{CloseFault, Closed, Mismatch, NotClosed};
+pub use desk::Desk;
+pub use pass::{Pass, TooManyPasses};
+pub use receipt::{Call, Receipt, Reply};
+pub use shared::SharedDesk;
+pub use sharing::Sharing;

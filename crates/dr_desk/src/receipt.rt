@@ -1,0 +1,149 @@
+//! What a caller holds of an accepted call.
+ghost use Rattle.std.specs.Prelude.{◌≡◌, ◌↔◌, IfOk, IsTrue, length};
+ghost use Rattle.dr_desk.specs.Receipts.{Records, arrival_of};
+
+use dr_base::Text;
+use dr_ledger::{Arrived, Entry, Item, Outcome};
+use dr_route::Key;
+use std::alloc::AllocError;
+
+/// A call that adds a line where it is accepted; of an arrival it has the length of the data set (bytes) in place of
+/// the data set.
+#[derive(PartialEq, Eq, Debug, Drop)]
+pub enum Call {
+    Arrival {
+        caller: Text,
+        uid: Text,
+        key: Key,
+        length: u64,
+    },
+    Settling {
+        uid: Text,
+        dest: Text,
+        outcome: Outcome,
+        now: u64,
+    },
+    Requeuing {
+        uid: Text,
+        dest: Text,
+    },
+}
+
+/// What an accepted call answered.
+#[derive(Clone, Copy, PartialEq, Eq, Debug)]
+pub enum Reply {
+    Arrived(Arrived),
+    /// The row was settled, or queued again.
+    Done,
+}
+
+/// An accepted call with its reply, and the number of its line in the journal, from 1 on.
+#[derive(PartialEq, Eq, Debug, Drop)]
+pub struct Receipt {
+    pub number: u64,
+    pub call: Call,
+    pub reply: Reply,
+}
+
+/// The arrival of an item from a caller.
+pub(crate) fn arrival(caller: &Text, item: &Item) -> Result<Call, AllocError>
+    ensures { IfOk result (λ call. call ≡ arrival_of caller.now item.now) }
+{
+    let caller = caller.clone()?;
+    let uid = item.uid().clone()?;
+    let key = copy_key(item.key())?;
+    let length = item.body().len() as u64;
+    let call = Call::Arrival {
+        caller,
+        uid,
+        key,
+        length,
+    };
+    Ok(call)
+}
+
+fn copy_key(key: &Key) -> Result<Key, AllocError>
+    ensures { IfOk result (λ copy. copy ≡ key.now) }
+{
+    let copy = key.clone()?;
+    Ok(copy)
+}
+
+/// Whether a line of the journal is of that call, with that reply.
+pub(crate) fn records(line: &Entry, receipt: &Receipt) -> bool
+    ensures { IsTrue result ↔ Records line.now receipt.now.call receipt.now.reply }
+{
+    match line {
+        Entry::Arrival {
+            caller,
+            uid,
+            key,
+            length,
+            ..
+        } => is_arrival(caller, uid, key, *length, Arrived::New, receipt),
+        Entry::Repeat {
+            caller,
+            uid,
+            key,
+            length,
+        } => is_arrival(caller, uid, key, *length, Arrived::Again, receipt),
+        Entry::Settling {
+            uid,
+            dest,
+            outcome,
+            now,
+        } => is_settling(uid, dest, *outcome, *now, receipt),
+        Entry::Requeuing { uid, dest } => is_requeuing(uid, dest, receipt),
+        Entry::Adoption => false,
+    }
+}
+
+fn is_arrival(
+    caller: &Text,
+    uid: &Text,
+    key: &Key,
+    length: u64,
+    arrived: Arrived,
+    receipt: &Receipt,
+) -> bool
+    ensures { IsTrue result ↔ ((receipt.now.call ≡ Call.Arrival caller.now uid.now key.now length) × (receipt.now.reply ≡ Reply.Arrived arrived)) }
+{
+    let Call::Arrival {
+        caller: from,
+        uid: of,
+        key: with,
+        length: size,
+    } = &receipt.call
+    else {
+        return false;
+    };
+    from == caller
+        && of == uid
+        && with == key
+        && *size == length
+        && receipt.reply == Reply::Arrived(arrived)
+}
+
+fn is_settling(uid: &Text, dest: &Text, outcome: Outcome, now: u64, receipt: &Receipt) -> bool
+    ensures { IsTrue result ↔ ((receipt.now.call ≡ Call.Settling uid.now dest.now outcome now) × (receipt.now.reply ≡ Reply.Done)) }
+{
+    let Call::Settling {
+        uid: of,
+        dest: to,
+        outcome: came,
+        now: at,
+    } = &receipt.call
+    else {
+        return false;
+    };
+    of == uid && to == dest && *came == outcome && *at == now && receipt.reply == Reply::Done
+}
+
+fn is_requeuing(uid: &Text, dest: &Text, receipt: &Receipt) -> bool
+    ensures { IsTrue result ↔ ((receipt.now.call ≡ Call.Requeuing uid.now dest.now) × (receipt.now.reply ≡ Reply.Done)) }
+{
+    let Call::Requeuing { uid: of, dest: to } = &receipt.call else {
+        return false;
+    };
+    of == uid && to == dest && receipt.reply == Reply::Done
+}

@@ -1,0 +1,261 @@
+//! A desk that threads share.
+ghost use Rattle.std.specs.Prelude.{◌≡◌, ◌<◌, ◌≤◌, ◌+◌, ◌^◌, [], All, IfErr, IfOk, MatchResult, OnOk, length, map as mapped, sum_by};
+ghost use Rattle.std.specs.List.{AllByRecursion, flat_map};
+ghost use Rattle.dr_ledger.specs.Histories.{IsJournalled};
+ghost use Rattle.dr_ledger.specs.Replies.{entry_of};
+ghost use Rattle.dr_ledger.specs.SiteRoutes.{site_routing};
+ghost use Rattle.dr_desk.specs.Agreeing.{AreApart, Fails, IsOfLine, Rises, numbers};
+ghost use Rattle.dr_desk.specs.Growing.{BeginWith};
+ghost use Rattle.dr_desk.specs.Receipts.{Leaves, Notes, arrival_of};
+
+use crate::closing::{Closed, NotClosed};
+use crate::desk::Desk;
+use crate::held::Held;
+use crate::pass::{Pass, TooManyPasses};
+use crate::receipt::{Call, Receipt, Reply, arrival};
+use crate::sharing::Sharing;
+use dr_base::{Seq, Text};
+use dr_cert::Sealed;
+use dr_ledger::{Arrived, Entry, Item, Job, Ledger, LedgerFault, Outcome, Progress};
+use dr_site::Site;
+use std::alloc::Global;
+use std::sync::ledger::Blank;
+use std::sync::{Mutex, Wait};
+
+/// A desk that threads share, with the site of its ledger. Each call waits for the one lock, which is held for one call of
+/// the ledger alone. Of what a call shows nothing can be said here, since another thread may have called in between; that it is what
+/// the ledger answers, the receipts say, and tests.
+#[derive(Drop)]
+pub struct SharedDesk<L: Ledger, B: Sharing> {
+    site: Site,
+    held: Mutex<Held<L, B>>,
+}
+
+impl<L: Ledger, B: Sharing> SharedDesk<L, B> {
+    /// Shares a desk, whose ledger is of that site. A copy is kept of the lines that it has. Where they can't be read, the desk is
+    /// handed back.
+    ///
+    /// Errors: Store, Memory.
+    pub fn new(
+        desk: Desk<L>,
+        site: Site,
+        blank: Blank,
+    ) -> Result<SharedDesk<L, B>, (LedgerFault, Desk<L>)>
+        requires blank { (blank.name ≡ B.name) × (blank.parts ≡ B.parts) × (B.all ≡ B.parts) × (B.all ≡ 65536) }
+        requires first { B.first ≡ (L.book desk.ledger).lines }
+        requires site { (L.site desk.ledger ≡ site) × (B.site ≡ site) }
+        ensures site { IfOk result (λ s. s.site ≡ site) }
+        ensures same { IfErr result (λ e. L.stands e.1.ledger → L.stands desk.ledger × (L.book e.1.ledger ≡ L.book desk.ledger) × (L.bodies e.1.ledger ≡ L.bodies desk.ledger)) }
+        ensures of { IfErr result (λ e. L.site e.1.ledger ≡ site) }
+    {
+        let mut desk = desk;
+        let kept = match desk.lines() {
+            Ok(kept) => kept,
+            Err(fault) => return Err((fault, desk)),
+        };
+        let (tally, rest) = blank.open::<B>();
+        let number = kept.len() as u64;
+        let held = Held {
+            desk,
+            kept,
+            number,
+            passes: 0,
+            full: 0,
+            tally,
+            rest,
+        };
+        Ok(SharedDesk {
+            site,
+            held: Mutex::new(held),
+        })
+    }
+
+    /// The site of its ledger.
+    pub fn site(&self) -> &Site
+        ensures { result.now ≡ self.now.site }
+    {
+        &self.site
+    }
+
+    /// A pass for a caller, which did nothing.
+    ///
+    /// Errors: TooManyPasses, if 65,535 were made.
+    pub fn pass<R: Wait>(&self, rt: &R, alloc: Global) -> Result<Pass<B>, TooManyPasses>
+        ensures { IfOk result (λ p. (p.made.count ≡ 0) × (p.receipts.items ≡ [])) }
+    {
+        self.held.lock(rt).pass(alloc)
+    }
+
+    /// Takes an item from a caller. The receipt's room is taken before the ledger is called.
+    ///
+    /// Errors: as the ledger's `arrive`; Memory may come before NoLine.
+    pub fn arrive<R: Wait>(
+        &self,
+        rt: &R,
+        pass: &mut Pass<B>,
+        caller: &Text,
+        item: Item,
+    ) -> Result<Arrived, LedgerFault>
+        ensures { MatchResult result (λ r. Notes (arrival_of caller.now item) (Reply.Arrived r) pass.old.made.count pass.old.receipts.items pass.new.made.count pass.new.receipts.items) (λ why. Leaves pass.old.made.count pass.old.receipts.items pass.new.made.count pass.new.receipts.items) }
+    {
+        let call = arrival(caller, &item)?;
+        pass.make_room()?;
+        let (number, arrived) = self.held.lock(rt).arrive(&mut pass.made, caller, item)?;
+        pass.note(Receipt {
+            number,
+            call,
+            reply: Reply::Arrived(arrived),
+        });
+        Ok(arrived)
+    }
+
+    /// Notes what came of a try.
+    ///
+    /// Errors: as the ledger's `settle`; Memory may come before NotWaiting.
+    pub fn settle<R: Wait>(
+        &self,
+        rt: &R,
+        pass: &mut Pass<B>,
+        uid: &Text,
+        dest: &Text,
+        outcome: Outcome,
+        now: u64,
+    ) -> Result<(), LedgerFault>
+        requires { now ≤ 2 ^ 62 }
+        ensures { MatchResult result (λ r. Notes (Call.Settling uid.now dest.now outcome now) Reply.Done pass.old.made.count pass.old.receipts.items pass.new.made.count pass.new.receipts.items) (λ why. Leaves pass.old.made.count pass.old.receipts.items pass.new.made.count pass.new.receipts.items) }
+    {
+        let call = Call::Settling {
+            uid: uid.clone()?,
+            dest: dest.clone()?,
+            outcome,
+            now,
+        };
+        pass.make_room()?;
+        let number = self
+            .held
+            .lock(rt)
+            .settle(&mut pass.made, uid, dest, outcome, now)?;
+        pass.note(Receipt {
+            number,
+            call,
+            reply: Reply::Done,
+        });
+        Ok(())
+    }
+
+    /// Queues a held row again.
+    ///
+    /// Errors: as the ledger's `requeue`; Memory may come before NotHeld.
+    pub fn requeue<R: Wait>(
+        &self,
+        rt: &R,
+        pass: &mut Pass<B>,
+        uid: &Text,
+        dest: &Text,
+    ) -> Result<(), LedgerFault>
+        ensures { MatchResult result (λ r. Notes (Call.Requeuing uid.now dest.now) Reply.Done pass.old.made.count pass.old.receipts.items pass.new.made.count pass.new.receipts.items) (λ why. Leaves pass.old.made.count pass.old.receipts.items pass.new.made.count pass.new.receipts.items) }
+    {
+        let call = Call::Requeuing {
+            uid: uid.clone()?,
+            dest: dest.clone()?,
+        };
+        pass.make_room()?;
+        let number = self.held.lock(rt).requeue(&mut pass.made, uid, dest)?;
+        pass.note(Receipt {
+            number,
+            call,
+            reply: Reply::Done,
+        });
+        Ok(())
+    }
+
+    /// The ledger's `next`.
+    pub fn next<R: Wait>(&self, rt: &R, dest: &Text, now: u64) -> Result<Option<Job>, LedgerFault> {
+        self.held.lock(rt).next(dest, now)
+    }
+
+    /// The ledger's `admits`.
+    pub fn admits<R: Wait>(&self, rt: &R, caller: &Text, item: &Item) -> Result<(), LedgerFault> {
+        self.held.lock(rt).admits(caller, item)
+    }
+
+    /// The ledger's `has`.
+    pub fn has<R: Wait>(&self, rt: &R, uid: &Text) -> Result<bool, LedgerFault> {
+        self.held.lock(rt).has(uid)
+    }
+
+    /// The ledger's `has_body`.
+    pub fn has_body<R: Wait>(&self, rt: &R, uid: &Text) -> Result<bool, LedgerFault> {
+        self.held.lock(rt).has_body(uid)
+    }
+
+    /// The ledger's `arrivals`.
+    pub fn arrivals<R: Wait>(&self, rt: &R) -> Result<Seq<(Text, Text)>, LedgerFault> {
+        self.held.lock(rt).arrivals()
+    }
+
+    /// The ledger's `kept`.
+    pub fn kept<R: Wait>(&self, rt: &R) -> Result<Seq<(Text, u64)>, LedgerFault> {
+        self.held.lock(rt).kept()
+    }
+
+    /// The ledger's `rows`.
+    pub fn rows<R: Wait>(&self, rt: &R) -> Result<Seq<((Text, Text), Progress)>, LedgerFault> {
+        self.held.lock(rt).rows()
+    }
+
+    /// The ledger's `lines`.
+    pub fn lines<R: Wait>(&self, rt: &R) -> Result<Seq<Entry>, LedgerFault> {
+        self.held.lock(rt).lines()
+    }
+
+    /// The ledger's `progress`.
+    pub fn progress<R: Wait>(
+        &self,
+        rt: &R,
+        uid: &Text,
+        dest: &Text,
+    ) -> Result<Option<Progress>, LedgerFault> {
+        self.held.lock(rt).progress(uid, dest)
+    }
+
+    /// The ledger's `unfit`.
+    pub fn unfit<R: Wait>(
+        &self,
+        rt: &R,
+        next: &Sealed,
+    ) -> Result<Option<(Text, Text)>, LedgerFault> {
+        self.held.lock(rt).unfit(next)
+    }
+
+    /// How often the store has failed; the count stays at its greatest value.
+    pub fn failures<R: Wait>(&self, rt: &R) -> u64 {
+        self.held.lock(rt).failures()
+    }
+
+    /// Ends the sharing, where each receipt of the passes agrees with the journal. The desk, and where it doesn't end so
+    /// the passes too, are handed back.
+    ///
+    /// Errors: Receipt, Store, Memory.
+    pub fn close(self, alloc: Global, passes: Vec<Pass<B>>) -> Result<Closed<L>, NotClosed<L, B>>
+        requires { B.all ≡ B.parts }
+        ensures begins { IfOk result (λ c. L.stands c.desk.ledger → BeginWith B.first (L.book c.desk.ledger).lines) }
+        ensures history { IfOk result (λ c. L.stands c.desk.ledger → ∥ IsJournalled (site_routing B.site) (L.book c.desk.ledger) ∥₁) }
+        ensures of_lines { IfOk result (λ c. L.stands c.desk.ledger → AllByRecursion (λ p. All (IsOfLine (mapped entry_of (L.book c.desk.ledger).lines)) p.receipts.items) passes.items) }
+        ensures rise { OnOk result (AllByRecursion (λ p. Rises p.receipts.items) passes.items) }
+        ensures apart { OnOk result (AreApart (flat_map (λ p. numbers p.receipts.items) passes.items)) }
+        ensures sum { IfOk result (λ c. c.sum ≡ sum_by (λ p. p.made.count) passes.items) }
+        ensures some { IfOk result (λ c. L.stands c.desk.ledger → length B.first + c.sum ≤ length (L.book c.desk.ledger).lines) }
+        ensures all { IfOk result (λ c. L.stands c.desk.ledger → length passes.items ≡ c.passes → length B.first + c.sum ≡ length (L.book c.desk.ledger).lines) }
+        ensures of { MatchResult result (λ c. L.site c.desk.ledger ≡ B.site) (λ e. L.site e.desk.ledger ≡ B.site) }
+        ensures back { IfErr result (λ e. e.passes ≡ passes) }
+        ensures fault { IfErr result (λ e. L.stands e.desk.ledger → Fails e.fault (BeginWith B.first (L.book e.desk.ledger).lines) (AllByRecursion (λ p. All (IsOfLine (mapped entry_of (L.book e.desk.ledger).lines)) p.receipts.items) passes.items) (AllByRecursion (λ p. Rises p.receipts.items) passes.items) (AreApart (flat_map (λ p. numbers p.receipts.items) passes.items))) }
+    {
+        self.into_held().close(alloc, passes)
+    }
+
+    fn into_held(self) -> Held<L, B> {
+        let SharedDesk { site: _, held } = self;
+        held.into_inner()
+    }
+}
