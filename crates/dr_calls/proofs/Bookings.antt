@@ -15,15 +15,15 @@ use Rattle.dr_ledger.specs.declared.item.Instance.{Instance}
 use Rattle.dr_ledger.specs.declared.item.Progress.{Progress}
 use Rattle.dr_ledger.specs.declared.item.Progress.TheVariants.{Waiting}
 use Rattle.dr_ledger.specs.Bodies.{IsNeeded}
-use Rattle.dr_ledger.specs.Books.{Book, Settling, Requeuing, after, row_after, settled_row, requeued_row}
+use Rattle.dr_ledger.specs.Books.{Book, Repeat, Settling, Requeuing, after, row_after, settled_row, requeued_row}
 use Rattle.dr_ledger.specs.Pairs.{Pair, pair_cmp}
-use Rattle.dr_tables.specs.Books.{AreBelow, all_kept_in, arrivals_in, bodies_of, book_of, items_of, line_in, lines_of, rows_of}
+use Rattle.dr_tables.specs.Books.{AreBelow, all_kept_in, arrivals_in, bodies_by, bodies_of, book_of, contents_in, item_or_none, items_in, items_of, line_in, lines_of, prints_in, rows_in, rows_of, wholes_in}
 use Rattle.dr_tables.proofs.WhatIsWritten.{outcome_back}
 use Rattle.dr_rows.specs.Effects.{requeued_line, settled_line}
 use Rattle.dr_rows.proofs.Keys.{pairs_total, pairs_exact}
 use Rattle.dr_rows.proofs.Maps.{equal}
 use Rattle.dr_calls.specs.Changes.{MovesOn}
-use Rattle.dr_calls.specs.Laws.{GoesWhereNeededNoMore, RequeuingsRequeue, SettlingsSettle, WhatIsNeededStays}
+use Rattle.dr_calls.specs.Laws.{GoesWhereNeededNoMore, RepeatsRepeat, RequeuingsRequeue, SettlingsSettle, WhatIsNeededStays}
 
 -- a line with a higher number is the last
 pub lines_put : (items : FinMap text_cmp Instance) (targets : List Row) (n : ℤ) (rest : Row) (rows : List Row) → AreBelow n rows
@@ -64,6 +64,22 @@ requeuings_requeue old new n uid dest why lets_go below held w =
     book_moved old new (uid, dest) (Waiting 0 0) line lets_go made w refl refl refl
     (w.rows ∙ ap (λ o. requeued_row (rows_of old) (uid, dest) o) (sym held))
     (lines_moved old new (uid, dest) (Waiting 0 0) n _ lets_go below w)
+
+pub repeats_repeat : RepeatsRepeat
+repeats_repeat old new n caller uid item below there w =
+    let items : items_of new ≡ items_of old = λ i. items_in (prints_in (w.prints i)) (w.items i) in
+    let lines : lines_of new ≡ lines_of old ++ Repeat caller item ∷ [] =
+    (λ i. mapped (line_in (items i) (w.targets i)) (w.journal i)) ∙ lines_put (items_of old) (old 12) (pos n) _ (old 11) below
+    ∙ ap (λ found. lines_of old ++ Repeat caller (item_or_none uid found) ∷ []) there in (
+      λ i. record {
+        items = items i;
+        arrivals = arrivals_in (w.arrivals i);
+        kept = all_kept_in (w.kept i);
+        rows = rows_in (w.queue i);
+        lines = lines i;
+      },
+      λ i. bodies_by (contents_in (w.items i)) (wholes_in (w.prints i)),
+    )
 
 -- ---- data sets
 

@@ -1,5 +1,5 @@
 -- Data sets that are let go.
-use Rattle.std.proofs.Common.{◌≡◌, ℕ, Bool, true, false, cond, List, [], Option, Some, None, IsTrue, IsSome, refl, sym, ap, subst, ◌∙◌, arith}
+use Rattle.std.proofs.Common.{◌≡◌, ℕ, Bool, true, false, cond, List, [], Option, Some, None, IsSome, refl, sym, ap, subst, ◌∙◌, arith}
 use Rattle.std.specs.Cmp.Lexicographic.{nat_list_cmp_total}
 use Rattle.std.specs.FinMap as map
 use Rattle.std.specs.FinMap.{FinMap}
@@ -8,8 +8,7 @@ use Rattle.std.proofs.lemmas.Map.Lookups.{exact_bytes}
 use Rattle.sqlite.specs.State.{State}
 use Rattle.dr_base.specs.Texts.{Text, text_cmp}
 use Rattle.dr_tables.specs.Books.{bodies_by, contents_in, is_whole, items_in, prints_in, wholes_in}
-use Rattle.dr_tables.specs.Ledgers.{IsLedger}
-use Rattle.dr_rows.specs.Effects.{HasPrint, SetsBody, SetsWhole}
+use Rattle.dr_rows.specs.Effects.{GoesOn, HasPrint, SetsBody, SetsWhole}
 use Rattle.dr_calls.specs.Changes.{HasBoth, LetsGo}
 
 -- what stands at a uid
@@ -30,10 +29,9 @@ gone_body contents wholes uid = map.same_map nat_list_cmp_total exact_bytes _ _ 
     at q false = refl
 
 -- after the data set was taken out, the print is there still
-pub print_there : (uid : Text) (old mid : State) → HasBoth uid old.now.trees → SetsBody uid [] old mid → IsLedger mid.now × IsTrue mid.in_transaction × HasPrint uid mid.now.trees
+pub print_there : (uid : Text) (old mid : State) → HasBoth uid old.now.trees → SetsBody uid [] old mid → GoesOn old mid × HasPrint uid mid.now.trees
 print_there uid old mid both body = (
-  body.goes_on.ledger,
-  body.goes_on.mode,
+  body.goes_on,
   subst (λ rows. IsSome (map.get (wholes_in rows) uid)) (sym (body.others.prints (omega arith))) both.1,
 )
 

@@ -1,3 +1,4 @@
+pub mod Arrivals
 pub mod Bookings
 pub mod LettingGo
 pub mod Movements

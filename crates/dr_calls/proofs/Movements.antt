@@ -1,5 +1,5 @@
 -- Rows that move on.
-use Rattle.std.proofs.Common.{◌≡◌, ℕ, pos, true, false, IsTrue, IsSome, sym, ap, subst, ◌∙◌, arith}
+use Rattle.std.proofs.Common.{◌≡◌, ℕ, pos, true, false, IsSome, sym, ap, subst, ◌∙◌, arith}
 use Rattle.std.specs.FinMap as map
 use Rattle.sqlite.specs.declared.types.Value.TheVariants.{Int}
 use Rattle.sqlite.specs.Order.{Row}
@@ -8,7 +8,6 @@ use Rattle.sqlite.specs.Tree.{put_row, rowid}
 use Rattle.dr_ledger.specs.declared.item.Progress.{Progress}
 use Rattle.dr_ledger.specs.Pairs.{Pair}
 use Rattle.dr_tables.specs.Books.{bodies_by, bodies_of, contents_in, items_in, items_of, prints_in, rows_in, wholes_in}
-use Rattle.dr_tables.specs.Ledgers.{IsLedger}
 use Rattle.dr_rows.specs.Effects.{AddsRow, GoesOn, SetsRow}
 use Rattle.dr_calls.specs.Changes.{HasBoth, LetsGo, Moved, MovesOn}
 use Rattle.dr_calls.specs.Writing.{IsMade}
@@ -16,8 +15,8 @@ use Rattle.dr_calls.specs.Writing.{IsMade}
 pub goes_over : (old mid new : State) → GoesOn old mid → GoesOn mid new → GoesOn old new
 goes_over old mid new one two = record { ledger = two.ledger; mode = two.mode; committed = two.committed ∙ one.committed; is_open = two.is_open }
 
-pub row_goes : (at : Pair) (to : Progress) (old mid : State) → SetsRow at to old mid → IsLedger mid.now × IsTrue mid.in_transaction × Unit {0}
-row_goes at to old mid row = (row.goes_on.ledger, row.goes_on.mode, tt)
+pub row_goes : (at : Pair) (to : Progress) (old mid : State) → SetsRow at to old mid → GoesOn old mid × Unit {0}
+row_goes at to old mid row = (row.goes_on, tt)
 
 pub moved : (at : Pair) (to : Progress) (line : Row) (old mid new : State) → SetsRow at to old mid → AddsRow 11 line mid new → Moved at to line old new
 moved at to line old mid new row more =
@@ -42,10 +41,9 @@ same_bodies : (at : Pair) (to : Progress) (line : Row) (old new : State) → Mov
 same_bodies at to line old new m = λ i. bodies_by (contents_in (m.items i)) (wholes_in (m.prints i))
 
 -- the item and its print are there still
-pub both_there : (at : Pair) (to : Progress) (line : Row) (old mid : State) → HasBoth at.0 old.now.trees → Moved at to line old mid → IsLedger mid.now × IsTrue mid.in_transaction × HasBoth at.0 mid.now.trees
+pub both_there : (at : Pair) (to : Progress) (line : Row) (old mid : State) → HasBoth at.0 old.now.trees → Moved at to line old mid → GoesOn old mid × HasBoth at.0 mid.now.trees
 both_there at to line old mid both m = (
-  m.goes_on.ledger,
-  m.goes_on.mode,
+  m.goes_on,
   (subst (λ rows. IsSome (map.get (contents_in rows) at.0)) (sym m.items) both.0, subst (λ rows. IsSome (map.get (wholes_in rows) at.0)) (sym m.prints) both.1),
 )
 

@@ -117,7 +117,7 @@ all_run old mid new n Asks Makes x r step ok err survives = record {
     keeps clean = begun_keeps old mid (step.kept (early clean))
 
     made : HasCleanDisk new → IsReady n old → Asks old.now.trees → IsMade n Makes (record old { in_transaction = true }) mid
-    made clean ready asks = step.ok (early clean) refl ready.ledger asks
+    made clean ready asks = step.ok (early clean) refl ready.is_open ready.ledger asks
 
     opened : HasCleanDisk new → IsTrue new.is_open → (r : Result (Unit {0}) Error) → OnOk r (IsTrue mid.in_transaction × Shows mid new mid.now mid.now false × KeepsCounts mid new × (new.marks ≡ []))
         → IfErr r (FailsToCommit mid new) → IsTrue mid.is_open

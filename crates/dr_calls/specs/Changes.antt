@@ -1,13 +1,14 @@
 -- What the calls that write make of the tables.
-use Rattle.std.specs.Prelude.{◌≡◌, Bool, cond}
+use Rattle.std.specs.Prelude.{◌≡◌, ℕ, Bool, cond, List, None}
 use Rattle.std.specs.FinMap as map
 use Rattle.sqlite.specs.Order.{Row}
 use Rattle.sqlite.specs.State.{State}
 use Rattle.sqlite.specs.Tree.{Trees, put_row}
 use Rattle.dr_base.specs.Texts.{Text}
+use Rattle.dr_ledger.specs.declared.item.Instance.{Instance}
 use Rattle.dr_ledger.specs.declared.item.Progress.{Progress}
 use Rattle.dr_ledger.specs.Pairs.{Pair}
-use Rattle.dr_tables.specs.Books.{bodies_of, items_of, rows_of}
+use Rattle.dr_tables.specs.Books.{bodies_of, contents_in, items_of, rows_of, wholes_in}
 use Rattle.dr_rows.specs.Effects.{GoesOn, HasItem, HasPrint, HasRow}
 
 -- ---- a data set is let go
@@ -55,3 +56,32 @@ pub record MovesOn (at : Pair) (to : Progress) (line : Row) (lets_go : Bool) (ol
 -- what it asks: the row is there, and its item
 abbrev pub AsksForRow : Pair → Trees → Type 0
 AsksForRow at db = HasRow at db × HasBoth at.0 db
+
+-- ---- an arrival
+
+-- a line more, and nothing else
+pub record AddsOnlyLine (line : Row) (old new : Trees) : Type 0 where
+  pub journal : new 11 ≡ put_row line (old 11)
+  pub site : new 0 ≡ old 0
+  pub items : new 1 ≡ old 1
+  pub prints : new 3 ≡ old 3
+  pub arrivals : new 5 ≡ old 5
+  pub kept : new 7 ≡ old 7
+  pub queue : new 9 ≡ old 9
+  pub targets : new 12 ≡ old 12
+
+-- neither the item nor its print is there
+abbrev pub HasNeither : Text → Trees → Type 0
+HasNeither uid db = (map.get (contents_in (db 1)) uid ≡ None) × (map.get (wholes_in (db 3)) uid ≡ None)
+
+-- An instance is there that wasn't, with this data set, which counts as there where `whole` isn't 0. All other tables stay.
+pub record Stores (item : Instance) (body : List ℕ) (whole : ℕ) (old new : Trees) : Type 0 where
+  pub items : items_of new ≡ map.insert (items_of old) item.uid item
+  pub contents : contents_in (new 1) ≡ map.insert (contents_in (old 1)) item.uid body
+  pub wholes : wholes_in (new 3) ≡ map.insert (wholes_in (old 3)) item.uid whole
+  pub site : new 0 ≡ old 0
+  pub arrivals : new 5 ≡ old 5
+  pub kept : new 7 ≡ old 7
+  pub queue : new 9 ≡ old 9
+  pub journal : new 11 ≡ old 11
+  pub targets : new 12 ≡ old 12

@@ -5,14 +5,15 @@ use Rattle.sqlite.specs.Order.{Row}
 use Rattle.sqlite.specs.Tree.{Trees}
 use Rattle.dr_base.specs.Texts.{Text}
 use Rattle.dr_ledger.specs.declared.item.Cause.{Cause}
+use Rattle.dr_ledger.specs.declared.item.Instance.{Instance}
 use Rattle.dr_ledger.specs.declared.item.Outcome.{Outcome}
 use Rattle.dr_ledger.specs.declared.item.Progress.{Progress}
 use Rattle.dr_ledger.specs.declared.item.Progress.TheVariants.{Waiting, Held}
 use Rattle.dr_ledger.specs.Bodies.{HasBodies, IsNeeded}
-use Rattle.dr_ledger.specs.Books.{Settling, Requeuing, after, row_after}
-use Rattle.dr_tables.specs.Books.{AreBelow, bodies_of, book_of, rows_of}
-use Rattle.dr_rows.specs.Effects.{requeued_line, settled_line}
-use Rattle.dr_calls.specs.Changes.{MovesOn}
+use Rattle.dr_ledger.specs.Books.{Repeat, Settling, Requeuing, after, row_after}
+use Rattle.dr_tables.specs.Books.{AreBelow, bodies_of, book_of, items_of, rows_of}
+use Rattle.dr_rows.specs.Effects.{arrived_line, requeued_line, settled_line}
+use Rattle.dr_calls.specs.Changes.{AddsOnlyLine, MovesOn}
 
 -- Where a row waits, to move it on by an outcome with the line of its settling is to settle it.
 abbrev pub SettlingsSettle : Type 0
@@ -35,3 +36,8 @@ GoesWhereNeededNoMore false new uid = IsNeeded (book_of new) uid
 abbrev pub WhatIsNeededStays : Type 0
 WhatIsNeededStays = (old new : Trees) (uid dest : Text) (was to : Progress) (line : Row) (lets_go : Bool) → HasBodies (book_of old) (bodies_of old) →
     IsNeeded (book_of old) uid → MovesOn (uid, dest) to line lets_go old new → GoesWhereNeededNoMore lets_go new uid → HasBodies (book_of new) (bodies_of new)
+
+-- Where an instance is there, the line of its repeat is all that its repeat adds to the book.
+abbrev pub RepeatsRepeat : Type 0
+RepeatsRepeat = (old new : Trees) (n : ℕ) (caller uid : Text) (item : Instance) → AreBelow (pos n) (old 11) → map.get (items_of old) uid ≡ Some item →
+    AddsOnlyLine (arrived_line n 1 caller uid) old new → (book_of new ≡ after (Repeat caller item) (book_of old)) × (bodies_of new ≡ bodies_of old)

@@ -1,5 +1,5 @@
 //! What the calls that write make of the book.
-ghost use Rattle.dr_calls.specs.Laws.{RequeuingsRequeue, SettlingsSettle, WhatIsNeededStays};
+ghost use Rattle.dr_calls.specs.Laws.{RepeatsRepeat, RequeuingsRequeue, SettlingsSettle, WhatIsNeededStays};
 
 /// To move a waiting row on with the line of its settling is to settle it.
 pub fn settlings_settle()
@@ -14,4 +14,9 @@ pub fn requeuings_requeue()
 /// Where a data set goes just if it is needed no more, those that are there are those that are needed.
 pub fn what_is_needed_stays()
     ensures { WhatIsNeededStays }
+{}
+
+/// The line of a repeat is all that a repeat adds.
+pub fn repeats_repeat()
+    ensures { RepeatsRepeat }
 {}

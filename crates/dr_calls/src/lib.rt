@@ -1,10 +1,12 @@
 //! The calls of a ledger in tables that write, each as one transaction.
 #![tactic(auto)]
 
+pub mod arriving;
 mod bodies;
 pub mod laws;
 pub mod moving;
 pub mod writing;
 
+pub use arriving::{Repeating, store};
 pub use moving::{Requeuing, Settling};
 pub use writing::{Change, write};

@@ -32,9 +32,9 @@ pub item_added : (old new : State) (uid : texts.Text) (key : Key) (body : List �
 item_added old new uid key body r has = under_its_id 1 (next_rowid (old.now.trees 1)) (item_cells uid key body) old new text.insert_item (item_cells uid key body) r (λ count h.
     adds old new text.insert_item (item_cells uid key body) 1 command.item_terms 7 table.item_table (Int (next_rowid (old.now.trees 1)) ∷ item_cells uid key body) count has command.insert_item.0 command.insert_item.1 refl (rw (cast_null)) refl refl (inr refl) (inl (omega arith)) (inl (omega arith)) (inl (omega arith)) h)
 
-pub print_added : (old new : State) (uid : texts.Text) (size : ℕ) (digest : List ℕ) (r : Result ℕ Error) → IsLedger old.now → ExecutesInside 0 text.insert_print ((Text uid ∷ Int (pos size) ∷ Blob digest ∷ [])) old new r → OnOk r (AddsCells 3 (print_cells uid size digest) old new)
-print_added old new uid size digest r has = under_its_id 3 (next_rowid (old.now.trees 3)) (print_cells uid size digest) old new text.insert_print ((Text uid ∷ Int (pos size) ∷ Blob digest ∷ [])) r (λ count h.
-    adds old new text.insert_print ((Text uid ∷ Int (pos size) ∷ Blob digest ∷ [])) 2 command.print_terms 5 table.print_table (Int (next_rowid (old.now.trees 3)) ∷ print_cells uid size digest) count has command.insert_print.0 command.insert_print.1 refl (rw (cast_null, cast_int (pos size), cast_int (pos 1))) refl refl (inl (omega arith)) (inr refl) (inl (omega arith)) (inl (omega arith)) h)
+pub print_added : (old new : State) (uid : texts.Text) (size : ℕ) (digest : List ℕ) (whole : ℕ) (r : Result ℕ Error) → IsLedger old.now → ExecutesInside 0 text.insert_print ((print_cells uid size digest whole)) old new r → OnOk r (AddsCells 3 (print_cells uid size digest whole) old new)
+print_added old new uid size digest whole r has = under_its_id 3 (next_rowid (old.now.trees 3)) (print_cells uid size digest whole) old new text.insert_print ((print_cells uid size digest whole)) r (λ count h.
+    adds old new text.insert_print ((print_cells uid size digest whole)) 2 command.print_terms 5 table.print_table (Int (next_rowid (old.now.trees 3)) ∷ print_cells uid size digest whole) count has command.insert_print.0 command.insert_print.1 refl (rw (cast_null, cast_int (pos size), cast_int (pos whole))) refl refl (inl (omega arith)) (inr refl) (inl (omega arith)) (inl (omega arith)) h)
 
 pub arrival_added : (old new : State) (at : Pair) (r : Result ℕ Error) → IsLedger old.now → ExecutesInside 0 text.insert_arrival (arrival_cells at) old new r → OnOk r (AddsCells 5 (arrival_cells at) old new)
 arrival_added old new at r has = under_its_id 5 (next_rowid (old.now.trees 5)) (arrival_cells at) old new text.insert_arrival (arrival_cells at) r (λ count h.

@@ -29,7 +29,7 @@ unfolding understood everything
 insert_item = (refl, (refl, refl))
 
 abbrev pub print_terms : List Term
-print_terms = lit Null ∷ col 0 0 ∷ col 0 1 ∷ col 0 2 ∷ lit (Int (pos 1)) ∷ []
+print_terms = lit Null ∷ col 0 0 ∷ col 0 1 ∷ col 0 2 ∷ col 0 3 ∷ []
 
 pub insert_print : Is text.insert_print (Insert 2 (Values print_terms 5))
 unfolding understood everything

@@ -28,7 +28,7 @@ pub record GoesOn (old new : State) : Type 0 where
 -- What a statement does inside a transaction. Where it is done it makes this of a ledger's tables; whatever it answers, nothing is
 -- committed, and a crash leaves what it could leave before.
 pub record Step {A E : Type 0} (result : Result A E) (old new : State) (Made : Type 0) : Type 0 where
-  pub ok : HasCleanDisk new → IsTrue old.in_transaction → IsLedger old.now → OnOk result Made
+  pub ok : HasCleanDisk new → IsTrue old.in_transaction → IsTrue old.is_open → IsLedger old.now → OnOk result Made
   pub kept : HasCleanDisk new → KeepsCommit old new
   pub survives : Survives old new (λ _. ⊥)
 
@@ -60,9 +60,9 @@ pub record AddsCells (tree : ℕ) (cells : Row) (old new : State) : Type 0 where
 abbrev pub item_cells : texts.Text → Key → List ℕ → Row
 item_cells uid key body = Text uid ∷ Text key.class ∷ Text (mark_of key.syntax) ∷ Blob key.modality ∷ Blob key.station ∷ Blob body ∷ []
 
--- the data set is there
-abbrev pub print_cells : texts.Text → ℕ → List ℕ → Row
-print_cells uid size digest = Text uid ∷ Int (pos size) ∷ Blob digest ∷ Int (pos 1) ∷ []
+-- `whole` is 1 where the data set is there, and else 0
+abbrev pub print_cells : texts.Text → ℕ → List ℕ → ℕ → Row
+print_cells uid size digest whole = Text uid ∷ Int (pos size) ∷ Blob digest ∷ Int (pos whole) ∷ []
 
 abbrev pub arrival_cells : Pair → Row
 arrival_cells at = Text at.0 ∷ Text at.1 ∷ []

@@ -5,18 +5,18 @@ ghost use Rattle.dr_rows.specs.Effects.{AddsCells, AddsRow, Step, adopted_line, 
 
 use crate::cells::{number_cell, outcome_cell, syntax_cell};
 use crate::running::run;
-use dr_base::{Octets, Text};
+use dr_base::Text;
 use dr_ledger::Outcome;
 use dr_route::Key;
 use sqlite::types::ValueRef;
 use sqlite::{Alter, Error, Transaction};
 
-/// An instance with its data set.
+/// An instance with its data set, or with none where it isn't needed.
 pub fn add_item<'x, S: Alter>(
     tx: &mut Transaction<'_, S>,
     uid: &'x Text,
     key: &'x Key,
-    body: &'x Octets,
+    body: &'x [u8],
 ) -> Result<usize, Error>
     ensures same_reference { tx.new.conn.ghost_name ≡ tx.old.conn.ghost_name }
     ensures step { Step result (state S.Store tx.old.conn.now) (state S.Store tx.new.conn.now) (AddsCells 1 (item_cells uid.now key.now body.now) (state S.Store tx.old.conn.now) (state S.Store tx.new.conn.now)) }
@@ -30,29 +30,32 @@ pub fn add_item<'x, S: Alter>(
             syntax_cell(key.syntax),
             ValueRef::Blob(key.modality.as_bytes()),
             ValueRef::Blob(key.station.as_bytes()),
-            ValueRef::Blob(body.as_bytes()),
+            ValueRef::Blob(body),
         ],
     )
 }
 
-/// The length (bytes) and the SHA-256 of an instance's data set, which is there.
+/// The length (bytes) and the SHA-256 of an instance's data set; `whole` is 1 where it is there, and else 0.
 pub fn add_print<'x, S: Alter>(
     tx: &mut Transaction<'_, S>,
     uid: &'x Text,
     size: u64,
     digest: &'x [u8; 32],
+    whole: u64,
 ) -> Result<usize, Error>
-    requires { size ≤ 2 ^ 62 }
+    requires size { size ≤ 2 ^ 62 }
+    requires whole { whole ≤ 2 ^ 62 }
     ensures same_reference { tx.new.conn.ghost_name ≡ tx.old.conn.ghost_name }
-    ensures step { Step result (state S.Store tx.old.conn.now) (state S.Store tx.new.conn.now) (AddsCells 3 (print_cells uid.now size digest.now) (state S.Store tx.old.conn.now) (state S.Store tx.new.conn.now)) }
+    ensures step { Step result (state S.Store tx.old.conn.now) (state S.Store tx.new.conn.now) (AddsCells 3 (print_cells uid.now size digest.now whole) (state S.Store tx.old.conn.now) (state S.Store tx.new.conn.now)) }
 {
     run(
         tx,
-        "INSERT INTO print (uid, length, sha256, whole) VALUES (?1, ?2, ?3, 1)",
+        "INSERT INTO print (uid, length, sha256, whole) VALUES (?1, ?2, ?3, ?4)",
         &[
             ValueRef::Text(uid.as_bytes()),
             number_cell(size),
             ValueRef::Blob(digest),
+            number_cell(whole),
         ],
     )
 }

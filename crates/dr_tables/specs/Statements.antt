@@ -36,9 +36,9 @@ create_queue_due = codes "CREATE INDEX queue_due ON queue (dest, state, due, uid
 abbrev pub insert_item : List ℕ
 insert_item = codes "INSERT INTO item (uid, class, syntax, modality, station, body) VALUES (?1, ?2, ?3, ?4, ?5, ?6)"
 
--- the length and the SHA-256 of its data set, which is there
+-- the length and the SHA-256 of its data set, and whether it is there
 abbrev pub insert_print : List ℕ
-insert_print = codes "INSERT INTO print (uid, length, sha256, whole) VALUES (?1, ?2, ?3, 1)"
+insert_print = codes "INSERT INTO print (uid, length, sha256, whole) VALUES (?1, ?2, ?3, ?4)"
 
 -- who brought it
 abbrev pub insert_arrival : List ℕ
