@@ -2,5 +2,6 @@ pub mod Arrivals
 pub mod Bookings
 pub mod LettingGo
 pub mod Movements
+pub mod NewRows
 pub mod Steps
 pub mod Transactions

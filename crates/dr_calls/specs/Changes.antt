@@ -7,6 +7,7 @@ use Rattle.sqlite.specs.Tree.{Trees, put_row}
 use Rattle.dr_base.specs.Texts.{Text}
 use Rattle.dr_ledger.specs.declared.item.Instance.{Instance}
 use Rattle.dr_ledger.specs.declared.item.Progress.{Progress}
+use Rattle.dr_ledger.specs.Books.{with_rows}
 use Rattle.dr_ledger.specs.Pairs.{Pair}
 use Rattle.dr_tables.specs.Books.{bodies_of, contents_in, items_of, rows_of, wholes_in}
 use Rattle.dr_rows.specs.Effects.{GoesOn, HasItem, HasPrint, HasRow}
@@ -83,5 +84,16 @@ pub record Stores (item : Instance) (body : List ℕ) (whole : ℕ) (old new : T
   pub arrivals : new 5 ≡ old 5
   pub kept : new 7 ≡ old 7
   pub queue : new 9 ≡ old 9
+  pub journal : new 11 ≡ old 11
+  pub targets : new 12 ≡ old 12
+
+-- queue has a row for each of the destinations, which waits, untried; those that had one would refuse it. All other tables stay.
+pub record AddsRows (uid : Text) (dests : List Text) (old new : Trees) : Type 0 where
+  pub rows : rows_of new ≡ with_rows (rows_of old) uid dests
+  pub site : new 0 ≡ old 0
+  pub items : new 1 ≡ old 1
+  pub prints : new 3 ≡ old 3
+  pub arrivals : new 5 ≡ old 5
+  pub kept : new 7 ≡ old 7
   pub journal : new 11 ≡ old 11
   pub targets : new 12 ≡ old 12
