@@ -3,5 +3,6 @@ pub mod Bookings
 pub mod LettingGo
 pub mod Movements
 pub mod NewRows
+pub mod Sets
 pub mod Steps
 pub mod Transactions

@@ -69,7 +69,7 @@ with_none : (rows : FinMap pair_cmp Progress) (uid : Text) → with_rows rows ui
 unfolding with_rows
 with_none rows uid = refl
 
-still : (s : State) → Survives s s (λ _. ⊥)
+pub still : (s : State) → Survives s s (λ _. ⊥)
 still s = record {
   clean = omega arith;
   shield = λ h. h;
