@@ -1,5 +1,5 @@
 -- Tables as sets: arrivals, what is kept, and where a line goes on to.
-use Rattle.std.proofs.Common.{◌≡◌, ◌≢◌, ◌==◌, ℕ, ℤ, pos, List, [], ◌∷◌, ◌++◌, map as mapped, filter, Bool, true, false, cond, ◌&&◌, ◌||◌, Ok, IsTrue, refl, sym, ap, subst, ◌∙◌, arith}
+use Rattle.std.proofs.Common.{◌≡◌, ◌==◌, ℕ, ℤ, List, [], ◌∷◌, ◌++◌, map as mapped, filter, Bool, true, false, cond, ◌&&◌, ◌||◌, Ok, refl, sym, ap, ◌∙◌, arith}
 use Rattle.std.specs.Cmp.{IsTotalOrder}
 use Rattle.std.specs.Cmp.Lexicographic.{nat_list_cmp_total}
 use Rattle.std.specs.declared.cmp.Ordering.{Ordering}
@@ -14,9 +14,9 @@ use Rattle.sqlite.specs.declared.types.Value.TheVariants.{Int}
 use Rattle.sqlite.specs.Edit.{is_taken}
 use Rattle.sqlite.specs.Order.{Row, value_cmp}
 use Rattle.sqlite.specs.State.{State}
-use Rattle.sqlite.specs.Tree.{Trees, put_row, rowid}
+use Rattle.sqlite.specs.Tree.{put_row, rowid}
 use Rattle.dr_base.specs.Texts.{Text, text_cmp}
-use Rattle.dr_ledger.specs.Pairs.{Pair, pair_cmp}
+use Rattle.dr_ledger.specs.Pairs.{Pair}
 use Rattle.dr_tables.specs.Books.{all_kept_in, arrival_in, arrivals_in, dest_in, is_of_line, kept_in, names_in}
 use Rattle.dr_rows.specs.Effects.{AddsCells, GoesOn, Step, arrival_cells, kept_cells, target_cells}
 use Rattle.dr_rows.proofs.Keys.{pairs_total, pairs_exact}

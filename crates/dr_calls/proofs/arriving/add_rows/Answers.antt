@@ -26,8 +26,8 @@ loop-dest-preserved g c =
     let P : List Text → Type 0 = λ ds. Step {A = Unit {0}} {E = Error} (Ok tt) old new (Unit {0} → GoesOn old new × AddsRows uid ds old.now.trees new.now.trees) in (
       c.in_ok-add_row.ensures.same_reference ∙ c.loop-dest.invariant.0,
       subst P (sym more) (one_then old mid new tt (Ok tt) (Unit {0}) (GoesOn old mid × AddsRows uid (take i dests) old.now.trees mid.now.trees) (Unit {0}) (AddsCells 9 (new_cells (uid, dest)) mid new)
-      (GoesOn old new × AddsRows uid (take i dests ++ dest ∷ []) old.now.trees new.now.trees) c.loop-dest.invariant.1 (as_done mid new _ tt _ _ (λ adds any. adds) c.in_ok-add_row.ensures.step)
-      (λ any done. (done.0, tt)) (λ any done added. one_row_more uid dest (take i dests) old mid new done added)),
+          (GoesOn old new × AddsRows uid (take i dests ++ dest ∷ []) old.now.trees new.now.trees) c.loop-dest.invariant.1 (as_done mid new _ tt _ _ (λ adds any. adds) c.in_ok-add_row.ensures.step)
+          (λ any done. (done.0, tt)) (λ any done added. one_row_more uid dest (take i dests) old mid new done added)),
     )
 
 pub returns-clause-same_reference : goal.returns-clause-same_reference

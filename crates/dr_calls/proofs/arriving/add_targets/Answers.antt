@@ -26,8 +26,8 @@ loop-name-preserved g c =
     let P : List Text → Type 0 = λ ds. Step {A = Unit {0}} {E = Error} (Ok tt) old new (Unit {0} → GoesOn old new × AddsTargets n ds old.now.trees new.now.trees) in (
       c.in_ok-add_target.ensures.same_reference ∙ c.loop-name.invariant.0,
       subst P (sym more) (one_then old mid new tt (Ok tt) (Unit {0}) (GoesOn old mid × AddsTargets n (take i names) old.now.trees mid.now.trees) (Unit {0}) (AddsCells 12 (target_cells n name) mid new)
-      (GoesOn old new × AddsTargets n (take i names ++ name ∷ []) old.now.trees new.now.trees) c.loop-name.invariant.1 (as_done mid new _ tt _ _ (λ adds any. adds) c.in_ok-add_target.ensures.step)
-      (λ any done. (done.0, tt)) (λ any done added. one_target_more n name (take i names) old mid new done added)),
+          (GoesOn old new × AddsTargets n (take i names ++ name ∷ []) old.now.trees new.now.trees) c.loop-name.invariant.1 (as_done mid new _ tt _ _ (λ adds any. adds) c.in_ok-add_target.ensures.step)
+          (λ any done. (done.0, tt)) (λ any done added. one_target_more n name (take i names) old mid new done added)),
     )
 
 pub returns-clause-same_reference : goal.returns-clause-same_reference
