@@ -1,14 +1,17 @@
 -- What the calls that write make of the tables.
-use Rattle.std.specs.Prelude.{◌≡◌, ℕ, Bool, cond, List, None}
+use Rattle.std.specs.Prelude.{◌≡◌, ◌==◌, ℕ, Bool, cond, List, [], ◌∷◌, None}
+use Rattle.std.specs.FinSet as set
+use Rattle.std.specs.FinSet.{FinSet}
 use Rattle.std.specs.FinMap as map
 use Rattle.sqlite.specs.Order.{Row}
 use Rattle.sqlite.specs.State.{State}
 use Rattle.sqlite.specs.Tree.{Trees, put_row}
-use Rattle.dr_base.specs.Texts.{Text}
+use Rattle.dr_base.specs.Texts.{Text, text_cmp}
 use Rattle.dr_ledger.specs.declared.item.Instance.{Instance}
 use Rattle.dr_ledger.specs.declared.item.Progress.{Progress}
+use Rattle.dr_ledger.specs.Books.{with_rows}
 use Rattle.dr_ledger.specs.Pairs.{Pair}
-use Rattle.dr_tables.specs.Books.{bodies_of, contents_in, items_of, rows_of, wholes_in}
+use Rattle.dr_tables.specs.Books.{all_kept_in, arrivals_in, bodies_of, contents_in, items_of, names_in, rows_of, wholes_in}
 use Rattle.dr_rows.specs.Effects.{GoesOn, HasItem, HasPrint, HasRow}
 
 -- ---- a data set is let go
@@ -85,3 +88,52 @@ pub record Stores (item : Instance) (body : List ℕ) (whole : ℕ) (old new : T
   pub queue : new 9 ≡ old 9
   pub journal : new 11 ≡ old 11
   pub targets : new 12 ≡ old 12
+
+-- queue has a row for each of the destinations, which waits, untried; those that had one would refuse it. All other tables stay.
+pub record AddsRows (uid : Text) (dests : List Text) (old new : Trees) : Type 0 where
+  pub rows : rows_of new ≡ with_rows (rows_of old) uid dests
+  pub site : new 0 ≡ old 0
+  pub items : new 1 ≡ old 1
+  pub prints : new 3 ≡ old 3
+  pub arrivals : new 5 ≡ old 5
+  pub kept : new 7 ≡ old 7
+  pub journal : new 11 ≡ old 11
+  pub targets : new 12 ≡ old 12
+
+-- one arrival more is noted. All other tables stay.
+pub record NotesArrival (at : Pair) (old new : Trees) : Type 0 where
+  pub arrivals : arrivals_in (new 5) ≡ set.insert (arrivals_in (old 5)) at
+  pub site : new 0 ≡ old 0
+  pub items : new 1 ≡ old 1
+  pub prints : new 3 ≡ old 3
+  pub kept : new 7 ≡ old 7
+  pub queue : new 9 ≡ old 9
+  pub journal : new 11 ≡ old 11
+  pub targets : new 12 ≡ old 12
+
+-- one instance more is kept. All other tables stay.
+pub record KeepsOne (uid : Text) (old new : Trees) : Type 0 where
+  pub kept : all_kept_in (new 7) ≡ set.insert (all_kept_in (old 7)) uid
+  pub site : new 0 ≡ old 0
+  pub items : new 1 ≡ old 1
+  pub prints : new 3 ≡ old 3
+  pub arrivals : new 5 ≡ old 5
+  pub queue : new 9 ≡ old 9
+  pub journal : new 11 ≡ old 11
+  pub targets : new 12 ≡ old 12
+
+-- the set with all of these
+abbrev pub with_names : FinSet text_cmp → List Text → FinSet text_cmp
+with_names names [] = names
+with_names names (name ∷ more) = with_names (set.insert names name) more
+
+-- Line n goes on to each of these too, `-` standing for keeping; other lines go on as before. All other tables stay.
+pub record AddsTargets (n : ℕ) (names : List Text) (old new : Trees) : Type 0 where
+  pub targets : (m : ℕ) → names_in (new 12) m ≡ cond (n == m) (with_names (names_in (old 12) m) names) (names_in (old 12) m)
+  pub site : new 0 ≡ old 0
+  pub items : new 1 ≡ old 1
+  pub prints : new 3 ≡ old 3
+  pub arrivals : new 5 ≡ old 5
+  pub kept : new 7 ≡ old 7
+  pub queue : new 9 ≡ old 9
+  pub journal : new 11 ≡ old 11

@@ -7,6 +7,6 @@ pub mod laws;
 pub mod moving;
 pub mod writing;
 
-pub use arriving::{Repeating, store};
+pub use arriving::{Repeating, add_rows, add_targets, keep, note_arrival, store};
 pub use moving::{Requeuing, Settling};
 pub use writing::{Change, write};

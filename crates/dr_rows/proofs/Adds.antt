@@ -1,7 +1,7 @@
 -- Each INSERT is a row more.
 use Rattle.std.proofs.Common.{inl, inr, ℕ, ℤ, pos, List, [], ◌∷◌, Ok, Err, Result, OnOk, refl, arith}
 use Rattle.sqlite.specs.declared.error.Error.{Error}
-use Rattle.sqlite.specs.declared.types.Value.TheVariants.{Int, Text, Blob}
+use Rattle.sqlite.specs.declared.types.Value.TheVariants.{Int, Text}
 use Rattle.sqlite.specs.Edit.{next_rowid}
 use Rattle.sqlite.specs.Order.{Row}
 use Rattle.sqlite.specs.State.{State, ExecutesInside}

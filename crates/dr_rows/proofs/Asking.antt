@@ -1,30 +1,25 @@
 -- What the queries answer.
-use Rattle.std.proofs.Common.{◌≡◌, ◌≢◌, ◌⊎◌, inl, inr, ℕ, ℤ, pos, negsuc, List, [], ◌∷◌, map, filter, length, Bool, true, false, Option, Some, None, Ok, Err, Result, IfOk, IfErr, OnOk, IsTrue, IsSome, refl, sym, ap, subst, ◌∙◌, arith}
-use Rattle.std.specs.FinMap.{get, find, from_entries, get-from_entries}
-use Rattle.std.specs.List.Sorted.{IsPermutation}
-use Rattle.std.proofs.lemmas.List.Sorted.{length_permutation}
-use Rattle.sqlite.specs.declared.types.Value.TheVariants.{Null, Int, Text}
+use Rattle.std.proofs.Common.{inl, inr, ℕ, List, [], ◌∷◌, map, Option, Some, None, Err, IsTrue, IsSome, refl, sym, subst, ◌∙◌}
+use Rattle.std.specs.FinMap.{get, get-from_entries}
+use Rattle.sqlite.specs.declared.types.Value.TheVariants.{Null, Text}
 use Rattle.sqlite.specs.declared.error.Error.{Error}
 use Rattle.sqlite.specs.Order.{Row, column}
-use Rattle.sqlite.specs.Query.{IsAnswer, output, page, Output}
+use Rattle.sqlite.specs.Query.{IsAnswer}
 use Rattle.sqlite.specs.Program.{overlay}
-use Rattle.sqlite.specs.Effect.{Database}
 use Rattle.sqlite.specs.Tree.{Trees}
-use Rattle.sqlite.specs.State.{State, Shown, ShowsRows, IsUnchanged, IsRolledBack, FailsToQuery, FailsToShow, IsNotRun, Fails, RunsCommand, Writes, Survives, CommitsShowing, HasCleanDisk}
+use Rattle.sqlite.specs.State.{State, Shown, ShowsRows, IsUnchanged, IsRolledBack, FailsToQuery, FailsToShow, IsNotRun, RunsCommand, Survives, CommitsShowing, HasCleanDisk}
 use Rattle.sqlite_schema.specs.declared.command.Returning.{Returning}
 use Rattle.sqlite_resolve.specs.declared.compiled.Compiled.{Compiled}
-use Rattle.sqlite.specs.Listing.{understood, reads_listing}
+use Rattle.sqlite.specs.Listing.{understood}
 use Rattle.sqlite.specs.Clock.{timed}
-use Rattle.sqlite.proofs.Callers.{IsPlain, command_of, reads_as, one_permutation}
-use Rattle.dr_ledger.specs.declared.item.Progress.{Progress}
-use Rattle.dr_ledger.specs.Pairs.{Pair, pair_cmp}
+use Rattle.sqlite.proofs.Callers.{IsPlain, reads_as}
+use Rattle.dr_ledger.specs.Pairs.{Pair}
 use Rattle.dr_tables.specs.Tables.{tables}
 use Rattle.dr_tables.specs.Statements.{find_row}
 use Rattle.dr_tables.specs.Books.{entry_in, rows_of}
-use Rattle.dr_tables.specs.Cells.{progress_in}
 use Rattle.dr_tables.specs.Ledgers.{IsLedger}
 use Rattle.dr_rows.specs.Queries.{Stays, IsFound}
-use Rattle.dr_rows.proofs.Maps.{IsOnlyRow, one_hit}
+use Rattle.dr_rows.proofs.Maps.{one_hit}
 use Rattle.dr_rows.proofs.Keys.{pairs_total, pairs_exact, queue_rows, queue_apart, all_hit}
 use Rattle.dr_rows.proofs.Commands as command
 use Rattle.dr_rows.proofs.Commands.{over}

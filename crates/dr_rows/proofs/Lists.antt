@@ -1,11 +1,10 @@
 -- A query of all rows answers the entries of the map.
-use Rattle.std.proofs.Common.{◌≡◌, ◌≢◌, ◌⊎◌, inl, inr, ℕ, zero, suc, ◌+◌, pos, negsuc, List, [], ◌∷◌, map, flat_map, length, codes, slice_index_or, Bool, true, false, ◌&&◌, cond, T, Option, Some, None, All, IsTrue, refl, sym, ap, subst, ◌∙◌, arith, true≢false}
+use Rattle.std.proofs.Common.{◌≡◌, ◌≢◌, ℕ, suc, ◌+◌, pos, negsuc, List, [], ◌∷◌, map, flat_map, length, codes, slice_index_or, Bool, true, false, ◌&&◌, cond, T, Option, Some, None, refl, sym, ap, subst, ◌∙◌, arith, true≢false}
 use Rattle.std.specs.declared.cmp.Ordering.{Ordering}
 use Rattle.std.specs.declared.cmp.Ordering.TheVariants.{Less, Equal, Greater}
 use Rattle.std.specs.Ordering.{eq_by_cmp, is_eq, is_lt}
 use Rattle.std.specs.Cmp.{IsTotalOrder}
-use Rattle.std.specs.FinMap as fin
-use Rattle.std.specs.FinMap.{FinMap, find, get, entries, from_entries, entries_sorted, get-entries, get-from_entries, IsAntisymmetric}
+use Rattle.std.specs.FinMap.{find, entries, from_entries, entries_sorted, get-entries, get-from_entries, IsAntisymmetric}
 use Rattle.std.specs.FinMap.Entries.{is_sorted, below_all, same_entries}
 use Rattle.std.specs.List.{AllByRecursion, AllAdjacentBelow, IsAllAdjacentAnswer}
 use Rattle.std.specs.List.Sorted.{IsPermutation}

@@ -1,5 +1,5 @@
 -- What a list of rowids shows.
-use Rattle.std.proofs.Common.{◌≡◌, ◌≢◌, ℕ, ℤ, pos, negsuc, None, List, [], ◌∷◌, map, codes, Bool, true, false, T, IsTrue, refl, sym, ap, subst, ◌∙◌}
+use Rattle.std.proofs.Common.{◌≡◌, ◌≢◌, ℤ, pos, negsuc, None, List, [], ◌∷◌, map, codes, false, T, IsTrue, refl, sym, ap, subst, ◌∙◌}
 use Rattle.std.specs.Ordering.{int_cmp}
 use Rattle.std.specs.FinMap.Entries.{is_sorted}
 use Rattle.std.specs.List.{AllByRecursion}

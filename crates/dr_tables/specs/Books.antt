@@ -100,20 +100,24 @@ rows_in rows = map.from_entries (mapped entry_in rows)
 abbrev pub is_of_line : ℕ → Row → Bool
 is_of_line n row = number_in (column row 1) == n
 
--- `-` stands for keeping
-abbrev pub is_keep : Row → Bool
-is_keep row = bytes_eq (text_in (column row 2)) (45 ∷ [])
-
 abbrev pub dest_in : Row → Text
 dest_in row = text_in (column row 2)
 
+-- `-`, which stands for keeping; no node has this name
+abbrev pub keep_mark : Text
+keep_mark = 45 ∷ []
+
+-- what target has of line n
+abbrev pub names_in : List Row → ℕ → FinSet text_cmp
+names_in rows n = set.from_list (mapped dest_in (filter (is_of_line n) rows))
+
 -- where the first arrival of line n goes on to, in byte order
 abbrev pub targets_in : List Row → ℕ → List Text
-targets_in rows n = set.items (set.from_list {R = text_cmp} (mapped dest_in (filter (λ row. not (is_keep row)) (filter (is_of_line n) rows))))
+targets_in rows n = set.items (set.remove (names_in rows n) keep_mark)
 
 -- whether the node keeps what came by line n
 abbrev pub keeps_in : List Row → ℕ → Bool
-keeps_in rows n = list_any is_keep (filter (is_of_line n) rows)
+keeps_in rows n = set.contains (names_in rows n) keep_mark
 
 -- an item that isn't there; no line of a ledger speaks of one
 abbrev pub no_item : Text → Instance

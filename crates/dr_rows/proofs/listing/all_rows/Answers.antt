@@ -1,4 +1,4 @@
-use Rattle.std.proofs.Common.{subst, sym, ◌∙◌, T, [], map}
+use Rattle.std.proofs.Common.{subst, sym, ◌∙◌, T, []}
 use Rattle.std.specs.FinMap.Entries.{is_sorted}
 use Rattle.sqlite.specs.Held.{state}
 use Rattle.sqlite.specs.State.{Shown}

@@ -1,7 +1,6 @@
 use Rattle.std.proofs.Common.{subst, sym}
 use Rattle.sqlite.specs.Listing.{understood}
 use Rattle.sqlite.proofs.Callers.{IsPlain}
-use Rattle.dr_tables.specs.Tables.{tables}
 use Rattle.dr_tables.specs.Statements.{all_rows}
 use Rattle.dr_rows.proofs.Lists.{rows_plain}
 use Rattle.dr_rows.proofs.listing.ask_rows.Goals as goal

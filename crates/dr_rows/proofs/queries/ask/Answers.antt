@@ -1,7 +1,5 @@
-use Rattle.std.proofs.Common.{Ok, Err, Result, IfOk, IfErr, Vec, ◌≡◌, refl}
 use Rattle.sqlite.specs.Held.{state}
 use Rattle.sqlite.specs.Values.{bound}
-use Rattle.dr_rows.specs.Queries.{Stays}
 use Rattle.dr_rows.proofs.Asking.{shown_stays, failed_stays, shown_open, failed_open, query_leaves, shown_opens}
 use Rattle.dr_rows.proofs.Outcomes.{by_result, on_if}
 use Rattle.dr_rows.proofs.queries.ask.Goals as goal

@@ -1,9 +1,7 @@
-use Rattle.std.proofs.Common.{subst, sym, ap, ◌∷◌, []}
-use Rattle.sqlite.specs.declared.types.Value.TheVariants.{Text}
+use Rattle.std.proofs.Common.{subst, sym}
 use Rattle.sqlite.specs.Listing.{understood}
 use Rattle.sqlite.specs.Held.{state}
 use Rattle.sqlite.proofs.Callers.{IsPlain}
-use Rattle.dr_tables.specs.Tables.{tables}
 use Rattle.dr_tables.specs.Statements.{find_row}
 use Rattle.dr_rows.proofs.Asking.{finds}
 use Rattle.dr_rows.proofs.Commands.{find_row_plain}
