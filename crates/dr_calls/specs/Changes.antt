@@ -31,6 +31,17 @@ pub record LetsGo (uid : Text) (old new : Trees) : Type 0 where
   pub journal : new 11 ≡ old 11
   pub targets : new 12 ≡ old 12
 
+-- the data set of that uid is there again; what is known of the items stays, and so do all other tables
+pub record TakesBack (uid : Text) (body : List ℕ) (old new : Trees) : Type 0 where
+  pub items : items_of new ≡ items_of old
+  pub bodies : bodies_of new ≡ map.insert (bodies_of old) uid body
+  pub site : new 0 ≡ old 0
+  pub arrivals : new 5 ≡ old 5
+  pub kept : new 7 ≡ old 7
+  pub queue : new 9 ≡ old 9
+  pub journal : new 11 ≡ old 11
+  pub targets : new 12 ≡ old 12
+
 -- ---- a row moves on: a settling, or a requeuing
 
 -- inside a transaction a row moved on, and the line stands in the journal; all other tables are as they were

@@ -2,11 +2,12 @@
 #![tactic(auto)]
 
 pub mod arriving;
-mod bodies;
+pub mod bodies;
 pub mod laws;
 pub mod moving;
 pub mod writing;
 
 pub use arriving::{Repeating, add_rows, add_targets, keep, note_arrival, store};
+pub use bodies::{let_go, take_back};
 pub use moving::{Requeuing, Settling};
 pub use writing::{Change, write};

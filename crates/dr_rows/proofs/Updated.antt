@@ -6,7 +6,7 @@ use Rattle.std.specs.List.Sorted.{IsPermutation}
 use Rattle.sqlite.specs.declared.types.Value.TheVariants.{Null}
 use Rattle.sqlite.specs.Command.TheVariants.{Update, Delete}
 use Rattle.sqlite.specs.Does.{Tally, Does}
-use Rattle.sqlite_rules.specs.Edit.{Edit, edit_of, is_taken, taken_by}
+use Rattle.sqlite_rules.specs.Edit.{Edit, edit_of, is_taken, taken_by, without_all}
 use Rattle.sqlite.specs.Effect.{Database}
 use Rattle.sqlite.specs.Listing.{understood}
 use Rattle.sqlite.specs.Order.{Row}
@@ -24,7 +24,7 @@ use Rattle.sqlite_rules.specs.Calls.{ids_of}
 use Rattle.sqlite_schema.specs.declared.schema.Keys.TheVariants.{Enforced}
 use Rattle.sqlite_trees.specs.View.{is_int}
 use Rattle.dr_tables.specs.Ledgers.{AreRows, IsLedger}
-use Rattle.dr_tables.specs.Tables.{tables}
+use Rattle.dr_tables.specs.Tables.{tables, arrival_table, queue_table}
 use Rattle.dr_rows.specs.Effects.{GoesOn, LeavesOthers}
 use Rattle.dr_rows.proofs.Commands.{over}
 use Rattle.dr_rows.proofs.Inserted.{Wrote, IsOrNot, bare, went, same_value, is_free, others_stay, ledger_of}
@@ -142,3 +142,15 @@ replaced old new t id row has free int one three five nine w =
       free = untaken;
       others = others;
     }
+
+-- ---- DELETE: nothing refers to arrival, nor to queue, so that rows which leave set nothing off
+
+pub arrivals_dropped : (old new : State) (ids : List ℤ) → Wrote (record { table = bare arrival_table; gone = ids; news = [] }) old new
+    → (new.now.trees 5 ≡ without_all (old.now.trees 5) ids) × LeavesOthers 5 old.now.trees new.now.trees
+arrivals_dropped old new ids w =
+    let it = one_step tables Enforced old.now.trees new.now.trees (record { table = bare arrival_table; gone = ids; news = [] }) refl w.writes in (it.rows, others_stay 5 old.now.trees new.now.trees it.tables)
+
+pub rows_dropped : (old new : State) (ids : List ℤ) → Wrote (record { table = bare queue_table; gone = ids; news = [] }) old new
+    → (new.now.trees 9 ≡ without_all (old.now.trees 9) ids) × LeavesOthers 9 old.now.trees new.now.trees
+rows_dropped old new ids w =
+    let it = one_step tables Enforced old.now.trees new.now.trees (record { table = bare queue_table; gone = ids; news = [] }) refl w.writes in (it.rows, others_stay 9 old.now.trees new.now.trees it.tables)

@@ -16,5 +16,5 @@ returns-clause-step g c =
     (GoesOn old new × LetsGo uid old.now.trees new.now.trees)
     (as_done old mid _ c.in_ok-set_body.field-0 _ _ (λ sets both. sets both.0) c.in_ok-set_body.ensures.step)
     (as_done mid new _ tt _ _ (λ sets. sets) c.in_ok-set_whole.ensures.step)
-    (print_there uid old mid)
+    (print_there uid [] old mid)
     (λ both body whole. (record { ledger = whole.goes_on.ledger; mode = whole.goes_on.mode; committed = whole.goes_on.committed ∙ body.goes_on.committed; is_open = whole.goes_on.is_open }, lets_go uid old mid new body whole))
