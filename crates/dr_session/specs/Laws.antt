@@ -21,7 +21,7 @@ use Rattle.dr_session.specs.declared.ends.Heard.{Heard}
 use Rattle.dr_session.specs.declared.ends.Input.{Input}
 use Rattle.dr_session.specs.declared.ends.Told.{Told}
 use Rattle.std.specs.declared.alloc.AllocError.{AllocError}
-use Rattle.dr_session.specs.Ends.{Terminal, IsOver, Meets, HearsOf, HearsBytes}
+use Rattle.dr_session.specs.Ends.{Terminal, IsOver, Meets, HearsOf}
 use Rattle.dr_session.specs.Reactions.{Reaction, turn, quiet, says, stores}
 use Rattle.dr_session.specs.Turns.{Ends, Asks, Fails, Turns, Run, Makes}
 use Rattle.dr_session.specs.Plays.{PlaysBytes}
@@ -84,7 +84,7 @@ abbrev pub StaysOver : {S : Type 0} → (S → DeskCall → DeskAnswer → S →
 StaysOver {S} step = (input : Input) (at : Moment) (old new : Terminal) (s t : S) (result : Result (List LinkAction) AllocError) → IsOver old.core → Meets step at input old s result new t → IsStill old s result new t
 
 abbrev pub HearsNothing : {S : Type 0} → (S → DeskCall → DeskAnswer → S → Type 0) → Type 0
-HearsNothing {S} step = (piece : List ℕ) (at : Moment) (old new : Terminal) (s t : S) (result : Result (List LinkAction) AllocError) → IsOver old.core → HearsBytes step old.core at piece old s result new t → IsStill old s result new t
+HearsNothing {S} step = (came : Heard) (at : Moment) (old new : Terminal) (s t : S) (result : Result (List LinkAction) AllocError) → IsOver old.core → HearsOf step came at old s result new t → IsStill old s result new t
 
 -- ---- what is settled
 
