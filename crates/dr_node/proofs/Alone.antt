@@ -15,7 +15,7 @@ use Rattle.dr_session.specs.declared.ends.Input.TheVariants as input
 use Rattle.dr_session.specs.declared.ends.LinkAction.{LinkAction}
 use Rattle.dr_session.specs.declared.ends.Moment.{Moment}
 use Rattle.dr_session.specs.Desks.{DeskCall, DeskAnswer}
-use Rattle.dr_session.specs.Ends.{Terminal, MeetsBy, MeetsIn, HearsPiece, HearsBytes, IsOver, is_gone}
+use Rattle.dr_session.specs.Ends.{Terminal, MeetsBy, MeetsIn, HearsPiece, HearsBytes, LosesBy, LosesIn, IsOver, is_gone}
 use Rattle.dr_node.specs.declared.event.LinkEvent.{LinkEvent}
 use Rattle.dr_node.specs.declared.event.LinkEvent.TheVariants as event
 use Rattle.dr_node.specs.declared.fault.NodeFault.{NodeFault}
@@ -89,35 +89,39 @@ module _ {S : Type 0} (step : S → DeskCall → DeskAnswer → S → Type 0) wh
   hears_over None at piece old new s t result over h = h
   hears_over (Some c) at piece old new s t result over h = let P : Bool → Type 0 = λ b. HearsPiece step b at piece c old s result new t in subst P over h
 
-  event_over : (what : LinkEvent) → what ≢ event.Heard heard.Memory → (at : Moment) (old new : Terminal) (s t : S) (result : Acts) → IsOver old.core → MeetsEvent step what at old s result new t →
+  loses_over : (o : Option Core) (old new : Terminal) (result : Acts) → IsOver o → LosesIn o old result new → (result ≡ Ok []) × (new ≡ old)
+  loses_over None old new result over h = h
+  loses_over (Some c) old new result over h = let P : Bool → Type 0 = λ b. LosesBy b old result new in subst P over h
+
+  event_over : (what : LinkEvent) (at : Moment) (old new : Terminal) (s t : S) (result : Acts) → IsOver old.core → MeetsEvent step what at old s result new t →
       (result ≡ Ok []) × (new ≡ old) × (t ≡ s)
-  event_over (event.Heard (heard.Bytes piece)) other at old new s t result over h = hears_over old.core at piece old new s t result over h
-  event_over (event.Heard heard.End) other at old new s t result over h = meets_over old.core at input.Ended old new s t result over h
-  event_over (event.Heard heard.Fault) other at old new s t result over h = meets_over old.core at input.Ended old new s t result over h
-  event_over (event.Heard heard.Late) other at old new s t result over h = meets_over old.core at input.Late old new s t result over h
-  event_over (event.Heard heard.Memory) other at old new s t result over h = absurd (other refl)
-  event_over event.Abort other at old new s t result over h = meets_over old.core at input.AbortAsked old new s t result over h
-  event_over event.Release other at old new s t result over h = meets_over old.core at input.ReleaseAsked old new s t result over h
+  event_over (event.Heard (heard.Bytes piece)) at old new s t result over h = hears_over old.core at piece old new s t result over h
+  event_over (event.Heard heard.End) at old new s t result over h = meets_over old.core at input.Ended old new s t result over h
+  event_over (event.Heard heard.Fault) at old new s t result over h = meets_over old.core at input.Ended old new s t result over h
+  event_over (event.Heard heard.Late) at old new s t result over h = meets_over old.core at input.Late old new s t result over h
+  event_over (event.Heard heard.Memory) at old new s t result over h = let still = loses_over old.core old new result over h.1 in (still.0, still.1, h.0)
+  event_over event.Abort at old new s t result over h = meets_over old.core at input.AbortAsked old new s t result over h
+  event_over event.Release at old new s t result over h = meets_over old.core at input.ReleaseAsked old new s t result over h
 
   acts_of : Acts → List LinkAction
   acts_of (Ok acts) = acts
   acts_of (Err e) = []
 
-  over_at : (what : LinkEvent) → what ≢ event.Heard heard.Memory → (now link : ℕ) (side : Side) (old new : Sides) (s t : S) (result : Result (List LinkAction) NodeFault) → IsOver side.end.core →
+  over_at : (what : LinkEvent) (now link : ℕ) (side : Side) (old new : Sides) (s t : S) (result : Result (List LinkAction) NodeFault) → IsOver side.end.core →
       DoesAt (MeetsEvent step what) now link side old s result new t → (result ≡ Ok []) × (t ≡ s) × (map.get new link ≡ Some side)
   unfolding acts_of
-  over_at what other now link side old new s t (Ok acts) over h =
-      let rests = event_over what other (moment_at link old now) side.end h.0 s t (Ok acts) over h.1 in
+  over_at what now link side old new s t (Ok acts) over h =
+      let rests = event_over what (moment_at link old now) side.end h.0 s t (Ok acts) over h.1 in
       let P : Sides → Type 0 = λ m. map.get m link ≡ Some side in
       (ap (λ (l : List LinkAction). Ok l) (ap acts_of rests.0), rests.2, subst P (sym h.2) (put_here old link (with_end side h.0) ∙ ap (λ e. Some (with_end side e)) rests.1))
-  over_at what other now link side old new s t (Err Memory) over h =
-      let rests = event_over what other (moment_at link old now) side.end h.0 s t (Err h.1) over h.2 in
+  over_at what now link side old new s t (Err Memory) over h =
+      let rests = event_over what (moment_at link old now) side.end h.0 s t (Err h.1) over h.2 in
       let broken = rests.0 in absurd (let none : ⊥ = cc in none)
-  over_at what other now link side old new s t (Err LinkKnown) over h = absurd h
-  over_at what other now link side old new s t (Err LinkUnknown) over h = absurd h
-  over_at what other now link side old new s t (Err NoHop) over h = absurd h
+  over_at what now link side old new s t (Err LinkKnown) over h = absurd h
+  over_at what now link side old new s t (Err LinkUnknown) over h = absurd h
+  over_at what now link side old new s t (Err NoHop) over h = absurd h
 
   pub over : OverDoesNothing step
-  over what other now link old new s t side result there is_over h =
+  over what now link old new s t side result there is_over h =
       let P : Option Side → Type 0 = λ o. DoesIn (MeetsEvent step what) now link o old s result new t in
-      over_at what other now link side old new s t result is_over (subst P there h)
+      over_at what now link side old new s t result is_over (subst P there h)

@@ -111,7 +111,7 @@ module _ {S T : Type 0} (step : S → DeskCall → DeskAnswer → S → Type 0) 
   hears heard.End at old s t result new h k = meets at input.Ended old s t result new h k
   hears heard.Fault at old s t result new h k = meets at input.Ended old s t result new h k
   hears heard.Late at old s t result new h k = meets at input.Late old s t result new h k
-  hears heard.Memory at old s t result new h k = (h.0, ap shows h.1, h.2)
+  hears heard.Memory at old s t result new h k = (ap shows h.0, h.1)
 
   events : (what : LinkEvent) (at : Moment) (old : Terminal) (s t : S) (result : Acts) (new : Terminal) → MeetsEvent step what at old s result new t → Holds t → MeetsEvent shown what at old (shows s) result new (shows t)
   events (event.Heard h) at old s t result new met k = hears h at old s t result new met k

@@ -96,7 +96,7 @@ module _ {S : Type 0} (step : S → DeskCall → DeskAnswer → S → Type 0) (R
   hears heard.End at old s t result new h = meets at input.Ended old s t result new h
   hears heard.Fault at old s t result new h = meets at input.Ended old s t result new h
   hears heard.Late at old s t result new h = meets at input.Late old s t result new h
-  hears heard.Memory at old s t result new h = as_it_was s t h.1
+  hears heard.Memory at old s t result new h = as_it_was s t h.0
 
   events : (what : LinkEvent) (at : Moment) (old : Terminal) (s t : S) (result : Acts) (new : Terminal) → MeetsEvent step what at old s result new t → R s t
   events (event.Heard h) at old s t result new met = hears h at old s t result new met

@@ -7,14 +7,11 @@ use Rattle.dr_ledger.specs.Books.{Book}
 use Rattle.dr_ledger.specs.SiteRoutes.{site_routing}
 use Rattle.dr_site.specs.Parts.{Part}
 use Rattle.dr_session.specs.declared.desk.LedgerDesk.{LedgerDesk}
-use Rattle.dr_session.specs.declared.ends.Heard.{Heard}
-use Rattle.dr_session.specs.declared.ends.Heard.TheVariants as heard
 use Rattle.dr_session.specs.declared.ends.LinkAction.{LinkAction}
 use Rattle.dr_session.specs.Desks.{DeskCall, DeskAnswer}
 use Rattle.dr_session.specs.Ends.{IsOver}
 use Rattle.dr_session.specs.Ledgers.{Desk, RoutedStep, desk}
 use Rattle.dr_node.specs.declared.event.LinkEvent.{LinkEvent}
-use Rattle.dr_node.specs.declared.event.LinkEvent.TheVariants as event
 use Rattle.dr_node.specs.declared.fault.NodeFault.{NodeFault}
 use Rattle.dr_node.specs.declared.fault.NodeFault.TheVariants.{LinkKnown, LinkUnknown}
 use Rattle.dr_node.specs.declared.links.Side.{Side}
@@ -48,7 +45,7 @@ UnknownIsRefused {S} step = (what : LinkEvent) (now link : ℕ) (old : Sides) (s
 
 -- An end that is over answers an empty list, whatever is asked of it, calls nothing, and stays.
 abbrev pub OverDoesNothing : {S : Type 0} → (S → DeskCall → DeskAnswer → S → Type 0) → Type 0
-OverDoesNothing {S} step = (what : LinkEvent) → what ≢ event.Heard heard.Memory → (now link : ℕ) (old new : Sides) (s t : S) (side : Side) (result : Result (List LinkAction) NodeFault) →
+OverDoesNothing {S} step = (what : LinkEvent) (now link : ℕ) (old new : Sides) (s t : S) (side : Side) (result : Result (List LinkAction) NodeFault) →
     map.get old link ≡ Some side → IsOver side.end.core → Does (MeetsEvent step what) now link old s result new t → (result ≡ Ok []) × (t ≡ s) × (map.get new link ≡ Some side)
 
 -- What becomes of a link's own side makes no difference to how many others there are.

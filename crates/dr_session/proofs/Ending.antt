@@ -18,7 +18,7 @@ use Rattle.dr_session.specs.declared.ends.Input.{Input}
 use Rattle.dr_session.specs.declared.ends.LinkAction.{LinkAction}
 use Rattle.dr_session.specs.declared.ends.Moment.{Moment}
 use Rattle.dr_session.specs.Desks.{DeskCall, DeskAnswer}
-use Rattle.dr_session.specs.Ends.{Terminal, IsOver, TakesCore, TakesFree, EchoesBy, EchoesIn, echoes_by, is_free, is_free_in, OpensTo, begins, requesting, is_gone, MeetsBy, MeetsIn, Meets, HearsPiece, HearsBytes}
+use Rattle.dr_session.specs.Ends.{Terminal, IsOver, TakesCore, TakesFree, EchoesBy, EchoesIn, echoes_by, is_free, is_free_in, OpensTo, begins, requesting, is_gone, MeetsBy, MeetsIn, Meets, HearsPiece, HearsBytes, LosesBy, LosesIn}
 
 module _ {S : Type 0} (step : S → DeskCall → DeskAnswer → S → Type 0) (at : Moment) where
   meets_none : (core : Option Core) (i : Input) (old : Terminal) (s : S) → IsOver core → MeetsIn step core at i old s (Ok []) old s
@@ -83,6 +83,20 @@ module _ {S : Type 0} (step : S → DeskCall → DeskAnswer → S → Type 0) (a
 
 abbrev pub terminal : Feeding → Option Core → Terminal
 terminal ear core = record { ear = ear; core = core }
+
+-- the link has no memory
+loses_if : (o : Option Core) (old new : Terminal) (acts : List LinkAction) → IsOver o → new ≡ old → acts ≡ [] → LosesIn o old (Ok acts) new
+loses_if None old new acts over same none = (ap (λ (l : List LinkAction). Ok l) none, same)
+loses_if (Some c) old new acts over same none =
+    subst (λ (b : Bool). LosesBy b old (Ok acts) new) (sym over) (ap (λ (l : List LinkAction). Ok l) none, same)
+
+pub loses_over : (old new : Terminal) (acts : List LinkAction) → IsOver old.core × (new ≡ old) → acts ≡ [] → LosesIn old.core old (Ok acts) new
+loses_over old new acts (over, same) none = loses_if old.core old new acts over same none
+
+pub loses_core : (old new : Terminal) (o : Option Core) (c : Core) (e : AllocError) → o ≡ Some c → TakesCore old o new → LosesIn old.core old (Err e) new
+loses_core old new o c e some taken =
+    let one : TakesCore old (Some c) new = subst (λ (x : Option Core). TakesCore old x new) some taken in
+    subst (λ (x : Option Core). LosesIn x old (Err e) new) (sym one.0) (subst (λ (b : Bool). LosesBy b old (Err e) new) (sym one.1) (tt, one.2))
 
 -- a core was taken, and what is left is seen by its fields
 pub taken_as : (old mid seen : Terminal) (o : Option Core) (c : Core) → o ≡ Some c → seen ≡ mid → TakesCore old o mid → TakesCore old (Some c) seen

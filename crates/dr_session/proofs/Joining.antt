@@ -1,4 +1,4 @@
--- Two pieces at one moment are heard as their joined bytes are.
+-- Pieces at one moment are heard as their joined bytes are.
 use Rattle.std.proofs.Common.{◌≡◌, ◌≢◌, ℕ, Bool, true, false, List, [], ◌∷◌, ◌++◌, map, refl, sym, ap, subst, ◌∙◌, append_assoc}
 use Rattle.std.specs.List.{flat_map}
 use Rattle.std.proofs.lemmas.List.{append-nil, map-append}
@@ -13,8 +13,12 @@ use Rattle.dr_pdu.specs.Feeding.{StartsPdu, Feeding}
 use Rattle.dr_pdu.proofs.CutLemmas.{shows_on}
 use Rattle.dr_session.specs.declared.ends.Input.{Input}
 use Rattle.dr_session.specs.Desks.{DeskCall, DeskAnswer}
-use Rattle.dr_session.specs.Laws.{Joins}
-use Rattle.dr_session.specs.Plays.{At, Plays, inputs_of, input_of, IsFault, HearsLast, HearsOn, HearsBy, Hears, at_moment}
+use Rattle.dr_session.specs.declared.ends.Core.{Core}
+use Rattle.dr_session.specs.declared.ends.Effect.{Effect}
+use Rattle.dr_session.specs.declared.ends.LinkAction.{LinkAction}
+use Rattle.dr_session.specs.declared.ends.Moment.{Moment}
+use Rattle.dr_session.specs.Laws.{Joins, JoinsAll, PlaysPieces}
+use Rattle.dr_session.specs.Plays.{At, Plays, PlaysBytes, inputs_of, input_of, IsFault, HearsLast, HearsOn, HearsBy, Hears, at_moment}
 use Rattle.dr_session.proofs.InTurn.{plays_append}
 
 starts_on : (limit : ℕ) (text : List ℕ) (p : Pdu) (rest more : List ℕ) → StartsPdu limit text p rest → StartsPdu limit (text ++ more) p (rest ++ more)
@@ -90,3 +94,31 @@ joins {S} step moment old mid new c x y a b s m t (is, heard, plays) (js, heard_
   subst (λ (l : List At). Plays step c l s (x.acts ++ y.acts) y.core t) (sym (map-append (at_moment moment) is js))
       (plays_append step (map (at_moment moment) is) (map (at_moment moment) js) c x.core y.core s m t x.acts y.acts plays more),
 )
+
+-- ---- many pieces
+
+abbrev join : List (List ℕ) → List ℕ
+join pieces = flat_map (λ (piece : List ℕ). piece) pieces
+
+module _ {S : Type 0} (step : S → DeskCall → DeskAnswer → S → Type 0) (moment : Moment) where
+  -- one piece alone
+  alone : (old mid new : Feeding) (c : Core) (x first later : Effect) (piece : List ℕ) (s m t : S) → PlaysBytes step moment old c piece s mid first m → PlaysPieces step moment mid first.core [] m new later t
+      → x ≡ record { acts = first.acts ++ later.acts; core = later.core } → PlaysBytes step moment old c (join (piece ∷ [])) s new x t
+  alone old mid new c x first later piece s m t (is, heard, plays) (same, nothing, stood) are =
+      let acts : x.acts ≡ first.acts = ap (λ (e : Effect). e.acts) are ∙ (ap (λ (e : Effect). first.acts ++ e.acts) nothing ∙ append-nil first.acts) in
+      let core : x.core ≡ first.core = ap (λ (e : Effect). e.core) are ∙ ap (λ (e : Effect). e.core) nothing in
+      let inputs : List At = map (at_moment moment) is in (
+        is,
+        subst (λ (f : Feeding). Hears old (piece ++ []) is f) (sym same) (subst (λ (l : List ℕ). Hears old l is mid) (sym (append-nil piece)) heard),
+        subst (λ (u : S). Plays step c inputs s x.acts x.core u) (sym stood)
+            (subst (λ (d : Core). Plays step c inputs s x.acts d m) (sym core) (subst (λ (a : List LinkAction). Plays step c inputs s a first.core m) (sym acts) plays)),
+      )
+
+  all : (old new : Feeding) (c : Core) (x : Effect) (piece : List ℕ) (pieces : List (List ℕ)) (s t : S) → PlaysPieces step moment old c (piece ∷ pieces) s new x t → PlaysBytes step moment old c (join (piece ∷ pieces)) s new x t
+  all old new c x piece [] s t (mid, first, later, m, plays, none, are) = alone old mid new c x first later piece s m t plays none are
+  all old new c x piece (second ∷ others) s t (mid, first, later, m, plays, more, are) =
+      subst (λ (e : Effect). PlaysBytes step moment old c (piece ++ join (second ∷ others)) s new e t) (sym are)
+      (joins step moment old mid new c first later piece (join (second ∷ others)) s m t plays (all mid new first.core later second others m t more))
+
+pub joins_all : {S : Type 0} (step : S → DeskCall → DeskAnswer → S → Type 0) → JoinsAll step
+joins_all step moment old new c x first others s t h = all step moment old new c x first others s t h

@@ -17,7 +17,9 @@ use Rattle.dr_session.specs.declared.ends.Input.TheVariants.{Request, Acceptance
 use Rattle.dr_session.specs.declared.ends.Moment.{Moment}
 use Rattle.dr_session.specs.declared.ends.Told.{Told}
 use Rattle.dr_session.specs.declared.ends.Told.TheVariants.{Plain, Quiet, Fault, Strange, Store, Whole, Agreement}
-use Rattle.dr_session.specs.Ends.{Terminal, IsOver, is_gone, MeetsIn, MeetsBy, HearsBytes, HearsPiece}
+use Rattle.dr_session.specs.declared.ends.Heard.{Heard}
+use Rattle.dr_session.specs.declared.ends.Heard.TheVariants as heard
+use Rattle.dr_session.specs.Ends.{Terminal, IsOver, is_gone, MeetsIn, MeetsBy, HearsOf, HearsBytes, HearsPiece, LosesBy, LosesIn}
 use Rattle.dr_session.specs.Reactions.{turn, quiet, occurs, moves, event_of, event_of_plain}
 use Rattle.dr_session.specs.Laws.{RestsWhenOver, IsStill, StaysOver, HearsNothing}
 use Rattle.dr_session.specs.Desks.{DeskCall, DeskAnswer}
@@ -131,8 +133,20 @@ module _ {S : Type 0} (step : S → DeskCall → DeskAnswer → S → Type 0) (a
   hears_still None piece over h = h
   hears_still (Some c) piece over h = subst (λ (b : Bool). HearsPiece step b at piece c old s result new t) over h
 
+  loses_still : (o : Option Core) → IsOver o → t ≡ s → LosesIn o old result new → IsStill old s result new t
+  loses_still None over same h = (h.0, h.1, same)
+  loses_still (Some c) over same h =
+      let still : LosesBy true old result new = subst (λ (b : Bool). LosesBy b old result new) over h in (still.0, still.1, same)
+
+  hears_over : (came : Heard) → IsOver old.core → HearsOf step came at old s result new t → IsStill old s result new t
+  hears_over (heard.Bytes piece) over h = hears_still old.core piece over h
+  hears_over heard.End over h = meets_still old.core Ended over h
+  hears_over heard.Fault over h = meets_still old.core Ended over h
+  hears_over heard.Late over h = meets_still old.core Late over h
+  hears_over heard.Memory over h = loses_still old.core over h.0 h.1
+
 pub stays_over : {S : Type 0} (step : S → DeskCall → DeskAnswer → S → Type 0) → StaysOver step
 stays_over step i at old new s t result over h = meets_still step at old new s t result old.core i over h
 
 pub hears_nothing : {S : Type 0} (step : S → DeskCall → DeskAnswer → S → Type 0) → HearsNothing step
-hears_nothing step piece at old new s t result over h = hears_still step at old new s t result old.core piece over h
+hears_nothing step came at old new s t result over h = hears_over step at old new s t result came over h

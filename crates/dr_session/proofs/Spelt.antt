@@ -48,7 +48,7 @@ use Rattle.dr_session.specs.Turns.{Ends, Asks, Fails, Turns}
 use Rattle.dr_session.specs.Laws.{IsSpelled, WritesPdus, GivesPdus, AsksPdus}
 use Rattle.dr_session.specs.declared.ends.Heard.{Heard}
 use Rattle.dr_session.specs.declared.ends.Heard.TheVariants as heard
-use Rattle.dr_session.specs.Ends.{Terminal, is_gone, MeetsIn, MeetsBy, HearsOf, HearsBytes, HearsPiece}
+use Rattle.dr_session.specs.Ends.{Terminal, is_gone, MeetsIn, MeetsBy, HearsOf, HearsBytes, HearsPiece, LosesBy, LosesIn}
 use Rattle.dr_session.specs.Plays.{At, Plays, with_stage, at_moment}
 use Rattle.dr_ulstate.specs.Phases.{state_of}
 use Rattle.std.specs.declared.alloc.AllocError.{AllocError}
@@ -336,12 +336,20 @@ module _ {S : Type 0} (step : S → DeskCall → DeskAnswer → S → Type 0) (a
   hears_in None piece h = nothing_spelled (Ok done) refl h.0
   hears_in (Some c) piece h = hears_by (is_gone (state_of c.phase)) piece c h
 
+  loses_by : (over : Bool) → LosesBy over old (Ok done) new → AllByRecursion IsSpelled done
+  loses_by true h = nothing_spelled (Ok done) refl h.0
+  loses_by false h = absurd h.0
+
+  loses_in : (o : Option Core) → LosesIn o old (Ok done) new → AllByRecursion IsSpelled done
+  loses_in None h = nothing_spelled (Ok done) refl h.0
+  loses_in (Some c) h = loses_by (is_gone (state_of c.phase)) h
+
   hears_of : (heard : Heard) → HearsOf step heard at old s (Ok done) new t → AllByRecursion IsSpelled done
   hears_of (heard.Bytes piece) h = hears_in old.core piece h
   hears_of heard.End h = meets_in old.core input.Ended h
   hears_of heard.Late h = meets_in old.core input.Late h
   hears_of heard.Fault h = meets_in old.core input.Ended h
-  hears_of heard.Memory h = absurd h.0
+  hears_of heard.Memory h = loses_in old.core h.1
 
 pub gives_pdus : {S : Type 0} (step : S → DeskCall → DeskAnswer → S → Type 0) → GivesPdus step
 gives_pdus step came at old new s t done h = hears_of step at old new s t done came h

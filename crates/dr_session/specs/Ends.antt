@@ -136,14 +136,23 @@ abbrev pub IsMemory : Result (List LinkAction) AllocError → Type 0
 IsMemory (Ok acts) = ⊥
 IsMemory (Err e) = Unit {0}
 
--- What comes over the link: bytes, its end, a late mark. A fault of the link is heard as its end; where the link has no
--- memory, the end has none.
+-- The link has no memory for what came: the end is over, for want of memory. One that is over already stays as it is.
+abbrev pub LosesBy : Bool → Terminal → Result (List LinkAction) AllocError → Terminal → Type 0
+LosesBy true old result new = (result ≡ Ok []) × (new ≡ old)
+LosesBy false old result new = IsMemory result × (new ≡ record { ear = old.ear; core = None })
+
+abbrev pub LosesIn : Option Core → Terminal → Result (List LinkAction) AllocError → Terminal → Type 0
+LosesIn None old result new = (result ≡ Ok []) × (new ≡ old)
+LosesIn (Some c) old result new = LosesBy (is_gone (state_of c.phase)) old result new
+
+-- What comes over the link: bytes, its end, a late mark, or that the link had no memory for it. A fault of the link is
+-- heard as its end.
 abbrev pub HearsOf : {S : Type 0} → (S → DeskCall → DeskAnswer → S → Type 0) → Heard → Moment → Terminal → S → Result (List LinkAction) AllocError → Terminal → S → Type 0
 HearsOf step (heard.Bytes piece) at old s result new t = HearsBytes step old.core at piece old s result new t
 HearsOf step heard.End at old s result new t = Meets step at input.Ended old s result new t
 HearsOf step heard.Fault at old s result new t = Meets step at input.Ended old s result new t
 HearsOf step heard.Late at old s result new t = Meets step at input.Late old s result new t
-HearsOf step heard.Memory at old s result new t = IsMemory result × (t ≡ s) × (new ≡ record { ear = old.ear; core = None })
+HearsOf step heard.Memory at old s result new t = (t ≡ s) × LosesIn old.core old result new
 
 -- ---- sending
 

@@ -12,7 +12,7 @@ use Rattle.dr_session.specs.declared.ends.Effect.{Effect}
 use Rattle.dr_session.specs.declared.ends.Pending.{Pending}
 use Rattle.dr_session.specs.Desks.{DeskCall, DeskAnswer, Arrive, Next, Settle, Arrival, Upcoming}
 use Rattle.dr_session.specs.declared.ends.Moment.{Moment}
-use Rattle.std.specs.List.{AllByRecursion}
+use Rattle.std.specs.List.{AllByRecursion, flat_map}
 use Rattle.dr_pdu.specs.declared.pdu.Pdu.{Pdu}
 use Rattle.dr_nego.specs.Fragments.{spellings}
 use Rattle.dr_session.specs.declared.ends.LinkAction.{LinkAction}
@@ -21,8 +21,8 @@ use Rattle.dr_session.specs.declared.ends.Heard.{Heard}
 use Rattle.dr_session.specs.declared.ends.Input.{Input}
 use Rattle.dr_session.specs.declared.ends.Told.{Told}
 use Rattle.std.specs.declared.alloc.AllocError.{AllocError}
-use Rattle.dr_session.specs.Ends.{Terminal, IsOver, Meets, HearsOf, HearsBytes}
-use Rattle.dr_session.specs.Reactions.{Reaction, turn, quiet, says, stores}
+use Rattle.dr_session.specs.Ends.{Terminal, IsOver, Meets, HearsOf}
+use Rattle.dr_session.specs.Reactions.{Reaction, turn, quiet, effect, says, stores}
 use Rattle.dr_session.specs.Turns.{Ends, Asks, Fails, Turns, Run, Makes}
 use Rattle.dr_session.specs.Plays.{PlaysBytes}
 
@@ -34,6 +34,18 @@ abbrev pub Joins : {S : Type 0} → (S → DeskCall → DeskAnswer → S → Typ
 Joins {S} step = (moment : Moment) (old mid new : Feeding) (c : Core) (x y : Effect) (a b : List ℕ) (s m t : S)
     → PlaysBytes step moment old c a s mid x m → PlaysBytes step moment mid x.core b m new y t
     → PlaysBytes step moment old c (a ++ b) s new (record { acts = x.acts ++ y.acts; core = y.core }) t
+
+-- pieces at one moment, each heard by what the one before left, and all that is written
+abbrev pub PlaysPieces : {S : Type 0} → (S → DeskCall → DeskAnswer → S → Type 0) → Moment → Feeding → Core → List (List ℕ) → S → Feeding → Effect → S → Type 0
+PlaysPieces step moment ear c [] s new x t = (new ≡ ear) × (x ≡ effect [] c) × (t ≡ s)
+PlaysPieces step moment ear c (piece ∷ pieces) s new x t = (mid : Feeding) × (first : Effect) × (later : Effect) × (m : _)
+    × PlaysBytes step moment ear c piece s mid first m × PlaysPieces step moment mid first.core pieces m new later t
+    × (x ≡ record { acts = first.acts ++ later.acts; core = later.core })
+
+-- pieces, however many, do what the joined bytes do
+abbrev pub JoinsAll : {S : Type 0} → (S → DeskCall → DeskAnswer → S → Type 0) → Type 0
+JoinsAll {S} step = (moment : Moment) (old new : Feeding) (c : Core) (x : Effect) (first : List ℕ) (others : List (List ℕ)) (s t : S)
+    → PlaysPieces step moment old c (first ∷ others) s new x t → PlaysBytes step moment old c (flat_map (λ (piece : List ℕ). piece) (first ∷ others)) s new x t
 
 -- at a port: some calls with their answers lead from s to t, and the turn makes just these
 abbrev pub TellsAll : {S : Type 0} → (S → DeskCall → DeskAnswer → S → Type 0) → Type 0
@@ -84,7 +96,7 @@ abbrev pub StaysOver : {S : Type 0} → (S → DeskCall → DeskAnswer → S →
 StaysOver {S} step = (input : Input) (at : Moment) (old new : Terminal) (s t : S) (result : Result (List LinkAction) AllocError) → IsOver old.core → Meets step at input old s result new t → IsStill old s result new t
 
 abbrev pub HearsNothing : {S : Type 0} → (S → DeskCall → DeskAnswer → S → Type 0) → Type 0
-HearsNothing {S} step = (piece : List ℕ) (at : Moment) (old new : Terminal) (s t : S) (result : Result (List LinkAction) AllocError) → IsOver old.core → HearsBytes step old.core at piece old s result new t → IsStill old s result new t
+HearsNothing {S} step = (came : Heard) (at : Moment) (old new : Terminal) (s t : S) (result : Result (List LinkAction) AllocError) → IsOver old.core → HearsOf step came at old s result new t → IsStill old s result new t
 
 -- ---- what is settled
 

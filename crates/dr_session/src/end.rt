@@ -5,7 +5,7 @@ ghost use Rattle.dr_network.specs.Formed.{IsName};
 ghost use Rattle.dr_nego.specs.Proposing.{echo_proposal};
 ghost use Rattle.dr_pdu.specs.Written.{Fits};
 ghost use Rattle.dr_pdu.specs.declared.pdu.Pdu.TheVariants as pdus;
-ghost use Rattle.dr_session.specs.Ends.{accepting, requesting, requesting_echo, begins, unmarked as no_marks, OpensTo, Meets, HearsOf, HearsBytes, TakesCore, TakesFree, EchoesIn, is_free_in, is_dry_in, state_in, over_of, ended_by};
+ghost use Rattle.dr_session.specs.Ends.{accepting, requesting, requesting_echo, begins, unmarked as no_marks, OpensTo, Meets, HearsOf, HearsBytes, LosesIn, TakesCore, TakesFree, EchoesIn, is_free_in, is_dry_in, state_in, over_of, ended_by};
 ghost use Rattle.dr_session.specs.Reactions.{write};
 
 use crate::echoing::{ask_echo, is_free};
@@ -208,10 +208,7 @@ impl End {
             Heard::End => self.meet(Input::Ended, port, at),
             Heard::Fault => self.meet(Input::Ended, port, at),
             Heard::Late => self.meet(Input::Late, port, at),
-            Heard::Memory => {
-                self.lose();
-                Err(AllocError)
-            }
+            Heard::Memory => self.lose(),
         }
     }
 
@@ -300,11 +297,15 @@ impl End {
         self.core.take()
     }
 
-    /// Memory ended.
-    fn lose(&mut self)
-        ensures { self.new ≡ record { ear = self.old.ear; core = None } }
+    /// The link had no memory for what came.
+    fn lose(&mut self) -> Result<Seq<LinkAction>, AllocError>
+        ensures { LosesIn self.old.core self.old result self.new }
     {
-        self.core = None;
+        let Some(core) = self.take_core() else {
+            return Ok(Seq::new(self.alloc));
+        };
+        forget(core);
+        Err(AllocError)
     }
 
     /// Its core again.
@@ -325,6 +326,9 @@ impl End {
         self.core.take()
     }
 }
+
+/// It goes.
+fn forget(_core: Core) {}
 
 /// A requestor that has sent its request at that moment.
 fn requestor(alloc: Global, site: Option<Site>, peer: Text, proposal: AssociateRq, now: u64) -> Core

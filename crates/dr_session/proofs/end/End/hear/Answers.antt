@@ -27,5 +27,5 @@ returns-in-Late g c =
 
 pub returns-in-Memory : goal.returns-in-Memory
 returns-in-Memory g c =
-    let P : Heard → Type 0 = λ h. HearsOf g.P.DeskPort.step h c.args.at c.args.self.now c.args.port.now _ c.lose.new.self c.args.port.now in
-    subst P (sym c.in-Memory.is) (tt, refl, c.lose.ensures)
+    let P : Heard → Type 0 = λ h. HearsOf g.P.DeskPort.step h c.args.at c.args.self.now c.args.port.now c.lose.result c.lose.new.self c.args.port.now in
+    subst P (sym c.in-Memory.is) (refl, c.lose.ensures)
