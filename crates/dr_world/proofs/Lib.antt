@@ -1,0 +1,15 @@
+pub mod Beginning
+pub mod Calling
+pub mod Counted
+pub mod AtNodes
+pub mod Stepping
+pub mod Sited
+pub mod Noted
+pub mod Doing
+pub mod Meeting
+pub mod Asking
+pub mod Linking
+pub mod Called
+pub mod Putting
+pub mod Running
+pub mod Opening

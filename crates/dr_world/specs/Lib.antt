@@ -1,0 +1,7 @@
+pub mod Shows
+pub mod Laws
+pub mod Whole
+pub mod Ends
+pub mod Nodes
+pub mod Runs
+pub mod Opened
