@@ -176,7 +176,7 @@ pub record MetAt (plan : Network) (b : ByteWorld) (number : ℕ) (side : Side) (
   pub acts_are : acts ≡ x.acts
   pub shows : ShowsBytes new (with_done b (node_of side k) t number (did_at side k x))
 
-kept_by : (plan : Network) (name : Text) (core : Core) (at : Moment) (i : Input) (d : Desk) (x : Effect) (t : Desk) → Happened (LedgerStep plan name) core at i d x t → x.core.site ≡ core.site
+pub kept_by : (plan : Network) (name : Text) (core : Core) (at : Moment) (i : Input) (d : Desk) (x : Effect) (t : Desk) → Happened (LedgerStep plan name) core at i d x t → x.core.site ≡ core.site
 kept_by plan name core at i d x t (inl r) = reacts_keep (LedgerStep plan name) core (at_moment at i) d x t r
 kept_by plan name core at i d x t (inr (gone, same, still)) = ap (λ (y : Effect). y.core.site) same
 

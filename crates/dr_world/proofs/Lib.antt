@@ -13,3 +13,6 @@ pub mod Called
 pub mod Putting
 pub mod Running
 pub mod Opening
+pub mod Opens
+pub mod Closing
+pub mod Closes

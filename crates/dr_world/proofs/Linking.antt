@@ -101,7 +101,7 @@ unmet {L} {l} does w wires link side none same =
 -- ---- as steps
 
 -- what no wires are of is no channel
-unlinked : (c : Contents) (b : ByteWorld) → ShowsBytes c b → (number : ℕ) → c.wires number ≡ None → map.get b.links number ≡ None
+pub unlinked : (c : Contents) (b : ByteWorld) → ShowsBytes c b → (number : ℕ) → c.wires number ≡ None → map.get b.links number ≡ None
 unlinked c b s number none = by_get (map.get b.links number) refl (subst (λ (o : Option Wires). LinkedAt c.seats number o (map.get b.links number)) none (s.links number))
   where
     by_get : (o : Option Channel) → map.get b.links number ≡ o → LinkedAt c.seats number None (map.get b.links number) → map.get b.links number ≡ None

@@ -1,6 +1,7 @@
 -- What holds after lists of steps.
-use Rattle.std.proofs.Common.{◌≡◌, List, [], ◌∷◌, ◌++◌, Option, Some, None, Result, Ok, Err, refl, sym, ap, subst, ◌∙◌}
+use Rattle.std.proofs.Common.{◌≡◌, ℕ, ◌+◌, ◌<◌, ◌≤◌, List, [], ◌∷◌, ◌++◌, length, get_or, take, append_assoc, map as mapped, Option, Some, None, Result, Ok, Err, refl, sym, ap, subst, ◌∙◌}
 use Rattle.std.proofs.Math.Logic.{∥∥₁_map, ∥∥₁_elim, ∥∥₁_prop}
+use Rattle.std.proofs.lemmas.List.{append-nil, take_more, take_all, map-append}
 use Rattle.std.specs.Option.{option_map}
 use Rattle.std.specs.BTreeMap as tree
 use Rattle.dr_base.specs.Texts.{Text, text_cmp}
@@ -25,7 +26,7 @@ use Rattle.dr_world.specs.Nodes.{seat_of}
 use Rattle.dr_world.specs.Whole.{AllStand, StepsTo, contents, noted}
 use Rattle.dr_ledger.specs.declared.content.Job.{Job}
 use Rattle.dr_world.specs.declared.steps.Step.{Step}
-use Rattle.dr_world.specs.Runs.{IsReached, GoesOn, HoldsOf, HoldsAfter, HoldsWhereReached, step_of}
+use Rattle.dr_world.specs.Runs.{IsReached, GoesOn, HoldsOf, HoldsAfter, HoldsAfterAll, HoldsWhereReached, Leads, step_of}
 
 -- one step behind others
 one_more : (plan : Network) (certificate : Certificate) (steps : List bytes.WorldStep) (step : bytes.WorldStep) (note : bytes.StepNote) (a b c : ByteWorld) → RunsOf plan certificate a steps b → Steps plan certificate b step note c → RunsOf plan certificate a (steps ++ step ∷ []) c
@@ -65,3 +66,23 @@ module _ {L : Type 0} {l : Ghosts L} (old new : World L l) (s t : Step) (is : s 
 -- an instance that was copied
 pub copied : {L : Type 0} {l : Ghosts L} (old new : World L l) (node : Text) (note : StepNote) (a b : Job) → a ≡ b → StepsTo (bytes.Submit node a) old note new → StepsTo (bytes.Submit node b) old note new
 copied old new node note a b e h = (let P : Job → Type 0 = λ x. StepsTo (bytes.Submit node x) old note new in subst P e h)
+
+-- ---- one step after the other
+
+module _ {L : Type 0} {l : Ghosts L} where
+  pub leads_none : (w : World L l) (steps : List Step) → Leads (mapped step_of (take 0 steps)) w w
+  leads_none w steps plan certificate certified before reached = (let P : List bytes.WorldStep → Type 0 = λ s. IsReached plan certificate s w in subst P (sym (append-nil before)) reached)
+
+  pub leads_more : (first old new : World L l) (steps : List Step) (i : ℕ) (step : Step) → i < length steps → Leads (mapped step_of (take i steps)) first old → GoesOn (step_of step) old new → step ≡ get_or steps i step → Leads (mapped step_of (take (i + 1) steps)) first new
+  leads_more first old new steps i step less h goes is plan certificate certified before reached =
+      let P : List bytes.WorldStep → Type 0 = λ s. IsReached plan certificate s new in
+      let same : (before ++ mapped step_of (take i steps)) ++ step_of step ∷ [] ≡ before ++ mapped step_of (take (i + 1) steps) =
+      append_assoc before (mapped step_of (take i steps)) (step_of step ∷ [])
+      ∙ ap (λ (s : List bytes.WorldStep). before ++ s) (sym (map-append step_of (take i steps) (step ∷ [])) ∙ ap (mapped step_of) (ap (λ (x : Step). take i steps ++ x ∷ []) is ∙ sym (take_more steps i step less))) in
+      subst P same (goes plan certificate certified (before ++ mapped step_of (take i steps)) (h plan certificate certified before reached))
+
+  pub leads_all : (first new : World L l) (steps : List Step) (i : ℕ) → length steps ≤ i → Leads (mapped step_of (take i steps)) first new → Leads (mapped step_of steps) first new
+  leads_all first new steps i all h = (let P : List Step → Type 0 = λ s. Leads (mapped step_of s) first new in subst P (take_all i steps all) h)
+
+  pub holds_after_all : (first new : World L l) (steps : List bytes.WorldStep) → Leads steps first new → HoldsAfterAll first new
+  holds_after_all first new steps h plan certificate certified before reached all = holds new plan certificate certified (before ++ steps) (h plan certificate certified before reached) all

@@ -5,3 +5,4 @@ pub mod Ends
 pub mod Nodes
 pub mod Runs
 pub mod Opened
+pub mod Closed

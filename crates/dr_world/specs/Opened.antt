@@ -1,5 +1,5 @@
 -- A link that is opened.
-use Rattle.std.specs.Prelude.{◌≡◌, ℕ, ◌+◌, [], ◌∷◌, Some}
+use Rattle.std.specs.Prelude.{◌≡◌, ℕ, ◌+◌, false, [], ◌∷◌, Some}
 use Rattle.dr_base.specs.Texts.{Text}
 use Rattle.dr_sound.specs.declared.certificate.Hop.{Hop}
 use Rattle.dr_pdu.specs.declared.pdu.Pdu.TheVariants as pdu

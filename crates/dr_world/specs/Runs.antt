@@ -13,7 +13,7 @@ use Rattle.dr_tie.specs.ByteWorlds as bytes
 use Rattle.dr_tie.specs.ByteWorlds.{ByteWorld, beginning}
 use Rattle.dr_tie.specs.Shown.{RunsOf}
 use Rattle.dr_world.specs.declared.steps.Step.{Step}
-use Rattle.dr_world.specs.declared.steps.Step.TheVariants.{Submit, Push, Abort, Release, Late, Requeue, Tick, RefuseStore}
+use Rattle.dr_world.specs.declared.steps.Step.TheVariants.{Submit, Open, Push, Abort, Release, Close, Late, Requeue, Tick, RefuseStore}
 use Rattle.dr_world.specs.declared.world.World.{World}
 use Rattle.dr_world.specs.Shows.{ShowsBytes, IsSeated}
 use Rattle.dr_world.specs.Ends.{named}
@@ -22,9 +22,11 @@ use Rattle.dr_world.specs.Whole.{AllStand, contents}
 -- a step, as the world of bytes has it
 abbrev pub step_of : Step → bytes.WorldStep
 step_of (Submit node item) = bytes.Submit node item
+step_of (Open from to) = bytes.Open from to
 step_of (Push link) = bytes.Push link
 step_of (Abort link side) = bytes.Abort link (named side)
 step_of (Release link) = bytes.Release link
+step_of (Close link) = bytes.Close link
 step_of (Late link side) = bytes.Late link (named side)
 step_of (Requeue node uid dest) = bytes.Requeue node uid dest
 step_of (Tick ms) = bytes.Tick ms
@@ -49,3 +51,11 @@ HoldsAfter step old new = (plan : Network) (certificate : Certificate) → IsCer
 -- They hold of each world that some steps have led to.
 abbrev pub HoldsWhereReached : {L : Type 0} {l : Ghosts L} → World L l → Type 0
 HoldsWhereReached w = (plan : Network) (certificate : Certificate) → IsCertified plan certificate → (steps : List bytes.WorldStep) → IsReached plan certificate steps w → AllStand w → HoldsOf plan w
+
+-- These steps lead from the one world to the other, whatever steps have led to the first.
+abbrev pub Leads : {L : Type 0} {l : Ghosts L} → List bytes.WorldStep → World L l → World L l → Type 0
+Leads steps old new = (plan : Network) (certificate : Certificate) → IsCertified plan certificate → (before : List bytes.WorldStep) → IsReached plan certificate before old → IsReached plan certificate (before ++ steps) new
+
+-- The four claims hold after them, under the ledgers' own premise.
+abbrev pub HoldsAfterAll : {L : Type 0} {l : Ghosts L} → World L l → World L l → Type 0
+HoldsAfterAll old new = (plan : Network) (certificate : Certificate) → IsCertified plan certificate → (before : List bytes.WorldStep) → IsReached plan certificate before old → AllStand new → HoldsOf plan new

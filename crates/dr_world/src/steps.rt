@@ -14,12 +14,16 @@ pub enum Side {
 pub enum Step {
     /// An instance enters at a node.
     Submit { node: Text, item: Item },
+    /// One node asks another for an association, over a new link.
+    Open { from: Text, to: Text },
     /// The requestor of a link sends the first row that is due.
     Push { link: u64 },
     /// An end of a link aborts.
     Abort { link: u64, side: Side },
     /// The requestor of a link asks for the release.
     Release { link: u64 },
+    /// The connection of a link is lost, with what is under way.
+    Close { link: u64 },
     /// An end of a link looks at its clocks.
     Late { link: u64, side: Side },
     /// A held row waits again.

@@ -1,13 +1,14 @@
 //! What is between the two ends of a link.
-ghost use Rattle.std.specs.Prelude.{◌≡◌, ◌++◌, ◌∷◌, [], OnOk};
+ghost use Rattle.std.specs.Prelude.{◌≡◌, ◌++◌, ◌∷◌, [], IfOk, OnOk};
 ghost use Rattle.dr_tie.specs.Channels.{bytes_of};
+ghost use Rattle.dr_world.specs.Closed.{AreLost};
 ghost use Rattle.dr_world.specs.Ends.{AreWritten, name_at, named};
 
 use crate::steps::Side;
 use bytes::BytesMut;
 use dr_base::Text;
 use dr_session::LinkAction;
-use std::alloc::AllocError;
+use std::alloc::{AllocError, Global};
 
 /// A link between two nodes: its ends' names and what is under way.
 #[derive(Drop)]
@@ -23,6 +24,23 @@ pub struct Wires {
 }
 
 impl Wires {
+    /// Between those nodes, with nothing on the wires.
+    pub fn between(alloc: Global, caller: &Text, receiver: &Text) -> Result<Wires, AllocError>
+        ensures caller { IfOk result (λ w. w.caller ≡ caller.now) }
+        ensures receiver { IfOk result (λ w. w.receiver ≡ receiver.now) }
+        ensures to_caller { IfOk result (λ w. w.to_caller.items ≡ []) }
+        ensures to_receiver { IfOk result (λ w. w.to_receiver.items ≡ []) }
+    {
+        let caller = caller.clone()?;
+        let receiver = receiver.clone()?;
+        Ok(Wires {
+            caller,
+            receiver,
+            to_caller: BytesMut::new(alloc),
+            to_receiver: BytesMut::new(alloc),
+        })
+    }
+
     /// The node of that side.
     pub fn name(&self, side: Side) -> &Text
         ensures { result.now ≡ name_at (named side) self.now }
@@ -31,6 +49,14 @@ impl Wires {
             Side::Requestor => &self.caller,
             Side::Acceptor => &self.receiver,
         }
+    }
+
+    /// What is under way is lost.
+    pub fn lose(&mut self)
+        ensures { AreLost self.old self.new }
+    {
+        self.to_caller.clear();
+        self.to_receiver.clear();
     }
 
     /// What that side does: it goes onto the other one's wire.

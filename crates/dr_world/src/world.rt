@@ -1,16 +1,18 @@
 //! The simulated world: each node over its own ledger, and the wires of each link.
-ghost use Rattle.std.specs.Prelude.{◌≡◌, IfOk, IsErr, true};
+ghost use Rattle.std.specs.Prelude.{◌≡◌, ◌&&◌, IfOk, IsErr, OnOk, map as mapped, true};
+ghost use Rattle.std.specs.BTreeMap as tree;
+ghost use Rattle.dr_base.specs.Texts.{text_cmp};
 ghost use Rattle.dr_session.specs.declared.ends.Heard.TheVariants as heard;
 ghost use Rattle.dr_node.specs.declared.event.LinkEvent.TheVariants as event_of;
-ghost use Rattle.dr_tie.specs.ByteWorlds.{Abort, Late, Push, Refuse, Release, Requestor, Requeue, Submit, Tick};
+ghost use Rattle.dr_tie.specs.ByteWorlds.{Abort, Close as CloseStep, Late, Open, Push, Refuse, Release, Requestor, Requeue, Submit, Tick};
 ghost use Rattle.dr_world.specs.declared.steps.StepNote.TheVariants.{Done as WasDone};
 ghost use Rattle.dr_world.specs.Ends.{named, note_by};
-ghost use Rattle.dr_world.specs.Nodes.{event_at, push_at as pushed_at};
+ghost use Rattle.dr_world.specs.Nodes.{event_at, over_at, push_at as pushed_at};
 ghost use Rattle.dr_world.specs.declared.fault.WorldFault.TheVariants.{Memory as MemoryFault};
-ghost use Rattle.dr_world.specs.Runs.{GoesOn, HoldsAfter, step_of};
+ghost use Rattle.dr_world.specs.Runs.{GoesOn, HoldsAfter, HoldsAfterAll, Leads, step_of};
 ghost use Rattle.dr_world.specs.Whole.{Calls, HasTicked, IsToldToRefuse, Meets, Puts, StepsTo, Submits, noted};
 
-use crate::calls::{input_at, push_at};
+use crate::calls::{accept_at, input_at, is_over_at, open_at, push_at};
 use crate::fault::WorldFault;
 use crate::steps::{Side, Step, StepNote};
 use crate::time::Time;
@@ -72,6 +74,28 @@ impl<L: Ledger> World<L> {
         }
     }
 
+    /// One node asks another for an association, over a new link. Skipped where there is no such node, or it has no hop
+    /// there.
+    ///
+    /// Errors: Memory.
+    fn open(&mut self, from: &Text, to: &Text) -> Result<StepNote, WorldFault>
+        ensures { IfOk result (λ note. StepsTo (Open from.now to.now) self.old note self.new) }
+    {
+        let now = self.time.moment();
+        let Some(link) = self.opened.checked_add(1) else {
+            return Err(WorldFault::Memory);
+        };
+        let mut wires = Wires::between(self.alloc, from, to)?;
+        let Some(actions) = open_at(&mut self.nodes, from, to, link, now)? else {
+            return Ok(StepNote::Skipped);
+        };
+        accept_at(&mut self.nodes, to, link, now)?;
+        wires.write(Side::Requestor, actions.as_slice())?;
+        let_go(self.wires.insert(link, wires)?);
+        self.opened = link;
+        Ok(StepNote::Done)
+    }
+
     /// Something happens at an end of a link, and what the end writes goes onto the other one's wire. Skipped where there is
     /// no link of that number, or nothing is done.
     fn meet(&mut self, link: u64, side: Side, event: LinkEvent) -> Result<StepNote, WorldFault>
@@ -119,6 +143,26 @@ impl<L: Ledger> World<L> {
         Ok(note)
     }
 
+    /// The connection of a link is lost, with what is under way: each end that isn't over hears of it (event 17), the acceptor's
+    /// first. Skipped where there is no link of that number, or both ends are over.
+    ///
+    /// Errors: Memory.
+    fn close(&mut self, link: u64) -> Result<StepNote, WorldFault>
+        ensures { IfOk result (λ note. StepsTo (CloseStep link) self.old note self.new) }
+    {
+        let now = self.time.moment();
+        let Some(wires) = self.wires.get_mut(&link) else {
+            return Ok(StepNote::Skipped);
+        };
+        if are_over(&self.nodes, wires, link) {
+            return Ok(StepNote::Skipped);
+        }
+        let _far = input_at(&mut self.nodes, &wires.receiver, link, ended(), now)?;
+        let _near = input_at(&mut self.nodes, &wires.caller, link, ended(), now)?;
+        wires.lose();
+        Ok(StepNote::Done)
+    }
+
     /// A push at the requestor of a link, in the same way.
     fn send(&mut self, link: u64) -> Result<StepNote, WorldFault>
         ensures { IfOk result (λ note. Meets pushed_at link Requestor self.old note self.new) }
@@ -143,6 +187,23 @@ impl<L: Ledger> World<L> {
         Ok(note)
     }
 }
+
+/// Whether both ends of a link are over.
+fn are_over<L: Ledger>(nodes: &BTreeMap<Text, Node<L>>, wires: &Wires, link: u64) -> bool
+    ensures { result ≡ (over_at link (tree.get text_cmp nodes.now wires.now.caller) && over_at link (tree.get text_cmp nodes.now wires.now.receiver)) }
+{
+    is_over_at(nodes, &wires.caller, link) && is_over_at(nodes, &wires.receiver, link)
+}
+
+/// The other side closed the connection.
+fn ended() -> LinkEvent
+    ensures { result ≡ event_of.Heard heard.End }
+{
+    LinkEvent::Heard(Heard::End)
+}
+
+/// Wires that are needed no more.
+fn let_go(_wires: Option<Wires>) {}
 
 /// Where nothing was written it is noted as skipped.
 fn note_of(actions: &[LinkAction]) -> StepNote
@@ -175,6 +236,19 @@ impl<L: Ledger> World<Refusing<L>> {
         Ok(note)
     }
 
+    /// These steps, one after the other, up to one for which memory ends.
+    ///
+    /// Errors: Memory.
+    pub fn play(&mut self, steps: &[Step]) -> Result<(), WorldFault>
+        ensures leads { OnOk result (Leads (mapped step_of steps.now) self.old self.new) }
+        ensures headline { OnOk result (HoldsAfterAll self.old self.new) }
+    {
+        for step in steps {
+            self.step(step)?;
+        }
+        Ok(())
+    }
+
     /// One step, where memory hasn't ended in an earlier one.
     fn perform(&mut self, step: &Step) -> Result<StepNote, WorldFault>
         ensures { IfOk result (λ note. StepsTo (step_of step.now) self.old note self.new) }
@@ -184,9 +258,11 @@ impl<L: Ledger> World<Refusing<L>> {
                 let item = item.copy()?;
                 Ok(self.submit(node, item))
             }
+            Step::Open { from, to } => self.open(from, to),
             Step::Push { link } => self.push(*link),
             Step::Abort { link, side } => self.abort(*link, *side),
             Step::Release { link } => self.release(*link),
+            Step::Close { link } => self.close(*link),
             Step::Late { link, side } => self.late(*link, *side),
             Step::Requeue { node, uid, dest } => Ok(self.requeue(node, uid, dest)),
             Step::Tick { ms } => {

@@ -1,3 +1,5 @@
+use Rattle.dr_world.proofs.Closes.{closing, all_over, no_link}
+use Rattle.dr_world.proofs.Opens.{opening, unopened}
 use Rattle.dr_world.proofs.Opening.{opened_becomes, opened_seated}
 use Rattle.dr_world.proofs.Linking.{aborting, releasing, delaying, pushing, done_at}
 use Rattle.dr_world.proofs.Asking.{aborted, released, delayed, met_at, seated_after}

@@ -1,4 +1,4 @@
-use Rattle.dr_world.specs.declared.steps.Step.TheVariants.{Submit, Push, Abort, Release, Late, Requeue, Tick, RefuseStore}
+use Rattle.dr_world.specs.declared.steps.Step.TheVariants.{Submit, Open, Push, Abort, Release, Close, Late, Requeue, Tick, RefuseStore}
 use Rattle.dr_world.specs.declared.steps.StepNote.TheVariants.{Done}
 use Rattle.dr_world.proofs.Running.{as_if, as_it, copied}
 use Rattle.dr_world.proofs.world.World+Refusing+L.perform.Goals as goal
@@ -29,3 +29,9 @@ returns-in-Tick g c = as_it c.args.self.now c.tick.new.self c.args.step.now (Tic
 
 pub returns-in-RefuseStore : goal.returns-in-RefuseStore
 returns-in-RefuseStore g c = as_it c.args.self.now c.refuse.new.self c.args.step.now (RefuseStore c.in-RefuseStore.node) c.in-RefuseStore.is c.refuse.result c.refuse.ensures.step
+
+pub returns-in-Open : goal.returns-in-Open
+returns-in-Open g c = as_if c.args.self.now c.open.new.self c.args.step.now (Open c.in-Open.from c.in-Open.to) c.in-Open.is c.open.result c.open.ensures
+
+pub returns-in-Close : goal.returns-in-Close
+returns-in-Close g c = as_if c.args.self.now c.close.new.self c.args.step.now (Close c.in-Close.link) c.in-Close.is c.close.result c.close.ensures
