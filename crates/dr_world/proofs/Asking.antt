@@ -308,4 +308,3 @@ module _ (plan : Network) (certificate : Certificate) (b : ByteWorld) (number : 
   pushed m =
       let r = pushes_if m (is_free m.k.caller.core) refl in
       (r.0, at_link m.k (note_by acts) (λ after k. PushesIf (is_free k.caller.core) plan b number k (note_by acts) after) m.has r.0 r.1, r.2)
-

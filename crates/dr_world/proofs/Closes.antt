@@ -74,10 +74,13 @@ both_over {L} {l} old b s link w wired =
 
 skipped : {L : Type 0} {l : Ghosts L} (old new : World L l) (step : WorldStep) → contents new ≡ contents old → (AllStand new → AllStand old) → ((plan : Network) (certificate : Certificate) (b : ByteWorld) → ShowsBytes (contents old) b → Steps plan certificate b step WasSkipped b)
     → StepsTo step old note.Skipped new
-skipped old new step same stood skips = (stood, λ plan certificate certified b seated s all.
-    let S : Contents → Type 0 = λ z. IsSeated plan certificate z.seats in
-    let B : Contents → Type 0 = λ z. Becomes plan certificate b step WasSkipped z in
-    (subst S (sym same) seated, ∣ subst B (sym same) (b, skips plan certificate b s, s) ∣₁))
+skipped old new step same stood skips = (
+  stood,
+  λ plan certificate certified b seated s all.
+      let S : Contents → Type 0 = λ z. IsSeated plan certificate z.seats in
+      let B : Contents → Type 0 = λ z. Becomes plan certificate b step WasSkipped z in
+      (subst S (sym same) seated, ∣ subst B (sym same) (b, skips plan certificate b s, s) ∣₁),
+)
 
 pub no_link : {L : Type 0} {l : Ghosts L} (w : World L l) (wires : BTreeMap ℕ Wires) (link : ℕ) → None ≡ tree.get nat_cmp w.wires link → wires ≡ w.wires
     → StepsTo (Close link) w note.Skipped (record { alloc = w.alloc; time = w.time; opened = w.opened; nodes = w.nodes; wires = wires; lost = w.lost })
@@ -157,10 +160,14 @@ module _ {L : Type 0} {l : Ghosts L} (old new : World L l) (link : ℕ) (w v : W
   module _ (some : (over_at link (tree.get text_cmp old.nodes w.caller) && over_at link (tree.get text_cmp old.nodes w.receiver)) ≡ false) where
     pub closing : StepsTo (Close link) old note.Done new
     unfolding is_closed
-    closing = ((λ all. first.2 (second.2 all)), λ plan certificate certified b seated s all.
-        let d = is_closed all in
-        (closed_seated plan certificate certified (contents old) b seated s link (contents new) d,
-        ∣ closed_becomes plan certificate certified (contents old) b seated s link (contents new) d (ap not (sym (both_over old b s link w (sym wired)) ∙ some)) ∣₁))
+    closing = (
+      (λ all. first.2 (second.2 all)),
+      λ plan certificate certified b seated s all.
+          let d = is_closed all in (
+            closed_seated plan certificate certified (contents old) b seated s link (contents new) d,
+            ∣ closed_becomes plan certificate certified (contents old) b seated s link (contents new) d (ap not (sym (both_over old b s link w (sym wired)) ∙ some)) ∣₁,
+          ),
+    )
 
 -- as the calls have it
 pub closing_as : {L : Type 0} {l : Ghosts L} (old : World L l) (link now : ℕ) (w v : Wires) (wires : BTreeMap ℕ Wires) (mid nodes : BTreeMap Text (Node L l)) (acts own_acts : List LinkAction) (e f : LinkEvent) → e ≡ event.Heard heard.End → f ≡ event.Heard heard.End → now ≡ old.time.passed

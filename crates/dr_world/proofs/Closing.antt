@@ -170,7 +170,7 @@ module _ (plan : Network) (certificate : Certificate) (certified : IsCertified p
       let both = subst R (sym linked.receiver) (subst C (sym linked.caller) (named, shown_new)) in
       let D : Bool → Type 0 = λ v. DoesIf v b Done (result (caller_of k) (receiver_of k)) (Closes plan b number k (result (caller_of k) (receiver_of k))) in
       let P : Option Channel → Type 0 = λ o. LinkStep o b Done (result (caller_of k) (receiver_of k))
-          (λ z. DoesIf (not (is_over z.caller.core && is_over z.receiver.core)) b Done (result (caller_of k) (receiver_of k)) (Closes plan b number z (result (caller_of k) (receiver_of k)))) in
+      (λ z. DoesIf (not (is_over z.caller.core && is_over z.receiver.core)) b Done (result (caller_of k) (receiver_of k)) (Closes plan b number z (result (caller_of k) (receiver_of k)))) in
       (result (caller_of k) (receiver_of k), subst P (sym there.1) (subst D (sym some) (refl, both.0)), both.1)
 
   pub closed_seated : IsSeated plan certificate new.seats

@@ -77,10 +77,13 @@ module _ {L : Type 0} {l : Ghosts L} (does : Part → Deed Desk) (old new : Worl
   pub done_at : (now : ℕ) → now ≡ old.time.passed → IsDoneAt does (name_at side w) link now old.nodes acts new.nodes → (note : StepNote) → noted note ≡ note_by acts → Meets does link side old note new
   done_at now at h note noted_so =
       let P : Option Wires → Type 0 = λ o. MeetsIn does o link side old note new in
-      subst P wired (h.2, λ all. (
-        let d = h.3 all in
-        let D : ℕ → Type 0 = λ m. Does (does (l.site h.0.desk.ledger)) m link h.0.links (seat_of h.0).desk (Ok acts) d.0 d.1 in
-        (acts, noted_so, by_side h.0 h.1 d.0 d.1 (map.get h.0.links link) refl (subst D at d.2) d.3)))
+      subst P wired (
+        h.2,
+        λ all. (
+            let d = h.3 all in
+            let D : ℕ → Type 0 = λ m. Does (does (l.site h.0.desk.ledger)) m link h.0.links (seat_of h.0).desk (Ok acts) d.0 d.1 in
+            (acts, noted_so, by_side h.0 h.1 d.0 d.1 (map.get h.0.links link) refl (subst D at d.2) d.3)),
+      )
 
 -- the same, as the call has it
 pub done_named : {L : Type 0} {l : Ghosts L} (does : Part → Deed Desk) (old new : World L l) (link : ℕ) (side : Side) (w v : Wires) (acts written_acts noted_acts : List LinkAction) → written_acts ≡ acts → noted_acts ≡ acts → Some w ≡ tree.get nat_cmp old.wires link
@@ -113,16 +116,22 @@ module _ {L : Type 0} {l : Ghosts L} (old new : World L l) (note : StepNote) (do
     (steps : (plan : Network) (certificate : Certificate) → IsCertified plan certificate → (c : Contents) (b : ByteWorld) → IsSeated plan certificate c.seats → ShowsBytes c b → (acts : List LinkAction) (after : Contents) → IsDone does 0 c link side acts after
     → Becomes plan certificate b step (note_by acts) after) where
   met_in : (o : Option Wires) → tree.get nat_cmp old.wires link ≡ o → MeetsIn does o link side old note new → StepsTo step old note new
-  met_in None none h = ((λ all. (let P : BTreeMap Text (Node L l) → Type 0 = λ m. AllStandIn m in subst P h.2 all)), λ plan certificate certified b s shown all.
-      let b_is : Becomes plan certificate b step WasSkipped (contents old) = (b, skips plan certificate b (unlinked (contents old) b shown link none), shown) in (
-        subst (λ (x : Contents). IsSeated plan certificate x.seats) (sym h.1) s,
-        ∣ subst (λ (n : StepNote). Becomes plan certificate b step (noted n) (contents new)) (sym h.0) (subst (λ (x : Contents). Becomes plan certificate b step WasSkipped x) (sym h.1) b_is) ∣₁,
-      ))
-  met_in (Some w) has h = (h.0, λ plan certificate certified b s shown all.
-      let d = h.1 all in (
-        seated_after plan certificate certified (contents old) b s shown does 0 link d.0 (contents new) side d.2,
-        ∣ subst (λ (n : bytes.StepNote). Becomes plan certificate b step n (contents new)) (sym d.1) (steps plan certificate certified (contents old) b s shown d.0 (contents new) d.2) ∣₁,
-      ))
+  met_in None none h = (
+    (λ all. (let P : BTreeMap Text (Node L l) → Type 0 = λ m. AllStandIn m in subst P h.2 all)),
+    λ plan certificate certified b s shown all.
+        let b_is : Becomes plan certificate b step WasSkipped (contents old) = (b, skips plan certificate b (unlinked (contents old) b shown link none), shown) in (
+          subst (λ (x : Contents). IsSeated plan certificate x.seats) (sym h.1) s,
+          ∣ subst (λ (n : StepNote). Becomes plan certificate b step (noted n) (contents new)) (sym h.0) (subst (λ (x : Contents). Becomes plan certificate b step WasSkipped x) (sym h.1) b_is) ∣₁,
+        ),
+  )
+  met_in (Some w) has h = (
+    h.0,
+    λ plan certificate certified b s shown all.
+        let d = h.1 all in (
+          seated_after plan certificate certified (contents old) b s shown does 0 link d.0 (contents new) side d.2,
+          ∣ subst (λ (n : bytes.StepNote). Becomes plan certificate b step n (contents new)) (sym d.1) (steps plan certificate certified (contents old) b s shown d.0 (contents new) d.2) ∣₁,
+        ),
+  )
 
   pub met : Meets does link side old note new → StepsTo step old note new
   met h = met_in (tree.get nat_cmp old.wires link) refl h

@@ -143,13 +143,16 @@ module _ {L : Type 0} {l : Ghosts L} (old new : World L l) (from to : Text) (act
     }
 
   pub opening : StepsTo (Open from to) old note.Done new
-  opening = (stood, λ plan certificate certified b seated s all.
-      let e = seated.each from (seat_of opens.0) (ap (option_map seat_of) opens.4.was) in
-      let R : Type 0 = ∥ IsOpened from to (contents old) (contents new) ∥₁ in
-      let made : ∥ IsOpened from to (contents old) (contents new) ∥₁ =
-      ∥∥₁_elim opens.0.of ∥∥₁_prop (λ near. ∥∥₁_map accepts.0.of (λ far. is_opened (λ same. hops_elsewhere plan certificate certified (l.site opens.0.desk.ledger) e.1 to opens.2.0
-      (let P : Part → Type 0 = λ p. IsHopTo p to opens.2.0 in subst P (sym near) opens.2.1) (e.0 ∙ sym same)) near far)) in
-      (seated_in plan certificate certified b seated s, ∥∥₁_map made (λ o. opened_becomes plan certificate certified (contents old) b seated s from to (contents new) o)))
+  opening = (
+    stood,
+    λ plan certificate certified b seated s all.
+        let e = seated.each from (seat_of opens.0) (ap (option_map seat_of) opens.4.was) in
+        let R : Type 0 = ∥ IsOpened from to (contents old) (contents new) ∥₁ in
+        let made : ∥ IsOpened from to (contents old) (contents new) ∥₁ =
+        ∥∥₁_elim opens.0.of ∥∥₁_prop (λ near. ∥∥₁_map accepts.0.of (λ far. is_opened (λ same. hops_elsewhere plan certificate certified (l.site opens.0.desk.ledger) e.1 to opens.2.0
+        (let P : Part → Type 0 = λ p. IsHopTo p to opens.2.0 in subst P (sym near) opens.2.1) (e.0 ∙ sym same)) near far)) in
+        (seated_in plan certificate certified b seated s, ∥∥₁_map made (λ o. opened_becomes plan certificate certified (contents old) b seated s from to (contents new) o)),
+  )
     where
       seated_in : (plan : Network) (certificate : Certificate) → IsCertified plan certificate → (b : ByteWorld) → IsSeated plan certificate (contents old).seats → ShowsBytes (contents old) b → IsSeated plan certificate (contents new).seats
       seated_in plan certificate certified b seated s =
@@ -183,11 +186,13 @@ module _ {L : Type 0} {l : Ghosts L} (old : World L l) (from to : Text) (none : 
 
 pub unopened : {L : Type 0} {l : Ghosts L} (old new : World L l) (from to : Text) (link : ℕ) → new.time ≡ old.time → new.opened ≡ old.opened → new.wires ≡ old.wires → OpensAt from to link old.time.passed old.nodes None new.nodes → StepsTo (Open from to) old note.Skipped new
 unopened {L} {l} old new from to link time opened wires h =
-    let same : contents new ≡ contents old = (λ i. record { now = (time i).passed; opened = opened i; seats = λ q. option_map seat_of (h.1 q i); wires = λ q. tree.get nat_cmp (wires i) q }) in
-    ((λ all q m is. all q m (h.1 q ∙ is)), λ plan certificate certified b seated s all.
-    let S : Contents → Type 0 = λ z. IsSeated plan certificate z.seats in
-    let B : Contents → Type 0 = λ z. Becomes plan certificate b (Open from to) WasSkipped z in
-    (subst S (sym same) seated, ∣ subst B (sym same) (b, inr (no_hop old from to h.0 plan certificate seated, (refl, refl)), s) ∣₁))
+    let same : contents new ≡ contents old = (λ i. record { now = (time i).passed; opened = opened i; seats = λ q. option_map seat_of (h.1 q i); wires = λ q. tree.get nat_cmp (wires i) q }) in (
+      (λ all q m is. all q m (h.1 q ∙ is)),
+      λ plan certificate certified b seated s all.
+          let S : Contents → Type 0 = λ z. IsSeated plan certificate z.seats in
+          let B : Contents → Type 0 = λ z. Becomes plan certificate b (Open from to) WasSkipped z in
+          (subst S (sym same) seated, ∣ subst B (sym same) (b, inr (no_hop old from to h.0 plan certificate seated, (refl, refl)), s) ∣₁),
+    )
 
 -- as the calls have it
 pub unopened_as : {L : Type 0} {l : Ghosts L} (old : World L l) (from to : Text) (link now : ℕ) (o : Option (List LinkAction)) (nodes : BTreeMap Text (Node L l)) → o ≡ None → now ≡ old.time.passed → OpensAt from to link now old.nodes o nodes

@@ -51,25 +51,34 @@ module _ {L : Type 0} {l : Ghosts L} (old new : World L l) (note : StepNote) whe
   same_stood same h = let P : BTreeMap Text (Node L l) → Type 0 = λ m. (name : Text) (n : Node L l) → tree.get text_cmp m name ≡ Some n → l.stands n.desk.ledger in subst P same h
 
   pub ticked : (ms : ℕ) → HasTicked ms old new → StepsTo (Tick ms) old Done new
-  ticked ms h = (same_stood h.1, λ plan certificate certified b s shown all.
-      let c : Contents = with_time (contents old) (min (old.time.passed + ms) (2 ^ 62)) in
-      (subst (λ (x : Contents). IsSeated plan certificate x.seats) (sym h.0) s, ∣ subst (λ (x : Contents). Becomes plan certificate b (Tick ms) bytes.Done x) (sym h.0) (ticks plan certificate (contents old) b shown ms) ∣₁))
+  ticked ms h = (
+    same_stood h.1,
+    λ plan certificate certified b s shown all.
+        let c : Contents = with_time (contents old) (min (old.time.passed + ms) (2 ^ 62)) in
+        (subst (λ (x : Contents). IsSeated plan certificate x.seats) (sym h.0) s, ∣ subst (λ (x : Contents). Becomes plan certificate b (Tick ms) bytes.Done x) (sym h.0) (ticks plan certificate (contents old) b shown ms) ∣₁),
+  )
 
   module _ (does : Seat → StepNote → Desk → Type 0) (step : WorldStep) (name : Text) (at_node : IsAtNode step name)
       (shows : (plan : Network) (certificate : Certificate) → IsCertified plan certificate → (b : ByteWorld) → IsSeated plan certificate (contents old).seats → ShowsBytes (contents old) b →
       (seat : Seat) → (contents old).seats name ≡ Some seat → (t : Desk) → does seat note t → Becomes plan certificate b step (noted note) (with_seats (contents old) name (with_desk_of seat t))) where
     steps_in : (o : Option (Node L l)) → tree.get text_cmp old.nodes name ≡ o → CallsIn does o name old note new → StepsTo step old note new
-    steps_in None none h = (same_stood h.2, λ plan certificate certified b s shown all.
-        let b_is : Becomes plan certificate b step bytes.Skipped (contents old) = strangers plan certificate (contents old) b s shown name (ap (option_map seat_of) none) step at_node in (
-          subst (λ (x : Contents). IsSeated plan certificate x.seats) (sym h.1) s,
-          ∣ subst (λ (n : StepNote). Becomes plan certificate b step (noted n) (contents new)) (sym h.0) (subst (λ (x : Contents). Becomes plan certificate b step bytes.Skipped x) (sym h.1) b_is) ∣₁,
-        ))
-    steps_in (Some n) has h = (h.0, λ plan certificate certified b s shown all.
-        let d = h.1 all in
-        let is : (contents old).seats name ≡ Some (seat_of n) = ap (option_map seat_of) has in (
-          subst (λ (x : Contents). IsSeated plan certificate x.seats) (sym d.2) (seated plan certificate (contents old).seats name (seat_of n) d.0 is s),
-          ∣ subst (λ (x : Contents). Becomes plan certificate b step (noted note) x) (sym d.2) (shows plan certificate certified b s shown (seat_of n) is d.0 d.1) ∣₁,
-        ))
+    steps_in None none h = (
+      same_stood h.2,
+      λ plan certificate certified b s shown all.
+          let b_is : Becomes plan certificate b step bytes.Skipped (contents old) = strangers plan certificate (contents old) b s shown name (ap (option_map seat_of) none) step at_node in (
+            subst (λ (x : Contents). IsSeated plan certificate x.seats) (sym h.1) s,
+            ∣ subst (λ (n : StepNote). Becomes plan certificate b step (noted n) (contents new)) (sym h.0) (subst (λ (x : Contents). Becomes plan certificate b step bytes.Skipped x) (sym h.1) b_is) ∣₁,
+          ),
+    )
+    steps_in (Some n) has h = (
+      h.0,
+      λ plan certificate certified b s shown all.
+          let d = h.1 all in
+          let is : (contents old).seats name ≡ Some (seat_of n) = ap (option_map seat_of) has in (
+            subst (λ (x : Contents). IsSeated plan certificate x.seats) (sym d.2) (seated plan certificate (contents old).seats name (seat_of n) d.0 is s),
+            ∣ subst (λ (x : Contents). Becomes plan certificate b step (noted note) x) (sym d.2) (shows plan certificate certified b s shown (seat_of n) is d.0 d.1) ∣₁,
+          ),
+    )
 
     pub steps : Calls does name old note new → StepsTo step old note new
     steps h = steps_in (tree.get text_cmp old.nodes name) refl h
