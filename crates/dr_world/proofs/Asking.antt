@@ -76,11 +76,11 @@ abbrev pub did_at : Side → Channel → Effect → Channel
 did_at Requestor k x = caller_did k x
 did_at Acceptor k x = receiver_did k x
 
-wire_of : Side → Channel → List ℕ
+abbrev pub wire_of : Side → Channel → List ℕ
 wire_of Requestor k = k.to_caller
 wire_of Acceptor k = k.to_receiver
 
-named_so : (seats : Seats) (number : ℕ) (w : Wires) (k : Channel) → IsLinked seats number w k → (side : Side) → node_of side k ≡ name_at side w
+pub named_so : (seats : Seats) (number : ℕ) (w : Wires) (k : Channel) → IsLinked seats number w k → (side : Side) → node_of side k ≡ name_at side w
 named_so seats number w k l Requestor = l.caller
 named_so seats number w k l Acceptor = l.receiver
 
@@ -125,13 +125,13 @@ Does = Part → Moment → End → Desk → Result (List LinkAction) AllocError 
 module _ (plan : Network) (certificate : Certificate) (certified : IsCertified plan certificate) (c : Contents) (b : ByteWorld) (seated : IsSeated plan certificate c.seats) (s : ShowsBytes c b) (does : Part → Moment → End → Desk → Result (List LinkAction) AllocError → End → Desk → Type 0)
     (taken number : ℕ) (acts : List LinkAction) (new : Contents) where
   -- the link's channel and its side at the node
-  record Found (side : Side) (d : IsDone does taken c number side acts new) : Type 0 where
+  pub record Found (side : Side) (d : IsDone does taken c number side acts new) : Type 0 where
     pub k : Channel
     pub has : map.get b.links number ≡ Some k
     pub linked : IsLinked c.seats number d.wires k
     pub had : map.get d.seat.sides number ≡ Some (side_of (accepts side) (end_of side k))
 
-  found : (side : Side) (d : IsDone does taken c number side acts new) → Found side d
+  pub found : (side : Side) (d : IsDone does taken c number side acts new) → Found side d
   found side d =
       let l = linked_there c b s number d.wires d.wired in
       let there = sided c.seats number d.wires l.0 l.2 side in
@@ -147,7 +147,7 @@ module _ (plan : Network) (certificate : Certificate) (certified : IsCertified p
       let P : Contents → Type 0 = λ z. IsSeated plan certificate z.seats in
       subst P (sym d.is) (still_seated plan certificate c.seats (name_at side d.wires) d.seat (Rattle.dr_world.specs.Shows.with_side d.seat number (with_end d.own d.end) d.desk) d.seated refl seated)
 
-  shown : (side : Side) (d : IsDone does taken c number side acts new) (f : Found side d) (x : Effect) (ear : Feeding) → x.core.site ≡ (end_of side f.k).core.site → acts ≡ x.acts
+  pub shown : (side : Side) (d : IsDone does taken c number side acts new) (f : Found side d) (x : Effect) (ear : Feeding) → x.core.site ≡ (end_of side f.k).core.site → acts ≡ x.acts
       → with_end d.own d.end ≡ side_of (accepts side) (record { core = x.core; ear = ear }) → ShowsBytes new (with_done b (name_at side d.wires) d.desk number (read_at side f.k taken ear x))
   shown Requestor d f x ear site acts_are own =
       let r = caller_done c b s number d.wires d.after f.k d.wired f.linked d.written.caller d.written.receiver d.seat ear x d.desk (drop taken f.k.to_caller) d.seated f.had site

@@ -16,3 +16,4 @@ pub mod Opening
 pub mod Opens
 pub mod Closing
 pub mod Closes
+pub mod Moving

@@ -1,5 +1,5 @@
 -- What is done to a world's contents is a step of the world of bytes beside it.
-use Rattle.std.specs.Prelude.{◌≡◌, ℕ, ◌+◌, ◌^◌, min, true, false, List, length, Some, None}
+use Rattle.std.specs.Prelude.{◌≡◌, ℕ, ◌+◌, ◌^◌, ◌≢◌, min, nat_le, true, false, List, [], length, take, Some, None}
 use Rattle.std.specs.FinMap as map
 use Rattle.dr_base.specs.Texts.{Text}
 use Rattle.dr_route.specs.Routes.{local}
@@ -18,7 +18,14 @@ use Rattle.dr_ledger.specs.Refusals.{Arms}
 use Rattle.dr_ledger.specs.Replies.{Requeues, IsHeld}
 use Rattle.dr_node.specs.Sides.{others}
 use Rattle.dr_model.specs.Calls.{Reply, Answer}
-use Rattle.dr_tie.specs.ByteWorlds.{ByteWorld, beginning, WorldStep, Submit, Restart, Requeue, Tick, Refuse, Done, Skipped, AreOthers, note_of}
+use Rattle.dr_tie.specs.ByteWorlds.{ByteWorld, beginning, WorldStep, Submit, Move, Restart, Requeue, Tick, Refuse, Side, Done, Skipped, AreOthers, IsMoved, note_of}
+use Rattle.dr_session.specs.declared.ends.Heard.TheVariants as heard
+use Rattle.dr_session.specs.declared.ends.LinkAction.{LinkAction}
+use Rattle.dr_session.specs.Ends.{is_gone, state_in}
+use Rattle.dr_node.specs.declared.event.LinkEvent.TheVariants as event
+use Rattle.dr_tie.specs.Channels.{Terminal}
+use Rattle.dr_world.specs.Ends.{IsDone, wire_at}
+use Rattle.dr_world.specs.Nodes.{event_at}
 use Rattle.dr_world.specs.Shows.{Contents, Seat, ShowsBytes, IsSeated, Becomes, with_seat, with_desk_of}
 
 -- How many links a node has accepted and not left is how many others the world of bytes counts.
@@ -87,3 +94,12 @@ RefuseIsShown = (plan : Network) (certificate : Certificate) (c : Contents) (b :
 -- Whatever happens at an end, it stays of its site.
 abbrev pub EndStaysOfItsSite : {S : Type 0} → (S → DeskCall → DeskAnswer → S → Type 0) → Type 0
 EndStaysOfItsSite {S} step = (c : Core) (i : At) (s : S) (x : Effect) (t : S) → Reacts step c i s x t → x.core.site ≡ c.site
+
+-- ---- bytes that come
+
+-- The first bytes of an end's wire that come to it are a Move of at most n bytes, where the end isn't over, there are some, and so many
+-- of them came as belong to the PDU at the front.
+abbrev pub MoveIsShown : Type 0
+MoveIsShown = (plan : Network) (certificate : Certificate) → IsCertified plan certificate → (c : Contents) (b : ByteWorld) → IsSeated plan certificate c.seats → ShowsBytes c b → (link n m : ℕ) (side : Side) (piece : List ℕ) (acts : List LinkAction) (new : Contents) →
+    (d : IsDone (event_at (event.Heard (heard.Bytes piece))) m c link side acts new) → piece ≡ take m (wire_at side d.wires) → wire_at side d.wires ≢ [] → nat_le 1 n ≡ true → is_gone (state_in d.own.end.core) ≡ false →
+    ((t : Terminal) → t.ear ≡ d.own.end.ear → IsMoved t (wire_at side d.wires) n m) → Becomes plan certificate b (Move link side n) Done new

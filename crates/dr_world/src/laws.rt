@@ -1,5 +1,5 @@
 //! Laws: what is done to a world's contents is a step of the world of bytes beside it.
-ghost use Rattle.dr_world.specs.Laws.{EndStaysOfItsSite, NewIsBeginning, OthersAreCounted, RefuseIsShown, RequeueIsShown, StrangerIsSkipped, SubmitIsShown, TickIsShown};
+ghost use Rattle.dr_world.specs.Laws.{EndStaysOfItsSite, MoveIsShown, NewIsBeginning, OthersAreCounted, RefuseIsShown, RequeueIsShown, StrangerIsSkipped, SubmitIsShown, TickIsShown};
 
 use dr_session::DeskPort;
 
@@ -29,4 +29,9 @@ pub fn acts_at_nodes()
 /// A world in which nothing was done yet stands beside the beginning.
 pub fn begins()
     ensures { NewIsBeginning }
+{}
+
+/// Bytes that come to an end are a Move, where so many came as belong to the PDU at the front.
+pub fn moves()
+    ensures { MoveIsShown }
 {}
