@@ -17,3 +17,4 @@ pub mod Opens
 pub mod Closing
 pub mod Closes
 pub mod Moving
+pub mod Founded

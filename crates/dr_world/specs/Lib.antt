@@ -6,3 +6,4 @@ pub mod Nodes
 pub mod Runs
 pub mod Opened
 pub mod Closed
+pub mod Founding

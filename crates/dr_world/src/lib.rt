@@ -10,6 +10,7 @@
 
 mod calls;
 pub mod fault;
+pub mod founding;
 pub mod laws;
 pub mod steps;
 pub mod time;

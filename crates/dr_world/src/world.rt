@@ -1,5 +1,5 @@
 //! The simulated world: each node over its own ledger, and the wires of each link.
-ghost use Rattle.std.specs.Prelude.{◌≡◌, ◌&&◌, IfOk, IsErr, OnOk, map as mapped, true};
+ghost use Rattle.std.specs.Prelude.{◌≡◌, ◌&&◌, [], IfOk, IsErr, OnOk, map as mapped, true, false};
 ghost use Rattle.std.specs.BTreeMap as tree;
 ghost use Rattle.dr_base.specs.Texts.{text_cmp};
 ghost use Rattle.dr_session.specs.declared.ends.Heard.TheVariants as heard;
@@ -38,6 +38,24 @@ pub struct World<L: Ledger> {
 }
 
 impl<L: Ledger> World<L> {
+    /// A world of these nodes at time 0, without a link.
+    pub(crate) fn of_nodes(alloc: Global, nodes: BTreeMap<Text, Node<L>>) -> World<L>
+        ensures nodes { result.nodes ≡ nodes }
+        ensures time { result.time.passed ≡ 0 }
+        ensures opened { result.opened ≡ 0 }
+        ensures wires { result.wires.entries ≡ [] }
+        ensures lost { result.lost ≡ false }
+    {
+        World {
+            alloc,
+            time: Time::new(),
+            opened: 0,
+            nodes,
+            wires: BTreeMap::new(alloc),
+            lost: false,
+        }
+    }
+
     /// Time passes by so many milliseconds; it ends at 2^62.
     fn tick(&mut self, ms: u64)
         ensures ticks { HasTicked ms self.old self.new }
