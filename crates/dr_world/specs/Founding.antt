@@ -33,7 +33,8 @@ pub record IsFounded {L : Type 0} {l : Ghosts L} (plan : Network) (certificate :
 abbrev pub Founds : {L : Type 0} {l : Ghosts L} → Network → Certificate → Text → BTreeMap Text (Node L l) → BTreeMap Text (Node L l) → Type 0
 Founds {L} {l} plan certificate name old new = (n : Node L l) × IsFounded plan certificate name n × tree.Updates text_cmp old new name (Some n)
 
--- each node is founded, and each of these names has one
+-- each node is founded, and these names have one, and no other
 pub record AreFounded {L : Type 0} {l : Ghosts L} (plan : Network) (certificate : Certificate) (names : List Text) (nodes : BTreeMap Text (Node L l)) : Type 0 where
   pub each : (name : Text) (n : Node L l) → tree.get text_cmp nodes name ≡ Some n → IsFounded plan certificate name n
   pub all : (name : Text) → Contains names name → (n : Node L l) × (tree.get text_cmp nodes name ≡ Some n)
+  pub only : (name : Text) (n : Node L l) → tree.get text_cmp nodes name ≡ Some n → Contains names name

@@ -1,12 +1,9 @@
 //! How a world begins.
-ghost use Rattle.std.specs.Prelude.{◌≡◌, ◌≢◌, ◌⊎◌, Err, IfErr, IfOk, OnOk, length, true, false};
+ghost use Rattle.std.specs.Prelude.{◌≡◌, [], IfOk, OnOk, length, true, false};
 ghost use Rattle.std.specs.Vec.{vec_len};
 ghost use Rattle.std.specs.FinMap as map;
 ghost use Rattle.dr_world.specs.Founding.{AreFounded, AreNames, Founds, SaysEmpty};
-ghost use Rattle.dr_world.specs.Laws.{IsNew};
-ghost use Rattle.dr_world.specs.Shows.{IsSeated};
-ghost use Rattle.dr_world.specs.Whole.{AllStand, contents};
-ghost use Rattle.dr_world.specs.declared.fault.WorldFault.TheVariants.{WrongLedgers, Memory as NoMemory};
+ghost use Rattle.dr_world.specs.Runs.{IsReached};
 
 use crate::fault::WorldFault;
 use crate::world::World;
@@ -123,8 +120,7 @@ impl<L: Ledger + Drop> World<Refusing<L>> {
         sealed: &Sealed,
         ledgers: Vec<L>,
     ) -> Result<World<Refusing<L>>, WorldFault>
-        ensures seated { IfOk result (λ w. IsSeated sealed.now.plan sealed.now.certificate (contents w).seats) }
-        ensures new { IfOk result (λ w. AllStand w → ∥ IsNew (contents w) ∥₁) }
+        ensures { IfOk result (IsReached sealed.now.plan sealed.now.certificate []) }
     {
         let names = names_of(alloc, sealed.plan())?;
         if names.len() != ledgers.len() {

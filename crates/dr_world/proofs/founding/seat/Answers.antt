@@ -1,4 +1,4 @@
-use Rattle.std.proofs.Common.{◌≡◌, ap, sym, subst, ◌∙◌}
+use Rattle.std.proofs.Common.{◌≡◌, Some, ap, sym, subst, ◌∙◌}
 use Rattle.std.specs.BTreeMap as tree
 use Rattle.dr_base.specs.Texts.{Text, text_cmp}
 use Rattle.dr_site.specs.Parts.{Part, IsPartOf}
@@ -16,5 +16,5 @@ returns g c =
         armed = c.in_ok-node.ensures.armed;
         empty = c.in_ok-node.ensures.empty;
       },
-      subst (λ (k : Text). tree.Updates text_cmp c.args.nodes.now c.insert.new.self k _) c.in_ok-name.ensures c.in_ok-insert.ensures.updates,
+      subst (λ (k : Text). tree.Updates text_cmp c.args.nodes.now c.insert.new.self k (Some c.in_ok-node.node)) c.in_ok-name.ensures c.in_ok-insert.ensures.updates,
     )
