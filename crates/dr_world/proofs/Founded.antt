@@ -100,7 +100,7 @@ module _ {L : Type 0} {l : Ghosts L} (plan : Network) (certificate : Certificate
   all_bare all = choose (λ name. (n : Node L l) → tree.get text_cmp nodes name ≡ Some n → l.book n.desk.ledger ≡ empty_book) names (λ name among.
       (let h = f.all name among in
       ∥∥₁_map (book_is_empty l h.0.desk.ledger (all name h.0 h.1) ((f.each name h.0 h.1).empty (all name h.0 h.1)))
-        (λ bare n is. (let e : Some h.0 ≡ Some n = sym h.1 ∙ is in let same : h.0 ≡ n = cc in subst (λ (m : Node L l). l.book m.desk.ledger ≡ empty_book) same bare))))
+      (λ bare n is. (let e : Some h.0 ≡ Some n = sym h.1 ∙ is in let same : h.0 ≡ n = cc in subst (λ (m : Node L l). l.book m.desk.ledger ≡ empty_book) same bare))))
 
   seat_in : (name : Text) (seat : Seat) → seats_of nodes name ≡ Some seat → (n : Node L l) × (tree.get text_cmp nodes name ≡ Some n) × (seat_of n ≡ seat)
   seat_in name seat e = by (tree.get text_cmp nodes name) refl e

@@ -4,8 +4,8 @@
 //! bytes it is, is said in `specs/Shows.antt`. Each step of a world is that step of the world of bytes beside it (`World::step`), so
 //! the headline's four claims hold of its nodes' books after it.
 //!
-//! Open: the step that moves bytes to an end, for which an end would have to tell what it keeps; the restart of a node; and a
-//! world that is made of a sealed plan, with a run from there.
+//! A world begins by `World::with`, over a new ledger for each node of a sealed plan. Open: the step that moves bytes to an end, for which
+//! an end would have to tell what it keeps; and the restart of a node.
 #![tactic(auto)]
 
 mod calls;

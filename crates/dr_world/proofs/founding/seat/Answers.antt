@@ -6,8 +6,7 @@ use Rattle.dr_world.proofs.founding.seat.Goals as goal
 
 pub returns : goal.returns
 returns g c =
-    let site = c.in_ok-node.ensures.site in
-    (
+    let site = c.in_ok-node.ensures.site in (
       c.in_ok-node.node,
       record {
         named = ap (λ (s : Part). s.name) site ∙ c.in-Ok.ensures.0;

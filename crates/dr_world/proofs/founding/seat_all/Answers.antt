@@ -15,8 +15,7 @@ loop-ledger-preserved g c =
     let place = c.loop-ledger.place in
     let here : get_or names place name ≡ name = sym c.index-names-place.is in
     let more : take (place + 1) names ≡ take place names ++ name ∷ [] = take_more names place name (omega arith) ∙ ap (λ (x : Text). take place names ++ x ∷ []) here in
-    let P : List Text → Type 0 = λ ns. AreFounded c.args.sealed.now.plan c.args.sealed.now.certificate ns c.seat.new.nodes in
-    (
+    let P : List Text → Type 0 = λ ns. AreFounded c.args.sealed.now.plan c.args.sealed.now.certificate ns c.seat.new.nodes in (
       subst P (sym more) (founded_more c.args.sealed.now.plan c.args.sealed.now.certificate c.loop-ledger.nodes c.seat.new.nodes name c.in_ok-seat.ensures (take place names) c.loop-ledger.invariant.0),
       omega arith,
     )
