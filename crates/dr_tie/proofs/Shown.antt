@@ -1,7 +1,7 @@
 -- Steps of a world of bytes are events of the message world beside it.
 use Rattle.std.proofs.Common.{◌≡◌, ◌≢◌, ℕ, ◌<◌, Bool, true, false, List, [], ◌∷◌, length, take, Option, Some, None, refl, sym, ap, subst, ◌∙◌, inl, inr, ◌⊎◌, arith}
 use Rattle.std.proofs.Math.Logic.{∥∥₁_map}
-use Rattle.std.specs.Prelude.{◌&&◌, not, is_some, nat_le}
+use Rattle.std.specs.Prelude.{◌&&◌, ◌||◌, not, is_some, nat_le}
 use Rattle.std.specs.FinMap as map_of
 use Rattle.std.specs.Ordering.{nat_cmp, eq_by_cmp}
 use Rattle.std.specs.Option.{option_map_or}
@@ -17,7 +17,7 @@ use Rattle.dr_ulstate.specs.declared.table.Event.{Event as UpperEvent}
 use Rattle.dr_ulstate.specs.declared.table.Event.TheVariants.{AbortRequest, ReleaseRequest}
 use Rattle.dr_ulstate.specs.Table.{action_of}
 use Rattle.dr_ulstate.specs.Standing.{Standing}
-use Rattle.dr_ulstate.specs.Phases.{state_of, may_send}
+use Rattle.dr_ulstate.specs.Phases.{state_of, may_send, next_expired}
 use Rattle.dr_ledger.proofs.Maps.{get_new, get_other, same_or_not, ties_itself}
 use Rattle.dr_model.proofs.Lookups.{numbers}
 use Rattle.dr_model.specs.Worlds.{World, Link, Stage, Asking, Answering, Rejecting, Open as OpenStage, Storing, Replying, Gone}
@@ -30,12 +30,12 @@ use Rattle.dr_session.specs.declared.ends.Input.TheVariants.{Ended, Late as Late
 use Rattle.dr_session.specs.declared.ends.Moment.{Moment}
 use Rattle.dr_session.specs.declared.ends.Pending.{Pending}
 use Rattle.dr_session.specs.Plays.{Reacts, PlaysBytes, at_moment}
-use Rattle.dr_session.specs.Reactions.{effect, is_idle, is_free, is_requestor}
+use Rattle.dr_session.specs.Reactions.{effect, is_idle, is_free, is_impatient, is_requestor}
 use Rattle.dr_tie.specs.Desks.{Desk, LedgerStep}
 use Rattle.dr_tie.specs.Channels.{Terminal, Channel, ShowsLink, IsCaller, IsReceiver, IsAt, IsOff, site_of}
 use Rattle.dr_tie.specs.Ties.{IsData, IsDeskOf, Happens, caller_did, receiver_did, caller_read, receiver_read, is_late}
 use Rattle.dr_tie.specs.Nodes.{HappensAt}
-use Rattle.dr_tie.specs.ByteWorlds.{ByteWorld, WorldStep, Submit, Open, Push, Move, Abort, Release, Close, Late, Restart, Requeue, Tick, Refuse, Side, Requestor, Acceptor, StepNote, Done, Skipped, Skips, DoesIf, ReadsIf, LinkStep, NodeStep, Steps, CallerMeets, CallerPushes, PushesIf, ReceiverMeets, Meets, CallerHears, ReceiverHears, CallerReads, ReceiverReads, Moves, Closes, IsMoment, IsMoved, caller_of, receiver_of, with_done, with_call, has_cell, is_over}
+use Rattle.dr_tie.specs.ByteWorlds.{ByteWorld, WorldStep, Submit, Open, Push, Move, Abort, Release, Close, Late, Restart, Requeue, Tick, Refuse, Side, Requestor, Acceptor, StepNote, Done, Skipped, Skips, DoesIf, ReadsIf, LinkStep, NodeStep, Steps, CallerMeets, CallerPushes, PushesIf, ReceiverMeets, Meets, CallerHears, ReceiverHears, CallerReads, ReceiverReads, Moves, Closes, IsMoment, IsMoved, caller_of, receiver_of, with_done, with_call, has_cell, acts_late, is_over}
 use Rattle.dr_tie.specs.Shown.{Shows, ShowsAt, IsNamed, Comes, IsOffAt, IsSilent}
 use Rattle.dr_tie.proofs.Others.{same_others, state_is}
 use Rattle.dr_tie.proofs.Restarting.{desks_after}
@@ -44,6 +44,15 @@ use Rattle.dr_tie.proofs.Leaving.{receiver_leaves, late_at_receiver}
 use Rattle.dr_tie.proofs.Closing.{off_caller_is_no_event, off_receiver_is_no_event}
 use Rattle.dr_tie.proofs.Moves.{caller_moves, receiver_moves}
 use Rattle.dr_tie.proofs.Pushing.{push_gives}
+
+-- a late mark that acts has come too late
+was_late : (c : Core) (now : ℕ) → acts_late c now ≡ true → is_late c now ≡ true
+was_late c now h = one_of (next_expired c.phase now) (is_impatient c now) (has_cell AbortRequest c) h
+  where
+    one_of : (expired impatient cell : Bool) → (expired || (impatient && cell)) ≡ true → (expired || impatient) ≡ true
+    one_of true impatient cell e = refl
+    one_of false true cell e = refl
+    one_of false false cell e = e
 
 module _ (plan : Network) (certificate : Certificate) where
   abbrev pub Result_of : ByteWorld → WorldStep → StepNote → World → ByteWorld → Type 0
@@ -367,8 +376,8 @@ module _ (plan : Network) (certificate : Certificate) where
     aborted Acceptor note new h = does_if (Abort number Acceptor) (has_cell AbortRequest k.receiver.core) note new (ReceiverMeets plan b number k AbortAsked new)
         (λ has m. receiver_met (Abort number Acceptor) note AbortAsked new (λ at time x t r. ∣ receiver_aborted has at time x t r ∣₁) m) h
 
-    pub delayed : (side : Side) (note : StepNote) (new : ByteWorld) → DoesIf (is_late (Rattle.dr_tie.specs.ByteWorlds.core_at k side) b.time) b note new (Meets plan b number k side LateMark new) → ∥ Result_of b (Late number side) note w new ∥₁
-    delayed Requestor note new h = does_if (Late number Requestor) (is_late k.caller.core b.time) note new (CallerMeets plan b number k LateMark new)
-        (λ acts_late m. caller_met (Late number Requestor) note LateMark new (λ at time x t r. ∣ caller_late acts_late at time x t r ∣₁) m) h
-    delayed Acceptor note new h = does_if (Late number Acceptor) (is_late k.receiver.core b.time) note new (ReceiverMeets plan b number k LateMark new)
-        (λ acts_late m. receiver_met (Late number Acceptor) note LateMark new (λ at time x t r. ∣ receiver_late acts_late at time x t r ∣₁) m) h
+    pub delayed : (side : Side) (note : StepNote) (new : ByteWorld) → DoesIf (acts_late (Rattle.dr_tie.specs.ByteWorlds.core_at k side) b.time) b note new (Meets plan b number k side LateMark new) → ∥ Result_of b (Late number side) note w new ∥₁
+    delayed Requestor note new h = does_if (Late number Requestor) (acts_late k.caller.core b.time) note new (CallerMeets plan b number k LateMark new)
+        (λ late m. caller_met (Late number Requestor) note LateMark new (λ at time x t r. ∣ caller_late (was_late k.caller.core b.time late) at time x t r ∣₁) m) h
+    delayed Acceptor note new h = does_if (Late number Acceptor) (acts_late k.receiver.core b.time) note new (ReceiverMeets plan b number k LateMark new)
+        (λ late m. receiver_met (Late number Acceptor) note LateMark new (λ at time x t r. ∣ receiver_late (was_late k.receiver.core b.time late) at time x t r ∣₁) m) h

@@ -14,7 +14,7 @@ use Rattle.dr_ulstate.specs.declared.table.State.{State}
 use Rattle.dr_ulstate.specs.declared.table.Event.{Event as UpperEvent}
 use Rattle.dr_ulstate.specs.declared.table.Event.TheVariants.{AbortRequest, ReleaseRequest}
 use Rattle.dr_ulstate.specs.Table.{action_of, state_number, has}
-use Rattle.dr_ulstate.specs.Phases.{state_of}
+use Rattle.dr_ulstate.specs.Phases.{state_of, next_expired}
 use Rattle.dr_pdu.specs.declared.pdu.Pdu.{Pdu}
 use Rattle.dr_pdu.specs.declared.pdu.Pdu.TheVariants as pdu
 use Rattle.dr_pdu.specs.Feeding.{Feeding, fresh}
@@ -33,13 +33,13 @@ use Rattle.dr_session.specs.Desks.{Arrive, Arrival}
 use Rattle.dr_session.specs.Ends.{accepting, requesting, is_gone}
 use Rattle.dr_session.specs.Ledgers.{desk}
 use Rattle.dr_session.specs.Plays.{Reacts, PlaysBytes, at_moment}
-use Rattle.dr_session.specs.Reactions.{is_idle, is_free}
+use Rattle.dr_session.specs.Reactions.{is_idle, is_free, is_impatient}
 use Rattle.dr_model.specs.Worlds.{same_text}
 use Rattle.dr_model.specs.Calls.{Reply, Answer}
 use Rattle.dr_model.specs.Events.{HasNode}
 use Rattle.dr_tie.specs.Desks.{Desk, LedgerStep}
 use Rattle.dr_tie.specs.Channels.{Terminal, Channel, site_of}
-use Rattle.dr_tie.specs.Ties.{is_late, with_desk, caller_did, receiver_did, caller_read, receiver_read}
+use Rattle.dr_tie.specs.Ties.{with_desk, caller_did, receiver_did, caller_read, receiver_read}
 use Rattle.dr_tie.specs.Moves.{IsLeft}
 use Rattle.dr_tie.specs.Nodes.{RequeuesAt}
 use Rattle.dr_tie.specs.Closing.{IsEnded, closed}
@@ -121,12 +121,13 @@ abbrev pub CallerMeets : Network → ByteWorld → ℕ → Channel → Input →
 CallerMeets plan b number k i new = (at : Moment) × (x : Effect) × (t : Desk) × IsMoment b number (caller_of k) at
     × Reacts (LedgerStep plan (caller_of k)) k.caller.core (at_moment at i) (b.desks (caller_of k)) x t × (new ≡ with_done b (caller_of k) t number (caller_did k x))
 
--- A push: it is noted as skipped where nothing was written and the desk is as it was.
-abbrev pub PushNote : StepNote → Desk → Effect → Desk → Type 0
-PushNote note s x t = ((note ≡ Done) × ((x.acts ≡ []) × (t ≡ s) → ⊥)) ⊎ ((note ≡ Skipped) × (x.acts ≡ []) × (t ≡ s))
+-- A push: it is noted as skipped where nothing was written. (A row that has no context is settled and nothing is written; in the
+-- worlds of a sound plan no row is such, as the headline says.)
+abbrev pub PushNote : StepNote → Effect → Type 0
+PushNote note x = ((note ≡ Done) × (x.acts ≢ [])) ⊎ ((note ≡ Skipped) × (x.acts ≡ []))
 
 abbrev pub CallerPushes : Network → ByteWorld → ℕ → Channel → StepNote → ByteWorld → Type 0
-CallerPushes plan b number k note new = (at : Moment) × (x : Effect) × (t : Desk) × IsMoment b number (caller_of k) at × PushNote note (b.desks (caller_of k)) x t
+CallerPushes plan b number k note new = (at : Moment) × (x : Effect) × (t : Desk) × IsMoment b number (caller_of k) at × PushNote note x
     × Reacts (LedgerStep plan (caller_of k)) k.caller.core (at_moment at PushAsked) (b.desks (caller_of k)) x t × (new ≡ with_done b (caller_of k) t number (caller_did k x))
 
 abbrev pub PushesIf : Bool → Network → ByteWorld → ℕ → Channel → StepNote → ByteWorld → Type 0
@@ -151,6 +152,10 @@ is_over c = is_gone (state_of c.phase)
 -- the table has a cell for it there
 abbrev pub has_cell : UpperEvent → Core → Bool
 has_cell e c = is_some (action_of e (state_of c.phase))
+
+-- A late mark acts: the timer has expired, or a requestor has awaited an answer for too long, and may abort.
+abbrev pub acts_late : Core → ℕ → Bool
+acts_late c now = next_expired c.phase now || (is_impatient c now && has_cell AbortRequest c)
 
 -- ---- bytes
 
@@ -268,7 +273,7 @@ Steps plan certificate b (Abort link side) note new = LinkStep (map.get b.links 
 Steps plan certificate b (Release link) note new =
     LinkStep (map.get b.links link) b note new (λ k. DoesIf (is_idle k.caller.core && has_cell ReleaseRequest k.caller.core) b note new (CallerMeets plan b link k ReleaseAsked new))
 Steps plan certificate b (Close link) note new = LinkStep (map.get b.links link) b note new (λ k. DoesIf (not (is_over k.caller.core && is_over k.receiver.core)) b note new (Closes plan b link k new))
-Steps plan certificate b (Late link side) note new = LinkStep (map.get b.links link) b note new (λ k. DoesIf (is_late (core_at k side) b.time) b note new (Meets plan b link k side LateMark new))
+Steps plan certificate b (Late link side) note new = LinkStep (map.get b.links link) b note new (λ k. DoesIf (acts_late (core_at k side) b.time) b note new (Meets plan b link k side LateMark new))
 Steps plan certificate b (Restart node) note new = NodeStep plan node b note new ((note ≡ Done) × Restarts plan b node new)
 Steps plan certificate b (Requeue node uid dest) note new = NodeStep plan node b note new ((answer : Answer) × (t : Desk)
     × RequeuesAt (b.desks node) uid dest answer t × (note ≡ note_of answer) × (new ≡ with_call b node t))

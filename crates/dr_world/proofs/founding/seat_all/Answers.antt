@@ -1,0 +1,21 @@
+use Rattle.std.proofs.Common.{◌≡◌, ◌+◌, ◌<◌, List, ◌∷◌, ◌++◌, [], get_or, length, take, sym, subst, ap, ◌∙◌, rules, arith}
+use Rattle.std.specs.Vec.Iter.{into_iter_items}
+use Rattle.std.proofs.lemmas.List.{take_more}
+use Rattle.dr_base.specs.Texts.{Text}
+use Rattle.dr_world.specs.Founding.{AreFounded}
+use Rattle.dr_world.proofs.Founded.{founded_more}
+use Rattle.dr_world.proofs.founding.seat_all.Goals as goal
+
+pub loop-ledger-preserved : goal.loop-ledger-preserved
+loop-ledger-preserved g c =
+    let left : into_iter_items c.loop-ledger.ledger-iterator ≡ c.in-Some.ledger ∷ into_iter_items c.next.new.self = search rules in
+    let count = ap length left in
+    let name = c.index-names-place.result in
+    let names = c.args.names.now in
+    let place = c.loop-ledger.place in
+    let here : get_or names place name ≡ name = sym c.index-names-place.is in
+    let more : take (place + 1) names ≡ take place names ++ name ∷ [] = take_more names place name (omega arith) ∙ ap (λ (x : Text). take place names ++ x ∷ []) here in
+    let P : List Text → Type 0 = λ ns. AreFounded c.args.sealed.now.plan c.args.sealed.now.certificate ns c.seat.new.nodes in (
+      subst P (sym more) (founded_more c.args.sealed.now.plan c.args.sealed.now.certificate c.loop-ledger.nodes c.seat.new.nodes name c.in_ok-seat.ensures (take place names) c.loop-ledger.invariant.0),
+      omega arith,
+    )

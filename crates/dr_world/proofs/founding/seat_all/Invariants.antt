@@ -1,0 +1,9 @@
+use Rattle.std.proofs.Common.{◌≡◌, ◌+◌, length, take}
+use Rattle.std.specs.Vec.Iter.{into_iter_items}
+use Rattle.dr_world.specs.Founding.{AreFounded}
+use Rattle.dr_world.proofs.founding.seat_all.Given as goal
+
+-- the nodes so far, and as many ledgers left as names
+abbrev pub invariant-loop-ledger : goal.invariant-loop-ledger
+invariant-loop-ledger g l =
+    AreFounded l.fn.sealed.plan l.fn.sealed.certificate (take l.place l.fn.names) l.nodes × (l.place + length (into_iter_items l.ledger-iterator) ≡ length l.fn.names)

@@ -1,0 +1,105 @@
+-- What is done to a world's contents is a step of the world of bytes beside it.
+use Rattle.std.specs.Prelude.{◌≡◌, ℕ, ◌+◌, ◌^◌, ◌≢◌, min, nat_le, true, false, List, [], length, take, Some, None}
+use Rattle.std.specs.FinMap as map
+use Rattle.dr_base.specs.Texts.{Text}
+use Rattle.dr_route.specs.Routes.{local}
+use Rattle.dr_network.specs.Networks.{Network}
+use Rattle.dr_sound.specs.declared.certificate.Certificate.{Certificate}
+use Rattle.dr_site.specs.Sites.{IsCertified}
+use Rattle.dr_ledger.specs.declared.content.Job.{Job}
+use Rattle.dr_ledger.specs.Books.{empty_book}
+use Rattle.dr_ledger.specs.SiteRoutes.{site_routing}
+use Rattle.dr_session.specs.declared.ends.Core.{Core}
+use Rattle.dr_session.specs.declared.ends.Effect.{Effect}
+use Rattle.dr_session.specs.Desks.{DeskCall, DeskAnswer, Arrive, Arrival}
+use Rattle.dr_session.specs.Plays.{At, Reacts}
+use Rattle.dr_session.specs.Ledgers.{Desk, RoutedStep, desk}
+use Rattle.dr_ledger.specs.Refusals.{Arms}
+use Rattle.dr_ledger.specs.Replies.{Requeues, IsHeld}
+use Rattle.dr_node.specs.Sides.{others}
+use Rattle.dr_model.specs.Calls.{Reply, Answer}
+use Rattle.dr_tie.specs.ByteWorlds.{ByteWorld, beginning, WorldStep, Submit, Move, Restart, Requeue, Tick, Refuse, Side, Done, Skipped, AreOthers, IsMoved, note_of}
+use Rattle.dr_session.specs.declared.ends.Heard.TheVariants as heard
+use Rattle.dr_session.specs.declared.ends.LinkAction.{LinkAction}
+use Rattle.dr_session.specs.Ends.{is_gone, state_in}
+use Rattle.dr_node.specs.declared.event.LinkEvent.TheVariants as event
+use Rattle.dr_tie.specs.Channels.{Terminal}
+use Rattle.dr_world.specs.Ends.{IsDone, wire_at}
+use Rattle.dr_world.specs.Nodes.{event_at}
+use Rattle.dr_world.specs.Shows.{Contents, Seat, ShowsBytes, IsSeated, Becomes, with_seat, with_desk_of}
+
+-- How many links a node has accepted and not left is how many others the world of bytes counts.
+abbrev pub OthersAreCounted : Type 0
+OthersAreCounted = (c : Contents) (b : ByteWorld) → ShowsBytes c b → (link : ℕ) (name : Text) (seat : Seat) → c.seats name ≡ Some seat →
+    (numbers : List ℕ) × AreOthers b link name numbers × (others link seat.sides ≡ length numbers)
+
+-- ---- the beginning
+
+-- no time has passed, no link was opened, and each node has an empty book, no side, and a store that isn't to refuse
+pub record IsNew (c : Contents) : Type 0 where
+  pub now : c.now ≡ 0
+  pub opened : c.opened ≡ 0
+  pub wires : (number : ℕ) → c.wires number ≡ None
+  pub seats : (name : Text) (seat : Seat) → c.seats name ≡ Some seat → (seat.desk ≡ desk empty_book false) × (seat.sides ≡ map.empty)
+
+-- A new world stands beside the beginning.
+abbrev pub NewIsBeginning : Type 0
+NewIsBeginning = (c : Contents) → IsNew c → ShowsBytes c beginning
+
+-- ---- steps at no link
+
+abbrev pub with_time : Contents → ℕ → Contents
+with_time c now = record { now = now; opened = c.opened; seats = c.seats; wires = c.wires }
+
+abbrev pub with_seats : Contents → Text → Seat → Contents
+with_seats c name seat = record { now = c.now; opened = c.opened; seats = with_seat c.seats name seat; wires = c.wires }
+
+abbrev pub TickIsShown : Type 0
+TickIsShown = (plan : Network) (certificate : Certificate) (c : Contents) (b : ByteWorld) → ShowsBytes c b → (ms : ℕ) →
+    Becomes plan certificate b (Tick ms) Done (with_time c (min (c.now + ms) (2 ^ 62)))
+
+-- the step is one at that node alone
+abbrev pub IsAtNode : WorldStep → Text → Type 0
+IsAtNode (Submit node item) name = node ≡ name
+IsAtNode (Restart node) name = node ≡ name
+IsAtNode (Requeue node uid dest) name = node ≡ name
+IsAtNode (Refuse node) name = node ≡ name
+IsAtNode step name = ⊥
+
+-- a name that no node has
+abbrev pub StrangerIsSkipped : Type 0
+StrangerIsSkipped = (plan : Network) (certificate : Certificate) (c : Contents) (b : ByteWorld) → IsSeated plan certificate c.seats → ShowsBytes c b → (name : Text) → c.seats name ≡ None →
+    (step : WorldStep) → IsAtNode step name → Becomes plan certificate b step Skipped c
+
+-- an instance enters at a node
+abbrev pub SubmitIsShown : Type 0
+SubmitIsShown = (plan : Network) (certificate : Certificate) → IsCertified plan certificate → (c : Contents) (b : ByteWorld) → IsSeated plan certificate c.seats → ShowsBytes c b →
+    (name : Text) (seat : Seat) → c.seats name ≡ Some seat → (item : Job) (reply : Reply) (t : Desk) → RoutedStep (site_routing seat.site) seat.desk (Arrive local item) (Arrival reply) t →
+    Becomes plan certificate b (Submit name item) (note_of reply) (with_seats c name (with_desk_of seat t))
+
+-- a held row waits again
+abbrev pub RequeueIsShown : Type 0
+RequeueIsShown = (plan : Network) (certificate : Certificate) (c : Contents) (b : ByteWorld) → IsSeated plan certificate c.seats → ShowsBytes c b →
+    (name : Text) (seat : Seat) → c.seats name ≡ Some seat → (uid dest : Text) (answer : Answer) (t : Desk) →
+    Requeues uid dest seat.desk.book answer t.book → Arms (IsHeld seat.desk.book uid dest) seat.desk.armed answer t.armed →
+    Becomes plan certificate b (Requeue name uid dest) (note_of answer) (with_seats c name (with_desk_of seat t))
+
+-- a node's next writing call is to be refused
+abbrev pub RefuseIsShown : Type 0
+RefuseIsShown = (plan : Network) (certificate : Certificate) (c : Contents) (b : ByteWorld) → IsSeated plan certificate c.seats → ShowsBytes c b →
+    (name : Text) (seat : Seat) → c.seats name ≡ Some seat → Becomes plan certificate b (Refuse name) Done (with_seats c name (with_desk_of seat (desk seat.desk.book true)))
+
+-- ---- ends
+
+-- Whatever happens at an end, it stays of its site.
+abbrev pub EndStaysOfItsSite : {S : Type 0} → (S → DeskCall → DeskAnswer → S → Type 0) → Type 0
+EndStaysOfItsSite {S} step = (c : Core) (i : At) (s : S) (x : Effect) (t : S) → Reacts step c i s x t → x.core.site ≡ c.site
+
+-- ---- bytes that come
+
+-- The first bytes of an end's wire that come to it are a Move of at most n bytes, where the end isn't over, there are some, and so many
+-- of them came as belong to the PDU at the front.
+abbrev pub MoveIsShown : Type 0
+MoveIsShown = (plan : Network) (certificate : Certificate) → IsCertified plan certificate → (c : Contents) (b : ByteWorld) → IsSeated plan certificate c.seats → ShowsBytes c b → (link n m : ℕ) (side : Side) (piece : List ℕ) (acts : List LinkAction) (new : Contents) →
+    (d : IsDone (event_at (event.Heard (heard.Bytes piece))) m c link side acts new) → piece ≡ take m (wire_at side d.wires) → wire_at side d.wires ≢ [] → nat_le 1 n ≡ true → is_gone (state_in d.own.end.core) ≡ false →
+    ((t : Terminal) → t.ear ≡ d.own.end.ear → IsMoved t (wire_at side d.wires) n m) → Becomes plan certificate b (Move link side n) Done new

@@ -1,0 +1,132 @@
+//! How a world begins.
+ghost use Rattle.std.specs.Prelude.{◌≡◌, [], IfOk, OnOk, length, true, false};
+ghost use Rattle.std.specs.Vec.{vec_len};
+ghost use Rattle.std.specs.FinMap as map;
+ghost use Rattle.dr_world.specs.Founding.{AreFounded, AreNames, Founds, SaysEmpty};
+ghost use Rattle.dr_world.specs.Runs.{IsReached};
+
+use crate::fault::WorldFault;
+use crate::world::World;
+use dr_base::Text;
+use dr_cert::Sealed;
+use dr_ledger::{Ledger, LedgerFault, Refusing};
+use dr_network::Plan;
+use dr_node::Node;
+use dr_site::{Site, SiteFault};
+use std::alloc::{AllocError, Global};
+use std::collections::BTreeMap;
+
+/// Whether a ledger has nothing yet: its journal has no line.
+///
+/// Errors: Store, Memory.
+fn is_empty<L: Ledger>(ledger: &mut L) -> Result<bool, WorldFault>
+    ensures empty { IfOk result (λ empty. L.stands ledger.new → SaysEmpty (L.book ledger.new) empty) }
+    ensures armed { L.armed ledger.new ≡ L.armed ledger.old }
+    ensures site { L.site ledger.new ≡ L.site ledger.old }
+{
+    match ledger.lines() {
+        Ok(lines) => Ok(lines.is_empty()),
+        Err(LedgerFault::Memory) => Err(WorldFault::Memory),
+        Err(_) => Err(WorldFault::Store),
+    }
+}
+
+/// A site's node over a ledger of that site that has nothing yet.
+fn found<L: Ledger + Drop>(
+    alloc: Global,
+    site: Site,
+    ledger: L,
+) -> Result<Node<Refusing<L>>, WorldFault>
+    ensures site { IfOk result (λ n. L.site n.desk.ledger.ledger ≡ site) }
+    ensures links { IfOk result (λ n. n.links ≡ map.empty) }
+    ensures armed { IfOk result (λ n. n.desk.ledger.refusals.is_due ≡ false) }
+    ensures empty { IfOk result (λ n. L.stands n.desk.ledger.ledger → SaysEmpty (L.book n.desk.ledger.ledger) true) }
+{
+    let mut ledger = ledger;
+    if !ledger.is_of(&site) {
+        return Err(WorldFault::WrongLedgers);
+    }
+    let empty = is_empty(&mut ledger)?;
+    if !empty {
+        return Err(WorldFault::WrongLedgers);
+    }
+    let node = Node::new(alloc, site, Refusing::new(ledger))?;
+    Ok(node)
+}
+
+/// Lets a node go.
+fn let_go<L: Ledger + Drop>(_node: Option<Node<L>>) {}
+
+/// The node of that name over its ledger is one more.
+fn seat<L: Ledger + Drop>(
+    alloc: Global,
+    sealed: &Sealed,
+    name: &Text,
+    ledger: L,
+    nodes: &mut BTreeMap<Text, Node<Refusing<L>>>,
+) -> Result<(), WorldFault>
+    ensures { OnOk result (Founds sealed.now.plan sealed.now.certificate name.now nodes.old nodes.new) }
+{
+    let site = match Site::of(alloc, sealed, name) {
+        Ok(site) => site,
+        Err(SiteFault::NoNode) => return Err(WorldFault::WrongLedgers),
+        Err(SiteFault::Memory) => return Err(WorldFault::Memory),
+    };
+    let node = found(alloc, site, ledger)?;
+    let name = name.clone()?;
+    let_go(nodes.insert(name, node)?);
+    Ok(())
+}
+
+/// The names of a plan's nodes, in byte order.
+fn names_of(alloc: Global, plan: &Plan) -> Result<Vec<Text>, AllocError>
+    ensures { IfOk result (λ names. AreNames plan.now names.items) }
+{
+    let mut names = Vec::new(alloc);
+    for node in plan.nodes() {
+        names.push(node.name.clone()?)?;
+    }
+    names.sort()?;
+    Ok(names)
+}
+
+/// Each node over the ledger at its place.
+fn seat_all<L: Ledger + Drop>(
+    alloc: Global,
+    sealed: &Sealed,
+    names: &[Text],
+    ledgers: Vec<L>,
+) -> Result<BTreeMap<Text, Node<Refusing<L>>>, WorldFault>
+    requires { length names.now ≡ vec_len ledgers }
+    ensures { IfOk result (AreFounded sealed.now.plan sealed.now.certificate names.now) }
+{
+    let mut nodes = BTreeMap::new(alloc);
+    let mut place = 0;
+    for ledger in ledgers {
+        seat(alloc, sealed, &names[place], ledger, &mut nodes)?;
+        place += 1;
+    }
+    Ok(nodes)
+}
+
+impl<L: Ledger + Drop> World<Refusing<L>> {
+    /// The nodes of a plan at time 0, without a link, each over the ledger at its place: one for each node, by the byte order of the
+    /// nodes' names. Each can be told to refuse.
+    ///
+    /// Errors: WrongLedgers, where there is another number of them, one that isn't empty, or one that is of another
+    /// site; Store, where a ledger's store fails; Memory. No ledger is given back.
+    pub fn with(
+        alloc: Global,
+        sealed: &Sealed,
+        ledgers: Vec<L>,
+    ) -> Result<World<Refusing<L>>, WorldFault>
+        ensures { IfOk result (IsReached sealed.now.plan sealed.now.certificate []) }
+    {
+        let names = names_of(alloc, sealed.plan())?;
+        if names.len() != ledgers.len() {
+            return Err(WorldFault::WrongLedgers);
+        }
+        let nodes = seat_all(alloc, sealed, names.as_slice(), ledgers)?;
+        Ok(World::of_nodes(alloc, nodes))
+    }
+}

@@ -1,0 +1,41 @@
+//! The simulated time.
+ghost use Rattle.std.specs.Prelude.{◌≡◌, ◌≤◌, ◌+◌, ◌^◌, min};
+ghost use Rattle.std.proofs.Props.{props};
+
+/// How long a world has stood, in milliseconds: at most 2^62, where it stays.
+#[derive(Drop)]
+pub struct Time {
+    passed: u64,
+    ghost bounded: { passed ≤ 2 ^ 62 } by { Prim.hlevel props },
+}
+
+/// The last moment: 2^62 milliseconds.
+const LAST: u64 = 4_611_686_018_427_387_904;
+
+impl Time {
+    /// The start.
+    pub fn new() -> Time
+        ensures { result.passed ≡ 0 }
+    {
+        Time { passed: 0 }
+    }
+
+    /// The moment now, in milliseconds.
+    pub fn moment(&self) -> u64
+        ensures same { result ≡ self.now.passed }
+        ensures bounded { result ≤ 2 ^ 62 }
+    {
+        self.passed
+    }
+
+    /// So many milliseconds pass.
+    pub fn pass(&mut self, ms: u64)
+        ensures { self.new.passed ≡ min (self.old.passed + ms) (2 ^ 62) }
+    {
+        if ms < LAST - self.passed {
+            self.passed += ms;
+            return;
+        }
+        self.passed = LAST;
+    }
+}

@@ -1,0 +1,305 @@
+//! The simulated world: each node over its own ledger, and the wires of each link.
+ghost use Rattle.std.specs.Prelude.{◌≡◌, ◌&&◌, [], IfOk, IsErr, OnOk, map as mapped, true, false};
+ghost use Rattle.std.specs.BTreeMap as tree;
+ghost use Rattle.dr_base.specs.Texts.{text_cmp};
+ghost use Rattle.dr_session.specs.declared.ends.Heard.TheVariants as heard;
+ghost use Rattle.dr_node.specs.declared.event.LinkEvent.TheVariants as event_of;
+ghost use Rattle.dr_tie.specs.ByteWorlds.{Abort, Close as CloseStep, Late, Open, Push, Refuse, Release, Requestor, Requeue, Submit, Tick};
+ghost use Rattle.dr_world.specs.declared.steps.StepNote.TheVariants.{Done as WasDone};
+ghost use Rattle.dr_world.specs.Ends.{named, note_by};
+ghost use Rattle.dr_world.specs.Nodes.{event_at, over_at, push_at as pushed_at};
+ghost use Rattle.dr_world.specs.declared.fault.WorldFault.TheVariants.{Memory as MemoryFault};
+ghost use Rattle.dr_world.specs.Runs.{GoesOn, HoldsAfter, HoldsAfterAll, Leads, step_of};
+ghost use Rattle.dr_world.specs.Whole.{Calls, HasTicked, IsToldToRefuse, Meets, Puts, StepsTo, Submits, noted};
+
+use crate::calls::{accept_at, input_at, is_over_at, open_at, push_at};
+use crate::fault::WorldFault;
+use crate::steps::{Side, Step, StepNote};
+use crate::time::Time;
+use crate::wires::Wires;
+use dr_base::Text;
+use dr_ledger::{Item, Ledger, Refusing};
+use dr_node::{LinkEvent, Node};
+use dr_session::{Heard, LinkAction};
+use std::alloc::Global;
+use std::collections::BTreeMap;
+
+/// The nodes of a plan by name, each over its own ledger, and the wires of each link by its number.
+#[derive(Drop)]
+pub struct World<L: Ledger> {
+    alloc: Global,
+    time: Time,
+    /// How many links were ever opened.
+    opened: u64,
+    nodes: BTreeMap<Text, Node<L>>,
+    wires: BTreeMap<u64, Wires>,
+    /// Memory ended in a step; no further one is taken.
+    lost: bool,
+}
+
+impl<L: Ledger> World<L> {
+    /// A world of these nodes at time 0, without a link.
+    pub(crate) fn of_nodes(alloc: Global, nodes: BTreeMap<Text, Node<L>>) -> World<L>
+        ensures nodes { result.nodes ≡ nodes }
+        ensures time { result.time.passed ≡ 0 }
+        ensures opened { result.opened ≡ 0 }
+        ensures wires { result.wires.entries ≡ [] }
+        ensures lost { result.lost ≡ false }
+    {
+        World {
+            alloc,
+            time: Time::new(),
+            opened: 0,
+            nodes,
+            wires: BTreeMap::new(alloc),
+            lost: false,
+        }
+    }
+
+    /// Time passes by so many milliseconds; it ends at 2^62.
+    fn tick(&mut self, ms: u64)
+        ensures ticks { HasTicked ms self.old self.new }
+        ensures step { StepsTo (Tick ms) self.old WasDone self.new }
+    {
+        self.time.pass(ms);
+    }
+
+    /// An instance enters at a node; skipped where no node has that name.
+    fn submit(&mut self, name: &Text, item: Item) -> StepNote
+        ensures calls { Calls (Submits item) name.now self.old result self.new }
+        ensures step { StepsTo (Submit name.now item) self.old result self.new }
+    {
+        let Some(node) = self.nodes.get_mut(name) else {
+            return StepNote::Skipped;
+        };
+        match node.submit(item) {
+            Ok(_) => StepNote::Done,
+            Err(fault) => StepNote::Refused(fault),
+        }
+    }
+
+    /// A held row of a node waits again; skipped where no node has that name.
+    fn requeue(&mut self, name: &Text, uid: &Text, dest: &Text) -> StepNote
+        ensures calls { Calls (Puts uid.now dest.now) name.now self.old result self.new }
+        ensures step { StepsTo (Requeue name.now uid.now dest.now) self.old result self.new }
+    {
+        let Some(node) = self.nodes.get_mut(name) else {
+            return StepNote::Skipped;
+        };
+        match node.requeue(uid, dest) {
+            Ok(_) => StepNote::Done,
+            Err(fault) => StepNote::Refused(fault),
+        }
+    }
+
+    /// One node asks another for an association, over a new link. Skipped where there is no such node, or it has no hop
+    /// there.
+    ///
+    /// Errors: Memory.
+    fn open(&mut self, from: &Text, to: &Text) -> Result<StepNote, WorldFault>
+        ensures { IfOk result (λ note. StepsTo (Open from.now to.now) self.old note self.new) }
+    {
+        let now = self.time.moment();
+        let Some(link) = self.opened.checked_add(1) else {
+            return Err(WorldFault::Memory);
+        };
+        let mut wires = Wires::between(self.alloc, from, to)?;
+        let Some(actions) = open_at(&mut self.nodes, from, to, link, now)? else {
+            return Ok(StepNote::Skipped);
+        };
+        accept_at(&mut self.nodes, to, link, now)?;
+        wires.write(Side::Requestor, actions.as_slice())?;
+        let_go(self.wires.insert(link, wires)?);
+        self.opened = link;
+        Ok(StepNote::Done)
+    }
+
+    /// Something happens at an end of a link, and what the end writes goes onto the other one's wire. Skipped where there is
+    /// no link of that number, or nothing is done.
+    fn meet(&mut self, link: u64, side: Side, event: LinkEvent) -> Result<StepNote, WorldFault>
+        ensures { IfOk result (λ note. Meets (event_at event) link (named side) self.old note self.new) }
+    {
+        let now = self.time.moment();
+        let Some(wires) = self.wires.get_mut(&link) else {
+            return Ok(StepNote::Skipped);
+        };
+        let actions = input_at(&mut self.nodes, wires.name(side), link, event, now)?;
+        wires.write(side, actions.as_slice())?;
+        Ok(note_of(actions.as_slice()))
+    }
+
+    /// An end aborts (PS3.8 table 9-10, event 15). Skipped where there is no link of that number, or the table has no cell
+    /// for it.
+    ///
+    /// Errors: Memory.
+    fn abort(&mut self, link: u64, side: Side) -> Result<StepNote, WorldFault>
+        ensures { IfOk result (λ note. StepsTo (Abort link (named side)) self.old note self.new) }
+    {
+        let note = self.meet(link, side, LinkEvent::Abort)?;
+        Ok(note)
+    }
+
+    /// The requestor asks for the release (event 11). Skipped where there is no link of that number, or its requestor isn't
+    /// established with nothing pending.
+    ///
+    /// Errors: Memory.
+    fn release(&mut self, link: u64) -> Result<StepNote, WorldFault>
+        ensures { IfOk result (λ note. StepsTo (Release link) self.old note self.new) }
+    {
+        let note = self.meet(link, Side::Requestor, LinkEvent::Release)?;
+        Ok(note)
+    }
+
+    /// A late mark at an end: event 18 where ARTIM has expired, event 15 at a requestor that has awaited an answer for
+    /// 60,000 ms. Skipped where there is no link of that number, or neither is so.
+    ///
+    /// Errors: Memory.
+    fn late(&mut self, link: u64, side: Side) -> Result<StepNote, WorldFault>
+        ensures { IfOk result (λ note. StepsTo (Late link (named side)) self.old note self.new) }
+    {
+        let note = self.meet(link, side, LinkEvent::Heard(Heard::Late))?;
+        Ok(note)
+    }
+
+    /// The connection of a link is lost, with what is under way: each end that isn't over hears of it (event 17), the acceptor's
+    /// first. Skipped where there is no link of that number, or both ends are over.
+    ///
+    /// Errors: Memory.
+    fn close(&mut self, link: u64) -> Result<StepNote, WorldFault>
+        ensures { IfOk result (λ note. StepsTo (CloseStep link) self.old note self.new) }
+    {
+        let now = self.time.moment();
+        let Some(wires) = self.wires.get_mut(&link) else {
+            return Ok(StepNote::Skipped);
+        };
+        if are_over(&self.nodes, wires, link) {
+            return Ok(StepNote::Skipped);
+        }
+        let _far = input_at(&mut self.nodes, &wires.receiver, link, ended(), now)?;
+        let _near = input_at(&mut self.nodes, &wires.caller, link, ended(), now)?;
+        wires.lose();
+        Ok(StepNote::Done)
+    }
+
+    /// A push at the requestor of a link, in the same way.
+    fn send(&mut self, link: u64) -> Result<StepNote, WorldFault>
+        ensures { IfOk result (λ note. Meets pushed_at link Requestor self.old note self.new) }
+    {
+        let now = self.time.moment();
+        let Some(wires) = self.wires.get_mut(&link) else {
+            return Ok(StepNote::Skipped);
+        };
+        let actions = push_at(&mut self.nodes, wires.name(Side::Requestor), link, now)?;
+        wires.write(Side::Requestor, actions.as_slice())?;
+        Ok(note_of(actions.as_slice()))
+    }
+
+    /// The requestor, established and with nothing pending, sends the first due row. Skipped where there is no link of that
+    /// number, or nothing is sent.
+    ///
+    /// Errors: Memory.
+    fn push(&mut self, link: u64) -> Result<StepNote, WorldFault>
+        ensures { IfOk result (λ note. StepsTo (Push link) self.old note self.new) }
+    {
+        let note = self.send(link)?;
+        Ok(note)
+    }
+}
+
+/// Whether both ends of a link are over.
+fn are_over<L: Ledger>(nodes: &BTreeMap<Text, Node<L>>, wires: &Wires, link: u64) -> bool
+    ensures { result ≡ (over_at link (tree.get text_cmp nodes.now wires.now.caller) && over_at link (tree.get text_cmp nodes.now wires.now.receiver)) }
+{
+    is_over_at(nodes, &wires.caller, link) && is_over_at(nodes, &wires.receiver, link)
+}
+
+/// The other side closed the connection.
+fn ended() -> LinkEvent
+    ensures { result ≡ event_of.Heard heard.End }
+{
+    LinkEvent::Heard(Heard::End)
+}
+
+/// Wires that are needed no more.
+fn let_go(_wires: Option<Wires>) {}
+
+/// Where nothing was written it is noted as skipped.
+fn note_of(actions: &[LinkAction]) -> StepNote
+    ensures { noted result ≡ note_by actions.now }
+{
+    if actions.is_empty() {
+        return StepNote::Skipped;
+    }
+    StepNote::Done
+}
+
+impl<L: Ledger> World<Refusing<L>> {
+    /// One step. After want of memory each further step answers Memory.
+    ///
+    /// Errors: Memory.
+    pub fn step(&mut self, step: &Step) -> Result<StepNote, WorldFault>
+        ensures steps { IfOk result (λ note. StepsTo (step_of step.now) self.old note self.new) }
+        ensures goes_on { IfOk result (λ note. GoesOn (step_of step.now) self.old self.new) }
+        ensures headline { IfOk result (λ note. HoldsAfter (step_of step.now) self.old self.new) }
+        ensures lost { self.old.lost ≡ true → (result ≡ Err MemoryFault) × (self.new ≡ self.old) }
+        ensures after { IsErr result → self.new.lost ≡ true }
+    {
+        if self.lost {
+            return Err(WorldFault::Memory);
+        }
+        let Ok(note) = self.perform(step) else {
+            self.lost = true;
+            return Err(WorldFault::Memory);
+        };
+        Ok(note)
+    }
+
+    /// These steps, one after the other, up to one for which memory ends.
+    ///
+    /// Errors: Memory.
+    pub fn play(&mut self, steps: &[Step]) -> Result<(), WorldFault>
+        ensures leads { OnOk result (Leads (mapped step_of steps.now) self.old self.new) }
+        ensures headline { OnOk result (HoldsAfterAll self.old self.new) }
+    {
+        for step in steps {
+            self.step(step)?;
+        }
+        Ok(())
+    }
+
+    /// One step, where memory hasn't ended in an earlier one.
+    fn perform(&mut self, step: &Step) -> Result<StepNote, WorldFault>
+        ensures { IfOk result (λ note. StepsTo (step_of step.now) self.old note self.new) }
+    {
+        match step {
+            Step::Submit { node, item } => {
+                let item = item.copy()?;
+                Ok(self.submit(node, item))
+            }
+            Step::Open { from, to } => self.open(from, to),
+            Step::Push { link } => self.push(*link),
+            Step::Abort { link, side } => self.abort(*link, *side),
+            Step::Release { link } => self.release(*link),
+            Step::Close { link } => self.close(*link),
+            Step::Late { link, side } => self.late(*link, *side),
+            Step::Requeue { node, uid, dest } => Ok(self.requeue(node, uid, dest)),
+            Step::Tick { ms } => {
+                self.tick(*ms);
+                Ok(StepNote::Done)
+            }
+            Step::RefuseStore { node } => Ok(self.refuse(node)),
+        }
+    }
+
+    /// The next call of a node that would add a line is to be refused by its store; skipped where no node has that name.
+    fn refuse(&mut self, name: &Text) -> StepNote
+        ensures calls { Calls IsToldToRefuse name.now self.old result self.new }
+        ensures step { StepsTo (Refuse name.now) self.old result self.new }
+    {
+        let Some(node) = self.nodes.get_mut(name) else {
+            return StepNote::Skipped;
+        };
+        node.refuse_next();
+        StepNote::Done
+    }
+}
