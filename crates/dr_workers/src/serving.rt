@@ -1,0 +1,125 @@
+//! Threads that serve connections, each with a pass of its own.
+ghost use Rattle.std.specs.Prelude.{◌≤◌, ◌≡◌, IfOk, vec_len};
+
+use crate::connection::Connection;
+use crate::gate::{Gate, Point};
+use crate::gated::GatedLink;
+use crate::port::SessionPort;
+use crossbeam_channel::Receiver;
+use dr_desk::{Pass, SharedDesk, Sharing, TooManyPasses};
+use dr_ledger::Ledger;
+use dr_session::{Clock, Link, receive};
+use std::alloc::{AllocError, Global};
+use std::cell::Cell;
+use std::sync::Wait;
+use std::thread;
+use std::thread::Threads;
+use thiserror::Error;
+
+/// Why no connection was taken.
+#[derive(Clone, Copy, PartialEq, Eq, Debug, Error)]
+pub enum WorkersFault {
+    #[error("J2 TooManyPasses")]
+    TooManyPasses,
+    #[error("Memory")]
+    Memory,
+}
+
+impl From<AllocError> for WorkersFault {
+    fn from(_: AllocError) -> WorkersFault {
+        WorkersFault::Memory
+    }
+}
+
+impl From<TooManyPasses> for WorkersFault {
+    fn from(_: TooManyPasses) -> WorkersFault {
+        WorkersFault::TooManyPasses
+    }
+}
+
+/// Runs n workers, 1 to 64, on the connections of a channel until it is closed and empty, and gives back their passes. All
+/// passes are made before any connection is taken. Each connection is served with one session, of which no fault ends another; where
+/// a thread can't be started, its part is served in a running one.
+///
+/// Errors: TooManyPasses, Memory; then no connection was taken.
+pub fn workers<
+    R: Threads + Wait + Sync,
+    L: Ledger + Send,
+    B: Sharing + Send + Sync,
+    K: Link + Drop + Send,
+    C: Clock + Drop + Send,
+    G: Gate + Sync,
+>(
+    rt: &R,
+    alloc: Global,
+    n: usize,
+    connections: &Receiver<Connection<K, C>>,
+    desk: &SharedDesk<L, B>,
+    gate: &G,
+) -> Result<Vec<Pass<B>>, WorkersFault>
+    requires { (1 ≤ n) × (n ≤ 64) }
+    ensures { IfOk result (λ passes. vec_len passes ≡ n) }
+{
+    let mut passes = Vec::with_capacity(alloc, n)?;
+    for _i in 0..n {
+        let pass = desk.pass(rt, alloc)?;
+        passes.push_reserved(pass);
+    }
+    thread::for_each_mut(
+        rt,
+        passes.as_mut_slice(),
+        n,
+        &|_, pass| { work(rt, alloc, desk, gate, connections, n - 1, pass) },
+    );
+    Ok(passes)
+}
+
+/// Serves until the channel is closed and empty; so many other workers may be serving, fewer than the 256 associations
+/// at which one more is refused.
+fn work<R: Wait, L: Ledger, B: Sharing, K: Link + Drop, C: Clock + Drop, G: Gate>(
+    rt: &R,
+    alloc: Global,
+    desk: &SharedDesk<L, B>,
+    gate: &G,
+    connections: &Receiver<Connection<K, C>>,
+    others: usize,
+    pass: &mut Pass<B>,
+) {
+    for connection in connections.iter(rt) {
+        serve(rt, alloc, desk, gate, connection, others, pass);
+    }
+}
+
+/// Serves one connection to its end, however the session ends.
+fn serve<R: Wait, L: Ledger, B: Sharing, K: Link + Drop, C: Clock + Drop, G: Gate>(
+    rt: &R,
+    alloc: Global,
+    desk: &SharedDesk<L, B>,
+    gate: &G,
+    connection: Connection<K, C>,
+    others: usize,
+    pass: &mut Pass<B>,
+) {
+    let Connection {
+        session,
+        link,
+        clock,
+    } = connection;
+    gate.at(session, Point::Taken);
+    let stored = Cell::new(0);
+    let mut link = GatedLink {
+        link,
+        gate,
+        session,
+        stored: &stored,
+    };
+    let mut port = SessionPort {
+        rt,
+        desk,
+        pass,
+        gate,
+        session,
+        stored: &stored,
+    };
+    let _ended = receive(alloc, &mut link, desk.site(), &mut port, &clock, others);
+}
