@@ -1,5 +1,5 @@
 //! One node: its links over its ledger.
-ghost use Rattle.std.specs.Prelude.{◌≡◌, ◌≤◌, ◌^◌, IfErr, IfOk, List, Result, map as mapped, true};
+ghost use Rattle.std.specs.Prelude.{◌≡◌, ◌≤◌, ◌^◌, IfErr, IfOk, List, Result, map as mapped, option_copied, true};
 ghost use Rattle.std.specs.declared.alloc.AllocError.{AllocError as NoMemory};
 ghost use Rattle.std.specs.FinMap as map;
 ghost use Rattle.dr_ledger.specs.Bodies.{OnlyLetsGo, OnlyTakes};
@@ -15,7 +15,7 @@ ghost use Rattle.dr_node.specs.Sides.{Accepts, Does, MeetsEvent, Opens, Pushes, 
 
 use crate::event::LinkEvent;
 use crate::fault::NodeFault;
-use crate::links::Links;
+use crate::links::{Links, Side};
 use dr_base::{Seq, Text};
 use dr_ledger::{Arrived, Entry, Item, Ledger, LedgerFault, Progress, Refusing};
 use dr_session::LinkAction;
@@ -69,6 +69,13 @@ impl<L: Ledger> Node<L> {
         ensures { result ≡ state_of_side (map.get self.now.links link) }
     {
         self.links.state(link)
+    }
+
+    /// This node's side of a link; None where there is no link of that number. It takes no memory.
+    pub fn side(&self, link: u64) -> Option<&Side>
+        ensures { option_copied result ≡ map.get self.now.links link }
+    {
+        self.links.side(link)
     }
 
     /// Something happens at a link, at a moment of at most 2^62 milliseconds; the answer is what the link's owner is to do,
@@ -158,14 +165,12 @@ impl<L: Ledger> Node<L> {
     }
 
     /// The node has come up again: its links are lost, and the ledger is as it was. It takes no memory.
-    pub fn restart(self) -> Node<L>
-        ensures links { result.links ≡ map.empty }
-        ensures desk { result.desk ≡ self.desk }
-        ensures site { result.site ≡ self.site }
+    pub fn restart(&mut self)
+        ensures links { self.new.links ≡ map.empty }
+        ensures desk { self.new.desk ≡ self.old.desk }
+        ensures site { self.new.site ≡ self.old.site }
     {
-        let mut node = self;
-        node.links = Links::new(node.alloc);
-        node
+        self.links = Links::new(self.alloc);
     }
 
     /// Whether the data set of that uid is there: it is while the uid is kept or a row of it isn't done.

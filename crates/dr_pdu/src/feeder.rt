@@ -41,6 +41,13 @@ impl Feeder {
         }
     }
 
+    /// The bytes behind the last whole PDU, which it keeps; it takes no memory.
+    pub fn kept(&self) -> &[u8]
+        ensures { result.now ≡ self.now.kept }
+    {
+        self.kept.as_slice()
+    }
+
     /// All whole PDUs that were not given yet, in order.
     ///
     /// A fault in front is answered at once, and from then on every call answers `Failed`. A fault behind whole PDUs is

@@ -141,6 +141,13 @@ impl End {
         }
     }
 
+    /// The bytes that it has heard and that end no PDU yet; it takes no memory.
+    pub fn kept(&self) -> &[u8]
+        ensures { result.now ≡ self.now.ear.kept }
+    {
+        self.ear.kept()
+    }
+
     /// How it is over, if it is; it takes no memory.
     pub fn over(&self) -> Option<Over>
         ensures { result ≡ over_of self.now.core }

@@ -345,12 +345,12 @@ module _ (plan : Network) (certificate : Certificate) where
     does_if step false note new What f h = ∣ skips step b new w note s h ∣₁
 
     caller_reads : (n : ℕ) (note : StepNote) (new : ByteWorld) (wire : List ℕ) → k.to_caller ≡ wire → CallerReads wire plan b number k n note new → ∥ Result_of b (Move number Requestor n) note w new ∥₁
-    caller_reads n note new [] e h = does_if (Move number Requestor n) (is_over k.receiver.core) note new (CallerMeets plan b number k Ended new)
+    caller_reads n note new [] e h = does_if (Move number Requestor n) (nat_le 1 n && is_over k.receiver.core) note new (CallerMeets plan b number k Ended new)
         (λ o m. caller_met (Move number Requestor n) note Ended new (λ at time x t r. ∣ caller_ended (Move number Requestor n) (λ answer. refl) (λ o. inl o) at time x t r ∣₁) m) h
     caller_reads n note new (y ∷ ys) e h = does_if (Move number Requestor n) (nat_le 1 n) note new (CallerHears plan b number k n new) (λ o m. ∣ caller_heard note n new (some_wire y ys k.to_caller e) m ∣₁) h
 
     receiver_reads : (n : ℕ) (note : StepNote) (new : ByteWorld) (wire : List ℕ) → k.to_receiver ≡ wire → ReceiverReads wire plan b number k n note new → ∥ Result_of b (Move number Acceptor n) note w new ∥₁
-    receiver_reads n note new [] e h = does_if (Move number Acceptor n) (is_over k.caller.core) note new (ReceiverMeets plan b number k Ended new)
+    receiver_reads n note new [] e h = does_if (Move number Acceptor n) (nat_le 1 n && is_over k.caller.core) note new (ReceiverMeets plan b number k Ended new)
         (λ o m. receiver_met (Move number Acceptor n) note Ended new (λ at time x t r. ∣ receiver_ended (Move number Acceptor n) refl (λ o. inl o) at time x t r ∣₁) m) h
     receiver_reads n note new (y ∷ ys) e h = does_if (Move number Acceptor n) (nat_le 1 n) note new (ReceiverHears plan b number k n new) (λ o m. ∣ receiver_heard note n new (some_wire y ys k.to_receiver e) m ∣₁) h
 

@@ -171,13 +171,13 @@ abbrev pub ReceiverHears : Network → ByteWorld → ℕ → Channel → ℕ →
 ReceiverHears plan b number k n new = (m : ℕ) × (at : Moment) × (ear : Feeding) × (x : Effect) × (t : Desk) × IsMoved k.receiver k.to_receiver n m × IsMoment b number (receiver_of k) at
     × PlaysBytes (LedgerStep plan (receiver_of k)) at k.receiver.ear k.receiver.core (take m k.to_receiver) (b.desks (receiver_of k)) ear x t × (new ≡ with_done b (receiver_of k) t number (receiver_read k m ear x))
 
--- an empty wire whose writer is gone tells its reader of the connection's end
+-- an empty wire whose writer is gone tells its reader of the connection's end; where no byte is asked for nothing is done
 abbrev pub CallerReads : List ℕ → Network → ByteWorld → ℕ → Channel → ℕ → StepNote → ByteWorld → Type 0
-CallerReads [] plan b number k n note new = DoesIf (is_over k.receiver.core) b note new (CallerMeets plan b number k Ended new)
+CallerReads [] plan b number k n note new = DoesIf (nat_le 1 n && is_over k.receiver.core) b note new (CallerMeets plan b number k Ended new)
 CallerReads (x ∷ xs) plan b number k n note new = DoesIf (nat_le 1 n) b note new (CallerHears plan b number k n new)
 
 abbrev pub ReceiverReads : List ℕ → Network → ByteWorld → ℕ → Channel → ℕ → StepNote → ByteWorld → Type 0
-ReceiverReads [] plan b number k n note new = DoesIf (is_over k.caller.core) b note new (ReceiverMeets plan b number k Ended new)
+ReceiverReads [] plan b number k n note new = DoesIf (nat_le 1 n && is_over k.caller.core) b note new (ReceiverMeets plan b number k Ended new)
 ReceiverReads (x ∷ xs) plan b number k n note new = DoesIf (nat_le 1 n) b note new (ReceiverHears plan b number k n new)
 
 -- nothing is moved to an end that is over

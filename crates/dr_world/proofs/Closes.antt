@@ -53,7 +53,7 @@ module _ (does : Deed Desk) (now link : ℕ) (old new : Sides) (s t : Desk) (act
 -- ---- ends that are over
 
 module _ {L : Type 0} {l : Ghosts L} (link : ℕ) (accepted : Bool) (t : Rattle.dr_tie.specs.Channels.Terminal) where
-  over_is : (o : Option (Node L l)) (seat : Seat) → option_map seat_of o ≡ Some seat → map.get seat.sides link ≡ Some (side_of accepted t) → over_at link o ≡ is_over t.core
+  pub over_is : (o : Option (Node L l)) (seat : Seat) → option_map seat_of o ≡ Some seat → map.get seat.sides link ≡ Some (side_of accepted t) → over_at link o ≡ is_over t.core
   over_is None seat e h = (let x : None ≡ Some seat = e in let y : ⊥ = cc in absurd y)
   over_is (Some n) seat e h =
       let x : Some (seat_of n) ≡ Some seat = e in
@@ -72,7 +72,7 @@ both_over {L} {l} old b s link w wired =
 
 -- ---- a step that is skipped
 
-skipped : {L : Type 0} {l : Ghosts L} (old new : World L l) (step : WorldStep) → contents new ≡ contents old → (AllStand new → AllStand old) → ((plan : Network) (certificate : Certificate) (b : ByteWorld) → ShowsBytes (contents old) b → Steps plan certificate b step WasSkipped b)
+pub skipped : {L : Type 0} {l : Ghosts L} (old new : World L l) (step : WorldStep) → contents new ≡ contents old → (AllStand new → AllStand old) → ((plan : Network) (certificate : Certificate) (b : ByteWorld) → ShowsBytes (contents old) b → Steps plan certificate b step WasSkipped b)
     → StepsTo step old note.Skipped new
 skipped old new step same stood skips = (
   stood,

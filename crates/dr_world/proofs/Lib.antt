@@ -18,3 +18,10 @@ pub mod Closing
 pub mod Closes
 pub mod Moving
 pub mod Founded
+pub mod Ending
+pub mod FarEnds
+pub mod Restarting
+pub mod Listed
+pub mod FrontBytes
+pub mod Arriving
+pub mod Finishing

@@ -40,8 +40,8 @@ use Rattle.dr_world.proofs.Asking.{MetAt, met_at, seated_after, aborted, release
 
 -- ---- the contents after a call
 
-module _ {L : Type 0} {l : Ghosts L} (does : Part → Deed Desk) (old new : World L l) (link : ℕ) (side : Side) (w v : Wires) (acts : List LinkAction) (wired : Some w ≡ tree.get nat_cmp old.wires link)
-    (updates : (q : ℕ) → tree.get nat_cmp new.wires q ≡ cond (is_at (nat_cmp link) q) (Some v) (tree.get nat_cmp old.wires q)) (time : new.time ≡ old.time) (opened : new.opened ≡ old.opened) (written : AreWritten side 0 acts w v) where
+module _ {L : Type 0} {l : Ghosts L} (does : Part → Deed Desk) (old new : World L l) (link taken : ℕ) (side : Side) (w v : Wires) (acts : List LinkAction) (wired : Some w ≡ tree.get nat_cmp old.wires link)
+    (updates : (q : ℕ) → tree.get nat_cmp new.wires q ≡ cond (is_at (nat_cmp link) q) (Some v) (tree.get nat_cmp old.wires q)) (time : new.time ≡ old.time) (opened : new.opened ≡ old.opened) (written : AreWritten side taken acts w v) where
   wires_at : (q : ℕ) → tree.get nat_cmp new.wires q ≡ with_wires (contents old).wires link v q
   wires_at q = updates q ∙ ap (λ (b : Bool). cond b (Some v) (tree.get nat_cmp old.wires q)) ((eq_by_cmp_equiv numbers.total).symm link q)
 
@@ -54,7 +54,7 @@ module _ {L : Type 0} {l : Ghosts L} (does : Part → Deed Desk) (old new : Worl
       λ i. record { now = (time i).passed; opened = opened i; seats = λ q. at q i; wires = λ q. wires_at q i }
 
   by_side : (n : Node L l) → tree.get text_cmp old.nodes (name_at side w) ≡ Some n → (sides : Sides) (t : Desk) (o : Option NodeSide) → map.get n.links link ≡ o → DoesIn (does (l.site n.desk.ledger)) old.time.passed link o n.links (seat_of n).desk (Ok acts) sides t
-      → ((q : Text) → seats_of new.nodes q ≡ with_seat (seats_of old.nodes) (name_at side w) (record { site = l.site n.desk.ledger; sides = sides; desk = t }) q) → IsDone does 0 (contents old) link side acts (contents new)
+      → ((q : Text) → seats_of new.nodes q ≡ with_seat (seats_of old.nodes) (name_at side w) (record { site = l.site n.desk.ledger; sides = sides; desk = t }) q) → IsDone does taken (contents old) link side acts (contents new)
   by_side n is sides t None none h seats = absurd (no_fault acts h.0)
     where
       no_fault : (xs : List LinkAction) → Ok xs ≡ Err LinkUnknown → ⊥
@@ -74,16 +74,11 @@ module _ {L : Type 0} {l : Ghosts L} (does : Part → Deed Desk) (old new : Worl
     is = contents_are n own sides h.0 t h.2 seats;
   }
 
-  pub done_at : (now : ℕ) → now ≡ old.time.passed → IsDoneAt does (name_at side w) link now old.nodes acts new.nodes → (note : StepNote) → noted note ≡ note_by acts → Meets does link side old note new
-  done_at now at h note noted_so =
-      let P : Option Wires → Type 0 = λ o. MeetsIn does o link side old note new in
-      subst P wired (
-        h.2,
-        λ all. (
-            let d = h.3 all in
-            let D : ℕ → Type 0 = λ m. Does (does (l.site h.0.desk.ledger)) m link h.0.links (seat_of h.0).desk (Ok acts) d.0 d.1 in
-            (acts, noted_so, by_side h.0 h.1 d.0 d.1 (map.get h.0.links link) refl (subst D at d.2) d.3)),
-      )
+  pub done_of : (now : ℕ) → now ≡ old.time.passed → (h : IsDoneAt does (name_at side w) link now old.nodes acts new.nodes) → AllStandIn new.nodes → IsDone does taken (contents old) link side acts (contents new)
+  done_of now at h all =
+      let d = h.3 all in
+      let D : ℕ → Type 0 = λ m. Does (does (l.site h.0.desk.ledger)) m link h.0.links (seat_of h.0).desk (Ok acts) d.0 d.1 in
+      by_side h.0 h.1 d.0 d.1 (map.get h.0.links link) refl (subst D at d.2) d.3
 
 -- the same, as the call has it
 pub done_named : {L : Type 0} {l : Ghosts L} (does : Part → Deed Desk) (old new : World L l) (link : ℕ) (side : Side) (w v : Wires) (acts written_acts noted_acts : List LinkAction) → written_acts ≡ acts → noted_acts ≡ acts → Some w ≡ tree.get nat_cmp old.wires link
@@ -92,7 +87,9 @@ pub done_named : {L : Type 0} {l : Ghosts L} (does : Part → Deed Desk) (old ne
 done_named does old new link side w v acts written_acts noted_acts e f wired updates time opened written name named_so now at h note noted_so =
     let W : List LinkAction → Type 0 = λ a. AreWritten side 0 a w v in
     let D : Text → Type 0 = λ q. IsDoneAt does q link now old.nodes acts new.nodes in
-    done_at does old new link side w v acts wired updates time opened (subst W e written) now at (subst D named_so h) note (noted_so ∙ ap note_by f)
+    let P : Option Wires → Type 0 = λ o. MeetsIn does o link side old note new in
+    let d : IsDoneAt does (name_at side w) link now old.nodes acts new.nodes = subst D named_so h in
+    subst P wired (d.2, λ all. (acts, noted_so ∙ ap note_by f, done_of does old new link 0 side w v acts wired updates time opened (subst W e written) now at d all))
 
 pub unmet : {L : Type 0} {l : Ghosts L} (does : Part → Deed Desk) (w : World L l) (wires : BTreeMap ℕ Wires) (link : ℕ) (side : Side) → None ≡ tree.get nat_cmp w.wires link → wires ≡ w.wires
     → Meets does link side w Skipped (record { alloc = w.alloc; time = w.time; opened = w.opened; nodes = w.nodes; wires = wires; lost = w.lost })

@@ -39,7 +39,7 @@ receiver_reads : (xs : List ℕ) → xs ≢ [] → (plan : Network) (b : ByteWor
 receiver_reads [] some plan b number k n after one h = absurd (some refl)
 receiver_reads (x ∷ xs) some plan b number k n after one h = (let P : Bool → Type 0 = λ v. DoesIf v b Done after (ReceiverHears plan b number k n after) in subst P (sym one) (refl, h))
 
-wire_is : (side : Side) (seats : Rattle.dr_world.specs.Shows.Seats) (number : ℕ) (w : Rattle.dr_world.specs.declared.wires.Wires.Wires) (k : Channel) → IsLinked seats number w k → wire_of side k ≡ wire_at side w
+pub wire_is : (side : Side) (seats : Rattle.dr_world.specs.Shows.Seats) (number : ℕ) (w : Rattle.dr_world.specs.declared.wires.Wires.Wires) (k : Channel) → IsLinked seats number w k → wire_of side k ≡ wire_at side w
 wire_is Requestor seats number w k l = l.to_caller
 wire_is Acceptor seats number w k l = l.to_receiver
 

@@ -7,3 +7,7 @@ pub mod Runs
 pub mod Opened
 pub mod Closed
 pub mod Founding
+pub mod Reports
+pub mod Restarted
+pub mod Moved
+pub mod Ended

@@ -1,5 +1,5 @@
 -- Lists of steps, and what holds after them.
-use Rattle.std.specs.Prelude.{◌≡◌, List, [], ◌∷◌, ◌++◌, Some}
+use Rattle.std.specs.Prelude.{◌≡◌, List, [], ◌∷◌, ◌++◌, Some, map as mapped}
 use Rattle.std.specs.BTreeMap as tree
 use Rattle.dr_base.specs.Texts.{Text, text_cmp}
 use Rattle.dr_ledger.specs.declared.ledger.Ledger.{Ghosts}
@@ -12,8 +12,8 @@ use Rattle.dr_model.specs.Claims.{Headline}
 use Rattle.dr_tie.specs.ByteWorlds as bytes
 use Rattle.dr_tie.specs.ByteWorlds.{ByteWorld, beginning}
 use Rattle.dr_tie.specs.Shown.{RunsOf}
-use Rattle.dr_world.specs.declared.steps.Step.{Step}
-use Rattle.dr_world.specs.declared.steps.Step.TheVariants.{Submit, Open, Push, Abort, Release, Close, Late, Requeue, Tick, RefuseStore}
+use Rattle.dr_script.specs.declared.step.Step.{Step}
+use Rattle.dr_script.specs.declared.step.Step.TheVariants.{Submit, Open, Push, Move, Abort, Release, Close, Late, Restart, Requeue, Tick, RefuseStore}
 use Rattle.dr_world.specs.declared.world.World.{World}
 use Rattle.dr_world.specs.Shows.{ShowsBytes, IsSeated}
 use Rattle.dr_world.specs.Ends.{named}
@@ -24,17 +24,23 @@ abbrev pub step_of : Step → bytes.WorldStep
 step_of (Submit node item) = bytes.Submit node item
 step_of (Open from to) = bytes.Open from to
 step_of (Push link) = bytes.Push link
+step_of (Move link reader most) = bytes.Move link (named reader) most
 step_of (Abort link side) = bytes.Abort link (named side)
 step_of (Release link) = bytes.Release link
 step_of (Close link) = bytes.Close link
 step_of (Late link side) = bytes.Late link (named side)
+step_of (Restart node) = bytes.Restart node
 step_of (Requeue node uid dest) = bytes.Requeue node uid dest
 step_of (Tick ms) = bytes.Tick ms
 step_of (RefuseStore node) = bytes.Refuse node
 
 -- These steps lead from the beginning of the world of bytes to one that stands beside the contents. Each node is one of the plan.
+abbrev pub WasReached : {L : Type 0} {l : Ghosts L} → Network → Certificate → List bytes.WorldStep → World L l → Type 0
+WasReached plan certificate steps w = ∥ (IsSeated plan certificate (contents w).seats × ((b : ByteWorld) × RunsOf plan certificate beginning steps b × ShowsBytes (contents w) b)) ∥₁
+
+-- The same, under the ledgers' own premise.
 abbrev pub IsReached : {L : Type 0} {l : Ghosts L} → Network → Certificate → List bytes.WorldStep → World L l → Type 0
-IsReached plan certificate steps w = AllStand w → ∥ (IsSeated plan certificate (contents w).seats × ((b : ByteWorld) × RunsOf plan certificate beginning steps b × ShowsBytes (contents w) b)) ∥₁
+IsReached plan certificate steps w = AllStand w → WasReached plan certificate steps w
 
 -- a step more, from any world that some steps have led to
 abbrev pub GoesOn : {L : Type 0} {l : Ghosts L} → bytes.WorldStep → World L l → World L l → Type 0
@@ -59,3 +65,8 @@ Leads steps old new = (plan : Network) (certificate : Certificate) → IsCertifi
 -- The four claims hold after them, under the ledgers' own premise.
 abbrev pub HoldsAfterAll : {L : Type 0} {l : Ghosts L} → World L l → World L l → Type 0
 HoldsAfterAll old new = (plan : Network) (certificate : Certificate) → IsCertified plan certificate → (before : List bytes.WorldStep) → IsReached plan certificate before old → AllStand new → HoldsOf plan new
+
+-- A world that just these steps have made of the plan, and nothing else is asked: they lead to it from the beginning, and the
+-- headline's four claims hold of its nodes' books.
+abbrev pub IsRunOf : {L : Type 0} {l : Ghosts L} → Network → Certificate → List Step → World L l → Type 0
+IsRunOf plan certificate steps w = WasReached plan certificate (mapped step_of steps) w × HoldsOf plan w

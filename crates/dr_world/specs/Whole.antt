@@ -48,6 +48,10 @@ contents w = record {
 abbrev pub AllStand : {L : Type 0} {l : Ghosts L} → World L l → Type 0
 AllStand w = AllStandIn w.nodes
 
+-- Nothing has changed; where the premise of each ledger stands after it, it stood before.
+abbrev pub IsSameWorld : {L : Type 0} {l : Ghosts L} → World L l → World L l → Type 0
+IsSameWorld old new = (AllStand new → AllStand old) × (AllStand new → contents new ≡ contents old) × (new.lost ≡ old.lost)
+
 abbrev pub HasTicked : {L : Type 0} {l : Ghosts L} → ℕ → World L l → World L l → Type 0
 HasTicked ms old new = (contents new ≡ with_time (contents old) (min (old.time.passed + ms) (2 ^ 62))) × (new.nodes ≡ old.nodes)
 

@@ -79,7 +79,7 @@ fn seat<L: Ledger + Drop>(
 }
 
 /// The names of a plan's nodes, in byte order.
-fn names_of(alloc: Global, plan: &Plan) -> Result<Vec<Text>, AllocError>
+pub fn names_of(alloc: Global, plan: &Plan) -> Result<Vec<Text>, AllocError>
     ensures { IfOk result (λ names. AreNames plan.now names.items) }
 {
     let mut names = Vec::new(alloc);

@@ -1,4 +1,5 @@
 //! Laws: what is done to a world's contents is a step of the world of bytes beside it.
+ghost use Rattle.dr_world.specs.Ended.{MoveEndsPdu};
 ghost use Rattle.dr_world.specs.Laws.{EndStaysOfItsSite, MoveIsShown, NewIsBeginning, OthersAreCounted, RefuseIsShown, RequeueIsShown, StrangerIsSkipped, SubmitIsShown, TickIsShown};
 
 use dr_session::DeskPort;
@@ -34,4 +35,9 @@ pub fn begins()
 /// Bytes that come to an end are a Move, where so many came as belong to the PDU at the front.
 pub fn moves()
     ensures { MoveIsShown }
+{}
+
+/// A Move of all that is left of a PDU ends it: just that comes off the wire, and the end has heard the PDU.
+pub fn ends_pdus()
+    ensures { MoveEndsPdu }
 {}

@@ -4,21 +4,27 @@
 //! bytes it is, is said in `specs/Shows.antt`. Each step of a world is that step of the world of bytes beside it (`World::step`), so
 //! the headline's four claims hold of its nodes' books after it.
 //!
-//! A world begins by `World::with`, over a new ledger for each node of a sealed plan. Open: the step that moves bytes to an end, for which
-//! an end would have to tell what it keeps; and the restart of a node.
+//! A world begins by `World::with`, over a new ledger for each node of a sealed plan; `run` plays steps from there over ledgers in memory.
 #![tactic(auto)]
 
 mod calls;
 pub mod fault;
 pub mod founding;
+pub mod fronts;
 pub mod laws;
+pub mod listing;
+pub mod playing;
+mod restarts;
 pub mod steps;
 pub mod time;
 pub mod wires;
 pub mod world;
 
+pub use dr_script::{Side, Step};
 pub use fault::WorldFault;
-pub use steps::{Side, Step, StepNote};
+pub use listing::Listing;
+pub use playing::run;
+pub use steps::StepNote;
 pub use time::Time;
 pub use wires::Wires;
 pub use world::World;

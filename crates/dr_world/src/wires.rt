@@ -1,12 +1,13 @@
 //! What is between the two ends of a link.
-ghost use Rattle.std.specs.Prelude.{◌≡◌, ◌++◌, ◌∷◌, [], IfOk, OnOk};
+ghost use Rattle.std.specs.Prelude.{◌≡◌, ◌++◌, ◌∷◌, [], IfOk, OnOk, drop, take};
 ghost use Rattle.dr_tie.specs.Channels.{bytes_of};
 ghost use Rattle.dr_world.specs.Closed.{AreLost};
-ghost use Rattle.dr_world.specs.Ends.{AreWritten, name_at, named};
+ghost use Rattle.dr_world.specs.Ends.{AreWritten, name_at, named, wire_at};
+ghost use Rattle.dr_world.specs.Moved.{AreTaken};
 
-use crate::steps::Side;
 use bytes::BytesMut;
-use dr_base::Text;
+use dr_base::{Octets, Text};
+use dr_script::Side;
 use dr_session::LinkAction;
 use std::alloc::{AllocError, Global};
 
@@ -51,6 +52,27 @@ impl Wires {
         }
     }
 
+    /// What is on its way to that side.
+    pub fn wire(&self, side: Side) -> &[u8]
+        ensures { result.now ≡ wire_at (named side) self.now }
+    {
+        match side {
+            Side::Requestor => self.to_caller.as_slice(),
+            Side::Acceptor => self.to_receiver.as_slice(),
+        }
+    }
+
+    /// The first bytes that are on their way to that side, so many or all, are taken off its wire.
+    pub fn take(&mut self, alloc: Global, side: Side, count: usize) -> Result<Octets, AllocError>
+        ensures piece { IfOk result (λ piece. piece ≡ take count (wire_at (named side) self.old)) }
+        ensures taken { IfOk result (λ piece. AreTaken (named side) count self.old self.new) }
+    {
+        match side {
+            Side::Requestor => take_front(alloc, &mut self.to_caller, count),
+            Side::Acceptor => take_front(alloc, &mut self.to_receiver, count),
+        }
+    }
+
     /// What is under way is lost.
     pub fn lose(&mut self)
         ensures { AreLost self.old self.new }
@@ -68,6 +90,22 @@ impl Wires {
             Side::Acceptor => put(&mut self.to_caller, actions),
         }
     }
+}
+
+/// The first bytes of a wire, so many or all, taken off it. No other byte is moved; where all are taken, all of the wire's room is free
+/// again.
+fn take_front(alloc: Global, wire: &mut BytesMut, count: usize) -> Result<Octets, AllocError>
+    ensures piece { IfOk result (λ piece. piece ≡ take count wire.old.items) }
+    ensures rest { IfOk result (λ piece. wire.new.items ≡ drop count wire.old.items) }
+{
+    if wire.len() <= count {
+        let piece = Octets::copy_of(alloc, wire.as_slice())?;
+        wire.clear();
+        return Ok(piece);
+    }
+    let piece = Octets::copy_of(alloc, &wire.as_slice()[..count])?;
+    wire.advance(count);
+    Ok(piece)
 }
 
 /// What is written goes behind what is there.

@@ -4,22 +4,29 @@ ghost use Rattle.std.specs.BTreeMap as tree;
 ghost use Rattle.dr_base.specs.Texts.{text_cmp};
 ghost use Rattle.dr_session.specs.declared.ends.Heard.TheVariants as heard;
 ghost use Rattle.dr_node.specs.declared.event.LinkEvent.TheVariants as event_of;
-ghost use Rattle.dr_tie.specs.ByteWorlds.{Abort, Close as CloseStep, Late, Open, Push, Refuse, Release, Requestor, Requeue, Submit, Tick};
+ghost use Rattle.dr_tie.specs.ByteWorlds.{Abort, Close as CloseStep, Late, Open, Push, Refuse, Release, Requestor, Requeue, Restart, Submit, Tick};
 ghost use Rattle.dr_world.specs.declared.steps.StepNote.TheVariants.{Done as WasDone};
 ghost use Rattle.dr_world.specs.Ends.{named, note_by};
 ghost use Rattle.dr_world.specs.Nodes.{event_at, over_at, push_at as pushed_at};
 ghost use Rattle.dr_world.specs.declared.fault.WorldFault.TheVariants.{Memory as MemoryFault};
 ghost use Rattle.dr_world.specs.Runs.{GoesOn, HoldsAfter, HoldsAfterAll, Leads, step_of};
-ghost use Rattle.dr_world.specs.Whole.{Calls, HasTicked, IsToldToRefuse, Meets, Puts, StepsTo, Submits, noted};
+ghost use Rattle.dr_world.specs.Reports.{IsReported, ListsBook, bodies_of, books_of, has_in};
+ghost use Rattle.dr_world.specs.Restarted.{AllFarHear, FarHears};
+ghost use Rattle.dr_world.specs.Whole.{AllStand, Calls, HasTicked, IsSameWorld, IsToldToRefuse, Meets, Puts, StepsTo, Submits, noted};
+
+mod reading;
 
 use crate::calls::{accept_at, input_at, is_over_at, open_at, push_at};
 use crate::fault::WorldFault;
-use crate::steps::{Side, Step, StepNote};
+use crate::listing::{Listing, has_body_at, list_at, names_in, report_each};
+use crate::restarts::{come_up, far_side, forget, links_of};
+use crate::steps::StepNote;
 use crate::time::Time;
 use crate::wires::Wires;
 use dr_base::Text;
 use dr_ledger::{Item, Ledger, Refusing};
 use dr_node::{LinkEvent, Node};
+use dr_script::{Side, Step};
 use dr_session::{Heard, LinkAction};
 use std::alloc::Global;
 use std::collections::BTreeMap;
@@ -206,6 +213,48 @@ impl<L: Ledger> World<L> {
     }
 }
 
+impl<L: Ledger> World<L> {
+    /// The far end of a link of the named node hears that its connection has ended (event 17). What it writes is lost with
+    /// the link.
+    fn end_far(&mut self, name: &Text, link: u64) -> Result<(), WorldFault>
+        ensures { OnOk result (FarHears name.now link self.old self.new) }
+    {
+        let Some(wires) = self.wires.get(&link) else {
+            return Ok(());
+        };
+        let side = far_side(wires, name);
+        let _note = self.meet(link, side, ended())?;
+        Ok(())
+    }
+
+    /// The far ends of these links, one after the other.
+    fn end_each(&mut self, name: &Text, links: &[u64]) -> Result<(), WorldFault>
+        ensures { OnOk result (AllFarHear name.now links.now self.old self.new) }
+    {
+        for link in links {
+            self.end_far(name, *link)?;
+        }
+        Ok(())
+    }
+
+    /// A node stops and starts again: its links are lost with what is under way on them, and each far end that isn't over hears
+    /// of it, by rising numbers of the links; its book stays. Skipped where no node has that name.
+    ///
+    /// Errors: Memory.
+    fn restart(&mut self, name: &Text) -> Result<StepNote, WorldFault>
+        ensures { IfOk result (λ note. StepsTo (Restart name.now) self.old note self.new) }
+    {
+        if !self.nodes.contains_key(name) {
+            return Ok(StepNote::Skipped);
+        }
+        let links = links_of(self.alloc, &self.wires, name)?;
+        self.end_each(name, links.as_slice())?;
+        forget(&mut self.wires, links.as_slice());
+        come_up(&mut self.nodes, name);
+        Ok(StepNote::Done)
+    }
+}
+
 /// Whether both ends of a link are over.
 fn are_over<L: Ledger>(nodes: &BTreeMap<Text, Node<L>>, wires: &Wires, link: u64) -> bool
     ensures { result ≡ (over_at link (tree.get text_cmp nodes.now wires.now.caller) && over_at link (tree.get text_cmp nodes.now wires.now.receiver)) }
@@ -231,6 +280,40 @@ fn note_of(actions: &[LinkAction]) -> StepNote
         return StepNote::Skipped;
     }
     StepNote::Done
+}
+
+impl<L: Ledger> World<L> {
+    /// What the book of the node of that name has; None where no node has it.
+    ///
+    /// Errors: Store, where the ledger's store fails; Memory.
+    pub fn book(&mut self, name: &Text) -> Result<Option<Listing>, WorldFault>
+        ensures lists { IfOk result (λ o. AllStand self.new → ListsBook (books_of self.old.nodes name.now) o) }
+        ensures same { IsSameWorld self.old self.new }
+    {
+        list_at(&mut self.nodes, name)
+    }
+
+    /// Whether the node of that name has the data set of that uid: it does while the uid is kept or a row of it isn't done.
+    /// None where no node has that name.
+    ///
+    /// Errors: Store, where the ledger's store fails; Memory.
+    pub fn has_body(&mut self, name: &Text, uid: &Text) -> Result<Option<bool>, WorldFault>
+        ensures has { IfOk result (λ o. AllStand self.new → o ≡ has_in (bodies_of self.old.nodes name.now) uid.now) }
+        ensures same { IsSameWorld self.old self.new }
+    {
+        has_body_at(&mut self.nodes, name, uid)
+    }
+
+    /// Adds the report of all nodes, in byte order of their names.
+    ///
+    /// Errors: Store, where a ledger's store fails; Memory. Parts of it may have been added then.
+    pub fn report(&mut self, out: &mut Vec<u8>) -> Result<(), WorldFault>
+        ensures reports { OnOk result (AllStand self.new → IsReported (books_of self.old.nodes) out.old.items out.new.items) }
+        ensures same { IsSameWorld self.old self.new }
+    {
+        let names = names_in(self.alloc, &self.nodes)?;
+        report_each(&mut self.nodes, names.as_slice(), out)
+    }
 }
 
 impl<L: Ledger> World<Refusing<L>> {
@@ -283,11 +366,13 @@ impl<L: Ledger> World<Refusing<L>> {
             Step::Close { link } => self.close(*link),
             Step::Late { link, side } => self.late(*link, *side),
             Step::Requeue { node, uid, dest } => Ok(self.requeue(node, uid, dest)),
-            Step::Tick { ms } => {
-                self.tick(*ms);
+            Step::Tick { milliseconds } => {
+                self.tick(*milliseconds);
                 Ok(StepNote::Done)
             }
             Step::RefuseStore { node } => Ok(self.refuse(node)),
+            Step::Move { link, reader, most } => self.move_bytes(*link, *reader, *most),
+            Step::Restart { node } => self.restart(node),
         }
     }
 

@@ -1,4 +1,4 @@
-use Rattle.dr_world.specs.declared.steps.Step.TheVariants.{Submit, Open, Push, Abort, Release, Close, Late, Requeue, Tick, RefuseStore}
+use Rattle.dr_script.specs.declared.step.Step.TheVariants.{Submit, Open, Push, Move, Abort, Release, Close, Late, Restart, Requeue, Tick, RefuseStore}
 use Rattle.dr_world.specs.declared.steps.StepNote.TheVariants.{Done}
 use Rattle.dr_world.proofs.Running.{as_if, as_it, copied}
 use Rattle.dr_world.proofs.world.World+Refusing+L.perform.Goals as goal
@@ -25,7 +25,7 @@ returns-in-Requeue g c =
     as_it c.args.self.now c.requeue.new.self c.args.step.now (Requeue c.in-Requeue.node c.in-Requeue.uid c.in-Requeue.dest) c.in-Requeue.is c.requeue.result c.requeue.ensures.step
 
 pub returns-in-Tick : goal.returns-in-Tick
-returns-in-Tick g c = as_it c.args.self.now c.tick.new.self c.args.step.now (Tick c.in-Tick.ms) c.in-Tick.is Done c.tick.ensures.step
+returns-in-Tick g c = as_it c.args.self.now c.tick.new.self c.args.step.now (Tick c.in-Tick.milliseconds) c.in-Tick.is Done c.tick.ensures.step
 
 pub returns-in-RefuseStore : goal.returns-in-RefuseStore
 returns-in-RefuseStore g c = as_it c.args.self.now c.refuse.new.self c.args.step.now (RefuseStore c.in-RefuseStore.node) c.in-RefuseStore.is c.refuse.result c.refuse.ensures.step
@@ -35,3 +35,9 @@ returns-in-Open g c = as_if c.args.self.now c.open.new.self c.args.step.now (Ope
 
 pub returns-in-Close : goal.returns-in-Close
 returns-in-Close g c = as_if c.args.self.now c.close.new.self c.args.step.now (Close c.in-Close.link) c.in-Close.is c.close.result c.close.ensures
+
+pub returns-in-Move : goal.returns-in-Move
+returns-in-Move g c = as_if c.args.self.now c.move_bytes.new.self c.args.step.now (Move c.in-Move.link c.in-Move.reader c.in-Move.most) c.in-Move.is c.move_bytes.result c.move_bytes.ensures
+
+pub returns-in-Restart : goal.returns-in-Restart
+returns-in-Restart g c = as_if c.args.self.now c.restart.new.self c.args.step.now (Restart c.in-Restart.node) c.in-Restart.is c.restart.result c.restart.ensures

@@ -1,0 +1,18 @@
+use Rattle.std.proofs.Common.{refl}
+use Rattle.std.specs.BTreeMap as tree
+use Rattle.std.specs.Ordering.{nat_cmp}
+use Rattle.dr_world.specs.Ends.{named}
+use Rattle.dr_world.proofs.Arriving.{heard_named, unheard}
+use Rattle.dr_world.proofs.Called.{there}
+use Rattle.dr_world.proofs.world.World.hear.Goals as goal
+
+pub returns-in_default : goal.returns-in_default
+returns-in_default g c = unheard c.args.self.now c.get_mut.follows.lender-at-none c.args.link c.args.count (named c.args.reader) c.in_default.ensures.value c.get_mut.follows.holds-at-none
+
+pub returns : goal.returns
+returns g c =
+    heard_named c.args.self.now
+    (record { alloc = c.args.self.now.alloc; time = c.args.self.now.time; opened = c.args.self.now.opened; nodes = c.input_at.new.nodes; wires = c.get_mut.follows.lender c.write.new.self; lost = c.args.self.now.lost })
+    c.args.link c.args.count (named c.args.reader) c.in-Some.wires.now c.take.new.self c.write.new.self c.in_ok-piece.piece c.in_ok-actions.actions c.as_slice.result.now c.as_slice.ensures c.in-Some.ensures.value
+    ((c.get_mut.follows.holds c.write.new.self).3 (there (tree.get nat_cmp c.args.self.now.wires c.args.link) c.in-Some.wires.now c.in-Some.ensures.value)).0 refl refl c.in_ok-piece.ensures.piece c.in_ok-piece.ensures.taken c.in_ok-write.ensures
+    c.name.result.now c.name.ensures c.moment-now.result c.moment-now.ensures.same c.in_ok-actions.ensures
