@@ -11,6 +11,7 @@ use Rattle.dr_cert_text.specs.Reading.{IsReadBack, HasNone}
 use Rattle.dr_plan.specs.Reading.{Reads}
 use Rattle.dr_plan.specs.declared.fault.PlanFault.TheVariants.{Memory as NoMemory}
 use Rattle.dr_cert.specs.Refusing.{IsRefused}
+use Rattle.dr_cert.specs.Sealing.{Certified}
 use Rattle.dr_cert.specs.declared.fault.CertFault.{CertFault}
 use Rattle.dr_cert.specs.declared.fault.CertFault.TheVariants as fault
 use Rattle.dr_commands.specs.declared.answer.Answer.{Answer}
@@ -31,6 +32,11 @@ IsTextOfNone text = HasNone certificate_text IsPrintable text
 -- the text is written for no certificate, or the certificate that it is written for has this fault
 abbrev pub IsFaultOf : Network → Text → CertFault → Type 0
 IsFaultOf plan text refused = ((refused ≡ fault.Text) × IsTextOfNone text) ⊎ ((certificate : Certificate) × IsTextOf text certificate × IsRefused plan certificate refused)
+
+-- what sealing a plan by a text answers: the plan with the certificate that the text is written for, or a fault of the text
+abbrev pub SealsText : Network → Text → Result Certified CertFault → Type 0
+SealsText plan text (Ok sealed) = (sealed.plan ≡ plan) × IsTextOf text sealed.certificate × IsSound plan × IsCertificateOf plan sealed.certificate
+SealsText plan text (Err refused) = (refused ≢ fault.Memory) → IsFaultOf plan text refused
 
 -- what `verify` may answer on a plan and a text; want of memory may be the answer to any
 abbrev pub IsVerdictOn : Network → Text → Verdict → Type 0

@@ -18,3 +18,9 @@ IsCheckOf words plan = (word : Bor (List ℕ)) × (words ≡ word ∷ plan ∷ [
 abbrev pub IsVerifyOf : List (Bor (List ℕ)) → Bor (List ℕ) → Bor (List ℕ) → Type 0
 IsVerifyOf words plan certificate =
     (word : Bor (List ℕ)) × (words ≡ word ∷ plan ∷ certificate ∷ []) × (word.now ≡ codes "verify") × IsNoOption plan.now × IsNoOption certificate.now
+
+-- the word simulate and three files' paths: they ask for a run of the script in the third, for the plan in the first and the certificate in the second
+abbrev pub IsSimulateOf : List (Bor (List ℕ)) → Bor (List ℕ) → Bor (List ℕ) → Bor (List ℕ) → Type 0
+IsSimulateOf words plan certificate script =
+    (word : Bor (List ℕ)) × (words ≡ word ∷ plan ∷ certificate ∷ script ∷ []) × (word.now ≡ codes "simulate")
+    × IsNoOption plan.now × IsNoOption certificate.now × IsNoOption script.now

@@ -8,8 +8,15 @@ pub mod laws;
 mod print;
 mod run;
 mod status;
+mod system;
 mod verify;
 mod words;
 
-pub use run::{Files, run_words, tell_unread_words};
+pub use answer::Answer;
+pub use run::{
+    Failure, Files, read_file, run_asked, run_words, tell_answer, tell_failure, tell_unread_words,
+};
 pub use status::Status;
+pub use system::{Disk, given_words};
+pub use verify::{plan_of, seal_text};
+pub use words::{Asked, read_words};

@@ -35,7 +35,7 @@ pub trait Files {
 
 /// Why a run couldn't be brought to its end.
 #[derive(Drop)]
-enum Failure<'a> {
+pub enum Failure<'a> {
     /// The standard input or an output failed.
     Stream(io::Error),
     /// The file of this path wasn't read.
@@ -49,7 +49,13 @@ impl<'a> From<io::Error> for Failure<'a> {
 }
 
 /// The bytes of the file.
-fn read_file<'a, F: Files>(alloc: Global, files: &F, path: &'a str) -> Result<Vec<u8>, Failure<'a>>
+///
+/// Errors: File.
+pub fn read_file<'a, F: Files>(
+    alloc: Global,
+    files: &F,
+    path: &'a str,
+) -> Result<Vec<u8>, Failure<'a>>
     ensures { IfOk result (λ bytes. F.holds files.now path.now bytes.items) }
 {
     match files.read(alloc, path) {
@@ -60,7 +66,7 @@ fn read_file<'a, F: Files>(alloc: Global, files: &F, path: &'a str) -> Result<Ve
 
 /// Writes the answer: a certificate or what is wrong with a plan to the output, and why there is neither to the
 /// faults.
-fn tell_answer<W: Write, E: Write>(
+pub fn tell_answer<W: Write, E: Write>(
     answer: &Answer,
     output: &mut W,
     faults: &mut E,
@@ -194,7 +200,7 @@ fn tell_words<W: Write, E: Write>(
 }
 
 /// Writes why the run failed, and ends so; a fault that can't be written is left unwritten.
-fn tell_failure<E: Write>(failure: &Failure<'_>, faults: &mut E) -> Status
+pub fn tell_failure<E: Write>(failure: &Failure<'_>, faults: &mut E) -> Status
     ensures { (result ≡ InputOutput) ⊎ (result ≡ Memory) }
 {
     let (Failure::Stream(error) | Failure::File(_, error)) = failure;
@@ -221,8 +227,21 @@ pub fn tell_unread_words<E: Write>(error: &io::Error, faults: &mut E) -> Status
     Status::Usage
 }
 
-/// Does what was asked for.
-fn run_asked<'a, R: Read, W: Write, E: Write, F: Files>(
+/// Says that a program for plans alone doesn't know the word.
+fn tell_other_word<E: Write>(faults: &mut E) -> io::Result<Status>
+    ensures { IfOk result (λ status. status ≡ Usage) }
+{
+    writeln!(
+        faults,
+        "dr_router: this program has the words check and verify alone"
+    )?;
+    Ok(Status::Usage)
+}
+
+/// Does what was asked for, where that is about plans alone; another word is none that it knows.
+///
+/// Errors: Stream, File.
+pub fn run_asked<'a, R: Read, W: Write, E: Write, F: Files>(
     alloc: Global,
     asked: Asked<'a>,
     input: &mut R,
@@ -243,11 +262,12 @@ fn run_asked<'a, R: Read, W: Write, E: Write, F: Files>(
         Asked::Verify(plan, certificate) => {
             verify_files(alloc, files, plan, certificate, output, faults)
         }
+        Asked::Simulate(_, _, _) => Ok(tell_other_word(faults)?),
         Asked::Told(error) => Ok(tell_words(&error, output, faults)?),
     }
 }
 
-/// Runs the program on the words of its command line, without the program's own name, and answers how it ends.
+/// Runs the program for plans on the words of its command line, without the program's own name, and answers how it ends.
 pub fn run_words<R: Read, W: Write, E: Write, F: Files>(
     alloc: Global,
     words: &[&str],

@@ -1,6 +1,6 @@
 //! What the program answers to a plan and the text of a certificate.
 ghost use Rattle.std.specs.Prelude.{◌≡◌, ◌≢◌};
-ghost use Rattle.dr_commands.specs.Verdicts.{IsVerdictOn, IsNoPlan, verdict_line, verdict_status, ReadsPlan};
+ghost use Rattle.dr_commands.specs.Verdicts.{IsVerdictOn, IsNoPlan, SealsText, verdict_line, verdict_status, ReadsPlan};
 ghost use Rattle.dr_commands.specs.declared.status.Status.TheVariants.{Usage};
 
 use crate::answer::Answer;
@@ -63,16 +63,25 @@ pub fn plan_of(alloc: Global, text: &[u8]) -> Result<Plan, Answer>
     }
 }
 
+/// A plan sealed by the certificate of a text: the plan is sound, and the certificate is its own.
+///
+/// Errors: the first fault of the certificate.
+pub fn seal_text(alloc: Global, plan: Plan, text: &[u8]) -> Result<Sealed, CertFault>
+    ensures { SealsText plan text.now result }
+{
+    let certificate = match read_certificate(alloc, text) {
+        Ok(certificate) => certificate,
+        Err(CertFault::Text) => return Err(CertFault::Text),
+        Err(_) => return Err(CertFault::Memory),
+    };
+    Sealed::new(alloc, plan, certificate)
+}
+
 /// The verdict on a plan and the text of a certificate.
 pub fn verdict_on(alloc: Global, plan: Plan, text: &[u8]) -> Verdict
     ensures { IsVerdictOn plan text.now result }
 {
-    let certificate = match read_certificate(alloc, text) {
-        Ok(certificate) => certificate,
-        Err(CertFault::Text) => return Verdict::No(CertFault::Text),
-        Err(_) => return Verdict::Memory,
-    };
-    match Sealed::new(alloc, plan, certificate) {
+    match seal_text(alloc, plan, text) {
         Ok(_) => Verdict::Yes,
         Err(CertFault::Memory) => Verdict::Memory,
         Err(fault) => Verdict::No(fault),

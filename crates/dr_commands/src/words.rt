@@ -1,7 +1,7 @@
 //! What the words of the command line ask for.
 ghost use Rattle.std.specs.Prelude.{◌≡◌, ◌↔◌, ℕ, List, Some, IfOk, IsTrue};
 ghost use Rattle.std.specs.Borrow.{Bor};
-ghost use Rattle.dr_commands.specs.Words.{IsPlainCheck, IsCheckOf, IsVerifyOf, IsNoOption};
+ghost use Rattle.dr_commands.specs.Words.{IsPlainCheck, IsCheckOf, IsVerifyOf, IsSimulateOf, IsNoOption};
 ghost use Rattle.dr_commands.specs.declared.words.Asked.{Asked as AskedValue};
 ghost use Rattle.dr_commands.specs.declared.words.Asked.TheVariants as asks;
 
@@ -17,6 +17,8 @@ pub enum Asked<'a> {
     CheckFile(&'a str),
     /// To verify, for the plan whose text is in the first file, the certificate whose text is in the second.
     Verify(&'a str, &'a str),
+    /// To play the script in the third file in a world of the nodes of the plan in the first, whose certificate is in the second.
+    Simulate(&'a str, &'a str, &'a str),
     /// Help, or nothing that the program knows.
     Told(Error),
 }
@@ -36,6 +38,7 @@ fn read_plain<'a>(words: &'a [&'a str]) -> Option<Asked<'a>>
     ensures input { IsPlainCheck words.now → result ≡ Some asks.CheckInput }
     ensures file { (plan : Bor (List ℕ)) → IsCheckOf words.now plan → result ≡ Some (asks.CheckFile plan) }
     ensures verify { (plan certificate : Bor (List ℕ)) → IsVerifyOf words.now plan certificate → result ≡ Some (asks.Verify plan certificate) }
+    ensures simulate { (plan certificate script : Bor (List ℕ)) → IsSimulateOf words.now plan certificate script → result ≡ Some (asks.Simulate plan certificate script) }
 {
     match words {
         [] => Some(Asked::CheckInput),
@@ -45,38 +48,63 @@ fn read_plain<'a>(words: &'a [&'a str]) -> Option<Asked<'a>>
             if *word == "verify" && is_no_option(plan) && is_no_option(certificate) => {
             Some(Asked::Verify(plan, certificate))
         }
+        [word, plan, certificate, script]
+            if *word == "simulate"
+                && is_no_option(plan)
+                && is_no_option(certificate)
+                && is_no_option(script) => { Some(Asked::Simulate(plan, certificate, script)) }
         _ => None,
     }
 }
 
-/// The command line of the program.
-fn command<'a>(alloc: Global) -> Result<Command<'a>, AllocError> {
+/// A file that has to be named.
+fn file<'a>(alloc: Global, name: &'a str, help: &'a str) -> Arg<'a> {
+    Arg::new(alloc, name)
+        .action(ArgAction::Set)
+        .required(true)
+        .help(help)
+}
+
+/// The word `check`.
+fn check_command<'a>(alloc: Global) -> Result<Command<'a>, AllocError> {
     let plan = Arg::new(alloc, "PLAN").action(ArgAction::Set).help(
         "the file with the plan; without it the plan is read from the standard input",
     );
-    let check = Command::new(alloc, "check")
+    Command::new(alloc, "check")
         .about("Checks a plan, and prints its certificate or what is wrong with it")
-        .arg(plan)?;
-    let plan = Arg::new(alloc, "PLAN")
-        .action(ArgAction::Set)
-        .required(true)
-        .help("the file with the plan");
-    let certificate = Arg::new(alloc, "CERT")
-        .action(ArgAction::Set)
-        .required(true)
-        .help("the file with the certificate");
-    let verify = Command::new(alloc, "verify")
+        .arg(plan)
+}
+
+/// The word `verify`.
+fn verify_command<'a>(alloc: Global) -> Result<Command<'a>, AllocError> {
+    Command::new(alloc, "verify")
         .about("Verifies that the plan is sound and that the certificate is its own")
-        .arg(plan)?
-        .arg(certificate)?;
+        .arg(file(alloc, "PLAN", "the file with the plan"))?
+        .arg(file(alloc, "CERT", "the file with the certificate"))
+}
+
+/// The word `simulate`.
+fn simulate_command<'a>(alloc: Global) -> Result<Command<'a>, AllocError> {
+    Command::new(alloc, "simulate")
+        .about(
+            "Plays a script of steps in a world of the plan's nodes, and prints what each has then",
+        )
+        .arg(file(alloc, "PLAN", "the file with the plan"))?
+        .arg(file(alloc, "CERT", "the file with the plan's certificate"))?
+        .arg(file(alloc, "SCRIPT", "the file with the script"))
+}
+
+/// The command line of the program.
+fn command<'a>(alloc: Global) -> Result<Command<'a>, AllocError> {
     Command::new(alloc, "dr_router")
         .bin_name("dr_router")?
         .version("0.1.0")
         .about("A DICOM store-and-forward router")
         .no_binary_name(true)
         .subcommand_required(true)
-        .subcommand(check)?
-        .subcommand(verify)
+        .subcommand(check_command(alloc)?)?
+        .subcommand(verify_command(alloc)?)?
+        .subcommand(simulate_command(alloc)?)
 }
 
 /// What clap makes of the words: options, help, and what the program doesn't know.
@@ -95,7 +123,11 @@ fn read_others<'a>(alloc: Global, words: &'a [&'a str]) -> Result<Asked<'a>, All
         return Ok(Asked::CheckFile(plan));
     }
     let certificate = given.get_str("CERT").unwrap_or("");
-    Ok(Asked::Verify(plan, certificate))
+    if name == "verify" {
+        return Ok(Asked::Verify(plan, certificate));
+    }
+    let script = given.get_str("SCRIPT").unwrap_or("");
+    Ok(Asked::Simulate(plan, certificate, script))
 }
 
 /// What the words ask for.
@@ -103,6 +135,7 @@ pub fn read_words<'a>(alloc: Global, words: &'a [&'a str]) -> Result<Asked<'a>, 
     ensures input { IfOk result (λ a. IsPlainCheck words.now → a ≡ asks.CheckInput) }
     ensures file { IfOk result (λ a. (plan : Bor (List ℕ)) → IsCheckOf words.now plan → a ≡ asks.CheckFile plan) }
     ensures verify { IfOk result (λ a. (plan certificate : Bor (List ℕ)) → IsVerifyOf words.now plan certificate → a ≡ asks.Verify plan certificate) }
+    ensures simulate { IfOk result (λ a. (plan certificate script : Bor (List ℕ)) → IsSimulateOf words.now plan certificate script → a ≡ asks.Simulate plan certificate script) }
 {
     if let Some(asked) = read_plain(words) {
         return Ok(asked);

@@ -20,3 +20,9 @@ returns-clause-file c = λ plan h. absurd (none-some (asks.CheckFile plan) (c.in
 
 pub returns-clause-verify : goal.returns-clause-verify
 returns-clause-verify c = λ plan certificate h. absurd (none-some (asks.Verify plan certificate) (c.in_default.ensures.verify plan certificate h))
+
+pub returns-in-Some-clause-simulate : goal.returns-in-Some-clause-simulate
+returns-in-Some-clause-simulate c = λ plan certificate script h. ap what (c.in-Some.ensures.simulate plan certificate script h)
+
+pub returns-clause-simulate : goal.returns-clause-simulate
+returns-clause-simulate c = λ plan certificate script h. absurd (none-some (asks.Simulate plan certificate script) (c.in_default.ensures.simulate plan certificate script h))

@@ -1,0 +1,34 @@
+//! The program for plans alone: `check` and `verify` of `dr_commands`, on the system's words, files, input and outputs. It stands on no
+//! node, link or ledger, so it is built in a few minutes.
+#![tactic(auto)]
+
+use dr_commands::{Disk, Status, given_words, run_words, tell_unread_words};
+use std::io;
+use std::process::ExitCode;
+
+/// Runs the program on its words, which fails only where they can't be read.
+fn run(rt: &HostRuntime) -> io::Result<Status> {
+    let given = given_words(rt)?;
+    let mut words = Vec::new(rt.alloc());
+    for word in given.as_slice() {
+        words.push(word.as_str())?;
+    }
+    let (mut input, mut output, mut faults) = (rt.stdin(), rt.stdout(), rt.stderr());
+    let status = run_words(
+        rt.alloc(),
+        words.as_slice(),
+        &mut input,
+        &mut output,
+        &mut faults,
+        &Disk::new(rt),
+    );
+    Ok(status)
+}
+
+fn main(rt: HostRuntime) -> ExitCode {
+    let status = match run(&rt) {
+        Ok(status) => status,
+        Err(error) => tell_unread_words(&error, &mut rt.stderr()),
+    };
+    ExitCode::from(status.number())
+}

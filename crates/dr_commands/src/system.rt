@@ -1,0 +1,35 @@
+//! The words and the files of the system.
+use crate::run::Files;
+use std::alloc::Global;
+use std::{env, fs, io};
+
+/// The files of the system.
+#[derive(Drop)]
+pub struct Disk<'a>(&'a HostRuntime);
+
+impl<'a> Disk<'a> {
+    /// The files that the program may open.
+    pub fn new(rt: &'a HostRuntime) -> Disk<'a> {
+        Disk(rt)
+    }
+}
+
+/// What a file of the system holds isn't known to contracts.
+impl<'a> Files for Disk<'a> {
+    ghost holds = { λ disk path bytes. Unit {0} };
+
+    fn read(&self, _alloc: Global, path: &str) -> io::Result<Vec<u8>> {
+        fs::read(self.0, path)
+    }
+}
+
+/// The words that the program was given, without its own name.
+///
+/// Errors: one that isn't UTF-8; want of memory.
+pub fn given_words(rt: &HostRuntime) -> io::Result<Vec<String>> {
+    let mut words = Vec::new(rt.alloc());
+    for word in env::args(rt)?.skip(1) {
+        words.push(word)?;
+    }
+    Ok(words)
+}

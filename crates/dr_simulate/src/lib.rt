@@ -1,0 +1,10 @@
+//! The word `simulate` of the program `dr_router`: it plays a script in a world of a sealed plan's nodes and prints what each
+//! has then. And the run of the whole program, over the words for plans (`dr_commands`) and this one.
+#![tactic(auto)]
+
+mod outcome;
+mod run;
+mod simulate;
+
+pub use outcome::{Outcome, outcome_of};
+pub use run::run_words;
