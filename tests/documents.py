@@ -70,7 +70,7 @@ def play(path):
 
 
 def main():
-    if subprocess.run([f"{TOP}/dr_router", "--version"], stdout=subprocess.DEVNULL).returncode != 0:
+    if subprocess.run([f"{TOP}/dr_router", "simulate", "--help"], stdout=subprocess.DEVNULL).returncode != 0:
         sys.exit("the program is not built")
     total = 0
     for path in DOCUMENTS:

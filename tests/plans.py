@@ -169,7 +169,7 @@ def main():
         sys.exit(f'seen by no plan: {", ".join(unseen)}')
     if '--wrong' in sys.argv:
         return
-    if subprocess.run([f'{TOP}/dr_router', '--version'], stdout=subprocess.DEVNULL).returncode != 0:
+    if subprocess.run([f'{TOP}/dr_router', 'simulate', '--help'], stdout=subprocess.DEVNULL).returncode != 0:
         sys.exit('the program is not built')
     room = tempfile.mkdtemp(prefix='plans-')
     it = Comparison(room)

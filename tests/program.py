@@ -66,13 +66,14 @@ def verdicts(certificate):
 
 def words():
     usage = (b'Usage: dr_router',)
-    for given in (['carry'], ['check', 'a', 'b'], ['check', '--fast'], ['verify'], ['verify', SOUND], ['verify', SOUND, 'a', 'b'], ['-x']):
+    for given in (['carry'], ['check', 'a', 'b'], ['check', '--fast'], ['verify'], ['verify', SOUND], ['verify', SOUND, 'a', 'b'], ['simulate', SOUND, 'a'], ['simulate', SOUND, 'a', 'b', 'c'], ['-x']):
         is_answer(f'words {given}', run(given), 2, b'', usage)
     for given in ([b'\xff'], [b'check', b'\xff'], [b'check', SOUND.encode(), b'\x80']):
         is_answer(f'words {given}', run(given), 2, b'', b"dr_router: a word isn't UTF-8\n")
-    is_answer('help', run(['--help']), 0, (b'Usage: dr_router <COMMAND>', b'check', b'verify'), b'')
+    is_answer('help', run(['--help']), 0, (b'Usage: dr_router <COMMAND>', b'check', b'verify', b'simulate'), b'')
     is_answer('help of check', run(['check', '--help']), 0, (b'Usage: dr_router check [PLAN]\n',), b'')
     is_answer('help of verify', run(['verify', '--help']), 0, (b'Usage: dr_router verify <PLAN> <CERT>\n',), b'')
+    is_answer('help of simulate', run(['simulate', '--help']), 0, (b'Usage: dr_router simulate <PLAN> <CERT> <SCRIPT>\n',), b'')
     is_answer('version', run(['--version']), 0, b'dr_router 0.1.0\n', b'')
 
 
@@ -86,12 +87,12 @@ def failures(room, large):
         it.write(content(CYCLE))
     is_answer('a long path', run(['check', path]), 1, cycle_line(), b'')
     for given in (['check'], ['check', large]):
-        got = run(given, content(large) if len(given) == 1 else b'', memory=20_000_000)
+        got = run(given, content(large) if len(given) == 1 else b'', memory=os.path.getsize(PROGRAM) + 20_000_000)
         is_answer(f'want of memory, {given[0]}', got, 4, b'', b'dr_router: Memory\n')
 
 
 def main():
-    if subprocess.run([f'{TOP}/dr_router', '--version'], stdout=subprocess.DEVNULL).returncode != 0:
+    if subprocess.run([f'{TOP}/dr_router', 'simulate', '--help'], stdout=subprocess.DEVNULL).returncode != 0:
         sys.exit('the program is not built')
     sys.path.insert(0, f'{TOP}/tests')
     sys.dont_write_bytecode = True

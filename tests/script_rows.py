@@ -1,0 +1,241 @@
+#!/usr/bin/env python3
+"""Plays worked scripts on the built program (`simulate`) and compares what it prints with reports that were written by hand.
+Each script is played three times: as it stands, and with each Move cut into Moves of 7 bytes and of 1 byte.
+
+    tests/script_rows.py
+"""
+import os
+import subprocess
+import sys
+import tempfile
+
+TOP = os.path.dirname(os.path.dirname(os.path.abspath(__file__)))
+PROGRAM = f'{TOP}/crates/dr_router/out/dr_router'
+CT, EXPLICIT = '1.2.840.10008.5.1.4.1.1.2', '1.2.840.10008.1.2.1'
+ALL = 1_000_000
+# the longest PDU here is the request of 234 bytes; a store is two PDUs of 114 and at most 90 bytes
+LONGEST = 240
+
+
+def element(group, number, vr, value):
+    return bytes([*group.to_bytes(2, 'little'), *number.to_bytes(2, 'little'), *vr, *len(value).to_bytes(2, 'little')]) + value
+
+
+def instance(modality=b'CT', more=b''):
+    """A data set in Explicit VR Little Endian: 70 bytes, and more behind them."""
+    return (element(8, 0x16, b'UI', CT.encode() + b'\0') + element(8, 0x18, b'UI', b'1.2.3.4\0')
+            + element(8, 0x60, b'CS', modality) + element(8, 0x1010, b'SH', b'S1') + more)
+
+
+SHORT, LONGER = instance(), instance(more=element(0x1008, 0x1060, b'PN', b''))
+assert (len(SHORT), len(LONGER)) == (70, 78)
+
+
+# ---- plans
+
+def three_nodes():
+    with open(f'{TOP}/plans/three-nodes.toml', 'rb') as it:
+        return it.read()
+
+
+def node(name, *parts):
+    return f'[[node]]\nname = "{name}"\naddress = "h:1"\n' + ''.join(parts)
+
+
+def on(source, *dests):
+    return f'[[node.rule]]\nfrom = "{source}"\nto = [' + ', '.join(f'"{it}"' for it in dests) + ']\n'
+
+
+def flow(at, to):
+    return f'[[flow]]\nat = "{at}"\nto = "{to}"\nclass = ["{CT}"]\nsyntax = ["{EXPLICIT}"]\nmodality = ["CT"]\nstation = ["S1"]\n'
+
+
+TAKES = f'[[node.accept]]\nfrom = "*"\nclass = "{CT}"\nsyntax = ["{EXPLICIT}"]\n'
+KEEPS = '[[node.rule]]\nkeep = true\n'
+
+
+def two_ways():
+    """CT1 to GATE, to A and B, and both to ARCH, which keeps."""
+    nodes = (node('CT1'), node('GATE', TAKES, on('CT1', 'A', 'B')), node('A', TAKES, on('GATE', 'ARCH')), node('B', TAKES, on('GATE', 'ARCH')),
+             node('ARCH', TAKES, KEEPS))
+    return ''.join((*nodes, flow('CT1', 'GATE'))).encode()
+
+
+def straight():
+    """The three nodes, and CT2 with a flow straight to ARCH."""
+    nodes = node('CT1'), node('CT2'), node('GATE', TAKES, on('CT1', 'ARCH')), node('ARCH', TAKES, KEEPS)
+    return ''.join((*nodes, flow('CT1', 'GATE'), flow('CT2', 'ARCH'))).encode()
+
+
+# ---- scripts
+
+def submit(node, body):
+    return [('submit', node, 'E', body.hex())]
+
+
+def moved(link, *sides):
+    return [('move', link, side, ALL) for side in sides]
+
+
+def opened(source, dest, link):
+    return [('open', source, dest), *moved(link, 'acceptor', 'requestor')]
+
+
+def carried(source, dest, link):
+    """An instance goes from one node to the next over a new link."""
+    return [*opened(source, dest, link), ('push', link), *moved(link, 'acceptor', 'acceptor', 'requestor')]
+
+
+BOTH = [*submit('CT1', SHORT), *carried('CT1', 'GATE', 1), *carried('GATE', 'ARCH', 2)]
+ARCH_KEEPS = 'node ARCH|arrival GATE 1.2.3.4|kept 1.2.3.4 70|lines 1|'
+CT1_SENT = 'node CT1|arrival - 1.2.3.4|row 1.2.3.4 GATE done|lines 2|'
+GATE_SENT = 'node GATE|arrival CT1 1.2.3.4|row 1.2.3.4 ARCH done|lines 2|'
+GATE_WAITS = 'node GATE|arrival CT1 1.2.3.4|row 1.2.3.4 ARCH waiting 0 0|lines 1|'
+NOTHING = 'node ARCH|lines 0|node CT1|lines 0|node GATE|lines 0|'
+TRIED = 'node GATE|arrival CT1 1.2.3.4|row 1.2.3.4 ARCH waiting 1 1000|lines 2|'
+FIRST = [*submit('CT1', SHORT), *carried('CT1', 'GATE', 1)]
+HELD = [*submit('CT2', SHORT), *carried('CT2', 'ARCH', 1), *submit('CT1', LONGER), *carried('CT1', 'GATE', 2), *carried('GATE', 'ARCH', 3)]
+HELD_ROW = ('node ARCH|arrival CT2 1.2.3.4|kept 1.2.3.4 70|lines 1|node CT1|arrival - 1.2.3.4|row 1.2.3.4 GATE done|lines 2|'
+            'node CT2|arrival - 1.2.3.4|row 1.2.3.4 ARCH done|lines 2|node GATE|arrival CT1 1.2.3.4|row 1.2.3.4 ARCH {}|lines {}|')
+
+
+def ninth_and_tenth():
+    """A store at ARCH that is refused nine times, and then a tenth time, when its row is due."""
+    steps, wait = list(FIRST), 0
+    for tries in range(1, 11):
+        steps += [('tick', wait), *opened('GATE', 'ARCH', tries + 1), ('refuse', 'ARCH'), ('push', tries + 1),
+                  *moved(tries + 1, 'acceptor', 'acceptor', 'requestor')]
+        wait = 1000 * min(300, 2 ** (tries - 1))
+        yield list(steps), tries
+
+
+def due_after(tries):
+    """The moment from which on the row is due after so many refused stores, each tried when it was due."""
+    return sum(1000 * min(300, 2 ** k) for k in range(tries))
+
+
+ROWS = [
+    ('an empty script', three_nodes, [], NOTHING),
+    ('an instance goes on and is kept', three_nodes, BOTH, ARCH_KEEPS + CT1_SENT + GATE_SENT),
+    ('a modality that no flow brings', three_nodes, submit('CT1', instance(b'MR')), NOTHING),
+    ('the node that keeps stops before it answers', three_nodes,
+     [*FIRST, *opened('GATE', 'ARCH', 2), ('push', 2), *moved(2, 'acceptor', 'acceptor'), ('restart', 'ARCH')], ARCH_KEEPS + CT1_SENT + TRIED),
+    ('.. a push before the row is due', three_nodes,
+     [*FIRST, *opened('GATE', 'ARCH', 2), ('push', 2), *moved(2, 'acceptor', 'acceptor'), ('restart', 'ARCH'), ('tick', 999), *carried('GATE', 'ARCH', 3)],
+     ARCH_KEEPS + CT1_SENT + TRIED),
+    ('.. and it is sent again', three_nodes,
+     [*FIRST, *opened('GATE', 'ARCH', 2), ('push', 2), *moved(2, 'acceptor', 'acceptor'), ('restart', 'ARCH'), ('tick', 1000), *carried('GATE', 'ARCH', 3)],
+     'node ARCH|arrival GATE 1.2.3.4|kept 1.2.3.4 70|lines 2|' + CT1_SENT + 'node GATE|arrival CT1 1.2.3.4|row 1.2.3.4 ARCH done|lines 3|'),
+    ('two ways to one node', two_ways,
+     [*submit('CT1', SHORT), *carried('CT1', 'GATE', 1), *carried('GATE', 'A', 2), *carried('GATE', 'B', 3), *carried('A', 'ARCH', 4), *carried('B', 'ARCH', 5)],
+     'node A|arrival GATE 1.2.3.4|row 1.2.3.4 ARCH done|lines 2|node ARCH|arrival A 1.2.3.4|arrival B 1.2.3.4|kept 1.2.3.4 70|lines 2|'
+     'node B|arrival GATE 1.2.3.4|row 1.2.3.4 ARCH done|lines 2|' + CT1_SENT
+     + 'node GATE|arrival CT1 1.2.3.4|row 1.2.3.4 A done|row 1.2.3.4 B done|lines 3|'),
+    ('another body under the same UID', straight, HELD, HELD_ROW.format('held C0F1', 2)),
+    ('.. is queued again', straight, [*HELD, ('requeue', 'GATE', '1.2.3.4', 'ARCH')], HELD_ROW.format('waiting 0 0', 3)),
+    ('.. and a waiting row is not', straight, [*HELD, *2 * [('requeue', 'GATE', '1.2.3.4', 'ARCH')]], HELD_ROW.format('waiting 0 0', 3)),
+    ('a refused store', three_nodes,
+     [*FIRST, *opened('GATE', 'ARCH', 2), ('refuse', 'ARCH'), ('push', 2), *moved(2, 'acceptor', 'acceptor', 'requestor')],
+     'node ARCH|lines 0|' + CT1_SENT + TRIED),
+    ('a requestor that aborts', three_nodes, [*submit('CT1', SHORT), *opened('CT1', 'GATE', 1), ('push', 1), ('abort', 1, 'requestor')],
+     'node ARCH|lines 0|node CT1|arrival - 1.2.3.4|row 1.2.3.4 GATE waiting 1 1000|lines 2|node GATE|lines 0|'),
+    ('an acceptor that is not late', three_nodes,
+     [*submit('CT1', SHORT), ('open', 'CT1', 'GATE'), ('late', 1, 'acceptor'), *moved(1, 'acceptor', 'requestor'), ('push', 1), *moved(1, 'acceptor', 'acceptor', 'requestor')],
+     'node ARCH|lines 0|' + CT1_SENT + GATE_WAITS),
+    ('an acceptor that is', three_nodes,
+     [*submit('CT1', SHORT), ('open', 'CT1', 'GATE'), ('tick', 30_000), ('late', 1, 'acceptor'), *moved(1, 'acceptor', 'requestor'), ('push', 1)],
+     'node ARCH|lines 0|node CT1|arrival - 1.2.3.4|row 1.2.3.4 GATE waiting 0 0|lines 1|node GATE|lines 0|'),
+    *((f'{tries} refused stores', three_nodes, steps, 'node ARCH|lines 0|' + CT1_SENT
+       + f'node GATE|arrival CT1 1.2.3.4|row 1.2.3.4 ARCH waiting {tries} {due_after(tries)}|lines {tries + 1}|')
+      for steps, tries in ninth_and_tenth() if tries in (9, 10)),
+]
+# played as they stand: they count bytes
+EXACT = [
+    ('233 bytes of a request', three_nodes,
+     [*submit('CT1', SHORT), ('open', 'CT1', 'GATE'), *233 * [('move', 1, 'acceptor', 1)], *moved(1, 'requestor'), ('push', 1)],
+     'node ARCH|lines 0|node CT1|arrival - 1.2.3.4|row 1.2.3.4 GATE waiting 0 0|lines 1|node GATE|lines 0|'),
+    ('234 bytes of a request', three_nodes,
+     [*submit('CT1', SHORT), ('open', 'CT1', 'GATE'), *234 * [('move', 1, 'acceptor', 1)], *moved(1, 'requestor'), ('push', 1), ('abort', 1, 'requestor')],
+     'node ARCH|lines 0|node CT1|arrival - 1.2.3.4|row 1.2.3.4 GATE waiting 1 1000|lines 2|node GATE|lines 0|'),
+    ('81 bytes of a data set', three_nodes,
+     [*FIRST, *opened('GATE', 'ARCH', 2), ('push', 2), *moved(2, 'acceptor'), ('move', 2, 'acceptor', 81)],
+     'node ARCH|lines 0|' + CT1_SENT + GATE_WAITS),
+    ('82 bytes of a data set', three_nodes,
+     [*FIRST, *opened('GATE', 'ARCH', 2), ('push', 2), *moved(2, 'acceptor'), ('move', 2, 'acceptor', 81), ('move', 2, 'acceptor', 1)],
+     ARCH_KEEPS + CT1_SENT + GATE_WAITS),
+    ('a node that stops after 81', three_nodes,
+     [*FIRST, *opened('GATE', 'ARCH', 2), ('push', 2), *moved(2, 'acceptor'), ('move', 2, 'acceptor', 81), ('restart', 'ARCH')],
+     'node ARCH|lines 0|' + CT1_SENT + TRIED),
+]
+# what is no script: the line that is named
+WRONG = [(2, '# a comment\nmove\t1\tnobody\t1\n'), (1, 'push\n'), (1, 'push\t01\n'), (3, '\n\nfly\n'), (1, 'tick\t18446744073709551616\n'),
+         (1, 'submit\tCT1\tE\t0800\n'), (2, 'tick\t1\nsubmit\tCT1\tE\tXY\n'), (1, ' \n')]
+
+
+def text_of(steps):
+    return ''.join('\t'.join(map(str, step)) + '\n' for step in steps)
+
+
+def cut(steps, size):
+    """The steps with each Move of all cut into as many Moves of that size as its longest PDU needs; what is too many is skipped."""
+    for step in steps:
+        yield from [(*step[:3], size)] * -(-LONGEST // size) if step[0] == 'move' and step[3] == ALL else [step]
+
+
+class Room:
+    """A folder with the plans, each with its certificate, and the program in it."""
+
+    def __init__(self, folder):
+        self.folder, self.plans = folder, {}
+
+    def put(self, name, content):
+        path = f'{self.folder}/{name}'
+        with open(path, 'wb') as it:
+            it.write(content)
+        return path
+
+    def run(self, *words):
+        ended = subprocess.run([PROGRAM, *words], stdout=subprocess.PIPE, stderr=subprocess.PIPE, timeout=60)
+        return ended.stdout.decode(), ended.stderr.decode(), ended.returncode
+
+    def plan(self, make):
+        if make not in self.plans:
+            path = self.put(f'{make.__name__}.toml', make())
+            certificate, faults, status = self.run('check', path)
+            assert status == 0, (make.__name__, certificate, faults)
+            self.plans[make] = path, self.put(f'{make.__name__}.certificate', certificate.encode())
+        return self.plans[make]
+
+    def play(self, make, script):
+        return self.run('simulate', *self.plan(make), self.put('script', script.encode()))
+
+
+def compare(what, got, wanted):
+    if got != wanted:
+        sys.exit(f'{what}:\n{got}\nnot\n{wanted}')
+
+
+def main():
+    if subprocess.run([f'{TOP}/dr_router', 'simulate', '--help'], stdout=subprocess.DEVNULL).returncode != 0:
+        sys.exit('the program is not built')
+    with tempfile.TemporaryDirectory(prefix='scripts-') as folder:
+        room = Room(folder)
+        for what, make, steps, report in ROWS + EXACT:
+            printed = report.replace(' ', '\t').replace('|', '\n')
+            for size in (ALL, 7, 1) if (what, make, steps, report) in ROWS else (ALL,):
+                played = steps if size == ALL else list(cut(steps, size))
+                compare(f'{what}, moves of {size}', room.play(make, text_of(played)), (printed, '', 0))
+        for line, script in WRONG:
+            compare(repr(script), room.play(three_nodes, script), ('', f'dr_router: K1 Script {line}\n', 1))
+        plan, certificate = room.plan(three_nodes)
+        with open(certificate) as it:
+            wrong = room.put('wrong', it.read().replace('S1\t2\n', 'S1\t3\n').encode())
+        script = room.put('script', text_of(BOTH).encode())
+        compare('a wrong rank', room.run('simulate', plan, wrong, script), ('', 'dr_router: C4 WrongRank\n', 1))
+        compare('another plan', room.run('simulate', room.plan(straight)[0], certificate, script), ('', 'dr_router: C2 OtherPlan\n', 1))
+        compare('no plan', room.run('simulate', script, certificate, script), ('', 'dr_router: L1 NotToml\n', 1))
+        compare('no file', room.run('simulate', plan, certificate, 'none')[2], 3)
+    print(f'script_rows.py: {3 * len(ROWS) + len(EXACT) + len(WRONG) + 4} runs, each as it should be')
+
+
+main()

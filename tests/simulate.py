@@ -1,0 +1,232 @@
+#!/usr/bin/env python3
+"""Plays random scripts on the built program, over random sound plans, and compares each report with that of a world written
+again from the documents (script_world.py), which counts the bytes of PDUs but writes none: requests, stores and releases in
+random cuts, with aborts, lost connections, late marks, restarts, refused stores and instances that come twice.
+
+    tests/simulate.py [RUNS] [SEED]        no report may differ, and each kind of step, of answer and of reason for which a
+                                           step is skipped must have come (500 runs: about half a minute; at least 300)
+    tests/simulate.py --wrong [RUNS]       each wrong definition of the world must make some report differ
+"""
+import collections
+import os
+import random
+import subprocess
+import sys
+import tempfile
+
+sys.dont_write_bytecode = True
+from plan_model import REST, Fault, Model
+from plan_reader import EXPLICIT, IMPLICIT, Refused, read_plan
+from plan_texts import KEEP, flow_of, plan_text, random_plan, taking
+from script_world import Item, World
+
+TOP = os.path.dirname(os.path.dirname(os.path.abspath(__file__)))
+PROGRAM = f'{TOP}/crates/dr_router/out/dr_router'
+WRONG = ('refusals last', 'whole PDUs move', 'a restart forgets rows')
+REACHED = {
+    'submit': {'New', 'Again', 'NoLine', 'Conflict', 'Store', 'no such node'}, 'open': {'done', 'no hop'}, 'tick': {'done'},
+    'push': {'done', 'no such link', 'not established', 'a store is pending', 'nothing is due'},
+    'move': {'no such link', 'the reader is over', 'an empty wire', 'the connection ended', 'no byte', 'a part of a PDU', 'a whole PDU'},
+    'abort': {'done', 'no such link', 'no cell'}, 'release': {'done', 'no such link', 'a store is pending', 'no cell'},
+    'close': {'done', 'no such link', 'both are over'}, 'late': {'no such link', 'ARTIM expired', 'no answer came', 'not late'},
+    'restart': {'done', 'no such node'}, 'requeue': {'done', 'NotHeld', 'Store', 'no such node'}, 'refuse': {'done', 'no such node'},
+    'heard': {'request', 'acceptance', 'rejection', 'command', 'data', 'response', 'release', 'released', 'abort'},
+    'status': {0x0000, 0xA700, 0xC0F1},
+}
+
+
+# ---- data sets
+
+def element(group, number, vr, value, syntax):
+    tag = group.to_bytes(2, 'little') + number.to_bytes(2, 'little')
+    if syntax == IMPLICIT:
+        return tag + len(value).to_bytes(4, 'little') + value
+    if vr == 'OB':
+        return tag + b'OB\0\0' + len(value).to_bytes(4, 'little') + value
+    return tag + vr.encode() + len(value).to_bytes(2, 'little') + value
+
+
+def padded(text, by):
+    value = text.encode()
+    return value + by * (len(value) % 2)
+
+
+def data_set(uid, key, filling):
+    sop_class, syntax, modality, station = key
+    values = ((0x0008, 0x0016, 'UI', padded(sop_class, b'\0')), (0x0008, 0x0018, 'UI', padded(uid, b'\0')),
+              (0x0008, 0x0060, 'CS', padded(modality, b' ')), (0x0008, 0x1010, 'SH', padded(station, b' ')))
+    body = b''.join(element(*it, syntax) for it in values)
+    return body + (element(0x0009, 0x1010, 'OB', filling, syntax) if filling else b'')
+
+
+# ---- plans and scripts
+
+def sound_plan(dice):
+    while True:
+        text = random_plan(dice)
+        for node in range(text.count(b'"h:1"')):
+            text = text.replace(b'"h:1"', b'"h:2"\nmax_pdu = %d' % dice.choice([0, 1024, 1025, 1030, 16384]), 1)
+        try:
+            model = Model(text, *read_plan(text))
+            certificate, is_yes = model.check()
+        except Refused:
+            continue
+        if is_yes and len(model.reached()) > 2:
+            return text, certificate, model
+
+
+class Play:
+    """A script that is made as it is played in the world."""
+
+    def __init__(self, model, dice, happened, wrong):
+        self.world, self.dice, self.happened, self.lines = World(model, model.reached()), dice, happened, []
+        self.world.wrong = wrong
+        self.places = [(stop[1], stop[2]) for stop in sorted(self.world.reached, key=repr) if stop[0] == '-']
+        self.world.note = self.note
+
+    def note(self, kind, what):
+        """What became of a step, or which PDU was heard, or which status was answered."""
+        self.happened[kind, what] += 1
+
+    def tell(self, *words):
+        self.lines.append('\t'.join(map(str, words)))
+
+    def do(self, word, *told):
+        """One step: a line of the script, and what becomes of it in the world."""
+        if word == 'submit':
+            name, item = told
+            self.tell(word, name, 'IE'[item.key[1] == EXPLICIT], item.body.hex() if self.dice.random() < 0.5 else item.body.hex().upper())
+        else:
+            self.tell(word, *told)
+        self.note(word, getattr(self.world, {'abort': 'abort_at'}.get(word, word))(*told))
+
+    def random_item(self):
+        dice = self.dice
+        name, cell = dice.choice(self.places)
+        if dice.random() < 0.05:
+            name = dice.choice([*sorted(self.world.books), 'NOBODY'])
+        key = (*cell[:2], *('none of them' if part is REST else part for part in cell[2:]))
+        uid = dice.choice(['1.2.3', '1.2.3.4', '2.25.1', '9'])
+        filling = dice.choice([b'', b'', b'', bytes([dice.randrange(256)]) * dice.choice([2, 700, 944, 1018, 2100])]) if dice.random() < 0.6 else b''
+        return name, Item(uid, key, data_set(uid, key, filling))
+
+    def random_link(self):
+        return self.dice.choice([*self.world.links, self.world.opened + 1]) if self.world.links else 1
+
+    def random_step(self):
+        dice, world, choice = self.dice, self.world, self.dice.random()
+        names = sorted(world.books)
+        if choice < 0.10:
+            return 'submit', *self.random_item()
+        if choice < 0.20:
+            hops = sorted(world.hops)
+            return 'open', *(dice.choice(hops) if hops and dice.random() < 0.9 else (dice.choice(names), dice.choice(names)))
+        if choice < 0.34:
+            return 'push', self.random_link()
+        if choice < 0.36:
+            return 'abort', self.random_link(), dice.choice(['requestor', 'acceptor'])
+        if choice < 0.40:
+            return 'release', self.random_link()
+        if choice < 0.42:
+            return 'close', self.random_link()
+        if choice < 0.46:
+            return 'late', self.random_link(), dice.choice(['requestor', 'acceptor'])
+        if choice < 0.47:
+            return 'restart', dice.choice([*names, 'NOBODY'])
+        if choice < 0.50:
+            return 'requeue', *self.random_row()
+        if choice < 0.56:
+            return 'tick', dice.choice([0, 1, 999, 1000, 2000, 30_000, 60_000, 300_000])
+        if choice < 0.58:
+            return 'refuse', dice.choice([*names, 'NOBODY'])
+        return 'move', self.random_link(), dice.choice(['requestor', 'acceptor']), dice.choice([0, 1, 7, 50, 100, 233, 1000, 10 ** 6, 10 ** 6, 10 ** 6])
+
+    def random_row(self):
+        rows = [(name, *at) for name, book in sorted(self.world.books.items()) for at, row in sorted(book.rows.items()) if row[0] == 'held' or self.dice.random() < 0.1]
+        return self.dice.choice(rows) if rows else (self.dice.choice([*sorted(self.world.books), 'NOBODY']), '1.2.3', 'NOBODY')
+
+    def deliver(self):
+        """A link from its request to a store, in random cuts; most that happens to it happens by steps between."""
+        hops = sorted(self.world.hops)
+        due = [hop for hop in hops if self.world.first_due(*hop)]
+        self.do('open', *self.dice.choice(due or hops))
+        link, cut = self.world.opened, self.dice.choice([10 ** 6, 10 ** 6, 300, 101])
+        for side, *pushed in (('acceptor',), ('requestor',), ('acceptor', 'push'), ('requestor',), ('acceptor', 'push'), ('requestor',)):
+            if pushed:
+                self.do('push', link)
+            while link in self.world.links and self.world.end_at(link, side).wire and not self.world.end_at(link, side).is_over():
+                self.do('move', link, side, cut)
+                if self.dice.random() < 0.02:
+                    self.do(*self.random_step())
+
+    def play(self, steps):
+        for _ in range(steps):
+            if self.dice.random() < 0.06 and self.world.hops:
+                self.deliver()
+            else:
+                self.do(*self.random_step())
+        return self
+
+
+def run(room, plan, certificate, script):
+    for name, text in (('plan', plan), ('certificate', certificate), ('script', script)):
+        with open(f'{room}/{name}', 'wb') as it:
+            it.write(text)
+    ended = subprocess.run([PROGRAM, 'simulate', f'{room}/plan', f'{room}/certificate', f'{room}/script'], capture_output=True)
+    return ended.stdout, ended.stderr, ended.returncode
+
+
+def full_node(happened):
+    """One association more than a node takes: the last is rejected."""
+    text = plan_text([('CT1', [], []), ('ARCH', taking(['1.2']), [KEEP])], [flow_of('CT1', 'ARCH', ['1.2'], ['CT'], ['S1'])])
+    model = Model(text, *read_plan(text))
+    play = Play(model, random.Random(0), happened, frozenset())
+    key = ('1.2', EXPLICIT, 'CT', 'S1')
+    play.do('submit', 'CT1', Item('9', key, data_set('9', key, b'')))
+    for link in range(1, 258):
+        play.do('open', 'CT1', 'ARCH')
+        play.do('move', link, 'acceptor', 10 ** 6)
+    play.do('move', 257, 'requestor', 10 ** 6)
+    return text, model.check()[0], play
+
+
+def tried(room, made):
+    """Whether the program's report is the world's."""
+    text, certificate, play = made
+    script = '\n'.join(['# a script', '', *play.lines]).encode()
+    return run(room, text, certificate, script) == (play.world.report().encode(), b'', 0)
+
+
+def random_play(seed, happened, wrong):
+    dice = random.Random(seed)
+    text, certificate, model = sound_plan(dice)
+    return text, certificate, Play(model, dice, happened, wrong).play(dice.randint(10, 150))
+
+
+def main():
+    words = [it for it in sys.argv[1:] if it != '--wrong']
+    if not all(it.isdigit() for it in words):
+        sys.exit(__doc__)
+    runs, seed = int(words[0]) if words else 500, int(words[1]) if len(words) > 1 else 1
+    happened = collections.Counter()
+    room = tempfile.mkdtemp(prefix='simulate')
+    if '--wrong' in sys.argv:
+        for name in WRONG:
+            seen = next((i for i in range(runs) if not tried(room, random_play(seed * 1_000_003 + i, happened, {name}))), None)
+            print(f'{name}: ' + ('NOTHING DIFFERS' if seen is None else f'run {seen} differs'))
+            if seen is None:
+                sys.exit(1)
+        return
+    if not tried(room, full_node(happened)):
+        sys.exit(f'the report of the full node differs; see {room}')
+    for i in range(runs):
+        if not tried(room, random_play(seed * 1_000_003 + i, happened, frozenset())):
+            sys.exit(f'run {i} differs; see {room}')
+    print(f'{runs} scripts, {sum(happened.values())} steps and PDUs, no report differs')
+    for kind, wanted in REACHED.items():
+        never = sorted(map(str, (it for it in wanted if not happened[kind, it])))
+        if never:
+            sys.exit(f'{kind}: never {never}')
+
+
+main()
