@@ -1,1 +1,1 @@
-mod Reporting
+pub mod Reporting

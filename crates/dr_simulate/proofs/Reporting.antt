@@ -1,7 +1,9 @@
 -- What a world has after a run is what its report is of.
-use Rattle.std.proofs.Common.{◌≡◌, ◌∙◌, refl, sym, ap, subst, absurd, List, [], Option, Some, None}
+use Rattle.std.proofs.Common.{◌≡◌, ◌∙◌, ℕ, refl, sym, ap, subst, List, [], Option, Some, None}
 use Rattle.std.proofs.Math.Logic.{∥∥₁_map}
+use Rattle.std.proofs.lemmas.List.{append-nil}
 use Rattle.std.proofs.lemmas.Option.{none-some}
+use Rattle.std.specs.Io.KnownBytes.{Appends}
 use Rattle.std.specs.Prelude.{unwrap_or}
 use Rattle.std.specs.Option.{option_map}
 use Rattle.std.specs.BTreeMap as tree
@@ -54,3 +56,8 @@ reported_after {L} {l} plan certificate steps w text run reported =
       });
       holds = ∥∥₁_map run.1 (λ v. (v.0, (λ name book of. v.1 name (find name book of).0 (find name book of).1 ∙ (find name book of).2), v.2));
     }
+
+-- an output to which nothing is written has what it had
+pub nothing_added : (o : Option (List ℕ)) → Appends o o []
+nothing_added None = tt
+nothing_added (Some held) = sym (append-nil held)

@@ -1,0 +1,12 @@
+use Rattle.dr_simulate.proofs.run.run_words.Goals as goal
+
+pub returns-in-Ok-run_any-clause-checked : goal.returns-in-Ok-run_any-clause-checked
+returns-in-Ok-run_any-clause-checked g c = λ plan asks ends. c.in-Ok-run_any.ensures.checked plan (c.in-Ok.ensures.file plan asks)
+
+pub returns-in-Ok-run_any-clause-verified : goal.returns-in-Ok-run_any-clause-verified
+returns-in-Ok-run_any-clause-verified g c = λ plan certificate asks ends.
+    c.in-Ok-run_any.ensures.verified plan certificate (c.in-Ok.ensures.verify plan certificate asks)
+
+pub returns-in-Ok-run_any-clause-simulated : goal.returns-in-Ok-run_any-clause-simulated
+returns-in-Ok-run_any-clause-simulated g c = λ plan certificate script asks ends.
+    c.in-Ok-run_any.ensures.simulated plan certificate script (c.in-Ok.ensures.simulate plan certificate script asks)
