@@ -1,0 +1,6 @@
+pub mod Carried
+pub mod Entering
+pub mod Followed
+pub mod Gathering
+pub mod PairSets
+pub mod Walked
