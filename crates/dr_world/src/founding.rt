@@ -1,8 +1,10 @@
 //! How a world begins.
-ghost use Rattle.std.specs.Prelude.{◌≡◌, [], IfOk, OnOk, length, true, false};
+ghost use Rattle.std.specs.Prelude.{◌≡◌, ◌≢◌, [], IfErr, IfOk, OnOk, length, true, false};
 ghost use Rattle.std.specs.Vec.{vec_len};
 ghost use Rattle.std.specs.FinMap as map;
-ghost use Rattle.dr_world.specs.Founding.{AreFounded, AreNames, Founds, SaysEmpty};
+ghost use Rattle.dr_ledger.specs.Replies.{HasRisen};
+ghost use Rattle.dr_world.specs.Founding.{AreFounded, AreNames, Founds, HasCause, IsUnfit, IsUnfitAt, SaysEmpty, SaysFilled, SomeIsUnfit};
+ghost use Rattle.dr_world.specs.declared.fault.WorldFault.TheVariants.{Store as StoreFault, WrongLedgers as WrongFault};
 ghost use Rattle.dr_world.specs.Runs.{IsReached};
 
 use crate::fault::WorldFault;
@@ -12,7 +14,7 @@ use dr_cert::Sealed;
 use dr_ledger::{Ledger, LedgerFault, Refusing};
 use dr_network::Plan;
 use dr_node::Node;
-use dr_site::{Site, SiteFault};
+use dr_site::Site;
 use std::alloc::{AllocError, Global};
 use std::collections::BTreeMap;
 
@@ -21,6 +23,9 @@ use std::collections::BTreeMap;
 /// Errors: Store, Memory.
 fn is_empty<L: Ledger>(ledger: &mut L) -> Result<bool, WorldFault>
     ensures empty { IfOk result (λ empty. L.stands ledger.new → SaysEmpty (L.book ledger.new) empty) }
+    ensures filled { IfOk result (λ empty. empty ≡ false → SaysFilled L.trusts L.stands L.book ledger.old) }
+    ensures wrong { result ≢ Err WrongFault }
+    ensures failed { result ≡ Err StoreFault → HasRisen (L.failed ledger.old) (L.failed ledger.new) }
     ensures armed { L.armed ledger.new ≡ L.armed ledger.old }
     ensures site { L.site ledger.new ≡ L.site ledger.old }
 {
@@ -41,6 +46,7 @@ fn found<L: Ledger + Drop>(
     ensures links { IfOk result (λ n. n.links ≡ map.empty) }
     ensures armed { IfOk result (λ n. n.desk.ledger.refusals.is_due ≡ false) }
     ensures empty { IfOk result (λ n. L.stands n.desk.ledger.ledger → SaysEmpty (L.book n.desk.ledger.ledger) true) }
+    ensures unfit { IfErr result (IsUnfit L.trusts L.stands L.book L.site L.failed site ledger) }
 {
     let mut ledger = ledger;
     if !ledger.is_of(&site) {
@@ -65,12 +71,12 @@ fn seat<L: Ledger + Drop>(
     ledger: L,
     nodes: &mut BTreeMap<Text, Node<Refusing<L>>>,
 ) -> Result<(), WorldFault>
-    ensures { OnOk result (Founds sealed.now.plan sealed.now.certificate name.now nodes.old nodes.new) }
+    ensures founds { OnOk result (Founds sealed.now.plan sealed.now.certificate name.now nodes.old nodes.new) }
+    ensures unfit { IfErr result (IsUnfitAt (IsUnfit L.trusts L.stands L.book L.site L.failed) sealed.now.plan sealed.now.certificate name.now ledger) }
 {
-    let site = match Site::of(alloc, sealed, name) {
-        Ok(site) => site,
-        Err(SiteFault::NoNode) => return Err(WorldFault::WrongLedgers),
-        Err(SiteFault::Memory) => return Err(WorldFault::Memory),
+    // each name here is a node's, so that want of memory is all that can be in the way
+    let Ok(site) = Site::of(alloc, sealed, name) else {
+        return Err(WorldFault::Memory);
     };
     let node = found(alloc, site, ledger)?;
     let name = name.clone()?;
@@ -98,7 +104,8 @@ fn seat_all<L: Ledger + Drop>(
     ledgers: Vec<L>,
 ) -> Result<BTreeMap<Text, Node<Refusing<L>>>, WorldFault>
     requires { length names.now ≡ vec_len ledgers }
-    ensures { IfOk result (AreFounded sealed.now.plan sealed.now.certificate names.now) }
+    ensures founded { IfOk result (AreFounded sealed.now.plan sealed.now.certificate names.now) }
+    ensures unfit { IfErr result (SomeIsUnfit (IsUnfit L.trusts L.stands L.book L.site L.failed) sealed.now.plan sealed.now.certificate names.now ledgers.items) }
 {
     let mut nodes = BTreeMap::new(alloc);
     let mut place = 0;
@@ -120,7 +127,8 @@ impl<L: Ledger + Drop> World<Refusing<L>> {
         sealed: &Sealed,
         ledgers: Vec<L>,
     ) -> Result<World<Refusing<L>>, WorldFault>
-        ensures { IfOk result (IsReached sealed.now.plan sealed.now.certificate []) }
+        ensures reached { IfOk result (IsReached sealed.now.plan sealed.now.certificate []) }
+        ensures cause { IfErr result (HasCause (IsUnfit L.trusts L.stands L.book L.site L.failed) sealed.now.plan sealed.now.certificate ledgers.items) }
     {
         let names = names_of(alloc, sealed.plan())?;
         if names.len() != ledgers.len() {
