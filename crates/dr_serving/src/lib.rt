@@ -14,11 +14,17 @@
 pub mod hops;
 pub mod ledgers;
 pub mod report;
+pub mod rounds;
+pub mod sending;
+pub mod serving;
+pub mod signal;
 pub mod tallied;
 pub mod visit;
 
 pub use hops::{Hop, hops_of};
 pub use ledgers::{Ledgers, OpenFault};
 pub use report::report_of;
+pub use sending::visit_each;
+pub use serving::{ServeFault, serve};
 pub use tallied::{OwnPort, SharedPort, Tallied};
-pub use visit::{Visit, visit};
+pub use visit::{Visit, visit_hop};

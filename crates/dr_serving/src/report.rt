@@ -10,11 +10,7 @@ use std::alloc::Global;
 /// The report of a node with this ledger.
 ///
 /// Errors: Store, Memory.
-pub fn report_of<L: Ledger>(
-    alloc: Global,
-    name: &Text,
-    ledger: &mut L,
-) -> Result<Text, LedgerFault>
+pub fn report_of<L: Ledger>(alloc: Global, name: &Text, ledger: &mut L) -> Result<Text, LedgerFault>
     ensures report { IfOk result (λ text. L.stands ledger.new → IsReportOf name.now (L.book ledger.new) text) }
 {
     let arrivals = ledger.arrivals()?;

@@ -1,6 +1,6 @@
 //! One visit to a hop.
-ghost use Rattle.std.specs.Prelude.{◌≡◌, ◌≤◌, ◌^◌};
-ghost use Rattle.dr_serving.specs.Visits.{Finds, GivesUp, Visits};
+ghost use Rattle.std.specs.Prelude.{◌≡◌};
+ghost use Rattle.dr_serving.specs.Visits.{Finds, GivesUp, IsToldAs, SendsDue, Visits};
 
 use crate::tallied::Tallied;
 use dr_base::Text;
@@ -61,6 +61,18 @@ fn give_up<P: Tallied, C: Clock>(
     }
 }
 
+/// What a session comes to, as a visit tells it.
+fn told(came: Result<Ended, SessionFault>) -> Result<Visit, LedgerFault>
+    ensures { IsToldAs came result }
+{
+    match came {
+        Ok(ended) => Ok(Visit::Ended(ended)),
+        Err(SessionFault::Desk) => Err(LedgerFault::Store),
+        Err(SessionFault::Memory) => Err(LedgerFault::Memory),
+        Err(fault) => Ok(Visit::Failed(fault)),
+    }
+}
+
 /// A visit to a hop of the site, which has a row that is due: all due rows go over one association (at most 65,535). Where there
 /// is no connection, or no row was settled, the first due row is settled as broken.
 ///
@@ -74,7 +86,9 @@ fn send_due<N: Network, P: Tallied, C: Clock>(
     network: &N,
     port: &mut P,
     clock: &C,
-) -> Result<Visit, LedgerFault> {
+) -> Result<Visit, LedgerFault>
+    ensures { SendsDue (N.reaches network.now) N.Socket.hears N.Socket.sends N.Socket.closes P.step (C.tells clock.now) site.now dest.now address.now uid.now port.old result port.new }
+{
     let mut link = match network.connect(alloc, address) {
         Ok(link) => link,
         Err(error) => {
@@ -87,18 +101,13 @@ fn send_due<N: Network, P: Tallied, C: Clock>(
     if port.tally() == before {
         give_up(uid, dest, port, clock)?;
     }
-    match ended {
-        Ok(ended) => Ok(Visit::Ended(ended)),
-        Err(SessionFault::Desk) => Err(LedgerFault::Store),
-        Err(SessionFault::Memory) => Err(LedgerFault::Memory),
-        Err(fault) => Ok(Visit::Failed(fault)),
-    }
+    told(ended)
 }
 
 /// A visit to a hop of the site.
 ///
 /// Errors: those of `send_due`.
-pub fn visit<N: Network, P: Tallied, C: Clock>(
+pub fn visit_hop<N: Network, P: Tallied, C: Clock>(
     alloc: Global,
     site: &Site,
     dest: &Text,
@@ -106,7 +115,9 @@ pub fn visit<N: Network, P: Tallied, C: Clock>(
     network: &N,
     port: &mut P,
     clock: &C,
-) -> Result<Visit, LedgerFault> {
+) -> Result<Visit, LedgerFault>
+    ensures { Visits (N.reaches network.now) N.Socket.hears N.Socket.sends N.Socket.closes P.step (C.tells clock.now) site.now dest.now address.now port.old result port.new }
+{
     let Some(uid) = first_due(dest, port, clock)? else {
         return Ok(Visit::Idle);
     };

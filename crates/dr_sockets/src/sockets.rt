@@ -5,7 +5,7 @@ use dr_base::Text;
 use dr_session::Clock;
 use std::alloc::Global;
 use std::io::ErrorKind;
-use std::net::{Net, OpenListener, TcpListener, TcpStream, ToSocketAddrs};
+use std::net::{Net, TcpListener, TcpStream, ToSocketAddrs};
 use std::time::Duration;
 use std::{io, str};
 
@@ -14,18 +14,18 @@ const CONNECT: u64 = 10_000;
 
 /// The network of the system, with the clock by which its sockets count.
 #[derive(Drop)]
-pub struct Sockets<'a, R: Net, C: Clock> {
+pub struct Sockets<'a, R: Net<Stream = TcpStream, Listener = TcpListener>, C: Clock + Sync> {
     rt: &'a R,
     clock: &'a C,
 }
 
-impl<'a, R: Net, C: Clock> Sockets<'a, R, C> {
+impl<'a, R: Net<Stream = TcpStream, Listener = TcpListener>, C: Clock + Sync> Sockets<'a, R, C> {
     pub fn new(rt: &'a R, clock: &'a C) -> Sockets<'a, R, C> {
         Sockets { rt, clock }
     }
 
     /// Connects to one of a name's addresses, each in its turn, until one answers or the time is over.
-    fn connect_by(&self, address: &str) -> io::Result<R::Stream> {
+    fn connect_by(&self, address: &str) -> io::Result<TcpStream> {
         let begun = self.clock.now();
         let mut last = io::Error::from(ErrorKind::NotFound);
         for one in address.to_socket_addrs(self.rt)? {
@@ -51,20 +51,21 @@ fn words_of(address: &Text) -> io::Result<&str> {
 }
 
 /// What no contract says of a system's sockets, tests do.
-impl<'a, R: Net, C: Clock> Network for Sockets<'a, R, C> {
-    type Socket = Socket<'a, R::Stream, C>;
+impl<'a, R: Net<Stream = TcpStream, Listener = TcpListener>, C: Clock + Sync> Network
+    for Sockets<'a, R, C> {
+    type Socket = Socket<'a, TcpStream, C>;
 
-    type Listener = Listener<'a, R, C>;
+    type Listener = Listener<'a, C>;
 
     ghost reaches = { λ sockets address socket. Unit {0} };
 
     /// A connect is given up after 10 s.
-    fn connect(&self, alloc: Global, address: &Text) -> io::Result<Socket<'a, R::Stream, C>> {
+    fn connect(&self, alloc: Global, address: &Text) -> io::Result<Socket<'a, TcpStream, C>> {
         let stream = self.connect_by(words_of(address)?)?;
         Socket::new(alloc, stream, self.clock)
     }
 
-    fn listen(&self, alloc: Global, address: &Text) -> io::Result<Listener<'a, R, C>> {
+    fn listen(&self, alloc: Global, address: &Text) -> io::Result<Listener<'a, C>> {
         let listener = TcpListener::bind(self.rt, words_of(address)?)?;
         Ok(Listener::new(alloc, listener, self.clock))
     }
@@ -72,15 +73,15 @@ impl<'a, R: Net, C: Clock> Network for Sockets<'a, R, C> {
 
 /// A listening socket of the system.
 #[derive(Drop)]
-pub struct Listener<'a, R: Net, C: Clock> {
+pub struct Listener<'a, C: Clock + Sync> {
     alloc: Global,
-    listener: R::Listener,
+    listener: TcpListener,
     clock: &'a C,
 }
 
-impl<'a, R: Net, C: Clock> Listener<'a, R, C> {
+impl<'a, C: Clock + Sync> Listener<'a, C> {
     /// What is bound already.
-    pub fn new(alloc: Global, listener: R::Listener, clock: &'a C) -> Listener<'a, R, C> {
+    pub fn new(alloc: Global, listener: TcpListener, clock: &'a C) -> Listener<'a, C> {
         Listener {
             alloc,
             listener,
@@ -89,10 +90,10 @@ impl<'a, R: Net, C: Clock> Listener<'a, R, C> {
     }
 }
 
-impl<'a, R: Net, C: Clock> Listening for Listener<'a, R, C> {
-    type Socket = Socket<'a, R::Stream, C>;
+impl<'a, C: Clock + Sync> Listening for Listener<'a, C> {
+    type Socket = Socket<'a, TcpStream, C>;
 
-    fn accept(&self) -> io::Result<Socket<'a, R::Stream, C>> {
+    fn accept(&self) -> io::Result<Socket<'a, TcpStream, C>> {
         let (stream, _) = self.listener.accept()?;
         Socket::new(self.alloc, stream, self.clock)
     }
