@@ -21,9 +21,11 @@ abbrev pub HearsAt : ℕ → Ear → Heard → Ear → Type 0
 HearsAt now old (Bytes piece) new = (now < old.marked + 1000) × Consumes old.left new.left piece × (new.marked ≡ old.marked) × (new.heard ≡ now)
 HearsAt now old End new = (now < old.marked + 1000) × IsAtEnd new.left
 HearsAt now old Late new = ((old.marked + 1000 ≤ now) ⊎ (now < old.heard + 600000)) × Keeps old.left new.left × (new.marked ≡ now) × (new.heard ≡ old.heard)
-HearsAt now old Fault new = Unit {0}
-HearsAt now old Memory new = Unit {0}
+HearsAt now old Fault new = ⊥
+HearsAt now old Memory new = ⊥
 
--- what is heard, at some moment that the clock may tell
+-- what is heard, at some moment that the clock may tell; of a fault, and of want of memory, nothing is said
 abbrev pub Hears : (ℕ → Type 0) → Ear → Heard → Ear → Type 0
+Hears tells old Fault new = Unit {0}
+Hears tells old Memory new = Unit {0}
 Hears tells old came new = (now : ℕ) × tells now × HearsAt now old came new

@@ -1,9 +1,9 @@
 //! One end of a TCP connection, as the link of an association.
-ghost use Rattle.std.specs.Prelude.{◌≡◌, ◌≤◌, ◌<◌, ◌^◌, IfOk, IfErr, length, true, take};
-ghost use Rattle.std.specs.Io.KnownBytes.{Appends, Keeps, ReadConsumes};
+ghost use Rattle.std.specs.Prelude.{◌≡◌, ◌⊎◌, ◌≤◌, ◌<◌, ◌+◌, ◌^◌, IfOk, length, take};
+ghost use Rattle.std.specs.Io.KnownBytes.{ReadConsumes};
 ghost use Rattle.dr_session.specs.Links.{Counts, HasRisen, IsLinkFault};
 ghost use Rattle.dr_session.specs.declared.ends.Heard.TheVariants as came;
-ghost use Rattle.dr_sockets.specs.Hearing.{Ear, Hears, HearsAt, ear};
+ghost use Rattle.dr_sockets.specs.Hearing.{Hears, ear};
 
 use dr_base::Text;
 use dr_session::{Clock, Heard, Link};

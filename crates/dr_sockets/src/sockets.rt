@@ -14,12 +14,12 @@ const CONNECT: u64 = 10_000;
 
 /// The network of the system, with the clock by which its sockets count.
 #[derive(Drop)]
-pub struct Sockets<'a, R: Net<Stream = TcpStream, Listener = TcpListener>, C: Clock + Sync> {
+pub struct Sockets<'a, R: Net<Stream = TcpStream, Listener = TcpListener>, C: Clock> {
     rt: &'a R,
     clock: &'a C,
 }
 
-impl<'a, R: Net<Stream = TcpStream, Listener = TcpListener>, C: Clock + Sync> Sockets<'a, R, C> {
+impl<'a, R: Net<Stream = TcpStream, Listener = TcpListener>, C: Clock> Sockets<'a, R, C> {
     pub fn new(rt: &'a R, clock: &'a C) -> Sockets<'a, R, C> {
         Sockets { rt, clock }
     }
@@ -73,13 +73,13 @@ impl<'a, R: Net<Stream = TcpStream, Listener = TcpListener>, C: Clock + Sync> Ne
 
 /// A listening socket of the system.
 #[derive(Drop)]
-pub struct Listener<'a, C: Clock + Sync> {
+pub struct Listener<'a, C: Clock> {
     alloc: Global,
     listener: TcpListener,
     clock: &'a C,
 }
 
-impl<'a, C: Clock + Sync> Listener<'a, C> {
+impl<'a, C: Clock> Listener<'a, C> {
     /// What is bound already.
     pub fn new(alloc: Global, listener: TcpListener, clock: &'a C) -> Listener<'a, C> {
         Listener {
