@@ -74,14 +74,6 @@ fn answer<L: Link, C: Clock>(
     }
 }
 
-/// Why there is no link to the other node.
-fn unreached(error: io::Error) -> Outcome {
-    if error.kind() == io::ErrorKind::OutOfMemory {
-        return Outcome::Memory;
-    }
-    Outcome::Unreached(error)
-}
-
 /// Asks the node at that address.
 fn ask<N: Network, C: Clock>(
     alloc: Global,
@@ -97,9 +89,34 @@ fn ask<N: Network, C: Clock>(
 {
     let mut link = match network.connect(alloc, address) {
         Ok(link) => link,
-        Err(error) => return unreached(error),
+        Err(error) => {
+            if error.kind() == io::ErrorKind::OutOfMemory {
+                return Outcome::Memory;
+            }
+            return Outcome::Unreached(error);
+        }
     };
     answer(alloc, &mut link, caller, called, clock)
+}
+
+/// What comes of an echo between nodes of these names.
+fn outcome_between<N: Network, C: Clock>(
+    alloc: Global,
+    plan: &Plan,
+    caller: &Text,
+    called: &Text,
+    network: &N,
+    clock: &C,
+) -> Outcome
+    ensures { IsOutcomeOf (N.reaches network.now) N.Socket.hears N.Socket.sends N.Socket.closes (C.tells clock.now) plan.now caller.now called.now result }
+{
+    let Some(_known) = known_node(plan, caller) else {
+        return Outcome::NoNode;
+    };
+    let Some(node) = known_node(plan, called) else {
+        return Outcome::NoNode;
+    };
+    ask(alloc, caller, called, &node.address, network, clock)
 }
 
 /// What comes of an echo from the node of the first name to that of the second.
@@ -119,11 +136,5 @@ pub fn outcome_of<N: Network, C: Clock>(
     let Ok(called) = Text::copy_of(alloc, called.as_bytes()) else {
         return Outcome::Memory;
     };
-    let Some(_known) = known_node(plan, &caller) else {
-        return Outcome::NoNode;
-    };
-    let Some(node) = known_node(plan, &called) else {
-        return Outcome::NoNode;
-    };
-    ask(alloc, &caller, &called, &node.address, network, clock)
+    outcome_between(alloc, plan, &caller, &called, network, clock)
 }
