@@ -108,7 +108,7 @@ fn sleep_for(hops: &[Hop], now: u64, all_well: bool) -> u64
 }
 
 /// Sends what is due, round after round, until no worker is left; then there is one last round.
-pub fn send_rounds<R: Wait + time::Clock, L: Ledger, B: Sharing, N: Network, C: Clock>(
+fn send_rounds<R: Wait + time::Clock, L: Ledger, B: Sharing, N: Network, C: Clock>(
     rt: &R,
     alloc: Global,
     desk: &SharedDesk<L, B>,
@@ -131,4 +131,29 @@ pub fn send_rounds<R: Wait + time::Clock, L: Ledger, B: Sharing, N: Network, C: 
         let sleep = sleep_for(hops, clock.now(), all_well);
         news = signal.wait(rt, sleep);
     }
+}
+
+/// Sends what is due for these hops, as long as workers serve, and gives its pass back.
+pub fn send_all<R: Wait + time::Clock, L: Ledger, B: Sharing, N: Network, C: Clock>(
+    rt: &R,
+    alloc: Global,
+    desk: &SharedDesk<L, B>,
+    pass: Pass<B>,
+    hops: Vec<Hop>,
+    signal: &Signal,
+    network: &N,
+    clock: &C,
+) -> Pass<B> {
+    let (mut pass, mut hops) = (pass, hops);
+    send_rounds(
+        rt,
+        alloc,
+        desk,
+        &mut pass,
+        hops.as_mut_slice(),
+        signal,
+        network,
+        clock,
+    );
+    pass
 }

@@ -5,7 +5,7 @@ ghost use Rattle.dr_ledger.specs.Histories.{IsJournalled};
 ghost use Rattle.dr_ledger.specs.SiteRoutes.{site_routing};
 
 use crate::hops::Hop;
-use crate::rounds::send_rounds;
+use crate::rounds::send_all;
 use crate::signal::{Bell, Signal};
 use crossbeam_channel::{Receiver, Sender, bounded};
 use dr_desk::{CloseFault, Desk, Pass, SharedDesk, Sharing};
@@ -165,25 +165,14 @@ fn serve_shared<
     ensures history { IfOk result (λ l. L.stands l → ∥ IsJournalled (site_routing B.site) (L.book l) ∥₁) }
     ensures of { IfOk result (λ l. L.site l ≡ B.site) }
 {
-    let mut own = match desk.pass(rt, alloc) {
-        Ok(own) => own,
-        Err(_) => return Err(ServeFault::Memory),
+    let Ok(own) = desk.pass(rt, alloc) else {
+        return Err(ServeFault::Memory);
     };
-    let mut hops = hops;
     let signal = Signal::new();
-    let (passes, ()) = thread::join(
+    let (passes, own) = thread::join(
         rt,
         || serve_links(rt, alloc, &desk, listener, links, &signal, clock),
-        || send_rounds(
-            rt,
-            alloc,
-            &desk,
-            &mut own,
-            hops.as_mut_slice(),
-            &signal,
-            network,
-            clock,
-        ),
+        || send_all(rt, alloc, &desk, own, hops, &signal, network, clock),
     );
     let mut passes = match passes {
         Ok(passes) => passes,

@@ -1,13 +1,12 @@
 //! Desks that count what they took.
 ghost use Rattle.std.specs.Prelude.{◌≡◌};
-ghost use Rattle.dr_session.specs.Ledgers.{BodiesStep, LastsBy, RoutedStep, desk};
-ghost use Rattle.dr_ledger.specs.SiteRoutes.{site_routing};
 ghost use Rattle.dr_workers.specs.Passes.{PassStep};
 
 use dr_base::Text;
 use dr_desk::{Pass, SharedDesk, Sharing};
 use dr_ledger::{Arrived, Item, Job, Ledger, LedgerFault, Outcome};
 use dr_session::DeskPort;
+use dr_session::desk::LedgerDesk;
 use std::sync::Wait;
 
 /// A desk that tells how many of its calls were accepted; the count stays at its greatest value.
@@ -18,28 +17,33 @@ pub trait Tallied: DeskPort {
 /// A ledger with one owner.
 #[derive(Drop)]
 pub struct OwnPort<L> {
-    pub ledger: L,
+    pub desk: LedgerDesk<L>,
     pub taken: u64,
 }
 
-impl<L: Ledger> DeskPort for OwnPort<L> {
-    ghost use Rattle.std.specs.Prelude.{◌≡◌};
-    ghost use Rattle.dr_ledger.specs.SiteRoutes.{site_routing};
-    ghost use Rattle.dr_session.specs.Ledgers.{BodiesStep, LastsBy, RoutedStep, desk};
+impl<L: Ledger> OwnPort<L> {
+    /// Nothing was taken yet.
+    pub fn new(ledger: L) -> OwnPort<L>
+        ensures { result.desk.ledger ≡ ledger }
+    {
+        OwnPort {
+            desk: LedgerDesk { ledger },
+            taken: 0,
+        }
+    }
+}
 
-    ghost step = { λ old call answer new. (L.stands new.ledger → L.stands old.ledger) × (L.site new.ledger ≡ L.site old.ledger)
-        × (L.stands new.ledger → RoutedStep (site_routing (L.site old.ledger)) (desk (L.book old.ledger) (L.armed old.ledger)) call answer (desk (L.book new.ledger) (L.armed new.ledger)))
-        × (L.stands new.ledger → BodiesStep (L.bodies old.ledger) call (L.bodies new.ledger))
-        × LastsBy answer (L.trusts old.ledger) (L.trusts new.ledger) (L.stands old.ledger) (L.stands new.ledger) };
+impl<L: Ledger> DeskPort for OwnPort<L> {
+    ghost step = { λ old call answer new. ⟦<LedgerDesk<L> as DeskPort>⟧.step old.desk call answer new.desk };
 
     fn arrive(&mut self, caller: &Text, item: Item) -> Result<Arrived, LedgerFault> {
-        let answer = self.ledger.arrive(caller, item);
+        let answer = self.desk.arrive(caller, item);
         self.taken = self.taken.saturating_add(u64::from(answer.is_ok()));
         answer
     }
 
     fn next(&mut self, dest: &Text, now: u64) -> Result<Option<Job>, LedgerFault> {
-        self.ledger.next(dest, now)
+        self.desk.next(dest, now)
     }
 
     fn settle(
@@ -49,7 +53,7 @@ impl<L: Ledger> DeskPort for OwnPort<L> {
         outcome: Outcome,
         now: u64,
     ) -> Result<(), LedgerFault> {
-        let answer = self.ledger.settle(uid, dest, outcome, now);
+        let answer = self.desk.settle(uid, dest, outcome, now);
         self.taken = self.taken.saturating_add(u64::from(answer.is_ok()));
         answer
     }

@@ -56,13 +56,10 @@ fn send_one<N: Network, C: Clock>(
     let site = sites::site(alloc, sealed, "CT1")?;
     let hops = hops_of(alloc, &site, sealed.plan())?;
     let local = Text::copy_of(alloc, b"-")?;
-    let mut port = OwnPort {
-        ledger: MemoryLedger::new(alloc, site.copy()?),
-        taken: 0,
-    };
+    let mut port = OwnPort::new(MemoryLedger::new(alloc, site.copy()?));
     port.arrive(&local, image::instance(alloc)?)?;
     visit_each(alloc, &site, hops.as_slice(), network, &mut port, clock)?;
-    Ok(report_of(alloc, site.name(), &mut port.ledger)?)
+    Ok(report_of(alloc, site.name(), &mut port.desk.ledger)?)
 }
 
 /// The reports of the three nodes.
