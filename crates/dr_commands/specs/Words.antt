@@ -24,3 +24,9 @@ abbrev pub IsSimulateOf : List (Bor (List ℕ)) → Bor (List ℕ) → Bor (List
 IsSimulateOf words plan certificate script =
     (word : Bor (List ℕ)) × (words ≡ word ∷ plan ∷ certificate ∷ script ∷ []) × (word.now ≡ codes "simulate")
     × IsNoOption plan.now × IsNoOption certificate.now × IsNoOption script.now
+
+-- the word echo, a file's path and two names: they ask for an echo from the node of the first name to that of the second, of the plan in the file
+abbrev pub IsEchoOf : List (Bor (List ℕ)) → Bor (List ℕ) → Bor (List ℕ) → Bor (List ℕ) → Type 0
+IsEchoOf words plan caller called =
+    (word : Bor (List ℕ)) × (words ≡ word ∷ plan ∷ caller ∷ called ∷ []) × (word.now ≡ codes "echo")
+    × IsNoOption plan.now × IsNoOption caller.now × IsNoOption called.now

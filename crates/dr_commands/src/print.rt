@@ -23,7 +23,7 @@ fn part_of(field: &OwnedField) -> &[u8]
 }
 
 /// Adds a field behind a tab.
-fn add_field(line: &mut Vec<u8>, field: &[u8]) -> Result<(), AllocError>
+pub fn add_field(line: &mut Vec<u8>, field: &[u8]) -> Result<(), AllocError>
     ensures { OnOk result (line.new.items ≡ line.old.items ++ (9 ∷ field.now)) }
 {
     line.push(TAB)?;

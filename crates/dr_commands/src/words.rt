@@ -1,7 +1,7 @@
 //! What the words of the command line ask for.
 ghost use Rattle.std.specs.Prelude.{◌≡◌, ◌↔◌, ℕ, List, Some, IfOk, IsTrue};
 ghost use Rattle.std.specs.Borrow.{Bor};
-ghost use Rattle.dr_commands.specs.Words.{IsPlainCheck, IsCheckOf, IsVerifyOf, IsSimulateOf, IsNoOption};
+ghost use Rattle.dr_commands.specs.Words.{IsPlainCheck, IsCheckOf, IsVerifyOf, IsSimulateOf, IsEchoOf, IsNoOption};
 ghost use Rattle.dr_commands.specs.declared.words.Asked.{Asked as AskedValue};
 ghost use Rattle.dr_commands.specs.declared.words.Asked.TheVariants as asks;
 
@@ -19,6 +19,8 @@ pub enum Asked<'a> {
     Verify(&'a str, &'a str),
     /// To play the script in the third file in a world of the nodes of the plan in the first, whose certificate is in the second.
     Simulate(&'a str, &'a str, &'a str),
+    /// To ask for an echo, from the node of the first name to that of the second, of the plan in the file.
+    Echo(&'a str, &'a str, &'a str),
     /// Help, or nothing that the program knows.
     Told(Error),
 }
@@ -39,6 +41,7 @@ fn read_plain<'a>(words: &'a [&'a str]) -> Option<Asked<'a>>
     ensures file { (plan : Bor (List ℕ)) → IsCheckOf words.now plan → result ≡ Some (asks.CheckFile plan) }
     ensures verify { (plan certificate : Bor (List ℕ)) → IsVerifyOf words.now plan certificate → result ≡ Some (asks.Verify plan certificate) }
     ensures simulate { (plan certificate script : Bor (List ℕ)) → IsSimulateOf words.now plan certificate script → result ≡ Some (asks.Simulate plan certificate script) }
+    ensures echo { (plan caller called : Bor (List ℕ)) → IsEchoOf words.now plan caller called → result ≡ Some (asks.Echo plan caller called) }
 {
     match words {
         [] => Some(Asked::CheckInput),
@@ -53,12 +56,17 @@ fn read_plain<'a>(words: &'a [&'a str]) -> Option<Asked<'a>>
                 && is_no_option(plan)
                 && is_no_option(certificate)
                 && is_no_option(script) => { Some(Asked::Simulate(plan, certificate, script)) }
+        [word, plan, caller, called]
+            if *word == "echo"
+                && is_no_option(plan)
+                && is_no_option(caller)
+                && is_no_option(called) => { Some(Asked::Echo(plan, caller, called)) }
         _ => None,
     }
 }
 
-/// A file that has to be named.
-fn file<'a>(alloc: Global, name: &'a str, help: &'a str) -> Arg<'a> {
+/// A file or a node that has to be named.
+fn named<'a>(alloc: Global, name: &'a str, help: &'a str) -> Arg<'a> {
     Arg::new(alloc, name)
         .action(ArgAction::Set)
         .required(true)
@@ -79,8 +87,8 @@ fn check_command<'a>(alloc: Global) -> Result<Command<'a>, AllocError> {
 fn verify_command<'a>(alloc: Global) -> Result<Command<'a>, AllocError> {
     Command::new(alloc, "verify")
         .about("Verifies that the plan is sound and that the certificate is its own")
-        .arg(file(alloc, "PLAN", "the file with the plan"))?
-        .arg(file(alloc, "CERT", "the file with the certificate"))
+        .arg(named(alloc, "PLAN", "the file with the plan"))?
+        .arg(named(alloc, "CERT", "the file with the certificate"))
 }
 
 /// The word `simulate`.
@@ -89,9 +97,18 @@ fn simulate_command<'a>(alloc: Global) -> Result<Command<'a>, AllocError> {
         .about(
             "Plays a script of steps in a world of the plan's nodes, and prints what each has then",
         )
-        .arg(file(alloc, "PLAN", "the file with the plan"))?
-        .arg(file(alloc, "CERT", "the file with the plan's certificate"))?
-        .arg(file(alloc, "SCRIPT", "the file with the script"))
+        .arg(named(alloc, "PLAN", "the file with the plan"))?
+        .arg(named(alloc, "CERT", "the file with the plan's certificate"))?
+        .arg(named(alloc, "SCRIPT", "the file with the script"))
+}
+
+/// The word `echo`.
+fn echo_command<'a>(alloc: Global) -> Result<Command<'a>, AllocError> {
+    Command::new(alloc, "echo")
+        .about("Asks a node for an echo as another one, and prints how it answers")
+        .arg(named(alloc, "PLAN", "the file with the plan"))?
+        .arg(named(alloc, "FROM", "the node that asks"))?
+        .arg(named(alloc, "TO", "the node that is asked"))
 }
 
 /// The command line of the program.
@@ -104,7 +121,8 @@ fn command<'a>(alloc: Global) -> Result<Command<'a>, AllocError> {
         .subcommand_required(true)
         .subcommand(check_command(alloc)?)?
         .subcommand(verify_command(alloc)?)?
-        .subcommand(simulate_command(alloc)?)
+        .subcommand(simulate_command(alloc)?)?
+        .subcommand(echo_command(alloc)?)
 }
 
 /// What clap makes of the words: options, help, and what the program doesn't know.
@@ -122,6 +140,11 @@ fn read_others<'a>(alloc: Global, words: &'a [&'a str]) -> Result<Asked<'a>, All
     if name == "check" {
         return Ok(Asked::CheckFile(plan));
     }
+    if name == "echo" {
+        let caller = given.get_str("FROM").unwrap_or("");
+        let called = given.get_str("TO").unwrap_or("");
+        return Ok(Asked::Echo(plan, caller, called));
+    }
     let certificate = given.get_str("CERT").unwrap_or("");
     if name == "verify" {
         return Ok(Asked::Verify(plan, certificate));
@@ -136,6 +159,7 @@ pub fn read_words<'a>(alloc: Global, words: &'a [&'a str]) -> Result<Asked<'a>, 
     ensures file { IfOk result (λ a. (plan : Bor (List ℕ)) → IsCheckOf words.now plan → a ≡ asks.CheckFile plan) }
     ensures verify { IfOk result (λ a. (plan certificate : Bor (List ℕ)) → IsVerifyOf words.now plan certificate → a ≡ asks.Verify plan certificate) }
     ensures simulate { IfOk result (λ a. (plan certificate script : Bor (List ℕ)) → IsSimulateOf words.now plan certificate script → a ≡ asks.Simulate plan certificate script) }
+    ensures echo { IfOk result (λ a. (plan caller called : Bor (List ℕ)) → IsEchoOf words.now plan caller called → a ≡ asks.Echo plan caller called) }
 {
     if let Some(asked) = read_plain(words) {
         return Ok(asked);

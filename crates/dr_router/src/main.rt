@@ -1,8 +1,9 @@
-//! The program `dr_router`: `run_words` of `dr_simulate` on the system's words, files, input and outputs.
+//! The program `dr_router`: `run_words` of `dr_program` on the system's words, files, input, outputs, network and clock.
 #![tactic(auto)]
 
 use dr_commands::{Disk, Status, given_words, tell_unread_words};
-use dr_simulate::run_words;
+use dr_program::run_words;
+use dr_sockets::{Sockets, SystemClock};
 use std::io;
 use std::process::ExitCode;
 
@@ -14,6 +15,7 @@ fn run(rt: &HostRuntime) -> io::Result<Status> {
         words.push(word.as_str())?;
     }
     let (mut input, mut output, mut faults) = (rt.stdin(), rt.stdout(), rt.stderr());
+    let clock = SystemClock::start(rt);
     let status = run_words(
         rt.alloc(),
         words.as_slice(),
@@ -21,6 +23,8 @@ fn run(rt: &HostRuntime) -> io::Result<Status> {
         &mut output,
         &mut faults,
         &Disk::new(rt),
+        &Sockets::new(rt, &clock),
+        &clock,
     );
     Ok(status)
 }

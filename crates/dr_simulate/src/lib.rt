@@ -1,5 +1,5 @@
 //! The word `simulate` of the program `dr_router`: it plays a script in a world of a sealed plan's nodes and prints what each
-//! has then. And the run of the whole program, over the words for plans (`dr_commands`) and this one.
+//! has then. And all words that need no network: those for plans (`dr_commands`) and this one.
 #![tactic(auto)]
 
 mod outcome;
@@ -7,4 +7,4 @@ mod run;
 mod simulate;
 
 pub use outcome::{Outcome, outcome_of};
-pub use run::run_words;
+pub use run::run_offline;

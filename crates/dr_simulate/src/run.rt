@@ -1,23 +1,21 @@
-//! A run of the whole program.
-ghost use Rattle.std.specs.Prelude.{◌≡◌, ◌≢◌, ◌⊎◌, ℕ, List, IfOk, IfSome};
+//! The words that need no network.
+ghost use Rattle.std.specs.Prelude.{◌≡◌, ◌≢◌, ℕ, List, IfOk, IfSome};
 ghost use Rattle.std.specs.Borrow.{Bor};
 ghost use Rattle.dr_base.specs.Texts.{Text};
 ghost use Rattle.dr_commands.specs.Runs.{Answers, Verifies};
-ghost use Rattle.dr_commands.specs.Words.{IsPlainCheck, IsCheckOf, IsVerifyOf, IsSimulateOf};
-ghost use Rattle.dr_commands.specs.declared.status.Status.TheVariants.{Success, Refused, Usage};
+ghost use Rattle.dr_commands.specs.declared.status.Status.TheVariants.{Usage};
 ghost use Rattle.dr_commands.specs.declared.words.Asked.TheVariants as asks;
 ghost use Rattle.dr_simulate.specs.Runs.{Simulates};
 
 use crate::simulate::simulate_files;
-use dr_commands::{Asked, Failure, Files, Status, read_words, run_asked, tell_failure};
-use std::alloc::{AllocError, Global};
-use std::io;
+use dr_commands::{Asked, Failure, Files, Status, run_asked};
+use std::alloc::Global;
 use std::io::{Read, Write};
 
-/// Does what was asked for.
+/// Does what was asked for, where that needs no network: the words for plans, and `simulate`.
 ///
 /// Errors: Stream, File.
-fn run_any<'a, R: Read, W: Write, E: Write, F: Files>(
+pub fn run_offline<'a, R: Read, W: Write, E: Write, F: Files>(
     alloc: Global,
     asked: Asked<'a>,
     input: &mut R,
@@ -39,37 +37,5 @@ fn run_any<'a, R: Read, W: Write, E: Write, F: Files>(
             simulate_files(alloc, files, plan, certificate, script, output, faults)
         }
         other => run_asked(alloc, other, input, output, faults, files),
-    }
-}
-
-/// Runs the program on the words of its command line, without the program's own name, and answers how it ends.
-pub fn run_words<R: Read, W: Write, E: Write, F: Files>(
-    alloc: Global,
-    words: &[&str],
-    input: &mut R,
-    output: &mut W,
-    faults: &mut E,
-    files: &F,
-) -> Status
-    ensures known { IsPlainCheck words.now → result ≢ Usage }
-    ensures answered { IsPlainCheck words.now → (result ≡ Success) ⊎ (result ≡ Refused)
-        → IfSome (R.remaining input.old) (λ text. Answers text (W.contents output.old) (W.contents output.new) result) }
-    ensures checked { (plan : Bor (List ℕ)) → IsCheckOf words.now plan → (result ≡ Success) ⊎ (result ≡ Refused)
-        → (text : Text) × F.holds files.now plan.now text × Answers text (W.contents output.old) (W.contents output.new) result }
-    ensures verified { (plan certificate : Bor (List ℕ)) → IsVerifyOf words.now plan certificate → (result ≡ Success) ⊎ (result ≡ Refused)
-        → (text : Text) × F.holds files.now plan.now text × Verifies (F.holds files.now certificate.now) text (W.contents output.old) (W.contents output.new) result }
-    ensures simulated { (plan certificate script : Bor (List ℕ)) → IsSimulateOf words.now plan certificate script → (result ≡ Success) ⊎ (result ≡ Refused)
-        → (text : Text) × F.holds files.now plan.now text × Simulates (F.holds files.now certificate.now) (F.holds files.now script.now) text (W.contents output.old) (W.contents output.new) result }
-{
-    let asked = match read_words(alloc, words) {
-        Ok(asked) => asked,
-        Err(AllocError) => return tell_failure(
-            &Failure::Stream(io::Error::from(AllocError)),
-            faults,
-        ),
-    };
-    match run_any(alloc, asked, input, output, faults, files) {
-        Ok(status) => status,
-        Err(failure) => tell_failure(&failure, faults),
     }
 }

@@ -26,3 +26,9 @@ returns-in-Some-clause-simulate c = λ plan certificate script h. ap what (c.in-
 
 pub returns-clause-simulate : goal.returns-clause-simulate
 returns-clause-simulate c = λ plan certificate script h. absurd (none-some (asks.Simulate plan certificate script) (c.in_default.ensures.simulate plan certificate script h))
+
+pub returns-in-Some-clause-echo : goal.returns-in-Some-clause-echo
+returns-in-Some-clause-echo c = λ plan caller called h. ap what (c.in-Some.ensures.echo plan caller called h)
+
+pub returns-clause-echo : goal.returns-clause-echo
+returns-clause-echo c = λ plan caller called h. absurd (none-some (asks.Echo plan caller called) (c.in_default.ensures.echo plan caller called h))

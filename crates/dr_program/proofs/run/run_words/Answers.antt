@@ -1,4 +1,4 @@
-use Rattle.dr_simulate.proofs.run.run_words.Goals as goal
+use Rattle.dr_program.proofs.run.run_words.Goals as goal
 
 pub returns-in-Ok-run_any-clause-checked : goal.returns-in-Ok-run_any-clause-checked
 returns-in-Ok-run_any-clause-checked g c = λ plan asks ends. c.in-Ok-run_any.ensures.checked plan (c.in-Ok.ensures.file plan asks)
@@ -10,3 +10,7 @@ returns-in-Ok-run_any-clause-verified g c = λ plan certificate asks ends.
 pub returns-in-Ok-run_any-clause-simulated : goal.returns-in-Ok-run_any-clause-simulated
 returns-in-Ok-run_any-clause-simulated g c = λ plan certificate script asks ends.
     c.in-Ok-run_any.ensures.simulated plan certificate script (c.in-Ok.ensures.simulate plan certificate script asks)
+
+pub returns-in-Ok-run_any-clause-echoed : goal.returns-in-Ok-run_any-clause-echoed
+returns-in-Ok-run_any-clause-echoed g c = λ plan caller called asks ends.
+    c.in-Ok-run_any.ensures.echoed plan caller called (c.in-Ok.ensures.echo plan caller called asks)

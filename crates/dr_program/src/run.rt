@@ -1,0 +1,91 @@
+//! A run of the whole program.
+ghost use Rattle.std.specs.Prelude.{◌≡◌, ◌≢◌, ◌⊎◌, ℕ, List, IfOk, IfSome};
+ghost use Rattle.std.specs.Borrow.{Bor};
+ghost use Rattle.dr_base.specs.Texts.{Text};
+ghost use Rattle.dr_commands.specs.Runs.{Answers, Verifies};
+ghost use Rattle.dr_commands.specs.Words.{IsPlainCheck, IsCheckOf, IsVerifyOf, IsSimulateOf, IsEchoOf};
+ghost use Rattle.dr_commands.specs.declared.status.Status.TheVariants.{Success, Refused, Usage};
+ghost use Rattle.dr_commands.specs.declared.words.Asked.TheVariants as asks;
+ghost use Rattle.dr_echo.specs.Runs.{Echoes};
+ghost use Rattle.dr_simulate.specs.Runs.{Simulates};
+
+use dr_commands::{Asked, Failure, Files, Status, read_words, tell_failure};
+use dr_echo::echo_files;
+use dr_session::Clock;
+use dr_simulate::run_offline;
+use dr_sockets::Network;
+use std::alloc::{AllocError, Global};
+use std::io;
+use std::io::{Read, Write};
+
+/// Does what was asked for.
+///
+/// Errors: Stream, File.
+fn run_any<'a, R: Read, W: Write, E: Write, F: Files, N: Network, C: Clock>(
+    alloc: Global,
+    asked: Asked<'a>,
+    input: &mut R,
+    output: &mut W,
+    faults: &mut E,
+    files: &F,
+    network: &N,
+    clock: &C,
+) -> Result<Status, Failure<'a>>
+    ensures known { asked.entry ≡ asks.CheckInput → IfOk result (λ status. status ≢ Usage) }
+    ensures answered { asked.entry ≡ asks.CheckInput → IfOk result (λ status. IfSome (R.remaining input.old) (λ text. Answers text (W.contents output.old) (W.contents output.new) status)) }
+    ensures checked { (plan : Bor (List ℕ)) → asked.entry ≡ asks.CheckFile plan
+        → IfOk result (λ status. (text : Text) × F.holds files.now plan.now text × Answers text (W.contents output.old) (W.contents output.new) status) }
+    ensures verified { (plan certificate : Bor (List ℕ)) → asked.entry ≡ asks.Verify plan certificate
+        → IfOk result (λ status. (text : Text) × F.holds files.now plan.now text × Verifies (F.holds files.now certificate.now) text (W.contents output.old) (W.contents output.new) status) }
+    ensures simulated { (plan certificate script : Bor (List ℕ)) → asked.entry ≡ asks.Simulate plan certificate script
+        → IfOk result (λ status. (text : Text) × F.holds files.now plan.now text × Simulates (F.holds files.now certificate.now) (F.holds files.now script.now) text (W.contents output.old) (W.contents output.new) status) }
+    ensures echoed { (plan caller called : Bor (List ℕ)) → asked.entry ≡ asks.Echo plan caller called
+        → IfOk result (λ status. (text : Text) × F.holds files.now plan.now text
+        × Echoes (N.reaches network.now) N.Socket.hears N.Socket.sends N.Socket.closes (C.tells clock.now) caller.now called.now text (W.contents output.old) (W.contents output.new) status) }
+{
+    match asked {
+        Asked::Echo(plan, caller, called) => {
+            echo_files(
+                alloc, files, plan, caller, called, network, clock, output, faults,
+            )
+        }
+        other => run_offline(alloc, other, input, output, faults, files),
+    }
+}
+
+/// Runs the program on the words of its command line, without the program's own name, and answers how it ends.
+pub fn run_words<R: Read, W: Write, E: Write, F: Files, N: Network, C: Clock>(
+    alloc: Global,
+    words: &[&str],
+    input: &mut R,
+    output: &mut W,
+    faults: &mut E,
+    files: &F,
+    network: &N,
+    clock: &C,
+) -> Status
+    ensures known { IsPlainCheck words.now → result ≢ Usage }
+    ensures answered { IsPlainCheck words.now → (result ≡ Success) ⊎ (result ≡ Refused)
+        → IfSome (R.remaining input.old) (λ text. Answers text (W.contents output.old) (W.contents output.new) result) }
+    ensures checked { (plan : Bor (List ℕ)) → IsCheckOf words.now plan → (result ≡ Success) ⊎ (result ≡ Refused)
+        → (text : Text) × F.holds files.now plan.now text × Answers text (W.contents output.old) (W.contents output.new) result }
+    ensures verified { (plan certificate : Bor (List ℕ)) → IsVerifyOf words.now plan certificate → (result ≡ Success) ⊎ (result ≡ Refused)
+        → (text : Text) × F.holds files.now plan.now text × Verifies (F.holds files.now certificate.now) text (W.contents output.old) (W.contents output.new) result }
+    ensures simulated { (plan certificate script : Bor (List ℕ)) → IsSimulateOf words.now plan certificate script → (result ≡ Success) ⊎ (result ≡ Refused)
+        → (text : Text) × F.holds files.now plan.now text × Simulates (F.holds files.now certificate.now) (F.holds files.now script.now) text (W.contents output.old) (W.contents output.new) result }
+    ensures echoed { (plan caller called : Bor (List ℕ)) → IsEchoOf words.now plan caller called → (result ≡ Success) ⊎ (result ≡ Refused)
+        → (text : Text) × F.holds files.now plan.now text
+        × Echoes (N.reaches network.now) N.Socket.hears N.Socket.sends N.Socket.closes (C.tells clock.now) caller.now called.now text (W.contents output.old) (W.contents output.new) result }
+{
+    let asked = match read_words(alloc, words) {
+        Ok(asked) => asked,
+        Err(AllocError) => return tell_failure(
+            &Failure::Stream(io::Error::from(AllocError)),
+            faults,
+        ),
+    };
+    match run_any(alloc, asked, input, output, faults, files, network, clock) {
+        Ok(status) => status,
+        Err(failure) => tell_failure(&failure, faults),
+    }
+}

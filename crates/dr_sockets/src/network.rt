@@ -1,0 +1,32 @@
+//! A network, as a program sees it.
+ghost use Rattle.std.specs.Prelude.{ℕ, List, IfOk};
+
+use dr_base::Text;
+use dr_session::Link;
+use std::alloc::Global;
+use std::io;
+
+/// Where a program connects and listens, each address as a plan writes it (`host:port`). Its relation says which links may lead
+/// to an address; a system's sockets claim nothing.
+pub trait Network {
+    type Socket: Link + Drop + Send;
+
+    type Listener: Listening<Socket = Self::Socket> + Drop + Sync;
+
+    ghost reaches: { Self → List ℕ → Self.Socket → Type 0 };
+
+    /// A link to what listens at the address.
+    fn connect(&self, alloc: Global, address: &Text) -> io::Result<Self::Socket>
+        ensures { IfOk result (reaches self.now address.now) };
+
+    /// Listens at the address.
+    fn listen(&self, alloc: Global, address: &Text) -> io::Result<Self::Listener>;
+}
+
+/// What listens at an address.
+pub trait Listening {
+    type Socket: Link + Drop + Send;
+
+    /// Waits for the next connection.
+    fn accept(&self) -> io::Result<Self::Socket>;
+}

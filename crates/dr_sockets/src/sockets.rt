@@ -1,0 +1,100 @@
+//! The system's network.
+use crate::network::{Listening, Network};
+use crate::socket::Socket;
+use dr_base::Text;
+use dr_session::Clock;
+use std::alloc::Global;
+use std::io::ErrorKind;
+use std::net::{Net, TcpListener, TcpStream, ToSocketAddrs};
+use std::time::Duration;
+use std::{io, str};
+
+/// A connect is given up after so many milliseconds.
+const CONNECT: u64 = 10_000;
+
+/// The network of the system, with the clock by which its sockets count.
+#[derive(Drop)]
+pub struct Sockets<'a, R: Net<Stream = TcpStream, Listener = TcpListener>, C: Clock> {
+    rt: &'a R,
+    clock: &'a C,
+}
+
+impl<'a, R: Net<Stream = TcpStream, Listener = TcpListener>, C: Clock> Sockets<'a, R, C> {
+    pub fn new(rt: &'a R, clock: &'a C) -> Sockets<'a, R, C> {
+        Sockets { rt, clock }
+    }
+
+    /// Connects to one of a name's addresses, each in its turn, until one answers or the time is over.
+    fn connect_by(&self, address: &str) -> io::Result<TcpStream> {
+        let begun = self.clock.now();
+        let mut last = io::Error::from(ErrorKind::NotFound);
+        for one in address.to_socket_addrs(self.rt)? {
+            let left = CONNECT.saturating_sub(self.clock.now().saturating_sub(begun));
+            if left == 0 {
+                return Err(io::Error::from(ErrorKind::TimedOut));
+            }
+            match TcpStream::connect_timeout(self.rt, &one, Duration::from_millis(left)) {
+                Ok(stream) => return Ok(stream),
+                Err(error) => last = error,
+            }
+        }
+        Err(last)
+    }
+}
+
+/// The address as the system takes it.
+fn words_of(address: &Text) -> io::Result<&str> {
+    match str::from_utf8(address.as_bytes()) {
+        Ok(words) => Ok(words),
+        Err(_) => Err(io::Error::from(ErrorKind::InvalidInput)),
+    }
+}
+
+/// What no contract says of a system's sockets, tests do.
+impl<'a, R: Net<Stream = TcpStream, Listener = TcpListener>, C: Clock + Sync> Network
+    for Sockets<'a, R, C> {
+    type Socket = Socket<'a, TcpStream, C>;
+
+    type Listener = Listener<'a, C>;
+
+    ghost reaches = { λ sockets address socket. Unit {0} };
+
+    /// A connect is given up after 10 s.
+    fn connect(&self, alloc: Global, address: &Text) -> io::Result<Socket<'a, TcpStream, C>> {
+        let stream = self.connect_by(words_of(address)?)?;
+        Socket::new(alloc, stream, self.clock)
+    }
+
+    fn listen(&self, alloc: Global, address: &Text) -> io::Result<Listener<'a, C>> {
+        let listener = TcpListener::bind(self.rt, words_of(address)?)?;
+        Ok(Listener::new(alloc, listener, self.clock))
+    }
+}
+
+/// A listening socket of the system.
+#[derive(Drop)]
+pub struct Listener<'a, C: Clock> {
+    alloc: Global,
+    listener: TcpListener,
+    clock: &'a C,
+}
+
+impl<'a, C: Clock> Listener<'a, C> {
+    /// What is bound already.
+    pub fn new(alloc: Global, listener: TcpListener, clock: &'a C) -> Listener<'a, C> {
+        Listener {
+            alloc,
+            listener,
+            clock,
+        }
+    }
+}
+
+impl<'a, C: Clock + Sync> Listening for Listener<'a, C> {
+    type Socket = Socket<'a, TcpStream, C>;
+
+    fn accept(&self) -> io::Result<Socket<'a, TcpStream, C>> {
+        let (stream, _) = self.listener.accept()?;
+        Socket::new(self.alloc, stream, self.clock)
+    }
+}
