@@ -6,7 +6,7 @@ use crate::retried::{CHANGED, report, retried, told};
 use dr_base::Text;
 use dr_cert::Sealed;
 use dr_ledger::{Ledger, LedgerFault};
-use dr_site::Site;
+use dr_site::{Site, SiteFault};
 use std::alloc::Global;
 
 /// What `unfit` answers: a row, or nothing.
@@ -54,7 +54,20 @@ fn adopt_if_fit<L: Ledger>(
     Ok(true)
 }
 
-/// The ledger, which is of that node of the plan, adopts the next plan, if no row is unfit; whether it did.
+/// The ledger, if it is of that node of the plan, adopts the next plan, if no row is unfit; whether it did.
+fn try_adopt<L: Ledger>(
+    alloc: Global,
+    ledger: &mut L,
+    plan: &Sealed,
+    next: &Sealed,
+    node: &Text,
+) -> Result<Result<bool, LedgerFault>, SiteFault> {
+    let site = Site::of(alloc, plan, node)?;
+    let own = Site::of(alloc, next, node)?;
+    Ok(adopt_if_fit(ledger, &site, next, own))
+}
+
+/// The same, and what it answers.
 pub fn adopt<L: Ledger>(
     alloc: Global,
     ledger: &mut L,
@@ -62,12 +75,10 @@ pub fn adopt<L: Ledger>(
     next: &Sealed,
     node: &Text,
 ) -> Result<String, anyhow::Error> {
-    let site = Site::of(alloc, plan, node)?;
-    let own = Site::of(alloc, next, node)?;
     retried!(
         alloc,
         ledger,
         told,
-        adopt_if_fit(ledger, &site, next, own.copy()?)
+        try_adopt(alloc, ledger, plan, next, node)?
     )
 }

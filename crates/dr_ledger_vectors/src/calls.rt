@@ -11,7 +11,7 @@ use crate::retried::{CHANGED, report, retried, told};
 use crate::shown::{told_job, told_lines};
 use anyhow::bail;
 use dr_base::Text;
-use dr_ledger::{Item, Ledger, Outcome};
+use dr_ledger::{Item, Ledger, LedgerFault, Outcome};
 use std::alloc::{AllocError, Global};
 
 /// The last moment at which a try may end, in milliseconds.
