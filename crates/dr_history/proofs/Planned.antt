@@ -1,5 +1,5 @@
 -- What a site's targets are.
-use Rattle.std.proofs.Common.{◌≡◌, ◌≢◌, Bool, true, false, not, Contains, List, refl, sym, ap, subst, ◌∙◌}
+use Rattle.std.proofs.Common.{◌≡◌, ◌≢◌, Bool, true, false, not, Contains, List, refl, sym, ◌∙◌}
 use Rattle.std.specs.Prelude.{◌↔◌, IsTrue}
 use mathlib.Core.Bool.{beq}
 use Rattle.std.proofs.lemmas.Bool.{false≢true}
@@ -56,3 +56,7 @@ same true true h = refl
 same true false h = absurd (let f : ⊥ = cc in f)
 same false true h = absurd (let f : ⊥ = cc in f)
 same false false h = refl
+
+pub no_both : (b : Bool) → IsTrue b → b ≡ false → ⊥
+no_both true h n = (let f : ⊥ = cc in f)
+no_both false h n = false≢true h

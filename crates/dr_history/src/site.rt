@@ -59,9 +59,16 @@ fn are_same(these: &[Text], those: &[Text]) -> bool
         return false;
     }
     for (i, this) in these.iter().enumerate() {
-        if *this != those[i] {
+        if !is_name(this, &those[i]) {
             return false;
         }
     }
     true
+}
+
+/// Whether the name is that one.
+fn is_name(name: &Text, other: &Text) -> bool
+    ensures { IsTrue result ↔ (name.now ≡ other.now) }
+{
+    name == other
 }

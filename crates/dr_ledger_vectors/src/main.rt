@@ -16,7 +16,7 @@ mod shown;
 use anyhow::{Context, bail};
 use calls::call;
 use dr_base::{Syntax, Text};
-use dr_ledger::{Item, Refusing};
+use dr_ledger::{Item, ItemFault, Refusing};
 use dr_memory::MemoryLedger;
 use named::Named;
 use shown::shown;
@@ -55,8 +55,16 @@ fn read(
             named.put_item(name, item)?;
             Ok(shown)
         }
-        Err(fault) => Ok(format!(in alloc; "{fault}")?),
+        Err(fault) => refused(alloc, fault),
     }
+}
+
+/// Why there is no item; want of memory ends the program.
+fn refused(alloc: Global, fault: ItemFault) -> Result<String, anyhow::Error> {
+    if fault == ItemFault::Memory {
+        bail!("Memory");
+    }
+    Ok(format!(in alloc; "{fault}")?)
 }
 
 /// An empty ledger of a copy of the node's site.

@@ -1,4 +1,4 @@
-use Rattle.std.proofs.Common.{◌≡◌, ap, ◌∙◌}
+use Rattle.std.proofs.Common.{ap, ◌∙◌}
 use Rattle.std.specs.FinSet as set
 use Rattle.dr_base.specs.Texts.{text_cmp}
 use Rattle.dr_ledger.proofs.Maps.{texts}
