@@ -1,0 +1,6 @@
+pub mod Contents
+pub mod Laws
+pub mod Lines
+pub mod Takings
+pub mod Told
+pub mod Trees

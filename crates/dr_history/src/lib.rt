@@ -1,0 +1,14 @@
+//! What a journal's lines make of a node, without data sets: it is told lines one by one, and goes on only while they are a history. An
+//! opened store is compared with it.
+#![tactic(auto)]
+
+pub mod history;
+pub mod laws;
+mod line;
+mod parts;
+mod progress;
+mod site;
+mod trees;
+
+pub use history::History;
+pub use line::{HistoryFault, JournalLine};

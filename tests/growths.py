@@ -1,0 +1,170 @@
+#!/usr/bin/env python3
+"""Refuses each growth of memory in turn, one in each run of a built program, and looks for an answer that is another one then.
+
+    tests/growths.py ledger [FIRST]     calls on a ledger in memory (crates/dr_ledger_vectors)
+    tests/growths.py desk [FIRST]       two sessions on one shared desk (crates/dr_desk_vectors)
+
+A small library that is loaded before the program (LD_PRELOAD) counts its calls for memory and refuses the one whose number it is told; the
+numbers go up, from the FIRST on, until a run meets no refusal. A run is as it is to be where it ends by itself and has printed what a
+run without refusals prints, or the first lines of it and then, on standard error, that it has no memory. One that hangs, dies, prints another
+line or ends so without having met a refusal is named, and the status is 1. It needs `cc`, and takes some minutes, so it is no part of ./test.
+"""
+import concurrent.futures
+import os
+import re
+import shutil
+import subprocess
+import sys
+import tempfile
+
+TOP = os.path.dirname(os.path.dirname(os.path.abspath(__file__)))
+
+SHIM = r"""
+#define _GNU_SOURCE
+#include <dlfcn.h>
+#include <stdatomic.h>
+#include <stddef.h>
+#include <errno.h>
+#include <fcntl.h>
+#include <stdlib.h>
+#include <unistd.h>
+
+static atomic_long calls;
+static long refused = -1;
+
+__attribute__((constructor)) static void told(void) {
+    const char *number = getenv("REFUSED_GROWTH");
+    calls = 0;
+    refused = number ? atol(number) : -1;
+}
+
+/* the file tells that the run has met its refusal */
+static int refuses(void) {
+    if (refused < 0 || ++calls != refused) return 0;
+    int note = open(getenv("REFUSAL_NOTE"), O_WRONLY | O_CREAT, 0600);
+    if (note >= 0) close(note);
+    errno = ENOMEM;
+    return 1;
+}
+
+#define NEXT(name) static __typeof__(&name) next; if (!next) next = (__typeof__(&name))dlsym(RTLD_NEXT, #name)
+
+void *malloc(size_t size) { NEXT(malloc); return refuses() ? NULL : next(size); }
+void *realloc(void *old, size_t size) { NEXT(realloc); return refuses() ? NULL : next(old, size); }
+void *aligned_alloc(size_t align, size_t size) { NEXT(aligned_alloc); return refuses() ? NULL : next(align, size); }
+int posix_memalign(void **out, size_t align, size_t size) { NEXT(posix_memalign); return refuses() ? ENOMEM : next(out, align, size); }
+"""
+
+MAIN = """//! Says whether the journal has as many lines as the passes count.
+#![tactic(auto)]
+
+mod peer;
+mod samples;
+mod sessions;
+
+use sessions::{Open, serve_archive};
+use std::test::Fail;
+
+fn main(rt: HostRuntime) -> Result<(), Fail> {
+    let outcomes = serve_archive(&rt, rt.alloc(), 2, 2, &Open)?;
+    let are_as_many = outcomes.lines == outcomes.sum;
+    println!(rt; "as many lines as the passes count: {are_as_many}")?;
+    Ok(())
+}
+"""
+
+
+def desk_program(room):
+    """A program over the modules of the desk's tests, beside copies of the crates with what earlier checks left in their out/."""
+    shutil.copytree(f"{TOP}/crates", f"{room}/crates")
+    with open(f"{TOP}/crates.txt") as it:
+        lines = it.read()
+    libraries = re.search(r"^dr_desk_vectors:(.*)$", lines, re.M)[1]
+    with open(f"{room}/crates.txt", "w") as it:
+        it.write(f"{lines}\ndesk_growths:{libraries}\n")
+    shutil.copy(f"{TOP}/HANDLES", room)
+    folder = f"{room}/crates/desk_growths"
+    os.makedirs(f"{folder}/src")
+    for name in ("peer", "samples", "sessions"):
+        shutil.copy(f"{TOP}/crates/dr_desk_vectors/src/{name}.rt", f"{folder}/src")
+    shutil.copytree(f"{TOP}/crates/dr_desk_vectors/proofs/sessions", f"{folder}/proofs/sessions")
+    with open(f"{folder}/src/main.rt", "w") as it:
+        it.write(MAIN)
+    return folder
+
+
+def build(folder):
+    """Proves and builds the program, and returns its path."""
+    ran = subprocess.run(["rt", "run"], cwd=folder, stdin=subprocess.DEVNULL, stdout=subprocess.PIPE, stderr=subprocess.STDOUT, text=True)
+    path = f"{folder}/out/{os.path.basename(folder)}"
+    if not os.path.exists(path):
+        sys.exit(f"{ran.stdout}\nnot built")
+    return path
+
+
+def ledger_rows():
+    """The rows, but for the data set that is too large: its growth is met as any other is."""
+    with open(f"{TOP}/crates/dr_ledger_vectors/stdin") as it:
+        return "".join(line for line in it if not line.startswith("zeros "))
+
+
+class Sweep:
+    def __init__(self, room, program, text):
+        self.room, self.program, self.text = room, program, text
+        with open(f"{room}/shim.c", "w") as it:
+            it.write(SHIM)
+        subprocess.run(["cc", "-shared", "-fPIC", "-O1", "-o", f"{room}/shim.so", f"{room}/shim.c", "-ldl"], check=True)
+        self.whole = self.run(0)[1]
+
+    def run(self, number):
+        """Whether the refusal was met, what was printed, and what is wrong with the run, if anything is."""
+        note = f"{self.room}/note-{number}"
+        environment = {**os.environ, "LD_PRELOAD": f"{self.room}/shim.so", "REFUSED_GROWTH": str(number), "REFUSAL_NOTE": note}
+        try:
+            ran = subprocess.run([self.program], input=self.text, env=environment, stdout=subprocess.PIPE, stderr=subprocess.PIPE, text=True, timeout=60)
+        except subprocess.TimeoutExpired:
+            return True, "", "it hangs"
+        met = os.path.exists(note)
+        if met:
+            os.remove(note)
+        return met, ran.stdout, self.wrong(number, met, ran)
+
+    def wrong(self, number, met, ran):
+        if number == 0:
+            return None if ran.returncode == 0 and not met else "it fails without a refusal"
+        if ran.returncode == 0:
+            return None if ran.stdout == self.whole else "it prints something else"
+        if ran.returncode < 0 or not met:
+            return f"it ends with {ran.returncode}"
+        if not self.whole.startswith(ran.stdout):
+            return "it prints something else before it ends"
+        return None if re.search("(?i)memory|alloc", ran.stderr) else f"it ends without saying why: {ran.stderr.strip()[:200]}"
+
+
+def main():
+    if len(sys.argv) not in (2, 3) or sys.argv[1] not in ("ledger", "desk"):
+        sys.exit(__doc__)
+    first = int(sys.argv[2]) if len(sys.argv) == 3 else 1
+    with tempfile.TemporaryDirectory(prefix="growths-") as room:
+        if sys.argv[1] == "ledger":
+            sweep = Sweep(room, build(f"{TOP}/crates/dr_ledger_vectors"), ledger_rows())
+        else:
+            sweep = Sweep(room, build(desk_program(room)), "")
+        number, found, ended = first, 0, 0
+        with concurrent.futures.ThreadPoolExecutor(os.cpu_count()) as pool:
+            while True:
+                results = list(pool.map(sweep.run, range(number, number + 64)))
+                for at, (met, said, wrong) in enumerate(results, number):
+                    ended += met and said != sweep.whole
+                    if wrong:
+                        found += 1
+                        print(f"growth {at}: {wrong}", flush=True)
+                number += 64
+                if not all(met for met, said, wrong in results):
+                    break
+        met = number - 64 + sum(met for met, said, wrong in results) - first
+        print(f"{met} growths refused, each in a run of its own; {ended} runs ended early for want of memory; {found} wrong")
+    sys.exit(1 if found else 0)
+
+
+main()

@@ -1,0 +1,266 @@
+#!/usr/bin/env python3
+"""Answers the calls in crates/dr_ledger_vectors/stdin by a ledger of its own, written again from crates/dr_ledger/specs (Books, Replies,
+Adopting, Bodies), and compares what it answers with the crate's `stdout`, which the gate compares with what the program prints. So the
+answers that the gate wants come from outside the program.
+
+    tests/ledger_rows.py              says where they differ; its status is 0 where they don't
+    tests/ledger_rows.py --print      prints the answers
+"""
+import os
+import sys
+
+sys.dont_write_bytecode = True
+from plan_model import REST, Model
+from plan_reader import EXPLICIT, IMPLICIT, read_plan
+
+TOP = os.path.dirname(os.path.dirname(os.path.abspath(__file__)))
+ROWS = f'{TOP}/crates/dr_ledger_vectors'
+LARGEST = 64 * 1024 * 1024
+NAMES = {(0x0008, 0x0016): 'class', (0x0008, 0x0018): 'uid', (0x0008, 0x0060): 'modality', (0x0008, 0x1010): 'station'}
+
+
+class Refused(Exception):
+    """A call that is refused; the argument is the fault."""
+
+
+# ---- data sets (PS3.5 7.1.2), of short elements alone
+
+def elements(data):
+    while data:
+        if len(data) < 8 or len(data) < 8 + int.from_bytes(data[6:8], 'little'):
+            raise Refused('I1 Data')
+        length = int.from_bytes(data[6:8], 'little')
+        yield (int.from_bytes(data[:2], 'little'), int.from_bytes(data[2:4], 'little')), data[8:8 + length]
+        data = data[8 + length:]
+
+
+def is_uid(text):
+    return 1 <= len(text) <= 64 and all('!' <= it <= '~' for it in text)
+
+
+def read_item(syntax, data):
+    """Its uid, key and data set."""
+    if len(data) > LARGEST:
+        raise Refused('I3 TooLarge')
+    values = {NAMES[tag]: value.decode().rstrip('\0 ') for tag, value in elements(data) if tag in NAMES}
+    if not is_uid(values.get('class', '')) or not is_uid(values.get('uid', '')):
+        raise Refused('I2 NoUid')
+    return values['uid'], (values['class'], syntax, values.get('modality', ''), values.get('station', '')), data
+
+
+def shown(item):
+    uid, (sop_class, syntax, modality, station), data = item
+    return f'{uid} {sop_class} {modality} {station} {"Explicit" if syntax == EXPLICIT else "Implicit"} {len(data)}'
+
+
+# ---- sites
+
+class Site:
+    def __init__(self, text, node):
+        self.text, self.node, self.model = text, node, Model(text, *read_plan(text))
+        self.stops = self.model.reached()
+
+    def is_same(self, other):
+        return (self.text, self.node) == (other.text, other.node)
+
+    def stop(self, caller, key):
+        parts = self.model.parts
+        return caller, self.node, (*key[:2], *(it if it in parts[field] else REST for field, it in zip(('modality', 'station'), key[2:])))
+
+    def goes_on(self, node, key, dest):
+        """Whether some walk brings the key from the node to the destination."""
+        return (node, dest, Site.stop(self, node, key)[2]) in self.stops
+
+
+# ---- ledgers; each call gives what is printed of its answer
+
+def told(row):
+    if row is None:
+        return 'None'
+    kind, *parts = row
+    if kind == 'waiting':
+        return f'Some(Waiting {{ tries: {parts[0]}, due: {parts[1]} }})'
+    return 'Some(Done)' if kind == 'done' else f'Some(Held({"NoContext" if parts[0] == "no-context" else f"Status({parts[0]})"}))'
+
+
+class Ledger:
+    def __init__(self, site):
+        self.site, self.items, self.bodies, self.arrivals, self.kept, self.rows, self.journal = site, {}, set(), set(), set(), {}, []
+        self.armed, self.made = False, 0
+
+    def add(self, line):
+        """The line, where the store takes it."""
+        if self.armed:
+            self.armed, self.made = False, self.made + 1
+            raise Refused('Store')
+        self.journal.append(line)
+
+    def let_go(self):
+        needed = self.kept | {uid for (uid, dest), row in self.rows.items() if row[0] != 'done'}
+        self.bodies &= needed
+
+    def admits(self, caller, item):
+        if self.site.stop(caller, item[1]) not in self.site.stops:
+            raise Refused('NoLine')
+        if self.items.get(item[0], item) != item:
+            raise Refused('Conflict')
+        return '()'
+
+    def arrive(self, caller, item):
+        self.admits(caller, item)
+        uid, key, _ = item
+        if (caller, uid) in self.arrivals:
+            self.add(f'repeat {caller} {shown(item)}')
+            return 'Again'
+        stop = self.site.stop(caller, key)
+        to, keep = self.site.model.sends(stop), self.site.model.keeps(stop)
+        self.add(f'arrival {caller} {shown(item)}' + ''.join(f' to {it}' for it in to) + ' keep' * keep)
+        self.items[uid] = item
+        self.arrivals.add((caller, uid))
+        if keep:
+            self.kept.add(uid)
+        for dest in to:
+            self.rows.setdefault((uid, dest), ('waiting', 0, 0))
+        self.bodies.add(uid)
+        self.let_go()
+        return 'New'
+
+    def next(self, dest, now):
+        due = [(row[2], uid) for (uid, to), row in self.rows.items() if to == dest and row[0] == 'waiting' and row[2] <= int(now)]
+        return shown(self.items[min(due)[1]]) if due else 'nothing'
+
+    def settle(self, uid, dest, outcome, now):
+        row = self.rows.get((uid, dest))
+        if row is None or row[0] != 'waiting':
+            raise Refused('NotWaiting')
+        self.add(f'settling {uid} {dest} {outcome} {now}')
+        status = None if outcome in ('broken', 'no-context') else int(outcome, 16)
+        if status is not None and (status == 0 or 0xB000 <= status <= 0xBFFF):
+            row = ('done',)
+        elif outcome == 'broken' or status is not None and 0xA700 <= status <= 0xA7FF:
+            tries = row[1] + 1
+            row = ('waiting', tries, int(now) + 1000 * min(300, 2 ** (tries - 1)))
+        else:
+            row = ('held', outcome if status is None else status)
+        self.rows[uid, dest] = row
+        self.let_go()
+        return '()'
+
+    def requeue(self, uid, dest):
+        if self.rows.get((uid, dest), ('none',))[0] != 'held':
+            raise Refused('NotHeld')
+        self.add(f'requeuing {uid} {dest}')
+        self.rows[uid, dest] = ('waiting', 0, 0)
+        return '()'
+
+    def has(self, uid):
+        return str(uid in self.items).lower()
+
+    def has_body(self, uid):
+        return str(uid in self.bodies).lower()
+
+    def progress(self, uid, dest):
+        return told(self.rows.get((uid, dest)))
+
+    def report(self):
+        def state(row):
+            if row[0] == 'held':
+                return 'held\t' + (row[1] if row[1] == 'no-context' else f'{row[1]:04X}')
+            return '\t'.join(map(str, row))
+        rows = [*(f'arrival\t{c}\t{u}' for c, u in sorted(self.arrivals)), *(f'kept\t{u}\t{len(self.items[u][2])}' for u in sorted(self.kept)),
+                *(f'row\t{u}\t{d}\t{state(r)}' for (u, d), r in sorted(self.rows.items())), f'lines\t{len(self.journal)}']
+        return '\n' + '\n'.join(rows)
+
+    def lines(self):
+        return ''.join(f'\n{it}' for it in self.journal)
+
+    def first_unfit(self, following):
+        wrong = [at for at, row in self.rows.items() if row[0] != 'done' and not following.goes_on(self.site.node, self.items[at[0]][1], at[1])]
+        return min(wrong, default=None)
+
+    def adopt(self, site, following):
+        if not self.site.is_same(site) or self.first_unfit(following):
+            return 'false'
+        self.add('adoption')
+        self.site, self.arrivals = following, set()
+        self.rows = {at: row for at, row in self.rows.items() if row[0] != 'done'}
+        return 'true'
+
+
+# ---- the lines of the input
+
+class Playing:
+    def __init__(self):
+        self.plans, self.items, self.ledger, self.last = {}, {}, None, None
+
+    def site(self, plan, node):
+        return Site(self.plans[plan].encode(), node)
+
+    def item(self, name, letter, data):
+        item = read_item({'E': EXPLICIT, 'I': IMPLICIT}[letter], data)
+        self.items[name] = item
+        return shown(item)
+
+    def call(self, what, words):
+        ledger = self.ledger
+        if what in ('arrive', 'admits'):
+            return getattr(ledger, what)(words[0], self.items[words[1]])
+        if what == 'unfit':
+            found = ledger.first_unfit(self.site(words[0], ledger.site.node))
+            return ' '.join(found) if found else 'nothing'
+        if what == 'adopt':
+            return ledger.adopt(self.site(words[0], words[1]), self.site(words[2], words[1]))
+        if what == 'is_of':
+            return str(ledger.site.is_same(self.site(*words))).lower()
+        if what == 'refusals':
+            return f'{str(ledger.armed).lower()} {ledger.made}'
+        return str(ledger.made) if what == 'failures' else getattr(ledger, what)(*words)
+
+    def turn(self, line):
+        """What is printed for the line."""
+        if line.startswith('|'):
+            self.plans[self.last] += line[1:] + '\n'
+            return ''
+        what, *words = line.split() or ['#']
+        if what.startswith('#'):
+            return ''
+        if what == 'plan':
+            self.last = words[0]
+            self.plans[self.last] = ''
+        elif what == 'ledger':
+            self.ledger = Ledger(self.site(*words))
+        elif what == 'refuse':
+            self.ledger.armed = True
+        else:
+            try:
+                if what == 'item':
+                    answer = self.item(*words[:2], bytes.fromhex(words[2]))
+                elif what == 'zeros':
+                    answer = self.item(*words[:2], bytes(int(words[2])))
+                else:
+                    answer = self.call(what, words)
+            except Refused as fault:
+                answer = str(fault)
+            return f'{line}: {answer}\n'
+        return f'{line}\n'
+
+
+def main():
+    playing = Playing()
+    with open(f'{ROWS}/stdin') as it:
+        answers = ''.join(playing.turn(line.rstrip('\n')) for line in it)
+    if sys.argv[1:] == ['--print']:
+        print(answers, end='')
+        return
+    with open(f'{ROWS}/stdout') as it:
+        wanted = it.read()
+    pairs = list(zip(answers.split('\n'), wanted.split('\n')))
+    for number, (own, other) in enumerate(pairs, 1):
+        if own != other:
+            sys.exit(f'ledger rows: line {number} of stdout is {other!r}, and by the definitions {own!r}')
+    if len(answers) != len(wanted):
+        sys.exit('ledger rows: the one goes on where the other ends')
+    print(f'ledger rows: {len(pairs) - 1} lines of answers are those of the definitions')
+
+
+main()
