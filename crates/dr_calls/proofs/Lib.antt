@@ -1,5 +1,7 @@
 pub mod Arrivals
 pub mod Bookings
+pub mod FirstOnes
+pub mod Joins
 pub mod LettingGo
 pub mod Movements
 pub mod NewRows

@@ -1,5 +1,5 @@
 -- Tables as sets: arrivals, what is kept, and where a line goes on to.
-use Rattle.std.proofs.Common.{◌≡◌, ◌==◌, ℕ, ℤ, List, [], ◌∷◌, ◌++◌, map as mapped, filter, Bool, true, false, cond, ◌&&◌, ◌||◌, Some, None, Ok, refl, sym, ap, ◌∙◌, arith}
+use Rattle.std.proofs.Common.{◌≡◌, ◌==◌, ℕ, ℤ, List, [], ◌∷◌, ◌++◌, map as mapped, filter, Bool, true, false, cond, ◌&&◌, ◌||◌, Option, Some, None, Ok, refl, sym, ap, ◌∙◌, arith}
 use Rattle.std.specs.Cmp.{IsTotalOrder}
 use Rattle.std.specs.Cmp.Lexicographic.{nat_list_cmp_total}
 use Rattle.std.specs.declared.cmp.Ordering.{Ordering}
@@ -100,36 +100,40 @@ keeps_one uid old new added =
 
 -- ---- where a line goes on to
 
+-- what a map to nothing has where it has something
+abbrev pub present : Bool → Option (Unit {0})
+present b = cond b (Some tt) None
+
 -- a name is found where a row has it
-found_name : (q : Text) (rows : List Row) → find text_cmp q (mapped named_in rows) ≡ cond (list_any (λ r. eq_by_cmp text_cmp q (dest_in r)) rows) (Some tt) None
+found_name : (q : Text) (rows : List Row) → find text_cmp q (mapped named_in rows) ≡ present (list_any (λ r. eq_by_cmp text_cmp q (dest_in r)) rows)
 found_name q [] = refl
 found_name q (r ∷ rows) = go (eq_by_cmp text_cmp q (dest_in r)) (found_name q rows)
   where
-    go : (b : Bool) → find text_cmp q (mapped named_in rows) ≡ cond (list_any (λ x. eq_by_cmp text_cmp q (dest_in x)) rows) (Some tt) None
-        → cond b (Some tt) (find text_cmp q (mapped named_in rows)) ≡ cond (b || list_any (λ x. eq_by_cmp text_cmp q (dest_in x)) rows) (Some tt) None
+    go : (b : Bool) → find text_cmp q (mapped named_in rows) ≡ present (list_any (λ x. eq_by_cmp text_cmp q (dest_in x)) rows)
+        → cond b (Some tt) (find text_cmp q (mapped named_in rows)) ≡ present (b || list_any (λ x. eq_by_cmp text_cmp q (dest_in x)) rows)
     go true later = refl
     go false later = later
 
-pub names_have : (rows : List Row) (m : ℕ) (q : Text) → map.get (names_in rows m) q ≡ cond (list_any (λ r. is_of_line m r && eq_by_cmp text_cmp q (dest_in r)) rows) (Some tt) None
+pub names_have : (rows : List Row) (m : ℕ) (q : Text) → map.get (names_in rows m) q ≡ present (list_any (λ r. is_of_line m r && eq_by_cmp text_cmp q (dest_in r)) rows)
 names_have rows m q =
     map.get-from_entries nat_list_cmp_total (mapped named_in (filter (is_of_line m) rows)) q ∙ found_name q (filter (is_of_line m) rows)
-    ∙ ap (λ b. cond b (Some tt) None) (any_filtered (is_of_line m) (λ r. eq_by_cmp text_cmp q (dest_in r)) rows)
+    ∙ ap present (any_filtered (is_of_line m) (λ r. eq_by_cmp text_cmp q (dest_in r)) rows)
 
 name_put : (id : ℤ) (n : ℕ) (name : Text) (rows : List Row) (m : ℕ) → is_taken rows (Int id ∷ target_cells n name) ≡ false
     → names_in (put_row (Int id ∷ target_cells n name) rows) m ≡ cond (n == m) (map.insert (names_in rows m) name tt) (names_in rows m)
 name_put id n name rows m free = map.same_map nat_list_cmp_total exact_bytes _ _ (λ q.
     names_have (put_row (Int id ∷ target_cells n name) rows) m q
-    ∙ ap (λ b. cond b (Some tt) None) (any_put (λ r. is_of_line m r && eq_by_cmp text_cmp q (dest_in r)) (Int id ∷ target_cells n name) rows free)
+    ∙ ap present (any_put (λ r. is_of_line m r && eq_by_cmp text_cmp q (dest_in r)) (Int id ∷ target_cells n name) rows free)
     ∙ at q (n == m))
   where
     has : Text → Bool
     has q = list_any (λ r. is_of_line m r && eq_by_cmp text_cmp q (dest_in r)) rows
 
-    either : (a : Bool) (q : Text) → cond (a || has q) (Some tt) None ≡ cond a (Some tt) (cond (has q) (Some tt) None)
+    either : (a : Bool) (q : Text) → present (a || has q) ≡ cond a (Some tt) (present (has q))
     either true q = refl
     either false q = refl
 
-    at : (q : Text) (b : Bool) → cond ((b && eq_by_cmp text_cmp q name) || has q) (Some tt) None ≡ map.get (cond b (map.insert (names_in rows m) name tt) (names_in rows m)) q
+    at : (q : Text) (b : Bool) → present ((b && eq_by_cmp text_cmp q name) || has q) ≡ map.get (cond b (map.insert (names_in rows m) name tt) (names_in rows m)) q
     at q true =
         either (eq_by_cmp text_cmp q name) q ∙ ap (λ got. cond (eq_by_cmp text_cmp q name) (Some tt) got) (sym (names_have rows m q))
         ∙ sym (map.get-insert nat_list_cmp_total (names_in rows m) name tt q)
