@@ -130,7 +130,7 @@ own_there old new at to line true was w goes = (
 )
 own_there old new at to line false was w goes = (λ there. goes, λ needed. (was.0, ap (λ b. map.get b at.0) w.bodies ∙ was.1))
 
-body_was : (old new : Trees) (at : Pair) (to : Progress) (line : Row) (lets_go : Bool) (q : Text) (body : List ℕ) → MovesOn at to line lets_go old new → map.get (bodies_of new) q ≡ Some body → map.get (bodies_of old) q ≡ Some body
+pub body_was : (old new : Trees) (at : Pair) (to : Progress) (line : Row) (lets_go : Bool) (q : Text) (body : List ℕ) → MovesOn at to line lets_go old new → map.get (bodies_of new) q ≡ Some body → map.get (bodies_of old) q ≡ Some body
 body_was old new at to line true q body w h = go (eq_by_cmp text_cmp q at.0) refl
   where
     is : map.get (bodies_of new) q ≡ cond (eq_by_cmp text_cmp q at.0) None (map.get (bodies_of old) q)

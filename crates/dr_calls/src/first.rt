@@ -135,6 +135,7 @@ fn write_line<'x, S: Alter>(
 }
 
 /// A first arrival: a caller brings an instance that it hasn't brought before.
+#[derive(Drop)]
 pub struct Arriving<'x> {
     pub caller: &'x Text,
     pub item: &'x Instance,
