@@ -252,12 +252,11 @@ line_same (suc (suc (suc zero))) caller uid dest what now a b to more keep also 
 line_same (suc (suc (suc (suc k)))) caller uid dest what now a b to more keep also f p q = refl
 
 -- what is there stays for the lines
-Stay : FinMap text_cmp Instance → FinMap text_cmp Instance → Type 0
+abbrev pub Stay : FinMap text_cmp Instance → FinMap text_cmp Instance → Type 0
 Stay items more = (uid : Text) → IsSome (map.get items uid) → map.get more uid ≡ map.get items uid
 
 module _ (items more : FinMap text_cmp Instance) (targets others : List Row) (n : ℕ) (early : 1 ≤ n) (names : (m : ℕ) → (n == m) ≡ false → names_in others m ≡ names_in targets m) (stay : Stay items more) where
   one_line_same : (row : Row) → value_cmp (rowid row) (Int (pos n)) ≡ Less → IsJoined items row → line_in more others row ≡ line_in items targets row
-  unfolding Stay
   one_line_same row below joined =
       let uid = text_in (column row 4) in
       let same = names (number_in (rowid row)) (other_number n (rowid row) early below) in
@@ -276,21 +275,19 @@ put_stays items item uid none true is there = absurd (let e : None ≡ map.get i
 put_stays items item uid none false is there = refl
 
 new_stays : (items : FinMap text_cmp Instance) (item : Instance) → map.get items item.uid ≡ None → Stay items (map.insert items item.uid item)
-unfolding Stay
 new_stays items item none uid there = map.get-insert nat_list_cmp_total items item.uid item uid ∙ put_stays items item uid none (eq_by_cmp text_cmp uid item.uid) refl there
 
 same_stays : (items : FinMap text_cmp Instance) → Stay items items
-unfolding Stay
 same_stays items uid there = refl
 
-taken_stay : (how : Taking) (items : FinMap text_cmp Instance) (item : Instance) → IsKnownFor how item (map.get items item.uid) → Stay items (items_taken how items item)
+pub taken_stay : (how : Taking) (items : FinMap text_cmp Instance) (item : Instance) → IsKnownFor how item (map.get items item.uid) → Stay items (items_taken how items item)
 taken_stay taking.New items item known = new_stays items item known
 taken_stay taking.Bare items item known = new_stays items item known
 taken_stay taking.Again items item known = same_stays items
 taken_stay taking.Nothing items item known = same_stays items
 
 -- its own item is there then
-taken_there : (how : Taking) (items : FinMap text_cmp Instance) (item : Instance) → IsKnownFor how item (map.get items item.uid) → map.get (items_taken how items item) item.uid ≡ Some item
+pub taken_there : (how : Taking) (items : FinMap text_cmp Instance) (item : Instance) → IsKnownFor how item (map.get items item.uid) → map.get (items_taken how items item) item.uid ≡ Some item
 taken_there taking.New items item known = get_new texts items item.uid item
 taken_there taking.Bare items item known = get_new texts items item.uid item
 taken_there taking.Again items item known = known

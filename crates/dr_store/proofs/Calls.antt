@@ -81,7 +81,7 @@ still_called n part r s Asks Answers Makes f lasting = record {
 module _ {A B : Type 0} (n m : ℕ) (part : Part) (old mid new : State) (Shows : Trees → A → Type 0) where
   -- a query, and then a call
   pub looked_then : (a : A) (r : Result B LedgerFault) (Asks Given : Trees → Type 0) (Answers Made Answers' Made' : Trees → Trees → Type 0) → Looked n part (Ok a) old mid Shows → Called n m part r mid new Given Answers Made
-      → ((db : Trees) → Asks db → Shows db a → Given db) → ((base db : Trees) → Asks base → Shows base a → Answers base db → Answers' base db)
+      → ((db : Trees) → IsLedgerOf n part db → Asks db → Shows db a → Given db) → ((base db : Trees) → Asks base → Shows base a → Answers base db → Answers' base db)
       → ((base db : Trees) → Asks base → Shows base a → Made base db → Made' base db) → Called n m part r old new Asks Answers' Made'
   looked_then a r Asks Given Answers Made Answers' Made' l c gives answers makes = record {
     clean = omega (arith, l.clean, c.clean);
@@ -108,7 +108,7 @@ module _ {A B : Type 0} (n m : ℕ) (part : Part) (old mid new : State) (Shows :
       shown clean k = l.answers (early clean) (l.lasts (early clean) k tt) k tt
 
       given : HasCleanDisk new → IsKept n part old → Asks old.committed.trees → Given mid.committed.trees
-      given clean k asks = subst Given (sym (shown clean k).0) (gives old.committed.trees asks (shown clean k).1)
+      given clean k asks = subst Given (sym (shown clean k).0) (gives old.committed.trees k.ledger asks (shown clean k).1)
 
 module _ {A B : Type 0} (n : ℕ) (part : Part) (old new : State) (Shows : Trees → A → Type 0) where
   -- a query that failed
@@ -229,13 +229,13 @@ below_of n s ready = subst (λ (d : Database). AreBelow (pos n) (d.trees 11)) re
 
 -- a call that asks for less
 pub asked_as : {A : Type 0} (n m : ℕ) (part : Part) (r : Result A LedgerFault) (old new : State) (Asks More : Trees → Type 0) (Answers Makes : Trees → Trees → Type 0)
-    → ((db : Trees) → More db → Asks db) → Called n m part r old new Asks Answers Makes → Called n m part r old new More Answers Makes
+    → ((db : Trees) → IsLedgerOf n part db → More db → Asks db) → Called n m part r old new Asks Answers Makes → Called n m part r old new More Answers Makes
 asked_as n m part r old new Asks More Answers Makes gives c = record {
   clean = c.clean;
   was_open = c.was_open;
   idle = c.idle;
-  lasts = λ clean k asks. c.lasts clean k (gives old.committed.trees asks);
-  kept = λ clean is_open k asks. c.kept clean is_open k (gives old.committed.trees asks);
-  answers = λ clean is_open k asks. c.answers clean is_open k (gives old.committed.trees asks);
-  crash = λ clean k asks db left. c.crash clean k (gives old.committed.trees asks) db left;
+  lasts = λ clean k asks. c.lasts clean k (gives old.committed.trees k.ledger asks);
+  kept = λ clean is_open k asks. c.kept clean is_open k (gives old.committed.trees k.ledger asks);
+  answers = λ clean is_open k asks. c.answers clean is_open k (gives old.committed.trees k.ledger asks);
+  crash = λ clean k asks db left. c.crash clean k (gives old.committed.trees k.ledger asks) db left;
 }

@@ -4,6 +4,8 @@
 //! that the disk has returned what was written so far, and that the store is open.
 #![tactic(auto)]
 
+mod arriving;
+mod knowing;
 mod needs;
 mod progress;
 pub mod settling;

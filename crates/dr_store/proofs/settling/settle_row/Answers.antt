@@ -61,4 +61,4 @@ returns-in-Ok-clause-called g c part =
         (λ ready l given. row_asks mid.committed.trees uid dest (Waiting tries due) l.bodied given.0 (λ e. cc)) c.written.ensures.fault c.written.ensures.written
         (λ ready l given db w. settles n part mid.committed.trees db uid dest tries due to what now needed c.requires.early (below_of n mid ready) l given.0 c.moved-to.ensures given.1 w)
         (λ e own. (settles_own e uid dest what now (book_of mid.committed.trees) own, all_stay (bodies_of mid.committed.trees))) Makes (λ base db it. it.0))
-    (λ db waits shown. (waits, shown)) (λ base db waits shown it. it) (λ base db waits shown it. it)
+    (λ db l waits shown. (waits, shown)) (λ base db waits shown it. it) (λ base db waits shown it. it)
