@@ -107,17 +107,24 @@ dest_in row = text_in (column row 2)
 abbrev pub keep_mark : Text
 keep_mark = 45 ∷ []
 
+-- a set of names, whose keys stand in byte order
+abbrev pub Names : Type 0
+Names = FinMap text_cmp (Unit {0})
+
+abbrev pub named_in : Row → Text × Unit {0}
+named_in row = (dest_in row, tt)
+
 -- what target has of line n
-abbrev pub names_in : List Row → ℕ → FinSet text_cmp
-names_in rows n = set.from_list (mapped dest_in (filter (is_of_line n) rows))
+abbrev pub names_in : List Row → ℕ → Names
+names_in rows n = map.from_entries (mapped named_in (filter (is_of_line n) rows))
 
 -- where the first arrival of line n goes on to, in byte order
 abbrev pub targets_in : List Row → ℕ → List Text
-targets_in rows n = set.items (set.remove (names_in rows n) keep_mark)
+targets_in rows n = map.keys (map.remove (names_in rows n) keep_mark)
 
 -- whether the node keeps what came by line n
 abbrev pub keeps_in : List Row → ℕ → Bool
-keeps_in rows n = set.contains (names_in rows n) keep_mark
+keeps_in rows n = map.contains_key (names_in rows n) keep_mark
 
 -- an item that isn't there; no line of a ledger speaks of one
 abbrev pub no_item : Text → Instance
