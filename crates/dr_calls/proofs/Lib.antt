@@ -3,6 +3,7 @@ pub mod Bookings
 pub mod LettingGo
 pub mod Movements
 pub mod NewRows
+pub mod Numbers
 pub mod Sets
 pub mod Steps
 pub mod Transactions

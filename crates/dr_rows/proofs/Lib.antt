@@ -1,6 +1,7 @@
 pub mod Adds
 pub mod Casts
 pub mod Commands
+pub mod Drops
 pub mod Inserted
 pub mod Keeping
 pub mod Keys
