@@ -1,29 +1,18 @@
--- What the queries answer.
-use Rattle.std.proofs.Common.{inl, inr, ℕ, List, [], ◌∷◌, map, Option, Some, None, Err, IsTrue, IsSome, refl, sym, subst, ◌∙◌}
-use Rattle.std.specs.FinMap.{get, get-from_entries}
-use Rattle.sqlite.specs.declared.types.Value.TheVariants.{Null, Text}
+-- What a query leaves.
+use Rattle.std.proofs.Common.{◌≡◌, ◌⊎◌, inl, inr, ℕ, List, false, Option, Some, None, Ok, Err, IsTrue, IsSome, sym, subst}
 use Rattle.sqlite.specs.declared.error.Error.{Error}
-use Rattle.sqlite.specs.Order.{Row, column}
-use Rattle.sqlite.specs.Query.{IsAnswer}
-use Rattle.sqlite.specs.Program.{overlay}
+use Rattle.sqlite.specs.Order.{Row}
 use Rattle.sqlite.specs.Tree.{Trees}
 use Rattle.sqlite.specs.State.{State, Shown, ShowsRows, IsUnchanged, IsRolledBack, FailsToQuery, FailsToShow, IsNotRun, RunsCommand, Survives, CommitsShowing, HasCleanDisk}
 use Rattle.sqlite_schema.specs.declared.command.Returning.{Returning}
 use Rattle.sqlite_resolve.specs.declared.compiled.Compiled.{Compiled}
 use Rattle.sqlite.specs.Listing.{understood}
 use Rattle.sqlite.specs.Clock.{timed}
-use Rattle.sqlite.proofs.Callers.{IsPlain, reads_as}
-use Rattle.dr_ledger.specs.Pairs.{Pair}
-use Rattle.dr_tables.specs.Tables.{tables}
-use Rattle.dr_tables.specs.Statements.{find_row}
-use Rattle.dr_tables.specs.Books.{entry_in, rows_of}
-use Rattle.dr_tables.specs.Ledgers.{IsLedger}
-use Rattle.dr_rows.specs.Queries.{Stays, IsFound}
-use Rattle.dr_rows.proofs.Maps.{one_hit}
-use Rattle.dr_rows.proofs.Keys.{pairs_total, pairs_exact, queue_rows, queue_apart, all_hit}
-use Rattle.dr_rows.proofs.Commands as command
-use Rattle.dr_rows.proofs.Commands.{over}
-use Rattle.dr_rows.proofs.Updated.{found_none, found_one, hits}
+use Rattle.sqlite.proofs.Callers.{IsPlain}
+use Rattle.dr_ledger.specs.declared.fault.LedgerFault.{LedgerFault}
+use Rattle.dr_ledger.specs.declared.fault.LedgerFault.TheVariants as fault
+use Rattle.dr_ledger.specs.Replies.{Reads}
+use Rattle.dr_queries.specs.Queries.{Asked, Stays}
 
 -- ---- what a query leaves
 
@@ -88,17 +77,44 @@ shown_opens sql params old new rows plain h =
     let it = subst (ShowsRows old new sql h.0 _ rows) none h.2 in
     it.3.0.is_open
 
--- ---- by key
+-- and where it answers all is as it was
+pub shown_same : (sql : List ℕ) (params : Row) (old new : State) (rows : List Row) → IsPlain (understood old.now.schema sql) → Shown sql params old new rows → new.now ≡ old.now
+unfolding Shown
+shown_same sql params old new rows plain h =
+    let none = (subst IsPlain h.1.is plain).0 in
+    let it = subst (ShowsRows old new sql h.0 _ rows) none h.2 in
+    it.3.0.now_is
 
-pub finds : (old new : State) (k : Pair) (rows : List Row) → IsLedger old.now → Shown find_row (Text k.0 ∷ Text k.1 ∷ []) old new rows → IsFound (get (rows_of old.now.trees) k) rows
-finds old new k rows has h =
-    let params = Text k.0 ∷ Text k.1 ∷ [] in
-    let db = old.now.trees in
-    let answer : IsAnswer (over 9 command.by_key command.find_row_shown) (overlay db []) params rows = (reads_as find_row params old new tables has.schema _ command.find_row.0 command.find_row_plain command.find_row.1 rows h).answer Null in
-    let in_map = get-from_entries pairs_total (map entry_in (db 9)) k in
-    elim (one_hit pairs_total pairs_exact entry_in (hits command.by_key params) k (db 9) has.queue.apart has.queue.ints (queue_apart old.now has) (all_hit k [] (db 9) (queue_rows old.now has))) [
-      | inl none ↦ subst (λ p. IsFound p rows) (sym (in_map ∙ none.1)) (found_none 9 command.by_key command.find_row_shown db params rows answer answer.grouped none.0)
-      | inr one ↦
-          let shown : Row = column one.row 3 ∷ column one.row 4 ∷ column one.row 5 ∷ column one.row 6 ∷ [] in
-          subst (λ p. IsFound p rows) (sym (in_map ∙ one.found)) (shown, found_one 9 command.by_key command.find_row_shown db params rows answer answer.grouped one.row shown one.hits refl, refl)
-    ]
+-- ---- as one record
+
+-- a query that answered
+pub asked_shown : {A : Type 0} (items : A → List Row) (sql : List ℕ) (params : Row) (old new : State) (x : A)
+    → (HasCleanDisk new → Shown sql params old new (items x)) → (old.in_transaction ≡ false → new.in_transaction ≡ false) → Survives old new (CommitsShowing sql params old)
+    → Asked (λ db. IsPlain (understood db.schema sql)) (Ok x) old new (λ y. Shown sql params old new (items y))
+asked_shown items sql params old new x shown mode survives = record {
+  shown = λ clean plain. shown clean;
+  same = λ clean plain. (shown_opens sql params old new (items x) plain (shown clean), shown_same sql params old new (items x) plain (shown clean));
+  stays = λ clean is_open plain. shown_stays sql params old new (items x) plain (shown clean);
+  leaves = λ clean plain db left. query_leaves sql params old new plain survives clean db left;
+  was_open = λ clean is_open. shown_open sql params old new (items x) (shown clean);
+  clean = survives.clean;
+  idle = mode;
+}
+
+-- a query that failed
+pub asked_failed : {A : Type 0} (sql : List ℕ) (params : Row) (old new : State) (e : Error) (why : LedgerFault) (Shows : A → Type 0)
+    → (HasCleanDisk new → FailsToQuery sql params old new e) → (old.in_transaction ≡ false → new.in_transaction ≡ false) → Survives old new (CommitsShowing sql params old)
+    → (why ≡ fault.Store) ⊎ (why ≡ fault.Memory) → Asked (λ db. IsPlain (understood db.schema sql)) (Err why) old new Shows
+asked_failed {A = A} sql params old new e why Shows fails mode survives is = record {
+  shown = λ clean plain. says why is;
+  same = λ clean plain. tt;
+  stays = λ clean is_open plain. failed_stays sql params old new e plain is_open (fails clean);
+  leaves = λ clean plain db left. query_leaves sql params old new plain survives clean db left;
+  was_open = λ clean is_open. failed_open sql params old new e is_open (fails clean);
+  clean = survives.clean;
+  idle = mode;
+}
+  where
+    says : (why : LedgerFault) → (why ≡ fault.Store) ⊎ (why ≡ fault.Memory) → Reads {A = A} (Err why) Shows
+    says why (inl store) = subst (λ w. Reads {A = A} (Err w) Shows) (sym store) tt
+    says why (inr memory) = subst (λ w. Reads {A = A} (Err w) Shows) (sym memory) tt

@@ -1,7 +1,8 @@
 -- What queries answer, and what they leave.
-use Rattle.std.specs.Prelude.{◌≡◌, ◌≢◌, ◌≤◌, ◌⊎◌, ℕ, false, IsTrue, List, Option, Some, None, option_map, unwrap_or, Result, OnOk}
+use Rattle.std.specs.Prelude.{◌≡◌, ◌≢◌, ◌≤◌, ◌⊎◌, ℕ, false, not, ◌==◌, IsTrue, List, [], ◌∷◌, Option, Some, None, option_map, unwrap_or, Result, OnOk}
 use Rattle.std.specs.FinMap as map
 use Rattle.sqlite.specs.Effect.{Database}
+use Rattle.sqlite.specs.Order.{Row, column}
 use Rattle.sqlite.specs.State.{State, HasCleanDisk}
 use Rattle.sqlite.specs.Tree.{Trees}
 use Rattle.sqlite_trees.specs.View.{doubt}
@@ -13,6 +14,7 @@ use Rattle.dr_ledger.specs.declared.item.Progress.{Progress}
 use Rattle.dr_ledger.specs.declared.item.Progress.TheVariants.{Done}
 use Rattle.dr_ledger.specs.Replies.{IsDue, IsNoLater, Reads}
 use Rattle.dr_tables.specs.Books.{bodies_of, book_of, contents_in, instance_by, is_whole, items_of, prints_of, rows_of, wholes_in}
+use Rattle.dr_tables.specs.Cells.{bytes_in, number_in, progress_in, syntax_marked, text_in}
 use Rattle.dr_tables.specs.Tables.{tables}
 use Rattle.dr_rows.specs.Effects.{IsSiteOf}
 use Rattle.dr_queries.specs.declared.finding.Owner.{Owner}
@@ -78,3 +80,30 @@ IsFirstDue db dest now (Some uid) =
 abbrev pub IsOwnerOf : Trees → Option Owner → Type 0
 IsOwnerOf db None = (node : Text) (plan : List ℕ) → IsSiteOf node plan db → ⊥
 IsOwnerOf db (Some owner) = IsSiteOf owner.node owner.plan db
+
+-- ---- rows as queries show them
+
+-- what the first row says
+abbrev pub first_of : {A : Type 0} → (Row → A) → List Row → Option A
+first_of f [] = None
+first_of f (row ∷ rows) = Some (f row)
+
+abbrev pub shown_key : Row → Key
+shown_key row = record {
+  class = text_in (column row 0);
+  syntax = syntax_marked (text_in (column row 1));
+  modality = bytes_in (column row 2);
+  station = bytes_in (column row 3);
+}
+
+abbrev pub shown_print : Row → Print
+shown_print row = record { size = number_in (column row 0); digest = bytes_in (column row 1); whole = not (number_in (column row 2) == 0) }
+
+abbrev pub shown_job : Text → Row → Job
+shown_job uid row = record { uid = uid; key = shown_key row; body = bytes_in (column row 4) }
+
+abbrev pub shown_progress : Row → Progress
+shown_progress row = progress_in (column row 0) (column row 1) (column row 2) (column row 3)
+
+abbrev pub shown_text : Row → Text
+shown_text row = text_in (column row 0)

@@ -58,7 +58,7 @@ pub fn read_syntax(row: &Row, at: usize) -> Result<Syntax, LedgerFault>
 {
     match row.get_ref(at) {
         Ok(ValueRef::Text(mark)) => {
-            if mark == b"I" {
+            if mark == b"I".as_slice() {
                 return Ok(Syntax::Implicit);
             }
             Ok(Syntax::Explicit)

@@ -132,9 +132,9 @@ find_kept = codes "SELECT uid FROM kept WHERE uid = ?1"
 abbrev pub find_row : List ℕ
 find_row = codes "SELECT state, tries, due, cause FROM queue WHERE uid = ?1 AND dest = ?2"
 
--- the destinations to which an instance is still to go
+-- the rows of an instance that aren't done, but for one destination
 abbrev pub find_open : List ℕ
-find_open = codes "SELECT dest FROM queue WHERE uid = ?1 AND state <> 2"
+find_open = codes "SELECT dest FROM queue WHERE uid = ?1 AND dest <> ?2 AND state <> 2"
 
 -- the first row of a destination that waits and is due
 abbrev pub find_next : List ℕ
