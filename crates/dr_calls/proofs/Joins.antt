@@ -1,5 +1,5 @@
 -- What first arrivals make of the book, and of its data sets.
-use Rattle.std.proofs.Common.{◌≡◌, ◌≢◌, ◌↔◌, inl, inr, ℕ, pos, negsuc, zero, suc, ◌≤◌, ◌==◌, List, [], ◌∷◌, ◌++◌, Contains, map as mapped, Bool, true, false, cond, not, ◌&&◌, ◌||◌, T, is_some, Option, Some, None, IsSome, unwrap_or, refl, sym, ap, subst, ◌∙◌, true≢false, arith, ne_eqb, eq-eqb}
+use Rattle.std.proofs.Common.{◌≡◌, ◌≢◌, ◌↔◌, inl, inr, ℕ, pos, zero, suc, ◌≤◌, ◌<◌, ◌==◌, List, [], ◌∷◌, ◌++◌, Contains, map as mapped, Bool, true, false, cond, not, ◌&&◌, ◌||◌, T, is_some, Option, Some, None, IsSome, unwrap_or, refl, sym, ap, subst, ◌∙◌, true≢false, arith, ne_eqb, eq-eqb}
 use Rattle.std.specs.Cmp.Lexicographic.{nat_list_cmp_total}
 use Rattle.std.specs.declared.cmp.Ordering.{Ordering}
 use Rattle.std.specs.declared.cmp.Ordering.TheVariants.{Less, Equal, Greater}
@@ -10,15 +10,14 @@ use Rattle.std.specs.FinSet as set
 use Rattle.std.specs.FinSet.{FinSet}
 use Rattle.std.specs.List.{AllByRecursion, list_any}
 use Rattle.std.specs.List.Sorted.{IsStrictlySortedBy}
-use Rattle.std.specs.Ordering.{eq_by_cmp, is_eq, is_lt}
+use Rattle.std.specs.Ordering.{eq_by_cmp, is_eq, is_lt, nat_cmp}
 use Rattle.std.proofs.lemmas.Cmp.{tied_itself}
 use Rattle.std.proofs.lemmas.Map.Lookups.{exact_bytes}
 use Rattle.std.proofs.lemmas.Map.Views.{tells_apart}
 use Rattle.sqlite.specs.declared.types.Value.{Value}
-use Rattle.sqlite.specs.declared.types.Value.TheVariants.{Null, Int, Text as TextCell, Real, Blob}
-use Rattle.sqlite.specs.Order.{Row, column, value_cmp}
+use Rattle.sqlite.specs.declared.types.Value.TheVariants.{Int}
+use Rattle.sqlite.specs.Order.{Row, column}
 use Rattle.sqlite.specs.Tree.{Trees, put_row, rowid}
-use Rattle.sqlite_value.proofs.OrderLemmas.{value_cmp_total}
 use Rattle.dr_base.specs.Texts.{IsInByteOrder, Text, text_cmp}
 use Rattle.dr_network.proofs.Gathered.{Contains-cons_cases, nothing_in_nil}
 use Rattle.dr_ledger.specs.declared.content.Job.{Job}
@@ -33,7 +32,7 @@ use Rattle.dr_ledger.specs.Pairs.{Pair, pair_cmp}
 use Rattle.dr_ledger.proofs.Growing.{inside, kept_from, rows_from, rows_stay, still_kept}
 use Rattle.dr_ledger.proofs.Maps.{filled_is, filled_keeps, get_new, get_other, same_or_not, texts, ties_itself}
 use Rattle.dr_ledger.proofs.PlanRouting.{any_from, one_list, or_right}
-use Rattle.dr_tables.specs.Books.{AreBelow, Names, all_kept_in, arrivals_in, bodies_of, book_of, item_or_none, items_of, keep_mark, line_by, line_in, lines_of, names_in, rows_of}
+use Rattle.dr_tables.specs.Books.{AreBelow, Names, all_kept_in, arrivals_in, bodies_of, book_of, item_or_none, items_of, keep_mark, line_by, line_in, lines_in, lines_of, names_in, numbered_line, rows_of}
 use Rattle.dr_tables.specs.Cells.{number_in, text_in}
 use Rattle.dr_rows.specs.Effects.{arrived_line}
 use Rattle.dr_rows.proofs.Keys.{pairs_exact, pairs_total}
@@ -43,7 +42,7 @@ use Rattle.dr_calls.specs.declared.first.Taking.TheVariants as taking
 use Rattle.dr_calls.specs.Bringing.{AreJoined, AreNames, Brings, IsJoined, IsKnownFor, bodies_taken, items_taken, missing, names_for}
 use Rattle.dr_calls.specs.Changes.{with_names}
 use Rattle.dr_calls.specs.Laws.{ArrivalsArrive, ComesWhereNeeded, DataSetsCome}
-use Rattle.dr_calls.proofs.Bookings.{lines_put}
+use Rattle.dr_calls.proofs.Numbers.{lines_put}
 use Rattle.dr_calls.proofs.Sets.{present}
 
 -- ---- a map that gets what it has
@@ -231,17 +230,8 @@ module _ (keep : Bool) (to : List Text) (names : AreNames to) where
 
 -- ---- the lines that were there
 
-other_number : (n : ℕ) (v : Value) → 1 ≤ n → value_cmp v (Int (pos n)) ≡ Less → (n == number_in v) ≡ false
-other_number n Null early below = ne_eqb n 0 (λ e. omega (arith, e, early))
-other_number n (Int (pos m)) early below = ne_eqb n m (λ e. (
-    let itself : value_cmp (Int (pos m)) (Int (pos m)) ≡ Less = subst (λ k. value_cmp (Int (pos m)) (Int (pos k)) ≡ Less) e below in
-    let not_so : Less ≡ Equal = sym itself ∙ tied_itself value_cmp_total (Int (pos m)) in
-    cc
-    ))
-other_number n (Int (negsuc m)) early below = ne_eqb n 0 (λ e. omega (arith, e, early))
-other_number n (Real x) early below = ne_eqb n 0 (λ e. omega (arith, e, early))
-other_number n (TextCell t) early below = ne_eqb n 0 (λ e. omega (arith, e, early))
-other_number n (Blob b) early below = ne_eqb n 0 (λ e. omega (arith, e, early))
+other_number : (n m : ℕ) (v : Value) → v ≡ Int (pos m) → m < n → (n == number_in v) ≡ false
+other_number n m v is below = ap (λ x. n == number_in x) is ∙ ne_eqb n m (λ e. omega (arith, e, below))
 
 line_same : (k : ℕ) (caller uid dest : Text) (what : Outcome) (now : ℕ) (a b : Instance) (to more : List Text) (keep also : Bool) → (k ≤ 1 → a ≡ b) → to ≡ more → keep ≡ also
     → line_by k caller a uid dest what now to keep ≡ line_by k caller b uid dest what now more also
@@ -255,17 +245,20 @@ line_same (suc (suc (suc (suc k)))) caller uid dest what now a b to more keep al
 abbrev pub Stay : FinMap text_cmp Instance → FinMap text_cmp Instance → Type 0
 Stay items more = (uid : Text) → IsSome (map.get items uid) → map.get more uid ≡ map.get items uid
 
-module _ (items more : FinMap text_cmp Instance) (targets others : List Row) (n : ℕ) (early : 1 ≤ n) (names : (m : ℕ) → (n == m) ≡ false → names_in others m ≡ names_in targets m) (stay : Stay items more) where
-  one_line_same : (row : Row) → value_cmp (rowid row) (Int (pos n)) ≡ Less → IsJoined items row → line_in more others row ≡ line_in items targets row
+module _ (items more : FinMap text_cmp Instance) (targets others : List Row) (n : ℕ) (names : (m : ℕ) → (n == m) ≡ false → names_in others m ≡ names_in targets m) (stay : Stay items more) where
+  one_line_same : (row : Row) → (m : ℕ) × (rowid row ≡ Int (pos m)) × (m < n) → IsJoined items row → line_in more others row ≡ line_in items targets row
   one_line_same row below joined =
       let uid = text_in (column row 4) in
-      let same = names (number_in (rowid row)) (other_number n (rowid row) early below) in
+      let same = names (number_in (rowid row)) (other_number n below.0 (rowid row) below.1 below.2) in
       line_same (number_in (column row 2)) _ uid _ _ _ (item_or_none uid (map.get more uid)) (item_or_none uid (map.get items uid)) _ _ _ _ (λ few. ap (item_or_none uid) (stay uid (joined few)))
       (ap (λ (s : Names). map.keys (map.remove s keep_mark)) same) (ap (λ (s : Names). map.contains_key s keep_mark) same)
 
-  lines_same : (rows : List Row) → AreBelow (pos n) rows → AllByRecursion (IsJoined items) rows → mapped (line_in more others) rows ≡ mapped (line_in items targets) rows
-  lines_same [] below joined = refl
-  lines_same (row ∷ rows) below joined = λ i. one_line_same row below.0 joined.0 i ∷ lines_same rows below.1 joined.1 i
+  numbered_same : (rows : List Row) → AreBelow n rows → AllByRecursion (IsJoined items) rows → mapped (numbered_line more others) rows ≡ mapped (numbered_line items targets) rows
+  numbered_same [] below joined = refl
+  numbered_same (row ∷ rows) below joined = λ i. (number_in (rowid row), one_line_same row below.0 joined.0 i) ∷ numbered_same rows below.1 joined.1 i
+
+  lines_same : (rows : List Row) → AreBelow n rows → AllByRecursion (IsJoined items) rows → lines_in more others rows ≡ lines_in items targets rows
+  lines_same rows below joined = ap (λ es. map.values (map.from_entries {R = nat_cmp} es)) (numbered_same rows below joined)
 
 -- ---- the items
 
@@ -316,8 +309,8 @@ arrivals_arrive how old new n caller item body to keep below joined known names 
     ∙ ap (λ (s : Names). with_names s (names_for keep to)) (joined.targets n (omega arith)) in
     let there : map.get (items_of new) item.uid ≡ Some item = ap (λ m. map.get m item.uid) items ∙ taken_there how was item known in
     let lines : lines_of new ≡ lines_of old ++ Arrival caller item to keep ∷ [] =
-    ap (λ rows. mapped (line_in (items_of new) (new 12)) rows) w.journal ∙ lines_put (items_of new) (new 12) (pos n) _ (old 11) below
-    ∙ (λ i. lines_same was (items_of new) (old 12) (new 12) n joined.early others stay (old 11) below joined.items i
+    ap (λ rows. lines_in (items_of new) (new 12) rows) w.journal ∙ lines_put (items_of new) (new 12) n _ (old 11) below
+    ∙ (λ i. lines_same was (items_of new) (old 12) (new 12) n others stay (old 11) below joined.items i
         ++ Arrival caller (item_or_none item.uid (there i)) ((ap (λ (s : Names). map.keys (map.remove s keep_mark)) its ∙ its_targets keep to names) i) ((ap (λ (s : Names). map.contains_key s keep_mark) its ∙ it_keeps keep to names) i) ∷ []) in
     λ i. record {
       items = (items ∙ taken_is how was item known) i;

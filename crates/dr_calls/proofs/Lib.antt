@@ -5,6 +5,7 @@ pub mod Joins
 pub mod LettingGo
 pub mod Movements
 pub mod NewRows
+pub mod Numbers
 pub mod Sets
 pub mod Steps
 pub mod Transactions

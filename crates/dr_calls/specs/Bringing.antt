@@ -109,8 +109,7 @@ IsKnownFor taking.Nothing item found = found ≡ Some item
 abbrev pub IsJoined : FinMap text_cmp Instance → Row → Type 0
 IsJoined items row = number_in (column row 2) ≤ 1 → IsSome (map.get items (text_in (column row 4)))
 
--- Lines are numbered from 1; each arrival's item is there, and no line from this number on goes anywhere.
+-- The item of each arrival's line is there, and no line from this number on goes anywhere.
 pub record AreJoined (n : ℕ) (db : Trees) : Type 0 where
-  pub early : 1 ≤ n
   pub items : AllByRecursion (IsJoined (items_of db)) (db 11)
   pub targets : (m : ℕ) → n ≤ m → names_in (db 12) m ≡ map.empty

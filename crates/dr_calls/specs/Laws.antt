@@ -1,5 +1,5 @@
 -- Laws of the calls that write: what they make of the tables is what the ledger's call makes of the book.
-use Rattle.std.specs.Prelude.{◌≡◌, ◌&&◌, ℕ, pos, Bool, true, false, not, List, Some}
+use Rattle.std.specs.Prelude.{◌≡◌, ◌&&◌, ℕ, Bool, true, false, not, List, Some}
 use Rattle.std.specs.FinMap as map
 use Rattle.std.specs.FinSet as set
 use Rattle.sqlite.specs.Order.{Row}
@@ -23,13 +23,13 @@ use Rattle.dr_calls.specs.Changes.{AddsOnlyLine, MovesOn}
 
 -- Where a row waits, to move it on by an outcome with the line of its settling is to settle it.
 abbrev pub SettlingsSettle : Type 0
-SettlingsSettle = (old new : Trees) (n : ℕ) (uid dest : Text) (tries due : ℕ) (what : Outcome) (now : ℕ) (lets_go : Bool) → AreBelow (pos n) (old 11) →
+SettlingsSettle = (old new : Trees) (n : ℕ) (uid dest : Text) (tries due : ℕ) (what : Outcome) (now : ℕ) (lets_go : Bool) → AreBelow n (old 11) →
     map.get (rows_of old) (uid, dest) ≡ Some (Waiting tries due) → MovesOn (uid, dest) (row_after tries what now) (settled_line n uid dest what now) lets_go old new →
     book_of new ≡ after (Settling uid dest what now) (book_of old)
 
 -- Where a row is held, to let it wait again with the line of its requeuing is to queue it again.
 abbrev pub RequeuingsRequeue : Type 0
-RequeuingsRequeue = (old new : Trees) (n : ℕ) (uid dest : Text) (why : Cause) (lets_go : Bool) → AreBelow (pos n) (old 11) →
+RequeuingsRequeue = (old new : Trees) (n : ℕ) (uid dest : Text) (why : Cause) (lets_go : Bool) → AreBelow n (old 11) →
     map.get (rows_of old) (uid, dest) ≡ Some (Held why) → MovesOn (uid, dest) (Waiting 0 0) (requeued_line n uid dest) lets_go old new →
     book_of new ≡ after (Requeuing uid dest) (book_of old)
 
@@ -45,13 +45,13 @@ WhatIsNeededStays = (old new : Trees) (uid dest : Text) (was to : Progress) (lin
 
 -- Where an instance is there, the line of its repeat is all that its repeat adds to the book.
 abbrev pub RepeatsRepeat : Type 0
-RepeatsRepeat = (old new : Trees) (n : ℕ) (caller uid : Text) (item : Instance) → AreBelow (pos n) (old 11) → map.get (items_of old) uid ≡ Some item →
+RepeatsRepeat = (old new : Trees) (n : ℕ) (caller uid : Text) (item : Instance) → AreBelow n (old 11) → map.get (items_of old) uid ≡ Some item →
     AddsOnlyLine (arrived_line n 1 caller uid) old new → (book_of new ≡ after (Repeat caller item) (book_of old)) × (bodies_of new ≡ bodies_of old)
 
 -- An instance that comes from a caller for the first time, with rows for those of its destinations that have none, kept if it is to be and
 -- isn't, and with the line and its names: that is its arrival.
 abbrev pub ArrivalsArrive : Type 0
-ArrivalsArrive = (how : Taking) (old new : Trees) (n : ℕ) (caller : Text) (item : Instance) (body : List ℕ) (to : List Text) (keep : Bool) → AreBelow (pos n) (old 11) → AreJoined n old →
+ArrivalsArrive = (how : Taking) (old new : Trees) (n : ℕ) (caller : Text) (item : Instance) (body : List ℕ) (to : List Text) (keep : Bool) → AreBelow n (old 11) → AreJoined n old →
     IsKnownFor how item (map.get (items_of old) item.uid) → AreNames to →
     Brings how caller item body (missing (rows_of old) item.uid to) (keep && not (set.contains (all_kept_in (old 7)) item.uid)) (names_for keep to) n old new →
     book_of new ≡ after (Arrival caller item to keep) (book_of old)

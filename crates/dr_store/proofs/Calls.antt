@@ -1,5 +1,5 @@
 -- Calls, one after another.
-use Rattle.std.proofs.Common.{◌≡◌, ◌≤◌, ◌+◌, ◌⊎◌, inl, inr, ℕ, pos, ◌^◌, false, IsTrue, Result, Ok, Err, IfErr, OnOk, refl, sym, ap, subst, ◌∙◌, arith}
+use Rattle.std.proofs.Common.{◌≡◌, ◌≤◌, ◌+◌, ◌⊎◌, inl, inr, ℕ, ◌^◌, false, IsTrue, Result, Ok, Err, IfErr, OnOk, refl, sym, ap, subst, ◌∙◌, arith}
 use Rattle.sqlite.specs.Effect.{Database}
 use Rattle.sqlite.specs.State.{State, HasCleanDisk}
 use Rattle.sqlite.specs.Tree.{Trees}
@@ -26,7 +26,7 @@ still_ready n old new k s is_open =
       is_open = is_open;
       ledger = subst IsLedger (sym back) k.ledger;
       settled = settled;
-      below = subst (λ (d : Database). AreBelow (pos n) (d.trees 11)) (sym back) k.below;
+      below = subst (λ (d : Database). AreBelow n (d.trees 11)) (sym back) k.below;
     }
 
 still_kept : (n : ℕ) (part : Part) (old new : State) → IsKept n part old → Stays old new → IsTrue new.is_open → IsKept n part new
@@ -224,8 +224,8 @@ not_written f n CA CM s = record {
   clean = omega arith;
 }
 
-pub below_of : (n : ℕ) (s : State) → IsReady n s → AreBelow (pos n) (s.committed.trees 11)
-below_of n s ready = subst (λ (d : Database). AreBelow (pos n) (d.trees 11)) ready.settled ready.below
+pub below_of : (n : ℕ) (s : State) → IsReady n s → AreBelow n (s.committed.trees 11)
+below_of n s ready = subst (λ (d : Database). AreBelow n (d.trees 11)) ready.settled ready.below
 
 -- a call that asks for less
 pub asked_as : {A : Type 0} (n m : ℕ) (part : Part) (r : Result A LedgerFault) (old new : State) (Asks More : Trees → Type 0) (Answers Makes : Trees → Trees → Type 0)

@@ -88,13 +88,12 @@ module _ (base db : Trees) (uid dest : Text) (to : Progress) (line : Row) (lets_
 
   moved_joined : (n : ℕ) → AreJoined n base → (number_in (column line 2) ≤ 1 → ⊥) → AreJoined (n + 1) db
   moved_joined n j kind = record {
-    early = omega (arith, j.early);
     items = subst (λ rows. AllByRecursion (IsJoined (items_of db)) rows) (sym w.journal)
         (subst (λ is. AllByRecursion (IsJoined is) (put_row line (base 11))) (sym w.items) (all-put_row (IsJoined (items_of base)) line (base 11) (λ few. absurd (kind few)) j.items));
     targets = λ m later. ap (λ rows. names_in rows m) w.targets ∙ j.targets m (omega (arith, later));
   }
 
-pub settles : (n : ℕ) (part : Part) (base db : Trees) (uid dest : Text) (tries due : ℕ) (to : Progress) (what : Outcome) (now : ℕ) (needed : Bool) → now ≤ 2 ^ 62 → AreBelow (pos n) (base 11) → IsLedgerOf n part base
+pub settles : (n : ℕ) (part : Part) (base db : Trees) (uid dest : Text) (tries due : ℕ) (to : Progress) (what : Outcome) (now : ℕ) (needed : Bool) → now ≤ 2 ^ 62 → AreBelow n (base 11) → IsLedgerOf n part base
     → map.get (rows_of base) (uid, dest) ≡ Some (Waiting tries due) → to ≡ row_after tries what now → (IsTrue needed ↔ IsNeededStill base uid dest to)
     → MovesOn (uid, dest) to (settled_line n uid dest what now) (not needed) base db
     → IsLedgerOf (n + 1) part db × (Settles uid dest what now (book_of base) (Ok tt) (book_of db) × OnlyLetsGo (bodies_of base) (bodies_of db))
@@ -112,7 +111,7 @@ settles n part base db uid dest tries due to what now needed early below l waits
       (answer, λ q body h. body_was base db (uid, dest) to line (not needed) q body w h),
     )
 
-pub requeues : (n : ℕ) (part : Part) (base db : Trees) (uid dest : Text) (why : Cause) → AreBelow (pos n) (base 11) → IsLedgerOf n part base → map.get (rows_of base) (uid, dest) ≡ Some (Held why)
+pub requeues : (n : ℕ) (part : Part) (base db : Trees) (uid dest : Text) (why : Cause) → AreBelow n (base 11) → IsLedgerOf n part base → map.get (rows_of base) (uid, dest) ≡ Some (Held why)
     → MovesOn (uid, dest) (Waiting 0 0) (requeued_line n uid dest) false base db
     → IsLedgerOf (n + 1) part db × (Requeues uid dest (book_of base) (Ok tt) (book_of db) × OnlyLetsGo (bodies_of base) (bodies_of db))
 requeues n part base db uid dest why below l held w =

@@ -30,12 +30,12 @@ use Rattle.dr_ledger.specs.SiteRoutes.{site_routing}
 use Rattle.dr_ledger.proofs.Folding.{arrivals_are_journalled}
 use Rattle.dr_ledger.proofs.Growing.{inside}
 use Rattle.dr_ledger.proofs.Maps.{got, texts}
-use Rattle.dr_tables.specs.Books.{AreBelow, arrivals_in, bodies_of, book_of, items_in, items_of, names_in, prints_in}
+use Rattle.dr_tables.specs.Books.{AreBelow, arrivals_in, bodies_of, book_of, items_in, items_of, names_in, prints_in, rows_of}
 use Rattle.dr_tables.specs.Cells.{text_in}
 use Rattle.dr_rows.specs.Effects.{arrived_line}
 use Rattle.dr_calls.specs.declared.first.Taking.{Taking}
 use Rattle.dr_calls.specs.declared.first.Taking.TheVariants as taking
-use Rattle.dr_calls.specs.Bringing.{AreJoined, AreNames, Brings, IsJoined, IsKnownFor, bodies_taken, items_taken, names_for}
+use Rattle.dr_calls.specs.Bringing.{AreJoined, AreNames, Brings, IsJoined, IsKnownFor, bodies_taken, items_taken, missing, names_for}
 use Rattle.dr_calls.specs.Changes.{AddsOnlyLine, with_names}
 use Rattle.dr_calls.proofs.Bookings.{repeats_repeat}
 use Rattle.dr_calls.proofs.Joins.{Stay, arrivals_arrive, data_sets_come, taken_stay, taken_there}
@@ -67,7 +67,7 @@ known_same taking.Nothing item found known held is = sym (inside item held (sym 
 
 module _ (n : ℕ) (part : Part) (how : Taking) (caller : Text) (item : Job) (to : List Text) (keep : Bool) (dests : List Text) (keeps : Bool) (base db : Trees) (is_item : IsItem item)
     (line : HasLineFor part caller item.key) (to_is : to ≡ (site_routing part).targets caller item.key) (keep_is : keep ≡ (site_routing part).keeps caller item.key) (names : AreNames to)
-    (below : AreBelow (pos n) (base 11)) (l : IsLedgerOf n part base) (f : Fits how caller item to keep dests keeps base)
+    (below : AreBelow n (base 11)) (l : IsLedgerOf n part base) (f : Fits how caller item to keep dests keeps base)
     (w : Brings how caller (instance_of item) item.body dests keeps (names_for keep to) n base db) where
   abbrev instance : Instance
   instance = instance_of item
@@ -75,7 +75,7 @@ module _ (n : ℕ) (part : Part) (how : Taking) (caller : Text) (item : Job) (to
   book : book_of db ≡ after (Arrival caller instance to keep) (book_of base)
   book =
       let P : List Text → Bool → Type 0 = λ ds ks. Brings how caller instance item.body ds ks (names_for keep to) n base db in
-      arrivals_arrive how base db n caller instance item.body to keep below l.joined f.known names (subst (λ ks. P _ ks) f.keeps_is (subst (λ ds. P ds keeps) f.missing_are w))
+      arrivals_arrive how base db n caller instance item.body to keep below l.joined f.known names (subst (λ ks. P (missing (rows_of base) item.uid to) ks) f.keeps_is (subst (λ ds. P ds keeps) f.missing_are w))
 
   same : (held : Instance) → map.get (items_of base) item.uid ≡ Some held → held ≡ instance
   same held is = known_same how instance (map.get (items_of base) item.uid) f.known held is
@@ -98,7 +98,6 @@ module _ (n : ℕ) (part : Part) (how : Taking) (caller : Text) (item : Job) (to
   joined =
       let j = l.joined in
       record {
-        early = omega (arith, j.early);
         items = subst (λ rows. AllByRecursion (IsJoined (items_of db)) rows) (sym w.journal)
             (all-put_row (IsJoined (items_of db)) (arrived_line n 0 caller item.uid) (base 11) (line_joined n 0 caller item.uid (items_of db) instance there)
             (all_weaker (IsJoined (items_of base)) (IsJoined (items_of db)) (still_joined (items_of base) (items_of db) stay) (base 11) j.items));
@@ -115,7 +114,7 @@ module _ (n : ℕ) (part : Part) (how : Taking) (caller : Text) (item : Job) (to
 
 -- ---- a repeat
 
-pub repeats : (n : ℕ) (part : Part) (caller : Text) (item : Job) (whole : Bool) (base db : Trees) → HasLineFor part caller item.key → AreBelow (pos n) (base 11) → IsLedgerOf n part base
+pub repeats : (n : ℕ) (part : Part) (caller : Text) (item : Job) (whole : Bool) (base db : Trees) → HasLineFor part caller item.key → AreBelow n (base 11) → IsLedgerOf n part base
     → IsThere base (instance_of item) whole → set.contains (arrivals_in (base 5)) (caller, item.uid) ≡ true → AddsOnlyLine (arrived_line n 1 caller item.uid) base db
     → IsLedgerOf (n + 1) part db × (Arrives (site_routing part) caller (instance_of item) (book_of base) (Ok Again) (book_of db) × OnlyTakes item (bodies_of base) (bodies_of db))
 repeats n part caller item whole base db line below l was again w =
@@ -131,7 +130,6 @@ repeats n part caller item whole base db line below l was again w =
     let j = l.joined in (
       record {
         joined = record {
-          early = omega (arith, j.early);
           items = subst (λ rows. AllByRecursion (IsJoined (items_of db)) rows) (sym w.journal)
               (subst (λ is. AllByRecursion (IsJoined is) (put_row (arrived_line n 1 caller item.uid) (base 11))) (sym items)
               (all-put_row (IsJoined (items_of base)) (arrived_line n 1 caller item.uid) (base 11) (line_joined n 1 caller item.uid (items_of base) instance was.same) j.items));

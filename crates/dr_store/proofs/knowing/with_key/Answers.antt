@@ -5,12 +5,12 @@ use Rattle.dr_queries.specs.Queries.{IsPrintOf}
 use Rattle.dr_store.proofs.Knows.{known_other, known_same}
 use Rattle.dr_store.proofs.knowing.with_key.Goals as goal
 
-pub returns-in-Some-then-is_same : goal.returns-in-Some-then-is_same
-returns-in-Some-then-is_same c db k p =
+pub returns-then-is_same : goal.returns-then-is_same
+returns-then-is_same c db k p =
     let P : Option Print → Type 0 = λ o. IsPrintOf c.args.item.now.uid db o in
     known_same db c.args.item.now c.args.key.now c.in-Some.print (c.is_same.ensures.0 c.if-is_same.true) k (subst P c.in-Some.is p)
 
-pub returns-in-Some : goal.returns-in-Some
-returns-in-Some c db k p =
+pub returns : goal.returns
+returns c db k p =
     let P : Option Print → Type 0 = λ o. IsPrintOf c.args.item.now.uid db o in
     known_other db c.args.item.now c.args.key.now c.in-Some.print (λ same. true≢false (sym (c.is_same.ensures.1 same) ∙ c.if-is_same.false)) k (subst P c.in-Some.is p)

@@ -1,0 +1,5 @@
+pub mod Asking
+pub mod Found
+pub mod Outcomes
+pub mod Points
+pub mod Selects
