@@ -1,4 +1,5 @@
 pub mod Asking
+pub mod FirstDue
 pub mod Found
 pub mod Outcomes
 pub mod Points
