@@ -1,6 +1,10 @@
+pub mod Apart
 pub mod Asking
 pub mod FirstDue
 pub mod Found
+pub mod Lists
+pub mod Orders
 pub mod Outcomes
 pub mod Points
 pub mod Selects
+pub mod Wholes
