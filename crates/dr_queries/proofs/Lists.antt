@@ -108,7 +108,7 @@ kept_listed old new rows has h sorted =
     let answer : IsAnswer (listing 7 whole.all_kept_shown whole.all_kept_order) (overlay old.now.trees []) [] rows = (reads_as text.all_kept [] old new tables has _ whole.all_kept.command whole.all_kept.plain whole.all_kept.listing rows h).answer Null in
     lists_set 7 whole.all_kept_shown whole.all_kept_order old.now.trees rows answer answer.grouped nat_list_cmp_total exact_bytes shown_text sorted
 
-goals_total : IsTotalOrder goal_cmp
+pub goals_total : IsTotalOrder goal_cmp
 goals_total = then_total (on_total (λ e. e.0) nat_cmp_total) (on_total (λ e. e.1) nat_list_cmp_total)
 
 goals_exact : IsAntisymmetric goal_cmp

@@ -141,6 +141,6 @@ journal_rowids_shown = col 1 0 ∷ []
 abbrev pub journal_rowids_order : List (Term × Key)
 journal_rowids_order = (col 1 0, ascending Binary) ∷ []
 
-pub journal_rowids : Is text.journal_rowids (listing 11 journal_rowids_shown journal_rowids_order) (codes "rowid" ∷ [])
+pub journal_rowids : Is text.journal_rowids (listing 11 journal_rowids_shown journal_rowids_order) (codes "n" ∷ [])
 unfolding understood everything
 journal_rowids = record { command = refl; listing = refl; plain = (refl, refl) }
