@@ -12,9 +12,11 @@ use Rattle.dr_base.specs.Texts.{Text, text_cmp}
 use Rattle.dr_route.specs.declared.key.Key.{Key}
 use Rattle.dr_ledger.specs.declared.item.Instance.{Instance}
 use Rattle.dr_ledger.specs.declared.item.Outcome.{Outcome}
+use Rattle.dr_ledger.specs.declared.item.Progress.{Progress}
+use Rattle.dr_ledger.specs.Pairs.{Pair}
 use Rattle.dr_ledger.specs.Books.{Line, Arrival, Repeat, Settling, Requeuing, Adoption}
-use Rattle.dr_tables.specs.Books.{instance_by, is_whole, item_or_none, items_of, key_in, keeps_in, line_in, names_in, prints_of, targets_in, wholes_in}
-use Rattle.dr_tables.specs.Cells.{bytes_in, number_in, outcome_in, text_in}
+use Rattle.dr_tables.specs.Books.{instance_by, is_whole, item_or_none, items_of, key_in, keeps_in, line_in, lines_in, names_in, prints_of, targets_in, wholes_in}
+use Rattle.dr_tables.specs.Cells.{bytes_in, number_in, outcome_in, progress_in, syntax_marked, text_in}
 use Rattle.dr_queries.specs.declared.finding.Print.{Print}
 use Rattle.dr_queries.specs.declared.listing.Note.{Note}
 use Rattle.dr_queries.specs.declared.listing.Note.TheVariants as note
@@ -63,6 +65,11 @@ line_of items targets n (note.Settling uid dest what now) = Settling uid dest wh
 line_of items targets n (note.Requeuing uid dest) = Requeuing uid dest
 line_of items targets n note.Adoption = Adoption
 
+-- a list of the notes by their numbers, which tells the lines
+pub record IsJournal (db : Trees) (all : List (ℕ × Note)) : Type 0 where
+  pub notes : all ≡ map.entries (notes_of db)
+  pub lines : (items : FinMap text_cmp Instance) (targets : List Row) → mapped (λ (e : ℕ × Note). line_of items targets e.0 e.1) all ≡ lines_in items targets (db 11)
+
 -- a row's line is that of its note
 abbrev pub NotesAreLines : Type 0
 NotesAreLines = (items : FinMap text_cmp Instance) (targets : List Row) (row : Row) → line_in items targets row ≡ line_of items targets (number_in (rowid row)) (note_in row)
@@ -82,3 +89,37 @@ goals_of db = set.from_list (mapped (λ (row : Row). (number_in (column row 1), 
 -- which names a line has is told by them
 abbrev pub GoalsAreNames : Type 0
 GoalsAreNames = (db : Trees) (n : ℕ) (name : Text) → set.contains (goals_of db) (n, name) ≡ map.contains_key (names_in (db 12) n) name
+
+-- ---- rows as lists show them
+
+abbrev pub shown_pair : Row → Text × Text
+shown_pair row = (text_in (column row 0), text_in (column row 1))
+
+abbrev pub shown_goal : Row → Goal
+shown_goal row = (number_in (column row 0), text_in (column row 1))
+
+abbrev pub shown_key_entry : Row → Text × Key
+shown_key_entry row = (
+  text_in (column row 0),
+  record {
+    class = text_in (column row 1);
+    syntax = syntax_marked (text_in (column row 2));
+    modality = bytes_in (column row 3);
+    station = bytes_in (column row 4);
+  },
+)
+
+abbrev pub shown_print_entry : Row → Text × Print
+shown_print_entry row = (text_in (column row 0), record { size = number_in (column row 1); digest = bytes_in (column row 2); whole = not (number_in (column row 3) == 0) })
+
+abbrev pub shown_entry : Row → Pair × Progress
+shown_entry row = ((text_in (column row 0), text_in (column row 1)), progress_in (column row 2) (column row 3) (column row 4) (column row 5))
+
+abbrev pub shown_settling : Row → Note
+shown_settling row = note.Settling (text_in (column row 3)) (text_in (column row 4)) (outcome_in (column row 5)) (number_in (column row 6))
+
+abbrev pub shown_note : Row → Note
+shown_note row = note_by (number_in (column row 1)) (text_in (column row 2)) (text_in (column row 3)) (text_in (column row 4)) (outcome_in (column row 5)) (number_in (column row 6))
+
+abbrev pub shown_note_entry : Row → ℕ × Note
+shown_note_entry row = (number_in (column row 0), shown_note row)

@@ -1,6 +1,7 @@
 -- What queries answer, and what they leave.
-use Rattle.std.specs.Prelude.{◌≡◌, ◌≢◌, ◌≤◌, ◌⊎◌, ℕ, false, not, ◌==◌, IsTrue, List, [], ◌∷◌, Option, Some, None, option_map, unwrap_or, Result, OnOk}
+use Rattle.std.specs.Prelude.{◌≡◌, ◌≢◌, ◌≤◌, ◌<◌, ◌^◌, ◌⊎◌, ℕ, pos, false, not, ◌==◌, IsTrue, List, [], ◌∷◌, Option, Some, None, option_map, unwrap_or, Result, OnOk}
 use Rattle.std.specs.FinMap as map
+use Rattle.sqlite.specs.declared.types.Value.TheVariants.{Int}
 use Rattle.sqlite.specs.Effect.{Database}
 use Rattle.sqlite.specs.Order.{Row, column}
 use Rattle.sqlite.specs.State.{State, HasCleanDisk}
@@ -107,3 +108,16 @@ shown_progress row = progress_in (column row 0) (column row 1) (column row 2) (c
 
 abbrev pub shown_text : Row → Text
 shown_text row = text_in (column row 0)
+
+-- a row of state and due says a ledger's numbers
+pub record IsCountedAsShown (row : Row) : Type 0 where
+  pub state : ℕ
+  pub due : ℕ
+  pub state_is : column row 0 ≡ Int (pos state)
+  pub due_is : column row 1 ≡ Int (pos due)
+  pub known : state < 3
+  pub fits : due < 2 ^ 63
+
+-- a row of a line's number says a lower one
+abbrev pub IsNumberedBelow : ℕ → Row → Type 0
+IsNumberedBelow next row = (m : ℕ) × (column row 0 ≡ Int (pos m)) × (m < next)

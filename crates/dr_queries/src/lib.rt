@@ -5,6 +5,7 @@
 #![tactic(auto)]
 
 pub mod finding;
+pub mod laws;
 pub mod listing;
 mod queries;
 mod reading;
@@ -18,4 +19,7 @@ pub use listing::{
     Note, all_arrivals, all_kept, all_keys, all_notes, all_prints, all_rows, all_targets,
 };
 pub use queries::fault_of;
-pub use rowids::{test_arrival_rowids, test_item_rowids, test_print_rowids, test_queue_rowids};
+pub use rowids::{
+    next_number, test_arrival_rowids, test_counts, test_item_rowids, test_print_rowids,
+    test_queue_rowids,
+};
