@@ -1,42 +1,33 @@
 -- What the calls that write make of the book.
-use Rattle.std.proofs.Common.{◌≡◌, ◌≢◌, ◌↔◌, inl, inr, ℕ, ℤ, pos, List, [], ◌∷◌, ◌++◌, map as mapped, Bool, true, false, cond, Option, Some, None, refl, sym, ap, subst, ◌∙◌, true≢false}
+use Rattle.std.proofs.Common.{◌≡◌, ◌≢◌, ◌↔◌, inl, inr, ℕ, pos, List, [], ◌∷◌, ◌++◌, Bool, true, false, cond, Option, Some, None, refl, sym, ap, subst, ◌∙◌, true≢false}
 use Rattle.std.specs.Cmp.Lexicographic.{nat_list_cmp_total}
 use Rattle.std.specs.FinMap as map
-use Rattle.std.specs.FinMap.{FinMap}
 use Rattle.std.specs.FinSet as set
-use Rattle.std.specs.Ordering.{eq_by_cmp, is_eq, match_ordering}
+use Rattle.std.specs.Ordering.{eq_by_cmp, is_eq}
 use Rattle.std.proofs.lemmas.Cmp.{tied_itself}
 use Rattle.std.proofs.lemmas.Map.Lookups.{exact_bytes}
 use Rattle.sqlite.specs.declared.types.Value.TheVariants.{Int}
 use Rattle.sqlite.specs.Order.{Row}
-use Rattle.sqlite.specs.Tree.{Trees, put_row}
+use Rattle.sqlite.specs.Tree.{Trees}
 use Rattle.dr_base.specs.Texts.{Text, text_cmp}
-use Rattle.dr_ledger.specs.declared.item.Instance.{Instance}
 use Rattle.dr_ledger.specs.declared.item.Progress.{Progress}
 use Rattle.dr_ledger.specs.declared.item.Progress.TheVariants.{Waiting}
 use Rattle.dr_ledger.specs.Bodies.{IsNeeded}
 use Rattle.dr_ledger.specs.Books.{Book, Repeat, Settling, Requeuing, after, row_after, settled_row, requeued_row}
 use Rattle.dr_ledger.specs.Pairs.{Pair, pair_cmp}
-use Rattle.dr_tables.specs.Books.{AreBelow, all_kept_in, arrivals_in, bodies_by, bodies_of, book_of, contents_in, item_or_none, items_in, items_of, line_in, lines_of, prints_in, rows_in, rows_of, wholes_in}
+use Rattle.dr_tables.specs.Books.{AreBelow, all_kept_in, arrivals_in, bodies_by, bodies_of, book_of, contents_in, item_or_none, items_in, items_of, line_in, lines_in, lines_of, prints_in, rows_in, rows_of, wholes_in}
 use Rattle.dr_tables.proofs.WhatIsWritten.{outcome_back}
 use Rattle.dr_rows.specs.Effects.{requeued_line, settled_line}
 use Rattle.dr_rows.proofs.Keys.{pairs_total, pairs_exact}
 use Rattle.dr_rows.proofs.Maps.{equal}
 use Rattle.dr_calls.specs.Changes.{MovesOn}
+use Rattle.dr_calls.proofs.Numbers.{lines_put}
 use Rattle.dr_calls.specs.Laws.{GoesWhereNeededNoMore, RepeatsRepeat, RequeuingsRequeue, SettlingsSettle, WhatIsNeededStays}
 
--- a line with a higher number is the last
-pub lines_put : (items : FinMap text_cmp Instance) (targets : List Row) (n : ℤ) (rest : Row) (rows : List Row) → AreBelow n rows
-    → mapped (line_in items targets) (put_row (Int n ∷ rest) rows) ≡ mapped (line_in items targets) rows ++ line_in items targets (Int n ∷ rest) ∷ []
-lines_put items targets n rest [] below = refl
-lines_put items targets n rest (r ∷ rows) below =
-    ap (λ o. mapped (line_in items targets) (match_ordering o (r ∷ put_row (Int n ∷ rest) rows) ((Int n ∷ rest) ∷ rows) ((Int n ∷ rest) ∷ r ∷ rows))) below.0
-    ∙ ap (λ ls. line_in items targets r ∷ ls) (lines_put items targets n rest rows below.1)
-
 -- where only a row moves on, the book has these lines
-lines_moved : (old new : Trees) (at : Pair) (to : Progress) (n : ℕ) (rest : Row) (lets_go : Bool) → AreBelow (pos n) (old 11) → MovesOn at to (Int (pos n) ∷ rest) lets_go old new
+lines_moved : (old new : Trees) (at : Pair) (to : Progress) (n : ℕ) (rest : Row) (lets_go : Bool) → AreBelow n (old 11) → MovesOn at to (Int (pos n) ∷ rest) lets_go old new
     → lines_of new ≡ lines_of old ++ line_in (items_of old) (old 12) (Int (pos n) ∷ rest) ∷ []
-lines_moved old new at to n rest lets_go below w = (λ i. mapped (line_in (w.items i) (w.targets i)) (w.journal i)) ∙ lines_put (items_of old) (old 12) (pos n) rest (old 11) below
+lines_moved old new at to n rest lets_go below w = (λ i. lines_in (w.items i) (w.targets i) (w.journal i)) ∙ lines_put (items_of old) (old 12) n rest (old 11) below
 
 book_moved : (old new : Trees) (at : Pair) (to : Progress) (line : Row) (lets_go : Bool) (made : Book) → MovesOn at to line lets_go old new
     → items_of old ≡ made.items → arrivals_in (old 5) ≡ made.arrivals → all_kept_in (old 7) ≡ made.kept → rows_of new ≡ made.rows → lines_of new ≡ made.lines → book_of new ≡ made
@@ -69,7 +60,7 @@ pub repeats_repeat : RepeatsRepeat
 repeats_repeat old new n caller uid item below there w =
     let items : items_of new ≡ items_of old = λ i. items_in (prints_in (w.prints i)) (w.items i) in
     let lines : lines_of new ≡ lines_of old ++ Repeat caller item ∷ [] =
-    (λ i. mapped (line_in (items i) (w.targets i)) (w.journal i)) ∙ lines_put (items_of old) (old 12) (pos n) _ (old 11) below
+    (λ i. lines_in (items i) (w.targets i) (w.journal i)) ∙ lines_put (items_of old) (old 12) n _ (old 11) below
     ∙ ap (λ found. lines_of old ++ Repeat caller (item_or_none uid found) ∷ []) there in (
       λ i. record {
         items = items i;
@@ -130,7 +121,7 @@ own_there old new at to line true was w goes = (
 )
 own_there old new at to line false was w goes = (λ there. goes, λ needed. (was.0, ap (λ b. map.get b at.0) w.bodies ∙ was.1))
 
-body_was : (old new : Trees) (at : Pair) (to : Progress) (line : Row) (lets_go : Bool) (q : Text) (body : List ℕ) → MovesOn at to line lets_go old new → map.get (bodies_of new) q ≡ Some body → map.get (bodies_of old) q ≡ Some body
+pub body_was : (old new : Trees) (at : Pair) (to : Progress) (line : Row) (lets_go : Bool) (q : Text) (body : List ℕ) → MovesOn at to line lets_go old new → map.get (bodies_of new) q ≡ Some body → map.get (bodies_of old) q ≡ Some body
 body_was old new at to line true q body w h = go (eq_by_cmp text_cmp q at.0) refl
   where
     is : map.get (bodies_of new) q ≡ cond (eq_by_cmp text_cmp q at.0) None (map.get (bodies_of old) q)

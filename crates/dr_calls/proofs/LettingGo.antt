@@ -15,7 +15,7 @@ use Rattle.dr_calls.specs.Changes.{HasBoth, LetsGo, TakesBack}
 pub body_at : (contents : FinMap text_cmp (List ℕ)) (wholes : FinMap text_cmp ℕ) (q : Text) → map.get (bodies_by contents wholes) q ≡ cond (is_whole (map.get wholes q)) (map.get contents q) None
 body_at contents wholes q = map.get-retain_keys {R = text_cmp} contents (λ x. is_whole (map.get wholes x)) q (λ x same. ap (λ y. is_whole (map.get wholes y)) (sym (exact_bytes q x same)))
 
-gone_body : (contents : FinMap text_cmp (List ℕ)) (wholes : FinMap text_cmp ℕ) (uid : Text) → bodies_by (map.insert contents uid []) (map.insert wholes uid 0) ≡ map.remove (bodies_by contents wholes) uid
+pub gone_body : (contents : FinMap text_cmp (List ℕ)) (wholes : FinMap text_cmp ℕ) (uid : Text) → bodies_by (map.insert contents uid []) (map.insert wholes uid 0) ≡ map.remove (bodies_by contents wholes) uid
 gone_body contents wholes uid = map.same_map nat_list_cmp_total exact_bytes _ _ (λ q.
     body_at (map.insert contents uid []) (map.insert wholes uid 0) q
     ∙ ap (λ w. cond (is_whole w) (map.get (map.insert contents uid []) q) None) (map.get-insert nat_list_cmp_total wholes uid 0 q)
@@ -28,7 +28,7 @@ gone_body contents wholes uid = map.same_map nat_list_cmp_total exact_bytes _ _ 
     at q true = refl
     at q false = refl
 
-back_body : (contents : FinMap text_cmp (List ℕ)) (wholes : FinMap text_cmp ℕ) (uid : Text) (body : List ℕ)
+pub back_body : (contents : FinMap text_cmp (List ℕ)) (wholes : FinMap text_cmp ℕ) (uid : Text) (body : List ℕ)
     → bodies_by (map.insert contents uid body) (map.insert wholes uid 1) ≡ map.insert (bodies_by contents wholes) uid body
 back_body contents wholes uid body = map.same_map nat_list_cmp_total exact_bytes _ _ (λ q.
     body_at (map.insert contents uid body) (map.insert wholes uid 1) q

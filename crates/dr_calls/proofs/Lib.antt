@@ -1,8 +1,11 @@
 pub mod Arrivals
 pub mod Bookings
+pub mod FirstOnes
+pub mod Joins
 pub mod LettingGo
 pub mod Movements
 pub mod NewRows
+pub mod Numbers
 pub mod Sets
 pub mod Steps
 pub mod Transactions

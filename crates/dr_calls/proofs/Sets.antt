@@ -1,11 +1,13 @@
 -- Tables as sets: arrivals, what is kept, and where a line goes on to.
-use Rattle.std.proofs.Common.{◌≡◌, ◌==◌, ℕ, ℤ, List, [], ◌∷◌, ◌++◌, map as mapped, filter, Bool, true, false, cond, ◌&&◌, ◌||◌, Ok, refl, sym, ap, ◌∙◌, arith}
+use Rattle.std.proofs.Common.{◌≡◌, ◌==◌, ℕ, ℤ, List, [], ◌∷◌, ◌++◌, map as mapped, filter, Bool, true, false, cond, ◌&&◌, ◌||◌, Option, Some, None, Ok, refl, sym, ap, ◌∙◌, arith}
 use Rattle.std.specs.Cmp.{IsTotalOrder}
 use Rattle.std.specs.Cmp.Lexicographic.{nat_list_cmp_total}
 use Rattle.std.specs.declared.cmp.Ordering.{Ordering}
 use Rattle.std.specs.declared.cmp.Ordering.TheVariants.{Less, Equal, Greater}
+use Rattle.std.specs.FinMap as map
+use Rattle.std.specs.FinMap.{find}
 use Rattle.std.specs.FinSet as set
-use Rattle.std.specs.FinSet.{FinSet, IsAntisymmetric}
+use Rattle.std.specs.FinSet.{IsAntisymmetric}
 use Rattle.std.specs.List.{list_any}
 use Rattle.std.specs.Ordering.{eq_by_cmp, is_eq, match_ordering}
 use Rattle.std.proofs.lemmas.Map.Lookups.{exact_bytes}
@@ -17,7 +19,7 @@ use Rattle.sqlite.specs.State.{State}
 use Rattle.sqlite.specs.Tree.{put_row, rowid}
 use Rattle.dr_base.specs.Texts.{Text, text_cmp}
 use Rattle.dr_ledger.specs.Pairs.{Pair}
-use Rattle.dr_tables.specs.Books.{all_kept_in, arrival_in, arrivals_in, dest_in, is_of_line, kept_in, names_in}
+use Rattle.dr_tables.specs.Books.{Names, all_kept_in, arrival_in, arrivals_in, dest_in, is_of_line, kept_in, named_in, names_in}
 use Rattle.dr_rows.specs.Effects.{AddsCells, GoesOn, Step, arrival_cells, kept_cells, target_cells}
 use Rattle.dr_rows.proofs.Keys.{pairs_total, pairs_exact}
 use Rattle.dr_rows.proofs.Maps.{neither}
@@ -98,30 +100,54 @@ keeps_one uid old new added =
 
 -- ---- where a line goes on to
 
-names_have : (rows : List Row) (m : ℕ) (q : Text) → set.contains (names_in rows m) q ≡ list_any (λ r. is_of_line m r && eq_by_cmp text_cmp q (dest_in r)) rows
+-- what a map to nothing has where it has something
+abbrev pub present : Bool → Option (Unit {0})
+present b = cond b (Some tt) None
+
+-- a name is found where a row has it
+found_name : (q : Text) (rows : List Row) → find text_cmp q (mapped named_in rows) ≡ present (list_any (λ r. eq_by_cmp text_cmp q (dest_in r)) rows)
+found_name q [] = refl
+found_name q (r ∷ rows) = go (eq_by_cmp text_cmp q (dest_in r)) (found_name q rows)
+  where
+    go : (b : Bool) → find text_cmp q (mapped named_in rows) ≡ present (list_any (λ x. eq_by_cmp text_cmp q (dest_in x)) rows)
+        → cond b (Some tt) (find text_cmp q (mapped named_in rows)) ≡ present (b || list_any (λ x. eq_by_cmp text_cmp q (dest_in x)) rows)
+    go true later = refl
+    go false later = later
+
+pub names_have : (rows : List Row) (m : ℕ) (q : Text) → map.get (names_in rows m) q ≡ present (list_any (λ r. is_of_line m r && eq_by_cmp text_cmp q (dest_in r)) rows)
 names_have rows m q =
-    set.contains-from_list nat_list_cmp_total (mapped dest_in (filter (is_of_line m) rows)) q ∙ any_mapped dest_in (eq_by_cmp text_cmp q) (filter (is_of_line m) rows)
-    ∙ any_filtered (is_of_line m) (λ r. eq_by_cmp text_cmp q (dest_in r)) rows
+    map.get-from_entries nat_list_cmp_total (mapped named_in (filter (is_of_line m) rows)) q ∙ found_name q (filter (is_of_line m) rows)
+    ∙ ap present (any_filtered (is_of_line m) (λ r. eq_by_cmp text_cmp q (dest_in r)) rows)
 
 name_put : (id : ℤ) (n : ℕ) (name : Text) (rows : List Row) (m : ℕ) → is_taken rows (Int id ∷ target_cells n name) ≡ false
-    → names_in (put_row (Int id ∷ target_cells n name) rows) m ≡ cond (n == m) (set.insert (names_in rows m) name) (names_in rows m)
-name_put id n name rows m free = set.same_set nat_list_cmp_total exact_bytes _ _ (λ q.
-    names_have (put_row (Int id ∷ target_cells n name) rows) m q ∙ any_put (λ r. is_of_line m r && eq_by_cmp text_cmp q (dest_in r)) (Int id ∷ target_cells n name) rows free
-    ∙ ap (λ b. ((n == m) && eq_by_cmp text_cmp q name) || b) (sym (names_have rows m q)) ∙ at q (n == m))
+    → names_in (put_row (Int id ∷ target_cells n name) rows) m ≡ cond (n == m) (map.insert (names_in rows m) name tt) (names_in rows m)
+name_put id n name rows m free = map.same_map nat_list_cmp_total exact_bytes _ _ (λ q.
+    names_have (put_row (Int id ∷ target_cells n name) rows) m q
+    ∙ ap present (any_put (λ r. is_of_line m r && eq_by_cmp text_cmp q (dest_in r)) (Int id ∷ target_cells n name) rows free)
+    ∙ at q (n == m))
   where
-    at : (q : Text) (b : Bool) → ((b && eq_by_cmp text_cmp q name) || set.contains (names_in rows m) q) ≡ set.contains (cond b (set.insert (names_in rows m) name) (names_in rows m)) q
-    at q true = sym (set.contains-insert nat_list_cmp_total (names_in rows m) name q)
-    at q false = refl
+    has : Text → Bool
+    has q = list_any (λ r. is_of_line m r && eq_by_cmp text_cmp q (dest_in r)) rows
 
-with_one_name : (names : FinSet text_cmp) (more : List Text) (name : Text) → with_names names (more ++ name ∷ []) ≡ set.insert (with_names names more) name
+    either : (a : Bool) (q : Text) → present (a || has q) ≡ cond a (Some tt) (present (has q))
+    either true q = refl
+    either false q = refl
+
+    at : (q : Text) (b : Bool) → present ((b && eq_by_cmp text_cmp q name) || has q) ≡ map.get (cond b (map.insert (names_in rows m) name tt) (names_in rows m)) q
+    at q true =
+        either (eq_by_cmp text_cmp q name) q ∙ ap (λ got. cond (eq_by_cmp text_cmp q name) (Some tt) got) (sym (names_have rows m q))
+        ∙ sym (map.get-insert nat_list_cmp_total (names_in rows m) name tt q)
+    at q false = sym (names_have rows m q)
+
+with_one_name : (names : Names) (more : List Text) (name : Text) → with_names names (more ++ name ∷ []) ≡ map.insert (with_names names more) name tt
 with_one_name names [] name = refl
-with_one_name names (x ∷ more) name = with_one_name (set.insert names x) more name
+with_one_name names (x ∷ more) name = with_one_name (map.insert names x tt) more name
 
-chosen : (b : Bool) (names more : FinSet text_cmp) (name : Text) → cond b (set.insert (cond b more names) name) (cond b more names) ≡ cond b (set.insert more name) names
+chosen : (b : Bool) (names more : Names) (name : Text) → cond b (map.insert (cond b more names) name tt) (cond b more names) ≡ cond b (map.insert more name tt) names
 chosen true names more name = refl
 chosen false names more name = refl
 
-unchosen : (b : Bool) (names : FinSet text_cmp) → names ≡ cond b names names
+unchosen : (b : Bool) (names : Names) → names ≡ cond b names names
 unchosen true names = refl
 unchosen false names = refl
 
@@ -146,7 +172,7 @@ one_target_more n name names old mid new done added =
       record {
         targets = λ m.
             ap (λ rows. names_in rows m) added.adds.rows ∙ name_put added.id n name (mid.now.trees 12) m added.adds.free
-            ∙ ap (λ was. cond (n == m) (set.insert was name) was) (d.targets m) ∙ chosen (n == m) (names_in (old.now.trees 12) m) (with_names (names_in (old.now.trees 12) m) names) name
+            ∙ ap (λ was. cond (n == m) (map.insert was name tt) was) (d.targets m) ∙ chosen (n == m) (names_in (old.now.trees 12) m) (with_names (names_in (old.now.trees 12) m) names) name
             ∙ ap (λ more. cond (n == m) more (names_in (old.now.trees 12) m)) (sym (with_one_name (names_in (old.now.trees 12) m) names name));
         site = o.site (omega arith) ∙ d.site;
         items = o.items (omega arith) ∙ d.items;

@@ -1,23 +1,16 @@
 -- A call as one transaction.
-use Rattle.std.proofs.Common.{◌≡◌, ℕ, pos, List, [], true, false, Ok, Err, Result, IfErr, OnOk, OnErr, IsTrue, inl, inr, refl, sym, ap, subst, ◌∙◌, ◌+◌, true≢false, arith, int_cmp, nat_abs, ltb→lt}
-use Rattle.std.specs.declared.cmp.Ordering.{Ordering}
-use Rattle.std.specs.declared.cmp.Ordering.TheVariants.{Less, Equal, Greater}
-use Rattle.std.proofs.lemmas.Cmp.{int_ranked}
+use Rattle.std.proofs.Common.{◌≡◌, ℕ, pos, List, [], true, false, Ok, Err, Result, IfErr, OnOk, OnErr, IsTrue, inl, inr, refl, sym, ap, subst, ◌∙◌, ◌+◌, true≢false, arith}
 use Rattle.sqlite.specs.declared.error.Error.{Error}
-use Rattle.sqlite.specs.declared.types.Value.TheVariants.{Int}
 use Rattle.sqlite.specs.Effect.{Database}
-use Rattle.sqlite.specs.Order.{Row, value_cmp}
 use Rattle.sqlite.specs.State.{State, HasCleanDisk, KeepsCommit, IsRolledBack, KeepsCounts, Shows, Survives}
 use Rattle.sqlite.specs.Steps.{FailsToCommit}
-use Rattle.sqlite.specs.Tree.{Trees, put_row, rowid}
+use Rattle.sqlite.specs.Tree.{Trees}
 use Rattle.sqlite.proofs.InsideLemmas.{unchanged_keeps, keeps_then}
 use Rattle.sqlite.proofs.StateLemmas.{survives_then}
-use Rattle.sqlite_trees.proofs.ListLemmas.{all_weaker}
-use Rattle.sqlite_trees.proofs.TreeLemmas.{all-put_row}
-use Rattle.sqlite_value.proofs.OrderLemmas.{value_cmp-Int, value_cmp_total}
 use Rattle.dr_tables.specs.Books.{AreBelow}
 use Rattle.dr_tables.specs.Ledgers.{IsLedger}
 use Rattle.dr_rows.specs.Effects.{Step}
+use Rattle.dr_calls.proofs.Numbers.{below_next}
 use Rattle.dr_calls.specs.Writing.{IsMade, IsReady, Written}
 
 pub on_ok : {T E A B : Type 0} (r : Result T E) → (A → B) → OnOk r A → OnOk r B
@@ -32,21 +25,6 @@ pub is_same : {T E B : Type 0} (r : Result T E) → B → OnErr r B
 is_same (Ok x) h = tt
 is_same (Err e) h = h
 
--- ---- lines
-
-next_above : (n : ℕ) → value_cmp (Int (pos n)) (Int (pos (n + 1))) ≡ Less
-next_above n = value_cmp-Int (pos n) (pos (n + 1)) ∙ go (int_cmp (pos n) (pos (n + 1))) refl
-  where
-    go : (r : Ordering) → r ≡ int_cmp (pos n) (pos (n + 1)) → int_cmp (pos n) (pos (n + 1)) ≡ Less
-    go Less e = sym e
-    go Equal e = let same : n ≡ n + 1 = ap nat_abs (int_ranked (pos n) (pos (n + 1)) Equal e) in absurd (omega (arith, same))
-    go Greater e = absurd (omega (arith, ltb→lt (n + 1) n (int_ranked (pos n) (pos (n + 1)) Greater e).lt))
-
-pub below_next : (n : ℕ) (row : Row) (rows : List Row) → rowid row ≡ Int (pos n) → AreBelow (pos n) rows → AreBelow (pos (n + 1)) (put_row row rows)
-below_next n row rows is below =
-    all-put_row (λ r. value_cmp (rowid r) (Int (pos (n + 1))) ≡ Less) row rows (ap (λ v. value_cmp v (Int (pos (n + 1)))) is ∙ next_above n)
-    (all_weaker (λ r. value_cmp (rowid r) (Int (pos n)) ≡ Less) (λ r. value_cmp (rowid r) (Int (pos (n + 1))) ≡ Less) (λ r h. value_cmp_total.trans (rowid r) _ _ h (next_above n)) rows below)
-
 -- ---- the transaction
 
 -- a commit leaves a ledger's tables, all committed, with one line more
@@ -57,7 +35,7 @@ ready_after old mid new n Makes ready w shown = (
     is_open = shown.is_open;
     ledger = subst IsLedger (sym shown.now_is) w.goes_on.ledger;
     settled = shown.now_is ∙ sym shown.committed_is;
-    below = subst (AreBelow (pos (n + 1))) (sym w.line.journal ∙ ap (λ (d : Database). d.trees 11) (sym shown.now_is)) (below_next n w.line.row (old.now.trees 11) w.line.numbered ready.below);
+    below = subst (AreBelow (n + 1)) (sym w.line.journal ∙ ap (λ (d : Database). d.trees 11) (sym shown.now_is)) (below_next n w.line.row (old.now.trees 11) w.line.numbered ready.below);
   },
   subst (λ (d : Database). Makes d.trees new.committed.trees) ready.settled (subst (λ (d : Database). Makes old.now.trees d.trees) (sym shown.committed_is) w.made),
 )
@@ -83,7 +61,7 @@ ready_again old mid new n ready kept rolled is_open =
       is_open = is_open;
       ledger = subst IsLedger (sym back) ready.ledger;
       settled = undone.0 ∙ sym undone.1;
-      below = subst (λ (d : Database). AreBelow (pos n) (d.trees 11)) (sym back) ready.below;
+      below = subst (λ (d : Database). AreBelow n (d.trees 11)) (sym back) ready.below;
     }
 
 -- a commit that fails has rolled back, where a transaction was on

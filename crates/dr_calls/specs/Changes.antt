@@ -1,7 +1,6 @@
 -- What the calls that write make of the tables.
 use Rattle.std.specs.Prelude.{◌≡◌, ◌==◌, ℕ, Bool, cond, List, [], ◌∷◌, None}
 use Rattle.std.specs.FinSet as set
-use Rattle.std.specs.FinSet.{FinSet}
 use Rattle.std.specs.FinMap as map
 use Rattle.sqlite.specs.Order.{Row}
 use Rattle.sqlite.specs.State.{State}
@@ -11,7 +10,7 @@ use Rattle.dr_ledger.specs.declared.item.Instance.{Instance}
 use Rattle.dr_ledger.specs.declared.item.Progress.{Progress}
 use Rattle.dr_ledger.specs.Books.{with_rows}
 use Rattle.dr_ledger.specs.Pairs.{Pair}
-use Rattle.dr_tables.specs.Books.{all_kept_in, arrivals_in, bodies_of, contents_in, items_of, names_in, rows_of, wholes_in}
+use Rattle.dr_tables.specs.Books.{Names, all_kept_in, arrivals_in, bodies_of, contents_in, items_of, names_in, rows_of, wholes_in}
 use Rattle.dr_rows.specs.Effects.{GoesOn, HasItem, HasPrint, HasRow}
 
 -- ---- a data set is let go
@@ -134,9 +133,9 @@ pub record KeepsOne (uid : Text) (old new : Trees) : Type 0 where
   pub targets : new 12 ≡ old 12
 
 -- the set with all of these
-abbrev pub with_names : FinSet text_cmp → List Text → FinSet text_cmp
+abbrev pub with_names : Names → List Text → Names
 with_names names [] = names
-with_names names (name ∷ more) = with_names (set.insert names name) more
+with_names names (name ∷ more) = with_names (map.insert names name tt) more
 
 -- Line n goes on to each of these too, `-` standing for keeping; other lines go on as before. All other tables stay.
 pub record AddsTargets (n : ℕ) (names : List Text) (old new : Trees) : Type 0 where

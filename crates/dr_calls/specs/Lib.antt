@@ -1,3 +1,4 @@
+pub mod Bringing
 pub mod Changes
 pub mod Laws
 pub mod Writing

@@ -26,7 +26,7 @@ pub record IsReady (n : ℕ) (s : State) : Type 0 where
   pub is_open : IsTrue s.is_open
   pub ledger : IsLedger s.now
   pub settled : s.now ≡ s.committed
-  pub below : AreBelow (pos n) (s.now.trees 11)
+  pub below : AreBelow n (s.now.trees 11)
 
 -- What a call that writes does, where the tables are as it asks. Where it is accepted, the tables committed are what it makes of
 -- those committed before, and the next line's number is one more. Where it is refused, and the store is open still, the tables

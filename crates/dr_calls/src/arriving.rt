@@ -87,6 +87,7 @@ pub fn add_targets<'x, S: Alter>(
 }
 
 /// A repeat: a caller brings an instance that it brought before.
+#[derive(Drop)]
 pub struct Repeating<'x> {
     pub caller: &'x Text,
     pub uid: &'x Text,

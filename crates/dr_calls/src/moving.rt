@@ -77,6 +77,7 @@ fn requeue<'x, S: Alter>(
 }
 
 /// A settling: what came of a try to send an instance.
+#[derive(Drop)]
 pub struct Settling<'x> {
     pub uid: &'x Text,
     pub dest: &'x Text,
@@ -108,6 +109,7 @@ impl Change for Settling<'_> {
 }
 
 /// A requeuing: an instance that was held waits again.
+#[derive(Drop)]
 pub struct Requeuing<'x> {
     pub uid: &'x Text,
     pub dest: &'x Text,

@@ -1,10 +1,10 @@
 -- The statements as commands, by computation.
-use Rattle.std.proofs.Common.{codes, ◌≡◌, ℕ, List, [], ◌∷◌, refl, None, false, pos, negsuc}
+use Rattle.std.proofs.Common.{◌≡◌, ℕ, List, [], ◌∷◌, refl, None, false, pos, negsuc}
 use Rattle.sqlite.specs.Collation.TheVariants.{Binary}
 use Rattle.sqlite.specs.Command.{Command}
-use Rattle.sqlite.specs.Command.TheVariants.{Insert, Select, Update, Delete}
+use Rattle.sqlite.specs.Command.TheVariants.{Insert, Update, Delete}
 use Rattle.sqlite.specs.declared.types.Value.TheVariants.{Null, Int}
-use Rattle.sqlite.specs.Listing.{understood, reads_listing}
+use Rattle.sqlite.specs.Listing.{understood}
 use Rattle.sqlite.specs.Query.{Query, inner, end}
 use Rattle.sqlite.specs.Source.TheVariants.{Values}
 use Rattle.sqlite.specs.Term.{Term, lit, col, op2}
@@ -91,6 +91,13 @@ pub insert_target : Is text.insert_target (Insert 7 (Values target_terms 3))
 unfolding understood everything
 insert_target = (refl, (refl, refl))
 
+abbrev pub site_terms : List Term
+site_terms = lit (Int (pos 1)) ∷ lit Null ∷ col 0 0 ∷ col 0 1 ∷ []
+
+pub insert_site : Is text.insert_site (Insert 0 (Values site_terms 4))
+unfolding understood everything
+insert_site = (refl, (refl, refl))
+
 -- ---- UPDATE: the rowid, and then the new row
 
 -- WHERE uid = ?1
@@ -136,6 +143,17 @@ pub set_whole : Is text.set_whole (Update 2 (record { lets = []; body = over 3 b
 unfolding understood everything
 set_whole = (refl, (refl, refl))
 
+-- WHERE id = 1
+abbrev pub by_one : List Term
+by_one = op2 (Compare Eq Binary) (col 1 0) (lit (Int (pos 1))) ∷ []
+
+abbrev pub set_plan_shown : List Term
+set_plan_shown = col 1 0 ∷ col 1 0 ∷ lit Null ∷ col 1 2 ∷ col 0 0 ∷ []
+
+pub set_plan : Is text.set_plan (Update 0 (record { lets = []; body = over 0 by_one set_plan_shown }))
+unfolding understood everything
+set_plan = (refl, (refl, refl))
+
 -- ---- DELETE: the rowids
 
 abbrev pub drop_arrivals_shown : List Term
@@ -154,17 +172,3 @@ drop_done_shown = col 1 0 ∷ []
 pub drop_done : Is text.drop_done (Delete 5 (record { lets = []; body = over 9 is_done drop_done_shown }))
 unfolding understood everything
 drop_done = (refl, (refl, refl))
-
--- ---- SELECT
-
-abbrev pub find_row_shown : List Term
-find_row_shown = col 1 3 ∷ col 1 4 ∷ col 1 5 ∷ col 1 6 ∷ []
-
-pub find_row : (command_of (understood tables text.find_row) ≡ Select (record { lets = []; body = over 9 by_key find_row_shown }) (codes "state" ∷ codes "tries" ∷ codes "due" ∷ codes "cause" ∷ []))
-    × (reads_listing tables text.find_row ≡ false)
-unfolding understood everything
-find_row = (refl, refl)
-
-pub find_row_plain : IsPlain (understood tables text.find_row)
-unfolding understood everything
-find_row_plain = (refl, refl)

@@ -17,8 +17,9 @@ use Rattle.sqlite.specs.Tree.{Trees, rowid}
 use Rattle.sqlite.proofs.Callers.{IsPlain, command_of, runs_as, one_step, statement_of}
 use Rattle.sqlite_rules.specs.Action.{Writes, works}
 use Rattle.sqlite_schema.specs.declared.schema.Keys.TheVariants.{Enforced}
+use Rattle.sqlite_trees.proofs.TreeLemmas.{all-put_row}
 use Rattle.sqlite_trees.specs.View.{is_int}
-use Rattle.dr_tables.specs.Ledgers.{AreRows, IsLedger}
+use Rattle.dr_tables.specs.Ledgers.{AreRows, IsCounted, IsLedger}
 use Rattle.dr_tables.specs.Tables.{tables}
 use Rattle.dr_rows.specs.Effects.{AddsRow, GoesOn, LeavesOthers}
 use Rattle.dr_rows.proofs.Maps.{rows_put}
@@ -94,8 +95,9 @@ IsOrNot tree k = (tree ≢ k) ⊎ (tree ≡ k)
 
 -- the transaction goes on over a ledger's tables after a write to one of them
 pub ledger_of : (tree : ℕ) (old new : State) → IsLedger old.now → new.now.schema ≡ tables → IsDatabase new.now → Shows old new new.now old.committed true → LeavesOthers tree old.now.trees new.now.trees
-    → IsOrNot tree 1 → IsOrNot tree 3 → IsOrNot tree 5 → IsOrNot tree 9 → (AreRows (old.now.trees tree) → AreRows (new.now.trees tree)) → GoesOn old new
-ledger_of tree old new has schema sound shown others one three five nine written = record {
+    → IsOrNot tree 1 → IsOrNot tree 3 → IsOrNot tree 5 → IsOrNot tree 9 → (AreRows (old.now.trees tree) → AreRows (new.now.trees tree))
+    → (tree ≡ 9 → AllByRecursion IsCounted (old.now.trees tree) → AllByRecursion IsCounted (new.now.trees tree)) → GoesOn old new
+ledger_of tree old new has schema sound shown others one three five nine written counted = record {
   ledger = record {
     schema = schema;
     sound = sound;
@@ -103,6 +105,7 @@ ledger_of tree old new has schema sound shown others one three five nine written
     prints = stay 3 three others.prints has.prints;
     arrivals = stay 5 five others.arrivals has.arrivals;
     queue = stay 9 nine others.queue has.queue;
+    counted = count nine;
   };
   mode = rw shown.mode;
   committed = shown.committed_is;
@@ -113,13 +116,17 @@ ledger_of tree old new has schema sound shown others one three five nine written
     stay k (inl other) same was = subst AreRows (sym (same other)) was
     stay k (inr it) same was = subst (λ n. AreRows (new.now.trees n)) it (written (subst (λ n. AreRows (old.now.trees n)) (sym it) was))
 
+    count : IsOrNot tree 9 → AllByRecursion IsCounted (new.now.trees 9)
+    count (inl other) = subst (AllByRecursion IsCounted) (sym (others.queue other)) has.counted
+    count (inr it) = subst (λ n. AllByRecursion IsCounted (new.now.trees n)) it (counted it (subst (λ n. AllByRecursion IsCounted (old.now.trees n)) (sym it) has.counted))
+
 -- One row of values is one row more.
 pub adds : (old new : State) (sql : List ℕ) (params : Row) (at : ℕ) (terms : List Term) (width : ℕ) (t : Table) (row : Row) (count : ℕ) → IsLedger old.now
     → command_of (understood tables sql) ≡ Insert at (Values terms width) → IsPlain (understood tables sql) → slice_get tables.tables at ≡ Some (bare t)
     → edit_of old.now.trees (bare t) [] Chosen 0 (sources params width terms) ≡ record { table = bare t; gone = []; news = row ∷ [] }
     → works tables Enforced 0 t.tree [] (row ∷ []) ≡ [] → IsTrue (is_int (rowid row)) → IsOrNot t.tree 1 → IsOrNot t.tree 3 → IsOrNot t.tree 5 → IsOrNot t.tree 9
-    → ExecutesInside 0 sql params old new (Ok count) → AddsRow t.tree row old new
-adds old new sql params at terms width t row count has is plain there edit_is free int one three five nine h =
+    → (t.tree ≡ 9 → IsCounted row) → ExecutesInside 0 sql params old new (Ok count) → AddsRow t.tree row old new
+adds old new sql params at terms width t row count has is plain there edit_is free int one three five nine counted h =
     let db = old.now.trees in
     let w = inserted old new sql params at terms width t count has.schema is plain there h in
     let edit : Edit = record { table = bare t; gone = []; news = row ∷ [] } in
@@ -127,7 +134,8 @@ adds old new sql params at terms width t row count has is plain there edit_is fr
     let others = others_stay t.tree db new.now.trees it.tables in
     let untaken : is_taken (db t.tree) row ≡ false = is_free _ _ it.fresh in
     record {
-      goes_on = ledger_of t.tree old new has w.schema w.sound w.shown others one three five nine (λ was. subst AreRows (sym it.rows) (rows_put row (db t.tree) int untaken was));
+      goes_on = ledger_of t.tree old new has w.schema w.sound w.shown others one three five nine (λ was. subst AreRows (sym it.rows) (rows_put row (db t.tree) int untaken was))
+          (λ nine was. subst (AllByRecursion IsCounted) (sym it.rows) (all-put_row IsCounted row (db t.tree) (counted nine) was));
       rows = it.rows;
       free = untaken;
       others = others;

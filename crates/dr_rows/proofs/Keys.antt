@@ -2,7 +2,7 @@
 use Rattle.std.proofs.Common.{◌≡◌, ◌≢◌, ℕ, ℤ, List, [], ◌∷◌, Bool, true, false, not, ◌&&◌, IsTrue, Some, refl, sym, ap, subst, ◌∙◌, true≢false}
 use Rattle.std.specs.declared.cmp.Ordering.{Ordering}
 use Rattle.std.specs.declared.cmp.Ordering.TheVariants.{Less, Equal, Greater}
-use Rattle.std.specs.Ordering.{nat_cmp, is_eq, is_ne}
+use Rattle.std.specs.Ordering.{int_cmp, nat_cmp, is_eq, is_ne}
 use Rattle.std.specs.Cmp.Lexicographic.{slice_cmp, nat_list_cmp_total}
 use Rattle.std.specs.Cmp.{IsTotalOrder}
 use Rattle.std.specs.FinMap.{IsAntisymmetric}
@@ -20,8 +20,9 @@ use Rattle.sqlite.specs.Tree.{Trees, rowid, IsAscending}
 use Rattle.sqlite_catalog.specs.Listing.{IsSound}
 use Rattle.sqlite_schema.specs.declared.schema.Constraint.TheVariants.{Datatype, NotNull, Unique}
 use Rattle.sqlite_schema.specs.Rules.{passes, is_of, agree, differ}
-use Rattle.sqlite_sql.specs.Ops.{binary, is_true, is_null, from_truth}
+use Rattle.sqlite_sql.specs.Ops.{binary, is_true, is_null, from_truth, test}
 use Rattle.sqlite_sql.specs.declared.ops.BinaryOp.TheVariants.{Compare}
+use Rattle.sqlite_sql.specs.declared.ops.CompareOp.{CompareOp}
 use Rattle.sqlite_sql.specs.declared.ops.CompareOp.TheVariants.{Eq}
 use Rattle.sqlite_trees.proofs.ListLemmas.{all_weaker}
 use Rattle.sqlite_trees.specs.View.{is_int}
@@ -51,7 +52,7 @@ pub all_both : {X : Type 0} (P Q S : X → Type 0) → ((x : X) → P x → Q x 
 all_both P Q S f [] p q = tt
 all_both P Q S f (x ∷ xs) p q = (f x p.0 q.0, all_both P Q S f xs p.1 q.1)
 
-none_of : {X : Type 0} (p : X → Bool) (xs : List X) → list_any p xs ≡ false → AllByRecursion (λ x. p x ≡ false) xs
+pub none_of : {X : Type 0} (p : X → Bool) (xs : List X) → list_any p xs ≡ false → AllByRecursion (λ x. p x ≡ false) xs
 none_of p [] h = tt
 none_of p (x ∷ xs) h = let parts = maps.neither (p x) (list_any p xs) h in (parts.0, none_of p xs parts.1)
 
@@ -84,13 +85,18 @@ a_number (Blob b) typed there = absurd cc
 
 -- ---- comparisons
 
-truth_of : (b : Bool) → is_true (from_truth (Some b)) ≡ b
+pub truth_of : (b : Bool) → is_true (from_truth (Some b)) ≡ b
 truth_of true = refl
 truth_of false = refl
 
 pub same_text : (s t : List ℕ) → is_true (binary (Compare Eq Binary) (Text s) (Text t)) ≡ is_eq (slice_cmp nat_cmp s t)
 unfolding binary
 same_text s t = truth_of (is_eq (value_cmp (Text s) (Text t))) ∙ ap is_eq (value_cmp-Text s t)
+
+-- a comparison of numbers
+pub int_test : (op : CompareOp) (m n : ℤ) → is_true (binary (Compare op Binary) (Int m) (Int n)) ≡ test op (int_cmp m n)
+unfolding binary
+int_test op m n = truth_of (test op (value_cmp (Int m) (Int n))) ∙ ap (test op) (value_cmp-Int m n)
 
 its_other : (o : Ordering) → (o ≡ Equal → ⊥) → is_ne o ≡ true
 its_other Less h = refl

@@ -1,14 +1,10 @@
 pub mod Adds
-pub mod Apart
-pub mod Asking
 pub mod Casts
 pub mod Commands
+pub mod Drops
 pub mod Inserted
 pub mod Keeping
 pub mod Keys
-pub mod Lists
 pub mod Maps
-pub mod Outcomes
-pub mod Rising
 pub mod Sets
 pub mod Updated

@@ -63,7 +63,7 @@ above_itself : (v : Value) (id : ℤ) → v ≡ Int id → is_lt (value_cmp v (I
 above_itself v id h = ap (λ x. is_lt (value_cmp x (Int id))) h ∙ ap is_lt (tied_itself value_cmp_total (Int id))
 
 -- a number that is another isn't equal
-not_this : (v : Value) (id n : ℤ) → v ≡ Int n → n ≢ id → is_eq (value_cmp v (Int id)) ≡ false
+pub not_this : (v : Value) (id n : ℤ) → v ≡ Int n → n ≢ id → is_eq (value_cmp v (Int id)) ≡ false
 not_this v id n is other = not_true _ (λ t. other (exact_signed n id (sym (value_cmp-Int n id) ∙ sym (ap (λ x. value_cmp x (Int id)) is) ∙ equal _ t)))
 
 other_rowids : (id : ℤ) (r : Row) → rowid r ≡ Int id → (rows : List Row) → AllByRecursion (λ x. rowid r ≢ rowid x) rows → AllByRecursion (λ x. IsTrue (is_int (rowid x))) rows

@@ -1,15 +1,20 @@
 -- Each UPDATE changes one row.
-use Rattle.std.proofs.Common.{◌≡◌, inl, inr, ℕ, ℤ, pos, List, [], ◌∷◌, map, Option, Some, None, Ok, Err, Result, OnOk, IsSome, refl, sym, ap, subst, ◌∙◌, arith}
+use Rattle.std.proofs.Common.{◌≡◌, ◌<◌, ◌≤◌, ◌+◌, ◌^◌, inl, inr, ℕ, ℤ, pos, List, [], ◌∷◌, map, filter, true, not, ◌&&◌, cond, Option, Some, None, Ok, Err, Result, OnOk, IsSome, refl, sym, ap, subst, ◌∙◌, arith}
 use Rattle.std.specs.Cmp.Lexicographic.{nat_list_cmp_total}
 use Rattle.std.specs.FinMap as fin
 use Rattle.std.specs.FinMap.{insert, get-from_entries}
 use Rattle.std.specs.List.{AllByRecursion}
+use Rattle.std.specs.Ordering.{is_eq}
+use Rattle.std.proofs.lemmas.Cmp.{tied_itself}
 use Rattle.std.proofs.lemmas.Map.Lookups.{exact_bytes}
 use Rattle.sqlite.specs.declared.error.Error.{Error}
 use Rattle.sqlite.specs.declared.types.Value.TheVariants.{Int, Text, Blob}
-use Rattle.sqlite.specs.Order.{Row}
+use Rattle.sqlite.specs.Order.{Row, column}
 use Rattle.sqlite.specs.Rowids.TheVariants.{Given}
 use Rattle.sqlite.specs.State.{State, ExecutesInside}
+use Rattle.sqlite.specs.Tree.{put_row, without_rowid}
+use Rattle.sqlite_sql.specs.declared.ops.CompareOp.TheVariants.{Eq}
+use Rattle.sqlite_value.proofs.OrderLemmas.{value_cmp_total}
 use Rattle.sqlite_rules.specs.Edit.{Edit, edit_of}
 use Rattle.sqlite_rules.specs.Calls.{ids_of}
 use Rattle.sqlite_rules.proofs.ListLemmas.{all_has}
@@ -18,12 +23,12 @@ use Rattle.dr_ledger.specs.declared.item.Progress.{Progress}
 use Rattle.dr_ledger.specs.declared.item.Progress.TheVariants.{Waiting, Held, Done}
 use Rattle.dr_ledger.specs.Pairs.{Pair}
 use Rattle.dr_tables.specs.Books.{content_in, contents_in, entry_in, item_in, items_in, print_in, prints_in, rows_in, whole_in, wholes_in}
-use Rattle.dr_tables.specs.Cells.{cells, state_of, tries_of, due_of}
-use Rattle.dr_tables.specs.Ledgers.{IsLedger}
+use Rattle.dr_tables.specs.Cells.{cells, state_of, text_in, tries_of, due_of}
+use Rattle.dr_tables.specs.Ledgers.{IsCounted, IsLedger}
 use Rattle.dr_tables.specs.Statements as text
 use Rattle.dr_tables.specs.Tables as table
-use Rattle.dr_rows.specs.Effects.{HasItem, HasPrint, HasRow, SetsBody, SetsRow, SetsWhole}
-use Rattle.dr_rows.proofs.Casts.{cast_int, cast_why}
+use Rattle.dr_rows.specs.Effects.{HasItem, HasPrint, HasRow, HasSite, SetsBody, SetsPlan, SetsRow, SetsWhole, site_row}
+use Rattle.dr_rows.proofs.Casts.{cast_int, cast_null, cast_why}
 use Rattle.dr_rows.proofs.Commands as command
 use Rattle.dr_rows.proofs.Inserted.{Wrote, bare}
 use Rattle.dr_rows.proofs.Keys as keys
@@ -49,8 +54,16 @@ stored_back id at (Held (cause.Status status)) = refl
 stored_back id at (Held cause.NoContext) = refl
 stored_back id at Done = refl
 
-sets_row : (old new : State) (k : Pair) (to : Progress) (count : ℕ) → IsLedger old.now → HasRow k old.now.trees → ExecutesInside 0 text.set_row (row_params k to) old new (Ok count) → SetsRow k to old new
-sets_row old new k to count has there h =
+known_state : (p : Progress) → state_of p < 3
+known_state (Waiting tries due) = omega arith
+known_state (Held why) = omega arith
+known_state Done = omega arith
+
+row_counted : (id : ℤ) (at : Pair) (p : Progress) → due_of p ≤ 2 ^ 62 + 300000 → IsCounted (stored_row id at p)
+row_counted id at p fits = record { state = state_of p; due = due_of p; state_is = refl; due_is = refl; known = known_state p; fits = omega (arith, fits) }
+
+sets_row : (old new : State) (k : Pair) (to : Progress) (count : ℕ) → due_of to ≤ 2 ^ 62 + 300000 → IsLedger old.now → HasRow k old.now.trees → ExecutesInside 0 text.set_row (row_params k to) old new (Ok count) → SetsRow k to old new
+sets_row old new k to count fits has there h =
     let params = row_params k to in
     let db = old.now.trees in
     let u = updated old new text.set_row params 5 9 command.by_key command.set_row_shown table.queue_table count has.schema command.set_row.0 command.set_row.1 refl h in
@@ -66,7 +79,7 @@ sets_row old new k to count has there h =
           let edit : Edit = record { table = bare table.queue_table; gone = id ∷ []; news = row ∷ [] } in
           let edit_is : edit_of db (bare table.queue_table) (ids_of u.0) Given 1 u.0 ≡ edit = ap (λ f. edit_of db (bare table.queue_table) (ids_of f) Given 1 f) shown
           ∙ rw (cast_int id, cast_int (pos (state_of to)), cast_int (pos (tries_of to)), cast_int (pos (due_of to)), cast_why to) in
-          let it = replaced old new table.queue_table id row has refl refl (inl (omega arith)) (inl (omega arith)) (inl (omega arith)) (inr refl) (subst (λ e. Wrote e old new) edit_is u.2) in
+          let it = replaced old new table.queue_table id row has refl refl (inl (omega arith)) (inl (omega arith)) (inl (omega arith)) (inr refl) (λ _. row_counted id k to fits) (subst (λ e. Wrote e old new) edit_is u.2) in
           let back = stored_back id k to in
           let its : AllByRecursion (maps.IsItsRow entry_in id (entry_in row).0) (db 9) = subst (λ e. AllByRecursion (maps.IsItsRow entry_in id e) (db 9)) (sym (ap (λ (e : Pair × Progress). e.0) back)) one.its in
           let result : SetsRow k to old new = record {
@@ -76,9 +89,9 @@ sets_row old new k to count has there h =
           } in result
     ]
 
-pub row_set : (old new : State) (at : Pair) (to : Progress) (r : Result ℕ Error) → IsLedger old.now → ExecutesInside 0 text.set_row (row_params at to) old new r → OnOk r (HasRow at old.now.trees → SetsRow at to old new)
-row_set old new at to (Ok count) has h = λ there. sets_row old new at to count has there h
-row_set old new at to (Err e) has h = tt
+pub row_set : (old new : State) (at : Pair) (to : Progress) (r : Result ℕ Error) → due_of to ≤ 2 ^ 62 + 300000 → IsLedger old.now → ExecutesInside 0 text.set_row (row_params at to) old new r → OnOk r (HasRow at old.now.trees → SetsRow at to old new)
+row_set old new at to (Ok count) fits has h = λ there. sets_row old new at to count fits has there h
+row_set old new at to (Err e) fits has h = tt
 
 -- ---- item: its body
 
@@ -99,7 +112,7 @@ sets_body old new uid body count has there h =
           (rw (one.rowid_is, is.uid_is, is.class_is, is.syntax_is, is.modality_is, is.station_is)) in
           let edit : Edit = record { table = bare table.item_table; gone = id ∷ []; news = row ∷ [] } in
           let edit_is : edit_of db (bare table.item_table) (ids_of u.0) Given 1 u.0 ≡ edit = ap (λ f. edit_of db (bare table.item_table) (ids_of f) Given 1 f) shown ∙ rw (cast_int id) in
-          let it = replaced old new table.item_table id row has refl refl (inr refl) (inl (omega arith)) (inl (omega arith)) (inl (omega arith)) (subst (λ e. Wrote e old new) edit_is u.2) in
+          let it = replaced old new table.item_table id row has refl refl (inr refl) (inl (omega arith)) (inl (omega arith)) (inl (omega arith)) (λ e. absurd (omega (arith, e))) (subst (λ e. Wrote e old new) edit_is u.2) in
           let key : is.uid ≡ uid = sym (keys.uid_of one.row is.uid is.uid_is) ∙ one.key in
           let its : AllByRecursion (maps.IsItsRow content_in id is.uid) rows = subst (λ k. AllByRecursion (maps.IsItsRow content_in id k) rows) (sym key) one.its in
           let result : SetsBody uid body old new = record {
@@ -139,7 +152,7 @@ sets_whole old new uid whole count has there h =
           let shown = found_one 3 command.by_uid command.set_whole_shown db params u.0 u.1 u.1.grouped one.row (Int id ∷ row) one.hits (rw (one.rowid_is, is.uid_is, is.size_is, is.digest_is)) in
           let edit : Edit = record { table = bare table.print_table; gone = id ∷ []; news = row ∷ [] } in
           let edit_is : edit_of db (bare table.print_table) (ids_of u.0) Given 1 u.0 ≡ edit = ap (λ f. edit_of db (bare table.print_table) (ids_of f) Given 1 f) shown ∙ rw (cast_int id, cast_int is.size, cast_int (pos whole)) in
-          let it = replaced old new table.print_table id row has refl refl (inl (omega arith)) (inr refl) (inl (omega arith)) (inl (omega arith)) (subst (λ e. Wrote e old new) edit_is u.2) in
+          let it = replaced old new table.print_table id row has refl refl (inl (omega arith)) (inr refl) (inl (omega arith)) (inl (omega arith)) (λ e. absurd (omega (arith, e))) (subst (λ e. Wrote e old new) edit_is u.2) in
           let key : is.uid ≡ uid = sym (keys.uid_of one.row is.uid is.uid_is) ∙ one.key in
           let its : AllByRecursion (maps.IsItsRow whole_in id is.uid) rows = subst (λ k. AllByRecursion (maps.IsItsRow whole_in id k) rows) (sym key) one.its in
           let same : (print_in one.row).1 ≡ (print_in row).1 = rw (is.size_is, is.digest_is) in
@@ -157,3 +170,39 @@ sets_whole old new uid whole count has there h =
 pub whole_set : (old new : State) (uid : List ℕ) (whole : ℕ) (r : Result ℕ Error) → IsLedger old.now → ExecutesInside 0 text.set_whole (Text uid ∷ Int (pos whole) ∷ []) old new r → OnOk r (HasPrint uid old.now.trees → SetsWhole uid whole old new)
 whole_set old new uid whole (Ok count) has h = λ there. sets_whole old new uid whole count has there h
 whole_set old new uid whole (Err e) has h = tt
+
+-- ---- site: the plan in force
+
+its_row : (node : List ℕ) (was plan : List ℕ) → hits command.by_one (Blob plan ∷ []) (site_row node was) ≡ true
+its_row node was plan = ap (λ b. b && true) (keys.int_test Eq (pos 1) (pos 1))
+
+-- its rowid is 1
+alone : (node was : List ℕ) → without_rowid (pos 1) (site_row node was ∷ []) ≡ []
+alone node was = ap (λ o. cond (not (is_eq o)) (site_row node was ∷ []) []) (tied_itself value_cmp_total (Int (pos 1)))
+
+abbrev node_in : List Row → List ℕ
+node_in [] = []
+node_in (row ∷ rows) = text_in (column row 2)
+
+sets_plan : (old new : State) (plan : List ℕ) (count : ℕ) → IsLedger old.now → HasSite old.now.trees → ExecutesInside 0 text.set_plan (Blob plan ∷ []) old new (Ok count) → SetsPlan plan old new
+sets_plan old new plan count has there h =
+    let params = Blob plan ∷ [] in
+    let db = old.now.trees in
+    let u = updated old new text.set_plan params 0 0 command.by_one command.set_plan_shown table.site_table count has.schema command.set_plan.0 command.set_plan.1 refl h in
+    let was : Row = site_row there.0 there.1 in
+    let row : Row = site_row there.0 plan in
+    let one : filter (hits command.by_one params) (db 0) ≡ was ∷ [] = ap (filter (hits command.by_one params)) there.2 ∙ ap (λ b. cond b (was ∷ []) []) (its_row there.0 there.1 plan) in
+    let shown = found_one 0 command.by_one command.set_plan_shown db params u.0 u.1 u.1.grouped was (Int (pos 1) ∷ row) one refl in
+    let edit : Edit = record { table = bare table.site_table; gone = pos 1 ∷ []; news = row ∷ [] } in
+    let edit_is : edit_of db (bare table.site_table) (ids_of u.0) Given 1 u.0 ≡ edit = ap (λ f. edit_of db (bare table.site_table) (ids_of f) Given 1 f) shown ∙ rw (cast_int (pos 1), cast_null) in
+    let it = replaced old new table.site_table (pos 1) row has refl refl (inl (omega arith)) (inl (omega arith)) (inl (omega arith)) (inl (omega arith)) (λ e. absurd (omega (arith, e))) (subst (λ e. Wrote e old new) edit_is u.2) in
+    let left : new.now.trees 0 ≡ row ∷ [] = it.rows ∙ ap (λ rows. put_row row (without_rowid (pos 1) rows)) there.2 ∙ ap (put_row row) (alone there.0 there.1) in
+    record {
+      goes_on = it.goes_on;
+      site = λ node before is. left ∙ ap (λ name. site_row name plan ∷ []) (ap node_in (sym there.2 ∙ is));
+      others = it.others;
+    }
+
+pub plan_set : (old new : State) (plan : List ℕ) (r : Result ℕ Error) → IsLedger old.now → ExecutesInside 0 text.set_plan (Blob plan ∷ []) old new r → OnOk r (HasSite old.now.trees → SetsPlan plan old new)
+plan_set old new plan (Ok count) has h = λ there. sets_plan old new plan count has there h
+plan_set old new plan (Err e) has h = tt

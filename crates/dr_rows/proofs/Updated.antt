@@ -1,6 +1,6 @@
 -- What UPDATE and DELETE do to whatever table: the query finds rows, and these are replaced, or leave.
 use Rattle.std.proofs.Common.{◌≡◌, ℕ, ℤ, List, [], ◌∷◌, ◌++◌, map, filter, flat_map, Bool, true, false, not, cond, slice_get, Some, None, Ok, IsTrue, refl, sym, ap, subst, ◌∙◌, arith}
-use Rattle.std.specs.List.{list_all}
+use Rattle.std.specs.List.{AllByRecursion, list_all}
 use Rattle.std.proofs.lemmas.List.Sorted.{length_permutation}
 use Rattle.std.specs.List.Sorted.{IsPermutation}
 use Rattle.sqlite.specs.declared.types.Value.TheVariants.{Null}
@@ -22,8 +22,10 @@ use Rattle.sqlite.proofs.Callers.{IsPlain, command_of, runs_as, one_step, one_pe
 use Rattle.sqlite_rules.specs.Action.{Writes, works}
 use Rattle.sqlite_rules.specs.Calls.{ids_of}
 use Rattle.sqlite_schema.specs.declared.schema.Keys.TheVariants.{Enforced}
+use Rattle.sqlite_trees.proofs.ListLemmas.{all-filter}
+use Rattle.sqlite_trees.proofs.TreeLemmas.{all-put_row}
 use Rattle.sqlite_trees.specs.View.{is_int}
-use Rattle.dr_tables.specs.Ledgers.{AreRows, IsLedger}
+use Rattle.dr_tables.specs.Ledgers.{AreRows, IsCounted, IsLedger}
 use Rattle.dr_tables.specs.Tables.{tables, arrival_table, queue_table}
 use Rattle.dr_rows.specs.Effects.{GoesOn, LeavesOthers}
 use Rattle.dr_rows.proofs.Commands.{over}
@@ -128,8 +130,9 @@ pub record Replaced (tree : ℕ) (id : ℤ) (row : Row) (old new : State) : Type
   pub others : LeavesOthers tree old.now.trees new.now.trees
 
 pub replaced : (old new : State) (t : Table) (id : ℤ) (row : Row) → IsLedger old.now → works tables Enforced 0 t.tree (taken_by old.now.trees (record { table = bare t; gone = id ∷ []; news = row ∷ [] })) (row ∷ []) ≡ [] → IsTrue (is_int (rowid row))
-    → IsOrNot t.tree 1 → IsOrNot t.tree 3 → IsOrNot t.tree 5 → IsOrNot t.tree 9 → Wrote (record { table = bare t; gone = id ∷ []; news = row ∷ [] }) old new → Replaced t.tree id row old new
-replaced old new t id row has free int one three five nine w =
+    → IsOrNot t.tree 1 → IsOrNot t.tree 3 → IsOrNot t.tree 5 → IsOrNot t.tree 9 → (t.tree ≡ 9 → IsCounted row) → Wrote (record { table = bare t; gone = id ∷ []; news = row ∷ [] }) old new
+    → Replaced t.tree id row old new
+replaced old new t id row has free int one three five nine counted w =
     let db = old.now.trees in
     let edit : Edit = record { table = bare t; gone = id ∷ []; news = row ∷ [] } in
     let it = one_step tables Enforced db new.now.trees edit free w.writes in
@@ -137,7 +140,8 @@ replaced old new t id row has free int one three five nine w =
     let untaken : is_taken (without_rowid id (db t.tree)) row ≡ false = is_free _ _ it.fresh in
     record {
       goes_on = ledger_of t.tree old new has w.schema w.sound w.shown others one three five nine
-          (λ was. subst AreRows (sym it.rows) (rows_put row (without_rowid id (db t.tree)) int untaken (rows_without (λ r. not (has_rowid id r)) (db t.tree) was)));
+          (λ was. subst AreRows (sym it.rows) (rows_put row (without_rowid id (db t.tree)) int untaken (rows_without (λ r. not (has_rowid id r)) (db t.tree) was)))
+          (λ nine was. subst (AllByRecursion IsCounted) (sym it.rows) (all-put_row IsCounted row (without_rowid id (db t.tree)) (counted nine) (all-filter IsCounted (λ r. not (has_rowid id r)) (db t.tree) was)));
       rows = it.rows;
       free = untaken;
       others = others;

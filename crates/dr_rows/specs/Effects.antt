@@ -77,6 +77,10 @@ new_cells at = Text at.0 ∷ Text at.1 ∷ Int (pos 0) ∷ Int (pos 0) ∷ Int (
 abbrev pub target_cells : ℕ → texts.Text → Row
 target_cells n dest = Int (pos n) ∷ Text dest ∷ []
 
+-- the one row of site: the node that the ledger is of, and the SHA-256 of the plan in force
+abbrev pub site_row : texts.Text → List ℕ → Row
+site_row node plan = Int (pos 1) ∷ Null ∷ Text node ∷ Blob plan ∷ []
+
 -- ---- the lines of the journal
 
 -- kind 0 is a first arrival, 1 a repeat
@@ -125,6 +129,20 @@ pub record SetsWhole (uid : List ℕ) (whole : ℕ) (old new : State) : Type 0 w
   pub wholes : wholes_in (new.now.trees 3) ≡ map.insert (wholes_in (old.now.trees 3)) uid whole
   pub prints : prints_in (new.now.trees 3) ≡ prints_in (old.now.trees 3)
   pub others : LeavesOthers 3 old.now.trees new.now.trees
+
+-- site has one row, with this plan
+abbrev pub IsSiteOf : texts.Text → List ℕ → Trees → Type 0
+IsSiteOf node plan db = db 0 ≡ site_row node plan ∷ []
+
+-- the ledger has an owner
+abbrev pub HasSite : Trees → Type 0
+HasSite db = (node : texts.Text) × (plan : List ℕ) × IsSiteOf node plan db
+
+-- the plan in force is this one, for the same node
+pub record SetsPlan (plan : List ℕ) (old new : State) : Type 0 where
+  pub goes_on : GoesOn old new
+  pub site : (node : texts.Text) (was : List ℕ) → IsSiteOf node was old.now.trees → IsSiteOf node plan new.now.trees
+  pub others : LeavesOthers 0 old.now.trees new.now.trees
 
 -- no arrival is left
 pub record DropsArrivals (old new : State) : Type 0 where

@@ -1,7 +1,7 @@
 //! Rows that are added.
 ghost use Rattle.std.specs.Prelude.{◌≡◌, ◌≤◌, ◌^◌};
 ghost use Rattle.sqlite.specs.Held.{state};
-ghost use Rattle.dr_rows.specs.Effects.{AddsCells, AddsRow, Step, adopted_line, arrival_cells, arrived_line, item_cells, kept_cells, new_cells, print_cells, requeued_line, settled_line, target_cells};
+ghost use Rattle.dr_rows.specs.Effects.{AddsCells, AddsRow, Step, adopted_line, arrival_cells, arrived_line, item_cells, kept_cells, new_cells, print_cells, requeued_line, settled_line, site_row, target_cells};
 
 use crate::cells::{number_cell, outcome_cell, syntax_cell};
 use crate::running::run;
@@ -211,5 +211,21 @@ pub fn add_adopted<S: Alter>(tx: &mut Transaction<'_, S>, n: u64) -> Result<usiz
         tx,
         "INSERT INTO journal (n, kind, caller, uid, dest, outcome, moment) VALUES (?1, 4, NULL, NULL, NULL, NULL, NULL)",
         &[number_cell(n)],
+    )
+}
+
+/// Whose ledger it is: the node, and the SHA-256 of the plan in force.
+pub fn add_site<'x, S: Alter>(
+    tx: &mut Transaction<'_, S>,
+    node: &'x Text,
+    plan: &'x [u8],
+) -> Result<usize, Error>
+    ensures same_reference { tx.new.conn.ghost_name ≡ tx.old.conn.ghost_name }
+    ensures step { Step result (state S.Store tx.old.conn.now) (state S.Store tx.new.conn.now) (AddsRow 0 (site_row node.now plan.now) (state S.Store tx.old.conn.now) (state S.Store tx.new.conn.now)) }
+{
+    run(
+        tx,
+        "INSERT INTO site (id, node, plan) VALUES (1, ?1, ?2)",
+        &[ValueRef::Text(node.as_bytes()), ValueRef::Blob(plan)],
     )
 }

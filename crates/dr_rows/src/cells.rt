@@ -1,13 +1,11 @@
 //! Values as the cells of a row.
-ghost use Rattle.std.specs.Prelude.{◌≡◌, ◌≤◌, ◌<◌, ◌+◌, ◌^◌, pos, IfSome};
-ghost use Rattle.sqlite.specs.Order.{column};
+ghost use Rattle.std.specs.Prelude.{◌≡◌, ◌≤◌, ◌+◌, ◌^◌, pos};
 ghost use Rattle.sqlite_value.specs.Value.{owned};
 ghost use Rattle.sqlite.specs.declared.types.Value.TheVariants.{Int, Text as TextCell};
-ghost use Rattle.dr_tables.specs.Cells.{due_of, mark_of, outcome_value, progress_in, state_of, tries_of, why_of};
+ghost use Rattle.dr_tables.specs.Cells.{due_of, mark_of, outcome_value, state_of, tries_of, why_of};
 
 use dr_base::Syntax;
 use dr_ledger::{Cause, Outcome, Progress};
-use sqlite::Row;
 use sqlite::types::ValueRef;
 
 /// A number of at most 2^62.
@@ -76,32 +74,5 @@ pub fn outcome_cell(outcome: Outcome) -> ValueRef<'static>
         Outcome::Status(status) => ValueRef::Int(i64::from(status)),
         Outcome::Broken => ValueRef::Null,
         Outcome::NoContext => ValueRef::Int(-1),
-    }
-}
-
-/// What a row of queue says, from its columns state, tries, due and cause, of which the first is at this place; None
-/// where they aren't a ledger's.
-pub fn read_progress(row: &Row, first: usize) -> Option<Progress>
-    requires { first < 100 }
-    ensures { IfSome result (λ p. p ≡ progress_in (column row.now first) (column row.now (first + 1)) (column row.now (first + 2)) (column row.now (first + 3))) }
-{
-    let state: u64 = row.get(first).ok()?;
-    match state {
-        0 => {
-            let tries: u32 = row.get(first + 1).ok()?;
-            let due: u64 = row.get(first + 2).ok()?;
-            Some(Progress::Waiting { tries, due })
-        }
-        1 => {
-            let why: Option<u32> = row.get(first + 3).ok()?;
-            match why {
-                None => Some(Progress::Held(Cause::NoContext)),
-                Some(status) => {
-                    let status = u16::try_from(status).ok()?;
-                    Some(Progress::Held(Cause::Status(status)))
-                }
-            }
-        }
-        _ => Some(Progress::Done),
     }
 }

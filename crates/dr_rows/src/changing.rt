@@ -2,7 +2,7 @@
 ghost use Rattle.std.specs.Prelude.{◌≡◌, ◌≤◌, ◌+◌, ◌^◌};
 ghost use Rattle.sqlite.specs.Held.{state};
 ghost use Rattle.dr_tables.specs.Cells.{due_of};
-ghost use Rattle.dr_rows.specs.Effects.{HasItem, HasPrint, HasRow, SetsBody, SetsRow, SetsWhole, Step};
+ghost use Rattle.dr_rows.specs.Effects.{HasItem, HasPrint, HasRow, HasSite, SetsBody, SetsPlan, SetsRow, SetsWhole, Step};
 
 use crate::cells::{due_cell, number_cell, state_cell, tries_cell, why_cell};
 use crate::running::run;
@@ -66,5 +66,17 @@ pub fn set_whole<'x, S: Alter>(
         tx,
         "UPDATE print SET whole = ?2 WHERE uid = ?1",
         &[ValueRef::Text(uid.as_bytes()), number_cell(whole)],
+    )
+}
+
+/// The plan in force is another, for the same node.
+pub fn set_plan<'x, S: Alter>(tx: &mut Transaction<'_, S>, plan: &'x [u8]) -> Result<usize, Error>
+    ensures same_reference { tx.new.conn.ghost_name ≡ tx.old.conn.ghost_name }
+    ensures step { Step result (state S.Store tx.old.conn.now) (state S.Store tx.new.conn.now) (HasSite (state S.Store tx.old.conn.now).now.trees → SetsPlan plan.now (state S.Store tx.old.conn.now) (state S.Store tx.new.conn.now)) }
+{
+    run(
+        tx,
+        "UPDATE site SET plan = ?1 WHERE id = 1",
+        &[ValueRef::Blob(plan)],
     )
 }

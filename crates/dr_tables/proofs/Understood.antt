@@ -125,6 +125,10 @@ pub the_site_plain : IsPlain (understood tables text.the_site)
 unfolding understood everything
 the_site_plain = (refl, refl)
 
+pub find_key_plain : IsPlain (understood tables text.find_key)
+unfolding understood everything
+find_key_plain = (refl, refl)
+
 pub find_item_plain : IsPlain (understood tables text.find_item)
 unfolding understood everything
 find_item_plain = (refl, refl)
@@ -189,6 +193,18 @@ pub print_rowids_plain : IsPlain (understood tables text.print_rowids)
 unfolding understood everything
 print_rowids_plain = (refl, refl)
 
+pub arrival_rowids_plain : IsPlain (understood tables text.arrival_rowids)
+unfolding understood everything
+arrival_rowids_plain = (refl, refl)
+
+pub journal_rowids_plain : IsPlain (understood tables text.journal_rowids)
+unfolding understood everything
+journal_rowids_plain = (refl, refl)
+
+pub queue_counts_plain : IsPlain (understood tables text.queue_counts)
+unfolding understood everything
+queue_counts_plain = (refl, refl)
+
 pub queue_rowids_plain : IsPlain (understood tables text.queue_rowids)
 unfolding understood everything
 queue_rowids_plain = (refl, refl)
@@ -213,6 +229,7 @@ statements_are_understood = record {
   insert_site = insert_site_plain;
   set_plan = set_plan_plain;
   the_site = the_site_plain;
+  find_key = find_key_plain;
   find_item = find_item_plain;
   find_print = find_print_plain;
   find_arrival = find_arrival_plain;
@@ -229,5 +246,8 @@ statements_are_understood = record {
   all_targets = all_targets_plain;
   item_rowids = item_rowids_plain;
   print_rowids = print_rowids_plain;
+  arrival_rowids = arrival_rowids_plain;
+  journal_rowids = journal_rowids_plain;
+  queue_counts = queue_counts_plain;
   queue_rowids = queue_rowids_plain;
 }

@@ -1,15 +1,14 @@
 -- The book that the tables stand for, and its data sets: each table is a part of it, and of an instance `item` has what rules read and
 -- `print` the length and the digest. The lines of the journal are joined with both, since an item that is there never changes.
-use Rattle.std.specs.Prelude.{◌≡◌, ◌==◌, ℕ, zero, suc, ℤ, Bool, false, not, List, [], ◌∷◌, map as mapped, filter, Option, Some, None}
-use Rattle.std.specs.Str.{bytes_eq}
-use Rattle.std.specs.List.{AllByRecursion, list_any}
-use Rattle.std.specs.declared.cmp.Ordering.TheVariants.{Less}
+use Rattle.std.specs.Prelude.{◌≡◌, ◌==◌, ◌<◌, ℕ, zero, suc, pos, Bool, false, not, List, [], ◌∷◌, map as mapped, filter, Option, Some, None}
+use Rattle.std.specs.List.{AllByRecursion}
+use Rattle.std.specs.Ordering.{nat_cmp}
 use Rattle.std.specs.FinMap as map
 use Rattle.std.specs.FinMap.{FinMap}
 use Rattle.std.specs.FinSet as set
 use Rattle.std.specs.FinSet.{FinSet}
 use Rattle.sqlite.specs.declared.types.Value.TheVariants.{Int}
-use Rattle.sqlite.specs.Order.{Row, column, value_cmp}
+use Rattle.sqlite.specs.Order.{Row, column}
 use Rattle.sqlite.specs.Tree.{Trees, rowid}
 use Rattle.dr_base.specs.Texts.{Text, text_cmp}
 use Rattle.dr_base.specs.declared.syntax.Syntax.TheVariants.{Explicit}
@@ -107,17 +106,24 @@ dest_in row = text_in (column row 2)
 abbrev pub keep_mark : Text
 keep_mark = 45 ∷ []
 
+-- a set of names, whose keys stand in byte order
+abbrev pub Names : Type 0
+Names = FinMap text_cmp (Unit {0})
+
+abbrev pub named_in : Row → Text × Unit {0}
+named_in row = (dest_in row, tt)
+
 -- what target has of line n
-abbrev pub names_in : List Row → ℕ → FinSet text_cmp
-names_in rows n = set.from_list (mapped dest_in (filter (is_of_line n) rows))
+abbrev pub names_in : List Row → ℕ → Names
+names_in rows n = map.from_entries (mapped named_in (filter (is_of_line n) rows))
 
 -- where the first arrival of line n goes on to, in byte order
 abbrev pub targets_in : List Row → ℕ → List Text
-targets_in rows n = set.items (set.remove (names_in rows n) keep_mark)
+targets_in rows n = map.keys (map.remove (names_in rows n) keep_mark)
 
 -- whether the node keeps what came by line n
 abbrev pub keeps_in : List Row → ℕ → Bool
-keeps_in rows n = set.contains (names_in rows n) keep_mark
+keeps_in rows n = map.contains_key (names_in rows n) keep_mark
 
 -- an item that isn't there; no line of a ledger speaks of one
 abbrev pub no_item : Text → Instance
@@ -141,12 +147,16 @@ line_in items targets row = line_by (number_in (column row 2)) (text_in (column 
     (text_in (column row 4)) (text_in (column row 5)) (outcome_in (column row 6)) (number_in (column row 7))
     (targets_in targets (number_in (rowid row))) (keeps_in targets (number_in (rowid row)))
 
+abbrev pub numbered_line : FinMap text_cmp Instance → List Row → Row → ℕ × Line
+numbered_line items targets row = (number_in (rowid row), line_in items targets row)
+
+-- in the order of their numbers
 abbrev pub lines_in : FinMap text_cmp Instance → List Row → List Row → List Line
-lines_in items targets rows = mapped (line_in items targets) rows
+lines_in items targets rows = map.values (map.from_entries {R = nat_cmp} (mapped (numbered_line items targets) rows))
 
 -- each line has a lower number
-abbrev pub AreBelow : ℤ → List Row → Type 0
-AreBelow n = AllByRecursion (λ row. value_cmp (rowid row) (Int n) ≡ Less)
+abbrev pub AreBelow : ℕ → List Row → Type 0
+AreBelow n = AllByRecursion (λ row. (m : ℕ) × (rowid row ≡ Int (pos m)) × (m < n))
 
 -- ---- all of it. The trees of the tables are 1 item, 3 print, 5 arrival, 7 kept, 9 queue, 11 journal and 12 target.
 

@@ -46,6 +46,7 @@ pub record StatementsAreUnderstood : Type 0 where
   pub insert_site : IsPlain (understood tables text.insert_site)
   pub set_plan : IsPlain (understood tables text.set_plan)
   pub the_site : IsPlain (understood tables text.the_site)
+  pub find_key : IsPlain (understood tables text.find_key)
   pub find_item : IsPlain (understood tables text.find_item)
   pub find_print : IsPlain (understood tables text.find_print)
   pub find_arrival : IsPlain (understood tables text.find_arrival)
@@ -62,6 +63,9 @@ pub record StatementsAreUnderstood : Type 0 where
   pub all_targets : IsPlain (understood tables text.all_targets)
   pub item_rowids : IsPlain (understood tables text.item_rowids)
   pub print_rowids : IsPlain (understood tables text.print_rowids)
+  pub arrival_rowids : IsPlain (understood tables text.arrival_rowids)
+  pub journal_rowids : IsPlain (understood tables text.journal_rowids)
+  pub queue_counts : IsPlain (understood tables text.queue_counts)
   pub queue_rowids : IsPlain (understood tables text.queue_rowids)
 
 -- The cells of a row and of an outcome say what was written into them.

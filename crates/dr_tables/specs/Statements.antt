@@ -108,9 +108,15 @@ set_plan = codes "UPDATE site SET plan = ?1 WHERE id = 1"
 
 -- ---- looking one up
 
+-- all of site, which has one row
 abbrev pub the_site : List ℕ
-the_site = codes "SELECT node, plan FROM site WHERE id = 1"
+the_site = codes "SELECT id, node, plan FROM site"
 
+-- what rules read of an instance
+abbrev pub find_key : List ℕ
+find_key = codes "SELECT class, syntax, modality, station FROM item WHERE uid = ?1"
+
+-- the same, with its data set
 abbrev pub find_item : List ℕ
 find_item = codes "SELECT class, syntax, modality, station, body FROM item WHERE uid = ?1"
 
@@ -126,9 +132,9 @@ find_kept = codes "SELECT uid FROM kept WHERE uid = ?1"
 abbrev pub find_row : List ℕ
 find_row = codes "SELECT state, tries, due, cause FROM queue WHERE uid = ?1 AND dest = ?2"
 
--- the destinations to which an instance is still to go
+-- the rows of an instance that aren't done, but for one destination
 abbrev pub find_open : List ℕ
-find_open = codes "SELECT dest FROM queue WHERE uid = ?1 AND state <> 2"
+find_open = codes "SELECT dest FROM queue WHERE uid = ?1 AND dest <> ?2 AND state <> 2"
 
 -- the first row of a destination that waits and is due
 abbrev pub find_next : List ℕ
@@ -162,6 +168,16 @@ item_rowids = codes "SELECT rowid FROM item ORDER BY rowid"
 
 abbrev pub print_rowids : List ℕ
 print_rowids = codes "SELECT rowid FROM print ORDER BY rowid"
+
+abbrev pub arrival_rowids : List ℕ
+arrival_rowids = codes "SELECT rowid FROM arrival ORDER BY rowid"
+
+abbrev pub journal_rowids : List ℕ
+journal_rowids = codes "SELECT rowid FROM journal ORDER BY rowid"
+
+-- the numbers in queue by which rows are found
+abbrev pub queue_counts : List ℕ
+queue_counts = codes "SELECT state, due FROM queue"
 
 abbrev pub queue_rowids : List ℕ
 queue_rowids = codes "SELECT rowid FROM queue ORDER BY rowid"

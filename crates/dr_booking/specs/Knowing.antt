@@ -1,0 +1,40 @@
+-- What the tables have of what arrives.
+use Rattle.std.specs.Prelude.{◌≡◌, ◌&&◌, Bool, not, false, List, Some}
+use Rattle.std.specs.FinMap as map
+use Rattle.std.specs.FinSet as set
+use Rattle.sqlite.specs.Tree.{Trees}
+use Rattle.dr_base.specs.Texts.{Text}
+use Rattle.dr_ledger.specs.declared.content.Job.{Job}
+use Rattle.dr_ledger.specs.declared.item.Instance.{Instance}
+use Rattle.dr_ledger.specs.Books.{Arrival, after}
+use Rattle.dr_ledger.specs.Items.{instance_of}
+use Rattle.dr_ledger.specs.Replies.{HasConflict}
+use Rattle.dr_tables.specs.Books.{all_kept_in, arrivals_in, bodies_of, book_of, items_of, rows_of}
+use Rattle.dr_calls.specs.declared.first.Taking.{Taking}
+use Rattle.dr_calls.specs.Bringing.{AsksToTake, IsKnownFor, missing}
+use Rattle.dr_calls.specs.Changes.{HasBoth, HasNeither}
+use Rattle.dr_calls.specs.Laws.{ComesWhereNeeded}
+use Rattle.dr_booking.specs.declared.knowing.Known.{Known}
+use Rattle.dr_booking.specs.declared.knowing.Known.TheVariants as known
+
+-- the item is there, with its print; whether its data set is there, too
+pub record IsThere (db : Trees) (item : Instance) (whole : Bool) : Type 0 where
+  pub same : map.get (items_of db) item.uid ≡ Some item
+  pub both : HasBoth item.uid db
+  pub body : map.contains_key (bodies_of db) item.uid ≡ whole
+
+-- what the tables have of the item's uid: nothing, another instance, or this one
+abbrev pub IsKnown : Trees → Instance → Known → Type 0
+IsKnown db item known.No = HasNeither item.uid db
+IsKnown db item known.Other = HasConflict (book_of db) item
+IsKnown db item (known.Same whole) = IsThere db item whole
+
+-- A first arrival, of an item that is taken so, fits the tables: these are the destinations to which it has no row, and it is to be kept
+-- from now on just if it wasn't.
+pub record Fits (how : Taking) (caller : Text) (item : Job) (to : List Text) (keep : Bool) (dests : List Text) (keeps : Bool) (db : Trees) : Type 0 where
+  pub asks : AsksToTake how item.uid db
+  pub known : IsKnownFor how (instance_of item) (map.get (items_of db) item.uid)
+  pub comes : ComesWhereNeeded how (after (Arrival caller (instance_of item) to keep) (book_of db)) (bodies_of db) item.uid
+  pub missing_are : dests ≡ missing (rows_of db) item.uid to
+  pub keeps_is : keeps ≡ (keep && not (set.contains (all_kept_in (db 7)) item.uid))
+  pub first : set.contains (arrivals_in (db 5)) (caller, item.uid) ≡ false

@@ -1,0 +1,12 @@
+//! The ledger of a node in the tables of a database.
+//!
+//! Each call that writes is one transaction, whose commit is its last call of the database. What is claimed stands under a call's end:
+//! that the disk has returned what was written so far, and that the store is open.
+#![tactic(auto)]
+
+mod arriving;
+mod knowing;
+mod needs;
+mod progress;
+pub mod settling;
+mod writing;
