@@ -1,5 +1,5 @@
 //! One play of a session.
-use crate::case::{Case, Kind, Node};
+use crate::case::{Case, Kind, Node, Setting};
 use crate::fault::Fault;
 use crate::note::{Ending, Note, end_of, end_of_echo, note_of};
 use crate::tape::{Call, Still, Tape};
@@ -7,7 +7,7 @@ use dr_base::{Octets, Syntax, Text};
 use dr_ledger::{Item, Ledger, Refusing};
 use dr_memory::MemoryLedger;
 use dr_session::desk::LedgerDesk;
-use dr_session::{deliver, echo, receive};
+use dr_session::{Clock, DeskPort, Link, deliver, echo, receive};
 use dr_site::Site;
 use std::alloc::{AllocError, Global};
 
@@ -62,9 +62,9 @@ fn pieces(alloc: Global, turns: &[Octets], cut: Cut) -> Result<Vec<Octets>, Allo
 }
 
 /// A data set comes to the ledger from that caller.
-fn bring(
+fn bring<L: Ledger>(
     alloc: Global,
-    ledger: &mut Refusing<MemoryLedger>,
+    ledger: &mut L,
     caller: Node,
     body: &Octets,
 ) -> Result<(), Fault> {
@@ -92,9 +92,9 @@ fn desk(alloc: Global, site: &Site, case: &Case) -> Result<Desk, Fault> {
     Ok(LedgerDesk { ledger })
 }
 
-/// The desk's lines.
-fn notes(alloc: Global, desk: &mut Desk) -> Result<Vec<Note>, Fault> {
-    let Ok(entries) = desk.ledger.lines() else {
+/// The ledger's lines.
+fn notes<L: Ledger>(alloc: Global, ledger: &mut L) -> Result<Vec<Note>, Fault> {
+    let Ok(entries) = ledger.lines() else {
         return Err(Fault::Desk);
     };
     let mut notes = Vec::new(alloc);
@@ -105,39 +105,43 @@ fn notes(alloc: Global, desk: &mut Desk) -> Result<Vec<Note>, Fault> {
 }
 
 /// An echo from GATE to ARCH.
-fn run_echo(alloc: Global, tape: &mut Tape, clock: &Still) -> Result<Ending, AllocError> {
+fn run_echo<L: Link, C: Clock>(
+    alloc: Global,
+    link: &mut L,
+    clock: &C,
+) -> Result<Ending, AllocError> {
     let caller = Text::copy_of(alloc, b"GATE")?;
     let called = Text::copy_of(alloc, b"ARCH")?;
-    Ok(end_of_echo(echo(alloc, tape, &caller, &called, clock)))
+    Ok(end_of_echo(echo(alloc, link, &caller, &called, clock)))
 }
 
 /// A delivery to that node.
-fn run_deliver(
+fn run_deliver<L: Link, P: DeskPort, C: Clock>(
     alloc: Global,
     site: &Site,
     dest: Node,
-    tape: &mut Tape,
-    desk: &mut Desk,
-    clock: &Still,
+    link: &mut L,
+    desk: &mut P,
+    clock: &C,
 ) -> Result<Ending, AllocError> {
     let dest = Text::copy_of(alloc, dest.name())?;
-    Ok(end_of(deliver(alloc, tape, site, desk, clock, &dest)))
+    Ok(end_of(deliver(alloc, link, site, desk, clock, &dest)))
 }
 
-/// The session over that link and desk.
-fn run(
+/// The session of that kind over a link and a desk.
+fn run<L: Link, P: DeskPort, C: Clock>(
     alloc: Global,
     site: &Site,
-    case: &Case,
-    tape: &mut Tape,
-    desk: &mut Desk,
+    setting: Setting,
+    link: &mut L,
+    desk: &mut P,
+    clock: &C,
 ) -> Result<Ending, AllocError> {
-    let clock = Still(case.setting.now);
-    let others = case.setting.others as usize;
-    match case.setting.kind {
-        Kind::Receive => Ok(end_of(receive(alloc, tape, site, desk, &clock, others))),
-        Kind::Deliver(dest) => run_deliver(alloc, site, dest, tape, desk, &clock),
-        Kind::Echo => run_echo(alloc, tape, &clock),
+    let others = setting.others as usize;
+    match setting.kind {
+        Kind::Receive => Ok(end_of(receive(alloc, link, site, desk, clock, others))),
+        Kind::Deliver(dest) => run_deliver(alloc, site, dest, link, desk, clock),
+        Kind::Echo => run_echo(alloc, link, clock),
     }
 }
 
@@ -166,8 +170,9 @@ pub fn play(
 ) -> Result<Played, Fault> {
     let mut desk = desk(alloc, site, case)?;
     let mut tape = tape(alloc, case, cut, fails_at)?;
-    let ending = run(alloc, site, case, &mut tape, &mut desk)?;
-    let notes = notes(alloc, &mut desk)?;
+    let clock = Still(case.setting.now);
+    let ending = run(alloc, site, case.setting, &mut tape, &mut desk, &clock)?;
+    let notes = notes(alloc, &mut desk.ledger)?;
     Ok(come_to(tape, ending, notes))
 }
 

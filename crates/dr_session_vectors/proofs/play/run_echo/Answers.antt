@@ -5,7 +5,7 @@ use Rattle.dr_session_vectors.proofs.Titles.{gate, arch}
 use Rattle.dr_session_vectors.proofs.play.run_echo.Goals as goal
 
 pub echo-requires-clause-caller : goal.echo-requires-clause-caller
-echo-requires-clause-caller c = subst (λ (t : Text). IsName t) (sym c.in_ok-caller.ensures) gate
+echo-requires-clause-caller g c = subst (λ (t : Text). IsName t) (sym c.in_ok-caller.ensures) gate
 
 pub echo-requires-clause-called : goal.echo-requires-clause-called
-echo-requires-clause-called c = subst (λ (t : Text). IsName t) (sym c.in_ok-called.ensures) arch
+echo-requires-clause-called g c = subst (λ (t : Text). IsName t) (sym c.in_ok-called.ensures) arch
