@@ -7,6 +7,7 @@ pub mod Lists
 pub mod Numbers
 pub mod Orders
 pub mod Outcomes
+pub mod Owned
 pub mod Points
 pub mod Selects
 pub mod Wholes
