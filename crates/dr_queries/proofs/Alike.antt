@@ -1,5 +1,5 @@
 -- What the lists of whole tables tell of the book.
-use Rattle.std.proofs.Common.{◌≡◌, ◌==◌, ℕ, List, [], ◌∷◌, map, filter, Bool, true, false, T, not, ◌&&◌, ◌||◌, cond, Option, Some, None, is_some, option_map, refl, sym, ap, subst, ◌∙◌, true≢false}
+use Rattle.std.proofs.Common.{◌≡◌, ◌==◌, ℕ, List, [], ◌∷◌, map, filter, Bool, true, false, T, not, ◌&&◌, ◌||◌, cond, Some, is_some, option_map, refl, sym, ap, ◌∙◌, true≢false}
 use Rattle.std.specs.declared.cmp.Ordering.{Ordering}
 use Rattle.std.specs.declared.cmp.Ordering.TheVariants.{Less, Equal, Greater}
 use Rattle.std.specs.Cmp.{nat_cmp_is, ranked}
@@ -15,11 +15,10 @@ use Rattle.std.proofs.lemmas.Map.Lookups.{exact_bytes}
 use Rattle.sqlite.specs.Order.{Row, column}
 use Rattle.sqlite.specs.Tree.{Trees}
 use Rattle.dr_base.specs.Texts.{Text, text_cmp}
-use Rattle.dr_route.specs.declared.key.Key.{Key}
-use Rattle.dr_tables.specs.Books.{Print, instance_by, is_of_line, item_in, items_of, key_in, keep_mark, names_in, named_in, print_in, prints_of, whole_in, wholes_in}
+use Rattle.dr_tables.specs.Books.{instance_by, is_of_line, item_in, key_in, named_in, print_in, prints_of, whole_in}
 use Rattle.dr_tables.specs.Cells.{number_in, text_in}
 use Rattle.dr_rows.proofs.Maps as maps
-use Rattle.dr_queries.specs.Lists.{Goal, GoalsAreNames, KeysAndPrintsAreInstances, goal_cmp, keys_of, whole_print_in, whole_prints_of}
+use Rattle.dr_queries.specs.Lists.{Goal, GoalsAreNames, KeysAndPrintsAreInstances, goal_cmp, whole_print_in}
 use Rattle.dr_queries.specs.declared.finding.Print.{Print as Whole}
 use Rattle.dr_queries.proofs.Lists.{goals_total}
 

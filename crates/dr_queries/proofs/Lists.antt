@@ -1,14 +1,13 @@
 -- What the lists of whole tables show.
-use Rattle.std.proofs.Common.{◌≡◌, ◌↔◌, ℕ, zero, suc, ℤ, pos, List, [], ◌∷◌, map, flat_map, length, Bool, true, false, T, All, Contains, Option, Some, None, IsTrue, refl, sym, ap, subst, ◌∙◌}
+use Rattle.std.proofs.Common.{◌≡◌, ℕ, zero, suc, List, [], ◌∷◌, map, flat_map, T, refl, sym, ap, subst, ◌∙◌}
 use Rattle.std.specs.declared.cmp.Ordering.{Ordering}
-use Rattle.std.specs.Ordering.{int_cmp, nat_cmp, eq_by_cmp, is_lt}
+use Rattle.std.specs.Ordering.{nat_cmp, is_lt}
 use Rattle.std.specs.Cmp.{IsTotalOrder, nat_cmp_total}
 use Rattle.std.specs.Cmp.Lexicographic.{nat_list_cmp_total, slice_cmp}
 use Rattle.std.specs.FinMap as fin
 use Rattle.std.specs.FinMap.{FinMap, IsAntisymmetric, entries, from_entries}
 use Rattle.std.specs.FinMap.Entries.{below_all, is_sorted}
 use Rattle.std.specs.FinSet as set
-use Rattle.std.specs.List.{AllByRecursion, list_any}
 use Rattle.std.specs.List.Sorted.{IsPermutation, IsStrictlySortedBy}
 use Rattle.std.proofs.lemmas.Cmp.{eq_by_cmp_equiv, on_total, then_total}
 use Rattle.std.proofs.lemmas.List.Sorted.{Contains-permutation, IsPermutation-map, IsPermutation-sym}
@@ -29,13 +28,13 @@ use Rattle.dr_ledger.specs.declared.item.Outcome.{Outcome}
 use Rattle.dr_ledger.specs.Books.{Line}
 use Rattle.dr_ledger.specs.Pairs.{pair_cmp}
 use Rattle.dr_ledger.specs.Replies.{Lists}
-use Rattle.dr_tables.specs.Books.{all_kept_in, arrivals_in, item_or_none, keeps_in, line_by, line_in, lines_in, numbered_line, rows_of, targets_in}
+use Rattle.dr_tables.specs.Books.{all_kept_in, arrivals_in, item_or_none, keeps_in, line_by, numbered_line, rows_of, targets_in}
 use Rattle.dr_tables.specs.Cells.{number_in, outcome_in, text_in}
 use Rattle.dr_tables.specs.Statements as text
 use Rattle.dr_tables.specs.Tables.{tables}
 use Rattle.dr_rows.proofs.Keys.{pairs_exact, pairs_total}
 use Rattle.dr_rows.proofs.Maps as maps
-use Rattle.dr_queries.specs.Lists.{IsJournal, NotesAreLines, goal_cmp, goals_of, keys_of, line_of, note_by, note_in, notes_of, shown_entry, shown_goal, shown_key_entry, shown_note, shown_note_entry, shown_pair, shown_print_entry, whole_prints_of}
+use Rattle.dr_queries.specs.Lists.{IsJournal, NotesAreLines, goal_cmp, goals_of, keys_of, line_of, note_by, note_in, shown_entry, shown_goal, shown_key_entry, shown_note, shown_note_entry, shown_pair, shown_print_entry, whole_prints_of}
 use Rattle.dr_queries.specs.Queries.{HasTables, shown_text}
 use Rattle.dr_queries.specs.declared.listing.Note.{Note}
 use Rattle.dr_queries.proofs.Apart.{apart_as_listed}

@@ -1,5 +1,5 @@
 -- Whose ledger it is, as the query of site shows it.
-use Rattle.std.proofs.Common.{◌≡◌, ℕ, pos, List, [], ◌∷◌, map, length, slice_get, Bool, true, false, not, Option, Some, None, refl, sym, ap, subst, ◌∙◌, arith}
+use Rattle.std.proofs.Common.{◌≡◌, ℕ, pos, List, [], ◌∷◌, map, length, slice_get, true, not, Option, Some, None, refl, sym, ap, subst, ◌∙◌, arith}
 use Rattle.std.specs.List.{AllByRecursion}
 use Rattle.std.specs.List.Sorted.{IsPermutation}
 use Rattle.std.proofs.lemmas.List.Sorted.{IsPermutation-sym}
@@ -17,7 +17,6 @@ use Rattle.sqlite_catalog.specs.Listing.{IsSound}
 use Rattle.sqlite_schema.specs.Rules.{is_of, passes}
 use Rattle.sqlite_schema.specs.declared.schema.Constraint.TheVariants.{Datatype, NotNull}
 use Rattle.sqlite_sql.specs.Ops.{is_null}
-use Rattle.dr_base.specs.Texts.{Text}
 use Rattle.dr_tables.specs.Cells.{bytes_in, text_in}
 use Rattle.dr_tables.specs.Ledgers.{IsLedger}
 use Rattle.dr_tables.specs.Statements as text

@@ -1,5 +1,5 @@
 -- The queries of whole tables as commands, by computation.
-use Rattle.std.proofs.Common.{codes, ◌≡◌, ℕ, List, [], ◌∷◌, refl, None, false, pos, negsuc}
+use Rattle.std.proofs.Common.{codes, ℕ, List, [], ◌∷◌, refl, None, false, pos, negsuc}
 use Rattle.sqlite.specs.Collation.TheVariants.{Binary}
 use Rattle.sqlite.specs.declared.types.Value.TheVariants.{Int}
 use Rattle.sqlite.specs.Listing.{understood}

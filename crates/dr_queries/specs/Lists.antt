@@ -1,5 +1,5 @@
 -- Whole tables, as lists whose keys rise.
-use Rattle.std.specs.Prelude.{◌≡◌, ◌==◌, not, ℕ, zero, suc, Bool, List, Option, Some, None, option_map, map as mapped}
+use Rattle.std.specs.Prelude.{◌≡◌, ◌==◌, not, ℕ, zero, suc, List, option_map, map as mapped}
 use Rattle.std.specs.declared.cmp.Ordering.{Ordering}
 use Rattle.std.specs.Ordering.{nat_cmp, ordering_then}
 use Rattle.std.specs.FinMap as map
@@ -15,7 +15,7 @@ use Rattle.dr_ledger.specs.declared.item.Outcome.{Outcome}
 use Rattle.dr_ledger.specs.declared.item.Progress.{Progress}
 use Rattle.dr_ledger.specs.Pairs.{Pair}
 use Rattle.dr_ledger.specs.Books.{Line, Arrival, Repeat, Settling, Requeuing, Adoption}
-use Rattle.dr_tables.specs.Books.{instance_by, is_whole, item_or_none, items_of, key_in, keeps_in, line_in, lines_in, names_in, prints_of, targets_in, wholes_in}
+use Rattle.dr_tables.specs.Books.{instance_by, item_or_none, items_of, key_in, keeps_in, line_in, lines_in, names_in, prints_of, targets_in, wholes_in}
 use Rattle.dr_tables.specs.Cells.{bytes_in, number_in, outcome_in, progress_in, syntax_marked, text_in}
 use Rattle.dr_queries.specs.declared.finding.Print.{Print}
 use Rattle.dr_queries.specs.declared.listing.Note.{Note}
