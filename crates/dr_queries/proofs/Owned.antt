@@ -21,13 +21,15 @@ use Rattle.dr_tables.specs.Cells.{bytes_in, text_in}
 use Rattle.dr_tables.specs.Ledgers.{IsLedger}
 use Rattle.dr_tables.specs.Statements as text
 use Rattle.dr_tables.specs.Tables.{site_table, tables}
+use Rattle.sqlite_trees.proofs.ListLemmas.{all_of, filter_all}
 use Rattle.dr_rows.specs.Effects.{site_row}
+use Rattle.dr_rows.proofs.Commands.{over}
+use Rattle.dr_rows.proofs.Updated.{hits}
 use Rattle.dr_rows.proofs.Keys.{a_blob, a_text, all_both, both}
 use Rattle.dr_queries.specs.Queries.{IsOwnerAsShown, IsOwnerIn, IsOwnerOf, IsOwnerRow}
 use Rattle.dr_queries.specs.declared.finding.Owner.{Owner}
-use Rattle.dr_queries.proofs.Lists.{all_listed}
+use Rattle.dr_queries.proofs.Points.{all_found}
 use Rattle.dr_queries.proofs.Selects as select
-use Rattle.dr_queries.proofs.Wholes.{listing}
 
 -- ---- the one row of an answer
 
@@ -106,9 +108,10 @@ owner_found old new rows has h found is = go found is
   where
     same : IsPermutation (map site_shown (old.now.trees 0)) rows
     same =
-        let answer : IsAnswer (listing 0 select.site_shown []) (overlay old.now.trees []) [] rows =
+        let answer : IsAnswer (over 0 [] select.site_shown) (overlay old.now.trees []) [] rows =
         (reads_as text.the_site [] old new tables has.schema _ select.the_site.command select.the_site.plain select.the_site.listing rows h).answer Null in
-        all_listed 0 select.site_shown [] old.now.trees rows answer answer.grouped
+        subst (λ t. IsPermutation (map site_shown t) rows) (filter_all (hits [] []) (old.now.trees 0) (all_of (λ r. hits [] [] r ≡ true) (λ r. refl) (old.now.trees 0)))
+        (all_found 0 [] select.site_shown old.now.trees [] rows answer answer.grouped)
 
     go : (found : Option Owner) → IsOwnerAsShown rows found → IsOwnerOf old.now.trees found
     go None none = λ node plan it.

@@ -21,7 +21,7 @@ use sqlite::{Alter, Connection, Row};
 use std::alloc::Global;
 
 /// Of a data set its length (bytes), its SHA-256, and whether it is there.
-#[derive(Clone, Copy, PartialEq, Eq, Debug)]
+#[derive(Clone, Copy)]
 pub struct Print {
     pub size: u64,
     pub digest: [u8; 32],
@@ -29,14 +29,14 @@ pub struct Print {
 }
 
 /// What is known of an instance, and whether its data set is there.
-#[derive(PartialEq, Eq, Debug, Drop)]
+#[derive(Drop)]
 pub struct Stored {
     pub instance: Instance,
     pub whole: bool,
 }
 
 /// Whose ledger it is: the node's name, and the SHA-256 of the plan in force.
-#[derive(PartialEq, Eq, Debug, Drop)]
+#[derive(Drop)]
 pub struct Owner {
     pub node: Text,
     pub plan: Octets,
