@@ -13,13 +13,13 @@ ghost use Rattle.dr_tables.specs.Books.{all_kept_in, arrivals_in, rows_of};
 ghost use Rattle.dr_lists.specs.Lists.{IsJournal, goal_cmp, goals_of, keys_of, shown_entry, shown_goal, shown_key_entry, shown_note, shown_note_entry, shown_pair, shown_print_entry, shown_settling, whole_prints_of};
 ghost use Rattle.dr_queries.specs.Queries.{Asked, HasTables, shown_text};
 
+use dr_base::Text;
+use dr_ledger::{LedgerFault, Outcome, Progress};
 use dr_queries::Print;
 use dr_queries::queries::ask;
 use dr_queries::reading::{
     read_bytes, read_digest, read_key, read_number, read_outcome, read_progress, read_text,
 };
-use dr_base::Text;
-use dr_ledger::{LedgerFault, Outcome, Progress};
 use dr_route::Key;
 use sqlite::{Alter, Connection, Row};
 use std::alloc::Global;

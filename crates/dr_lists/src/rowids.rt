@@ -12,9 +12,9 @@ ghost use Rattle.dr_tables.specs.Ledgers.{AreRows, IsCounted};
 ghost use Rattle.dr_queries.specs.Queries.{Asked, HasTables, IsCountedAsShown, IsNumberedBelow};
 
 use crate::listing::rise;
+use dr_ledger::LedgerFault;
 use dr_queries::queries::ask;
 use dr_queries::reading::read_number;
-use dr_ledger::LedgerFault;
 use sqlite::{Alter, Connection, Row};
 use std::alloc::Global;
 
