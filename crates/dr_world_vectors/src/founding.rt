@@ -8,7 +8,8 @@ use dr_world::{World, WorldFault};
 use std::alloc::Global;
 
 /// The 70 bytes of a CT image from the station S1 in Explicit VR Little Endian, with UID 1.2.3.4.
-const INSTANCE: &str = "080016005549 1a00 312e322e3834302e31303030382e352e312e342e312e312e3200 0800180055490800312e322e332e3400 08006000435302004354 0800101053480200 5331";
+const INSTANCE: &str =
+    "080016005549 1a00 312e322e3834302e31303030382e352e312e342e312e312e3200 0800180055490800312e322e332e3400 08006000435302004354 0800101053480200 5331";
 
 /// The item of those bytes.
 fn instance(alloc: Global) -> Result<Item, anyhow::Error> {
@@ -23,11 +24,7 @@ fn instance(alloc: Global) -> Result<Item, anyhow::Error> {
 }
 
 /// A ledger of that node; with `+` behind the name an instance has come to it.
-fn ledger_of(
-    alloc: Global,
-    sealed: &Sealed,
-    node: &str,
-) -> Result<MemoryLedger, anyhow::Error> {
+fn ledger_of(alloc: Global, sealed: &Sealed, node: &str) -> Result<MemoryLedger, anyhow::Error> {
     let name = node.strip_suffix('+').unwrap_or(node);
     let name = Text::copy_of(alloc, name.as_bytes())?;
     let mut ledger = MemoryLedger::new(alloc, Site::of(alloc, sealed, &name)?);

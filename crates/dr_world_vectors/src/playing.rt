@@ -16,7 +16,12 @@ fn text(alloc: Global, word: &str) -> Result<Text, anyhow::Error> {
 }
 
 /// Whether a node has an instance's data set; `no node` where there is no such node.
-fn body(alloc: Global, world: &mut Played, node: &str, uid: &str) -> Result<&'static str, anyhow::Error> {
+fn body(
+    alloc: Global,
+    world: &mut Played,
+    node: &str,
+    uid: &str,
+) -> Result<&'static str, anyhow::Error> {
     let (node, uid) = (text(alloc, node)?, text(alloc, uid)?);
     match world.has_body(&node, &uid)? {
         Some(true) => Ok("yes"),
