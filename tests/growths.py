@@ -2,7 +2,7 @@
 """Refuses each growth of memory in turn, one in each run of a built program, and looks for an answer that is another one then.
 
     tests/growths.py ledger [FIRST]     calls on a ledger in memory (crates/dr_ledger_vectors)
-    tests/growths.py desk [FIRST]       two sessions on one shared desk (crates/dr_desk_vectors)
+    tests/growths.py desk [FIRST]       two sessions on one shared desk (crates/dr_workers_vectors)
 
 A small library that is loaded before the program (LD_PRELOAD) counts its calls for memory and refuses the one whose number it is told; the
 numbers go up, from the FIRST on, until a run meets no refusal. A run is as it is to be where it ends by itself and has printed what a
@@ -74,20 +74,38 @@ fn main(rt: HostRuntime) -> Result<(), Fail> {
 """
 
 
+def below(name, libraries):
+    """The crates of the repository that this one stands on."""
+    found, left = [], list(libraries[name])
+    while left:
+        it = left.pop()
+        if it in libraries and it not in found:
+            found.append(it)
+            left += libraries[it]
+    return found
+
+
 def desk_program(room):
-    """A program over the modules of the desk's tests, beside copies of the crates with what earlier checks left in their out/."""
-    shutil.copytree(f"{TOP}/crates", f"{room}/crates")
+    """A program over the modules of the workers' tests, beside copies of the crates below with what earlier checks left in their out/."""
     with open(f"{TOP}/crates.txt") as it:
-        lines = it.read()
-    libraries = re.search(r"^dr_desk_vectors:(.*)$", lines, re.M)[1]
+        libraries = {front.strip(): back.split() for front, mark, back in (line.split("#")[0].partition(":") for line in it) if mark}
+    libraries["desk_growths"] = libraries["dr_workers_vectors"]
+    needed = below("desk_growths", libraries)
+    for name in needed:
+        shutil.copytree(f"{TOP}/crates/{name}", f"{room}/crates/{name}")
     with open(f"{room}/crates.txt", "w") as it:
-        it.write(f"{lines}\ndesk_growths:{libraries}\n")
+        for name in [*needed, "desk_growths"]:
+            print(f"{name}:", *libraries[name], file=it)
     shutil.copy(f"{TOP}/HANDLES", room)
-    folder = f"{room}/crates/desk_growths"
+    folder, source = f"{room}/crates/desk_growths", f"{TOP}/crates/dr_workers_vectors"
     os.makedirs(f"{folder}/src")
     for name in ("peer", "samples", "sessions"):
-        shutil.copy(f"{TOP}/crates/dr_desk_vectors/src/{name}.rt", f"{folder}/src")
-    shutil.copytree(f"{TOP}/crates/dr_desk_vectors/proofs/sessions", f"{folder}/proofs/sessions")
+        shutil.copy(f"{source}/src/{name}.rt", f"{folder}/src")
+    os.makedirs(f"{folder}/proofs/sessions/serve_archive")
+    with open(f"{source}/proofs/sessions/serve_archive/Invariants.antt") as it:
+        answers = it.read().replace("dr_workers_vectors", "desk_growths")
+    with open(f"{folder}/proofs/sessions/serve_archive/Invariants.antt", "w") as it:
+        it.write(answers)
     with open(f"{folder}/src/main.rt", "w") as it:
         it.write(MAIN)
     return folder

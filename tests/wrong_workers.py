@@ -1,5 +1,5 @@
 #!/usr/bin/env python3
-"""Tries wrong bodies of the shared desk and of its workers of which no contract speaks: the tests of `dr_desk_vectors` must fail.
+"""Tries wrong bodies of the shared desk and of its workers of which no contract speaks: the tests of `dr_workers_vectors` must fail.
 
     tests/wrong_workers.py [NAME..]
 
@@ -47,7 +47,7 @@ def is_seen(edits):
             with open(f"{room}/crates/{path}", "w") as it:
                 it.write(text.replace(old, new))
         ran = subprocess.run(
-            ["rt", "try", "--test"], cwd=f"{room}/crates/dr_desk_vectors",
+            ["rt", "try", "--test"], cwd=f"{room}/crates/dr_workers_vectors",
             stdout=subprocess.PIPE, stderr=subprocess.STDOUT, text=True, errors="replace",
         )
     print("\n".join(it for it in ran.stdout.splitlines() if it.startswith(("test ", "error"))), flush=True)

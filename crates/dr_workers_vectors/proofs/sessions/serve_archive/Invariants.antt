@@ -1,5 +1,5 @@
 use Rattle.dr_memory.specs.Contents.{content}
-use Rattle.dr_desk_vectors.proofs.sessions.serve_archive.Given as goal
+use Rattle.dr_workers_vectors.proofs.sessions.serve_archive.Given as goal
 
 abbrev pub ghosts-share_and_serve-B-Ledger : goal.ghosts-share_and_serve-B-Ledger
 ghosts-share_and_serve-B-Ledger g a = record { name = a.blank.name; parts = a.blank.parts }
