@@ -2,6 +2,7 @@
 """Refuses each growth of memory in turn, one in each run of a built program, and looks for an answer that is another one then.
 
     tests/growths.py ledger [FIRST]     calls on a ledger in memory (crates/dr_ledger_vectors)
+    tests/growths.py world [FIRST]      an instance on its way over three nodes in the simulator (crates/dr_world_vectors)
     tests/growths.py desk [FIRST]       two sessions on one shared desk (crates/dr_workers_vectors)
 
 A small library that is loaded before the program (LD_PRELOAD) counts its calls for memory and refuses the one whose number it is told; the
@@ -126,6 +127,12 @@ def ledger_rows():
         return "".join(line for line in it if not line.startswith("zeros "))
 
 
+def world_rows():
+    """The worlds that begin or don't, and the way of one instance."""
+    with open(f"{TOP}/crates/dr_world_vectors/stdin") as it:
+        return it.read().partition("# another data set")[0]
+
+
 class Sweep:
     def __init__(self, room, program, text):
         self.room, self.program, self.text = room, program, text
@@ -160,12 +167,14 @@ class Sweep:
 
 
 def main():
-    if len(sys.argv) not in (2, 3) or sys.argv[1] not in ("ledger", "desk"):
+    if len(sys.argv) not in (2, 3) or sys.argv[1] not in ("ledger", "world", "desk"):
         sys.exit(__doc__)
     first = int(sys.argv[2]) if len(sys.argv) == 3 else 1
     with tempfile.TemporaryDirectory(prefix="growths-") as room:
         if sys.argv[1] == "ledger":
             sweep = Sweep(room, build(f"{TOP}/crates/dr_ledger_vectors"), ledger_rows())
+        elif sys.argv[1] == "world":
+            sweep = Sweep(room, build(f"{TOP}/crates/dr_world_vectors"), world_rows())
         else:
             sweep = Sweep(room, build(desk_program(room)), "")
         number, found, ended = first, 0, 0
