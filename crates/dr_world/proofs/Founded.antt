@@ -4,7 +4,7 @@ use Rattle.std.specs.Prelude.{Contains}
 use Rattle.std.specs.Cmp.{eq_by_cmp_equiv}
 use Rattle.std.specs.BTreeMap as tree
 use Rattle.std.specs.BTreeMap.{BTreeMap, is_at}
-use Rattle.std.proofs.lemmas.List.{take_more}
+use Rattle.std.proofs.lemmas.List.{append_assoc, length_push, take_more}
 use Rattle.std.proofs.lemmas.List.Elements.{Contains-push, Contains-push_cases, Contains-append_left}
 use Rattle.std.proofs.lemmas.List.Sorted.{Contains-permutation}
 use Rattle.std.proofs.Math.Logic.{∥∥₁_map, ∥∥₁_map₂}
@@ -17,7 +17,10 @@ use Rattle.dr_ledger.specs.declared.ledger.Ledger.{Ghosts}
 use Rattle.dr_ledger.proofs.Maps.{texts, same_or_not, ties_itself}
 use Rattle.dr_model.specs.Worlds.{same_text}
 use Rattle.dr_node.specs.declared.node.Node.{Node}
-use Rattle.dr_world.specs.Founding.{AreFounded, AreNames, Founds, IsFounded}
+use Rattle.dr_world.specs.Founding.{AreFounded, AreNames, Founds, IsFounded, IsUnfitAt, SomeIsUnfit}
+use Rattle.dr_world.specs.declared.fault.WorldFault.{WorldFault}
+use Rattle.dr_site.specs.Parts.{Part}
+use Rattle.std.specs.Prelude.{IfErr, IsErrAnd, Result, Ok, Err}
 use Rattle.dr_world.specs.declared.wires.Wires.{Wires}
 use Rattle.dr_world.specs.declared.world.World.{World}
 use Rattle.dr_world.specs.Laws.{IsNew}
@@ -134,3 +137,21 @@ module _ {L : Type 0} {l : Ghosts L} (plan : Network) (certificate : Certificate
     reached all =
         let stands : AllStandIn nodes = subst (λ (ns : BTreeMap Text (Node L l)). AllStandIn ns) of all in
         ∥∥₁_map (all_bare stands) (λ bare. (subst (λ (ns : BTreeMap Text (Node L l)). IsSeated plan certificate (seats_of ns)) (sym of) (seated are), (beginning, refl, begins (contents w) (is_new bare))))
+
+-- one ledger more has its node
+pub next_seated : {L : Type 0} (all : List L) {left : List L} {place : ℕ} → (seated : List L) × (all ≡ seated ++ left) × (length seated ≡ place) → (ledger : L) (after : List L) → left ≡ ledger ∷ after →
+    (seated : List L) × (all ≡ seated ++ after) × (length seated ≡ place + 1)
+next_seated all before ledger after is =
+    (before.0 ++ ledger ∷ [], before.1 ∙ ap (λ xs. before.0 ++ xs) is ∙ sym (append_assoc before.0 (ledger ∷ []) after), length_push before.0 ledger ∙ ap (λ n. n + 1) before.2)
+
+-- a fault that is passed on
+pub passed_on : {T E : Type 0} (r : Result T E) (fault : E) (P : E → Type 0) → IsErrAnd r (λ e. e ≡ fault) → P fault → IfErr r P
+passed_on (Ok x) fault P is p = tt
+passed_on (Err e) fault P is p = subst P (sym is) p
+
+-- a ledger that can't be its node's
+pub some_is_unfit : {L : Type 0} (unfit : Part → L → WorldFault → Type 0) (plan : Network) (certificate : Certificate) (names : List Text) (all : List L) {left : List L} {place : ℕ} →
+    (seated : List L) × (all ≡ seated ++ left) × (length seated ≡ place) → (ledger : L) (after : List L) → left ≡ ledger ∷ after → (name : Text) → get_or names place name ≡ name → place < length names →
+    (fault : WorldFault) → IsUnfitAt unfit plan certificate name ledger fault → SomeIsUnfit unfit plan certificate names all fault
+some_is_unfit unfit plan certificate names all before ledger after is name at within fault why =
+    (before.0, ledger, after, name, before.1 ∙ ap (λ xs. before.0 ++ xs) is, ap (λ n. get_or names n name) before.2 ∙ at, subst (λ (n : ℕ). n < length names) (sym before.2) within, why)

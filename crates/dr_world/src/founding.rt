@@ -31,8 +31,9 @@ fn is_empty<L: Ledger>(ledger: &mut L) -> Result<bool, WorldFault>
 {
     match ledger.lines() {
         Ok(lines) => Ok(lines.is_empty()),
-        Err(LedgerFault::Memory) => Err(WorldFault::Memory),
-        Err(_) => Err(WorldFault::Store),
+        Err(LedgerFault::Store) => Err(WorldFault::Store),
+        // a reading call has no other fault than want of memory
+        Err(_) => Err(WorldFault::Memory),
     }
 }
 

@@ -4,8 +4,8 @@ use Rattle.dr_base.specs.Texts.{Text, text_cmp}
 use Rattle.dr_site.specs.Parts.{Part, IsPartOf}
 use Rattle.dr_world.proofs.founding.seat.Goals as goal
 
-pub returns : goal.returns
-returns g c =
+pub returns-clause-founds : goal.returns-clause-founds
+returns-clause-founds g c =
     let site = c.in_ok-node.ensures.site in (
       c.in_ok-node.node,
       record {

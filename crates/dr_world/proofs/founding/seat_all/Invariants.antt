@@ -5,6 +5,6 @@ use Rattle.dr_world.proofs.founding.seat_all.Given as goal
 
 -- the nodes so far, as many ledgers left as names, and those that are seated
 abbrev pub invariant-loop-ledger : goal.invariant-loop-ledger
-invariant-loop-ledger {L} g l =
+invariant-loop-ledger g l =
     AreFounded l.fn.sealed.plan l.fn.sealed.certificate (take l.place l.fn.names) l.nodes × (l.place + length (into_iter_items l.ledger-iterator) ≡ length l.fn.names)
-    × ((seated : List L) × (l.fn.ledgers.items ≡ seated ++ into_iter_items l.ledger-iterator) × (length seated ≡ l.place))
+    × ((seated : List g.row.L.Denot) × (l.fn.ledgers.items ≡ seated ++ into_iter_items l.ledger-iterator) × (length seated ≡ l.place))
