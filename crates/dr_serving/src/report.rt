@@ -1,22 +1,23 @@
 //! What a node has, as it is printed.
-ghost use Rattle.std.specs.Prelude.{IfOk};
-ghost use Rattle.dr_script.specs.Reports.{IsReportOf};
+ghost use Rattle.std.specs.Prelude.{◌≡◌, ◌++◌, IfOk};
+ghost use Rattle.dr_script.specs.Reports.{IsReportOf, name_line, report_of as report};
 
-use dr_base::Text;
-use dr_ledger::{Ledger, LedgerFault};
+use dr_base::{Seq, Text};
+use dr_ledger::{Ledger, LedgerFault, Progress};
 use dr_script::{put_name, put_report};
-use std::alloc::Global;
+use std::alloc::{AllocError, Global};
 
-/// The report of a node with this ledger.
-///
-/// Errors: Store, Memory.
-pub fn report_of<L: Ledger>(alloc: Global, name: &Text, ledger: &mut L) -> Result<Text, LedgerFault>
-    ensures report { IfOk result (λ text. L.stands ledger.new → IsReportOf name.now (L.book ledger.new) text) }
+/// The report of what a ledger lists.
+fn text_of(
+    alloc: Global,
+    name: &Text,
+    arrivals: &Seq<(Text, Text)>,
+    kept: &Seq<(Text, u64)>,
+    rows: &Seq<((Text, Text), Progress)>,
+    lines: u64,
+) -> Result<Text, AllocError>
+    ensures { IfOk result (λ text. text ≡ name_line name.now ++ report arrivals.now kept.now rows.now lines) }
 {
-    let arrivals = ledger.arrivals()?;
-    let kept = ledger.kept()?;
-    let rows = ledger.rows()?;
-    let lines = ledger.lines()?;
     let mut out = Vec::new(alloc);
     put_name(&mut out, name)?;
     put_report(
@@ -24,7 +25,22 @@ pub fn report_of<L: Ledger>(alloc: Global, name: &Text, ledger: &mut L) -> Resul
         arrivals.as_slice(),
         kept.as_slice(),
         rows.as_slice(),
-        lines.len() as u64,
+        lines,
     )?;
     Ok(Text::from_vec(out))
+}
+
+/// The report of a node with this ledger.
+///
+/// Errors: Store, Memory.
+pub fn report_of<L: Ledger>(alloc: Global, name: &Text, ledger: &mut L) -> Result<Text, LedgerFault>
+    ensures { IfOk result (λ text. L.stands ledger.new → IsReportOf name.now (L.book ledger.new) text) }
+{
+    let arrivals = ledger.arrivals()?;
+    let kept = ledger.kept()?;
+    let rows = ledger.rows()?;
+    let lines = ledger.lines()?;
+    let count = lines.len() as u64;
+    let text = text_of(alloc, name, &arrivals, &kept, &rows, count)?;
+    Ok(text)
 }

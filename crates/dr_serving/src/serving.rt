@@ -69,10 +69,10 @@ impl<'a, C: Clock> Clock for ClockOf<'a, C> {
 }
 
 /// Accepts so many connections, or, for 0, each that comes, and hands them to the workers.
-fn accept_links<'a, R: Wait + time::Clock, D: Listening, C: Clock>(
+fn accept_links<'a, R: Wait + time::Clock, K: Link + Drop, D: Listening<Socket = K>, C: Clock>(
     rt: &R,
     listener: &D,
-    to: Sender<Connection<D::Socket, ClockOf<'a, C>>>,
+    to: Sender<Connection<K, ClockOf<'a, C>>>,
     links: u64,
     clock: &'a C,
 ) {
@@ -123,7 +123,8 @@ fn serve_links<
     R: Threads + Wait + Sync + time::Clock,
     L: Ledger + Drop + Send,
     B: Sharing + Send + Sync,
-    D: Listening + Sync,
+    K: Link + Drop + Send,
+    D: Listening<Socket = K> + Sync,
     C: Clock + Sync,
 >(
     rt: &R,
@@ -143,11 +144,41 @@ fn serve_links<
     passes
 }
 
-/// Serves and sends on a shared desk.
+/// Serves and sends, side by side; the passes of those who serve, and that of the one who sends.
+fn serve_all<
+    R: Threads + Wait + Sync + time::Clock,
+    L: Ledger + Drop + Send,
+    B: Sharing + Send + Sync,
+    K: Link + Drop + Send,
+    D: Listening<Socket = K> + Sync,
+    N: Network + Sync,
+    C: Clock + Sync,
+>(
+    rt: &R,
+    alloc: Global,
+    desk: &SharedDesk<L, B>,
+    own: Pass<B>,
+    hops: Vec<Hop>,
+    listener: &D,
+    links: u64,
+    signal: &Signal,
+    network: &N,
+    clock: &C,
+) -> (Result<Vec<Pass<B>>, WorkersFault>, Pass<B>) {
+    thread::join(
+        rt,
+        || serve_links(rt, alloc, desk, listener, links, signal, clock),
+        || send_all(rt, alloc, desk, own, hops, signal, network, clock),
+    )
+}
+
+/// Serves and sends on a shared desk, and ends the sharing.
 fn serve_shared<
     R: Threads + Wait + Sync + time::Clock,
     L: Ledger + Drop + Send,
     B: Sharing + Send + Sync,
+    K: Link + Drop + Send,
+    D: Listening<Socket = K> + Sync,
     N: Network + Sync,
     C: Clock + Sync,
 >(
@@ -155,7 +186,7 @@ fn serve_shared<
     alloc: Global,
     desk: SharedDesk<L, B>,
     hops: Vec<Hop>,
-    listener: &N::Listener,
+    listener: &D,
     links: u64,
     network: &N,
     clock: &C,
@@ -169,14 +200,11 @@ fn serve_shared<
         return Err(ServeFault::Memory);
     };
     let signal = Signal::new();
-    let (passes, own) = thread::join(
-        rt,
-        || serve_links(rt, alloc, &desk, listener, links, &signal, clock),
-        || send_all(rt, alloc, &desk, own, hops, &signal, network, clock),
+    let (passes, own) = serve_all(
+        rt, alloc, &desk, own, hops, listener, links, &signal, network, clock,
     );
-    let mut passes = match passes {
-        Ok(passes) => passes,
-        Err(_) => return Err(ServeFault::Memory),
+    let Ok(mut passes) = passes else {
+        return Err(ServeFault::Memory);
     };
     passes.push(own)?;
     closed(alloc, desk, passes)
@@ -213,6 +241,8 @@ fn share<
     R: Threads + Wait + Sync + time::Clock,
     L: Ledger + Drop + Send,
     B: Sharing + Send + Sync,
+    K: Link + Drop + Send,
+    D: Listening<Socket = K> + Sync,
     N: Network + Sync,
     C: Clock + Sync,
 >(
@@ -222,7 +252,7 @@ fn share<
     site: Site,
     blank: Blank,
     hops: Vec<Hop>,
-    listener: &N::Listener,
+    listener: &D,
     links: u64,
     network: &N,
     clock: &C,
@@ -250,6 +280,8 @@ fn share<
 pub fn serve<
     R: Threads + Wait + Sync + time::Clock,
     L: Ledger + Drop + Send,
+    K: Link + Drop + Send,
+    D: Listening<Socket = K> + Sync,
     N: Network + Sync,
     C: Clock + Sync,
 >(
@@ -258,7 +290,7 @@ pub fn serve<
     ledger: L,
     site: Site,
     hops: Vec<Hop>,
-    listener: &N::Listener,
+    listener: &D,
     links: u64,
     network: &N,
     clock: &C,
@@ -268,7 +300,7 @@ pub fn serve<
     ensures history { IfOk result (λ l. L.stands l → ∥ IsJournalled (site_routing site) (L.book l) ∥₁) }
     ensures of { IfOk result (λ l. L.site l ≡ site) }
 {
-    share::<R, L, Brand, N, C>(
+    share::<R, L, Brand, K, D, N, C>(
         rt,
         alloc,
         ledger,

@@ -12,8 +12,8 @@ use dr_ledger::Ledger;
 use dr_memory::MemoryLedger;
 use dr_network::Plan;
 use dr_serving::{OwnPort, hops_of, report_of, serve, visit_each};
-use dr_session::{Clock, DeskPort};
-use dr_sockets::{Listener, Network, Sockets, SystemClock};
+use dr_session::{Clock, DeskPort, Link};
+use dr_sockets::{Listener, Listening, Network, Sockets, SystemClock};
 use fault::Fault;
 use std::alloc::Global;
 use std::net::{Net, TcpListener, TcpStream};
@@ -28,12 +28,18 @@ fn address_of(alloc: Global, listener: &TcpListener) -> Result<String, Fault> {
 }
 
 /// A node that serves one connection; its report.
-fn serve_one<R: Threads + Wait + Sync + time::Clock, N: Network + Sync, C: Clock + Sync>(
+fn serve_one<
+    R: Threads + Wait + Sync + time::Clock,
+    K: Link + Drop + Send,
+    D: Listening<Socket = K> + Sync,
+    N: Network + Sync,
+    C: Clock + Sync,
+>(
     rt: &R,
     alloc: Global,
     sealed: &Sealed,
     name: &str,
-    listener: &N::Listener,
+    listener: &D,
     network: &N,
     clock: &C,
 ) -> Result<Text, Fault> {

@@ -9,9 +9,9 @@ use std::io;
 /// Where a program connects and listens, each address as a plan writes it (`host:port`). Its relation says which links may lead
 /// to an address; a system's sockets claim nothing.
 pub trait Network {
-    type Socket: Link + Drop + Send;
+    type Socket: Link + Drop;
 
-    type Listener: Listening<Socket = Self::Socket> + Drop + Sync;
+    type Listener: Listening<Socket = Self::Socket> + Drop;
 
     ghost reaches: { Self → List ℕ → Self.Socket → Type 0 };
 
@@ -25,7 +25,7 @@ pub trait Network {
 
 /// What listens at an address.
 pub trait Listening {
-    type Socket: Link + Drop + Send;
+    type Socket: Link + Drop;
 
     /// Waits for the next connection.
     fn accept(&self) -> io::Result<Self::Socket>;

@@ -51,7 +51,7 @@ fn words_of(address: &Text) -> io::Result<&str> {
 }
 
 /// What no contract says of a system's sockets, tests do.
-impl<'a, R: Net<Stream = TcpStream, Listener = TcpListener>, C: Clock + Sync> Network
+impl<'a, R: Net<Stream = TcpStream, Listener = TcpListener>, C: Clock> Network
     for Sockets<'a, R, C> {
     type Socket = Socket<'a, TcpStream, C>;
 
@@ -90,7 +90,7 @@ impl<'a, C: Clock> Listener<'a, C> {
     }
 }
 
-impl<'a, C: Clock + Sync> Listening for Listener<'a, C> {
+impl<'a, C: Clock> Listening for Listener<'a, C> {
     type Socket = Socket<'a, TcpStream, C>;
 
     fn accept(&self) -> io::Result<Socket<'a, TcpStream, C>> {
