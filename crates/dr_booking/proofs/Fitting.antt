@@ -1,5 +1,5 @@
 -- First arrivals fit the tables.
-use Rattle.std.proofs.Common.{◌≡◌, ◌≢◌, ◌⊎◌, ◌↔◌, ◌==◌, inl, inr, ℕ, suc, Bool, true, false, cond, not, ◌&&◌, is_some, IsTrue, List, [], ◌∷◌, Contains, length, Option, Some, None, arith, eqb-true, refl, sym, ap, subst, ◌∙◌, true≢false}
+use Rattle.std.proofs.Common.{◌≡◌, ◌≢◌, ◌⊎◌, ◌↔◌, ◌==◌, inl, inr, ℕ, suc, Bool, true, false, cond, not, ◌&&◌, is_some, IsTrue, List, [], ◌∷◌, ◌++◌, Contains, length, Option, Some, None, arith, eqb-true, refl, sym, ap, subst, ◌∙◌, true≢false}
 use Rattle.std.specs.Cmp.{both_ways}
 use Rattle.std.specs.FinMap as map
 use Rattle.std.specs.FinMap.{FinMap}
@@ -201,3 +201,22 @@ none_among (first ∷ more) is dest among = let no : suc (length more) ≡ 0 = e
 pub some_among : (to : List Text) → (length to == 0) ≡ false → (dest : Text) × Contains to dest
 some_among [] is = absurd (true≢false is)
 some_among (first ∷ more) is = (first, Contains-here first more)
+
+pub nothing_in : (to : List Text) → (length to == 0) ≡ true → to ≡ []
+nothing_in [] is = refl
+nothing_in (first ∷ more) is = let no : suc (length more) ≡ 0 = eqb-true _ _ is in absurd (omega (arith, no))
+
+-- ---- rows that are missing, one destination after another
+
+pub one_missing : (o : Option Progress) (dest : Text) → cond (is_some o) [] (dest ∷ []) ≡ cond (not (is_some o)) (dest ∷ []) []
+one_missing None dest = refl
+one_missing (Some row) dest = refl
+
+pub missing_more : (rows : FinMap pair_cmp Progress) (uid : Text) (to : List Text) (dest : Text) → missing rows uid (to ++ dest ∷ []) ≡ missing rows uid to ++ missing rows uid (dest ∷ [])
+missing_more rows uid [] dest = refl
+missing_more rows uid (first ∷ more) dest = go (map.contains_key rows (uid, first)) (missing_more rows uid more dest)
+  where
+    go : (b : Bool) → missing rows uid (more ++ dest ∷ []) ≡ missing rows uid more ++ missing rows uid (dest ∷ [])
+        → cond (not b) (first ∷ missing rows uid (more ++ dest ∷ [])) (missing rows uid (more ++ dest ∷ [])) ≡ cond (not b) (first ∷ missing rows uid more) (missing rows uid more) ++ missing rows uid (dest ∷ [])
+    go true later = later
+    go false later = ap (λ ds. first ∷ ds) later

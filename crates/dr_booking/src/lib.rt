@@ -4,9 +4,15 @@
 //! that the disk has returned what was written so far, and that the store is open.
 #![tactic(auto)]
 
-mod arriving;
-mod knowing;
+pub mod arriving;
+pub mod knowing;
 mod needs;
 mod progress;
+pub mod receiving;
 pub mod settling;
 mod writing;
+
+pub use arriving::{bring_item, bring_new, repeat};
+pub use knowing::{Known, know};
+pub use receiving::{arrive, receive};
+pub use settling::{requeue, settle};
