@@ -1,5 +1,5 @@
 -- The rows of queue that are open, and the first one that is due.
-use Rattle.std.proofs.Common.{◌≡◌, ◌≢◌, ◌⊎◌, ◌↔◌, ◌==◌, ◌<◌, ◌≤◌, ◌^◌, ◌-◌, inl, inr, ℕ, zero, suc, ℤ, pos, List, [], ◌∷◌, map, filter, length, Bool, true, false, not, ◌&&◌, ◌||◌, cond, Option, Some, None, All, IsTrue, refl, sym, ap, subst, ◌∙◌, arith, true≢false, ltb→lt, nat_abs}
+use Rattle.std.proofs.Common.{◌≡◌, ◌≢◌, ◌↔◌, ◌==◌, ◌<◌, ◌≤◌, ◌^◌, inl, inr, ℕ, zero, suc, pos, List, [], ◌∷◌, map, filter, length, Bool, true, false, not, ◌&&◌, ◌||◌, cond, Some, All, IsTrue, refl, sym, ap, subst, ◌∙◌, arith, true≢false, ltb→lt, nat_abs}
 use Rattle.std.specs.declared.cmp.Ordering.{Ordering}
 use Rattle.std.specs.declared.cmp.Ordering.TheVariants.{Less, Equal, Greater}
 use Rattle.std.specs.Ordering.{int_cmp, is_eq, is_le, is_lt, is_ne, nat_cmp, ordering_reverse, ordering_then, eq_by_cmp}
@@ -34,9 +34,9 @@ use Rattle.sqlite_value.proofs.OrderLemmas.{value_cmp-Int, value_cmp-Text, then-
 use Rattle.dr_base.specs.Texts.{Text, text_cmp}
 use Rattle.dr_ledger.specs.declared.item.Cause.{Cause}
 use Rattle.dr_ledger.specs.declared.item.Progress.{Progress}
-use Rattle.dr_ledger.specs.declared.item.Progress.TheVariants.{Waiting, Held, Done}
+use Rattle.dr_ledger.specs.declared.item.Progress.TheVariants.{Waiting, Done}
 use Rattle.dr_ledger.specs.Pairs.{Pair, pair_cmp}
-use Rattle.dr_ledger.specs.Replies.{IsDue, IsNoLater}
+use Rattle.dr_ledger.specs.Replies.{IsDue}
 use Rattle.dr_tables.specs.Books.{book_of, entry_in, rows_of}
 use Rattle.dr_tables.specs.Cells.{cause_in, due_of, number_in, progress_by, text_in}
 use Rattle.dr_tables.specs.Ledgers.{IsCounted, IsLedger}

@@ -1,16 +1,16 @@
 -- What the queries by key answer.
-use Rattle.std.proofs.Common.{◌≡◌, ◌==◌, inl, inr, ℕ, List, [], ◌∷◌, map, length, Bool, true, false, not, cond, Option, Some, None, is_some, option_map, unwrap_or, refl, sym, ap, subst, ◌∙◌}
+use Rattle.std.proofs.Common.{◌≡◌, ◌==◌, inl, inr, List, [], ◌∷◌, map, length, Bool, true, false, not, cond, Option, Some, None, is_some, refl, sym, ap, subst, ◌∙◌}
 use Rattle.std.specs.Cmp.Lexicographic.{nat_list_cmp_total}
 use Rattle.std.specs.FinMap as fin
-use Rattle.std.specs.FinMap.{FinMap, get-from_entries}
+use Rattle.std.specs.FinMap.{get-from_entries}
 use Rattle.std.specs.FinSet as set
-use Rattle.std.specs.List.{AllByRecursion, list_any}
+use Rattle.std.specs.List.{AllByRecursion}
 use Rattle.std.proofs.lemmas.Map.Lookups.{exact_bytes}
 use Rattle.sqlite.specs.declared.types.Value.TheVariants.{Null, Text as TextCell}
 use Rattle.sqlite.specs.Effect.{Database}
-use Rattle.sqlite.specs.Order.{Row, column}
+use Rattle.sqlite.specs.Order.{Row}
 use Rattle.sqlite.specs.Program.{overlay}
-use Rattle.sqlite.specs.Query.{IsAnswer, Query}
+use Rattle.sqlite.specs.Query.{IsAnswer}
 use Rattle.sqlite.specs.State.{State, Shown}
 use Rattle.sqlite.specs.Tree.{Trees}
 use Rattle.sqlite.proofs.Callers.{reads_as}
@@ -21,8 +21,7 @@ use Rattle.sqlite_sql.specs.Ops.{is_null}
 use Rattle.sqlite.specs.Kind.TheVariants as kind
 use Rattle.dr_base.specs.Texts.{Text, text_cmp}
 use Rattle.dr_route.specs.declared.key.Key.{Key}
-use Rattle.dr_ledger.specs.declared.item.Instance.{Instance}
-use Rattle.dr_ledger.specs.Pairs.{Pair, pair_cmp}
+use Rattle.dr_ledger.specs.Pairs.{Pair}
 use Rattle.dr_tables.specs.Books.{Print, all_kept_in, arrival_in, arrivals_in, bodies_of, content_in, contents_in, entry_in, instance_by, is_whole, item_in, items_of, kept_in, key_in, print_in, print_or_none, prints_of, rows_of, whole_in, wholes_in}
 use Rattle.dr_tables.specs.Ledgers.{IsLedger}
 use Rattle.dr_tables.specs.Statements as text
@@ -33,7 +32,6 @@ use Rattle.dr_rows.proofs.Maps.{found_hit}
 use Rattle.dr_rows.proofs.Updated.{hits}
 use Rattle.dr_queries.specs.Queries.{IsJobOf, IsKeyOf, IsPrintOf, IsStored, first_of, shown_job, shown_key, shown_print, shown_progress}
 use Rattle.dr_queries.specs.declared.finding.Print.{Print as Found}
-use Rattle.dr_queries.specs.declared.finding.Stored.{Stored}
 use Rattle.dr_queries.proofs.Points.{any_hit, at_key, none_hit, none_shown, same_keys}
 use Rattle.dr_queries.proofs.Selects as select
 

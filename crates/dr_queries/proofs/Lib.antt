@@ -1,12 +1,7 @@
-pub mod Alike
-pub mod Apart
 pub mod Asking
 pub mod FirstDue
 pub mod Found
-pub mod Lists
-pub mod Numbers
-pub mod Orders
 pub mod Outcomes
+pub mod Owned
 pub mod Points
 pub mod Selects
-pub mod Wholes

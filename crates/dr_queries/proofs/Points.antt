@@ -1,5 +1,5 @@
 -- Queries by key: just the rows at which the conditions hold are shown.
-use Rattle.std.proofs.Common.{◌≡◌, ◌⊎◌, ◌==◌, inl, inr, suc, ℕ, List, [], ◌∷◌, map, filter, flat_map, length, Bool, true, false, not, ◌&&◌, ◌||◌, cond, Option, Some, None, is_some, refl, sym, ap, subst, ◌∙◌, true≢false}
+use Rattle.std.proofs.Common.{◌≡◌, ◌⊎◌, ◌==◌, inl, inr, suc, ℕ, List, [], ◌∷◌, map, filter, flat_map, length, Bool, true, false, not, ◌||◌, cond, Some, None, is_some, refl, sym, ap, subst, ◌∙◌, true≢false}
 use Rattle.std.specs.declared.cmp.Ordering.{Ordering}
 use Rattle.std.specs.Cmp.{IsTotalOrder}
 use Rattle.std.specs.FinMap.{IsAntisymmetric, find}

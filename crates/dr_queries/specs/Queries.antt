@@ -1,7 +1,8 @@
 -- What queries answer, and what they leave.
 use Rattle.std.specs.Prelude.{◌≡◌, ◌≢◌, ◌≤◌, ◌<◌, ◌^◌, ◌⊎◌, ℕ, pos, false, not, ◌==◌, IsTrue, List, [], ◌∷◌, Option, Some, None, option_map, unwrap_or, Result, OnOk}
 use Rattle.std.specs.FinMap as map
-use Rattle.sqlite.specs.declared.types.Value.TheVariants.{Int}
+use Rattle.sqlite.specs.declared.types.Value.TheVariants.{Blob, Int, Text as TextCell}
+use Rattle.sqlite.specs.declared.types.Value.{Value}
 use Rattle.sqlite.specs.Effect.{Database}
 use Rattle.sqlite.specs.Order.{Row, column}
 use Rattle.sqlite.specs.State.{State, HasCleanDisk}
@@ -121,3 +122,27 @@ pub record IsCountedAsShown (row : Row) : Type 0 where
 -- a row of a line's number says a lower one
 abbrev pub IsNumberedBelow : ℕ → Row → Type 0
 IsNumberedBelow next row = (m : ℕ) × (column row 0 ≡ Int (pos m)) × (m < next)
+
+-- the text that a cell has, or that it has none
+abbrev pub IsTextIn : Value → Option Text → Type 0
+IsTextIn v None = (text : Text) → v ≡ TextCell text → ⊥
+IsTextIn v (Some text) = v ≡ TextCell text
+
+-- the bytes that a cell has, or that it has none
+abbrev pub IsBlobIn : Value → Option (List ℕ) → Type 0
+IsBlobIn v None = (bytes : List ℕ) → v ≡ Blob bytes → ⊥
+IsBlobIn v (Some bytes) = v ≡ Blob bytes
+
+-- a row is that of site's one owner, as `id`, `node` and `plan` show it
+pub record IsOwnerRow (row : Row) (owner : Owner) : Type 0 where
+  pub id : column row 0 ≡ Int (pos 1)
+  pub node : column row 1 ≡ TextCell owner.node
+  pub plan : column row 2 ≡ Blob owner.plan
+
+abbrev pub IsOwnerIn : Row → Option Owner → Type 0
+IsOwnerIn row None = (owner : Owner) → IsOwnerRow row owner → ⊥
+IsOwnerIn row (Some owner) = IsOwnerRow row owner
+
+abbrev pub IsOwnerAsShown : List Row → Option Owner → Type 0
+IsOwnerAsShown rows None = (row : Row) (owner : Owner) → rows ≡ row ∷ [] → IsOwnerRow row owner → ⊥
+IsOwnerAsShown rows (Some owner) = (row : Row) × (rows ≡ row ∷ []) × IsOwnerRow row owner

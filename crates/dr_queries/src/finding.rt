@@ -3,12 +3,13 @@ ghost use Rattle.std.specs.Prelude.{◌≡◌, ◌↔◌, ◌≤◌, ◌⊎◌, 
 ghost use Rattle.std.specs.FinMap as map;
 ghost use Rattle.std.specs.FinSet as set;
 ghost use Rattle.sqlite.specs.Held.{state};
+ghost use Rattle.sqlite.specs.Order.{column};
 ghost use Rattle.sqlite_value.specs.Value.{owned};
 ghost use Rattle.sqlite.specs.declared.types.Value.TheVariants.{Int};
 ghost use Rattle.dr_ledger.specs.Replies.{Reads};
 ghost use Rattle.dr_tables.specs.Books.{all_kept_in, arrivals_in, rows_of};
 ghost use Rattle.dr_tables.specs.Ledgers.{IsLedger};
-ghost use Rattle.dr_queries.specs.Queries.{Asked, IsFirstDue, IsJobOf, IsKeyOf, IsOpenElsewhere, IsOwnerOf, IsPrintOf, IsStored, first_of, shown_job, shown_key, shown_print, shown_progress, shown_text};
+ghost use Rattle.dr_queries.specs.Queries.{Asked, IsFirstDue, IsJobOf, IsKeyOf, IsBlobIn, IsOpenElsewhere, IsOwnerAsShown, IsOwnerIn, IsOwnerOf, IsPrintOf, IsTextIn, IsStored, first_of, shown_job, shown_key, shown_print, shown_progress, shown_text};
 
 use crate::queries::ask;
 use crate::reading::{read_bytes, read_digest, read_key, read_number, read_progress, read_text};
@@ -20,7 +21,7 @@ use sqlite::{Alter, Connection, Row};
 use std::alloc::Global;
 
 /// Of a data set its length (bytes), its SHA-256, and whether it is there.
-#[derive(Clone, Copy, PartialEq, Eq, Debug)]
+#[derive(Clone, Copy)]
 pub struct Print {
     pub size: u64,
     pub digest: [u8; 32],
@@ -28,14 +29,14 @@ pub struct Print {
 }
 
 /// What is known of an instance, and whether its data set is there.
-#[derive(PartialEq, Eq, Debug, Drop)]
+#[derive(Drop)]
 pub struct Stored {
     pub instance: Instance,
     pub whole: bool,
 }
 
 /// Whose ledger it is: the node's name, and the SHA-256 of the plan in force.
-#[derive(PartialEq, Eq, Debug, Drop)]
+#[derive(Drop)]
 pub struct Owner {
     pub node: Text,
     pub plan: Octets,
@@ -302,5 +303,78 @@ pub fn find_owner<S: Alter>(
 ) -> Result<Option<Owner>, LedgerFault>
     ensures asked { Asked IsLedger result (state S.Store conn.old) (state S.Store conn.new) (IsOwnerOf (state S.Store conn.old).now.trees) }
 {
-    Err(LedgerFault::Store)
+    let rows = ask(conn, "SELECT id, node, plan FROM site", &[])?;
+    one_owner(alloc, rows.as_slice())
+}
+
+fn one_owner(alloc: Global, rows: &[Row]) -> Result<Option<Owner>, LedgerFault>
+    ensures { Reads result (IsOwnerAsShown rows.now) }
+{
+    if rows.len() != 1 {
+        return Ok(None);
+    }
+    let Some(row) = rows.first() else {
+        return Ok(None);
+    };
+    owner_in(alloc, row)
+}
+
+fn owner_in(alloc: Global, row: &Row) -> Result<Option<Owner>, LedgerFault>
+    ensures { Reads result (IsOwnerIn row.now) }
+{
+    if !is_first(row) {
+        return Ok(None);
+    }
+    let Some(node) = text_at(alloc, row, 1)? else {
+        return Ok(None);
+    };
+    let Some(plan) = blob_at(alloc, row, 2)? else {
+        return Ok(None);
+    };
+    Ok(Some(Owner { node, plan }))
+}
+
+fn is_first(row: &Row) -> bool
+    ensures { IsTrue result ↔ (column row.now 0 ≡ Int (pos 1)) }
+{
+    match row.get_ref(0) {
+        Ok(ValueRef::Int(id)) => id == 1,
+        Ok(ValueRef::Null) => false,
+        Ok(ValueRef::Real(_)) => false,
+        Ok(ValueRef::Text(_)) => false,
+        Ok(ValueRef::Blob(_)) => false,
+        Err(_) => false,
+    }
+}
+
+fn text_at(alloc: Global, row: &Row, at: usize) -> Result<Option<Text>, LedgerFault>
+    ensures { Reads result (IsTextIn (column row.now at)) }
+{
+    match row.get_ref(at) {
+        Ok(ValueRef::Text(bytes)) => {
+            let text = Text::copy_of(alloc, bytes)?;
+            Ok(Some(text))
+        }
+        Ok(ValueRef::Null) => Ok(None),
+        Ok(ValueRef::Int(_)) => Ok(None),
+        Ok(ValueRef::Real(_)) => Ok(None),
+        Ok(ValueRef::Blob(_)) => Ok(None),
+        Err(_) => Ok(None),
+    }
+}
+
+fn blob_at(alloc: Global, row: &Row, at: usize) -> Result<Option<Octets>, LedgerFault>
+    ensures { Reads result (IsBlobIn (column row.now at)) }
+{
+    match row.get_ref(at) {
+        Ok(ValueRef::Blob(bytes)) => {
+            let octets = Text::copy_of(alloc, bytes)?;
+            Ok(Some(octets))
+        }
+        Ok(ValueRef::Null) => Ok(None),
+        Ok(ValueRef::Int(_)) => Ok(None),
+        Ok(ValueRef::Real(_)) => Ok(None),
+        Ok(ValueRef::Text(_)) => Ok(None),
+        Err(_) => Ok(None),
+    }
 }
