@@ -146,7 +146,6 @@ asked_before n part CA Asks old given k asks = subst (λ (d : Database). CA d.tr
 
 module _ {A : Type 0} (n : ℕ) (part : Part) (CA Asks : Trees → Type 0) (CM Answers Makes : Trees → Trees → Type 0) (old new : State) (still : old.in_transaction ≡ false → new.in_transaction ≡ false)
     (given : IsReady n old → IsLedgerOf n part old.committed.trees → Asks old.committed.trees → CA old.committed.trees) where
-
   -- a change that was made
   pub made_called : (value : A) → Written {E = LedgerFault} n CA CM (Ok tt) old new
       → (IsReady n old → IsLedgerOf n part old.committed.trees → Asks old.committed.trees → (db : Trees) → CM old.committed.trees db → IsLedgerOf (n + 1) part db × Answers old.committed.trees db × Makes old.committed.trees db)

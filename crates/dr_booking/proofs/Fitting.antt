@@ -105,10 +105,15 @@ module _ (n : ℕ) (part : Part) (caller : Text) (item : Job) (to : List Text) (
   new_needed (inl kept) = inl (now_kept keep (all_kept_in (base 7)) item.uid kept)
   new_needed (inr some) =
       let made = rows_made to (rows_of base) item.uid some.0 some.1 in
-      inr (some.0, made.0, made.1, (λ done. elim (rows_from to (rows_of base) item.uid (item.uid, some.0) made.0 made.1) [
-        | inl was ↦ (let e : None ≡ _ = sym (no_rows some.0) ∙ was in cc)
-        | inr is ↦ (let e : Waiting 0 0 ≡ Done = sym is.2 ∙ done in cc)
-      ]))
+      inr (
+        some.0,
+        made.0,
+        made.1,
+        (λ done. elim (rows_from to (rows_of base) item.uid (item.uid, some.0) made.0 made.1) [
+          | inl was ↦ (let e : None ≡ _ = sym (no_rows some.0) ∙ was in cc)
+          | inr is ↦ (let e : Waiting 0 0 ≡ Done = sym is.2 ∙ done in cc)
+        ]),
+      )
 
   pub fits_new : (keep ≡ true) ⊎ ((dest : Text) × Contains to dest) → Fits taking.New caller item to keep to keep base
   fits_new some = record { asks = neither; known = no_item; comes = new_needed some; missing_are = sym (missing_all (rows_of base) item.uid to no_rows); keeps_is = keeps_new; first = not_brought }
@@ -151,10 +156,15 @@ module _ (n : ℕ) (part : Part) (caller : Text) (item : Job) (to : List Text) (
   again_needed (inr some) =
       let from = missing_from (rows_of base) item.uid some.0 to (subst (λ ds. Contains ds some.0) dests_are some.1) in
       let row = rows_made to (rows_of base) item.uid some.0 from.0 in
-      inr (some.0, row.0, row.1, (λ done. elim (rows_from to (rows_of base) item.uid (item.uid, some.0) row.0 row.1) [
-        | inl was ↦ (let e : None ≡ _ = sym from.1 ∙ was in cc)
-        | inr is ↦ (let e : Waiting 0 0 ≡ Done = sym is.2 ∙ done in cc)
-      ]))
+      inr (
+        some.0,
+        row.0,
+        row.1,
+        (λ done. elim (rows_from to (rows_of base) item.uid (item.uid, some.0) row.0 row.1) [
+          | inl was ↦ (let e : None ≡ _ = sym from.1 ∙ was in cc)
+          | inr is ↦ (let e : Waiting 0 0 ≡ Done = sym is.2 ∙ done in cc)
+        ]),
+      )
 
   pub fits_again : (keep ≡ true) ⊎ ((dest : Text) × Contains dests dest) → Fits taking.Again caller item to keep dests (keep && not kept) base
   fits_again some = record { asks = there.both; known = there.same; comes = again_needed some; missing_are = dests_are; keeps_is = keeps_more; first = first }

@@ -26,12 +26,7 @@ use sqlite::{Alter, Connection};
 use std::alloc::{AllocError, Global};
 
 /// What the site does with a key that the caller brings.
-fn targets_of(
-    alloc: Global,
-    site: &Site,
-    caller: &Text,
-    key: &Key,
-) -> Result<Targets, AllocError>
+fn targets_of(alloc: Global, site: &Site, caller: &Text, key: &Key) -> Result<Targets, AllocError>
     ensures to { IfOk result (λ t. t.to ≡ (site_routing site.now).targets caller.now key.now) }
     ensures keep { IfOk result (λ t. t.keep ≡ (site_routing site.now).keeps caller.now key.now) }
     ensures formed { IfOk result (λ t. AreNames t.to) }
@@ -149,21 +144,61 @@ fn bring_kept<'x, S: Alter>(
     let all = dests.as_slice();
     if whole {
         return bring_item(
-            conn, alloc, site, n, caller, item, targets, instance, Taking::Nothing, all, keeps,
+            conn,
+            alloc,
+            site,
+            n,
+            caller,
+            item,
+            targets,
+            instance,
+            Taking::Nothing,
+            all,
+            keeps,
         );
     }
     if targets.keep {
         return bring_item(
-            conn, alloc, site, n, caller, item, targets, instance, Taking::Again, all, keeps,
+            conn,
+            alloc,
+            site,
+            n,
+            caller,
+            item,
+            targets,
+            instance,
+            Taking::Again,
+            all,
+            keeps,
         );
     }
     if all.is_empty() {
         return bring_item(
-            conn, alloc, site, n, caller, item, targets, instance, Taking::Nothing, all, keeps,
+            conn,
+            alloc,
+            site,
+            n,
+            caller,
+            item,
+            targets,
+            instance,
+            Taking::Nothing,
+            all,
+            keeps,
         );
     }
     bring_item(
-        conn, alloc, site, n, caller, item, targets, instance, Taking::Again, all, keeps,
+        conn,
+        alloc,
+        site,
+        n,
+        caller,
+        item,
+        targets,
+        instance,
+        Taking::Again,
+        all,
+        keeps,
     )
 }
 
@@ -313,9 +348,7 @@ fn arrive_known<'x, S: Alter>(
     ensures idle { conn.new.in_transaction ≡ false }
 {
     match find_arrival(conn, caller, &item.uid) {
-        Ok(brought) => arrive_there(
-            conn, alloc, site, n, caller, item, instance, whole, brought,
-        ),
+        Ok(brought) => arrive_there(conn, alloc, site, n, caller, item, instance, whole, brought),
         Err(fault) => Err(fault),
     }
 }
@@ -376,7 +409,7 @@ fn arrive_by<'x, S: Alter>(
     }
 }
 
-/// Takes an arrival that the certificate has a line for; what the tables have of its uid is looked up. 
+/// Takes an arrival that the certificate has a line for; what the tables have of its uid is looked up.
 ///
 /// Errors: Conflict, Store and Memory.
 pub fn receive<'x, S: Alter>(

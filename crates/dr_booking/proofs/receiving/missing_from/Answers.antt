@@ -41,8 +41,8 @@ loop-dest-preserved g c = (
       let All : List Text → Trees → List Text → Type 0 = λ xs base ds. ds ≡ missing (rows_of base) uid xs in
       let P : List Text → Type 0 = λ xs. Looked n part (Ok more) old new (All xs) in
       subst P (sym grown) (looked_then n n part old mid new One dests (Ok more) Nothing Nothing (λ base db. (db ≡ base) × Next base more) (λ base db. ⊥) (λ base db. (db ≡ base) × All (take i to ++ dest ∷ []) base more) (λ base db. ⊥)
-          (c.loop-dest.invariant.0 n part) (c.in-Ok.ensures.looked n part) (λ db l any shown. tt)
-          (λ base db any shown it. (it.0, it.1 ∙ ap (λ xs. xs ++ missing (rows_of base) uid (dest ∷ [])) shown ∙ sym (missing_more (rows_of base) uid (take i to) dest))) (λ base db any shown none. none)),
+      (c.loop-dest.invariant.0 n part) (c.in-Ok.ensures.looked n part) (λ db l any shown. tt)
+      (λ base db any shown it. (it.0, it.1 ∙ ap (λ xs. xs ++ missing (rows_of base) uid (dest ∷ [])) shown ∙ sym (missing_more (rows_of base) uid (take i to) dest))) (λ base db any shown none. none)),
   λ h. c.in-Ok.ensures.idle (c.loop-dest.invariant.1 h),
 )
 
