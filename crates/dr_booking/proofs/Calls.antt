@@ -146,7 +146,6 @@ asked_before n part CA Asks old given k asks = subst (λ (d : Database). CA d.tr
 
 module _ {A : Type 0} (n : ℕ) (part : Part) (CA Asks : Trees → Type 0) (CM Answers Makes : Trees → Trees → Type 0) (old new : State) (still : old.in_transaction ≡ false → new.in_transaction ≡ false)
     (given : IsReady n old → IsLedgerOf n part old.committed.trees → Asks old.committed.trees → CA old.committed.trees) where
-
   -- a change that was made
   pub made_called : (value : A) → Written {E = LedgerFault} n CA CM (Ok tt) old new
       → (IsReady n old → IsLedgerOf n part old.committed.trees → Asks old.committed.trees → (db : Trees) → CM old.committed.trees db → IsLedgerOf (n + 1) part db × Answers old.committed.trees db × Makes old.committed.trees db)
@@ -239,3 +238,33 @@ asked_as n m part r old new Asks More Answers Makes gives c = record {
   answers = λ clean is_open k asks. c.answers clean is_open k (gives old.committed.trees k.ledger asks);
   crash = λ clean k asks db left. c.crash clean k (gives old.committed.trees k.ledger asks) db left;
 }
+
+-- a call that asks for more, of which less is said
+pub called_as : {A : Type 0} (n m : ℕ) (part : Part) (r : Result A LedgerFault) (old new : State) (Asks More : Trees → Type 0) (Answers Makes Less : Trees → Trees → Type 0)
+    → ((db : Trees) → IsLedgerOf n part db → More db → Asks db) → ((base db : Trees) → Makes base db → Less base db) → Called n m part r old new Asks Answers Makes → Called n m part r old new More Answers Less
+called_as n m part r old new Asks More Answers Makes Less gives weaker c = record {
+  clean = c.clean;
+  was_open = c.was_open;
+  idle = c.idle;
+  lasts = λ clean k asks. c.lasts clean k (gives old.committed.trees k.ledger asks);
+  kept = λ clean is_open k asks. c.kept clean is_open k (gives old.committed.trees k.ledger asks);
+  answers = λ clean is_open k asks. c.answers clean is_open k (gives old.committed.trees k.ledger asks);
+  crash = λ clean k asks db left. elim (c.crash clean k (gives old.committed.trees k.ledger asks) db left) [ inl before ↦ inl before | inr made ↦ inr (weaker old.committed.trees db made) ];
+}
+
+-- what was read is read further, without the tables
+pub looked_read : {A B : Type 0} (n : ℕ) (part : Part) (old new : State) (Shows : Trees → A → Type 0) (a : A) (r : Result B LedgerFault) (Says : Trees → B → Type 0) → Looked n part (Ok a) old new Shows
+    → ((base : Trees) → Shows base a → Reads r (Says base)) → Looked n part r old new Says
+looked_read {B = B} n part old new Shows a r Says l says = record {
+  clean = l.clean;
+  was_open = l.was_open;
+  idle = l.idle;
+  lasts = λ clean k any. lasting r (says old.committed.trees (l.answers clean (l.lasts clean k tt) k tt).1) (l.lasts clean k tt);
+  kept = l.kept;
+  answers = λ clean is_open k any. let it = l.answers clean is_open k tt in (it.0, says old.committed.trees it.1);
+  crash = l.crash;
+}
+  where
+    lasting : (r : Result B LedgerFault) → Reads r (Says old.committed.trees) → IsTrue new.is_open → LastsAfter r (IsTrue new.is_open)
+    lasting (Ok x) reads is_open = is_open
+    lasting (Err e) reads is_open = own_fault_lasts e (Says old.committed.trees) (IsTrue new.is_open) reads

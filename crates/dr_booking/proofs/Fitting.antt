@@ -1,5 +1,5 @@
 -- First arrivals fit the tables.
-use Rattle.std.proofs.Common.{◌≡◌, ◌≢◌, ◌⊎◌, ◌↔◌, ◌==◌, inl, inr, ℕ, suc, Bool, true, false, cond, not, ◌&&◌, is_some, IsTrue, List, [], ◌∷◌, Contains, length, Option, Some, None, arith, eqb-true, refl, sym, ap, subst, ◌∙◌, true≢false}
+use Rattle.std.proofs.Common.{◌≡◌, ◌≢◌, ◌⊎◌, ◌↔◌, ◌==◌, inl, inr, ℕ, suc, Bool, true, false, cond, not, ◌&&◌, is_some, IsTrue, List, [], ◌∷◌, ◌++◌, Contains, length, Option, Some, None, arith, eqb-true, refl, sym, ap, subst, ◌∙◌, true≢false}
 use Rattle.std.specs.Cmp.{both_ways}
 use Rattle.std.specs.FinMap as map
 use Rattle.std.specs.FinMap.{FinMap}
@@ -105,10 +105,15 @@ module _ (n : ℕ) (part : Part) (caller : Text) (item : Job) (to : List Text) (
   new_needed (inl kept) = inl (now_kept keep (all_kept_in (base 7)) item.uid kept)
   new_needed (inr some) =
       let made = rows_made to (rows_of base) item.uid some.0 some.1 in
-      inr (some.0, made.0, made.1, (λ done. elim (rows_from to (rows_of base) item.uid (item.uid, some.0) made.0 made.1) [
-        | inl was ↦ (let e : None ≡ _ = sym (no_rows some.0) ∙ was in cc)
-        | inr is ↦ (let e : Waiting 0 0 ≡ Done = sym is.2 ∙ done in cc)
-      ]))
+      inr (
+        some.0,
+        made.0,
+        made.1,
+        (λ done. elim (rows_from to (rows_of base) item.uid (item.uid, some.0) made.0 made.1) [
+          | inl was ↦ (let e : None ≡ _ = sym (no_rows some.0) ∙ was in cc)
+          | inr is ↦ (let e : Waiting 0 0 ≡ Done = sym is.2 ∙ done in cc)
+        ]),
+      )
 
   pub fits_new : (keep ≡ true) ⊎ ((dest : Text) × Contains to dest) → Fits taking.New caller item to keep to keep base
   fits_new some = record { asks = neither; known = no_item; comes = new_needed some; missing_are = sym (missing_all (rows_of base) item.uid to no_rows); keeps_is = keeps_new; first = not_brought }
@@ -151,10 +156,15 @@ module _ (n : ℕ) (part : Part) (caller : Text) (item : Job) (to : List Text) (
   again_needed (inr some) =
       let from = missing_from (rows_of base) item.uid some.0 to (subst (λ ds. Contains ds some.0) dests_are some.1) in
       let row = rows_made to (rows_of base) item.uid some.0 from.0 in
-      inr (some.0, row.0, row.1, (λ done. elim (rows_from to (rows_of base) item.uid (item.uid, some.0) row.0 row.1) [
-        | inl was ↦ (let e : None ≡ _ = sym from.1 ∙ was in cc)
-        | inr is ↦ (let e : Waiting 0 0 ≡ Done = sym is.2 ∙ done in cc)
-      ]))
+      inr (
+        some.0,
+        row.0,
+        row.1,
+        (λ done. elim (rows_from to (rows_of base) item.uid (item.uid, some.0) row.0 row.1) [
+          | inl was ↦ (let e : None ≡ _ = sym from.1 ∙ was in cc)
+          | inr is ↦ (let e : Waiting 0 0 ≡ Done = sym is.2 ∙ done in cc)
+        ]),
+      )
 
   pub fits_again : (keep ≡ true) ⊎ ((dest : Text) × Contains dests dest) → Fits taking.Again caller item to keep dests (keep && not kept) base
   fits_again some = record { asks = there.both; known = there.same; comes = again_needed some; missing_are = dests_are; keeps_is = keeps_more; first = first }
@@ -201,3 +211,22 @@ none_among (first ∷ more) is dest among = let no : suc (length more) ≡ 0 = e
 pub some_among : (to : List Text) → (length to == 0) ≡ false → (dest : Text) × Contains to dest
 some_among [] is = absurd (true≢false is)
 some_among (first ∷ more) is = (first, Contains-here first more)
+
+pub nothing_in : (to : List Text) → (length to == 0) ≡ true → to ≡ []
+nothing_in [] is = refl
+nothing_in (first ∷ more) is = let no : suc (length more) ≡ 0 = eqb-true _ _ is in absurd (omega (arith, no))
+
+-- ---- rows that are missing, one destination after another
+
+pub one_missing : (o : Option Progress) (dest : Text) → cond (is_some o) [] (dest ∷ []) ≡ cond (not (is_some o)) (dest ∷ []) []
+one_missing None dest = refl
+one_missing (Some row) dest = refl
+
+pub missing_more : (rows : FinMap pair_cmp Progress) (uid : Text) (to : List Text) (dest : Text) → missing rows uid (to ++ dest ∷ []) ≡ missing rows uid to ++ missing rows uid (dest ∷ [])
+missing_more rows uid [] dest = refl
+missing_more rows uid (first ∷ more) dest = go (map.contains_key rows (uid, first)) (missing_more rows uid more dest)
+  where
+    go : (b : Bool) → missing rows uid (more ++ dest ∷ []) ≡ missing rows uid more ++ missing rows uid (dest ∷ [])
+        → cond (not b) (first ∷ missing rows uid (more ++ dest ∷ [])) (missing rows uid (more ++ dest ∷ [])) ≡ cond (not b) (first ∷ missing rows uid more) (missing rows uid more) ++ missing rows uid (dest ∷ [])
+    go true later = later
+    go false later = ap (λ ds. first ∷ ds) later

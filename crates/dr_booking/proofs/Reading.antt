@@ -21,3 +21,12 @@ still_as elsewhere needed Open Elsewhere Kept closed says n = (
   λ h. elim (n.0 h) [ inl e ↦ inr (inl (says.0 e)) | inr k ↦ inr (inr k) ],
   λ h. n.1 (elim h [ inl o ↦ absurd (closed o) | inr more ↦ elim more [ inl e ↦ inl (says.1 e) | inr k ↦ inr k ] ]),
 )
+
+-- a fault shows nothing, whatever was to be shown
+pub same_fault : {A B : Type 0} (e : LedgerFault) (P : A → Type 0) (Q : B → Type 0) → Reads (Err e) P → Reads (Err e) Q
+same_fault fault.Store P Q h = tt
+same_fault fault.Memory P Q h = tt
+same_fault fault.NoLine P Q h = absurd h
+same_fault fault.Conflict P Q h = absurd h
+same_fault fault.NotWaiting P Q h = absurd h
+same_fault fault.NotHeld P Q h = absurd h

@@ -39,8 +39,10 @@ use Rattle.dr_calls.specs.Bringing.{AreJoined, AreNames, Brings, IsJoined, IsKno
 use Rattle.dr_calls.specs.Changes.{AddsOnlyLine, with_names}
 use Rattle.dr_calls.proofs.Bookings.{repeats_repeat}
 use Rattle.dr_calls.proofs.Joins.{Stay, arrivals_arrive, data_sets_come, taken_stay, taken_there}
-use Rattle.dr_booking.specs.Calling.{IsLedgerOf, IsOwnFault}
-use Rattle.dr_booking.specs.Knowing.{Fits, IsThere}
+use Rattle.sqlite.specs.State.{State}
+use Rattle.dr_booking.specs.Calling.{Called, IsLedgerOf, IsOwnFault, Looked}
+use Rattle.dr_booking.specs.Knowing.{Fits, IsAccepted, IsThere}
+use Rattle.dr_booking.proofs.Calls.{looked_failed, still_called}
 
 -- ---- lines
 
@@ -156,3 +158,26 @@ pub not_to_local : (part : Part) (caller : Text) (key : Key) → IsSite part →
 not_to_local part caller key site sends =
     let some = site.some in
     local_never_sent_to some.0 some.2.formed part.name caller key ((sends_as_planned some.0 some.1 part some.3 caller key local).0 sends)
+
+-- ---- what is said of an arrival, whatever the tables have of it
+
+abbrev pub AnswersTo : Part → Text → Job → Result Arrived LedgerFault → Trees → Trees → Type 0
+AnswersTo part caller item r base db = Arrives (site_routing part) caller (instance_of item) (book_of base) r (book_of db) × OnlyTakes item (bodies_of base) (bodies_of db)
+
+abbrev pub Accepts : Part → Text → Job → Trees → Trees → Type 0
+Accepts part caller item base db = IsAccepted part caller (instance_of item) (book_of base) (book_of db)
+
+pub refused : (part : Part) (caller : Text) (item : Job) (e : LedgerFault) → HasLineFor part caller item.key → IsOwnFault e → (db : Trees) → AnswersTo part caller item (Err e) db db
+refused part caller item e line own db = (arrives_own part caller (instance_of item) (book_of db) e line own, takes_none item (bodies_of db))
+
+-- where what is known couldn't be read
+pub not_read : {A : Type 0} (n : ℕ) (part : Part) (old new : State) (Shows : Trees → A → Type 0) (e : LedgerFault) (Asks : Trees → Type 0) (caller : Text) (item : Job) → HasLineFor part caller item.key
+    → Looked n part (Err e) old new Shows → Called {A = Arrived} n n part (Err e) old new Asks (AnswersTo part caller item (Err e)) (Accepts part caller item)
+not_read n part old new Shows e Asks caller item line l =
+    looked_failed {B = Arrived} n part old new Shows e Asks (AnswersTo part caller item (Err e)) (Accepts part caller item) l (λ base asks own. refused part caller item e line own base)
+
+-- where there is no memory
+pub no_memory : (n : ℕ) (part : Part) (s : State) (Asks : Trees → Type 0) (caller : Text) (item : Job) → HasLineFor part caller item.key
+    → Called {A = Arrived} n n part (Err fault.Memory) s s Asks (AnswersTo part caller item (Err fault.Memory)) (Accepts part caller item)
+no_memory n part s Asks caller item line =
+    still_called {A = Arrived} n part (Err fault.Memory) s Asks (AnswersTo part caller item (Err fault.Memory)) (Accepts part caller item) (λ db asks. refused part caller item fault.Memory line (inr refl) db) (λ P h. tt)

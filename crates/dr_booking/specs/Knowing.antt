@@ -1,14 +1,17 @@
 -- What the tables have of what arrives.
-use Rattle.std.specs.Prelude.{◌≡◌, ◌&&◌, Bool, not, false, List, Some}
+use Rattle.std.specs.Prelude.{◌≡◌, ◌&&◌, Bool, not, false, List, Some, Ok}
 use Rattle.std.specs.FinMap as map
 use Rattle.std.specs.FinSet as set
 use Rattle.sqlite.specs.Tree.{Trees}
 use Rattle.dr_base.specs.Texts.{Text}
+use Rattle.dr_site.specs.Parts.{Part}
 use Rattle.dr_ledger.specs.declared.content.Job.{Job}
+use Rattle.dr_ledger.specs.declared.item.Arrived.{Arrived}
 use Rattle.dr_ledger.specs.declared.item.Instance.{Instance}
-use Rattle.dr_ledger.specs.Books.{Arrival, after}
+use Rattle.dr_ledger.specs.Books.{Arrival, Book, after}
 use Rattle.dr_ledger.specs.Items.{instance_of}
-use Rattle.dr_ledger.specs.Replies.{HasConflict}
+use Rattle.dr_ledger.specs.Replies.{Arrives, HasConflict}
+use Rattle.dr_ledger.specs.SiteRoutes.{site_routing}
 use Rattle.dr_tables.specs.Books.{all_kept_in, arrivals_in, bodies_of, book_of, items_of, rows_of}
 use Rattle.dr_calls.specs.declared.first.Taking.{Taking}
 use Rattle.dr_calls.specs.Bringing.{AsksToTake, IsKnownFor, missing}
@@ -38,3 +41,7 @@ pub record Fits (how : Taking) (caller : Text) (item : Job) (to : List Text) (ke
   pub missing_are : dests ≡ missing (rows_of db) item.uid to
   pub keeps_is : keeps ≡ (keep && not (set.contains (all_kept_in (db 7)) item.uid))
   pub first : set.contains (arrivals_in (db 5)) (caller, item.uid) ≡ false
+
+-- the book is that after an arrival that was accepted
+abbrev pub IsAccepted : Part → Text → Instance → Book → Book → Type 0
+IsAccepted part caller item old new = (answer : Arrived) × Arrives (site_routing part) caller item old (Ok answer) new

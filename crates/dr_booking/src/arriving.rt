@@ -47,7 +47,7 @@ fn names_of(alloc: Global, targets: &Targets) -> Result<Seq<Text>, AllocError>
 }
 
 /// Notes another arrival from a caller that brought the instance before.
-fn repeat<'x, S: Alter>(
+pub fn repeat<'x, S: Alter>(
     conn: &mut Connection<S>,
     site: &Site,
     n: u64,
@@ -119,7 +119,7 @@ fn bring<'x, S: Alter>(
 }
 
 /// The same; its line's names are made first.
-fn bring_item<'x, S: Alter>(
+pub fn bring_item<'x, S: Alter>(
     conn: &mut Connection<S>,
     alloc: Global,
     site: &Site,
@@ -165,7 +165,7 @@ fn bring_item<'x, S: Alter>(
 }
 
 /// Takes the first arrival of an instance that isn't there.
-fn bring_new<'x, S: Alter>(
+pub fn bring_new<'x, S: Alter>(
     conn: &mut Connection<S>,
     alloc: Global,
     site: &Site,

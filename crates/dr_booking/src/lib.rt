@@ -1,12 +1,19 @@
-//! The ledger of a node in the tables of a database.
+//! Calls of a ledger in tables over a connection, each in terms of the ledger's book (`specs/Calling.antt`).
 //!
-//! Each call that writes is one transaction, whose commit is its last call of the database. What is claimed stands under a call's end:
-//! that the disk has returned what was written so far, and that the store is open.
+//! Each call that writes reads what it has to know, and then is one transaction, whose commit is its last call of the database. What is
+//! claimed stands under a call's end: that the disk has returned what was written so far, and that the store is open.
 #![tactic(auto)]
 
-mod arriving;
-mod knowing;
+pub mod arriving;
+pub mod knowing;
+pub mod laws;
 mod needs;
 mod progress;
+pub mod receiving;
 pub mod settling;
 mod writing;
+
+pub use arriving::{bring_item, bring_new, repeat};
+pub use knowing::{Known, know};
+pub use receiving::{arrive, receive};
+pub use settling::{requeue, settle};

@@ -311,7 +311,7 @@ arrivals_arrive how old new n caller item body to keep below joined known names 
     let lines : lines_of new ≡ lines_of old ++ Arrival caller item to keep ∷ [] =
     ap (λ rows. lines_in (items_of new) (new 12) rows) w.journal ∙ lines_put (items_of new) (new 12) n _ (old 11) below
     ∙ (λ i. lines_same was (items_of new) (old 12) (new 12) n others stay (old 11) below joined.items i
-        ++ Arrival caller (item_or_none item.uid (there i)) ((ap (λ (s : Names). map.keys (map.remove s keep_mark)) its ∙ its_targets keep to names) i) ((ap (λ (s : Names). map.contains_key s keep_mark) its ∙ it_keeps keep to names) i) ∷ []) in
+    ++ Arrival caller (item_or_none item.uid (there i)) ((ap (λ (s : Names). map.keys (map.remove s keep_mark)) its ∙ its_targets keep to names) i) ((ap (λ (s : Names). map.contains_key s keep_mark) its ∙ it_keeps keep to names) i) ∷ []) in
     λ i. record {
       items = (items ∙ taken_is how was item known) i;
       arrivals = w.arrivals i;

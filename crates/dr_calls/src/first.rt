@@ -158,8 +158,8 @@ impl Arriving<'_> {
         ensures step { Step result (state S.Store tx.old.conn.now) (state S.Store tx.new.conn.now) (AsksToTake self.now.taking self.now.item.now.uid (state S.Store tx.old.conn.now).now.trees
             → GoesOn (state S.Store tx.old.conn.now) (state S.Store tx.new.conn.now)
             × Then (Then (TakesIn self.now.taking self.now.item.now self.now.body.now) (NotesArrival (self.now.caller.now, self.now.item.now.uid)))
-                (Then (AddsRows self.now.item.now.uid self.now.dests.now) (KeepsIf self.now.item.now.uid self.now.keeps))
-                (state S.Store tx.old.conn.now).now.trees (state S.Store tx.new.conn.now).now.trees) }
+            (Then (AddsRows self.now.item.now.uid self.now.dests.now) (KeepsIf self.now.item.now.uid self.now.keeps))
+            (state S.Store tx.old.conn.now).now.trees (state S.Store tx.new.conn.now).now.trees) }
     {
         take_from(tx, self.caller, self.item, self.body, self.taking)?;
         queue(tx, &self.item.uid, self.dests, self.keeps)?;

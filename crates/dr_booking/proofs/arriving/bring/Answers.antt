@@ -41,7 +41,7 @@ returns-in-Ok-clause-called g c =
     let W : Instance → List ℕ → List Text → Type 0 = λ instance body names. Written {E = LedgerFault} n (AsksToTake how instance.uid) (Made instance body names) (Ok tt) old new in
     made_called n part (AsksToTake how item.uid) Asks (Made (instance_of item) item.body (names_for keep to)) Answers Makes old new (λ h. c.written.ensures.idle) (λ ready l fits. fits.asks) New
     (subst (λ names. W (instance_of item) item.body names) c.requires.names (subst (λ body. W (instance_of item) body c.args.names.now) c.as_bytes.ensures
-        (subst (λ i. W i c.as_bytes.result.now c.args.names.now) c.requires.instance c.in-Ok.ensures.written)))
+    (subst (λ i. W i c.as_bytes.result.now c.args.names.now) c.requires.instance c.in-Ok.ensures.written)))
     (λ ready l fits db w.
     let it = arrives n part how caller item to keep dests keeps old.committed.trees db c.requires.is_item c.requires.line c.requires.to c.requires.keep c.requires.formed (below_of n old ready) l fits w in
     (it.0, it.1, it.1.0))
@@ -68,7 +68,7 @@ returns-in-Err-clause-called g c =
     unmade_called {A = Arrived} n part (AsksToTake how item.uid) Asks (Made (instance_of item) item.body (names_for keep to)) Answers Makes old new (λ h. c.written.ensures.idle) (λ ready l fits. fits.asks) e
     c.in-Err.ensures.fault
     (subst (λ names. W (instance_of item) item.body names) c.requires.names (subst (λ body. W (instance_of item) body c.args.names.now) c.as_bytes.ensures
-        (subst (λ i. W i c.as_bytes.result.now c.args.names.now) c.requires.instance c.in-Err.ensures.written)))
+    (subst (λ i. W i c.as_bytes.result.now c.args.names.now) c.requires.instance c.in-Err.ensures.written)))
     (λ ready l fits db w.
     (arrives n part how caller item to keep dests keeps old.committed.trees db c.requires.is_item c.requires.line c.requires.to c.requires.keep c.requires.formed (below_of n old ready) l fits w).1.0)
     (λ fits. (arrives_own part caller (instance_of item) (book_of old.committed.trees) e c.requires.line c.in-Err.ensures.fault, takes_none item (bodies_of old.committed.trees)))
