@@ -1,5 +1,5 @@
 -- Where no row is unfit, the next plan may be adopted.
-use Rattle.std.proofs.Common.{◌≡◌, Bool, false, Option, None, Some, is_some, sym, subst}
+use Rattle.std.proofs.Common.{◌≡◌, false, Option, None, Some, is_some, sym, subst}
 use Rattle.dr_base.specs.Texts.{Text}
 use Rattle.dr_network.specs.Networks.{Network}
 use Rattle.dr_ledger.specs.Adopting.{IsFit, Unfits}
