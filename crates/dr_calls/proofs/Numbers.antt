@@ -65,7 +65,7 @@ put_last : (n : ℕ) (rest : Row) (rows : List Row) → AreBelow n rows → put_
 put_last n rest [] below = refl
 put_last n rest (r ∷ rows) below =
     ap (λ o. match_ordering o (r ∷ put_row (Int (pos n) ∷ rest) rows) ((Int (pos n) ∷ rest) ∷ rows) ((Int (pos n) ∷ rest) ∷ r ∷ rows))
-        (ap (λ v. value_cmp v (Int (pos n))) below.0.1 ∙ is_below below.0.0 n below.0.2)
+    (ap (λ v. value_cmp v (Int (pos n))) below.0.1 ∙ is_below below.0.0 n below.0.2)
     ∙ ap (λ rs. r ∷ rs) (put_last n rest rows below.1)
 
 -- ---- lines
