@@ -23,16 +23,36 @@ fn instance(alloc: Global) -> Result<Item, anyhow::Error> {
     Ok(Item::read(alloc, Syntax::Explicit, Text::from_vec(body))?)
 }
 
+/// The site of the node of that name.
+fn site_of(alloc: Global, sealed: &Sealed, name: &str) -> Result<Site, anyhow::Error> {
+    let name = Text::copy_of(alloc, name.as_bytes())?;
+    Ok(Site::of(alloc, sealed, &name)?)
+}
+
+/// The instance enters at the ledger's own node.
+fn bring<L: Ledger>(alloc: Global, ledger: &mut L) -> Result<(), anyhow::Error> {
+    let caller = Text::copy_of(alloc, b"-")?;
+    ledger.arrive(&caller, instance(alloc)?)?;
+    Ok(())
+}
+
 /// A ledger of that node; with `+` behind the name an instance has come to it.
 fn ledger_of(alloc: Global, sealed: &Sealed, node: &str) -> Result<MemoryLedger, anyhow::Error> {
-    let name = node.strip_suffix('+').unwrap_or(node);
-    let name = Text::copy_of(alloc, name.as_bytes())?;
-    let mut ledger = MemoryLedger::new(alloc, Site::of(alloc, sealed, &name)?);
+    let site = site_of(alloc, sealed, node.strip_suffix('+').unwrap_or(node))?;
+    let mut ledger = MemoryLedger::new(alloc, site);
     if node.ends_with('+') {
-        let caller = Text::copy_of(alloc, b"-")?;
-        ledger.arrive(&caller, instance(alloc)?)?;
+        bring(alloc, &mut ledger)?;
     }
     Ok(ledger)
+}
+
+/// A world of the plan over these ledgers, or why there is none.
+fn begin<L: Ledger + Drop>(
+    alloc: Global,
+    sealed: &Sealed,
+    ledgers: Vec<L>,
+) -> Result<World<Refusing<L>>, WorldFault> {
+    World::with(alloc, sealed, ledgers)
 }
 
 /// A world of the plan over ledgers of these nodes, or why there is none.
@@ -45,5 +65,5 @@ pub fn found(
     for node in nodes {
         ledgers.push(ledger_of(alloc, sealed, node)?)?;
     }
-    Ok(World::with(alloc, sealed, ledgers))
+    Ok(begin(alloc, sealed, ledgers))
 }

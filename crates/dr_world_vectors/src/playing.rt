@@ -3,22 +3,19 @@
 //! LINK` opens a link, brings all PDUs over it until the next instance was stored, answered, and its answer was heard.
 use anyhow::bail;
 use dr_base::Text;
-use dr_ledger::Refusing;
-use dr_memory::MemoryLedger;
+use dr_ledger::{Ledger, Refusing};
 use dr_script::read_script;
 use dr_world::{StepNote, World};
 use std::alloc::Global;
-
-type Played = World<Refusing<MemoryLedger>>;
 
 fn text(alloc: Global, word: &str) -> Result<Text, anyhow::Error> {
     Ok(Text::copy_of(alloc, word.as_bytes())?)
 }
 
 /// Whether a node has an instance's data set; `no node` where there is no such node.
-fn body(
+fn body<L: Ledger>(
     alloc: Global,
-    world: &mut Played,
+    world: &mut World<Refusing<L>>,
     node: &str,
     uid: &str,
 ) -> Result<&'static str, anyhow::Error> {
@@ -31,7 +28,10 @@ fn body(
 }
 
 /// The report of all nodes, its lines joined by `|`, and their parts by one blank.
-fn report(alloc: Global, world: &mut Played) -> Result<String, anyhow::Error> {
+fn report<L: Ledger>(
+    alloc: Global,
+    world: &mut World<Refusing<L>>,
+) -> Result<String, anyhow::Error> {
     let mut bytes = Vec::new(alloc);
     world.report(&mut bytes)?;
     let mut joined = String::new(alloc);
@@ -43,7 +43,11 @@ fn report(alloc: Global, world: &mut Played) -> Result<String, anyhow::Error> {
 }
 
 /// The steps of a script's text, one after the other: what the last one came to.
-fn steps(alloc: Global, world: &mut Played, script: &str) -> Result<String, anyhow::Error> {
+fn steps<L: Ledger>(
+    alloc: Global,
+    world: &mut World<Refusing<L>>,
+    script: &str,
+) -> Result<String, anyhow::Error> {
     let mut last = StepNote::Skipped;
     for step in read_script(alloc, script.as_bytes())?.as_slice() {
         last = world.step(step)?;
@@ -69,9 +73,9 @@ fn send(alloc: Global, from: &str, to: &str, link: &str) -> Result<String, anyho
 }
 
 /// What comes of a line.
-pub fn play(
+pub fn play<L: Ledger>(
     alloc: Global,
-    world: &mut Played,
+    world: &mut World<Refusing<L>>,
     line: &str,
     words: &[&str],
 ) -> Result<String, anyhow::Error> {
