@@ -1,4 +1,6 @@
+pub mod Firsts
 pub mod Marking
+pub mod Named
 pub mod Ready
 pub mod Stacked
 pub mod Steps

@@ -1,6 +1,7 @@
 -- The stack of a search, step by step.
-use Rattle.std.proofs.Common.{◌≡◌, ◌≢◌, ℕ, ◌+◌, ◌<◌, ◌≤◌, max, inl, refl, sym, ◌∙◌, ap, subst, List, [], ◌∷◌, ◌++◌, length, Contains, Some, None, get_or, arith}
+use Rattle.std.proofs.Common.{◌≡◌, ◌≢◌, ℕ, ◌+◌, ◌<◌, ◌≤◌, max, inl, inr, refl, sym, ◌∙◌, ap, subst, List, [], ◌∷◌, ◌++◌, length, Contains, Some, None, get_or, arith}
 use Rattle.std.specs.BTreeMap.{btree_map_len}
+use Rattle.std.proofs.lemmas.List.Elements.{Contains-push_cases}
 use Rattle.dr_base.specs.Texts.{Text}
 use Rattle.dr_route.specs.Routes.{local}
 use Rattle.dr_route.specs.Laws.{key_of}
@@ -14,27 +15,43 @@ use Rattle.dr_sound.proofs.Hopping.{reached_not_local}
 use Rattle.dr_check.specs.declared.search.Search.{Search}
 use Rattle.dr_check.specs.declared.search.Frame.{Frame}
 use Rattle.dr_check.specs.declared.search.Mark.TheVariants.{Open, Finished}
-use Rattle.dr_check.specs.Searching.{IsSearching, IsTrail, IsInside, IsDone, IsNew, IsRankedBy, IsTaken, mark_at, stop_at}
+use Rattle.dr_check.specs.Searching.{IsSearching, IsTrail, IsInside, IsDone, IsNew, IsRankedBy, IsTaken, IsFirstYet, EndsWell, IsAllOpen, mark_at, stop_at, pairs_from}
 use Rattle.dr_check.specs.Stacks.{IsTop, IsStack, IsSameFrame, Enters, Leaves, stop_of_frame}
 use Rattle.dr_check.proofs.Marking.{marking}
-use Rattle.dr_check.proofs.Trails.{trail_reaches}
+use Rattle.dr_check.proofs.Named.{stop_ends_well}
+use Rattle.dr_check.proofs.Trails.{trail_pairs, trail_reaches}
 use Rattle.dr_check.proofs.Steps.{entered, finished, popped, ranked_more, ranked_later, inside_later}
 
 -- ---- a stop is entered
 pub new_top : (plan : Network) (cell : OwnedCell) → IsCellOf plan cell → (s new : Search) (caller node : Text) (stop : Stop) (targets : List Text) →
     IsSearching plan cell s → IsTrail plan (key_of cell) (s.path.items ++ node ∷ []) caller node → IsNew plan cell caller node stop targets s → Enters s new node stop →
-    IsInside plan cell caller node s new × IsTop plan cell (record { caller = caller; node = node; targets = targets; searched = 0; rank = 0 }) new
-new_top plan cell is s new caller node stop targets searching trail fresh enters =
+    IsWellFormed plan → IsAllOpen cell s → IsFirstYet plan cell (s.path.items ++ node ∷ []) → IsInside plan cell caller node s new × IsTop plan cell (record { caller = caller; node = node; targets = targets; searched = 0; rank = 0 }) new
+new_top plan cell is s new caller node stop targets searching trail fresh enters formed opened first =
     let E : Stop → Type 0 = λ x. Enters s new node x in
     let put = subst E fresh.same enters in
     let inside = entered plan cell is s new caller node searching trail fresh.fresh fresh.small put.path put.lines (put.grown fresh.fresh) (marking put.put) in
-    let T : List Text → Type 0 = λ ns. IsTrail plan (key_of cell) ns caller node in (
+    let T : List Text → Type 0 = λ ns. IsTrail plan (key_of cell) ns caller node in
+    let F : List Text → Type 0 = λ ns. IsFirstYet plan cell ns in
+    let W : List Text → Type 0 = λ ns. EndsWell plan cell ns in
+    let pairs : pairs_from local new.path.items ≡ pairs_from local s.path.items ++ (caller, node) ∷ [] =
+    ap (λ (ns : List Text). pairs_from local ns) put.path ∙ trail_pairs plan (key_of cell) s.path.items caller node trail in (
       inside,
       record {
         searching = inside.searching;
         trail = subst T (sym put.path) trail;
         here = inside.here;
+        opened = λ a b among.
+            let Q : List (Text × Text) → Type 0 = λ ps. Contains ps (a, b) in
+            elim (Contains-push_cases (pairs_from local s.path.items) (caller, node) (a, b) (subst Q pairs among)) [
+              | inl before ↦ inside.later.marks (stop_at a b cell) Open (opened a b before)
+              | inr same ↦
+                  let M : Text × Text → Type 0 = λ p. mark_at new.marks (stop_at p.0 p.1 cell) ≡ Some Open in
+                  subst M same inside.here
+            ];
+        first = subst F (sym put.path) first;
+        well = subst W (sym put.path) (stop_ends_well plan formed cell s caller node trail opened fresh.taken fresh.fresh fresh.goes_on);
         named = fresh.named;
+        ordered = fresh.ordered;
         goes_on = fresh.goes_on;
         taken = fresh.taken;
         searched = omega arith;
@@ -54,7 +71,11 @@ target_counts plan formed cell f s to r top below at marked taken =
       searching = top.searching;
       trail = top.trail;
       here = top.here;
+      opened = top.opened;
+      first = top.first;
+      well = top.well;
       named = top.named;
+      ordered = top.ordered;
       goes_on = top.goes_on;
       taken = top.taken;
       searched = omega (arith, below);
@@ -74,6 +95,7 @@ top_finished plan cell f start s new top all inside leaves =
       fresh = inside.fresh;
       small = λ full. omega (arith, more, within, full);
       named = top.named;
+      ordered = top.ordered;
       goes_on = top.goes_on;
       taken = top.taken;
     } in
@@ -85,11 +107,19 @@ pub top_resumed : (plan : Network) (cell : OwnedCell) (g : Frame) (old new : Sea
     IsTop plan cell g new
 top_resumed plan cell g old new from to r top done =
     let T : List Text → Type 0 = λ ns. IsTrail plan (key_of cell) ns g.caller g.node in
+    let F : List Text → Type 0 = λ ns. IsFirstYet plan cell ns in
+    let W : List Text → Type 0 = λ ns. EndsWell plan cell ns in
     record {
       searching = done.searching;
       trail = subst T (sym done.path) top.trail;
       here = done.later.marks _ Open top.here;
+      opened = λ a b among.
+          let Q : List Text → Type 0 = λ ns. Contains (pairs_from local ns) (a, b) in
+          done.later.marks (stop_at a b cell) Open (top.opened a b (subst Q done.path among));
+      first = subst F (sym done.path) top.first;
+      well = subst W (sym done.path) top.well;
       named = top.named;
+      ordered = top.ordered;
       goes_on = top.goes_on;
       taken = top.taken;
       searched = top.searched;

@@ -52,7 +52,7 @@ places_split caller name (next ∷ rest) =
     let first : Text × Text = (caller, name) in
     (first ∷ later.0, ap (λ (ps : List (Text × Text)). first ∷ ps) later.1)
 
-places_are_pairs : (caller name : Text) (over : List Text) → places caller name over ≡ pairs_from caller (name ∷ over)
+pub places_are_pairs : (caller name : Text) (over : List Text) → places caller name over ≡ pairs_from caller (name ∷ over)
 places_are_pairs caller name [] = refl
 places_are_pairs caller name (next ∷ rest) = ap (λ (ps : List (Text × Text)). let first : Text × Text = (caller, name) in first ∷ ps) (places_are_pairs name next rest)
 

@@ -1,5 +1,6 @@
 pub mod Answering
 pub mod Checking
+pub mod Firsts
 pub mod Laws
 pub mod Searching
 pub mod Shown

@@ -2,7 +2,7 @@
 use Rattle.std.specs.Prelude.{◌≡◌, ◌≢◌, ℕ, ◌+◌, ◌<◌, ◌≤◌, ◌⊎◌, ◌↔◌, List, [], ◌∷◌, ◌++◌, length, Contains, Some, None, slice_index_or, Option, AllPairs}
 use Rattle.std.specs.declared.cmp.Ordering.{Ordering}
 use Rattle.std.specs.BTreeMap.{BTreeMap, get, btree_map_len}
-use Rattle.dr_base.specs.Texts.{Text}
+use Rattle.dr_base.specs.Texts.{Text, IsInByteOrder}
 use Rattle.dr_route.specs.Routes.{local}
 use Rattle.dr_route.specs.Laws.{key_of}
 use Rattle.dr_route.specs.declared.key.Key.{Key}
@@ -25,6 +25,7 @@ use Rattle.dr_check.specs.declared.search.Seen.TheVariants as seen
 use Rattle.dr_check.specs.declared.search.Found.{Found}
 use Rattle.dr_check.specs.declared.search.Found.TheVariants as found
 use Rattle.dr_check.specs.declared.fault.Fault.TheVariants as fault
+use Rattle.dr_check.specs.Firsts.{IsNamedFirst, NothingBefore, IsHarmless}
 use Rattle.dr_check.specs.Shown.{IsShown, IsTooLarge}
 
 -- what a search knows of the stops that it has entered: open, or finished with a rank
@@ -91,10 +92,36 @@ IsEnd plan cell walk end.Cycle = IsShown plan (fault.Cycle walk cell)
 IsEnd plan cell walk end.DeadEnd = IsShown plan (fault.DeadEnd walk cell)
 IsEnd plan cell walk end.TooLarge = IsTooLarge plan
 
+-- what is known where a search ends so: what is tested before
+abbrev pub WasTested : Network → OwnedCell → Text → Text → Search → End → Type 0
+WasTested plan cell caller node s end.NoContext = Unit {0}
+WasTested plan cell caller node s end.Cycle = IsTaken plan cell caller node
+WasTested plan cell caller node s end.DeadEnd = IsTaken plan cell caller node × (mark_at s.marks (stop_at caller node cell) ≡ None)
+WasTested plan cell caller node s end.TooLarge = Unit {0}
+
+-- a search that ends names the first walk that shows a fault
+abbrev pub IsFirstEnd : Network → OwnedCell → List Text → End → Type 0
+IsFirstEnd plan cell walk end.NoContext = IsEnd plan cell walk end.NoContext × IsNamedFirst plan (fault.NoContext walk cell)
+IsFirstEnd plan cell walk end.Cycle = IsEnd plan cell walk end.Cycle × IsNamedFirst plan (fault.Cycle walk cell)
+IsFirstEnd plan cell walk end.DeadEnd = IsEnd plan cell walk end.DeadEnd × IsNamedFirst plan (fault.DeadEnd walk cell)
+IsFirstEnd plan cell walk end.TooLarge = IsEnd plan cell walk end.TooLarge
+
+-- no walk that comes before this one, from its site, shows a fault
+abbrev pub IsFirstYet : Network → OwnedCell → List Text → Type 0
+IsFirstYet plan cell walk = (site : Text) (over : List Text) → walk ≡ site ∷ over → NothingBefore plan (key_of cell) site walk
+
+-- the walk shows no fault at its end
+abbrev pub EndsWell : Network → OwnedCell → List Text → Type 0
+EndsWell plan cell walk = (site : Text) (over : List Text) → walk ≡ site ∷ over → IsHarmless plan (key_of cell) site over
+
+-- each stop of the walk that the search is on is open
+abbrev pub IsAllOpen : OwnedCell → Search → Type 0
+IsAllOpen cell s = (caller node : Text) → Contains (pairs_from local s.path.items) (caller, node) → mark_at s.marks (stop_at caller node cell) ≡ Some Open
+
 -- what the whole search from a stop comes to: its rank, or an end that is right
 abbrev pub AfterReach : Network → OwnedCell → Text → Text → Search → Search → Found → Type 0
 AfterReach plan cell caller node old new (found.Rank r) = IsDone plan cell caller node r old new
-AfterReach plan cell caller node old new (found.End e) = IsEnd plan cell new.path.items e
+AfterReach plan cell caller node old new (found.End e) = IsFirstEnd plan cell new.path.items e
 
 -- a stop that is seen for the first time: these are the nodes that it sends to, or it keeps
 pub record IsNew (plan : Network) (cell : OwnedCell) (caller node : Text) (stop : Stop) (targets : List Text) (s : Search) : Type 0 where
@@ -102,13 +129,14 @@ pub record IsNew (plan : Network) (cell : OwnedCell) (caller node : Text) (stop 
   pub fresh : mark_at s.marks (stop_at caller node cell) ≡ None
   pub small : btree_map_len s.marks ≢ 65536
   pub named : (to : Text) → Contains targets to ↔ SendsOn plan (stop_at caller node cell) to
+  pub ordered : IsInByteOrder targets
   pub goes_on : Keeps plan node caller (key_of cell) ⊎ ((to : Text) × SendsOn plan (stop_at caller node cell) to)
   pub taken : IsTaken plan cell caller node
 
 -- what is found on looking at a stop: it is finished, or the search ends there, or it is new
 abbrev pub Finds : Network → OwnedCell → Text → Text → Search → Seen → Type 0
 Finds plan cell caller node s (seen.Finished r) = (mark_at s.marks (stop_at caller node cell) ≡ Some (Finished r)) × IsTaken plan cell caller node
-Finds plan cell caller node s (seen.End e) = IsEnd plan cell (s.path.items ++ node ∷ []) e
+Finds plan cell caller node s (seen.End e) = IsEnd plan cell (s.path.items ++ node ∷ []) e × WasTested plan cell caller node s e
 Finds plan cell caller node s (seen.New stop targets) = IsNew plan cell caller node stop targets s
 
 -- the search stands at the stop, which it has marked

@@ -1,7 +1,7 @@
 -- The stack of a search: the stops that it stands on, and what its steps do.
 use Rattle.std.specs.Prelude.{◌≡◌, ℕ, ◌+◌, ◌-◌, ◌*◌, ◌<◌, ◌≤◌, ◌⊎◌, ◌↔◌, List, [], ◌∷◌, ◌++◌, length, take, reverse, Contains, Option, Some, None}
 use Rattle.std.specs.BTreeMap.{btree_map_len, Updates}
-use Rattle.dr_base.specs.Texts.{Text}
+use Rattle.dr_base.specs.Texts.{Text, IsInByteOrder}
 use Rattle.dr_route.specs.Laws.{key_of}
 use Rattle.dr_route.specs.declared.cell.OwnedCell.{OwnedCell}
 use Rattle.dr_network.specs.Networks.{Network}
@@ -16,19 +16,23 @@ use Rattle.dr_check.specs.declared.search.Next.{Next}
 use Rattle.dr_check.specs.declared.search.Next.TheVariants as next
 use Rattle.dr_check.specs.declared.search.Found.{Found}
 use Rattle.dr_check.specs.declared.search.Found.TheVariants as found
-use Rattle.dr_check.specs.Searching.{IsSearching, IsTrail, IsInside, IsDone, IsNew, IsRankedBy, IsEnd, IsTaken, mark_at, stop_at}
+use Rattle.dr_check.specs.Searching.{IsSearching, IsTrail, IsInside, IsDone, IsNew, IsRankedBy, IsFirstEnd, IsFirstYet, EndsWell, IsAllOpen, IsTaken, mark_at, stop_at}
 
 -- the stop that the search stands on by this frame
 abbrev pub stop_of_frame : OwnedCell → Frame → Stop
 stop_of_frame cell f = stop_at f.caller f.node cell
 
--- The search stands on the frame's stop: the walk ends there, its targets are those that the plan names, and the rank is the
--- one that the targets searched so far call for.
+-- The search stands on the frame's stop: the walk ends there, its targets are those that the plan names, in byte order, the rank is the
+-- one that the targets searched so far call for, and neither the walk nor one that comes before it shows a fault.
 pub record IsTop (plan : Network) (cell : OwnedCell) (f : Frame) (s : Search) : Type 0 where
   pub searching : IsSearching plan cell s
   pub trail : IsTrail plan (key_of cell) s.path.items f.caller f.node
   pub here : mark_at s.marks (stop_of_frame cell f) ≡ Some Open
+  pub opened : IsAllOpen cell s
+  pub first : IsFirstYet plan cell s.path.items
+  pub well : EndsWell plan cell s.path.items
   pub named : (to : Text) → Contains f.targets to ↔ SendsOn plan (stop_of_frame cell f) to
+  pub ordered : IsInByteOrder f.targets
   pub goes_on : Keeps plan f.node f.caller (key_of cell) ⊎ ((to : Text) × SendsOn plan (stop_of_frame cell f) to)
   pub taken : IsTaken plan cell f.caller f.node
   pub searched : f.searched ≤ length f.targets
@@ -62,9 +66,9 @@ pub record IsSameFrame (f g : Frame) : Type 0 where
 -- what is found among the targets of a frame: nothing more, an end of the search, or a stop that is new
 abbrev pub GoesOn : Network → OwnedCell → Search → Frame → Frame → Next → Type 0
 GoesOn plan cell s f g next.Nothing = IsSameFrame f g × IsTop plan cell g s × (g.searched ≡ length g.targets)
-GoesOn plan cell s f g (next.End node e) = IsEnd plan cell (s.path.items ++ node ∷ []) e
+GoesOn plan cell s f g (next.End node e) = IsFirstEnd plan cell (s.path.items ++ node ∷ []) e
 GoesOn plan cell s f g (next.New node stop targets) =
-    IsSameFrame f g × IsTop plan cell g s × IsNew plan cell g.node node stop targets s × SendsOn plan (stop_of_frame cell g) node
+    IsSameFrame f g × IsTop plan cell g s × IsNew plan cell g.node node stop targets s × SendsOn plan (stop_of_frame cell g) node × IsFirstYet plan cell (s.path.items ++ node ∷ [])
 
 -- how many steps are left at the most: each stop is entered once and left once
 abbrev pub left_to_do : Search → List Frame → ℕ
@@ -78,4 +82,4 @@ Steps plan cell old f below new g after None =
     IsTop plan cell g new × IsStack plan cell start caller node (reverse after) g new)
 Steps plan cell old f below new g after (Some (found.Rank r)) =
     (start : Search) (caller node : Text) → IsStack plan cell start caller node (reverse below) f old → IsDone plan cell caller node r start new
-Steps plan cell old f below new g after (Some (found.End e)) = IsEnd plan cell new.path.items e
+Steps plan cell old f below new g after (Some (found.End e)) = IsFirstEnd plan cell new.path.items e

@@ -4,7 +4,7 @@ ghost use Rattle.dr_base.specs.Texts.{Text as Words};
 ghost use Rattle.dr_route.specs.Routes.{local};
 ghost use Rattle.dr_network.specs.Networks.{Network};
 ghost use Rattle.dr_check.specs.Checking.{IsReady};
-ghost use Rattle.dr_check.specs.Searching.{IsEnd};
+ghost use Rattle.dr_check.specs.Searching.{IsFirstEnd};
 ghost use Rattle.dr_check.specs.Stopping.{IsStopped};
 
 use crate::fault::Fault;
@@ -75,7 +75,7 @@ fn copy_of(cell: &OwnedCell) -> Result<OwnedCell, AllocError>
 
 /// Why the checker stops where the search ended, at the end of this walk of the cell's keys.
 fn stopped_by(end: End, walk: Vec<Text>, cell: OwnedCell) -> Stopped
-    ensures { (plan : Network) → IsEnd plan cell walk.items end → IsStopped plan result }
+    ensures { (plan : Network) → IsFirstEnd plan cell walk.items end → IsStopped plan result }
 {
     let walk = Seq::from_vec(walk);
     match end {

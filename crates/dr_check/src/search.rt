@@ -292,8 +292,8 @@ fn step(
     }
 }
 
-/// Searches all walks that go on from the node, for the keys of the cell, each stop once. It takes no stack: what it
-/// stands on is in a list of its own.
+/// Searches all walks that begin at the node, for the keys of the cell, each stop once, in byte order of their nodes' names. It takes no
+/// stack: what it stands on is in a list of its own.
 pub fn reach(
     search: &mut Search,
     plan: &Plan,
@@ -306,6 +306,7 @@ pub fn reach(
     requires cell { IsCellOf plan.now cell.now }
     requires key { key.now ≡ key_of cell.now }
     requires searching { IsSearching plan.now cell.now search.old }
+    requires alone { search.old.path.items ≡ [] }
     requires trail { IsTrail plan.now key.now (search.old.path.items ++ node.now ∷ []) caller.now node.now }
     ensures { IfOk result (AfterReach plan.now cell.now caller.now node.now search.old search.new) }
 {

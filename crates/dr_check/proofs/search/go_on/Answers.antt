@@ -8,8 +8,9 @@ use Rattle.dr_route.specs.declared.key.Key.{Key}
 use Rattle.dr_sound.specs.Ranked.{SendsOn}
 use Rattle.dr_check.specs.declared.search.Mark.TheVariants.{Finished}
 use Rattle.dr_check.specs.declared.search.Seen.TheVariants as seen
-use Rattle.dr_check.specs.Searching.{IsTrail, IsTaken, IsNew, Finds, mark_at, stop_at}
+use Rattle.dr_check.specs.Searching.{IsTrail, IsTaken, IsNew, IsEnd, IsFirstEnd, IsFirstYet, WasTested, Finds, mark_at, stop_at}
 use Rattle.dr_check.specs.Stacks.{IsTop, stop_of_frame}
+use Rattle.dr_check.proofs.Named.{first_behind, first_end}
 use Rattle.dr_check.proofs.Trails.{trail_goes_on}
 use Rattle.dr_check.proofs.Stacked.{target_counts}
 use Rattle.dr_check.proofs.search.go_on.Goals as goal
@@ -59,6 +60,19 @@ loop-frame-preserved c =
           (target_counts c.args.plan.now c.requires.formed c.args.cell.now f c.args.search.now node c.in-Finished.rank c.loop-frame.invariant.top at.0 at.1 found.0 found.1);
     }
 
+pub returns-in-End : goal.returns-in-End
+returns-in-End c =
+    let f = c.loop-frame.frame in
+    let node : Text = c.index-as_slice-frame.result in
+    let top = c.loop-frame.invariant.top in
+    let at = target_at c.as_slice.result.now f.targets f.searched c.len.result node c.as_slice.ensures c.len.ensures c.loop-frame-test.true c.index-as_slice-frame.is in
+    let ended : IsEnd c.args.plan.now c.args.cell.now (c.args.search.now.path.items ++ node ∷ []) c.in-End.end
+    × WasTested c.args.plan.now c.args.cell.now f.node node c.args.search.now c.in-End.end = rw c.in-End.is at c.in_ok-rank.ensures in
+    let onward = trail_goes_on c.args.plan.now (key_of c.args.cell.now) c.args.search.now.path.items f.caller f.node node top.trail ((top.named node).0 at.2) in
+    let N : Text → Type 0 = λ n. IsFirstEnd c.args.plan.now c.args.cell.now (c.args.search.now.path.items ++ n ∷ []) c.in-End.end in
+    subst N (sym c.in_ok-node-in-End.ensures) (first_end c.args.plan.now c.requires.formed c.args.cell.now c.requires.cell c.args.search.now f.node node onward top.opened
+    (first_behind c.args.plan.now c.args.cell.now f c.args.search.now node top at.0 at.1) c.in-End.end ended.0 ended.1)
+
 pub returns-in-New : goal.returns-in-New
 returns-in-New c =
     let f = c.loop-frame.frame in
@@ -67,9 +81,11 @@ returns-in-New c =
     let at = target_at c.as_slice.result.now f.targets f.searched c.len.result node c.as_slice.ensures c.len.ensures c.loop-frame-test.true c.index-as_slice-frame.is in
     let fresh : IsNew c.args.plan.now c.args.cell.now f.node node c.in-New.stop c.in-New.targets c.args.search.now = rw c.in-New.is at c.in_ok-rank.ensures in
     let N : Text → Type 0 = λ n. IsNew c.args.plan.now c.args.cell.now f.node n c.in-New.stop c.in-New.targets c.args.search.now in
-    let S : Text → Type 0 = λ n. SendsOn c.args.plan.now (stop_at f.caller f.node c.args.cell.now) n in (
+    let S : Text → Type 0 = λ n. SendsOn c.args.plan.now (stop_at f.caller f.node c.args.cell.now) n in
+    let F : Text → Type 0 = λ n. IsFirstYet c.args.plan.now c.args.cell.now (c.args.search.now.path.items ++ n ∷ []) in (
       record { caller = c.loop-frame.invariant.same.caller; node = c.loop-frame.invariant.same.node },
       top,
       subst N (sym c.in_ok-node-in-New.ensures) fresh,
       subst S (sym c.in_ok-node-in-New.ensures) ((top.named node).0 at.2),
+      subst F (sym c.in_ok-node-in-New.ensures) (first_behind c.args.plan.now c.args.cell.now f c.args.search.now node top at.0 at.1),
     )

@@ -1,12 +1,38 @@
-use Rattle.std.proofs.Common.{◌≡◌, ◌∙◌, refl, sym, ap, subst, List, [], ◌∷◌, ◌++◌, reverse}
+use Rattle.std.proofs.Common.{◌≡◌, ◌∙◌, refl, sym, ap, subst, List, [], ◌∷◌, ◌++◌, Contains, reverse}
 use Rattle.dr_base.specs.Texts.{Text}
 use Rattle.dr_route.specs.declared.key.Key.{Key}
 use Rattle.dr_check.specs.declared.search.Search.{Search}
 use Rattle.dr_check.specs.declared.search.Frame.{Frame}
-use Rattle.dr_check.specs.Searching.{IsTrail, IsNew, IsInside}
+use Rattle.dr_network.specs.Networks.{Network}
+use Rattle.dr_network.proofs.Gathered.{nothing_in_nil}
+use Rattle.dr_route.specs.Routes.{local}
+use Rattle.dr_route.specs.declared.cell.OwnedCell.{OwnedCell}
+use Rattle.dr_check.specs.Searching.{IsTrail, IsNew, IsInside, IsEnd, IsFirstEnd, IsFirstYet, IsAllOpen, WasTested, pairs_from}
 use Rattle.dr_check.specs.Stacks.{IsTop, IsStack, Enters}
+use Rattle.dr_check.proofs.Named.{first_alone, first_end}
 use Rattle.dr_check.proofs.Stacked.{new_top}
 use Rattle.dr_check.proofs.search.reach.Goals as goal
+
+-- a search that stands on no walk begins with the first one
+all_open : (cell : OwnedCell) (s : Search) → s.path.items ≡ [] → IsAllOpen cell s
+all_open cell s none = λ a b among. let P : List Text → Type 0 = λ ns. Contains (pairs_from local ns) (a, b) in absurd (nothing_in_nil (a, b) (subst P none among))
+
+first_from : (plan : Network) (cell : OwnedCell) (s : Search) (node : Text) → s.path.items ≡ [] → IsFirstYet plan cell (s.path.items ++ node ∷ [])
+first_from plan cell s node none = let P : List Text → Type 0 = λ ns. IsFirstYet plan cell (ns ++ node ∷ []) in subst P (sym none) (first_alone plan cell node)
+
+pub returns-in-End : goal.returns-in-End
+returns-in-End c =
+    let s : Search = c.args.search.now in
+    let caller : Text = c.args.caller.now in
+    let node : Text = c.args.node.now in
+    let K : Key → Type 0 = λ k. IsTrail c.args.plan.now k (s.path.items ++ node ∷ []) caller node in
+    let ended : IsEnd c.args.plan.now c.args.cell.now (s.path.items ++ node ∷ []) c.in-End.end × WasTested c.args.plan.now c.args.cell.now caller node s c.in-End.end =
+    rw c.in-End.is at c.in_ok-rank.ensures in
+    let pushed : c.push.new.self.items ≡ s.path.items ++ node ∷ [] =
+    c.in_ok-push-in-End.ensures.items ∙ ap (λ (n : Text). s.path.items ++ n ∷ []) c.in_ok-clone-in-End.ensures in
+    let N : List Text → Type 0 = λ ns. IsFirstEnd c.args.plan.now c.args.cell.now ns c.in-End.end in
+    subst N (sym pushed) (first_end c.args.plan.now c.requires.formed c.args.cell.now c.requires.cell s caller node (subst K c.requires.key c.requires.trail)
+    (all_open c.args.cell.now s c.requires.alone) (first_from c.args.plan.now c.args.cell.now s node c.requires.alone) c.in-End.end ended.0 ended.1)
 
 pub search-init : goal.search-init
 search-init c =
@@ -18,7 +44,8 @@ search-init c =
     let fresh : IsNew c.args.plan.now c.args.cell.now caller node c.in-New.stop c.in-New.targets s = rw c.in-New.is at c.in_ok-rank.ensures in
     let E : Text → Type 0 = λ n. Enters s new n c.in-New.stop in
     let both = new_top c.args.plan.now c.args.cell.now c.requires.cell s new caller node c.in-New.stop c.in-New.targets c.requires.searching
-    (subst K c.requires.key c.requires.trail) fresh (subst E c.in_ok-clone-2.ensures c.in_ok-top.ensures.search) in
+    (subst K c.requires.key c.requires.trail) fresh (subst E c.in_ok-clone-2.ensures c.in_ok-top.ensures.search)
+    c.requires.formed (all_open c.args.cell.now s c.requires.alone) (first_from c.args.plan.now c.args.cell.now s node c.requires.alone) in
     let mk : Text → Text → Frame = λ a b. record { caller = a; node = b; targets = c.in-New.targets; searched = 0; rank = 0 } in
     let is : c.in_ok-top.top ≡ mk caller node =
     c.in_ok-top.ensures.frame ∙ (ap (λ (a : Text). mk a c.in_ok-clone-2.field-0) c.in_ok-clone.ensures ∙ ap (λ (b : Text). mk caller b) c.in_ok-clone-2.ensures) in

@@ -7,7 +7,7 @@ use Rattle.dr_sound.specs.declared.certificate.Stop.{Stop}
 use Rattle.dr_sound.specs.Ranked.{SendsOn}
 use Rattle.dr_check.specs.declared.search.Search.{Search}
 use Rattle.dr_check.specs.declared.search.Frame.{Frame}
-use Rattle.dr_check.specs.Searching.{IsNew, IsDone, IsInside}
+use Rattle.dr_check.specs.Searching.{IsNew, IsDone, IsInside, IsFirstEnd, IsFirstYet}
 use Rattle.dr_check.specs.Stacks.{IsTop, IsStack, IsSameFrame, Enters, stop_of_frame, left_to_do}
 use Rattle.dr_check.proofs.Trails.{trail_goes_on}
 use Rattle.dr_check.proofs.Stacked.{new_top, top_finished, top_resumed, stack_resumed, same_stack}
@@ -25,10 +25,11 @@ returns-in_ok-push-in-New c =
     let node : Text = c.in-New.node in
     let found : IsSameFrame c.args.top.now f × IsTop c.args.plan.now c.args.cell.now f s
     × IsNew c.args.plan.now c.args.cell.now f.node node c.in-New.stop c.in-New.targets s
-    × SendsOn c.args.plan.now (stop_of_frame c.args.cell.now f) node = rw c.in-New.is at c.in_ok-node.ensures in
+    × SendsOn c.args.plan.now (stop_of_frame c.args.cell.now f) node
+    × IsFirstYet c.args.plan.now c.args.cell.now (s.path.items ++ node ∷ []) = rw c.in-New.is at c.in_ok-node.ensures in
     let trail = trail_goes_on c.args.plan.now (key_of c.args.cell.now) s.path.items f.caller f.node node found.1.trail found.3 in
     let both = new_top c.args.plan.now c.args.cell.now c.requires.cell s new f.node node c.in-New.stop c.in-New.targets found.1.searching trail found.2
-    c.in_ok-next-in-New.ensures.search in
+    c.in_ok-next-in-New.ensures.search c.requires.formed found.1.opened found.4 in
     let fresh : Frame = record { caller = f.node; node = node; targets = c.in-New.targets; searched = 0; rank = 0 } in
     let is_fresh : c.replace.new.dest ≡ fresh =
     c.replace.ensures.after ∙ (c.in_ok-next-in-New.ensures.frame
@@ -94,3 +95,9 @@ returns-in-None c = λ start caller from stack.
     let P : Text → Type 0 = λ a. IsDone c.args.plan.now c.args.cell.now a f.node f.rank start new in
     let Q : Text → Type 0 = λ b. IsDone c.args.plan.now c.args.cell.now caller b f.rank start new in
     subst Q here.1 (subst P here.0 done)
+
+pub returns-in_ok-push-in-End : goal.returns-in_ok-push-in-End
+returns-in_ok-push-in-End c =
+    let ended : IsFirstEnd c.args.plan.now c.args.cell.now (c.args.search.now.path.items ++ c.in-End.node ∷ []) c.in-End.end = rw c.in-End.is at c.in_ok-node.ensures in
+    let P : List Text → Type 0 = λ ns. IsFirstEnd c.args.plan.now c.args.cell.now ns c.in-End.end in
+    subst P (sym c.in_ok-push-in-End.ensures.items) ended

@@ -28,7 +28,7 @@ pub returns-in-TooMany : goal.returns-in-TooMany
 returns-in-TooMany c =
     let P : List Line → Type 0 = λ ls. IsFirstTooMany ls c.in-TooMany.from c.in-TooMany.to in
     let many : IsFirstTooMany c.args.lines.items c.in-TooMany.from c.in-TooMany.to = subst P c.as_slice.ensures.value (rw c.in-TooMany.is at c.in_ok-from.ensures) in
-    first_overfull c.args.plan.now c.requires.formed c.args.lines.items c.requires.ranked c.in-TooMany.from c.in-TooMany.to many
+    (first_overfull c.args.plan.now c.requires.formed c.args.lines.items c.requires.ranked c.in-TooMany.from c.in-TooMany.to many, tt)
 
 pub returns-in_ok-order_lines-in-Hops : goal.returns-in_ok-order_lines-in-Hops
 returns-in_ok-order_lines-in-Hops c =

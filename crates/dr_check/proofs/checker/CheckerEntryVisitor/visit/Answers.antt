@@ -5,7 +5,7 @@ use Rattle.dr_route.specs.Laws.{key_of}
 use Rattle.dr_route.specs.declared.key.Key.{Key}
 use Rattle.dr_route.specs.declared.cell.OwnedCell.{OwnedCell}
 use Rattle.dr_sound.specs.Ranked.{line_at}
-use Rattle.dr_check.specs.Searching.{IsDone, IsTrail, IsEnd}
+use Rattle.dr_check.specs.Searching.{IsDone, IsTrail, IsFirstEnd}
 use Rattle.dr_check.specs.Stopping.{IsStopped}
 use Rattle.dr_check.proofs.Trails.{trail_begins}
 use Rattle.dr_check.proofs.Steps.{any_cell}
@@ -21,6 +21,9 @@ reach-requires-clause-trail c =
     let P : List Text → Type 0 = λ ns. IsTrail c.args.self.now.plan.now c.in_ok-key.key (ns ++ c.args.site.now ∷ []) local c.args.site.now in
     let L : Text → Type 0 = λ caller. IsTrail c.args.self.now.plan.now c.in_ok-key.key (c.args.self.now.search.path.items ++ c.args.site.now ∷ []) caller c.args.site.now in
     subst L (sym c.requires.ready.local_caller) (subst P (sym c.requires.ready.no_walk) (subst K (sym c.in_ok-key.ensures) begins))
+
+pub reach-requires-clause-alone : goal.reach-requires-clause-alone
+reach-requires-clause-alone c = c.requires.ready.no_walk
 
 pub returns-in-Rank : goal.returns-in-Rank
 returns-in-Rank c =
@@ -46,8 +49,8 @@ returns-in-Rank c =
 
 pub returns : goal.returns
 returns c =
-    let T : List Text → Type 0 = λ walk. IsEnd c.args.self.now.plan.now c.args.cell.now walk c.in-End.end in
+    let T : List Text → Type 0 = λ walk. IsFirstEnd c.args.self.now.plan.now c.args.cell.now walk c.in-End.end in
     let troubled : T c.reach.new.search.path.items = rw c.in-End.is at c.in_ok-reach.ensures in
-    let P : OwnedCell → Type 0 = λ x. IsEnd c.args.self.now.plan.now x c.replace-walk.result.items c.in-End.end in
+    let P : OwnedCell → Type 0 = λ x. IsFirstEnd c.args.self.now.plan.now x c.replace-walk.result.items c.in-End.end in
     c.stopped_by.ensures c.args.self.now.plan.now
     (subst P (sym c.in_ok-copy_of-in-End.ensures) (subst T (sym (ap (λ v. v.items) c.replace-walk.ensures.value)) troubled))
