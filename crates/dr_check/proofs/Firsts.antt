@@ -1,14 +1,13 @@
 -- A search goes by byte order: no walk that comes before the one that it is on shows a fault.
-use Rattle.std.proofs.Common.{◌≡◌, ◌≢◌, ℕ, ◌+◌, ◌<◌, ◌≤◌, ◌⊎◌, inl, inr, refl, sym, ◌∙◌, ap, subst, List, [], ◌∷◌, ◌++◌, length, Contains, Some, get_or, arith}
-use Rattle.std.specs.declared.cmp.Ordering.TheVariants.{Less, Greater}
-use Rattle.std.specs.Cmp.{IsTotalOrder}
+use Rattle.std.proofs.Common.{◌≡◌, ℕ, ◌<◌, ◌≤◌, ◌⊎◌, inl, inr, refl, sym, ◌∙◌, ap, subst, List, [], ◌∷◌, ◌++◌, length, Contains, get_or, arith}
+use Rattle.std.specs.declared.cmp.Ordering.{Ordering}
+use Rattle.std.specs.declared.cmp.Ordering.TheVariants.{Less, Equal, Greater}
 use Rattle.std.specs.Ordering.{ordering_reverse}
-use Rattle.std.proofs.Math.Logic.{⊎_elim}
 use Rattle.std.proofs.lemmas.Bool.{cases_lt}
 use Rattle.std.proofs.lemmas.Cmp.{nat_list_cmp_total}
-use Rattle.std.proofs.lemmas.List.{get_or_default}
 use Rattle.std.proofs.lemmas.List.Elements.{Contains-append_cases}
 use Rattle.std.proofs.lemmas.Map.Keys.{Less-from_sorted}
+use Rattle.std.proofs.lemmas.Map.Lookups.{exact_bytes}
 use Rattle.dr_base.specs.Texts.{Text, text_cmp, IsInByteOrder}
 use Rattle.dr_route.specs.Routes.{local}
 use Rattle.dr_route.specs.Laws.{key_of}
@@ -19,9 +18,9 @@ use Rattle.dr_network.specs.Walks.{Sends, Keeps, Accepts, IsWalk, places, last_p
 use Rattle.dr_network.proofs.Gathered.{nothing_in_nil, Contains-cons_cases}
 use Rattle.dr_sound.specs.declared.certificate.Stop.{Stop}
 use Rattle.dr_sound.specs.declared.certificate.Line.{Line}
-use Rattle.dr_sound.specs.Ranked.{line_at, SendsOn, IsRanked}
+use Rattle.dr_sound.specs.Ranked.{line_at, IsRanked}
 use Rattle.dr_check.specs.Shown.{ComesBack}
-use Rattle.dr_check.specs.Firsts.{IsBefore, IsHarmless, NothingBefore}
+use Rattle.dr_check.specs.Firsts.{IsBefore, IsHarmless}
 use Rattle.dr_check.proofs.Trails.{same_front}
 
 -- ---- byte order
@@ -32,19 +31,28 @@ not_below_itself text less =
     let more : text_cmp text text ≡ Greater = subst O less turned in
     cc (less, more)
 
+-- of two texts one is below the other, or they are the same
+pub text_cases : (x y : Text) → (text_cmp x y ≡ Less) ⊎ ((x ≡ y) ⊎ (text_cmp y x ≡ Less))
+text_cases x y = by_order (text_cmp x y) refl
+  where
+    by_order : (o : Ordering) → text_cmp x y ≡ o → (text_cmp x y ≡ Less) ⊎ ((x ≡ y) ⊎ (text_cmp y x ≡ Less))
+    by_order Less e = inl e
+    by_order Equal e = inr (inl (exact_bytes x y e))
+    by_order Greater e = inr (inr (nat_list_cmp_total.antisymm y x ∙ ap (λ (o : Ordering). ordering_reverse o) e))
+
 -- of two texts in byte order the lesser one stands first
 pub lesser_stands_first : (texts : List Text) (i k : ℕ) → IsInByteOrder texts → i < length texts → k < length texts → text_cmp (get_or texts i []) (get_or texts k []) ≡ Less → i < k
 lesser_stands_first texts i k ordered low high less = elim (cases_lt i k) [
   | inl before ↦ before
   | inr behind ↦ elim (cases_lt k i) [
-      | inl after ↦
-          let other : text_cmp (get_or texts k []) (get_or texts i []) ≡ Less = Less-from_sorted text_cmp texts k i [] ordered after low in
-          absurd (not_below_itself (get_or texts i []) (nat_list_cmp_total.trans (get_or texts i []) (get_or texts k []) (get_or texts i []) less other))
-      | inr not_after ↦
-          let same : i ≡ k = omega (arith, behind, not_after) in
-          let P : ℕ → Type 0 = λ n. text_cmp (get_or texts n []) (get_or texts k []) ≡ Less in
-          absurd (not_below_itself (get_or texts k []) (subst P same less))
-    ]
+    | inl after ↦
+        let other : text_cmp (get_or texts k []) (get_or texts i []) ≡ Less = Less-from_sorted text_cmp texts k i [] ordered after low in
+        absurd (not_below_itself (get_or texts i []) (nat_list_cmp_total.trans (get_or texts i []) (get_or texts k []) (get_or texts i []) less other))
+    | inr not_after ↦
+        let same : i ≡ k = omega (arith, behind, not_after) in
+        let P : ℕ → Type 0 = λ n. text_cmp (get_or texts n []) (get_or texts k []) ≡ Less in
+        absurd (not_below_itself (get_or texts k []) (subst P same less))
+  ]
 ]
 
 -- ---- walks in two parts
@@ -95,12 +103,12 @@ before_pushed (a ∷ walk) [] node before = elim before [
 before_pushed (a ∷ walk) (b ∷ nodes) node before = elim before [
   | inl less ↦ inl (inl less)
   | inr same ↦ elim (before_pushed walk nodes node same.1) [
-      | inl earlier ↦ inl (inr (same.0, earlier))
-      | inr rest ↦ elim rest [
-          | inl this ↦ inr (inl (cc (same.0, this)))
-          | inr beyond ↦ inr (inr (beyond.0, beyond.1, cc (same.0, beyond.2), beyond.3))
-        ]
+    | inl earlier ↦ inl (inr (same.0, earlier))
+    | inr rest ↦ elim rest [
+      | inl this ↦ inr (inl (cc (same.0, this)))
+      | inr beyond ↦ inr (inr (beyond.0, beyond.1, cc (same.0, beyond.2), beyond.3))
     ]
+  ]
 ]
 
 -- ---- walks over stops that have lines

@@ -1,6 +1,7 @@
 pub mod Firsts
 pub mod Marking
 pub mod Named
+pub mod OneFirst
 pub mod Ready
 pub mod Stacked
 pub mod Steps

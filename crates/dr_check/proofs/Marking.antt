@@ -1,30 +1,18 @@
 -- Marks of stops: a map under the order of stops, in which equal stops are the same.
-use Rattle.std.proofs.Common.{◌≡◌, ◌≢◌, ℕ, ◌<◌, ◌⊎◌, inl, inr, refl, sym, ◌∙◌, ap, List, [], length, get_or, Option, Some, None, true, false}
+use Rattle.std.proofs.Common.{◌≡◌, ◌≢◌, ℕ, inl, inr, refl, sym, ◌∙◌, ap, [], get_or, Option, Some, None, false}
 use Rattle.std.specs.Prelude.{AllPairs, All, IsSome}
-use Rattle.std.specs.declared.cmp.Ordering.{Ordering}
-use Rattle.std.specs.declared.cmp.Ordering.TheVariants.{Less, Equal, Greater}
-use Rattle.std.specs.Ordering.{ordering_then}
-use Rattle.std.specs.BTreeMap.{BTreeMap, get, btree_map_len, Updates, is_at, keys, IsOrdered, ContainsKey}
-use Rattle.std.specs.Cmp.{Equal-is, IsTotalOrder}
+use Rattle.std.specs.declared.cmp.Ordering.TheVariants.{Less, Equal}
+use Rattle.std.specs.BTreeMap.{Updates, is_at, keys, IsOrdered}
+use Rattle.std.specs.Cmp.{Equal-is}
 use Rattle.std.proofs.lemmas.Cmp.{tied_itself}
 use Rattle.std.proofs.lemmas.Bool.{cases_Bool, false≢true}
 use Rattle.std.proofs.lemmas.Option.{same_Some}
 use Rattle.std.proofs.lemmas.Map.Keys.{Less-from_sorted}
 use Rattle.std.proofs.lemmas.Map.Views.{All-keys_found}
-use Rattle.std.proofs.lemmas.Map.Lookups.{exact_bytes}
-use Rattle.dr_base.specs.Texts.{Text, text_cmp}
-use Rattle.dr_base.specs.declared.syntax.Syntax.{Syntax}
-use Rattle.dr_base.specs.declared.syntax.Syntax.TheVariants.{Implicit, Explicit}
-use Rattle.dr_base.specs.contracts.syntax.SyntaxOrd.TheImpl as syntaxes
-use Rattle.dr_route.specs.contracts.cell.OwnedFieldOrd.TheImpl as fields
-use Rattle.dr_route.specs.contracts.cell.OwnedCellOrd.TheImpl as cells
-use Rattle.dr_route.specs.declared.cell.OwnedField.{OwnedField}
-use Rattle.dr_route.specs.declared.cell.OwnedField.TheVariants.{Literal, Rest}
-use Rattle.dr_route.specs.declared.cell.OwnedCell.{OwnedCell}
 use Rattle.dr_sound.specs.declared.certificate.Stop.{Stop}
 use Rattle.dr_sound.specs.contracts.certificate.StopOrd.TheImpl.Laws as laws
 use Rattle.dr_sound.specs.Stops.{stop_cmp}
-use Rattle.dr_sound.proofs.SameStops.{stop_exact, same_stop_or_not}
+use Rattle.dr_sound.proofs.SameStops.{stop_exact}
 use Rattle.dr_check.specs.declared.search.Mark.{Mark}
 use Rattle.dr_check.specs.declared.search.Mark.TheVariants.{Open, Finished}
 use Rattle.dr_sound.specs.Stops.{stop_cmp}

@@ -1,5 +1,5 @@
 -- The fault that a search names is that of the first walk from its entry that shows one.
-use Rattle.std.proofs.Common.{◌≡◌, ◌≢◌, ℕ, ◌<◌, ◌⊎◌, inl, inr, refl, sym, ◌∙◌, ap, subst, List, [], ◌∷◌, ◌++◌, length, Contains, Some, None, get_or}
+use Rattle.std.proofs.Common.{◌≡◌, ◌≢◌, ◌<◌, ◌⊎◌, inl, inr, sym, ◌∙◌, ap, subst, List, [], ◌∷◌, ◌++◌, length, Contains, None, get_or}
 use Rattle.std.specs.declared.cmp.Ordering.TheVariants.{Less}
 use Rattle.std.proofs.Math.Logic.{⊎_elim}
 use Rattle.std.proofs.lemmas.List.{get_or_default}
@@ -14,17 +14,15 @@ use Rattle.dr_network.specs.Plans.{IsWellFormed, LiesIn}
 use Rattle.dr_network.specs.Laws.{IsCellOf}
 use Rattle.dr_network.specs.Walks.{Sends, Keeps, Accepts, IsWalk, IsEntry, places, last_place}
 use Rattle.dr_network.proofs.WalksAlike.{send_alike, keep_alike, walk_alike, cell_has_a_key}
-use Rattle.dr_sound.specs.declared.certificate.Line.{Line}
 use Rattle.dr_sound.specs.Ranked.{line_at}
 use Rattle.dr_sound.proofs.Hopping.{last_hop, reached_not_local}
 use Rattle.dr_check.specs.declared.search.Search.{Search}
 use Rattle.dr_check.specs.declared.search.Frame.{Frame}
 use Rattle.dr_check.specs.declared.search.End.{End}
 use Rattle.dr_check.specs.declared.search.End.TheVariants as end
-use Rattle.dr_check.specs.declared.search.Mark.TheVariants.{Open}
 use Rattle.dr_check.specs.declared.fault.Fault.TheVariants as fault
 use Rattle.dr_check.specs.Shown.{ComesBack, IsShown}
-use Rattle.dr_check.specs.Firsts.{IsBefore, IsHarmless, NothingBefore, IsFirstWalk}
+use Rattle.dr_check.specs.Firsts.{IsHarmless, IsFirstWalk}
 use Rattle.dr_check.specs.Searching.{IsTrail, IsTaken, IsEnd, IsFirstEnd, IsFirstYet, EndsWell, IsAllOpen, WasTested, mark_at, stop_at, pairs_from}
 use Rattle.dr_check.specs.Stacks.{IsTop}
 use Rattle.dr_check.proofs.Firsts.{front, before_pushed, nothing_before, not_below_itself, lesser_stands_first, places_front, comes_back, walk_parts, harmless_beyond}
@@ -121,32 +119,32 @@ first_behind plan cell f s node top below at = λ site over walked other walk be
     elim (before_pushed (site ∷ other) s.path.items node before) [
       | inl earlier ↦ top.first site trail.over path other walk earlier
       | inr rest ↦ elim rest [
-          | inl this ↦ top.well site other (sym this)
-          | inr beyond ↦
-              let to : Text = beyond.0 in
-              let onward : List Text = beyond.1 in
-              let is : other ≡ trail.over ++ to ∷ onward = ap rest_of (beyond.2 ∙ ap (λ (ns : List Text). ns ++ to ∷ onward) path) in
-              let W : List Text → Type 0 = λ ns. IsWalk plan (key_of cell) local site ns in
-              let long : IsWalk plan (key_of cell) local site (trail.over ++ to ∷ onward) = subst W is walk in
-              let S : Text × Text → Type 0 = λ p. Sends plan p.1 p.0 (key_of cell) to in
-              let among = (top.named to).1 (subst S ends (walk_parts plan (key_of cell) local site trail.over to onward long).0) in
-              let here : get_or f.targets among.0 [] ≡ to = get_or_default f.targets among.0 [] to among.1 ∙ among.2 in
-              let L : Text → Type 0 = λ t. text_cmp t (get_or f.targets f.searched []) ≡ Less in
-              let R : Text → Type 0 = λ t. text_cmp to t ≡ Less in
-              let less : text_cmp (get_or f.targets among.0 []) (get_or f.targets f.searched []) ≡ Less = subst L (sym here) (subst R (sym at) beyond.3) in
-              let searched : among.0 < f.searched = lesser_stands_first f.targets among.0 f.searched top.ordered among.1 below less in
-              let line = top.ranked.lower among.0 searched in
-              let A : Text → Type 0 = λ t. Accepts plan t f.node cell.class cell.syntax in
-              let C : Text → Type 0 = λ t. Contains s.lines.items (line_at f.node t cell line.1.0) in
-              let H : List Text → Type 0 = λ ns. IsHarmless plan (key_of cell) site ns in
-              subst H (sym is) (harmless_beyond plan cell s.lines.items top.searching.ranked
-              (λ stop p q a b. finished_same (top.searching.listed stop p a) (top.searching.listed stop q b))
-              site trail.over to onward f.node line.1.0 (ap (λ (p : Text × Text). p.1) ends) (subst C here line.1.1) (subst A here line.0) long
-              (λ caller name q among_places has.
-              let P : List (Text × Text) → Type 0 = λ ps. Contains ps (caller, name) in
-              let pairs : places local site trail.over ≡ pairs_from local s.path.items = places_are_pairs local site trail.over ∙ ap (λ (ns : List Text). pairs_from local ns) (sym path) in
-              open_is_not_finished (top.opened caller name (subst P pairs among_places)) (top.searching.listed (stop_at caller name cell) q has)))
-        ]
+        | inl this ↦ top.well site other (sym this)
+        | inr beyond ↦
+            let to : Text = beyond.0 in
+            let onward : List Text = beyond.1 in
+            let is : other ≡ trail.over ++ to ∷ onward = ap rest_of (beyond.2 ∙ ap (λ (ns : List Text). ns ++ to ∷ onward) path) in
+            let W : List Text → Type 0 = λ ns. IsWalk plan (key_of cell) local site ns in
+            let long : IsWalk plan (key_of cell) local site (trail.over ++ to ∷ onward) = subst W is walk in
+            let S : Text × Text → Type 0 = λ p. Sends plan p.1 p.0 (key_of cell) to in
+            let among = (top.named to).1 (subst S ends (walk_parts plan (key_of cell) local site trail.over to onward long).0) in
+            let here : get_or f.targets among.0 [] ≡ to = get_or_default f.targets among.0 [] to among.1 ∙ among.2 in
+            let L : Text → Type 0 = λ t. text_cmp t (get_or f.targets f.searched []) ≡ Less in
+            let R : Text → Type 0 = λ t. text_cmp to t ≡ Less in
+            let less : text_cmp (get_or f.targets among.0 []) (get_or f.targets f.searched []) ≡ Less = subst L (sym here) (subst R (sym at) beyond.3) in
+            let searched : among.0 < f.searched = lesser_stands_first f.targets among.0 f.searched top.ordered among.1 below less in
+            let line = top.ranked.lower among.0 searched in
+            let A : Text → Type 0 = λ t. Accepts plan t f.node cell.class cell.syntax in
+            let C : Text → Type 0 = λ t. Contains s.lines.items (line_at f.node t cell line.1.0) in
+            let H : List Text → Type 0 = λ ns. IsHarmless plan (key_of cell) site ns in
+            subst H (sym is) (harmless_beyond plan cell s.lines.items top.searching.ranked
+            (λ stop p q a b. finished_same (top.searching.listed stop p a) (top.searching.listed stop q b))
+            site trail.over to onward f.node line.1.0 (ap (λ (p : Text × Text). p.1) ends) (subst C here line.1.1) (subst A here line.0) long
+            (λ caller name q among_places has.
+            let P : List (Text × Text) → Type 0 = λ ps. Contains ps (caller, name) in
+            let pairs : places local site trail.over ≡ pairs_from local s.path.items = places_are_pairs local site trail.over ∙ ap (λ (ns : List Text). pairs_from local ns) (sym path) in
+            open_is_not_finished (top.opened caller name (subst P pairs among_places)) (top.searching.listed (stop_at caller name cell) q has)))
+      ]
     ]
 
 -- ---- the same for all keys of the cell

@@ -1,6 +1,5 @@
 -- The first hop with more pairs than it can carry is so in the plan as in its lines.
-use Rattle.std.proofs.Common.{◌≡◌, ◌≢◌, List, get_or}
-use Rattle.std.specs.declared.cmp.Ordering.TheVariants.{Less}
+use Rattle.std.proofs.Common.{List, get_or}
 use Rattle.dr_base.specs.Texts.{Text}
 use Rattle.dr_network.specs.Networks.{Network}
 use Rattle.dr_network.specs.Plans.{IsWellFormed}

@@ -1,5 +1,5 @@
 -- A checker that has visited all entries has the lines of the plan; they and their hops can be printed.
-use Rattle.std.proofs.Common.{◌≡◌, ◌≢◌, ℕ, ◌+◌, ◌*◌, ◌<◌, ◌≤◌, ◌⊎◌, inl, inr, refl, sym, ◌∙◌, ap, subst, List, [], ◌∷◌, length, Contains, Some, get_or, arith}
+use Rattle.std.proofs.Common.{◌≡◌, ◌≢◌, ℕ, ◌+◌, ◌*◌, ◌<◌, ◌≤◌, inl, inr, refl, sym, ◌∙◌, ap, subst, List, [], length, Contains, Some, get_or, arith}
 use Rattle.std.specs.Prelude.{All, AllPairs, codes, ◌↔◌, slice_get}
 use Rattle.std.specs.Cmp.{IsTotalOrder}
 use Rattle.std.specs.Cmp.Lexicographic.{nat_list_cmp_total}
@@ -18,20 +18,18 @@ use Rattle.dr_route.specs.Laws.{IsPart, key_of}
 use Rattle.dr_route.specs.declared.key.Key.{Key}
 use Rattle.dr_route.specs.declared.cell.OwnedField.{OwnedField}
 use Rattle.dr_route.specs.declared.cell.OwnedField.TheVariants.{Literal, Rest}
-use Rattle.dr_network.specs.declared.plan.Flow.{Flow}
 use Rattle.dr_network.specs.declared.literals.Attribute.{Attribute}
 use Rattle.dr_network.specs.declared.literals.Attribute.TheVariants.{Modality, Station}
 use Rattle.dr_network.specs.Networks.{Network}
 use Rattle.dr_network.specs.Formed.{IsName, IsLiteral, IsClass, IsKnownName, IsWellFormedNode, IsWellFormedFlow}
-use Rattle.dr_network.specs.Plans.{IsWellFormed, LiesIn, literals_of, named_in}
+use Rattle.dr_network.specs.Plans.{IsWellFormed, named_in}
 use Rattle.dr_network.specs.Walks.{IsReached}
 use Rattle.dr_network.specs.Laws.{IsCellOf}
-use Rattle.dr_network.proofs.WalksAlike.{named_is_literal, cell_has_a_key}
-use Rattle.dr_sound.specs.declared.certificate.Stop.{Stop}
+use Rattle.dr_network.proofs.WalksAlike.{named_is_literal}
 use Rattle.dr_sound.specs.declared.certificate.Line.{Line}
 use Rattle.dr_sound.specs.declared.certificate.Hop.{Hop}
-use Rattle.dr_sound.specs.Certificates.{HasHop, AreHopPairs}
-use Rattle.dr_sound.specs.HopPairs.{OverHop, AreOverHop, HasNumber, AreNumbered}
+use Rattle.dr_sound.specs.Certificates.{HasHop}
+use Rattle.dr_sound.specs.HopPairs.{OverHop, HasNumber, AreNumbered}
 use Rattle.dr_sound.specs.Ranked.{AreRanked}
 use Rattle.dr_sound.proofs.Hopping.{last_hop, reached_is_known, hop_pairs, over_hop}
 use Rattle.dr_cert_text.specs.Printable.{IsPlain, IsPlainField, IsPrintableLine, IsPrintableHop}

@@ -1,7 +1,7 @@
 -- The steps of the search: a stop is entered, a target of it is done, and it is finished.
-use Rattle.std.proofs.Common.{◌≡◌, ◌≢◌, ℕ, suc, ◌+◌, ◌-◌, ◌<◌, ◌≤◌, ◌⊎◌, max, inl, inr, refl, sym, ◌∙◌, ap, subst, List, [], ◌∷◌, ◌++◌, length, Contains, Option, Some, None, get_or, take, arith, below_more, length-append}
-use Rattle.std.specs.Prelude.{All, AllPairs, ◌↔◌}
-use Rattle.std.specs.BTreeMap.{BTreeMap, btree_map_len, keys, IsOrdered}
+use Rattle.std.proofs.Common.{◌≡◌, ◌≢◌, ℕ, ◌+◌, ◌-◌, ◌<◌, ◌≤◌, ◌⊎◌, max, inl, inr, refl, sym, ◌∙◌, ap, subst, List, [], ◌∷◌, ◌++◌, length, Contains, Some, None, get_or, take, arith, below_more, length-append}
+use Rattle.std.specs.Prelude.{AllPairs}
+use Rattle.std.specs.BTreeMap.{btree_map_len, keys, IsOrdered}
 use Rattle.std.proofs.Math.Logic.{⊎_elim}
 use Rattle.std.proofs.lemmas.Bool.{cases_lt}
 use Rattle.std.proofs.lemmas.Grind.{common_steps}
@@ -18,21 +18,21 @@ use Rattle.dr_route.specs.declared.cell.OwnedCell.{OwnedCell}
 use Rattle.dr_network.specs.Networks.{Network}
 use Rattle.dr_network.specs.Plans.{IsWellFormed, LiesIn}
 use Rattle.dr_network.specs.Laws.{IsCellOf}
-use Rattle.dr_network.specs.Walks.{Sends, Keeps, Accepts, IsReached}
+use Rattle.dr_network.specs.Walks.{Accepts, IsReached}
 use Rattle.dr_network.proofs.Gathered.{nothing_in_nil}
 use Rattle.dr_network.proofs.WalksAlike.{cell_has_a_key}
 use Rattle.dr_sound.specs.declared.certificate.Stop.{Stop}
 use Rattle.dr_sound.specs.declared.certificate.Line.{Line}
-use Rattle.dr_sound.specs.Ranked.{line_at, SendsOn, IsRanked}
+use Rattle.dr_sound.specs.Ranked.{line_at, IsRanked}
 use Rattle.dr_check.specs.Shown.{IsTooLarge}
 use Rattle.dr_check.specs.declared.search.Search.{Search}
 use Rattle.dr_check.specs.declared.search.Mark.{Mark}
 use Rattle.dr_check.specs.declared.search.Mark.TheVariants.{Open, Finished}
 use Rattle.dr_sound.specs.Stops.{stop_cmp}
-use Rattle.dr_check.specs.Searching.{Marks, mark_at, stop_at, pairs_from, IsTrail, IsSearching, IsLater, IsTaken, IsDone, IsNew, IsInside, IsRankedBy}
+use Rattle.dr_check.specs.Searching.{mark_at, stop_at, pairs_from, IsTrail, IsSearching, IsTaken, IsDone, IsNew, IsInside, IsRankedBy}
 use Rattle.dr_sound.proofs.SameStops.{same_stop_or_not}
 use Rattle.dr_check.proofs.Marking.{Marks-set, open_is_not_finished, none_is_not_some, finished_same, unmarked, keys_apart, keys_marked}
-use Rattle.dr_check.proofs.Trails.{trail_pairs, trail_reaches, trail_goes_on, trail_begins}
+use Rattle.dr_check.proofs.Trails.{trail_pairs, trail_reaches}
 
 -- ---- too many stops
 pub too_large : (plan : Network) → IsWellFormed plan → (cell : OwnedCell) → IsCellOf plan cell → (s : Search) → IsSearching plan cell s →

@@ -1,5 +1,5 @@
 -- What the checker answers.
-use Rattle.std.specs.Prelude.{ℕ, ◌≤◌, List, Contains, Result, Ok, Err, length}
+use Rattle.std.specs.Prelude.{◌≤◌, List, Contains, Result, Ok, Err, length}
 use Rattle.dr_network.specs.Networks.{Network}
 use Rattle.dr_sound.specs.declared.certificate.Line.{Line}
 use Rattle.dr_sound.specs.Soundness.{IsSound}

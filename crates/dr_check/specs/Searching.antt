@@ -1,6 +1,5 @@
 -- What holds between the calls of the search.
 use Rattle.std.specs.Prelude.{◌≡◌, ◌≢◌, ℕ, ◌+◌, ◌<◌, ◌≤◌, ◌⊎◌, ◌↔◌, List, [], ◌∷◌, ◌++◌, length, Contains, Some, None, slice_index_or, Option, AllPairs}
-use Rattle.std.specs.declared.cmp.Ordering.{Ordering}
 use Rattle.std.specs.BTreeMap.{BTreeMap, get, btree_map_len}
 use Rattle.dr_base.specs.Texts.{Text, IsInByteOrder}
 use Rattle.dr_route.specs.Routes.{local}
@@ -9,11 +8,10 @@ use Rattle.dr_route.specs.declared.key.Key.{Key}
 use Rattle.dr_route.specs.declared.cell.OwnedCell.{OwnedCell}
 use Rattle.dr_network.specs.Networks.{Network}
 use Rattle.dr_network.specs.Laws.{IsCellOf}
-use Rattle.dr_network.specs.Walks.{Sends, Keeps, Accepts, IsWalk, last_place, IsEntry, IsReached}
+use Rattle.dr_network.specs.Walks.{Keeps, Accepts, IsWalk, last_place, IsEntry, IsReached}
 use Rattle.dr_sound.specs.declared.certificate.Stop.{Stop}
 use Rattle.dr_sound.specs.declared.certificate.Line.{Line}
 use Rattle.dr_sound.specs.Stops.{stop_cmp}
-use Rattle.dr_sound.specs.contracts.certificate.StopOrd.TheImpl as order
 use Rattle.dr_sound.specs.Ranked.{line_at, SendsOn, IsRanked}
 use Rattle.dr_check.specs.declared.search.Search.{Search}
 use Rattle.dr_check.specs.declared.search.Mark.{Mark}

@@ -1,5 +1,4 @@
 -- Why a checker stops, and what it has done before.
-use Rattle.std.specs.Prelude.{◌≡◌, ℕ, List, [], Contains}
 use Rattle.dr_network.specs.Networks.{Network}
 use Rattle.dr_check.specs.declared.checker.Stopped.{Stopped}
 use Rattle.dr_check.specs.declared.checker.Stopped.TheVariants.{Fault, TooLarge}

@@ -1,11 +1,7 @@
-use Rattle.std.proofs.Common.{◌≡◌, sym, ap, subst, List}
+use Rattle.std.proofs.Common.{sym, subst, List}
 use Rattle.dr_base.specs.Texts.{Text}
-use Rattle.dr_network.specs.Networks.{Network}
 use Rattle.dr_check.specs.declared.search.End.TheVariants as end
-use Rattle.dr_check.specs.declared.fault.Fault.TheVariants as fault
-use Rattle.dr_check.specs.declared.checker.Stopped.TheVariants as stopped
 use Rattle.dr_check.specs.Searching.{IsFirstEnd}
-use Rattle.dr_check.specs.Stopping.{IsStopped}
 use Rattle.dr_check.proofs.checker.stopped_by.Goals as goal
 
 pub returns-in-NoContext : goal.returns-in-NoContext

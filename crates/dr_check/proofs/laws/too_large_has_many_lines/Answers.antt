@@ -1,5 +1,5 @@
-use Rattle.std.proofs.Common.{◌≡◌, ◌≢◌, ℕ, ◌+◌, ◌<◌, ◌≤◌, refl, List, length, Contains, get_or, arith}
-use Rattle.std.specs.Prelude.{All, AllPairs, map}
+use Rattle.std.proofs.Common.{◌≡◌, ◌<◌, ◌≤◌, List, length, Contains, get_or, arith}
+use Rattle.std.specs.Prelude.{All, map}
 use Rattle.std.proofs.lemmas.List.{length-map}
 use Rattle.dr_network.specs.Networks.{Network}
 use Rattle.dr_sound.specs.declared.certificate.Stop.{Stop}

@@ -1,4 +1,4 @@
-use Rattle.std.proofs.Common.{◌≡◌, ℕ, ◌+◌, ◌<◌, ◌≤◌, max, sym, ◌∙◌, subst, List, [], ◌∷◌, ◌++◌, length, Contains, Some, get_or, arith}
+use Rattle.std.proofs.Common.{◌≡◌, ℕ, ◌+◌, ◌<◌, ◌≤◌, sym, ◌∙◌, subst, List, [], ◌∷◌, ◌++◌, length, Contains, Some, get_or, arith}
 use Rattle.std.specs.BTreeMap.{btree_map_len}
 use Rattle.std.proofs.lemmas.List.{get_or_default}
 use Rattle.std.proofs.lemmas.List.Elements.{Contains-get_or}
@@ -7,9 +7,8 @@ use Rattle.dr_route.specs.Laws.{key_of}
 use Rattle.dr_route.specs.declared.key.Key.{Key}
 use Rattle.dr_sound.specs.Ranked.{SendsOn}
 use Rattle.dr_check.specs.declared.search.Mark.TheVariants.{Finished}
-use Rattle.dr_check.specs.declared.search.Seen.TheVariants as seen
-use Rattle.dr_check.specs.Searching.{IsTrail, IsTaken, IsNew, IsEnd, IsFirstEnd, IsFirstYet, WasTested, Finds, mark_at, stop_at}
-use Rattle.dr_check.specs.Stacks.{IsTop, stop_of_frame}
+use Rattle.dr_check.specs.Searching.{IsTrail, IsTaken, IsNew, IsEnd, IsFirstEnd, IsFirstYet, WasTested, mark_at, stop_at}
+use Rattle.dr_check.specs.Stacks.{IsTop}
 use Rattle.dr_check.proofs.Named.{first_behind, first_end}
 use Rattle.dr_check.proofs.Trails.{trail_goes_on}
 use Rattle.dr_check.proofs.Stacked.{target_counts}

@@ -1,16 +1,15 @@
-use Rattle.std.proofs.Common.{◌≡◌, ◌≢◌, ℕ, ◌⊎◌, inl, inr, refl, sym, ◌∙◌, ap, subst, List, [], ◌∷◌, ◌++◌, length, Contains, Some, None, true, false, arith}
+use Rattle.std.proofs.Common.{◌≡◌, inl, inr, refl, sym, ◌∙◌, ap, subst, List, [], ◌∷◌, ◌++◌, Contains, Some, None}
 use Rattle.std.specs.BTreeMap.{btree_map_len}
 use Rattle.std.proofs.lemmas.Bool.{false≢true}
 use Rattle.std.proofs.Math.Logic.{⊎_elim}
 use Rattle.dr_base.specs.Texts.{Text}
-use Rattle.dr_route.specs.Routes.{local}
 use Rattle.dr_route.specs.Laws.{key_of}
 use Rattle.dr_route.specs.declared.key.Key.{Key}
-use Rattle.dr_network.specs.Walks.{Keeps, Sends, Accepts}
+use Rattle.dr_network.specs.Walks.{Keeps, Sends}
 use Rattle.dr_network.proofs.Gathered.{nothing_in_nil}
 use Rattle.dr_sound.specs.declared.certificate.Stop.{Stop}
 use Rattle.dr_check.specs.declared.search.Mark.{Mark}
-use Rattle.dr_check.specs.declared.search.Mark.TheVariants.{Open, Finished}
+use Rattle.dr_check.specs.declared.search.Mark.TheVariants.{Open}
 use Rattle.dr_check.specs.Searching.{IsTrail, mark_at, stop_at, IsTaken}
 use Rattle.dr_check.proofs.Trails.{shows_no_context, shows_cycle, shows_dead_end}
 use Rattle.dr_check.proofs.Steps.{too_large}
@@ -20,9 +19,11 @@ pub returns-then-not-is_accepted : goal.returns-then-not-is_accepted
 returns-then-not-is_accepted c =
     let T : Key → Type 0 = λ k. IsTrail c.args.plan.now k (c.args.search.now.path.items ++ c.args.node.now ∷ []) c.args.caller.now c.args.node.now in
     let trail = subst T c.requires.key c.requires.trail in
-    let refused : IsTaken c.args.plan.now c.args.cell.now c.args.caller.now c.args.node.now → ⊥ = λ taken. false≢true (c.if-not-is_accepted.ensures.1 taken) in
-    (shows_no_context c.args.plan.now c.requires.formed c.args.cell.now c.requires.cell _ c.args.caller.now c.args.node.now trail
-    (λ here. refused (inl here)) (λ accepted. refused (inr accepted)), tt)
+    let refused : IsTaken c.args.plan.now c.args.cell.now c.args.caller.now c.args.node.now → ⊥ = λ taken. false≢true (c.if-not-is_accepted.ensures.1 taken) in (
+      shows_no_context c.args.plan.now c.requires.formed c.args.cell.now c.requires.cell _ c.args.caller.now c.args.node.now trail
+          (λ here. refused (inl here)) (λ accepted. refused (inr accepted)),
+      tt,
+    )
 
 pub returns-in-Some-Open : goal.returns-in-Some-Open
 returns-in-Some-Open c =
@@ -30,10 +31,11 @@ returns-in-Some-Open c =
     let trail = subst T c.requires.key c.requires.trail in
     let P : Stop → Type 0 = λ s. mark_at c.args.search.now.marks s ≡ Some Open in
     let marked : mark_at c.args.search.now.marks (stop_at c.args.caller.now c.args.node.now c.args.cell.now) ≡ Some Open =
-    subst P c.in_ok-stop.ensures (sym c.in-Some-Open.ensures ∙ ap (λ (m : Mark). Some m) c.in-Some-Open.field-0-is) in
-    (shows_cycle c.args.plan.now c.requires.formed c.args.cell.now c.requires.cell _ c.args.caller.now c.args.node.now trail
-    c.args.search.now.path.items refl (c.requires.searching.on_path (stop_at c.args.caller.now c.args.node.now c.args.cell.now) marked).1,
-    c.if-not-is_accepted.ensures.0 refl)
+    subst P c.in_ok-stop.ensures (sym c.in-Some-Open.ensures ∙ ap (λ (m : Mark). Some m) c.in-Some-Open.field-0-is) in (
+      shows_cycle c.args.plan.now c.requires.formed c.args.cell.now c.requires.cell _ c.args.caller.now c.args.node.now trail
+          c.args.search.now.path.items refl (c.requires.searching.on_path (stop_at c.args.caller.now c.args.node.now c.args.cell.now) marked).1,
+      c.if-not-is_accepted.ensures.0 refl,
+    )
 
 pub returns-then-is_dead_end : goal.returns-then-is_dead_end
 returns-then-is_dead_end c =
@@ -41,14 +43,15 @@ returns-then-is_dead_end c =
     let trail = subst T c.requires.key c.requires.trail in
     let dead = c.if-is_dead_end.ensures.dead refl in
     let K : Key → Type 0 = λ k. Keeps c.args.plan.now c.args.node.now c.args.caller.now k in
-    let P : Stop → Type 0 = λ s. mark_at c.args.search.now.marks s ≡ None in
-    (shows_dead_end c.args.plan.now c.requires.formed c.args.cell.now c.requires.cell _ c.args.caller.now c.args.node.now trail
-    (λ kept. false≢true (sym dead.1 ∙ c.in_ok-targets.ensures.keep.1 (subst K (sym c.requires.key) kept)))
-    (λ to sent.
-    let S : Key → Type 0 = λ k. Sends c.args.plan.now c.args.node.now c.args.caller.now k to in
-    let L : List Text → Type 0 = λ names. Contains names to in
-    nothing_in_nil to (subst L dead.0 ((c.in_ok-targets.ensures.to to).1 (subst S (sym c.requires.key) sent)))),
-    (c.if-not-is_accepted.ensures.0 refl, subst P c.in_ok-stop.ensures (sym c.in-None.ensures)))
+    let P : Stop → Type 0 = λ s. mark_at c.args.search.now.marks s ≡ None in (
+      shows_dead_end c.args.plan.now c.requires.formed c.args.cell.now c.requires.cell _ c.args.caller.now c.args.node.now trail
+          (λ kept. false≢true (sym dead.1 ∙ c.in_ok-targets.ensures.keep.1 (subst K (sym c.requires.key) kept)))
+          (λ to sent.
+          let S : Key → Type 0 = λ k. Sends c.args.plan.now c.args.node.now c.args.caller.now k to in
+          let L : List Text → Type 0 = λ names. Contains names to in
+          nothing_in_nil to (subst L dead.0 ((c.in_ok-targets.ensures.to to).1 (subst S (sym c.requires.key) sent)))),
+      (c.if-not-is_accepted.ensures.0 refl, subst P c.in_ok-stop.ensures (sym c.in-None.ensures)),
+    )
 
 pub returns-then-len-eq-MOST_LINES : goal.returns-then-len-eq-MOST_LINES
 returns-then-len-eq-MOST_LINES c =

@@ -7,7 +7,7 @@ use Rattle.dr_network.specs.Networks.{Network}
 use Rattle.dr_network.proofs.Gathered.{nothing_in_nil}
 use Rattle.dr_route.specs.Routes.{local}
 use Rattle.dr_route.specs.declared.cell.OwnedCell.{OwnedCell}
-use Rattle.dr_check.specs.Searching.{IsTrail, IsNew, IsInside, IsEnd, IsFirstEnd, IsFirstYet, IsAllOpen, WasTested, pairs_from}
+use Rattle.dr_check.specs.Searching.{IsTrail, IsNew, IsEnd, IsFirstEnd, IsFirstYet, IsAllOpen, WasTested, pairs_from}
 use Rattle.dr_check.specs.Stacks.{IsTop, IsStack, Enters}
 use Rattle.dr_check.proofs.Named.{first_alone, first_end}
 use Rattle.dr_check.proofs.Stacked.{new_top}

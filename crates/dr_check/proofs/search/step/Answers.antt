@@ -1,4 +1,4 @@
-use Rattle.std.proofs.Common.{◌≡◌, ◌≢◌, ℕ, ◌+◌, ◌≤◌, refl, sym, ◌∙◌, ap, subst, List, [], ◌∷◌, ◌++◌, length, reverse, arith, length-append, vec_len}
+use Rattle.std.proofs.Common.{◌≡◌, ◌≢◌, ◌+◌, ◌≤◌, refl, sym, ◌∙◌, ap, subst, List, [], ◌∷◌, ◌++◌, length, reverse, arith, length-append}
 use Rattle.std.specs.BTreeMap.{btree_map_len}
 use Rattle.std.proofs.lemmas.List.{reverse-append}
 use Rattle.dr_base.specs.Texts.{Text}
@@ -7,8 +7,8 @@ use Rattle.dr_sound.specs.declared.certificate.Stop.{Stop}
 use Rattle.dr_sound.specs.Ranked.{SendsOn}
 use Rattle.dr_check.specs.declared.search.Search.{Search}
 use Rattle.dr_check.specs.declared.search.Frame.{Frame}
-use Rattle.dr_check.specs.Searching.{IsNew, IsDone, IsInside, IsFirstEnd, IsFirstYet}
-use Rattle.dr_check.specs.Stacks.{IsTop, IsStack, IsSameFrame, Enters, stop_of_frame, left_to_do}
+use Rattle.dr_check.specs.Searching.{IsNew, IsDone, IsFirstEnd, IsFirstYet}
+use Rattle.dr_check.specs.Stacks.{IsTop, IsStack, IsSameFrame, Enters, stop_of_frame}
 use Rattle.dr_check.proofs.Trails.{trail_goes_on}
 use Rattle.dr_check.proofs.Stacked.{new_top, top_finished, top_resumed, stack_resumed, same_stack}
 use Rattle.dr_check.proofs.search.step.Goals as goal

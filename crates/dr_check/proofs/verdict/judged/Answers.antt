@@ -1,15 +1,10 @@
-use Rattle.std.proofs.Common.{◌≡◌, ℕ, sym, ◌∙◌, ap, subst, List, Contains, get_or, length, ◌≤◌, arith}
-use Rattle.std.specs.Prelude.{AllPairs, All, ◌↔◌}
-use Rattle.dr_base.specs.Texts.{Text}
-use Rattle.dr_base.specs.declared.syntax.Syntax.{Syntax}
+use Rattle.std.proofs.Common.{◌≡◌, ℕ, sym, subst, List, length, ◌≤◌, arith}
 use Rattle.dr_network.proofs.WalksAlike.{all_from_each}
 use Rattle.dr_sound.specs.declared.certificate.Line.{Line}
-use Rattle.dr_sound.specs.declared.certificate.Hop.{Hop}
 use Rattle.dr_sound.specs.HopPairs.{AreNumbered, IsFirstTooMany}
 use Rattle.dr_sound.proofs.RankedLines.{lines_are_the_lines}
 use Rattle.dr_sound.proofs.Hopping.{sound_by_lines}
 use Rattle.dr_cert_text.specs.Printable.{IsPrintableLine, IsPrintableHop, IsDigest}
-use Rattle.dr_hops.specs.Numbering.{Numbers}
 use Rattle.dr_check.proofs.Overfull.{first_overfull}
 use Rattle.dr_check.proofs.Ready.{line_is_printable, hop_is_printable, hops_are_the_hops}
 use Rattle.dr_check.proofs.verdict.judged.Goals as goal

@@ -1,4 +1,4 @@
-use Rattle.std.proofs.Common.{◌≡◌, ℕ, refl, sym, ◌∙◌, ap, subst, List, [], ◌∷◌, ◌++◌, Contains}
+use Rattle.std.proofs.Common.{◌≡◌, refl, sym, ◌∙◌, ap, subst, List, [], ◌∷◌, ◌++◌, Contains}
 use Rattle.dr_base.specs.Texts.{Text}
 use Rattle.dr_route.specs.Routes.{local}
 use Rattle.dr_route.specs.Laws.{key_of}
@@ -6,7 +6,6 @@ use Rattle.dr_route.specs.declared.key.Key.{Key}
 use Rattle.dr_route.specs.declared.cell.OwnedCell.{OwnedCell}
 use Rattle.dr_sound.specs.Ranked.{line_at}
 use Rattle.dr_check.specs.Searching.{IsDone, IsTrail, IsFirstEnd}
-use Rattle.dr_check.specs.Stopping.{IsStopped}
 use Rattle.dr_check.proofs.Trails.{trail_begins}
 use Rattle.dr_check.proofs.Steps.{any_cell}
 use Rattle.dr_check.proofs.checker.CheckerEntryVisitor.visit.Goals as goal
