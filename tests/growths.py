@@ -2,6 +2,7 @@
 """Refuses each growth of memory in turn, one in each run of a built program, and looks for an answer that is another one then.
 
     tests/growths.py ledger [FIRST]     calls on a ledger in memory (crates/dr_ledger_vectors)
+    tests/growths.py world [FIRST]      an instance on its way over three nodes in the simulator (crates/dr_world_vectors)
 
 A small library that is loaded before the program (LD_PRELOAD) counts its calls for memory and refuses the one whose number it is told; the
 numbers go up, from the FIRST on, until a run meets no refusal. A run is as it is to be where it ends by itself and has printed what a
@@ -68,6 +69,12 @@ def ledger_rows():
         return "".join(line for line in it if not line.startswith("zeros "))
 
 
+def world_rows():
+    """The worlds that begin or don't, and the way of one instance."""
+    with open(f"{TOP}/crates/dr_world_vectors/stdin") as it:
+        return it.read().partition("# another data set")[0]
+
+
 class Sweep:
     def __init__(self, room, program, text):
         self.room, self.program, self.text = room, program, text
@@ -102,10 +109,10 @@ class Sweep:
 
 
 def main():
-    if len(sys.argv) not in (2, 3) or sys.argv[1] not in ("ledger",):
+    if len(sys.argv) not in (2, 3) or sys.argv[1] not in ("ledger", "world"):
         sys.exit(__doc__)
     first = int(sys.argv[2]) if len(sys.argv) == 3 else 1
-    rows = {"ledger": ledger_rows}[sys.argv[1]]
+    rows = {"ledger": ledger_rows, "world": world_rows}[sys.argv[1]]
     with tempfile.TemporaryDirectory(prefix="growths-") as room:
         sweep = Sweep(room, build(f"{TOP}/crates/dr_{sys.argv[1]}_vectors"), rows())
         number, found, ended = first, 0, 0
