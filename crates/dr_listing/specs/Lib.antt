@@ -1,0 +1,4 @@
+pub mod Ends
+pub mod Hops
+pub mod Openings
+pub mod Works
