@@ -3,4 +3,5 @@ pub mod Entering
 pub mod Followed
 pub mod Gathering
 pub mod PairSets
+pub mod TwoNodes
 pub mod Walked

@@ -3,6 +3,7 @@
 #![tactic(auto)]
 
 mod contexts;
+pub mod laws;
 mod pairs;
 mod stages;
 mod tracing;
