@@ -2,6 +2,7 @@
 """Refuses each growth of memory in turn, one in each run of a built program, and looks for an answer that is another one then.
 
     tests/growths.py ledger [FIRST]     calls on a ledger in memory (crates/dr_ledger_vectors)
+    tests/growths.py desk [FIRST]       two sessions on one shared desk (crates/dr_workers_vectors)
     tests/growths.py world [FIRST]      an instance on its way over three nodes in the simulator (crates/dr_world_vectors)
 
 A small library that is loaded before the program (LD_PRELOAD) counts its calls for memory and refuses the one whose number it is told; the
@@ -12,6 +13,7 @@ line or ends so without having met a refusal is named, and the status is 1. It n
 import concurrent.futures
 import os
 import re
+import shutil
 import subprocess
 import sys
 import tempfile
@@ -53,6 +55,62 @@ void *realloc(void *old, size_t size) { NEXT(realloc); return refuses() ? NULL :
 void *aligned_alloc(size_t align, size_t size) { NEXT(aligned_alloc); return refuses() ? NULL : next(align, size); }
 int posix_memalign(void **out, size_t align, size_t size) { NEXT(posix_memalign); return refuses() ? ENOMEM : next(out, align, size); }
 """
+
+MAIN = """//! Says whether the journal has as many lines as the passes count.
+#![tactic(auto)]
+
+mod peer;
+mod samples;
+mod sessions;
+
+use sessions::{Open, serve_archive};
+use std::test::Fail;
+
+fn main(rt: HostRuntime) -> Result<(), Fail> {
+    let outcomes = serve_archive(&rt, rt.alloc(), 2, 2, &Open)?;
+    let are_as_many = outcomes.lines == outcomes.sum;
+    println!(rt; "as many lines as the passes count: {are_as_many}")?;
+    Ok(())
+}
+"""
+
+
+def below(name, libraries):
+    """The crates of the repository that this one stands on."""
+    found, left = [], list(libraries[name])
+    while left:
+        it = left.pop()
+        if it in libraries and it not in found:
+            found.append(it)
+            left += libraries[it]
+    return found
+
+
+def desk_program(room):
+    """A program over the modules of the workers' tests, beside copies of the crates below with what earlier checks left in their out/."""
+    with open(f"{TOP}/crates.txt") as it:
+        libraries = {front.strip(): back.split() for front, mark, back in (line.split("#")[0].partition(":") for line in it) if mark}
+    libraries["desk_growths"] = libraries["dr_workers_vectors"]
+    needed = below("desk_growths", libraries)
+    for name in needed:
+        shutil.copytree(f"{TOP}/crates/{name}", f"{room}/crates/{name}")
+    with open(f"{room}/crates.txt", "w") as it:
+        for name in [*needed, "desk_growths"]:
+            print(f"{name}:", *libraries[name], file=it)
+    shutil.copy(f"{TOP}/HANDLES", room)
+    folder, source = f"{room}/crates/desk_growths", f"{TOP}/crates/dr_workers_vectors"
+    os.makedirs(f"{folder}/src")
+    for name in ("peer", "samples", "sessions"):
+        shutil.copy(f"{source}/src/{name}.rt", f"{folder}/src")
+    os.makedirs(f"{folder}/proofs/sessions/serve_archive")
+    with open(f"{source}/proofs/sessions/serve_archive/Invariants.antt") as it:
+        answers = it.read().replace("dr_workers_vectors", "desk_growths")
+    with open(f"{folder}/proofs/sessions/serve_archive/Invariants.antt", "w") as it:
+        it.write(answers)
+    with open(f"{folder}/src/main.rt", "w") as it:
+        it.write(MAIN)
+    return folder
+
 
 def build(folder):
     """Proves and builds the program, and returns its path."""
@@ -109,12 +167,15 @@ class Sweep:
 
 
 def main():
-    if len(sys.argv) not in (2, 3) or sys.argv[1] not in ("ledger", "world"):
+    if len(sys.argv) not in (2, 3) or sys.argv[1] not in ("ledger", "desk", "world"):
         sys.exit(__doc__)
     first = int(sys.argv[2]) if len(sys.argv) == 3 else 1
-    rows = {"ledger": ledger_rows, "world": world_rows}[sys.argv[1]]
     with tempfile.TemporaryDirectory(prefix="growths-") as room:
-        sweep = Sweep(room, build(f"{TOP}/crates/dr_{sys.argv[1]}_vectors"), rows())
+        if sys.argv[1] == "desk":
+            sweep = Sweep(room, build(desk_program(room)), "")
+        else:
+            rows = {"ledger": ledger_rows, "world": world_rows}[sys.argv[1]]
+            sweep = Sweep(room, build(f"{TOP}/crates/dr_{sys.argv[1]}_vectors"), rows())
         number, found, ended = first, 0, 0
         with concurrent.futures.ThreadPoolExecutor(os.cpu_count()) as pool:
             while True:

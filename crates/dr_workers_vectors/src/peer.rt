@@ -34,7 +34,7 @@ pub struct Peer<L> {
     asked: u32,
 }
 
-impl<L: Ledger + Empty> Peer<L> {
+impl<L: Ledger + Empty + Drop> Peer<L> {
     /// A gateway with one image to send.
     pub fn new(alloc: Global, uid: &str) -> Result<Peer<L>, Fail> {
         let mut ledger = L::empty(alloc, site(alloc, "GATE")?);
@@ -81,7 +81,7 @@ impl<L: Ledger + Empty> Peer<L> {
     }
 }
 
-impl<L: Ledger + Empty> Link for Peer<L> {
+impl<L: Ledger + Empty + Drop> Link for Peer<L> {
     ghost hears = { λ old heard new. Unit {0} };
 
     ghost sends = { λ old bytes sent new. Unit {0} };

@@ -72,7 +72,7 @@ fn uid_of(alloc: Global, session: u64) -> Result<String, AllocError> {
 }
 
 /// The connection of a session, over which a gateway sends an image.
-fn connection<L: Ledger + Empty>(
+fn connection<L: Ledger + Empty + Drop>(
     alloc: Global,
     session: u64,
 ) -> Result<Connection<Peer<L>, Still>, Fail> {

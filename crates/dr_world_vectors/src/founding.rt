@@ -51,7 +51,7 @@ fn bring<L: Ledger>(alloc: Global, ledger: &mut L) -> Result<(), anyhow::Error> 
 }
 
 /// A ledger of that node; with `+` behind the name an instance has come to it.
-fn ledger_of<L: Ledger + Empty>(
+fn ledger_of<L: Ledger + Empty + Drop>(
     alloc: Global,
     sealed: &Sealed,
     node: &str,

@@ -1,0 +1,70 @@
+#!/usr/bin/env python3
+"""Tries wrong bodies of the shared desk and of its workers of which no contract speaks: the tests of `dr_workers_vectors` must fail.
+
+    tests/wrong_workers.py [NAME..]
+
+Each is tried in a copy of the crates, without a proof (`rt try --test`). It takes two or three minutes each, so it is no part of ./test: run it
+where you have changed those crates. The last line is 'N passed, M failed'.
+"""
+import os
+import shutil
+import subprocess
+import sys
+import tempfile
+
+TOP = os.path.dirname(os.path.dirname(os.path.abspath(__file__)))
+SERVING, SHARED = "dr_workers/src/serving.rt", "dr_desk/src/shared.rt"
+
+# of each wrong body: the file, a text that stands in it once, and what takes its place
+WRONG = {
+    "sessions_in_turn": [
+        (SERVING, "        n,\n        &|_, pass|", "        1,\n        &|_, pass|"),
+    ],
+    "one_lock_over_a_whole_session": [
+        (SHARED, "    held: Mutex<Held<L, B>>,\n}", "    held: Mutex<Held<L, B>>,\n    pub whole: Mutex<u64>,\n}"),
+        (SHARED, "            held: Mutex::new(held),", "            held: Mutex::new(held),\n            whole: Mutex::new(0),"),
+        (SHARED, "let SharedDesk { site: _, held } = self;", "let SharedDesk { site: _, held, whole: _ } = self;"),
+        (SERVING, "    gate.at(session, Point::Taken);", "    let _whole = desk.whole.lock(rt);\n    gate.at(session, Point::Taken);"),
+    ],
+    "each_second_connection_dropped": [
+        (SERVING, "        serve(rt, alloc, desk, gate, connection, others, pass);",
+         "        if connection.session % 2 == 1 {\n            serve(rt, alloc, desk, gate, connection, others, pass);\n        }"),
+    ],
+}
+
+
+def is_seen(edits):
+    """Whether the tests fail with these bodies."""
+    with tempfile.TemporaryDirectory(prefix="wrong-") as room:
+        shutil.copytree(f"{TOP}/crates", f"{room}/crates", ignore=shutil.ignore_patterns("out"))
+        for name in ("crates.txt", "HANDLES"):
+            shutil.copy(f"{TOP}/{name}", room)
+        for path, old, new in edits:
+            with open(f"{room}/crates/{path}") as it:
+                text = it.read()
+            if text.count(old) != 1:
+                sys.exit(f"{path}: the text to be changed doesn't stand there once")
+            with open(f"{room}/crates/{path}", "w") as it:
+                it.write(text.replace(old, new))
+        ran = subprocess.run(
+            ["rt", "try", "--test"], cwd=f"{room}/crates/dr_workers_vectors",
+            stdout=subprocess.PIPE, stderr=subprocess.STDOUT, text=True, errors="replace",
+        )
+    print("\n".join(it for it in ran.stdout.splitlines() if it.startswith(("test ", "error"))), flush=True)
+    if "test result:" not in ran.stdout and "FAILED" not in ran.stdout:
+        print(ran.stdout)
+    return "FAILED" in ran.stdout and ran.returncode != 0
+
+
+def main():
+    names = sys.argv[1:] or list(WRONG)
+    passed = 0
+    for name in names:
+        seen = is_seen(WRONG[name])
+        passed += seen
+        print(f"{name}: {'seen' if seen else 'NOT SEEN'}", flush=True)
+    print(f"{passed} passed, {len(names) - passed} failed")
+    sys.exit(0 if passed == len(names) else 1)
+
+
+main()
