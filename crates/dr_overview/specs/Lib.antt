@@ -1,0 +1,7 @@
+pub mod Bringing
+pub mod Edges
+pub mod Findings
+pub mod Graphs
+pub mod Quoting
+pub mod Texts
+pub mod Uses
