@@ -1,0 +1,77 @@
+-- Queries, one after another.
+use Rattle.std.proofs.Common.{◌≡◌, ◌⊎◌, inl, inr, ℕ, Result, Ok, Err, refl, sym, subst}
+use Rattle.sqlite.specs.State.{State}
+use Rattle.sqlite.specs.Tree.{Trees}
+use Rattle.dr_site.specs.Parts.{Part}
+use Rattle.dr_ledger.specs.declared.fault.LedgerFault.{LedgerFault}
+use Rattle.dr_ledger.specs.declared.fault.LedgerFault.TheVariants as fault
+use Rattle.dr_ledger.specs.Replies.{LastsAfter, Reads}
+use Rattle.dr_tables.specs.Ledgers.{IsLedger}
+use Rattle.dr_queries.specs.Queries.{Asked, HasTables}
+use Rattle.dr_booking.specs.Calling.{Called, IsLedgerOf, IsOwnFault, Looked, Nothing}
+use Rattle.dr_booking.proofs.Calls.{asked_as, asked_looked, looked_failed, looked_read, looked_then, still_called}
+use Rattle.dr_booking.proofs.Reading.{reads_as}
+
+-- a query of any tables of that schema is one of a ledger's
+pub of_ledger : {A : Type 0} (r : Result A LedgerFault) (old new : State) (Shows : A → Type 0) → Asked HasTables r old new Shows → Asked IsLedger r old new Shows
+of_ledger r old new Shows a = record {
+  shown = λ clean l. a.shown clean l.schema;
+  same = λ clean l. a.same clean l.schema;
+  stays = λ clean is_open l. a.stays clean is_open l.schema;
+  leaves = λ clean l. a.leaves clean l.schema;
+  was_open = a.was_open;
+  clean = a.clean;
+  idle = a.idle;
+}
+
+-- what is open stays open
+pub lasts_any : {B : Type 0} (q : Result B LedgerFault) (P : Type 0) → P → LastsAfter q P
+lasts_any (Ok value) P p = p
+lasts_any (Err fault.Store) P p = tt
+lasts_any (Err fault.Memory) P p = tt
+lasts_any (Err fault.NoLine) P p = p
+lasts_any (Err fault.Conflict) P p = p
+lasts_any (Err fault.NotWaiting) P p = p
+lasts_any (Err fault.NotHeld) P p = p
+
+-- a query that failed
+own_reads : {B : Type 0} (e : LedgerFault) (Q : B → Type 0) → IsOwnFault e → Reads (Err e) Q
+own_reads {B} e Q (inl is) = let P : LedgerFault → Type 0 = λ x. Reads {A = B} (Err x) Q in subst P (sym is) tt
+own_reads {B} e Q (inr is) = let P : LedgerFault → Type 0 = λ x. Reads {A = B} (Err x) Q in subst P (sym is) tt
+
+pub failed_as : {A B : Type 0} (n : ℕ) (part : Part) (e : LedgerFault) (old new : State) (Shows : Trees → A → Type 0) (Says : Trees → B → Type 0) → Looked {A = A} n part (Err e) old new Shows → Looked {A = B} n part (Err e) old new Says
+failed_as {A} {B} n part e old new Shows Says l =
+    looked_failed {A = A} {B = B} n part old new Shows e Nothing (λ base db. (db ≡ base) × Reads {A = B} (Err e) (Says base)) (λ base db. ⊥) l (λ base asks own. (refl, own_reads e (Says base) own))
+
+-- one query, and then another
+pub looked_both : {A B : Type 0} (n : ℕ) (part : Part) (old mid new : State) (Shows : Trees → A → Type 0) (a : A) (r : Result B LedgerFault) (Then Says : Trees → B → Type 0) → Looked n part (Ok a) old mid Shows → Looked n part r mid new Then
+    → ((base : Trees) → IsLedgerOf n part base → Shows base a → (b : B) → Then base b → Says base b) → Looked n part r old new Says
+looked_both {A} {B} n part old mid new Shows a r Then Says l c f =
+    let Ledger : Trees → Type 0 = IsLedgerOf n part in
+    let First : Trees → Trees → Type 0 = λ base db. (db ≡ base) × Reads r (Then base) in
+    let Both : Trees → Trees → Type 0 = λ base db. (db ≡ base) × Reads r (Says base) in
+    let None : Trees → Trees → Type 0 = λ base db. ⊥ in
+    asked_as n n part r old new Ledger Nothing Both None (λ db is any. is)
+    (looked_then {A = A} {B = B} n n part old mid new Shows a r Ledger Nothing First None Both None l c (λ db is asks shown. tt)
+    (λ base db asks shown it. (it.0, reads_as r (Then base) (Says base) (λ b then. f base asks shown b then) it.1)) (λ base db asks shown none. none))
+
+-- what was read is read further, in a ledger's tables
+pub looked_more : {A B : Type 0} (n : ℕ) (part : Part) (old new : State) (Shows : Trees → A → Type 0) (a : A) (r : Result B LedgerFault) (Says : Trees → B → Type 0) → Looked n part (Ok a) old new Shows
+    → ((base : Trees) → IsLedgerOf n part base → Shows base a → Reads r (Says base)) → Looked n part r old new Says
+looked_more {A} {B} n part old new Shows a r Says l f =
+    let Ledger : Trees → Type 0 = IsLedgerOf n part in
+    let Given : Trees → Type 0 = λ base. Reads r (Says base) in
+    let Both : Trees → Trees → Type 0 = λ base db. (db ≡ base) × Reads r (Says base) in
+    let None : Trees → Trees → Type 0 = λ base db. ⊥ in
+    asked_as n n part r old new Ledger Nothing Both None (λ db is any. is)
+    (looked_then {A = A} {B = B} n n part old new new Shows a r Ledger Given Both None Both None l (still_called n part r new Given Both None (λ db given. (refl, given)) (lasts_any r)) (λ db is asks shown. f db asks shown)
+    (λ base db asks shown it. it) (λ base db asks shown none. none))
+
+-- a query, and an answer by what it showed
+pub looked_answers : {A B : Type 0} (n : ℕ) (part : Part) (old new : State) (Shows : Trees → A → Type 0) (a : A) (r : Result B LedgerFault) (Answers : Trees → Type 0) → Looked n part (Ok a) old new Shows
+    → ((base : Trees) → Shows base a → Answers base) → Called n n part r old new Nothing (λ base db. (db ≡ base) × Answers base) (λ base db. ⊥)
+looked_answers {A} {B} n part old new Shows a r Answers l f =
+    let Both : Trees → Trees → Type 0 = λ base db. (db ≡ base) × Answers base in
+    let None : Trees → Trees → Type 0 = λ base db. ⊥ in
+    looked_then {A = A} {B = B} n n part old new new Shows a r Nothing Answers Both None Both None l (still_called n part r new Answers Both None (λ db given. (refl, given)) (lasts_any r)) (λ db is asks shown. f db shown)
+    (λ base db asks shown it. it) (λ base db asks shown none. none)

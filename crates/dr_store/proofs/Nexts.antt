@@ -1,0 +1,49 @@
+-- What is due, with its data set.
+use Rattle.std.proofs.Common.{◌≡◌, ◌≢◌, inl, inr, ℕ, ◌≤◌, length, Bool, true, false, cond, List, Option, Some, None, refl, sym, ap, subst, ◌∙◌}
+use Rattle.std.specs.FinMap as map
+use Rattle.sha2.specs.Sha256.{sha256}
+use Rattle.sqlite.specs.Tree.{Trees}
+use Rattle.dr_base.specs.Texts.{Text}
+use Rattle.dr_site.specs.Parts.{Part}
+use Rattle.dr_ledger.specs.declared.content.Job.{Job}
+use Rattle.dr_ledger.specs.declared.item.Instance.{Instance}
+use Rattle.dr_ledger.specs.declared.item.Progress.{Progress}
+use Rattle.dr_ledger.specs.declared.item.Progress.TheVariants.{Waiting, Done}
+use Rattle.dr_ledger.specs.Bodies.{IsNeeded, NextsWith}
+use Rattle.dr_ledger.specs.Items.{instance_of}
+use Rattle.dr_ledger.specs.Replies.{IsDue, IsNoLater}
+use Rattle.dr_ledger.proofs.Growing.{inside}
+use Rattle.dr_tables.specs.Books.{bodies_of, book_of, contents_in, instance_by, is_whole, items_of, prints_of, rows_of, wholes_in}
+use Rattle.dr_calls.proofs.LettingGo.{body_at}
+use Rattle.dr_queries.specs.Queries.{IsFirstDue, IsJobOf}
+use Rattle.dr_booking.specs.Calling.{IsLedgerOf}
+
+waits_still : (tries due : ℕ) → Waiting tries due ≢ Done
+waits_still tries due e = let f : ⊥ = cc in f
+
+the_body : (w : Bool) (o : Option (List ℕ)) (body content : List ℕ) → o ≡ Some content → cond w o None ≡ Some body → body ≡ content
+the_body true o body content is h = inside body content (sym h ∙ is)
+the_body false o body content is h = absurd (let f : ⊥ = cc in f)
+
+pub next_is : (n : ℕ) (part : Part) (db : Trees) (dest : Text) (now : ℕ) (uid : Text) (job : Job) → IsLedgerOf n part db → IsFirstDue db dest now (Some uid) → IsJobOf uid db (Some job)
+    → NextsWith (book_of db) (bodies_of db) dest now (Some job)
+next_is n part db dest now uid job l first (uid_is, has, content) =
+    let due = first.0 in
+    let row = first.1.0 in
+    let needed : IsNeeded (book_of db) uid = inr (dest, Waiting row.0 due, row.1, waits_still row.0 due) in
+    let there = (l.bodied.there uid).1 needed in
+    let body : there.0 ≡ job.body = the_body (is_whole (map.get (wholes_in (db 3)) uid)) (map.get (contents_in (db 1)) uid) there.0 job.body content (sym (body_at (contents_in (db 1)) (wholes_in (db 3)) uid) ∙ there.1) in
+    let own = l.bodied.own uid there.0 there.1 in
+    let known : Instance = instance_by (prints_of db) uid job.key in
+    let same : known ≡ instance_of own.0 = inside known (instance_of own.0) (sym has ∙ own.3) in
+    let size : length job.body ≡ known.size = ap length (sym body ∙ sym own.2) ∙ sym (ap (λ (i : Instance). i.size) same) in
+    let digest : sha256 job.body ≡ known.digest = ap sha256 (sym body ∙ sym own.2) ∙ sym (ap (λ (i : Instance). i.digest) same) in
+    let is_known : instance_of job ≡ known = λ i. record { uid = uid_is i; key = job.key; size = size i; digest = digest i } in (
+      record {
+        due = due;
+        row = subst (λ u. IsDue (book_of db) dest now u due) (sym uid_is) first.1;
+        has = ap (map.get (items_of db)) uid_is ∙ has ∙ ap Some (sym is_known);
+        least = λ other moment h. subst (λ u. IsNoLater (due, u) (moment, other)) (sym uid_is) (first.2 other moment h);
+      },
+      ap (map.get (bodies_of db)) uid_is ∙ there.1 ∙ ap Some body,
+    )

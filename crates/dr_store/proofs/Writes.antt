@@ -1,0 +1,161 @@
+-- Calls on a ledger that keeps its tables.
+use Rattle.std.proofs.Common.{◌≡◌, ◌≢◌, ◌⊎◌, inl, inr, ℕ, ◌+◌, ◌≤◌, ◌<◌, ◌^◌, ◌-◌, min, IsTrue, false, Result, Ok, Err, OnOk, eq-or-lt_of_le, refl, sym, ap, subst, ◌∙◌, arith}
+use Rattle.std.proofs.Math.Logic.{∥∥₁_elim, ∥∥₁_map}
+use mathlib.Core.Bool.{Bool-set}
+use Rattle.std.proofs.Math.Nat.{min-eq_left, min-eq_right}
+use Rattle.sqlite.specs.State.{State, HasCleanDisk}
+use Rattle.sqlite.specs.Tree.{Trees}
+use Rattle.sqlite_trees.specs.Props.{Trees-set}
+use Rattle.sqlite_trees.specs.View.{doubt}
+use Rattle.dr_site.specs.Parts.{Part}
+use Rattle.dr_ledger.specs.declared.fault.LedgerFault.{LedgerFault}
+use Rattle.dr_ledger.specs.declared.fault.LedgerFault.TheVariants as fault
+use Rattle.dr_ledger.specs.Books.{Book}
+use Rattle.dr_ledger.specs.Refusals.{Arms}
+use Rattle.dr_ledger.specs.Replies.{Counts, HasRisen, IsLastingFault, Lasts, LastsAfter, Reads}
+use Rattle.dr_tables.specs.Books.{bodies_of, book_of}
+use Rattle.dr_booking.specs.Calling.{Called, IsKept, IsSafe, Looked, Nothing}
+use Rattle.dr_store.specs.Counting.{failures_after}
+use Rattle.dr_store.specs.Surviving.{Wrote}
+use Rattle.dr_store.proofs.Stable.{Stable, both, by_code, either, of_set, tested}
+use Rattle.dr_store.proofs.Sets.{coded_book}
+
+-- ---- what holds of any answer
+
+pub counts : {A : Type 0} (r : Result A LedgerFault) (before now : ℕ) → now ≡ failures_after r before → before ≤ 2 ^ 64 - 1 → Counts r before now
+counts (Ok value) before now is low = record { never_falls = omega (arith, is); has_cause = λ e. absurd (let f : ⊥ = cc in f) }
+counts (Err fault.Store) before now is low = record { never_falls = omega (arith, is, low); has_cause = λ e. risen before now is low }
+  where
+    risen : (before now : ℕ) → now ≡ min (2 ^ 64 - 1) (before + 1) → before ≤ 2 ^ 64 - 1 → HasRisen before now
+    risen before now is low = elim (eq-or-lt_of_le low) [
+      | inl full ↦ inr (is ∙ min-eq_left (omega (arith, full)))
+      | inr room ↦ inl (let e : now ≡ before + 1 = is ∙ min-eq_right (omega (arith, room)) in omega (arith, e))
+    ]
+counts (Err fault.NoLine) before now is low = record { never_falls = omega (arith, is); has_cause = λ e. absurd (let f : ⊥ = cc in f) }
+counts (Err fault.Conflict) before now is low = record { never_falls = omega (arith, is); has_cause = λ e. absurd (let f : ⊥ = cc in f) }
+counts (Err fault.NotWaiting) before now is low = record { never_falls = omega (arith, is); has_cause = λ e. absurd (let f : ⊥ = cc in f) }
+counts (Err fault.NotHeld) before now is low = record { never_falls = omega (arith, is); has_cause = λ e. absurd (let f : ⊥ = cc in f) }
+counts (Err fault.Memory) before now is low = record { never_falls = omega (arith, is); has_cause = λ e. absurd (let f : ⊥ = cc in f) }
+
+-- no call is told to be refused
+pub arms : {A : Type 0} (Would : Type 0) (r : Result A LedgerFault) → Arms Would false r false
+arms Would (Ok value) = (refl, refl)
+arms Would (Err fault.Store) = inl refl
+arms Would (Err fault.NoLine) = refl
+arms Would (Err fault.Conflict) = refl
+arms Would (Err fault.NotWaiting) = refl
+arms Would (Err fault.NotHeld) = refl
+arms Would (Err fault.Memory) = refl
+
+-- what is read is stable where what it shows is
+pub reads_stable : {A : Type 0} (r : Result A LedgerFault) (Shows : A → Type 0) → ((a : A) → Stable (Shows a)) → Stable (Reads r Shows)
+reads_stable (Ok a) Shows f h = f a h
+reads_stable (Err fault.Store) Shows f h = tt
+reads_stable (Err fault.Memory) Shows f h = tt
+reads_stable (Err fault.NoLine) Shows f h = ∥∥₁_elim h (λ x y. absurd x) (λ x. x)
+reads_stable (Err fault.Conflict) Shows f h = ∥∥₁_elim h (λ x y. absurd x) (λ x. x)
+reads_stable (Err fault.NotWaiting) Shows f h = ∥∥₁_elim h (λ x y. absurd x) (λ x. x)
+reads_stable (Err fault.NotHeld) Shows f h = ∥∥₁_elim h (λ x y. absurd x) (λ x. x)
+
+-- ---- a call on a ledger that keeps its tables
+
+-- What is known of a call on the tables of a ledger, which are those of this part's before it and of that one's after it.
+pub record Done {A : Type 0} (n m : ℕ) (part next : Part) (r : Result A LedgerFault) (old new : State) (Answers Makes : Trees → Trees → Type 0) : Type 0 where
+  pub clean : doubt old.is_clean ≤ doubt new.is_clean
+  pub was_open : HasCleanDisk new → IsTrue new.is_open → IsTrue old.is_open
+  pub lasts : HasCleanDisk new → IsKept n part old → LastsAfter r (IsTrue new.is_open)
+  pub kept : HasCleanDisk new → IsTrue new.is_open → IsKept n part old → IsKept m next new
+  pub answers : HasCleanDisk new → IsTrue new.is_open → IsKept n part old → Answers old.committed.trees new.committed.trees
+  pub crash : HasCleanDisk new → IsKept n part old → (db : Trees) → new.may_leave db → old.may_leave db ⊎ Makes old.committed.trees db
+
+pub called : {A : Type 0} (n m : ℕ) (part : Part) (r : Result A LedgerFault) (old new : State) (Answers Makes : Trees → Trees → Type 0) → Called n m part r old new Nothing Answers Makes → Done n m part part r old new Answers Makes
+called n m part r old new Answers Makes c = record {
+  clean = c.clean;
+  was_open = c.was_open;
+  lasts = λ clean k. c.lasts clean k tt;
+  kept = λ clean is_open k. c.kept clean is_open k tt;
+  answers = λ clean is_open k. c.answers clean is_open k tt;
+  crash = λ clean k. c.crash clean k tt;
+}
+
+is_open : (s : State) → ∥ IsTrue s.is_open ∥₁ → IsTrue s.is_open
+is_open s h = ∥∥₁_elim h (Bool-set _ _) (λ x. x)
+
+module _ {A : Type 0} (n m : ℕ) (part next : Part) (r : Result A LedgerFault) (old new : State) (Answers Makes : Trees → Trees → Type 0) (kept : IsSafe old → ∥ IsKept n part old ∥₁)
+    (c : Done n m part next r old new Answers Makes) where
+  pub was_safe : IsSafe new → IsSafe old
+  was_safe safe = (omega (arith, c.clean, safe.0), c.was_open safe.0 safe.1)
+
+  pub still_kept : IsSafe new → ∥ IsKept m next new ∥₁
+  still_kept safe = ∥∥₁_map (kept (was_safe safe)) (λ k. c.kept safe.0 safe.1 k)
+
+  pub answered : Stable (Answers old.committed.trees new.committed.trees) → IsSafe new → Answers old.committed.trees new.committed.trees
+  answered stable safe = stable (∥∥₁_map (kept (was_safe safe)) (λ k. c.answers safe.0 safe.1 k))
+
+  pub lasting : Lasts r (HasCleanDisk old) (HasCleanDisk new) (IsSafe old) (IsSafe new)
+  lasting = record { trusted = λ clean. omega (arith, c.clean, clean); lasts = go r (λ clean safe. ∥∥₁_map (kept safe) (λ k. c.lasts clean k)) }
+    where
+      go : (q : Result A LedgerFault) → (HasCleanDisk new → IsSafe old → ∥ LastsAfter q (IsTrue new.is_open) ∥₁) → LastsAfter q (HasCleanDisk new → IsSafe old → IsSafe new)
+      go (Ok value) f = λ clean safe. (clean, is_open new (f clean safe))
+      go (Err fault.Store) f = tt
+      go (Err fault.Memory) f = tt
+      go (Err fault.NoLine) f = λ clean safe. (clean, is_open new (f clean safe))
+      go (Err fault.Conflict) f = λ clean safe. (clean, is_open new (f clean safe))
+      go (Err fault.NotWaiting) f = λ clean safe. (clean, is_open new (f clean safe))
+      go (Err fault.NotHeld) f = λ clean safe. (clean, is_open new (f clean safe))
+
+-- ---- a call that writes
+
+module _ {A : Type 0} (n m : ℕ) (part next : Part) (r : Result A LedgerFault) (old new : State) (Answers : Trees → Trees → Type 0) (Makes : Book → Book → Type 0) (kept : IsSafe old → ∥ IsKept n part old ∥₁)
+    (c : Done n m part next r old new Answers (λ base db. Makes (book_of base) (book_of db)))
+    (was_settled : (db : Trees) → IsTrue old.is_open → old.may_leave db → db ≡ old.committed.trees)
+    (is_settled : (db : Trees) → IsTrue new.is_open → new.may_leave db → db ≡ new.committed.trees)
+    (answers : Stable (Answers old.committed.trees new.committed.trees)) (makes : (b d : Book) → Stable (Makes b d)) where
+  abbrev Made : Trees → Trees → Type 0
+  Made base db = Makes (book_of base) (book_of db)
+
+  left : HasCleanDisk new → IsSafe old → (db : Trees) → new.may_leave db → (book_of db ≡ book_of old.committed.trees) ⊎ Makes (book_of old.committed.trees) (book_of db)
+  left clean safe db may = either (tested coded_book (book_of db) (book_of old.committed.trees)) (makes (book_of old.committed.trees) (book_of db))
+      (∥∥₁_map (kept safe) (λ k. elim (c.crash clean k db may) [ inl before ↦ inl (ap book_of (was_settled db safe.1 before)) | inr made ↦ inr made ]))
+
+  stands : (q : Result A LedgerFault) → LastsAfter q (HasCleanDisk new → IsSafe old → IsSafe new) → HasCleanDisk new → IsSafe old → OnOk q ((db : Trees) → new.may_leave db → book_of db ≡ book_of new.committed.trees)
+  stands (Ok value) lasts clean safe = λ db may. ap book_of (is_settled db (lasts clean safe).1 may)
+  stands (Err why) lasts clean safe = tt
+
+  pub wrote : Wrote r old new Answers Makes
+  wrote =
+      let lasts = lasting n m part next r old new Answers Made kept c in
+      record {
+        answers = answered n m part next r old new Answers Made kept c answers;
+        stood = was_safe n m part next r old new Answers Made kept c;
+        lasts = lasts;
+        crash = left;
+        durable = stands r lasts.lasts;
+      }
+
+-- ---- a call that reads
+
+module _ {A : Type 0} (n : ℕ) (part : Part) (r : Result A LedgerFault) (old new : State) (Shows : Trees → A → Type 0) (kept : IsSafe old → ∥ IsKept n part old ∥₁) (l : Looked n part r old new Shows) where
+  abbrev Same : Trees → Trees → Type 0
+  Same base db = (db ≡ base) × Reads r (Shows base)
+
+  done : Done n n part part r old new Same (λ base db. ⊥)
+  done = called n n part r old new Same (λ base db. ⊥) l
+
+  pub looked_safe : IsSafe new → IsSafe old
+  looked_safe = was_safe n n part part r old new Same (λ base db. ⊥) kept done
+
+  pub looked_kept : IsSafe new → ∥ IsKept n part new ∥₁
+  looked_kept = still_kept n n part part r old new Same (λ base db. ⊥) kept done
+
+  pub looked_lasting : Lasts r (HasCleanDisk old) (HasCleanDisk new) (IsSafe old) (IsSafe new)
+  looked_lasting = lasting n n part part r old new Same (λ base db. ⊥) kept done
+
+  pub looked_same : IsSafe new → new.committed.trees ≡ old.committed.trees
+  looked_same safe = ∥∥₁_elim (kept (looked_safe safe)) (Trees-set _ _) (λ k. (l.answers safe.0 safe.1 k tt).0)
+
+  pub looked_books : IsSafe new → (book_of new.committed.trees ≡ book_of old.committed.trees) × (bodies_of new.committed.trees ≡ bodies_of old.committed.trees)
+  looked_books safe = (ap book_of (looked_same safe), ap bodies_of (looked_same safe))
+
+  pub looked_reads : ((a : A) → Stable (Shows old.committed.trees a)) → IsSafe new → Reads r (Shows old.committed.trees)
+  looked_reads stable safe = reads_stable r (Shows old.committed.trees) stable (∥∥₁_map (kept (looked_safe safe)) (λ k. (l.answers safe.0 safe.1 k tt).1))

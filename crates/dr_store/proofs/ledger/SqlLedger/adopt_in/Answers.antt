@@ -1,0 +1,43 @@
+use Rattle.std.proofs.Common.{◌≡◌, Ok, sym, subst}
+use Rattle.sqlite.specs.Held.{state}
+use Rattle.dr_site.specs.Parts.{Part}
+use Rattle.dr_ledger.specs.Adopting.{Adopting, site_after}
+use Rattle.dr_ledger.specs.Books.{Book}
+use Rattle.dr_tables.specs.Books.{bodies_of, book_of}
+use Rattle.dr_booking.specs.Calling.{IsKept, IsSafe, advanced}
+use Rattle.dr_store.proofs.Adopts.{Adoption, Adoptive, adopted}
+use Rattle.dr_store.proofs.Replies.{adopting, lets_go}
+use Rattle.dr_store.proofs.Stable.{both}
+use Rattle.dr_store.proofs.Writes.{still_kept, wrote}
+use Rattle.dr_store.proofs.ledger.SqlLedger.adopt_in.Goals as goal
+
+pub invariant_of-self : goal.invariant_of-self
+invariant_of-self g c =
+    let n = c.args.self.now.next in
+    let part = c.args.self.now.site in
+    let next = c.args.own in
+    let r = c.adopt-answer.result in
+    let old = state g.S.Store c.args.self.now.conn in
+    let new = state g.S.Store c.adopt-answer.new.conn in
+    let done = adopted n part next r old new (c.adopt-answer.ensures.adopted part) in
+    let P : Part → Type 0 = λ site. IsSafe new → ∥ IsKept (advanced r n) site new ∥₁ in
+    record {
+      idle = c.adopt-answer.ensures.idle;
+      kept = subst (λ m. IsSafe new → ∥ IsKept m c.take_over.new.site new ∥₁) (sym c.next_after-self.ensures)
+          (subst P (sym c.take_over.ensures) (still_kept n (advanced r n) part (site_after r next part) r old new (Adoption r) Adoptive c.args.self.now.kept done));
+    }
+
+pub returns-clause-wrote : goal.returns-clause-wrote
+returns-clause-wrote g c =
+    let n = c.args.self.now.next in
+    let part = c.args.self.now.site in
+    let next = c.args.own in
+    let r = c.adopt-answer.result in
+    let old = state g.S.Store c.args.self.now.conn in
+    let new = state g.S.Store c.adopt-answer.new.conn in
+    let done = adopted n part next r old new (c.adopt-answer.ensures.adopted part) in
+    let Makes : Book → Book → Type 0 = λ b d. Adopting b (Ok tt) d in
+    wrote n (advanced r n) part (site_after r next part) r old new (Adoption r) Makes c.args.self.now.kept done (λ db is_open left. g.met.S.Store.settled c.args.self.now.conn.store db is_open left)
+    (λ db is_open left. g.met.S.Store.settled c.adopt-answer.new.conn.store db is_open left)
+    (both (adopting (book_of old.committed.trees) r (book_of new.committed.trees)) (lets_go (bodies_of old.committed.trees) (bodies_of new.committed.trees)))
+    (λ b d. adopting b (Ok tt) d)

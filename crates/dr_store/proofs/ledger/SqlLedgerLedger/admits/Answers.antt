@@ -1,0 +1,52 @@
+use Rattle.std.proofs.Common.{◌≡◌, refl, ap}
+use Rattle.sqlite.specs.Held.{state}
+use Rattle.sqlite.specs.Tree.{Trees}
+use Rattle.sqlite_trees.specs.Props.{Trees-set}
+use Rattle.dr_ledger.specs.Items.{instance_of}
+use Rattle.dr_ledger.specs.Replies.{Admits}
+use Rattle.dr_ledger.specs.SiteRoutes.{site_routing}
+use Rattle.dr_tables.specs.Books.{bodies_of, book_of}
+use Rattle.dr_store.proofs.Replies.{admits}
+use Rattle.dr_store.proofs.Stable.{both, of_prop}
+use Rattle.dr_store.proofs.Writes.{answered, called, lasting, still_kept, was_safe}
+use Rattle.dr_store.proofs.ledger.SqlLedgerLedger.admits.Goals as goal
+
+pub invariant_of-self : goal.invariant_of-self
+invariant_of-self g c =
+    let n = c.args.self.now.next in
+    let part = c.args.self.now.site in
+    let caller = c.args.caller.now in
+    let item = instance_of c.args.item.now in
+    let r = c.admit-answer.result in
+    let old = state g.S.Store c.args.self.now.conn in
+    let new = state g.S.Store c.admit-answer.new.conn in
+    let Answers : Trees → Trees → Type 0 = λ base db. (db ≡ base) × Admits (site_routing part) caller item (book_of base) r in
+    let None : Trees → Trees → Type 0 = λ base db. ⊥ in
+    let done = called n n part r old new Answers None (c.admit-answer.ensures.called n) in
+    let kept = c.args.self.now.kept in
+    record { idle = c.admit-answer.ensures.idle c.args.self.now.idle; kept = still_kept n n part part r old new Answers None kept done }
+
+-- by hand: the search loses itself in what the trait asks
+pub returns : goal.returns
+returns g c =
+    let n = c.args.self.now.next in
+    let part = c.args.self.now.site in
+    let caller = c.args.caller.now in
+    let item = instance_of c.args.item.now in
+    let r = c.admit-answer.result in
+    let old = state g.S.Store c.args.self.now.conn in
+    let new = state g.S.Store c.admit-answer.new.conn in
+    let Answers : Trees → Trees → Type 0 = λ base db. (db ≡ base) × Admits (site_routing part) caller item (book_of base) r in
+    let None : Trees → Trees → Type 0 = λ base db. ⊥ in
+    let done = called n n part r old new Answers None (c.admit-answer.ensures.called n) in
+    let kept = c.args.self.now.kept in
+    let told = answered n n part part r old new Answers None kept done (both (of_prop (Trees-set _ _)) (admits part caller item (book_of old.committed.trees) r)) in
+    record {
+      reply = λ safe. (told safe).1;
+      same = λ safe. (ap book_of (told safe).0, ap bodies_of (told safe).0);
+      counts = c.counted-self.ensures.counts;
+      armed = refl;
+      stood = was_safe n n part part r old new Answers None kept done;
+      lasts = lasting n n part part r old new Answers None kept done;
+      site = refl;
+    }

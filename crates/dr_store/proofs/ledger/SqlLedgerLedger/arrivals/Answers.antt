@@ -1,0 +1,44 @@
+use Rattle.std.proofs.Common.{◌≡◌, ◌≤◌, ℕ, Bool, List, Option, refl, arith}
+use Rattle.sqlite.specs.Held.{state}
+use Rattle.sqlite.specs.Tree.{Trees}
+use Rattle.dr_ledger.specs.Pairs.{Pair, pair_cmp}
+use Rattle.dr_ledger.specs.Replies.{Lists}
+use Rattle.dr_tables.specs.Books.{arrivals_in}
+use Rattle.dr_store.proofs.Sets.{coded_pair}
+use Rattle.dr_store.proofs.Shown.{lists}
+use Rattle.dr_store.proofs.Writes.{looked_books, looked_kept, looked_lasting, looked_reads, looked_safe}
+use Rattle.dr_store.proofs.ledger.SqlLedgerLedger.arrivals.Goals as goal
+
+pub invariant_of-self : goal.invariant_of-self
+invariant_of-self g c =
+    let n = c.args.self.now.next in
+    let part = c.args.self.now.site in
+    let r = c.list_arrivals-answer.result in
+    let old = state g.S.Store c.args.self.now.conn in
+    let new = state g.S.Store c.list_arrivals-answer.new.conn in
+    let Shows : Trees → List Pair → Type 0 = λ base. Lists pair_cmp (arrivals_in (base 5)) in
+    record {
+      idle = c.list_arrivals-answer.ensures.idle c.args.self.now.idle;
+      kept = looked_kept n part r old new Shows c.args.self.now.kept (c.list_arrivals-answer.ensures.looked n part);
+    }
+
+-- by hand: the search loses itself in what the trait asks
+pub returns : goal.returns
+returns g c =
+    let n = c.args.self.now.next in
+    let part = c.args.self.now.site in
+    let r = c.list_arrivals-answer.result in
+    let old = state g.S.Store c.args.self.now.conn in
+    let new = state g.S.Store c.list_arrivals-answer.new.conn in
+    let Shows : Trees → List Pair → Type 0 = λ base. Lists pair_cmp (arrivals_in (base 5)) in
+    let kept = c.args.self.now.kept in
+    let looked = (c.list_arrivals-answer.ensures.looked n part) in
+    record {
+      reply = looked_reads n part r old new Shows kept looked (lists coded_pair (arrivals_in (old.committed.trees 5)));
+      same = looked_books n part r old new Shows kept looked;
+      counts = c.counted-self.ensures.counts;
+      armed = refl;
+      stood = looked_safe n part r old new Shows kept looked;
+      lasts = looked_lasting n part r old new Shows kept looked;
+      site = refl;
+    }

@@ -1,0 +1,46 @@
+use Rattle.std.proofs.Common.{◌≡◌, ◌≤◌, ℕ, Bool, List, Option, refl, arith}
+use Rattle.sqlite.specs.Held.{state}
+use Rattle.sqlite.specs.Tree.{Trees}
+use Rattle.std.proofs.Common.{map as mapped}
+use Rattle.std.specs.Coded.{coded_list}
+use Rattle.dr_ledger.specs.declared.item.Entry.{Entry}
+use Rattle.dr_ledger.specs.Replies.{entry_of}
+use Rattle.dr_tables.specs.Books.{lines_of}
+use Rattle.dr_store.proofs.Sets.{coded_entry}
+use Rattle.dr_store.proofs.Stable.{by_code}
+use Rattle.dr_store.proofs.Writes.{looked_books, looked_kept, looked_lasting, looked_reads, looked_safe}
+use Rattle.dr_store.proofs.ledger.SqlLedgerLedger.lines.Goals as goal
+
+pub invariant_of-self : goal.invariant_of-self
+invariant_of-self g c =
+    let n = c.args.self.now.next in
+    let part = c.args.self.now.site in
+    let r = c.list_lines-answer.result in
+    let old = state g.S.Store c.args.self.now.conn in
+    let new = state g.S.Store c.list_lines-answer.new.conn in
+    let Shows : Trees → List Entry → Type 0 = λ base all. all ≡ mapped entry_of (lines_of base) in
+    record {
+      idle = c.list_lines-answer.ensures.idle c.args.self.now.idle;
+      kept = looked_kept n part r old new Shows c.args.self.now.kept (c.list_lines-answer.ensures.looked n part);
+    }
+
+-- by hand: the search loses itself in what the trait asks
+pub returns : goal.returns
+returns g c =
+    let n = c.args.self.now.next in
+    let part = c.args.self.now.site in
+    let r = c.list_lines-answer.result in
+    let old = state g.S.Store c.args.self.now.conn in
+    let new = state g.S.Store c.list_lines-answer.new.conn in
+    let Shows : Trees → List Entry → Type 0 = λ base all. all ≡ mapped entry_of (lines_of base) in
+    let kept = c.args.self.now.kept in
+    let looked = (c.list_lines-answer.ensures.looked n part) in
+    record {
+      reply = looked_reads n part r old new Shows kept looked (λ all. by_code (coded_list coded_entry) _ _);
+      same = looked_books n part r old new Shows kept looked;
+      counts = c.counted-self.ensures.counts;
+      armed = refl;
+      stood = looked_safe n part r old new Shows kept looked;
+      lasts = looked_lasting n part r old new Shows kept looked;
+      site = refl;
+    }

@@ -1,0 +1,50 @@
+use Rattle.std.proofs.Common.{◌≡◌, ◌≤◌, ℕ, Bool, List, Option, refl, arith}
+use Rattle.sqlite.specs.Held.{state}
+use Rattle.sqlite.specs.Tree.{Trees}
+use Rattle.std.specs.Coded.{coded_option}
+use Rattle.std.specs.FinMap as map
+use Rattle.dr_ledger.specs.declared.item.Progress.{Progress}
+use Rattle.dr_tables.specs.Books.{rows_of}
+use Rattle.dr_booking.proofs.Calls.{asked_looked}
+use Rattle.dr_store.proofs.Sets.{coded_progress}
+use Rattle.dr_store.proofs.Stable.{by_code}
+use Rattle.dr_store.proofs.Writes.{looked_books, looked_kept, looked_lasting, looked_reads, looked_safe}
+use Rattle.dr_store.proofs.ledger.SqlLedgerLedger.progress.Goals as goal
+
+pub invariant_of-self : goal.invariant_of-self
+invariant_of-self g c =
+    let n = c.args.self.now.next in
+    let part = c.args.self.now.site in
+    let uid = c.args.uid.now in
+    let dest = c.args.dest.now in
+    let r = c.find_row-answer.result in
+    let old = state g.S.Store c.args.self.now.conn in
+    let new = state g.S.Store c.find_row-answer.new.conn in
+    let Shows : Trees → Option Progress → Type 0 = λ base row. row ≡ map.get (rows_of base) (uid, dest) in
+    record {
+      idle = c.find_row-answer.ensures.asked.idle c.args.self.now.idle;
+      kept = looked_kept n part r old new Shows c.args.self.now.kept (asked_looked n part r old new Shows c.find_row-answer.ensures.asked);
+    }
+
+-- by hand: the search loses itself in what the trait asks
+pub returns : goal.returns
+returns g c =
+    let n = c.args.self.now.next in
+    let part = c.args.self.now.site in
+    let uid = c.args.uid.now in
+    let dest = c.args.dest.now in
+    let r = c.find_row-answer.result in
+    let old = state g.S.Store c.args.self.now.conn in
+    let new = state g.S.Store c.find_row-answer.new.conn in
+    let Shows : Trees → Option Progress → Type 0 = λ base row. row ≡ map.get (rows_of base) (uid, dest) in
+    let kept = c.args.self.now.kept in
+    let looked = (asked_looked n part r old new Shows c.find_row-answer.ensures.asked) in
+    record {
+      reply = looked_reads n part r old new Shows kept looked (λ row. by_code (coded_option coded_progress) _ _);
+      same = looked_books n part r old new Shows kept looked;
+      counts = c.counted-self.ensures.counts;
+      armed = refl;
+      stood = looked_safe n part r old new Shows kept looked;
+      lasts = looked_lasting n part r old new Shows kept looked;
+      site = refl;
+    }

@@ -1,0 +1,70 @@
+-- What is made of whole lists.
+use Rattle.std.specs.Prelude.{◌≡◌, ◌<◌, ◌⊎◌, ℕ, Bool, true, false, T, List, All, length, take, Option, Some, None, Result, Ok, Err}
+use Rattle.std.specs.List.{AllZip, HoldsAt}
+use Rattle.std.specs.declared.cmp.Ordering.{Ordering}
+use Rattle.std.specs.FinMap.{find, is_sorted}
+use Rattle.dr_base.specs.Texts.{Text, text_cmp}
+use Rattle.dr_network.specs.Networks.{Network}
+use Rattle.dr_network.specs.Walks.{IsReached}
+use Rattle.dr_route.specs.declared.key.Key.{Key}
+use Rattle.dr_ledger.specs.declared.fault.LedgerFault.{LedgerFault}
+use Rattle.dr_ledger.specs.declared.item.Progress.{Progress}
+use Rattle.dr_ledger.specs.declared.item.Progress.TheVariants.{Waiting, Held, Done}
+use Rattle.dr_ledger.specs.Pairs.{Pair}
+use Rattle.dr_ledger.specs.Replies.{Reads}
+use Rattle.dr_queries.specs.declared.finding.Print.{Print}
+
+-- ---- entries
+
+-- where a search has stopped at a place, what is found by the key stands there
+abbrev pub IsFoundAt : {K X : Type 0} → (K → K → Ordering) → K → List (K × X) → Result ℕ ℕ → Type 0
+IsFoundAt {K} {X} R k es (Ok i) = HoldsAt (λ (e : K × X). find R k es ≡ Some e.1) es i
+IsFoundAt R k es (Err i) = Unit {0}
+
+-- ---- kept uids
+
+-- a uid with the length that its print has
+abbrev pub IsSize : List (Text × Print) → Text × ℕ → Type 0
+IsSize prints e = (print : Print) × (find text_cmp e.0 prints ≡ Some print) × (print.size ≡ e.1)
+
+-- the uid with the length that its print has, where prints rise by their uids
+abbrev pub IsSized : List (Text × Print) → Text → Text × ℕ → Type 0
+IsSized prints uid e = (e.0 ≡ uid) × (T (is_sorted text_cmp prints) → IsSize prints e)
+
+-- these uids, each so
+abbrev pub AreSized : List (Text × Print) → List Text → List (Text × ℕ) → Type 0
+AreSized prints = AllZip (IsSized prints)
+
+-- ---- unfit rows
+
+-- whether what is at this point of its way isn't done
+abbrev pub is_open_at : Progress → Bool
+is_open_at (Waiting tries due) = true
+is_open_at (Held why) = true
+is_open_at Done = false
+
+-- the instance of the uid is known by this key, where keys rise by their uids
+abbrev pub IsOfKey : List (Text × Key) → Text → Key → Type 0
+IsOfKey keys uid key = T (is_sorted text_cmp keys) → find text_cmp uid keys ≡ Some key
+
+-- the row is done, or the next plan goes on with it
+abbrev pub FitsAmong : Network → Text → List (Text × Key) → Pair × Progress → Type 0
+FitsAmong next name keys row = (is_open_at row.1 ≡ false) ⊎ ((key : Key) × (IsOfKey keys row.0.0 key × IsReached next key name row.0.1))
+
+-- the row isn't done, and the next plan doesn't go on with it
+abbrev pub IsUnfitRow : Network → Text → List (Text × Key) → Pair × Progress → Type 0
+IsUnfitRow next name keys row = (is_open_at row.1 ≡ true) × ((key : Key) × (IsOfKey keys row.0.0 key × (IsReached next key name row.0.1 → ⊥)))
+
+abbrev pub IsUnfitAmong : Network → Text → List (Text × Key) → Pair × Progress → Bool → Type 0
+IsUnfitAmong next name keys row true = IsUnfitRow next name keys row
+IsUnfitAmong next name keys row false = FitsAmong next name keys row
+
+-- the first unfit row, before which all fit, or that all fit
+abbrev pub UnfitsAmong : Network → Text → List (Pair × Progress) → List (Text × Key) → Option Pair → Type 0
+UnfitsAmong next name rows keys None = All (FitsAmong next name keys) rows
+UnfitsAmong next name rows keys (Some at) = (i : ℕ) × ((row : Progress) × ((i < length rows) × (HoldsAt (λ r. r ≡ (at, row)) rows i × (All (FitsAmong next name keys) (take i rows) × IsUnfitRow next name keys (at, row)))))
+
+-- where rows and keys were listed, the first unfit one of these
+abbrev pub UnfitsOf : {L : Type 0} → (L → List (Pair × Progress)) → (L → List (Text × Key)) → Network → Text → Result L LedgerFault → Result (Option Pair) LedgerFault → Type 0
+UnfitsOf rows keys next name (Ok listed) result = Reads result (UnfitsAmong next name (rows listed) (keys listed))
+UnfitsOf rows keys next name (Err why) result = result ≡ Err why

@@ -1,0 +1,21 @@
+-- What single queries show together.
+use Rattle.std.specs.Prelude.{◌≡◌, ◌≢◌, Option, Some, None, Result, Ok, Err}
+use Rattle.sqlite.specs.Tree.{Trees}
+use Rattle.dr_base.specs.Texts.{Text}
+use Rattle.dr_ledger.specs.declared.content.Job.{Job}
+use Rattle.dr_ledger.specs.declared.fault.LedgerFault.{LedgerFault}
+use Rattle.dr_ledger.specs.declared.fault.LedgerFault.TheVariants as fault
+use Rattle.dr_booking.specs.declared.knowing.Known.{Known}
+use Rattle.dr_booking.specs.declared.knowing.Known.TheVariants as known
+use Rattle.dr_queries.specs.Queries.{IsJobOf}
+
+-- the instance of that uid with what stands in its row for its data set
+abbrev pub IsWholeJob : Text → Trees → Option Job → Type 0
+IsWholeJob uid db None = ⊥
+IsWholeJob uid db (Some job) = IsJobOf uid db (Some job)
+
+-- an arrival is refused just where another instance has its uid
+abbrev pub AdmitsKnown : Known → Result (Unit {0}) LedgerFault → Type 0
+AdmitsKnown known.No result = result ≡ Ok tt
+AdmitsKnown known.Other result = result ≡ Err fault.Conflict
+AdmitsKnown (known.Same whole) result = result ≡ Ok tt

@@ -1,0 +1,277 @@
+//! The ledger of one node, in the tables of a database.
+ghost use Rattle.std.specs.Prelude.{◌≡◌, ◌≤◌, ◌^◌, Ok, false};
+ghost use Rattle.sqlite.specs.Held.{state};
+ghost use Rattle.sqlite.specs.State.{HasCleanDisk};
+ghost use Rattle.dr_ledger.specs.Adopting.{Adopting, site_after};
+ghost use Rattle.dr_ledger.specs.Bodies.{OnlyLetsGo, OnlyTakes};
+ghost use Rattle.dr_ledger.specs.Items.{instance_of};
+ghost use Rattle.dr_ledger.specs.Replies.{Arrives, Counts, Requeues, Settles};
+ghost use Rattle.dr_ledger.specs.SiteRoutes.{site_routing};
+ghost use Rattle.dr_tables.specs.Books.{bodies_of, book_of};
+ghost use Rattle.dr_booking.specs.Calling.{IsKept, IsSafe};
+ghost use Rattle.dr_booking.specs.Knowing.{IsAccepted};
+ghost use Rattle.dr_store.specs.Counting.{failures_after};
+ghost use Rattle.dr_store.specs.Surviving.{Wrote};
+
+use crate::counting::{counted, next_after};
+use crate::journal::list_lines;
+use crate::listing::{first_unfit, list_arrivals, list_kept, list_rows, list_rows_and_keys};
+use crate::reading::{admit, has_data_set, has_item, next_job};
+use dr_adoption::adopt;
+use dr_base::{Seq, Text};
+use dr_booking::{arrive, requeue, settle};
+use dr_cert::Sealed;
+use dr_ledger::{Arrived, Entry, Item, Job, Ledger, LedgerFault, Outcome, Progress};
+use dr_queries::find_row;
+use dr_site::Site;
+use sqlite::{Alter, Connection};
+use std::alloc::Global;
+
+/// The ledger of one node, in the tables of a database. It counts the failures of its store.
+#[derive(Drop)]
+pub struct SqlLedger<S: Alter> {
+    alloc: Global,
+    site: Site,
+    conn: Connection<S>,
+    next: u64,
+    failures: u64,
+    ghost idle: { conn.in_transaction ≡ false },
+    ghost kept: { IsSafe (state S.Store conn) → ∥ IsKept next site (state S.Store conn) ∥₁ },
+}
+
+impl<S: Alter> SqlLedger<S> {
+    /// The ledger of this site, over a connection to its tables; the number of its next line is `next`.
+    pub fn of(alloc: Global, conn: Connection<S>, site: Site, next: u64) -> SqlLedger<S>
+        requires idle { conn.in_transaction ≡ false }
+        requires kept { IsSafe (state S.Store conn) → ∥ IsKept next site (state S.Store conn) ∥₁ }
+        ensures site { result.site ≡ site }
+        ensures conn { result.conn ≡ conn }
+        ensures failures { result.failures ≡ 0 }
+    {
+        SqlLedger {
+            alloc,
+            site,
+            conn,
+            next,
+            failures: 0,
+        }
+    }
+
+    /// Its connection, with no transaction begun; the ledger ends.
+    pub fn into_connection(self) -> Connection<S>
+        ensures conn { result ≡ self.conn }
+        ensures idle { result.in_transaction ≡ false }
+    {
+        let SqlLedger {
+            alloc: _,
+            site: _,
+            conn,
+            next: _,
+            failures: _,
+        } = self;
+        conn
+    }
+
+    /// Takes an item from a caller, as `Ledger::arrive` says, and survives a crash at any moment.
+    pub fn arrive_in(&mut self, caller: &Text, item: Item) -> Result<Arrived, LedgerFault>
+        ensures wrote { Wrote result (state S.Store self.old.conn) (state S.Store self.new.conn)
+            (λ base db. Arrives (site_routing self.old.site) caller.now (instance_of item) (book_of base) result (book_of db) × OnlyTakes item (bodies_of base) (bodies_of db))
+            (IsAccepted self.old.site caller.now (instance_of item)) }
+        ensures counted { self.new.failures ≡ failures_after result self.old.failures }
+        ensures counts { Counts result self.old.failures self.new.failures }
+        ensures site { self.new.site ≡ self.old.site }
+    {
+        let answer = arrive(
+            &mut self.conn,
+            self.alloc,
+            &self.site,
+            self.next,
+            caller,
+            item,
+        );
+        self.next = next_after(&answer, self.next);
+        self.failures = counted(&answer, self.failures);
+        answer
+    }
+
+    /// Notes what came of a try, as `Ledger::settle` says, and survives a crash at any moment.
+    pub fn settle_in(
+        &mut self,
+        uid: &Text,
+        dest: &Text,
+        outcome: Outcome,
+        now: u64,
+    ) -> Result<(), LedgerFault>
+        requires { now ≤ 2 ^ 62 }
+        ensures wrote { Wrote result (state S.Store self.old.conn) (state S.Store self.new.conn)
+            (λ base db. Settles uid.now dest.now outcome now (book_of base) result (book_of db) × OnlyLetsGo (bodies_of base) (bodies_of db))
+            (λ old new. Settles uid.now dest.now outcome now old (Ok tt) new) }
+        ensures counted { self.new.failures ≡ failures_after result self.old.failures }
+        ensures counts { Counts result self.old.failures self.new.failures }
+        ensures site { self.new.site ≡ self.old.site }
+    {
+        let answer = settle(&mut self.conn, self.next, uid, dest, outcome, now);
+        self.next = next_after(&answer, self.next);
+        self.failures = counted(&answer, self.failures);
+        answer
+    }
+
+    /// Queues a held row again, as `Ledger::requeue` says, and survives a crash at any moment.
+    pub fn requeue_in(&mut self, uid: &Text, dest: &Text) -> Result<(), LedgerFault>
+        ensures wrote { Wrote result (state S.Store self.old.conn) (state S.Store self.new.conn)
+            (λ base db. Requeues uid.now dest.now (book_of base) result (book_of db) × OnlyLetsGo (bodies_of base) (bodies_of db))
+            (λ old new. Requeues uid.now dest.now old (Ok tt) new) }
+        ensures counted { self.new.failures ≡ failures_after result self.old.failures }
+        ensures counts { Counts result self.old.failures self.new.failures }
+        ensures site { self.new.site ≡ self.old.site }
+    {
+        let answer = requeue(&mut self.conn, self.next, uid, dest);
+        self.next = next_after(&answer, self.next);
+        self.failures = counted(&answer, self.failures);
+        answer
+    }
+
+    /// Adopts the plan of the next site of its node, as `Ledger::adopt` says, and survives a crash at any moment.
+    pub fn adopt_in(&mut self, own: Site) -> Result<(), LedgerFault>
+        ensures wrote { Wrote result (state S.Store self.old.conn) (state S.Store self.new.conn)
+            (λ base db. Adopting (book_of base) result (book_of db) × OnlyLetsGo (bodies_of base) (bodies_of db))
+            (λ old new. Adopting old (Ok tt) new) }
+        ensures counted { self.new.failures ≡ failures_after result self.old.failures }
+        ensures counts { Counts result self.old.failures self.new.failures }
+        ensures site { self.new.site ≡ site_after result own self.old.site }
+    {
+        let answer = adopt(&mut self.conn, self.alloc, self.next, &own);
+        self.next = next_after(&answer, self.next);
+        self.failures = counted(&answer, self.failures);
+        take_over(&mut self.site, own, &answer);
+        answer
+    }
+}
+
+/// The next site takes over, where its adoption was accepted.
+fn take_over(site: &mut Site, own: Site, answer: &Result<(), LedgerFault>)
+    ensures { site.new ≡ site_after answer.now own site.old }
+{
+    match answer {
+        Ok(()) => *site = own,
+        Err(_) => {}
+    }
+}
+
+impl<S: Alter> Ledger for SqlLedger<S> {
+    ghost use Rattle.std.specs.Prelude.{false};
+    ghost use mathlib.Core.Logic.{∥∥₁_map};
+    ghost use Rattle.sqlite.specs.Held.{state};
+    ghost use Rattle.sqlite.specs.State.{HasCleanDisk};
+    ghost use Rattle.dr_tables.specs.Books.{bodies_of, book_of};
+    ghost use Rattle.dr_booking.specs.Calling.{IsSafe};
+
+    ghost site = { λ l. l.site };
+
+    ghost book = { λ l. book_of (state S.Store l.conn).committed.trees };
+
+    ghost bodies = { λ l. bodies_of (state S.Store l.conn).committed.trees };
+
+    ghost trusts = { λ l. HasCleanDisk (state S.Store l.conn) };
+
+    ghost stands = { λ l. IsSafe (state S.Store l.conn) };
+
+    ghost failed = { λ l. l.failures };
+
+    ghost armed = { λ l. false };
+
+    ghost journalled = { λ l safe. ∥∥₁_map (l.kept safe) (λ k. k.ledger.journalled) };
+
+    ghost bodied = { λ l safe. ∥∥₁_map (l.kept safe) (λ k. k.ledger.bodied) };
+
+    fn arrive(&mut self, caller: &Text, item: Item) -> Result<Arrived, LedgerFault> {
+        self.arrive_in(caller, item)
+    }
+
+    fn next(&mut self, dest: &Text, now: u64) -> Result<Option<Job>, LedgerFault> {
+        let answer = next_job(&mut self.conn, self.alloc, dest, now);
+        self.failures = counted(&answer, self.failures);
+        answer
+    }
+
+    fn settle(
+        &mut self,
+        uid: &Text,
+        dest: &Text,
+        outcome: Outcome,
+        now: u64,
+    ) -> Result<(), LedgerFault> {
+        self.settle_in(uid, dest, outcome, now)
+    }
+
+    fn requeue(&mut self, uid: &Text, dest: &Text) -> Result<(), LedgerFault> {
+        self.requeue_in(uid, dest)
+    }
+
+    fn admits(&mut self, caller: &Text, item: &Item) -> Result<(), LedgerFault> {
+        let answer = admit(&mut self.conn, self.alloc, &self.site, caller, item);
+        self.failures = counted(&answer, self.failures);
+        answer
+    }
+
+    fn has(&mut self, uid: &Text) -> Result<bool, LedgerFault> {
+        let answer = has_item(&mut self.conn, self.alloc, uid);
+        self.failures = counted(&answer, self.failures);
+        answer
+    }
+
+    fn has_body(&mut self, uid: &Text) -> Result<bool, LedgerFault> {
+        let answer = has_data_set(&mut self.conn, self.alloc, uid);
+        self.failures = counted(&answer, self.failures);
+        answer
+    }
+
+    fn arrivals(&mut self) -> Result<Seq<(Text, Text)>, LedgerFault> {
+        let answer = list_arrivals(&mut self.conn, self.alloc);
+        self.failures = counted(&answer, self.failures);
+        answer
+    }
+
+    fn kept(&mut self) -> Result<Seq<(Text, u64)>, LedgerFault> {
+        let answer = list_kept(&mut self.conn, self.alloc);
+        self.failures = counted(&answer, self.failures);
+        answer
+    }
+
+    fn rows(&mut self) -> Result<Seq<((Text, Text), Progress)>, LedgerFault> {
+        let answer = list_rows(&mut self.conn, self.alloc);
+        self.failures = counted(&answer, self.failures);
+        answer
+    }
+
+    fn lines(&mut self) -> Result<Seq<Entry>, LedgerFault> {
+        let answer = list_lines(&mut self.conn, self.alloc);
+        self.failures = counted(&answer, self.failures);
+        answer
+    }
+
+    fn progress(&mut self, uid: &Text, dest: &Text) -> Result<Option<Progress>, LedgerFault> {
+        let answer = find_row(&mut self.conn, uid, dest);
+        self.failures = counted(&answer, self.failures);
+        answer
+    }
+
+    fn unfit(&mut self, next: &Sealed) -> Result<Option<(Text, Text)>, LedgerFault> {
+        let listed = list_rows_and_keys(&mut self.conn, self.alloc);
+        let answer = first_unfit(next, self.site.name(), listed);
+        self.failures = counted(&answer, self.failures);
+        answer
+    }
+
+    fn adopt(&mut self, _next: &Sealed, own: Site) -> Result<(), LedgerFault> {
+        self.adopt_in(own)
+    }
+
+    fn is_of(&self, other: &Site) -> bool {
+        self.site.is_same(other)
+    }
+
+    fn failures(&self) -> u64 {
+        self.failures
+    }
+}

@@ -1,0 +1,135 @@
+//! What the tables show of one instance, of one row, and of what is due.
+ghost use Rattle.std.specs.Prelude.{◌≡◌, ℕ, false};
+ghost use Rattle.std.specs.FinMap as map;
+ghost use Rattle.sqlite.specs.Held.{state};
+ghost use Rattle.dr_site.specs.Parts.{Part};
+ghost use Rattle.dr_ledger.specs.Bodies.{NextsWith};
+ghost use Rattle.dr_ledger.specs.Items.{instance_of};
+ghost use Rattle.dr_ledger.specs.Replies.{Admits};
+ghost use Rattle.dr_ledger.specs.SiteRoutes.{site_routing};
+ghost use Rattle.dr_site.specs.Routing.{HasLineFor};
+ghost use Rattle.dr_tables.specs.Books.{bodies_of, book_of, items_of};
+ghost use Rattle.dr_booking.specs.Calling.{Called, Looked, Nothing};
+ghost use Rattle.dr_store.specs.Reading.{AdmitsKnown, IsWholeJob};
+
+use dr_base::Text;
+use dr_booking::{Known, know};
+use dr_ledger::{Instance, Item, Job, LedgerFault};
+use dr_queries::{find_item, find_job, find_key, find_next};
+use dr_site::Site;
+use sqlite::{Alter, Connection};
+use std::alloc::Global;
+
+/// Whether an instance with this uid is there.
+pub fn has_item<S: Alter>(
+    conn: &mut Connection<S>,
+    alloc: Global,
+    uid: &Text,
+) -> Result<bool, LedgerFault>
+    ensures looked { (n : ℕ) (part : Part) → Looked n part result (state S.Store conn.old) (state S.Store conn.new) (λ base there. there ≡ map.contains_key (items_of base) uid.now) }
+    ensures idle { conn.old.in_transaction ≡ false → conn.new.in_transaction ≡ false }
+{
+    match find_key(conn, alloc, uid) {
+        Ok(key) => Ok(key.is_some()),
+        Err(fault) => Err(fault),
+    }
+}
+
+/// Whether its data set is there. It isn't read.
+pub fn has_data_set<S: Alter>(
+    conn: &mut Connection<S>,
+    alloc: Global,
+    uid: &Text,
+) -> Result<bool, LedgerFault>
+    ensures looked { (n : ℕ) (part : Part) → Looked n part result (state S.Store conn.old) (state S.Store conn.new) (λ base there. there ≡ map.contains_key (bodies_of base) uid.now) }
+    ensures idle { conn.old.in_transaction ≡ false → conn.new.in_transaction ≡ false }
+{
+    match find_item(conn, alloc, uid) {
+        Ok(Some(stored)) => Ok(stored.whole),
+        Ok(None) => Ok(false),
+        Err(fault) => Err(fault),
+    }
+}
+
+/// The instance of this uid with its data set. One that was found due is there.
+fn job_of<S: Alter>(
+    conn: &mut Connection<S>,
+    alloc: Global,
+    uid: &Text,
+) -> Result<Option<Job>, LedgerFault>
+    ensures looked { (n : ℕ) (part : Part) → Looked n part result (state S.Store conn.old) (state S.Store conn.new) (λ base job. IsWholeJob uid.now base job) }
+    ensures idle { conn.old.in_transaction ≡ false → conn.new.in_transaction ≡ false }
+{
+    match find_job(conn, alloc, uid) {
+        Ok(Some(job)) => Ok(Some(job)),
+        Ok(None) => Err(LedgerFault::Store),
+        Err(fault) => Err(fault),
+    }
+}
+
+/// What the first row for the destination, by (due, uid), that waits and is due at the moment `now` (milliseconds) is about, with its data
+/// set.
+pub fn next_job<S: Alter>(
+    conn: &mut Connection<S>,
+    alloc: Global,
+    dest: &Text,
+    now: u64,
+) -> Result<Option<Job>, LedgerFault>
+    ensures looked { (n : ℕ) (part : Part) → Looked n part result (state S.Store conn.old) (state S.Store conn.new) (λ base job. NextsWith (book_of base) (bodies_of base) dest.now now job) }
+    ensures idle { conn.old.in_transaction ≡ false → conn.new.in_transaction ≡ false }
+{
+    match find_next(conn, alloc, dest, now) {
+        Ok(Some(uid)) => job_of(conn, alloc, &uid),
+        Ok(None) => Ok(None),
+        Err(fault) => Err(fault),
+    }
+}
+
+/// Whether an arrival is admitted, by what is known of its uid.
+fn admit_known(known: Known) -> Result<(), LedgerFault>
+    ensures { AdmitsKnown known result }
+{
+    match known {
+        Known::No => Ok(()),
+        Known::Other => Err(LedgerFault::Conflict),
+        Known::Same { .. } => Ok(()),
+    }
+}
+
+/// Whether an instance that the certificate has a line for would be taken.
+fn admit_instance<S: Alter>(
+    conn: &mut Connection<S>,
+    alloc: Global,
+    site: &Site,
+    caller: &Text,
+    item: &Instance,
+) -> Result<(), LedgerFault>
+    requires { HasLineFor site.now caller.now item.now.key }
+    ensures called { (n : ℕ) → Called n n site.now result (state S.Store conn.old) (state S.Store conn.new) Nothing (λ base db. (db ≡ base) × Admits (site_routing site.now) caller.now item.now (book_of base) result) (λ base db. ⊥) }
+    ensures idle { conn.old.in_transaction ≡ false → conn.new.in_transaction ≡ false }
+{
+    match know(conn, alloc, item) {
+        Ok(known) => admit_known(known),
+        Err(fault) => Err(fault),
+    }
+}
+
+/// Whether the item would be taken from the caller: NoLine or Conflict where an arrival would be refused so.
+pub fn admit<S: Alter>(
+    conn: &mut Connection<S>,
+    alloc: Global,
+    site: &Site,
+    caller: &Text,
+    item: &Item,
+) -> Result<(), LedgerFault>
+    ensures called { (n : ℕ) → Called n n site.now result (state S.Store conn.old) (state S.Store conn.new) Nothing (λ base db. (db ≡ base) × Admits (site_routing site.now) caller.now (instance_of item.now) (book_of base) result) (λ base db. ⊥) }
+    ensures idle { conn.old.in_transaction ≡ false → conn.new.in_transaction ≡ false }
+{
+    if !site.has_line(caller, item.key()) {
+        return Err(LedgerFault::NoLine);
+    }
+    match item.instance() {
+        Ok(instance) => admit_instance(conn, alloc, site, caller, &instance),
+        Err(_) => Err(LedgerFault::Memory),
+    }
+}
