@@ -1,12 +1,14 @@
 -- A book but for its journal.
-use Rattle.std.specs.Prelude.{[]}
+use Rattle.std.specs.Prelude.{List, []}
+use Rattle.std.specs.FinMap as map
 use Rattle.std.specs.FinMap.{FinMap}
+use Rattle.std.specs.FinSet as set
 use Rattle.std.specs.FinSet.{FinSet}
-use Rattle.dr_base.specs.Texts.{text_cmp}
+use Rattle.dr_base.specs.Texts.{Text, text_cmp}
 use Rattle.dr_ledger.specs.declared.item.Instance.{Instance}
 use Rattle.dr_ledger.specs.declared.item.Progress.{Progress}
 use Rattle.dr_ledger.specs.Books.{Book}
-use Rattle.dr_ledger.specs.Pairs.{pair_cmp}
+use Rattle.dr_ledger.specs.Pairs.{Pair, pair_cmp}
 use Rattle.dr_history.specs.declared.parts.Parts.{Parts}
 use Rattle.dr_history.specs.Trees.{as_map, as_set}
 
@@ -28,3 +30,7 @@ book_of c = record { items = c.items; arrivals = c.arrivals; kept = c.kept; rows
 -- what the parts hold
 abbrev pub content : Parts → Content
 content p = record { items = as_map text_cmp p.items; arrivals = as_set pair_cmp p.arrivals; kept = as_set text_cmp p.kept; rows = as_map pair_cmp p.rows }
+
+-- what these lists of all arrivals, kept uids and rows make, with these items
+abbrev pub all_of : FinMap text_cmp Instance → List Pair → List Text → List (Pair × Progress) → Content
+all_of items arrivals kept rows = record { items = items; arrivals = set.from_list arrivals; kept = set.from_list kept; rows = map.from_entries rows }

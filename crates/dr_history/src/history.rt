@@ -1,12 +1,14 @@
 //! What a journal's lines make of a node.
-ghost use Rattle.std.specs.Prelude.{◌≡◌, List, [], option_copied};
+ghost use Rattle.std.specs.Prelude.{◌≡◌, IsTrue, List, [], option_copied};
 ghost use Rattle.std.specs.FinMap as map;
 ghost use Rattle.std.specs.FinSet as set;
+ghost use Rattle.dr_base.specs.Texts.{text_cmp};
 ghost use Rattle.dr_ledger.specs.Books.{Line};
 ghost use Rattle.dr_ledger.specs.SiteRoutes.{site_routing};
-ghost use Rattle.dr_history.specs.Contents.{content};
+ghost use Rattle.dr_history.specs.Contents.{all_of, content};
 ghost use Rattle.dr_history.specs.Lines.{line_of};
 ghost use Rattle.dr_history.specs.Told.{IsTold, IsToldSince, Tells, TellsSince};
+ghost use Rattle.dr_history.specs.Trees.{as_map};
 
 use crate::line::{HistoryFault, JournalLine};
 use crate::parts::Parts;
@@ -15,6 +17,7 @@ use dr_base::Text;
 use dr_ledger::{Instance, Progress};
 use dr_site::Site;
 use std::alloc::Global;
+use std::collections::BTreeMap;
 
 /// What a node has by the lines that were told: its instances, who brought which uid, the kept uids, and how far each (uid, destination)
 /// is. It is the book of these lines but for the lines themselves, which it doesn't hold. A line that isn't taken ends it.
@@ -92,5 +95,18 @@ impl History {
         ensures { result ≡ map.get (content self.now.parts).rows at.now }
     {
         self.parts.row(at)
+    }
+
+    /// Whether these are all of it: the instances by uid, and the lists of arrivals, of kept uids and of rows in the order of their keys.
+    pub fn has_just(
+        &self,
+        items: &BTreeMap<Text, Instance>,
+        arrivals: &[(Text, Text)],
+        kept: &[Text],
+        rows: &[((Text, Text), Progress)],
+    ) -> bool
+        ensures { IsTrue result → content self.now.parts ≡ all_of (as_map text_cmp items.now) arrivals.now kept.now rows.now }
+    {
+        self.parts.has_just(items, arrivals, kept, rows)
     }
 }

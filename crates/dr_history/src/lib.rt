@@ -2,6 +2,7 @@
 //! opened store is compared with it.
 #![tactic(auto)]
 
+mod comparing;
 pub mod history;
 pub mod laws;
 mod line;

@@ -4,10 +4,13 @@ ghost use Rattle.std.specs.FinMap as map;
 ghost use Rattle.std.specs.FinSet as set;
 ghost use Rattle.dr_ledger.specs.Books.{Arrival, Adoption, Repeat, Requeuing, Settling, after, empty_book};
 ghost use Rattle.dr_ledger.specs.Histories.{IsSame};
-ghost use Rattle.dr_history.specs.Contents.{book_of, content, content_of};
+ghost use Rattle.dr_history.specs.Contents.{all_of, book_of, content, content_of};
 ghost use Rattle.dr_history.specs.Lines.{line_of};
 ghost use Rattle.dr_history.specs.Takings.{Takes};
+ghost use Rattle.dr_history.specs.Trees.{as_map};
+ghost use Rattle.dr_base.specs.Texts.{text_cmp};
 
+use crate::comparing::{are_arrivals, are_items, are_kept, are_rows};
 use crate::line::{HistoryFault, JournalLine};
 use crate::progress::moved;
 use crate::trees::{clear, fill, prune, put_arrival, put_item, put_kept, put_row};
@@ -210,6 +213,22 @@ impl Parts {
         ensures { result ≡ map.get (content self.now).rows at.now }
     {
         self.rows.get(at).copied()
+    }
+
+    /// Whether these are all of them.
+    pub fn has_just(
+        &self,
+        items: &BTreeMap<Text, Instance>,
+        arrivals: &[(Text, Text)],
+        kept: &[Text],
+        rows: &[((Text, Text), Progress)],
+    ) -> bool
+        ensures { IsTrue result → content self.now ≡ all_of (as_map text_cmp items.now) arrivals.now kept.now rows.now }
+    {
+        if !are_items(&self.items, items) || !are_arrivals(&self.arrivals, arrivals) {
+            return false;
+        }
+        are_kept(&self.kept, kept) && are_rows(&self.rows, rows)
     }
 }
 

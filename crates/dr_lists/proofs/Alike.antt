@@ -60,7 +60,7 @@ it_is true h = refl
 it_is false h = absurd h
 
 -- numbers are tied where they are the same
-tied_number : (m n : ℕ) (b : Bool) → (n == m) ≡ b → is_eq (nat_cmp m n) ≡ b
+pub tied_number : (m n : ℕ) (b : Bool) → (n == m) ≡ b → is_eq (nat_cmp m n) ≡ b
 tied_number m n true e = ap is_eq (sym (nat_cmp_is m n Equal (sym (eqb-true n m e))))
 tied_number m n false e = differ (nat_cmp m n) refl
   where
@@ -69,7 +69,7 @@ tied_number m n false e = differ (nat_cmp m n) refl
     differ Equal is = absurd (true≢false (sym (it_is (m == m) (eqb_refl m)) ∙ ap (λ k. k == m) (ranked m n Equal is) ∙ e))
     differ Greater is = ap is_eq (sym is)
 
-both_tied : (o p : Ordering) → is_eq (ordering_then o p) ≡ (is_eq o && is_eq p)
+pub both_tied : (o p : Ordering) → is_eq (ordering_then o p) ≡ (is_eq o && is_eq p)
 both_tied Less p = refl
 both_tied Equal p = refl
 both_tied Greater p = refl

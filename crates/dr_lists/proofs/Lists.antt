@@ -1,5 +1,6 @@
 -- What the lists of whole tables show.
-use Rattle.std.proofs.Common.{◌≡◌, ℕ, zero, suc, List, [], ◌∷◌, map, flat_map, T, refl, sym, ap, subst, ◌∙◌}
+use Rattle.std.proofs.Common.{◌≡◌, ℕ, zero, suc, List, [], ◌∷◌, map, flat_map, Contains, T, refl, sym, ap, subst, ◌∙◌, arith}
+use Rattle.std.specs.List.{AllByRecursion}
 use Rattle.std.specs.declared.cmp.Ordering.{Ordering}
 use Rattle.std.specs.Ordering.{nat_cmp, is_lt}
 use Rattle.std.specs.Cmp.{IsTotalOrder, nat_cmp_total}
@@ -43,6 +44,11 @@ use Rattle.dr_queries.proofs.Points.{map_twice}
 use Rattle.dr_lists.proofs.Wholes as whole
 use Rattle.dr_lists.proofs.Wholes.{listing}
 
+-- what has all images of some elements has that of each
+all_in : {X Y : Type 0} (ys : List Y) (g : X → Y) (xs : List X) → ((y : Y) → Contains (map g xs) y → Contains ys y) → AllByRecursion (λ x. Contains ys (g x)) xs
+all_in ys g [] h = tt
+all_in ys g (x ∷ xs) h = (h (g x) (0, omega arith, refl), all_in ys g xs (λ y there. let low = there.1 in h y (suc there.0, omega (arith, low), there.2)))
+
 module _ (tree : ℕ) (shown : List Term) (order : List (Term × SortKey)) (db : Trees) (rows : List Row) (answer : IsAnswer (listing tree shown order) (overlay db []) [] rows)
     (grouped : answer.staged ≡ flat_map (λ r. ([] ∷ r ∷ []) ∷ []) (db tree)) where
   -- what is shown of a row
@@ -82,6 +88,13 @@ module _ (tree : ℕ) (shown : List Term) (order : List (Term × SortKey)) (db :
       same : IsPermutation (map (λ r. f (listed r)) (db tree)) (map f rows)
       same = subst (λ xs. IsPermutation xs (map f rows)) (map_twice listed f (db tree)) (IsPermutation-map f (map listed (db tree)) rows all_listed)
 
+  -- and each row
+  pub lists_each : {Y : Type 0} (f : Row → Y) → AllByRecursion (λ r. Contains (map f rows) (f (listed r))) (db tree)
+  lists_each {Y} f = all_in (map f rows) (λ r. f (listed r)) (db tree) (λ y there. Contains-permutation (map (λ r. f (listed r)) (db tree)) (map f rows) y same there)
+    where
+      same : IsPermutation (map (λ r. f (listed r)) (db tree)) (map f rows)
+      same = subst (λ xs. IsPermutation xs (map f rows)) (map_twice listed f (db tree)) (IsPermutation-map f (map listed (db tree)) rows all_listed)
+
 pub keys_listed : (old new : State) (rows : List Row) → HasTables old.now → Shown text.all_items [] old new rows → T (is_sorted text_cmp (map shown_key_entry rows)) → map shown_key_entry rows ≡ entries (keys_of old.now.trees)
 keys_listed old new rows has h sorted =
     let answer : IsAnswer (listing 1 whole.all_items_shown whole.all_items_order) (overlay old.now.trees []) [] rows = (reads_as text.all_items [] old new tables has _ whole.all_items.command whole.all_items.plain whole.all_items.listing rows h).answer Null in
@@ -110,7 +123,7 @@ kept_listed old new rows has h sorted =
 pub goals_total : IsTotalOrder goal_cmp
 goals_total = then_total (on_total (λ e. e.0) nat_cmp_total) (on_total (λ e. e.1) nat_list_cmp_total)
 
-goals_exact : IsAntisymmetric goal_cmp
+pub goals_exact : IsAntisymmetric goal_cmp
 goals_exact = exact_pairs nat_cmp (slice_cmp nat_cmp) fin.nat_cmp-IsAntisymmetric exact_bytes
 
 pub targets_listed : (old new : State) (rows : List Row) → HasTables old.now → Shown text.all_targets [] old new rows → IsStrictlySortedBy goal_cmp (map shown_goal rows) → Lists goal_cmp (goals_of old.now.trees) (map shown_goal rows)
@@ -148,6 +161,7 @@ same_map f g is (x ∷ xs) = λ i. is x i ∷ same_map f g is xs i
 
 pub journal_listed : (old new : State) (rows : List Row) → HasTables old.now → Shown text.all_lines [] old new rows → T (is_sorted nat_cmp (map shown_note_entry rows)) → IsJournal old.now.trees (map shown_note_entry rows)
 journal_listed old new rows has h sorted = record {
+  each = lists_each 11 whole.all_lines_shown whole.all_lines_order old.now.trees rows answer answer.grouped shown_note_entry;
   notes = lists_entries 11 whole.all_lines_shown whole.all_lines_order old.now.trees rows answer answer.grouped nat_cmp_total fin.nat_cmp-IsAntisymmetric shown_note_entry sorted;
   lines = λ items targets.
       let told : Row → ℕ × Line = λ r. (number_in (column r 0), line_of items targets (number_in (column r 0)) (shown_note r)) in

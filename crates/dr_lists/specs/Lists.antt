@@ -1,5 +1,6 @@
 -- Whole tables, as lists whose keys rise.
-use Rattle.std.specs.Prelude.{◌≡◌, ◌==◌, not, ℕ, zero, suc, List, option_map, map as mapped}
+use Rattle.std.specs.Prelude.{◌≡◌, ◌==◌, not, ℕ, zero, suc, List, Contains, option_map, map as mapped}
+use Rattle.std.specs.List.{AllByRecursion}
 use Rattle.std.specs.declared.cmp.Ordering.{Ordering}
 use Rattle.std.specs.Ordering.{nat_cmp, ordering_then}
 use Rattle.std.specs.FinMap as map
@@ -65,8 +66,9 @@ line_of items targets n (note.Settling uid dest what now) = Settling uid dest wh
 line_of items targets n (note.Requeuing uid dest) = Requeuing uid dest
 line_of items targets n note.Adoption = Adoption
 
--- a list of the notes by their numbers, which tells the lines
+-- a list of the notes by their numbers, which tells the lines and has each row
 pub record IsJournal (db : Trees) (all : List (ℕ × Note)) : Type 0 where
+  pub each : AllByRecursion (λ row. Contains all (number_in (rowid row), note_in row)) (db 11)
   pub notes : all ≡ map.entries (notes_of db)
   pub lines : (items : FinMap text_cmp Instance) (targets : List Row) → mapped (λ (e : ℕ × Note). line_of items targets e.0 e.1) all ≡ lines_in items targets (db 11)
 

@@ -1,0 +1,8 @@
+mod Adding
+mod Forms
+mod Found
+mod Goaled
+mod Journals
+pub mod Needed
+mod Stocked
+mod Told

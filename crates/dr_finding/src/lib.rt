@@ -1,0 +1,16 @@
+//! Whether what stands in a file's tables is a ledger's of a site: tests of the tables and of the lists that they show, each with what it
+//! says of the ledger. No database is called here.
+#![tactic(auto)]
+
+pub mod agreeing;
+pub mod fault;
+pub mod goals;
+pub mod lines;
+pub mod needs;
+pub mod schema;
+pub mod stock;
+pub mod telling;
+
+pub use agreeing::agree;
+pub use fault::FindingFault;
+pub use schema::is_ours;

@@ -1,0 +1,104 @@
+//! Trees and lists that are the same.
+ghost use Rattle.std.specs.Prelude.{◌≡◌, IsTrue};
+
+use dr_base::Text;
+use dr_ledger::{Instance, Progress};
+use std::collections::{BTreeMap, BTreeSet};
+
+/// Whether the uid is that one.
+fn is_uid(uid: &Text, other: &Text) -> bool
+    ensures { IsTrue result → uid.now ≡ other.now }
+{
+    uid == other
+}
+
+/// Whether they are one instance.
+fn is_same(instance: &Instance, other: &Instance) -> bool
+    ensures { IsTrue result → instance.now ≡ other.now }
+{
+    instance.uid == other.uid
+        && instance.key == other.key
+        && instance.size == other.size
+        && instance.digest == other.digest
+}
+
+/// Whether they are the same instances.
+pub fn are_items(items: &BTreeMap<Text, Instance>, others: &BTreeMap<Text, Instance>) -> bool
+    ensures { IsTrue result → items.now.entries ≡ others.now.entries }
+{
+    let mut rest = others.iter();
+    for (uid, instance) in items {
+        let Some((other_uid, other)) = rest.next() else {
+            return false;
+        };
+        if !is_uid(uid, other_uid) || !is_same(instance, other) {
+            return false;
+        }
+    }
+    rest.next().is_none()
+}
+
+/// Whether they are one arrival.
+fn is_arrival(arrival: &(Text, Text), other: &(Text, Text)) -> bool
+    ensures { IsTrue result → arrival.now ≡ other.now }
+{
+    arrival.0 == other.0 && arrival.1 == other.1
+}
+
+/// Whether these are all arrivals.
+pub fn are_arrivals(arrivals: &BTreeSet<(Text, Text)>, list: &[(Text, Text)]) -> bool
+    ensures { IsTrue result → arrivals.now.keys ≡ list.now }
+{
+    let mut rest = list;
+    for arrival in arrivals {
+        let [first, more @ ..] = rest else {
+            return false;
+        };
+        if !is_arrival(arrival, first) {
+            return false;
+        }
+        rest = more;
+    }
+    rest.is_empty()
+}
+
+/// Whether these are all kept uids.
+pub fn are_kept(kept: &BTreeSet<Text>, list: &[Text]) -> bool
+    ensures { IsTrue result → kept.now.keys ≡ list.now }
+{
+    let mut rest = list;
+    for uid in kept {
+        let [first, more @ ..] = rest else {
+            return false;
+        };
+        if !is_uid(uid, first) {
+            return false;
+        }
+        rest = more;
+    }
+    rest.is_empty()
+}
+
+/// Whether they are one row.
+fn is_row(at: &(Text, Text), row: Progress, other: &((Text, Text), Progress)) -> bool
+    ensures { IsTrue result → (at.now ≡ other.now.0) × (row ≡ other.now.1) }
+{
+    is_arrival(at, &other.0) && row == other.1
+}
+
+/// Whether these are all rows.
+pub fn are_rows(rows: &BTreeMap<(Text, Text), Progress>, list: &[((Text, Text), Progress)]) -> bool
+    ensures { IsTrue result → rows.now.entries ≡ list.now }
+{
+    let mut rest = list;
+    for (at, row) in rows {
+        let [first, more @ ..] = rest else {
+            return false;
+        };
+        if !is_row(at, *row, first) {
+            return false;
+        }
+        rest = more;
+    }
+    rest.is_empty()
+}
