@@ -64,15 +64,73 @@ def verdicts(certificate):
     is_answer('files turned round', run(['verify', SOUND, 'none']), 3, b'', (b'dr_router: none: ',))
 
 
+CLASS, SYNTAX = '1.2.840.10008.5.1.4.1.1.2', '1.2.840.10008.1.2.1'
+
+
+def element(tag, vr, value):
+    """An element in Explicit VR Little Endian with a short length."""
+    value += (b'\0' if vr == b'UI' else b' ') * (len(value) % 2)
+    return tag + vr + len(value).to_bytes(2, 'little') + value
+
+
+def part10(meta, body):
+    return bytes(128) + b'DICM' + meta + body
+
+
+def data_set(modality=b'CT', station=b'S1', uid=b'1.2.3.4'):
+    return b''.join(element(*it) for it in (
+        (b'\x08\0\x16\0', b'UI', CLASS.encode()), (b'\x08\0\x18\0', b'UI', uid),
+        (b'\x08\0\x60\0', b'CS', modality), (b'\x08\0\x10\x10', b'SH', station)))
+
+
+def routes(certificate, room):
+    """Where an instance goes, by its values and by its file."""
+    meta = element(b'\x02\0\x10\0', b'UI', SYNTAX.encode())
+    front = ['route', SOUND, certificate, 'CT1']
+    rows = (f'cell\t{CLASS}\t{SYNTAX}\tCT\tS1\nrank\t2\nhop\tCT1\tGATE\t1\nhop\tGATE\tARCH\t1\nkeep\tARCH\n').encode()
+    is_answer('a route', run([*front, CLASS, SYNTAX, 'CT', 'S1']), 0, rows, b'')
+    for values in ((CLASS, SYNTAX, 'MR', 'S1'), (CLASS, SYNTAX, 'CT', ''), (CLASS, '1.2.840.10008.1.2', 'CT', 'S1'), ('', SYNTAX, 'CT', 'S1')):
+        is_answer('no flow fits', run([*front, *values]), 1, b'no\tG1 NoLine\n', b'')
+    is_answer('a stranger', run(['route', SOUND, certificate, 'CT9', f'{room}/none']), 1, b'', b'dr_router: NoNode\n')
+    is_answer('another syntax', run([*front, CLASS, '1.2.840.10008.1.2.4.70', 'CT', 'S1']), 1, b'', b'dr_router: F3 OtherSyntax\n')
+    is_answer('another certificate', run(['route', CYCLE, certificate, 'CT1', CLASS, SYNTAX, 'CT', 'S1']), 1, b'', b'dr_router: C2 OtherPlan\n')
+    is_answer('no plan', run(['route', certificate, certificate, 'CT1', 'x']), 1, b'', b'dr_router: L1 NotToml\n')
+    is_answer('no file', run([*front, f'{room}/none']), 3, b'', (b'dr_router: ',))
+    other = element(b'\x02\0\x10\0', b'UI', b'1.2.840.10008.1.2.2')
+    for what, text, status, output, faults in (
+            ('an instance', part10(meta, data_set()), 0, rows, b''),
+            ('another instance', part10(meta, data_set(station=b'S2')), 1, b'no\tG1 NoLine\n', b''),
+            ('no DICOM', data_set(), 1, b'', b'dr_router: F1 NotDicom\n'),
+            ('no syntax', part10(element(b'\x02\0\x03\0', b'UI', SYNTAX.encode()), data_set()), 1, b'', b'dr_router: F2 Meta\n'),
+            ('big endian', part10(other, data_set()), 1, b'', b'dr_router: F3 OtherSyntax\n'),
+            ('a cut data set', part10(meta, data_set()[:-1]), 1, b'', b'dr_router: I1 Data\n'),
+            ('no UID', part10(meta, data_set(uid=b'')), 1, b'', b'dr_router: I2 NoUid\n')):
+        with open(f'{room}/instance', 'wb') as it:
+            it.write(text)
+        is_answer(what, run([*front, f'{room}/instance']), status, output, faults)
+
+
+def pictures(certificate):
+    """The graph and the findings of the sample plan."""
+    graph = run(['graph', SOUND, certificate])
+    is_answer('a graph', graph, 0, (b'digraph network {\n', b'  "CT1" -> "GATE" [label="1"];\n  "GATE" -> "ARCH" [label="1"];\n}\n'), b'')
+    is_answer('nothing looks wrong', run(['lint', SOUND, certificate]), 0, b'', b'')
+    is_answer('another certificate', run(['graph', CYCLE, certificate]), 1, b'', b'dr_router: C2 OtherPlan\n')
+    is_answer('another certificate', run(['lint', CYCLE, certificate]), 1, b'', b'dr_router: C2 OtherPlan\n')
+
+
 def words():
     usage = (b'Usage: dr_router',)
-    for given in (['carry'], ['check', 'a', 'b'], ['check', '--fast'], ['verify'], ['verify', SOUND], ['verify', SOUND, 'a', 'b'], ['simulate', SOUND, 'a'], ['simulate', SOUND, 'a', 'b', 'c'], ['echo', SOUND, 'CT1'], ['-x']):
+    for given in (['carry'], ['check', 'a', 'b'], ['check', '--fast'], ['verify'], ['verify', SOUND], ['verify', SOUND, 'a', 'b'], ['simulate', SOUND, 'a'], ['simulate', SOUND, 'a', 'b', 'c'], ['echo', SOUND, 'CT1'], ['route', SOUND, 'a', 'CT1'], ['route', SOUND, 'a', 'CT1', 'C', 'E'], ['route', SOUND, 'a', 'CT1', 'C', 'E', 'CT'], ['route', SOUND, 'a', 'CT1', 'C', 'E', 'CT', 'S1', 'x'], ['graph', SOUND], ['graph', SOUND, 'a', 'b'], ['lint', SOUND], ['-x']):
         is_answer(f'words {given}', run(given), 2, b'', usage)
     for given in ([b'\xff'], [b'check', b'\xff'], [b'check', SOUND.encode(), b'\x80']):
         is_answer(f'words {given}', run(given), 2, b'', b"dr_router: a word isn't UTF-8\n")
-    is_answer('help', run(['--help']), 0, (b'Usage: dr_router <COMMAND>', b'check', b'verify', b'simulate', b'echo'), b'')
+    is_answer('help', run(['--help']), 0, (b'Usage: dr_router <COMMAND>', b'check', b'verify', b'route', b'graph', b'lint', b'simulate', b'echo'), b'')
     is_answer('help of check', run(['check', '--help']), 0, (b'Usage: dr_router check [PLAN]\n',), b'')
     is_answer('help of verify', run(['verify', '--help']), 0, (b'Usage: dr_router verify <PLAN> <CERT>\n',), b'')
+    is_answer('help of route', run(['route', '--help']), 0, (b'Usage: dr_router route <PLAN> <CERT> <AT> <FILE|CLASS> [SYNTAX] [MODALITY] [STATION]\n',), b'')
+    is_answer('help of graph', run(['graph', '--help']), 0, (b'Usage: dr_router graph <PLAN> <CERT>\n',), b'')
+    is_answer('help of lint', run(['lint', '--help']), 0, (b'Usage: dr_router lint <PLAN> <CERT>\n',), b'')
     is_answer('help of simulate', run(['simulate', '--help']), 0, (b'Usage: dr_router simulate <PLAN> <CERT> <SCRIPT>\n',), b'')
     is_answer('help of echo', run(['echo', '--help']), 0, (b'Usage: dr_router echo <PLAN> <FROM> <TO>\n',), b'')
     is_answer('version', run(['--version']), 0, b'dr_router 0.1.0\n', b'')
@@ -104,6 +162,8 @@ def main():
             it.write(LARGEST['65,536 lines'])
         checks(f'{room}/certificate')
         verdicts(f'{room}/certificate')
+        routes(f'{room}/certificate', room)
+        pictures(f'{room}/certificate')
         words()
         failures(room, large)
     print('program.py: the program ends as it should')

@@ -1,8 +1,9 @@
-//! The program for plans alone: `check` and `verify` of `dr_commands`, on the system's words, files, input and outputs. It stands on no
-//! node, link or ledger, so it is built in a few minutes.
+//! The program for plans alone: `run_words` of `dr_questions`, on the system's words, files, input and outputs. It has `check`, `verify`, `route`,
+//! `graph` and `lint`, and stands on no node and no link, so it is built in a few minutes.
 #![tactic(auto)]
 
-use dr_commands::{Disk, Status, given_words, run_words, tell_unread_words};
+use dr_commands::{Disk, Status, given_words, tell_unread_words};
+use dr_questions::run_words;
 use std::io;
 use std::process::ExitCode;
 

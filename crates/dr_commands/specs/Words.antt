@@ -1,6 +1,9 @@
 -- The words of the command line.
 use Rattle.std.specs.Prelude.{◌≡◌, ◌≢◌, ℕ, List, [], ◌∷◌, ◌++◌, ◌⊎◌, codes}
 use Rattle.std.specs.Borrow.{Bor}
+use Rattle.dr_commands.specs.declared.words.KeyWords.{KeyWords}
+use Rattle.dr_commands.specs.declared.words.Question.{Question}
+use Rattle.dr_commands.specs.declared.words.Question.TheVariants.{RouteOfKey, RouteOfFile, Graph, Lint}
 
 -- none, or the one word check: they ask for a check of the plan on the standard input
 abbrev pub IsPlainCheck : List (Bor (List ℕ)) → Type 0
@@ -30,3 +33,33 @@ abbrev pub IsEchoOf : List (Bor (List ℕ)) → Bor (List ℕ) → Bor (List ℕ
 IsEchoOf words plan caller called =
     (word : Bor (List ℕ)) × (words ≡ word ∷ plan ∷ caller ∷ called ∷ []) × (word.now ≡ codes "echo")
     × IsNoOption plan.now × IsNoOption caller.now × IsNoOption called.now
+
+-- the word graph and two files' paths: they ask for the graph of the plan in the first, whose certificate is in the second
+abbrev pub IsGraphOf : List (Bor (List ℕ)) → Bor (List ℕ) → Bor (List ℕ) → Type 0
+IsGraphOf words plan certificate =
+    (word : Bor (List ℕ)) × (words ≡ word ∷ plan ∷ certificate ∷ []) × (word.now ≡ codes "graph") × IsNoOption plan.now × IsNoOption certificate.now
+
+-- the word lint and two files' paths: they ask for what looks wrong in the plan in the first, whose certificate is in the second
+abbrev pub IsLintOf : List (Bor (List ℕ)) → Bor (List ℕ) → Bor (List ℕ) → Type 0
+IsLintOf words plan certificate =
+    (word : Bor (List ℕ)) × (words ≡ word ∷ plan ∷ certificate ∷ []) × (word.now ≡ codes "lint") × IsNoOption plan.now × IsNoOption certificate.now
+
+-- the word route, two files' paths, a name and a file's path: they ask where the instance in that file goes that enters at the node of that name
+abbrev pub IsFileRouteOf : List (Bor (List ℕ)) → Bor (List ℕ) → Bor (List ℕ) → Bor (List ℕ) → Bor (List ℕ) → Type 0
+IsFileRouteOf words plan certificate at path =
+    (word : Bor (List ℕ)) × (words ≡ word ∷ plan ∷ certificate ∷ at ∷ path ∷ []) × (word.now ≡ codes "route")
+    × IsNoOption plan.now × IsNoOption certificate.now × IsNoOption at.now × IsNoOption path.now
+
+-- the word route, two files' paths, a name and four values: they ask where an instance with these values goes that enters at the node of that name
+abbrev pub IsKeyRouteOf : List (Bor (List ℕ)) → Bor (List ℕ) → Bor (List ℕ) → Bor (List ℕ) → KeyWords → Type 0
+IsKeyRouteOf words plan certificate at key =
+    (word : Bor (List ℕ)) × (words ≡ word ∷ plan ∷ certificate ∷ at ∷ key.class ∷ key.syntax ∷ key.modality ∷ key.station ∷ []) × (word.now ≡ codes "route")
+    × IsNoOption plan.now × IsNoOption certificate.now × IsNoOption at.now
+    × IsNoOption key.class.now × IsNoOption key.syntax.now × IsNoOption key.modality.now × IsNoOption key.station.now
+
+-- the words ask this question about the plan in the first file, whose certificate is in the second
+abbrev pub IsQuestionOf : List (Bor (List ℕ)) → Bor (List ℕ) → Bor (List ℕ) → Question → Type 0
+IsQuestionOf words plan certificate (RouteOfKey at key) = IsKeyRouteOf words plan certificate at key
+IsQuestionOf words plan certificate (RouteOfFile at path) = IsFileRouteOf words plan certificate at path
+IsQuestionOf words plan certificate Graph = IsGraphOf words plan certificate
+IsQuestionOf words plan certificate Lint = IsLintOf words plan certificate

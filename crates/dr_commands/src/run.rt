@@ -262,7 +262,9 @@ pub fn run_asked<'a, R: Read, W: Write, E: Write, F: Files>(
         Asked::Verify(plan, certificate) => {
             verify_files(alloc, files, plan, certificate, output, faults)
         }
-        Asked::Simulate(_, _, _) | Asked::Echo(_, _, _) => Ok(tell_other_word(faults)?),
+        Asked::Simulate(_, _, _) | Asked::Echo(_, _, _) | Asked::Question(_, _, _) => {
+            Ok(tell_other_word(faults)?)
+        }
         Asked::Told(error) => Ok(tell_words(&error, output, faults)?),
     }
 }

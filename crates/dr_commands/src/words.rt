@@ -1,12 +1,38 @@
 //! What the words of the command line ask for.
 ghost use Rattle.std.specs.Prelude.{◌≡◌, ◌↔◌, ℕ, List, Some, IfOk, IsTrue};
 ghost use Rattle.std.specs.Borrow.{Bor};
-ghost use Rattle.dr_commands.specs.Words.{IsPlainCheck, IsCheckOf, IsVerifyOf, IsSimulateOf, IsEchoOf, IsNoOption};
+ghost use Rattle.dr_commands.specs.Words.{IsPlainCheck, IsCheckOf, IsVerifyOf, IsSimulateOf, IsEchoOf, IsNoOption, IsGraphOf, IsLintOf, IsFileRouteOf, IsKeyRouteOf, IsQuestionOf};
 ghost use Rattle.dr_commands.specs.declared.words.Asked.{Asked as AskedValue};
 ghost use Rattle.dr_commands.specs.declared.words.Asked.TheVariants as asks;
+ghost use Rattle.dr_commands.specs.declared.words.KeyWords.{KeyWords as KeyWordsValue};
+ghost use Rattle.dr_commands.specs.declared.words.Question.{Question as QuestionValue};
+ghost use Rattle.dr_commands.specs.declared.words.Question.TheVariants as questions;
 
-use clap::{Arg, ArgAction, Command, Error};
+use clap::{Arg, ArgAction, ArgMatches, Command, Error};
 use std::alloc::{AllocError, Global};
+
+/// The four values of an instance by which it is routed, as words: the SOP class UID, the UID of the transfer syntax, the
+/// modality and the station name.
+#[derive(Clone, Copy, Drop)]
+pub struct KeyWords<'a> {
+    pub class: &'a str,
+    pub syntax: &'a str,
+    pub modality: &'a str,
+    pub station: &'a str,
+}
+
+/// What may be asked of a plan with its certificate.
+#[derive(Clone, Copy, Drop)]
+pub enum Question<'a> {
+    /// Where an instance with these values goes that enters at the node of that name.
+    RouteOfKey(&'a str, KeyWords<'a>),
+    /// Where the instance in a Part 10 file goes that enters at the node of that name.
+    RouteOfFile(&'a str, &'a str),
+    /// How the network looks.
+    Graph,
+    /// What is sound and still looks wrong.
+    Lint,
+}
 
 /// What the words ask for.
 #[derive(Drop)]
@@ -21,6 +47,8 @@ pub enum Asked<'a> {
     Simulate(&'a str, &'a str, &'a str),
     /// To ask for an echo, from the node of the first name to that of the second, of the plan in the file.
     Echo(&'a str, &'a str, &'a str),
+    /// To answer a question about the plan in the first file, whose certificate is in the second.
+    Question(&'a str, &'a str, Question<'a>),
     /// Help, or nothing that the program knows.
     Told(Error),
 }
@@ -35,6 +63,59 @@ fn is_no_option(word: &str) -> bool
     *first != b'-'
 }
 
+/// What plain words ask about a plan and its certificate: those of a known form, without options.
+fn read_question<'a>(words: &'a [&'a str]) -> Option<Asked<'a>>
+    ensures graph { (plan certificate : Bor (List ℕ)) → IsGraphOf words.now plan certificate → result ≡ Some (asks.Question plan certificate questions.Graph) }
+    ensures lint { (plan certificate : Bor (List ℕ)) → IsLintOf words.now plan certificate → result ≡ Some (asks.Question plan certificate questions.Lint) }
+    ensures route_of_file { (plan certificate at path : Bor (List ℕ)) → IsFileRouteOf words.now plan certificate at path → result ≡ Some (asks.Question plan certificate (questions.RouteOfFile at path)) }
+    ensures route_of_key { (plan certificate at : Bor (List ℕ)) (key : KeyWordsValue) → IsKeyRouteOf words.now plan certificate at key → result ≡ Some (asks.Question plan certificate (questions.RouteOfKey at key)) }
+{
+    match words {
+        [word, plan, certificate]
+            if *word == "graph" && is_no_option(plan) && is_no_option(certificate) => {
+            Some(Asked::Question(plan, certificate, Question::Graph))
+        }
+        [word, plan, certificate]
+            if *word == "lint" && is_no_option(plan) && is_no_option(certificate) => {
+            Some(Asked::Question(plan, certificate, Question::Lint))
+        }
+        [word, plan, certificate, at, path]
+            if *word == "route"
+                && is_no_option(plan)
+                && is_no_option(certificate)
+                && is_no_option(at)
+                && is_no_option(path) => {
+            Some(Asked::Question(plan, certificate, Question::RouteOfFile(at, path)))
+        }
+        [
+            word,
+            plan,
+            certificate,
+            at,
+            class,
+            syntax,
+            modality,
+            station,
+        ] if *word == "route"
+            && is_no_option(plan)
+            && is_no_option(certificate)
+            && is_no_option(at)
+            && is_no_option(class)
+            && is_no_option(syntax)
+            && is_no_option(modality)
+            && is_no_option(station) => {
+            let key = KeyWords {
+                class,
+                syntax,
+                modality,
+                station,
+            };
+            Some(Asked::Question(plan, certificate, Question::RouteOfKey(at, key)))
+        }
+        _ => None,
+    }
+}
+
 /// What plain words ask for: those of a known form, without options.
 fn read_plain<'a>(words: &'a [&'a str]) -> Option<Asked<'a>>
     ensures input { IsPlainCheck words.now → result ≡ Some asks.CheckInput }
@@ -42,6 +123,10 @@ fn read_plain<'a>(words: &'a [&'a str]) -> Option<Asked<'a>>
     ensures verify { (plan certificate : Bor (List ℕ)) → IsVerifyOf words.now plan certificate → result ≡ Some (asks.Verify plan certificate) }
     ensures simulate { (plan certificate script : Bor (List ℕ)) → IsSimulateOf words.now plan certificate script → result ≡ Some (asks.Simulate plan certificate script) }
     ensures echo { (plan caller called : Bor (List ℕ)) → IsEchoOf words.now plan caller called → result ≡ Some (asks.Echo plan caller called) }
+    ensures graph { (plan certificate : Bor (List ℕ)) → IsGraphOf words.now plan certificate → result ≡ Some (asks.Question plan certificate questions.Graph) }
+    ensures lint { (plan certificate : Bor (List ℕ)) → IsLintOf words.now plan certificate → result ≡ Some (asks.Question plan certificate questions.Lint) }
+    ensures route_of_file { (plan certificate at path : Bor (List ℕ)) → IsFileRouteOf words.now plan certificate at path → result ≡ Some (asks.Question plan certificate (questions.RouteOfFile at path)) }
+    ensures route_of_key { (plan certificate at : Bor (List ℕ)) (key : KeyWordsValue) → IsKeyRouteOf words.now plan certificate at key → result ≡ Some (asks.Question plan certificate (questions.RouteOfKey at key)) }
 {
     match words {
         [] => Some(Asked::CheckInput),
@@ -61,7 +146,7 @@ fn read_plain<'a>(words: &'a [&'a str]) -> Option<Asked<'a>>
                 && is_no_option(plan)
                 && is_no_option(caller)
                 && is_no_option(called) => { Some(Asked::Echo(plan, caller, called)) }
-        _ => None,
+        _ => read_question(words),
     }
 }
 
@@ -111,6 +196,57 @@ fn echo_command<'a>(alloc: Global) -> Result<Command<'a>, AllocError> {
         .arg(named(alloc, "TO", "the node that is asked"))
 }
 
+/// A value that may be left out where a file is named.
+fn value_behind<'a>(alloc: Global, name: &'a str, help: &'a str) -> Arg<'a> {
+    Arg::new(alloc, name).action(ArgAction::Set).help(help)
+}
+
+/// The word `route`.
+fn route_command<'a>(alloc: Global) -> Result<Command<'a>, AllocError> {
+    let syntax = value_behind(alloc, "SYNTAX", "the UID of its transfer syntax").requires_arg(
+        "STATION",
+    )?;
+    Command::new(alloc, "route")
+        .about(
+            "Prints where an instance goes that enters at a node: its hops, and the nodes that keep it",
+        )
+        .arg(named(alloc, "PLAN", "the file with the plan"))?
+        .arg(named(alloc, "CERT", "the file with the plan's certificate"))?
+        .arg(named(alloc, "AT", "the node at which it enters"))?
+        .arg(named(
+            alloc,
+            "FILE|CLASS",
+            "a Part 10 file, or the SOP class UID of an instance",
+        ))?
+        .arg(syntax)?
+        .arg(value_behind(
+            alloc,
+            "MODALITY",
+            "its modality; an empty word is the empty value",
+        ))?
+        .arg(value_behind(
+            alloc,
+            "STATION",
+            "its station name; an empty word is the empty value",
+        ))
+}
+
+/// The word `graph`.
+fn graph_command<'a>(alloc: Global) -> Result<Command<'a>, AllocError> {
+    Command::new(alloc, "graph")
+        .about("Prints the network of a plan as a graph for Graphviz")
+        .arg(named(alloc, "PLAN", "the file with the plan"))?
+        .arg(named(alloc, "CERT", "the file with the plan's certificate"))
+}
+
+/// The word `lint`.
+fn lint_command<'a>(alloc: Global) -> Result<Command<'a>, AllocError> {
+    Command::new(alloc, "lint")
+        .about("Prints what is sound in a plan and still looks wrong")
+        .arg(named(alloc, "PLAN", "the file with the plan"))?
+        .arg(named(alloc, "CERT", "the file with the plan's certificate"))
+}
+
 /// The command line of the program.
 fn command<'a>(alloc: Global) -> Result<Command<'a>, AllocError> {
     Command::new(alloc, "dr_router")
@@ -121,8 +257,37 @@ fn command<'a>(alloc: Global) -> Result<Command<'a>, AllocError> {
         .subcommand_required(true)
         .subcommand(check_command(alloc)?)?
         .subcommand(verify_command(alloc)?)?
+        .subcommand(route_command(alloc)?)?
+        .subcommand(graph_command(alloc)?)?
+        .subcommand(lint_command(alloc)?)?
         .subcommand(simulate_command(alloc)?)?
         .subcommand(echo_command(alloc)?)
+}
+
+/// Where what is to go, as clap has read it: an instance with four values, or the one in a file.
+fn route_of<'a>(given: &ArgMatches<'a>) -> Question<'a> {
+    let at = given.get_str("AT").unwrap_or("");
+    let first = given.get_str("FILE|CLASS").unwrap_or("");
+    let Some(syntax) = given.get_str("SYNTAX") else {
+        return Question::RouteOfFile(at, first);
+    };
+    let key = KeyWords {
+        class: first,
+        syntax,
+        modality: given.get_str("MODALITY").unwrap_or(""),
+        station: given.get_str("STATION").unwrap_or(""),
+    };
+    Question::RouteOfKey(at, key)
+}
+
+/// The question that a word asks about a plan and its certificate, if it asks one.
+fn question_of<'a>(name: &str, given: &ArgMatches<'a>) -> Option<Question<'a>> {
+    match name {
+        "route" => Some(route_of(given)),
+        "graph" => Some(Question::Graph),
+        "lint" => Some(Question::Lint),
+        _ => None,
+    }
 }
 
 /// What clap makes of the words: options, help, and what the program doesn't know.
@@ -149,6 +314,9 @@ fn read_others<'a>(alloc: Global, words: &'a [&'a str]) -> Result<Asked<'a>, All
     if name == "verify" {
         return Ok(Asked::Verify(plan, certificate));
     }
+    if let Some(question) = question_of(name, given) {
+        return Ok(Asked::Question(plan, certificate, question));
+    }
     let script = given.get_str("SCRIPT").unwrap_or("");
     Ok(Asked::Simulate(plan, certificate, script))
 }
@@ -160,6 +328,7 @@ pub fn read_words<'a>(alloc: Global, words: &'a [&'a str]) -> Result<Asked<'a>, 
     ensures verify { IfOk result (λ a. (plan certificate : Bor (List ℕ)) → IsVerifyOf words.now plan certificate → a ≡ asks.Verify plan certificate) }
     ensures simulate { IfOk result (λ a. (plan certificate script : Bor (List ℕ)) → IsSimulateOf words.now plan certificate script → a ≡ asks.Simulate plan certificate script) }
     ensures echo { IfOk result (λ a. (plan caller called : Bor (List ℕ)) → IsEchoOf words.now plan caller called → a ≡ asks.Echo plan caller called) }
+    ensures question { IfOk result (λ a. (plan certificate : Bor (List ℕ)) (question : QuestionValue) → IsQuestionOf words.now plan certificate question → a ≡ asks.Question plan certificate question) }
 {
     if let Some(asked) = read_plain(words) {
         return Ok(asked);

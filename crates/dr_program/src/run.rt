@@ -3,10 +3,12 @@ ghost use Rattle.std.specs.Prelude.{◌≡◌, ◌≢◌, ◌⊎◌, ℕ, List, 
 ghost use Rattle.std.specs.Borrow.{Bor};
 ghost use Rattle.dr_base.specs.Texts.{Text};
 ghost use Rattle.dr_commands.specs.Runs.{Answers, Verifies};
-ghost use Rattle.dr_commands.specs.Words.{IsPlainCheck, IsCheckOf, IsVerifyOf, IsSimulateOf, IsEchoOf};
+ghost use Rattle.dr_commands.specs.Words.{IsPlainCheck, IsCheckOf, IsVerifyOf, IsQuestionOf, IsSimulateOf, IsEchoOf};
 ghost use Rattle.dr_commands.specs.declared.status.Status.TheVariants.{Success, Refused, Usage};
 ghost use Rattle.dr_commands.specs.declared.words.Asked.TheVariants as asks;
+ghost use Rattle.dr_commands.specs.declared.words.Question.{Question as QuestionValue};
 ghost use Rattle.dr_echo.specs.Runs.{Echoes};
+ghost use Rattle.dr_questions.specs.Runs.{Asks};
 ghost use Rattle.dr_simulate.specs.Runs.{Simulates};
 
 use dr_commands::{Asked, Failure, Files, Status, read_words, tell_failure};
@@ -37,6 +39,8 @@ fn run_any<'a, R: Read, W: Write, E: Write, F: Files, N: Network, C: Clock>(
         → IfOk result (λ status. (text : Text) × F.holds files.now plan.now text × Answers text (W.contents output.old) (W.contents output.new) status) }
     ensures verified { (plan certificate : Bor (List ℕ)) → asked.entry ≡ asks.Verify plan certificate
         → IfOk result (λ status. (text : Text) × F.holds files.now plan.now text × Verifies (F.holds files.now certificate.now) text (W.contents output.old) (W.contents output.new) status) }
+    ensures responded { (plan certificate : Bor (List ℕ)) (question : QuestionValue) → asked.entry ≡ asks.Question plan certificate question
+        → IfOk result (Asks (F.holds files.now) plan certificate question (W.contents output.old) (W.contents output.new)) }
     ensures simulated { (plan certificate script : Bor (List ℕ)) → asked.entry ≡ asks.Simulate plan certificate script
         → IfOk result (λ status. (text : Text) × F.holds files.now plan.now text × Simulates (F.holds files.now certificate.now) (F.holds files.now script.now) text (W.contents output.old) (W.contents output.new) status) }
     ensures echoed { (plan caller called : Bor (List ℕ)) → asked.entry ≡ asks.Echo plan caller called
@@ -71,6 +75,8 @@ pub fn run_words<R: Read, W: Write, E: Write, F: Files, N: Network, C: Clock>(
         → (text : Text) × F.holds files.now plan.now text × Answers text (W.contents output.old) (W.contents output.new) result }
     ensures verified { (plan certificate : Bor (List ℕ)) → IsVerifyOf words.now plan certificate → (result ≡ Success) ⊎ (result ≡ Refused)
         → (text : Text) × F.holds files.now plan.now text × Verifies (F.holds files.now certificate.now) text (W.contents output.old) (W.contents output.new) result }
+    ensures responded { (plan certificate : Bor (List ℕ)) (question : QuestionValue) → IsQuestionOf words.now plan certificate question → (result ≡ Success) ⊎ (result ≡ Refused)
+        → Asks (F.holds files.now) plan certificate question (W.contents output.old) (W.contents output.new) result }
     ensures simulated { (plan certificate script : Bor (List ℕ)) → IsSimulateOf words.now plan certificate script → (result ≡ Success) ⊎ (result ≡ Refused)
         → (text : Text) × F.holds files.now plan.now text × Simulates (F.holds files.now certificate.now) (F.holds files.now script.now) text (W.contents output.old) (W.contents output.new) result }
     ensures echoed { (plan caller called : Bor (List ℕ)) → IsEchoOf words.now plan caller called → (result ≡ Success) ⊎ (result ≡ Refused)

@@ -5,10 +5,13 @@ ghost use Rattle.dr_base.specs.Texts.{Text};
 ghost use Rattle.dr_commands.specs.Runs.{Answers, Verifies};
 ghost use Rattle.dr_commands.specs.declared.status.Status.TheVariants.{Usage};
 ghost use Rattle.dr_commands.specs.declared.words.Asked.TheVariants as asks;
+ghost use Rattle.dr_commands.specs.declared.words.Question.{Question as QuestionValue};
+ghost use Rattle.dr_questions.specs.Runs.{Asks};
 ghost use Rattle.dr_simulate.specs.Runs.{Simulates};
 
 use crate::simulate::simulate_files;
-use dr_commands::{Asked, Failure, Files, Status, run_asked};
+use dr_commands::{Asked, Failure, Files, Status};
+use dr_questions::run_asked;
 use std::alloc::Global;
 use std::io::{Read, Write};
 
@@ -29,6 +32,8 @@ pub fn run_offline<'a, R: Read, W: Write, E: Write, F: Files>(
         → IfOk result (λ status. (text : Text) × F.holds files.now plan.now text × Answers text (W.contents output.old) (W.contents output.new) status) }
     ensures verified { (plan certificate : Bor (List ℕ)) → asked.entry ≡ asks.Verify plan certificate
         → IfOk result (λ status. (text : Text) × F.holds files.now plan.now text × Verifies (F.holds files.now certificate.now) text (W.contents output.old) (W.contents output.new) status) }
+    ensures responded { (plan certificate : Bor (List ℕ)) (question : QuestionValue) → asked.entry ≡ asks.Question plan certificate question
+        → IfOk result (Asks (F.holds files.now) plan certificate question (W.contents output.old) (W.contents output.new)) }
     ensures simulated { (plan certificate script : Bor (List ℕ)) → asked.entry ≡ asks.Simulate plan certificate script
         → IfOk result (λ status. (text : Text) × F.holds files.now plan.now text × Simulates (F.holds files.now certificate.now) (F.holds files.now script.now) text (W.contents output.old) (W.contents output.new) status) }
 {

@@ -1,8 +1,13 @@
-use Rattle.std.proofs.Common.{◌≡◌, ap, Option}
+use Rattle.std.proofs.Common.{◌≡◌, ℕ, List, ap, Option, Some}
+use Rattle.std.specs.Borrow.{Bor}
 use Rattle.std.specs.Prelude.{unwrap_or}
 use Rattle.std.proofs.lemmas.Option.{none-some}
 use Rattle.dr_commands.specs.declared.words.Asked.{Asked}
 use Rattle.dr_commands.specs.declared.words.Asked.TheVariants as asks
+use Rattle.dr_commands.specs.declared.words.KeyWords.{KeyWords}
+use Rattle.dr_commands.specs.declared.words.Question.{Question}
+use Rattle.dr_commands.specs.declared.words.Question.TheVariants as questions
+use Rattle.dr_commands.specs.Words.{IsGraphOf, IsLintOf, IsFileRouteOf, IsKeyRouteOf, IsQuestionOf}
 use Rattle.dr_commands.proofs.words.read_words.Goals as goal
 
 -- what an answer has
@@ -32,3 +37,23 @@ returns-in-Some-clause-echo c = λ plan caller called h. ap what (c.in-Some.ensu
 
 pub returns-clause-echo : goal.returns-clause-echo
 returns-clause-echo c = λ plan caller called h. absurd (none-some (asks.Echo plan caller called) (c.in_default.ensures.echo plan caller called h))
+
+-- an answer is right for each question, where it is for each kind of them
+module _ (words : List (Bor (List ℕ))) (found : Option Asked)
+    (graph : (plan certificate : Bor (List ℕ)) → IsGraphOf words plan certificate → found ≡ Some (asks.Question plan certificate questions.Graph))
+    (lint : (plan certificate : Bor (List ℕ)) → IsLintOf words plan certificate → found ≡ Some (asks.Question plan certificate questions.Lint))
+    (file : (plan certificate at path : Bor (List ℕ)) → IsFileRouteOf words plan certificate at path → found ≡ Some (asks.Question plan certificate (questions.RouteOfFile at path)))
+    (key : (plan certificate at : Bor (List ℕ)) (values : KeyWords) → IsKeyRouteOf words plan certificate at values → found ≡ Some (asks.Question plan certificate (questions.RouteOfKey at values))) where
+  of_question : (plan certificate : Bor (List ℕ)) (question : Question) → IsQuestionOf words plan certificate question → found ≡ Some (asks.Question plan certificate question)
+  of_question plan certificate (questions.RouteOfKey at values) h = key plan certificate at values h
+  of_question plan certificate (questions.RouteOfFile at path) h = file plan certificate at path h
+  of_question plan certificate questions.Graph h = graph plan certificate h
+  of_question plan certificate questions.Lint h = lint plan certificate h
+
+pub returns-in-Some-clause-question : goal.returns-in-Some-clause-question
+returns-in-Some-clause-question c = λ plan certificate question h.
+    ap what (of_question _ _ c.in-Some.ensures.graph c.in-Some.ensures.lint c.in-Some.ensures.route_of_file c.in-Some.ensures.route_of_key plan certificate question h)
+
+pub returns-clause-question : goal.returns-clause-question
+returns-clause-question c = λ plan certificate question h. absurd (none-some (asks.Question plan certificate question)
+    (of_question _ _ c.in_default.ensures.graph c.in_default.ensures.lint c.in_default.ensures.route_of_file c.in_default.ensures.route_of_key plan certificate question h))

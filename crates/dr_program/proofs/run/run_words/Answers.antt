@@ -14,3 +14,7 @@ returns-in-Ok-run_any-clause-simulated g c = λ plan certificate script asks end
 pub returns-in-Ok-run_any-clause-echoed : goal.returns-in-Ok-run_any-clause-echoed
 returns-in-Ok-run_any-clause-echoed g c = λ plan caller called asks ends.
     c.in-Ok-run_any.ensures.echoed plan caller called (c.in-Ok.ensures.echo plan caller called asks)
+
+pub returns-in-Ok-run_any-clause-responded : goal.returns-in-Ok-run_any-clause-responded
+returns-in-Ok-run_any-clause-responded g c = λ plan certificate question asks ends.
+    c.in-Ok-run_any.ensures.responded plan certificate question (c.in-Ok.ensures.question plan certificate question asks)
