@@ -1,0 +1,315 @@
+//! A node that serves associations and sends what is due.
+ghost use Rattle.std.specs.Prelude.{◌≡◌, IfOk};
+ghost use Rattle.dr_desk.specs.Growing.{BeginWith};
+ghost use Rattle.dr_ledger.specs.Histories.{IsJournalled};
+ghost use Rattle.dr_ledger.specs.SiteRoutes.{site_routing};
+
+use crate::rounds::send_all;
+use crate::signal::{Bell, Signal};
+use crossbeam_channel::{Receiver, Sender, bounded};
+use dr_desk::{CloseFault, Desk, Pass, SharedDesk, Sharing};
+use dr_ledger::{Ledger, LedgerFault};
+use dr_listing::Hop;
+use dr_session::{Clock, Link};
+use dr_site::Site;
+use dr_sockets::{Listening, Network};
+use dr_workers::{Connection, WorkersFault, workers};
+use std::alloc::{AllocError, AllocFailed, Global};
+use std::marker::Brand;
+use std::sync::Wait;
+use std::sync::ledger::Blank;
+use std::thread::Threads;
+use std::time::Duration;
+use std::{thread, time};
+use thiserror::Error;
+
+/// How many threads serve associations.
+const WORKERS: usize = 4;
+
+/// How many connections wait for one of them; others wait to be accepted.
+const QUEUE: usize = 256;
+
+/// After an accept that failed (no descriptor is free, say) it is tried again so many milliseconds later.
+const AGAIN: u64 = 100;
+
+/// Why serving ended otherwise than well.
+#[derive(Clone, Copy, PartialEq, Eq, Debug, Error)]
+pub enum ServeFault {
+    /// A receipt doesn't agree with the journal.
+    #[error("J1 Receipt")]
+    Receipt,
+    #[error("G3 Store")]
+    Store,
+    #[error("Memory")]
+    Memory,
+}
+
+impl From<AllocError> for ServeFault {
+    fn from(_: AllocError) -> ServeFault {
+        ServeFault::Memory
+    }
+}
+
+impl<T: Drop> From<AllocFailed<T>> for ServeFault {
+    fn from(_: AllocFailed<T>) -> ServeFault {
+        ServeFault::Memory
+    }
+}
+
+/// The clock of all connections.
+#[derive(Drop)]
+pub struct ClockOf<'a, C: Clock>(pub &'a C);
+
+impl<'a, C: Clock> Clock for ClockOf<'a, C> {
+    ghost tells = { λ s now. C.tells s.0.now now };
+
+    fn now(&self) -> u64 {
+        self.0.now()
+    }
+}
+
+/// Accepts so many connections, or, for 0, each that comes, and hands them to the workers.
+fn accept_links<'a, R: Wait + time::Clock, K: Link + Drop, D: Listening<Socket = K>, C: Clock>(
+    rt: &R,
+    listener: &D,
+    to: Sender<Connection<K, ClockOf<'a, C>>>,
+    links: u64,
+    clock: &'a C,
+) {
+    let mut count = 0u64;
+    for _ in rt.forever() {
+        if links != 0 && count >= links {
+            return;
+        }
+        let Ok(link) = listener.accept() else {
+            thread::sleep(rt, Duration::from_millis(AGAIN));
+            continue;
+        };
+        count = count.saturating_add(1);
+        let connection = Connection {
+            session: count,
+            link,
+            clock: ClockOf(clock),
+        };
+        if to.send(rt, connection).is_err() {
+            return;
+        }
+    }
+}
+
+/// Works until the channel is closed and empty. Where the workers can't begin, nobody receives any more.
+fn work<
+    R: Threads + Wait + Sync,
+    L: Ledger + Drop + Send,
+    B: Sharing + Send + Sync,
+    K: Link + Drop + Send,
+    C: Clock + Drop + Send,
+>(
+    rt: &R,
+    alloc: Global,
+    from: Receiver<Connection<K, C>>,
+    desk: &SharedDesk<L, B>,
+    signal: &Signal,
+) -> Result<Vec<Pass<B>>, WorkersFault> {
+    let bell = Bell { rt, signal };
+    let passes = workers(rt, alloc, WORKERS, &from, desk, &bell);
+    drop(from);
+    signal.end(rt);
+    passes
+}
+
+/// Accepts and serves connections, and tells the signal when there is nothing left to serve.
+fn serve_links<
+    R: Threads + Wait + Sync + time::Clock,
+    L: Ledger + Drop + Send,
+    B: Sharing + Send + Sync,
+    K: Link + Drop + Send,
+    D: Listening<Socket = K> + Sync,
+    C: Clock + Sync,
+>(
+    rt: &R,
+    alloc: Global,
+    desk: &SharedDesk<L, B>,
+    listener: &D,
+    links: u64,
+    signal: &Signal,
+    clock: &C,
+) -> Result<Vec<Pass<B>>, WorkersFault> {
+    let (to, from) = bounded(alloc, QUEUE)?;
+    let (passes, ()) = thread::join(
+        rt,
+        || work(rt, alloc, from, desk, signal),
+        || accept_links(rt, listener, to, links, clock),
+    );
+    passes
+}
+
+/// Serves and sends, side by side; the passes of those who serve, and that of the one who sends.
+fn serve_all<
+    R: Threads + Wait + Sync + time::Clock,
+    L: Ledger + Drop + Send,
+    B: Sharing + Send + Sync,
+    K: Link + Drop + Send,
+    D: Listening<Socket = K> + Sync,
+    N: Network + Sync,
+    C: Clock + Sync,
+>(
+    rt: &R,
+    alloc: Global,
+    desk: &SharedDesk<L, B>,
+    own: Pass<B>,
+    hops: Vec<Hop>,
+    listener: &D,
+    links: u64,
+    signal: &Signal,
+    network: &N,
+    clock: &C,
+) -> (Result<Vec<Pass<B>>, WorkersFault>, Pass<B>) {
+    thread::join(
+        rt,
+        || serve_links(rt, alloc, desk, listener, links, signal, clock),
+        || send_all(rt, alloc, desk, own, hops, signal, network, clock),
+    )
+}
+
+/// Serves and sends on a shared desk, and ends the sharing.
+fn serve_shared<
+    R: Threads + Wait + Sync + time::Clock,
+    L: Ledger + Drop + Send,
+    B: Sharing + Send + Sync,
+    K: Link + Drop + Send,
+    D: Listening<Socket = K> + Sync,
+    N: Network + Sync,
+    C: Clock + Sync,
+>(
+    rt: &R,
+    alloc: Global,
+    desk: SharedDesk<L, B>,
+    hops: Vec<Hop>,
+    listener: &D,
+    links: u64,
+    network: &N,
+    clock: &C,
+) -> Result<L, ServeFault>
+    requires { B.all ≡ B.parts }
+    ensures begins { IfOk result (λ l. L.stands l → BeginWith B.first (L.book l).lines) }
+    ensures history { IfOk result (λ l. L.stands l → ∥ IsJournalled (site_routing B.site) (L.book l) ∥₁) }
+    ensures of { IfOk result (λ l. L.site l ≡ B.site) }
+{
+    let Ok(own) = desk.pass(rt, alloc) else {
+        return Err(ServeFault::Memory);
+    };
+    let signal = Signal::new();
+    let (passes, own) = serve_all(
+        rt, alloc, &desk, own, hops, listener, links, &signal, network, clock,
+    );
+    let Ok(mut passes) = passes else {
+        return Err(ServeFault::Memory);
+    };
+    passes.push(own)?;
+    closed(alloc, desk, passes)
+}
+
+/// The desk is no longer shared.
+fn closed<L: Ledger + Drop, B: Sharing>(
+    alloc: Global,
+    desk: SharedDesk<L, B>,
+    passes: Vec<Pass<B>>,
+) -> Result<L, ServeFault>
+    requires { B.all ≡ B.parts }
+    ensures begins { IfOk result (λ l. L.stands l → BeginWith B.first (L.book l).lines) }
+    ensures history { IfOk result (λ l. L.stands l → ∥ IsJournalled (site_routing B.site) (L.book l) ∥₁) }
+    ensures of { IfOk result (λ l. L.site l ≡ B.site) }
+{
+    match desk.close(alloc, passes) {
+        Ok(closed) => Ok(closed.desk.into_ledger()),
+        Err(open) => Err(fault_of(open.fault)),
+    }
+}
+
+/// Why a sharing didn't end.
+fn fault_of(fault: CloseFault) -> ServeFault {
+    match fault {
+        CloseFault::Receipt(_) => ServeFault::Receipt,
+        CloseFault::Store => ServeFault::Store,
+        CloseFault::Memory => ServeFault::Memory,
+    }
+}
+
+/// Shares a ledger's desk, and serves and sends on it.
+fn share<
+    R: Threads + Wait + Sync + time::Clock,
+    L: Ledger + Drop + Send,
+    B: Sharing + Send + Sync,
+    K: Link + Drop + Send,
+    D: Listening<Socket = K> + Sync,
+    N: Network + Sync,
+    C: Clock + Sync,
+>(
+    rt: &R,
+    alloc: Global,
+    ledger: L,
+    site: Site,
+    blank: Blank,
+    hops: Vec<Hop>,
+    listener: &D,
+    links: u64,
+    network: &N,
+    clock: &C,
+) -> Result<L, ServeFault>
+    requires blank { (blank.name ≡ B.name) × (blank.parts ≡ B.parts) × (B.all ≡ B.parts) × (B.all ≡ 65536) }
+    requires first { B.first ≡ (L.book ledger).lines }
+    requires site { (L.site ledger ≡ site) × (B.site ≡ site) }
+    ensures begins { IfOk result (λ l. L.stands l → BeginWith B.first (L.book l).lines) }
+    ensures history { IfOk result (λ l. L.stands l → ∥ IsJournalled (site_routing B.site) (L.book l) ∥₁) }
+    ensures of { IfOk result (λ l. L.site l ≡ B.site) }
+{
+    let desk: SharedDesk<L, B> = match SharedDesk::new(Desk::new(ledger), site, blank) {
+        Ok(desk) => desk,
+        Err((LedgerFault::Memory, _)) => return Err(ServeFault::Memory),
+        Err(_) => return Err(ServeFault::Store),
+    };
+    serve_shared(rt, alloc, desk, hops, listener, links, network, clock)
+}
+
+/// Serves the associations that are asked for at a listener, by four workers, and sends what is due, by one thread: each hop with a due
+/// row is visited once a round. It ends after so many connections (for 0 never), when these are served and one last round is
+/// made, and gives the ledger back: its journal begins with the lines that it had, and is a history of the node's site.
+///
+/// Errors: Receipt, Store, Memory.
+pub fn serve<
+    R: Threads + Wait + Sync + time::Clock,
+    L: Ledger + Drop + Send,
+    K: Link + Drop + Send,
+    D: Listening<Socket = K> + Sync,
+    N: Network + Sync,
+    C: Clock + Sync,
+>(
+    rt: &R,
+    alloc: Global,
+    ledger: L,
+    site: Site,
+    hops: Vec<Hop>,
+    listener: &D,
+    links: u64,
+    network: &N,
+    clock: &C,
+) -> Result<L, ServeFault>
+    requires { L.site ledger ≡ site }
+    ensures begins { IfOk result (λ l. L.stands l → BeginWith (L.book ledger).lines (L.book l).lines) }
+    ensures history { IfOk result (λ l. L.stands l → ∥ IsJournalled (site_routing site) (L.book l) ∥₁) }
+    ensures of { IfOk result (λ l. L.site l ≡ site) }
+{
+    share::<R, L, Brand, K, D, N, C>(
+        rt,
+        alloc,
+        ledger,
+        site,
+        Blank::new(65_536),
+        hops,
+        listener,
+        links,
+        network,
+        clock,
+    )
+}
