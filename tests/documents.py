@@ -9,6 +9,7 @@ command; what follows, up to the next command, is what it prints: standard outpu
 status in brackets where that isn't 0. Each document's commands run in one folder of its own, beside the folder plans/.
 A command may end in '> FILE' or '< FILE'; 'dr_router' is the built program.
 """
+import html
 import os
 import re
 import subprocess
@@ -69,7 +70,19 @@ def play(path):
     return text, "".join(parts) + text[done:], count
 
 
+def compare_picture():
+    """The picture of the sample plan has the nodes and the arrows of its graph, as the document shows it."""
+    with open(f"{TOP}/docs/USAGE.md") as it:
+        graph = re.search(r"^digraph network {\n(.*?)^}$", it.read(), re.MULTILINE | re.DOTALL).group(1)
+    with open(f"{TOP}/docs/three-nodes.svg") as it:
+        drawn = [html.unescape(title) for title in re.findall(r"<title>(.*?)</title>", it.read())]
+    wanted = re.findall(r'^  "(\w+)" \[', graph, re.MULTILINE) + ["->".join(ends) for ends in re.findall(r'^  "(\w+)" -> "(\w+)"', graph, re.MULTILINE)]
+    if sorted(drawn) != sorted(wanted + ["network"]):
+        sys.exit(f"the picture has {drawn}, and the graph {wanted}")
+
+
 def main():
+    compare_picture()
     if subprocess.run([f"{TOP}/dr_router", "simulate", "--help"], stdout=subprocess.DEVNULL).returncode != 0:
         sys.exit("the program is not built")
     total = 0

@@ -12,10 +12,10 @@ import tempfile
 import threading
 import time
 
-TOP = os.path.dirname(os.path.dirname(os.path.abspath(__file__)))
-PROGRAM = f'{TOP}/crates/dr_router/out/dr_router'
-IMPLICIT, VERIFICATION, APPLICATION = b'1.2.840.10008.1.2', b'1.2.840.10008.1.1', b'1.2.840.10008.3.1.1.1'
-RELEASE_RQ, RELEASE_RP, ABORT = (bytes([kind, 0, 0, 0, 0, 4, 0, 0, 0, 0]) for kind in (5, 6, 7))
+sys.dont_write_bytecode = True
+from requestor import ABORT, RELEASE_RP, RELEASE_RQ, VERIFICATION, associate, command, context, item, pdu
+from rooms import IMPLICIT, PROGRAM
+
 # C-ECHO-RQ, context 1, message 1 (PS3.7 9.3.5)
 ECHO_RQ = bytes.fromhex(
     '04 00 0000004A 00000046 01 03'
@@ -26,26 +26,8 @@ ECHO_RQ = bytes.fromhex(
     '0000 0008 02000000 0101')
 
 
-def item(kind, body):
-    return struct.pack('>BBH', kind, 0, len(body)) + body
-
-
-def pdu(kind, body):
-    return struct.pack('>BBI', kind, 0, len(body)) + body
-
-
-def title(name):
-    return name.ljust(16).encode()
-
-
-def associate(kind, called, calling, contexts):
-    """An A-ASSOCIATE-RQ (1) or an A-ASSOCIATE-AC (2), PS3.8 9.3.2 and 9.3.3."""
-    user = item(0x51, struct.pack('>I', 16384)) + item(0x52, b'2.25.331274590186724905318462075136948210573') + item(0x55, b'DR_ROUTER_1')
-    return pdu(kind, b'\0\1\0\0' + title(called) + title(calling) + 32 * b'\0' + item(0x10, APPLICATION) + contexts + item(0x50, user))
-
-
 def request(calling='CT1', called='ARCH'):
-    return associate(1, called, calling, item(0x20, b'\1\0\0\0' + item(0x30, VERIFICATION) + item(0x40, IMPLICIT)))
+    return associate(1, called, calling, context(1, VERIFICATION, IMPLICIT))
 
 
 def acceptance(result=0):
@@ -58,12 +40,8 @@ def rejection(*numbers):
 
 def response(status):
     """C-ECHO-RSP (PS3.7 9.3.5.2)."""
-    def element(number, value):
-        return struct.pack('<HHI', 0, number, len(value)) + value
-    rest = (element(2, VERIFICATION + b'\0') + element(0x100, b'\x30\x80') + element(0x120, b'\1\0') + element(0x800, b'\1\1')
-            + element(0x900, struct.pack('<H', status)))
-    command = element(0, struct.pack('<I', len(rest))) + rest
-    return pdu(4, struct.pack('>IBB', len(command) + 2, 1, 3) + command)
+    answer = command((2, VERIFICATION), (0x100, 0x8030), (0x120, 1), (0x800, 0x101), (0x900, status))
+    return pdu(4, struct.pack('>IBB', len(answer) + 2, 1, 3) + answer)
 
 
 # ---- a node: what it is sent and what it does, in turn
@@ -168,7 +146,8 @@ def plan(port):
 
 def run(*words):
     ended = subprocess.run([PROGRAM, *words], stdin=subprocess.DEVNULL, stdout=subprocess.PIPE, stderr=subprocess.PIPE, timeout=110)
-    return ended.stdout.decode(), ended.stderr.decode(), ended.returncode
+    faults = ''.join(line for line in ended.stderr.decode().splitlines(True) if not line.startswith('  '))
+    return ended.stdout.decode(), faults, ended.returncode
 
 
 class Case(threading.Thread):
@@ -234,8 +213,8 @@ def unanswered(room):
 
 
 def main():
-    if subprocess.run([f'{TOP}/dr_router', 'echo', '--help'], stdout=subprocess.DEVNULL).returncode != 0:
-        sys.exit('the program is not built')
+    if not os.path.exists(PROGRAM):
+        sys.exit(f'{PROGRAM} is not built')
     with tempfile.TemporaryDirectory(prefix='echo-') as room:
         cases = [Case(room, number, *case) for number, case in enumerate(CASES)]
         refusals(room)

@@ -35,8 +35,9 @@ def limit_stack():
 
 
 def run(*words, given=b'', first=None):
+    """Both outputs and the status, without the lines that say where a fault stands, which are indented (tests/places.py)."""
     ended = subprocess.run([PROGRAM, *words], input=given, capture_output=True, preexec_fn=first, close_fds=False)
-    return ended.stdout, ended.stderr, ended.returncode
+    return ended.stdout, b''.join(line for line in ended.stderr.splitlines(True) if not line.startswith(b'  ')), ended.returncode
 
 
 def model_of(text, kind=Model):

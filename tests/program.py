@@ -16,11 +16,13 @@ OVERFULL = f'{TOP}/plans/overfull-hop.toml'
 
 
 def run(words, given=b'', output=subprocess.PIPE, memory=None):
-    """The status, and what was written to both outputs; memory is the most address space in bytes."""
+    """The status, and what was written to both outputs, without the lines that say where a fault stands, which are indented
+    (tests/places.py); memory is the most address space in bytes."""
     def limit():
         resource.setrlimit(resource.RLIMIT_AS, (memory, memory))
     ended = subprocess.run([PROGRAM, *words], input=given, stdout=output, stderr=subprocess.PIPE, preexec_fn=memory and limit)
-    return ended.returncode, ended.stdout or b'', ended.stderr
+    faults = b''.join(line for line in ended.stderr.splitlines(True) if not line.startswith(b'  '))
+    return ended.returncode, ended.stdout or b'', faults
 
 
 def content(path):

@@ -196,7 +196,9 @@ class Room:
 
     def run(self, *words):
         ended = subprocess.run([PROGRAM, *words], stdout=subprocess.PIPE, stderr=subprocess.PIPE, timeout=60)
-        return ended.stdout.decode(), ended.stderr.decode(), ended.returncode
+        # below a fault stand indented lines that say where it is (tests/places.py)
+        faults = ''.join(line for line in ended.stderr.decode().splitlines(True) if not line.startswith('  '))
+        return ended.stdout.decode(), faults, ended.returncode
 
     def plan(self, make):
         if make not in self.plans:

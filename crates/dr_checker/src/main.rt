@@ -1,5 +1,5 @@
 //! The program for plans alone: `run_words` of `dr_questions`, on the system's words, files, input and outputs. It has `check`, `verify`, `route`,
-//! `graph` and `lint`, and stands on no node and no link, so it is built in a few minutes.
+//! `graph` and `lint`, and stands on no node and no link, so it is built long before the whole one.
 #![tactic(auto)]
 
 use dr_commands::{Disk, Status, given_words, tell_unread_words};

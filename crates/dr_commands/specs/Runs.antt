@@ -8,8 +8,8 @@ use Rattle.dr_commands.specs.declared.status.Status.{Status}
 use Rattle.dr_network.specs.Networks.{Network}
 use Rattle.dr_plan.specs.Reading.{Reads}
 use Rattle.dr_commands.specs.declared.verify.Verdict.{Verdict}
-use Rattle.dr_commands.specs.Answers.{IsAnswerTo, status_for, printed_for}
-use Rattle.dr_commands.specs.Verdicts.{IsVerdictOn, IsNoPlan, verdict_line, verdict_status}
+use Rattle.dr_commands.specs.Answers.{IsAnswerTo, IsNoPlan, status_for, printed_for}
+use Rattle.dr_commands.specs.Verdicts.{IsVerdictOn, verdict_line, verdict_status}
 
 -- a run of `check`: an answer to the text is printed after what the output held, and the program ends with its status
 pub record Answers (text : Text) (old new : Option (List ℕ)) (status : Status) : Type 0 where

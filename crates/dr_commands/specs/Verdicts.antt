@@ -9,13 +9,12 @@ use Rattle.dr_cert_text.specs.CertificateText.{certificate_text}
 use Rattle.dr_cert_text.specs.Printable.{IsPrintable}
 use Rattle.dr_cert_text.specs.Reading.{IsReadBack, HasNone}
 use Rattle.dr_plan.specs.Reading.{Reads}
-use Rattle.dr_plan.specs.declared.fault.PlanFault.TheVariants.{Memory as NoMemory}
 use Rattle.dr_cert.specs.Refusing.{IsRefused}
 use Rattle.dr_cert.specs.Sealing.{Certified}
 use Rattle.dr_cert.specs.declared.fault.CertFault.{CertFault}
 use Rattle.dr_cert.specs.declared.fault.CertFault.TheVariants as fault
+pub use Rattle.dr_commands.specs.Answers.{IsNoPlan}
 use Rattle.dr_commands.specs.declared.answer.Answer.{Answer}
-use Rattle.dr_commands.specs.declared.answer.Answer.TheVariants as answer
 use Rattle.dr_commands.specs.declared.verify.Verdict.{Verdict}
 use Rattle.dr_commands.specs.declared.verify.Verdict.TheVariants.{Yes, No, Memory}
 use Rattle.dr_commands.specs.declared.status.Status.{Status}
@@ -43,14 +42,6 @@ abbrev pub IsVerdictOn : Network → Text → Verdict → Type 0
 IsVerdictOn plan text Yes = (certificate : Certificate) × IsTextOf text certificate × IsSound plan × IsCertificateOf plan certificate
 IsVerdictOn plan text (No refused) = (refused ≢ fault.Memory) × IsFaultOf plan text refused
 IsVerdictOn plan text Memory = Unit {0}
-
--- the answer to a text that has no plan: its fault, or want of memory
-abbrev pub IsNoPlan : Text → Answer → Type 0
-IsNoPlan text (answer.NoPlan refused) = Reads text (Err refused) × (refused ≢ NoMemory)
-IsNoPlan text answer.Memory = Unit {0}
-IsNoPlan text (answer.Sound printed) = ⊥
-IsNoPlan text (answer.Unsound printed) = ⊥
-IsNoPlan text answer.TooLarge = ⊥
 
 -- what is read of a text: its plan, or the answer that it has none
 abbrev pub ReadsPlan : Text → Result Network Answer → Type 0

@@ -1,9 +1,14 @@
 -- The words of the command line.
-use Rattle.std.specs.Prelude.{◌≡◌, ◌≢◌, ℕ, List, [], ◌∷◌, ◌++◌, ◌⊎◌, codes}
+use Rattle.std.specs.Prelude.{◌≡◌, ◌≢◌, ℕ, List, [], ◌∷◌, ◌++◌, ◌⊎◌, codes, None}
 use Rattle.std.specs.Borrow.{Bor}
+use Rattle.dr_commands.specs.declared.words.Duty.{Duty}
+use Rattle.dr_commands.specs.declared.words.Duty.TheVariants.{List as ToList, Summary, Requeue, RequeueAll, Send, Serve}
 use Rattle.dr_commands.specs.declared.words.KeyWords.{KeyWords}
+use Rattle.dr_commands.specs.declared.words.NodeFiles.{NodeFiles}
 use Rattle.dr_commands.specs.declared.words.Question.{Question}
 use Rattle.dr_commands.specs.declared.words.Question.TheVariants.{RouteOfKey, RouteOfFile, Graph, Lint}
+use Rattle.dr_commands.specs.declared.words.Serving.{Serving}
+use Rattle.dr_commands.specs.declared.words.Verbosity.TheVariants.{Events}
 
 -- none, or the one word check: they ask for a check of the plan on the standard input
 abbrev pub IsPlainCheck : List (Bor (List ℕ)) → Type 0
@@ -63,3 +68,46 @@ IsQuestionOf words plan certificate (RouteOfKey at key) = IsKeyRouteOf words pla
 IsQuestionOf words plan certificate (RouteOfFile at path) = IsFileRouteOf words plan certificate at path
 IsQuestionOf words plan certificate Graph = IsGraphOf words plan certificate
 IsQuestionOf words plan certificate Lint = IsLintOf words plan certificate
+
+-- a word, what names a node and its ledger, and further words
+abbrev pub IsAtNode : List ℕ → List (Bor (List ℕ)) → NodeFiles → List (Bor (List ℕ)) → Type 0
+IsAtNode name words given more =
+    (word : Bor (List ℕ)) × (words ≡ word ∷ given.plan ∷ given.certificate ∷ given.node ∷ given.ledger ∷ more) × (word.now ≡ name)
+    × IsNoOption given.plan.now × IsNoOption given.certificate.now × IsNoOption given.node.now × IsNoOption given.ledger.now
+
+-- the word list and what names a node and its ledger: they ask for what the node has
+abbrev pub IsListOf : List (Bor (List ℕ)) → NodeFiles → Type 0
+IsListOf words given = IsAtNode (codes "list") words given []
+
+-- the same words and the option --summary: they ask for how much the node has
+abbrev pub IsSummaryOf : List (Bor (List ℕ)) → NodeFiles → Type 0
+IsSummaryOf words given = (option : Bor (List ℕ)) × IsAtNode (codes "list") words given (option ∷ []) × (option.now ≡ codes "--summary")
+
+-- the word serve and what names a node and its ledger: they ask the node to serve for ever
+abbrev pub IsServeOf : List (Bor (List ℕ)) → NodeFiles → Type 0
+IsServeOf words given = IsAtNode (codes "serve") words given []
+
+-- the word send, what names a node and its ledger, and a file's path: they ask the node to take in and send the instance in that file
+abbrev pub IsSendOf : List (Bor (List ℕ)) → NodeFiles → Bor (List ℕ) → Type 0
+IsSendOf words given file = IsAtNode (codes "send") words given (file ∷ []) × IsNoOption file.now
+
+-- the word requeue, what names a node and its ledger, a UID and a name: they ask the node to queue again the held row of that instance to that node
+abbrev pub IsRequeueOf : List (Bor (List ℕ)) → NodeFiles → Bor (List ℕ) → Bor (List ℕ) → Type 0
+IsRequeueOf words given uid dest = IsAtNode (codes "requeue") words given (uid ∷ dest ∷ []) × IsNoOption uid.now × IsNoOption dest.now
+
+-- the word requeue, what names a node and its ledger, the option --all-held and a name: they ask the node to queue again all held rows to that node
+abbrev pub IsRequeueAllOf : List (Bor (List ℕ)) → NodeFiles → Bor (List ℕ) → Type 0
+IsRequeueAllOf words given dest = (option : Bor (List ℕ)) × IsAtNode (codes "requeue") words given (option ∷ dest ∷ []) × (option.now ≡ codes "--all-held") × IsNoOption dest.now
+
+-- without options a node serves for ever, logs its events, and writes no file of what it has
+abbrev pub plain_serving : Serving
+plain_serving = record { links = 0; verbosity = Events; report = None }
+
+-- the words ask this of the node with these files; other ways of serving are asked for by options, of which nothing is said here
+abbrev pub IsDutyOf : List (Bor (List ℕ)) → NodeFiles → Duty → Type 0
+IsDutyOf words given ToList = IsListOf words given
+IsDutyOf words given Summary = IsSummaryOf words given
+IsDutyOf words given (Requeue uid dest) = IsRequeueOf words given uid dest
+IsDutyOf words given (RequeueAll dest) = IsRequeueAllOf words given dest
+IsDutyOf words given (Send file) = IsSendOf words given file
+IsDutyOf words given (Serve serving) = IsServeOf words given × (serving ≡ plain_serving)

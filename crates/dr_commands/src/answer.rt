@@ -1,14 +1,17 @@
 //! What the program answers to the text of a plan.
-ghost use Rattle.std.specs.Prelude.{◌≡◌, ◌≢◌};
-ghost use Rattle.dr_commands.specs.Answers.{IsAnswerTo, status_for};
+ghost use Rattle.std.specs.Prelude.{◌≡◌, ◌≢◌, Err};
+ghost use Rattle.dr_plan.specs.Reading.{Reads};
+ghost use Rattle.dr_commands.specs.Answers.{IsAnswerTo, IsLineOf, IsNoPlan, status_for};
 ghost use Rattle.dr_commands.specs.declared.status.Status.TheVariants.{Usage};
 
 use crate::print::line_of;
 use crate::status::Status;
 use dr_base::Text;
 use dr_cert_text::write_certificate;
-use dr_check::{CheckFault, Verdict, check};
+use dr_check::{CheckFault, Fault, Verdict, check};
+use dr_places::explain;
 use dr_plan::{Plan, PlanFault, read_plan};
+use dr_reasons::describe;
 use std::alloc::{AllocError, Global};
 
 /// What the program answers to the text of a plan.
@@ -16,10 +19,10 @@ use std::alloc::{AllocError, Global};
 pub enum Answer {
     /// The plan is sound, and this is its certificate's text.
     Sound(Text),
-    /// The plan isn't sound, and this is the line that shows it.
-    Unsound(Text),
-    /// The text is no plan.
-    NoPlan(PlanFault),
+    /// The plan isn't sound: the line that shows it, and why, in sentences.
+    Unsound(Text, Text),
+    /// The text is no plan: its fault, and where that stands, in words.
+    NoPlan(PlanFault, Text),
     /// The plan's certificate would have over 65,536 lines.
     TooLarge,
     /// There was no memory.
@@ -34,9 +37,40 @@ impl Answer {
     {
         match self {
             Answer::Sound(_) => Status::Success,
-            Answer::Unsound(_) | Answer::NoPlan(_) | Answer::TooLarge => Status::Refused,
+            Answer::Unsound(_, _) | Answer::NoPlan(_, _) | Answer::TooLarge => Status::Refused,
             Answer::Memory => Status::Memory,
         }
+    }
+}
+
+/// The words about a fault, or none where there is no memory for them: they are no reason not to name the fault.
+fn words_or_none(alloc: Global, words: Result<Text, AllocError>) -> Text {
+    match words {
+        Ok(words) => words,
+        Err(AllocError) => Text::empty(alloc),
+    }
+}
+
+/// The answer to a text that has this fault.
+pub fn answer_to_fault(alloc: Global, text: &[u8], fault: PlanFault) -> Answer
+    requires { Reads text.now (Err fault) }
+    ensures { IsNoPlan text.now result }
+{
+    if fault == PlanFault::Memory {
+        return Answer::Memory;
+    }
+    let place = explain(alloc, text, fault);
+    Answer::NoPlan(fault, words_or_none(alloc, place))
+}
+
+/// The answer to a plan with a fault that a walk or a hop shows.
+fn answer_to_unsound(alloc: Global, plan: &Plan, fault: &Fault) -> Answer
+    ensures { IsLineOf fault.now result }
+{
+    let why = describe(alloc, plan, fault);
+    match line_of(alloc, fault) {
+        Ok(line) => Answer::Unsound(line, words_or_none(alloc, why)),
+        Err(AllocError) => Answer::Memory,
     }
 }
 
@@ -46,18 +80,14 @@ pub fn answer_to(alloc: Global, text: &[u8]) -> Answer
 {
     let plan = match read_plan(alloc, text) {
         Ok(plan) => plan,
-        Err(PlanFault::Memory) => return Answer::Memory,
-        Err(fault) => return Answer::NoPlan(fault),
+        Err(fault) => return answer_to_fault(alloc, text, fault),
     };
     match check(alloc, &plan) {
         Ok(Verdict::Yes(certificate)) => match write_certificate(alloc, &certificate) {
             Ok(text) => Answer::Sound(text),
             Err(AllocError) => Answer::Memory,
         },
-        Ok(Verdict::No(fault)) => match line_of(alloc, &fault) {
-            Ok(text) => Answer::Unsound(text),
-            Err(AllocError) => Answer::Memory,
-        },
+        Ok(Verdict::No(fault)) => answer_to_unsound(alloc, &plan, &fault),
         Err(CheckFault::TooLarge) => Answer::TooLarge,
         Err(CheckFault::Memory) => Answer::Memory,
     }

@@ -31,6 +31,9 @@ pub trait Files {
     /// The bytes of the file.
     fn read(&self, alloc: Global, path: &str) -> io::Result<Vec<u8>>
         ensures { IfOk result (λ bytes. holds self.now path.now bytes.items) };
+
+    /// Puts this text in the place of what the file held, if there is one: who opens it finds the one or the other, whole.
+    fn replace(&self, alloc: Global, path: &str, text: &[u8]) -> io::Result<()>;
 }
 
 /// Why a run couldn't be brought to its end.
@@ -64,8 +67,8 @@ pub fn read_file<'a, F: Files>(
     }
 }
 
-/// Writes the answer: a certificate or what is wrong with a plan to the output, and why there is neither to the
-/// faults.
+/// Writes the answer: a certificate or the line of a plan that isn't sound to the output; to the faults why there is neither, and what
+/// there is to say to people of what is wrong.
 pub fn tell_answer<W: Write, E: Write>(
     answer: &Answer,
     output: &mut W,
@@ -74,8 +77,15 @@ pub fn tell_answer<W: Write, E: Write>(
     ensures { OnOk result (Appends (W.contents output.old) (W.contents output.new) (printed_for answer.now)) }
 {
     match answer {
-        Answer::Sound(text) | Answer::Unsound(text) => output.write_all(text.as_bytes()),
-        Answer::NoPlan(fault) => writeln!(faults, "dr_router: {fault}"),
+        Answer::Sound(text) => output.write_all(text.as_bytes()),
+        Answer::Unsound(line, why) => {
+            output.write_all(line.as_bytes())?;
+            faults.write_all(why.as_bytes())
+        }
+        Answer::NoPlan(fault, place) => {
+            writeln!(faults, "dr_router: {fault}")?;
+            faults.write_all(place.as_bytes())
+        }
         Answer::TooLarge => writeln!(faults, "dr_router: TooLarge"),
         Answer::Memory => writeln!(faults, "dr_router: Memory"),
     }
@@ -262,9 +272,10 @@ pub fn run_asked<'a, R: Read, W: Write, E: Write, F: Files>(
         Asked::Verify(plan, certificate) => {
             verify_files(alloc, files, plan, certificate, output, faults)
         }
-        Asked::Simulate(_, _, _) | Asked::Echo(_, _, _) | Asked::Question(_, _, _) => {
-            Ok(tell_other_word(faults)?)
-        }
+        Asked::Simulate(_, _, _)
+        | Asked::Echo(_, _, _)
+        | Asked::Question(_, _, _)
+        | Asked::AtNode(_, _) => { Ok(tell_other_word(faults)?) }
         Asked::Told(error) => Ok(tell_words(&error, output, faults)?),
     }
 }

@@ -21,6 +21,15 @@ impl<'a> Files for Disk<'a> {
     fn read(&self, _alloc: Global, path: &str) -> io::Result<Vec<u8>> {
         fs::read(self.0, path)
     }
+
+    /// The text is written to a file beside it, which then takes its name.
+    fn replace(&self, alloc: Global, path: &str, text: &[u8]) -> io::Result<()> {
+        let mut beside = String::new(alloc);
+        beside.push_str(path)?;
+        beside.push_str(".new")?;
+        fs::write(self.0, beside.as_str(), text)?;
+        fs::rename(self.0, beside.as_str(), path)
+    }
 }
 
 /// The words that the program was given, without its own name.

@@ -1,12 +1,12 @@
 //! What the program answers to a plan and the text of a certificate.
 ghost use Rattle.std.specs.Prelude.{◌≡◌, ◌≢◌};
-ghost use Rattle.dr_commands.specs.Verdicts.{IsVerdictOn, IsNoPlan, SealsText, verdict_line, verdict_status, ReadsPlan};
+ghost use Rattle.dr_commands.specs.Verdicts.{IsVerdictOn, SealsText, verdict_line, verdict_status, ReadsPlan};
 ghost use Rattle.dr_commands.specs.declared.status.Status.TheVariants.{Usage};
 
-use crate::answer::Answer;
+use crate::answer::{Answer, answer_to_fault};
 use crate::status::Status;
 use dr_cert::{CertFault, Sealed, read_certificate};
-use dr_plan::{Plan, PlanFault, read_plan};
+use dr_plan::{Plan, read_plan};
 use std::alloc::Global;
 
 /// What the program answers to a plan and the text of a certificate.
@@ -58,8 +58,7 @@ pub fn plan_of(alloc: Global, text: &[u8]) -> Result<Plan, Answer>
 {
     match read_plan(alloc, text) {
         Ok(plan) => Ok(plan),
-        Err(PlanFault::Memory) => Err(Answer::Memory),
-        Err(fault) => Err(Answer::NoPlan(fault)),
+        Err(fault) => Err(answer_to_fault(alloc, text, fault)),
     }
 }
 

@@ -1,14 +1,17 @@
 //! What the words of the command line ask for.
 ghost use Rattle.std.specs.Prelude.{◌≡◌, ◌↔◌, ℕ, List, Some, IfOk, IsTrue};
 ghost use Rattle.std.specs.Borrow.{Bor};
-ghost use Rattle.dr_commands.specs.Words.{IsPlainCheck, IsCheckOf, IsVerifyOf, IsSimulateOf, IsEchoOf, IsNoOption, IsGraphOf, IsLintOf, IsFileRouteOf, IsKeyRouteOf, IsQuestionOf};
+ghost use Rattle.dr_commands.specs.Words.{IsPlainCheck, IsCheckOf, IsVerifyOf, IsSimulateOf, IsEchoOf, IsNoOption, IsGraphOf, IsLintOf, IsFileRouteOf, IsKeyRouteOf, IsQuestionOf, IsListOf, IsSummaryOf, IsServeOf, IsSendOf, IsRequeueOf, IsRequeueAllOf, IsDutyOf, plain_serving};
 ghost use Rattle.dr_commands.specs.declared.words.Asked.{Asked as AskedValue};
 ghost use Rattle.dr_commands.specs.declared.words.Asked.TheVariants as asks;
+ghost use Rattle.dr_commands.specs.declared.words.Duty.{Duty as DutyValue};
+ghost use Rattle.dr_commands.specs.declared.words.Duty.TheVariants as duties;
 ghost use Rattle.dr_commands.specs.declared.words.KeyWords.{KeyWords as KeyWordsValue};
+ghost use Rattle.dr_commands.specs.declared.words.NodeFiles.{NodeFiles as NodeFilesValue};
 ghost use Rattle.dr_commands.specs.declared.words.Question.{Question as QuestionValue};
 ghost use Rattle.dr_commands.specs.declared.words.Question.TheVariants as questions;
 
-use clap::{Arg, ArgAction, ArgMatches, Command, Error};
+use clap::{Arg, ArgAction, ArgMatches, Command, Error, value_parser};
 use std::alloc::{AllocError, Global};
 
 /// The four values of an instance by which it is routed, as words: the SOP class UID, the UID of the transfer syntax, the
@@ -34,6 +37,54 @@ pub enum Question<'a> {
     Lint,
 }
 
+/// What names a node and its ledger: the paths of the plan's text, of its certificate's and of the ledger, and the node's name.
+#[derive(Clone, Copy, Debug, Drop)]
+pub struct NodeFiles<'a> {
+    pub plan: &'a str,
+    pub certificate: &'a str,
+    pub node: &'a str,
+    pub ledger: &'a str,
+}
+
+/// Which events a node that serves logs.
+#[derive(Clone, Copy, PartialEq, Eq, Debug, Drop)]
+pub enum Verbosity {
+    /// Those that need somebody's care alone.
+    Errors,
+    /// Associations, what was refused, and visits to next nodes too.
+    Events,
+    /// Each arrival too.
+    Everything,
+}
+
+/// How a node is to serve.
+#[derive(Clone, Copy, Debug, Drop)]
+pub struct Serving<'a> {
+    /// After how many associations it ends; for 0 never.
+    pub links: u32,
+    /// What it logs.
+    pub verbosity: Verbosity,
+    /// The path of a file to which it writes what it has, now and then.
+    pub report: Option<&'a str>,
+}
+
+/// What a node may be asked to do with its ledger.
+#[derive(Clone, Copy, Drop)]
+pub enum Duty<'a> {
+    /// To print what it has.
+    List,
+    /// To print how much it has.
+    Summary,
+    /// To queue again the held row of the instance of this UID to that node.
+    Requeue(&'a str, &'a str),
+    /// To queue again all held rows to that node.
+    RequeueAll(&'a str),
+    /// To take in the instance in a Part 10 file, and to send what is due.
+    Send(&'a str),
+    /// To serve associations and send what is due.
+    Serve(Serving<'a>),
+}
+
 /// What the words ask for.
 #[derive(Drop)]
 pub enum Asked<'a> {
@@ -49,6 +100,8 @@ pub enum Asked<'a> {
     Echo(&'a str, &'a str, &'a str),
     /// To answer a question about the plan in the first file, whose certificate is in the second.
     Question(&'a str, &'a str, Question<'a>),
+    /// To do this at a node that has these files.
+    AtNode(NodeFiles<'a>, Duty<'a>),
     /// Help, or nothing that the program knows.
     Told(Error),
 }
@@ -63,22 +116,149 @@ fn is_no_option(word: &str) -> bool
     *first != b'-'
 }
 
-/// What plain words ask about a plan and its certificate: those of a known form, without options.
-fn read_question<'a>(words: &'a [&'a str]) -> Option<Asked<'a>>
-    ensures graph { (plan certificate : Bor (List ℕ)) → IsGraphOf words.now plan certificate → result ≡ Some (asks.Question plan certificate questions.Graph) }
-    ensures lint { (plan certificate : Bor (List ℕ)) → IsLintOf words.now plan certificate → result ≡ Some (asks.Question plan certificate questions.Lint) }
-    ensures route_of_file { (plan certificate at path : Bor (List ℕ)) → IsFileRouteOf words.now plan certificate at path → result ≡ Some (asks.Question plan certificate (questions.RouteOfFile at path)) }
-    ensures route_of_key { (plan certificate at : Bor (List ℕ)) (key : KeyWordsValue) → IsKeyRouteOf words.now plan certificate at key → result ≡ Some (asks.Question plan certificate (questions.RouteOfKey at key)) }
+/// What words ask a node to do with all of its ledger: those of a known form, with the option that says so.
+fn read_all<'a>(words: &'a [&'a str]) -> Option<Asked<'a>>
+    ensures summary { (given : NodeFilesValue) → IsSummaryOf words.now given → result ≡ Some (asks.AtNode given duties.Summary) }
+    ensures requeue_all { (given : NodeFilesValue) (dest : Bor (List ℕ)) → IsRequeueAllOf words.now given dest → result ≡ Some (asks.AtNode given (duties.RequeueAll dest)) }
 {
     match words {
-        [word, plan, certificate]
-            if *word == "graph" && is_no_option(plan) && is_no_option(certificate) => {
-            Some(Asked::Question(plan, certificate, Question::Graph))
+        [word, plan, certificate, node, ledger, option]
+            if *word == "list"
+                && is_no_option(plan)
+                && is_no_option(certificate)
+                && is_no_option(node)
+                && is_no_option(ledger)
+                && *option == "--summary" => {
+            let given = NodeFiles {
+                plan,
+                certificate,
+                node,
+                ledger,
+            };
+            Some(Asked::AtNode(given, Duty::Summary))
         }
-        [word, plan, certificate]
-            if *word == "lint" && is_no_option(plan) && is_no_option(certificate) => {
-            Some(Asked::Question(plan, certificate, Question::Lint))
+        [word, plan, certificate, node, ledger, option, dest]
+            if *word == "requeue"
+                && is_no_option(plan)
+                && is_no_option(certificate)
+                && is_no_option(node)
+                && is_no_option(ledger)
+                && *option == "--all-held"
+                && is_no_option(dest) => {
+            let given = NodeFiles {
+                plan,
+                certificate,
+                node,
+                ledger,
+            };
+            Some(Asked::AtNode(given, Duty::RequeueAll(dest)))
         }
+        _ => None,
+    }
+}
+
+/// What plain words ask a node to do with one of its instances: those of a known form, without options.
+fn read_work<'a>(words: &'a [&'a str]) -> Option<Asked<'a>>
+    ensures requeue { (given : NodeFilesValue) (uid dest : Bor (List ℕ)) → IsRequeueOf words.now given uid dest → result ≡ Some (asks.AtNode given (duties.Requeue uid dest)) }
+    ensures send { (given : NodeFilesValue) (file : Bor (List ℕ)) → IsSendOf words.now given file → result ≡ Some (asks.AtNode given (duties.Send file)) }
+    ensures summary { (given : NodeFilesValue) → IsSummaryOf words.now given → result ≡ Some (asks.AtNode given duties.Summary) }
+    ensures requeue_all { (given : NodeFilesValue) (dest : Bor (List ℕ)) → IsRequeueAllOf words.now given dest → result ≡ Some (asks.AtNode given (duties.RequeueAll dest)) }
+{
+    match words {
+        [word, plan, certificate, node, ledger, file]
+            if *word == "send"
+                && is_no_option(plan)
+                && is_no_option(certificate)
+                && is_no_option(node)
+                && is_no_option(ledger)
+                && is_no_option(file) => {
+            let given = NodeFiles {
+                plan,
+                certificate,
+                node,
+                ledger,
+            };
+            Some(Asked::AtNode(given, Duty::Send(file)))
+        }
+        [word, plan, certificate, node, ledger, uid, dest]
+            if *word == "requeue"
+                && is_no_option(plan)
+                && is_no_option(certificate)
+                && is_no_option(node)
+                && is_no_option(ledger)
+                && is_no_option(uid)
+                && is_no_option(dest) => {
+            let given = NodeFiles {
+                plan,
+                certificate,
+                node,
+                ledger,
+            };
+            Some(Asked::AtNode(given, Duty::Requeue(uid, dest)))
+        }
+        _ => read_all(words),
+    }
+}
+
+/// What plain words ask a node to do with its ledger: those of a known form, without options.
+fn read_duty<'a>(words: &'a [&'a str]) -> Option<Asked<'a>>
+    ensures list { (given : NodeFilesValue) → IsListOf words.now given → result ≡ Some (asks.AtNode given duties.List) }
+    ensures requeue { (given : NodeFilesValue) (uid dest : Bor (List ℕ)) → IsRequeueOf words.now given uid dest → result ≡ Some (asks.AtNode given (duties.Requeue uid dest)) }
+    ensures send { (given : NodeFilesValue) (file : Bor (List ℕ)) → IsSendOf words.now given file → result ≡ Some (asks.AtNode given (duties.Send file)) }
+    ensures serve { (given : NodeFilesValue) → IsServeOf words.now given → result ≡ Some (asks.AtNode given (duties.Serve plain_serving)) }
+    ensures summary { (given : NodeFilesValue) → IsSummaryOf words.now given → result ≡ Some (asks.AtNode given duties.Summary) }
+    ensures requeue_all { (given : NodeFilesValue) (dest : Bor (List ℕ)) → IsRequeueAllOf words.now given dest → result ≡ Some (asks.AtNode given (duties.RequeueAll dest)) }
+{
+    match words {
+        [word, plan, certificate, node, ledger]
+            if *word == "list"
+                && is_no_option(plan)
+                && is_no_option(certificate)
+                && is_no_option(node)
+                && is_no_option(ledger) => {
+            let given = NodeFiles {
+                plan,
+                certificate,
+                node,
+                ledger,
+            };
+            Some(Asked::AtNode(given, Duty::List))
+        }
+        [word, plan, certificate, node, ledger]
+            if *word == "serve"
+                && is_no_option(plan)
+                && is_no_option(certificate)
+                && is_no_option(node)
+                && is_no_option(ledger) => {
+            let given = NodeFiles {
+                plan,
+                certificate,
+                node,
+                ledger,
+            };
+            let serving = Serving {
+                links: 0,
+                verbosity: Verbosity::Events,
+                report: None,
+            };
+            Some(Asked::AtNode(given, Duty::Serve(serving)))
+        }
+        _ => read_work(words),
+    }
+}
+
+/// What plain words ask about where an instance goes: those of a known form, without options.
+fn read_route<'a>(words: &'a [&'a str]) -> Option<Asked<'a>>
+    ensures route_of_file { (plan certificate at path : Bor (List ℕ)) → IsFileRouteOf words.now plan certificate at path → result ≡ Some (asks.Question plan certificate (questions.RouteOfFile at path)) }
+    ensures route_of_key { (plan certificate at : Bor (List ℕ)) (key : KeyWordsValue) → IsKeyRouteOf words.now plan certificate at key → result ≡ Some (asks.Question plan certificate (questions.RouteOfKey at key)) }
+    ensures list { (given : NodeFilesValue) → IsListOf words.now given → result ≡ Some (asks.AtNode given duties.List) }
+    ensures requeue { (given : NodeFilesValue) (uid dest : Bor (List ℕ)) → IsRequeueOf words.now given uid dest → result ≡ Some (asks.AtNode given (duties.Requeue uid dest)) }
+    ensures send { (given : NodeFilesValue) (file : Bor (List ℕ)) → IsSendOf words.now given file → result ≡ Some (asks.AtNode given (duties.Send file)) }
+    ensures serve { (given : NodeFilesValue) → IsServeOf words.now given → result ≡ Some (asks.AtNode given (duties.Serve plain_serving)) }
+    ensures summary { (given : NodeFilesValue) → IsSummaryOf words.now given → result ≡ Some (asks.AtNode given duties.Summary) }
+    ensures requeue_all { (given : NodeFilesValue) (dest : Bor (List ℕ)) → IsRequeueAllOf words.now given dest → result ≡ Some (asks.AtNode given (duties.RequeueAll dest)) }
+{
+    match words {
         [word, plan, certificate, at, path]
             if *word == "route"
                 && is_no_option(plan)
@@ -112,7 +292,33 @@ fn read_question<'a>(words: &'a [&'a str]) -> Option<Asked<'a>>
             };
             Some(Asked::Question(plan, certificate, Question::RouteOfKey(at, key)))
         }
-        _ => None,
+        _ => read_duty(words),
+    }
+}
+
+/// What plain words ask about a plan and its certificate: those of a known form, without options.
+fn read_question<'a>(words: &'a [&'a str]) -> Option<Asked<'a>>
+    ensures graph { (plan certificate : Bor (List ℕ)) → IsGraphOf words.now plan certificate → result ≡ Some (asks.Question plan certificate questions.Graph) }
+    ensures lint { (plan certificate : Bor (List ℕ)) → IsLintOf words.now plan certificate → result ≡ Some (asks.Question plan certificate questions.Lint) }
+    ensures route_of_file { (plan certificate at path : Bor (List ℕ)) → IsFileRouteOf words.now plan certificate at path → result ≡ Some (asks.Question plan certificate (questions.RouteOfFile at path)) }
+    ensures route_of_key { (plan certificate at : Bor (List ℕ)) (key : KeyWordsValue) → IsKeyRouteOf words.now plan certificate at key → result ≡ Some (asks.Question plan certificate (questions.RouteOfKey at key)) }
+    ensures list { (given : NodeFilesValue) → IsListOf words.now given → result ≡ Some (asks.AtNode given duties.List) }
+    ensures requeue { (given : NodeFilesValue) (uid dest : Bor (List ℕ)) → IsRequeueOf words.now given uid dest → result ≡ Some (asks.AtNode given (duties.Requeue uid dest)) }
+    ensures send { (given : NodeFilesValue) (file : Bor (List ℕ)) → IsSendOf words.now given file → result ≡ Some (asks.AtNode given (duties.Send file)) }
+    ensures serve { (given : NodeFilesValue) → IsServeOf words.now given → result ≡ Some (asks.AtNode given (duties.Serve plain_serving)) }
+    ensures summary { (given : NodeFilesValue) → IsSummaryOf words.now given → result ≡ Some (asks.AtNode given duties.Summary) }
+    ensures requeue_all { (given : NodeFilesValue) (dest : Bor (List ℕ)) → IsRequeueAllOf words.now given dest → result ≡ Some (asks.AtNode given (duties.RequeueAll dest)) }
+{
+    match words {
+        [word, plan, certificate]
+            if *word == "graph" && is_no_option(plan) && is_no_option(certificate) => {
+            Some(Asked::Question(plan, certificate, Question::Graph))
+        }
+        [word, plan, certificate]
+            if *word == "lint" && is_no_option(plan) && is_no_option(certificate) => {
+            Some(Asked::Question(plan, certificate, Question::Lint))
+        }
+        _ => read_route(words),
     }
 }
 
@@ -127,6 +333,12 @@ fn read_plain<'a>(words: &'a [&'a str]) -> Option<Asked<'a>>
     ensures lint { (plan certificate : Bor (List ℕ)) → IsLintOf words.now plan certificate → result ≡ Some (asks.Question plan certificate questions.Lint) }
     ensures route_of_file { (plan certificate at path : Bor (List ℕ)) → IsFileRouteOf words.now plan certificate at path → result ≡ Some (asks.Question plan certificate (questions.RouteOfFile at path)) }
     ensures route_of_key { (plan certificate at : Bor (List ℕ)) (key : KeyWordsValue) → IsKeyRouteOf words.now plan certificate at key → result ≡ Some (asks.Question plan certificate (questions.RouteOfKey at key)) }
+    ensures list { (given : NodeFilesValue) → IsListOf words.now given → result ≡ Some (asks.AtNode given duties.List) }
+    ensures requeue { (given : NodeFilesValue) (uid dest : Bor (List ℕ)) → IsRequeueOf words.now given uid dest → result ≡ Some (asks.AtNode given (duties.Requeue uid dest)) }
+    ensures send { (given : NodeFilesValue) (file : Bor (List ℕ)) → IsSendOf words.now given file → result ≡ Some (asks.AtNode given (duties.Send file)) }
+    ensures serve { (given : NodeFilesValue) → IsServeOf words.now given → result ≡ Some (asks.AtNode given (duties.Serve plain_serving)) }
+    ensures summary { (given : NodeFilesValue) → IsSummaryOf words.now given → result ≡ Some (asks.AtNode given duties.Summary) }
+    ensures requeue_all { (given : NodeFilesValue) (dest : Bor (List ℕ)) → IsRequeueAllOf words.now given dest → result ≡ Some (asks.AtNode given (duties.RequeueAll dest)) }
 {
     match words {
         [] => Some(Asked::CheckInput),
@@ -247,6 +459,97 @@ fn lint_command<'a>(alloc: Global) -> Result<Command<'a>, AllocError> {
         .arg(named(alloc, "CERT", "the file with the plan's certificate"))
 }
 
+/// A word that works on a node's ledger.
+fn node_command<'a>(
+    alloc: Global,
+    name: &'a str,
+    about: &'a str,
+) -> Result<Command<'a>, AllocError> {
+    Command::new(alloc, name)
+        .about(about)
+        .arg(named(alloc, "PLAN", "the file with the plan"))?
+        .arg(named(alloc, "CERT", "the file with the plan's certificate"))?
+        .arg(named(alloc, "NODE", "the node"))?
+        .arg(named(
+            alloc,
+            "DB",
+            "the file with the node's ledger, which is made where there is none",
+        ))
+}
+
+/// The word `list`.
+fn list_command<'a>(alloc: Global) -> Result<Command<'a>, AllocError> {
+    let summary = Arg::new(alloc, "SUMMARY")
+        .long("summary")
+        .action(ArgAction::SetTrue)
+        .help("prints how many there are instead");
+    node_command(
+        alloc,
+        "list",
+        "Prints what a node has: its arrivals, what it keeps, and what is queued",
+    )?
+    .arg(summary)
+}
+
+/// The word `requeue`.
+fn requeue_command<'a>(alloc: Global) -> Result<Command<'a>, AllocError> {
+    let all = Arg::new(alloc, "ALL")
+        .long("all-held")
+        .action(ArgAction::Set)
+        .value_name("DEST")
+        .help("queues all held rows to that node again")
+        .conflicts_with("UID")?;
+    let uid = value_behind(alloc, "UID", "the SOP instance UID of the row")
+        .required_unless_present("ALL")?
+        .requires_arg("DEST")?;
+    node_command(alloc, "requeue", "Queues held rows of a node again")?
+        .arg(uid)?
+        .arg(value_behind(alloc, "DEST", "the node to which it is to be sent"))?
+        .arg(all)
+}
+
+/// The word `send`.
+fn send_command<'a>(alloc: Global) -> Result<Command<'a>, AllocError> {
+    node_command(
+        alloc,
+        "send",
+        "Brings an instance to a node, sends what is due once, and prints what the node has then",
+    )?
+    .arg(named(alloc, "FILE", "a Part 10 file"))
+}
+
+/// The levels of a log.
+const LEVELS: &[&str] = &["error", "info", "debug"];
+
+/// The word `serve`.
+fn serve_command<'a>(alloc: Global) -> Result<Command<'a>, AllocError> {
+    let links = Arg::new(alloc, "LINKS")
+        .long("links")
+        .action(ArgAction::Set)
+        .value_parser(value_parser!(u32))
+        .value_name("N")
+        .help("ends after so many associations, for 0 never (0 to 4294967295)");
+    let log = Arg::new(alloc, "LOG")
+        .long("log")
+        .action(ArgAction::Set)
+        .value_parser(LEVELS)
+        .value_name("LEVEL")
+        .help("what is logged on the standard error: error, info (the default) or debug");
+    let report = Arg::new(alloc, "REPORT")
+        .long("report")
+        .action(ArgAction::Set)
+        .value_name("FILE")
+        .help("writes what the node has to that file, at most every ten seconds");
+    node_command(
+        alloc,
+        "serve",
+        "Serves associations at a node's address and sends what is due; prints in the end what the node has",
+    )?
+    .arg(links)?
+    .arg(log)?
+    .arg(report)
+}
+
 /// The command line of the program.
 fn command<'a>(alloc: Global) -> Result<Command<'a>, AllocError> {
     Command::new(alloc, "dr_router")
@@ -261,7 +564,11 @@ fn command<'a>(alloc: Global) -> Result<Command<'a>, AllocError> {
         .subcommand(graph_command(alloc)?)?
         .subcommand(lint_command(alloc)?)?
         .subcommand(simulate_command(alloc)?)?
-        .subcommand(echo_command(alloc)?)
+        .subcommand(echo_command(alloc)?)?
+        .subcommand(serve_command(alloc)?)?
+        .subcommand(send_command(alloc)?)?
+        .subcommand(list_command(alloc)?)?
+        .subcommand(requeue_command(alloc)?)
 }
 
 /// Where what is to go, as clap has read it: an instance with four values, or the one in a file.
@@ -290,6 +597,68 @@ fn question_of<'a>(name: &str, given: &ArgMatches<'a>) -> Option<Question<'a>> {
     }
 }
 
+/// How a node is to serve, as clap has read it.
+fn serving_of<'a>(given: &ArgMatches<'a>) -> Serving<'a> {
+    let verbosity = match given.get_str("LOG") {
+        Some("error") => Verbosity::Errors,
+        Some("debug") => Verbosity::Everything,
+        _ => Verbosity::Events,
+    };
+    Serving {
+        links: given.get_one("LINKS").unwrap_or(0),
+        verbosity,
+        report: given.get_str("REPORT"),
+    }
+}
+
+/// Which held rows are to be queued again, as clap has read it.
+fn requeue_of<'a>(given: &ArgMatches<'a>) -> Duty<'a> {
+    let dest = given.get_str("DEST").unwrap_or("");
+    match given.get_str("ALL") {
+        Some(all) => Duty::RequeueAll(all),
+        None => Duty::Requeue(given.get_str("UID").unwrap_or(""), dest),
+    }
+}
+
+/// What a word asks a node to do, as clap has read it, if it asks that.
+fn duty_of<'a>(name: &str, given: &ArgMatches<'a>) -> Option<Duty<'a>> {
+    match name {
+        "list" if given.get_flag("SUMMARY") => Some(Duty::Summary),
+        "list" => Some(Duty::List),
+        "requeue" => Some(requeue_of(given)),
+        "send" => Some(Duty::Send(given.get_str("FILE").unwrap_or(""))),
+        "serve" => Some(Duty::Serve(serving_of(given))),
+        _ => None,
+    }
+}
+
+/// What clap makes of words that name a plan and its certificate.
+fn read_certified<'a>(
+    name: &str,
+    given: &ArgMatches<'a>,
+    plan: &'a str,
+    certificate: &'a str,
+) -> Asked<'a> {
+    if let Some(question) = question_of(name, given) {
+        return Asked::Question(plan, certificate, question);
+    }
+    if let Some(duty) = duty_of(name, given) {
+        let node = given.get_str("NODE").unwrap_or("");
+        let ledger = given.get_str("DB").unwrap_or("");
+        let files = NodeFiles {
+            plan,
+            certificate,
+            node,
+            ledger,
+        };
+        return Asked::AtNode(files, duty);
+    }
+    if name == "verify" {
+        return Asked::Verify(plan, certificate);
+    }
+    Asked::Simulate(plan, certificate, given.get_str("SCRIPT").unwrap_or(""))
+}
+
 /// What clap makes of the words: options, help, and what the program doesn't know.
 fn read_others<'a>(alloc: Global, words: &'a [&'a str]) -> Result<Asked<'a>, AllocError> {
     let matches = match command(alloc)?.try_get_matches_from(words) {
@@ -311,14 +680,7 @@ fn read_others<'a>(alloc: Global, words: &'a [&'a str]) -> Result<Asked<'a>, All
         return Ok(Asked::Echo(plan, caller, called));
     }
     let certificate = given.get_str("CERT").unwrap_or("");
-    if name == "verify" {
-        return Ok(Asked::Verify(plan, certificate));
-    }
-    if let Some(question) = question_of(name, given) {
-        return Ok(Asked::Question(plan, certificate, question));
-    }
-    let script = given.get_str("SCRIPT").unwrap_or("");
-    Ok(Asked::Simulate(plan, certificate, script))
+    Ok(read_certified(name, given, plan, certificate))
 }
 
 /// What the words ask for.
@@ -329,6 +691,7 @@ pub fn read_words<'a>(alloc: Global, words: &'a [&'a str]) -> Result<Asked<'a>, 
     ensures simulate { IfOk result (λ a. (plan certificate script : Bor (List ℕ)) → IsSimulateOf words.now plan certificate script → a ≡ asks.Simulate plan certificate script) }
     ensures echo { IfOk result (λ a. (plan caller called : Bor (List ℕ)) → IsEchoOf words.now plan caller called → a ≡ asks.Echo plan caller called) }
     ensures question { IfOk result (λ a. (plan certificate : Bor (List ℕ)) (question : QuestionValue) → IsQuestionOf words.now plan certificate question → a ≡ asks.Question plan certificate question) }
+    ensures duty { IfOk result (λ a. (given : NodeFilesValue) (duty : DutyValue) → IsDutyOf words.now given duty → a ≡ asks.AtNode given duty) }
 {
     if let Some(asked) = read_plain(words) {
         return Ok(asked);

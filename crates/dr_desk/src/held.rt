@@ -11,6 +11,7 @@ ghost use Rattle.dr_desk.specs.Growing.{BeginWith, Grows};
 
 use crate::closing::{Closed, NotClosed, agree, joined, unread};
 use crate::desk::Desk;
+use crate::holdings::Holdings;
 use crate::pass::{Made, Pass, TooManyPasses};
 use crate::sharing::Sharing;
 use dr_base::{Seq, Text};
@@ -169,6 +170,19 @@ impl<L: Ledger, B: Sharing> Held<L, B> {
 
     pub(crate) fn lines(&mut self) -> Result<Seq<Entry>, LedgerFault> {
         self.desk.lines()
+    }
+
+    /// All that is there at this moment.
+    pub(crate) fn holdings(&mut self) -> Result<Holdings, LedgerFault> {
+        let arrivals = self.arrivals()?;
+        let kept = self.kept()?;
+        let rows = self.rows()?;
+        Ok(Holdings {
+            arrivals,
+            kept,
+            rows,
+            lines: self.number,
+        })
     }
 
     pub(crate) fn progress(

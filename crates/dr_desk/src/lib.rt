@@ -8,6 +8,7 @@
 pub mod closing;
 pub mod desk;
 mod held;
+pub mod holdings;
 pub mod laws;
 pub mod pass;
 pub mod receipt;
@@ -17,6 +18,7 @@ pub mod sharing;
 
 pub use closing::{CloseFault, Closed, Mismatch, NotClosed};
 pub use desk::Desk;
+pub use holdings::Holdings;
 pub use pass::{Pass, TooManyPasses};
 pub use receipt::{Call, Receipt, Reply};
 pub use shared::SharedDesk;

@@ -11,6 +11,7 @@ ghost use Rattle.dr_desk.specs.Receipts.{Leaves, Notes, arrival_of};
 use crate::closing::{Closed, NotClosed};
 use crate::desk::Desk;
 use crate::held::Held;
+use crate::holdings::Holdings;
 use crate::pass::{Pass, TooManyPasses};
 use crate::receipt::{Call, Receipt, Reply, arrival};
 use crate::sharing::Sharing;
@@ -23,7 +24,7 @@ use std::sync::ledger::Blank;
 use std::sync::{Mutex, Wait};
 
 /// A desk that threads share, with the site of its ledger. Each call waits for the one lock, which is held for one call of
-/// the ledger alone. Of what a call shows nothing can be said here, since another thread may have called in between; that it is what
+/// the ledger alone, but by `holdings`. Of what a call shows nothing can be said here, since another thread may have called in between; that it is what
 /// the ledger answers, the receipts say, and tests.
 #[derive(Drop)]
 pub struct SharedDesk<L: Ledger, B: Sharing> {
@@ -207,6 +208,18 @@ impl<L: Ledger, B: Sharing> SharedDesk<L, B> {
     /// The ledger's `lines`.
     pub fn lines<R: Wait>(&self, rt: &R) -> Result<Seq<Entry>, LedgerFault> {
         self.held.lock(rt).lines()
+    }
+
+    /// All that the ledger has at one moment. The lock is held for the three calls that list it.
+    ///
+    /// Errors: Store, Memory.
+    pub fn holdings<R: Wait>(&self, rt: &R) -> Result<Holdings, LedgerFault> {
+        self.held.lock(rt).holdings()
+    }
+
+    /// How many lines the journal has.
+    pub fn line_count<R: Wait>(&self, rt: &R) -> u64 {
+        self.held.lock(rt).number
     }
 
     /// The ledger's `progress`.

@@ -1,11 +1,10 @@
 -- Uids that are added.
-use Rattle.std.proofs.Common.{◌≡◌, ◌≢◌, ◌⊎◌, inl, inr, List, [], ◌∷◌, Contains, Result, Ok, Err, OnOk, true, refl, sym, ap, subst, ◌∙◌, true≢false}
+use Rattle.std.proofs.Common.{◌≡◌, ◌≢◌, ◌⊎◌, inl, inr, List, ◌∷◌, Contains, Result, Ok, Err, OnOk, true, sym, ap, subst, ◌∙◌}
 use Rattle.std.specs.Prelude.{◌↔◌}
-use Rattle.std.specs.declared.alloc.AllocError.{AllocError}
 use Rattle.std.specs.FinSet as set
 use Rattle.std.specs.FinSet.{FinSet}
 use Rattle.dr_base.specs.Texts.{Text, text_cmp}
-use Rattle.dr_network.proofs.Gathered.{Contains-cons_cases, Contains-here, Contains-there, nothing_in_nil}
+use Rattle.dr_network.proofs.Gathered.{Contains-cons_cases, Contains-here, Contains-there}
 use Rattle.dr_ledger.specs.declared.item.Progress.{Progress}
 use Rattle.dr_ledger.specs.declared.item.Progress.TheVariants.{Done}
 use Rattle.dr_ledger.specs.Pairs.{Pair}

@@ -1,10 +1,9 @@
 -- What the lists of all tables show is a ledger's.
-use Rattle.std.proofs.Common.{◌≡◌, ◌≤◌, ◌<◌, ◌⊎◌, inl, inr, ℕ, List, Contains, Bool, true, false, Option, None, Some, is_some, refl, sym, ap, subst, ◌∙◌, arith, true≢false}
+use Rattle.std.proofs.Common.{◌≡◌, ◌≤◌, ◌<◌, ◌⊎◌, ℕ, List, Contains, Bool, true, false, Option, None, Some, is_some, refl, sym, ap, subst, ◌∙◌, arith, true≢false}
 use Rattle.std.specs.declared.cmp.Ordering.{Ordering}
 use Rattle.std.specs.Prelude.{◌↔◌, All}
 use Rattle.std.specs.Cmp.{eq_by_cmp_equiv}
 use Rattle.std.specs.Cmp.Lexicographic.{nat_list_cmp_total}
-use Rattle.std.specs.Ordering.{eq_by_cmp}
 use Rattle.std.specs.FinMap as map
 use Rattle.std.specs.FinMap.{FinMap}
 use Rattle.std.specs.FinSet as set
@@ -19,9 +18,9 @@ use Rattle.dr_route.specs.declared.key.Key.{Key}
 use Rattle.dr_site.specs.Parts.{Part}
 use Rattle.dr_ledger.specs.declared.item.Instance.{Instance}
 use Rattle.dr_ledger.specs.declared.item.Progress.{Progress}
-use Rattle.dr_ledger.specs.Books.{Book, Fold, Line}
+use Rattle.dr_ledger.specs.Books.{Fold, Line}
 use Rattle.dr_ledger.specs.Histories.{IsJournalled}
-use Rattle.dr_ledger.specs.Pairs.{Pair, pair_cmp}
+use Rattle.dr_ledger.specs.Pairs.{Pair}
 use Rattle.dr_ledger.specs.Replies.{Lists}
 use Rattle.dr_ledger.specs.SiteRoutes.{site_routing}
 use Rattle.dr_ledger.proofs.Folding.{folds_have_their_lines}
@@ -33,7 +32,7 @@ use Rattle.dr_tables.specs.Books.{all_kept_in, arrivals_in, book_of, items_of, l
 use Rattle.dr_rows.proofs.Maps.{equal}
 use Rattle.dr_queries.specs.declared.finding.Print.{Print}
 use Rattle.dr_lists.specs.declared.listing.Note.{Note}
-use Rattle.dr_lists.specs.Lists.{Goal, goal_cmp, goals_of}
+use Rattle.dr_lists.specs.Lists.{Goal, goals_of}
 use Rattle.dr_lists.proofs.Alike.{goals_are_names}
 use Rattle.dr_finding.specs.Found.{AreListsOf, IsFound}
 use Rattle.dr_finding.specs.Journal.{AreLinesOf}

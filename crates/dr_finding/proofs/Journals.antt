@@ -1,5 +1,5 @@
 -- The lines of a journal are those of its notes.
-use Rattle.std.proofs.Common.{◌≡◌, ◌≤◌, inl, inr, ℕ, zero, suc, List, [], ◌∷◌, ◌++◌, map as mapped, Contains, Option, Some, IsSome, is_some, refl, sym, ap, subst, ◌∙◌, arith}
+use Rattle.std.proofs.Common.{◌≡◌, ◌≤◌, inl, inr, ℕ, zero, suc, List, [], ◌∷◌, ◌++◌, map as mapped, Contains, IsSome, is_some, refl, sym, ap, subst, ◌∙◌, arith}
 use Rattle.std.specs.FinMap as map
 use Rattle.std.specs.FinMap.{FinMap}
 use Rattle.std.specs.List.{AllByRecursion}
@@ -18,7 +18,6 @@ use Rattle.dr_calls.specs.Bringing.{IsJoined}
 use Rattle.dr_lists.specs.Lists.{Goal, IsJournal, goal_cmp, goals_of, line_of, note_by, note_in}
 use Rattle.dr_lists.specs.declared.listing.Note.{Note}
 use Rattle.dr_lists.specs.declared.listing.Note.TheVariants as note
-use Rattle.dr_finding.specs.Goals.{keep_of, to_of}
 use Rattle.dr_finding.specs.Journal.{AreLinesOf, IsLineOf}
 use Rattle.dr_finding.proofs.Goaled.{keeps, targets}
 

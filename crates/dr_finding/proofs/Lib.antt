@@ -5,4 +5,5 @@ mod Goaled
 mod Journals
 pub mod Needed
 mod Stocked
+mod Together
 mod Told

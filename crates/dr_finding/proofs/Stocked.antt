@@ -1,6 +1,5 @@
 -- The instances that keys and prints make are those of the tables.
-use Rattle.std.proofs.Common.{◌≡◌, inl, inr, ℕ, List, [], ◌∷◌, Bool, true, false, ◌&&◌, cond, T, Option, None, Some, is_some, option_map, refl, sym, ap, subst, ◌∙◌}
-use Rattle.std.specs.declared.cmp.Ordering.{Ordering}
+use Rattle.std.proofs.Common.{◌≡◌, inl, inr, List, [], ◌∷◌, Bool, true, false, cond, T, Option, None, Some, is_some, option_map, refl, sym, ap, subst, ◌∙◌}
 use Rattle.std.specs.declared.cmp.Ordering.TheVariants.{Less}
 use Rattle.std.specs.Ordering.{eq_by_cmp, is_eq, is_lt}
 use Rattle.std.specs.Cmp.Lexicographic.{nat_list_cmp_total}
@@ -13,7 +12,7 @@ use Rattle.dr_base.specs.Texts.{Text, text_cmp}
 use Rattle.dr_route.specs.declared.key.Key.{Key}
 use Rattle.dr_ledger.specs.declared.item.Instance.{Instance}
 use Rattle.dr_ledger.proofs.Maps.{same_or_not, texts, ties_itself}
-use Rattle.dr_tables.specs.Books.{Print as Pair, instance_by, items_of, print_or_none, prints_of}
+use Rattle.dr_tables.specs.Books.{instance_by, items_of, print_or_none, prints_of}
 use Rattle.dr_queries.specs.declared.finding.Print.{Print}
 use Rattle.dr_lists.specs.Lists.{keys_of, whole_prints_of}
 use Rattle.dr_lists.proofs.Alike.{keys_and_prints}

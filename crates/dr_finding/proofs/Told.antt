@@ -1,10 +1,9 @@
 -- A journal that was told is a ledger's.
-use Rattle.std.proofs.Common.{◌≡◌, ◌≤◌, ◌+◌, inl, inr, ℕ, List, [], ◌∷◌, ◌++◌, length, take, refl, sym, ap, subst, ◌∙◌}
+use Rattle.std.proofs.Common.{◌≡◌, inl, inr, ℕ, List, [], ◌∷◌, ◌++◌, refl, subst}
 use Rattle.std.specs.FinMap.{FinMap}
-use Rattle.std.proofs.lemmas.List.{append-nil}
 use Rattle.dr_base.specs.Texts.{text_cmp}
 use Rattle.dr_ledger.specs.declared.item.Instance.{Instance}
-use Rattle.dr_ledger.specs.Books.{Fold, Line}
+use Rattle.dr_ledger.specs.Books.{Line}
 use Rattle.dr_ledger.specs.Histories.{IsBeforeAdoption}
 use Rattle.dr_ledger.specs.Routings.{Routing}
 use Rattle.dr_history.specs.Contents.{Content}

@@ -16,7 +16,6 @@ use Rattle.dr_queries.specs.declared.finding.Print.{Print}
 use Rattle.dr_lists.specs.declared.listing.Note.{Note}
 use Rattle.dr_lists.specs.Lists.{Goal, IsJournal, goal_cmp, goals_of, keys_of, whole_prints_of}
 use Rattle.dr_calls.specs.Bringing.{AreJoined}
-use Rattle.dr_finding.specs.Journal.{CountUp}
 
 -- the lists of all tables but site
 pub record AreListsOf (db : Trees) (keys : List (Text × Key)) (prints : List (Text × Print)) (arrivals : List Pair) (kept : List Text) (rows : List (Pair × Progress)) (notes : List (ℕ × Note)) (goals : List Goal) : Type 0 where

@@ -1,9 +1,14 @@
 -- Where lines go on to, by the list of all goals.
 use Rattle.std.specs.Prelude.{◌==◌, ◌||◌, ℕ, Bool, false, cond, List, [], ◌∷◌, filter}
+use Rattle.std.specs.List.Sorted.{IsNonDecreasingBy}
 use Rattle.std.specs.Ordering.{eq_by_cmp}
 use Rattle.dr_base.specs.Texts.{Text, text_cmp}
 use Rattle.dr_tables.specs.Books.{keep_mark}
 use Rattle.dr_lists.specs.Lists.{Goal}
+
+-- goals are in the order of their lines
+abbrev pub AreByLine : List Goal → Type 0
+AreByLine goals = IsNonDecreasingBy (λ (goal : Goal). goal.0) goals
 
 -- the goal is of line n
 abbrev pub is_at : ℕ → Goal → Bool

@@ -1,9 +1,8 @@
 -- The lines of a journal, as notes, instances and goals tell them.
-use Rattle.std.specs.Prelude.{◌≡◌, ℕ, List, [], ◌∷◌, ◌+◌, Some, map as mapped}
+use Rattle.std.specs.Prelude.{◌≡◌, ℕ, List, [], ◌∷◌, ◌+◌, Some}
 use Rattle.std.specs.FinMap as map
 use Rattle.std.specs.FinMap.{FinMap}
-use Rattle.std.specs.List.{AllByRecursion}
-use Rattle.dr_base.specs.Texts.{Text, text_cmp}
+use Rattle.dr_base.specs.Texts.{text_cmp}
 use Rattle.dr_ledger.specs.declared.item.Instance.{Instance}
 use Rattle.dr_ledger.specs.Books.{Line, Arrival, Repeat, Settling, Requeuing, Adoption}
 use Rattle.dr_lists.specs.Lists.{Goal}

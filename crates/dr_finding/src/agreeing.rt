@@ -4,7 +4,7 @@ ghost use Rattle.sqlite.specs.Tree.{Trees};
 ghost use Rattle.dr_finding.specs.Found.{AreListsOf, IsFound};
 
 use crate::fault::FindingFault;
-use crate::goals::are_before;
+use crate::goals::{are_before, are_by_line};
 use crate::needs::{are_whole, needed};
 use crate::stock::stock_all;
 use crate::telling::{count_up, tell};
@@ -34,6 +34,9 @@ pub fn agree(
 ) -> Result<(), FindingFault>
     ensures { OnOk result ((db : Trees) → AreListsOf db keys.now prints.now arrivals.now kept.now rows.now notes.now goals.now → IsFound next site.now db) }
 {
+    if !are_by_line(goals) {
+        return Err(FindingFault::OtherSite);
+    }
     let items = stock_all(alloc, keys, prints)?;
     let history = tell(alloc, site, &items, goals, notes)?;
     if !history.has_just(&items, arrivals, kept, rows) {

@@ -5,6 +5,7 @@ ghost use Rattle.dr_base.specs.Texts.{text_cmp};
 ghost use Rattle.dr_history.specs.Lines.{line_of};
 ghost use Rattle.dr_history.specs.Trees.{as_map};
 ghost use Rattle.dr_ledger.specs.Books.{Arrival, Repeat};
+ghost use Rattle.dr_finding.specs.Goals.{AreByLine};
 ghost use Rattle.dr_finding.specs.Journal.{IsLineOf};
 ghost use Rattle.dr_lists.specs.declared.listing.Note.TheVariants as noted;
 
@@ -50,6 +51,7 @@ fn arrival_of(
     caller: &Text,
     uid: &Text,
 ) -> Result<JournalLine, FindingFault>
+    requires { AreByLine goals.now }
     ensures { IfOk result (λ line. IsLineOf (as_map text_cmp items.now) goals.now n (noted.Arrival caller.now uid.now) (line_of line)) }
 {
     let instance = instance_at(items, uid)?;
@@ -76,7 +78,7 @@ fn repeat_of(
     Ok(JournalLine::Repeat { caller, instance })
 }
 
-/// The line of a note: the instance of an arrival is there, and the goals say where it goes on to.
+/// The line of a note: the instance of an arrival is there, and the goals, in the order of their lines, say where it goes on to.
 pub fn line_for(
     alloc: Global,
     items: &BTreeMap<Text, Instance>,
@@ -84,6 +86,7 @@ pub fn line_for(
     n: u64,
     note: &Note,
 ) -> Result<JournalLine, FindingFault>
+    requires { AreByLine goals.now }
     ensures { IfOk result (λ line. IsLineOf (as_map text_cmp items.now) goals.now n note.now (line_of line)) }
 {
     match note {

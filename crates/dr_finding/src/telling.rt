@@ -9,6 +9,7 @@ ghost use Rattle.dr_history.specs.Lines.{line_of};
 ghost use Rattle.dr_history.specs.Told.{IsTold, IsToldSince};
 ghost use Rattle.dr_history.specs.Trees.{as_map};
 ghost use Rattle.dr_lists.specs.declared.listing.Note.TheVariants as noted;
+ghost use Rattle.dr_finding.specs.Goals.{AreByLine};
 ghost use Rattle.dr_finding.specs.Journal.{AreLinesOf, CountUp};
 ghost use Rattle.dr_finding.specs.Telling.{IsOver, IsToldJournal};
 
@@ -98,6 +99,7 @@ fn tell_all_past(
     goals: &[(u64, Text)],
     notes: &[(u64, Note)],
 ) -> Result<History, FindingFault>
+    requires { AreByLine goals.now }
     ensures { IfOk result (λ h. (lines : List Line) × AreLinesOf (as_map text_cmp items.now) goals.now notes.now lines × IsTold lines (content h.parts)) }
 {
     let mut history = History::new(alloc);
@@ -117,6 +119,7 @@ fn tell_all_since(
     notes: &[(u64, Note)],
     told: History,
 ) -> Result<History, FindingFault>
+    requires { AreByLine goals.now }
     ensures { IfOk result (λ h. (lines : List Line) × AreLinesOf (as_map text_cmp items.now) goals.now notes.now lines
         × ((past : List Line) → IsToldSince (site_routing site.now) past [] (content told.parts) → IsToldSince (site_routing site.now) past lines (content h.parts))) }
 {
@@ -128,7 +131,7 @@ fn tell_all_since(
     Ok(history)
 }
 
-/// What the whole journal makes, if it is one of this site's ledger.
+/// What the whole journal makes, if it is one of this site's ledger. The goals are in the order of their lines.
 pub fn tell(
     alloc: Global,
     site: &Site,
@@ -136,6 +139,7 @@ pub fn tell(
     goals: &[(u64, Text)],
     notes: &[(u64, Note)],
 ) -> Result<History, FindingFault>
+    requires { AreByLine goals.now }
     ensures { IfOk result (λ h. (lines : List Line) × AreLinesOf (as_map text_cmp items.now) goals.now notes.now lines × IsToldJournal (site_routing site.now) lines (content h.parts)) }
 {
     let (past, since) = notes.split_at(count_past(notes));

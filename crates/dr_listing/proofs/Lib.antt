@@ -1,1 +1,6 @@
+mod Chain
+mod Least
+mod Pieces
+mod Queueing
 mod Reporting
+mod Summing

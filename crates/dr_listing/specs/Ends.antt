@@ -8,8 +8,9 @@ use Rattle.dr_commands.specs.Answers.{printed_for, status_for}
 use Rattle.dr_commands.specs.declared.status.Status.{Status}
 use Rattle.dr_commands.specs.declared.status.Status.TheVariants as ends
 use Rattle.dr_ledger.specs.declared.fault.LedgerFault.TheVariants as ledger
+use Rattle.dr_listing.specs.Instances.{instance_status}
 use Rattle.dr_listing.specs.declared.halt.Halt.{Halt}
-use Rattle.dr_listing.specs.declared.halt.Halt.TheVariants.{NoPlan, NoCertificate, NoNode, NotOpened, Refused, Failed, Memory}
+use Rattle.dr_listing.specs.declared.halt.Halt.TheVariants.{NoPlan, NoCertificate, NoNode, NotOpened, NoInstance, Refused, Receipt, Failed, Memory}
 use Rattle.dr_listing.specs.declared.ledgers.OpenFault.TheVariants as opening
 
 -- what is printed where a word comes to nothing: what is printed for a text that is no plan, and else nothing
@@ -18,7 +19,9 @@ printed_by (NoPlan answer) = printed_for answer
 printed_by (NoCertificate fault) = []
 printed_by NoNode = []
 printed_by (NotOpened fault) = []
+printed_by (NoInstance fault) = []
 printed_by (Refused fault) = []
+printed_by Receipt = []
 printed_by (Failed failure) = []
 printed_by Memory = []
 
@@ -39,12 +42,14 @@ status_by (NotOpened opening.OtherSite) = ends.Refused
 status_by (NotOpened opening.InUse) = ends.InputOutput
 status_by (NotOpened opening.Store) = ends.InputOutput
 status_by (NotOpened opening.Memory) = ends.Memory
+status_by (NoInstance fault) = instance_status fault
 status_by (Refused ledger.NoLine) = ends.Refused
 status_by (Refused ledger.Conflict) = ends.Refused
 status_by (Refused ledger.Store) = ends.InputOutput
 status_by (Refused ledger.NotWaiting) = ends.Refused
 status_by (Refused ledger.NotHeld) = ends.Refused
 status_by (Refused ledger.Memory) = ends.Memory
+status_by Receipt = ends.Refused
 status_by (Failed failure) = ends.InputOutput
 status_by Memory = ends.Memory
 

@@ -12,7 +12,7 @@ use Rattle.dr_site.specs.Parts.{Part, IsPartOf}
 use Rattle.dr_sound.specs.Certificates.{IsCertificateOf}
 use Rattle.dr_sound.specs.Soundness.{IsSound}
 use Rattle.dr_listing.specs.declared.halt.Halt.{Halt}
-use Rattle.dr_listing.specs.declared.halt.Halt.TheVariants.{NoPlan, NoCertificate, NoNode, NotOpened, Refused, Failed, Memory}
+use Rattle.dr_listing.specs.declared.halt.Halt.TheVariants.{NoPlan, NoCertificate, NoNode, NotOpened, NoInstance, Refused, Receipt, Failed, Memory}
 
 -- a sound plan with its certificate, written by two texts of which these hold
 pub record IsSealedBy (HoldsPlan HoldsCertificate : Text → Type 0) (sealed : Certified) : Type 0 where
@@ -84,6 +84,8 @@ HaltsAs HoldsPlan HoldsCertificate name (NoCertificate fault) =
     (text second : Text) × (plan : Network) × HoldsPlan text × Reads text (Ok plan) × HoldsCertificate second × Unseals plan second fault
 HaltsAs HoldsPlan HoldsCertificate name NoNode = (sealed : Certified) × IsSealedBy HoldsPlan HoldsCertificate sealed × NamesNoNode sealed.plan name
 HaltsAs HoldsPlan HoldsCertificate name (NotOpened fault) = (sealed : Certified) × (site : Part) × IsSiteBy HoldsPlan HoldsCertificate name sealed site
+HaltsAs HoldsPlan HoldsCertificate name (NoInstance fault) = ⊥
 HaltsAs HoldsPlan HoldsCertificate name (Refused fault) = ⊥
+HaltsAs HoldsPlan HoldsCertificate name Receipt = ⊥
 HaltsAs HoldsPlan HoldsCertificate name (Failed failure) = Unit {0}
 HaltsAs HoldsPlan HoldsCertificate name Memory = Unit {0}

@@ -19,6 +19,10 @@ module _ {L : Type 0} (HoldsPlan HoldsCertificate : Text → Type 0) (MayOpen : 
   abbrev pub AtNode : (L → L → Type 0) → Type 0
   AtNode Becomes = (sealed : Certified) × (site : Part) × (old new : L) × IsAt HoldsPlan HoldsCertificate MayOpen site_of name sealed site old × Becomes old new
 
+  -- the same, and so of the sealed plan and the node's site too
+  abbrev pub AtSite : (Certified → Part → L → L → Type 0) → Type 0
+  AtSite Becomes = (sealed : Certified) × (site : Part) × (old new : L) × IsAt HoldsPlan HoldsCertificate MayOpen site_of name sealed site old × Becomes sealed site old new
+
   -- `list`: the report of the node's book, which stays as it is; or why there is none
   abbrev pub Lists : Result Text Halt → Type 0
   Lists (Ok report) = AtNode (λ old new. stands new → (book new ≡ book old) × IsReportOf name (book new) report)

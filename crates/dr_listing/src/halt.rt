@@ -4,6 +4,7 @@ ghost use Rattle.std.specs.Io.KnownBytes.{Appends};
 ghost use Rattle.dr_listing.specs.Ends.{printed_by, status_by};
 ghost use Rattle.dr_listing.specs.declared.halt.Halt.TheVariants as halts;
 
+use crate::instance::InstanceFault;
 use crate::ledgers::OpenFault;
 use dr_cert::CertFault;
 use dr_commands::{Answer, Failure, Status, tell_answer};
@@ -23,8 +24,12 @@ pub enum Halt<'a> {
     NoNode,
     /// The node's ledger isn't opened.
     NotOpened(OpenFault),
+    /// A file has no instance.
+    NoInstance(InstanceFault),
     /// The ledger refused.
     Refused(LedgerFault),
+    /// What threads did at the ledger doesn't agree with its journal.
+    Receipt,
     /// A file wasn't read, or a stream failed.
     Failed(Failure<'a>),
     /// There was no memory.
@@ -64,8 +69,8 @@ impl<'a> From<AllocError> for Halt<'a> {
     }
 }
 
-/// The code and the name of a ledger's refusal.
-fn code_of(fault: LedgerFault) -> &'static str {
+/// The code and the name of a ledger's refusal, as it is printed and logged.
+pub fn code_of(fault: LedgerFault) -> &'static str {
     match fault {
         LedgerFault::NoLine => "G1 NoLine",
         LedgerFault::Conflict => "G2 Conflict",
@@ -121,7 +126,9 @@ impl<'a> Halt<'a> {
             Halt::NoCertificate(fault) => status_of_certificate(*fault),
             Halt::NoNode => Status::Refused,
             Halt::NotOpened(fault) => status_of_opening(*fault),
+            Halt::NoInstance(fault) => fault.status(),
             Halt::Refused(fault) => status_of_refusal(*fault),
+            Halt::Receipt => Status::Refused,
             Halt::Failed(_) => Status::InputOutput,
             Halt::Memory => Status::Memory,
         }
@@ -141,7 +148,9 @@ pub fn tell_halt<W: Write, E: Write>(
         Halt::NoCertificate(fault) => writeln!(faults, "dr_router: {fault}"),
         Halt::NoNode => writeln!(faults, "dr_router: NoNode"),
         Halt::NotOpened(fault) => writeln!(faults, "dr_router: {fault}"),
+        Halt::NoInstance(fault) => writeln!(faults, "dr_router: {fault}"),
         Halt::Refused(fault) => writeln!(faults, "dr_router: {}", code_of(*fault)),
+        Halt::Receipt => writeln!(faults, "dr_router: J1 Receipt"),
         Halt::Failed(_) => Ok(()),
         Halt::Memory => writeln!(faults, "dr_router: Memory"),
     }

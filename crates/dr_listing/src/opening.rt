@@ -7,20 +7,11 @@ use crate::halt::Halt;
 use crate::ledgers::Ledgers;
 use dr_base::Text;
 use dr_cert::Sealed;
-use dr_commands::{Files, plan_of, read_file, seal_text};
+use dr_commands::{Files, NodeFiles, plan_of, read_file, seal_text};
 use dr_ledger::Ledger;
 use dr_plan::Plan;
 use dr_site::{Site, SiteFault};
 use std::alloc::Global;
-
-/// What names a node and its ledger: the paths of the plan's text, of its certificate's and of the ledger, and the node's name.
-#[derive(Clone, Copy, Debug)]
-pub struct NodeFiles<'a> {
-    pub plan: &'a str,
-    pub certificate: &'a str,
-    pub node: &'a str,
-    pub ledger: &'a str,
-}
 
 /// A node that was opened: the sealed plan, the node's site, and its ledger.
 #[derive(Drop)]

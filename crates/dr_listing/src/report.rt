@@ -7,8 +7,8 @@ use dr_ledger::{Ledger, LedgerFault, Progress};
 use dr_script::{put_name, put_report};
 use std::alloc::{AllocError, Global};
 
-/// The report of what a ledger lists.
-fn text_of(
+/// The report of a node whose ledger lists this, and has so many lines.
+pub fn report_text(
     alloc: Global,
     name: &Text,
     arrivals: &Seq<(Text, Text)>,
@@ -43,6 +43,6 @@ pub fn report_of<L: Ledger>(alloc: Global, name: &Text, ledger: &mut L) -> Resul
     let rows = ledger.rows()?;
     let lines = ledger.lines()?;
     let count = lines.len() as u64;
-    let text = text_of(alloc, name, &arrivals, &kept, &rows, count)?;
+    let text = report_text(alloc, name, &arrivals, &kept, &rows, count)?;
     Ok(text)
 }

@@ -130,7 +130,8 @@ pub fn defaulted<F: Form>(
     }
 }
 
-fn is_among(known: &[&str], key: &str) -> bool
+/// Whether the key is known.
+pub fn is_among(known: &[&str], key: &str) -> bool
     ensures { IsTrue result ↔ Contains (map (λ k. k.now) known.now) key.now }
 {
     for k in known {

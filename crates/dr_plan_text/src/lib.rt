@@ -2,12 +2,12 @@
 //! transfer syntaxes and lengths are still as they were written.
 #![tactic(auto)]
 
-mod fault;
-mod fields;
-mod form;
+pub mod fault;
+pub mod fields;
+pub mod form;
 pub mod forms;
 pub mod laws;
-mod tables;
+pub mod tables;
 mod text;
 mod words;
 

@@ -118,7 +118,7 @@ impl TableForm for FlowTable {
 }
 
 /// Whether the format is 1, which is also the default.
-fn is_format_one(root: &Table) -> bool
+pub fn is_format_one(root: &Table) -> bool
     ensures { IsTrue result ↔ IsFormat (get_member (codes "format") (table_view root.now)) }
 {
     match value_at(root, "format") {

@@ -1,4 +1,5 @@
-//! The run of the whole program `dr_router`: the words that need no network (`dr_simulate`), and `echo`.
+//! The run of the whole program `dr_router`: the words that need no network (`dr_simulate`), `echo`, and those of a node that works with its
+//! ledger (`dr_routing`).
 #![tactic(auto)]
 
 mod run;

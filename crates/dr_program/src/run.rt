@@ -3,36 +3,64 @@ ghost use Rattle.std.specs.Prelude.{◌≡◌, ◌≢◌, ◌⊎◌, ℕ, List, 
 ghost use Rattle.std.specs.Borrow.{Bor};
 ghost use Rattle.dr_base.specs.Texts.{Text};
 ghost use Rattle.dr_commands.specs.Runs.{Answers, Verifies};
-ghost use Rattle.dr_commands.specs.Words.{IsPlainCheck, IsCheckOf, IsVerifyOf, IsQuestionOf, IsSimulateOf, IsEchoOf};
+ghost use Rattle.dr_commands.specs.Words.{IsPlainCheck, IsCheckOf, IsVerifyOf, IsQuestionOf, IsSimulateOf, IsEchoOf, IsDutyOf};
 ghost use Rattle.dr_commands.specs.declared.status.Status.TheVariants.{Success, Refused, Usage};
 ghost use Rattle.dr_commands.specs.declared.words.Asked.TheVariants as asks;
+ghost use Rattle.dr_commands.specs.declared.words.Duty.{Duty as DutyValue};
+ghost use Rattle.dr_commands.specs.declared.words.NodeFiles.{NodeFiles as NodeFilesValue};
 ghost use Rattle.dr_commands.specs.declared.words.Question.{Question as QuestionValue};
 ghost use Rattle.dr_echo.specs.Runs.{Echoes};
 ghost use Rattle.dr_questions.specs.Runs.{Asks};
+ghost use Rattle.dr_routing.specs.Sending.{VisitsBy};
+ghost use Rattle.dr_routing.specs.Working.{Works};
 ghost use Rattle.dr_simulate.specs.Runs.{Simulates};
 
 use dr_commands::{Asked, Failure, Files, Status, read_words, tell_failure};
 use dr_echo::echo_files;
-use dr_session::Clock;
+use dr_listing::Ledgers;
+use dr_routing::work_files;
+use dr_serving::OwnPort;
+use dr_session::{Clock, DeskPort};
 use dr_simulate::run_offline;
 use dr_sockets::Network;
+use log::Log;
 use std::alloc::{AllocError, Global};
-use std::io;
 use std::io::{Read, Write};
+use std::sync::Wait;
+use std::thread::Threads;
+use std::{io, time};
 
 /// Does what was asked for.
 ///
 /// Errors: Stream, File.
-fn run_any<'a, R: Read, W: Write, E: Write, F: Files, N: Network, C: Clock>(
+fn run_any<
+    'a,
+    T: Threads + Wait + Sync + time::Clock,
+    R: Read,
+    W: Write,
+    E: Write,
+    F: Files + Sync,
+    O: Ledgers,
+    N: Network + Sync,
+    C: Clock + Sync,
+    G: Log + Sync,
+>(
+    rt: &T,
     alloc: Global,
     asked: Asked<'a>,
     input: &mut R,
     output: &mut W,
     faults: &mut E,
     files: &F,
+    ledgers: &O,
     network: &N,
     clock: &C,
+    log: &G,
 ) -> Result<Status, Failure<'a>>
+where
+    O::Ledger: Send,
+    N::Socket: Send,
+    N::Listener: Sync,
     ensures known { asked.entry ≡ asks.CheckInput → IfOk result (λ status. status ≢ Usage) }
     ensures answered { asked.entry ≡ asks.CheckInput → IfOk result (λ status. IfSome (R.remaining input.old) (λ text. Answers text (W.contents output.old) (W.contents output.new) status)) }
     ensures checked { (plan : Bor (List ℕ)) → asked.entry ≡ asks.CheckFile plan
@@ -46,6 +74,7 @@ fn run_any<'a, R: Read, W: Write, E: Write, F: Files, N: Network, C: Clock>(
     ensures echoed { (plan caller called : Bor (List ℕ)) → asked.entry ≡ asks.Echo plan caller called
         → IfOk result (λ status. (text : Text) × F.holds files.now plan.now text
         × Echoes (N.reaches network.now) N.Socket.hears N.Socket.sends N.Socket.closes (C.tells clock.now) caller.now called.now text (W.contents output.old) (W.contents output.new) status) }
+    ensures worked { (given : NodeFilesValue) (duty : DutyValue) → asked.entry ≡ asks.AtNode given duty → IfOk result (Works (F.holds files.now) (O.opens ledgers.now) O.Ledger.site O.Ledger.book O.Ledger.stands (VisitsBy (N.reaches network.now) N.Socket.hears N.Socket.sends N.Socket.closes ⟦<OwnPort<O::Ledger> as DeskPort>⟧.step (C.tells clock.now)) given duty (W.contents output.old) (W.contents output.new)) }
 {
     match asked {
         Asked::Echo(plan, caller, called) => {
@@ -53,21 +82,41 @@ fn run_any<'a, R: Read, W: Write, E: Write, F: Files, N: Network, C: Clock>(
                 alloc, files, plan, caller, called, network, clock, output, faults,
             )
         }
+        Asked::AtNode(given, duty) => work_files(
+            rt, alloc, files, ledgers, given, duty, network, clock, log, output, faults,
+        ),
         other => run_offline(alloc, other, input, output, faults, files),
     }
 }
 
 /// Runs the program on the words of its command line, without the program's own name, and answers how it ends.
-pub fn run_words<R: Read, W: Write, E: Write, F: Files, N: Network, C: Clock>(
+pub fn run_words<
+    T: Threads + Wait + Sync + time::Clock,
+    R: Read,
+    W: Write,
+    E: Write,
+    F: Files + Sync,
+    O: Ledgers,
+    N: Network + Sync,
+    C: Clock + Sync,
+    G: Log + Sync,
+>(
+    rt: &T,
     alloc: Global,
     words: &[&str],
     input: &mut R,
     output: &mut W,
     faults: &mut E,
     files: &F,
+    ledgers: &O,
     network: &N,
     clock: &C,
+    log: &G,
 ) -> Status
+where
+    O::Ledger: Send,
+    N::Socket: Send,
+    N::Listener: Sync,
     ensures known { IsPlainCheck words.now → result ≢ Usage }
     ensures answered { IsPlainCheck words.now → (result ≡ Success) ⊎ (result ≡ Refused)
         → IfSome (R.remaining input.old) (λ text. Answers text (W.contents output.old) (W.contents output.new) result) }
@@ -82,6 +131,8 @@ pub fn run_words<R: Read, W: Write, E: Write, F: Files, N: Network, C: Clock>(
     ensures echoed { (plan caller called : Bor (List ℕ)) → IsEchoOf words.now plan caller called → (result ≡ Success) ⊎ (result ≡ Refused)
         → (text : Text) × F.holds files.now plan.now text
         × Echoes (N.reaches network.now) N.Socket.hears N.Socket.sends N.Socket.closes (C.tells clock.now) caller.now called.now text (W.contents output.old) (W.contents output.new) result }
+    ensures worked { (given : NodeFilesValue) (duty : DutyValue) → IsDutyOf words.now given duty → (result ≡ Success) ⊎ (result ≡ Refused)
+        → Works (F.holds files.now) (O.opens ledgers.now) O.Ledger.site O.Ledger.book O.Ledger.stands (VisitsBy (N.reaches network.now) N.Socket.hears N.Socket.sends N.Socket.closes ⟦<OwnPort<O::Ledger> as DeskPort>⟧.step (C.tells clock.now)) given duty (W.contents output.old) (W.contents output.new) result }
 {
     let asked = match read_words(alloc, words) {
         Ok(asked) => asked,
@@ -90,7 +141,9 @@ pub fn run_words<R: Read, W: Write, E: Write, F: Files, N: Network, C: Clock>(
             faults,
         ),
     };
-    match run_any(alloc, asked, input, output, faults, files, network, clock) {
+    match run_any(
+        rt, alloc, asked, input, output, faults, files, ledgers, network, clock, log,
+    ) {
         Ok(status) => status,
         Err(failure) => tell_failure(&failure, faults),
     }

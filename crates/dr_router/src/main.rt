@@ -1,14 +1,25 @@
-//! The program `dr_router`: `run_words` of `dr_program` on the system's words, files, input, outputs, network and clock.
+//! The program `dr_router`: `run_words` of `dr_program` on the system's words, files, ledgers, input, outputs, network, clock and log.
 #![tactic(auto)]
 
-use dr_commands::{Disk, Status, given_words, tell_unread_words};
-use dr_program::run_words;
-use dr_sockets::{Sockets, SystemClock};
-use std::io;
-use std::process::ExitCode;
+mod events;
+mod files;
+mod over;
 
-/// Runs the program on its words, which fails only where they can't be read.
-fn run(rt: &HostRuntime) -> io::Result<Status> {
+use crate::events::EventLog;
+use crate::files::SystemFiles;
+use crate::over::run_stored;
+use dr_commands::{Disk, Status, given_words, tell_unread_words};
+use dr_sockets::{Sockets, SystemClock};
+use std::process::ExitCode;
+use std::sync::Wait;
+use std::thread::Threads;
+use std::{io, time};
+
+/// Runs the program on its words, which fails only where they can't be read. `threads` is the runtime too, by which nodes run.
+fn run<T: Threads + Wait + Sync + time::Clock>(
+    rt: &HostRuntime,
+    threads: &T,
+) -> io::Result<Status> {
     let given = given_words(rt)?;
     let mut words = Vec::new(rt.alloc());
     for word in given.as_slice() {
@@ -16,21 +27,24 @@ fn run(rt: &HostRuntime) -> io::Result<Status> {
     }
     let (mut input, mut output, mut faults) = (rt.stdin(), rt.stdout(), rt.stderr());
     let clock = SystemClock::start(rt);
-    let status = run_words(
+    let status = run_stored(
+        threads,
         rt.alloc(),
         words.as_slice(),
         &mut input,
         &mut output,
         &mut faults,
         &Disk::new(rt),
+        &SystemFiles(rt),
         &Sockets::new(rt, &clock),
         &clock,
+        &EventLog { rt, clock: &clock },
     );
     Ok(status)
 }
 
 fn main(rt: HostRuntime) -> ExitCode {
-    let status = match run(&rt) {
+    let status = match run(&rt, &rt) {
         Ok(status) => status,
         Err(error) => tell_unread_words(&error, &mut rt.stderr()),
     };

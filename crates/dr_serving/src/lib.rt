@@ -3,6 +3,7 @@
 //! - `serve`: workers serve the associations that others ask for, on a desk that threads share; one thread sends. It visits each
 //!   hop with a due row once a round, and then sleeps until the next row is due or until a worker has made one.
 //! - `visit_each`: each hop with a due row is visited once, in order.
+//! - `events`: what is logged of associations, instances and visits. `Monitor`: a log that may want reports of what the node has too.
 //!
 //! A visit is one association for each hop (`dr_session::deliver`). Where there is no connection, or the association came to
 //! nothing, the first due row is settled as broken, so that it is due later, and each visit gets on.
@@ -10,13 +11,19 @@
 //! That a thread runs, sleeps or is woken in time is claimed by no contract; a node that runs on loopback shows it.
 #![tactic(auto)]
 
+pub mod events;
+pub mod monitor;
+pub mod reporting;
 pub mod rounds;
 pub mod sending;
 pub mod serving;
 pub mod signal;
 pub mod tallied;
 pub mod visit;
+pub mod watch;
 
+pub use events::Shown;
+pub use monitor::{FileMonitor, Monitor};
 pub use sending::visit_each;
 pub use serving::{ServeFault, serve};
 pub use tallied::{OwnPort, SharedPort, Tallied};

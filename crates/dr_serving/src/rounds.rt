@@ -1,18 +1,22 @@
 //! The rounds of the one who sends.
-ghost use Rattle.std.specs.Prelude.{◌≡◌, ◌≤◌, ◌^◌};
+ghost use Rattle.std.specs.Prelude.{◌≡◌, ◌≤◌, ◌^◌, IfErr, false};
 
-use crate::signal::{News, Signal};
-use crate::tallied::SharedPort;
+use crate::events::tell_visit;
+use crate::monitor::Monitor;
+use crate::reporting::{PERIOD, Told, report_changes};
+use crate::signal::{BEGIN, News, Signal};
+use crate::tallied::{SharedPort, Tallied};
 use crate::visit::{Visit, visit_hop};
 use dr_base::Text;
 use dr_desk::{Pass, SharedDesk, Sharing};
 use dr_ledger::{Ledger, LedgerFault, Progress};
 use dr_listing::Hop;
-use dr_session::Clock;
+use dr_session::{Clock, Ended};
 use dr_sockets::Network;
+use log::Log;
 use std::alloc::Global;
 use std::sync::Wait;
-use std::time;
+use std::{mem, time};
 
 /// No row waits.
 const NEVER: u64 = u64::MAX;
@@ -20,10 +24,11 @@ const NEVER: u64 = u64::MAX;
 /// The last moment: whatever waits is due then.
 const LAST: u64 = 1 << 62;
 
-/// The one who sends looks at least once in so many milliseconds.
+/// No sleep is longer, in milliseconds; reports cut it to their period.
 const LONGEST: u64 = 60_000;
 
-/// After a fault of the store, or want of memory, it waits for so many milliseconds.
+/// After a fault of the store, or want of memory, it waits for so many milliseconds; and a hop where not all could be sent is visited again so
+/// many milliseconds later.
 const PAUSE: u64 = 1_000;
 
 /// From which moment on the first of the rows that wait for the destination is due.
@@ -43,10 +48,22 @@ fn next_due<R: Wait, L: Ledger, B: Sharing>(
     }
 }
 
-/// Visits a hop, if one of its rows is due; where a worker may have made one, that is looked up.
+/// When a hop, whose first row that waits is due at a moment, is visited again after a visit. Where that didn't end well it isn't at once: it puts one
+/// row off alone, and each of the others would cost a connection.
+fn again_at(visit: &Visit, due: u64, now: u64) -> u64
+    ensures { due ≤ result }
+{
+    match visit {
+        Visit::Idle | Visit::Ended(Ended::Released) => due,
+        _ => due.max(now.saturating_add(PAUSE)),
+    }
+}
+
+/// Visits a hop, if one of its rows is due; where a worker may have made one, that is looked up. After a
+/// fault it is looked at in the next round, since it isn't known what is due.
 ///
 /// Errors: those of a visit.
-fn look<R: Wait, L: Ledger, B: Sharing, N: Network, C: Clock>(
+fn look<R: Wait, L: Ledger, B: Sharing, N: Network, C: Clock, G: Log>(
     rt: &R,
     alloc: Global,
     desk: &SharedDesk<L, B>,
@@ -55,12 +72,21 @@ fn look<R: Wait, L: Ledger, B: Sharing, N: Network, C: Clock>(
     news: bool,
     network: &N,
     clock: &C,
-) -> Result<(), LedgerFault> {
+    log: &G,
+) -> Result<(), LedgerFault>
+    ensures { IfErr result (λ why. hop.new.due ≡ 0) }
+{
     let is_due = hop.due <= clock.now();
     if !is_due && !news {
         return Ok(());
     }
-    let mut port = SharedPort { rt, desk, pass };
+    let before = pass.count();
+    let mut port = SharedPort {
+        rt,
+        desk,
+        pass,
+        log,
+    };
     let visited = visit_hop(
         alloc,
         desk.site(),
@@ -69,16 +95,22 @@ fn look<R: Wait, L: Ledger, B: Sharing, N: Network, C: Clock>(
         network,
         &mut port,
         clock,
-    )?;
-    match visited {
-        Visit::Idle if !is_due => {}
-        _ => hop.due = next_due(rt, desk, &hop.dest)?,
+    );
+    let settled = port.tally().saturating_sub(before);
+    tell_visit(log, &hop.dest, &visited, settled);
+    let due = mem::replace(&mut hop.due, 0);
+    match visited? {
+        Visit::Idle if !is_due => hop.due = due,
+        visit => {
+            let due = next_due(rt, desk, &hop.dest)?;
+            hop.due = again_at(&visit, due, clock.now());
+        }
     }
     Ok(())
 }
 
 /// One round: each hop with a due row is visited once. Says whether no visit failed.
-fn round<R: Wait, L: Ledger, B: Sharing, N: Network, C: Clock>(
+fn round<R: Wait, L: Ledger, B: Sharing, N: Network, C: Clock, G: Log>(
     rt: &R,
     alloc: Global,
     desk: &SharedDesk<L, B>,
@@ -87,10 +119,11 @@ fn round<R: Wait, L: Ledger, B: Sharing, N: Network, C: Clock>(
     news: bool,
     network: &N,
     clock: &C,
+    log: &G,
 ) -> bool {
     let mut all_well = true;
     for hop in hops {
-        let looked = look(rt, alloc, desk, pass, hop, news, network, clock);
+        let looked = look(rt, alloc, desk, pass, hop, news, network, clock, log);
         all_well = all_well && looked.is_ok();
     }
     all_well
@@ -98,7 +131,8 @@ fn round<R: Wait, L: Ledger, B: Sharing, N: Network, C: Clock>(
 
 /// How long the one who sends may sleep, in milliseconds.
 fn sleep_for(hops: &[Hop], now: u64, all_well: bool) -> u64
-    ensures { result ≤ 60000 }
+    ensures longest { result ≤ 60000 }
+    ensures rests { all_well ≡ false → result ≡ 1000 }
 {
     let mut sleep = LONGEST;
     for hop in hops {
@@ -107,8 +141,9 @@ fn sleep_for(hops: &[Hop], now: u64, all_well: bool) -> u64
     if all_well { sleep } else { PAUSE }
 }
 
-/// Sends what is due, round after round, until no worker is left; then there is one last round.
-fn send_rounds<R: Wait + time::Clock, L: Ledger, B: Sharing, N: Network, C: Clock>(
+/// Sends what is due, round after round, until no worker is left; then there is one last round. After each it is told what has changed. Where no worker
+/// ever begins, nothing is sent.
+fn send_rounds<R: Wait + time::Clock, L: Ledger, B: Sharing, N: Network, C: Clock, G: Monitor>(
     rt: &R,
     alloc: Global,
     desk: &SharedDesk<L, B>,
@@ -117,24 +152,32 @@ fn send_rounds<R: Wait + time::Clock, L: Ledger, B: Sharing, N: Network, C: Cloc
     signal: &Signal,
     network: &N,
     clock: &C,
+    log: &G,
 ) {
+    if !signal.has_begun(rt, BEGIN) {
+        return;
+    }
     let mut news = News {
+        begun: true,
         rows: true,
         over: false,
     };
+    let mut told = Told::new();
     for _ in rt.forever() {
         let looks = news.rows || news.over;
-        let all_well = round(rt, alloc, desk, pass, hops, looks, network, clock);
+        let all_well = round(rt, alloc, desk, pass, hops, looks, network, clock, log);
+        let now = clock.now();
+        told = report_changes(rt, alloc, desk, hops, told, now, news.over, log);
         if news.over {
             return;
         }
-        let sleep = sleep_for(hops, clock.now(), all_well);
+        let sleep = sleep_for(hops, now, all_well).min(PERIOD);
         news = signal.wait(rt, sleep);
     }
 }
 
 /// Sends what is due for these hops, as long as workers serve, and gives its pass back.
-pub fn send_all<R: Wait + time::Clock, L: Ledger, B: Sharing, N: Network, C: Clock>(
+pub fn send_all<R: Wait + time::Clock, L: Ledger, B: Sharing, N: Network, C: Clock, G: Monitor>(
     rt: &R,
     alloc: Global,
     desk: &SharedDesk<L, B>,
@@ -143,6 +186,7 @@ pub fn send_all<R: Wait + time::Clock, L: Ledger, B: Sharing, N: Network, C: Clo
     signal: &Signal,
     network: &N,
     clock: &C,
+    log: &G,
 ) -> Pass<B> {
     let (mut pass, mut hops) = (pass, hops);
     send_rounds(
@@ -154,6 +198,7 @@ pub fn send_all<R: Wait + time::Clock, L: Ledger, B: Sharing, N: Network, C: Clo
         signal,
         network,
         clock,
+        log,
     );
     pass
 }

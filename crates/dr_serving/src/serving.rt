@@ -4,8 +4,11 @@ ghost use Rattle.dr_desk.specs.Growing.{BeginWith};
 ghost use Rattle.dr_ledger.specs.Histories.{IsJournalled};
 ghost use Rattle.dr_ledger.specs.SiteRoutes.{site_routing};
 
+use crate::events::tell_unaccepted;
+use crate::monitor::Monitor;
 use crate::rounds::send_all;
-use crate::signal::{Bell, Signal};
+use crate::signal::{BEGIN, Signal};
+use crate::watch::Watch;
 use crossbeam_channel::{Receiver, Sender, bounded};
 use dr_desk::{CloseFault, Desk, Pass, SharedDesk, Sharing};
 use dr_ledger::{Ledger, LedgerFault};
@@ -14,6 +17,7 @@ use dr_session::{Clock, Link};
 use dr_site::Site;
 use dr_sockets::{Listening, Network};
 use dr_workers::{Connection, WorkersFault, workers};
+use log::Log;
 use std::alloc::{AllocError, AllocFailed, Global};
 use std::marker::Brand;
 use std::sync::Wait;
@@ -68,23 +72,44 @@ impl<'a, C: Clock> Clock for ClockOf<'a, C> {
     }
 }
 
-/// Accepts so many connections, or, for 0, each that comes, and hands them to the workers.
-fn accept_links<'a, R: Wait + time::Clock, K: Link + Drop, D: Listening<Socket = K>, C: Clock>(
+/// Accepts so many connections, or, for 0, each that comes, and hands them to the workers. Of accepts that fail one after the other the first is told.
+/// Says whether there were workers: where the system gave no thread for them it accepts nothing.
+fn accept_links<
+    'a,
+    R: Wait + time::Clock,
+    K: Link + Drop,
+    D: Listening<Socket = K>,
+    C: Clock,
+    G: Log,
+>(
     rt: &R,
     listener: &D,
     to: Sender<Connection<K, ClockOf<'a, C>>>,
     links: u64,
+    signal: &Signal,
     clock: &'a C,
-) {
-    let mut count = 0u64;
+    log: &G,
+) -> bool {
+    if !signal.has_begun(rt, BEGIN) {
+        return false;
+    }
+    let (mut count, mut is_failing) = (0u64, false);
     for _ in rt.forever() {
         if links != 0 && count >= links {
-            return;
+            return true;
         }
-        let Ok(link) = listener.accept() else {
-            thread::sleep(rt, Duration::from_millis(AGAIN));
-            continue;
+        let link = match listener.accept() {
+            Ok(link) => link,
+            Err(error) => {
+                if !is_failing {
+                    tell_unaccepted(log, &error);
+                }
+                is_failing = true;
+                thread::sleep(rt, Duration::from_millis(AGAIN));
+                continue;
+            }
         };
+        is_failing = false;
         count = count.saturating_add(1);
         let connection = Connection {
             session: count,
@@ -92,9 +117,10 @@ fn accept_links<'a, R: Wait + time::Clock, K: Link + Drop, D: Listening<Socket =
             clock: ClockOf(clock),
         };
         if to.send(rt, connection).is_err() {
-            return;
+            return true;
         }
     }
+    true
 }
 
 /// Works until the channel is closed and empty. Where the workers can't begin, nobody receives any more.
@@ -104,15 +130,18 @@ fn work<
     B: Sharing + Send + Sync,
     K: Link + Drop + Send,
     C: Clock + Drop + Send,
+    G: Log + Sync,
 >(
     rt: &R,
     alloc: Global,
     from: Receiver<Connection<K, C>>,
     desk: &SharedDesk<L, B>,
     signal: &Signal,
+    log: &G,
 ) -> Result<Vec<Pass<B>>, WorkersFault> {
-    let bell = Bell { rt, signal };
-    let passes = workers(rt, alloc, WORKERS, &from, desk, &bell);
+    signal.begin(rt);
+    let watch = Watch { rt, signal, log };
+    let passes = workers(rt, alloc, WORKERS, &from, desk, &watch);
     drop(from);
     signal.end(rt);
     passes
@@ -126,6 +155,7 @@ fn serve_links<
     K: Link + Drop + Send,
     D: Listening<Socket = K> + Sync,
     C: Clock + Sync,
+    G: Log + Sync,
 >(
     rt: &R,
     alloc: Global,
@@ -134,14 +164,22 @@ fn serve_links<
     links: u64,
     signal: &Signal,
     clock: &C,
+    log: &G,
 ) -> Result<Vec<Pass<B>>, WorkersFault> {
-    let (to, from) = bounded(alloc, QUEUE)?;
-    let (passes, ()) = thread::join(
+    let Ok((to, from)) = bounded(alloc, QUEUE) else {
+        signal.end(rt);
+        return Err(WorkersFault::Memory);
+    };
+    let (passes, has_served) = thread::join(
         rt,
-        || work(rt, alloc, from, desk, signal),
-        || accept_links(rt, listener, to, links, clock),
+        || work(rt, alloc, from, desk, signal, log),
+        || accept_links(rt, listener, to, links, signal, clock, log),
     );
-    passes
+    if has_served {
+        passes
+    } else {
+        Err(WorkersFault::Memory)
+    }
 }
 
 /// Serves and sends, side by side; the passes of those who serve, and that of the one who sends.
@@ -153,6 +191,7 @@ fn serve_all<
     D: Listening<Socket = K> + Sync,
     N: Network + Sync,
     C: Clock + Sync,
+    G: Monitor + Sync,
 >(
     rt: &R,
     alloc: Global,
@@ -164,11 +203,12 @@ fn serve_all<
     signal: &Signal,
     network: &N,
     clock: &C,
+    log: &G,
 ) -> (Result<Vec<Pass<B>>, WorkersFault>, Pass<B>) {
     thread::join(
         rt,
-        || serve_links(rt, alloc, desk, listener, links, signal, clock),
-        || send_all(rt, alloc, desk, own, hops, signal, network, clock),
+        || serve_links(rt, alloc, desk, listener, links, signal, clock, log),
+        || send_all(rt, alloc, desk, own, hops, signal, network, clock, log),
     )
 }
 
@@ -181,6 +221,7 @@ fn serve_shared<
     D: Listening<Socket = K> + Sync,
     N: Network + Sync,
     C: Clock + Sync,
+    G: Monitor + Sync,
 >(
     rt: &R,
     alloc: Global,
@@ -190,6 +231,7 @@ fn serve_shared<
     links: u64,
     network: &N,
     clock: &C,
+    log: &G,
 ) -> Result<L, ServeFault>
     requires { B.all ≡ B.parts }
     ensures begins { IfOk result (λ l. L.stands l → BeginWith B.first (L.book l).lines) }
@@ -201,7 +243,7 @@ fn serve_shared<
     };
     let signal = Signal::new();
     let (passes, own) = serve_all(
-        rt, alloc, &desk, own, hops, listener, links, &signal, network, clock,
+        rt, alloc, &desk, own, hops, listener, links, &signal, network, clock, log,
     );
     let Ok(mut passes) = passes else {
         return Err(ServeFault::Memory);
@@ -245,6 +287,7 @@ fn share<
     D: Listening<Socket = K> + Sync,
     N: Network + Sync,
     C: Clock + Sync,
+    G: Monitor + Sync,
 >(
     rt: &R,
     alloc: Global,
@@ -256,6 +299,7 @@ fn share<
     links: u64,
     network: &N,
     clock: &C,
+    log: &G,
 ) -> Result<L, ServeFault>
     requires blank { (blank.name ≡ B.name) × (blank.parts ≡ B.parts) × (B.all ≡ B.parts) × (B.all ≡ 65536) }
     requires first { B.first ≡ (L.book ledger).lines }
@@ -269,12 +313,13 @@ fn share<
         Err((LedgerFault::Memory, _)) => return Err(ServeFault::Memory),
         Err(_) => return Err(ServeFault::Store),
     };
-    serve_shared(rt, alloc, desk, hops, listener, links, network, clock)
+    serve_shared(rt, alloc, desk, hops, listener, links, network, clock, log)
 }
 
 /// Serves the associations that are asked for at a listener, by four workers, and sends what is due, by one thread: each hop with a due
 /// row is visited once a round. It ends after so many connections (for 0 never), when these are served and one last round is
-/// made, and gives the ledger back: its journal begins with the lines that it had, and is a history of the node's site.
+/// made, and gives the ledger back: its journal begins with the lines that it had, and is a history of the node's site. Events are
+/// logged as they happen; where reports are wanted, the one who sends writes one at the start, every ten seconds if something has changed, and at the end.
 ///
 /// Errors: Receipt, Store, Memory.
 pub fn serve<
@@ -284,6 +329,7 @@ pub fn serve<
     D: Listening<Socket = K> + Sync,
     N: Network + Sync,
     C: Clock + Sync,
+    G: Monitor + Sync,
 >(
     rt: &R,
     alloc: Global,
@@ -294,13 +340,14 @@ pub fn serve<
     links: u64,
     network: &N,
     clock: &C,
+    log: &G,
 ) -> Result<L, ServeFault>
     requires { L.site ledger ≡ site }
     ensures begins { IfOk result (λ l. L.stands l → BeginWith (L.book ledger).lines (L.book l).lines) }
     ensures history { IfOk result (λ l. L.stands l → ∥ IsJournalled (site_routing site) (L.book l) ∥₁) }
     ensures of { IfOk result (λ l. L.site l ≡ site) }
 {
-    share::<R, L, Brand, K, D, N, C>(
+    share::<R, L, Brand, K, D, N, C, G>(
         rt,
         alloc,
         ledger,
@@ -311,5 +358,6 @@ pub fn serve<
         links,
         network,
         clock,
+        log,
     )
 }

@@ -1,16 +1,20 @@
 //! What wakes the one who sends.
-use dr_workers::{Gate, Point};
 use std::sync::{Condvar, Mutex, MutexGuard, Wait};
 use std::time::{Clock, Duration};
 
 /// What has happened since it was asked last.
 #[derive(Clone, Copy, PartialEq, Eq, Debug)]
 pub struct News {
+    /// The workers' thread runs.
+    pub begun: bool,
     /// A worker may have made a row.
     pub rows: bool,
     /// No worker is left: what is due now is sent, and that is all.
     pub over: bool,
 }
+
+/// For how many milliseconds the workers' thread is awaited.
+pub const BEGIN: u64 = 60_000;
 
 /// Wakes the one who sends.
 #[derive(Drop)]
@@ -24,6 +28,7 @@ impl Signal {
     pub fn new() -> Signal {
         Signal {
             news: Mutex::new(News {
+                begun: false,
                 rows: false,
                 over: false,
             }),
@@ -31,16 +36,34 @@ impl Signal {
         }
     }
 
+    /// The workers' thread runs.
+    pub fn begin<R: Wait>(&self, rt: &R) {
+        self.news.lock(rt).begun = true;
+        self.changed.notify_all();
+    }
+
+    /// Whether the workers' thread runs; where it doesn't, it waits for so many milliseconds. Where the system gives no thread, it never runs.
+    pub fn has_begun<R: Wait + Clock>(&self, rt: &R, milliseconds: u64) -> bool {
+        let held = self.news.lock(rt);
+        let (held, _) = self.changed.wait_timeout_while(
+            rt,
+            held,
+            Duration::from_millis(milliseconds),
+            |news| !news.begun && !news.over,
+        );
+        held.begun
+    }
+
     /// A row may have been made.
     pub fn ring<R: Wait>(&self, rt: &R) {
         self.news.lock(rt).rows = true;
-        self.changed.notify_one();
+        self.changed.notify_all();
     }
 
     /// No worker is left.
     pub fn end<R: Wait>(&self, rt: &R) {
         self.news.lock(rt).over = true;
-        self.changed.notify_one();
+        self.changed.notify_all();
     }
 
     /// What has happened since it was asked last; where nothing has, it waits for so many milliseconds.
@@ -55,20 +78,5 @@ impl Signal {
         let news = *held;
         held.rows = false;
         news
-    }
-}
-
-/// Rings where an arrival was answered.
-#[derive(Drop)]
-pub struct Bell<'a, R: Wait> {
-    pub rt: &'a R,
-    pub signal: &'a Signal,
-}
-
-impl<'a, R: Wait> Gate for Bell<'a, R> {
-    fn at(&self, _session: u64, point: Point) {
-        if point == Point::Stored {
-            self.signal.ring(self.rt);
-        }
     }
 }

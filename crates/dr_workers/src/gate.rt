@@ -1,4 +1,7 @@
-//! Points of a session at which it may be held.
+//! What a session's worker tells of it, and points at which the session may be held.
+use dr_base::Text;
+use dr_ledger::{Arrived, LedgerFault};
+use dr_session::{Ended, SessionFault};
 
 /// How far a session is.
 #[derive(Clone, Copy, PartialEq, Eq, Debug)]
@@ -11,7 +14,27 @@ pub enum Point {
     Answered,
 }
 
+/// What came of a session: how many instances the desk took, as new or again, and refused, and how long it was, in milliseconds since its connection came.
+#[derive(Clone, Copy, PartialEq, Eq, Debug)]
+pub struct Tally {
+    pub accepted: u64,
+    pub refused: u64,
+    pub milliseconds: u64,
+}
+
 /// Where a session may be held, and is seen. It is called without the desk's lock, and may wait.
 pub trait Gate {
     fn at(&self, session: u64, point: Point);
+
+    /// The desk answered the arrival of the instance of this UID from a caller.
+    fn arrived(
+        &self,
+        session: u64,
+        caller: &Text,
+        uid: &Text,
+        answer: Result<Arrived, LedgerFault>,
+    );
+
+    /// The session is over.
+    fn ended(&self, session: u64, ended: Result<Ended, SessionFault>, tally: Tally);
 }

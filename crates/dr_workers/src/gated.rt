@@ -2,18 +2,18 @@
 ghost use Rattle.std.specs.Prelude.{◌≡◌, ◌≤◌, ◌^◌, false};
 ghost use Rattle.dr_session.specs.Links.{Counts, IsLinkFault};
 
+use crate::counts::SessionCounts;
 use crate::gate::{Gate, Point};
 use dr_session::{Heard, Link};
-use std::cell::Cell;
 
 /// A connection's link. After a write that was done the gate is passed once for each arrival that was answered and whose
-/// reply wasn't sent before; `stored` counts them.
+/// reply wasn't sent before.
 #[derive(Drop)]
 pub struct GatedLink<'a, K: Link + Drop, G: Gate> {
     pub link: K,
     pub gate: &'a G,
     pub session: u64,
-    pub stored: &'a Cell<u64>,
+    pub counts: &'a SessionCounts,
 }
 
 impl<'a, K: Link + Drop, G: Gate> Link for GatedLink<'a, K, G> {
@@ -38,7 +38,7 @@ impl<'a, K: Link + Drop, G: Gate> Link for GatedLink<'a, K, G> {
     fn send(&mut self, bytes: &[u8]) -> bool {
         let sent = self.link.send(bytes);
         if sent {
-            for _ in 0..self.stored.replace(0) {
+            for _ in 0..self.counts.take_unanswered() {
                 self.gate.at(self.session, Point::Answered);
             }
         }

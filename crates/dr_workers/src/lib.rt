@@ -5,11 +5,12 @@
 #![tactic(auto)]
 
 pub mod connection;
+mod counts;
 pub mod gate;
 mod gated;
 mod port;
 pub mod serving;
 
 pub use connection::Connection;
-pub use gate::{Gate, Point};
+pub use gate::{Gate, Point, Tally};
 pub use serving::{WorkersFault, workers};

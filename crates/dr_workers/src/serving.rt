@@ -2,6 +2,7 @@
 ghost use Rattle.std.specs.Prelude.{◌≤◌, ◌≡◌, IfOk, vec_len};
 
 use crate::connection::Connection;
+use crate::counts::SessionCounts;
 use crate::gate::{Gate, Point};
 use crate::gated::GatedLink;
 use crate::port::SessionPort;
@@ -10,7 +11,6 @@ use dr_desk::{Pass, SharedDesk, Sharing, TooManyPasses};
 use dr_ledger::Ledger;
 use dr_session::{Clock, Link, receive};
 use std::alloc::{AllocError, Global};
-use std::cell::Cell;
 use std::sync::Wait;
 use std::thread;
 use std::thread::Threads;
@@ -106,12 +106,13 @@ fn serve<R: Wait, L: Ledger, B: Sharing, K: Link + Drop, C: Clock + Drop, G: Gat
         clock,
     } = connection;
     gate.at(session, Point::Taken);
-    let stored = Cell::new(0);
+    let counts = SessionCounts::new();
+    let opened = link.opened();
     let mut link = GatedLink {
         link,
         gate,
         session,
-        stored: &stored,
+        counts: &counts,
     };
     let mut port = SessionPort {
         rt,
@@ -119,7 +120,12 @@ fn serve<R: Wait, L: Ledger, B: Sharing, K: Link + Drop, C: Clock + Drop, G: Gat
         pass,
         gate,
         session,
-        stored: &stored,
+        counts: &counts,
     };
-    let _ended = receive(alloc, &mut link, desk.site(), &mut port, &clock, others);
+    let ended = receive(alloc, &mut link, desk.site(), &mut port, &clock, others);
+    gate.ended(
+        session,
+        ended,
+        counts.tally(clock.now().saturating_sub(opened)),
+    );
 }

@@ -6,10 +6,11 @@ use crate::samples::{Empty, site};
 use crossbeam_channel::{Receiver, Sender, bounded};
 use dr_base::Text;
 use dr_desk::{CloseFault, Desk, Pass, SharedDesk, Sharing};
-use dr_ledger::Ledger;
+use dr_ledger::{Arrived, Ledger, LedgerFault};
 use dr_memory::MemoryLedger;
+use dr_session::{Ended, SessionFault};
 use dr_site::Site;
-use dr_workers::{Connection, Gate, Point, workers};
+use dr_workers::{Connection, Gate, Point, Tally, workers};
 use std::alloc::{AllocError, Global};
 use std::marker::Brand;
 use std::sync::Wait;
@@ -45,6 +46,10 @@ impl<'a, R: Clock> Gate for Holding<'a, R> {
         }
         self.given_up.store(1, Ordering::SeqCst);
     }
+
+    fn arrived(&self, _: u64, _: &Text, _: &Text, _: Result<Arrived, LedgerFault>) {}
+
+    fn ended(&self, _: u64, _: Result<Ended, SessionFault>, _: Tally) {}
 }
 
 /// It holds nobody.
@@ -53,6 +58,10 @@ pub struct Open;
 
 impl Gate for Open {
     fn at(&self, _session: u64, _point: Point) {}
+
+    fn arrived(&self, _: u64, _: &Text, _: &Text, _: Result<Arrived, LedgerFault>) {}
+
+    fn ended(&self, _: u64, _: Result<Ended, SessionFault>, _: Tally) {}
 }
 
 /// What came of the sessions: how many of their images the desk has, the least and the greatest that a pass counts, how many lines the

@@ -1,13 +1,16 @@
-use Rattle.std.proofs.Common.{◌≡◌, ℕ, List, ap, Option, Some}
+use Rattle.std.proofs.Common.{◌≡◌, ℕ, List, ap, subst, sym, Option, Some}
 use Rattle.std.specs.Borrow.{Bor}
 use Rattle.std.specs.Prelude.{unwrap_or}
 use Rattle.std.proofs.lemmas.Option.{none-some}
 use Rattle.dr_commands.specs.declared.words.Asked.{Asked}
 use Rattle.dr_commands.specs.declared.words.Asked.TheVariants as asks
+use Rattle.dr_commands.specs.declared.words.Duty.{Duty}
+use Rattle.dr_commands.specs.declared.words.Duty.TheVariants as duties
 use Rattle.dr_commands.specs.declared.words.KeyWords.{KeyWords}
+use Rattle.dr_commands.specs.declared.words.NodeFiles.{NodeFiles}
 use Rattle.dr_commands.specs.declared.words.Question.{Question}
 use Rattle.dr_commands.specs.declared.words.Question.TheVariants as questions
-use Rattle.dr_commands.specs.Words.{IsGraphOf, IsLintOf, IsFileRouteOf, IsKeyRouteOf, IsQuestionOf}
+use Rattle.dr_commands.specs.Words.{IsGraphOf, IsLintOf, IsFileRouteOf, IsKeyRouteOf, IsQuestionOf, IsListOf, IsSummaryOf, IsServeOf, IsSendOf, IsRequeueOf, IsRequeueAllOf, IsDutyOf, plain_serving}
 use Rattle.dr_commands.proofs.words.read_words.Goals as goal
 
 -- what an answer has
@@ -57,3 +60,27 @@ returns-in-Some-clause-question c = λ plan certificate question h.
 pub returns-clause-question : goal.returns-clause-question
 returns-clause-question c = λ plan certificate question h. absurd (none-some (asks.Question plan certificate question)
     (of_question _ _ c.in_default.ensures.graph c.in_default.ensures.lint c.in_default.ensures.route_of_file c.in_default.ensures.route_of_key plan certificate question h))
+
+-- an answer is right for each duty, where it is for each kind of them
+module _ (words : List (Bor (List ℕ))) (found : Option Asked)
+    (list : (given : NodeFiles) → IsListOf words given → found ≡ Some (asks.AtNode given duties.List))
+    (summary : (given : NodeFiles) → IsSummaryOf words given → found ≡ Some (asks.AtNode given duties.Summary))
+    (requeue_all : (given : NodeFiles) (dest : Bor (List ℕ)) → IsRequeueAllOf words given dest → found ≡ Some (asks.AtNode given (duties.RequeueAll dest)))
+    (requeue : (given : NodeFiles) (uid dest : Bor (List ℕ)) → IsRequeueOf words given uid dest → found ≡ Some (asks.AtNode given (duties.Requeue uid dest)))
+    (send : (given : NodeFiles) (file : Bor (List ℕ)) → IsSendOf words given file → found ≡ Some (asks.AtNode given (duties.Send file)))
+    (serve : (given : NodeFiles) → IsServeOf words given → found ≡ Some (asks.AtNode given (duties.Serve plain_serving))) where
+  of_duty : (given : NodeFiles) (duty : Duty) → IsDutyOf words given duty → found ≡ Some (asks.AtNode given duty)
+  of_duty given duties.List h = list given h
+  of_duty given duties.Summary h = summary given h
+  of_duty given (duties.RequeueAll dest) h = requeue_all given dest h
+  of_duty given (duties.Requeue uid dest) h = requeue given uid dest h
+  of_duty given (duties.Send file) h = send given file h
+  of_duty given (duties.Serve serving) h = subst (λ n. found ≡ Some (asks.AtNode given (duties.Serve n))) (sym h.1) (serve given h.0)
+
+pub returns-in-Some-clause-duty : goal.returns-in-Some-clause-duty
+returns-in-Some-clause-duty c = λ given duty h.
+    ap what (of_duty _ _ c.in-Some.ensures.list c.in-Some.ensures.summary c.in-Some.ensures.requeue_all c.in-Some.ensures.requeue c.in-Some.ensures.send c.in-Some.ensures.serve given duty h)
+
+pub returns-clause-duty : goal.returns-clause-duty
+returns-clause-duty c = λ given duty h. absurd (none-some (asks.AtNode given duty)
+    (of_duty _ _ c.in_default.ensures.list c.in_default.ensures.summary c.in_default.ensures.requeue_all c.in_default.ensures.requeue c.in_default.ensures.send c.in_default.ensures.serve given duty h))

@@ -1,8 +1,8 @@
-use Rattle.std.proofs.Common.{◌≡◌, ◌+◌, ◌⊎◌, inl, inr, List, Contains, [], ◌∷◌, drop, rules, subst, sym, ap, ◌∙◌, true≢false}
+use Rattle.std.proofs.Common.{◌≡◌, ◌+◌, ◌⊎◌, inl, inr, Contains, ◌∷◌, drop, subst, sym, ap, ◌∙◌, true≢false}
 use Rattle.std.specs.Prelude.{◌↔◌}
 use Rattle.std.proofs.lemmas.List.{drop_more}
 use Rattle.std.specs.FinSet as set
-use Rattle.dr_base.specs.Texts.{Text, text_cmp}
+use Rattle.dr_base.specs.Texts.{text_cmp}
 use Rattle.dr_ledger.proofs.Maps.{texts}
 use Rattle.dr_history.specs.Trees.{as_set}
 use Rattle.dr_history.proofs.Mapped.{no_keys}

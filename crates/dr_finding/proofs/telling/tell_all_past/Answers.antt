@@ -1,9 +1,8 @@
-use Rattle.std.proofs.Common.{◌≡◌, ◌+◌, ◌++◌, ◌∷◌, [], List, ℕ, take, subst, sym}
+use Rattle.std.proofs.Common.{◌≡◌, ◌+◌, ◌++◌, ◌∷◌, [], take, subst, sym}
 use Rattle.std.proofs.lemmas.List.{take_more}
 use Rattle.dr_base.specs.Texts.{text_cmp}
 use Rattle.dr_history.specs.Lines.{line_of}
 use Rattle.dr_history.specs.Trees.{as_map}
-use Rattle.dr_lists.specs.declared.listing.Note.{Note}
 use Rattle.dr_finding.specs.Journal.{AreLinesOf}
 use Rattle.dr_finding.proofs.Journals.{line_push}
 use Rattle.dr_finding.proofs.telling.tell_all_past.Goals as goal

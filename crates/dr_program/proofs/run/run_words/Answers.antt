@@ -18,3 +18,7 @@ returns-in-Ok-run_any-clause-echoed g c = λ plan caller called asks ends.
 pub returns-in-Ok-run_any-clause-responded : goal.returns-in-Ok-run_any-clause-responded
 returns-in-Ok-run_any-clause-responded g c = λ plan certificate question asks ends.
     c.in-Ok-run_any.ensures.responded plan certificate question (c.in-Ok.ensures.question plan certificate question asks)
+
+pub returns-in-Ok-run_any-clause-worked : goal.returns-in-Ok-run_any-clause-worked
+returns-in-Ok-run_any-clause-worked g c = λ given duty asks ends.
+    c.in-Ok-run_any.ensures.worked given duty (c.in-Ok.ensures.duty given duty asks)

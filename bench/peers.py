@@ -1,0 +1,200 @@
+#!/usr/bin/env python3
+"""Measures running nodes of the built program beside dcmtk's storescp, on loopback and this machine's disk, all in one run.
+
+    bench/peers.py            # some minutes, on a machine that does nothing else
+    bench/peers.py --tiny     # a few small files: whether it runs, not how fast
+
+storescp never syncs a file that it writes (seen by strace, 3.6.7); a node acknowledges what is synced. So the disk's own
+syncs are measured too: a node can't acknowledge more instances a second than the disk syncs, association by association.
+"""
+import os
+import random
+import statistics
+import subprocess
+import sys
+import tempfile
+import threading
+import time
+
+sys.dont_write_bytecode = True
+HERE = os.path.dirname(os.path.abspath(__file__))
+sys.path.insert(0, f'{os.path.dirname(HERE)}/tests')
+from requestor import ACCEPTED, RELEASED, Requestor
+from rooms import PROGRAM, Room, element, part10, stop
+
+LONG = 600
+SIZES = (('1 kB', 1 << 10, 1000), ('512 kB', 512 << 10, 200), ('32 MB', 32 << 20, 8))
+TINY = (('1 kB', 1 << 10, 3), ('16 kB', 16 << 10, 3), ('1 MB', 1 << 20, 2))
+
+
+def image(size):
+    """An element of pixels of about that size, whose bytes differ."""
+    return element(0x7FE0, 0x10, b'OW', random.Random(size).randbytes(size))
+
+
+def put_files(room, name, size, count):
+    """A folder of files of that size, each an instance of its own."""
+    os.makedirs(f'{room.folder}/{name}', exist_ok=True)
+    pixels = image(size)
+    for number in range(count):
+        room.put(f'{name}/{number}.dcm', part10(f'1.2.{size}.{number}'.encode(), pixels))
+
+
+def send(room, node, name, sender):
+    """dcmsend sends the folder's files in one association; how long that takes from its start to its end."""
+    begun = time.monotonic()
+    run = subprocess.run(['dcmsend', '-aet', sender, '-aec', node, '+sd', '127.0.0.1', str(room.ports[node]), name], cwd=room.folder,
+                         env={**os.environ, 'TCP_NODELAY': '1'}, capture_output=True, timeout=LONG, check=False)
+    assert run.returncode == 0, run
+    return time.monotonic() - begun
+
+
+def storescp(room):
+    os.makedirs(f'{room.folder}/stored', exist_ok=True)
+    process = room.start('storescp', '-aet', 'ARCH', '+B', '-od', 'stored', str(room.ports['ARCH']), env={**os.environ, 'TCP_NODELAY': '1'})
+    room.wait_for('ARCH', process)
+    return process
+
+
+def row(what, *figures):
+    print(f'{what:<58}' + ''.join(f'{figure:>16}' for figure in figures), flush=True)
+
+
+def rate(count, seconds):
+    return f'{count / seconds:.1f}/s'
+
+
+# ---- what is measured
+
+def syncs(count):
+    """Writes 1 kB behind what is there and syncs it, again and again."""
+    spent = []
+    with tempfile.TemporaryDirectory() as room, open(f'{room}/file', 'wb', buffering=0) as file:
+        for _ in range(count):
+            begun = time.monotonic()
+            file.write(bytes(1024))
+            os.fdatasync(file.fileno())
+            spent.append(time.monotonic() - begun)
+    row('fdatasync of 1 kB: a second, median', rate(count, sum(spent)), f'{1000 * statistics.median(spent):.2f} ms')
+
+
+def receiving(sizes):
+    """The same files by dcmsend into a node that keeps them, and into storescp; the shorter of two runs each, in turn."""
+    row('receiving by dcmsend: files a second', 'node', 'storescp', 'node/storescp')
+    for name, size, count in sizes:
+        best = {}
+        for _ in range(2):
+            for start in ours, storescp:
+                with Room() as room:
+                    put_files(room, 'files', size, count)
+                    process = start(room)
+                    spent = send(room, 'ARCH', 'files', 'GATE')
+                    best[start] = min(spent, best.get(start, spent))
+                    stop(process)
+        row(f'  {count} of {name}', rate(count, best[ours]), rate(count, best[storescp]), f'{best[storescp] / best[ours]:.2f}')
+
+
+def ours(room):
+    return room.serve('ARCH', 0)
+
+
+def forwarding(sizes):
+    """What waits at GATE goes to ARCH over one association. It is queued while ARCH takes connections and answers none, so that
+    each row is due at once when GATE starts again."""
+    row('forwarding: files a second')
+    for name, size, count in sizes:
+        with Room() as room:
+            put_files(room, 'files', size, count)
+            mute = room.start(sys.executable, '-c', 'import socket, sys, time\n'
+                              'listener = socket.create_server(("127.0.0.1", int(sys.argv[1])))\ntime.sleep(3600)', str(room.ports['ARCH']))
+            room.wait_for('ARCH', mute)
+            gate = room.serve('GATE', 0)
+            send(room, 'GATE', 'files', 'CT1')
+            stop(gate)
+            stop(mute)
+            arch = room.serve('ARCH', 0)
+            begun = time.monotonic()
+            gate = room.serve('GATE', 1)
+            with Requestor(room.ports['GATE'], 'CT1', 'GATE') as caller:
+                caller.release()
+            out, err = gate.communicate(timeout=LONG)
+            spent = time.monotonic() - begun
+            done = sum(line.endswith('\tdone') for line in out.decode().splitlines())
+            assert done == count, (done, count, err)
+            stop(arch)
+            row(f'  {count} of {name}', rate(count, spent), f'{count * size / spent / 1e6:.1f} MB/s')
+
+
+def associations(count):
+    """Associations with an echo, each over a connection of its own, one after another and eight at a time."""
+    row('associations with an echo, a second', 'node', 'storescp', 'node/storescp')
+    for at_once in 1, 8:
+        spent = {}
+        for start in ours, storescp:
+            with Room() as room:
+                process = start(room)
+                def echo_often():
+                    for _ in range(count // at_once):
+                        with Requestor(room.ports['ARCH'], 'GATE', 'ARCH') as caller:
+                            assert (caller.answer[0], caller.echo(), caller.release()) == (ACCEPTED, 0, RELEASED)
+                threads = [threading.Thread(target=echo_often) for _ in range(at_once)]
+                begun = time.monotonic()
+                for thread in threads:
+                    thread.start()
+                for thread in threads:
+                    thread.join()
+                spent[start] = time.monotonic() - begun
+                stop(process)
+        made = count // at_once * at_once
+        row(f'  {made}, {at_once} at a time', rate(made, spent[ours]), rate(made, spent[storescp]), f'{spent[storescp] / spent[ours]:.2f}')
+
+
+def most_memory(process):
+    with open(f'/proc/{process.pid}/status', encoding='ascii') as file:
+        return next(int(line.split()[1]) / 1024 for line in file if line.startswith('VmHWM'))
+
+
+def memory(size):
+    """The node's greatest resident memory: before anything came, and behind four transfers at once."""
+    with Room() as room:
+        for number in range(4):
+            room.put(f'{number}.dcm', part10(f'1.2.3.{number}'.encode(), image(size)))
+        arch = room.serve('ARCH', 0)
+        idle = most_memory(arch)
+        senders = [room.start('storescu', '-aet', 'GATE', '-aec', 'ARCH', '127.0.0.1', str(room.ports['ARCH']), f'{number}.dcm') for number in range(4)]
+        for sender in senders:
+            sender.communicate(timeout=LONG)
+            assert sender.returncode == 0, sender.args
+        row(f'greatest memory: idle, and with 4 x {size >> 20} MB at once', f'{idle:.1f} MB', f'{most_memory(arch):.1f} MB')
+        stop(arch)
+
+
+def starting(count):
+    """From the start of a process until it listens: with no file, and with one of so many instances."""
+    def start(room):
+        begun = time.monotonic()
+        stop(room.serve('ARCH', 0))
+        return time.monotonic() - begun
+    with Room() as room:
+        new = start(room)
+        put_files(room, 'files', 1 << 10, count)
+        process = room.serve('ARCH', 0)
+        send(room, 'ARCH', 'files', 'GATE')
+        stop(process)
+        row(f'start to listening: a new file, and {count} lines', f'{new:.2f} s', f'{start(room):.2f} s')
+
+
+def main():
+    if not os.path.exists(PROGRAM):
+        sys.exit(f'{PROGRAM} is not built')
+    tiny = sys.argv[1:] == ['--tiny']
+    sizes = TINY if tiny else SIZES
+    syncs(20 if tiny else 500)
+    receiving(sizes)
+    forwarding(sizes[:2])
+    associations(8 if tiny else 400)
+    memory(sizes[2][1])
+    starting(10 if tiny else 5000)
+
+
+main()

@@ -1,0 +1,16 @@
+//! What a ledger has.
+use dr_base::{Seq, Text};
+use dr_ledger::Progress;
+
+/// What a ledger has at one moment, as its calls list it.
+#[derive(Debug, Drop)]
+pub struct Holdings {
+    /// The accepted pairs of a caller and a UID.
+    pub arrivals: Seq<(Text, Text)>,
+    /// The kept UIDs, with the lengths of the bodies (bytes).
+    pub kept: Seq<(Text, u64)>,
+    /// How far each UID is on its way to each destination.
+    pub rows: Seq<((Text, Text), Progress)>,
+    /// How many lines its journal has.
+    pub lines: u64,
+}

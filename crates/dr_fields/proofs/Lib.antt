@@ -1,0 +1,4 @@
+pub mod Flawed
+pub mod Refuted
+pub mod Indices
+pub mod Small

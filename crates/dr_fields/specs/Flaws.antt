@@ -1,0 +1,65 @@
+-- What is wrong with the tables of a plan's text, field by field.
+use Rattle.std.specs.Prelude.{◌≡◌, ℕ, Option, None, Some, IsSome, codes}
+use Rattle.toml.specs.Data.{Data, Items, no_items, Members, as_array, as_table, get_item, get_member}
+use Rattle.dr_base.specs.Texts.{Text}
+use Rattle.dr_plan_text.specs.Tables.{IsAcceptTable, IsRuleTable, IsNodeTable, IsFlowTable, IsRoot}
+use Rattle.dr_fields.specs.declared.flaw.Flaw.{Flaw}
+use Rattle.dr_fields.specs.declared.flaw.Wrong.{Wrong}
+use Rattle.dr_fields.specs.declared.flaw.Wrong.TheVariants.{Missing, Unknown, IllFormed}
+use Rattle.dr_fields.specs.declared.place.FieldPlace.{FieldPlace}
+use Rattle.dr_fields.specs.declared.place.FieldPlace.TheVariants.{Root, OfNode, OfFlow}
+use Rattle.dr_fields.specs.declared.place.NodePart.{NodePart}
+use Rattle.dr_fields.specs.declared.place.NodePart.TheVariants.{Own, AcceptRow, Rule}
+
+-- whatever else stands in a table: where at this key it has what these fields have, it isn't of the form
+abbrev pub IsAtFault : {X : Type 0} → (Members → X → Type 0) → Members → Text → Type 0
+IsAtFault {X} IsTable fields key = (other : Members) (x : X) → get_member key other ≡ get_member key fields → IsTable other x → ⊥
+
+-- a field stands at this key, at which no table of the form has one
+abbrev pub IsUnknown : {X : Type 0} → (Members → X → Type 0) → Members → Text → Type 0
+IsUnknown {X} IsTable fields key = IsSome (get_member key fields) × ((other : Members) (x : X) → IsTable other x → get_member key other ≡ None)
+
+-- this is wrong with the fields, as those of a table of the form
+abbrev pub HasWrong : {X : Type 0} → (Members → X → Type 0) → Members → Text → Wrong → Type 0
+HasWrong IsTable fields key Missing = IsAtFault IsTable fields key × (get_member key fields ≡ None)
+HasWrong IsTable fields key Unknown = IsUnknown IsTable fields key
+HasWrong IsTable fields key IllFormed = IsAtFault IsTable fields key × IsSome (get_member key fields)
+
+-- the fields have this flaw
+abbrev pub HasFlaw : {X : Type 0} → (Members → X → Type 0) → Members → Flaw → Type 0
+HasFlaw IsTable fields flaw = HasWrong IsTable fields flaw.key flaw.wrong
+
+-- the items of an array, if there is one
+abbrev pub items_in : Option Items → Items
+items_in None = no_items
+items_in (Some items) = items
+
+-- the items of the array at a key
+abbrev pub items_at : Option Data → Items
+items_at None = no_items
+items_at (Some value) = items_in (as_array value)
+
+-- the table that a value is
+abbrev pub table_in : Option Data → Option Members
+table_in None = None
+table_in (Some value) = as_table value
+
+-- at this index of the array at the key stands a table with these fields
+abbrev pub IsRow : Text → Members → ℕ → Members → Type 0
+IsRow key fields index row = table_in (get_item index (items_at (get_member key fields))) ≡ Some row
+
+-- a row of the array at the key has the flaw, or whatever else this says of its fields
+abbrev pub InRow : (Members → Type 0) → Text → Members → ℕ → Type 0
+InRow P key fields index = (row : Members) × IsRow key fields index row × P row
+
+-- the flaw stands in this part of the node's table
+abbrev pub IsInNode : Members → NodePart → Flaw → Type 0
+IsInNode node Own flaw = HasFlaw IsNodeTable node flaw
+IsInNode node (AcceptRow index) flaw = InRow (λ row. HasFlaw IsAcceptTable row flaw) (codes "accept") node index
+IsInNode node (Rule index) flaw = InRow (λ row. HasFlaw IsRuleTable row flaw) (codes "rule") node index
+
+-- the flaw stands at this place of the text's tables
+abbrev pub IsIn : Members → FieldPlace → Flaw → Type 0
+IsIn root Root flaw = HasFlaw IsRoot root flaw
+IsIn root (OfNode index part) flaw = InRow (λ node. IsInNode node part flaw) (codes "node") root index
+IsIn root (OfFlow index) flaw = InRow (λ flow. HasFlaw IsFlowTable flow flaw) (codes "flow") root index

@@ -1,0 +1,33 @@
+-- Laws of flaws, and small tables.
+use Rattle.std.specs.Prelude.{◌≡◌, pos, [], codes}
+use Rattle.toml.specs.Data.{integer, Members, no_members, member}
+use Rattle.dr_plan_text.specs.Tables.{IsRoot}
+use Rattle.dr_plan_text.specs.declared.words.PlanText.{PlanText}
+use Rattle.dr_fields.specs.Flaws.{HasFlaw, IsIn}
+use Rattle.dr_fields.specs.declared.flaw.Flaw.{Flaw}
+use Rattle.dr_fields.specs.declared.flaw.Wrong.TheVariants.{Missing, Unknown, IllFormed}
+use Rattle.dr_fields.specs.declared.place.FieldPlace.{FieldPlace}
+
+-- tables with a flaw at any place write no plan
+abbrev pub PlacesRefute : Type 0
+PlacesRefute = (root : Members) (place : FieldPlace) (flaw : Flaw) (plan : PlanText) → IsIn root place flaw → IsRoot root plan → ⊥
+
+-- the text's table `colour = 1`
+abbrev pub coloured : Members
+coloured = member (codes "colour") (integer (pos 1)) no_members
+
+-- its key isn't known
+abbrev pub ColourIsUnknown : Type 0
+ColourIsUnknown = HasFlaw IsRoot coloured (record { key = codes "colour"; wrong = Unknown })
+
+-- nothing is wrong with its format, which it doesn't give
+abbrev pub FormatIsNotMissing : Type 0
+FormatIsNotMissing = HasFlaw IsRoot coloured (record { key = codes "format"; wrong = Missing }) → ⊥
+
+-- the text's table `format = 2`
+abbrev pub second_format : Members
+second_format = member (codes "format") (integer (pos 2)) no_members
+
+-- its format is ill-formed
+abbrev pub SecondFormatIsIllFormed : Type 0
+SecondFormatIsIllFormed = HasFlaw IsRoot second_format (record { key = codes "format"; wrong = IllFormed })

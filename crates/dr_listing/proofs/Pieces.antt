@@ -1,0 +1,16 @@
+-- Texts that are written piece by piece.
+use Rattle.std.proofs.Common.{◌≡◌, ◌∙◌, ◌++◌, [], ℕ, List, ap, append_assoc}
+use Rattle.std.proofs.lemmas.List.{append-nil}
+
+-- a piece behind what is there
+pub behind : (a b p q : List ℕ) → p ≡ a → q ≡ p ++ b → q ≡ a ++ b
+behind a b p q first later = later ∙ ap (λ (x : List ℕ). x ++ b) first
+
+-- a piece behind what was added
+pub chained : (o a b p q : List ℕ) → p ≡ o ++ a → q ≡ p ++ b → q ≡ o ++ (a ++ b)
+chained o a b p q first later = later ∙ (ap (λ (x : List ℕ). x ++ b) first ∙ append_assoc o a b)
+
+-- a word, nine fields, of which six were added in pairs, and what ends their line
+pub as_fields : (w d a b e f g h o m l : List ℕ)
+    → w ++ d ++ (a ++ b) ++ (e ++ f) ++ (g ++ h) ++ o ++ m ++ l ≡ (w ++ (d ++ (a ++ (b ++ (e ++ (f ++ (g ++ (h ++ (o ++ (m ++ [])))))))))) ++ l
+as_fields w d a b e f g h o m l = simp (append_assoc, append-nil)

@@ -1,0 +1,4 @@
+pub mod Firsts
+pub mod Flaws
+pub mod Named
+pub mod Placed

@@ -1,0 +1,95 @@
+//! What stands below the name of a fault.
+ghost use Rattle.std.specs.Prelude.{◌≡◌, Err};
+ghost use Rattle.dr_plan.specs.Reading.{Passes, Reads};
+ghost use Rattle.dr_plan_text.specs.Tables.{Writes};
+ghost use Rattle.dr_plan_text.specs.declared.words.PlanText.{PlanText as Written};
+
+use crate::fields::describe_field;
+use crate::place::place_of;
+use crate::print::add_number;
+use crate::wording::describe;
+use dr_base::Text;
+use dr_plan::PlanFault;
+use dr_plan_text::read_text;
+use std::alloc::{AllocError, Global};
+use toml::de::Error;
+
+/// The line and the column, both from 1, of what stands behind these bytes. A column counts characters.
+fn position_behind(before: &[u8]) -> (usize, usize) {
+    let mut line: usize = 1;
+    let mut column: usize = 1;
+    for byte in before {
+        if *byte == b'\n' {
+            line = line.saturating_add(1);
+            column = 1;
+        } else if *byte & 0xC0 != 0x80 {
+            column = column.saturating_add(1);
+        }
+    }
+    (line, column)
+}
+
+/// Where the reader of TOML stopped in the text, and why, in words.
+fn stopped_at(alloc: Global, before: &[u8], error: &Error) -> Result<Text, AllocError> {
+    let (line, column) = position_behind(before);
+    let mut out = Vec::from_slice(alloc, b"  line ")?;
+    add_number(&mut out, line)?;
+    out.extend_from_slice(b", column ")?;
+    add_number(&mut out, column)?;
+    out.extend_from_slice(b": ")?;
+    out.extend_from_slice(error.message().as_bytes())?;
+    out.extend_from_slice(b"\n")?;
+    Ok(Text::from_vec(out))
+}
+
+/// Where a text that isn't TOML stops to be, in words; nothing for one that is.
+fn explain_toml(alloc: Global, text: &[u8]) -> Result<Text, AllocError> {
+    let error = match toml::table_from_slice(alloc, text) {
+        Ok(_) => return Ok(Text::empty(alloc)),
+        Err(error) => error,
+    };
+    let Some(span) = error.span() else {
+        return Err(AllocError);
+    };
+    stopped_at(alloc, &text[..span.start], &error)
+}
+
+/// Where a text in TOML has a field that is missing, unknown or ill-formed, in words.
+fn explain_field(alloc: Global, text: &[u8]) -> Result<Text, AllocError> {
+    match toml::table_from_slice(alloc, text) {
+        Ok(root) => describe_field(alloc, &root),
+        Err(_) => Err(AllocError),
+    }
+}
+
+/// The place of the fault of the plan that the text writes, in words.
+fn explain_plan(alloc: Global, text: &[u8], fault: PlanFault) -> Result<Text, AllocError>
+    requires { (plan : Written) × Writes text.now plan × Passes plan (Err fault) }
+{
+    let Ok(plan) = read_text(alloc, text) else {
+        return Err(AllocError);
+    };
+    match place_of(&plan, fault) {
+        Some(place) => describe(alloc, &plan, place),
+        None => Ok(Text::empty(alloc)),
+    }
+}
+
+/// What stands below the name of the text's fault: lines that are indented by two blanks, and tell where it stands. Nothing for a fault of which no place is
+/// known.
+///
+/// Errors: want of memory.
+pub fn explain(alloc: Global, text: &[u8], fault: PlanFault) -> Result<Text, AllocError>
+    requires { Reads text.now (Err fault) }
+{
+    match fault {
+        PlanFault::NotToml => explain_toml(alloc, text),
+        PlanFault::Field => explain_field(alloc, text),
+        PlanFault::Memory => Ok(Text::empty(alloc)),
+        PlanFault::Syntax => explain_plan(alloc, text, PlanFault::Syntax),
+        PlanFault::Name => explain_plan(alloc, text, PlanFault::Name),
+        PlanFault::Limit => explain_plan(alloc, text, PlanFault::Limit),
+        PlanFault::UnknownNode => explain_plan(alloc, text, PlanFault::UnknownNode),
+        PlanFault::SelfRoute => explain_plan(alloc, text, PlanFault::SelfRoute),
+    }
+}

@@ -1,0 +1,83 @@
+//! The program over anything that it can run on.
+use crate::files::{Databases, StoredLedgers};
+use dr_commands::{Files, Status};
+use dr_listing::Ledgers;
+use dr_program::run_words;
+use dr_session::Clock;
+use dr_sockets::Network;
+use log::Log;
+use std::alloc::Global;
+use std::io::{Read, Write};
+use std::sync::Wait;
+use std::thread::Threads;
+use std::time;
+
+/// `run_words`, without what it promises: said of the system's own files, ledgers and sockets, on which nothing is known, that is long, and no more than
+/// what it says of any.
+pub fn run_over<
+    T: Threads + Wait + Sync + time::Clock,
+    R: Read,
+    W: Write,
+    E: Write,
+    F: Files + Sync,
+    O: Ledgers,
+    N: Network + Sync,
+    C: Clock + Sync,
+    G: Log + Sync,
+>(
+    rt: &T,
+    alloc: Global,
+    words: &[&str],
+    input: &mut R,
+    output: &mut W,
+    faults: &mut E,
+    files: &F,
+    ledgers: &O,
+    network: &N,
+    clock: &C,
+    log: &G,
+) -> Status
+where
+    O::Ledger: Send,
+    N::Socket: Send,
+    N::Listener: Sync,
+{
+    run_words(
+        rt, alloc, words, input, output, faults, files, ledgers, network, clock, log,
+    )
+}
+
+/// The same, with ledgers in databases.
+pub fn run_stored<
+    T: Threads + Wait + Sync + time::Clock,
+    R: Read,
+    W: Write,
+    E: Write,
+    F: Files + Sync,
+    D: Databases,
+    N: Network + Sync,
+    C: Clock + Sync,
+    G: Log + Sync,
+>(
+    rt: &T,
+    alloc: Global,
+    words: &[&str],
+    input: &mut R,
+    output: &mut W,
+    faults: &mut E,
+    files: &F,
+    databases: &D,
+    network: &N,
+    clock: &C,
+    log: &G,
+) -> Status
+where
+    D::Store: Send,
+    N::Socket: Send,
+    N::Listener: Sync,
+{
+    let ledgers = StoredLedgers(databases);
+    run_over(
+        rt, alloc, words, input, output, faults, files, &ledgers, network, clock, log,
+    )
+}

@@ -1,0 +1,11 @@
+use Rattle.std.proofs.Common.{◌∙◌, subst}
+use Rattle.std.specs.Prelude.{MatchResult}
+use Rattle.dr_base.specs.Texts.{Text}
+use Rattle.dr_routing.specs.Serving.{Grew, IsUnserved}
+use Rattle.dr_routing.proofs.running.serve_opened.Goals as goal
+
+pub returns : goal.returns
+returns g c =
+    let P : Text → Type 0 = λ name. MatchResult c.serve_ledger.result
+    (λ text. (last : g.row.L.Denot) × (g.L.Ledger.stands last → Grew c.args.opened.site name (g.L.Ledger.book c.args.opened.ledger) (g.L.Ledger.book last) text)) IsUnserved in
+    subst P (c.in_ok-name.ensures ∙ c.name.ensures) c.serve_ledger.ensures

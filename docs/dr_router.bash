@@ -1,0 +1,41 @@
+# What bash offers for the words of dr_router; `source docs/dr_router.bash` turns it on.
+
+# The titles of the nodes in a plan's text.
+_dr_router_nodes() {
+    sed -n 's/^ *name *= *"\([^"]*\)".*/\1/p' "$1" 2>/dev/null
+}
+
+_dr_router() {
+    local words="check verify route graph lint simulate echo serve send list requeue help"
+    local current=${COMP_WORDS[COMP_CWORD]} word=${COMP_WORDS[1]} plan=${COMP_WORDS[2]}
+    COMPREPLY=()
+    if [ "$COMP_CWORD" -eq 1 ]; then
+        mapfile -t COMPREPLY < <(compgen -W "$words" -- "$current")
+        return
+    fi
+    if [ "$word ${COMP_WORDS[COMP_CWORD - 1]}" = "serve --log" ]; then
+        mapfile -t COMPREPLY < <(compgen -W "error info debug" -- "$current")
+        return
+    fi
+    if [ "$word ${COMP_WORDS[COMP_CWORD - 1]}" = "serve --report" ]; then
+        mapfile -t COMPREPLY < <(compgen -f -- "$current")
+        return
+    fi
+    case "$word $COMP_CWORD" in
+        "route 4" | "echo "[34] | "serve 4" | "send 4" | "list 4" | "requeue "[47])
+            local IFS=$'\n'
+            mapfile -t COMPREPLY < <(compgen -W "$(_dr_router_nodes "$plan")" -- "$current") ;;
+        "check 2" | "verify "[23] | "route "[235] | "graph "[23] | "lint "[23] | "simulate "[234] | "echo 2" | "serve "[235] | "send "[2356] | "list "[235] | "requeue "[235])
+            mapfile -t COMPREPLY < <(compgen -f -- "$current") ;;
+        "serve 6" | "serve 8" | "serve 10")
+            mapfile -t COMPREPLY < <(compgen -W "--links --log --report" -- "$current") ;;
+        "list 6")
+            mapfile -t COMPREPLY < <(compgen -W "--summary" -- "$current") ;;
+        "requeue 6")
+            mapfile -t COMPREPLY < <(compgen -W "--all-held" -- "$current") ;;
+        "help 2")
+            mapfile -t COMPREPLY < <(compgen -W "$words" -- "$current") ;;
+    esac
+}
+
+complete -o filenames -F _dr_router dr_router ./dr_router

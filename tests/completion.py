@@ -1,0 +1,45 @@
+#!/usr/bin/env python3
+"""Compares what bash offers for the words of the program (docs/dr_router.bash) with the words that the program's help lists.
+
+    tests/completion.py [PROGRAM]
+"""
+import os
+import re
+import subprocess
+import sys
+
+TOP = os.path.dirname(os.path.dirname(os.path.abspath(__file__)))
+PROGRAM = sys.argv[1] if sys.argv[1:] else f'{TOP}/crates/dr_router/out/dr_router'
+
+
+def offered(*words):
+    """What is offered for the last of these words."""
+    quoted = ' '.join(f"'{word}'" for word in ('dr_router', *words))
+    script = f'source docs/dr_router.bash; COMP_WORDS=({quoted}); COMP_CWORD={len(words)}; _dr_router; printf "%s\\n" "${{COMPREPLY[@]}}"'
+    ended = subprocess.run(['bash', '-c', script], cwd=TOP, capture_output=True, text=True, check=True)
+    return ended.stdout.split('\n')[:-1]
+
+
+def compare(what, want, got):
+    if want != got:
+        sys.exit(f'completion: {what}: expected {want}, got {got}')
+
+
+def main():
+    text = subprocess.run([PROGRAM, '--help'], capture_output=True, text=True, check=True).stdout
+    commands = re.search(r'^Commands:\n((?:  .*\n)+)', text, re.MULTILINE).group(1)
+    compare('the words', sorted(re.findall(r'^  (\w+)', commands, re.MULTILINE)), sorted(offered('')))
+    compare('a word begun', ['verify'], offered('ve'))
+    plan = 'plans/three-nodes.toml'
+    compare('a plan', [plan], offered('check', 'plans/three-nodes.t'))
+    compare('a node', ['CT1', 'GATE', 'ARCH'], offered('echo', plan, ''))
+    compare('a node begun', ['GATE'], offered('route', plan, 'certificate', 'G'))
+    compare('the node of a ledger', ['ARCH'], offered('requeue', plan, 'certificate', 'A'))
+    compare('a destination', ['CT1'], offered('requeue', plan, 'certificate', 'ARCH', 'arch.db', '1.2', 'C'))
+    compare('an image behind a node', ['docs/USAGE.md'], offered('route', plan, 'certificate', 'GATE', 'docs/US'))
+    compare('nothing behind all words', [''], offered('graph', plan, 'certificate', ''))
+    print('completion: the words of the program, files and nodes')
+
+
+if __name__ == '__main__':
+    main()

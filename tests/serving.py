@@ -1,0 +1,199 @@
+#!/usr/bin/env python3
+"""Runs routers of the sample plan on loopback, each a process of the built program with a ledger in a file: an instance enters at CT1, goes by
+GATE and is kept at ARCH. Then what a person meets: a file that another program has open, another node's file, a dead hop, repeats, kill -9.
+
+    tests/serving.py
+"""
+import os
+import re
+import signal
+import sys
+import time
+
+sys.dont_write_bytecode = True
+from rooms import LIMIT, PROGRAM, Room, data_set, element, ended, lines, part10, run_cases, same, stop, told
+
+
+def three_nodes():
+    """An instance enters at CT1, goes by GATE and is kept at ARCH; then it is sent once more."""
+    with Room() as room:
+        room.put('image.dcm', part10(b'1.2.3.4'))
+        size = len(data_set(b'1.2.3.4'))
+        arch = room.serve('ARCH', 1)
+        gate = room.serve('GATE', 1)
+        sent = room.at('send', 'CT1', 'image.dcm')
+        same((sent.returncode, sent.stderr), (0, b''))
+        same(lines(sent.stdout), ['new', 'node\tCT1', 'arrival\t-\t1.2.3.4', 'row\t1.2.3.4\tGATE\tdone', 'lines\t2'])
+        same(ended(gate), ['node\tGATE', 'arrival\tCT1\t1.2.3.4', 'row\t1.2.3.4\tARCH\tdone', 'lines\t2'])
+        same(ended(arch), ['node\tARCH', 'arrival\tGATE\t1.2.3.4', f'kept\t1.2.3.4\t{size}', 'lines\t1'])
+        for node in 'GATE', 'ARCH', 'CT1':
+            first, second = room.at('list', node), room.at('list', node)
+            same((first.returncode, first.stderr), (0, b''))
+            same(first.stdout, second.stdout)
+        again = room.at('send', 'CT1', 'image.dcm')
+        same(lines(again.stdout)[:1], ['again'])
+        same(again.returncode, 0)
+
+
+def refusals():
+    """What is refused, by which name and with which status."""
+    with Room() as room:
+        room.put('image.dcm', part10(b'1.2.3.4'))
+        told(room.at('list', 'ARCH'), 0, 'node\tARCH\nlines\t0\n', '')
+        told(room.at('list', 'GATE', ledger='ARCH.db'), 1, '', 'dr_router: G6 OtherSite\n')
+        told(room.at('list', 'NONE'), 1, '', 'dr_router: NoNode\n')
+        told(room.at('requeue', 'ARCH', '1.2.3.4', 'GATE'), 1, '', 'dr_router: G5 NotHeld\n')
+        told(room.at('send', 'ARCH', 'image.dcm'), 1, '', 'dr_router: G1 NoLine\n')
+        room.put('garbage.db', b'no database at all' * 300)
+        told(room.at('list', 'ARCH', ledger='garbage.db'), 3, '', 'dr_router: G3 Store\n')
+        room.put('no.dcm', b'no file of the standard')
+        told(room.at('send', 'CT1', 'no.dcm'), 1, '', 'dr_router: F1 NotDicom\n')
+        serving = room.serve('ARCH', 1)
+        told(room.at('list', 'ARCH'), 3, '', 'dr_router: G3 Store: in use\n')
+        serving.kill()
+        serving.wait()
+        told(room.at('list', 'ARCH'), 0, 'node\tARCH\nlines\t0\n', '')
+        same(room.run('serve', 'plan', 'certificate', 'ARCH', 'ARCH.db', '--links', '4294967296').returncode, 2)
+        same(room.run('serve', 'plan', 'certificate', 'ARCH').returncode, 2)
+
+
+def dead_hop():
+    """A hop that doesn't answer costs the row one try, which waits; a requeue of it is refused, since it isn't held."""
+    with Room() as room:
+        room.put('image.dcm', part10(b'1.2.3.4'))
+        sent = room.at('send', 'CT1', 'image.dcm')
+        same(sent.returncode, 0)
+        got = lines(sent.stdout)
+        same(got[:3], ['new', 'node\tCT1', 'arrival\t-\t1.2.3.4'])
+        assert re.fullmatch(r'row\t1\.2\.3\.4\tGATE\twaiting\t1\t\d+', got[3]), got
+        told(room.at('requeue', 'CT1', '1.2.3.4', 'GATE'), 1, '', 'dr_router: G5 NotHeld\n')
+        same(lines(room.at('list', 'CT1').stdout), got[1:])
+
+
+def held_rows():
+    """Other bytes under a known UID are refused (C0F1), which holds the row; what is held is counted, and queued again."""
+    with Room() as room:
+        room.put('image.dcm', part10(b'1.2.3.4'))
+        room.put('other.dcm', part10(b'1.2.3.4', element(0x10, 0x10, b'PN', b'Other')))
+        gate = room.serve('GATE', 2)
+        same(room.at('send', 'CT1', 'image.dcm').returncode, 0)
+        sent = room.at('send', 'CT1', 'other.dcm', ledger='second.db')
+        same(lines(sent.stdout)[3:4], ['row\t1.2.3.4\tGATE\theld\tC0F1'])
+        ended(gate)
+        counts = 'node\tCT1\narrivals\t1\nkept\t0\nqueue\tGATE\twaiting\t{}\theld\t{}\tdone\t0\toldest\t{}\nlines\t{}\n'
+        told(room.at('list', 'CT1', '--summary', ledger='second.db'), 0, counts.format(0, 1, '-', 2), '')
+        told(room.at('requeue', 'CT1', '--all-held', 'ARCH', ledger='second.db'), 0, '', '')
+        told(room.at('requeue', 'CT1', '--all-held', 'GATE', ledger='second.db'), 0, 'requeued\t1.2.3.4\n', '')
+        told(room.at('requeue', 'CT1', '--all-held', 'GATE', ledger='second.db'), 0, '', '')
+        summary = room.at('list', 'CT1', '--summary', ledger='second.db')
+        same(re.sub(r'oldest\t\d+', 'oldest\tN', summary.stdout.decode()), counts.format(1, 0, 'N', 3))
+        same(room.at('requeue', 'CT1', '1.2.3.4', '--all-held', 'GATE').returncode, 2)
+        same(room.at('requeue', 'CT1', '1.2.3.4').returncode, 2)
+        same(room.at('requeue', 'CT1').returncode, 2)
+
+
+def events():
+    """What a node logs, by its level; a row that came in is on its way to the next node at once."""
+    with Room() as room:
+        arch = room.serve('ARCH', 0, '--log', 'debug')
+        gate = room.serve('GATE', 5, '--log', 'debug')
+        for number in range(5):
+            room.put('image.dcm', part10(b'1.2.3.%d' % number))
+            same(room.at('send', 'CT1', 'image.dcm').returncode, 0)
+        ended(gate)
+        stop(arch)
+        told_at_gate, told_at_arch = room.events('GATE'), room.events('ARCH')
+        said = [(*event[1:3], re.sub(r' milliseconds=\d+$', ' milliseconds=N', event[3])) for event in told_at_gate]
+        for event in [('INFO', 'node', 'serves node="GATE" ledger="GATE.db" associations=5'), ('DEBUG', 'association', 'taken session=1'),
+                      ('DEBUG', 'instance', 'new session=1 caller="CT1" uid=1.2.3.0'), ('INFO', 'association', 'released session=5 instances=1 refused=0 milliseconds=N'),
+                      ('INFO', 'visit', 'released dest="ARCH" settled=1'), ('INFO', 'node', 'has arrivals=0 kept=0 lines=0'),
+                      ('INFO', 'node', 'has arrivals=5 kept=0 lines=10'), ('DEBUG', 'row', 'done dest="ARCH" uid=1.2.3.0 status="0000"'),
+                      ('INFO', 'queue', 'has dest="ARCH" waiting=0 held=0 done=5 oldest=-')]:
+            assert event in said, (event, said)
+        came = [event[0] for event in told_at_gate if event[2] == 'instance']
+        went = [event[0] for event in told_at_arch if event[3].startswith('taken')]
+        waits = [there - here for here in came for there in went if there >= here]
+        assert min(waits) < 0.1, (came, went)
+    with Room() as room:
+        gate = room.serve('GATE', 2, '--log', 'error')
+        arch = room.serve('ARCH', 0)
+        for number in range(2):
+            room.put('image.dcm', part10(b'1.2.3.%d' % number))
+            room.at('send', 'CT1', 'image.dcm')
+        ended(gate)
+        stop(arch)
+        same(room.events('GATE'), [])
+        same({event[1] for event in room.events('ARCH')}, {'INFO'})
+        same(room.at('serve', 'GATE', '--log', 'loud').returncode, 2)
+
+
+def reports():
+    """What a running node has is in its report: when it starts, ten seconds after it has changed, and when it ends."""
+    with Room() as room:
+        room.put('image.dcm', part10(b'1.2.3.4'))
+        arch = room.serve('ARCH', 1)
+        gate = room.serve('GATE', 2, '--report', 'report')
+        same(room.wait_for_text('report', 'node\tGATE\nlines\t0\n'), True)
+        same(room.at('send', 'CT1', 'image.dcm').returncode, 0)
+        want = 'node\tGATE\narrival\tCT1\t1.2.3.4\nrow\t1.2.3.4\tARCH\tdone\nlines\t2\n'
+        same(room.wait_for_text('report', want), True)
+        ended(arch)
+        room.put('image.dcm', part10(b'1.2.3.5'))
+        same(room.at('send', 'CT1', 'image.dcm').returncode, 0)
+        printed = ended(gate)
+        same(room.text('report'), ''.join(f'{line}\n' for line in printed))
+        waits = [event[3] for event in room.events('GATE') if event[2] == 'row']
+        assert waits and all(re.fullmatch(r'waits dest="ARCH" uid=1\.2\.3\.5 status="-" tries=1 due=\d+', event) for event in waits), waits
+    with Room() as room:
+        told(room.at('serve', 'GATE', '--report', 'GATE.db'), 3, '', 'dr_router: GATE.db: invalid input parameter\n')
+        gate = room.serve('GATE', 1, '--report', 'no/folder/report')
+        room.put('image.dcm', part10(b'1.2.3.4'))
+        same(room.at('send', 'CT1', 'image.dcm').returncode, 0)
+        ended(gate)
+        told_at_gate = [event[1:] for event in room.events('GATE') if event[2] == 'report']
+        assert told_at_gate and told_at_gate[0][0] == 'ERROR' and told_at_gate[0][2].startswith('unwritten error='), told_at_gate
+
+
+def killed():
+    """ARCH is killed again and again while CT1 and GATE send; in the end each instance that was sent is kept at ARCH, once."""
+    with Room() as room:
+        uids = [f'1.2.3.{number}' for number in range(1, 7)]
+        gate = room.serve('GATE', len(uids))
+        for number, uid in enumerate(uids):
+            room.put('image.dcm', part10(uid.encode()))
+            arch = room.serve('ARCH', 0)
+            sent = room.at('send', 'CT1', 'image.dcm')
+            same((sent.returncode, lines(sent.stdout)[0]), (0, 'new'))
+            time.sleep(0.02 * number)
+            arch.send_signal(signal.SIGKILL)
+            arch.wait()
+        ended(gate)
+        arch = room.serve('ARCH', 0)
+        end = time.monotonic() + LIMIT
+        # what wasn't taken in waits at GATE until it is due again; `send` of what is known already visits the hop once more
+        while time.monotonic() < end:
+            room.put('again.dcm', part10(uids[0].encode()))
+            waiting = [line for line in lines(room.at('list', 'GATE').stdout) if '\twaiting' in line]
+            if not waiting:
+                break
+            gate = room.serve('GATE', 1)
+            room.at('send', 'CT1', 'again.dcm')
+            gate.kill()
+            gate.wait()
+            time.sleep(1)
+        arch.kill()
+        arch.wait()
+        kept = [line.split('\t')[1] for line in lines(room.at('list', 'ARCH').stdout) if line.startswith('kept')]
+        done = [line for line in lines(room.at('list', 'GATE').stdout) if line.endswith('done')]
+        same(kept, sorted(uids))
+        same(len(done), len(uids))
+
+
+def main():
+    if not os.path.exists(PROGRAM):
+        sys.exit(f'{PROGRAM} is not built')
+    run_cases('serving', three_nodes, refusals, dead_hop, held_rows, events, reports, killed)
+
+
+if __name__ == '__main__':
+    main()
