@@ -23,6 +23,11 @@ impl<'a> Files for TwoFiles<'a> {
         };
         Ok(Vec::from_slice(alloc, text)?)
     }
+
+    /// They stay as they are.
+    fn replace(&self, _alloc: Global, _path: &str, _text: &[u8]) -> io::Result<()> {
+        Err(io::Error::from(io::ErrorKind::PermissionDenied))
+    }
 }
 
 /// How a run ends, and what it prints, with the plan on the standard input and in the file plan.toml.
