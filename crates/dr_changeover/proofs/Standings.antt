@@ -1,0 +1,114 @@
+-- From ledgers that were looked into and changed to the nodes.
+use Rattle.std.proofs.Common.{◌≡◌, ◌∙◌, ◌⊎◌, inl, inr, ◌++◌, ◌∷◌, [], ◌<◌, List, length, map, get_or, refl, sym, ap, subst, Ok, Err, Result}
+use Rattle.std.specs.Prelude.{All, Contains}
+use Rattle.std.proofs.lemmas.List.{map-append, take-append}
+use Rattle.std.proofs.lemmas.List.Elements.{All-map, All-cons, All-nil}
+use Rattle.std.proofs.lemmas.List.Sorted.{Contains-permutation, IsPermutation-sym}
+use Rattle.dr_base.specs.Texts.{Text}
+use Rattle.dr_cert.specs.Sealing.{Certified}
+use Rattle.dr_ledger.specs.Adopting.{IsFit}
+use Rattle.dr_ledger.specs.Books.{Book, Adoption, after}
+use Rattle.dr_listing.specs.declared.halt.Halt.{Halt}
+use Rattle.dr_listing.specs.declared.halt.Halt.TheVariants.{NoPlan, NoCertificate, NoNode, NotOpened, NoInstance, Refused, Receipt, Failed, Memory}
+use Rattle.dr_network.proofs.Gathered.{Contains-cons_cases, Contains-here, Contains-there, nothing_in_nil}
+use Rattle.dr_network.specs.Networks.{Network}
+use Rattle.dr_network.specs.Plans.{NamesNoNode}
+use Rattle.dr_network.specs.declared.plan.Node.{Node}
+use Rattle.dr_site.specs.Parts.{Part, IsPartOf}
+use Rattle.dr_changeover.specs.Changes.{AreNames, IsOver, IsReady, StopsAt, name_of}
+use Rattle.dr_changeover.specs.Changings.{IsChanged, IsUnchanged, MayChange, OnlyFirstAreChanged}
+use Rattle.dr_changeover.specs.Lookings.{IsStanding, IsUnseen, name_by}
+use Rattle.dr_changeover.specs.declared.standing.Standing.{Standing}
+use Rattle.dr_changeover.specs.declared.standing.Standing.TheVariants.{Ready, Over}
+
+-- what is shown of an element shows one of them
+unmapped : {X Y : Type 0} (f : X → Y) (xs : List X) (y : Y) → Contains (map f xs) y → (x : X) × Contains xs x × (f x ≡ y)
+unmapped f [] y among = absurd (nothing_in_nil y among)
+unmapped f (x ∷ xs) y among = elim (Contains-cons_cases (f x) (map f xs) y among) [
+  | inl same ↦ (x, Contains-here x xs, same)
+  | inr later ↦ (let found = unmapped f xs y later in (found.0, Contains-there x xs found.0 found.1, found.2))
+]
+
+-- one of the names of a plan's nodes is the name of a node
+named : (plan : Network) (names : List Text) (name : Text) → AreNames plan names → Contains names name → NamesNoNode plan name → ⊥
+named plan names name are among none =
+    let found = unmapped name_of plan.nodes name (Contains-permutation names (map name_of plan.nodes) name (IsPermutation-sym (map name_of plan.nodes) names are.all) among) in
+    none found.0 (found.1, found.2)
+
+-- what holds of all holds of the first of them
+all_first : {X : Type 0} (P : X → Type 0) (xs ys : List X) → All P (xs ++ ys) → All P xs
+all_first P [] ys all = All-nil P
+all_first P (x ∷ xs) ys all = All-cons P x xs (all 0 x (omega arith)) (all_first P xs ys (λ k d lt. all (k + 1) d (omega arith)))
+
+module _ {L : Type 0} (opens : Text → L → Type 0) (site_of : L → Part) (book : L → Book) (stands : L → Type 0) (folder : Text) (old next : Certified) where
+  ready : (s : Standing L) → IsStanding opens site_of book stands folder old next s → IsReady opens site_of book stands folder old next (name_by site_of s)
+  ready (Over l) h = inl (l, h)
+  ready (Ready l own) h = inr (h.0, l, h.1, h.3, h.4)
+
+  may : (s : Standing L) → IsStanding opens site_of book stands folder old next s → MayChange site_of book stands next s
+  may (Over l) h = tt
+  may (Ready l own) h = (
+    h.2,
+    sym (ap (λ (s : Part). s.name) h.3 ∙ h.1.at.named),
+    λ st. subst (λ (b : Book). IsFit next.plan own.name b) (sym (h.4 st).0) (h.4 st).1,
+  )
+
+  over : (s : Standing L) → IsStanding opens site_of book stands folder old next s → IsChanged site_of book stands next s → IsOver opens site_of book stands folder old next (name_by site_of s)
+  over (Over l) h c = inl (l, h)
+  over (Ready l own) h c = inr (
+    h.0,
+    c.0,
+    h.1,
+    record { part = subst (λ (s : Part). IsPartOf next.plan next.certificate s) (sym c.1) h.2; named = ap (λ (s : Part). s.name) c.1 },
+    λ st. ((h.4 (c.2 st).0).1, (c.2 st).1 ∙ ap (λ (b : Book). after Adoption b) (h.4 (c.2 st).0).0),
+  )
+
+  -- the nodes of ledgers that may be changed are ready
+  pub all_ready : (all : List (Standing L)) (names : List Text) → map (name_by site_of) all ≡ names → All (IsStanding opens site_of book stands folder old next) all
+      → All (IsReady opens site_of book stands folder old next) names
+  all_ready all names same standing = subst (λ (ns : List Text). All (IsReady opens site_of book stands folder old next) ns) same
+      (All-map (IsReady opens site_of book stands folder old next) (name_by site_of) all (λ k d lt. ready (get_or all k d) (standing k d lt)))
+
+  pub all_may : (all : List (Standing L)) → All (IsStanding opens site_of book stands folder old next) all → All (MayChange site_of book stands next) all
+  all_may all standing = λ k d lt. may (get_or all k d) (standing k d lt)
+
+  -- the nodes of ledgers that were changed are over
+  pub all_over : (all : List (Standing L)) (names : List Text) → map (name_by site_of) all ≡ names → All (IsStanding opens site_of book stands folder old next) all
+      → All (IsChanged site_of book stands next) all → All (IsOver opens site_of book stands folder old next) names
+  all_over all names same standing changed = subst (λ (ns : List Text). All (IsOver opens site_of book stands folder old next) ns) same
+      (All-map (IsOver opens site_of book stands folder old next) (name_by site_of) all (λ k d lt. over (get_or all k d) (standing k d lt) (changed k d lt)))
+
+  -- why the change stops behind the first of them
+  pub stops_behind : (all : List (Standing L)) (names : List Text) (halt : Halt) → AreNames old.plan names → map (name_by site_of) all ≡ names
+      → All (IsStanding opens site_of book stands folder old next) all → OnlyFirstAreChanged site_of book stands next all halt → StopsAt opens site_of book stands folder old next halt
+  stops_behind all names (Refused fault) are same standing h =
+      let done = h.1 in
+      let later = h.2 in
+      let P : List (Standing L) → Type 0 = λ xs. All (IsStanding opens site_of book stands folder old next) xs in
+      let shown : names ≡ map (name_by site_of) done ++ map (name_by site_of) later = sym same ∙ ap (λ (xs : List (Standing L)). map (name_by site_of) xs) h.3 ∙ map-append (name_by site_of) done later in (
+        map (name_by site_of) done,
+        map (name_by site_of) later,
+        subst (λ (ns : List Text). AreNames old.plan ns) shown are,
+        all_over done (map (name_by site_of) done) refl (all_first (IsStanding opens site_of book stands folder old next) done later (subst P h.3 standing)) h.4,
+      )
+  stops_behind all names Memory are same standing h = tt
+  stops_behind all names (NoPlan told) are same standing h = absurd h.0
+  stops_behind all names (NoCertificate fault) are same standing h = absurd h.0
+  stops_behind all names NoNode are same standing h = absurd h.0
+  stops_behind all names (NotOpened fault) are same standing h = absurd h.0
+  stops_behind all names (NoInstance fault) are same standing h = absurd h.0
+  stops_behind all names Receipt are same standing h = absurd h.0
+  stops_behind all names (Failed failure) are same standing h = absurd h.0
+
+  -- why the change stops at a node that isn't looked into
+  pub stops_unseen : (names : List Text) (name : Text) (halt : Halt) → AreNames old.plan names → Contains names name → IsUnseen old next name halt → StopsAt opens site_of book stands folder old next halt
+  stops_unseen names name NoNode are among (inl stranger) = absurd (named old.plan names name are among stranger)
+  stops_unseen names name NoNode are among (inr stranger) = (name, names, are, among, stranger)
+  stops_unseen names name (Refused fault) are among h = ([], names, are, All-nil (IsOver opens site_of book stands folder old next))
+  stops_unseen names name (NotOpened fault) are among h = tt
+  stops_unseen names name Memory are among h = tt
+  stops_unseen names name (NoPlan told) are among h = absurd h
+  stops_unseen names name (NoCertificate fault) are among h = absurd h
+  stops_unseen names name (NoInstance fault) are among h = absurd h
+  stops_unseen names name Receipt are among h = absurd h
+  stops_unseen names name (Failed failure) are among h = absurd h

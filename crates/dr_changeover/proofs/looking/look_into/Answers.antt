@@ -1,0 +1,4 @@
+use Rattle.dr_changeover.proofs.looking.look_into.Goals as goal
+
+pub returns : goal.returns
+returns g c = ?
