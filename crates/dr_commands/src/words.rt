@@ -1,13 +1,14 @@
 //! What the words of the command line ask for.
 ghost use Rattle.std.specs.Prelude.{◌≡◌, ◌↔◌, ℕ, List, Some, IfOk, IsTrue};
 ghost use Rattle.std.specs.Borrow.{Bor};
-ghost use Rattle.dr_commands.specs.Words.{IsPlainCheck, IsCheckOf, IsVerifyOf, IsSimulateOf, IsEchoOf, IsNoOption, IsGraphOf, IsLintOf, IsFileRouteOf, IsKeyRouteOf, IsQuestionOf, IsListOf, IsSummaryOf, IsServeOf, IsSendOf, IsRequeueOf, IsRequeueAllOf, IsDutyOf, plain_serving};
+ghost use Rattle.dr_commands.specs.Words.{IsPlainCheck, IsCheckOf, IsVerifyOf, IsSimulateOf, IsEchoOf, IsNoOption, IsGraphOf, IsLintOf, IsFileRouteOf, IsKeyRouteOf, IsQuestionOf, IsListOf, IsSummaryOf, IsServeOf, IsSendOf, IsRequeueOf, IsRequeueAllOf, IsDutyOf, IsAdoptOf, plain_serving};
 ghost use Rattle.dr_commands.specs.declared.words.Asked.{Asked as AskedValue};
 ghost use Rattle.dr_commands.specs.declared.words.Asked.TheVariants as asks;
 ghost use Rattle.dr_commands.specs.declared.words.Duty.{Duty as DutyValue};
 ghost use Rattle.dr_commands.specs.declared.words.Duty.TheVariants as duties;
 ghost use Rattle.dr_commands.specs.declared.words.KeyWords.{KeyWords as KeyWordsValue};
 ghost use Rattle.dr_commands.specs.declared.words.NodeFiles.{NodeFiles as NodeFilesValue};
+ghost use Rattle.dr_commands.specs.declared.words.PlanChange.{PlanChange as PlanChangeValue};
 ghost use Rattle.dr_commands.specs.declared.words.Question.{Question as QuestionValue};
 ghost use Rattle.dr_commands.specs.declared.words.Question.TheVariants as questions;
 
@@ -44,6 +45,17 @@ pub struct NodeFiles<'a> {
     pub certificate: &'a str,
     pub node: &'a str,
     pub ledger: &'a str,
+}
+
+/// What names two plans and where the nodes' ledgers are: the paths of the plan in force, of its certificate, of the next plan, of that one's
+/// certificate, and of the folder that holds each node's ledger.
+#[derive(Clone, Copy, Debug, Drop)]
+pub struct PlanChange<'a> {
+    pub plan: &'a str,
+    pub certificate: &'a str,
+    pub next_plan: &'a str,
+    pub next_certificate: &'a str,
+    pub folder: &'a str,
 }
 
 /// Which events a node that serves logs.
@@ -102,6 +114,8 @@ pub enum Asked<'a> {
     Question(&'a str, &'a str, Question<'a>),
     /// To do this at a node that has these files.
     AtNode(NodeFiles<'a>, Duty<'a>),
+    /// To bring the ledgers of all nodes of a plan over to another plan.
+    Adopt(PlanChange<'a>),
     /// Help, or nothing that the program knows.
     Told(Error),
 }
@@ -329,6 +343,7 @@ fn read_plain<'a>(words: &'a [&'a str]) -> Option<Asked<'a>>
     ensures verify { (plan certificate : Bor (List ℕ)) → IsVerifyOf words.now plan certificate → result ≡ Some (asks.Verify plan certificate) }
     ensures simulate { (plan certificate script : Bor (List ℕ)) → IsSimulateOf words.now plan certificate script → result ≡ Some (asks.Simulate plan certificate script) }
     ensures echo { (plan caller called : Bor (List ℕ)) → IsEchoOf words.now plan caller called → result ≡ Some (asks.Echo plan caller called) }
+    ensures adopt { (change : PlanChangeValue) → IsAdoptOf words.now change → result ≡ Some (asks.Adopt change) }
     ensures graph { (plan certificate : Bor (List ℕ)) → IsGraphOf words.now plan certificate → result ≡ Some (asks.Question plan certificate questions.Graph) }
     ensures lint { (plan certificate : Bor (List ℕ)) → IsLintOf words.now plan certificate → result ≡ Some (asks.Question plan certificate questions.Lint) }
     ensures route_of_file { (plan certificate at path : Bor (List ℕ)) → IsFileRouteOf words.now plan certificate at path → result ≡ Some (asks.Question plan certificate (questions.RouteOfFile at path)) }
@@ -358,6 +373,22 @@ fn read_plain<'a>(words: &'a [&'a str]) -> Option<Asked<'a>>
                 && is_no_option(plan)
                 && is_no_option(caller)
                 && is_no_option(called) => { Some(Asked::Echo(plan, caller, called)) }
+        [word, plan, certificate, next_plan, next_certificate, folder]
+            if *word == "adopt"
+                && is_no_option(plan)
+                && is_no_option(certificate)
+                && is_no_option(next_plan)
+                && is_no_option(next_certificate)
+                && is_no_option(folder) => {
+            let change = PlanChange {
+                plan,
+                certificate,
+                next_plan,
+                next_certificate,
+                folder,
+            };
+            Some(Asked::Adopt(change))
+        }
         _ => read_question(words),
     }
 }
@@ -518,6 +549,17 @@ fn send_command<'a>(alloc: Global) -> Result<Command<'a>, AllocError> {
     .arg(named(alloc, "FILE", "a Part 10 file"))
 }
 
+/// The word `adopt`.
+fn adopt_command<'a>(alloc: Global) -> Result<Command<'a>, AllocError> {
+    Command::new(alloc, "adopt")
+        .about("Brings the ledgers of all nodes of a plan over to another plan, while no node runs")
+        .arg(named(alloc, "OLDPLAN", "the file with the plan in force"))?
+        .arg(named(alloc, "OLDCERT", "the file with that plan's certificate"))?
+        .arg(named(alloc, "PLAN", "the file with the next plan"))?
+        .arg(named(alloc, "CERT", "the file with the next plan's certificate"))?
+        .arg(named(alloc, "DIR", "the folder with the ledger of each node"))
+}
+
 /// The levels of a log.
 const LEVELS: &[&str] = &["error", "info", "debug"];
 
@@ -568,7 +610,8 @@ fn command<'a>(alloc: Global) -> Result<Command<'a>, AllocError> {
         .subcommand(serve_command(alloc)?)?
         .subcommand(send_command(alloc)?)?
         .subcommand(list_command(alloc)?)?
-        .subcommand(requeue_command(alloc)?)
+        .subcommand(requeue_command(alloc)?)?
+        .subcommand(adopt_command(alloc)?)
 }
 
 /// Where what is to go, as clap has read it: an instance with four values, or the one in a file.
@@ -659,6 +702,17 @@ fn read_certified<'a>(
     Asked::Simulate(plan, certificate, given.get_str("SCRIPT").unwrap_or(""))
 }
 
+/// Which plans and which folder are named, as clap has read it.
+fn change_of<'a>(given: &ArgMatches<'a>) -> PlanChange<'a> {
+    PlanChange {
+        plan: given.get_str("OLDPLAN").unwrap_or(""),
+        certificate: given.get_str("OLDCERT").unwrap_or(""),
+        next_plan: given.get_str("PLAN").unwrap_or(""),
+        next_certificate: given.get_str("CERT").unwrap_or(""),
+        folder: given.get_str("DIR").unwrap_or(""),
+    }
+}
+
 /// What clap makes of the words: options, help, and what the program doesn't know.
 fn read_others<'a>(alloc: Global, words: &'a [&'a str]) -> Result<Asked<'a>, AllocError> {
     let matches = match command(alloc)?.try_get_matches_from(words) {
@@ -679,6 +733,9 @@ fn read_others<'a>(alloc: Global, words: &'a [&'a str]) -> Result<Asked<'a>, All
         let called = given.get_str("TO").unwrap_or("");
         return Ok(Asked::Echo(plan, caller, called));
     }
+    if name == "adopt" {
+        return Ok(Asked::Adopt(change_of(given)));
+    }
     let certificate = given.get_str("CERT").unwrap_or("");
     Ok(read_certified(name, given, plan, certificate))
 }
@@ -692,6 +749,7 @@ pub fn read_words<'a>(alloc: Global, words: &'a [&'a str]) -> Result<Asked<'a>, 
     ensures echo { IfOk result (λ a. (plan caller called : Bor (List ℕ)) → IsEchoOf words.now plan caller called → a ≡ asks.Echo plan caller called) }
     ensures question { IfOk result (λ a. (plan certificate : Bor (List ℕ)) (question : QuestionValue) → IsQuestionOf words.now plan certificate question → a ≡ asks.Question plan certificate question) }
     ensures duty { IfOk result (λ a. (given : NodeFilesValue) (duty : DutyValue) → IsDutyOf words.now given duty → a ≡ asks.AtNode given duty) }
+    ensures adopt { IfOk result (λ a. (change : PlanChangeValue) → IsAdoptOf words.now change → a ≡ asks.Adopt change) }
 {
     if let Some(asked) = read_plain(words) {
         return Ok(asked);
