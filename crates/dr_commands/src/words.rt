@@ -130,10 +130,36 @@ fn is_no_option(word: &str) -> bool
     *first != b'-'
 }
 
+/// What plain words ask to be done with the ledgers of all nodes: those of a known form, without options.
+fn read_change<'a>(words: &'a [&'a str]) -> Option<Asked<'a>>
+    ensures adopt { (change : PlanChangeValue) → IsAdoptOf words.now change → result ≡ Some (asks.Adopt change) }
+{
+    match words {
+        [word, plan, certificate, next_plan, next_certificate, folder]
+            if *word == "adopt"
+                && is_no_option(plan)
+                && is_no_option(certificate)
+                && is_no_option(next_plan)
+                && is_no_option(next_certificate)
+                && is_no_option(folder) => {
+            let change = PlanChange {
+                plan,
+                certificate,
+                next_plan,
+                next_certificate,
+                folder,
+            };
+            Some(Asked::Adopt(change))
+        }
+        _ => None,
+    }
+}
+
 /// What words ask a node to do with all of its ledger: those of a known form, with the option that says so.
 fn read_all<'a>(words: &'a [&'a str]) -> Option<Asked<'a>>
     ensures summary { (given : NodeFilesValue) → IsSummaryOf words.now given → result ≡ Some (asks.AtNode given duties.Summary) }
     ensures requeue_all { (given : NodeFilesValue) (dest : Bor (List ℕ)) → IsRequeueAllOf words.now given dest → result ≡ Some (asks.AtNode given (duties.RequeueAll dest)) }
+    ensures adopt { (change : PlanChangeValue) → IsAdoptOf words.now change → result ≡ Some (asks.Adopt change) }
 {
     match words {
         [word, plan, certificate, node, ledger, option]
@@ -167,7 +193,7 @@ fn read_all<'a>(words: &'a [&'a str]) -> Option<Asked<'a>>
             };
             Some(Asked::AtNode(given, Duty::RequeueAll(dest)))
         }
-        _ => None,
+        _ => read_change(words),
     }
 }
 
@@ -177,6 +203,7 @@ fn read_work<'a>(words: &'a [&'a str]) -> Option<Asked<'a>>
     ensures send { (given : NodeFilesValue) (file : Bor (List ℕ)) → IsSendOf words.now given file → result ≡ Some (asks.AtNode given (duties.Send file)) }
     ensures summary { (given : NodeFilesValue) → IsSummaryOf words.now given → result ≡ Some (asks.AtNode given duties.Summary) }
     ensures requeue_all { (given : NodeFilesValue) (dest : Bor (List ℕ)) → IsRequeueAllOf words.now given dest → result ≡ Some (asks.AtNode given (duties.RequeueAll dest)) }
+    ensures adopt { (change : PlanChangeValue) → IsAdoptOf words.now change → result ≡ Some (asks.Adopt change) }
 {
     match words {
         [word, plan, certificate, node, ledger, file]
@@ -222,6 +249,7 @@ fn read_duty<'a>(words: &'a [&'a str]) -> Option<Asked<'a>>
     ensures serve { (given : NodeFilesValue) → IsServeOf words.now given → result ≡ Some (asks.AtNode given (duties.Serve plain_serving)) }
     ensures summary { (given : NodeFilesValue) → IsSummaryOf words.now given → result ≡ Some (asks.AtNode given duties.Summary) }
     ensures requeue_all { (given : NodeFilesValue) (dest : Bor (List ℕ)) → IsRequeueAllOf words.now given dest → result ≡ Some (asks.AtNode given (duties.RequeueAll dest)) }
+    ensures adopt { (change : PlanChangeValue) → IsAdoptOf words.now change → result ≡ Some (asks.Adopt change) }
 {
     match words {
         [word, plan, certificate, node, ledger]
@@ -271,6 +299,7 @@ fn read_route<'a>(words: &'a [&'a str]) -> Option<Asked<'a>>
     ensures serve { (given : NodeFilesValue) → IsServeOf words.now given → result ≡ Some (asks.AtNode given (duties.Serve plain_serving)) }
     ensures summary { (given : NodeFilesValue) → IsSummaryOf words.now given → result ≡ Some (asks.AtNode given duties.Summary) }
     ensures requeue_all { (given : NodeFilesValue) (dest : Bor (List ℕ)) → IsRequeueAllOf words.now given dest → result ≡ Some (asks.AtNode given (duties.RequeueAll dest)) }
+    ensures adopt { (change : PlanChangeValue) → IsAdoptOf words.now change → result ≡ Some (asks.Adopt change) }
 {
     match words {
         [word, plan, certificate, at, path]
@@ -322,6 +351,7 @@ fn read_question<'a>(words: &'a [&'a str]) -> Option<Asked<'a>>
     ensures serve { (given : NodeFilesValue) → IsServeOf words.now given → result ≡ Some (asks.AtNode given (duties.Serve plain_serving)) }
     ensures summary { (given : NodeFilesValue) → IsSummaryOf words.now given → result ≡ Some (asks.AtNode given duties.Summary) }
     ensures requeue_all { (given : NodeFilesValue) (dest : Bor (List ℕ)) → IsRequeueAllOf words.now given dest → result ≡ Some (asks.AtNode given (duties.RequeueAll dest)) }
+    ensures adopt { (change : PlanChangeValue) → IsAdoptOf words.now change → result ≡ Some (asks.Adopt change) }
 {
     match words {
         [word, plan, certificate]
@@ -343,7 +373,6 @@ fn read_plain<'a>(words: &'a [&'a str]) -> Option<Asked<'a>>
     ensures verify { (plan certificate : Bor (List ℕ)) → IsVerifyOf words.now plan certificate → result ≡ Some (asks.Verify plan certificate) }
     ensures simulate { (plan certificate script : Bor (List ℕ)) → IsSimulateOf words.now plan certificate script → result ≡ Some (asks.Simulate plan certificate script) }
     ensures echo { (plan caller called : Bor (List ℕ)) → IsEchoOf words.now plan caller called → result ≡ Some (asks.Echo plan caller called) }
-    ensures adopt { (change : PlanChangeValue) → IsAdoptOf words.now change → result ≡ Some (asks.Adopt change) }
     ensures graph { (plan certificate : Bor (List ℕ)) → IsGraphOf words.now plan certificate → result ≡ Some (asks.Question plan certificate questions.Graph) }
     ensures lint { (plan certificate : Bor (List ℕ)) → IsLintOf words.now plan certificate → result ≡ Some (asks.Question plan certificate questions.Lint) }
     ensures route_of_file { (plan certificate at path : Bor (List ℕ)) → IsFileRouteOf words.now plan certificate at path → result ≡ Some (asks.Question plan certificate (questions.RouteOfFile at path)) }
@@ -354,6 +383,7 @@ fn read_plain<'a>(words: &'a [&'a str]) -> Option<Asked<'a>>
     ensures serve { (given : NodeFilesValue) → IsServeOf words.now given → result ≡ Some (asks.AtNode given (duties.Serve plain_serving)) }
     ensures summary { (given : NodeFilesValue) → IsSummaryOf words.now given → result ≡ Some (asks.AtNode given duties.Summary) }
     ensures requeue_all { (given : NodeFilesValue) (dest : Bor (List ℕ)) → IsRequeueAllOf words.now given dest → result ≡ Some (asks.AtNode given (duties.RequeueAll dest)) }
+    ensures adopt { (change : PlanChangeValue) → IsAdoptOf words.now change → result ≡ Some (asks.Adopt change) }
 {
     match words {
         [] => Some(Asked::CheckInput),
@@ -373,22 +403,6 @@ fn read_plain<'a>(words: &'a [&'a str]) -> Option<Asked<'a>>
                 && is_no_option(plan)
                 && is_no_option(caller)
                 && is_no_option(called) => { Some(Asked::Echo(plan, caller, called)) }
-        [word, plan, certificate, next_plan, next_certificate, folder]
-            if *word == "adopt"
-                && is_no_option(plan)
-                && is_no_option(certificate)
-                && is_no_option(next_plan)
-                && is_no_option(next_certificate)
-                && is_no_option(folder) => {
-            let change = PlanChange {
-                plan,
-                certificate,
-                next_plan,
-                next_certificate,
-                folder,
-            };
-            Some(Asked::Adopt(change))
-        }
         _ => read_question(words),
     }
 }
