@@ -93,8 +93,17 @@ def copy(room, source, target):
             os.remove(target_path)
 
 
+def sent_once_more(room, plan):
+    """What HUB keeps, after the first instance was sent once more from CT1, where it counts as new."""
+    hub, gate = room.serve('HUB', 1, plan=plan), room.serve('GATE', 1, plan=plan)
+    sent = room.at('send', 'CT1', 'first.dcm', plan=plan)
+    same((sent.returncode, lines(sent.stdout)[:1]), (0, ['new']))
+    ended(gate)
+    return [line for line in ended(hub) if line.startswith('kept\t')]
+
+
 def next_plan():
-    """What waits is carried over, by one line of the journal; adopted twice is adopted once; then the nodes run, and what waited is kept."""
+    """What waits is carried over, by one line of the journal; adopted twice is adopted once; a file of a third plan is refused."""
     with Room() as room:
         prepare(room)
         before = books(room)
@@ -102,32 +111,39 @@ def next_plan():
         same((is_there(room, 'ARCH'), is_there(room, 'HUB')), (True, False))
         for node in NODES:
             told(room.at('list', node), 1, '', 'dr_router: G6 OtherSite\n')
-        after = books(room, NEXT)
+        after, at_arch = books(room, NEXT), book(room, 'ARCH', NEXT)
         same(after, {node: carried_over(report) for node, report in before.items()})
-        same(book(room, 'ARCH', NEXT)[:-1], ['node\tARCH'])
-        at_arch = book(room, 'ARCH', NEXT)
+        same(at_arch[:-1], ['node\tARCH'])
         told(adopt(room), 0, 'adopted\n', '')
         same((books(room, NEXT), book(room, 'ARCH', NEXT)), (after, at_arch))
         room.put_plan(PAST_ARCH, OTHER)
         refused(adopt(room, PLAN, OTHER), 1, 'G6 OtherSite', 'ARCH')
         same(books(room, NEXT), after)
+
+
+def two_steps():
+    """GATE sends to ARCH, then to HUB too, then to HUB alone: what waited goes on, what is kept stays, and what is sent once more is kept once."""
+    size = len(data_set(b'1.2.3.4'))
+    both = [f'kept\t1.2.3.4\t{size}', f'kept\t1.2.3.5\t{size}']
+    with Room() as room:
+        prepare(room)
+        told(adopt(room), 0, 'adopted\n', '')
         running = [room.serve(node, 0, '--log', 'debug', plan=NEXT) for node in ('ARCH', 'HUB', 'GATE', 'CT1')]
         room.wait_for_event('CT1', 'done dest="GATE" uid=1.2.3.5 ')
         for done in 'dest="ARCH" uid=1.2.3.4', 'dest="ARCH" uid=1.2.3.5', 'dest="HUB" uid=1.2.3.5':
             room.wait_for_event('GATE', f'done {done} ')
         for process in running:
             stop(process)
-        size = len(data_set(b'1.2.3.4'))
-        both = [f'kept\t1.2.3.4\t{size}', f'kept\t1.2.3.5\t{size}']
         same(kept(room, 'ARCH', NEXT), both)
-        same(kept(room, 'HUB', NEXT), both[1:])  # the other one was under way to ARCH alone
-        running = [room.serve(node, 0, '--log', 'debug', plan=NEXT) for node in ('ARCH', 'HUB', 'GATE')]
-        sent = room.at('send', 'CT1', 'first.dcm', plan=NEXT)
-        same((sent.returncode, lines(sent.stdout)[:1]), (0, ['new']))
-        room.wait_for_event('GATE', 'done dest="HUB" uid=1.2.3.4 ')
-        for process in running:
-            stop(process)
-        same((kept(room, 'ARCH', NEXT), kept(room, 'HUB', NEXT)), (both, both))
+        same(kept(room, 'HUB', NEXT), both[1:])  # the other one was on its way to ARCH alone
+        same(sent_once_more(room, NEXT), both)
+        room.put_plan(PAST_ARCH, OTHER)
+        told(adopt(room, NEXT, OTHER), 0, 'adopted\n', '')
+        same(book(room, 'ARCH', OTHER)[:-1], ['node\tARCH', *both])
+        same(book(room, 'HUB', OTHER)[:-1], ['node\tHUB', *both])
+        same(book(room, 'GATE', OTHER)[:-1], ['node\tGATE'])
+        same(sent_once_more(room, OTHER), both)
+        same(kept(room, 'ARCH', OTHER), both)
 
 
 def unfit_rows():
@@ -222,7 +238,7 @@ def some_files():
 def main():
     if not os.path.exists(PROGRAM):
         sys.exit(f'{PROGRAM} is not built')
-    run_cases('adopting', next_plan, unfit_rows, held_rows, refused_plans, refused_files, some_files)
+    run_cases('adopting', next_plan, two_steps, unfit_rows, held_rows, refused_plans, refused_files, some_files)
 
 
 if __name__ == '__main__':
