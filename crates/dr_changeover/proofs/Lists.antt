@@ -1,6 +1,6 @@
 -- Lists that grow at their end.
 use Rattle.std.proofs.Common.{◌≡◌, ◌∙◌, ◌++◌, ◌∷◌, [], ◌+◌, ◌<◌, ℕ, List, map, take, drop, get_or, length, suc, refl, sym, ap}
-use Rattle.std.proofs.lemmas.List.{take_more, take-append-drop}
+use Rattle.std.proofs.lemmas.List.{nil_from_length, take_more, take-append-drop}
 use Rattle.std.proofs.Math.Seq.{drop-cons}
 
 -- what is left moves over to what was done
@@ -23,3 +23,11 @@ shows_more {X} {Y} show xs x ys i y lt at so_far one = pushed xs ∙ ap (λ (zs 
 -- a list is what stands before a place, what stands there, and the rest
 pub cut_at : {X : Type 0} (xs : List X) (i : ℕ) (x : X) → i < length xs → x ≡ get_or xs i x → xs ≡ take i xs ++ x ∷ drop (suc i) xs
 cut_at {X} xs i x lt at = sym (take-append-drop i xs) ∙ ap (λ (ys : List X). take i xs ++ ys) (drop-cons xs i x lt) ∙ ap (λ (y : X). take i xs ++ y ∷ drop (suc i) xs) (sym at)
+
+-- nothing is left
+pub comes_to_end : {X : Type 0} (all done left : List X) → all ≡ done ++ left → length left ≡ 0 → all ≡ done
+comes_to_end {X} all done left so_far none = so_far ∙ ap (λ (ys : List X). done ++ ys) (nil_from_length left none) ∙ alone done
+  where
+    alone : (ys : List X) → ys ++ [] ≡ ys
+    alone [] = refl
+    alone (y ∷ ys) = ap (λ (zs : List X). y ∷ zs) (alone ys)

@@ -1,8 +1,9 @@
 -- From ledgers that were looked into and changed to the nodes.
-use Rattle.std.proofs.Common.{◌≡◌, ◌∙◌, ◌⊎◌, inl, inr, ◌++◌, ◌∷◌, [], ◌<◌, List, length, map, get_or, refl, sym, ap, subst, Ok, Err, Result}
-use Rattle.std.specs.Prelude.{All, Contains}
-use Rattle.std.proofs.lemmas.List.{map-append, take-append}
-use Rattle.std.proofs.lemmas.List.Elements.{All-map, All-cons, All-nil}
+use Rattle.std.proofs.Common.{◌≡◌, ◌∙◌, ◌⊎◌, inl, inr, ◌++◌, ◌∷◌, [], List, length, map, get_or, refl, sym, ap, subst, Result, Ok, Err}
+use Rattle.std.specs.Prelude.{All, Contains, MatchResult}
+use Rattle.std.proofs.Math.Seq.{take-append_seam}
+use Rattle.std.proofs.lemmas.List.{map-append}
+use Rattle.std.proofs.lemmas.List.Elements.{All-map, All-nil, All-take}
 use Rattle.std.proofs.lemmas.List.Sorted.{Contains-permutation, IsPermutation-sym}
 use Rattle.dr_base.specs.Texts.{Text}
 use Rattle.dr_cert.specs.Sealing.{Certified}
@@ -15,9 +16,11 @@ use Rattle.dr_network.specs.Networks.{Network}
 use Rattle.dr_network.specs.Plans.{NamesNoNode}
 use Rattle.dr_network.specs.declared.plan.Node.{Node}
 use Rattle.dr_site.specs.Parts.{Part, IsPartOf}
-use Rattle.dr_changeover.specs.Changes.{AreNames, IsOver, IsReady, StopsAt, name_of}
+use Rattle.dr_changeover.specs.Changes.{AreNames, ChangesBetween, IsOver, IsReady, StopsAt, came_of, name_of}
 use Rattle.dr_changeover.specs.Changings.{IsChanged, IsUnchanged, MayChange, OnlyFirstAreChanged}
 use Rattle.dr_changeover.specs.Lookings.{IsStanding, IsUnseen, name_by}
+use Rattle.dr_changeover.specs.declared.change.Change.{Change}
+use Rattle.dr_changeover.specs.declared.change.Stop.{Stop}
 use Rattle.dr_changeover.specs.declared.standing.Standing.{Standing}
 use Rattle.dr_changeover.specs.declared.standing.Standing.TheVariants.{Ready, Over}
 
@@ -37,8 +40,7 @@ named plan names name are among none =
 
 -- what holds of all holds of the first of them
 all_first : {X : Type 0} (P : X → Type 0) (xs ys : List X) → All P (xs ++ ys) → All P xs
-all_first P [] ys all = All-nil P
-all_first P (x ∷ xs) ys all = All-cons P x xs (all 0 x (omega arith)) (all_first P xs ys (λ k d lt. all (k + 1) d (omega arith)))
+all_first P xs ys all = subst (All P) (take-append_seam xs ys) (All-take P (length xs) (xs ++ ys) all)
 
 module _ {L : Type 0} (opens : Text → L → Type 0) (site_of : L → Part) (book : L → Book) (stands : L → Type 0) (folder : Text) (old next : Certified) where
   ready : (s : Standing L) → IsStanding opens site_of book stands folder old next s → IsReady opens site_of book stands folder old next (name_by site_of s)
@@ -82,14 +84,14 @@ module _ {L : Type 0} (opens : Text → L → Type 0) (site_of : L → Part) (bo
   pub stops_behind : (all : List (Standing L)) (names : List Text) (halt : Halt) → AreNames old.plan names → map (name_by site_of) all ≡ names
       → All (IsStanding opens site_of book stands folder old next) all → OnlyFirstAreChanged site_of book stands next all halt → StopsAt opens site_of book stands folder old next halt
   stops_behind all names (Refused fault) are same standing h =
-      let done = h.1 in
-      let later = h.2 in
+      let done = h.1.0 in
+      let later = h.1.1 in
       let P : List (Standing L) → Type 0 = λ xs. All (IsStanding opens site_of book stands folder old next) xs in
-      let shown : names ≡ map (name_by site_of) done ++ map (name_by site_of) later = sym same ∙ ap (λ (xs : List (Standing L)). map (name_by site_of) xs) h.3 ∙ map-append (name_by site_of) done later in (
+      let shown : names ≡ map (name_by site_of) done ++ map (name_by site_of) later = sym same ∙ ap (λ (xs : List (Standing L)). map (name_by site_of) xs) h.1.2 ∙ map-append (name_by site_of) done later in (
         map (name_by site_of) done,
         map (name_by site_of) later,
         subst (λ (ns : List Text). AreNames old.plan ns) shown are,
-        all_over done (map (name_by site_of) done) refl (all_first (IsStanding opens site_of book stands folder old next) done later (subst P h.3 standing)) h.4,
+        all_over done (map (name_by site_of) done) refl (all_first (IsStanding opens site_of book stands folder old next) done later (subst P h.1.2 standing)) h.1.3,
       )
   stops_behind all names Memory are same standing h = tt
   stops_behind all names (NoPlan told) are same standing h = absurd h.0
@@ -112,3 +114,9 @@ module _ {L : Type 0} (opens : Text → L → Type 0) (site_of : L → Part) (bo
   stops_unseen names name (NoInstance fault) are among h = absurd h
   stops_unseen names name Receipt are among h = absurd h
   stops_unseen names name (Failed failure) are among h = absurd h
+
+  -- what comes of the change says what comes of it but for the node
+  pub between : (result : Result Change Stop) → MatchResult result (λ change. ChangesBetween opens site_of book stands folder old next (Ok change)) (λ stop. StopsAt opens site_of book stands folder old next stop.halt)
+      → ChangesBetween opens site_of book stands folder old next (came_of result)
+  between (Ok change) h = h
+  between (Err stop) h = h
