@@ -1,5 +1,5 @@
 -- From ledgers that were looked into and changed to the nodes.
-use Rattle.std.proofs.Common.{◌≡◌, ◌∙◌, ◌⊎◌, inl, inr, ◌++◌, ◌∷◌, [], List, length, map, get_or, refl, sym, ap, subst, Result, Ok, Err}
+use Rattle.std.proofs.Common.{◌≡◌, ◌∙◌, ◌⊎◌, inl, inr, ◌++◌, ◌∷◌, [], List, length, map, get_or, refl, sym, ap, subst, Result, Ok, Err, Some}
 use Rattle.std.specs.Prelude.{All, Contains, MatchResult}
 use Rattle.std.proofs.Math.Seq.{take-append_seam}
 use Rattle.std.proofs.lemmas.List.{map-append}
@@ -7,8 +7,9 @@ use Rattle.std.proofs.lemmas.List.Elements.{All-map, All-nil, All-take}
 use Rattle.std.proofs.lemmas.List.Sorted.{Contains-permutation, IsPermutation-sym}
 use Rattle.dr_base.specs.Texts.{Text}
 use Rattle.dr_cert.specs.Sealing.{Certified}
-use Rattle.dr_ledger.specs.Adopting.{IsFit}
+use Rattle.dr_ledger.specs.Adopting.{IsFit, Unfits}
 use Rattle.dr_ledger.specs.Books.{Book, Adoption, after}
+use Rattle.dr_listing.specs.Openings.{IsUnopened, Sites}
 use Rattle.dr_listing.specs.declared.halt.Halt.{Halt}
 use Rattle.dr_listing.specs.declared.halt.Halt.TheVariants.{NoPlan, NoCertificate, NoNode, NotOpened, NoInstance, Refused, Receipt, Failed, Memory}
 use Rattle.dr_network.proofs.Gathered.{Contains-cons_cases, Contains-here, Contains-there, nothing_in_nil}
@@ -16,13 +17,16 @@ use Rattle.dr_network.specs.Networks.{Network}
 use Rattle.dr_network.specs.Plans.{NamesNoNode}
 use Rattle.dr_network.specs.declared.plan.Node.{Node}
 use Rattle.dr_site.specs.Parts.{Part, IsPartOf}
-use Rattle.dr_changeover.specs.Changes.{AreNames, ChangesBetween, IsOver, IsReady, StopsAt, came_of, name_of}
+use Rattle.dr_changeover.specs.Changes.{AreNames, ChangesBetween, IsOver, IsReady, IsSiteAt, StopsAt, came_of, name_of, path_in}
 use Rattle.dr_changeover.specs.Changings.{IsChanged, IsUnchanged, MayChange, OnlyFirstAreChanged}
-use Rattle.dr_changeover.specs.Lookings.{IsStanding, IsUnseen, name_by}
+use Rattle.dr_changeover.specs.Lookings.{IsFound, IsLookInto, IsStanding, IsUnseen, LooksAs, name_by}
 use Rattle.dr_changeover.specs.declared.change.Change.{Change}
 use Rattle.dr_changeover.specs.declared.change.Stop.{Stop}
 use Rattle.dr_changeover.specs.declared.standing.Standing.{Standing}
 use Rattle.dr_changeover.specs.declared.standing.Standing.TheVariants.{Ready, Over}
+use Rattle.dr_changeover.specs.declared.standing.Found.TheVariants.{InForce, Next}
+use Rattle.dr_changeover.specs.declared.standing.Look.{Look}
+use Rattle.dr_changeover.specs.declared.standing.Look.TheVariants.{Stands, Unfit}
 
 -- what is shown of an element shows one of them
 unmapped : {X Y : Type 0} (f : X → Y) (xs : List X) (y : Y) → Contains (map f xs) y → (x : X) × Contains xs x × (f x ≡ y)
@@ -120,3 +124,84 @@ module _ {L : Type 0} (opens : Text → L → Type 0) (site_of : L → Part) (bo
       → ChangesBetween opens site_of book stands folder old next (came_of result)
   between (Ok change) h = h
   between (Err stop) h = h
+
+  module _ (name path : Text) (way : path ≡ path_in folder name) (site own : Part) (at_old : IsSiteAt old name site) (at_next : IsSiteAt next name own) where
+    -- a ledger that was found to be of the next plan may stay as it is
+    pub found_over : (l : L) → IsFound opens site_of path site own (Next l) → LooksAs opens site_of book stands folder old next name (Stands (Over l))
+    found_over l h =
+        let here : (site_of l).name ≡ name = ap (λ (s : Part). s.name) h.1 ∙ at_next.named in (
+          here,
+          record {
+            opened = subst (λ (n : Text). opens (path_in folder n) l) (sym here) (subst (λ (p : Text). opens p l) way h.0);
+            at = record { part = subst (λ (s : Part). IsPartOf next.plan next.certificate s) (sym h.1) at_next.part; named = refl };
+          },
+        )
+
+    -- what a look into a ledger of the plan in force shows is what a look at the node shows
+    pub found_in_force : (l : L) → IsFound opens site_of path site own (InForce l) → (look : Look L) → IsLookInto site_of book stands next own l look → LooksAs opens site_of book stands folder old next name look
+    found_in_force l f (Stands (Ready last s)) h =
+        let here : (site_of l).name ≡ name = ap (λ (p : Part). p.name) f.1 ∙ at_old.named in
+        let there : (site_of l).name ≡ own.name = here ∙ sym at_next.named in
+        let part : IsPartOf old.plan old.certificate (site_of l) = subst (λ (p : Part). IsPartOf old.plan old.certificate p) (sym f.1) at_old.part in
+        let opened : opens (path_in folder own.name) l = subst (λ (n : Text). opens (path_in folder n) l) (sym at_next.named) (subst (λ (p : Text). opens p l) way f.0) in
+        subst (λ (p : Part). LooksAs opens site_of book stands folder old next name (Stands (Ready last p))) (sym h.0) (
+          at_next.named,
+          (
+            l,
+            record { opened = opened; at = record { part = part; named = there } },
+            at_next.part,
+            h.1,
+            λ st. ((h.2 st).0, subst (λ (n : Text). IsFit next.plan n (book l)) there (h.2 st).1),
+          ),
+        )
+    found_in_force l f (Stands (Over last)) h = absurd h
+    found_in_force l f (Unfit uid dest) h =
+        let here : (site_of l).name ≡ name = ap (λ (p : Part). p.name) f.1 ∙ at_old.named in
+        let part : IsPartOf old.plan old.certificate (site_of l) = subst (λ (p : Part). IsPartOf old.plan old.certificate p) (sym f.1) at_old.part in (
+          l,
+          h.0,
+          record { opened = subst (λ (p : Text). opens p l) way f.0; at = record { part = part; named = here } },
+          h.1,
+          λ st. ((h.2 st).0, subst (λ (n : Text). Unfits next.plan n (book l) (Some (uid, dest))) here (h.2 st).1),
+        )
+
+-- the site of a node that is found
+pub site_at : (sealed : Certified) (name : Text) (site : Part) → Sites sealed name (Ok site) → IsSiteAt sealed name site
+site_at sealed name site h = record { part = h.1; named = h.0 }
+
+module _ (old next : Certified) (name : Text) where
+  -- a node that the plan in force doesn't have, or for which there is no memory, isn't looked into
+  pub stranger_unseen : (halt : Halt) → Sites old name (Err halt) → IsUnseen old next name halt
+  stranger_unseen NoNode h = inl h
+  stranger_unseen Memory h = tt
+  stranger_unseen (NoPlan told) h = absurd h
+  stranger_unseen (NoCertificate fault) h = absurd h
+  stranger_unseen (NotOpened fault) h = absurd h
+  stranger_unseen (NoInstance fault) h = absurd h
+  stranger_unseen (Refused fault) h = absurd h
+  stranger_unseen Receipt h = absurd h
+  stranger_unseen (Failed failure) h = absurd h
+
+  -- the same of the next plan
+  pub newcomer_unseen : (halt : Halt) → Sites next name (Err halt) → IsUnseen old next name halt
+  newcomer_unseen NoNode h = inr h
+  newcomer_unseen Memory h = tt
+  newcomer_unseen (NoPlan told) h = absurd h
+  newcomer_unseen (NoCertificate fault) h = absurd h
+  newcomer_unseen (NotOpened fault) h = absurd h
+  newcomer_unseen (NoInstance fault) h = absurd h
+  newcomer_unseen (Refused fault) h = absurd h
+  newcomer_unseen Receipt h = absurd h
+  newcomer_unseen (Failed failure) h = absurd h
+
+  -- a node whose ledger isn't opened isn't looked into
+  pub unopened_unseen : (halt : Halt) → IsUnopened halt → IsUnseen old next name halt
+  unopened_unseen (NotOpened fault) h = tt
+  unopened_unseen Memory h = tt
+  unopened_unseen NoNode h = absurd h
+  unopened_unseen (NoPlan told) h = absurd h
+  unopened_unseen (NoCertificate fault) h = absurd h
+  unopened_unseen (NoInstance fault) h = absurd h
+  unopened_unseen (Refused fault) h = absurd h
+  unopened_unseen Receipt h = absurd h
+  unopened_unseen (Failed failure) h = absurd h

@@ -97,15 +97,25 @@ fn look_at<'a, O: Ledgers>(
 ) -> Result<Look<O::Ledger>, Halt<'a>>
     ensures { MatchResult result (LooksAs (O.opens ledgers.now) O.Ledger.site O.Ledger.book O.Ledger.stands folder.now old.now next.now name.now) (IsUnseen old.now next.now name.now) }
 {
-    let site = part_of(alloc, old, name)?;
-    let own = part_of(alloc, next, name)?;
-    let path = path_of(alloc, folder, name)?;
-    match find(alloc, ledgers, path.as_str(), &site, &own)? {
-        Found::Next(ledger) => Ok(Look::Stands(Standing::Over(ledger))),
-        Found::InForce(ledger) => match look_into(ledger, own, next) {
+    let site = match part_of(alloc, old, name) {
+        Ok(site) => site,
+        Err(halt) => return Err(halt),
+    };
+    let own = match part_of(alloc, next, name) {
+        Ok(own) => own,
+        Err(halt) => return Err(halt),
+    };
+    let path = match path_of(alloc, folder, name) {
+        Ok(path) => path,
+        Err(halt) => return Err(halt),
+    };
+    match find(alloc, ledgers, path.as_str(), &site, &own) {
+        Ok(Found::Next(ledger)) => Ok(Look::Stands(Standing::Over(ledger))),
+        Ok(Found::InForce(ledger)) => match look_into(ledger, own, next) {
             Ok(look) => Ok(look),
             Err(fault) => Err(Halt::Refused(fault)),
         },
+        Err(halt) => Err(halt),
     }
 }
 
