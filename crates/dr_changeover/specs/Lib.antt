@@ -1,4 +1,0 @@
-pub mod Changes
-pub mod Changings
-pub mod Endings
-pub mod Lookings
