@@ -37,6 +37,7 @@ def main():
     compare('the node of a ledger', ['ARCH'], offered('requeue', plan, 'certificate', 'A'))
     compare('a destination', ['CT1'], offered('requeue', plan, 'certificate', 'ARCH', 'arch.db', '1.2', 'C'))
     compare('an image behind a node', ['docs/USAGE.md'], offered('route', plan, 'certificate', 'GATE', 'docs/US'))
+    compare('a folder of ledgers', ['plans'], offered('adopt', plan, 'certificate', plan, 'certificate', 'pl'))
     compare('nothing behind all words', [''], offered('graph', plan, 'certificate', ''))
     print('completion: the words of the program, files and nodes')
 

@@ -15,6 +15,7 @@ PROGRAM = os.environ.get('DR_ROUTER') or f'{TOP}/crates/dr_router/out/dr_router'
 SAMPLE = f'{TOP}/plans/three-nodes.toml'
 IMPLICIT, EXPLICIT = b'1.2.840.10008.1.2', b'1.2.840.10008.1.2.1'
 CT = b'1.2.840.10008.5.1.4.1.1.2'
+PLAN = ('plan', 'certificate')
 LIMIT = 60
 EVENT = re.compile(r'(\d{4}-\d\d-\d\dT\d\d:\d\d:\d\d(?:\.\d+)?Z) \[(\w+) +(\w+)\] (.*)')
 
@@ -70,7 +71,7 @@ def listening_ports():
 
 
 class Room:
-    """A folder with a plan, whose nodes have free ports, its certificate, and the ledgers of its nodes."""
+    """A folder with a plan, whose nodes have free ports, its certificate, and the ledgers of its nodes; and with more plans, where there are any."""
 
     def __init__(self, text=None):
         self.folder = tempfile.mkdtemp()
@@ -79,13 +80,7 @@ class Room:
             with open(SAMPLE, encoding='utf-8') as file:
                 text = file.read()
         self.ports = {}
-        for name in re.findall(r'^name = "(\w+)"', text, re.M):
-            self.ports[name] = free_port()
-        def address(found):
-            return f'name = "{found[1]}"{found[2]}address = "127.0.0.1:{self.ports[found[1]]}"'
-        text = re.sub(r'name = "(\w+)"(.*?)address = "[^"]*"', address, text, flags=re.S)
-        self.put('plan', text.encode())
-        self.put('certificate', self.run('check', 'plan').stdout)
+        self.put_plan(text)
 
     def __enter__(self):
         return self
@@ -98,6 +93,16 @@ class Room:
     def put(self, name, data):
         with open(f'{self.folder}/{name}', 'wb') as file:
             file.write(data)
+
+    def put_plan(self, text, plan=PLAN):
+        """A plan with free ports, and its certificate. A node that has a port by another plan of the room keeps it."""
+        for name in re.findall(r'^name = "(\w+)"', text, re.M):
+            self.ports.setdefault(name, free_port())
+        def address(found):
+            return f'name = "{found[1]}"{found[2]}address = "127.0.0.1:{self.ports[found[1]]}"'
+        text = re.sub(r'name = "(\w+)"(.*?)address = "[^"]*"', address, text, flags=re.S)
+        self.put(plan[0], text.encode())
+        self.put(plan[1], self.run('check', plan[0]).stdout)
 
     def run(self, *words):
         return subprocess.run([PROGRAM, *words], cwd=self.folder, capture_output=True, timeout=LIMIT, check=False)
@@ -115,8 +120,17 @@ class Room:
             time.sleep(0.05)
         return False
 
-    def at(self, word, node, *more, ledger=None):
-        return self.run(word, 'plan', 'certificate', node, ledger or f'{node}.db', *more)
+    def wait_for_event(self, node, text):
+        """Waits until a node has logged that."""
+        end = time.monotonic() + LIMIT
+        while time.monotonic() < end:
+            if text in self.text(f'{node}.log'):
+                return
+            time.sleep(0.05)
+        raise AssertionError(f'{node} does not log {text}')
+
+    def at(self, word, node, *more, ledger=None, plan=PLAN):
+        return self.run(word, *plan, node, ledger or f'{node}.db', *more)
 
     def start(self, *command, **settings):
         """A process that ends with the room, if it hasn't ended before."""
@@ -124,9 +138,9 @@ class Room:
         self.running.append(process)
         return process
 
-    def serve(self, node, links, *more, ledger=None):
+    def serve(self, node, links, *more, ledger=None, plan=PLAN):
         """A node that serves and listens already. Its events go to a file, so that nobody has to read them while it serves."""
-        words = ['serve', 'plan', 'certificate', node, ledger or f'{node}.db', '--links', str(links), *more]
+        words = ['serve', *plan, node, ledger or f'{node}.db', '--links', str(links), *more]
         with open(f'{self.folder}/{node}.log', 'ab') as log:
             process = self.start(PROGRAM, *words, stderr=log)
         self.wait_for(node, process)

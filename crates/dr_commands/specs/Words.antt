@@ -5,6 +5,7 @@ use Rattle.dr_commands.specs.declared.words.Duty.{Duty}
 use Rattle.dr_commands.specs.declared.words.Duty.TheVariants.{List as ToList, Summary, Requeue, RequeueAll, Send, Serve}
 use Rattle.dr_commands.specs.declared.words.KeyWords.{KeyWords}
 use Rattle.dr_commands.specs.declared.words.NodeFiles.{NodeFiles}
+use Rattle.dr_commands.specs.declared.words.PlanChange.{PlanChange}
 use Rattle.dr_commands.specs.declared.words.Question.{Question}
 use Rattle.dr_commands.specs.declared.words.Question.TheVariants.{RouteOfKey, RouteOfFile, Graph, Lint}
 use Rattle.dr_commands.specs.declared.words.Serving.{Serving}
@@ -111,3 +112,11 @@ IsDutyOf words given (Requeue uid dest) = IsRequeueOf words given uid dest
 IsDutyOf words given (RequeueAll dest) = IsRequeueAllOf words given dest
 IsDutyOf words given (Send file) = IsSendOf words given file
 IsDutyOf words given (Serve serving) = IsServeOf words given × (serving ≡ plain_serving)
+
+-- the word adopt, the paths of a plan and its certificate, those of the next plan and its certificate, and a folder's path: they ask to bring the ledgers in that
+-- folder over from the one plan to the other
+abbrev pub IsAdoptOf : List (Bor (List ℕ)) → PlanChange → Type 0
+IsAdoptOf words change =
+    (word : Bor (List ℕ)) × (words ≡ word ∷ change.plan ∷ change.certificate ∷ change.next_plan ∷ change.next_certificate ∷ change.folder ∷ []) × (word.now ≡ codes "adopt")
+    × IsNoOption change.plan.now × IsNoOption change.certificate.now
+    × IsNoOption change.next_plan.now × IsNoOption change.next_certificate.now × IsNoOption change.folder.now

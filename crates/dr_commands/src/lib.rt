@@ -20,4 +20,6 @@ pub use run::{
 pub use status::Status;
 pub use system::{Disk, given_words};
 pub use verify::{plan_of, seal_text};
-pub use words::{Asked, Duty, KeyWords, NodeFiles, Question, Serving, Verbosity, read_words};
+pub use words::{
+    Asked, Duty, KeyWords, NodeFiles, PlanChange, Question, Serving, Verbosity, read_words,
+};

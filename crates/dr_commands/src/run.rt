@@ -275,7 +275,8 @@ pub fn run_asked<'a, R: Read, W: Write, E: Write, F: Files>(
         Asked::Simulate(_, _, _)
         | Asked::Echo(_, _, _)
         | Asked::Question(_, _, _)
-        | Asked::AtNode(_, _) => { Ok(tell_other_word(faults)?) }
+        | Asked::AtNode(_, _)
+        | Asked::Adopt(_) => { Ok(tell_other_word(faults)?) }
         Asked::Told(error) => Ok(tell_words(&error, output, faults)?),
     }
 }

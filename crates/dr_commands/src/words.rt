@@ -1,13 +1,14 @@
 //! What the words of the command line ask for.
 ghost use Rattle.std.specs.Prelude.{◌≡◌, ◌↔◌, ℕ, List, Some, IfOk, IsTrue};
 ghost use Rattle.std.specs.Borrow.{Bor};
-ghost use Rattle.dr_commands.specs.Words.{IsPlainCheck, IsCheckOf, IsVerifyOf, IsSimulateOf, IsEchoOf, IsNoOption, IsGraphOf, IsLintOf, IsFileRouteOf, IsKeyRouteOf, IsQuestionOf, IsListOf, IsSummaryOf, IsServeOf, IsSendOf, IsRequeueOf, IsRequeueAllOf, IsDutyOf, plain_serving};
+ghost use Rattle.dr_commands.specs.Words.{IsPlainCheck, IsCheckOf, IsVerifyOf, IsSimulateOf, IsEchoOf, IsNoOption, IsGraphOf, IsLintOf, IsFileRouteOf, IsKeyRouteOf, IsQuestionOf, IsListOf, IsSummaryOf, IsServeOf, IsSendOf, IsRequeueOf, IsRequeueAllOf, IsDutyOf, IsAdoptOf, plain_serving};
 ghost use Rattle.dr_commands.specs.declared.words.Asked.{Asked as AskedValue};
 ghost use Rattle.dr_commands.specs.declared.words.Asked.TheVariants as asks;
 ghost use Rattle.dr_commands.specs.declared.words.Duty.{Duty as DutyValue};
 ghost use Rattle.dr_commands.specs.declared.words.Duty.TheVariants as duties;
 ghost use Rattle.dr_commands.specs.declared.words.KeyWords.{KeyWords as KeyWordsValue};
 ghost use Rattle.dr_commands.specs.declared.words.NodeFiles.{NodeFiles as NodeFilesValue};
+ghost use Rattle.dr_commands.specs.declared.words.PlanChange.{PlanChange as PlanChangeValue};
 ghost use Rattle.dr_commands.specs.declared.words.Question.{Question as QuestionValue};
 ghost use Rattle.dr_commands.specs.declared.words.Question.TheVariants as questions;
 
@@ -44,6 +45,17 @@ pub struct NodeFiles<'a> {
     pub certificate: &'a str,
     pub node: &'a str,
     pub ledger: &'a str,
+}
+
+/// What names two plans and where the nodes' ledgers are: the paths of the plan in force, of its certificate, of the next plan, of that one's
+/// certificate, and of the folder that holds each node's ledger.
+#[derive(Clone, Copy, Debug, Drop)]
+pub struct PlanChange<'a> {
+    pub plan: &'a str,
+    pub certificate: &'a str,
+    pub next_plan: &'a str,
+    pub next_certificate: &'a str,
+    pub folder: &'a str,
 }
 
 /// Which events a node that serves logs.
@@ -102,6 +114,8 @@ pub enum Asked<'a> {
     Question(&'a str, &'a str, Question<'a>),
     /// To do this at a node that has these files.
     AtNode(NodeFiles<'a>, Duty<'a>),
+    /// To bring the ledgers of all nodes of a plan over to another plan.
+    Adopt(PlanChange<'a>),
     /// Help, or nothing that the program knows.
     Told(Error),
 }
@@ -116,10 +130,36 @@ fn is_no_option(word: &str) -> bool
     *first != b'-'
 }
 
+/// What plain words ask to be done with the ledgers of all nodes: those of a known form, without options.
+fn read_change<'a>(words: &'a [&'a str]) -> Option<Asked<'a>>
+    ensures adopt { (change : PlanChangeValue) → IsAdoptOf words.now change → result ≡ Some (asks.Adopt change) }
+{
+    match words {
+        [word, plan, certificate, next_plan, next_certificate, folder]
+            if *word == "adopt"
+                && is_no_option(plan)
+                && is_no_option(certificate)
+                && is_no_option(next_plan)
+                && is_no_option(next_certificate)
+                && is_no_option(folder) => {
+            let change = PlanChange {
+                plan,
+                certificate,
+                next_plan,
+                next_certificate,
+                folder,
+            };
+            Some(Asked::Adopt(change))
+        }
+        _ => None,
+    }
+}
+
 /// What words ask a node to do with all of its ledger: those of a known form, with the option that says so.
 fn read_all<'a>(words: &'a [&'a str]) -> Option<Asked<'a>>
     ensures summary { (given : NodeFilesValue) → IsSummaryOf words.now given → result ≡ Some (asks.AtNode given duties.Summary) }
     ensures requeue_all { (given : NodeFilesValue) (dest : Bor (List ℕ)) → IsRequeueAllOf words.now given dest → result ≡ Some (asks.AtNode given (duties.RequeueAll dest)) }
+    ensures adopt { (change : PlanChangeValue) → IsAdoptOf words.now change → result ≡ Some (asks.Adopt change) }
 {
     match words {
         [word, plan, certificate, node, ledger, option]
@@ -153,7 +193,7 @@ fn read_all<'a>(words: &'a [&'a str]) -> Option<Asked<'a>>
             };
             Some(Asked::AtNode(given, Duty::RequeueAll(dest)))
         }
-        _ => None,
+        _ => read_change(words),
     }
 }
 
@@ -163,6 +203,7 @@ fn read_work<'a>(words: &'a [&'a str]) -> Option<Asked<'a>>
     ensures send { (given : NodeFilesValue) (file : Bor (List ℕ)) → IsSendOf words.now given file → result ≡ Some (asks.AtNode given (duties.Send file)) }
     ensures summary { (given : NodeFilesValue) → IsSummaryOf words.now given → result ≡ Some (asks.AtNode given duties.Summary) }
     ensures requeue_all { (given : NodeFilesValue) (dest : Bor (List ℕ)) → IsRequeueAllOf words.now given dest → result ≡ Some (asks.AtNode given (duties.RequeueAll dest)) }
+    ensures adopt { (change : PlanChangeValue) → IsAdoptOf words.now change → result ≡ Some (asks.Adopt change) }
 {
     match words {
         [word, plan, certificate, node, ledger, file]
@@ -208,6 +249,7 @@ fn read_duty<'a>(words: &'a [&'a str]) -> Option<Asked<'a>>
     ensures serve { (given : NodeFilesValue) → IsServeOf words.now given → result ≡ Some (asks.AtNode given (duties.Serve plain_serving)) }
     ensures summary { (given : NodeFilesValue) → IsSummaryOf words.now given → result ≡ Some (asks.AtNode given duties.Summary) }
     ensures requeue_all { (given : NodeFilesValue) (dest : Bor (List ℕ)) → IsRequeueAllOf words.now given dest → result ≡ Some (asks.AtNode given (duties.RequeueAll dest)) }
+    ensures adopt { (change : PlanChangeValue) → IsAdoptOf words.now change → result ≡ Some (asks.Adopt change) }
 {
     match words {
         [word, plan, certificate, node, ledger]
@@ -257,6 +299,7 @@ fn read_route<'a>(words: &'a [&'a str]) -> Option<Asked<'a>>
     ensures serve { (given : NodeFilesValue) → IsServeOf words.now given → result ≡ Some (asks.AtNode given (duties.Serve plain_serving)) }
     ensures summary { (given : NodeFilesValue) → IsSummaryOf words.now given → result ≡ Some (asks.AtNode given duties.Summary) }
     ensures requeue_all { (given : NodeFilesValue) (dest : Bor (List ℕ)) → IsRequeueAllOf words.now given dest → result ≡ Some (asks.AtNode given (duties.RequeueAll dest)) }
+    ensures adopt { (change : PlanChangeValue) → IsAdoptOf words.now change → result ≡ Some (asks.Adopt change) }
 {
     match words {
         [word, plan, certificate, at, path]
@@ -308,6 +351,7 @@ fn read_question<'a>(words: &'a [&'a str]) -> Option<Asked<'a>>
     ensures serve { (given : NodeFilesValue) → IsServeOf words.now given → result ≡ Some (asks.AtNode given (duties.Serve plain_serving)) }
     ensures summary { (given : NodeFilesValue) → IsSummaryOf words.now given → result ≡ Some (asks.AtNode given duties.Summary) }
     ensures requeue_all { (given : NodeFilesValue) (dest : Bor (List ℕ)) → IsRequeueAllOf words.now given dest → result ≡ Some (asks.AtNode given (duties.RequeueAll dest)) }
+    ensures adopt { (change : PlanChangeValue) → IsAdoptOf words.now change → result ≡ Some (asks.Adopt change) }
 {
     match words {
         [word, plan, certificate]
@@ -339,6 +383,7 @@ fn read_plain<'a>(words: &'a [&'a str]) -> Option<Asked<'a>>
     ensures serve { (given : NodeFilesValue) → IsServeOf words.now given → result ≡ Some (asks.AtNode given (duties.Serve plain_serving)) }
     ensures summary { (given : NodeFilesValue) → IsSummaryOf words.now given → result ≡ Some (asks.AtNode given duties.Summary) }
     ensures requeue_all { (given : NodeFilesValue) (dest : Bor (List ℕ)) → IsRequeueAllOf words.now given dest → result ≡ Some (asks.AtNode given (duties.RequeueAll dest)) }
+    ensures adopt { (change : PlanChangeValue) → IsAdoptOf words.now change → result ≡ Some (asks.Adopt change) }
 {
     match words {
         [] => Some(Asked::CheckInput),
@@ -518,6 +563,17 @@ fn send_command<'a>(alloc: Global) -> Result<Command<'a>, AllocError> {
     .arg(named(alloc, "FILE", "a Part 10 file"))
 }
 
+/// The word `adopt`.
+fn adopt_command<'a>(alloc: Global) -> Result<Command<'a>, AllocError> {
+    Command::new(alloc, "adopt")
+        .about("Brings the ledgers of all nodes of a plan over to another plan, while no node runs")
+        .arg(named(alloc, "OLDPLAN", "the file with the plan in force"))?
+        .arg(named(alloc, "OLDCERT", "the file with that plan's certificate"))?
+        .arg(named(alloc, "PLAN", "the file with the next plan"))?
+        .arg(named(alloc, "CERT", "the file with the next plan's certificate"))?
+        .arg(named(alloc, "DIR", "the folder with the ledger of each node"))
+}
+
 /// The levels of a log.
 const LEVELS: &[&str] = &["error", "info", "debug"];
 
@@ -568,7 +624,8 @@ fn command<'a>(alloc: Global) -> Result<Command<'a>, AllocError> {
         .subcommand(serve_command(alloc)?)?
         .subcommand(send_command(alloc)?)?
         .subcommand(list_command(alloc)?)?
-        .subcommand(requeue_command(alloc)?)
+        .subcommand(requeue_command(alloc)?)?
+        .subcommand(adopt_command(alloc)?)
 }
 
 /// Where what is to go, as clap has read it: an instance with four values, or the one in a file.
@@ -659,6 +716,17 @@ fn read_certified<'a>(
     Asked::Simulate(plan, certificate, given.get_str("SCRIPT").unwrap_or(""))
 }
 
+/// Which plans and which folder are named, as clap has read it.
+fn change_of<'a>(given: &ArgMatches<'a>) -> PlanChange<'a> {
+    PlanChange {
+        plan: given.get_str("OLDPLAN").unwrap_or(""),
+        certificate: given.get_str("OLDCERT").unwrap_or(""),
+        next_plan: given.get_str("PLAN").unwrap_or(""),
+        next_certificate: given.get_str("CERT").unwrap_or(""),
+        folder: given.get_str("DIR").unwrap_or(""),
+    }
+}
+
 /// What clap makes of the words: options, help, and what the program doesn't know.
 fn read_others<'a>(alloc: Global, words: &'a [&'a str]) -> Result<Asked<'a>, AllocError> {
     let matches = match command(alloc)?.try_get_matches_from(words) {
@@ -679,6 +747,9 @@ fn read_others<'a>(alloc: Global, words: &'a [&'a str]) -> Result<Asked<'a>, All
         let called = given.get_str("TO").unwrap_or("");
         return Ok(Asked::Echo(plan, caller, called));
     }
+    if name == "adopt" {
+        return Ok(Asked::Adopt(change_of(given)));
+    }
     let certificate = given.get_str("CERT").unwrap_or("");
     Ok(read_certified(name, given, plan, certificate))
 }
@@ -692,6 +763,7 @@ pub fn read_words<'a>(alloc: Global, words: &'a [&'a str]) -> Result<Asked<'a>, 
     ensures echo { IfOk result (λ a. (plan caller called : Bor (List ℕ)) → IsEchoOf words.now plan caller called → a ≡ asks.Echo plan caller called) }
     ensures question { IfOk result (λ a. (plan certificate : Bor (List ℕ)) (question : QuestionValue) → IsQuestionOf words.now plan certificate question → a ≡ asks.Question plan certificate question) }
     ensures duty { IfOk result (λ a. (given : NodeFilesValue) (duty : DutyValue) → IsDutyOf words.now given duty → a ≡ asks.AtNode given duty) }
+    ensures adopt { IfOk result (λ a. (change : PlanChangeValue) → IsAdoptOf words.now change → a ≡ asks.Adopt change) }
 {
     if let Some(asked) = read_plain(words) {
         return Ok(asked);

@@ -29,7 +29,7 @@ pub use hops::{Hop, hops_of};
 pub use instance::{InstanceFault, item_of};
 pub use ledgers::{Ledgers, OpenFault};
 pub use listing::list_files;
-pub use opening::{Opened, open_node};
+pub use opening::{Opened, ledger_of, open_node, seal_files};
 pub use queues::{Row, Stage, how_many, oldest};
 pub use report::{report_of, report_text};
 pub use requeuing::requeue_files;

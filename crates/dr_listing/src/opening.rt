@@ -38,7 +38,9 @@ fn seal_plan<'a, F: Files>(
 }
 
 /// The plan in the first file, sealed with the certificate in the second.
-fn seal_files<'a, F: Files>(
+///
+/// Errors: NoPlan, NoCertificate, Failed.
+pub fn seal_files<'a, F: Files>(
     alloc: Global,
     files: &F,
     plan: &'a str,
@@ -66,8 +68,10 @@ fn site_of<'a>(alloc: Global, sealed: &Sealed, name: &str) -> Result<Site, Halt<
     }
 }
 
-/// The ledger of a site.
-fn ledger_of<'a, O: Ledgers>(
+/// The ledger of a site, by the path.
+///
+/// Errors: NotOpened, Memory.
+pub fn ledger_of<'a, O: Ledgers>(
     alloc: Global,
     ledgers: &O,
     path: &str,

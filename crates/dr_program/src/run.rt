@@ -2,12 +2,14 @@
 ghost use Rattle.std.specs.Prelude.{◌≡◌, ◌≢◌, ◌⊎◌, ℕ, List, IfOk, IfSome};
 ghost use Rattle.std.specs.Borrow.{Bor};
 ghost use Rattle.dr_base.specs.Texts.{Text};
+ghost use Rattle.dr_changeover.specs.Endings.{Adopts};
 ghost use Rattle.dr_commands.specs.Runs.{Answers, Verifies};
-ghost use Rattle.dr_commands.specs.Words.{IsPlainCheck, IsCheckOf, IsVerifyOf, IsQuestionOf, IsSimulateOf, IsEchoOf, IsDutyOf};
+ghost use Rattle.dr_commands.specs.Words.{IsPlainCheck, IsCheckOf, IsVerifyOf, IsQuestionOf, IsSimulateOf, IsEchoOf, IsDutyOf, IsAdoptOf};
 ghost use Rattle.dr_commands.specs.declared.status.Status.TheVariants.{Success, Refused, Usage};
 ghost use Rattle.dr_commands.specs.declared.words.Asked.TheVariants as asks;
 ghost use Rattle.dr_commands.specs.declared.words.Duty.{Duty as DutyValue};
 ghost use Rattle.dr_commands.specs.declared.words.NodeFiles.{NodeFiles as NodeFilesValue};
+ghost use Rattle.dr_commands.specs.declared.words.PlanChange.{PlanChange as PlanChangeValue};
 ghost use Rattle.dr_commands.specs.declared.words.Question.{Question as QuestionValue};
 ghost use Rattle.dr_echo.specs.Runs.{Echoes};
 ghost use Rattle.dr_questions.specs.Runs.{Asks};
@@ -15,6 +17,7 @@ ghost use Rattle.dr_routing.specs.Sending.{VisitsBy};
 ghost use Rattle.dr_routing.specs.Working.{Works};
 ghost use Rattle.dr_simulate.specs.Runs.{Simulates};
 
+use dr_changeover::adopt_files;
 use dr_commands::{Asked, Failure, Files, Status, read_words, tell_failure};
 use dr_echo::echo_files;
 use dr_listing::Ledgers;
@@ -75,6 +78,7 @@ where
         → IfOk result (λ status. (text : Text) × F.holds files.now plan.now text
         × Echoes (N.reaches network.now) N.Socket.hears N.Socket.sends N.Socket.closes (C.tells clock.now) caller.now called.now text (W.contents output.old) (W.contents output.new) status) }
     ensures worked { (given : NodeFilesValue) (duty : DutyValue) → asked.entry ≡ asks.AtNode given duty → IfOk result (Works (F.holds files.now) (O.opens ledgers.now) O.Ledger.site O.Ledger.book O.Ledger.stands (VisitsBy (N.reaches network.now) N.Socket.hears N.Socket.sends N.Socket.closes ⟦<OwnPort<O::Ledger> as DeskPort>⟧.step (C.tells clock.now)) given duty (W.contents output.old) (W.contents output.new)) }
+    ensures adopted { (change : PlanChangeValue) → asked.entry ≡ asks.Adopt change → IfOk result (Adopts (F.holds files.now) (O.opens ledgers.now) O.Ledger.site O.Ledger.book O.Ledger.stands change (W.contents output.old) (W.contents output.new)) }
 {
     match asked {
         Asked::Echo(plan, caller, called) => {
@@ -85,6 +89,7 @@ where
         Asked::AtNode(given, duty) => work_files(
             rt, alloc, files, ledgers, given, duty, network, clock, log, output, faults,
         ),
+        Asked::Adopt(change) => adopt_files(alloc, files, ledgers, change, output, faults),
         other => run_offline(alloc, other, input, output, faults, files),
     }
 }
@@ -133,6 +138,8 @@ where
         × Echoes (N.reaches network.now) N.Socket.hears N.Socket.sends N.Socket.closes (C.tells clock.now) caller.now called.now text (W.contents output.old) (W.contents output.new) result }
     ensures worked { (given : NodeFilesValue) (duty : DutyValue) → IsDutyOf words.now given duty → (result ≡ Success) ⊎ (result ≡ Refused)
         → Works (F.holds files.now) (O.opens ledgers.now) O.Ledger.site O.Ledger.book O.Ledger.stands (VisitsBy (N.reaches network.now) N.Socket.hears N.Socket.sends N.Socket.closes ⟦<OwnPort<O::Ledger> as DeskPort>⟧.step (C.tells clock.now)) given duty (W.contents output.old) (W.contents output.new) result }
+    ensures adopted { (change : PlanChangeValue) → IsAdoptOf words.now change → (result ≡ Success) ⊎ (result ≡ Refused)
+        → Adopts (F.holds files.now) (O.opens ledgers.now) O.Ledger.site O.Ledger.book O.Ledger.stands change (W.contents output.old) (W.contents output.new) result }
 {
     let asked = match read_words(alloc, words) {
         Ok(asked) => asked,

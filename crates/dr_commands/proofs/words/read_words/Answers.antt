@@ -41,6 +41,12 @@ returns-in-Some-clause-echo c = λ plan caller called h. ap what (c.in-Some.ensu
 pub returns-clause-echo : goal.returns-clause-echo
 returns-clause-echo c = λ plan caller called h. absurd (none-some (asks.Echo plan caller called) (c.in_default.ensures.echo plan caller called h))
 
+pub returns-in-Some-clause-adopt : goal.returns-in-Some-clause-adopt
+returns-in-Some-clause-adopt c = λ change h. ap what (c.in-Some.ensures.adopt change h)
+
+pub returns-clause-adopt : goal.returns-clause-adopt
+returns-clause-adopt c = λ change h. absurd (none-some (asks.Adopt change) (c.in_default.ensures.adopt change h))
+
 -- an answer is right for each question, where it is for each kind of them
 module _ (words : List (Bor (List ℕ))) (found : Option Asked)
     (graph : (plan certificate : Bor (List ℕ)) → IsGraphOf words plan certificate → found ≡ Some (asks.Question plan certificate questions.Graph))

@@ -1,9 +1,11 @@
 use Rattle.std.proofs.Common.{◌≡◌, ap, subst, sym, ◌∙◌}
 use Rattle.std.specs.Prelude.{IfOk}
+use Rattle.dr_changeover.specs.Endings.{Adopts}
 use Rattle.dr_commands.specs.declared.words.Asked.{Asked}
 use Rattle.dr_commands.specs.declared.words.Asked.TheVariants as asks
 use Rattle.dr_commands.specs.declared.words.Duty.{Duty}
 use Rattle.dr_commands.specs.declared.words.NodeFiles.{NodeFiles}
+use Rattle.dr_commands.specs.declared.words.PlanChange.{PlanChange}
 use Rattle.dr_serving.specs.contracts.tallied.OwnPortDeskPort.TheImpl as own
 use Rattle.dr_routing.specs.Sending.{VisitsBy}
 use Rattle.dr_routing.specs.Working.{Works}
@@ -28,3 +30,16 @@ returns-in-AtNode-clause-worked g c = λ given duty asked.
     at what (g.W.Write.contents c.args.output.now) (g.W.Write.contents c.work_files.new.output)) in
     subst (λ (at : NodeFiles). P at duty) (ap (given_of given) same)
     (subst (λ (what : Duty). P c.in-AtNode.given what) (ap (duty_of duty) same) c.work_files.ensures)
+
+-- the change that the word `adopt` asks for, else this
+change_of : PlanChange → Asked → PlanChange
+change_of other (asks.Adopt change) = change
+change_of other asked = other
+
+pub returns-in-Adopt-clause-adopted : goal.returns-in-Adopt-clause-adopted
+unfolding change_of
+returns-in-Adopt-clause-adopted g c = λ change asked.
+    let same : asks.Adopt c.in-Adopt.change ≡ asks.Adopt change = sym c.in-Adopt.is ∙ asked in
+    let P : PlanChange → Type 0 = λ files. IfOk c.adopt_files.result (Adopts (g.F.Files.holds c.args.files.now) (g.O.Ledgers.opens c.args.ledgers.now) g.O.Ledger.Ledger.site g.O.Ledger.Ledger.book g.O.Ledger.Ledger.stands files
+    (g.W.Write.contents c.args.output.now) (g.W.Write.contents c.adopt_files.new.output)) in
+    subst P (ap (change_of change) same) c.adopt_files.ensures

@@ -22,3 +22,6 @@ returns-in-Ok-run_any-clause-responded g c = λ plan certificate question asks e
 pub returns-in-Ok-run_any-clause-worked : goal.returns-in-Ok-run_any-clause-worked
 returns-in-Ok-run_any-clause-worked g c = λ given duty asks ends.
     c.in-Ok-run_any.ensures.worked given duty (c.in-Ok.ensures.duty given duty asks)
+
+pub returns-in-Ok-run_any-clause-adopted : goal.returns-in-Ok-run_any-clause-adopted
+returns-in-Ok-run_any-clause-adopted g c = λ change asks ends. c.in-Ok-run_any.ensures.adopted change (c.in-Ok.ensures.adopt change asks)

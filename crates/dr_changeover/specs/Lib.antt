@@ -1,0 +1,4 @@
+pub mod Changes
+pub mod Changings
+pub mod Endings
+pub mod Lookings
