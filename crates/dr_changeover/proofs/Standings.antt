@@ -19,11 +19,12 @@ use Rattle.dr_network.specs.declared.plan.Node.{Node}
 use Rattle.dr_site.specs.Parts.{Part, IsPartOf}
 use Rattle.dr_changeover.specs.Changes.{AreNames, ChangesBetween, IsOver, IsReady, IsSiteAt, StopsAt, came_of, name_of, path_in}
 use Rattle.dr_changeover.specs.Changings.{IsChanged, IsUnchanged, MayChange, OnlyFirstAreChanged}
-use Rattle.dr_changeover.specs.Lookings.{IsFound, IsLookInto, IsStanding, IsUnseen, LooksAs, name_by}
+use Rattle.dr_changeover.specs.Lookings.{IsFound, IsLookBy, IsLookInto, IsStanding, IsUnseen, LooksAs, name_by}
 use Rattle.dr_changeover.specs.declared.change.Change.{Change}
 use Rattle.dr_changeover.specs.declared.change.Stop.{Stop}
 use Rattle.dr_changeover.specs.declared.standing.Standing.{Standing}
 use Rattle.dr_changeover.specs.declared.standing.Standing.TheVariants.{Ready, Over}
+use Rattle.dr_changeover.specs.declared.standing.Found.{Found}
 use Rattle.dr_changeover.specs.declared.standing.Found.TheVariants.{InForce, Next}
 use Rattle.dr_changeover.specs.declared.standing.Look.{Look}
 use Rattle.dr_changeover.specs.declared.standing.Look.TheVariants.{Stands, Unfit}
@@ -164,6 +165,13 @@ module _ {L : Type 0} (opens : Text → L → Type 0) (site_of : L → Part) (bo
           h.1,
           λ st. ((h.2 st).0, subst (λ (n : Text). Unfits next.plan n (book l) (Some (uid, dest))) here (h.2 st).1),
         )
+
+  -- what a look by the ledger that was found shows is what a look at the node shows
+  pub seen_by : (name : Text) (site own : Part) → IsSiteAt old name site → IsSiteAt next name own → (found : Found L) → IsFound opens site_of (path_in folder name) site own found
+      → (look : Look L) → IsLookBy site_of book stands next own found look → LooksAs opens site_of book stands folder old next name look
+  seen_by name site own at_old at_next (InForce l) f look h = found_in_force name (path_in folder name) refl site own at_old at_next l f look h
+  seen_by name site own at_old at_next (Next l) f look h = subst (λ (seen : Look L). LooksAs opens site_of book stands folder old next name seen) (sym h)
+      (found_over name (path_in folder name) refl site own at_old at_next l f)
 
 -- the site of a node that is found
 pub site_at : (sealed : Certified) (name : Text) (site : Part) → Sites sealed name (Ok site) → IsSiteAt sealed name site

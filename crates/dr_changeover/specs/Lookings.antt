@@ -48,6 +48,11 @@ IsLookInto site_of book stands next own first (Stands (Over last)) = ⊥
 IsLookInto {L} site_of book stands next own first (Unfit uid dest) = (last : L) × (site_of last ≡ site_of first)
     × (stands last → (book last ≡ book first) × Unfits next.plan (site_of first).name (book first) (Some (uid, dest)))
 
+-- what a look into the ledger that was found shows: one of the next plan may stay as it is
+abbrev pub IsLookBy : {L : Type 0} (site_of : L → Part) (book : L → Book) (stands : L → Type 0) → Certified → Part → Found L → Look L → Type 0
+IsLookBy site_of book stands next own (InForce ledger) look = IsLookInto site_of book stands next own ledger look
+IsLookBy site_of book stands next own (Next ledger) look = look ≡ Stands (Over ledger)
+
 module _ {L : Type 0} (opens : Text → L → Type 0) (site_of : L → Part) (book : L → Book) (stands : L → Type 0) (folder : Text) where
   module _ (old next : Certified) where
     -- The ledger may be changed: it is as it was opened for the plan in force, with the node's site by the next plan, which goes on with

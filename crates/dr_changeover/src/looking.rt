@@ -2,8 +2,8 @@
 ghost use Rattle.std.specs.Prelude.{◌≡◌, ◌++◌, ◌∷◌, [], IfOk, MatchResult, OnOk};
 ghost use Rattle.std.specs.String.{string_bytes};
 ghost use Rattle.dr_listing.specs.Openings.{IsUnopened, Sites};
-ghost use Rattle.dr_changeover.specs.Changes.{AreNames, StopsAt, path_in};
-ghost use Rattle.dr_changeover.specs.Lookings.{AllLookAs, IsFound, IsLookInto, IsUnseen, LooksAs};
+ghost use Rattle.dr_changeover.specs.Changes.{AreNames, IsSiteAt, StopsAt, path_in};
+ghost use Rattle.dr_changeover.specs.Lookings.{AllLookAs, IsFound, IsLookBy, IsLookInto, IsUnseen, LooksAs};
 
 use crate::change::Stop;
 use crate::standing::{Found, Look, Looked, Standing};
@@ -84,6 +84,62 @@ fn look_into<L: Ledger + Drop>(ledger: L, own: Site, next: &Sealed) -> Result<Lo
     }
 }
 
+/// What a look into the ledger that was found shows; one of the next plan may stay as it is.
+///
+/// Errors: Store, Memory.
+fn look_by<L: Ledger + Drop>(
+    found: Found<L>,
+    own: Site,
+    next: &Sealed,
+) -> Result<Look<L>, LedgerFault>
+    ensures { IfOk result (IsLookBy L.site L.book L.stands next.now own found) }
+{
+    match found {
+        Found::Next(ledger) => Ok(Look::Stands(Standing::Over(ledger))),
+        Found::InForce(ledger) => look_into(ledger, own, next),
+    }
+}
+
+/// The site of the node of that name by the plan in force, and that by the next one.
+///
+/// Errors: NoNode, Memory.
+fn parts_of<'a>(
+    alloc: Global,
+    old: &Sealed,
+    next: &Sealed,
+    name: &Text,
+) -> Result<(Site, Site), Halt<'a>>
+    ensures { MatchResult result (λ parts. IsSiteAt old.now name.now parts.0 × IsSiteAt next.now name.now parts.1) (IsUnseen old.now next.now name.now) }
+{
+    let site = match part_of(alloc, old, name) {
+        Ok(site) => site,
+        Err(halt) => return Err(halt),
+    };
+    match part_of(alloc, next, name) {
+        Ok(own) => Ok((site, own)),
+        Err(halt) => Err(halt),
+    }
+}
+
+/// Finds the ledger of the node of that name in the folder.
+///
+/// Errors: NotOpened, Memory.
+fn find_in<'a, O: Ledgers>(
+    alloc: Global,
+    ledgers: &O,
+    folder: &str,
+    name: &Text,
+    site: &Site,
+    own: &Site,
+) -> Result<Found<O::Ledger>, Halt<'a>>
+    ensures { MatchResult result (IsFound (O.opens ledgers.now) O.Ledger.site (path_in folder.now name.now) site.now own.now) IsUnopened }
+{
+    match path_of(alloc, folder, name) {
+        Ok(path) => find(alloc, ledgers, path.as_str(), site, own),
+        Err(halt) => Err(halt),
+    }
+}
+
 /// Opens the ledger of the node of that name in the folder, and looks into it.
 ///
 /// Errors: NoNode, NotOpened, Refused with Store or Memory, Memory.
@@ -97,25 +153,17 @@ fn look_at<'a, O: Ledgers>(
 ) -> Result<Look<O::Ledger>, Halt<'a>>
     ensures { MatchResult result (LooksAs (O.opens ledgers.now) O.Ledger.site O.Ledger.book O.Ledger.stands folder.now old.now next.now name.now) (IsUnseen old.now next.now name.now) }
 {
-    let site = match part_of(alloc, old, name) {
-        Ok(site) => site,
+    let (site, own) = match parts_of(alloc, old, next, name) {
+        Ok(parts) => parts,
         Err(halt) => return Err(halt),
     };
-    let own = match part_of(alloc, next, name) {
-        Ok(own) => own,
+    let found = match find_in(alloc, ledgers, folder, name, &site, &own) {
+        Ok(found) => found,
         Err(halt) => return Err(halt),
     };
-    let path = match path_of(alloc, folder, name) {
-        Ok(path) => path,
-        Err(halt) => return Err(halt),
-    };
-    match find(alloc, ledgers, path.as_str(), &site, &own) {
-        Ok(Found::Next(ledger)) => Ok(Look::Stands(Standing::Over(ledger))),
-        Ok(Found::InForce(ledger)) => match look_into(ledger, own, next) {
-            Ok(look) => Ok(look),
-            Err(fault) => Err(Halt::Refused(fault)),
-        },
-        Err(halt) => Err(halt),
+    match look_by(found, own, next) {
+        Ok(look) => Ok(look),
+        Err(fault) => Err(Halt::Refused(fault)),
     }
 }
 
