@@ -1,5 +1,5 @@
 -- From ledgers that were looked into and changed to the nodes.
-use Rattle.std.proofs.Common.{◌≡◌, ◌∙◌, ◌⊎◌, inl, inr, ◌++◌, ◌∷◌, [], List, length, map, get_or, refl, sym, ap, subst, Result, Ok, Err, Some}
+use Rattle.std.proofs.Common.{◌≡◌, ◌∙◌, inl, inr, ◌++◌, ◌∷◌, [], List, length, map, get_or, refl, sym, ap, subst, Result, Ok, Err, Some}
 use Rattle.std.specs.Prelude.{All, Contains, MatchResult}
 use Rattle.std.proofs.Math.Seq.{take-append_seam}
 use Rattle.std.proofs.lemmas.List.{map-append}
@@ -15,10 +15,9 @@ use Rattle.dr_listing.specs.declared.halt.Halt.TheVariants.{NoPlan, NoCertificat
 use Rattle.dr_network.proofs.Gathered.{Contains-cons_cases, Contains-here, Contains-there, nothing_in_nil}
 use Rattle.dr_network.specs.Networks.{Network}
 use Rattle.dr_network.specs.Plans.{NamesNoNode}
-use Rattle.dr_network.specs.declared.plan.Node.{Node}
 use Rattle.dr_site.specs.Parts.{Part, IsPartOf}
 use Rattle.dr_changeover.specs.Changes.{AreNames, ChangesBetween, IsOver, IsReady, IsSiteAt, StopsAt, came_of, name_of, path_in}
-use Rattle.dr_changeover.specs.Changings.{IsChanged, IsUnchanged, MayChange, OnlyFirstAreChanged}
+use Rattle.dr_changeover.specs.Changings.{IsChanged, MayChange, OnlyFirstAreChanged}
 use Rattle.dr_changeover.specs.Lookings.{IsFound, IsLookBy, IsLookInto, IsStanding, IsUnseen, LooksAs, name_by}
 use Rattle.dr_changeover.specs.declared.change.Change.{Change}
 use Rattle.dr_changeover.specs.declared.change.Stop.{Stop}

@@ -1,5 +1,5 @@
 -- The change of the plan at all nodes: each node's ledger is looked into, and only then each is brought over.
-use Rattle.std.specs.Prelude.{◌≡◌, ◌⊎◌, List, ◌∷◌, ◌++◌, [], codes, map as mapped, All, Contains, IsPermutation, IsSorted, Some, Result, Ok, Err}
+use Rattle.std.specs.Prelude.{◌≡◌, ◌⊎◌, List, ◌∷◌, ◌++◌, codes, map as mapped, All, Contains, IsPermutation, IsSorted, Some, Result, Ok, Err}
 use Rattle.dr_base.specs.Texts.{Text, text_cmp}
 use Rattle.dr_cert.specs.Sealing.{Certified}
 use Rattle.dr_ledger.specs.Adopting.{IsFit, Unfits}

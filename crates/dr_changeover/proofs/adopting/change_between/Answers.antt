@@ -1,4 +1,4 @@
-use Rattle.std.proofs.Common.{◌≡◌, ◌∙◌, sym, subst, List}
+use Rattle.std.proofs.Common.{◌∙◌, sym, subst, List}
 use Rattle.std.specs.Prelude.{Contains}
 use Rattle.dr_base.specs.Texts.{Text}
 use Rattle.dr_listing.specs.declared.halt.Halt.{Halt}
