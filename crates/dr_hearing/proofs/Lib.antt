@@ -1,1 +1,3 @@
 pub mod FollowLemmas
+pub mod FoundLemmas
+pub mod WorkedLemmas

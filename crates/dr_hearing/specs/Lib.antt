@@ -1,2 +1,4 @@
 pub mod Finding
 pub mod Following
+pub mod Fragments
+pub mod Worked

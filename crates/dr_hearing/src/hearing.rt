@@ -1,5 +1,5 @@
 //! An assembly with a scan of the data set that is under way.
-ghost use Rattle.std.specs.Prelude.{◌≡◌, ◌≢◌, List, ℕ, take, IfOk, IfSome};
+ghost use Rattle.std.specs.Prelude.{◌≡◌, ◌≢◌, ◌<◌, List, ℕ, length, take, IfOk, IfSome, IfNone};
 ghost use Rattle.std.specs.Bool.{MatchBool};
 ghost use Rattle.std.specs.Option.{option_copied};
 ghost use Rattle.dr_base.specs.declared.syntax.Syntax.{Syntax as SyntaxName};
@@ -177,8 +177,9 @@ fn begin(alloc: Global, bytes: &[u8], syntax: Option<Syntax>) -> Option<Reading>
 
 /// The scan hears what stands behind the bytes that it has heard. A fault isn't lost: the scan answers it at the end.
 fn hear_behind(reading: Reading, bytes: &[u8], before: usize) -> Option<Reading>
-    ensures { IfSome result (λ r. (r.syntax ≡ reading.syntax)
+    ensures hears { IfSome result (λ r. (r.syntax ≡ reading.syntax)
         × ((s : SyntaxName) → Hears s (take before bytes.now) reading.scan.value → Hears s bytes.now r.scan.value)) }
+    ensures short { IfNone result (length bytes.now < before) }
 {
     if bytes.len() < before {
         return None;

@@ -7,6 +7,7 @@
 
 mod heard;
 mod hearing;
+pub mod laws;
 
 pub use heard::Heard;
 pub use hearing::Hearing;
