@@ -1,5 +1,5 @@
 -- A scan has heard what has come of a data set, whatever value comes next.
-use Rattle.std.proofs.Common.{◌≡◌, ℕ, ◌≤◌, Bool, true, false, List, [], ◌++◌, length, take, drop, Option, Some, None, Result, Ok, Err, sym, ap, subst, ◌∙◌, arith, inl, inr}
+use Rattle.std.proofs.Common.{◌≡◌, ℕ, Bool, true, false, List, ◌++◌, length, take, drop, Option, Some, None, Ok, sym, subst, arith, inl, inr}
 use Rattle.std.specs.Prelude.{IfSome, if◌then◌else◌}
 use Rattle.std.proofs.lemmas.List.{take_at, take-append-drop, length-append}
 use Rattle.dr_base.specs.declared.syntax.Syntax.{Syntax}
@@ -11,14 +11,11 @@ use Rattle.dr_dimse.specs.declared.message.Body.{Body}
 use Rattle.dr_dimse.specs.declared.message.Body.TheVariants.{Whole, TooLarge}
 use Rattle.dr_dimse.specs.declared.message.Message.{Message}
 use Rattle.dr_dimse.specs.Taking.{Stage, Idle, InCommand, InData, bytes_of, data_so_far, wants_command, kept, TakesData, Takes}
-use Rattle.dr_dataset.specs.declared.fault.DataFault.{DataFault}
 use Rattle.dr_dataset.specs.declared.hearing.Scan.{Scan}
-use Rattle.dr_dataset.specs.declared.values.Attributes.{Attributes}
-use Rattle.dr_dataset.specs.DataSet.{Scans}
 use Rattle.dr_dataset.specs.Hearing.{Hears, GoesOn}
 use Rattle.dr_hearing.specs.declared.hearing.Reading.{Reading}
-use Rattle.dr_hearing.specs.Finding.{store_in, bytes_in}
-use Rattle.dr_hearing.specs.Following.{is_store, is_storing, store_of, HearsAll, HearsFirst, HasHeard, HasHeardFirst}
+use Rattle.dr_hearing.specs.Stores.{store_in, bytes_in, IsScanOf}
+use Rattle.dr_hearing.specs.Following.{is_storing, store_of, HearsAll, HearsFirst, HasHeard, HasHeardFirst}
 
 -- ---- one scan
 
@@ -110,16 +107,17 @@ ends a old p m new (Some r) n h e (inr (inr t)) = absurd (no_store old r h t.2.0
 
 -- ---- a whole data set
 
-pub whole_front : (n : ℕ) (reading : Option Reading) (body : Option Body) (text : List ℕ) → HasHeardFirst n reading body → Some text ≡ bytes_in body → IfSome reading (λ (r : Reading). Hears r.syntax (take n text) r.scan.value)
-whole_front n None body text h e = tt
-whole_front n (Some r) None text h e = absurd h
-whole_front n (Some r) (Some TooLarge) text h e = absurd (cc)
-whole_front n (Some r) (Some (Whole t)) text h e =
+-- what is heard of a body is heard of its bytes
+front_of : (n : ℕ) (r : Reading) (body : Option Body) (text : List ℕ) → HearsFirst n r body → Some text ≡ bytes_in body → Hears r.syntax (take n text) r.scan.value
+front_of n r None text h e = absurd h
+front_of n r (Some TooLarge) text h e = absurd (cc)
+front_of n r (Some (Whole t)) text h e =
     let same : text ≡ t = cc in
     subst (λ (x : List ℕ). Hears r.syntax (take n x) r.scan.value) (sym same) h.1
 
-pub reads : (s : Syntax) (n : ℕ) (text : List ℕ) (reading : Option Reading) (old new : Reading) (result : Result Attributes DataFault) → reading ≡ Some old → IfSome reading (λ (r : Reading). Hears r.syntax (take n text) r.scan.value) → old.syntax ≡ s
-    → ((t : Syntax) → Hears t (take n text) old.scan.value → Hears t text new.scan.value) → ((t : Syntax) (x : List ℕ) → Hears t x new.scan.value → Scans t x result) → Scans s text result
-reads s n text reading old new result is h same on scans =
-    let heard : Hears old.syntax (take n text) old.scan.value = subst (λ (x : Option Reading). IfSome x (λ (r : Reading). Hears r.syntax (take n text) r.scan.value)) is h in
-    scans s text (on s (subst (λ (x : Syntax). Hears x (take n text) old.scan.value) same heard))
+pub hears_whole : (syntax : Option Syntax) (s : Syntax) (n : ℕ) (text : List ℕ) (body : Option Body) (reading : Option Reading) (old new : Reading) → syntax ≡ Some s → reading ≡ Some old → HasHeardFirst n reading body
+    → Some text ≡ bytes_in body → old.syntax ≡ s → ((t : Syntax) → Hears t (take n text) old.scan.value → Hears t text new.scan.value) → IsScanOf syntax (bytes_in body) new.scan.value
+hears_whole syntax s n text body reading old new named is h e same on =
+    let heard = front_of n old body text (subst (λ (x : Option Reading). HasHeardFirst n x body) is h) e in
+    let whole : IsScanOf (Some s) (Some text) new.scan.value = on s (subst (λ (x : Syntax). Hears x (take n text) old.scan.value) same heard) in
+    subst (λ (x : Option Syntax). IsScanOf x (bytes_in body) new.scan.value) (sym named) (subst (λ (x : Option (List ℕ)). IsScanOf (Some s) x new.scan.value) e whole)

@@ -1,8 +1,7 @@
 -- What is told with a message is of the whole data set in its values.
-use Rattle.std.proofs.Common.{◌≡◌, ◌≢◌, ℕ, ◌<◌, ◌≤◌, Bool, true, false, not, cond, List, [], ◌∷◌, ◌++◌, length, Option, Some, None, Result, Ok, Err, refl, sym, ap, subst, ◌∙◌, inl, inr, append_assoc}
+use Rattle.std.proofs.Common.{◌≡◌, ◌≢◌, ℕ, ◌<◌, ◌≤◌, Bool, true, false, not, cond, List, [], ◌∷◌, ◌++◌, length, Option, Some, None, Result, Err, refl, sym, ap, subst, ◌∙◌, inl, inr, append_assoc}
 use Rattle.std.specs.Prelude.{filter}
 use Rattle.std.proofs.lemmas.Bool.{le-ltb, lt-ltb}
-use Rattle.std.proofs.lemmas.List.{append-nil}
 use Rattle.dr_base.specs.declared.syntax.Syntax.{Syntax}
 use Rattle.dr_pdu.specs.declared.pdu.Pdv.{Pdv}
 use Rattle.dr_dimse.specs.declared.command.Command.{Command}
@@ -17,11 +16,13 @@ use Rattle.dr_dimse.specs.Taking.{Gives}
 use Rattle.dr_dimse.proofs.GivenLemmas.{given_is}
 use Rattle.dr_dataset.specs.declared.fault.DataFault.{DataFault}
 use Rattle.dr_dataset.specs.declared.fault.DataFault.TheVariants.{Memory}
+use Rattle.dr_dataset.specs.declared.hearing.Scan.{Scan}
+use Rattle.dr_dataset.specs.Hearing.{Hears}
 use Rattle.dr_dataset.specs.declared.values.Attributes.{Attributes}
 use Rattle.dr_dataset.specs.DataSet.{Scans}
 use Rattle.dr_dataset.proofs.OneAnswerLemmas.{one_answer}
 use Rattle.dr_dataset.proofs.SomeAnswerLemmas.{some_answer}
-use Rattle.dr_hearing.specs.Finding.{store_in, bytes_in, store_text, Finds}
+use Rattle.dr_hearing.specs.Stores.{store_in, bytes_in, store_text, ReadsStore, IsScanOf}
 use Rattle.dr_hearing.specs.Fragments.{data_text}
 
 -- ---- one answer
@@ -32,7 +33,7 @@ Told = Option (Result Attributes DataFault)
 same_some : (r q : Result Attributes DataFault) → r ≡ q → ◌≡◌ {A = Told} (Some r) (Some q)
 same_some r q e = ap (λ (x : Result Attributes DataFault). Some x) e
 
-pub one_told : (s : Option Syntax) (text : Option (List ℕ)) (r q : Told) → r ≢ Some (Err Memory) → q ≢ Some (Err Memory) → Finds s text r → Finds s text q → r ≡ q
+pub one_told : (s : Option Syntax) (text : Option (List ℕ)) (r q : Told) → r ≢ Some (Err Memory) → q ≢ Some (Err Memory) → ReadsStore s text r → ReadsStore s text q → r ≡ q
 one_told (Some s) (Some text) (Some r) (Some q) mr mq h k = same_some r q (one_answer s text r q (λ e. mr (same_some r (Err Memory) e)) (λ e. mq (same_some q (Err Memory) e)) h k)
 one_told (Some s) (Some text) None q mr mq h k = absurd h
 one_told (Some s) (Some text) (Some r) None mr mq h k = absurd k
@@ -42,7 +43,7 @@ one_told None text r q mr mq h k = h ∙ sym k
 of_some : (r : Result Attributes DataFault) → r ≢ Err Memory → ◌≢◌ {A = Told} (Some r) (Some (Err Memory))
 of_some r ne e = ne (cc)
 
-pub some_told : (s : Option Syntax) (text : Option (List ℕ)) → (r : Told) × (r ≢ Some (Err Memory)) × Finds s text r
+pub some_told : (s : Option Syntax) (text : Option (List ℕ)) → (r : Told) × (r ≢ Some (Err Memory)) × ReadsStore s text r
 some_told (Some s) (Some text) = let a = some_answer s text in (Some a.0, of_some a.0 a.1, a.2)
 some_told (Some s) None = (None, (λ e. absurd (cc)), refl)
 some_told None text = (None, (λ e. absurd (cc)), refl)
@@ -52,7 +53,7 @@ some_told None text = (None, (λ e. absurd (cc)), refl)
 abbrev IsKeptStore : Command → Option Body → Type 0
 IsKeptStore c body = (n : ℕ) × (class instance text : List ℕ) × (c ≡ StoreRq n class instance) × (body ≡ Some (Whole text))
 
-kept_store : (s : Syntax) (c : Command) (body : Option Body) (found : Result Attributes DataFault) → Finds (Some s) (bytes_in (store_in c body)) (Some found) → IsKeptStore c body
+kept_store : (s : Syntax) (c : Command) (body : Option Body) (found : Result Attributes DataFault) → ReadsStore (Some s) (bytes_in (store_in c body)) (Some found) → IsKeptStore c body
 unfolding IsKeptStore
 kept_store s (StoreRq n class instance) (Some (Whole text)) found h = (n, class, instance, text, refl, refl)
 kept_store s (StoreRq n class instance) (Some TooLarge) found h = absurd (cc)
@@ -62,7 +63,7 @@ kept_store s (EchoRq i c d) body found h = absurd (cc)
 kept_store s (EchoRsp t u c d) body found h = absurd (cc)
 kept_store s (Other f i u d) body found h = absurd (cc)
 
-pub stores_alone : (s : Option Syntax) (m : Message) (found : Result Attributes DataFault) → Finds s (store_text m) (Some found)
+pub stores_alone : (s : Option Syntax) (m : Message) (found : Result Attributes DataFault) → ReadsStore s (store_text m) (Some found)
     → (n : ℕ) × (class instance text : List ℕ) × (m.command ≡ StoreRq n class instance) × (m.body ≡ Some (Whole text))
 stores_alone (Some s) m found h = kept_store s m.command m.body found h
 stores_alone None m found h = absurd (cc)
@@ -107,20 +108,20 @@ kept_text t small = ap (λ (b : Bool). bytes_in (Some (cond b TooLarge (Whole t)
 large_text : (t : List ℕ) → 67108864 < length t → bytes_in (Some (body_of t)) ≡ None
 large_text t large = ap (λ (b : Bool). bytes_in (Some (cond b TooLarge (Whole t)))) (lt-ltb 67108864 (length t) large)
 
-some_found : (s : Syntax) (text : List ℕ) (told : Told) → Finds (Some s) (Some text) told → (found : Result Attributes DataFault) × (told ≡ Some found) × Scans s text found
+some_found : (s : Syntax) (text : List ℕ) (told : Told) → ReadsStore (Some s) (Some text) told → (found : Result Attributes DataFault) × (told ≡ Some found) × Scans s text found
 some_found s text (Some found) h = (found, refl, h)
 some_found s text None h = absurd h
 
 pub read_whole : (a : Awaited) (ps : List Pdv) (m : Message) (n : ℕ) (class instance : List ℕ) (s : Syntax) (told : Told) → Gives a ps m → m.command ≡ StoreRq n class instance → length (data_text ps) ≤ 67108864
-    → Finds (Some s) (store_text m) told → (found : Result Attributes DataFault) × (told ≡ Some found) × Scans s (data_text ps) found
+    → ReadsStore (Some s) (store_text m) told → (found : Result Attributes DataFault) × (told ≡ Some found) × Scans s (data_text ps) found
 read_whole a ps m n class instance s told gives store small h =
     let is = (given_is a ps m gives).0 in
     let same : store_text m ≡ Some (data_text ps) = text_is ps m n class instance is store ∙ kept_text (data_text ps) small in
-    some_found s (data_text ps) told (subst (λ (t : Option (List ℕ)). Finds (Some s) t told) same h)
+    some_found s (data_text ps) told (subst (λ (t : Option (List ℕ)). ReadsStore (Some s) t told) same h)
 
 -- ---- too large
 
-none_told : (s : Option Syntax) (told : Told) → Finds s None told → told ≡ None
+none_told : (s : Option Syntax) (told : Told) → ReadsStore s None told → told ≡ None
 none_told (Some s) told h = h
 none_told None told h = h
 
@@ -131,11 +132,11 @@ no_text (EchoRq i c d) t body large is = refl
 no_text (EchoRsp to u c d) t body large is = refl
 no_text (Other f i u d) t body large is = refl
 
-pub large_is_none : (a : Awaited) (ps : List Pdv) (m : Message) (s : Option Syntax) (told : Told) → Gives a ps m → 67108864 < length (data_text ps) → Finds s (store_text m) told → told ≡ None
+pub large_is_none : (a : Awaited) (ps : List Pdv) (m : Message) (s : Option Syntax) (told : Told) → Gives a ps m → 67108864 < length (data_text ps) → ReadsStore s (store_text m) told → told ≡ None
 large_is_none a ps m s told gives large h =
     let is = (given_is a ps m gives).0 in
     let same : store_text m ≡ None = no_text m.command (data_text ps) m.body large (body_is ps m is) in
-    none_told s told (subst (λ (t : Option (List ℕ)). Finds s t told) same h)
+    none_told s told (subst (λ (t : Option (List ℕ)). ReadsStore s t told) same h)
 
 -- ---- cuts
 
@@ -150,7 +151,24 @@ same_text c d b e t u is its same text = subst (λ (x : Command). (announces x �
     alike (Other f i v d) is its = refl
 
 pub cuts : (ps qs : List Pdv) (m o : Message) (s : Option Syntax) (r q : Told) → IsMessage ps m → IsMessage qs o → m.command ≡ o.command → data_text ps ≡ data_text qs
-    → r ≢ Some (Err Memory) → q ≢ Some (Err Memory) → Finds s (store_text m) r → Finds s (store_text o) q → r ≡ q
+    → r ≢ Some (Err Memory) → q ≢ Some (Err Memory) → ReadsStore s (store_text m) r → ReadsStore s (store_text o) q → r ≡ q
 cuts ps qs m o s r q is its command text mr mq h k =
     let same : store_text m ≡ store_text o = same_text m.command o.command m.body o.body (data_text ps) (data_text qs) (body_is ps m is) (body_is qs o its) command text in
-    one_told s (store_text o) r q mr mq (subst (λ (t : Option (List ℕ)). Finds s t r) same h) k
+    one_told s (store_text o) r q mr mq (subst (λ (t : Option (List ℕ)). ReadsStore s t r) same h) k
+
+-- ---- by a scan
+
+scanned : (s : Syntax) (bytes : Option (List ℕ)) (scan : Scan) (found : Result Attributes DataFault) → IsScanOf (Some s) bytes scan
+    → ((t : Syntax) (x : List ℕ) → Hears t x scan → Scans t x found) → ReadsStore (Some s) bytes (Some found)
+scanned s (Some t) scan found h scans = scans s t h
+scanned s None scan found h scans = absurd h
+
+-- what a scan of the bytes answers is what they are read as
+pub read_by_scan : (syntax : Option Syntax) (s : Syntax) (bytes : Option (List ℕ)) (scan : Scan) (found : Result Attributes DataFault) → syntax ≡ Some s → IsScanOf syntax bytes scan
+    → ((t : Syntax) (x : List ℕ) → Hears t x scan → Scans t x found) → ReadsStore syntax bytes (Some found)
+read_by_scan syntax s bytes scan found named h scans =
+    subst (λ (x : Option Syntax). ReadsStore x bytes (Some found)) (sym named) (scanned s bytes scan found (subst (λ (x : Option Syntax). IsScanOf x bytes scan) named h) scans)
+
+pub read_at_once : (syntax : Option Syntax) (s : Syntax) (text : List ℕ) (bytes : Option (List ℕ)) (found : Result Attributes DataFault) → syntax ≡ Some s → Some text ≡ bytes → Scans s text found → ReadsStore syntax bytes (Some found)
+read_at_once syntax s text bytes found named e h =
+    subst (λ (x : Option Syntax). ReadsStore x bytes (Some found)) (sym named) (subst (λ (x : Option (List ℕ)). ReadsStore (Some s) x (Some found)) e h)

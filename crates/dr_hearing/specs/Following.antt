@@ -1,18 +1,11 @@
 -- What a scan knows of the data set that is under way.
-use Rattle.std.specs.Prelude.{◌≡◌, ℕ, ◌≤◌, Bool, true, false, List, length, take, Option, Some, None}
-use Rattle.dr_dimse.specs.declared.command.Command.{Command}
-use Rattle.dr_dimse.specs.declared.command.Command.TheVariants.{StoreRq}
+use Rattle.std.specs.Prelude.{ℕ, ◌≤◌, Bool, false, length, take, Option, Some, None}
 use Rattle.dr_dimse.specs.declared.message.Body.{Body}
 use Rattle.dr_dimse.specs.declared.message.Body.TheVariants.{Whole, TooLarge}
-use Rattle.dr_dimse.specs.Taking.{Stage, Idle, InCommand, InData}
+use Rattle.dr_dimse.specs.Taking.{Stage, InData}
 use Rattle.dr_dataset.specs.Hearing.{Hears}
-use Rattle.dr_hearing.specs.Finding.{store_in}
+use Rattle.dr_hearing.specs.Stores.{is_store, store_in}
 use Rattle.dr_hearing.specs.declared.hearing.Reading.{Reading}
-
--- a C-STORE-RQ (PS3.7 9.3.1.1)
-abbrev pub is_store : Command → Bool
-is_store (StoreRq id class instance) = true
-is_store c = false
 
 -- the command whose data set is under way is a C-STORE-RQ
 abbrev pub is_storing : Stage → Bool

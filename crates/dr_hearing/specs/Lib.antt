@@ -1,4 +1,4 @@
-pub mod Finding
+pub mod Stores
 pub mod Following
 pub mod Fragments
 pub mod Worked

@@ -1,5 +1,5 @@
 -- A worked example, in bytes: a C-STORE-RQ whose data set comes in two fragments.
-use Rattle.std.specs.Prelude.{ℕ, List, [], ◌∷◌, codes, Option, Some, None, true}
+use Rattle.std.specs.Prelude.{List, [], ◌∷◌, codes, Some, None, true}
 use Rattle.dr_pdu.specs.declared.pdu.Pdv.{Pdv}
 use Rattle.dr_dimse.specs.declared.command.Command.TheVariants.{StoreRsp, Other}
 use Rattle.dr_dimse.specs.declared.message.Body.TheVariants.{Whole, TooLarge}

@@ -1,20 +1,18 @@
 //! An assembly with a scan of the data set that is under way.
 ghost use Rattle.std.specs.Prelude.{◌≡◌, ◌≢◌, ◌<◌, List, ℕ, length, take, IfOk, IfSome, IfNone};
 ghost use Rattle.std.specs.Bool.{MatchBool};
-ghost use Rattle.std.specs.Option.{option_copied};
 ghost use Rattle.dr_base.specs.declared.syntax.Syntax.{Syntax as SyntaxName};
 ghost use Rattle.dr_dimse.specs.Stages.{shown_of};
 ghost use Rattle.dr_dimse.specs.Taking.{Idle, Takes, data_of, data_so_far};
-ghost use Rattle.dr_dataset.specs.DataSet.{Scans};
 ghost use Rattle.dr_dataset.specs.Hearing.{Hears};
-ghost use Rattle.dr_hearing.specs.Finding.{Finds, message_of, store_in, store_text};
-ghost use Rattle.dr_hearing.specs.Following.{HasHeard, HasHeardFirst, is_store, is_storing, store_of};
+ghost use Rattle.dr_hearing.specs.Stores.{HasScan, IsScanOf, message_of, store_in, store_text};
+ghost use Rattle.dr_hearing.specs.Following.{HasHeard, HasHeardFirst, is_storing, store_of};
 
 use crate::heard::Heard;
+use crate::store::{is_store, text_in};
 use dr_base::Syntax;
-use dr_dataset::scan::attributes;
-use dr_dataset::{Attributes, DataFault, Scan};
-use dr_dimse::{Assembly, Awaited, Body, Command, DimseFault, Message};
+use dr_dataset::Scan;
+use dr_dimse::{Assembly, Awaited, Command, DimseFault, Message};
 use dr_pdu::Pdv;
 use std::alloc::Global;
 use std::marker::Model;
@@ -26,8 +24,8 @@ use std::mem;
 pub struct Hearing {
     alloc: Global,
     assembly: Assembly,
-    /// The scan of the data set that is under way. There is none before its first byte, and none where its syntax wasn't
-    /// named or there was no memory for one: then the data set is read at its end.
+    /// The scan of the data set that is under way. There is none before its first byte, where its syntax wasn't named, or
+    /// where there was no memory for one.
     reading: Option<Reading>,
 }
 
@@ -69,17 +67,16 @@ impl Hearing {
         self.assembly.set_awaited(awaited);
     }
 
-    /// Takes one more value, as `Assembly::take` does, and tells of the data set of a C-STORE-RQ that it ends what it is
-    /// read as. `syntax` is the transfer syntax of the value's presentation context, and None where it isn't one that is
-    /// read; of one data set that counts which is named with its last value.
+    /// Takes one more value, as `Assembly::take` does, and gives the message that it ends, with a scan of its data set
+    /// where there is one. `syntax` is the transfer syntax of the value's presentation context, and None where it isn't one
+    /// that is read: then nothing is scanned. Of one data set that counts which is named with its last value.
     ///
     /// Errors: those of `Assembly::take`, after which all is as before. A fault of a data set is no error: its message
-    /// comes whole. Where there is no memory for a scan the data set is read at its end; where there is none for the four
-    /// values, `found` is `Memory`.
+    /// comes whole, and its scan answers the fault. Nor is it one that there is no memory for a scan: then there is none.
     pub fn take(&mut self, pdv: Pdv, syntax: Option<Syntax>) -> Result<Option<Heard>, DimseFault>
         ensures awaited { self.new.awaited ≡ self.old.awaited }
         ensures takes { Takes self.old.awaited self.old.stage pdv (message_of result) self.new.stage }
-        ensures finds { IfOk result (λ ended. IfSome ended (λ h. Finds syntax (store_text h.message) h.found)) }
+        ensures scans { IfOk result (λ ended. IfSome ended (λ h. HasScan syntax h)) }
     {
         let before = self.assembly.data_so_far().len();
         match self.assembly.take(pdv) {
@@ -90,9 +87,9 @@ impl Hearing {
                 Ok(None)
             }
             Ok(Some(message)) => {
-                let reading = mem::replace(&mut self.reading, None);
-                let found = found_in(self.alloc, &message, reading, before, syntax);
-                Ok(Some(Heard { message, found }))
+                let last = mem::replace(&mut self.reading, None);
+                let scan = end(&message, last, before, syntax);
+                Ok(Some(Heard { message, scan }))
             }
             Err(fault) => Err(fault),
         }
@@ -145,18 +142,6 @@ fn is_storing(assembly: &Assembly) -> bool
     }
 }
 
-fn is_store(command: &Command) -> bool
-    ensures { result ≡ is_store command.now }
-{
-    match command {
-        Command::StoreRq { .. } => true,
-        Command::StoreRsp { .. }
-        | Command::EchoRq { .. }
-        | Command::EchoRsp { .. }
-        | Command::Other { .. } => false,
-    }
-}
-
 /// A scan that has heard these bytes, unless there are none, no syntax is named, or there is no memory.
 fn begin(alloc: Global, bytes: &[u8], syntax: Option<Syntax>) -> Option<Reading>
     ensures { IfSome result (λ r. Hears r.syntax bytes.now r.scan.value) }
@@ -197,16 +182,15 @@ fn put(place: &mut Option<Reading>, reading: Option<Reading>)
     *place = reading;
 }
 
-/// What the data set of a whole message is read as. The scan has heard its first `before` bytes.
-fn found_in(
-    alloc: Global,
+/// The scan of a whole message. It had heard the first `before` bytes of its data set.
+fn end(
     message: &Message,
     reading: Option<Reading>,
     before: usize,
     syntax: Option<Syntax>,
-) -> Option<Result<Attributes, DataFault>>
+) -> Option<Box<Scan>>
     requires { HasHeardFirst before reading (store_in message.now.command message.now.body) }
-    ensures { Finds syntax (store_text message.now) result }
+    ensures { IfSome result (λ b. IsScanOf syntax (store_text message.now) b.value) }
 {
     let Some(syntax) = syntax else {
         return None;
@@ -214,46 +198,16 @@ fn found_in(
     let Some(text) = text_in(message) else {
         return None;
     };
-    Some(read(alloc, text, reading, before, syntax))
-}
-
-/// The bytes of the data set of a C-STORE-RQ.
-fn text_in(message: &Message) -> Option<&[u8]>
-    ensures { option_copied result ≡ store_text message.now }
-{
-    if !is_store(&message.command) {
-        return None;
-    }
-    let Some(body) = &message.body else {
-        return None;
-    };
-    match body {
-        Body::Whole(text) => Some(text.as_bytes()),
-        Body::TooLarge => None,
-    }
-}
-
-/// What a data set is read as: by the scan that has heard its first `before` bytes, if that is one in its syntax.
-fn read(
-    alloc: Global,
-    text: &[u8],
-    reading: Option<Reading>,
-    before: usize,
-    syntax: Syntax,
-) -> Result<Attributes, DataFault>
-    requires { IfSome reading (λ r. Hears r.syntax (take before text.now) r.scan.value) }
-    ensures { Scans syntax text.now result }
-{
     let Some(reading) = reading else {
-        return attributes(alloc, text, syntax);
+        return None;
     };
     if !is_in(&reading, syntax) {
-        return attributes(alloc, text, syntax);
+        return None;
     }
-    match hear_behind(reading, text, before) {
-        Some(reading) => finish(alloc, reading),
-        None => attributes(alloc, text, syntax),
-    }
+    let Some(reading) = hear_behind(reading, text, before) else {
+        return None;
+    };
+    Some(reading.scan)
 }
 
 /// Whether the scan reads in that syntax.
@@ -261,12 +215,4 @@ fn is_in(reading: &Reading, syntax: Syntax) -> bool
     ensures { MatchBool result (reading.now.syntax ≡ syntax) (reading.now.syntax ≢ syntax) }
 {
     reading.syntax == syntax
-}
-
-/// What the scan has found, or its first fault.
-fn finish(alloc: Global, reading: Reading) -> Result<Attributes, DataFault>
-    ensures { (s : SyntaxName) (text : List ℕ) → Hears s text reading.scan.value → Scans s text result }
-{
-    let mut reading = reading;
-    reading.scan.finish(alloc)
 }
