@@ -152,11 +152,11 @@ fn begin(alloc: Global, bytes: &[u8], syntax: Option<Syntax>) -> Option<Reading>
     let Some(syntax) = syntax else {
         return None;
     };
-    let mut scan = Scan::new(syntax);
-    let _ = scan.feed(bytes);
-    let Ok(scan) = Box::new(alloc, scan) else {
+    let Ok(scan) = Box::new(alloc, Scan::new(syntax)) else {
         return None;
     };
+    let mut scan = scan;
+    let _ = scan.feed(bytes);
     Some(Reading { syntax, scan })
 }
 
