@@ -1,0 +1,3 @@
+pub mod FollowLemmas
+pub mod FoundLemmas
+pub mod WorkedLemmas

@@ -1,0 +1,4 @@
+pub mod Stores
+pub mod Following
+pub mod Fragments
+pub mod Worked
