@@ -1,7 +1,7 @@
 //! Ends of associations: `end row EVENT SIDE KIND`, a row of the table, and the steps of one end, from its beginning on:
 //! `request NOW`, `indicate NOW`, `connected NOW`, `step INCOMING NOW`, `late NOW`, `abort NOW`, `accept NOW`, `reject NOW`, `release NOW`,
 //! `send NOW`, `respond NOW`, which are calls of its phase; the same with `any-` in front, where the end is told in whatever phase it is; and
-//! `expired NOW`. A step's answer is its action and the end behind it: its phase, the number of its state and the moment when it
+//! `expired NOW` and `state`. A step's answer is its action and the end behind it: its phase, the number of its state and the moment when it
 //! entered that.
 use anyhow::{Context, bail};
 use dr_ulstate::{
@@ -328,10 +328,24 @@ fn heard(
     }
 }
 
-/// Whether the timer of the last end has expired.
+/// Whether the timer has expired, as the end of a phase in which it runs says.
+fn has_expired(end: &Next, now: u64) -> bool {
+    match end {
+        Next::Opening(end) => end.artim_has_expired(now),
+        Next::Closing(end) => end.artim_has_expired(now),
+        end => end.artim_has_expired(now),
+    }
+}
+
 fn expired(alloc: Global, ends: &Ends, now: u64) -> Result<String, anyhow::Error> {
     let end = ends.ends.last().context("no end")?;
-    Ok(format!(in alloc; "{}", end.artim_has_expired(now))?)
+    Ok(format!(in alloc; "{}", has_expired(end, now))?)
+}
+
+/// The state of the last end, in whatever phase it is.
+fn state_of(alloc: Global, ends: &Ends) -> Result<String, anyhow::Error> {
+    let end = ends.ends.last().context("no end")?;
+    Ok(format!(in alloc; "{}", end.state().number())?)
 }
 
 pub fn call(
@@ -342,6 +356,7 @@ pub fn call(
 ) -> Result<String, anyhow::Error> {
     match (what, words) {
         ("row", words) => row_of(alloc, words),
+        ("state", []) => state_of(alloc, ends),
         ("expired", [now]) => expired(alloc, ends, now.parse()?),
         (what, [word, now]) => heard(alloc, ends, what, word, now.parse()?),
         (what, [now]) => step(alloc, ends, what, now.parse()?),

@@ -1,9 +1,9 @@
 //! Plays calls on the crates of the wire, as its input tells them, and prints what each answers: associations (`dr_ulstate`),
 //! PDUs (`dr_pdu`), commands and messages (`dr_dimse`), data sets and files (`dr_dataset`), and the lists and texts of `dr_base`.
 //!
-//! A line of the input begins with `end`, `pdu`, `dimse`, `data` or `base` and a call's name (the module of that name, in part
-//! in the plural, lists them); it is printed again with its answer. Bytes are words of hexadecimal digits, one behind the other, each with `*` and a
-//! number where it comes that many times. Empty lines and lines that begin with `#` are passed over.
+//! A line of the input begins with `end` (`ends`), `pdu` (`pdus`), `dimse` (`commands`), `data` (`data_sets`) or `base` (`values`) and
+//! a call's name, which those modules list; it is printed again with its answer. Bytes are words of hexadecimal digits, one behind
+//! the other, each with `*` and a number where it comes that many times. Empty lines and lines that begin with `#` are passed over.
 //!
 //! The input's vectors and the wanted answers were worked out by hand from the standard's tables, and not by the code that they test.
 #![tactic(auto)]
