@@ -153,7 +153,7 @@ fn acted(alloc: Global, action: Action) -> Result<String, anyhow::Error> {
 }
 
 /// What a step answers; the end behind it is kept.
-fn told(
+fn make_told(
     alloc: Global,
     ends: &mut Ends,
     answer: Result<(Action, Next), Next>,
@@ -298,7 +298,7 @@ fn begun(what: &str, now: u64) -> Option<(Action, Next)> {
 /// A step of the last end, by a call that has no more than a moment.
 fn step(alloc: Global, ends: &mut Ends, what: &str, now: u64) -> Result<String, anyhow::Error> {
     if let Some(begun) = begun(what, now) {
-        return told(alloc, ends, Ok(begun));
+        return make_told(alloc, ends, Ok(begun));
     }
     let end = ends.ends.pop().context("no end")?;
     let answer = match what {
@@ -308,7 +308,7 @@ fn step(alloc: Global, ends: &mut Ends, what: &str, now: u64) -> Result<String, 
         "any-send" => end.send(now),
         what => own_call(end, what, now),
     };
-    told(alloc, ends, answer)
+    make_told(alloc, ends, answer)
 }
 
 /// What comes from outside to the last end.
@@ -322,8 +322,8 @@ fn heard(
     let incoming = Told::Step(incoming(word).context("an unknown word")?);
     let end = ends.ends.pop().context("no end")?;
     match what {
-        "step" => told(alloc, ends, end_told(end, incoming, now)),
-        "any-step" => told(alloc, ends, any_told(end, incoming, now)),
+        "step" => make_told(alloc, ends, end_told(end, incoming, now)),
+        "any-step" => make_told(alloc, ends, any_told(end, incoming, now)),
         _ => bail!("an unknown step"),
     }
 }
