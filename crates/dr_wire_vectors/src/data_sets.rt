@@ -1,281 +1,258 @@
-//! Vectors from outside, and a plain slow reader beside the scan.
+//! Data sets and files, and a plain slow reader beside the scan: `data scan SYNTAX BYTES`, what a data set has as
+//! `class/instance/modality/station`, or the fault; `data fronts BYTES`, on how many texts the readers agree among all fronts and all with a byte
+//! changed; `data cuts BYTES` and `data ends BYTES`, at how many cuts a scan in two pieces answers as it should; `data hear SYNTAX`, `data feed
+//! BYTES` and `data finish`, calls of the last scan; `data file BYTES`, where the data set of a file is. A syntax is `E` or `I`.
+use crate::bytes::{bytes, put_text};
 use crate::plain_reader::plain_answer;
-use dr_base::{Syntax, Text};
+use anyhow::{Context, bail};
+use dr_base::Syntax;
 use dr_dataset::file::part10;
 use dr_dataset::scan::attributes;
-use dr_dataset::{Attributes, DataFault, FileFault, Part10, Scan};
+use dr_dataset::{Attributes, DataFault, Scan};
 use std::alloc::{AllocError, Global};
-use std::process::Abort;
-use std::test::Fail;
 
-/// A sequence with an item with a modality inside it, and a modality behind it.
-const NESTED: [u8; 58] = [
-    0x08, 0, 0x51, 0, 0x53, 0x51, 0, 0, 0xFF, 0xFF, 0xFF, 0xFF, 0xFE, 0xFF, 0, 0xE0, 0xFF, 0xFF,
-    0xFF, 0xFF, 8, 0, 0x60, 0, 0x43, 0x53, 2, 0, 0x4D, 0x52, 0xFE, 0xFF, 0x0D, 0xE0, 0, 0, 0, 0,
-    0xFE, 0xFF, 0xDD, 0xE0, 0, 0, 0, 0, 8, 0, 0x60, 0, 0x43, 0x53, 4, 0, 0x43, 0x54, 0x20, 0x20,
-];
-/// The same with defined lengths.
-const PLAIN: [u8; 42] = [
-    0x08, 0, 0x51, 0, 0x53, 0x51, 0, 0, 0x12, 0, 0, 0, 0xFE, 0xFF, 0, 0xE0, 0x0A, 0, 0, 0, 8, 0,
-    0x60, 0, 0x43, 0x53, 2, 0, 0x4D, 0x52, 8, 0, 0x60, 0, 0x43, 0x53, 4, 0, 0x43, 0x54, 0x20, 0x20,
-];
-/// An instance with a class, a uid, a modality and a station.
-const INSTANCE: [u8; 70] = [
-    0x08, 0x00, 0x16, 0x00, 0x55, 0x49, 0x1A, 0x00, 0x31, 0x2E, 0x32, 0x2E, 0x38, 0x34, 0x30, 0x2E,
-    0x31, 0x30, 0x30, 0x30, 0x38, 0x2E, 0x35, 0x2E, 0x31, 0x2E, 0x34, 0x2E, 0x31, 0x2E, 0x31, 0x2E,
-    0x32, 0x00, 0x08, 0x00, 0x18, 0x00, 0x55, 0x49, 0x08, 0x00, 0x31, 0x2E, 0x32, 0x2E, 0x33, 0x2E,
-    0x34, 0x00, 0x08, 0x00, 0x60, 0x00, 0x43, 0x53, 0x02, 0x00, 0x43, 0x54, 0x08, 0x00, 0x10, 0x10,
-    0x53, 0x48, 0x02, 0x00, 0x53, 0x31,
-];
-/// A sequence of unknown VR, whose inside is in the implicit syntax, with a key of undefined length behind it.
-const UNKNOWN: [u8; 74] = [
-    0x08, 0, 0x51, 0, 0x55, 0x4E, 0, 0, 0xFF, 0xFF, 0xFF, 0xFF, 0xFE, 0xFF, 0, 0xE0, 0xFF, 0xFF,
-    0xFF, 0xFF, 8, 0, 0x60, 0, 2, 0, 0, 0, 0x4D, 0x52, 0xFE, 0xFF, 0x0D, 0xE0, 0, 0, 0, 0, 0xFE,
-    0xFF, 0xDD, 0xE0, 0, 0, 0, 0, 8, 0, 0x60, 0, 0x53, 0x51, 0, 0, 0xFF, 0xFF, 0xFF, 0xFF, 0xFE,
-    0xFF, 0xDD, 0xE0, 1, 2, 3, 4, 8, 0, 0x60, 0, 0x43, 0x53, 0, 0,
-];
+/// The scan that is played, the last one.
+#[derive(Drop)]
+pub struct Heard {
+    scans: Vec<Scan>,
+}
 
-/// `class/instance/modality/station`, or the fault's name.
-fn shown(alloc: Global, answer: &Result<Attributes, DataFault>) -> Result<Text, AllocError> {
-    let mut line = Vec::new(alloc);
-    match answer {
-        Ok(found) => {
-            line.extend_from_slice(found.class.as_bytes())?;
-            line.push(b'/')?;
-            line.extend_from_slice(found.instance.as_bytes())?;
-            line.push(b'/')?;
-            line.extend_from_slice(found.modality.as_bytes())?;
-            line.push(b'/')?;
-            line.extend_from_slice(found.station.as_bytes())?;
+impl Heard {
+    pub fn new(alloc: Global) -> Heard {
+        Heard {
+            scans: Vec::new(alloc),
         }
-        Err(DataFault::Truncated) => line.extend_from_slice(b"Truncated")?,
-        Err(DataFault::BadVr) => line.extend_from_slice(b"BadVr")?,
-        Err(DataFault::BadLength) => line.extend_from_slice(b"BadLength")?,
-        Err(DataFault::TooDeep) => line.extend_from_slice(b"TooDeep")?,
-        Err(DataFault::Memory) => line.extend_from_slice(b"Memory")?,
     }
-    Ok(Text::from_vec(line))
 }
 
-fn is_answer(
-    rt: &impl Abort,
-    alloc: Global,
-    text: &[u8],
-    syntax: Syntax,
-    wanted: &[u8],
-) -> Result<(), AllocError> {
-    let answer = attributes(alloc, text, syntax);
-    let line = shown(alloc, &answer)?;
-    assert!(rt; line.as_bytes() == wanted);
-    agrees(rt, alloc, text, syntax)
+fn syntax(letter: &str) -> Result<Syntax, anyhow::Error> {
+    match letter {
+        "I" => Ok(Syntax::Implicit),
+        "E" => Ok(Syntax::Explicit),
+        _ => bail!("an unknown syntax"),
+    }
 }
 
-/// The answer of a scan that hears the text in two pieces.
+fn found(alloc: Global, found: &Attributes) -> Result<String, AllocError> {
+    let mut line = String::new(alloc);
+    put_text(&mut line, found.class.as_bytes())?;
+    line.push('/')?;
+    put_text(&mut line, found.instance.as_bytes())?;
+    line.push('/')?;
+    put_text(&mut line, found.modality.as_bytes())?;
+    line.push('/')?;
+    put_text(&mut line, found.station.as_bytes())?;
+    Ok(line)
+}
+
+/// `class/instance/modality/station`, or the fault's name; want of memory ends the program.
+fn shown(alloc: Global, answer: Result<Attributes, DataFault>) -> Result<String, anyhow::Error> {
+    match answer {
+        Ok(values) => Ok(found(alloc, &values)?),
+        Err(fault) => refused(alloc, fault),
+    }
+}
+
+fn refused(alloc: Global, fault: DataFault) -> Result<String, anyhow::Error> {
+    if fault == DataFault::Memory {
+        bail!("Memory");
+    }
+    Ok(format!(in alloc; "{fault:?}")?)
+}
+
+/// The scan's answer.
+fn scanned(alloc: Global, text: &[u8], syntax: Syntax) -> Result<String, anyhow::Error> {
+    shown(alloc, attributes(alloc, text, syntax))
+}
+
+/// The answer of a scan that hears two pieces.
 fn heard_in_two(
+    alloc: Global,
+    front: &[u8],
+    back: &[u8],
+    syntax: Syntax,
+) -> Result<String, anyhow::Error> {
+    let mut scan = Scan::new(syntax);
+    let _ = scan.feed(front);
+    let _ = scan.feed(back);
+    shown(alloc, scan.finish(alloc))
+}
+
+fn heard_cut(
     alloc: Global,
     text: &[u8],
     cut: usize,
     syntax: Syntax,
-) -> Result<Attributes, DataFault> {
-    let Some((front, back)) = text.split_at_checked(cut) else {
-        return Err(DataFault::Memory);
-    };
-    let mut scan = Scan::new(syntax);
-    let _ = scan.feed(front);
-    let _ = scan.feed(back);
-    scan.finish(alloc)
+) -> Result<String, anyhow::Error> {
+    let (front, back) = text.split_at_checked(cut).context("no cut")?;
+    heard_in_two(alloc, front, back, syntax)
 }
 
-/// The scan and the plain reader give one answer.
-fn agrees(rt: &impl Abort, alloc: Global, text: &[u8], syntax: Syntax) -> Result<(), AllocError> {
-    let scanned = shown(alloc, &attributes(alloc, text, syntax))?;
-    let plain = shown(alloc, &plain_answer(alloc, text, syntax))?;
-    assert!(rt; scanned == plain);
-    let heard = shown(alloc, &heard_in_two(alloc, text, text.len() / 2, syntax))?;
-    assert!(rt; scanned == heard);
-    Ok(())
+/// Whether the plain reader, and a scan that hears the text in two halves, answer the same.
+fn agree(alloc: Global, text: &[u8], syntax: Syntax, answer: &str) -> Result<bool, anyhow::Error> {
+    let plain = shown(alloc, plain_answer(alloc, text, syntax))?;
+    let heard = heard_cut(alloc, text, text.len() / 2, syntax)?;
+    Ok(plain.as_str() == answer && heard.as_str() == answer)
 }
 
-/// Each front of the text, and the text with each byte set to 00 and to FF.
-fn agrees_on_all(rt: &impl Abort, alloc: Global, text: &[u8]) -> Result<(), AllocError> {
-    for i in 0..text.len() {
-        agrees(rt, alloc, &text[..i], Syntax::Explicit)?;
-        agrees(rt, alloc, &text[..i], Syntax::Implicit)?;
-        let mut changed = Vec::from_slice(alloc, text)?;
-        if let Some(byte) = changed.get_mut(i) {
-            *byte = 0;
-        }
-        agrees(rt, alloc, changed.as_slice(), Syntax::Explicit)?;
-        if let Some(byte) = changed.get_mut(i) {
-            *byte = 0xFF;
-        }
-        agrees(rt, alloc, changed.as_slice(), Syntax::Explicit)?;
-        agrees(rt, alloc, changed.as_slice(), Syntax::Implicit)?;
+/// The answer of all three.
+fn scan(alloc: Global, text: &[u8], syntax: Syntax) -> Result<String, anyhow::Error> {
+    let answer = scanned(alloc, text, syntax)?;
+    if agree(alloc, text, syntax, answer.as_str())? {
+        Ok(answer)
+    } else {
+        Ok(format!(in alloc; "{answer}, BUT NOT OF ALL")?)
     }
-    Ok(())
 }
 
-#[test]
-fn vectors_read_as_they_should(rt: HostRuntime) -> Result<(), Fail> {
-    let alloc = rt.alloc();
-    is_answer(&rt, alloc, &NESTED, Syntax::Explicit, b"//CT/")?;
-    is_answer(&rt, alloc, &NESTED[..57], Syntax::Explicit, b"Truncated")?;
-    is_answer(&rt, alloc, &PLAIN, Syntax::Explicit, b"//CT/")?;
-    is_answer(
-        &rt,
-        alloc,
-        &INSTANCE,
-        Syntax::Explicit,
-        b"1.2.840.10008.5.1.4.1.1.2/1.2.3.4/CT/S1",
-    )?;
-    is_answer(&rt, alloc, &UNKNOWN[..46], Syntax::Explicit, b"///")?;
-    is_answer(&rt, alloc, &UNKNOWN, Syntax::Explicit, b"///")?;
-    let implicit = [8u8, 0, 0x60, 0, 2, 0, 0, 0, 0x4D, 0x52];
-    is_answer(&rt, alloc, &implicit, Syntax::Implicit, b"//MR/")?;
-    let pixels = [
-        0xE0u8, 0x7F, 0x10, 0, 0x4F, 0x42, 0, 0, 0xFF, 0xFF, 0xFF, 0xFF,
-    ];
-    is_answer(&rt, alloc, &pixels, Syntax::Explicit, b"BadLength")?;
-    let small = [8u8, 0, 0x60, 0, 0x63, 0x73, 2, 0, 0x4D, 0x52];
-    is_answer(&rt, alloc, &small, Syntax::Explicit, b"BadVr")?;
-    is_answer(&rt, alloc, &small[..5], Syntax::Explicit, b"Truncated")?;
-    let long = [8u8, 0, 0x10, 0x10, 0x53, 0x48, 0x01, 0x04];
-    is_answer(&rt, alloc, &long, Syntax::Explicit, b"BadLength")?;
-    let full = [8u8, 0, 0x10, 0x10, 0x53, 0x48, 0x00, 0x04];
-    is_answer(&rt, alloc, &full, Syntax::Explicit, b"Truncated")?;
-    let item = [0xFEu8, 0xFF, 0, 0xE0];
-    is_answer(&rt, alloc, &item, Syntax::Explicit, b"BadLength")?;
-    Ok(())
+/// 1 where all three answer the same, else 0.
+fn agreed(alloc: Global, text: &[u8], syntax: Syntax) -> Result<u32, anyhow::Error> {
+    let answer = scanned(alloc, text, syntax)?;
+    Ok(u32::from(agree(alloc, text, syntax, answer.as_str())?))
 }
 
-#[test]
-fn each_front_and_each_changed_byte(rt: HostRuntime) -> Result<(), Fail> {
-    let alloc = rt.alloc();
-    agrees_on_all(&rt, alloc, &NESTED)?;
-    agrees_on_all(&rt, alloc, &PLAIN)?;
-    agrees_on_all(&rt, alloc, &INSTANCE)?;
-    agrees_on_all(&rt, alloc, &UNKNOWN)?;
-    Ok(())
+/// The text with another byte at that place.
+fn changed(alloc: Global, text: &[u8], at: usize, to: u8) -> Result<Vec<u8>, AllocError> {
+    let mut changed = Vec::from_slice(alloc, text)?;
+    if let Some(byte) = changed.get_mut(at) {
+        *byte = to;
+    }
+    Ok(changed)
 }
 
-#[test]
-fn each_cut_gives_the_same(rt: HostRuntime) -> Result<(), Fail> {
-    let alloc = rt.alloc();
-    for text in [
-        NESTED.as_slice(),
-        PLAIN.as_slice(),
-        INSTANCE.as_slice(),
-        UNKNOWN.as_slice(),
-    ] {
-        let whole = shown(alloc, &attributes(alloc, text, Syntax::Explicit))?;
-        for cut in 0..text.len() {
-            let heard = shown(alloc, &heard_in_two(alloc, text, cut, Syntax::Explicit))?;
-            assert!(rt; heard == whole);
+fn agreed_on_front(alloc: Global, text: &[u8], at: usize) -> Result<u32, anyhow::Error> {
+    let (front, _) = text.split_at_checked(at).context("no front")?;
+    let explicit = agreed(alloc, front, Syntax::Explicit)?;
+    let implicit = agreed(alloc, front, Syntax::Implicit)?;
+    Ok(explicit.saturating_add(implicit))
+}
+
+/// With 00 in the explicit syntax, and with FF in both.
+fn agreed_on_changed(alloc: Global, text: &[u8], at: usize) -> Result<u32, anyhow::Error> {
+    let zero = changed(alloc, text, at, 0)?;
+    let least = agreed(alloc, zero.as_slice(), Syntax::Explicit)?;
+    let ones = changed(alloc, text, at, 0xFF)?;
+    let explicit = agreed(alloc, ones.as_slice(), Syntax::Explicit)?;
+    let implicit = agreed(alloc, ones.as_slice(), Syntax::Implicit)?;
+    Ok(least.saturating_add(explicit).saturating_add(implicit))
+}
+
+/// On how many of the fronts of a text, and of the texts with a byte set to 00 or to FF, all three agree.
+fn fronts(alloc: Global, text: &[u8]) -> Result<String, anyhow::Error> {
+    let mut fronts = 0u32;
+    let mut changes = 0u32;
+    for at in 0..text.len() {
+        fronts = fronts.saturating_add(agreed_on_front(alloc, text, at)?);
+        changes = changes.saturating_add(agreed_on_changed(alloc, text, at)?);
+    }
+    Ok(format!(in alloc; "agreed on {fronts} fronts and {changes} changes")?)
+}
+
+/// At how many cuts a scan in two pieces answers as one of the whole does.
+fn cuts(alloc: Global, text: &[u8]) -> Result<String, anyhow::Error> {
+    let whole = scanned(alloc, text, Syntax::Explicit)?;
+    let mut same = 0u32;
+    for cut in 0..text.len() {
+        if heard_cut(alloc, text, cut, Syntax::Explicit)? == whole {
+            same = same.saturating_add(1);
         }
     }
-    Ok(())
+    Ok(format!(in alloc; "{same} the same")?)
 }
 
-#[test]
-fn a_fault_is_answered_again(rt: HostRuntime) -> Result<(), Fail> {
+/// What a scan answers at a cut, and what at the end behind it.
+fn finished_twice(
+    alloc: Global,
+    front: &[u8],
+    back: &[u8],
+) -> Result<(String, String), anyhow::Error> {
     let mut scan = Scan::new(Syntax::Explicit);
-    assert!(rt; scan.feed(&[8, 0, 0x60, 0, 0x63]) == Ok(()));
-    assert!(rt; scan.feed(&[0x73]) == Err(DataFault::BadVr));
-    assert!(rt; scan.feed(&[2, 0]) == Err(DataFault::BadVr));
-    assert!(rt; scan.feed(&[]) == Err(DataFault::BadVr));
-    let answer = scan.finish(rt.alloc());
-    assert!(rt; matches!(answer, Err(DataFault::BadVr)));
-    assert!(rt; scan.feed(&PLAIN) == Err(DataFault::BadVr));
-    Ok(())
+    let _ = scan.feed(front);
+    let first = shown(alloc, scan.finish(alloc))?;
+    let _ = scan.feed(back);
+    let second = shown(alloc, scan.finish(alloc))?;
+    Ok((first, second))
 }
 
-/// At each cut: the end of a data set that is cut stays, and after the values of a whole one more may come.
-#[test]
-fn an_end_stays_or_leaves_the_scan(rt: HostRuntime) -> Result<(), Fail> {
-    let alloc = rt.alloc();
-    for text in [
-        NESTED.as_slice(),
-        PLAIN.as_slice(),
-        INSTANCE.as_slice(),
-        UNKNOWN.as_slice(),
-    ] {
-        let whole = shown(alloc, &attributes(alloc, text, Syntax::Explicit))?;
-        for cut in 0..text.len() {
-            let Some((front, back)) = text.split_at_checked(cut) else {
-                continue;
-            };
-            let mut scan = Scan::new(Syntax::Explicit);
-            let _ = scan.feed(front);
-            let before = shown(alloc, &attributes(alloc, front, Syntax::Explicit))?;
-            assert!(rt; shown(alloc, &scan.finish(alloc))? == before);
-            let is_cut = before.as_bytes() == b"Truncated".as_slice();
-            let _ = scan.feed(back);
-            let after = shown(alloc, &scan.finish(alloc))?;
-            assert!(rt; after == (if is_cut { before } else { whole.clone()? }));
+/// Whether the end of a data set that is cut stays, and after the values of a whole one more may come.
+fn is_right_at(alloc: Global, text: &[u8], cut: usize, whole: &str) -> Result<bool, anyhow::Error> {
+    let (front, back) = text.split_at_checked(cut).context("no cut")?;
+    let before = scanned(alloc, front, Syntax::Explicit)?;
+    let (first, second) = finished_twice(alloc, front, back)?;
+    let wanted = if before.as_str() == "Truncated" {
+        before.as_str()
+    } else {
+        whole
+    };
+    Ok(first == before && second.as_str() == wanted)
+}
+
+fn ends(alloc: Global, text: &[u8]) -> Result<String, anyhow::Error> {
+    let whole = scanned(alloc, text, Syntax::Explicit)?;
+    let mut right = 0u32;
+    for cut in 0..text.len() {
+        if is_right_at(alloc, text, cut, whole.as_str())? {
+            right = right.saturating_add(1);
         }
     }
-    Ok(())
+    Ok(format!(in alloc; "{right} right")?)
 }
 
-/// So many open sequences, one in another, and their ends if they are wanted.
-fn nested(alloc: Global, depth: u32, with_ends: bool) -> Result<Vec<u8>, AllocError> {
-    let mut text = Vec::new(alloc);
-    for i in 0..depth {
-        if i > 0 {
-            text.extend_from_slice(&[0xFEu8, 0xFF, 0, 0xE0, 0xFF, 0xFF, 0xFF, 0xFF])?;
-        }
-        text.extend_from_slice(&[0x08u8, 0, 0x51, 0, 0x53, 0x51, 0, 0, 0xFF, 0xFF, 0xFF, 0xFF])?;
+fn file(alloc: Global, text: &[u8]) -> Result<String, anyhow::Error> {
+    match part10(text) {
+        Ok(found) => Ok(format!(in alloc; "{:?} from {}", found.syntax, found.start)?),
+        Err(fault) => Ok(format!(in alloc; "{fault:?}")?),
     }
-    if with_ends {
-        for i in 0..depth {
-            if i > 0 {
-                text.extend_from_slice(&[0xFEu8, 0xFF, 0x0D, 0xE0, 0, 0, 0, 0])?;
-            }
-            text.extend_from_slice(&[0xFEu8, 0xFF, 0xDD, 0xE0, 0, 0, 0, 0])?;
-        }
-    }
-    Ok(text)
 }
 
-#[test]
-fn at_most_32_sequences_are_open(rt: HostRuntime) -> Result<(), Fail> {
-    let alloc = rt.alloc();
-    let most = nested(alloc, 32, true)?;
-    is_answer(&rt, alloc, most.as_slice(), Syntax::Explicit, b"///")?;
-    let open = nested(alloc, 32, false)?;
-    is_answer(&rt, alloc, open.as_slice(), Syntax::Explicit, b"Truncated")?;
-    let more = nested(alloc, 33, false)?;
-    is_answer(&rt, alloc, more.as_slice(), Syntax::Explicit, b"TooDeep")?;
-    Ok(())
+fn hear(alloc: Global, heard: &mut Heard, letter: &str) -> Result<String, anyhow::Error> {
+    heard.scans.push(Scan::new(syntax(letter)?))?;
+    Ok(String::from_str(alloc, "new")?)
 }
 
-#[test]
-fn a_file_names_its_syntax(rt: HostRuntime) -> Result<(), Fail> {
-    let alloc = rt.alloc();
-    let mut file = Vec::from_slice(alloc, &[0u8; 128])?;
-    file.extend_from_slice(b"DICM")?;
-    file.extend_from_slice(&[2u8, 0, 0x10, 0, 0x55, 0x49, 0x14, 0])?;
-    file.extend_from_slice(b"1.2.840.10008.1.2.1\0")?;
-    file.extend_from_slice(&INSTANCE)?;
-    let read = part10(file.as_slice());
-    assert!(rt;
-        read == Ok(Part10 {
-            syntax: Syntax::Explicit,
-            start: 160
-        })
-    );
-    assert!(rt; part10(&file.as_slice()[1..]) == Err(FileFault::NotDicom));
-    assert!(rt; part10(&file.as_slice()[..161]) == Err(FileFault::Meta));
-    if let Some(byte) = file.get_mut(134) {
-        *byte = 3;
+fn fed(alloc: Global, scan: &mut Scan, piece: &[u8]) -> Result<String, anyhow::Error> {
+    match scan.feed(piece) {
+        Ok(()) => Ok(String::from_str(alloc, "goes on")?),
+        Err(fault) => refused(alloc, fault),
     }
-    assert!(rt; part10(file.as_slice()) == Err(FileFault::Meta));
-    if let Some(byte) = file.get_mut(134) {
-        *byte = 0x10;
+}
+
+/// The calls of the last scan.
+fn scan_call(
+    alloc: Global,
+    heard: &mut Heard,
+    what: &str,
+    words: &[&str],
+) -> Result<String, anyhow::Error> {
+    let scan = heard.scans.last_mut().context("no scan")?;
+    match what {
+        "feed" => fed(alloc, scan, bytes(alloc, words)?.as_slice()),
+        "finish" => shown(alloc, scan.finish(alloc)),
+        _ => bail!("an unknown call of dr_dataset"),
     }
-    if let Some(byte) = file.get_mut(158) {
-        *byte = b'2';
+}
+
+fn scan_of(alloc: Global, words: &[&str]) -> Result<String, anyhow::Error> {
+    let [letter, rest @ ..] = words else {
+        bail!("a syntax is missing");
+    };
+    let text = bytes(alloc, rest)?;
+    scan(alloc, text.as_slice(), syntax(letter)?)
+}
+
+pub fn call(
+    alloc: Global,
+    heard: &mut Heard,
+    what: &str,
+    words: &[&str],
+) -> Result<String, anyhow::Error> {
+    match (what, words) {
+        ("scan", words) => scan_of(alloc, words),
+        ("fronts", words) => fronts(alloc, bytes(alloc, words)?.as_slice()),
+        ("cuts", words) => cuts(alloc, bytes(alloc, words)?.as_slice()),
+        ("ends", words) => ends(alloc, bytes(alloc, words)?.as_slice()),
+        ("file", words) => file(alloc, bytes(alloc, words)?.as_slice()),
+        ("hear", [letter]) => hear(alloc, heard, letter),
+        (what, words) => scan_call(alloc, heard, what, words),
     }
-    assert!(rt; part10(file.as_slice()) == Err(FileFault::OtherSyntax));
-    Ok(())
 }

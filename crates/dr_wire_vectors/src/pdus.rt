@@ -1,24 +1,91 @@
-//! Vectors from outside, each cut of a stream, and growths of memory that are refused (`rt try --test --fail-alloc N`).
+//! PDUs and streams of them: `pdu decode LIMIT BYTES`, what is read and how many bytes it takes; `pdu request TITLE`, whether a
+//! request with that called title (in hexadecimal) fits, and its spelling; `pdu transfer ID HEADER BYTES`, the spelling of a value; `pdu feeder LIMIT` and
+//! `pdu feed BYTES`, how many PDUs the last feeder gives and their spellings; `pdu cuts LIMIT BYTES`, at how many cuts a stream gives back its bytes, and
+//! `pdu pieces LIMIT BYTES`, whether it does so byte by byte; `pdu put release-rq`, `pdu put release-rp` and `pdu put-fragment ID HEADER BYTES`,
+//! what was put so far.
+//!
+//! A piece whose growth is refused is fed again.
+use crate::bytes::{bytes, digits};
+use anyhow::{Context, bail};
 use dr_base::{Seq, Text};
 use dr_pdu::{
     Association, ContextProposal, Feeder, Front, Pdu, PduFault, Pdv, decode, encode, fits, put,
     put_fragment,
 };
 use std::alloc::{AllocError, Global};
-use std::test::Fail;
 
-/// C-ECHO-RQ, context 1, message 1.
-const ECHO: [u8; 80] = [
-    0x04, 0x00, 0x00, 0x00, 0x00, 0x4A, 0x00, 0x00, 0x00, 0x46, 0x01, 0x03, 0x00, 0x00, 0x00, 0x00,
-    0x04, 0x00, 0x00, 0x00, 0x38, 0x00, 0x00, 0x00, 0x00, 0x00, 0x02, 0x00, 0x12, 0x00, 0x00, 0x00,
-    0x31, 0x2E, 0x32, 0x2E, 0x38, 0x34, 0x30, 0x2E, 0x31, 0x30, 0x30, 0x30, 0x38, 0x2E, 0x31, 0x2E,
-    0x31, 0x00, 0x00, 0x00, 0x00, 0x01, 0x02, 0x00, 0x00, 0x00, 0x30, 0x00, 0x00, 0x00, 0x10, 0x01,
-    0x02, 0x00, 0x00, 0x00, 0x01, 0x00, 0x00, 0x00, 0x00, 0x08, 0x02, 0x00, 0x00, 0x00, 0x01, 0x01,
-];
+/// The greatest length of a fragment that can be put.
+const GREATEST_FRAGMENT: usize = 134_217_722;
 
-const RELEASE: [u8; 10] = [5, 0, 0, 0, 0, 4, 0, 0, 0, 0];
+/// The feeder that is played, the last one, and what was put.
+#[derive(Drop)]
+pub struct Streams {
+    feeders: Vec<Feeder>,
+    out: Vec<u8>,
+}
 
-fn request(alloc: Global, called: &[u8]) -> Result<Pdu, AllocError> {
+impl Streams {
+    pub fn new(alloc: Global) -> Streams {
+        Streams {
+            feeders: Vec::new(alloc),
+            out: Vec::new(alloc),
+        }
+    }
+}
+
+/// The fault's name; want of memory ends the program.
+fn refused(alloc: Global, fault: PduFault) -> Result<String, anyhow::Error> {
+    if fault == PduFault::Memory {
+        bail!("Memory");
+    }
+    Ok(format!(in alloc; "{fault:?}")?)
+}
+
+fn put_value(alloc: Global, line: &mut String, pdv: &Pdv) -> Result<(), anyhow::Error> {
+    let fragment = digits(alloc, pdv.fragment.as_bytes())?;
+    let value = format!(in alloc; " {} {} [{fragment}]", pdv.id, pdv.header)?;
+    line.push_str(value.as_str())?;
+    Ok(())
+}
+
+/// The values of a P-DATA-TF.
+fn shown_values(alloc: Global, pdvs: &[Pdv]) -> Result<String, anyhow::Error> {
+    let mut line = String::from_str(alloc, "Transfer")?;
+    for pdv in pdvs {
+        put_value(alloc, &mut line, pdv)?;
+    }
+    Ok(line)
+}
+
+/// A PDU; of an association its greatest length alone.
+fn shown(alloc: Global, pdu: &Pdu) -> Result<String, anyhow::Error> {
+    match pdu {
+        Pdu::AssociateRq(rq) => Ok(format!(in alloc; "AssociateRq {}", rq.max_pdu)?),
+        Pdu::AssociateAc(ac) => Ok(format!(in alloc; "AssociateAc {}", ac.max_pdu)?),
+        Pdu::AssociateRj(rj) => Ok(format!(in alloc;
+            "AssociateRj {} {} {}",
+            rj.result, rj.source, rj.reason
+        )?),
+        Pdu::Transfer(pdvs) => shown_values(alloc, pdvs.as_slice()),
+        Pdu::ReleaseRq => Ok(String::from_str(alloc, "ReleaseRq")?),
+        Pdu::ReleaseRp => Ok(String::from_str(alloc, "ReleaseRp")?),
+        Pdu::Abort(abort) => Ok(format!(in alloc; "Abort {} {}", abort.source, abort.reason)?),
+    }
+}
+
+fn read(alloc: Global, limit: u32, words: &[&str]) -> Result<String, anyhow::Error> {
+    let text = bytes(alloc, words)?;
+    match decode(alloc, text.as_slice(), limit) {
+        Ok((pdu, used)) => {
+            let shown = shown(alloc, &pdu)?;
+            Ok(format!(in alloc; "{shown}, {used} bytes")?)
+        }
+        Err(fault) => refused(alloc, fault),
+    }
+}
+
+/// One context, of CT images in the explicit syntax.
+fn contexts(alloc: Global) -> Result<Seq<ContextProposal>, AllocError> {
     let mut syntaxes = Seq::new(alloc);
     syntaxes.push(Text::copy_of(alloc, b"1.2.840.10008.1.2.1")?)?;
     let mut contexts = Seq::new(alloc);
@@ -27,25 +94,153 @@ fn request(alloc: Global, called: &[u8]) -> Result<Pdu, AllocError> {
         class: Text::copy_of(alloc, b"1.2.840.10008.5.1.4.1.1.2")?,
         syntaxes,
     })?;
+    Ok(contexts)
+}
+
+fn front(alloc: Global, called: Vec<u8>) -> Result<Front, AllocError> {
+    Ok(Front {
+        version: 1,
+        called: Text::from_vec(called),
+        calling: Text::copy_of(alloc, b"GATE")?,
+        reserved: Text::from_vec(vec![in alloc; 0u8; 32]?),
+    })
+}
+
+/// GATE asks this title for an association.
+fn request(alloc: Global, called: Vec<u8>) -> Result<Pdu, AllocError> {
     Ok(Pdu::AssociateRq(Association {
-        front: Front {
-            version: 1,
-            called: Text::copy_of(alloc, called)?,
-            calling: Text::copy_of(alloc, b"GATE")?,
-            reserved: Text::copy_of(alloc, &[0; 32])?,
-        },
+        front: front(alloc, called)?,
         application: Text::copy_of(alloc, b"1.2.840.10008.3.1.1.1")?,
-        contexts,
+        contexts: contexts(alloc)?,
         max_pdu: 16384,
     }))
 }
 
-fn written(alloc: Global, pdu: &Pdu) -> Result<Vec<u8>, AllocError> {
+/// The spelling of a PDU; none where it doesn't fit.
+fn written(alloc: Global, pdu: &Pdu) -> Result<Option<Vec<u8>>, AllocError> {
     if fits(pdu) {
-        encode(alloc, pdu)
+        Ok(Some(encode(alloc, pdu)?))
     } else {
-        Ok(Vec::new(alloc))
+        Ok(None)
     }
+}
+
+fn told(alloc: Global, pdu: &Pdu) -> Result<String, anyhow::Error> {
+    match written(alloc, pdu)? {
+        Some(text) => told_bytes(alloc, text.as_slice()),
+        None => Ok(String::from_str(alloc, "doesn't fit")?),
+    }
+}
+
+fn told_bytes(alloc: Global, bytes: &[u8]) -> Result<String, anyhow::Error> {
+    let digits = digits(alloc, bytes)?;
+    Ok(format!(in alloc; "{} bytes {digits}", bytes.len())?)
+}
+
+fn requested(alloc: Global, words: &[&str]) -> Result<String, anyhow::Error> {
+    let called = bytes(alloc, words)?;
+    told(alloc, &request(alloc, called)?)
+}
+
+/// A P-DATA-TF of one value.
+fn transfer(alloc: Global, id: u8, header: u8, fragment: Vec<u8>) -> Result<Pdu, AllocError> {
+    let mut pdvs = Seq::new(alloc);
+    pdvs.push(Pdv {
+        id,
+        header,
+        fragment: Text::from_vec(fragment),
+    })?;
+    Ok(Pdu::Transfer(pdvs))
+}
+
+fn transferred(alloc: Global, words: &[&str]) -> Result<String, anyhow::Error> {
+    let [id, header, rest @ ..] = words else {
+        bail!("an id and a header are missing");
+    };
+    let fragment = bytes(alloc, rest)?;
+    told(
+        alloc,
+        &transfer(alloc, id.parse()?, header.parse()?, fragment)?,
+    )
+}
+
+/// Feeds a piece; where a growth is refused, feeds it again.
+fn take(feeder: &mut Feeder, piece: &[u8]) -> Result<Seq<Pdu>, PduFault> {
+    match feeder.feed(piece) {
+        Err(PduFault::Memory) => feeder.feed(piece),
+        answer => answer,
+    }
+}
+
+/// Adds the spellings of these PDUs.
+fn spell(alloc: Global, out: &mut Vec<u8>, pdus: &[Pdu]) -> Result<(), AllocError> {
+    for pdu in pdus {
+        if let Some(text) = written(alloc, pdu)? {
+            out.extend_from_slice(text.as_slice())?;
+        }
+    }
+    Ok(())
+}
+
+/// How many PDUs a piece gives, and their spellings.
+fn fed(alloc: Global, feeder: &mut Feeder, piece: &[u8]) -> Result<String, anyhow::Error> {
+    match take(feeder, piece) {
+        Ok(pdus) => {
+            let mut out = Vec::new(alloc);
+            spell(alloc, &mut out, pdus.as_slice())?;
+            let digits = digits(alloc, out.as_slice())?;
+            Ok(format!(in alloc; "{} PDUs [{digits}]", pdus.len())?)
+        }
+        Err(fault) => refused(alloc, fault),
+    }
+}
+
+/// Adds the spellings of the PDUs that a piece gives.
+fn hear(
+    alloc: Global,
+    out: &mut Vec<u8>,
+    feeder: &mut Feeder,
+    piece: &[u8],
+) -> Result<(), anyhow::Error> {
+    let pdus = take(feeder, piece)?;
+    spell(alloc, out, pdus.as_slice())?;
+    Ok(())
+}
+
+/// Whether a stream in two pieces gives back its bytes.
+fn is_same_when_cut(
+    alloc: Global,
+    limit: u32,
+    text: &[u8],
+    cut: usize,
+) -> Result<bool, anyhow::Error> {
+    let (front, back) = text.split_at_checked(cut).context("no cut")?;
+    let mut feeder = Feeder::new(alloc, limit);
+    let mut out = Vec::new(alloc);
+    hear(alloc, &mut out, &mut feeder, front)?;
+    hear(alloc, &mut out, &mut feeder, back)?;
+    Ok(out.as_slice() == text)
+}
+
+/// At how many cuts a stream gives back its bytes.
+fn cuts(alloc: Global, limit: u32, text: &[u8]) -> Result<String, anyhow::Error> {
+    let mut same = 0u32;
+    for cut in 0..text.len() {
+        if is_same_when_cut(alloc, limit, text, cut)? {
+            same = same.saturating_add(1);
+        }
+    }
+    Ok(format!(in alloc; "{same} the same")?)
+}
+
+/// Whether a stream in pieces of one byte gives back its bytes.
+fn pieces(alloc: Global, limit: u32, text: &[u8]) -> Result<String, anyhow::Error> {
+    let mut feeder = Feeder::new(alloc, limit);
+    let mut out = Vec::new(alloc);
+    for byte in text {
+        hear(alloc, &mut out, &mut feeder, &[*byte])?;
+    }
+    Ok(format!(in alloc; "the same {}", out.as_slice() == text)?)
 }
 
 /// Puts the spelling of a PDU, if it has one.
@@ -56,218 +251,68 @@ fn put_if_it_fits(out: &mut Vec<u8>, pdu: &Pdu) -> Result<(), AllocError> {
     Ok(())
 }
 
-fn fault_of(alloc: Global, text: &[u8]) -> Option<PduFault> {
-    decode(alloc, text, 16384).err()
-}
-
-/// An association PDU of that type with these items, below 128 bytes of them.
-fn association(alloc: Global, kind: u8, items: &[u8]) -> Result<Vec<u8>, AllocError> {
-    let len = (68 + items.len() % 128) as u8;
-    let mut text = [kind, 0, 0, 0, 0, len, 0, 1, 0, 0].to_vec(alloc)?;
-    text.extend_from_slice(&[b' '; 32])?;
-    text.extend_from_slice(&[0; 32])?;
-    text.extend_from_slice(items)?;
-    Ok(text)
-}
-
-/// The greatest length of an association PDU with these items, if it is read.
-fn greatest_length(alloc: Global, kind: u8, items: &[u8]) -> Result<u32, PduFault> {
-    match decode(alloc, &association(alloc, kind, items)?, 0)?.0 {
-        Pdu::AssociateRq(rq) => Ok(rq.max_pdu),
-        Pdu::AssociateAc(ac) => Ok(ac.max_pdu),
-        _ => Err(PduFault::Failed),
+fn put_release(alloc: Global, out: &mut Vec<u8>, words: &[&str]) -> Result<String, anyhow::Error> {
+    match words {
+        ["release-rq"] => put_if_it_fits(out, &Pdu::ReleaseRq)?,
+        ["release-rp"] => put_if_it_fits(out, &Pdu::ReleaseRp)?,
+        _ => bail!("an unknown PDU"),
     }
+    told_bytes(alloc, out.as_slice())
 }
 
-/// A request, an echo, a release and an abort.
-fn stream(alloc: Global) -> Result<Vec<u8>, AllocError> {
-    let mut text = written(alloc, &request(alloc, b"ARCH")?)?;
-    text.extend_from_slice(&ECHO)?;
-    text.extend_from_slice(&RELEASE)?;
-    text.extend_from_slice(&[7, 0, 0, 0, 0, 4, 0, 0, 2, 6])?;
-    Ok(text)
-}
-
-/// Takes a piece; where a growth is refused, takes it again.
-fn take(feeder: &mut Feeder, piece: &[u8]) -> Result<Seq<Pdu>, PduFault> {
-    match feeder.feed(piece) {
-        Err(PduFault::Memory) => feeder.feed(piece),
-        answer => answer,
-    }
-}
-
-/// Adds the spellings of these PDUs.
-fn spell(alloc: Global, out: &mut Vec<u8>, pdus: &Seq<Pdu>) -> Result<(), AllocError> {
-    for pdu in pdus.as_slice() {
-        out.extend_from_slice(&written(alloc, pdu)?)?;
-    }
-    Ok(())
-}
-
-#[test]
-fn an_echo_is_read(rt: HostRuntime) -> Result<(), Fail> {
-    let (pdu, len) = decode(rt.alloc(), &ECHO, 16384)?;
-    assert_eq!(rt; len, 80);
-    let Pdu::Transfer(pdvs) = pdu else {
-        return Err("no data")?;
+fn put_piece(alloc: Global, out: &mut Vec<u8>, words: &[&str]) -> Result<String, anyhow::Error> {
+    let [id, header, rest @ ..] = words else {
+        bail!("an id and a header are missing");
     };
-    let [pdv] = pdvs.as_slice() else {
-        return Err("no one value")?;
-    };
-    assert_eq!(rt; pdv.id, 1);
-    assert_eq!(rt; pdv.header, 3);
-    assert_eq!(rt; pdv.fragment.as_bytes(), &ECHO[12..]);
-    assert!(rt; decode(rt.alloc(), &ECHO, 73).err() == Some(PduFault::TooLong));
-    Ok(())
-}
-
-#[test]
-fn faults_show_where_they_stand(rt: HostRuntime) -> Result<(), Fail> {
-    let alloc = rt.alloc();
-    assert!(rt; fault_of(alloc, &[1, 0, 0, 4, 0, 0]) == Some(PduFault::More));
-    assert!(rt; fault_of(alloc, &[1, 0, 0, 4, 0, 1]) == Some(PduFault::TooLong));
-    assert!(rt; fault_of(alloc, &[1, 0, 0, 0, 0, 67]) == Some(PduFault::BadItem));
-    assert!(rt; fault_of(alloc, &[3, 0, 0, 0, 0, 5]) == Some(PduFault::BadItem));
-    assert!(rt; fault_of(alloc, &[5, 0, 0, 0, 0]) == Some(PduFault::More));
-    assert!(rt; fault_of(alloc, &[5, 0, 0, 0, 0, 5, 0, 0, 0, 0, 0]) == Some(PduFault::BadItem));
-    assert!(rt; fault_of(alloc, &[4, 0, 0, 0, 0, 1, 0]) == Some(PduFault::BadItem));
-    assert!(rt; decode(alloc, &[4, 0, 0, 0, 4, 1], 1024).err() == Some(PduFault::TooLong));
-    // Values that count 0 bytes, and 1; one with an empty fragment, and none at all.
-    assert!(rt; fault_of(alloc, &[4, 0, 0, 0, 0, 4, 0, 0, 0, 0]) == Some(PduFault::BadItem));
-    assert!(rt; fault_of(alloc, &[4, 0, 0, 0, 0, 5, 0, 0, 0, 1, 1]) == Some(PduFault::BadItem));
-    assert!(rt; fault_of(alloc, &[4, 0, 0, 0, 0, 6, 0, 0, 0, 2, 1, 3]).is_none());
-    assert!(rt; fault_of(alloc, &[4, 0, 0, 0, 0, 0]).is_none());
-    // An even id, and the same with a transfer syntax that runs past the end of its context.
-    let mut text = written(alloc, &request(alloc, b"ARCH")?)?;
-    assert_eq!(rt; text.len(), 234);
-    text[103] = 2;
-    assert!(rt; fault_of(alloc, &text) == Some(PduFault::BadContextId));
-    text[139] = 20;
-    assert!(rt; fault_of(alloc, &text) == Some(PduFault::BadItem));
-    Ok(())
-}
-
-#[test]
-fn what_does_not_count_is_not_looked_into(rt: HostRuntime) -> Result<(), Fail> {
-    let alloc = rt.alloc();
-    // A second 50H whose inside is cut, and a second 51H of three bytes.
-    let cut = [0x10, 0, 0, 1, 0x31, 0x50, 0, 0, 0, 0x50, 0, 0, 1, 0x52];
-    assert_eq!(rt; greatest_length(alloc, 1, &cut)?, 0);
-    let short = [
-        0x10, 0, 0, 1, 0x31, 0x50, 0, 0, 15, 0x51, 0, 0, 4, 0, 0, 0x40, 0, 0x51, 0, 0, 3, 0, 0x40,
-        0,
-    ];
-    assert_eq!(rt; greatest_length(alloc, 1, &short)?, 16384);
-    // A refused context without a syntax, and one whose inside is cut; a proposal in an acceptance.
-    let refused = [0x10, 0, 0, 1, 0x31, 0x21, 0, 0, 4, 1, 0, 3, 0];
-    assert_eq!(rt; greatest_length(alloc, 2, &refused)?, 0);
-    let inside = [0x10, 0, 0, 1, 0x31, 0x21, 0, 0, 7, 1, 0, 3, 0, 0x40, 0, 0];
-    assert!(rt; greatest_length(alloc, 2, &inside).err() == Some(PduFault::BadItem));
-    let proposal = [0x10, 0, 0, 1, 0x31, 0x20, 0, 0, 2, 1, 0];
-    assert_eq!(rt; greatest_length(alloc, 2, &proposal)?, 0);
-    assert!(rt; greatest_length(alloc, 1, &proposal).err() == Some(PduFault::BadItem));
-    Ok(())
-}
-
-/// A rejection and an abort by the tables of PS3.8 (9.3.4 and 9.3.8), each with numbers that differ.
-#[test]
-fn numbers_stand_in_their_places(rt: HostRuntime) -> Result<(), Fail> {
-    let alloc = rt.alloc();
-    let (pdu, _) = decode(alloc, &[3, 0, 0, 0, 0, 4, 0, 2, 3, 1], 16384)?;
-    let Pdu::AssociateRj(rj) = pdu else {
-        return Err("no rejection")?;
-    };
-    assert_eq!(rt;
-        [rj.result, rj.source, rj.reason].as_slice(),
-        [2, 3, 1].as_slice()
-    );
-    let (pdu, _) = decode(alloc, &[7, 0, 0, 0, 0, 4, 9, 9, 2, 6], 16384)?;
-    let Pdu::Abort(abort) = pdu else {
-        return Err("no abort")?;
-    };
-    assert_eq!(rt; [abort.source, abort.reason].as_slice(), [2, 6].as_slice());
-    Ok(())
-}
-
-/// A header alone, of a PDU that may come and of one that is too long; what was announced takes no memory.
-#[test]
-fn what_is_announced_is_awaited(rt: HostRuntime) -> Result<(), Fail> {
-    let alloc = rt.alloc();
-    let mut feeder = Feeder::new(alloc, 0);
-    assert!(rt; feeder.feed(&[4, 0, 8, 0, 0, 0])?.is_empty());
-    assert!(rt; feeder.feed(&[])?.is_empty());
-    let mut other = Feeder::new(alloc, 0);
-    assert!(rt; other.feed(&[4, 0, 8, 0, 0, 1]).err() == Some(PduFault::TooLong));
-    assert!(rt; other.feed(&RELEASE).err() == Some(PduFault::Failed));
-    Ok(())
-}
-
-#[test]
-fn spellings_are_put_one_behind_the_other(rt: HostRuntime) -> Result<(), Fail> {
-    let alloc = rt.alloc();
-    let mut out = Vec::new(alloc);
-    put_if_it_fits(&mut out, &Pdu::ReleaseRq)?;
-    put_fragment(&mut out, 1, 3, &ECHO[12..])?;
-    put_if_it_fits(&mut out, &Pdu::ReleaseRp)?;
-    let mut wanted = RELEASE.to_vec(alloc)?;
-    wanted.extend_from_slice(&ECHO)?;
-    wanted.extend_from_slice(&[6, 0, 0, 0, 0, 4, 0, 0, 0, 0])?;
-    assert!(rt; out.as_slice() == wanted.as_slice());
-    // The same value, as a PDU.
-    let mut pdvs = Seq::new(alloc);
-    pdvs.push(Pdv {
-        id: 1,
-        header: 3,
-        fragment: Text::copy_of(alloc, &ECHO[12..])?,
-    })?;
-    assert!(rt; written(alloc, &Pdu::Transfer(pdvs))?.as_slice() == ECHO.as_slice());
-    Ok(())
-}
-
-#[test]
-fn a_title_of_17_bytes_does_not_fit(rt: HostRuntime) -> Result<(), Fail> {
-    let alloc = rt.alloc();
-    assert!(rt; fits(&request(alloc, b"SIXTEEN CHARS OK")?));
-    assert!(rt; !fits(&request(alloc, b"SEVENTEEN CHARS..")?));
-    assert!(rt; !fits(&request(alloc, b"ARCH ")?));
-    Ok(())
-}
-
-#[test]
-fn a_fault_behind_a_pdu_is_answered_next(rt: HostRuntime) -> Result<(), Fail> {
-    let mut feeder = Feeder::new(rt.alloc(), 16384);
-    let mut text = RELEASE.to_vec(rt.alloc())?;
-    text.extend_from_slice(&[8, 0, 0, 0, 0, 0])?;
-    assert_eq!(rt; feeder.feed(&text)?.len(), 1);
-    assert!(rt; feeder.feed(&[]).err() == Some(PduFault::UnknownType));
-    assert!(rt; feeder.feed(&RELEASE).err() == Some(PduFault::Failed));
-    Ok(())
-}
-
-#[test]
-fn each_cut_gives_the_same_pdus(rt: HostRuntime) -> Result<(), Fail> {
-    let alloc = rt.alloc();
-    let text = stream(alloc)?;
-    for cut in 0..text.len() {
-        let (front, back) = text.as_slice().split_at(cut);
-        let mut feeder = Feeder::new(alloc, 16384);
-        let mut out = Vec::new(alloc);
-        spell(alloc, &mut out, &take(&mut feeder, front)?)?;
-        spell(alloc, &mut out, &take(&mut feeder, back)?)?;
-        assert!(rt; out.as_slice() == text.as_slice(), "cut at {cut}");
+    let fragment = bytes(alloc, rest)?;
+    if fragment.len() > GREATEST_FRAGMENT {
+        bail!("a fragment too long");
     }
-    Ok(())
+    put_fragment(out, id.parse()?, header.parse()?, fragment.as_slice())?;
+    told_bytes(alloc, out.as_slice())
 }
 
-#[test]
-fn byte_by_byte_gives_the_same_pdus(rt: HostRuntime) -> Result<(), Fail> {
-    let alloc = rt.alloc();
-    let text = stream(alloc)?;
-    let mut feeder = Feeder::new(alloc, 16384);
-    let mut out = Vec::new(alloc);
-    for byte in text.as_slice() {
-        spell(alloc, &mut out, &take(&mut feeder, &[*byte])?)?;
+fn feed(alloc: Global, streams: &mut Streams, words: &[&str]) -> Result<String, anyhow::Error> {
+    let piece = bytes(alloc, words)?;
+    let feeder = streams.feeders.last_mut().context("no feeder")?;
+    fed(alloc, feeder, piece.as_slice())
+}
+
+/// The calls that have a limit.
+fn limited(
+    alloc: Global,
+    streams: &mut Streams,
+    what: &str,
+    words: &[&str],
+) -> Result<String, anyhow::Error> {
+    let [limit, rest @ ..] = words else {
+        bail!("a limit is missing");
+    };
+    let limit = limit.parse()?;
+    match what {
+        "decode" => read(alloc, limit, rest),
+        "feeder" => {
+            streams.feeders.push(Feeder::new(alloc, limit))?;
+            Ok(String::from_str(alloc, "new")?)
+        }
+        "cuts" => cuts(alloc, limit, bytes(alloc, rest)?.as_slice()),
+        "pieces" => pieces(alloc, limit, bytes(alloc, rest)?.as_slice()),
+        _ => bail!("an unknown call of dr_pdu"),
     }
-    assert!(rt; out.as_slice() == text.as_slice());
-    Ok(())
+}
+
+pub fn call(
+    alloc: Global,
+    streams: &mut Streams,
+    what: &str,
+    words: &[&str],
+) -> Result<String, anyhow::Error> {
+    match what {
+        "request" => requested(alloc, words),
+        "transfer" => transferred(alloc, words),
+        "feed" => feed(alloc, streams, words),
+        "put" => put_release(alloc, &mut streams.out, words),
+        "put-fragment" => put_piece(alloc, &mut streams.out, words),
+        what => limited(alloc, streams, what, words),
+    }
 }
