@@ -3,30 +3,40 @@ use Rattle.std.proofs.Common.{◌≡◌, ◌≢◌, ℕ, ◌<◌, inl, inr, refl
 use Rattle.std.specs.Prelude.{All, flat_map}
 use Rattle.std.proofs.lemmas.Bool.{cases_lt, cases_eq}
 use Rattle.std.proofs.lemmas.List.{get_or_default}
-use Rattle.std.proofs.lemmas.List.Elements.{Contains-append_left, Contains-append_right, Contains-append_cases, Contains-get_or, All-contains}
+use Rattle.std.proofs.lemmas.List.Elements.{Contains-append_left, Contains-append_right, Contains-append_cases, Contains-get_or, All-contains, All-head, All-tail}
 use Rattle.dr_base.specs.Texts.{Text}
 use Rattle.dr_base.specs.declared.syntax.Syntax.{Syntax}
 use Rattle.dr_route.specs.Routes.{local, SendsBy, KeepsBy}
-use Rattle.dr_route.specs.Cells.{InField}
-use Rattle.dr_route.specs.Laws.{IsKnown, IsKnownRule, ArePlain, key_of}
+use Rattle.dr_route.specs.Cells.{InField, InStation}
+use Rattle.dr_route.specs.Laws.{IsKnown, IsKnownStation, IsKnownRule, ArePlain, ArePlainStations, key_of}
 use Rattle.dr_route.specs.declared.key.Key.{Key}
 use Rattle.dr_route.specs.declared.rule.Rule.{Rule}
 use Rattle.dr_route.specs.declared.rule.Pattern.{Pattern}
 use Rattle.dr_route.specs.declared.rule.Pattern.TheVariants.{Any, Literal}
+use Rattle.dr_route.specs.declared.rule.StationPattern.{StationPattern}
+use Rattle.dr_route.specs.declared.rule.StationPattern.TheVariants as pattern
+use Rattle.dr_route.specs.declared.cell.StationValues.{StationValues}
+use Rattle.dr_route.specs.declared.cell.OwnedStation.{OwnedStation}
+use Rattle.dr_route.specs.declared.cell.OwnedStation.TheVariants as station
 use Rattle.dr_route.specs.declared.cell.OwnedField.{OwnedField}
 use Rattle.dr_route.specs.declared.cell.OwnedField.TheVariants as part
 use Rattle.dr_route.specs.declared.cell.OwnedCell.{OwnedCell}
-use Rattle.dr_route.proofs.Agreement.{sends_agree, keeps_agree, part_has_value}
+use Rattle.dr_route.proofs.Agreement.{sends_agree, keeps_agree, part_has_value, station_has_value, prefix_agrees}
 use Rattle.dr_network.specs.declared.plan.Node.{Node}
 use Rattle.dr_network.specs.declared.plan.Flow.{Flow}
 use Rattle.dr_network.specs.declared.plan.Values.{Values}
 use Rattle.dr_network.specs.declared.plan.Values.TheVariants as values
 use Rattle.dr_network.specs.declared.literals.Attribute.{Attribute}
-use Rattle.dr_network.specs.declared.literals.Attribute.TheVariants.{Modality, Station}
+use Rattle.dr_network.specs.declared.plan.Stations.{Stations}
+use Rattle.dr_network.specs.declared.plan.Stations.TheVariants as stations
+use Rattle.dr_network.specs.declared.plan.Format.{Format}
+use Rattle.dr_network.specs.declared.plan.Format.TheVariants.{One}
+use Rattle.dr_network.specs.declared.literals.Attribute.TheVariants.{Modality, Station, StationPrefix}
 use Rattle.dr_network.specs.Networks.{Network}
-use Rattle.dr_network.specs.Formed.{IsLiteral, IsKnownName, IsWellFormedNode, IsWellFormedFlow, IsRuleOf, AreLiterals, HasForm}
-use Rattle.dr_network.specs.Plans.{IsWellFormed, IsNode, literal_of, listed, pattern_of, values_of, named_by_rules, named_by_flows, named_in, literals_of, LiesIn}
-use Rattle.dr_network.specs.Walks.{IsListed, Fits, Flows, Sends, Keeps, IsWalk, IsEntry, IsReached}
+use Rattle.dr_network.specs.Formed.{IsLiteral, IsPrefix, HasStationForm, AreStations, IsInFormat, IsKnownName, IsWellFormedNode, IsWellFormedFlow, IsRuleOf, AreLiterals, HasForm}
+use Rattle.dr_network.specs.Naming.{literal_of, station_of, prefix_of, listed, listed_stations, listed_prefixes, named_by_rule, named_by_flow, named_by_rules, named_by_flows}
+use Rattle.dr_network.specs.Plans.{IsWellFormed, IsNode, named_in, prefixes_of, literals_of, LiesIn}
+use Rattle.dr_network.specs.Walks.{IsListed, IsStationListed, Fits, Flows, Sends, Keeps, IsWalk, IsEntry, IsReached}
 use Rattle.dr_network.specs.Laws.{IsCellOf}
 use Rattle.dr_network.proofs.Gathered.{Contains-flat_map, Contains-here, Contains-there, Contains-flat_map_from, nothing_in_nil, only_one}
 
@@ -60,22 +70,28 @@ known_pattern : (literals : List Text) (pattern : Pattern) → ((t : Text) → C
 known_pattern literals Any all = tt
 known_pattern literals (Literal literal) all = all literal (Contains-here literal [])
 
-named_by_rule : (plan : Network) (attribute : Attribute) (node : Node) (rule : Rule) (t : Text) → Contains plan.nodes node → Contains node.rules rule →
-    Contains (literal_of (pattern_of attribute rule)) t → Contains (named_in attribute plan) t
-named_by_rule plan attribute node rule t has_node has_rule has_text =
+known_station : (values : StationValues) (pattern : StationPattern) → ((t : Text) → Contains (station_of pattern) t → Contains values.literals t) →
+    ((t : Text) → Contains (prefix_of pattern) t → Contains values.prefixes t) → IsKnownStation values pattern
+known_station values pattern.Any all each = tt
+known_station values (pattern.Literal literal) all each = all literal (Contains-here literal [])
+known_station values (pattern.Prefix prefix) all each = each prefix (Contains-here prefix [])
+
+rule_names : (plan : Network) (attribute : Attribute) (node : Node) (rule : Rule) (t : Text) → Contains plan.nodes node → Contains node.rules rule →
+    Contains (named_by_rule attribute rule) t → Contains (named_in attribute plan) t
+rule_names plan attribute node rule t has_node has_rule has_text =
     Contains-append_left _ _ t
     (Contains-flat_map (λ (n : Node). named_by_rules attribute n.rules) plan.nodes node t has_node
-    (Contains-flat_map (λ (r : Rule). literal_of (pattern_of attribute r)) node.rules rule t has_rule has_text))
+    (Contains-flat_map (λ (r : Rule). named_by_rule attribute r) node.rules rule t has_rule has_text))
 
 pub known_rules : (plan : Network) (node : Node) → Contains plan.nodes node → All (IsKnownRule (literals_of plan)) node.rules
 known_rules plan node has_node = all_from_each (IsKnownRule (literals_of plan)) node.rules (λ rule has_rule. (
-  known_pattern (named_in Modality plan) rule.modality (λ t. named_by_rule plan Modality node rule t has_node has_rule),
-  known_pattern (named_in Station plan) rule.station (λ t. named_by_rule plan Station node rule t has_node has_rule),
+  known_pattern (named_in Modality plan) rule.modality (λ t. rule_names plan Modality node rule t has_node has_rule),
+  known_station (literals_of plan).stations rule.station (λ t. rule_names plan Station node rule t has_node has_rule) (λ t. rule_names plan StationPrefix node rule t has_node has_rule),
 ))
 
-pub named_by_flow : (plan : Network) (attribute : Attribute) (flow : Flow) (t : Text) → Contains plan.flows flow → Contains (listed (values_of attribute flow)) t → Contains (named_in attribute plan) t
-named_by_flow plan attribute flow t has_flow has_text =
-    Contains-append_right _ _ t (Contains-flat_map (λ (f : Flow). listed (values_of attribute f)) plan.flows flow t has_flow has_text)
+pub flow_names : (plan : Network) (attribute : Attribute) (flow : Flow) (t : Text) → Contains plan.flows flow → Contains (named_by_flow attribute flow) t → Contains (named_in attribute plan) t
+flow_names plan attribute flow t has_flow has_text =
+    Contains-append_right _ _ t (Contains-flat_map (λ (f : Flow). named_by_flow attribute f) plan.flows flow t has_flow has_text)
 
 -- ---- keys of one cell
 listed_alike : (literals : List Text) (field : OwnedField) (texts : Values) (v w : Text) → ((t : Text) → Contains (listed texts) t → Contains literals t) →
@@ -85,12 +101,25 @@ listed_alike literals (part.Literal literal) (values.Listed texts) v w known a b
     let P : Text → Type 0 = λ t. Contains texts t in subst P (sym a.1 ∙ b.1) h
 listed_alike literals part.Rest (values.Listed texts) v w known a b h = absurd (a (known v h))
 
+stations_listed_alike : (values : StationValues) (part : OwnedStation) (listed : Stations) (v w : Text) → ((t : Text) → Contains (listed_stations listed) t → Contains values.literals t) →
+    ((t : Text) → Contains (listed_prefixes listed) t → Contains values.prefixes t) →
+    InStation values part v → InStation values part w → IsStationListed listed v → IsStationListed listed w
+stations_listed_alike values part stations.Any v w known each a b h = tt
+stations_listed_alike values part (stations.Listed own) v w known each a b (inl one) = inl (same_literal part a b one) where
+  same_literal : (part : OwnedStation) → InStation values part v → InStation values part w → Contains own.literals v → Contains own.literals w
+  same_literal (station.Literal literal) a b one = let P : Text → Type 0 = λ t. Contains own.literals t in subst P (sym a.1 ∙ b.1) one
+  same_literal (station.Prefix prefix) a b one = absurd (a.0 (known v one))
+  same_literal station.Rest a b one = absurd (a.0 (known v one))
+stations_listed_alike values part (stations.Listed own) v w known each a b (inr begun) =
+    inr (begun.0, begun.1, prefix_agrees values part begun.0 v w (each begun.0 begun.1) a b begun.2)
+
 pub fits_alike : (plan : Network) (cell : OwnedCell) (k l : Key) → LiesIn plan cell k → LiesIn plan cell l → (flow : Flow) → Contains plan.flows flow → Fits flow k → Fits flow l
 fits_alike plan cell k l a b flow has_flow fit = record {
   class = let P : Text → Type 0 = λ t. Contains flow.classes t in subst P (sym a.class ∙ b.class) fit.class;
   syntax = let P : Syntax → Type 0 = λ t. Contains flow.syntaxes t in subst P (sym a.syntax ∙ b.syntax) fit.syntax;
-  modality = listed_alike (named_in Modality plan) cell.modality flow.modalities k.modality l.modality (λ t. named_by_flow plan Modality flow t has_flow) a.modality b.modality fit.modality;
-  station = listed_alike (named_in Station plan) cell.station flow.stations k.station l.station (λ t. named_by_flow plan Station flow t has_flow) a.station b.station fit.station;
+  modality = listed_alike (named_in Modality plan) cell.modality flow.modalities k.modality l.modality (λ t. flow_names plan Modality flow t has_flow) a.modality b.modality fit.modality;
+  station = stations_listed_alike (literals_of plan).stations cell.station flow.stations k.station l.station (λ t. flow_names plan Station flow t has_flow) (λ t. flow_names plan StationPrefix flow t has_flow)
+      a.station b.station fit.station;
 }
 
 pub flows_alike : (plan : Network) (cell : OwnedCell) (k l : Key) → LiesIn plan cell k → LiesIn plan cell l → (site to : Text) → Flows plan site k to → Flows plan site l to
@@ -166,37 +195,93 @@ values_are_literals : (texts : Values) → AreLiterals texts → (t : Text) → 
 values_are_literals values.Any form t among = absurd (nothing_in_nil t among)
 values_are_literals (values.Listed texts) form t among = All-contains IsLiteral texts t form among
 
-rule_has_form : (nodes : List Node) (name : Text) (attribute : Attribute) (rule : Rule) → IsRuleOf nodes name rule → HasForm IsLiteral (pattern_of attribute rule)
-rule_has_form nodes name Modality rule is = is.modality
-rule_has_form nodes name Station rule is = is.station
+station_is_literal : (pattern : StationPattern) → HasStationForm pattern → (t : Text) → Contains (station_of pattern) t → IsLiteral t
+station_is_literal pattern.Any form t among = absurd (nothing_in_nil t among)
+station_is_literal (pattern.Literal literal) form t among = let P : Text → Type 0 = λ x. IsLiteral x in subst P (only_one literal t among) form
+station_is_literal (pattern.Prefix prefix) form t among = absurd (nothing_in_nil t among)
 
-flow_has_form : (nodes : List Node) (attribute : Attribute) (flow : Flow) → IsWellFormedFlow nodes flow → AreLiterals (values_of attribute flow)
-flow_has_form nodes Modality flow is = is.modalities
-flow_has_form nodes Station flow is = is.stations
+prefix_is_prefix : (pattern : StationPattern) → HasStationForm pattern → (t : Text) → Contains (prefix_of pattern) t → IsPrefix t
+prefix_is_prefix pattern.Any form t among = absurd (nothing_in_nil t among)
+prefix_is_prefix (pattern.Literal literal) form t among = absurd (nothing_in_nil t among)
+prefix_is_prefix (pattern.Prefix prefix) form t among = let P : Text → Type 0 = λ x. IsPrefix x in subst P (only_one prefix t among) form
 
--- each text that the plan names is a literal
-pub named_is_literal : (plan : Network) → IsWellFormed plan → (attribute : Attribute) (t : Text) → Contains (named_in attribute plan) t → IsLiteral t
-named_is_literal plan formed attribute t among =
+stations_are_literals : (stations : Stations) → AreStations stations → (t : Text) → Contains (listed_stations stations) t → IsLiteral t
+stations_are_literals stations.Any form t among = absurd (nothing_in_nil t among)
+stations_are_literals (stations.Listed values) form t among = All-contains IsLiteral values.literals t form.0 among
+
+prefixes_are_prefixes : (stations : Stations) → AreStations stations → (t : Text) → Contains (listed_prefixes stations) t → IsPrefix t
+prefixes_are_prefixes stations.Any form t among = absurd (nothing_in_nil t among)
+prefixes_are_prefixes (stations.Listed values) form t among = All-contains IsPrefix values.prefixes t form.1 among
+
+-- what a text of the plan is, by what it is named for
+abbrev pub IsOf : Attribute → Text → Type 0
+IsOf Modality t = IsLiteral t
+IsOf Station t = IsLiteral t
+IsOf StationPrefix t = IsPrefix t
+
+rule_has_form : (nodes : List Node) (name : Text) (attribute : Attribute) (rule : Rule) → IsRuleOf nodes name rule → (t : Text) → Contains (named_by_rule attribute rule) t → IsOf attribute t
+rule_has_form nodes name Modality rule is t among = pattern_is_literal rule.modality is.modality t among
+rule_has_form nodes name Station rule is t among = station_is_literal rule.station is.station t among
+rule_has_form nodes name StationPrefix rule is t among = prefix_is_prefix rule.station is.station t among
+
+flow_has_form : (nodes : List Node) (attribute : Attribute) (flow : Flow) → IsWellFormedFlow nodes flow → (t : Text) → Contains (named_by_flow attribute flow) t → IsOf attribute t
+flow_has_form nodes Modality flow is t among = values_are_literals flow.modalities is.modalities t among
+flow_has_form nodes Station flow is t among = stations_are_literals flow.stations is.stations t among
+flow_has_form nodes StationPrefix flow is t among = prefixes_are_prefixes flow.stations is.stations t among
+
+-- each text that the plan names is a literal, or a prefix
+pub named_has_form : (plan : Network) → IsWellFormed plan → (attribute : Attribute) (t : Text) → Contains (named_in attribute plan) t → IsOf attribute t
+named_has_form plan formed attribute t among =
     elim (Contains-append_cases (flat_map (λ (n : Node). named_by_rules attribute n.rules) plan.nodes) (named_by_flows attribute plan.flows) t among) [
       | inl ruled ↦
           let at_node = Contains-flat_map_from (λ (n : Node). named_by_rules attribute n.rules) plan.nodes t ruled in
           let node : IsWellFormedNode plan.nodes at_node.0 = All-contains (IsWellFormedNode plan.nodes) plan.nodes at_node.0 formed.each_node at_node.1 in
-          let at_rule = Contains-flat_map_from (λ (r : Rule). literal_of (pattern_of attribute r)) at_node.0.rules t at_node.2 in
+          let at_rule = Contains-flat_map_from (λ (r : Rule). named_by_rule attribute r) at_node.0.rules t at_node.2 in
           let rule : IsRuleOf plan.nodes at_node.0.name at_rule.0 = All-contains (IsRuleOf plan.nodes at_node.0.name) at_node.0.rules at_rule.0 node.rules at_rule.1 in
-          pattern_is_literal (pattern_of attribute at_rule.0) (rule_has_form plan.nodes at_node.0.name attribute at_rule.0 rule) t at_rule.2
+          rule_has_form plan.nodes at_node.0.name attribute at_rule.0 rule t at_rule.2
       | inr flowed ↦
-          let at_flow = Contains-flat_map_from (λ (f : Flow). listed (values_of attribute f)) plan.flows t flowed in
+          let at_flow = Contains-flat_map_from (λ (f : Flow). named_by_flow attribute f) plan.flows t flowed in
           let flow : IsWellFormedFlow plan.nodes at_flow.0 = All-contains (IsWellFormedFlow plan.nodes) plan.flows at_flow.0 formed.each_flow at_flow.1 in
-          values_are_literals (values_of attribute at_flow.0) (flow_has_form plan.nodes attribute at_flow.0 flow) t at_flow.2
+          flow_has_form plan.nodes attribute at_flow.0 flow t at_flow.2
     ]
 
+is_plain_of : (attribute : Attribute) (t : Text) → IsOf attribute t → All (λ byte. byte < 127) t
+is_plain_of Modality t is = is_plain t is
+is_plain_of Station t is = is_plain t is
+is_plain_of StationPrefix t is = is_plain t is.literal
+
 pub named_are_plain : (plan : Network) → IsWellFormed plan → (attribute : Attribute) → ArePlain (named_in attribute plan)
-named_are_plain plan formed attribute = all_from_each (All (λ byte. byte < 127)) (named_in attribute plan) (λ t among. is_plain t (named_is_literal plan formed attribute t among))
+named_are_plain plan formed attribute = all_from_each (All (λ byte. byte < 127)) (named_in attribute plan) (λ t among. is_plain_of attribute t (named_has_form plan formed attribute t among))
+
+pub stations_are_plain : (plan : Network) → IsWellFormed plan → ArePlainStations (literals_of plan).stations
+stations_are_plain plan formed = record {
+  literals = named_are_plain plan formed Station;
+  prefixes = named_are_plain plan formed StationPrefix;
+  some = all_from_each (λ t. t ≢ []) (prefixes_of plan) (λ t among. (named_has_form plan formed StationPrefix t among).some);
+}
+
+-- ---- format 1
+none_in_each : {X : Type 0} (f : X → List Text) (xs : List X) → All (λ x. f x ≡ []) xs → flat_map f xs ≡ []
+none_in_each f [] none = refl
+none_in_each f (x ∷ xs) none = rw (All-head (λ y. f y ≡ []) x xs none, none_in_each f xs (All-tail (λ y. f y ≡ []) x xs none)) refl
+
+none_in_format_1 : (format : Format) (nodes : List Node) (flows : List Flow) → format ≡ One → IsInFormat format nodes flows → IsInFormat One nodes flows
+none_in_format_1 format nodes flows one is = let P : Format → Type 0 = λ f. IsInFormat f nodes flows in subst P one is
+
+pub format_1_has_none : (plan : Network) → IsWellFormed plan → plan.format ≡ One → prefixes_of plan ≡ []
+format_1_has_none plan formed one =
+    let none = none_in_format_1 plan.format plan.nodes plan.flows one formed.in_format in
+    let ruled : flat_map (λ (n : Node). named_by_rules StationPrefix n.rules) plan.nodes ≡ [] =
+    none_in_each (λ (n : Node). named_by_rules StationPrefix n.rules) plan.nodes
+    (all_from_each (λ n. named_by_rules StationPrefix n.rules ≡ []) plan.nodes (λ n among. none_in_each (λ (r : Rule). named_by_rule StationPrefix r) n.rules
+    (All-contains (λ (node : Node). All (λ rule. prefix_of rule.station ≡ []) node.rules) plan.nodes n none.0 among))) in
+    let flowed : named_by_flows StationPrefix plan.flows ≡ [] = none_in_each (λ (f : Flow). named_by_flow StationPrefix f) plan.flows none.1 in
+    rw (ruled, flowed) refl
 
 pub cell_has_a_key : (plan : Network) → IsWellFormed plan → (cell : OwnedCell) → IsCellOf plan cell → LiesIn plan cell (key_of cell)
 cell_has_a_key plan formed cell is = record {
   class = refl;
   syntax = refl;
   modality = part_has_value (literals_of plan).modalities cell.modality (named_are_plain plan formed Modality) is.0;
-  station = part_has_value (literals_of plan).stations cell.station (named_are_plain plan formed Station) is.1;
+  station = station_has_value (literals_of plan).stations cell.station (stations_are_plain plan formed) is.1;
 }

@@ -4,6 +4,8 @@ use Rattle.std.specs.Str.Parse.{digits_value}
 use Rattle.dr_base.specs.Texts.{Text}
 use Rattle.dr_route.specs.declared.rule.Pattern.{Pattern}
 use Rattle.dr_route.specs.declared.rule.Pattern.TheVariants.{Any, Literal}
+use Rattle.dr_route.specs.declared.rule.StationPattern.{StationPattern}
+use Rattle.dr_route.specs.declared.rule.StationPattern.TheVariants as station
 use Rattle.dr_route.specs.declared.rule.Rule.{Rule}
 use Rattle.dr_route.specs.declared.accept.Callers.{Callers}
 use Rattle.dr_route.specs.declared.accept.Callers.TheVariants as callers
@@ -12,6 +14,11 @@ use Rattle.dr_network.specs.declared.plan.Node.{Node}
 use Rattle.dr_network.specs.declared.plan.Flow.{Flow}
 use Rattle.dr_network.specs.declared.plan.Values.{Values}
 use Rattle.dr_network.specs.declared.plan.Values.TheVariants as values
+use Rattle.dr_network.specs.declared.plan.Stations.{Stations}
+use Rattle.dr_network.specs.declared.plan.Stations.TheVariants as stations
+use Rattle.dr_network.specs.declared.plan.Format.{Format}
+use Rattle.dr_network.specs.declared.plan.Format.TheVariants.{One, Two}
+use Rattle.dr_network.specs.Naming.{prefix_of, listed_prefixes}
 
 -- no space stands at the start of the text, nor at its end
 abbrev pub IsTrimmed : Text → Type 0
@@ -31,6 +38,11 @@ pub record IsLiteral (text : Text) : Type 0 where
   pub short : length text ≤ 64
   pub printable : All (λ byte. (32 ≤ byte) × (byte < 127) × (byte ≢ 42)) text
   pub trimmed : IsTrimmed text
+
+-- what stations are named by that begin with it: a literal of one byte or more
+pub record IsPrefix (text : Text) : Type 0 where
+  pub literal : IsLiteral text
+  pub some : text ≢ []
 
 -- the byte is a digit, 0 to 9
 abbrev pub IsDigit : ℕ → Type 0
@@ -67,12 +79,18 @@ abbrev pub HasForm : (Text → Type 0) → Pattern → Type 0
 HasForm P Any = Unit {0}
 HasForm P (Literal literal) = P literal
 
+-- the station's pattern has a literal or a prefix of the right form, if it has one
+abbrev pub HasStationForm : StationPattern → Type 0
+HasStationForm station.Any = Unit {0}
+HasStationForm (station.Literal literal) = IsLiteral literal
+HasStationForm (station.Prefix prefix) = IsPrefix prefix
+
 -- a rule of the node of that name: it doesn't send to its own node
 pub record IsRuleOf (nodes : List Node) (name : Text) (rule : Rule) : Type 0 where
   pub from : HasForm (IsKnownName nodes) rule.from
   pub class : HasForm IsClass rule.class
   pub modality : HasForm IsLiteral rule.modality
-  pub station : HasForm IsLiteral rule.station
+  pub station : HasStationForm rule.station
   pub to : All (λ target. IsKnownName nodes target × (target ≢ name)) rule.to
 
 -- the callers of an accept row are all, or names of nodes of the plan
@@ -100,6 +118,11 @@ abbrev pub AreLiterals : Values → Type 0
 AreLiterals values.Any = Unit {0}
 AreLiterals (values.Listed texts) = All IsLiteral texts
 
+-- the stations of a flow are all, or literals and prefixes of the right form
+abbrev pub AreStations : Stations → Type 0
+AreStations stations.Any = Unit {0}
+AreStations (stations.Listed values) = All IsLiteral values.literals × All IsPrefix values.prefixes
+
 -- a flow of a plan: from one node to another, with classes, transfer syntaxes, and values of the right form
 pub record IsWellFormedFlow (nodes : List Node) (flow : Flow) : Type 0 where
   pub at : IsKnownName nodes flow.at
@@ -108,12 +131,18 @@ pub record IsWellFormedFlow (nodes : List Node) (flow : Flow) : Type 0 where
   pub classes : (flow.classes ≢ []) × All IsClass flow.classes
   pub syntaxes : flow.syntaxes ≢ []
   pub modalities : AreLiterals flow.modalities
-  pub stations : AreLiterals flow.stations
+  pub stations : AreStations flow.stations
 
--- the nodes and flows of a plan: at most 64 nodes, each name once, and at most 1,024 rules and flows together
-pub record AreWellFormed (nodes : List Node) (flows : List Flow) : Type 0 where
+-- the format has what the nodes and flows name: in format 1 there is no prefix
+abbrev pub IsInFormat : Format → List Node → List Flow → Type 0
+IsInFormat One nodes flows = All (λ node. All (λ rule. prefix_of rule.station ≡ []) node.rules) nodes × All (λ flow. listed_prefixes flow.stations ≡ []) flows
+IsInFormat Two nodes flows = Unit {0}
+
+-- the nodes and flows of a plan of that format: at most 64 nodes, each name once, and at most 1,024 rules and flows together
+pub record AreWellFormed (format : Format) (nodes : List Node) (flows : List Flow) : Type 0 where
   pub few_nodes : length nodes ≤ 64
   pub few_rules : sum_by (λ node. length node.rules) nodes + length flows ≤ 1024
   pub apart : AllPairs (λ a b. a.name ≢ b.name) nodes
   pub each_node : All (IsWellFormedNode nodes) nodes
   pub each_flow : All (IsWellFormedFlow nodes) flows
+  pub in_format : IsInFormat format nodes flows

@@ -1,12 +1,13 @@
 -- Laws of walks.
-use Rattle.std.specs.Prelude.{List}
+use Rattle.std.specs.Prelude.{◌≡◌, List, []}
 use Rattle.dr_base.specs.Texts.{Text}
 use Rattle.dr_route.specs.Routes.{local}
-use Rattle.dr_route.specs.Laws.{IsPart, key_of}
+use Rattle.dr_route.specs.Laws.{IsPart, IsStationPart, key_of}
 use Rattle.dr_route.specs.declared.key.Key.{Key}
 use Rattle.dr_route.specs.declared.cell.OwnedCell.{OwnedCell}
 use Rattle.dr_network.specs.Networks.{Network}
-use Rattle.dr_network.specs.Plans.{LiesIn, IsWellFormed, literals_of}
+use Rattle.dr_network.specs.declared.plan.Format.TheVariants.{One}
+use Rattle.dr_network.specs.Plans.{LiesIn, IsWellFormed, literals_of, prefixes_of}
 use Rattle.dr_network.specs.Walks.{Sends, Keeps, IsEntry, IsWalk, IsReached}
 
 -- what enters at the node itself isn't kept there
@@ -40,8 +41,12 @@ ReachAlike = (plan : Network) (cell : OwnedCell) (k l : Key) → LiesIn plan cel
 
 -- a cell of the plan: its two parts are parts of the plan's fields
 abbrev pub IsCellOf : Network → OwnedCell → Type 0
-IsCellOf plan cell = IsPart (literals_of plan).modalities cell.modality × IsPart (literals_of plan).stations cell.station
+IsCellOf plan cell = IsPart (literals_of plan).modalities cell.modality × IsStationPart (literals_of plan).stations cell.station
 
 -- each cell of a plan has a key of bytes
 abbrev pub EachCellHasAKey : Type 0
 EachCellHasAKey = (plan : Network) → IsWellFormed plan → (cell : OwnedCell) → IsCellOf plan cell → LiesIn plan cell (key_of cell)
+
+-- a plan of format 1 names no prefix, so that its cells are what they were before there were prefixes
+abbrev pub FormatOneHasNoPrefix : Type 0
+FormatOneHasNoPrefix = (plan : Network) → IsWellFormed plan → plan.format ≡ One → prefixes_of plan ≡ []

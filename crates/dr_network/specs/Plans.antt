@@ -1,25 +1,20 @@
 -- The nodes of a plan, and the values that it names.
-use Rattle.std.specs.Prelude.{◌≡◌, List, [], ◌∷◌, ◌++◌, Contains, flat_map}
+use Rattle.std.specs.Prelude.{◌≡◌, List, ◌++◌, Contains, flat_map}
 use Rattle.dr_base.specs.Texts.{Text}
-use Rattle.dr_route.specs.declared.rule.Pattern.{Pattern}
-use Rattle.dr_route.specs.declared.rule.Pattern.TheVariants.{Any, Literal}
-use Rattle.dr_route.specs.declared.rule.Rule.{Rule}
 use Rattle.dr_route.specs.declared.cell.Literals.{Literals}
 use Rattle.dr_route.specs.declared.cell.OwnedCell.{OwnedCell}
 use Rattle.dr_route.specs.declared.key.Key.{Key}
 use Rattle.dr_route.specs.Cells.{InCell}
 use Rattle.dr_network.specs.declared.plan.Node.{Node}
-use Rattle.dr_network.specs.declared.plan.Flow.{Flow}
-use Rattle.dr_network.specs.declared.plan.Values.{Values}
-use Rattle.dr_network.specs.declared.plan.Values.TheVariants as values
 use Rattle.dr_network.specs.declared.literals.Attribute.{Attribute}
-use Rattle.dr_network.specs.declared.literals.Attribute.TheVariants.{Modality, Station}
+use Rattle.dr_network.specs.declared.literals.Attribute.TheVariants.{Modality, Station, StationPrefix}
 use Rattle.dr_network.specs.Networks.{Network}
+use Rattle.dr_network.specs.Naming.{named_by_rules, named_by_flows}
 use Rattle.dr_network.specs.Formed.{AreWellFormed}
 
 -- the plan's nodes and flows are well-formed
 abbrev pub IsWellFormed : Network → Type 0
-IsWellFormed plan = AreWellFormed plan.nodes plan.flows
+IsWellFormed plan = AreWellFormed plan.format plan.nodes plan.flows
 
 -- a node of the plan, by its name
 abbrev pub IsNode : Network → Text → Node → Type 0
@@ -33,35 +28,7 @@ IsTheNode plan name node = IsNode plan name node × ((other : Node) → IsNode p
 abbrev pub NamesNoNode : Network → Text → Type 0
 NamesNoNode plan name = (node : Node) → IsNode plan name node → ⊥
 
--- the literal of a pattern, if it has one
-abbrev pub literal_of : Pattern → List Text
-literal_of Any = []
-literal_of (Literal literal) = literal ∷ []
-
--- the texts that a flow lists as values; none where any value will do
-abbrev pub listed : Values → List Text
-listed values.Any = []
-listed (values.Listed texts) = texts
-
--- what a rule asks of the attribute, modality or station
-abbrev pub pattern_of : Attribute → Rule → Pattern
-pattern_of Modality rule = rule.modality
-pattern_of Station rule = rule.station
-
--- the values of the attribute, modality or station, that a flow speaks of
-abbrev pub values_of : Attribute → Flow → Values
-values_of Modality flow = flow.modalities
-values_of Station flow = flow.stations
-
--- the values of the attribute that these rules name
-abbrev pub named_by_rules : Attribute → List Rule → List Text
-named_by_rules attribute rules = flat_map (λ (rule : Rule). literal_of (pattern_of attribute rule)) rules
-
--- the values of the attribute that these flows name
-abbrev pub named_by_flows : Attribute → List Flow → List Text
-named_by_flows attribute flows = flat_map (λ (flow : Flow). listed (values_of attribute flow)) flows
-
--- the values of the attribute that the plan names, in its rules and in its flows
+-- the values that the plan names, in its rules and in its flows
 abbrev pub named_in : Attribute → Network → List Text
 named_in attribute plan = flat_map (λ (node : Node). named_by_rules attribute node.rules) plan.nodes ++ named_by_flows attribute plan.flows
 
@@ -69,13 +36,17 @@ named_in attribute plan = flat_map (λ (node : Node). named_by_rules attribute n
 abbrev pub modalities_of : Network → List Text
 modalities_of plan = named_in Modality plan
 
--- the stations that the plan names
+-- the single stations that the plan names
 abbrev pub stations_of : Network → List Text
 stations_of plan = named_in Station plan
 
+-- what the plan names stations by that begin with it
+abbrev pub prefixes_of : Network → List Text
+prefixes_of plan = named_in StationPrefix plan
+
 -- the modalities and stations that the plan names, which part all keys into cells
 abbrev pub literals_of : Network → Literals
-literals_of plan = record { modalities = record { literals = modalities_of plan }; stations = record { literals = stations_of plan } }
+literals_of plan = record { modalities = record { literals = modalities_of plan }; stations = record { literals = stations_of plan; prefixes = prefixes_of plan } }
 
 -- the key lies in that cell of the plan
 abbrev pub LiesIn : Network → OwnedCell → Key → Type 0

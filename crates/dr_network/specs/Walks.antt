@@ -2,26 +2,37 @@
 use Rattle.std.specs.Prelude.{◌≡◌, List, [], ◌∷◌, Contains, ◌⊎◌}
 use Rattle.dr_base.specs.Texts.{Text}
 use Rattle.dr_base.specs.declared.syntax.Syntax.{Syntax}
-use Rattle.dr_route.specs.Routes.{local, SendsBy, KeepsBy, AcceptsBy}
+use Rattle.dr_route.specs.Routes.{local, Begins, SendsBy, KeepsBy, AcceptsBy}
 use Rattle.dr_route.specs.declared.key.Key.{Key}
 use Rattle.dr_network.specs.declared.plan.Node.{Node}
 use Rattle.dr_network.specs.declared.plan.Flow.{Flow}
 use Rattle.dr_network.specs.declared.plan.Values.{Values}
 use Rattle.dr_network.specs.declared.plan.Values.TheVariants as values
+use Rattle.dr_network.specs.declared.plan.Stations.{Stations}
+use Rattle.dr_network.specs.declared.plan.Stations.TheVariants as stations
 use Rattle.dr_network.specs.Networks.{Network}
 use Rattle.dr_network.specs.Plans.{IsNode}
 
--- the value is one that the flow speaks of: any one, or a listed one
+-- the modality is one that the flow speaks of: any one, or a listed one
 abbrev pub IsListed : Values → Text → Type 0
 IsListed values.Any value = Unit {0}
 IsListed (values.Listed texts) value = Contains texts value
+
+-- the value begins with one of the prefixes
+abbrev pub BeginsOne : List Text → Text → Type 0
+BeginsOne prefixes value = (prefix : Text) × Contains prefixes prefix × Begins prefix value
+
+-- the station is one that the flow speaks of: any one, a listed one, or one that begins with a listed prefix
+abbrev pub IsStationListed : Stations → Text → Type 0
+IsStationListed stations.Any value = Unit {0}
+IsStationListed (stations.Listed values) value = Contains values.literals value ⊎ BeginsOne values.prefixes value
 
 -- the flow brings the key: its class, transfer syntax, modality and station are ones that the flow speaks of
 pub record Fits (flow : Flow) (key : Key) : Type 0 where
   pub class : Contains flow.classes key.class
   pub syntax : Contains flow.syntaxes key.syntax
   pub modality : IsListed flow.modalities key.modality
-  pub station : IsListed flow.stations key.station
+  pub station : IsStationListed flow.stations key.station
 
 -- some flow of the list, at the site and to that node, fits the key
 abbrev pub FlowsAmong : List Flow → Text → Key → Text → Type 0

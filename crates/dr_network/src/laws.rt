@@ -1,5 +1,5 @@
 //! Laws of walks: what a reader may take from the definitions.
-ghost use Rattle.dr_network.specs.Laws.{LocalNeverKeeps, LocalIsNoNode, SendAlike, KeepAlike, EnterAlike, WalkAlike, ReachAlike, EachCellHasAKey};
+ghost use Rattle.dr_network.specs.Laws.{LocalNeverKeeps, LocalIsNoNode, SendAlike, KeepAlike, EnterAlike, WalkAlike, ReachAlike, EachCellHasAKey, FormatOneHasNoPrefix};
 
 /// Nothing is kept for the local caller, and nothing is sent to it.
 pub fn the_local_caller_is_no_node()
@@ -19,4 +19,9 @@ pub fn keys_of_one_cell_walk_alike()
 /// Each cell of a plan has a key of bytes.
 pub fn each_cell_has_a_key()
     ensures { EachCellHasAKey }
+{}
+
+/// A plan of format 1 names no prefix of stations.
+pub fn format_1_has_no_prefix()
+    ensures { FormatOneHasNoPrefix }
 {}

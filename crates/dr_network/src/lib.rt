@@ -7,4 +7,4 @@ pub mod literals;
 pub mod plan;
 pub mod sending;
 
-pub use plan::{Flow, Node, Plan, Values};
+pub use plan::{Flow, Format, Node, Plan, Stations, Values};

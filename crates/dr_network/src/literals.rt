@@ -2,58 +2,116 @@
 ghost use Rattle.std.specs.Prelude.{◌≡◌, ◌↔◌, ◌⊎◌, IfOk, OnOk, Contains, flat_map};
 ghost use Rattle.dr_base.specs.Texts.{Text as Words, IsInByteOrder};
 ghost use Rattle.dr_route.specs.Names.{HasName};
-ghost use Rattle.dr_network.specs.Plans.{literal_of, listed, pattern_of, values_of, modalities_of, stations_of, named_by_rules, named_by_flows, named_in};
+ghost use Rattle.dr_route.specs.Cells.{AreInOrder};
+ghost use Rattle.dr_network.specs.Naming.{literal_of, station_of, prefix_of, listed, listed_stations, listed_prefixes, named_by_rule, named_by_flow, named_by_rules, named_by_flows};
+ghost use Rattle.dr_network.specs.Plans.{modalities_of, stations_of, prefixes_of, named_in};
 
-use crate::plan::{Flow, Plan, Values};
+use crate::plan::{Flow, Plan, Stations, Values};
 use dr_base::{Seq, Text};
 use dr_route::names::{add_names, names_in_order};
-use dr_route::{FieldValues, Literals, Pattern, Rule};
+use dr_route::{FieldValues, Literals, Pattern, Rule, StationPattern, StationValues};
 use std::alloc::{AllocError, Global};
 use std::collections::BTreeSet;
 use std::slice;
 
-/// The two values of an instance that rules and flows read beside its class and transfer syntax.
+/// What rules and flows name of an instance beside its class and transfer syntax.
 #[derive(Clone, Copy, PartialEq, Eq, Debug)]
 pub enum Attribute {
     /// Modality (0008,0060).
     Modality,
     /// Station name (0008,1010).
     Station,
+    /// What station names begin with.
+    StationPrefix,
+}
+
+/// The literal of the pattern, if it has one.
+fn literal_in(pattern: &Pattern) -> &[Text]
+    ensures { result.now ≡ literal_of pattern.now }
+{
+    match pattern {
+        Pattern::Any => &[],
+        Pattern::Literal(literal) => slice::from_ref(literal),
+    }
+}
+
+/// The literal of the station's pattern, if it has one.
+fn station_in(pattern: &StationPattern) -> &[Text]
+    ensures { result.now ≡ station_of pattern.now }
+{
+    match pattern {
+        StationPattern::Any => &[],
+        StationPattern::Literal(literal) => slice::from_ref(literal),
+        StationPattern::Prefix(_) => &[],
+    }
+}
+
+/// The prefix of the station's pattern, if it has one.
+fn prefix_in(pattern: &StationPattern) -> &[Text]
+    ensures { result.now ≡ prefix_of pattern.now }
+{
+    match pattern {
+        StationPattern::Any => &[],
+        StationPattern::Literal(_) => &[],
+        StationPattern::Prefix(prefix) => slice::from_ref(prefix),
+    }
+}
+
+/// The modalities that a flow lists.
+fn modalities_in(values: &Values) -> &[Text]
+    ensures { result.now ≡ listed values.now }
+{
+    match values {
+        Values::Any => &[],
+        Values::Listed(texts) => texts.as_slice(),
+    }
+}
+
+/// The single stations that a flow lists.
+fn stations_in(stations: &Stations) -> &[Text]
+    ensures { result.now ≡ listed_stations stations.now }
+{
+    match stations {
+        Stations::Any => &[],
+        Stations::Listed(values) => values.literals.as_slice(),
+    }
+}
+
+/// The prefixes of stations that a flow lists.
+fn prefixes_in(stations: &Stations) -> &[Text]
+    ensures { result.now ≡ listed_prefixes stations.now }
+{
+    match stations {
+        Stations::Any => &[],
+        Stations::Listed(values) => values.prefixes.as_slice(),
+    }
 }
 
 impl Attribute {
-    /// What the rule asks of it.
-    fn pattern(self, rule: &Rule) -> &Pattern
-        ensures { result.now ≡ pattern_of self rule.now }
+    /// What the rule names of it.
+    fn in_rule(self, rule: &Rule) -> &[Text]
+        ensures { result.now ≡ named_by_rule self rule.now }
     {
         match self {
-            Attribute::Modality => &rule.modality,
-            Attribute::Station => &rule.station,
+            Attribute::Modality => literal_in(&rule.modality),
+            Attribute::Station => station_in(&rule.station),
+            Attribute::StationPrefix => prefix_in(&rule.station),
         }
     }
 
-    /// The values of it that the flow speaks of.
-    fn values(self, flow: &Flow) -> &Values
-        ensures { result.now ≡ values_of self flow.now }
+    /// What the flow names of it.
+    fn in_flow(self, flow: &Flow) -> &[Text]
+        ensures { result.now ≡ named_by_flow self flow.now }
     {
         match self {
-            Attribute::Modality => &flow.modalities,
-            Attribute::Station => &flow.stations,
+            Attribute::Modality => modalities_in(&flow.modalities),
+            Attribute::Station => stations_in(&flow.stations),
+            Attribute::StationPrefix => prefixes_in(&flow.stations),
         }
     }
 }
 
-/// Adds the literal of a pattern, if it has one.
-fn add_literal(names: &mut BTreeSet<Text>, pattern: &Pattern) -> Result<(), AllocError>
-    ensures { OnOk result ((t : Words) → HasName names.new t ↔ (HasName names.old t ⊎ Contains (literal_of pattern.now) t)) }
-{
-    match pattern {
-        Pattern::Any => add_names(names, &[]),
-        Pattern::Literal(literal) => add_names(names, slice::from_ref(literal)),
-    }
-}
-
-/// Adds the literals of the rules.
+/// Adds what the rules name.
 fn add_rules(
     names: &mut BTreeSet<Text>,
     attribute: Attribute,
@@ -62,22 +120,12 @@ fn add_rules(
     ensures { OnOk result ((t : Words) → HasName names.new t ↔ (HasName names.old t ⊎ Contains (named_by_rules attribute rules.now) t)) }
 {
     for rule in rules {
-        add_literal(names, attribute.pattern(rule))?;
+        add_names(names, attribute.in_rule(rule))?;
     }
     Ok(())
 }
 
-/// Adds the texts of a flow's list.
-fn add_values(names: &mut BTreeSet<Text>, values: &Values) -> Result<(), AllocError>
-    ensures { OnOk result ((t : Words) → HasName names.new t ↔ (HasName names.old t ⊎ Contains (listed values.now) t)) }
-{
-    match values {
-        Values::Any => add_names(names, &[]),
-        Values::Listed(texts) => add_names(names, texts.as_slice()),
-    }
-}
-
-/// Adds the texts of all flows' lists.
+/// Adds what the flows name.
 fn add_flows(
     names: &mut BTreeSet<Text>,
     attribute: Attribute,
@@ -86,15 +134,15 @@ fn add_flows(
     ensures { OnOk result ((t : Words) → HasName names.new t ↔ (HasName names.old t ⊎ Contains (named_by_flows attribute flows.now) t)) }
 {
     for flow in flows {
-        add_values(names, attribute.values(flow))?;
+        add_names(names, attribute.in_flow(flow))?;
     }
     Ok(())
 }
 
-/// The values that the plan names for the attribute, in byte order and each once.
-fn named(alloc: Global, plan: &Plan, attribute: Attribute) -> Result<FieldValues, AllocError>
-    ensures same { IfOk result (λ v. (t : Words) → Contains v.literals t ↔ Contains (named_in attribute plan.now) t) }
-    ensures ordered { IfOk result (λ v. IsInByteOrder v.literals) }
+/// The values that the plan names of the attribute, in byte order and each once.
+fn named(alloc: Global, plan: &Plan, attribute: Attribute) -> Result<Seq<Text>, AllocError>
+    ensures same { IfOk result (λ v. (t : Words) → Contains v t ↔ Contains (named_in attribute plan.now) t) }
+    ensures ordered { IfOk result IsInByteOrder }
 {
     let mut names = BTreeSet::new(alloc);
     for node in plan.nodes() {
@@ -102,18 +150,26 @@ fn named(alloc: Global, plan: &Plan, attribute: Attribute) -> Result<FieldValues
     }
     add_flows(&mut names, attribute, plan.flows())?;
     let literals = names_in_order(alloc, names)?;
-    Ok(FieldValues { literals })
+    Ok(literals)
 }
 
-/// The values that the plan names for modality and for station, in rules and in flows, each field in byte
-/// order and each value once.
+/// What the plan names for modality and for station, in rules and in flows: modalities, single stations and
+/// prefixes of stations, each in byte order and each once.
 pub fn literals(alloc: Global, plan: &Plan) -> Result<Literals, AllocError>
     ensures modalities { IfOk result (λ l. (t : Words) → Contains l.modalities.literals t ↔ Contains (modalities_of plan.now) t) }
     ensures stations { IfOk result (λ l. (t : Words) → Contains l.stations.literals t ↔ Contains (stations_of plan.now) t) }
-    ensures ordered { IfOk result (λ l. IsInByteOrder l.modalities.literals × IsInByteOrder l.stations.literals) }
+    ensures prefixes { IfOk result (λ l. (t : Words) → Contains l.stations.prefixes t ↔ Contains (prefixes_of plan.now) t) }
+    ensures ordered { IfOk result AreInOrder }
 {
+    let modalities = FieldValues {
+        literals: named(alloc, plan, Attribute::Modality)?,
+    };
+    let stations = StationValues {
+        literals: named(alloc, plan, Attribute::Station)?,
+        prefixes: named(alloc, plan, Attribute::StationPrefix)?,
+    };
     Ok(Literals {
-        modalities: named(alloc, plan, Attribute::Modality)?,
-        stations: named(alloc, plan, Attribute::Station)?,
+        modalities,
+        stations,
     })
 }

@@ -5,7 +5,7 @@ ghost use Rattle.dr_network.specs.Plans.{IsWellFormed, IsTheNode, NamesNoNode};
 ghost use Rattle.std.specs.Prelude.{IfOk, MatchOption};
 
 use dr_base::{Seq, Syntax, Text};
-use dr_route::{AcceptRow, Rule};
+use dr_route::{AcceptRow, Rule, StationValues};
 use std::alloc::AllocError;
 use std::marker::Model;
 
@@ -50,12 +50,28 @@ impl Clone for Node {
     }
 }
 
-/// The values of one field that a flow speaks of.
+/// The format of a plan's text, which is also the version of its certificate's text. In format 2 a rule or a flow may
+/// name stations by what they begin with.
+#[derive(Clone, Copy, PartialEq, Eq, Debug)]
+pub enum Format {
+    One,
+    Two,
+}
+
+/// The modalities that a flow speaks of.
 #[derive(Clone, Debug, Drop)]
 pub enum Values {
     /// Any value; it is written `*`.
     Any,
     Listed(Seq<Text>),
+}
+
+/// The stations that a flow speaks of.
+#[derive(Clone, Debug, Drop)]
+pub enum Stations {
+    /// Any value; it is written `*`.
+    Any,
+    Listed(StationValues),
 }
 
 /// What enters at a node itself, and the node that it goes to first.
@@ -66,12 +82,14 @@ pub struct Flow {
     pub classes: Seq<Text>,
     pub syntaxes: Seq<Syntax>,
     pub modalities: Values,
-    pub stations: Values,
+    pub stations: Stations,
 }
 
-/// A plan. Its names are names of its nodes, its literals are printable, and it keeps the limits of plans.
+/// A plan. Its names are names of its nodes, its literals are printable, it keeps the limits of plans, and in format 1 it
+/// names no prefix.
 #[derive(Debug, Drop)]
 pub struct Plan {
+    format: Format,
     nodes: Seq<Node>,
     flows: Seq<Flow>,
     digest: [u8; 32],
@@ -84,9 +102,9 @@ impl Model for Plan {
 
     ghost use Rattle.dr_network.specs.Formed.{AreWellFormed};
 
-    ghost view = { λ p. record { nodes = p.nodes; flows = p.flows; digest = p.digest } };
+    ghost view = { λ p. record { format = p.format; nodes = p.nodes; flows = p.flows; digest = p.digest } };
 
-    ghost invariant = { λ p. AreWellFormed p.nodes p.flows };
+    ghost invariant = { λ p. AreWellFormed p.format p.nodes p.flows };
 }
 
 fn copy_nodes(nodes: &Seq<Node>) -> Result<Seq<Node>, AllocError>
@@ -104,12 +122,13 @@ fn copy_flows(flows: &Seq<Flow>) -> Result<Seq<Flow>, AllocError>
 }
 
 impl Plan {
-    /// The plan of these nodes and flows, whose text has this SHA-256.
-    pub fn new(nodes: Seq<Node>, flows: Seq<Flow>, digest: [u8; 32]) -> Plan
-        requires { AreWellFormed nodes flows }
-        ensures { result ≡ record { nodes = nodes; flows = flows; digest = digest } }
+    /// The plan of these nodes and flows, whose text is of this format and has this SHA-256.
+    pub fn new(format: Format, nodes: Seq<Node>, flows: Seq<Flow>, digest: [u8; 32]) -> Plan
+        requires { AreWellFormed format nodes flows }
+        ensures { result ≡ record { format = format; nodes = nodes; flows = flows; digest = digest } }
     {
         Plan {
+            format,
             nodes,
             flows,
             digest,
@@ -122,7 +141,14 @@ impl Plan {
     {
         let nodes = copy_nodes(&self.nodes)?;
         let flows = copy_flows(&self.flows)?;
-        Ok(Plan::new(nodes, flows, self.digest))
+        Ok(Plan::new(self.format, nodes, flows, self.digest))
+    }
+
+    /// The format of its text.
+    pub fn format(&self) -> Format
+        ensures { result ≡ self.now.format }
+    {
+        self.format
     }
 
     /// Its nodes, in the order of its text.

@@ -2,23 +2,49 @@
 ghost use Rattle.std.specs.Prelude.{◌≡◌, ◌↔◌, ◌⊎◌, IsTrue, IfOk, OnOk, Contains, false};
 ghost use Rattle.dr_base.specs.Texts.{Text as Words, IsInByteOrder};
 ghost use Rattle.dr_route.specs.Names.{HasName};
-ghost use Rattle.dr_network.specs.Walks.{Fits, IsListed, FlowsAmong, Sends, Keeps, Accepts};
+ghost use Rattle.dr_network.specs.Walks.{Fits, IsListed, IsStationListed, BeginsOne, FlowsAmong, Sends, Keeps, Accepts};
 
-use crate::plan::{Flow, Plan, Values};
+use crate::plan::{Flow, Plan, Stations, Values};
 use dr_base::{Seq, Syntax, Text};
 use dr_route::names::{add_names, has_name, names_in_order};
+use dr_route::rule::begins;
 use dr_route::{Key, Targets, is_local, routing};
 use std::alloc::{AllocError, Global};
 use std::collections::BTreeSet;
 use std::slice;
 
-/// Whether the value is one that the flow speaks of.
+/// Whether the modality is one that the flow speaks of.
 fn is_listed(values: &Values, value: &Text) -> bool
     ensures { IsTrue result ↔ IsListed values.now value.now }
 {
     match values {
         Values::Any => true,
         Values::Listed(texts) => texts.as_slice().contains(value),
+    }
+}
+
+/// Whether the value begins with one of the prefixes.
+fn begins_one(prefixes: &[Text], value: &Text) -> bool
+    ensures { IsTrue result ↔ BeginsOne prefixes.now value.now }
+{
+    for prefix in prefixes {
+        if begins(prefix, value) {
+            return true;
+        }
+    }
+    false
+}
+
+/// Whether the station is one that the flow speaks of.
+fn is_station_listed(stations: &Stations, value: &Text) -> bool
+    ensures { IsTrue result ↔ IsStationListed stations.now value.now }
+{
+    match stations {
+        Stations::Any => true,
+        Stations::Listed(values) => {
+            values.literals.as_slice().contains(value)
+                || begins_one(values.prefixes.as_slice(), value)
+        }
     }
 }
 
@@ -30,7 +56,7 @@ pub fn fits(flow: &Flow, key: &Key) -> bool
     flow.syntaxes.as_slice().contains(&key.syntax)
         && flow.classes.as_slice().contains(&key.class)
         && is_listed(&flow.modalities, &key.modality)
-        && is_listed(&flow.stations, &key.station)
+        && is_station_listed(&flow.stations, &key.station)
 }
 
 /// Whether the flow brings the key in at the site.

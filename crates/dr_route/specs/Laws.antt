@@ -1,13 +1,18 @@
 -- Laws of rules and cells.
-use Rattle.std.specs.Prelude.{◌≡◌, ◌<◌, List, ◌∷◌, [], Contains, All}
+use Rattle.std.specs.Prelude.{◌≡◌, ◌≢◌, ◌<◌, List, ◌∷◌, [], ◌++◌, Contains, All}
 use Rattle.dr_base.specs.Texts.{Text}
 use Rattle.dr_route.specs.Routes.{local, Holds, SendsBy, KeepsBy}
-use Rattle.dr_route.specs.Cells.{InCell}
+use Rattle.dr_route.specs.Cells.{IsLongest, InCell}
 use Rattle.dr_route.specs.declared.key.Key.{Key}
 use Rattle.dr_route.specs.declared.rule.Rule.{Rule}
 use Rattle.dr_route.specs.declared.rule.Pattern.{Pattern}
 use Rattle.dr_route.specs.declared.rule.Pattern.TheVariants.{Any, Literal}
+use Rattle.dr_route.specs.declared.rule.StationPattern.{StationPattern}
+use Rattle.dr_route.specs.declared.rule.StationPattern.TheVariants as pattern
 use Rattle.dr_route.specs.declared.cell.FieldValues.{FieldValues}
+use Rattle.dr_route.specs.declared.cell.StationValues.{StationValues}
+use Rattle.dr_route.specs.declared.cell.OwnedStation.{OwnedStation}
+use Rattle.dr_route.specs.declared.cell.OwnedStation.TheVariants as station
 use Rattle.dr_route.specs.declared.cell.Literals.{Literals}
 use Rattle.dr_route.specs.declared.cell.OwnedField.{OwnedField}
 use Rattle.dr_route.specs.declared.cell.OwnedField.TheVariants as part
@@ -22,9 +27,15 @@ abbrev pub IsKnown : FieldValues → Pattern → Type 0
 IsKnown values Any = Unit {0}
 IsKnown values (Literal literal) = Contains values.literals literal
 
--- the literals of a rule's modality and station are among the plan's
+-- the literal of the pattern, or its prefix, is one that the plan names for the station
+abbrev pub IsKnownStation : StationValues → StationPattern → Type 0
+IsKnownStation values pattern.Any = Unit {0}
+IsKnownStation values (pattern.Literal literal) = Contains values.literals literal
+IsKnownStation values (pattern.Prefix prefix) = Contains values.prefixes prefix
+
+-- what a rule asks of modality and station is among what the plan names
 abbrev pub IsKnownRule : Literals → Rule → Type 0
-IsKnownRule literals rule = IsKnown literals.modalities rule.modality × IsKnown literals.stations rule.station
+IsKnownRule literals rule = IsKnown literals.modalities rule.modality × IsKnownStation literals.stations rule.station
 
 -- keys of one cell are sent to the same nodes by rules whose literals the plan names
 abbrev pub AgreeInSends : Type 0
@@ -44,6 +55,10 @@ CellsCover = (literals : Literals) (key : Key) → (cell : OwnedCell) × InCell 
 abbrev pub CellsAreApart : Type 0
 CellsAreApart = (literals : Literals) (key : Key) (a b : OwnedCell) → InCell literals a key → InCell literals b key → a ≡ b
 
+-- no value has two longest prefixes
+abbrev pub LongestIsOne : Type 0
+LongestIsOne = (prefixes : List Text) (a b value : Text) → IsLongest prefixes a value → IsLongest prefixes b value → a ≡ b
+
 -- each byte of each of the texts is below 127, as of printable ASCII
 abbrev pub ArePlain : List Text → Type 0
 ArePlain texts = All (All (λ byte. byte < 127)) texts
@@ -53,16 +68,34 @@ abbrev pub IsPart : FieldValues → OwnedField → Type 0
 IsPart values (part.Literal literal) = Contains values.literals literal
 IsPart values part.Rest = Unit {0}
 
+-- a part of the stations: a literal that the plan names, a prefix that it names, or the rest
+abbrev pub IsStationPart : StationValues → OwnedStation → Type 0
+IsStationPart values (station.Literal literal) = Contains values.literals literal
+IsStationPart values (station.Prefix prefix) = Contains values.prefixes prefix
+IsStationPart values station.Rest = Unit {0}
+
 -- a value of the part: the literal, or the text of the one byte 128, which no literal has
 abbrev pub value_of : OwnedField → Text
 value_of (part.Literal literal) = literal
 value_of part.Rest = 128 ∷ []
 
+-- a station of the part: the literal; the prefix and the byte 128, which no literal and no prefix has; or the text of this byte alone
+abbrev pub station_value_of : OwnedStation → Text
+station_value_of (station.Literal literal) = literal
+station_value_of (station.Prefix prefix) = prefix ++ (128 ∷ [])
+station_value_of station.Rest = 128 ∷ []
+
 -- one key of the cell, which stands for all of them
 abbrev pub key_of : OwnedCell → Key
-key_of cell = record { class = cell.class; syntax = cell.syntax; modality = value_of cell.modality; station = value_of cell.station }
+key_of cell = record { class = cell.class; syntax = cell.syntax; modality = value_of cell.modality; station = station_value_of cell.station }
 
--- each cell has a key in it, where the literals are printable ASCII
+-- the stations that a plan names are printable ASCII, and no prefix is empty
+pub record ArePlainStations (values : StationValues) : Type 0 where
+  pub literals : ArePlain values.literals
+  pub prefixes : ArePlain values.prefixes
+  pub some : All (λ prefix. prefix ≢ []) values.prefixes
+
+-- each cell has a key in it, where what the plan names is printable ASCII
 abbrev pub EachCellHasAKey : Type 0
-EachCellHasAKey = (literals : Literals) (cell : OwnedCell) → ArePlain literals.modalities.literals → ArePlain literals.stations.literals →
-    IsPart literals.modalities cell.modality → IsPart literals.stations cell.station → InCell literals cell (key_of cell)
+EachCellHasAKey = (literals : Literals) (cell : OwnedCell) → ArePlain literals.modalities.literals → ArePlainStations literals.stations →
+    IsPart literals.modalities cell.modality → IsStationPart literals.stations cell.station → InCell literals cell (key_of cell)

@@ -1,27 +1,37 @@
 //! Cells: the sets of keys that no rule of a plan tells apart.
 ghost use Rattle.std.specs.Prelude.{◌≡◌, IfOk};
-ghost use Rattle.dr_route.specs.Cells.{InCell, InField, owned_field};
-ghost use Rattle.dr_route.specs.Laws.{key_of, value_of};
+ghost use Rattle.std.specs.Prelude.{◌++◌, ◌∷◌, []};
+ghost use Rattle.dr_base.specs.Texts.{IsInByteOrder};
+ghost use Rattle.dr_route.specs.Cells.{AreInOrder, InCell, InField, InStation, owned_field, owned_station};
+ghost use Rattle.dr_route.specs.Laws.{key_of, value_of, station_value_of};
 
 use crate::key::Key;
+use crate::search::{find, longest};
 use dr_base::{Seq, Syntax, Text};
 use std::alloc::{AllocError, Global};
 use std::marker::Model;
 
-/// The values that a plan names for one of the two fields.
+/// The values that a plan names for modality.
 #[derive(Clone, Debug, Drop)]
 pub struct FieldValues {
     pub literals: Seq<Text>,
+}
+
+/// The values that a plan, or one of its flows, names for station: single values, and what values begin with.
+#[derive(Clone, Debug, Drop)]
+pub struct StationValues {
+    pub literals: Seq<Text>,
+    pub prefixes: Seq<Text>,
 }
 
 /// The values that a plan names for modality and for station.
 #[derive(Clone, Debug, Drop)]
 pub struct Literals {
     pub modalities: FieldValues,
-    pub stations: FieldValues,
+    pub stations: StationValues,
 }
 
-/// One part of a field's values: a literal of the plan, or all values that are none of its literals, which
+/// One part of the modalities: a literal of the plan, or all values that are none of its literals, which
 /// is written `*`.
 #[derive(Clone, PartialEq, Eq, PartialOrd, Ord, Debug, Drop)]
 pub enum OwnedField {
@@ -29,19 +39,36 @@ pub enum OwnedField {
     Rest,
 }
 
-/// The keys with one class, one transfer syntax, and for modality and for station one part of the field.
+/// One part of the stations: a literal of the plan; the values that are no literal, and of whose prefixes this one of
+/// the plan is the longest, which are written as the prefix and `*`; or all others, which are written `*`.
+#[derive(Clone, PartialEq, Eq, PartialOrd, Ord, Debug, Drop)]
+pub enum OwnedStation {
+    Literal(Text),
+    Prefix(Text),
+    Rest,
+}
+
+/// The keys with one class, one transfer syntax, one part of the modalities and one of the stations.
 #[derive(Clone, PartialEq, Eq, PartialOrd, Ord, Debug, Drop)]
 pub struct OwnedCell {
     pub class: Text,
     pub syntax: Syntax,
     pub modality: OwnedField,
-    pub station: OwnedField,
+    pub station: OwnedStation,
 }
 
-/// A part of a field, by reference to the plan's literal.
+/// A part of the modalities, by reference to the plan's literal.
 #[derive(Drop)]
 pub enum Field<'a> {
     Literal(&'a Text),
+    Rest,
+}
+
+/// A part of the stations, by reference to the plan's literal or prefix.
+#[derive(Drop)]
+pub enum Station<'a> {
+    Literal(&'a Text),
+    Prefix(&'a Text),
     Rest,
 }
 
@@ -51,39 +78,55 @@ pub struct Cell<'a> {
     class: &'a Text,
     syntax: Syntax,
     modality: Field<'a>,
-    station: Field<'a>,
+    station: Station<'a>,
 }
 
 impl<'a> Model for Cell<'a> {
     ghost use Rattle.dr_route.specs.declared.cell.OwnedCell.{OwnedCell};
-    ghost use Rattle.dr_route.specs.Cells.{owned_field};
+    ghost use Rattle.dr_route.specs.Cells.{owned_field, owned_station};
 
     ghost Value = { OwnedCell };
 
-    ghost view = { λ c. record { class = c.class.now; syntax = c.syntax; modality = owned_field c.modality; station = owned_field c.station } };
+    ghost view = { λ c. record { class = c.class.now; syntax = c.syntax; modality = owned_field c.modality; station = owned_station c.station } };
 }
 
-/// The part of a field that the value lies in.
+/// The part of the modalities that the value lies in. It takes no memory: a binary search over the literals.
 pub fn field_of<'a>(values: &'a FieldValues, value: &Text) -> Field<'a>
+    requires { IsInByteOrder values.now.literals }
     ensures { InField values.now (owned_field result) value.now }
 {
-    for literal in values.literals.as_slice() {
-        if literal == value {
-            return Field::Literal(literal);
-        }
+    match find(values.literals.as_slice(), value.as_bytes()) {
+        Some(literal) => Field::Literal(literal),
+        None => Field::Rest,
     }
-    Field::Rest
+}
+
+/// The part of the stations that the value lies in. It takes no memory: a binary search over the literals, and one
+/// over the prefixes for each beginning of the value.
+pub fn station_of<'a>(values: &'a StationValues, value: &Text) -> Station<'a>
+    requires literals { IsInByteOrder values.now.literals }
+    requires prefixes { IsInByteOrder values.now.prefixes }
+    ensures { InStation values.now (owned_station result) value.now }
+{
+    if let Some(literal) = find(values.literals.as_slice(), value.as_bytes()) {
+        return Station::Literal(literal);
+    }
+    match longest(values.prefixes.as_slice(), value.as_bytes()) {
+        Some(prefix) => Station::Prefix(prefix),
+        None => Station::Rest,
+    }
 }
 
 /// The cell of a key, without memory.
 pub fn cell_of<'a>(literals: &'a Literals, key: &'a Key) -> Cell<'a>
+    requires { AreInOrder literals.now }
     ensures { InCell literals.now result key.now }
 {
     Cell {
         class: &key.class,
         syntax: key.syntax,
         modality: field_of(&literals.modalities, &key.modality),
-        station: field_of(&literals.stations, &key.station),
+        station: station_of(&literals.stations, &key.station),
     }
 }
 
@@ -99,6 +142,22 @@ fn owned_part(field: &Field<'_>) -> Result<OwnedField, AllocError>
     }
 }
 
+fn owned_station_part(station: &Station<'_>) -> Result<OwnedStation, AllocError>
+    ensures { IfOk result (λ s. s ≡ owned_station station.now) }
+{
+    match station {
+        Station::Literal(literal) => {
+            let text: &Text = literal;
+            Ok(OwnedStation::Literal(text.clone()?))
+        }
+        Station::Prefix(prefix) => {
+            let text: &Text = prefix;
+            Ok(OwnedStation::Prefix(text.clone()?))
+        }
+        Station::Rest => Ok(OwnedStation::Rest),
+    }
+}
+
 impl<'a> Cell<'a> {
     /// The cell with texts of its own.
     pub fn to_owned(&self) -> Result<OwnedCell, AllocError>
@@ -108,7 +167,7 @@ impl<'a> Cell<'a> {
             class: self.class.clone()?,
             syntax: self.syntax,
             modality: owned_part(&self.modality)?,
-            station: owned_part(&self.station)?,
+            station: owned_station_part(&self.station)?,
         })
     }
 }
@@ -123,6 +182,27 @@ fn value_in(alloc: Global, field: &OwnedField) -> Result<Text, AllocError>
     }
 }
 
+/// The text and the byte 128 behind it.
+fn value_under(alloc: Global, prefix: &Text) -> Result<Text, AllocError>
+    ensures { IfOk result (λ t. t ≡ prefix.now ++ (128 ∷ [])) }
+{
+    let mut bytes = Vec::from_slice(alloc, prefix.as_bytes())?;
+    bytes.push(128)?;
+    Ok(Text::from_vec(bytes))
+}
+
+/// A station of the part: its literal; or its prefix and the byte 128, which no literal and no prefix has; or the text
+/// of this byte.
+fn station_value_in(alloc: Global, station: &OwnedStation) -> Result<Text, AllocError>
+    ensures { IfOk result (λ t. t ≡ station_value_of station.now) }
+{
+    match station {
+        OwnedStation::Literal(literal) => literal.clone(),
+        OwnedStation::Prefix(prefix) => value_under(alloc, prefix),
+        OwnedStation::Rest => Text::copy_of(alloc, &[128]),
+    }
+}
+
 /// One key of the cell, which stands for all of them.
 pub fn key_in(alloc: Global, cell: &OwnedCell) -> Result<Key, AllocError>
     ensures { IfOk result (λ k. k ≡ key_of cell.now) }
@@ -131,6 +211,6 @@ pub fn key_in(alloc: Global, cell: &OwnedCell) -> Result<Key, AllocError>
         class: cell.class.clone()?,
         syntax: cell.syntax,
         modality: value_in(alloc, &cell.modality)?,
-        station: value_in(alloc, &cell.station)?,
+        station: station_value_in(alloc, &cell.station)?,
     })
 }

@@ -1,5 +1,5 @@
 //! Laws of rules and cells: what a reader may take from the definitions.
-ghost use Rattle.dr_route.specs.Laws.{LocalIsNobody, AgreeInSends, AgreeInKeeps, CellsCover, CellsAreApart, EachCellHasAKey};
+ghost use Rattle.dr_route.specs.Laws.{LocalIsNobody, AgreeInSends, AgreeInKeeps, CellsCover, CellsAreApart, LongestIsOne, EachCellHasAKey};
 
 /// No rule speaks of what enters at a node itself: `*` doesn't match the local caller, and nothing is kept or
 /// sent by a rule for it.
@@ -18,6 +18,11 @@ pub fn keys_of_one_cell_agree()
 pub fn each_key_lies_in_one_cell()
     ensures some { CellsCover }
     ensures one { CellsAreApart }
+{}
+
+/// A value begins with one longest prefix at most.
+pub fn the_longest_prefix_is_one()
+    ensures { LongestIsOne }
 {}
 
 /// Each cell of a plan whose literals are printable has a key of bytes.

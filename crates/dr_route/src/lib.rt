@@ -11,8 +11,11 @@ pub mod laws;
 pub mod names;
 pub mod routing;
 pub mod rule;
+mod search;
 
 pub use accept::{AcceptRow, Callers, accepts};
-pub use cell::{Cell, Field, FieldValues, Literals, OwnedCell, OwnedField, cell_of};
+pub use cell::{
+    Cell, Field, FieldValues, Literals, OwnedCell, OwnedField, OwnedStation, Station, StationValues, cell_of,
+};
 pub use key::Key;
-pub use rule::{Pattern, Rule, Targets, holds, is_local};
+pub use rule::{Pattern, Rule, StationPattern, Targets, holds, is_local};

@@ -1,6 +1,7 @@
 //! The rules of a node.
-ghost use Rattle.std.specs.Prelude.{◌≡◌, ◌↔◌, IsTrue};
-ghost use Rattle.dr_route.specs.Routes.{local, Matches, Holds};
+ghost use Rattle.std.specs.Prelude.{◌≡◌, ◌↔◌, ◌++◌, IsTrue, MatchOption};
+ghost use Rattle.dr_base.specs.Texts.{Text as Words};
+ghost use Rattle.dr_route.specs.Routes.{local, Begins, Matches, MatchesStation, Holds};
 
 use crate::key::Key;
 use dr_base::{Seq, Text};
@@ -14,6 +15,17 @@ pub enum Pattern {
     Literal(Text),
 }
 
+/// What a rule asks of the station.
+#[derive(Clone, Debug, Drop)]
+pub enum StationPattern {
+    /// Any value; it is written `*`.
+    Any,
+    /// Just this value.
+    Literal(Text),
+    /// Each value that begins with this text; it is written with `*` behind it, in plans of format 2.
+    Prefix(Text),
+}
+
 /// A rule of a node: which instances it speaks of, the nodes that they are sent to, and whether the node
 /// keeps them.
 #[derive(Clone, Debug, Drop)]
@@ -21,7 +33,7 @@ pub struct Rule {
     pub from: Pattern,
     pub class: Pattern,
     pub modality: Pattern,
-    pub station: Pattern,
+    pub station: StationPattern,
     pub to: Seq<Text>,
     pub keep: bool,
 }
@@ -51,6 +63,34 @@ pub fn matches(pattern: &Pattern, value: &Text) -> bool
     }
 }
 
+/// What follows the prefix, where the value begins with it.
+fn after<'a>(prefix: &[u8], value: &'a [u8]) -> Option<&'a [u8]>
+    ensures { MatchOption result ((rest : Words) → value.now ≡ prefix.now ++ rest → ⊥) (λ rest. value.now ≡ prefix.now ++ rest.now) }
+{
+    value.strip_prefix(prefix)
+}
+
+/// Whether the value begins with the prefix.
+pub fn begins(prefix: &Text, value: &Text) -> bool
+    ensures { IsTrue result ↔ Begins prefix.now value.now }
+{
+    match after(prefix.as_bytes(), value.as_bytes()) {
+        Some(_) => true,
+        None => false,
+    }
+}
+
+/// Whether the pattern admits the station.
+pub fn matches_station(pattern: &StationPattern, value: &Text) -> bool
+    ensures { IsTrue result ↔ MatchesStation pattern.now value.now }
+{
+    match pattern {
+        StationPattern::Any => true,
+        StationPattern::Literal(literal) => literal == value,
+        StationPattern::Prefix(prefix) => begins(prefix, value),
+    }
+}
+
 /// Whether the rule holds for what the caller brings: each of its four patterns admits its value. No rule
 /// holds for the local caller.
 pub fn holds(rule: &Rule, caller: &Text, key: &Key) -> bool
@@ -60,5 +100,5 @@ pub fn holds(rule: &Rule, caller: &Text, key: &Key) -> bool
         && matches(&rule.from, caller)
         && matches(&rule.class, &key.class)
         && matches(&rule.modality, &key.modality)
-        && matches(&rule.station, &key.station)
+        && matches_station(&rule.station, &key.station)
 }

@@ -1,7 +1,7 @@
 use Rattle.std.proofs.Common.{◌⊎◌, ◌↔◌, take, Contains}
 use Rattle.dr_base.specs.Texts.{Text}
 use Rattle.dr_route.specs.Names.{HasName}
-use Rattle.dr_network.specs.Plans.{named_by_flows}
+use Rattle.dr_network.specs.Naming.{named_by_flows}
 use Rattle.dr_network.proofs.literals.add_flows.Given as goal
 
 abbrev pub invariant-loop-flow : goal.invariant-loop-flow

@@ -4,7 +4,7 @@ use Rattle.std.specs.Prelude.{flat_map}
 use Rattle.dr_base.specs.Texts.{Text}
 use Rattle.dr_route.specs.Names.{HasName}
 use Rattle.dr_route.specs.declared.rule.Rule.{Rule}
-use Rattle.dr_network.specs.Plans.{pattern_of, literal_of}
+use Rattle.dr_network.specs.Naming.{named_by_rule}
 use Rattle.dr_network.proofs.Gathered.{flat_map-one_more, gathered, gathered_none}
 use Rattle.dr_network.proofs.literals.add_rules.Goals as goal
 
@@ -13,11 +13,11 @@ loop-rule-init c = gathered_none (HasName c.args.names.now)
 
 pub loop-rule-preserved : goal.loop-rule-preserved
 loop-rule-preserved c =
-    let f : Rule → List Text = λ x. literal_of (pattern_of c.args.attribute x) in
-    gathered (HasName c.args.names.now) (HasName c.loop-rule.names) (HasName c.add_literal.new.names)
+    let f : Rule → List Text = λ x. named_by_rule c.args.attribute x in
+    gathered (HasName c.args.names.now) (HasName c.loop-rule.names) (HasName c.add_names.new.names)
     (flat_map f (take c.loop-rule.rule-index c.args.rules.now)) (f c.rule-item.result) _
     (flat_map-one_more f c.args.rules.now c.loop-rule.rule-index c.rule-item.result c.loop-rule-test.true c.rule-item.is)
-    (rw c.pattern.ensures at c.in_ok-add_literal.ensures) c.loop-rule.invariant
+    (rw c.in_rule.ensures at c.in_ok-add_names.ensures) c.loop-rule.invariant
 
 pub returns : goal.returns
 returns c =

@@ -4,7 +4,7 @@ use Rattle.std.specs.Prelude.{flat_map}
 use Rattle.dr_base.specs.Texts.{Text}
 use Rattle.dr_route.specs.Names.{HasName}
 use Rattle.dr_network.specs.declared.plan.Node.{Node}
-use Rattle.dr_network.specs.Plans.{named_by_rules, named_by_flows}
+use Rattle.dr_network.specs.Naming.{named_by_rules, named_by_flows}
 use Rattle.dr_network.proofs.Gathered.{flat_map-one_more, gathered, gathered_all}
 use Rattle.dr_network.proofs.literals.named.Goals as goal
 

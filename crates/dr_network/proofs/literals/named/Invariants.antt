@@ -3,7 +3,7 @@ use Rattle.std.specs.Prelude.{flat_map}
 use Rattle.dr_base.specs.Texts.{Text}
 use Rattle.dr_route.specs.Names.{HasName}
 use Rattle.dr_network.specs.declared.plan.Node.{Node}
-use Rattle.dr_network.specs.Plans.{named_by_rules}
+use Rattle.dr_network.specs.Naming.{named_by_rules}
 use Rattle.dr_network.proofs.literals.named.Given as goal
 
 abbrev pub invariant-loop-node : goal.invariant-loop-node

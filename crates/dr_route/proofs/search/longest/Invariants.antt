@@ -1,0 +1,6 @@
+use Rattle.std.proofs.Common.{ℕ, ◌-◌, length}
+use Rattle.dr_route.proofs.Finding.{AreWithin}
+use Rattle.dr_route.proofs.search.longest.Given as goal
+
+abbrev pub invariant-loop-fewer : goal.invariant-loop-fewer
+invariant-loop-fewer l = AreWithin l.prefixes l.value (length l.value - l.fewer)
