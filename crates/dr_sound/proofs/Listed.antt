@@ -1,5 +1,5 @@
 -- The nodes that a place sends a key to, as a list: what rules and flows say can be decided, rule by rule.
-use Rattle.std.proofs.Common.{◌≡◌, ◌≢◌, ◌⊎◌, inl, inr, refl, sym, ◌∙◌, subst, List, [], ◌∷◌, ◌++◌, Contains}
+use Rattle.std.proofs.Common.{◌≡◌, ◌≢◌, ◌⊎◌, inl, inr, refl, sym, ◌∙◌, subst, List, [], ◌∷◌, ◌++◌, length, take, Contains}
 use Rattle.std.specs.Prelude.{◌↔◌}
 use Rattle.std.specs.Str.{bytes_eq}
 use Rattle.std.proofs.lemmas.Bool.{cases_Bool, false≢true}
@@ -8,17 +8,22 @@ use Rattle.std.proofs.lemmas.List.Elements.{Contains-append_left, Contains-appen
 use Rattle.dr_base.specs.Texts.{Text}
 use Rattle.dr_base.specs.declared.syntax.Syntax.{Syntax}
 use Rattle.dr_base.specs.declared.syntax.Syntax.TheVariants.{Implicit, Explicit}
-use Rattle.dr_route.specs.Routes.{local, Matches, Holds, SendsBy}
+use Rattle.dr_route.specs.Routes.{local, Begins, Matches, MatchesStation, Holds, SendsBy}
 use Rattle.dr_route.specs.declared.key.Key.{Key}
 use Rattle.dr_route.specs.declared.rule.Pattern.{Pattern}
 use Rattle.dr_route.specs.declared.rule.Pattern.TheVariants.{Any, Literal}
+use Rattle.dr_route.specs.declared.rule.StationPattern.{StationPattern}
+use Rattle.dr_route.specs.declared.rule.StationPattern.TheVariants as station
 use Rattle.dr_route.specs.declared.rule.Rule.{Rule}
+use Rattle.dr_route.proofs.Finding.{beginning, begins_first}
 use Rattle.dr_network.specs.declared.plan.Node.{Node}
 use Rattle.dr_network.specs.declared.plan.Flow.{Flow}
 use Rattle.dr_network.specs.declared.plan.Values.{Values}
 use Rattle.dr_network.specs.declared.plan.Values.TheVariants as values
+use Rattle.dr_network.specs.declared.plan.Stations.{Stations}
+use Rattle.dr_network.specs.declared.plan.Stations.TheVariants as stations
 use Rattle.dr_network.specs.Networks.{Network}
-use Rattle.dr_network.specs.Walks.{IsListed, Fits, FlowsAmong, Sends}
+use Rattle.dr_network.specs.Walks.{IsListed, IsStationListed, BeginsOne, Fits, FlowsAmong, Sends}
 use Rattle.dr_network.proofs.Gathered.{nothing_in_nil, only_one, Contains-cons_cases, Contains-there, Contains-here}
 
 -- it holds or it doesn't
@@ -71,19 +76,49 @@ matches : (pattern : Pattern) (value : Text) → Decided (Matches pattern value)
 matches Any value = inl tt
 matches (Literal literal) value = same_text literal value
 
+begins : (prefix value : Text) → Decided (Begins prefix value)
+begins prefix value = decided_by
+    (λ first. let P : Text → Type 0 = λ p. Begins p value in subst P first (begins_first (length prefix) value))
+    (λ b. beginning prefix value b)
+    (same_text (take (length prefix) value) prefix)
+
+matches_station : (pattern : StationPattern) (value : Text) → Decided (MatchesStation pattern value)
+matches_station station.Any value = inl tt
+matches_station (station.Literal literal) value = same_text literal value
+matches_station (station.Prefix prefix) value = begins prefix value
+
 holds : (rule : Rule) (caller : Text) (key : Key) → Decided (Holds rule caller key)
 holds rule caller key = decided_by (λ h. (h.0, h.1.0, h.1.1.0, h.1.1.1.0, h.1.1.1.1)) (λ h. (h.0, (h.1, (h.2, (h.3, h.4)))))
-    (both (other_text caller local) (both (matches rule.from caller) (both (matches rule.class key.class) (both (matches rule.modality key.modality) (matches rule.station key.station)))))
+    (both (other_text caller local) (both (matches rule.from caller) (both (matches rule.class key.class) (both (matches rule.modality key.modality) (matches_station rule.station key.station)))))
 
 is_listed : (list : Values) (value : Text) → Decided (IsListed list value)
 is_listed values.Any value = inl tt
 is_listed (values.Listed texts) value = among same_text texts value
 
+either : {P Q : Type 0} → Decided P → Decided Q → Decided (P ⊎ Q)
+either (inl p) d = inl (inl p)
+either (inr fails) (inl q) = inl (inr q)
+either (inr fails) (inr fail) = inr (λ h. elim h [ inl p ↦ fails p | inr q ↦ fail q ])
+
+begins_one : (prefixes : List Text) (value : Text) → Decided (BeginsOne prefixes value)
+begins_one [] value = inr (λ h. nothing_in_nil h.0 h.1)
+begins_one (prefix ∷ prefixes) value = decided_by
+    (λ h. elim h [ inl here ↦ (prefix, Contains-here prefix prefixes, here) | inr later ↦ (later.0, Contains-there prefix prefixes later.0 later.1, later.2) ])
+    (λ one. elim (Contains-cons_cases prefix prefixes one.0 one.1) [
+      | inl same ↦ inl (let P : Text → Type 0 = λ p. Begins p value in subst P (sym same) one.2)
+      | inr later ↦ inr (one.0, later, one.2)
+    ])
+    (either (begins prefix value) (begins_one prefixes value))
+
+is_station_listed : (list : Stations) (value : Text) → Decided (IsStationListed list value)
+is_station_listed stations.Any value = inl tt
+is_station_listed (stations.Listed values) value = either (among same_text values.literals value) (begins_one values.prefixes value)
+
 fits : (flow : Flow) (key : Key) → Decided (Fits flow key)
 fits flow key = decided_by
     (λ h. record { class = h.0; syntax = h.1.0; modality = h.1.1.0; station = h.1.1.1 })
     (λ h. (h.class, (h.syntax, (h.modality, h.station))))
-    (both (among same_text flow.classes key.class) (both (among same_syntax flow.syntaxes key.syntax) (both (is_listed flow.modalities key.modality) (is_listed flow.stations key.station))))
+    (both (among same_text flow.classes key.class) (both (among same_syntax flow.syntaxes key.syntax) (both (is_listed flow.modalities key.modality) (is_station_listed flow.stations key.station))))
 
 -- lists of nothing, of two lists together, and of a list where something holds
 none_listed : {P : Text → Type 0} → ((t : Text) → P t → ⊥) → Listing P

@@ -34,9 +34,10 @@ pub record AreHopPairs (plan : Network) (from to : Text) (all : List (Text × Sy
 abbrev pub HasHop : Network → Hop → Type 0
 HasHop plan hop = (all : List (Text × Syntax)) × (k : ℕ) × AreHopPairs plan hop.from hop.to all × (slice_get all k ≡ Some (hop.class, hop.syntax)) × (hop.id ≡ 2 * k + 1)
 
--- The certificate of the plan: its digest, exactly its lines, and exactly the numbered pairs of its hops. Each kind stands
+-- The certificate of the plan: its format and digest, exactly its lines, and exactly the numbered pairs of its hops. Each kind stands
 -- in the byte order of its printed lines, each line once.
 pub record IsCertificateOf (plan : Network) (certificate : Certificate) : Type 0 where
+  pub format : certificate.format ≡ plan.format
   pub digest : certificate.digest ≡ plan.digest
   pub lines : (line : Line) → Contains certificate.lines line ↔ HasLine plan line
   pub hops : (hop : Hop) → Contains certificate.hops hop ↔ HasHop plan hop

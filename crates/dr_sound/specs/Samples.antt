@@ -9,6 +9,9 @@ use Rattle.dr_route.specs.declared.accept.AcceptRow.{AcceptRow}
 use Rattle.dr_network.specs.declared.plan.Node.{Node}
 use Rattle.dr_network.specs.declared.plan.Flow.{Flow}
 use Rattle.dr_network.specs.declared.plan.Values.TheVariants as values
+use Rattle.dr_network.specs.declared.plan.Stations.TheVariants as stations
+use Rattle.dr_network.specs.declared.plan.Format.TheVariants.{One}
+use Rattle.dr_route.specs.declared.rule.StationPattern.TheVariants as station
 use Rattle.dr_network.specs.Networks.{Network}
 use Rattle.dr_sound.specs.Soundness.{IsSound}
 
@@ -26,7 +29,7 @@ image = codes "1.2.840.10008.5.1.4.1.1.2"
 
 -- a rule that keeps whatever comes
 abbrev pub keep_all : Rule
-keep_all = record { «from» = Any; class = Any; modality = Any; station = Any; to = []; keep = true }
+keep_all = record { «from» = Any; class = Any; modality = Any; station = station.Any; to = []; keep = true }
 
 -- an accept row that takes CT images in the explicit syntax from everybody
 abbrev pub images_from_all : AcceptRow
@@ -42,11 +45,11 @@ the_archive rules = record { name = archive; address = codes "arch:104"; max_pdu
 
 -- the flow of CT images in the explicit syntax that enter at the scanner and go to the archive
 abbrev pub the_flow : Flow
-the_flow = record { at = scanner; to = archive; classes = image ∷ []; syntaxes = Explicit ∷ []; modalities = values.Any; stations = values.Any }
+the_flow = record { at = scanner; to = archive; classes = image ∷ []; syntaxes = Explicit ∷ []; modalities = values.Any; stations = stations.Any }
 
 -- the plan of the two nodes and the flow, with these rules of the archive
 abbrev pub two_nodes : List Rule → Network
-two_nodes rules = record { nodes = the_scanner ∷ the_archive rules ∷ []; flows = the_flow ∷ []; digest = [] }
+two_nodes rules = record { format = One; nodes = the_scanner ∷ the_archive rules ∷ []; flows = the_flow ∷ []; digest = [] }
 
 -- the plan of two nodes is sound where the archive keeps what comes
 abbrev pub TwoNodesAreSound : Type 0

@@ -1,5 +1,6 @@
 //! What a certificate holds.
 use dr_base::{Seq, Syntax, Text};
+use dr_network::Format;
 use dr_route::OwnedCell;
 
 /// A node with the caller that brings it instances, for the keys of one cell. The caller of what enters at the
@@ -28,10 +29,11 @@ pub struct Hop {
     pub syntax: Syntax,
 }
 
-/// The certificate of a plan: the SHA-256 of the plan's text, the presentation contexts of its hops, and a line
-/// for each stop that an instance may come to.
+/// The certificate of a plan: the format of the plan's text and its SHA-256, the presentation contexts of its hops, and
+/// a line for each stop that an instance may come to.
 #[derive(Clone, Debug, Drop)]
 pub struct Certificate {
+    pub format: Format,
     pub digest: [u8; 32],
     pub hops: Seq<Hop>,
     pub lines: Seq<Line>,
