@@ -3,6 +3,7 @@
 #![tactic(auto)]
 
 pub mod fields;
+pub mod stations;
 pub mod narrow;
 pub mod sweep;
 pub mod visit;

@@ -1,15 +1,17 @@
 //! Flows, and those of them that speak of one value.
 ghost use Rattle.std.specs.Prelude.{◌≡◌, ◌↔◌, IsTrue, IfOk, MatchOption, Contains, Some, slice_get, ℕ, false};
 ghost use Rattle.dr_route.specs.declared.cell.OwnedField.{OwnedField as FieldValue};
+ghost use Rattle.dr_route.specs.declared.cell.OwnedStation.{OwnedStation as StationValue};
 ghost use Rattle.dr_route.specs.declared.cell.OwnedCell.{OwnedCell as CellValue};
 ghost use Rattle.dr_network.specs.declared.plan.Flow.{Flow as FlowValue};
 ghost use Rattle.dr_route.specs.Cells.{owned_field};
-ghost use Rattle.dr_entry.specs.Entering.{Admits, SpeaksOf, SpeaksAt, NoneSpeaks, TakesIn, AreNarrowed};
+ghost use Rattle.dr_entry.specs.Entering.{Admits, AdmitsStation, SpeaksOf, SpeaksAt, NoneSpeaks, TakesIn, AreNarrowed};
 ghost use Rattle.dr_entry.specs.Entering.{AllBelow};
 
 use dr_base::{Syntax, Text};
-use dr_network::{Flow, Plan, Values};
-use dr_route::OwnedField;
+use dr_network::sending::begins_one;
+use dr_network::{Flow, Plan, Stations, Values};
+use dr_route::{OwnedField, OwnedStation};
 use std::alloc::{AllocError, Global};
 
 /// One of the values that make a cell.
@@ -19,7 +21,7 @@ pub enum Part<'a> {
     Class(&'a Text),
     Syntax(Syntax),
     Modality(&'a OwnedField),
-    Station(&'a OwnedField),
+    Station(&'a OwnedStation),
 }
 
 /// Whether the flow's values take in the part of the field.
@@ -33,6 +35,23 @@ fn admits(values: &Values, field: &OwnedField) -> bool
     }
 }
 
+/// Whether the flow's stations take in the part: a prefix is taken in where it begins with a listed one.
+fn admits_station(stations: &Stations, part: &OwnedStation) -> bool
+    ensures { IsTrue result ↔ AdmitsStation stations.now part.now }
+{
+    let Stations::Listed(values) = stations else {
+        return true;
+    };
+    match part {
+        OwnedStation::Literal(literal) => {
+            values.literals.as_slice().contains(literal)
+                || begins_one(values.prefixes.as_slice(), literal)
+        }
+        OwnedStation::Prefix(prefix) => begins_one(values.prefixes.as_slice(), prefix),
+        OwnedStation::Rest => false,
+    }
+}
+
 /// Whether the flow speaks of the value.
 fn speaks_of(flow: &Flow, part: &Part<'_>) -> bool
     ensures { IsTrue result ↔ SpeaksOf flow.now part.now }
@@ -42,7 +61,7 @@ fn speaks_of(flow: &Flow, part: &Part<'_>) -> bool
         Part::Class(class) => flow.classes.as_slice().contains(class),
         Part::Syntax(syntax) => flow.syntaxes.as_slice().contains(syntax),
         Part::Modality(field) => admits(&flow.modalities, field),
-        Part::Station(field) => admits(&flow.stations, field),
+        Part::Station(part) => admits_station(&flow.stations, part),
     }
 }
 
@@ -82,7 +101,7 @@ pub fn first_that_speaks(flows: &[Flow], among: &[usize], part: &Part<'_>) -> Op
 fn may_enter(flow: &Flow) -> bool
     ensures { result ≡ false → (cell : CellValue) → TakesIn flow.now cell → ⊥ }
 {
-    !is_empty(&flow.modalities) && !is_empty(&flow.stations)
+    !is_empty(&flow.modalities) && !has_no_station(&flow.stations)
 }
 
 /// Whether the values are a list of none.
@@ -92,6 +111,16 @@ fn is_empty(values: &Values) -> bool
     match values {
         Values::Any => false,
         Values::Listed(texts) => texts.is_empty(),
+    }
+}
+
+/// Whether the stations are a list of none.
+fn has_no_station(stations: &Stations) -> bool
+    ensures { IsTrue result → (part : StationValue) → AdmitsStation stations.now part → ⊥ }
+{
+    match stations {
+        Stations::Any => false,
+        Stations::Listed(values) => values.literals.is_empty() && values.prefixes.is_empty(),
     }
 }
 

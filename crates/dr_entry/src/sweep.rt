@@ -8,12 +8,13 @@ ghost use Rattle.dr_entry.specs.Visiting.{AfterVisits, IsEntryCell};
 
 use crate::fields::parts_of;
 use crate::narrow::{Part, first_that_speaks, narrowed, places_of};
+use crate::stations::stations_of;
 use crate::visit::EntryVisitor;
 use dr_base::{Seq, Syntax, Text};
 use dr_network::literals::literals;
 use dr_network::{Flow, Plan};
 use dr_route::names::{add_names, names_in_order};
-use dr_route::{OwnedCell, OwnedField};
+use dr_route::{OwnedCell, OwnedField, OwnedStation};
 use std::alloc::{AllocError, Global};
 use std::collections::BTreeSet;
 use std::slice;
@@ -24,7 +25,7 @@ struct Sweep<'a> {
     alloc: Global,
     plan: &'a Plan,
     modalities: Seq<OwnedField>,
-    stations: Seq<OwnedField>,
+    stations: Seq<OwnedStation>,
 }
 
 /// The classes of the flows at these places, in byte order.
@@ -57,7 +58,7 @@ fn cell_from(
     class: &Text,
     syntax: Syntax,
     modality: &OwnedField,
-    station: &OwnedField,
+    station: &OwnedStation,
 ) -> Result<OwnedCell, AllocError>
     ensures { IfOk result (λ c. c ≡ record { class = class.now; syntax = syntax; modality = modality.now; station = station.now }) }
 {
@@ -78,7 +79,7 @@ impl<'a> Sweep<'a> {
         class: &Text,
         syntax: Syntax,
         modality: &OwnedField,
-        station: &OwnedField,
+        station: &OwnedStation,
         among: &[usize],
     ) -> Result<Option<V::Finding>, AllocError>
         requires plan { V.plan visitor.old ≡ self.now.plan.now }
@@ -280,7 +281,7 @@ pub fn visit_entries<V: EntryVisitor>(
         alloc,
         plan,
         modalities: parts_of(alloc, &literals.modalities)?,
-        stations: parts_of(alloc, &literals.stations)?,
+        stations: stations_of(alloc, &literals.stations)?,
     };
     let found = sweep.visit_all(visitor)?;
     Ok(found)

@@ -24,7 +24,7 @@ fn is_listed(values: &Values, value: &Text) -> bool
 }
 
 /// Whether the value begins with one of the prefixes.
-fn begins_one(prefixes: &[Text], value: &Text) -> bool
+pub fn begins_one(prefixes: &[Text], value: &Text) -> bool
     ensures { IsTrue result ↔ BeginsOne prefixes.now value.now }
 {
     for prefix in prefixes {

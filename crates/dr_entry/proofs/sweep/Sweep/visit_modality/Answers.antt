@@ -1,6 +1,6 @@
 use Rattle.std.proofs.Common.{◌≡◌, ℕ, ◌+◌, sym, subst, List, [], ◌∷◌, ◌++◌, take, Contains, arith}
 use Rattle.std.proofs.lemmas.List.{take_more, take_all}
-use Rattle.dr_route.specs.declared.cell.OwnedField.{OwnedField}
+use Rattle.dr_route.specs.declared.cell.OwnedStation.{OwnedStation}
 use Rattle.dr_route.specs.declared.cell.OwnedCell.{OwnedCell}
 use Rattle.dr_network.specs.declared.plan.Flow.{Flow}
 use Rattle.dr_entry.specs.Entering.{WantsModality, WantsStation}
@@ -10,7 +10,7 @@ use Rattle.dr_entry.proofs.sweep.Sweep.visit_modality.Goals as goal
 
 pub loop-station-preserved : goal.loop-station-preserved
 loop-station-preserved g c =
-    let items : List OwnedField = c.as_slice-station-items.result.now in
+    let items : List OwnedStation = c.as_slice-station-items.result.now in
     let e = take_more items c.loop-station.station-index c.station-item.result c.loop-station-test.true in
     let more : take (c.loop-station.station-index + 1) items ≡ take c.loop-station.station-index items ++ c.station-item.result ∷ [] = rw (← c.station-item.is) at e in
     let went = went_on g.V.EntryVisitor.plan g.V.EntryVisitor.is_ready g.V.EntryVisitor.has_visited g.V.EntryVisitor.shows _ c.loop-station.visitor c.visit_station.new.visitor c.in_ok-found.found
@@ -22,10 +22,10 @@ loop-station-preserved g c =
 
 pub returns : goal.returns
 returns g c =
-    let items : List OwnedField = c.as_slice-station-items.result.now in
+    let items : List OwnedStation = c.as_slice-station-items.result.now in
     let all : take c.loop-station.station-index items ≡ items = take_all c.loop-station.station-index items (omega arith) in
-    let P : List OwnedField → Type 0 = λ xs. GoesOn g.V.EntryVisitor.plan g.V.EntryVisitor.is_ready g.V.EntryVisitor.has_visited g.V.EntryVisitor.shows
+    let P : List OwnedStation → Type 0 = λ xs. GoesOn g.V.EntryVisitor.plan g.V.EntryVisitor.is_ready g.V.EntryVisitor.has_visited g.V.EntryVisitor.shows
     (λ s x. WantsModality c.args.self.now.plan.now c.args.site.now c.args.class.now c.args.syntax c.args.modality.now c.args.among.now s x × Contains xs (x.station)) c.args.visitor.now c.loop-station.visitor in
     all_of_them g.V.EntryVisitor.plan g.V.EntryVisitor.is_ready g.V.EntryVisitor.has_visited g.V.EntryVisitor.shows (λ s x. x.station) (WantsModality c.args.self.now.plan.now c.args.site.now c.args.class.now c.args.syntax c.args.modality.now c.args.among.now)
     items c.args.visitor.now c.loop-station.visitor (subst P all c.loop-station.invariant)
-    (λ s x w. let F : List OwnedField → Type 0 = λ xs. Contains xs x.station in subst F (sym c.as_slice-station-items.ensures) ((c.requires.parts.1 x.station).1 w.1.1.1.1.1))
+    (λ s x w. let F : List OwnedStation → Type 0 = λ xs. Contains xs x.station in subst F (sym c.as_slice-station-items.ensures) ((c.requires.parts.1 x.station).1 w.1.1.1.1.1))

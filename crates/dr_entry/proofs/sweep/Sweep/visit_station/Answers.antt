@@ -7,28 +7,29 @@ use Rattle.dr_base.specs.declared.syntax.Syntax.{Syntax}
 use Rattle.dr_route.specs.Laws.{key_of}
 use Rattle.dr_route.specs.declared.cell.OwnedCell.{OwnedCell}
 use Rattle.dr_route.specs.declared.cell.OwnedField.{OwnedField}
+use Rattle.dr_route.specs.declared.cell.OwnedStation.{OwnedStation}
 use Rattle.dr_network.specs.declared.plan.Flow.{Flow}
 use Rattle.dr_network.specs.Networks.{Network}
 use Rattle.dr_network.specs.Walks.{IsEntry}
-use Rattle.dr_entry.specs.Entering.{Admits, NoneSpeaks, SpeaksAt, WantsStation}
+use Rattle.dr_entry.specs.Entering.{AdmitsStation, NoneSpeaks, SpeaksAt, WantsStation}
 use Rattle.dr_entry.specs.Visiting.{IsThis}
 use Rattle.dr_entry.specs.declared.narrow.Part.TheVariants as part
 use Rattle.dr_entry.proofs.Entries.{enters}
 use Rattle.dr_entry.proofs.Visits.{stays, wants_less}
 use Rattle.dr_entry.proofs.sweep.Sweep.visit_station.Goals as goal
 
-same_cell : (c : OwnedCell) (class : Text) (syntax : Syntax) (modality station : OwnedField) → c.class ≡ class → c.syntax ≡ syntax → c.modality ≡ modality → c.station ≡ station →
+same_cell : (c : OwnedCell) (class : Text) (syntax : Syntax) (modality : OwnedField) (station : OwnedStation) → c.class ≡ class → c.syntax ≡ syntax → c.modality ≡ modality → c.station ≡ station →
     c ≡ record { class = class; syntax = syntax; modality = modality; station = station }
 same_cell c class syntax modality station a b d e =
-    let mk : Text → Syntax → OwnedField → OwnedField → OwnedCell = λ k s m t. record { class = k; syntax = s; modality = m; station = t } in
+    let mk : Text → Syntax → OwnedField → OwnedStation → OwnedCell = λ k s m t. record { class = k; syntax = s; modality = m; station = t } in
     ap (λ (x : Text). mk x c.syntax c.modality c.station) a
     ∙ (ap (λ (x : Syntax). mk class x c.modality c.station) b
-    ∙ (ap (λ (x : OwnedField). mk class syntax x c.station) d ∙ ap (λ (x : OwnedField). mk class syntax modality x) e))
+    ∙ (ap (λ (x : OwnedField). mk class syntax x c.station) d ∙ ap (λ (x : OwnedStation). mk class syntax modality x) e))
 
 pub visit-requires-clause-entry : goal.visit-requires-clause-entry
 visit-requires-clause-entry g c =
     let k : ℕ = c.in-Some.field-0 in
-    let A : List Flow → Type 0 = λ fs. (flow : Flow) × (slice_get fs k ≡ Some flow) × Admits flow.stations c.args.station.now in
+    let A : List Flow → Type 0 = λ fs. (flow : Flow) × (slice_get fs k ≡ Some flow) × AdmitsStation flow.stations c.args.station.now in
     let here = subst A c.flows.ensures.same c.in-Some.ensures.1 in
     let P : Network → Type 0 = λ n. IsEntry n c.args.site.now (key_of c.in_ok-cell.cell) in
     subst P (sym c.requires.plan)
@@ -36,7 +37,7 @@ visit-requires-clause-entry g c =
     (All-contains (λ n. n < length c.args.self.now.plan.now.flows) c.args.among.now k c.requires.below c.in-Some.ensures.0) c.in_ok-cell.ensures
     (λ flow at.
     let same : here.0 ≡ flow = same_Some _ _ (sym here.1 ∙ at) in
-    let S : Flow → Type 0 = λ f. Admits f.stations c.args.station.now in
+    let S : Flow → Type 0 = λ f. AdmitsStation f.stations c.args.station.now in
     (subst S same here.2, c.requires.fit flow k c.in-Some.ensures.0 at)))
 
 pub returns-in_default : goal.returns-in_default
@@ -46,8 +47,8 @@ returns-in_default g c =
     c.args.visitor.now c.requires.ready
     (λ s x w.
     let t = w.1.1.1.1.2 in
-    let A : List Flow → Type 0 = λ fs. (flow : Flow) × (slice_get fs t.0 ≡ Some flow) × Admits flow.stations c.args.station.now in
-    let S : OwnedField → Type 0 = λ y. Admits t.2.0.stations y in
+    let A : List Flow → Type 0 = λ fs. (flow : Flow) × (slice_get fs t.0 ≡ Some flow) × AdmitsStation flow.stations c.args.station.now in
+    let S : OwnedStation → Type 0 = λ y. AdmitsStation t.2.0.stations y in
     c.in_default.ensures t.0 t.1 (subst A (sym c.flows.ensures.same) (t.2.0, t.2.1, subst S w.0 t.2.2.station)))
 
 pub returns : goal.returns
