@@ -1,5 +1,7 @@
 -- The text of a certificate: rows ended by LF, whose fields are joined by one tab.
 use Rattle.std.specs.Prelude.{◌∷◌, ◌++◌, [], codes, flat_map}
+use Rattle.dr_network.specs.declared.plan.Format.{Format}
+use Rattle.dr_network.specs.declared.plan.Format.TheVariants.{One, Two}
 use Rattle.hex.specs.Hex.{encode_lower}
 use Rattle.dr_base.specs.Texts.{Text}
 use Rattle.dr_sound.specs.declared.certificate.Line.{Line}
@@ -19,9 +21,18 @@ hop_row hop = row (codes "hop") (printed_hop hop)
 abbrev pub line_row : Line → Text
 line_row line = row (codes "line") (printed_line line)
 
--- the text of a certificate: format and version, the SHA-256 of the plan's text in lower-case hex, the hops, the lines,
+-- the number of a format, which is the version of the certificate
+abbrev pub version : Format → Text
+version One = codes "1"
+version Two = codes "2"
+
+-- the text up to the digest
+abbrev pub front : Format → Text
+front format = row (codes "certificate") (version format) ++ codes "plan" ++ (9 ∷ [])
+
+-- the text of a certificate: its version, the SHA-256 of the plan's text in lower-case hex, the hops, the lines,
 -- and nothing behind the end
 abbrev pub certificate_text : Certificate → Text
 certificate_text certificate =
-    row (codes "certificate") (codes "1") ++ row (codes "plan") (encode_lower certificate.digest)
+    row (codes "certificate") (version certificate.format) ++ row (codes "plan") (encode_lower certificate.digest)
     ++ flat_map hop_row certificate.hops ++ flat_map line_row certificate.lines ++ codes "end" ++ (10 ∷ [])

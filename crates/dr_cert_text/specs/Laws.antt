@@ -2,14 +2,16 @@
 use Rattle.std.specs.Prelude.{◌≡◌, ◌≢◌, ◌⊎◌, [], ◌∷◌, ◌++◌, codes, Result, Ok, Err}
 use Rattle.dr_base.specs.declared.syntax.Syntax.TheVariants.{Explicit}
 use Rattle.dr_route.specs.declared.cell.OwnedField.TheVariants.{Literal, Rest}
+use Rattle.dr_route.specs.declared.cell.OwnedStation.TheVariants as station
+use Rattle.dr_network.specs.declared.plan.Format.TheVariants.{One, Two}
 use Rattle.dr_sound.specs.declared.certificate.Line.{Line}
 use Rattle.dr_sound.specs.declared.certificate.Hop.{Hop}
 use Rattle.dr_sound.specs.declared.certificate.Certificate.{Certificate}
-use Rattle.dr_sound.specs.Printed.{printed_field, printed_line, printed_hop}
+use Rattle.dr_sound.specs.Printed.{printed_field, printed_station, printed_line, printed_hop}
 use Rattle.dr_cert_text.specs.declared.fault.ReadFault.{ReadFault}
 use Rattle.dr_cert_text.specs.declared.fault.ReadFault.TheVariants.{Memory}
 use Rattle.dr_cert_text.specs.Reading.{Reads}
-use Rattle.dr_cert_text.specs.CertificateText.{certificate_text}
+use Rattle.dr_cert_text.specs.CertificateText.{front, certificate_text}
 use Rattle.dr_cert_text.specs.Printable.{IsPrintable, IsPrintableLine, IsPrintableHop}
 
 -- two certificates that can be read back and have one text are one certificate
@@ -40,6 +42,7 @@ WhatIsWrittenIsRead = (certificate : Certificate) → IsPrintable certificate �
 -- the certificate of the empty plan, whose digest is the SHA-256 of no bytes
 abbrev pub empty_plan : Certificate
 empty_plan = record {
+  format = One;
   digest = 0xe3 ∷ 0xb0 ∷ 0xc4 ∷ 0x42 ∷ 0x98 ∷ 0xfc ∷ 0x1c ∷ 0x14 ∷ 0x9a ∷ 0xfb ∷ 0xf4 ∷ 0xc8 ∷ 0x99 ∷ 0x6f ∷ 0xb9 ∷ 0x24
       ∷ 0x27 ∷ 0xae ∷ 0x41 ∷ 0xe4 ∷ 0x64 ∷ 0x9b ∷ 0x93 ∷ 0x4c ∷ 0xa4 ∷ 0x95 ∷ 0x99 ∷ 0x1b ∷ 0x78 ∷ 0x52 ∷ 0xb8 ∷ 0x55 ∷ [];
   hops = [];
@@ -67,3 +70,11 @@ TabsAreNotToldApart = printed_hop tab_in_the_sender ≡ printed_hop tab_in_the_r
 -- a literal that is an asterisk would be printed as none of the plan's literals, so there is none
 abbrev pub AnAsteriskIsNotTold : Type 0
 AnAsteriskIsNotTold = printed_field (Literal (codes "*")) ≡ printed_field Rest
+
+-- a literal with an asterisk at its end would be printed as a prefix, so there is none
+abbrev pub APrefixIsNotALiteral : Type 0
+APrefixIsNotALiteral = printed_station (station.Prefix (codes "CT")) ≡ printed_station (station.Literal (codes "CT*"))
+
+-- the text of a certificate for a plan of format 2 begins with `certificate`, a tab and 2
+abbrev pub FormatTwoIsVersionTwo : Type 0
+FormatTwoIsVersionTwo = front Two ≡ codes "certificate" ++ (9 ∷ codes "2") ++ (10 ∷ codes "plan") ++ (9 ∷ [])

@@ -1,13 +1,13 @@
 //! Rows and fields of a text.
 ghost use Rattle.std.specs.Prelude.{◌≡◌, ◌≤◌, ◌++◌, ◌∷◌, [], ℕ, List, IfOk, MatchOption, decimal};
 ghost use Rattle.hex.specs.Hex.{encode_lower};
-ghost use Rattle.dr_sound.specs.Printed.{printed_field};
-ghost use Rattle.dr_cert_text.specs.Printable.{IsPlain, IsPlainField, IsDigest};
+ghost use Rattle.dr_sound.specs.Printed.{printed_field, printed_station};
+ghost use Rattle.dr_cert_text.specs.Printable.{IsPlain, IsPlainField, IsPlainStation, IsDigest};
 ghost use Rattle.dr_cert_text.specs.Cuts.{cuts, Lacks, SplitsAt, CutsField};
 ghost use Rattle.dr_cert_text.specs.Reading.{HasNone, IsReadBack};
 
 use dr_base::Text;
-use dr_route::OwnedField;
+use dr_route::{OwnedField, OwnedStation};
 use hex::FromHex;
 use std::alloc::{AllocError, Global};
 use std::str;
@@ -58,7 +58,7 @@ pub fn read_number(field: &[u8]) -> Option<u32>
     Some(number)
 }
 
-/// The part of a field that is printed so.
+/// The part of the modalities that is printed so.
 pub fn read_field(alloc: Global, field: &[u8]) -> Result<OwnedField, AllocError>
     requires { IsPlain field.now }
     ensures { IfOk result (λ part. (printed_field part ≡ field.now) × IsPlainField part) }
@@ -68,6 +68,29 @@ pub fn read_field(alloc: Global, field: &[u8]) -> Result<OwnedField, AllocError>
     }
     let literal = Text::copy_of(alloc, field)?;
     Ok(OwnedField::Literal(literal))
+}
+
+/// What stands before these bytes, where the text ends with them.
+fn before<'a>(text: &'a [u8], end: &[u8]) -> Option<&'a [u8]>
+    ensures { MatchOption result ((front : List ℕ) → text.now ≡ front ++ end.now → ⊥) (λ front. text.now ≡ front.now ++ end.now) }
+{
+    text.strip_suffix(end)
+}
+
+/// The part of the stations that is printed so: `*` is the rest, and another text with `*` at its end a prefix.
+pub fn read_station(alloc: Global, field: &[u8]) -> Result<OwnedStation, AllocError>
+    requires { IsPlain field.now }
+    ensures { IfOk result (λ part. (printed_station part ≡ field.now) × IsPlainStation part) }
+{
+    match before(field, b"*") {
+        None => Ok(OwnedStation::Literal(Text::copy_of(alloc, field)?)),
+        Some(prefix) => {
+            if prefix.is_empty() {
+                return Ok(OwnedStation::Rest);
+            }
+            Ok(OwnedStation::Prefix(Text::copy_of(alloc, prefix)?))
+        }
+    }
 }
 
 /// The digest that is written so in lower-case hex.

@@ -1,5 +1,5 @@
 //! Laws of certificates' texts.
-ghost use Rattle.dr_cert_text.specs.Laws.{OneCertificateForAText, OneLineForAText, OneHopForAText, StopsAreToldApart, OneStopForATextUpToTheRank, WhatIsWrittenIsRead, TextOfTheEmptyPlan, TabsAreNotToldApart, AnAsteriskIsNotTold, empty_plan};
+ghost use Rattle.dr_cert_text.specs.Laws.{OneCertificateForAText, OneLineForAText, OneHopForAText, StopsAreToldApart, OneStopForATextUpToTheRank, WhatIsWrittenIsRead, TextOfTheEmptyPlan, TabsAreNotToldApart, AnAsteriskIsNotTold, APrefixIsNotALiteral, FormatTwoIsVersionTwo, empty_plan};
 ghost use Rattle.dr_cert_text.specs.Printable.{IsPrintable};
 
 /// Two certificates that can be read back have one text only where they are equal.
@@ -31,4 +31,10 @@ pub fn the_empty_plan_has_its_text()
 pub fn tabs_and_asterisks_are_not_told()
     ensures tab { TabsAreNotToldApart }
     ensures asterisk { AnAsteriskIsNotTold }
+    ensures prefix { APrefixIsNotALiteral }
+{}
+
+/// The version of a certificate is the format of its plan.
+pub fn the_version_is_the_format()
+    ensures { FormatTwoIsVersionTwo }
 {}

@@ -7,8 +7,8 @@ ghost use Rattle.dr_cert_text.specs.Printable.{IsPrintableLine};
 ghost use Rattle.dr_cert_text.specs.Reading.{HasNone};
 
 use crate::fault::ReadFault;
-use crate::fields::{field_before_tab, read_field, read_number};
-use crate::printed::{Printed, add_field, field_bytes};
+use crate::fields::{field_before_tab, read_field, read_number, read_station};
+use crate::printed::{Printed, add_field, add_station, field_bytes};
 use dr_base::{Syntax, Text};
 use dr_route::OwnedCell;
 use dr_sound::{Line, Stop};
@@ -69,7 +69,7 @@ impl Printed for Line {
         add_field(out, cell.class.as_bytes())?;
         add_field(out, cell.syntax.uid())?;
         add_field(out, field_bytes(&cell.modality))?;
-        add_field(out, field_bytes(&cell.station))?;
+        add_station(out, &cell.station)?;
         let mut digits = itoa::Buffer::new();
         add_field(out, digits.format(self.rank).as_bytes())
     }
@@ -80,7 +80,7 @@ impl Printed for Line {
         };
         let class = Text::copy_of(alloc, found.class)?;
         let modality = read_field(alloc, found.modality)?;
-        let station = read_field(alloc, found.station)?;
+        let station = read_station(alloc, found.station)?;
         let cell = OwnedCell {
             class,
             syntax: found.syntax,

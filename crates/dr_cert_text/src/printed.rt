@@ -1,11 +1,11 @@
 //! What a certificate's text has a row for.
 ghost use Rattle.std.specs.Prelude.{◌≡◌, [], ◌∷◌, ◌++◌, List, ℕ, OnOk};
-ghost use Rattle.dr_sound.specs.Printed.{printed_field};
+ghost use Rattle.dr_sound.specs.Printed.{printed_field, printed_station};
 ghost use Rattle.dr_cert_text.specs.Cuts.{Lacks};
 ghost use Rattle.dr_cert_text.specs.Reading.{Reads};
 
 use crate::fault::ReadFault;
-use dr_route::OwnedField;
+use dr_route::{OwnedField, OwnedStation};
 use std::alloc::{AllocError, Global};
 
 const TAB: u8 = 9;
@@ -35,7 +35,7 @@ pub trait Printed: Sized + Drop {
         ensures { Reads printed printable fields.now result };
 }
 
-/// The bytes of a part of a field.
+/// The bytes of a part of the modalities.
 pub fn field_bytes(field: &OwnedField) -> &[u8]
     ensures { result.now ≡ printed_field field.now }
 {
@@ -51,4 +51,19 @@ pub fn add_field(out: &mut Vec<u8>, field: &[u8]) -> Result<(), AllocError>
 {
     out.push(TAB)?;
     out.extend_from_slice(field)
+}
+
+/// Adds a tab and a part of the stations: a prefix has `*` behind it.
+pub fn add_station(out: &mut Vec<u8>, station: &OwnedStation) -> Result<(), AllocError>
+    ensures { OnOk result (out.new.items ≡ out.old.items ++ 9 ∷ printed_station station.now) }
+{
+    match station {
+        OwnedStation::Literal(literal) => add_field(out, literal.as_bytes()),
+        OwnedStation::Prefix(prefix) => {
+            add_field(out, prefix.as_bytes())?;
+            out.push(b'*')?;
+            Ok(())
+        }
+        OwnedStation::Rest => add_field(out, b"*"),
+    }
 }

@@ -1,14 +1,17 @@
 //! A certificate read back from its text.
-ghost use Rattle.std.specs.Prelude.{◌≡◌, ◌≢◌, ◌++◌, ◌∷◌, [], ℕ, List, MatchResult, All, flat_map};
-ghost use Rattle.dr_cert_text.specs.CertificateText.{row, certificate_text};
+ghost use Rattle.std.specs.Prelude.{◌≡◌, ◌≢◌, ◌++◌, ◌∷◌, [], ℕ, List, MatchOption, MatchResult, All, flat_map};
+ghost use Rattle.dr_cert_text.specs.CertificateText.{row, front, certificate_text};
 ghost use Rattle.dr_cert_text.specs.Cuts.{Lacks};
+ghost use Rattle.dr_network.specs.declared.plan.Format.{Format as FormatValue};
 ghost use Rattle.dr_cert_text.specs.Printable.{IsPrintable};
 ghost use Rattle.dr_cert_text.specs.Reading.{Reads, ReadsRows};
 
 use crate::fault::ReadFault;
 use crate::fields::{after, read_digest, split_at_byte};
 use crate::printed::Printed;
+use crate::writer::front_of;
 use dr_base::Seq;
+use dr_network::Format;
 use dr_sound::{Certificate, Hop, Line};
 use std::alloc::Global;
 
@@ -34,6 +37,19 @@ fn read_rows<P: Printed>(alloc: Global, text: &[u8]) -> Result<(Seq<P>, &[u8]), 
     Ok((Seq::from_vec(items), rest))
 }
 
+/// The version of the certificate, and what follows the words before its digest.
+fn read_front(text: &[u8]) -> Option<(Format, &[u8])>
+    ensures { MatchOption result ((format : FormatValue) (rest : List ℕ) → text.now ≡ front format ++ rest → ⊥) (λ p. text.now ≡ front p.0 ++ p.1.now) }
+{
+    if let Some(behind) = after(text, front_of(Format::One)) {
+        return Some((Format::One, behind));
+    }
+    match after(text, front_of(Format::Two)) {
+        Some(behind) => Some((Format::Two, behind)),
+        None => None,
+    }
+}
+
 /// The certificate of this text, in one pass: it takes exactly the texts that `write_certificate` writes of
 /// certificates that can be read back. It does not test that the rows are in order.
 ///
@@ -42,7 +58,7 @@ fn read_rows<P: Printed>(alloc: Global, text: &[u8]) -> Result<(Seq<P>, &[u8]), 
 pub fn read_certificate(alloc: Global, text: &[u8]) -> Result<Certificate, ReadFault>
     ensures { Reads certificate_text IsPrintable text.now result }
 {
-    let Some(behind) = after(text, b"certificate\t1\nplan\t") else {
+    let Some((format, behind)) = read_front(text) else {
         return Err(ReadFault::Text);
     };
     let Some((digits, rows)) = split_at_byte(behind, LF) else {
@@ -60,6 +76,7 @@ pub fn read_certificate(alloc: Global, text: &[u8]) -> Result<Certificate, ReadF
         return Err(ReadFault::Text);
     }
     Ok(Certificate {
+        format,
         digest,
         hops,
         lines,

@@ -1,9 +1,10 @@
 //! The text of a certificate.
 ghost use Rattle.std.specs.Prelude.{◌≡◌, ◌++◌, IfOk, OnOk, flat_map};
-ghost use Rattle.dr_cert_text.specs.CertificateText.{row, certificate_text};
+ghost use Rattle.dr_cert_text.specs.CertificateText.{row, front, certificate_text};
 
 use crate::printed::Printed;
 use dr_base::Text;
+use dr_network::Format;
 use dr_sound::Certificate;
 use std::alloc::{AllocError, Global};
 
@@ -21,12 +22,22 @@ fn write_rows<P: Printed>(out: &mut Vec<u8>, items: &[P]) -> Result<(), AllocErr
     Ok(())
 }
 
+/// What stands before the digest.
+pub fn front_of(format: Format) -> &'static [u8]
+    ensures { result.now ≡ front format }
+{
+    match format {
+        Format::One => b"certificate\t1\nplan\t",
+        Format::Two => b"certificate\t2\nplan\t",
+    }
+}
+
 /// The certificate's text, in one pass over its rows.
 pub fn write_certificate(alloc: Global, certificate: &Certificate) -> Result<Text, AllocError>
     ensures { IfOk result (λ text. text ≡ certificate_text certificate.now) }
 {
     let digest = hex::encode(alloc, certificate.digest.as_slice())?;
-    let mut out = Vec::from_slice(alloc, b"certificate\t1\nplan\t")?;
+    let mut out = Vec::from_slice(alloc, front_of(certificate.format))?;
     out.extend_from_slice(digest.as_bytes())?;
     out.push(LF)?;
     write_rows(&mut out, certificate.hops.as_slice())?;

@@ -1,7 +1,8 @@
-use Rattle.std.proofs.Common.{◌++◌, codes, flat_map, sym}
+use Rattle.std.proofs.Common.{ℕ, List, ◌++◌, ◌∙◌, ap, codes, flat_map, sym}
 use Rattle.hex.specs.Hex.{encode_lower}
-use Rattle.dr_cert_text.specs.CertificateText.{row, hop_row, line_row}
+use Rattle.dr_cert_text.specs.CertificateText.{row, version, hop_row, line_row}
 use Rattle.dr_cert_text.proofs.Rows.{ended}
+use Rattle.dr_cert_text.proofs.Whole.{first_rows, last_row}
 use Rattle.dr_cert_text.proofs.writer.write_certificate.Goals as goal
 
 pub returns : goal.returns
@@ -15,10 +16,11 @@ returns c =
       c.in_ok-push.ensures.items,
       c.in_ok-extend_from_slice.ensures.items,
       c.in_ok-out.ensures.items,
+      c.front_of.ensures,
       c.as_bytes.ensures.value,
       c.in_ok-digest.ensures,
       c.as_slice.ensures,
       c.as_slice-2.ensures,
       c.as_slice-3.ensures,
     )
-    (sym (ended (row (codes "certificate") (codes "1") ++ row (codes "plan") (encode_lower certificate.digest) ++ flat_map hop_row certificate.hops ++ flat_map line_row certificate.lines)))
+    (ap (λ (t : List ℕ). t ++ flat_map hop_row certificate.hops ++ flat_map line_row certificate.lines ++ last_row) (first_rows certificate.format (encode_lower certificate.digest)) ∙ sym (ended (row (codes "certificate") (version certificate.format) ++ row (codes "plan") (encode_lower certificate.digest) ++ flat_map hop_row certificate.hops ++ flat_map line_row certificate.lines)))

@@ -1,0 +1,5 @@
+use Rattle.dr_cert_text.proofs.Whole.{begins_neither}
+use Rattle.dr_cert_text.proofs.reader.read_front.Goals as goal
+
+pub returns-in-None : goal.returns-in-None
+returns-in-None c = begins_neither c.args.text.now (rw c.front_of.ensures at c.in_default.ensures) (rw c.front_of-2.ensures at c.in-None.ensures)
