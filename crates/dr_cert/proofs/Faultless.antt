@@ -17,7 +17,7 @@ meets_all plan certificate sound own = (
       (
         (
           (
-            (own.digest, (own.lines_ordered, own.hops_ordered)),
+            ((own.format, own.digest), (own.lines_ordered, own.hops_ordered)),
             (λ stop r.
                 let rank = sound_has_rank plan sound r.0 stop.caller stop.node r.2 in
                 (rank.0, (own.lines (record { stop = stop; rank = rank.0 })).1 (r.0, r.1, r.2, rank.1))),

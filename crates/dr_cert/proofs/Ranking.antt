@@ -2,13 +2,17 @@
 use Rattle.std.proofs.Common.{ℕ, refl, List, Contains}
 use Rattle.std.specs.Prelude.{◌↔◌}
 use Rattle.dr_base.specs.Texts.{Text}
-use Rattle.dr_route.specs.Cells.{InField}
+use Rattle.dr_route.specs.Routes.{Begins}
+use Rattle.dr_route.specs.Cells.{InField, InStation, IsLongest}
 use Rattle.dr_route.specs.Laws.{key_of}
 use Rattle.dr_route.specs.declared.key.Key.{Key}
 use Rattle.dr_route.specs.declared.cell.FieldValues.{FieldValues}
 use Rattle.dr_route.specs.declared.cell.Literals.{Literals}
 use Rattle.dr_route.specs.declared.cell.OwnedField.{OwnedField}
 use Rattle.dr_route.specs.declared.cell.OwnedField.TheVariants.{Literal, Rest}
+use Rattle.dr_route.specs.declared.cell.StationValues.{StationValues}
+use Rattle.dr_route.specs.declared.cell.OwnedStation.{OwnedStation}
+use Rattle.dr_route.specs.declared.cell.OwnedStation.TheVariants as station
 use Rattle.dr_route.specs.declared.cell.OwnedCell.{OwnedCell}
 use Rattle.dr_network.specs.Networks.{Network}
 use Rattle.dr_network.specs.Plans.{IsWellFormed, LiesIn, literals_of}
@@ -27,13 +31,26 @@ field_alike : (a b : FieldValues) (field : OwnedField) (value : Text) → ((t : 
 field_alike a b (Literal literal) value same h = ((same literal).0 h.0, h.1)
 field_alike a b Rest value same h = λ among. h ((same value).1 among)
 
-pub lies_there : (plan : Network) (literals : Literals) (key : Key) (modality station : OwnedField) → AreLiteralsOf plan literals → InField literals.modalities modality key.modality →
-    InField literals.stations station key.station → LiesIn plan (record { class = key.class; syntax = key.syntax; modality = modality; station = station }) key
+station_alike : (a b : StationValues) (part : OwnedStation) (value : Text) → ((t : Text) → Contains a.literals t ↔ Contains b.literals t) → ((t : Text) → Contains a.prefixes t ↔ Contains b.prefixes t) →
+    InStation a part value → InStation b part value
+station_alike a b (station.Literal literal) value same alike h = ((same literal).0 h.0, h.1)
+station_alike a b (station.Prefix prefix) value same alike h = (
+  λ among. h.0 ((same value).1 among),
+  record {
+    among = (alike prefix).0 h.1.among;
+    begins = h.1.begins;
+    longest = λ other among begins. h.1.longest other ((alike other).1 among) begins;
+  },
+)
+station_alike a b station.Rest value same alike h = (λ among. h.0 ((same value).1 among), λ prefix among begins. h.1 prefix ((alike prefix).1 among) begins)
+
+pub lies_there : (plan : Network) (literals : Literals) (key : Key) (modality : OwnedField) (station : OwnedStation) → AreLiteralsOf plan literals → InField literals.modalities modality key.modality →
+    InStation literals.stations station key.station → LiesIn plan (record { class = key.class; syntax = key.syntax; modality = modality; station = station }) key
 lies_there plan literals key modality station are m s = record {
   class = refl;
   syntax = refl;
   modality = field_alike literals.modalities (literals_of plan).modalities modality key.modality are.modalities m;
-  station = field_alike literals.stations (literals_of plan).stations station key.station are.stations s;
+  station = station_alike literals.stations (literals_of plan).stations station key.station are.stations are.prefixes s;
 }
 
 module _ (plan : Network) (formed : IsWellFormed plan) (index : List Line) (ranked : AreRanked plan index) (key : Key) (cell : OwnedCell) (lies : LiesIn plan cell key) (caller node : Text) where

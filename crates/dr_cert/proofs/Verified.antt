@@ -62,7 +62,7 @@ sealed plan certificate index formed so_far ranked lines hops =
         goes_on = to_ends.1;
         few_pairs = hops.0;
       },
-      record { digest = to_order.0; lines = lines; hops = hops.1; lines_ordered = to_order.1.0; hops_ordered = to_order.1.1 },
+      record { format = to_order.0.0; digest = to_order.0.1; lines = lines; hops = hops.1; lines_ordered = to_order.1.0; hops_ordered = to_order.1.1 },
     )
 
 -- ---- a test by its negation

@@ -14,9 +14,9 @@ use Rattle.dr_sound.specs.declared.certificate.Certificate.{Certificate}
 use Rattle.dr_sound.specs.Certificates.{HasLine, HasHop}
 use Rattle.dr_sound.specs.Printed.{printed_line, printed_hop}
 
--- the certificate names the plan's digest
+-- the certificate has the plan's format as its version, and names the plan's digest
 abbrev pub IsOfPlan : Network → Certificate → Type 0
-IsOfPlan plan certificate = certificate.digest ≡ plan.digest
+IsOfPlan plan certificate = (certificate.format ≡ plan.format) × (certificate.digest ≡ plan.digest)
 
 -- the lines stand in the byte order of their printed rows, each once
 abbrev pub AreLinesInOrder : List Line → Type 0

@@ -1,14 +1,15 @@
 //! Stops by reference, which take no memory.
 ghost use Rattle.std.specs.Prelude.{◌≡◌};
 ghost use Rattle.dr_base.specs.Texts.{text_cmp};
-ghost use Rattle.dr_route.specs.Cells.{owned_field};
+ghost use Rattle.dr_route.specs.Cells.{owned_field, owned_station};
 ghost use Rattle.dr_route.specs.contracts.cell.OwnedFieldOrd.TheImpl as fields;
+ghost use Rattle.dr_route.specs.contracts.cell.OwnedStationOrd.TheImpl as stations;
 ghost use Rattle.dr_route.specs.contracts.cell.OwnedCellOrd.TheImpl as cells;
 ghost use Rattle.dr_sound.specs.Stops.{stop_cmp};
 
 use dr_base::{Syntax, Text};
-use dr_route::cell::Field;
-use dr_route::{OwnedCell, OwnedField};
+use dr_route::cell::{Field, Station};
+use dr_route::{OwnedCell, OwnedField, OwnedStation};
 use dr_sound::Stop;
 use std::cmp::Ordering;
 use std::marker::Model;
@@ -21,25 +22,36 @@ pub struct Place<'a> {
     class: &'a Text,
     syntax: Syntax,
     modality: Field<'a>,
-    station: Field<'a>,
+    station: Station<'a>,
 }
 
 impl<'a> Model for Place<'a> {
     ghost use Rattle.dr_sound.specs.declared.certificate.Stop.{Stop};
-    ghost use Rattle.dr_route.specs.Cells.{owned_field};
+    ghost use Rattle.dr_route.specs.Cells.{owned_field, owned_station};
 
     ghost Value = { Stop };
 
-    ghost view = { λ p. record { caller = p.caller.now; node = p.node.now; cell = record { class = p.class.now; syntax = p.syntax; modality = owned_field p.modality; station = owned_field p.station } } };
+    ghost view = { λ p. record { caller = p.caller.now; node = p.node.now; cell = record { class = p.class.now; syntax = p.syntax; modality = owned_field p.modality; station = owned_station p.station } } };
 }
 
-/// The field by reference.
+/// The part of the modalities by reference.
 fn borrowed(field: &OwnedField) -> Field<'_>
     ensures { owned_field result ≡ field.now }
 {
     match field {
         OwnedField::Literal(literal) => Field::Literal(literal),
         OwnedField::Rest => Field::Rest,
+    }
+}
+
+/// The part of the stations by reference.
+fn borrowed_station(station: &OwnedStation) -> Station<'_>
+    ensures { owned_station result ≡ station.now }
+{
+    match station {
+        OwnedStation::Literal(literal) => Station::Literal(literal),
+        OwnedStation::Prefix(prefix) => Station::Prefix(prefix),
+        OwnedStation::Rest => Station::Rest,
     }
 }
 
@@ -51,9 +63,9 @@ impl<'a> Place<'a> {
         class: &'a Text,
         syntax: Syntax,
         modality: Field<'a>,
-        station: Field<'a>,
+        station: Station<'a>,
     ) -> Place<'a>
-        ensures { result ≡ record { caller = caller.now; node = node.now; cell = record { class = class.now; syntax = syntax; modality = owned_field modality.entry; station = owned_field station.entry } } }
+        ensures { result ≡ record { caller = caller.now; node = node.now; cell = record { class = class.now; syntax = syntax; modality = owned_field modality.entry; station = owned_station station.entry } } }
     {
         Place {
             caller,
@@ -75,7 +87,7 @@ impl<'a> Place<'a> {
             class: &cell.class,
             syntax: cell.syntax,
             modality: borrowed(&cell.modality),
-            station: borrowed(&cell.station),
+            station: borrowed_station(&cell.station),
         }
     }
 
@@ -85,7 +97,7 @@ impl<'a> Place<'a> {
     {
         cell.class.cmp(self.class).then(
             cell.syntax.cmp(&self.syntax).then(compared_field(&cell.modality, &self.modality).then(
-                compared_field(&cell.station, &self.station),
+                compared_station(&cell.station, &self.station),
             )),
         )
     }
@@ -102,7 +114,7 @@ impl<'a> Place<'a> {
     }
 }
 
-/// How the part of a field compares to one by reference.
+/// How the part of the modalities compares to one by reference.
 fn compared_field(part: &OwnedField, field: &Field<'_>) -> Ordering
     ensures { result ≡ fields.cmp-value.it part.now (owned_field field.now) }
 {
@@ -111,5 +123,20 @@ fn compared_field(part: &OwnedField, field: &Field<'_>) -> Ordering
         (OwnedField::Literal(_), Field::Rest) => Ordering::Less,
         (OwnedField::Rest, Field::Literal(_)) => Ordering::Greater,
         (OwnedField::Rest, Field::Rest) => Ordering::Equal,
+    }
+}
+
+/// How the part of the stations compares to one by reference.
+fn compared_station(part: &OwnedStation, station: &Station<'_>) -> Ordering
+    ensures { result ≡ stations.cmp-value.it part.now (owned_station station.now) }
+{
+    match (part, station) {
+        (OwnedStation::Literal(literal), Station::Literal(other)) => literal.cmp(other),
+        (OwnedStation::Prefix(prefix), Station::Prefix(other)) => prefix.cmp(other),
+        (OwnedStation::Rest, Station::Rest) => Ordering::Equal,
+        (OwnedStation::Literal(_), _) => Ordering::Less,
+        (OwnedStation::Prefix(_), Station::Literal(_)) => Ordering::Greater,
+        (OwnedStation::Prefix(_), Station::Rest) => Ordering::Less,
+        (OwnedStation::Rest, _) => Ordering::Greater,
     }
 }

@@ -11,7 +11,7 @@ use crate::verify::{test_lines, test_order};
 use dr_base::Text;
 use dr_network::Plan;
 use dr_network::literals::literals;
-use dr_route::cell::field_of;
+use dr_route::cell::{field_of, station_of};
 use dr_route::{Key, Literals};
 use dr_sound::{Certificate, Line};
 use std::alloc::{AllocError, Global};
@@ -120,7 +120,7 @@ impl Sealed {
             &key.class,
             key.syntax,
             field_of(&self.literals.modalities, &key.modality),
-            field_of(&self.literals.stations, &key.station),
+            station_of(&self.literals.stations, &key.station),
         );
         match rank_of(self.index.as_slice(), &stop) {
             Some(rank) => Some(rank),

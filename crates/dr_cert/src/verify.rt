@@ -1,7 +1,7 @@
 //! The tests of a certificate, one after another.
 ghost use Rattle.std.specs.Prelude.{◌↔◌, IsTrue, Contains};
 ghost use Rattle.dr_sound.specs.declared.certificate.Line.{Line as LineValue};
-ghost use Rattle.dr_cert.specs.Conditions.{UpToOrder};
+ghost use Rattle.dr_cert.specs.Conditions.{IsOfPlan, UpToOrder};
 ghost use Rattle.dr_cert.specs.Indexing.{IsIndexOf, AreSorted};
 ghost use Rattle.dr_cert.specs.Verifying.{Begins, Walks, Verifies};
 
@@ -15,11 +15,21 @@ use dr_network::Plan;
 use dr_sound::{Certificate, Line};
 use std::alloc::Global;
 
+/// Whether the certificate's version is the plan's format, and its digest the plan's.
+fn is_of_plan(plan: &Plan, certificate: &Certificate) -> bool
+    ensures { IsTrue result ↔ IsOfPlan plan.now certificate.now }
+{
+    if certificate.format != plan.format() {
+        return false;
+    }
+    certificate.digest == *plan.digest()
+}
+
 /// The certificate is of this plan, and its lines and hops stand in order.
 pub fn test_order(alloc: Global, plan: &Plan, certificate: &Certificate) -> Result<(), CertFault>
     ensures { Begins plan.now certificate.now result }
 {
-    if certificate.digest != *plan.digest() {
+    if !is_of_plan(plan, certificate) {
         return Err(CertFault::OtherPlan);
     }
     if !are_lines_in_order(alloc, certificate.lines.as_slice())? {

@@ -1,11 +1,11 @@
 -- A checker that has visited all entries has the lines of the plan; they and their hops can be printed.
-use Rattle.std.proofs.Common.{◌≡◌, ◌≢◌, ℕ, ◌+◌, ◌*◌, ◌<◌, ◌≤◌, inl, inr, refl, sym, ◌∙◌, ap, subst, List, [], length, Contains, Some, get_or, arith}
+use Rattle.std.proofs.Common.{◌≡◌, ◌≢◌, ℕ, ◌+◌, ◌*◌, ◌<◌, ◌≤◌, inl, inr, refl, sym, ◌∙◌, ap, subst, List, [], ◌∷◌, ◌++◌, length, Contains, Some, get_or, arith}
 use Rattle.std.specs.Prelude.{All, AllPairs, codes, ◌↔◌, slice_get}
 use Rattle.std.specs.Cmp.{IsTotalOrder}
 use Rattle.std.specs.Cmp.Lexicographic.{nat_list_cmp_total}
 use Rattle.std.proofs.lemmas.Cmp.{then_total, on_total}
 use Rattle.std.proofs.lemmas.Option.{same_Some, slice_get_cases, slice_get_past}
-use Rattle.std.proofs.lemmas.List.Elements.{All-contains, All-nil, All-cons, Contains-get_or}
+use Rattle.std.proofs.lemmas.List.Elements.{All-contains, All-nil, All-cons, Contains-get_or, Contains-push}
 use Rattle.dr_base.specs.Texts.{Text}
 use Rattle.dr_base.specs.Syntaxes.{syntax_uid}
 use Rattle.dr_hops.proofs.Rows.{same_sorted}
@@ -14,25 +14,26 @@ use Rattle.dr_base.specs.declared.syntax.Syntax.{Syntax}
 use Rattle.dr_base.specs.declared.syntax.Syntax.TheVariants.{Implicit}
 use Rattle.dr_route.specs.declared.cell.OwnedCell.{OwnedCell}
 use Rattle.dr_route.specs.Routes.{local}
-use Rattle.dr_route.specs.Laws.{IsPart, key_of}
+use Rattle.dr_route.specs.Laws.{IsPart, IsStationPart, key_of}
+use Rattle.dr_route.specs.declared.cell.OwnedStation.{OwnedStation}
+use Rattle.dr_route.specs.declared.cell.OwnedStation.TheVariants as station
 use Rattle.dr_route.specs.declared.key.Key.{Key}
 use Rattle.dr_route.specs.declared.cell.OwnedField.{OwnedField}
 use Rattle.dr_route.specs.declared.cell.OwnedField.TheVariants.{Literal, Rest}
-use Rattle.dr_network.specs.declared.literals.Attribute.{Attribute}
-use Rattle.dr_network.specs.declared.literals.Attribute.TheVariants.{Modality, Station}
+use Rattle.dr_network.specs.declared.literals.Attribute.TheVariants.{Modality, Station, StationPrefix}
 use Rattle.dr_network.specs.Networks.{Network}
 use Rattle.dr_network.specs.Formed.{IsName, IsLiteral, IsClass, IsKnownName, IsWellFormedNode, IsWellFormedFlow}
-use Rattle.dr_network.specs.Plans.{IsWellFormed, named_in}
+use Rattle.dr_network.specs.Plans.{IsWellFormed, literals_of}
 use Rattle.dr_network.specs.Walks.{IsReached}
 use Rattle.dr_network.specs.Laws.{IsCellOf}
-use Rattle.dr_network.proofs.WalksAlike.{named_is_literal}
+use Rattle.dr_network.proofs.WalksAlike.{named_has_form}
 use Rattle.dr_sound.specs.declared.certificate.Line.{Line}
 use Rattle.dr_sound.specs.declared.certificate.Hop.{Hop}
 use Rattle.dr_sound.specs.Certificates.{HasHop}
 use Rattle.dr_sound.specs.HopPairs.{OverHop, HasNumber, AreNumbered}
 use Rattle.dr_sound.specs.Ranked.{AreRanked}
 use Rattle.dr_sound.proofs.Hopping.{last_hop, reached_is_known, hop_pairs, over_hop}
-use Rattle.dr_cert_text.specs.Printable.{IsPlain, IsPlainField, IsPrintableLine, IsPrintableHop}
+use Rattle.dr_cert_text.specs.Printable.{IsPlain, IsPlainField, IsPlainStation, IsPrintableLine, IsPrintableHop}
 use Rattle.dr_entry.specs.Visiting.{IsEntryCell}
 use Rattle.dr_check.specs.declared.checker.Checker.{Checker}
 use Rattle.dr_check.specs.Checking.{IsReady, HasVisited}
@@ -94,9 +95,25 @@ plain_literal text literal = (
 plain_local : IsPlain local
 plain_local = All-cons (λ (byte : ℕ). (byte ≢ 9) × (byte ≢ 10)) 45 [] ((λ e. let a : 45 ≡ 9 = e in omega arith), (λ e. let a : 45 ≡ 10 = e in omega arith)) (All-nil _)
 
-plain_part : (plan : Network) → IsWellFormed plan → (attribute : Attribute) (field : OwnedField) → IsPart (record { literals = named_in attribute plan }) field → IsPlainField field
-plain_part plan formed attribute (Literal literal) is = plain_literal literal (named_is_literal plan formed attribute literal is)
-plain_part plan formed attribute Rest is = tt
+plain_part : (plan : Network) → IsWellFormed plan → (field : OwnedField) → IsPart (literals_of plan).modalities field → IsPlainField field
+plain_part plan formed (Literal literal) is = plain_literal literal (named_has_form plan formed Modality literal is)
+plain_part plan formed Rest is = tt
+
+-- no literal has an asterisk at its end
+no_star_behind : (text front : Text) → IsLiteral text → text ≡ front ++ 42 ∷ [] → ⊥
+no_star_behind text front literal e =
+    let P : ℕ → Type 0 = λ byte. (32 ≤ byte) × (byte < 127) × (byte ≢ 42) in
+    let Q : Text → Type 0 = λ t. All P t in
+    (All-contains P (front ++ 42 ∷ []) 42 (subst Q e literal.printable) (Contains-push front 42)).2 refl
+
+plain_station : (plan : Network) → IsWellFormed plan → (part : OwnedStation) → IsStationPart (literals_of plan).stations part → IsPlainStation part
+plain_station plan formed (station.Literal literal) is =
+    let form = named_has_form plan formed Station literal is in
+    ((plain_literal literal form).0, λ front e. no_star_behind literal front form e)
+plain_station plan formed (station.Prefix prefix) is =
+    let form = named_has_form plan formed StationPrefix prefix is in
+    ((plain_literal prefix form.literal).0, form.some)
+plain_station plan formed station.Rest is = tt
 
 known_plain : (plan : Network) → IsWellFormed plan → (name : Text) → IsKnownName plan.nodes name → IsPlain name
 known_plain plan formed name known =
@@ -126,8 +143,8 @@ line_is_printable plan formed lines all few line among =
       caller = caller_plain plan formed (key_of line.stop.cell) line.stop.caller line.stop.node r;
       node = known_plain plan formed line.stop.node (reached_is_known plan formed (key_of line.stop.cell) line.stop.caller line.stop.node r);
       class = class_plain plan formed (key_of line.stop.cell) line.stop.caller line.stop.node r;
-      modality = plain_part plan formed Modality line.stop.cell.modality cell.0;
-      station = plain_part plan formed Station line.stop.cell.station cell.1;
+      modality = plain_part plan formed line.stop.cell.modality cell.0;
+      station = plain_station plan formed line.stop.cell.station cell.1;
       rank = omega arith;
     }
 

@@ -55,6 +55,7 @@ fn judged(alloc: Global, plan: &Plan, lines: Vec<Line>) -> Result<Verdict, Alloc
     match number_hops(alloc, lines.as_slice())? {
         Numbered::TooMany { from, to } => Ok(Verdict::No(Fault::TooManyContexts { from, to })),
         Numbered::Hops(hops) => Ok(Verdict::Yes(Certificate {
+            format: plan.format(),
             digest: *plan.digest(),
             hops: order_hops(alloc, hops)?,
             lines: order_lines(alloc, lines)?,

@@ -12,13 +12,13 @@ use Rattle.dr_sound.specs.Printed.{printed_line, printed_hop}
 use Rattle.dr_hops.proofs.Rows.{same_sorted}
 use Rattle.dr_cert.proofs.laws.a_plan_has_one_certificate.Goals as goal
 
-same_parts : (a b : Certificate) → a.digest ≡ b.digest → a.hops ≡ b.hops → a.lines ≡ b.lines → a ≡ b
-same_parts a b digest hops lines =
-    let mk : List ℕ → List Hop → List Line → Certificate = λ d hs ls. record { digest = d; hops = hs; lines = ls } in
-    ap (λ (d : List ℕ). mk d a.hops a.lines) digest ∙ (ap (λ (hs : List Hop). mk b.digest hs a.lines) hops ∙ ap (λ (ls : List Line). mk b.digest b.hops ls) lines)
+same_parts : (a b : Certificate) → a.format ≡ b.format → a.digest ≡ b.digest → a.hops ≡ b.hops → a.lines ≡ b.lines → a ≡ b
+same_parts a b format digest hops lines =
+    λ i. record { format = format i; digest = digest i; hops = hops i; lines = lines i }
 
 one : (plan : Network) (a b : Certificate) → IsCertificateOf plan a → IsCertificateOf plan b → a ≡ b
 one plan a b x y = same_parts a b
+    (x.format ∙ sym y.format)
     (x.digest ∙ sym y.digest)
     (same_sorted (λ (p q : Hop). text_cmp (printed_hop p) (printed_hop q)) (on_total (λ (p : Hop). printed_hop p) nat_list_cmp_total) a.hops b.hops x.hops_ordered y.hops_ordered
     (λ hop. (λ h. (y.hops hop).1 ((x.hops hop).0 h), λ h. (x.hops hop).1 ((y.hops hop).0 h))))

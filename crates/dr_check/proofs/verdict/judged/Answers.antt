@@ -39,6 +39,7 @@ returns-in_ok-order_lines-in-Hops c =
     let D : List ℕ → Type 0 = λ digest. IsDigest digest in (
       sound_by_lines c.args.plan.now c.requires.formed c.args.lines.items c.requires.ranked numbered.few,
       record {
+        format = c.format.ensures;
         digest = c.digest.ensures;
         lines = λ line. ((λ h. (are line).0 ((lines.same line).0 h)), (λ h. (lines.same line).1 ((are line).1 h)));
         hops = λ hop. ((λ h. (number hop).0 ((numbered.each hop).0 ((hops.same hop).0 h))), (λ h. (hops.same hop).1 ((numbered.each hop).1 ((number hop).1 h))));
