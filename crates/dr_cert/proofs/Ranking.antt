@@ -27,11 +27,11 @@ use Rattle.dr_entry.proofs.Entries.{cell_that_lies}
 use Rattle.dr_cert.specs.Indexing.{HasRank, HasNoLine}
 use Rattle.dr_cert.specs.Sealing.{AreLiteralsOf}
 
-field_alike : (a b : FieldValues) (field : OwnedField) (value : Text) → ((t : Text) → Contains a.literals t ↔ Contains b.literals t) → InField a field value → InField b field value
+pub field_alike : (a b : FieldValues) (field : OwnedField) (value : Text) → ((t : Text) → Contains a.literals t ↔ Contains b.literals t) → InField a field value → InField b field value
 field_alike a b (Literal literal) value same h = ((same literal).0 h.0, h.1)
 field_alike a b Rest value same h = λ among. h ((same value).1 among)
 
-station_alike : (a b : StationValues) (part : OwnedStation) (value : Text) → ((t : Text) → Contains a.literals t ↔ Contains b.literals t) → ((t : Text) → Contains a.prefixes t ↔ Contains b.prefixes t) →
+pub station_alike : (a b : StationValues) (part : OwnedStation) (value : Text) → ((t : Text) → Contains a.literals t ↔ Contains b.literals t) → ((t : Text) → Contains a.prefixes t ↔ Contains b.prefixes t) →
     InStation a part value → InStation b part value
 station_alike a b (station.Literal literal) value same alike h = ((same literal).0 h.0, h.1)
 station_alike a b (station.Prefix prefix) value same alike h = (

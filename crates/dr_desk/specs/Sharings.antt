@@ -13,5 +13,5 @@ nobody = record {
   flows = [];
   lines = [];
   hops = [];
-  literals = record { modalities = record { literals = [] }; stations = record { literals = [] } };
+  literals = record { modalities = record { literals = [] }; stations = record { literals = []; prefixes = [] } };
 }

@@ -40,7 +40,7 @@ archive = record {
   flows = [];
   lines = [];
   hops = [];
-  literals = record { modalities = record { literals = [] }; stations = record { literals = [] } };
+  literals = record { modalities = record { literals = [] }; stations = record { literals = []; prefixes = [] } };
 }
 
 -- a context with this id that proposes a class in these transfer syntaxes

@@ -6,12 +6,9 @@ use Rattle.std.proofs.lemmas.Bool.{cases_Bool, false≢true}
 use Rattle.std.proofs.lemmas.Slice.Eq.{bytes_eq-Decides}
 use Rattle.dr_base.specs.Texts.{Text}
 use Rattle.dr_route.specs.Routes.{SendsBy, KeepsBy}
-use Rattle.dr_route.specs.Cells.{InField, InCell}
+use Rattle.dr_route.specs.Cells.{InCell}
 use Rattle.dr_route.specs.declared.key.Key.{Key}
-use Rattle.dr_route.specs.declared.cell.FieldValues.{FieldValues}
 use Rattle.dr_route.specs.declared.cell.Literals.{Literals}
-use Rattle.dr_route.specs.declared.cell.OwnedField.{OwnedField}
-use Rattle.dr_route.specs.declared.cell.OwnedField.TheVariants.{Literal, Rest}
 use Rattle.dr_route.specs.declared.cell.OwnedCell.{OwnedCell}
 use Rattle.dr_network.specs.declared.plan.Node.{Node}
 use Rattle.dr_network.specs.declared.plan.Flow.{Flow}
@@ -25,6 +22,7 @@ use Rattle.dr_sound.specs.declared.certificate.Certificate.{Certificate}
 use Rattle.dr_sound.proofs.RankedLines.{some_cell}
 use Rattle.dr_sound.proofs.Ranks.{sound_has_rank}
 use Rattle.dr_cert.specs.Sealing.{AreLiteralsOf}
+use Rattle.dr_cert.proofs.Ranking.{field_alike, station_alike}
 use Rattle.dr_site.specs.Parts.{Part, IsPartOf, is_at, is_of}
 use Rattle.dr_site.specs.Sites.{IsCertified}
 use Rattle.dr_site.specs.Routing.{HasLineFor, SendsFrom, KeepsAt}
@@ -56,11 +54,7 @@ keeps_by test (y ∷ ys) x h passes = elim (cases_Bool (test y)) [
 pub same_name : (a b : Text) → a ≡ b → bytes_eq a b ≡ true
 same_name a b h = (bytes_eq-Decides a b).1 h
 
--- the same literals make the same parts
-field_there : (v w : FieldValues) → ((t : Text) → Contains v.literals t ↔ Contains w.literals t) → (field : OwnedField) (value : Text) → InField v field value → InField w field value
-field_there v w same (Literal literal) value h = ((same literal).0 h.0, h.1)
-field_there v w same Rest value h = λ among. h ((same value).1 among)
-
+-- the same values make the same parts
 swapped : (v w : List Text) → ((t : Text) → Contains v t ↔ Contains w t) → (t : Text) → Contains w t ↔ Contains v t
 swapped v w same t = ((same t).1, (same t).0)
 
@@ -68,16 +62,17 @@ cell_there : (plan : Network) (literals : Literals) → AreLiteralsOf plan liter
 cell_there plan literals are cell key h = record {
   class = h.class;
   syntax = h.syntax;
-  modality = field_there literals.modalities (literals_of plan).modalities are.modalities cell.modality key.modality h.modality;
-  station = field_there literals.stations (literals_of plan).stations are.stations cell.station key.station h.station;
+  modality = field_alike literals.modalities (literals_of plan).modalities cell.modality key.modality are.modalities h.modality;
+  station = station_alike literals.stations (literals_of plan).stations cell.station key.station are.stations are.prefixes h.station;
 }
 
 cell_back : (plan : Network) (literals : Literals) → AreLiteralsOf plan literals → (cell : OwnedCell) (key : Key) → LiesIn plan cell key → InCell literals cell key
 cell_back plan literals are cell key h = record {
   class = h.class;
   syntax = h.syntax;
-  modality = field_there (literals_of plan).modalities literals.modalities (swapped literals.modalities.literals (literals_of plan).modalities.literals are.modalities) cell.modality key.modality h.modality;
-  station = field_there (literals_of plan).stations literals.stations (swapped literals.stations.literals (literals_of plan).stations.literals are.stations) cell.station key.station h.station;
+  modality = field_alike (literals_of plan).modalities literals.modalities cell.modality key.modality (swapped literals.modalities.literals (literals_of plan).modalities.literals are.modalities) h.modality;
+  station = station_alike (literals_of plan).stations literals.stations cell.station key.station (swapped literals.stations.literals (literals_of plan).stations.literals are.stations)
+      (swapped literals.stations.prefixes (literals_of plan).stations.prefixes are.prefixes) h.station;
 }
 
 pub lines_as_planned : (plan : Network) (certificate : Certificate) (part : Part) → IsCertified plan certificate → IsPartOf plan certificate part →

@@ -4,11 +4,12 @@ use Rattle.std.specs.Prelude.{filter, Contains, ◌↔◌}
 use Rattle.dr_base.specs.Texts.{Text}
 use Rattle.dr_route.specs.declared.rule.Rule.{Rule}
 use Rattle.dr_route.specs.declared.accept.AcceptRow.{AcceptRow}
+use Rattle.dr_route.specs.Cells.{AreInOrder}
 use Rattle.dr_route.specs.declared.cell.Literals.{Literals}
 use Rattle.dr_network.specs.declared.plan.Node.{Node}
 use Rattle.dr_network.specs.declared.plan.Flow.{Flow}
 use Rattle.dr_network.specs.Networks.{Network}
-use Rattle.dr_network.specs.Plans.{IsTheNode, modalities_of, stations_of}
+use Rattle.dr_network.specs.Plans.{IsTheNode, modalities_of, stations_of, prefixes_of}
 use Rattle.dr_sound.specs.declared.certificate.Line.{Line}
 use Rattle.dr_sound.specs.declared.certificate.Hop.{Hop}
 use Rattle.dr_sound.specs.declared.certificate.Certificate.{Certificate}
@@ -33,9 +34,10 @@ pub assembled : (plan : Network) (certificate : Certificate) (name : Text) (node
     {all_hops : List Hop} → all_hops ≡ certificate.hops → AreHopsFrom name all_hops hops →
     ((t : Text) → Contains literals.modalities.literals t ↔ Contains (modalities_of plan) t) →
     ((t : Text) → Contains literals.stations.literals t ↔ Contains (stations_of plan) t) →
+    ((t : Text) → Contains literals.stations.prefixes t ↔ Contains (prefixes_of plan) t) → AreInOrder literals →
     IsPartOf plan certificate (record { name = n; max_pdu = max_pdu; digest = digest; rules = rules; accepts = accepts; flows = flows; lines = lines; hops = hops; literals = literals })
 assembled plan certificate name node is_node n max_pdu digest rules accepts flows lines hops literals named long of_plan by_rules by_accepts
-    all_flows at_flows all_lines own slice index all_hops from_hops modalities stations =
+    all_flows at_flows all_lines own slice index all_hops from_hops modalities stations prefixes ordered =
     let P : Text → Type 0 = λ m. IsPartOf plan certificate (record { name = m; max_pdu = max_pdu; digest = digest; rules = rules; accepts = accepts; flows = flows; lines = lines; hops = hops; literals = literals }) in
     let Q : List Line → Type 0 = λ ls. IsIndexOf ls lines in
     let R : List Hop → Type 0 = λ hs. AreHopsFrom name hs hops in
@@ -45,5 +47,5 @@ assembled plan certificate name node is_node n max_pdu digest rules accepts flow
       flows = at_flows ∙ ap (filter (is_at name)) all_flows;
       lines = subst Q (slice ∙ (own ∙ ap (filter (is_of name)) all_lines)) index;
       hops = subst R all_hops from_hops;
-      literals = record { modalities = modalities; stations = stations };
+      literals = record { modalities = modalities; stations = stations; prefixes = prefixes; ordered = ordered };
     })

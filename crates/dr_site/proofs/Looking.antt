@@ -3,41 +3,26 @@ use Rattle.std.proofs.Common.{◌≡◌, ℕ, refl, sym, ◌∙◌, ap, subst, L
 use Rattle.std.proofs.lemmas.Option.{slice_get_within, get_or_from_slice_get}
 use Rattle.dr_base.specs.Texts.{Text}
 use Rattle.dr_base.specs.declared.syntax.Syntax.{Syntax}
-use Rattle.dr_route.specs.Cells.{InField, InCell}
+use Rattle.dr_route.specs.Cells.{InField, InStation, InCell}
 use Rattle.dr_route.specs.declared.key.Key.{Key}
-use Rattle.dr_route.specs.declared.cell.FieldValues.{FieldValues}
-use Rattle.dr_route.specs.declared.cell.Literals.{Literals}
 use Rattle.dr_route.specs.declared.cell.OwnedField.{OwnedField}
-use Rattle.dr_route.specs.declared.cell.OwnedField.TheVariants.{Literal, Rest}
+use Rattle.dr_route.specs.declared.cell.OwnedStation.{OwnedStation}
 use Rattle.dr_route.specs.declared.cell.OwnedCell.{OwnedCell}
+use Rattle.dr_route.proofs.Agreement.{one_cell}
 use Rattle.dr_sound.specs.declared.certificate.Stop.{Stop}
 use Rattle.dr_sound.specs.declared.certificate.Line.{Line}
 use Rattle.dr_cert.specs.Indexing.{HasNoLine, StandsAt}
 use Rattle.dr_site.specs.Parts.{Part}
 use Rattle.dr_site.specs.Routing.{HasLineFor}
 
-one_field : (values : FieldValues) (a b : OwnedField) (value : Text) → InField values a value → InField values b value → a ≡ b
-one_field values (Literal l) (Literal m) value h k = ap Literal (h.1 ∙ sym k.1)
-one_field values (Literal l) Rest value h k = absurd (k (let P : Text → Type 0 = λ t. Contains values.literals t in subst P h.1 h.0))
-one_field values Rest (Literal m) value h k = absurd (h (let P : Text → Type 0 = λ t. Contains values.literals t in subst P k.1 k.0))
-one_field values Rest Rest value h k = refl
-
-abbrev cell_at : Text → Syntax → OwnedField → OwnedField → OwnedCell
+abbrev cell_at : Text → Syntax → OwnedField → OwnedStation → OwnedCell
 cell_at class syntax modality station = record { class = class; syntax = syntax; modality = modality; station = station }
-
--- a key lies in one cell
-one_cell : (literals : Literals) (key : Key) (a b : OwnedCell) → InCell literals a key → InCell literals b key → a ≡ b
-one_cell literals key a b h k =
-    ap (λ (t : Text). cell_at t a.syntax a.modality a.station) (h.class ∙ sym k.class)
-    ∙ (ap (λ (s : Syntax). cell_at b.class s a.modality a.station) (h.syntax ∙ sym k.syntax)
-    ∙ (ap (λ (f : OwnedField). cell_at b.class b.syntax f a.station) (one_field literals.modalities a.modality b.modality key.modality h.modality k.modality)
-    ∙ ap (λ (f : OwnedField). cell_at b.class b.syntax b.modality f) (one_field literals.stations a.station b.station key.station h.station k.station)))
 
 abbrev stop_at : Text → Text → OwnedCell → Stop
 stop_at caller node cell = record { caller = caller; node = node; cell = cell }
 
-module _ (part : Part) (caller : Text) (key : Key) (modality station : OwnedField) (lies : InField part.literals.modalities modality key.modality)
-    (stands : InField part.literals.stations station key.station) where
+module _ (part : Part) (caller : Text) (key : Key) (modality : OwnedField) (station : OwnedStation) (lies : InField part.literals.modalities modality key.modality)
+    (stands : InStation part.literals.stations station key.station) where
   abbrev cell : OwnedCell
   cell = cell_at key.class key.syntax modality station
 
@@ -65,16 +50,16 @@ module _ (part : Part) (caller : Text) (key : Key) (modality station : OwnedFiel
       none (line.rank, subst P same has.1)
 
 -- the same of lines and of a stop that are equal to these
-pub found_by : (part : Part) (caller : Text) (key : Key) (modality station : OwnedField) → InField part.literals.modalities modality key.modality →
-    InField part.literals.stations station key.station → (lines : List Line) (stop : Stop) → lines ≡ part.lines →
+pub found_by : (part : Part) (caller : Text) (key : Key) (modality : OwnedField) (station : OwnedStation) → InField part.literals.modalities modality key.modality →
+    InStation part.literals.stations station key.station → (lines : List Line) (stop : Stop) → lines ≡ part.lines →
     stop ≡ stop_at caller part.name (cell_at key.class key.syntax modality station) → (place : ℕ) → StandsAt lines stop place → HasLineFor part caller key
 found_by part caller key modality station lies stands lines stop same_lines same_stop place at =
     let P : List Line → Type 0 = λ ls. StandsAt ls stop place in
     let Q : Stop → Type 0 = λ s. StandsAt part.lines s place in
     found part caller key modality station lies stands place (subst Q same_stop (subst P same_lines at))
 
-pub not_found_by : (part : Part) (caller : Text) (key : Key) (modality station : OwnedField) → InField part.literals.modalities modality key.modality →
-    InField part.literals.stations station key.station → (lines : List Line) (stop : Stop) → lines ≡ part.lines →
+pub not_found_by : (part : Part) (caller : Text) (key : Key) (modality : OwnedField) (station : OwnedStation) → InField part.literals.modalities modality key.modality →
+    InStation part.literals.stations station key.station → (lines : List Line) (stop : Stop) → lines ≡ part.lines →
     stop ≡ stop_at caller part.name (cell_at key.class key.syntax modality station) → HasNoLine lines stop → HasLineFor part caller key → ⊥
 not_found_by part caller key modality station lies stands lines stop same_lines same_stop none =
     let P : List Line → Type 0 = λ ls. HasNoLine ls stop in

@@ -2,8 +2,8 @@
 ghost use Rattle.std.specs.Prelude.{◌≡◌, ◌↔◌, IsTrue};
 
 use dr_base::{Syntax, Text};
-use dr_network::{Flow, Values};
-use dr_route::{AcceptRow, Callers, Literals, Pattern, Rule};
+use dr_network::{Flow, Stations, Values};
+use dr_route::{AcceptRow, Callers, Literals, Pattern, Rule, StationPattern, StationValues};
 use dr_sound::{Hop, Line};
 
 /// Values that can be compared as contracts see them.
@@ -62,6 +62,24 @@ impl Same for Pattern {
     }
 }
 
+impl Same for StationPattern {
+    fn is_same(&self, other: &StationPattern) -> bool {
+        match (self, other) {
+            (StationPattern::Any, StationPattern::Any) => true,
+            (StationPattern::Literal(one), StationPattern::Literal(two)) => one.is_same(two),
+            (StationPattern::Prefix(one), StationPattern::Prefix(two)) => one.is_same(two),
+            _ => false,
+        }
+    }
+}
+
+impl Same for StationValues {
+    fn is_same(&self, other: &StationValues) -> bool {
+        are_same(self.literals.as_slice(), other.literals.as_slice())
+            && are_same(self.prefixes.as_slice(), other.prefixes.as_slice())
+    }
+}
+
 impl Same for Callers {
     fn is_same(&self, other: &Callers) -> bool {
         match (self, other) {
@@ -80,6 +98,16 @@ impl Same for Values {
         match (self, other) {
             (Values::Any, Values::Any) => true,
             (Values::Listed(one), Values::Listed(two)) => are_same(one.as_slice(), two.as_slice()),
+            _ => false,
+        }
+    }
+}
+
+impl Same for Stations {
+    fn is_same(&self, other: &Stations) -> bool {
+        match (self, other) {
+            (Stations::Any, Stations::Any) => true,
+            (Stations::Listed(one), Stations::Listed(two)) => one.is_same(two),
             _ => false,
         }
     }
@@ -120,9 +148,6 @@ impl Same for Literals {
         are_same(
             self.modalities.literals.as_slice(),
             other.modalities.literals.as_slice(),
-        ) && are_same(
-            self.stations.literals.as_slice(),
-            other.stations.literals.as_slice(),
-        )
+        ) && self.stations.is_same(&other.stations)
     }
 }

@@ -17,7 +17,7 @@ use dr_cert::place::Place;
 use dr_network::literals::literals;
 use dr_network::sending::flow_targets;
 use dr_network::{Flow, Plan};
-use dr_route::cell::field_of;
+use dr_route::cell::{field_of, station_of};
 use dr_route::routing::targets;
 use dr_route::{AcceptRow, Key, Literals, Rule, Targets, is_local};
 use dr_sound::{Certificate, Hop, Line};
@@ -191,7 +191,7 @@ impl Site {
         ensures { IsTrue result ↔ HasLineFor self.now caller.now key.now }
     {
         let modality = field_of(&self.literals.modalities, &key.modality);
-        let station = field_of(&self.literals.stations, &key.station);
+        let station = station_of(&self.literals.stations, &key.station);
         let stop = Place::new(
             caller, &self.name, &key.class, key.syntax, modality, station,
         );

@@ -49,7 +49,7 @@ use Rattle.dr_model.specs.Steps.{IsHop}
 
 -- the site of an end; one without a site, which no link has, counts as one of nothing
 abbrev pub site_in : Option Part → Part
-site_in None = record { name = []; max_pdu = 0; digest = []; rules = []; accepts = []; flows = []; lines = []; hops = []; literals = record { modalities = record { literals = [] }; stations = record { literals = [] } } }
+site_in None = record { name = []; max_pdu = 0; digest = []; rules = []; accepts = []; flows = []; lines = []; hops = []; literals = record { modalities = record { literals = [] }; stations = record { literals = []; prefixes = [] } } }
 site_in (Some site) = site
 
 abbrev pub site_of : Core → Part
