@@ -15,6 +15,7 @@ pub mod writer;
 
 pub use fault::ReadFault;
 pub use order::{order_hops, order_lines};
+pub use printed::{add_field, add_station, field_bytes};
 pub use reader::read_certificate;
 pub use sorted::{are_hops_in_order, are_lines_in_order};
 pub use writer::write_certificate;

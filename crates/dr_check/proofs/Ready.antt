@@ -52,7 +52,7 @@ are_ranked c ready visited = record {
 
 -- some cell, for what holds whatever the cell
 any : OwnedCell
-any = record { class = []; syntax = Implicit; modality = Rest; station = Rest }
+any = record { class = []; syntax = Implicit; modality = Rest; station = station.Rest }
 
 at_most : (c : Checker) → IsReady c → length c.search.lines.items ≤ 65536
 at_most c ready =

@@ -1,26 +1,16 @@
 //! The line that is printed for a plan that isn't sound.
 ghost use Rattle.std.specs.Prelude.{◌≡◌, ◌++◌, ◌∷◌, IfOk, OnOk};
-ghost use Rattle.dr_sound.specs.Printed.{printed_field};
 ghost use Rattle.dr_commands.specs.Faults.{tabbed, walk_fields, fault_fields, no_line};
 
 use dr_base::Text;
+use dr_cert_text::{add_station, field_bytes};
 use dr_check::Fault;
-use dr_route::{OwnedCell, OwnedField};
+use dr_route::OwnedCell;
 use std::alloc::{AllocError, Global};
 
 const TAB: u8 = 9;
 
 const LF: u8 = 10;
-
-/// The part of a field, as certificates print it.
-fn part_of(field: &OwnedField) -> &[u8]
-    ensures { result.now ≡ printed_field field.now }
-{
-    match field {
-        OwnedField::Literal(literal) => literal.as_bytes(),
-        OwnedField::Rest => b"*",
-    }
-}
 
 /// Adds a field behind a tab.
 pub fn add_field(line: &mut Vec<u8>, field: &[u8]) -> Result<(), AllocError>
@@ -46,8 +36,8 @@ fn add_walk(line: &mut Vec<u8>, cell: &OwnedCell, walk: &[Text]) -> Result<(), A
 {
     add_field(line, cell.class.as_bytes())?;
     add_field(line, cell.syntax.uid())?;
-    add_field(line, part_of(&cell.modality))?;
-    add_field(line, part_of(&cell.station))?;
+    add_field(line, field_bytes(&cell.modality))?;
+    add_station(line, &cell.station)?;
     add_fields(line, walk)
 }
 

@@ -2,7 +2,8 @@
 ghost use Rattle.std.specs.Prelude.{◌≡◌, ◌↔◌, IsTrue};
 
 use dr_base::{Syntax, Text};
-use dr_network::{Flow, Values};
+use dr_network::{Flow, Stations, Values};
+use dr_route::StationValues;
 
 /// Values that can be compared as contracts see them.
 pub trait Same {
@@ -43,6 +44,23 @@ impl Same for Values {
         match (self, other) {
             (Values::Any, Values::Any) => true,
             (Values::Listed(one), Values::Listed(two)) => are_same(one.as_slice(), two.as_slice()),
+            _ => false,
+        }
+    }
+}
+
+impl Same for StationValues {
+    fn is_same(&self, other: &StationValues) -> bool {
+        are_same(self.literals.as_slice(), other.literals.as_slice())
+            && are_same(self.prefixes.as_slice(), other.prefixes.as_slice())
+    }
+}
+
+impl Same for Stations {
+    fn is_same(&self, other: &Stations) -> bool {
+        match (self, other) {
+            (Stations::Any, Stations::Any) => true,
+            (Stations::Listed(one), Stations::Listed(two)) => one.is_same(two),
             _ => false,
         }
     }

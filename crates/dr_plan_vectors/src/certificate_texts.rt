@@ -4,7 +4,7 @@ ghost use Rattle.dr_cert_text.specs.Printable.{IsPrintableHop};
 
 use dr_base::{Seq, Syntax, Text};
 use dr_cert_text::{order_hops, read_certificate, write_certificate};
-use dr_route::OwnedField;
+use dr_route::OwnedStation;
 use dr_sound::Hop;
 use std::alloc::{AllocError, Global};
 use std::test::Fail;
@@ -38,7 +38,7 @@ fn what_is_written_is_read(rt: HostRuntime) -> Result<(), Fail> {
     assert_eq!(rt; certificate.lines.len(), 3);
     let line = &certificate.lines.as_slice()[1];
     assert!(rt; line.stop.caller.as_bytes() == b"CT1".as_slice());
-    assert!(rt; line.stop.cell.station == OwnedField::Rest);
+    assert!(rt; line.stop.cell.station == OwnedStation::Rest);
     assert_eq!(rt; line.rank, 1);
     let again = write_certificate(rt.alloc(), &certificate)?;
     assert!(rt; again.as_bytes() == text.as_slice());

@@ -3,7 +3,7 @@ use crate::samples::PLAN;
 use dr_base::Syntax;
 use dr_network::{Node, Plan};
 use dr_plan::{literals, read_plan};
-use dr_route::{AcceptRow, Callers, Pattern, Rule};
+use dr_route::{AcceptRow, Callers, Pattern, Rule, StationPattern};
 use std::alloc::Global;
 use std::test::Fail;
 
@@ -18,7 +18,7 @@ fn is_rule_of_gate(rule: &Rule) -> bool {
     matches!(&rule.from, Pattern::Literal(name) if name.as_bytes() == b"CT1".as_slice())
         && matches!(&rule.class, Pattern::Any)
         && matches!(&rule.modality, Pattern::Any)
-        && matches!(&rule.station, Pattern::Any)
+        && matches!(&rule.station, StationPattern::Any)
         && rule.to.len() == 1
         && !rule.keep
 }

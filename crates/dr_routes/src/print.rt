@@ -1,35 +1,15 @@
 //! The rows of a journey.
-ghost use Rattle.std.specs.Prelude.{◌≡◌, ◌++◌, ◌∷◌, [], IfOk, OnOk, decimal, flat_map};
-ghost use Rattle.dr_sound.specs.Printed.{printed_field};
+ghost use Rattle.std.specs.Prelude.{◌≡◌, ◌++◌, IfOk, OnOk, flat_map};
 ghost use Rattle.dr_routes.specs.Rows.{cell_row, hop_row, journey_text, keep_row, rank_row};
 
 use dr_base::Text;
-use dr_route::{OwnedCell, OwnedField};
+use dr_cert_text::{add_field, add_station, field_bytes};
+use dr_route::OwnedCell;
 use dr_sound::Hop;
 use dr_trace::Journey;
 use std::alloc::{AllocError, Global};
 
-const TAB: u8 = 9;
-
 const LF: u8 = 10;
-
-/// The part of a field, as certificates print it.
-fn part_of(field: &OwnedField) -> &[u8]
-    ensures { result.now ≡ printed_field field.now }
-{
-    match field {
-        OwnedField::Literal(literal) => literal.as_bytes(),
-        OwnedField::Rest => b"*",
-    }
-}
-
-/// Adds a field behind a tab.
-fn add_field(out: &mut Vec<u8>, field: &[u8]) -> Result<(), AllocError>
-    ensures { OnOk result (out.new.items ≡ out.old.items ++ (9 ∷ field.now)) }
-{
-    out.push(TAB)?;
-    out.extend_from_slice(field)
-}
 
 /// Adds the row of a cell.
 fn add_cell(out: &mut Vec<u8>, cell: &OwnedCell) -> Result<(), AllocError>
@@ -38,8 +18,8 @@ fn add_cell(out: &mut Vec<u8>, cell: &OwnedCell) -> Result<(), AllocError>
     out.extend_from_slice(b"cell")?;
     add_field(out, cell.class.as_bytes())?;
     add_field(out, cell.syntax.uid())?;
-    add_field(out, part_of(&cell.modality))?;
-    add_field(out, part_of(&cell.station))?;
+    add_field(out, field_bytes(&cell.modality))?;
+    add_station(out, &cell.station)?;
     out.push(LF)?;
     Ok(())
 }
