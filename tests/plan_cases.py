@@ -137,6 +137,10 @@ TEXTS = [
     ('S1', '01234567890123456789012345678901234567890123456789012345678901234', 'L2 Field'),
     ('class = ["1.2.840.10008.5.1.4.1.1.2"]', 'class = []', 'L2 Field'),
     ('class = ["1.2.840.10008.5.1.4.1.1.2"]', 'class = ["1", "1"]', None),
+    # prefixes stand in format 1 nowhere
+    ('station = ["S1"]', 'station = ["S*"]', 'L2 Field'),
+    ('keep = true', 'station = "S*"', 'L2 Field'),
+    ('keep = true', 'modality = "S*"', 'L2 Field'),
     # lengths of PDUs at their limits
     (':11103"', ':11103"\nmax_pdu = 0', None),
     (':11103"', ':11103"\nmax_pdu = 1023', 'L6 Limit'),
@@ -158,9 +162,11 @@ TEXTS = [
     ('127.0.0.1:11103', 'h', 'L2 Field'),
     ('127.0.0.1:11103', 'h:1a', 'L2 Field'),
     ('127.0.0.1:11103', 'h h:1', 'L2 Field'),
-    # the format is 1
+    # the format is 1 or 2
     ('[[node]]\nname = "CT1"', 'format = 1\n[[node]]\nname = "CT1"', None),
-    ('[[node]]\nname = "CT1"', 'format = 2\n[[node]]\nname = "CT1"', 'L2 Field'),
+    ('[[node]]\nname = "CT1"', 'format = 2\n[[node]]\nname = "CT1"', None),
+    ('[[node]]\nname = "CT1"', 'format = 3\n[[node]]\nname = "CT1"', 'L2 Field'),
+    ('[[node]]\nname = "CT1"', 'format = 0\n[[node]]\nname = "CT1"', 'L2 Field'),
     ('[[node]]\nname = "CT1"', 'format = "1"\n[[node]]\nname = "CT1"', 'L2 Field'),
     ('[[node]]\nname = "CT1"', '[other]\n[[node]]\nname = "CT1"', 'L2 Field'),
     ('name = "CT1"', '', 'L2 Field'),
@@ -173,6 +179,28 @@ TEXTS = [
     ('from = "*"', 'from = "CT1"', 'L2 Field'),
     ('from = "*"', 'from = []', None),
     ('from = "*"', 'from = ["*"]', 'L3 Name'),
+]
+
+# what stands in the place of a text of the plan of three nodes in format 2, and the fault that this makes
+TEXTS_OF_FORMAT_2 = [
+    ('station = ["S1"]', 'station = ["S*"]', None),
+    ('station = ["S1"]', 'station = ["S*", "S1", "S1*", "S*"]', None),
+    ('station = ["S1"]', 'station = ["*"]', 'L2 Field'),
+    ('station = ["S1"]', 'station = ["S *"]', 'L2 Field'),
+    ('station = ["S1"]', 'station = [" S*"]', 'L2 Field'),
+    ('station = ["S1"]', 'station = ["S**"]', 'L2 Field'),
+    ('station = ["S1"]', 'station = ["S*1"]', 'L2 Field'),
+    ('station = ["S1"]', 'station = "S*"', 'L2 Field'),
+    ('S1', '0123456789012345678901234567890123456789012345678901234567890123*', None),
+    ('S1', '01234567890123456789012345678901234567890123456789012345678901234*', 'L2 Field'),
+    ('modality = ["CT"]', 'modality = ["CT*"]', 'L2 Field'),
+    ('keep = true', 'station = "S*"', None),
+    ('keep = true', 'station = "*"', None),
+    ('keep = true', 'station = "**"', 'L2 Field'),
+    ('keep = true', 'station = "S *"', 'L2 Field'),
+    ('keep = true', 'modality = "S*"', 'L2 Field'),
+    ('from = "CT1"', 'from = "CT*"', 'L4 UnknownNode'),
+    ('class = ["1.2.840.10008.5.1.4.1.1.2"]', 'class = ["1.2*"]', 'L2 Field'),
 ]
 
 KEY = '1.2.840.10008.5.1.4.1.1.2\t1.2.840.10008.1.2.1'
@@ -203,6 +231,19 @@ ENDLESS = rules(LOOP, rule(to='["HUB"]'), rule(to='["GATE"]'))
 ONCE = rules(LOOP, rule(caller='"CT1"', to='["HUB"]') + '\n' + rule(caller='"HUB"', keep='true'), rule(caller='"GATE"', to='["GATE"]'))
 WRONG_SYNTAX = changed(PLAN, (ACCEPTS, OTHER_SYNTAX))
 NOWHERE = changed(PLAN, (KEEP, ''))
+STATIONS = changed('format = 2\n' + PLAN, ('station = ["S1"]', 'station = ["CT*"]'))
+
+
+def sent(*stations):
+    """The plan of format 2 in which GATE sends by a rule for each of these stations."""
+    return changed(STATIONS, (TO_ARCH, '\n'.join(f'station = "{it}"\nto = ["ARCH"]\n[[node.rule]]' for it in stations).removesuffix('[[node.rule]]')))
+
+
+def six_lines(one, other):
+    """The rows of the certificate with two parts of the stations, in this order."""
+    lines = [f'line\t{way}\tKEY\tCT\t{it}\t{rank}\n' for rank, way in ((2, '-\tCT1'), (1, 'CT1\tGATE'), (0, 'GATE\tARCH')) for it in (one, other)]
+    return ''.join(['hop\tCT1\tGATE\t1\tKEY\nhop\tGATE\tARCH\t1\tKEY\n', *lines, 'end\n'])
+
 
 # plans that aren't sound, and what is printed for them, with KEY for the class and the transfer syntax
 UNSOUND = [
@@ -211,6 +252,9 @@ UNSOUND = [
     (changed(PLAN, ANY, (TO_ARCH, 'modality = "CT"\nto = ["ARCH"]\n[[node.rule]]\nmodality = "MR"\nto = ["ARCH"]\n')),
      'no\tDeadEnd\tKEY\t*\tS1\tCT1\tGATE\n'),
     (ENDLESS, 'no\tCycle\tKEY\tCT\tS1\tCT1\tGATE\tHUB\tGATE\tHUB\n'),
+    # stations that begin with CT, and not with CT1, aren't sent on; nor those of the one station CT
+    (sent('CT1*'), 'no\tDeadEnd\tKEY\tCT\tCT*\tCT1\tGATE\n'),
+    (sent('CT'), 'no\tDeadEnd\tKEY\tCT\tCT*\tCT1\tGATE\n'),
     # where the last node neither accepts nor does anything, the hop is what is shown
     (changed(PLAN, ('"1.2.840.10008.1.2.1"]\n' + KEEP, '"1.2.840.10008.1.2"]\n')), 'no\tNoContext\tKEY\tCT\tS1\tCT1\tGATE\tARCH\n'),
 ]
@@ -253,6 +297,14 @@ line	GATE	ARCH	KEY	CT	S1	0
 line	GATE	ARCH	KEY	MR	S1	0
 end
 '''),
+]
+
+# sound plans of format 2, and their certificates behind the digest
+SOUND_IN_FORMAT_2 = [
+    ('format = 2', 'end\n'),
+    ('format = 2\n' + PLAN, THREE_NODES),
+    (sent('CT1*', 'CT*'), six_lines('CT*', 'CT1*')),
+    (sent('CT', 'CT*'), six_lines('CT', 'CT*')),
 ]
 
 FIRST, SECOND = THREE_NODES.splitlines(True)[:2]

@@ -9,7 +9,7 @@ import re
 from plan_reader import ANY, SYNTAXES
 
 LOCAL = '-'
-REST = None  # the part of a field with the values that are no literal of the plan
+REST = None  # the part of a field with the values that the plan doesn't name
 MOST_LINES = 65536
 
 
@@ -26,18 +26,19 @@ def line_text(stop, rank):
     return f'line\t{caller}\t{node}\t{printed(cell)}\t{rank}'
 
 
-def certificate_text(digest, hops, lines):
-    rows = ['certificate\t1', f'plan\t{digest}', *sorted(hops), *sorted(lines), 'end']
+def certificate_text(version, digest, hops, lines):
+    rows = [f'certificate\t{version}', f'plan\t{digest}', *sorted(hops), *sorted(lines), 'end']
     return ''.join(f'{it}\n' for it in rows).encode()
 
 
 class Model:
-    """A plan that was read. A cell is (class, transfer syntax, modality, station), a stop (caller, node, cell)."""
+    """A plan that was read. A cell is (class, transfer syntax, modality, station), a stop (caller, node, cell). The part of the
+    stations that begin with a prefix, and with no longer one, is the prefix with `*` behind it."""
 
     most_pairs, id_step, hop_order = 128, 2, staticmethod(sorted)
 
-    def __init__(self, text, nodes, flows):
-        self.digest = hashlib.sha256(text).hexdigest()
+    def __init__(self, text, nodes, flows, form=1):
+        self.form, self.digest = form, hashlib.sha256(text).hexdigest()
         self.nodes, self.flows = {it['name']: it for it in nodes}, flows
         self.parts = {field: self.literals(field) | {REST} for field in ('modality', 'station')}
 
@@ -47,13 +48,19 @@ class Model:
 
     # ---- what nodes do
 
+    def takes_in(self, named, part):
+        """Whether the values of the part are among those that the plan names so: one value, or all that begin alike."""
+        return part is not REST and (named == part or (named[-1:] == '*' and part.startswith(named[:-1])))
+
+    def is_listed(self, listed, part):
+        return listed == ANY or any(self.takes_in(it, part) for it in listed)
+
     def fits(self, flow, cell):
-        wanted = zip(('class', 'syntax', 'modality', 'station'), cell)
-        return all(flow[it] == ANY or (part is not REST and part in flow[it]) for it, part in wanted)
+        return all(self.is_listed(flow[it], part) for it, part in zip(('class', 'syntax', 'modality', 'station'), cell))
 
     def holds(self, rule, caller, cell):
         wanted = (('from', caller), ('class', cell[0]), ('modality', cell[2]), ('station', cell[3]))
-        return caller != LOCAL and all(rule[it] in (ANY, value) for it, value in wanted)
+        return caller != LOCAL and all(rule[it] == ANY or self.takes_in(rule[it], value) for it, value in wanted)
 
     def held(self, node, caller, cell):
         return [it for it in self.nodes[node]['rule'] if self.holds(it, caller, cell)]
@@ -86,7 +93,7 @@ class Model:
     def entries(self):
         """The sites and cells, in the byte order of what is printed of them."""
         def parts(flow, field):
-            return self.parts[field] if flow[field] == ANY else flow[field]
+            return [it for it in self.parts[field] if self.is_listed(flow[field], it)]
         found = {(it['at'], (sop_class, syntax, modality, station)) for it in self.flows for sop_class in it['class']
                  for syntax in it['syntax'] for modality in parts(it, 'modality') for station in parts(it, 'station')}
         return sorted(found, key=self.entry_order)
@@ -143,6 +150,9 @@ class Model:
             texts += [f'hop\t{sender}\t{receiver}\t{self.id_step * i + 1}\t{a}\t{b}' for i, (a, b) in enumerate(pairs)]
         return texts
 
+    def version(self):
+        return self.form
+
     def check(self):
         """What `check` prints, and whether the answer is yes; None for a plan that is too large."""
         ranks = {}
@@ -152,7 +162,7 @@ class Model:
                 if len(ranks) > MOST_LINES:
                     return None
             lines = [line_text(stop, rank) for stop, rank in ranks.items()]
-            return certificate_text(self.digest, self.hop_texts(ranks), lines), True
+            return certificate_text(self.version(), self.digest, self.hop_texts(ranks), lines), True
         except Fault as wrong:
             return f'no\t{wrong}\n'.encode(), False
 
@@ -184,15 +194,15 @@ class Model:
         stops = self.reached()
         ranks, hops = self.true_ranks(stops), self.hops_of(stops).items()
         texts = [f'hop\t{a}\t{b}\t{2 * i + 1}\t{c}\t{s}' for (a, b), pairs in hops for i, (c, s) in enumerate(sorted(pairs))]
-        return certificate_text(self.digest, texts, [line_text(it, ranks.get(it, 1)) for it in stops])
+        return certificate_text(self.form, self.digest, texts, [line_text(it, ranks.get(it, 1)) for it in stops])
 
     def verdict(self, text):
         """The code and name of the certificate's fault, or yes."""
         found = parse_certificate(text)
         if found is None:
             return 'C1 Text'
-        digest, hops, lines = found
-        if digest != self.digest:
+        version, digest, hops, lines = found
+        if (version, digest) != (str(self.form), self.digest):
             return 'C2 OtherPlan'
         if any(a >= b for rows in (lines, hops) for a, b in zip(rows, rows[1:])):
             return 'C8 Order'
@@ -234,8 +244,8 @@ def is_line(fields):
 
 
 def parse_certificate(text):
-    """The digest, the rows of the hops and those of the lines; None where the bytes are no certificate's text."""
-    front = re.match('certificate\t1\nplan\t([0-9a-f]{64})\n', text := text.decode('latin-1'))
+    """The version, the digest, the rows of the hops and those of the lines; None where the bytes are no certificate's text."""
+    front = re.match('certificate\t([12])\nplan\t([0-9a-f]{64})\n', text := text.decode('latin-1'))
     if front is None or not text.endswith('\nend\n'):
         return None
     rows = text[front.end():].split('\n')[:-2]
@@ -243,7 +253,7 @@ def parse_certificate(text):
     lines = [it for it in rows if is_line(it.split('\t'))]
     if rows != hops + lines or len(lines) > MOST_LINES:
         return None
-    return front[1], hops, lines
+    return front[1], front[2], hops, lines
 
 
 # ---- definitions that are wrong
@@ -387,11 +397,46 @@ class OnePairLess(Model):
     most_pairs = 127
 
 
+class PrefixIsItself(Model):
+    """A prefix holds of no other value than itself."""
+
+    def takes_in(self, named, part):
+        return part is not REST and part in (named, named.rstrip('*') or named)
+
+
+class PrefixBeforeALiteral(Model):
+    """A literal that begins with a prefix is in the prefix's part."""
+
+    def literals(self, field):
+        found = super().literals(field)
+        return {it for it in found if it[-1:] == '*' or not any(other[-1:] == '*' and it.startswith(other[:-1]) for other in found)}
+
+
+class ShortestPrefix(Model):
+    """A value is in the part of its shortest prefix."""
+
+    def literals(self, field):
+        found = super().literals(field)
+        return {it for it in found if it[-1:] != '*' or not any(other != it and other[-1:] == '*' and it.startswith(other[:-1]) for other in found)}
+
+
+class VersionOne(Model):
+    def version(self):
+        return 1
+
+
+class PrefixesWithoutTheirStar(Model):
+    """The entries are in the order of what is named, without the `*` behind a prefix."""
+
+    def entry_order(self, entry):
+        return entry[0], [ANY if it is REST else it.rstrip('*') for it in entry[1]]
+
+
 WRONG = {it.__name__: it for it in (
     FromOfARowIgnored, ClassOfARowIgnored, SyntaxOfARowIgnored, FirstRuleAlone, FirstFlowAlone, EachRuleKeeps,
     KeepingEndsAWalk, RulesForTheLocalCaller, LiteralsPooled, EntriesReversed, RestLast, RestFirst, ExplicitFirst,
     NodesInThePlansOrder, TargetsReversed, LastOverfullHop, PairsBySyntax, IdsWithoutGaps, DeadEndFirst,
-    CycleByNode, ShortestWalk, NodesCounted, EntriesAreAccepted, OnePairMore, OnePairLess,
+    CycleByNode, ShortestWalk, NodesCounted, EntriesAreAccepted, OnePairMore, OnePairLess, PrefixIsItself, PrefixBeforeALiteral, ShortestPrefix, VersionOne, PrefixesWithoutTheirStar,
 )}
 WRONG |= {f'{it} of a rule ignored': of_a_rule_ignored(it) for it in ('from', 'class', 'modality', 'station')}
 WRONG |= {f'{it} of a flow ignored': of_a_flow_ignored(it) for it in ('class', 'syntax', 'modality', 'station')}

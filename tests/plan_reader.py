@@ -32,6 +32,11 @@ def is_literal(text):
     return len(text) <= 64 and printable(text, 0x20, '*') and text == text.strip(' ')
 
 
+def is_station(text, form):
+    """A literal; in format 2 a prefix too, which is written as a literal of one byte or more with `*` behind it."""
+    return is_literal(text) or (form == 2 and text[-1:] == '*' and text != '*' and is_literal(text[:-1]))
+
+
 def is_class(text):
     return re.fullmatch('[0-9.]{1,64}', text) is not None
 
@@ -66,32 +71,33 @@ def read_accept(row):
     return row
 
 
-def read_rule(rule):
+def read_rule(rule, form):
     need(set(rule) <= {'from', 'class', 'modality', 'station', 'to', 'keep'})
     rule = {'from': ANY, 'class': ANY, 'modality': ANY, 'station': ANY, 'to': [], 'keep': False} | rule
     need(all(isinstance(rule[it], str) for it in ('from', 'class', 'modality', 'station')))
     need(rule['class'] == ANY or is_class(rule['class']))
-    need(all(rule[it] == ANY or is_literal(rule[it]) for it in ('modality', 'station')))
+    need(rule['modality'] == ANY or is_literal(rule['modality']))
+    need(rule['station'] == ANY or is_station(rule['station'], form))
     need(is_list(rule['to']) and type(rule['keep']) is bool)
     return rule
 
 
-def read_node(node):
+def read_node(node, form):
     need(set(node) <= {'name', 'address', 'max_pdu', 'accept', 'rule'} and {'name', 'address'} <= set(node))
     node = {'max_pdu': 16384, 'accept': [], 'rule': []} | node
     need(isinstance(node['name'], str) and isinstance(node['address'], str) and is_address(node['address']))
     need(type(node['max_pdu']) is int and is_list(node['accept'], dict) and is_list(node['rule'], dict))
     accepts = [read_accept(it) for it in node['accept']]
-    return node | {'accept': accepts, 'rule': [read_rule(it) for it in node['rule']]}
+    return node | {'accept': accepts, 'rule': [read_rule(it, form) for it in node['rule']]}
 
 
-def read_flow(flow):
+def read_flow(flow, form):
     need(set(flow) == {'at', 'to', 'class', 'syntax', 'modality', 'station'})
     need(isinstance(flow['at'], str) and isinstance(flow['to'], str))
     need(is_list(flow['class']) and flow['class'] and all(map(is_class, flow['class'])))
     need(is_list(flow['syntax']) and flow['syntax'])
-    for it in ('modality', 'station'):
-        need(flow[it] == ANY or (is_list(flow[it]) and all(map(is_literal, flow[it]))))
+    need(flow['modality'] == ANY or (is_list(flow['modality']) and all(map(is_literal, flow['modality']))))
+    need(flow['station'] == ANY or (is_list(flow['station']) and all(is_station(it, form) for it in flow['station'])))
     return flow
 
 
@@ -109,20 +115,21 @@ def names_used(nodes, flows):
 
 def read_tables(root):
     need(set(root) <= {'format', 'node', 'flow'})
-    need('format' not in root or (type(root['format']) is int and root['format'] == 1))
+    form = root.get('format', 1)
+    need(type(form) is int and form in (1, 2))
     nodes, flows = root.get('node', []), root.get('flow', [])
     need(is_list(nodes, dict) and is_list(flows, dict))
-    return [read_node(it) for it in nodes], [read_flow(it) for it in flows]
+    return [read_node(it, form) for it in nodes], [read_flow(it, form) for it in flows], form
 
 
 def read_plan(text):
-    """The nodes and flows that the bytes write; raises Refused."""
+    """The nodes and flows that the bytes write, and the format; raises Refused."""
     try:
         root = tomllib.loads(text.decode())
     except (UnicodeDecodeError, tomllib.TOMLDecodeError, RecursionError):
         raise Refused('L1 NotToml') from None
     need(not too_big(root), 'L1 NotToml')
-    nodes, flows = read_tables(root)
+    nodes, flows, form = read_tables(root)
     lists = [row['syntax'] for node in nodes for row in node['accept']] + [flow['syntax'] for flow in flows]
     need(all(set(it) <= set(SYNTAXES) for it in lists), 'L7 Syntax')
     names, used = [it['name'] for it in nodes], list(names_used(nodes, flows))
@@ -132,4 +139,4 @@ def read_plan(text):
     need(set(used) <= set(names), 'L4 UnknownNode')
     need(all(node['name'] not in rule['to'] for node in nodes for rule in node['rule']), 'L5 SelfRoute')
     need(all(it['at'] != it['to'] for it in flows), 'L5 SelfRoute')
-    return nodes, flows
+    return nodes, flows, form

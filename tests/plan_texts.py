@@ -5,6 +5,7 @@ NAMES = ['A', 'A B', 'B', 'C-', 'D', 'a', 'CT1', '-x', '*y']
 CLASSES = ['1', '1.2', '1.2.3']
 MODALITIES = ['CT', 'MR', '', '!', '(', '+', 'Z z']
 STATIONS = ['S1', 'S2', '', '#', '~']
+PREFIXES = ['S*', 'S1*', 'S12*', '#*', 'S 1*', '~~*']
 
 
 def quoted(value):
@@ -19,9 +20,9 @@ def table(head, values):
     return '\n'.join([f'[[{head}]]', *lines, ''])
 
 
-def plan_text(nodes, flows):
+def plan_text(nodes, flows, form=1):
     """Nodes are (name, rows of accepts, rules)."""
-    text = ''
+    text = '' if form == 1 else f'format = {form}\n'
     for name, accepts, rules in nodes:
         text += table('node', {'name': name, 'address': 'h:1'})
         text += ''.join(table('node.accept', it) for it in accepts) + ''.join(table('node.rule', it) for it in rules)
@@ -58,6 +59,9 @@ def random_plan(dice):
     """A plan of two to five nodes; seven in ten have no way back, and so no cycle."""
     names, classes = dice.sample(NAMES, dice.choice([2, 3, 3, 4, 4, 5])), dice.sample(CLASSES, dice.choice([1, 1, 2]))
     modalities, stations = dice.sample(MODALITIES, dice.choice([1, 2, 3])), dice.sample(STATIONS, dice.choice([1, 2]))
+    form = dice.choice([1, 1, 2])
+    if form == 2:
+        stations += dice.sample(PREFIXES, dice.choice([0, 1, 2, 3]))
     forwards, all_taken, nodes, flows = dice.random() < 0.7, dice.random() < 0.75, [], []
     for place, name in enumerate(names):
         targets = [it for i, it in enumerate(names) if (i > place if forwards else i != place)]
@@ -70,7 +74,7 @@ def random_plan(dice):
             at, to = to, at
         flows.append(random_flow(dice, at, to, classes, modalities, stations))
     dice.shuffle(nodes)
-    return plan_text(nodes, flows)
+    return plan_text(nodes, flows, form)
 
 
 # ---- plans with one thing that is large
@@ -141,7 +145,7 @@ ODD_ADDRESSES = ['"h:1"', '"h:65535"', '"h:65536"', '":1"', '"h"', '"h:1:2"', '"
                  f'"{"x" * 254}:1"', '1', '"ä:1"', '""']
 ODD_LIMITS = ['-1', '1', '1023', '1048577', '1024.0', '"0"', '9223372036854775807', '9223372036854775808', '-9223372036854775808', '1_024', '0b1']
 ODD_CLASSES = ['"*"', '""', '"1.a"', f'"{"1" * 64}"', f'"{"1" * 65}"', '["1"]', '"."', '1']
-ODD_LITERALS = ['"C*"', '" "', '"a\\u007f"', '1', '[]', f'"{"x" * 64}"', f'"{"x" * 65}"', '"A B"', '"**"', '"S "']
+ODD_LITERALS = ['"C*"', '"C *"', '" C*"', '"C*C"', f'"{"x" * 64}*"', f'"{"x" * 65}*"', '"*C"', '" "', '"a\\u007f"', '1', '[]', f'"{"x" * 64}"', f'"{"x" * 65}"', '"A B"', '"**"', '"S "']
 ODD_SYNTAXES = [f'"{it}"' for it in (*SYNTAXES, '1.2.840.10008.1.2.2', '')]
 GOOD_SYNTAXES = [f'["{IMPLICIT}"]', f'["{EXPLICIT}", "{IMPLICIT}"]']
 
@@ -199,7 +203,7 @@ class OddTexts:
     def text(self):
         text = ''
         if self.dice.random() < 0.3:
-            text += f'format = {self.dice.choice(["2", "1.0", chr(34) + "1" + chr(34), "true", "0x1", "+1"] if self.happens(1) else ["1"])}\n'
+            text += f'format = {self.dice.choice(["3", "0", "1.0", chr(34) + "1" + chr(34), "true", "0x1", "+1", "0x2"] if self.happens(1) else ["1", "2"])}\n'
         text += ''.join(map(self.node, self.names)) + ''.join(self.flow() for _ in range(self.dice.choice([0, 1, 1, 2])))
         found = bytearray(text.encode())
         if self.happens(0.2):

@@ -93,9 +93,9 @@ class Comparison:
         self.verify(what, model, text, certificate)
 
 
-def written_for(plan, rows):
+def written_for(plan, rows, version=1):
     """A certificate with the plan's digest and these rows."""
-    return f'certificate\t1\nplan\t{hashlib.sha256(plan).hexdigest()}\n{rows}'.replace('KEY', worked.KEY).encode()
+    return f'certificate\t{version}\nplan\t{hashlib.sha256(plan).hexdigest()}\n{rows}'.replace('KEY', worked.KEY).encode()
 
 
 def compare_texts(it):
@@ -104,6 +104,11 @@ def compare_texts(it):
     it.compare('no UTF-8', (b'', b'dr_router: L1 NotToml\n', 1), run('check', given=b'# \xff'))
     for old, new, fault in worked.TEXTS:
         what, text = f'{old} as {new}', worked.changed(worked.PLAN, (old, new)).encode()
+        got = run('check', given=text)
+        want = (b'', f'dr_router: {fault}\n'.encode(), 1) if fault else (got[0], b'', 1 if got[0].startswith(b'no\t') else 0)
+        it.compare(what, want, got, plan=text)
+    for old, new, fault in worked.TEXTS_OF_FORMAT_2:
+        what, text = f'{old} as {new} in format 2', b'format = 2\n' + worked.changed(worked.PLAN, (old, new)).encode()
         got = run('check', given=text)
         want = (b'', f'dr_router: {fault}\n'.encode(), 1) if fault else (got[0], b'', 1 if got[0].startswith(b'no\t') else 0)
         it.compare(what, want, got, plan=text)
@@ -125,7 +130,14 @@ def compare_worked(it):
         certificate = written_for(text.encode(), rows)
         it.compare('a sound plan', (certificate, b'', 0), run('check', given=text.encode()))
         it.verdict('its certificate', 'yes', text.encode(), certificate)
+    for text, rows in worked.SOUND_IN_FORMAT_2:
+        certificate = written_for(text.encode(), rows, 2)
+        it.compare('a sound plan of format 2', (certificate, b'', 0), run('check', given=text.encode()))
+        it.verdict('its certificate', 'yes', text.encode(), certificate)
+        it.verdict('its certificate as version 1', 'C2 OtherPlan', text.encode(), written_for(text.encode(), rows))
+        it.verdict('a version 3', 'C1 Text', text.encode(), written_for(text.encode(), rows, 3))
     plan = worked.PLAN.encode()
+    it.verdict('a plan of format 1 as version 2', 'C2 OtherPlan', plan, written_for(plan, worked.THREE_NODES, 2))
     for old, new, fault in worked.VERDICTS:
         it.verdict(f'{old} as {new}', fault, plan, written_for(plan, worked.changed(worked.THREE_NODES, (old, new))))
     for text, rows, fault in worked.UNSOUND_VERDICTS:

@@ -13,7 +13,7 @@ mod verify;
 mod words;
 
 pub use answer::Answer;
-pub use print::add_field;
+pub use dr_cert_text::add_field;
 pub use run::{
     Failure, Files, read_file, run_asked, run_words, tell_answer, tell_failure, tell_unread_words,
 };

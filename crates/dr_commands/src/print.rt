@@ -3,22 +3,12 @@ ghost use Rattle.std.specs.Prelude.{◌≡◌, ◌++◌, ◌∷◌, IfOk, OnOk};
 ghost use Rattle.dr_commands.specs.Faults.{tabbed, walk_fields, fault_fields, no_line};
 
 use dr_base::Text;
-use dr_cert_text::{add_station, field_bytes};
+use dr_cert_text::{add_field, add_station, field_bytes};
 use dr_check::Fault;
 use dr_route::OwnedCell;
 use std::alloc::{AllocError, Global};
 
-const TAB: u8 = 9;
-
 const LF: u8 = 10;
-
-/// Adds a field behind a tab.
-pub fn add_field(line: &mut Vec<u8>, field: &[u8]) -> Result<(), AllocError>
-    ensures { OnOk result (line.new.items ≡ line.old.items ++ (9 ∷ field.now)) }
-{
-    line.push(TAB)?;
-    line.extend_from_slice(field)
-}
 
 /// Adds each of the fields behind a tab.
 fn add_fields(line: &mut Vec<u8>, fields: &[Text]) -> Result<(), AllocError>
