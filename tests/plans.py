@@ -148,6 +148,10 @@ def compare_all(it, times, seed):
     compare_worked(it)
     for name, text in {**LARGE, **LARGEST}.items():
         it.check(name, text, limit_stack if 'walk' in name else None)
+    for name in sorted(os.listdir(f'{TOP}/plans')):
+        if name.endswith('.toml'):
+            with open(f'{TOP}/plans/{name}', 'rb') as file:
+                it.check(name, file.read())
     for text in over_limits():
         it.check('a text at its limits', text)
     for i in range(times * PLANS):

@@ -1,6 +1,6 @@
 -- Keys of one cell of a plan are sent, kept and walked alike; and what well-formed plans exclude.
 use Rattle.std.proofs.Common.{◌≡◌, ◌≢◌, ℕ, ◌<◌, inl, inr, refl, sym, ◌∙◌, ap, subst, List, [], ◌∷◌, length, get_or, Contains, arith}
-use Rattle.std.specs.Prelude.{All, flat_map}
+use Rattle.std.specs.Prelude.{◌↔◌, All, flat_map}
 use Rattle.std.proofs.lemmas.Bool.{cases_lt, cases_eq}
 use Rattle.std.proofs.lemmas.List.{get_or_default}
 use Rattle.std.proofs.lemmas.List.Elements.{Contains-append_left, Contains-append_right, Contains-append_cases, Contains-get_or, All-contains, All-head, All-tail}
@@ -35,9 +35,9 @@ use Rattle.dr_network.specs.declared.literals.Attribute.TheVariants.{Modality, S
 use Rattle.dr_network.specs.Networks.{Network}
 use Rattle.dr_network.specs.Formed.{IsLiteral, IsPrefix, HasStationForm, AreStations, IsInFormat, IsKnownName, IsWellFormedNode, IsWellFormedFlow, IsRuleOf, AreLiterals, HasForm}
 use Rattle.dr_network.specs.Naming.{literal_of, station_of, prefix_of, listed, listed_stations, listed_prefixes, named_by_rule, named_by_flow, named_by_rules, named_by_flows}
-use Rattle.dr_network.specs.Plans.{IsWellFormed, IsNode, named_in, prefixes_of, literals_of, LiesIn}
+use Rattle.dr_network.specs.Plans.{IsWellFormed, IsNode, named_in, stations_of, prefixes_of, literals_of, LiesIn}
 use Rattle.dr_network.specs.Walks.{IsListed, IsStationListed, Fits, Flows, Sends, Keeps, IsWalk, IsEntry, IsReached}
-use Rattle.dr_network.specs.Laws.{IsCellOf}
+use Rattle.dr_network.specs.Laws.{IsCellOf, InPlainField}
 use Rattle.dr_network.proofs.Gathered.{Contains-flat_map, Contains-here, Contains-there, Contains-flat_map_from, nothing_in_nil, only_one}
 
 -- ---- what each element has, all have
@@ -277,6 +277,22 @@ format_1_has_none plan formed one =
     (All-contains (λ (node : Node). All (λ rule. prefix_of rule.station ≡ []) node.rules) plan.nodes n none.0 among))) in
     let flowed : named_by_flows StationPrefix plan.flows ≡ [] = none_in_each (λ (f : Flow). named_by_flow StationPrefix f) plan.flows none.1 in
     rw (ruled, flowed) refl
+
+-- where no prefix is named, the parts are the literals and the rest
+plain_parts : (values : StationValues) → values.prefixes ≡ [] → (part : OwnedStation) (value : Text) → InStation values part value ↔ InPlainField values.literals part value
+plain_parts values none (station.Literal literal) value = (λ h. h, λ h. h)
+plain_parts values none (station.Prefix prefix) value = (
+  λ h. nothing_in_nil prefix (let P : List Text → Type 0 = λ ts. Contains ts prefix in subst P none h.1.among),
+  λ h. absurd h,
+)
+plain_parts values none station.Rest value = (
+  λ h. h.0,
+  λ h. (h, λ prefix among begins. nothing_in_nil prefix (let P : List Text → Type 0 = λ ts. Contains ts prefix in subst P none among)),
+)
+
+pub format_1_keeps : (plan : Network) → IsWellFormed plan → plan.format ≡ One →
+    (part : OwnedStation) (value : Text) → InStation (literals_of plan).stations part value ↔ InPlainField (stations_of plan) part value
+format_1_keeps plan formed one part value = plain_parts (literals_of plan).stations (format_1_has_none plan formed one) part value
 
 pub cell_has_a_key : (plan : Network) → IsWellFormed plan → (cell : OwnedCell) → IsCellOf plan cell → LiesIn plan cell (key_of cell)
 cell_has_a_key plan formed cell is = record {

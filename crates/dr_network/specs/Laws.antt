@@ -1,13 +1,16 @@
 -- Laws of walks.
-use Rattle.std.specs.Prelude.{◌≡◌, List, []}
+use Rattle.std.specs.Prelude.{◌≡◌, ◌↔◌, List, [], Contains}
 use Rattle.dr_base.specs.Texts.{Text}
 use Rattle.dr_route.specs.Routes.{local}
+use Rattle.dr_route.specs.Cells.{InStation}
 use Rattle.dr_route.specs.Laws.{IsPart, IsStationPart, key_of}
+use Rattle.dr_route.specs.declared.cell.OwnedStation.{OwnedStation}
+use Rattle.dr_route.specs.declared.cell.OwnedStation.TheVariants as station
 use Rattle.dr_route.specs.declared.key.Key.{Key}
 use Rattle.dr_route.specs.declared.cell.OwnedCell.{OwnedCell}
 use Rattle.dr_network.specs.Networks.{Network}
 use Rattle.dr_network.specs.declared.plan.Format.TheVariants.{One}
-use Rattle.dr_network.specs.Plans.{LiesIn, IsWellFormed, literals_of, prefixes_of}
+use Rattle.dr_network.specs.Plans.{LiesIn, IsWellFormed, literals_of, stations_of, prefixes_of}
 use Rattle.dr_network.specs.Walks.{Sends, Keeps, IsEntry, IsWalk, IsReached}
 
 -- what enters at the node itself isn't kept there
@@ -47,6 +50,17 @@ IsCellOf plan cell = IsPart (literals_of plan).modalities cell.modality × IsSta
 abbrev pub EachCellHasAKey : Type 0
 EachCellHasAKey = (plan : Network) → IsWellFormed plan → (cell : OwnedCell) → IsCellOf plan cell → LiesIn plan cell (key_of cell)
 
--- a plan of format 1 names no prefix, so that its cells are what they were before there were prefixes
+-- a plan of format 1 names no prefix
 abbrev pub FormatOneHasNoPrefix : Type 0
 FormatOneHasNoPrefix = (plan : Network) → IsWellFormed plan → plan.format ≡ One → prefixes_of plan ≡ []
+
+-- the parts of the stations where there are no prefixes: one of these literals, or none of them
+abbrev pub InPlainField : List Text → OwnedStation → Text → Type 0
+InPlainField literals (station.Literal literal) value = Contains literals literal × (literal ≡ value)
+InPlainField literals (station.Prefix prefix) value = ⊥
+InPlainField literals station.Rest value = Contains literals value → ⊥
+
+-- the stations of a plan of format 1 lie in the parts in which they lay before there were prefixes
+abbrev pub FormatOneKeepsItsCells : Type 0
+FormatOneKeepsItsCells = (plan : Network) → IsWellFormed plan → plan.format ≡ One →
+    (part : OwnedStation) (value : Text) → InStation (literals_of plan).stations part value ↔ InPlainField (stations_of plan) part value

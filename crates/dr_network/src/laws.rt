@@ -1,5 +1,5 @@
 //! Laws of walks: what a reader may take from the definitions.
-ghost use Rattle.dr_network.specs.Laws.{LocalNeverKeeps, LocalIsNoNode, SendAlike, KeepAlike, EnterAlike, WalkAlike, ReachAlike, EachCellHasAKey, FormatOneHasNoPrefix};
+ghost use Rattle.dr_network.specs.Laws.{LocalNeverKeeps, LocalIsNoNode, SendAlike, KeepAlike, EnterAlike, WalkAlike, ReachAlike, EachCellHasAKey, FormatOneHasNoPrefix, FormatOneKeepsItsCells};
 
 /// Nothing is kept for the local caller, and nothing is sent to it.
 pub fn the_local_caller_is_no_node()
@@ -21,7 +21,8 @@ pub fn each_cell_has_a_key()
     ensures { EachCellHasAKey }
 {}
 
-/// A plan of format 1 names no prefix of stations.
+/// A plan of format 1 names no prefix of stations, and its cells are those that there were before there were prefixes.
 pub fn format_1_has_no_prefix()
-    ensures { FormatOneHasNoPrefix }
+    ensures none { FormatOneHasNoPrefix }
+    ensures cells { FormatOneKeepsItsCells }
 {}
