@@ -22,9 +22,9 @@ use Rattle.dr_entry.specs.Entering.{AreStationParts, HasItsText, part_of}
 pub made_more : {X : Type 0} (f : Text → X) (first now : List X) (texts : List Text) (text : Text) → now ≡ first ++ map f texts → now ++ f text ∷ [] ≡ first ++ map f (texts ++ text ∷ [])
 made_more f first now texts text so_far =
     ap (λ xs. xs ++ f text ∷ []) so_far ∙ (append_assoc first (map f texts) (f text ∷ []) ∙ ap (λ xs. first ++ xs) (sym (pushed texts))) where
-  pushed : (ts : List Text) → map f (ts ++ text ∷ []) ≡ map f ts ++ f text ∷ []
-  pushed [] = refl
-  pushed (t ∷ ts) = ap (λ xs. f t ∷ xs) (pushed ts)
+      pushed : (ts : List Text) → map f (ts ++ text ∷ []) ≡ map f ts ++ f text ∷ []
+      pushed [] = refl
+      pushed (t ∷ ts) = ap (λ xs. f t ∷ xs) (pushed ts)
 
 pub map_push : {X Y : Type 0} (f : X → Y) (xs : List X) (x : X) → map f (xs ++ x ∷ []) ≡ map f xs ++ f x ∷ []
 map_push f [] x = refl
@@ -102,7 +102,7 @@ all_are_parts values (station.Literal l) = (
     | inr same ↦ absurd (some_text l (is_rest_only (station.Literal l) same))
   ],
   λ has. Contains-append_left (literals_of values ++ prefixes_of values) (station.Rest ∷ []) (station.Literal l)
-  (Contains-append_left (literals_of values) (prefixes_of values) (station.Literal l) (in_map (λ t. station.Literal t) values.literals l has)),
+      (Contains-append_left (literals_of values) (prefixes_of values) (station.Literal l) (in_map (λ t. station.Literal t) values.literals l has)),
 )
 all_are_parts values (station.Prefix p) = (
   λ has. elim (three values (station.Prefix p) has) [
@@ -117,7 +117,7 @@ all_are_parts values (station.Prefix p) = (
     | inr same ↦ absurd (some_text p (is_rest_only (station.Prefix p) same))
   ],
   λ has. Contains-append_left (literals_of values ++ prefixes_of values) (station.Rest ∷ []) (station.Prefix p)
-  (Contains-append_right (literals_of values) (prefixes_of values) (station.Prefix p) (in_map (λ t. station.Prefix t) values.prefixes p has)),
+      (Contains-append_right (literals_of values) (prefixes_of values) (station.Prefix p) (in_map (λ t. station.Prefix t) values.prefixes p has)),
 )
 all_are_parts values station.Rest = (λ has. tt, λ is. Contains-push (literals_of values ++ prefixes_of values) station.Rest)
 

@@ -3,8 +3,8 @@
 #![tactic(auto)]
 
 pub mod fields;
-pub mod stations;
 pub mod narrow;
+pub mod stations;
 pub mod sweep;
 pub mod visit;
 

@@ -41,11 +41,7 @@ fn add_literals(shown: &mut Vec<Shown>, literals: &[Text]) -> Result<(), AllocEr
 }
 
 /// Adds the parts of these prefixes.
-fn add_prefixes(
-    alloc: Global,
-    shown: &mut Vec<Shown>,
-    prefixes: &[Text],
-) -> Result<(), AllocError>
+fn add_prefixes(alloc: Global, shown: &mut Vec<Shown>, prefixes: &[Text]) -> Result<(), AllocError>
     ensures parts { OnOk result (map part_of shown.new.items ≡ map part_of shown.old.items ++ map (λ p. station.Prefix p) prefixes.now) }
     ensures texts { OnOk result (All HasItsText shown.old.items → All HasItsText shown.new.items) }
 {

@@ -15,7 +15,8 @@ mod search;
 
 pub use accept::{AcceptRow, Callers, accepts};
 pub use cell::{
-    Cell, Field, FieldValues, Literals, OwnedCell, OwnedField, OwnedStation, Station, StationValues, cell_of,
+    Cell, Field, FieldValues, Literals, OwnedCell, OwnedField, OwnedStation, Station,
+    StationValues, cell_of,
 };
 pub use key::Key;
 pub use rule::{Pattern, Rule, StationPattern, Targets, holds, is_local};
