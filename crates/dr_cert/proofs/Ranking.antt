@@ -2,8 +2,7 @@
 use Rattle.std.proofs.Common.{ℕ, refl, List, Contains}
 use Rattle.std.specs.Prelude.{◌↔◌}
 use Rattle.dr_base.specs.Texts.{Text}
-use Rattle.dr_route.specs.Routes.{Begins}
-use Rattle.dr_route.specs.Cells.{InField, InStation, IsLongest}
+use Rattle.dr_route.specs.Cells.{InField, InStation}
 use Rattle.dr_route.specs.Laws.{key_of}
 use Rattle.dr_route.specs.declared.key.Key.{Key}
 use Rattle.dr_route.specs.declared.cell.FieldValues.{FieldValues}

@@ -6,7 +6,6 @@ use Rattle.std.proofs.lemmas.List.Elements.{Contains-get_or}
 use Rattle.dr_base.specs.Texts.{Text}
 use Rattle.dr_base.specs.declared.syntax.Syntax.{Syntax}
 use Rattle.dr_base.specs.declared.syntax.Syntax.TheVariants.{Implicit, Explicit}
-use Rattle.dr_route.specs.Routes.{Begins}
 use Rattle.dr_route.specs.Cells.{InField, InStation}
 use Rattle.dr_route.specs.Laws.{key_of, value_of, station_value_of, IsPart, IsStationPart}
 use Rattle.dr_route.specs.declared.key.Key.{Key}

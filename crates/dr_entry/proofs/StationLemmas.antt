@@ -1,5 +1,5 @@
 -- The parts of the stations, and their order.
-use Rattle.std.proofs.Common.{◌≡◌, suc, ◌+◌, ◌⊎◌, ◌↔◌, inl, inr, refl, sym, ap, ◌∙◌, subst, List, [], ◌∷◌, ◌++◌, Contains, map, take, length, get_or, false, arith}
+use Rattle.std.proofs.Common.{◌≡◌, suc, ◌⊎◌, inl, inr, refl, sym, ap, ◌∙◌, subst, List, [], ◌∷◌, ◌++◌, Contains, map, get_or, false, arith}
 use Rattle.std.specs.Prelude.{All, AllPairs}
 use Rattle.std.specs.List.Sorted.{IsPermutation, IsSortedBy}
 use Rattle.std.specs.Ordering.{is_lt}
@@ -12,7 +12,6 @@ use Rattle.dr_base.specs.Texts.{Text, text_cmp}
 use Rattle.dr_route.specs.declared.cell.OwnedStation.{OwnedStation}
 use Rattle.dr_route.specs.declared.cell.OwnedStation.TheVariants as station
 use Rattle.dr_route.specs.declared.cell.StationValues.{StationValues}
-use Rattle.dr_route.specs.Laws.{IsStationPart}
 use Rattle.dr_network.proofs.Gathered.{nothing_in_nil, Contains-cons_cases, Contains-here, Contains-there, only_one}
 use Rattle.dr_sound.specs.Printed.{printed_station}
 use Rattle.dr_entry.specs.declared.stations.Shown.{Shown}

@@ -1,12 +1,9 @@
 -- What reads show, and when a failure counts.
-use Rattle.std.proofs.Common.{◌≡◌, refl, sym, ap, subst, ◌∙◌, ◌⊎◌, inl, inr, ℕ, ◌<◌, ◌-◌, ◌^◌, true, List, [], ◌∷◌, All, Contains, Some, Err, map as mapped, arith}
+use Rattle.std.proofs.Common.{◌≡◌, refl, sym, ap, subst, ◌∙◌, ◌⊎◌, inl, inr, ℕ, ◌<◌, ◌-◌, ◌^◌, List, [], ◌∷◌, All, Contains, Some, map as mapped, arith}
 use Rattle.std.specs.FinMap as map
-use Rattle.std.specs.FinSet as set
 use Rattle.dr_base.specs.Texts.{Text}
 use Rattle.dr_network.proofs.Gathered.{nothing_in_nil, Contains-cons_cases, Contains-here, Contains-there}
 use Rattle.dr_ledger.specs.declared.item.Instance.{Instance}
-use Rattle.dr_ledger.specs.Books.{Book}
-use Rattle.dr_ledger.specs.Replies.{AreKept, Counts}
 use Rattle.dr_ledger.specs.Showing.{FailuresAreCounted, FiguresRise, KeptAreMeasured, LinesAreShown}
 use Rattle.dr_ledger.proofs.Growing.{inside}
 

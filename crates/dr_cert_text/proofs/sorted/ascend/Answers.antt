@@ -1,4 +1,4 @@
-use Rattle.std.proofs.Common.{◌≡◌, ◌<◌, ◌≤◌, refl, sym, ◌∙◌, length, arith, rules, false, true}
+use Rattle.std.proofs.Common.{refl, sym, ◌∙◌, arith}
 use Rattle.std.proofs.lemmas.Bool.{false≢true}
 use Rattle.dr_cert_text.proofs.Ascending.{not_ge, ge_not_less, ascend_more, all_ascend, pair_ascends}
 use Rattle.dr_cert_text.proofs.sorted.ascend.Goals as goal

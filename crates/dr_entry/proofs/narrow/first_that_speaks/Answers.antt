@@ -6,7 +6,7 @@ use Rattle.std.proofs.lemmas.List.{take_more, take_all}
 use Rattle.std.proofs.lemmas.List.Elements.{Contains-push_cases, Contains-get_or}
 use Rattle.dr_network.specs.declared.plan.Flow.{Flow}
 use Rattle.dr_network.proofs.Gathered.{nothing_in_nil}
-use Rattle.dr_entry.specs.Entering.{SpeaksOf, SpeaksAt, NoneSpeaks}
+use Rattle.dr_entry.specs.Entering.{SpeaksOf, NoneSpeaks}
 use Rattle.dr_entry.proofs.narrow.first_that_speaks.Goals as goal
 
 pub loop-place-init : goal.loop-place-init

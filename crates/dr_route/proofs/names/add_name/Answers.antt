@@ -1,4 +1,4 @@
-use Rattle.std.proofs.Common.{◌≡◌, refl, subst}
+use Rattle.std.proofs.Common.{refl, subst}
 use Rattle.dr_base.specs.Texts.{Text}
 use Rattle.dr_route.specs.Names.{Adds}
 use Rattle.dr_route.proofs.NameSets.{adds, has_already}

@@ -1,4 +1,4 @@
-use Rattle.std.proofs.Common.{◌≡◌, ◌↔◌, Bool, IsTrue, sym, subst}
+use Rattle.std.proofs.Common.{◌↔◌, Bool, IsTrue, sym, subst}
 use Rattle.dr_route.specs.Names.{HasName}
 use Rattle.dr_route.proofs.NameSets.{members}
 use Rattle.dr_route.proofs.names.has_name.Goals as goal

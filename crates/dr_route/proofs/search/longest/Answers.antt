@@ -1,4 +1,4 @@
-use Rattle.std.proofs.Common.{◌≡◌, ◌-◌, ℕ, length, subst, arith}
+use Rattle.std.proofs.Common.{◌≡◌, ◌-◌, length, subst, arith}
 use Rattle.dr_route.proofs.Finding.{AreWithin, longest_found, last_answer}
 use Rattle.dr_route.proofs.search.longest.Goals as goal
 

@@ -1,4 +1,4 @@
-use Rattle.std.proofs.Common.{ℕ, ◌-◌, length}
+use Rattle.std.proofs.Common.{◌-◌, length}
 use Rattle.dr_route.proofs.Finding.{AreWithin}
 use Rattle.dr_route.proofs.search.longest.Given as goal
 

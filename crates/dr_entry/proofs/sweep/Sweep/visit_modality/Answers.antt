@@ -1,8 +1,6 @@
-use Rattle.std.proofs.Common.{◌≡◌, ℕ, ◌+◌, sym, subst, List, [], ◌∷◌, ◌++◌, take, Contains, arith}
+use Rattle.std.proofs.Common.{◌≡◌, ◌+◌, sym, subst, List, [], ◌∷◌, ◌++◌, take, Contains, arith}
 use Rattle.std.proofs.lemmas.List.{take_more, take_all}
 use Rattle.dr_route.specs.declared.cell.OwnedStation.{OwnedStation}
-use Rattle.dr_route.specs.declared.cell.OwnedCell.{OwnedCell}
-use Rattle.dr_network.specs.declared.plan.Flow.{Flow}
 use Rattle.dr_entry.specs.Entering.{WantsModality, WantsStation}
 use Rattle.dr_entry.specs.Visiting.{GoesOn}
 use Rattle.dr_entry.proofs.Visits.{one_more, all_of_them, went_on}

@@ -1,4 +1,4 @@
-use Rattle.std.proofs.Common.{◌≡◌, ◌<◌, ℕ, refl, sym, ◌∙◌, ap, subst, List, length, Contains, Some, None}
+use Rattle.std.proofs.Common.{◌≡◌, ◌<◌, ℕ, sym, ◌∙◌, ap, subst, List, length, Some}
 use Rattle.std.specs.Prelude.{slice_get}
 use Rattle.std.proofs.lemmas.Option.{same_Some}
 use Rattle.std.proofs.lemmas.List.Elements.{All-contains}
@@ -11,9 +11,8 @@ use Rattle.dr_route.specs.declared.cell.OwnedStation.{OwnedStation}
 use Rattle.dr_network.specs.declared.plan.Flow.{Flow}
 use Rattle.dr_network.specs.Networks.{Network}
 use Rattle.dr_network.specs.Walks.{IsEntry}
-use Rattle.dr_entry.specs.Entering.{AdmitsStation, NoneSpeaks, SpeaksAt, WantsStation}
+use Rattle.dr_entry.specs.Entering.{AdmitsStation, WantsStation}
 use Rattle.dr_entry.specs.Visiting.{IsThis}
-use Rattle.dr_entry.specs.declared.narrow.Part.TheVariants as part
 use Rattle.dr_entry.proofs.Entries.{enters}
 use Rattle.dr_entry.proofs.Visits.{stays, wants_less}
 use Rattle.dr_entry.proofs.sweep.Sweep.visit_station.Goals as goal

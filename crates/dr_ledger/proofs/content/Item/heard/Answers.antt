@@ -1,5 +1,4 @@
-use Rattle.std.proofs.Common.{rules, ◌≤◌, sym, subst, length, ℕ, List, Err}
-use Rattle.dr_dataset.specs.DataSet.{FirstFault}
+use Rattle.std.proofs.Common.{rules, ◌≤◌, sym, subst, length, Err}
 use Rattle.dr_ledger.specs.declared.content.ItemFault.{ItemFault}
 use Rattle.dr_ledger.specs.Items.{ReadsItem, largest_body}
 use Rattle.dr_ledger.proofs.Reading.{refused}
