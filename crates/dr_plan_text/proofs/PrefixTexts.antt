@@ -29,7 +29,7 @@ two_bytes a b first last no_space no_space_behind = record {
   trimmed = trimmed (a ∷ b ∷ []) 1 refl no_space no_space_behind;
 }
 
-ct_is : IsPrefix (codes "CT")
+pub ct_is : IsPrefix (codes "CT")
 ct_is = record {
   literal = two_bytes 67 84 (lit≤ tt, lit< tt, λ e. omega arith) (lit≤ tt, lit< tt, λ e. omega arith) (λ e. omega arith) (λ e. omega arith);
   some = λ e. cc;
