@@ -9,3 +9,4 @@ pub mod OfStations
 pub mod OnePlan
 pub mod SmallTexts
 pub mod PrefixTexts
+pub mod Unnamed

@@ -1,7 +1,9 @@
 -- Laws of plans as they are written, and small texts.
 use Rattle.std.specs.Prelude.{◌≡◌, pos, false, [], ◌∷◌, ◌++◌, codes}
+use Rattle.toml.specs.Data.{string}
 use Rattle.dr_base.specs.Texts.{Text}
 use Rattle.dr_route.specs.declared.rule.Pattern.TheVariants.{Any}
+use Rattle.dr_route.specs.declared.rule.StationPattern.{StationPattern}
 use Rattle.dr_route.specs.declared.rule.StationPattern.TheVariants as station
 use Rattle.dr_route.specs.declared.rule.Rule.{Rule}
 use Rattle.dr_network.specs.declared.plan.Values.TheVariants as values
@@ -10,6 +12,7 @@ use Rattle.dr_network.specs.declared.plan.Format.TheVariants.{One, Two}
 use Rattle.dr_plan_text.specs.declared.words.NodeText.{NodeText}
 use Rattle.dr_plan_text.specs.declared.words.FlowText.{FlowText}
 use Rattle.dr_plan_text.specs.declared.words.PlanText.{PlanText}
+use Rattle.dr_plan_text.specs.Fields.{SaysNamed}
 use Rattle.dr_plan_text.specs.Tables.{Writes}
 
 -- a text writes one plan at most
@@ -98,3 +101,19 @@ FlowPrefixIsWritten = Writes (second_format ++ flow_text) (record { format = Two
 -- in format 1 it writes no plan
 abbrev pub FlowPrefixIsOfFormatTwo : Type 0
 FlowPrefixIsOfFormatTwo = WritesNone flow_text
+
+-- the text names no station: it is neither a literal nor a prefix with an asterisk behind it
+abbrev NamesNone : Text → Type 0
+NamesNone text = (pattern : StationPattern) → SaysNamed (string text) pattern → ⊥
+
+-- the asterisk alone names none, so that a list can't have it
+abbrev pub StarNamesNone : Type 0
+StarNamesNone = NamesNone (codes "*")
+
+-- an asterisk stands only at the end, and only once
+abbrev pub StarsInsideNameNone : Type 0
+StarsInsideNameNone = NamesNone (codes "C*T") × NamesNone (codes "CT **")
+
+-- no space stands at an end of a prefix
+abbrev pub SpacesNameNone : Type 0
+SpacesNameNone = NamesNone (codes " CT*") × NamesNone (codes "CT *")

@@ -1,5 +1,5 @@
 //! Laws of plans as they are written: what a reader may take from the definitions.
-ghost use Rattle.dr_plan_text.specs.Laws.{EachTextWritesOnePlan, EmptyTextWritesNothing, NodeIsWritten, KeyIsUnknown, FormatIsOther, AddressIsMissing, PortIsTooHigh, RulePrefixIsWritten, RulePrefixIsOfFormatTwo, FlowPrefixIsWritten, FlowPrefixIsOfFormatTwo};
+ghost use Rattle.dr_plan_text.specs.Laws.{EachTextWritesOnePlan, EmptyTextWritesNothing, NodeIsWritten, KeyIsUnknown, FormatIsOther, AddressIsMissing, PortIsTooHigh, RulePrefixIsWritten, RulePrefixIsOfFormatTwo, FlowPrefixIsWritten, FlowPrefixIsOfFormatTwo, StarNamesNone, StarsInsideNameNone, SpacesNameNone};
 
 /// A text writes one plan at most.
 pub fn a_text_writes_one_plan()
@@ -28,4 +28,11 @@ pub fn prefixes_are_of_format_2()
     ensures rule_of_1 { RulePrefixIsOfFormatTwo }
     ensures flow { FlowPrefixIsWritten }
     ensures flow_of_1 { FlowPrefixIsOfFormatTwo }
+{}
+
+/// What names no station in any format: `*` alone, an asterisk elsewhere than at the end, and a prefix with a space at one of its ends.
+pub fn ill_formed_prefixes_name_none()
+    ensures star { StarNamesNone }
+    ensures inside { StarsInsideNameNone }
+    ensures spaces { SpacesNameNone }
 {}
