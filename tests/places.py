@@ -43,7 +43,8 @@ PLACES = [
     ('to = ["ARCH"]', 'to = [1]', 'L2 Field', 'node 2 "GATE", rule 1, to: it has to be a list of names'),
     ('to = ["ARCH"]', 'modalty = "CT"', 'L2 Field', 'node 2 "GATE", rule 1: no key "modalty" is known here'),
     ('to = ["ARCH"]', 'modality = " CT"', 'L2 Field', 'node 2 "GATE", rule 1, modality: it has to be "*" or a value of up to 64 characters'),
-    ('to = ["ARCH"]', 'station = "S*"', 'L2 Field', 'node 2 "GATE", rule 1, station: it has to be "*" or a value of up to 64 characters'),
+    ('to = ["ARCH"]', 'station = "S*"', 'L2 Field',
+     'node 2 "GATE", rule 1, station: it has to be "*" or a value of up to 64 characters, or in format 2 a prefix with *, as "CT*"'),
     ('to = ["ARCH"]', 'class = "CT"', 'L2 Field', 'node 2 "GATE", rule 1, class: it has to be "*" or a SOP class UID'),
     ('to = ["ARCH"]', 'keep = 1', 'L2 Field', 'node 2 "GATE", rule 1, keep: it has to be true or false'),
     ('from = "CT1"', 'from = ["CT1"]', 'L2 Field', 'node 2 "GATE", rule 1, from: it has to be "*" or a name'),
@@ -59,8 +60,10 @@ PLACES = [
     ('at = "CT1"\n', '', 'L2 Field', 'flow 1, at: it is missing, and has to be a name in quotes'),
     ('modality = ["CT"]', 'modality = "CT"', 'L2 Field', 'flow 1, modality: it has to be "*" or a list of values of up to 64 characters'),
     ('modality = ["CT"]', 'modality = ["CT", "C*"]', 'L2 Field', 'flow 1, modality: it has to be "*" or a list of values of up to 64 characters'),
+    ('station = ["S1"]', 'station = ["S1", "S*"]', 'L2 Field',
+     'flow 1, station: it has to be "*" or a list of values of up to 64 characters, in format 2 also of prefixes with *, as "CT*"'),
     ('class = ["1.2.840.10008.5.1.4.1.1.2"]', 'class = []', 'L2 Field', 'flow 1, class: it has to be a list of SOP class UIDs'),
-    ('[[node]]', 'format = 2\n[[node]]', 'L2 Field', 'in front of all tables, format: it has to be the number 1'),
+    ('[[node]]', 'format = 3\n[[node]]', 'L2 Field', 'in front of all tables, format: it has to be the number 1 or 2'),
     ('[[node]]', '"\\u001b[2J" = 2\n[[node]]', 'L2 Field', 'in front of all tables: no key "\\x1b[2J" is known here'),
 ]
 

@@ -1,5 +1,5 @@
 -- Why a table isn't of its form, by one of its keys.
-use Rattle.std.proofs.Common.{◌≡◌, refl, sym, subst, ℕ, List, Option, None, Some, Ordering, Less, Equal, Greater, Contains, Bor}
+use Rattle.std.proofs.Common.{◌≡◌, refl, sym, subst, ℕ, List, Option, None, Some, Ordering, Less, Equal, Greater, Contains, Bor, Bool, true, false, not, IsTrue}
 use Rattle.std.specs.Prelude.{IfSome, IsSome}
 use Rattle.std.specs.Ordering.{nat_cmp, match_ordering}
 use Rattle.std.specs.Cmp.Lexicographic.{slice_cmp}
@@ -8,6 +8,11 @@ use Rattle.toml.specs.Data.{Data, Members, no_members, member, get_member}
 use Rattle.dr_base.specs.Texts.{Text}
 use Rattle.dr_plan_text.specs.Fields.{Given, GivenOr, HasOnly}
 use Rattle.dr_fields.specs.Flaws.{IsAtFault, IsUnknown}
+
+-- a test doesn't both fail and hold
+pub not_both : (b : Bool) → IsTrue (not b) → IsTrue b → ⊥
+not_both true fails holds = cc
+not_both false fails holds = cc
 
 at_order : (o : Ordering) (d : Data) (rest : Option Data) → (o ≡ Equal → ⊥) → rest ≡ None → match_ordering o rest (Some d) rest ≡ None
 at_order Less d rest apart e = e

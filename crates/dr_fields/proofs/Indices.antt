@@ -1,7 +1,7 @@
 -- The tables of an array, by their indices.
-use Rattle.std.proofs.Common.{◌≡◌, sym, ap, ◌∙◌, ℕ, zero, suc, ◌<◌, List, [], ◌∷◌, length, get_or, Option, Some, arith}
+use Rattle.std.proofs.Common.{◌≡◌, sym, ap, ◌∙◌, ℕ, zero, suc, ◌<◌, List, [], ◌∷◌, length, get_or, Some, arith}
 use Rattle.toml.specs.declared.value.Value.{Value}
-use Rattle.toml.specs.Data.{Data, Members, get_item, as_table}
+use Rattle.toml.specs.Data.{Members, get_item, as_table}
 use Rattle.toml.specs.View.{view, items_view}
 use Rattle.dr_fields.specs.Flaws.{table_in}
 

@@ -2,7 +2,12 @@
 use Rattle.std.specs.Prelude.{◌≡◌, ℕ, Option, None, Some, IsSome, codes}
 use Rattle.toml.specs.Data.{Data, Items, no_items, Members, as_array, as_table, get_item, get_member}
 use Rattle.dr_base.specs.Texts.{Text}
-use Rattle.dr_plan_text.specs.Tables.{IsAcceptTable, IsRuleTable, IsNodeTable, IsFlowTable, IsRoot}
+use Rattle.dr_route.specs.declared.rule.Rule.{Rule as RuleText}
+use Rattle.dr_network.specs.declared.plan.Format.{Format}
+use Rattle.dr_network.specs.declared.plan.Format.TheVariants.{One, Two}
+use Rattle.dr_plan_text.specs.declared.words.FlowText.{FlowText}
+use Rattle.dr_plan_text.specs.Fields.{PatternFits, StationsFit}
+use Rattle.dr_plan_text.specs.Tables.{IsAcceptTable, IsRuleTable, IsNodeTable, IsFlowTable, IsRoot, IsFormat}
 use Rattle.dr_fields.specs.declared.flaw.Flaw.{Flaw}
 use Rattle.dr_fields.specs.declared.flaw.Wrong.{Wrong}
 use Rattle.dr_fields.specs.declared.flaw.Wrong.TheVariants.{Missing, Unknown, IllFormed}
@@ -52,14 +57,31 @@ IsRow key fields index row = table_in (get_item index (items_at (get_member key 
 abbrev pub InRow : (Members → Type 0) → Text → Members → ℕ → Type 0
 InRow P key fields index = (row : Members) × IsRow key fields index row × P row
 
--- the flaw stands in this part of the node's table
-abbrev pub IsInNode : Members → NodePart → Flaw → Type 0
-IsInNode node Own flaw = HasFlaw IsNodeTable node flaw
-IsInNode node (AcceptRow index) flaw = InRow (λ row. HasFlaw IsAcceptTable row flaw) (codes "accept") node index
-IsInNode node (Rule index) flaw = InRow (λ row. HasFlaw IsRuleTable row flaw) (codes "rule") node index
+-- the table says a rule of a text of that format
+abbrev pub IsRuleOf : Format → Members → RuleText → Type 0
+IsRuleOf format fields rule = IsRuleTable fields rule × PatternFits format rule.station
+
+-- the table says a flow of a text of that format
+abbrev pub IsFlowOf : Format → Members → FlowText → Type 0
+IsFlowOf format fields flow = IsFlowTable fields flow × StationsFit format flow.stations
+
+-- the format as which the tables of a text are looked at: 1 where the text's format is 1, and 2 where it is another one, be that no format at all
+abbrev pub IsReadAs : Option Data → Format → Type 0
+IsReadAs value One = IsFormat value One
+IsReadAs value Two = IsFormat value One → ⊥
+
+-- the flaw stands in this part of the node's table, in a text of that format
+abbrev pub IsInNode : Format → Members → NodePart → Flaw → Type 0
+IsInNode format node Own flaw = HasFlaw IsNodeTable node flaw
+IsInNode format node (AcceptRow index) flaw = InRow (λ row. HasFlaw IsAcceptTable row flaw) (codes "accept") node index
+IsInNode format node (Rule index) flaw = InRow (λ row. HasFlaw (IsRuleOf format) row flaw) (codes "rule") node index
+
+-- the flaw stands at this place of the tables of a text of that format
+abbrev pub IsAt : Format → Members → FieldPlace → Flaw → Type 0
+IsAt format root Root flaw = HasFlaw IsRoot root flaw
+IsAt format root (OfNode index part) flaw = InRow (λ node. IsInNode format node part flaw) (codes "node") root index
+IsAt format root (OfFlow index) flaw = InRow (λ flow. HasFlaw (IsFlowOf format) flow flaw) (codes "flow") root index
 
 -- the flaw stands at this place of the text's tables
 abbrev pub IsIn : Members → FieldPlace → Flaw → Type 0
-IsIn root Root flaw = HasFlaw IsRoot root flaw
-IsIn root (OfNode index part) flaw = InRow (λ node. IsInNode node part flaw) (codes "node") root index
-IsIn root (OfFlow index) flaw = InRow (λ flow. HasFlaw IsFlowTable flow flaw) (codes "flow") root index
+IsIn root place flaw = (format : Format) × IsReadAs (get_member (codes "format") root) format × IsAt format root place flaw

@@ -1,9 +1,10 @@
 -- Laws of flaws, and small tables.
-use Rattle.std.specs.Prelude.{◌≡◌, pos, [], codes}
-use Rattle.toml.specs.Data.{integer, Members, no_members, member}
+use Rattle.std.specs.Prelude.{pos, codes}
+use Rattle.toml.specs.Data.{integer, string, Members, no_members, member}
 use Rattle.dr_plan_text.specs.Tables.{IsRoot}
 use Rattle.dr_plan_text.specs.declared.words.PlanText.{PlanText}
-use Rattle.dr_fields.specs.Flaws.{HasFlaw, IsIn}
+use Rattle.dr_network.specs.declared.plan.Format.TheVariants.{One, Two}
+use Rattle.dr_fields.specs.Flaws.{HasFlaw, IsIn, IsRuleOf}
 use Rattle.dr_fields.specs.declared.flaw.Flaw.{Flaw}
 use Rattle.dr_fields.specs.declared.flaw.Wrong.TheVariants.{Missing, Unknown, IllFormed}
 use Rattle.dr_fields.specs.declared.place.FieldPlace.{FieldPlace}
@@ -24,10 +25,26 @@ ColourIsUnknown = HasFlaw IsRoot coloured (record { key = codes "colour"; wrong 
 abbrev pub FormatIsNotMissing : Type 0
 FormatIsNotMissing = HasFlaw IsRoot coloured (record { key = codes "format"; wrong = Missing }) → ⊥
 
--- the text's table `format = 2`
-abbrev pub second_format : Members
-second_format = member (codes "format") (integer (pos 2)) no_members
+-- the text's table `format = 3`
+abbrev pub third_format : Members
+third_format = member (codes "format") (integer (pos 3)) no_members
 
 -- its format is ill-formed
-abbrev pub SecondFormatIsIllFormed : Type 0
-SecondFormatIsIllFormed = HasFlaw IsRoot second_format (record { key = codes "format"; wrong = IllFormed })
+abbrev pub ThirdFormatIsIllFormed : Type 0
+ThirdFormatIsIllFormed = HasFlaw IsRoot third_format (record { key = codes "format"; wrong = IllFormed })
+
+-- a rule's table `station = "CT*"`
+abbrev pub prefixed : Members
+prefixed = member (codes "station") (string (codes "CT*")) no_members
+
+-- its station, and what would be wrong with it
+abbrev pub prefix_flaw : Flaw
+prefix_flaw = record { key = codes "station"; wrong = IllFormed }
+
+-- in a text of format 1 it is ill-formed
+abbrev pub PrefixIsIllFormedInFormatOne : Type 0
+PrefixIsIllFormedInFormatOne = HasFlaw (IsRuleOf One) prefixed prefix_flaw
+
+-- in a text of format 2 it isn't
+abbrev pub PrefixIsOfFormatTwo : Type 0
+PrefixIsOfFormatTwo = HasFlaw (IsRuleOf Two) prefixed prefix_flaw → ⊥

@@ -1,11 +1,16 @@
 //! Single fields of a table.
-ghost use Rattle.std.specs.Prelude.{◌≡◌, IfOk, IfSome, IsTrue, IsSome, Contains, map};
+ghost use Rattle.std.specs.Prelude.{◌≡◌, IfOk, IfSome, IsTrue, IsSome, Contains, codes, map};
 ghost use Rattle.toml.specs.Data.{get_member};
 ghost use Rattle.toml.specs.View.{table_view};
-ghost use Rattle.dr_plan_text.specs.Fields.{Given, GivenOr};
+ghost use Rattle.dr_route.specs.declared.rule.StationPattern.{StationPattern};
+ghost use Rattle.dr_network.specs.declared.plan.Stations.{Stations};
+ghost use Rattle.dr_plan_text.specs.Fields.{Given, GivenOr, PatternFits, SaysStation, SaysStations, StationsFit};
 
+use dr_network::Format;
 use dr_plan_text::fault::ReadFault;
+use dr_plan_text::fits::{pattern_fits, stations_fit};
 use dr_plan_text::form::{Form, is_among, required, value_at};
+use dr_plan_text::stations::{AnyStation, AnyStations};
 use std::alloc::{AllocError, Global};
 use toml::Table;
 
@@ -33,6 +38,35 @@ pub fn misreads<F: Form>(alloc: Global, table: &Table, key: &str) -> Result<bool
     };
     match F::read(alloc, value) {
         Ok(_) => Ok(false),
+        Err(ReadFault::Field) => Ok(true),
+        Err(ReadFault::Memory) => Err(AllocError),
+    }
+}
+
+/// Whether the station of a rule is ill-formed: also where it is a prefix, and the format has none.
+///
+/// Errors: want of memory.
+pub fn misreads_station(alloc: Global, format: Format, table: &Table) -> Result<bool, AllocError>
+    ensures { IfOk result (λ b. IsTrue b → (default x : StationPattern) → GivenOr default SaysStation (get_member (codes "station") (table_view table.now)) x → PatternFits format x → ⊥) }
+{
+    let Some(value) = value_at(table, "station") else {
+        return Ok(false);
+    };
+    match AnyStation::read(alloc, value) {
+        Ok(pattern) => Ok(!pattern_fits(format, &pattern)),
+        Err(ReadFault::Field) => Ok(true),
+        Err(ReadFault::Memory) => Err(AllocError),
+    }
+}
+
+/// Whether the stations of a flow are missing or ill-formed: also where one is a prefix, and the format has none.
+///
+/// Errors: want of memory.
+pub fn misses_stations(alloc: Global, format: Format, table: &Table) -> Result<bool, AllocError>
+    ensures { IfOk result (λ b. IsTrue b → (x : Stations) → Given SaysStations (get_member (codes "station") (table_view table.now)) x → StationsFit format x → ⊥) }
+{
+    match required::<AnyStations>(alloc, table, "station") {
+        Ok(stations) => Ok(!stations_fit(format, &stations)),
         Err(ReadFault::Field) => Ok(true),
         Err(ReadFault::Memory) => Err(AllocError),
     }

@@ -1,14 +1,16 @@
 //! The forms of the text's tables.
-ghost use Rattle.dr_plan_text.specs.Tables.{IsAcceptTable, IsRuleTable, IsNodeTable, IsFlowTable, IsRoot};
+ghost use Rattle.dr_plan_text.specs.Tables.{IsAcceptTable, IsNodeTable, IsRoot};
+ghost use Rattle.dr_fields.specs.Flaws.{IsRuleOf, IsFlowOf};
 
-use crate::fields::{misreads, misses, unknown_key};
+use crate::fields::{misreads, misreads_station, misses, misses_stations, unknown_key};
 use crate::flaw::Inspected;
+use dr_network::Format;
 use dr_plan_text::fields::{
-    Address, AnyCallers, AnyText, AnyValues, Class, ClassPattern, Flag, Formed, LiteralPattern,
-    NamePattern, Number, TextsOnce,
+    Address, AnyCallers, AnyText, AnyValues, Class, ClassPattern, Flag, FormatNumber, Formed,
+    LiteralPattern, NamePattern, Number, TextsOnce,
 };
 use dr_plan_text::form::{ListOf, SomeOf, TableOf};
-use dr_plan_text::tables::{AcceptTable, FlowTable, NodeTable, RuleTable, is_format_one};
+use dr_plan_text::tables::{AcceptTable, FlowTable, NodeTable, RuleTable};
 use dr_plan_text::{AcceptText, FlowText, NodeText, PlanText};
 use dr_route::Rule;
 use std::alloc::{AllocError, Global};
@@ -17,13 +19,17 @@ use toml::Table;
 impl Inspected for AcceptTable {
     type Output = AcceptText;
 
-    ghost is_table = { IsAcceptTable };
+    ghost is_table = { λ _. IsAcceptTable };
 
     fn unknown_in<'a>(table: &'a Table) -> Option<&'a str> {
         unknown_key(table, &["from", "class", "syntax"])
     }
 
-    fn fault_in(alloc: Global, table: &Table) -> Result<Option<&'static str>, AllocError> {
+    fn fault_in(
+        alloc: Global,
+        _format: Format,
+        table: &Table,
+    ) -> Result<Option<&'static str>, AllocError> {
         if misses::<AnyCallers>(alloc, table, "from")? {
             return Ok(Some("from"));
         }
@@ -40,7 +46,7 @@ impl Inspected for AcceptTable {
 impl Inspected for RuleTable {
     type Output = Rule;
 
-    ghost is_table = { IsRuleTable };
+    ghost is_table = { IsRuleOf };
 
     fn unknown_in<'a>(table: &'a Table) -> Option<&'a str> {
         unknown_key(
@@ -49,7 +55,11 @@ impl Inspected for RuleTable {
         )
     }
 
-    fn fault_in(alloc: Global, table: &Table) -> Result<Option<&'static str>, AllocError> {
+    fn fault_in(
+        alloc: Global,
+        format: Format,
+        table: &Table,
+    ) -> Result<Option<&'static str>, AllocError> {
         if misreads::<NamePattern>(alloc, table, "from")? {
             return Ok(Some("from"));
         }
@@ -59,7 +69,7 @@ impl Inspected for RuleTable {
         if misreads::<LiteralPattern>(alloc, table, "modality")? {
             return Ok(Some("modality"));
         }
-        if misreads::<LiteralPattern>(alloc, table, "station")? {
+        if misreads_station(alloc, format, table)? {
             return Ok(Some("station"));
         }
         if misreads::<ListOf<AnyText>>(alloc, table, "to")? {
@@ -75,13 +85,17 @@ impl Inspected for RuleTable {
 impl Inspected for NodeTable {
     type Output = NodeText;
 
-    ghost is_table = { IsNodeTable };
+    ghost is_table = { λ _. IsNodeTable };
 
     fn unknown_in<'a>(table: &'a Table) -> Option<&'a str> {
         unknown_key(table, &["name", "address", "max_pdu", "accept", "rule"])
     }
 
-    fn fault_in(alloc: Global, table: &Table) -> Result<Option<&'static str>, AllocError> {
+    fn fault_in(
+        alloc: Global,
+        _format: Format,
+        table: &Table,
+    ) -> Result<Option<&'static str>, AllocError> {
         if misses::<AnyText>(alloc, table, "name")? {
             return Ok(Some("name"));
         }
@@ -104,7 +118,7 @@ impl Inspected for NodeTable {
 impl Inspected for FlowTable {
     type Output = FlowText;
 
-    ghost is_table = { IsFlowTable };
+    ghost is_table = { IsFlowOf };
 
     fn unknown_in<'a>(table: &'a Table) -> Option<&'a str> {
         unknown_key(
@@ -113,7 +127,11 @@ impl Inspected for FlowTable {
         )
     }
 
-    fn fault_in(alloc: Global, table: &Table) -> Result<Option<&'static str>, AllocError> {
+    fn fault_in(
+        alloc: Global,
+        format: Format,
+        table: &Table,
+    ) -> Result<Option<&'static str>, AllocError> {
         if misses::<AnyText>(alloc, table, "at")? {
             return Ok(Some("at"));
         }
@@ -129,7 +147,7 @@ impl Inspected for FlowTable {
         if misses::<AnyValues>(alloc, table, "modality")? {
             return Ok(Some("modality"));
         }
-        if misses::<AnyValues>(alloc, table, "station")? {
+        if misses_stations(alloc, format, table)? {
             return Ok(Some("station"));
         }
         Ok(None)
@@ -142,14 +160,18 @@ pub struct RootTable;
 impl Inspected for RootTable {
     type Output = PlanText;
 
-    ghost is_table = { IsRoot };
+    ghost is_table = { λ _. IsRoot };
 
     fn unknown_in<'a>(table: &'a Table) -> Option<&'a str> {
         unknown_key(table, &["format", "node", "flow"])
     }
 
-    fn fault_in(alloc: Global, table: &Table) -> Result<Option<&'static str>, AllocError> {
-        if !is_format_one(table) {
+    fn fault_in(
+        alloc: Global,
+        _format: Format,
+        table: &Table,
+    ) -> Result<Option<&'static str>, AllocError> {
+        if misreads::<FormatNumber>(alloc, table, "format")? {
             return Ok(Some("format"));
         }
         if misreads::<ListOf<TableOf<NodeTable>>>(alloc, table, "node")? {

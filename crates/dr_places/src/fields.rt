@@ -9,7 +9,7 @@ use toml::Table;
 /// What the text's own fields have to be.
 fn wanted_of_root(key: &str) -> &'static [u8] {
     match key {
-        "format" => b"the number 1",
+        "format" => b"the number 1 or 2",
         "node" => b"tables [[node]]",
         "flow" => b"tables [[flow]]",
         _ => b"?",
@@ -43,7 +43,9 @@ fn wanted_of_rule(key: &str) -> &'static [u8] {
     match key {
         "from" => b"\"*\" or a name",
         "class" => b"\"*\" or a SOP class UID",
-        "modality" | "station" => b"\"*\" or a value of up to 64 characters",
+        "modality" => b"\"*\" or a value of up to 64 characters",
+        "station" =>
+            b"\"*\" or a value of up to 64 characters, or in format 2 a prefix with *, as \"CT*\"",
         "to" => b"a list of names",
         "keep" => b"true or false",
         _ => b"?",
@@ -56,7 +58,9 @@ fn wanted_of_flow(key: &str) -> &'static [u8] {
         "at" | "to" => b"a name in quotes",
         "class" => b"a list of SOP class UIDs",
         "syntax" => b"a list of transfer syntax UIDs",
-        "modality" | "station" => b"\"*\" or a list of values of up to 64 characters",
+        "modality" => b"\"*\" or a list of values of up to 64 characters",
+        "station" =>
+            b"\"*\" or a list of values of up to 64 characters, in format 2 also of prefixes with *, as \"CT*\"",
         _ => b"?",
     }
 }

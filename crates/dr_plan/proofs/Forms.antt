@@ -1,18 +1,23 @@
 -- The forms of fields that a text's tables say.
-use Rattle.std.proofs.Common.{◌≢◌, List, [], ◌∷◌, Option, Some, None}
+use Rattle.std.proofs.Common.{◌≢◌, sym, subst, List, [], ◌∷◌, Option, Some, None}
 use Rattle.std.specs.Prelude.{All, AllPairs}
-use Rattle.std.proofs.lemmas.List.Elements.{All-nil, All-cons}
+use Rattle.std.proofs.lemmas.List.Elements.{All-nil, All-cons, All-head, All-tail}
 use Rattle.toml.specs.Data.{Data, Items, no_items, item, Members}
 use Rattle.dr_base.specs.Texts.{Text}
 use Rattle.dr_route.specs.declared.rule.Rule.{Rule}
 use Rattle.dr_route.specs.declared.rule.Pattern.TheVariants.{Any, Literal}
+use Rattle.dr_route.specs.declared.rule.StationPattern.{StationPattern}
+use Rattle.dr_route.specs.declared.rule.StationPattern.TheVariants as station
+use Rattle.dr_network.specs.Naming.{station_of, prefix_of}
+use Rattle.dr_network.specs.declared.plan.Stations.TheVariants as stations
+use Rattle.std.specs.Prelude.{flat_map}
 use Rattle.dr_network.specs.declared.plan.Values.TheVariants as values
-use Rattle.dr_network.specs.Formed.{IsClass, IsLiteral, IsAddress, HasForm, AreLiterals}
+use Rattle.dr_network.specs.Formed.{IsClass, IsLiteral, IsPrefix, IsAddress, HasForm, HasStationForm, AreLiterals, AreStations}
 use Rattle.dr_plan_text.specs.declared.words.AcceptText.{AcceptText}
 use Rattle.dr_plan_text.specs.declared.words.NodeText.{NodeText}
 use Rattle.dr_plan_text.specs.declared.words.FlowText.{FlowText}
 use Rattle.dr_plan_text.specs.declared.words.PlanText.{PlanText}
-use Rattle.dr_plan_text.specs.Fields.{SaysFormed, SaysPattern, SaysValues, SaysTable, SaysTextsOnce, Lists, IsListOf, IsSomeOf, Given, GivenOr}
+use Rattle.dr_plan_text.specs.Fields.{SaysFormed, SaysPattern, SaysNamed, SaysStation, SaysValues, SaysStations, SaysTable, SaysTextsOnce, Lists, IsListOf, IsSomeOf, Given, GivenOr}
 use Rattle.dr_plan_text.specs.Tables.{IsAcceptTable, IsRuleTable, IsNodeTable, IsFlowTable, IsRoot}
 
 pub record RowForm (row : AcceptText) : Type 0 where
@@ -23,7 +28,7 @@ pub record RowForm (row : AcceptText) : Type 0 where
 pub record RuleForm (rule : Rule) : Type 0 where
   pub class : HasForm IsClass rule.class
   pub modality : HasForm IsLiteral rule.modality
-  pub station : HasForm IsLiteral rule.station
+  pub station : HasStationForm rule.station
 
 pub record NodeForm (node : NodeText) : Type 0 where
   pub address : IsAddress node.address
@@ -34,7 +39,7 @@ pub record FlowForm (flow : FlowText) : Type 0 where
   pub classes : (flow.classes ≢ []) × All IsClass flow.classes
   pub syntaxes : flow.syntaxes ≢ []
   pub modalities : AreLiterals flow.modalities
-  pub stations : AreLiterals flow.stations
+  pub stations : AreStations flow.stations
 
 -- what a value says has the form
 abbrev SaysFormedAs : {X : Type 0} → (Data → X → Type 0) → (X → Type 0) → Type 0
@@ -61,6 +66,39 @@ pattern_form : (IsFormed : Text → Type 0) → SaysFormedAs (SaysPattern (SaysF
 pattern_form IsFormed d Any h = tt
 pattern_form IsFormed d (Literal literal) h = h.1.1
 
+named_form : SaysFormedAs SaysNamed HasStationForm
+named_form d station.Any h = absurd h
+named_form d (station.Literal literal) h = h.1
+named_form d (station.Prefix prefix) h = h.1
+
+station_form : SaysFormedAs SaysStation HasStationForm
+station_form d station.Any h = tt
+station_form d (station.Literal literal) h = h.1
+station_form d (station.Prefix prefix) h = h.1
+
+-- the literals of stations in their form are literals, and their prefixes prefixes
+literals_form : (patterns : List StationPattern) → All HasStationForm patterns → All IsLiteral (flat_map station_of patterns)
+literals_form [] all = All-nil IsLiteral
+literals_form (station.Any ∷ patterns) all = literals_form patterns (All-tail HasStationForm station.Any patterns all)
+literals_form (station.Literal literal ∷ patterns) all =
+    All-cons IsLiteral literal (flat_map station_of patterns) (All-head HasStationForm (station.Literal literal) patterns all)
+    (literals_form patterns (All-tail HasStationForm (station.Literal literal) patterns all))
+literals_form (station.Prefix prefix ∷ patterns) all = literals_form patterns (All-tail HasStationForm (station.Prefix prefix) patterns all)
+
+prefixes_form : (patterns : List StationPattern) → All HasStationForm patterns → All IsPrefix (flat_map prefix_of patterns)
+prefixes_form [] all = All-nil IsPrefix
+prefixes_form (station.Any ∷ patterns) all = prefixes_form patterns (All-tail HasStationForm station.Any patterns all)
+prefixes_form (station.Literal literal ∷ patterns) all = prefixes_form patterns (All-tail HasStationForm (station.Literal literal) patterns all)
+prefixes_form (station.Prefix prefix ∷ patterns) all =
+    All-cons IsPrefix prefix (flat_map prefix_of patterns) (All-head HasStationForm (station.Prefix prefix) patterns all)
+    (prefixes_form patterns (All-tail HasStationForm (station.Prefix prefix) patterns all))
+
+stations_form : SaysFormedAs SaysStations AreStations
+stations_form d stations.Any h = tt
+stations_form d (stations.Listed values) h =
+    let each = list_form SaysNamed HasStationForm named_form d h.0 h.1 in
+    (subst (λ (texts : List Text). All IsLiteral texts) (sym h.2) (literals_form h.0 each), subst (λ (texts : List Text). All IsPrefix texts) (sym h.3) (prefixes_form h.0 each))
+
 values_form : SaysFormedAs SaysValues AreLiterals
 values_form d values.Any h = tt
 values_form d (values.Listed texts) h = list_form (SaysFormed IsLiteral) IsLiteral (λ d x h. h.1) d texts h
@@ -76,7 +114,7 @@ rule_form : SaysFormedAs (SaysTable IsRuleTable) RuleForm
 rule_form d rule h = record {
   class = given_or Any (SaysPattern (SaysFormed IsClass)) (HasForm IsClass) tt (pattern_form IsClass) _ rule.class h.2.class;
   modality = given_or Any (SaysPattern (SaysFormed IsLiteral)) (HasForm IsLiteral) tt (pattern_form IsLiteral) _ rule.modality h.2.modality;
-  station = given_or Any (SaysPattern (SaysFormed IsLiteral)) (HasForm IsLiteral) tt (pattern_form IsLiteral) _ rule.station h.2.station;
+  station = given_or station.Any SaysStation HasStationForm tt station_form _ rule.station h.2.station;
 }
 
 node_form : SaysFormedAs (SaysTable IsNodeTable) NodeForm
@@ -91,7 +129,7 @@ flow_form d flow h = record {
   classes = given (IsSomeOf (SaysFormed IsClass)) (λ xs. (xs ≢ []) × All IsClass xs) (λ d xs h. (h.1, list_form (SaysFormed IsClass) IsClass (λ d x h. h.1) d xs h.0)) _ flow.classes h.2.class;
   syntaxes = given (IsSomeOf _) (λ xs. xs ≢ []) (λ d xs h. h.1) _ flow.syntaxes h.2.syntax;
   modalities = given SaysValues AreLiterals values_form _ flow.modalities h.2.modality;
-  stations = given SaysValues AreLiterals values_form _ flow.stations h.2.station;
+  stations = given SaysStations AreStations stations_form _ flow.stations h.2.station;
 }
 
 pub nodes_form : (root : Members) (plan : PlanText) → IsRoot root plan → All NodeForm plan.nodes

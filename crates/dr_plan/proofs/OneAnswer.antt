@@ -12,6 +12,8 @@ use Rattle.dr_route.specs.declared.rule.Rule.{Rule}
 use Rattle.dr_network.specs.declared.plan.Node.{Node}
 use Rattle.dr_network.specs.declared.plan.Flow.{Flow}
 use Rattle.dr_network.specs.declared.plan.Values.{Values}
+use Rattle.dr_network.specs.declared.plan.Stations.{Stations}
+use Rattle.dr_network.specs.declared.plan.Format.{Format}
 use Rattle.dr_network.specs.Networks.{Network}
 use Rattle.dr_plan_text.specs.declared.words.AcceptText.{AcceptText}
 use Rattle.dr_plan_text.specs.declared.words.NodeText.{NodeText}
@@ -103,7 +105,7 @@ node_same x y e =
     same_node x.name y.name x.address y.address x.max_pdu y.max_pdu x.accepts y.accepts x.rules y.rules (ap (λ (t : NodeText). t.name) e) (ap (λ (t : NodeText). t.address) e) max_pdu
     (map_same written_row row_same x.accepts y.accepts (ap (λ (t : NodeText). t.accepts) e)) (ap (λ (t : NodeText). t.rules) e)
 
-same_flow : (at at2 : Text) (to to2 : Text) (classes classes2 : List Text) (syntaxes syntaxes2 : List Syntax) (modalities modalities2 : Values) (stations stations2 : Values) → at ≡ at2 → to ≡ to2 → classes ≡ classes2 → syntaxes ≡ syntaxes2 → modalities ≡ modalities2 → stations ≡ stations2 →
+same_flow : (at at2 : Text) (to to2 : Text) (classes classes2 : List Text) (syntaxes syntaxes2 : List Syntax) (modalities modalities2 : Values) (stations stations2 : Stations) → at ≡ at2 → to ≡ to2 → classes ≡ classes2 → syntaxes ≡ syntaxes2 → modalities ≡ modalities2 → stations ≡ stations2 →
     (let x : Flow = record { at = at; to = to; classes = classes; syntaxes = syntaxes; modalities = modalities; stations = stations } in let y : Flow = record { at = at2; to = to2; classes = classes2; syntaxes = syntaxes2; modalities = modalities2; stations = stations2 } in x ≡ y)
 same_flow at at2 to to2 classes classes2 syntaxes syntaxes2 modalities modalities2 stations stations2 e_at e_to e_classes e_syntaxes e_modalities e_stations = rw (e_at, e_to, e_classes, e_syntaxes, e_modalities, e_stations) refl
 
@@ -112,13 +114,13 @@ flow_same x y e = same_flow x.at y.at x.to y.to x.classes y.classes x.syntaxes y
     (ap (λ (t : FlowText). t.at) e) (ap (λ (t : FlowText). t.to) e) (ap (λ (t : FlowText). t.classes) e)
     (map_same syntax_uid uid_same x.syntaxes y.syntaxes (ap (λ (t : FlowText). t.syntaxes) e)) (ap (λ (t : FlowText). t.modalities) e) (ap (λ (t : FlowText). t.stations) e)
 
-same_network : (nodes nodes2 : List Node) (flows flows2 : List Flow) (digest digest2 : List ℕ) → nodes ≡ nodes2 → flows ≡ flows2 → digest ≡ digest2 →
-    (let x : Network = record { nodes = nodes; flows = flows; digest = digest } in let y : Network = record { nodes = nodes2; flows = flows2; digest = digest2 } in x ≡ y)
-same_network nodes nodes2 flows flows2 digest digest2 e_nodes e_flows e_digest = rw (e_nodes, e_flows, e_digest) refl
+same_network : (format format2 : Format) (nodes nodes2 : List Node) (flows flows2 : List Flow) (digest digest2 : List ℕ) → format ≡ format2 → nodes ≡ nodes2 → flows ≡ flows2 → digest ≡ digest2 →
+    (let x : Network = record { format = format; nodes = nodes; flows = flows; digest = digest } in let y : Network = record { format = format2; nodes = nodes2; flows = flows2; digest = digest2 } in x ≡ y)
+same_network format format2 nodes nodes2 flows flows2 digest digest2 e_format e_nodes e_flows e_digest = rw (e_format, e_nodes, e_flows, e_digest) refl
 
 network_same : (x y : Network) → written_plan x ≡ written_plan y → x.digest ≡ y.digest → x ≡ y
-network_same x y e digest = same_network x.nodes y.nodes x.flows y.flows x.digest y.digest
-    (map_same written_node node_same x.nodes y.nodes (ap (λ (t : PlanText). t.nodes) e)) (map_same written_flow flow_same x.flows y.flows (ap (λ (t : PlanText). t.flows) e)) digest
+network_same x y e digest = same_network x.format y.format x.nodes y.nodes x.flows y.flows x.digest y.digest
+    (ap (λ (t : PlanText). t.format) e) (map_same written_node node_same x.nodes y.nodes (ap (λ (t : PlanText). t.nodes) e)) (map_same written_flow flow_same x.flows y.flows (ap (λ (t : PlanText). t.flows) e)) digest
 
 -- the answer, without the plan
 abbrev passed : Result Network PlanFault → Result (Unit {0}) PlanFault

@@ -13,32 +13,43 @@ use Rattle.dr_route.specs.declared.accept.Callers.TheVariants as callers
 use Rattle.dr_route.specs.declared.accept.AcceptRow.{AcceptRow}
 use Rattle.dr_network.specs.declared.plan.Node.{Node}
 use Rattle.dr_network.specs.declared.plan.Flow.{Flow}
-use Rattle.dr_network.specs.Formed.{IsName, IsMaxPdu, IsKnownName, HasForm, IsRuleOf, AreKnownCallers, IsAcceptRow, IsWellFormedNode, IsWellFormedFlow, AreWellFormed}
+use Rattle.dr_network.specs.declared.plan.Format.{Format}
+use Rattle.dr_network.specs.declared.plan.Format.TheVariants.{One, Two}
+use Rattle.dr_network.specs.Formed.{IsName, IsMaxPdu, IsKnownName, HasForm, IsRuleOf, AreKnownCallers, IsAcceptRow, IsWellFormedNode, IsWellFormedFlow, IsInFormat, AreWellFormed}
+use Rattle.dr_network.specs.Naming.{prefix_of, listed_prefixes}
 use Rattle.dr_plan_text.specs.declared.words.NodeText.{NodeText}
 use Rattle.dr_plan_text.specs.declared.words.FlowText.{FlowText}
 use Rattle.dr_plan_text.specs.declared.words.PlanText.{PlanText}
-use Rattle.dr_plan_text.specs.Tables.{IsRoot}
+use Rattle.dr_plan_text.specs.Tables.{IsRoot, FitsFormat}
 use Rattle.dr_plan.specs.Spelling.{written_row, written_node, written_flow}
 use Rattle.dr_plan.specs.Reading.{EachCaller, EachNameOfNode, node_names, HasMaxPdu, Passes}
 use Rattle.dr_plan.proofs.Forms.{RowForm, RuleForm, NodeForm, FlowForm, nodes_form, flows_form}
 use Rattle.dr_plan.proofs.Mapped.{All-unmap, AllPairs-unmap, AllPairs-weaker, sum_by-map, Contains-unmap, not_nil-unmap}
 
-abbrev the_plan : List Node → List Flow → PlanText
-the_plan nodes flows = record { nodes = map written_node nodes; flows = map written_flow flows }
+abbrev the_plan : Format → List Node → List Flow → PlanText
+the_plan format nodes flows = record { format = format; nodes = map written_node nodes; flows = map written_flow flows }
 
 -- a name of the text is the name of a node
-known_name : (nodes : List Node) (flows : List Flow) (name : Text) → Contains (node_names (the_plan nodes flows)) name → IsKnownName nodes name
-known_name nodes flows name among =
+known_name : (format : Format) (nodes : List Node) (flows : List Flow) (name : Text) → Contains (node_names (the_plan format nodes flows)) name → IsKnownName nodes name
+known_name format nodes flows name among =
     let text = Contains-unmap (λ (n : NodeText). n.name) (map written_node nodes) name among in
     let node = Contains-unmap written_node nodes text.0 text.1 in
     (node.0, node.1, ap (λ (n : NodeText). n.name) node.2 ∙ text.2)
 
-module _ (nodes : List Node) (flows : List Flow) where
+-- in format 1 no rule and no flow of the text names a prefix, nor then of the plan
+in_format : (format : Format) (nodes : List Node) (flows : List Flow) → FitsFormat (the_plan format nodes flows) → IsInFormat format nodes flows
+in_format One nodes flows fits = (
+  All-unmap written_node (λ (n : NodeText). All (λ (r : Rule). prefix_of r.station ≡ []) n.rules) nodes fits.rules,
+  All-unmap written_flow (λ (f : FlowText). listed_prefixes f.stations ≡ []) flows fits.flows,
+)
+in_format Two nodes flows fits = tt
+
+module _ (format : Format) (nodes : List Node) (flows : List Flow) where
   abbrev Known : Text → Type 0
-  Known = Contains (node_names (the_plan nodes flows))
+  Known = Contains (node_names (the_plan format nodes flows))
 
   known : (name : Text) → Known name → IsKnownName nodes name
-  known = known_name nodes flows
+  known = known_name format nodes flows
 
   all_known : (names : List Text) → All Known names → All (IsKnownName nodes) names
   all_known names all = λ k d h. known (get_or names k d) (all k d h)
@@ -92,9 +103,9 @@ module _ (nodes : List Node) (flows : List Flow) where
     stations = form.stations;
   }
 
-  pub well_formed : (root : Members) → IsRoot root (the_plan nodes flows) → Passes (the_plan nodes flows) (Ok tt) → AreWellFormed nodes flows
+  pub well_formed : (root : Members) → IsRoot root (the_plan format nodes flows) → Passes (the_plan format nodes flows) (Ok tt) → AreWellFormed format nodes flows
   well_formed root is passes =
-      let plan = the_plan nodes flows in
+      let plan = the_plan format nodes flows in
       let node_forms = All-unmap written_node NodeForm nodes (nodes_form root plan is) in
       let names = All-unmap written_node (EachNameOfNode IsName) nodes passes.1.formed.nodes in
       let pdus = All-unmap written_node HasMaxPdu nodes passes.2.max_pdu in
@@ -109,6 +120,7 @@ module _ (nodes : List Node) (flows : List Flow) where
         apart = AllPairs-unmap (λ (n : Node). n.name) nodes (rw (map_map nodes) at passes.1.apart);
         each_node = λ k d h. node (get_or nodes k d) (node_forms k d h) (names k d h) (pdus k d h) (knows k d h) (apart k d h);
         each_flow = λ k d h. flow (get_or flows k d) (flow_forms k d h) (flow_names k d h) (flows_apart k d h);
+        in_format = in_format format nodes flows is.fits;
       }
     where
       map_map : (ns : List Node) → map (λ (n : NodeText). n.name) (map written_node ns) ≡ map (λ (n : Node). n.name) ns

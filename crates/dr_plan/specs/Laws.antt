@@ -13,4 +13,4 @@ EachTextHasOneAnswer = (text : Text) (r s : Result Network PlanFault) → r ≢ 
 
 -- each plan that is read of a text is well-formed
 abbrev pub PlansAreWellFormed : Type 0
-PlansAreWellFormed = (text : Text) (plan : Network) → Reads text (Ok plan) → AreWellFormed plan.nodes plan.flows
+PlansAreWellFormed = (text : Text) (plan : Network) → Reads text (Ok plan) → AreWellFormed plan.format plan.nodes plan.flows

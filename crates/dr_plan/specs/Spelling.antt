@@ -23,6 +23,6 @@ abbrev pub written_flow : Flow → FlowText
 written_flow flow =
     record { at = flow.at; to = flow.to; classes = flow.classes; syntaxes = map syntax_uid flow.syntaxes; modalities = flow.modalities; stations = flow.stations }
 
--- a plan as it is written: its nodes and flows in order; the digest of the text is no part of it
+-- a plan as it is written: its format, and its nodes and flows in order; the digest of the text is no part of it
 abbrev pub written_plan : Network → PlanText
-written_plan plan = record { nodes = map written_node plan.nodes; flows = map written_flow plan.flows }
+written_plan plan = record { format = plan.format; nodes = map written_node plan.nodes; flows = map written_flow plan.flows }

@@ -11,6 +11,6 @@ mod syntaxes;
 mod typed;
 
 pub use dr_network::literals::literals;
-pub use dr_network::{Flow, Node, Plan, Values};
+pub use dr_network::{Flow, Format, Node, Plan, Stations, Values};
 pub use fault::PlanFault;
 pub use read::read_plan;

@@ -45,8 +45,12 @@ pub fn read_plan(alloc: Global, text: &[u8]) -> Result<Plan, PlanFault>
 {
     let written = read_text(alloc, text)?;
     pass(alloc, &written)?;
-    let PlanText { nodes, flows } = written;
+    let PlanText {
+        format,
+        nodes,
+        flows,
+    } = written;
     let nodes = nodes_of(alloc, nodes)?;
     let flows = flows_of(alloc, flows)?;
-    Ok(Plan::new(nodes, flows, Sha256::digest(text)))
+    Ok(Plan::new(format, nodes, flows, Sha256::digest(text)))
 }

@@ -5,5 +5,8 @@ pub mod Ports
 pub mod Refusals
 pub mod Repeats
 pub mod OneAnswer
+pub mod OfStations
 pub mod OnePlan
 pub mod SmallTexts
+pub mod PrefixTexts
+pub mod Unnamed

@@ -1,23 +1,29 @@
 -- Tables say one thing each, and a text writes one plan at most.
-use Rattle.std.proofs.Common.{◌≡◌, refl, sym, ◌∙◌, ap, List, [], Option, Some, None, Bool, ℤ}
+use Rattle.std.proofs.Common.{◌≡◌, refl, sym, ◌∙◌, ap, subst, List, [], Option, Some, None, Bool, ℤ, codes}
 use Rattle.std.proofs.lemmas.Option.{same_Some}
-use Rattle.toml.specs.Data.{Data, integer, boolean, array, table, Members}
+use Rattle.toml.specs.Data.{Data, integer, boolean, array, table, Members, get_member}
 use Rattle.dr_base.specs.Texts.{Text}
 use Rattle.dr_route.specs.declared.rule.Rule.{Rule}
 use Rattle.dr_route.specs.declared.rule.Pattern.{Pattern}
 use Rattle.dr_route.specs.declared.rule.Pattern.TheVariants.{Any, Literal}
+use Rattle.dr_route.specs.declared.rule.StationPattern.{StationPattern}
+use Rattle.dr_route.specs.declared.rule.StationPattern.TheVariants as station
 use Rattle.dr_route.specs.declared.accept.Callers.{Callers}
 use Rattle.dr_route.specs.declared.accept.Callers.TheVariants as callers
 use Rattle.dr_network.specs.declared.plan.Values.{Values}
 use Rattle.dr_network.specs.declared.plan.Values.TheVariants as values
+use Rattle.dr_network.specs.declared.plan.Stations.{Stations}
+use Rattle.dr_network.specs.declared.plan.Format.{Format}
+use Rattle.dr_network.specs.declared.plan.Format.TheVariants.{One}
 use Rattle.dr_network.specs.Formed.{IsClass, IsLiteral, IsAddress}
 use Rattle.dr_plan_text.specs.declared.words.AcceptText.{AcceptText}
 use Rattle.dr_plan_text.specs.declared.words.NodeText.{NodeText}
 use Rattle.dr_plan_text.specs.declared.words.FlowText.{FlowText}
 use Rattle.dr_plan_text.specs.declared.words.PlanText.{PlanText}
-use Rattle.dr_plan_text.specs.Fields.{SaysText, SaysFormed, SaysNumber, SaysFlag, SaysPattern, SaysValues, SaysCallers, SaysTextsOnce, SaysTable, IsListOf, IsSomeOf, GivenOr, star}
-use Rattle.dr_plan_text.specs.Tables.{IsAcceptTable, IsRuleTable, IsNodeTable, IsFlowTable, IsRoot, Writes}
+use Rattle.dr_plan_text.specs.Fields.{SaysText, SaysFormed, SaysNumber, SaysFlag, SaysFormat, SaysPattern, SaysStation, SaysValues, SaysStations, SaysCallers, SaysTextsOnce, SaysTable, IsListOf, IsSomeOf, GivenOr, star}
+use Rattle.dr_plan_text.specs.Tables.{IsAcceptTable, IsRuleTable, IsNodeTable, IsFlowTable, IsRoot, IsFormat, FitsFormat, Writes}
 use Rattle.dr_plan_text.proofs.OneAnswer.{SaysOne, SaysText-one, SaysFormed-one, IsListOf-one, IsSomeOf-one, Given-one}
+use Rattle.dr_plan_text.proofs.OfStations.{SaysFormat-one, SaysStation-one, SaysStations-one}
 
 SaysNumber-one : SaysOne SaysNumber
 SaysNumber-one d x y a b = let same : integer x ≡ integer y = sym a ∙ b in cc
@@ -70,7 +76,7 @@ accept_one fields x y a b =
     let syntaxes = Given-one SaysTextsOnce SaysTextsOnce-one _ x.syntaxes y.syntaxes a.syntax b.syntax in
     same_accept x.from y.from x.class y.class x.syntaxes y.syntaxes from class syntaxes
 
-same_rule : (from from2 : Pattern) (class class2 : Pattern) (modality modality2 : Pattern) (station station2 : Pattern) (to to2 : List Text) (keep keep2 : Bool) → from ≡ from2 → class ≡ class2 → modality ≡ modality2 → station ≡ station2 → to ≡ to2 → keep ≡ keep2 →
+same_rule : (from from2 : Pattern) (class class2 : Pattern) (modality modality2 : Pattern) (station station2 : StationPattern) (to to2 : List Text) (keep keep2 : Bool) → from ≡ from2 → class ≡ class2 → modality ≡ modality2 → station ≡ station2 → to ≡ to2 → keep ≡ keep2 →
     (let x : Rule = record { from = from; class = class; modality = modality; station = station; to = to; keep = keep } in let y : Rule = record { from = from2; class = class2; modality = modality2; station = station2; to = to2; keep = keep2 } in x ≡ y)
 same_rule from from2 class class2 modality modality2 station station2 to to2 keep keep2 e_from e_class e_modality e_station e_to e_keep = rw (e_from, e_class, e_modality, e_station, e_to, e_keep) refl
 
@@ -79,7 +85,7 @@ rule_one fields x y a b =
     let from = GivenOr-one Any (SaysPattern SaysText) (SaysPattern-one SaysText SaysText-one) _ x.from y.from a.from b.from in
     let class = GivenOr-one Any (SaysPattern (SaysFormed IsClass)) (SaysPattern-one (SaysFormed IsClass) (SaysFormed-one IsClass)) _ x.class y.class a.class b.class in
     let modality = GivenOr-one Any (SaysPattern (SaysFormed IsLiteral)) (SaysPattern-one (SaysFormed IsLiteral) (SaysFormed-one IsLiteral)) _ x.modality y.modality a.modality b.modality in
-    let station = GivenOr-one Any (SaysPattern (SaysFormed IsLiteral)) (SaysPattern-one (SaysFormed IsLiteral) (SaysFormed-one IsLiteral)) _ x.station y.station a.station b.station in
+    let station = GivenOr-one station.Any SaysStation SaysStation-one _ x.station y.station a.station b.station in
     let to = GivenOr-one [] (IsListOf SaysText) (IsListOf-one SaysText SaysText-one) _ x.to y.to a.to b.to in
     let keep = GivenOr-one _ SaysFlag SaysFlag-one _ x.keep y.keep a.keep b.keep in
     same_rule x.from y.from x.class y.class x.modality y.modality x.station y.station x.to y.to x.keep y.keep from class modality station to keep
@@ -97,7 +103,7 @@ node_one fields x y a b =
     let rules = GivenOr-one [] (IsListOf (SaysTable IsRuleTable)) (IsListOf-one (SaysTable IsRuleTable) (SaysTable-one IsRuleTable rule_one)) _ x.rules y.rules a.rule b.rule in
     same_node x.name y.name x.address y.address x.max_pdu y.max_pdu x.accepts y.accepts x.rules y.rules name address max_pdu accepts rules
 
-same_flow : (at at2 : Text) (to to2 : Text) (classes classes2 : List Text) (syntaxes syntaxes2 : List Text) (modalities modalities2 : Values) (stations stations2 : Values) → at ≡ at2 → to ≡ to2 → classes ≡ classes2 → syntaxes ≡ syntaxes2 → modalities ≡ modalities2 → stations ≡ stations2 →
+same_flow : (at at2 : Text) (to to2 : Text) (classes classes2 : List Text) (syntaxes syntaxes2 : List Text) (modalities modalities2 : Values) (stations stations2 : Stations) → at ≡ at2 → to ≡ to2 → classes ≡ classes2 → syntaxes ≡ syntaxes2 → modalities ≡ modalities2 → stations ≡ stations2 →
     (let x : FlowText = record { at = at; to = to; classes = classes; syntaxes = syntaxes; modalities = modalities; stations = stations } in let y : FlowText = record { at = at2; to = to2; classes = classes2; syntaxes = syntaxes2; modalities = modalities2; stations = stations2 } in x ≡ y)
 same_flow at at2 to to2 classes classes2 syntaxes syntaxes2 modalities modalities2 stations stations2 e_at e_to e_classes e_syntaxes e_modalities e_stations = rw (e_at, e_to, e_classes, e_syntaxes, e_modalities, e_stations) refl
 
@@ -108,18 +114,45 @@ flow_one fields x y a b =
     let classes = Given-one (IsSomeOf (SaysFormed IsClass)) (IsSomeOf-one (SaysFormed IsClass) (SaysFormed-one IsClass)) _ x.classes y.classes a.class b.class in
     let syntaxes = Given-one (IsSomeOf SaysText) (IsSomeOf-one SaysText SaysText-one) _ x.syntaxes y.syntaxes a.syntax b.syntax in
     let modalities = Given-one SaysValues SaysValues-one _ x.modalities y.modalities a.modality b.modality in
-    let stations = Given-one SaysValues SaysValues-one _ x.stations y.stations a.station b.station in
+    let stations = Given-one SaysStations SaysStations-one _ x.stations y.stations a.station b.station in
     same_flow x.at y.at x.to y.to x.classes y.classes x.syntaxes y.syntaxes x.modalities y.modalities x.stations y.stations at to classes syntaxes modalities stations
 
-same_root : (nodes nodes2 : List NodeText) (flows flows2 : List FlowText) → nodes ≡ nodes2 → flows ≡ flows2 →
-    (let x : PlanText = record { nodes = nodes; flows = flows } in let y : PlanText = record { nodes = nodes2; flows = flows2 } in x ≡ y)
-same_root nodes nodes2 flows flows2 e_nodes e_flows = rw (e_nodes, e_flows) refl
+pub format_one : (fields : Members) (x y : Format) → IsFormat (get_member (codes "format") fields) x → IsFormat (get_member (codes "format") fields) y → x ≡ y
+format_one fields x y a b = GivenOr-one One SaysFormat SaysFormat-one (get_member (codes "format") fields) x y a b
+
+-- the nodes that the text's root table says
+abbrev pub AreNodes : Members → List NodeText → Type 0
+AreNodes fields nodes = GivenOr [] (IsListOf (SaysTable IsNodeTable)) (get_member (codes "node") fields) nodes
+
+pub nodes_one : (fields : Members) (x y : List NodeText) → AreNodes fields x → AreNodes fields y → x ≡ y
+nodes_one fields x y a b =
+    GivenOr-one [] (IsListOf (SaysTable IsNodeTable)) (IsListOf-one (SaysTable IsNodeTable) (SaysTable-one IsNodeTable node_one)) (get_member (codes "node") fields) x y a b
+
+-- the flows that it says
+abbrev pub AreFlows : Members → List FlowText → Type 0
+AreFlows fields flows = GivenOr [] (IsListOf (SaysTable IsFlowTable)) (get_member (codes "flow") fields) flows
+
+pub flows_one : (fields : Members) (x y : List FlowText) → AreFlows fields x → AreFlows fields y → x ≡ y
+flows_one fields x y a b =
+    GivenOr-one [] (IsListOf (SaysTable IsFlowTable)) (IsListOf-one (SaysTable IsFlowTable) (SaysTable-one IsFlowTable flow_one)) (get_member (codes "flow") fields) x y a b
+
+same_root : (format format2 : Format) (nodes nodes2 : List NodeText) (flows flows2 : List FlowText) → format ≡ format2 → nodes ≡ nodes2 → flows ≡ flows2 →
+    (let x : PlanText = record { format = format; nodes = nodes; flows = flows } in let y : PlanText = record { format = format2; nodes = nodes2; flows = flows2 } in x ≡ y)
+same_root format format2 nodes nodes2 flows flows2 e_format e_nodes e_flows = rw (e_format, e_nodes, e_flows) refl
+
+-- the plan whose parts the root table says, if it fits its format
+parts_one : (fields : Members) (x y : PlanText) → IsFormat (get_member (codes "format") fields) x.format → AreNodes fields x.nodes → AreFlows fields x.flows → IsRoot fields y → x ≡ y
+parts_one fields x y format nodes flows is =
+    same_root x.format y.format x.nodes y.nodes x.flows y.flows (format_one fields x.format y.format format is.format) (nodes_one fields x.nodes y.nodes nodes is.node)
+    (flows_one fields x.flows y.flows flows is.flow)
 
 root_one : (fields : Members) (x y : PlanText) → IsRoot fields x → IsRoot fields y → x ≡ y
-root_one fields x y a b =
-    let nodes = GivenOr-one [] (IsListOf (SaysTable IsNodeTable)) (IsListOf-one (SaysTable IsNodeTable) (SaysTable-one IsNodeTable node_one)) _ x.nodes y.nodes a.node b.node in
-    let flows = GivenOr-one [] (IsListOf (SaysTable IsFlowTable)) (IsListOf-one (SaysTable IsFlowTable) (SaysTable-one IsFlowTable flow_one)) _ x.flows y.flows a.flow b.flow in
-    same_root x.nodes y.nodes x.flows y.flows nodes flows
+root_one fields x y a b = parts_one fields x y a.format a.node a.flow b
+
+-- where the plan that was read doesn't fit its format, the text says none
+pub misfit : (fields : Members) (x : PlanText) → IsFormat (get_member (codes "format") fields) x.format → AreNodes fields x.nodes → AreFlows fields x.flows → (FitsFormat x → ⊥) →
+    (y : PlanText) → IsRoot fields y → ⊥
+misfit fields x format nodes flows unfit y is = unfit (subst FitsFormat (sym (parts_one fields x y format nodes flows is)) is.fits)
 
 pub one_plan : (text : Text) (a b : PlanText) → Writes text a → Writes text b → a ≡ b
 one_plan text a b x y = let same : x.0 ≡ y.0 = same_Some _ _ (sym x.1.1 ∙ y.1.1) in root_one y.0 a b (rw same at x.2) y.2

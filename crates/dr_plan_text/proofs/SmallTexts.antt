@@ -6,20 +6,37 @@ use Rattle.toml.specs.Data.{string, integer, array, table, Items, no_items, item
 use Rattle.toml.specs.Parse.{parse_document}
 use Rattle.toml.proofs.OnLiterals.{toml_on_literals}
 use Rattle.dr_base.specs.Texts.{Text}
+use Rattle.dr_route.specs.declared.rule.Rule.{Rule}
+use Rattle.dr_network.specs.declared.plan.Format.{Format}
+use Rattle.dr_network.specs.declared.plan.Format.TheVariants.{One}
 use Rattle.dr_network.specs.Formed.{IsAddress, IsDigit}
 use Rattle.std.specs.Str.Parse.{digits_value}
 use Rattle.std.proofs.lemmas.List.Elements.{All-nil, All-cons}
 use Rattle.dr_network.proofs.Gathered.{Contains-cons_cases, only_one}
 use Rattle.dr_plan_text.specs.declared.words.NodeText.{NodeText}
+use Rattle.dr_plan_text.specs.declared.words.FlowText.{FlowText}
 use Rattle.dr_plan_text.specs.declared.words.PlanText.{PlanText}
-use Rattle.dr_plan_text.specs.Fields.{SaysTable, Lists, IsListOf, GivenOr, HasOnly}
+use Rattle.dr_plan_text.specs.Fields.{SaysTable, Lists, IsListOf, GivenOr, HasOnly, PatternFits, StationsFit}
+use Rattle.dr_plan_text.proofs.OfStations.{no_format}
 use Rattle.dr_plan_text.proofs.Refusals.{nothing_parsed}
 use Rattle.dr_plan_text.proofs.Ports.{small_port, no_colon}
 use Rattle.dr_plan_text.specs.Tables.{IsNodeTable, IsFormat, Writes, root_keys}
 use Rattle.dr_plan_text.specs.Laws.{EmptyTextWritesNothing, NodeIsWritten, KeyIsUnknown, FormatIsOther, AddressIsMissing, PortIsTooHigh, node_text, written_node_text}
 
+-- a rule's station fits the format
+abbrev pub StationOf : Format → Rule → Type 0
+StationOf format rule = PatternFits format rule.station
+
+-- the stations of a node's rules do
+abbrev pub RulesFit : Format → NodeText → Type 0
+RulesFit format node = All (StationOf format) node.rules
+
+-- those of a flow do
+abbrev pub StationsOf : Format → FlowText → Type 0
+StationsOf format flow = StationsFit format flow.stations
+
 pub empty_text : EmptyTextWritesNothing
-empty_text = (no_members, (([], (refl, refl)), nothing_parsed), record { only = tt; format = tt; node = refl; flow = refl })
+empty_text = (no_members, (([], (refl, refl)), nothing_parsed), record { only = tt; format = refl; node = refl; flow = refl; fits = record { rules = All-nil (RulesFit One); flows = All-nil (StationsOf One) } })
 
 node_members : Members
 node_members = member (codes "address") (string (codes "h:1")) (member (codes "name") (string (codes "A")) no_members)
@@ -28,7 +45,7 @@ node_parsed : parse_document node_text ≡ Some (member (codes "node") (array (i
 unfolding toml_on_literals node_members
 node_parsed = refl
 
-address_is : IsAddress (codes "h:1")
+pub address_is : IsAddress (codes "h:1")
 address_is = record {
   host = codes "h";
   port = codes "1";
@@ -60,14 +77,15 @@ one_node = (
   ((node_text, (refl, refl)), node_parsed),
   record {
     only = ((1, lit< tt, refl), tt);
-    format = tt;
+    format = refl;
     node = (item (table node_members) no_items, refl, ((node_members, refl, node_said), tt));
     flow = refl;
+    fits = record { rules = All-cons (RulesFit One) written_node_text [] (All-nil (StationOf One)) (All-nil (RulesFit One)); flows = All-nil (StationsOf One) };
   },
 )
 
 -- the tree of a text that is parsed by computation
-the_tree : (text : Text) (known root : Members) → parse_document text ≡ Some known → parse_document text ≡ Some root → root ≡ known
+pub the_tree : (text : Text) (known root : Members) → parse_document text ≡ Some known → parse_document text ≡ Some root → root ≡ known
 the_tree text known root a b = same_Some _ _ (sym b ∙ a)
 
 colour_parsed : parse_document (codes "colour = 1") ≡ Some (member (codes "colour") (integer (pos 1)) no_members)
@@ -92,18 +110,18 @@ unknown_key = λ plan w.
     let P : Members → Type 0 = λ root. HasOnly root_keys root in
     no_colour (subst P same w.2.only).0
 
-format_parsed : parse_document (codes "format = 2") ≡ Some (member (codes "format") (integer (pos 2)) no_members)
+format_parsed : parse_document (codes "format = 3") ≡ Some (member (codes "format") (integer (pos 3)) no_members)
 unfolding toml_on_literals
 format_parsed = refl
 
-not_one : integer (pos 2) ≡ integer (pos 1) → ⊥
-not_one e = let same : pos 2 ≡ pos 1 = cc in let numbers : ◌≡◌ {A = ℕ} 2 1 = cc in omega arith
+apart_numbers : (x y : ℕ) → (x ≡ y → ⊥) → integer (pos x) ≡ integer (pos y) → ⊥
+apart_numbers x y apart e = let same : pos x ≡ pos y = cc in let numbers : x ≡ y = cc in apart numbers
 
 pub other_format : FormatIsOther
 other_format = λ plan w.
-    let same = the_tree (codes "format = 2") _ w.0 format_parsed w.1.1 in
-    let P : Members → Type 0 = λ root. IsFormat (get_member (codes "format") root) in
-    not_one (subst P same w.2.format)
+    let same = the_tree (codes "format = 3") _ w.0 format_parsed w.1.1 in
+    let P : Members → Type 0 = λ root. IsFormat (get_member (codes "format") root) plan.format in
+    no_format (integer (pos 3)) (apart_numbers 3 1 (λ e. omega arith)) (apart_numbers 3 2 (λ e. omega arith)) plan.format (subst P same w.2.format)
 
 -- the one node of a text that says one node, if it says any
 the_node : (fields : Members) (nodes : List NodeText) → IsListOf (SaysTable IsNodeTable) (array (item (table fields) no_items)) nodes → (node : NodeText) × IsNodeTable fields node

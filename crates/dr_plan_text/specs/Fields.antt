@@ -1,14 +1,21 @@
 -- What the values of a plan's text say.
-use Rattle.std.specs.Prelude.{◌≡◌, ◌≢◌, ℤ, Bool, List, [], ◌∷◌, Option, Some, None, codes, Contains, AllPairs}
+use Rattle.std.specs.Prelude.{◌≡◌, ◌≢◌, ℤ, pos, Bool, List, [], ◌∷◌, ◌++◌, Option, Some, None, codes, Contains, AllPairs, flat_map}
 use Rattle.toml.specs.Data.{Data, string, integer, boolean, array, table, Items, no_items, item, Members, no_members, member}
 use Rattle.dr_base.specs.Texts.{Text}
 use Rattle.dr_route.specs.declared.rule.Pattern.{Pattern}
 use Rattle.dr_route.specs.declared.rule.Pattern.TheVariants as pattern
+use Rattle.dr_route.specs.declared.rule.StationPattern.{StationPattern}
+use Rattle.dr_route.specs.declared.rule.StationPattern.TheVariants as station
 use Rattle.dr_route.specs.declared.accept.Callers.{Callers}
 use Rattle.dr_route.specs.declared.accept.Callers.TheVariants as callers
 use Rattle.dr_network.specs.declared.plan.Values.{Values}
 use Rattle.dr_network.specs.declared.plan.Values.TheVariants as values
-use Rattle.dr_network.specs.Formed.{IsLiteral}
+use Rattle.dr_network.specs.declared.plan.Stations.{Stations}
+use Rattle.dr_network.specs.declared.plan.Stations.TheVariants as stations
+use Rattle.dr_network.specs.declared.plan.Format.{Format}
+use Rattle.dr_network.specs.declared.plan.Format.TheVariants.{One, Two}
+use Rattle.dr_network.specs.Naming.{station_of, prefix_of, listed_prefixes}
+use Rattle.dr_network.specs.Formed.{IsLiteral, IsPrefix}
 
 -- a string says its text
 abbrev pub SaysText : Data → Text → Type 0
@@ -25,6 +32,11 @@ SaysNumber d number = d ≡ integer number
 -- a boolean says its flag
 abbrev pub SaysFlag : Data → Bool → Type 0
 SaysFlag d flag = d ≡ boolean flag
+
+-- the number of a format: 1 or 2
+abbrev pub SaysFormat : Data → Format → Type 0
+SaysFormat d One = d ≡ integer (pos 1)
+SaysFormat d Two = d ≡ integer (pos 2)
 
 -- the items say these values, one each
 abbrev pub Lists : {X : Type 0} → (Data → X → Type 0) → Items → List X → Type 0
@@ -58,7 +70,35 @@ abbrev pub SaysPattern : (Data → Text → Type 0) → Data → Pattern → Typ
 SaysPattern Says d pattern.Any = d ≡ star
 SaysPattern Says d (pattern.Literal literal) = (d ≢ star) × Says d literal
 
--- the values of a flow: `*`, or a list of literals
+-- a station that is named: a literal, or a prefix with `*` behind it
+abbrev pub SaysNamed : Data → StationPattern → Type 0
+SaysNamed d station.Any = ⊥
+SaysNamed d (station.Literal literal) = (d ≡ string literal) × IsLiteral literal
+SaysNamed d (station.Prefix prefix) = (d ≡ string (prefix ++ 42 ∷ [])) × IsPrefix prefix
+
+-- the station of a rule: `*`, or one that is named
+abbrev pub SaysStation : Data → StationPattern → Type 0
+SaysStation d station.Any = d ≡ star
+SaysStation d (station.Literal literal) = SaysNamed d (station.Literal literal)
+SaysStation d (station.Prefix prefix) = SaysNamed d (station.Prefix prefix)
+
+-- the stations of a flow: `*`, or a list of named ones, of which the literals and the prefixes are kept apart, each in the list's order
+abbrev pub SaysStations : Data → Stations → Type 0
+SaysStations d stations.Any = d ≡ star
+SaysStations d (stations.Listed values) = (patterns : List StationPattern) × IsListOf SaysNamed d patterns ×
+    (values.literals ≡ flat_map station_of patterns) × (values.prefixes ≡ flat_map prefix_of patterns)
+
+-- the format has the station of a rule: in format 1 there is no prefix
+abbrev pub PatternFits : Format → StationPattern → Type 0
+PatternFits One pattern = prefix_of pattern ≡ []
+PatternFits Two pattern = Unit {0}
+
+-- the format has the stations of a flow: in format 1 there is no prefix
+abbrev pub StationsFit : Format → Stations → Type 0
+StationsFit One listed = listed_prefixes listed ≡ []
+StationsFit Two listed = Unit {0}
+
+-- the values of a flow for modality: `*`, or a list of literals
 abbrev pub SaysValues : Data → Values → Type 0
 SaysValues d values.Any = d ≡ star
 SaysValues d (values.Listed texts) = IsListOf (SaysFormed IsLiteral) d texts

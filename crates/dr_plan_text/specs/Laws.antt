@@ -1,8 +1,18 @@
 -- Laws of plans as they are written, and small texts.
-use Rattle.std.specs.Prelude.{◌≡◌, pos, [], ◌∷◌, codes}
+use Rattle.std.specs.Prelude.{◌≡◌, pos, false, [], ◌∷◌, ◌++◌, codes}
+use Rattle.toml.specs.Data.{string}
 use Rattle.dr_base.specs.Texts.{Text}
+use Rattle.dr_route.specs.declared.rule.Pattern.TheVariants.{Any}
+use Rattle.dr_route.specs.declared.rule.StationPattern.{StationPattern}
+use Rattle.dr_route.specs.declared.rule.StationPattern.TheVariants as station
+use Rattle.dr_route.specs.declared.rule.Rule.{Rule}
+use Rattle.dr_network.specs.declared.plan.Values.TheVariants as values
+use Rattle.dr_network.specs.declared.plan.Stations.TheVariants as stations
+use Rattle.dr_network.specs.declared.plan.Format.TheVariants.{One, Two}
 use Rattle.dr_plan_text.specs.declared.words.NodeText.{NodeText}
+use Rattle.dr_plan_text.specs.declared.words.FlowText.{FlowText}
 use Rattle.dr_plan_text.specs.declared.words.PlanText.{PlanText}
+use Rattle.dr_plan_text.specs.Fields.{SaysNamed}
 use Rattle.dr_plan_text.specs.Tables.{Writes}
 
 -- a text writes one plan at most
@@ -11,7 +21,7 @@ EachTextWritesOnePlan = (text : Text) (a b : PlanText) → Writes text a → Wri
 
 -- the empty text writes the plan without nodes and flows
 abbrev pub EmptyTextWritesNothing : Type 0
-EmptyTextWritesNothing = Writes [] (record { nodes = []; flows = [] })
+EmptyTextWritesNothing = Writes [] (record { format = One; nodes = []; flows = [] })
 
 -- the text of one node with the name A at port 1 of host h
 abbrev pub node_text : Text
@@ -23,7 +33,7 @@ written_node_text = record { name = codes "A"; address = codes "h:1"; max_pdu = 
 
 -- the text of one node writes the plan of that node alone
 abbrev pub NodeIsWritten : Type 0
-NodeIsWritten = Writes node_text (record { nodes = written_node_text ∷ []; flows = [] })
+NodeIsWritten = Writes node_text (record { format = One; nodes = written_node_text ∷ []; flows = [] })
 
 -- the text writes no plan
 abbrev WritesNone : Text → Type 0
@@ -33,9 +43,9 @@ WritesNone text = (plan : PlanText) → Writes text plan → ⊥
 abbrev pub KeyIsUnknown : Type 0
 KeyIsUnknown = WritesNone (codes "colour = 1")
 
--- a text of another format than 1 writes no plan
+-- a text of another format than 1 and 2 writes no plan
 abbrev pub FormatIsOther : Type 0
-FormatIsOther = WritesNone (codes "format = 2")
+FormatIsOther = WritesNone (codes "format = 3")
 
 -- a text with a node without an address writes no plan
 abbrev pub AddressIsMissing : Type 0
@@ -44,3 +54,66 @@ AddressIsMissing = WritesNone (codes "[[node]]\nname = \"A\"\n")
 -- a text with a port above 65,535 writes no plan
 abbrev pub PortIsTooHigh : Type 0
 PortIsTooHigh = WritesNone (codes "[[node]]\nname = \"A\"\naddress = \"h:65536\"\n")
+
+-- the first line of a text of format 2
+abbrev pub second_format : Text
+second_format = codes "format = 2\n"
+
+-- the text of node A with a rule for the stations that begin with CT
+abbrev pub rule_text : Text
+rule_text = codes "[[node]]\nname = \"A\"\naddress = \"h:1\"\n[[node.rule]]\nstation = \"CT*\"\n"
+
+-- the rule as it is read: its prefix is what stands before the asterisk
+abbrev pub written_rule : Rule
+written_rule = record { from = Any; class = Any; modality = Any; station = station.Prefix (codes "CT"); to = []; keep = false }
+
+-- its node as it is read
+abbrev pub written_rule_node : NodeText
+written_rule_node = record { name = codes "A"; address = codes "h:1"; max_pdu = pos 16384; accepts = []; rules = written_rule ∷ [] }
+
+-- in format 2 the text with the rule writes it
+abbrev pub RulePrefixIsWritten : Type 0
+RulePrefixIsWritten = Writes (second_format ++ rule_text) (record { format = Two; nodes = written_rule_node ∷ []; flows = [] })
+
+-- in format 1 it writes no plan
+abbrev pub RulePrefixIsOfFormatTwo : Type 0
+RulePrefixIsOfFormatTwo = WritesNone rule_text
+
+-- the text of a flow for the station MR, and for those that begin with CT
+abbrev pub flow_text : Text
+flow_text = codes "[[flow]]\nat = \"A\"\nto = \"B\"\nclass = [\"1\"]\nsyntax = [\"1\"]\nmodality = \"*\"\nstation = [\"MR\", \"CT*\"]\n"
+
+-- the flow as it is read
+abbrev pub written_flow_text : FlowText
+written_flow_text = record {
+  at = codes "A";
+  to = codes "B";
+  classes = codes "1" ∷ [];
+  syntaxes = codes "1" ∷ [];
+  modalities = values.Any;
+  stations = stations.Listed (record { literals = codes "MR" ∷ []; prefixes = codes "CT" ∷ [] });
+}
+
+-- in format 2 the text with the flow writes it
+abbrev pub FlowPrefixIsWritten : Type 0
+FlowPrefixIsWritten = Writes (second_format ++ flow_text) (record { format = Two; nodes = []; flows = written_flow_text ∷ [] })
+
+-- in format 1 it writes no plan
+abbrev pub FlowPrefixIsOfFormatTwo : Type 0
+FlowPrefixIsOfFormatTwo = WritesNone flow_text
+
+-- the text names no station: it is neither a literal nor a prefix with an asterisk behind it
+abbrev NamesNone : Text → Type 0
+NamesNone text = (pattern : StationPattern) → SaysNamed (string text) pattern → ⊥
+
+-- the asterisk alone names none, so that a list can't have it
+abbrev pub StarNamesNone : Type 0
+StarNamesNone = NamesNone (codes "*")
+
+-- an asterisk stands only at the end, and only once
+abbrev pub StarsInsideNameNone : Type 0
+StarsInsideNameNone = NamesNone (codes "C*T") × NamesNone (codes "CT **")
+
+-- no space stands at an end of a prefix
+abbrev pub SpacesNameNone : Type 0
+SpacesNameNone = NamesNone (codes " CT*") × NamesNone (codes "CT *")

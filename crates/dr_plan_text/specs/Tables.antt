@@ -1,13 +1,16 @@
 -- What the tables of a plan's text say, and what the text says as a whole.
-use Rattle.std.specs.Prelude.{◌≡◌, ◌≢◌, pos, false, List, [], ◌∷◌, Option, Some, None, codes, Result, Ok, Err}
+use Rattle.std.specs.Prelude.{◌≡◌, ◌≢◌, pos, false, List, [], ◌∷◌, Option, Some, codes, Result, Ok, Err, All}
 use Rattle.std.specs.Str.{IsUtf8}
-use Rattle.toml.specs.Data.{Data, integer, Members, get_member}
+use Rattle.toml.specs.Data.{Data, Members, get_member}
 use Rattle.toml.specs.Parse.{parse_document}
 use Rattle.dr_base.specs.Texts.{Text}
 use Rattle.dr_route.specs.declared.rule.Rule.{Rule}
 use Rattle.dr_route.specs.declared.rule.Pattern.TheVariants.{Any}
+use Rattle.dr_route.specs.declared.rule.StationPattern.TheVariants as station
+use Rattle.dr_network.specs.declared.plan.Format.{Format}
+use Rattle.dr_network.specs.declared.plan.Format.TheVariants.{One}
 use Rattle.dr_network.specs.Formed.{IsClass, IsLiteral, IsAddress}
-use Rattle.dr_plan_text.specs.Fields.{SaysText, SaysFormed, SaysNumber, SaysFlag, SaysPattern, SaysValues, SaysCallers, SaysTable, SaysTextsOnce, IsListOf, IsSomeOf, Given, GivenOr, HasOnly}
+use Rattle.dr_plan_text.specs.Fields.{SaysText, SaysFormed, SaysNumber, SaysFlag, SaysFormat, SaysPattern, SaysStation, SaysValues, SaysStations, SaysCallers, SaysTable, SaysTextsOnce, IsListOf, IsSomeOf, Given, GivenOr, HasOnly, PatternFits, StationsFit}
 use Rattle.dr_plan_text.specs.declared.words.AcceptText.{AcceptText}
 use Rattle.dr_plan_text.specs.declared.words.NodeText.{NodeText}
 use Rattle.dr_plan_text.specs.declared.words.FlowText.{FlowText}
@@ -36,7 +39,7 @@ pub record IsRuleTable (fields : Members) (rule : Rule) : Type 0 where
   pub from : GivenOr Any (SaysPattern SaysText) (get_member (codes "from") fields) rule.from
   pub class : GivenOr Any (SaysPattern (SaysFormed IsClass)) (get_member (codes "class") fields) rule.class
   pub modality : GivenOr Any (SaysPattern (SaysFormed IsLiteral)) (get_member (codes "modality") fields) rule.modality
-  pub station : GivenOr Any (SaysPattern (SaysFormed IsLiteral)) (get_member (codes "station") fields) rule.station
+  pub station : GivenOr station.Any SaysStation (get_member (codes "station") fields) rule.station
   pub to : GivenOr [] (IsListOf SaysText) (get_member (codes "to") fields) rule.to
   pub keep : GivenOr false SaysFlag (get_member (codes "keep") fields) rule.keep
 
@@ -65,23 +68,28 @@ pub record IsFlowTable (fields : Members) (flow : FlowText) : Type 0 where
   pub class : Given (IsSomeOf (SaysFormed IsClass)) (get_member (codes "class") fields) flow.classes
   pub syntax : Given (IsSomeOf SaysText) (get_member (codes "syntax") fields) flow.syntaxes
   pub modality : Given SaysValues (get_member (codes "modality") fields) flow.modalities
-  pub station : Given SaysValues (get_member (codes "station") fields) flow.stations
+  pub station : Given SaysStations (get_member (codes "station") fields) flow.stations
 
--- the format is 1, which it also is where the text doesn't say it
-abbrev pub IsFormat : Option Data → Type 0
-IsFormat None = Unit {0}
-IsFormat (Some d) = d ≡ integer (pos 1)
+-- the format, which is 1 where the text doesn't say it
+abbrev pub IsFormat : Option Data → Format → Type 0
+IsFormat value format = GivenOr One SaysFormat value format
+
+-- the plan's format has what its rules and flows name for station
+pub record FitsFormat (plan : PlanText) : Type 0 where
+  pub rules : All (λ node. All (λ rule. PatternFits plan.format rule.station) node.rules) plan.nodes
+  pub flows : All (λ flow. StationsFit plan.format flow.stations) plan.flows
 
 -- the keys of the text as a whole
 abbrev pub root_keys : List Text
 root_keys = codes "format" ∷ codes "node" ∷ codes "flow" ∷ []
 
--- the text's root table says the plan: its format, nodes and flows
+-- the text's root table says the plan: its format, and nodes and flows that fit it
 pub record IsRoot (fields : Members) (plan : PlanText) : Type 0 where
   pub only : HasOnly root_keys fields
-  pub format : IsFormat (get_member (codes "format") fields)
+  pub format : IsFormat (get_member (codes "format") fields) plan.format
   pub node : GivenOr [] (IsListOf (SaysTable IsNodeTable)) (get_member (codes "node") fields) plan.nodes
   pub flow : GivenOr [] (IsListOf (SaysTable IsFlowTable)) (get_member (codes "flow") fields) plan.flows
+  pub fits : FitsFormat plan
 
 -- the bytes are text in UTF-8, which TOML reads as this tree
 abbrev pub IsTree : Text → Members → Type 0

@@ -1,16 +1,17 @@
 //! The forms of a plan's fields.
 ghost use Rattle.std.specs.Prelude.{◌≡◌, ◌≢◌, ◌↔◌, IfOk, OnOk, IfErr, List, IsTrue, AllPairs};
+ghost use Rattle.toml.specs.Data.{integer};
 ghost use Rattle.toml.specs.View.{view};
 ghost use Rattle.dr_base.specs.Texts.{Text as Words};
 ghost use Rattle.dr_network.specs.Formed.{IsClass, IsLiteral, IsAddress};
-ghost use Rattle.dr_plan_text.specs.Fields.{SaysText, SaysFormed, SaysNumber, SaysFlag, SaysPattern, SaysValues, SaysCallers, SaysTextsOnce, star};
+ghost use Rattle.dr_plan_text.specs.Fields.{SaysText, SaysFormed, SaysNumber, SaysFlag, SaysFormat, SaysPattern, SaysValues, SaysCallers, SaysTextsOnce, star};
 ghost use Rattle.dr_plan_text.specs.declared.fault.ReadFault.TheVariants.{Field};
 
 use crate::fault::ReadFault;
 use crate::form::{Form, ListOf, SomeOf};
 use crate::forms::{is_address, is_class, is_literal};
 use dr_base::{Seq, Text};
-use dr_network::Values;
+use dr_network::{Format, Values};
 use dr_route::{Callers, Pattern};
 use std::alloc::{AllocError, Global};
 use std::collections::BTreeSet;
@@ -71,7 +72,7 @@ impl TextForm for Class {
     }
 }
 
-/// The value of a modality or a station.
+/// The value of a modality.
 pub struct Literal;
 
 impl TextForm for Literal {
@@ -119,8 +120,34 @@ impl Form for Flag {
     }
 }
 
+/// Whether the value is this number.
+fn is_number(value: &Value, number: i64) -> bool
+    ensures { IsTrue result ↔ (view value.now ≡ integer number) }
+{
+    value.as_integer() == Some(number)
+}
+
+/// The number of a format.
+pub struct FormatNumber;
+
+impl Form for FormatNumber {
+    type Output = Format;
+
+    ghost says = { SaysFormat };
+
+    fn read(_alloc: Global, value: &Value) -> Result<Format, ReadFault> {
+        if is_number(value, 1) {
+            return Ok(Format::One);
+        }
+        if is_number(value, 2) {
+            return Ok(Format::Two);
+        }
+        Err(ReadFault::Field)
+    }
+}
+
 /// Whether the value is the text `*`.
-fn is_star(value: &Value) -> bool
+pub fn is_star(value: &Value) -> bool
     ensures { IsTrue result ↔ (view value.now ≡ star) }
 {
     match value.as_str() {
@@ -151,7 +178,7 @@ pub type NamePattern = PatternOf<AnyText>;
 /// `*`, or a class.
 pub type ClassPattern = PatternOf<Formed<Class>>;
 
-/// `*`, or the value of a modality or a station.
+/// `*`, or the value of a modality.
 pub type LiteralPattern = PatternOf<Formed<Literal>>;
 
 /// `*`, or a list of literals.

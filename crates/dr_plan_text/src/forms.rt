@@ -1,8 +1,8 @@
-//! The forms of classes, literals and addresses.
+//! The forms of classes, literals, prefixes and addresses.
 ghost use Rattle.std.specs.Prelude.{◌≡◌, ◌↔◌, IsTrue, IfSome, IfNone, MatchOption, Contains, All, ◌≢◌, ◌≤◌, ◌<◌};
 ghost use Rattle.std.specs.Str.Parse.{digits_value};
 ghost use Rattle.dr_plan_text.specs.Splits.{SplitsAtLast, IsPort};
-ghost use Rattle.dr_network.specs.Formed.{IsTrimmed, IsClass, IsLiteral, IsAddress};
+ghost use Rattle.dr_network.specs.Formed.{IsTrimmed, IsClass, IsLiteral, IsPrefix, IsAddress};
 
 /// Whether no space stands at its start, nor at its end.
 pub fn is_trimmed(text: &[u8]) -> bool
@@ -39,6 +39,13 @@ pub fn is_literal(text: &[u8]) -> bool
         return false;
     }
     is_plain(text) && is_trimmed(text)
+}
+
+/// Whether it is a literal of one byte or more, by which stations are named that begin with it.
+pub fn is_prefix(text: &[u8]) -> bool
+    ensures { IsTrue result ↔ IsPrefix text.now }
+{
+    !text.is_empty() && is_literal(text)
 }
 
 /// The parts before and behind the last mark.

@@ -1,5 +1,5 @@
 //! Laws of plans as they are written: what a reader may take from the definitions.
-ghost use Rattle.dr_plan_text.specs.Laws.{EachTextWritesOnePlan, EmptyTextWritesNothing, NodeIsWritten, KeyIsUnknown, FormatIsOther, AddressIsMissing, PortIsTooHigh};
+ghost use Rattle.dr_plan_text.specs.Laws.{EachTextWritesOnePlan, EmptyTextWritesNothing, NodeIsWritten, KeyIsUnknown, FormatIsOther, AddressIsMissing, PortIsTooHigh, RulePrefixIsWritten, RulePrefixIsOfFormatTwo, FlowPrefixIsWritten, FlowPrefixIsOfFormatTwo, StarNamesNone, StarsInsideNameNone, SpacesNameNone};
 
 /// A text writes one plan at most.
 pub fn a_text_writes_one_plan()
@@ -13,11 +13,26 @@ pub fn small_texts_write_plans()
     ensures node { NodeIsWritten }
 {}
 
-/// A text writes no plan where a key is unknown, where the format isn't 1, where a node has no address, and
+/// A text writes no plan where a key is unknown, where the format is neither 1 nor 2, where a node has no address, and
 /// where the port of an address is above 65,535.
 pub fn ill_formed_texts_write_none()
     ensures key { KeyIsUnknown }
     ensures format { FormatIsOther }
     ensures address { AddressIsMissing }
     ensures port { PortIsTooHigh }
+{}
+
+/// In format 2 a rule and a flow may name stations by what they begin with, and the same texts of format 1 write no plan.
+pub fn prefixes_are_of_format_2()
+    ensures rule { RulePrefixIsWritten }
+    ensures rule_of_1 { RulePrefixIsOfFormatTwo }
+    ensures flow { FlowPrefixIsWritten }
+    ensures flow_of_1 { FlowPrefixIsOfFormatTwo }
+{}
+
+/// What names no station in any format: `*` alone, an asterisk elsewhere than at the end, and a prefix with a space at one of its ends.
+pub fn ill_formed_prefixes_name_none()
+    ensures star { StarNamesNone }
+    ensures inside { StarsInsideNameNone }
+    ensures spaces { SpacesNameNone }
 {}

@@ -1,20 +1,23 @@
 //! The tables of a plan's text.
-ghost use Rattle.std.specs.Prelude.{◌≡◌, ◌≢◌, ◌↔◌, IfOk, IfErr, IsTrue, codes};
-ghost use Rattle.toml.specs.Data.{get_member, no_members};
+ghost use Rattle.std.specs.Prelude.{◌≡◌, ◌≢◌, IfOk, IfErr};
+ghost use Rattle.toml.specs.Data.{no_members};
 ghost use Rattle.toml.specs.View.{table_view};
-ghost use Rattle.dr_plan_text.specs.Tables.{IsAcceptTable, IsRuleTable, IsNodeTable, IsFlowTable, IsRoot, IsFormat};
+ghost use Rattle.dr_plan_text.specs.Tables.{IsAcceptTable, IsRuleTable, IsNodeTable, IsFlowTable, IsRoot};
 ghost use Rattle.dr_plan_text.specs.declared.fault.ReadFault.TheVariants.{Field, Memory};
 ghost use Rattle.dr_plan_text.specs.declared.words.PlanText.{PlanText as Written};
 
 use crate::fault::ReadFault;
 use crate::fields::{
-    Address, AnyCallers, AnyText, AnyValues, Class, ClassPattern, Flag, Formed, LiteralPattern,
-    NamePattern, Number, TextsOnce,
+    Address, AnyCallers, AnyText, AnyValues, Class, ClassPattern, Flag, FormatNumber, Formed,
+    LiteralPattern, NamePattern, Number, TextsOnce,
 };
-use crate::form::{ListOf, SomeOf, TableForm, TableOf, defaulted, has_only, required, value_at};
+use crate::fits::fits_format;
+use crate::form::{ListOf, SomeOf, TableForm, TableOf, defaulted, has_only, required};
+use crate::stations::{AnyStation, AnyStations};
 use crate::words::{AcceptText, FlowText, NodeText, PlanText};
 use dr_base::Seq;
-use dr_route::{Pattern, Rule};
+use dr_network::Format;
+use dr_route::{Pattern, Rule, StationPattern};
 use std::alloc::Global;
 use toml::Table;
 
@@ -57,7 +60,7 @@ impl TableForm for RuleTable {
             from: defaulted::<NamePattern>(alloc, table, "from", Pattern::Any)?,
             class: defaulted::<ClassPattern>(alloc, table, "class", Pattern::Any)?,
             modality: defaulted::<LiteralPattern>(alloc, table, "modality", Pattern::Any)?,
-            station: defaulted::<LiteralPattern>(alloc, table, "station", Pattern::Any)?,
+            station: defaulted::<AnyStation>(alloc, table, "station", StationPattern::Any)?,
             to: defaulted::<ListOf<AnyText>>(alloc, table, "to", Seq::new(alloc))?,
             keep: defaulted::<Flag>(alloc, table, "keep", false)?,
         })
@@ -112,32 +115,30 @@ impl TableForm for FlowTable {
             classes: required::<SomeOf<Formed<Class>>>(alloc, table, "class")?,
             syntaxes: required::<SomeOf<AnyText>>(alloc, table, "syntax")?,
             modalities: required::<AnyValues>(alloc, table, "modality")?,
-            stations: required::<AnyValues>(alloc, table, "station")?,
+            stations: required::<AnyStations>(alloc, table, "station")?,
         })
     }
 }
 
-/// Whether the format is 1, which is also the default.
-pub fn is_format_one(root: &Table) -> bool
-    ensures { IsTrue result ↔ IsFormat (get_member (codes "format") (table_view root.now)) }
-{
-    match value_at(root, "format") {
-        None => true,
-        Some(value) => value.as_integer() == Some(1),
-    }
-}
-
-/// The nodes and flows of the root table.
+/// The format, nodes and flows of the root table. What its format doesn't have is a fault of a field too.
 pub fn read_root(alloc: Global, root: &Table) -> Result<PlanText, ReadFault>
     ensures ok { IfOk result (IsRoot (table_view root.now)) }
     ensures field { IfErr result (λ e. e ≡ Field → (plan : Written) → IsRoot (table_view root.now) plan → ⊥) }
     ensures memory { IfErr result (λ e. e ≡ Memory → table_view root.now ≢ no_members) }
 {
-    if !has_only(root, &["format", "node", "flow"]) || !is_format_one(root) {
+    if !has_only(root, &["format", "node", "flow"]) {
         return Err(ReadFault::Field);
     }
-    Ok(PlanText {
-        nodes: defaulted::<ListOf<TableOf<NodeTable>>>(alloc, root, "node", Seq::new(alloc))?,
-        flows: defaulted::<ListOf<TableOf<FlowTable>>>(alloc, root, "flow", Seq::new(alloc))?,
-    })
+    let format = defaulted::<FormatNumber>(alloc, root, "format", Format::One)?;
+    let nodes = defaulted::<ListOf<TableOf<NodeTable>>>(alloc, root, "node", Seq::new(alloc))?;
+    let flows = defaulted::<ListOf<TableOf<FlowTable>>>(alloc, root, "flow", Seq::new(alloc))?;
+    let plan = PlanText {
+        format,
+        nodes,
+        flows,
+    };
+    if !fits_format(&plan) {
+        return Err(ReadFault::Field);
+    }
+    Ok(plan)
 }

@@ -1,6 +1,6 @@
 //! The parts of a plan, as they are written.
 use dr_base::{Seq, Text};
-use dr_network::Values;
+use dr_network::{Format, Stations, Values};
 use dr_route::{Callers, Rule};
 
 /// A row of a node's accept list: `from` and the transfer syntaxes are any texts, `class` has its form. There
@@ -32,12 +32,13 @@ pub struct FlowText {
     pub classes: Seq<Text>,
     pub syntaxes: Seq<Text>,
     pub modalities: Values,
-    pub stations: Values,
+    pub stations: Stations,
 }
 
-/// The nodes and flows of a plan, in the order of the text.
+/// The format of a plan's text, and its nodes and flows in the order of the text. In format 1 they name no prefix.
 #[derive(Debug, Drop)]
 pub struct PlanText {
+    pub format: Format,
     pub nodes: Seq<NodeText>,
     pub flows: Seq<FlowText>,
 }

@@ -23,7 +23,7 @@ new-requires c =
     let written = c.in_ok-written.ensures in
     let nodes = c.in_ok-nodes.ensures.nodes in
     let flows = c.in_ok-flows.ensures.flows in
-    well_formed c.in_ok-nodes.nodes c.in_ok-flows.flows written.0 (rw (nodes, flows) written.2) (rw (nodes, flows) c.in_ok-pass.ensures)
+    well_formed c.in_ok-written.written.format c.in_ok-nodes.nodes c.in_ok-flows.flows written.0 (rw (nodes, flows) written.2) (rw (nodes, flows) c.in_ok-pass.ensures)
 
 pub returns : goal.returns
 returns c =

@@ -1,0 +1,113 @@
+-- Stations and formats: what a value says of them, it alone says.
+use Rattle.std.proofs.Common.{◌≡◌, ◌<◌, ◌≤◌, refl, sym, ◌∙◌, ap, subst, ℕ, pos, List, [], ◌∷◌, ◌++◌, None, Contains, arith}
+use Rattle.std.specs.Prelude.{flat_map}
+use Rattle.std.proofs.lemmas.List.{append_cancel_right}
+use Rattle.std.proofs.lemmas.List.Elements.{All-contains, Contains-push}
+use Rattle.std.proofs.lemmas.Option.{none-some}
+use Rattle.toml.specs.Data.{Data, string, integer, array, as_str}
+use Rattle.dr_base.specs.Texts.{Text}
+use Rattle.dr_route.specs.declared.rule.StationPattern.{StationPattern}
+use Rattle.dr_route.specs.declared.rule.StationPattern.TheVariants as station
+use Rattle.dr_network.specs.declared.plan.Stations.{Stations}
+use Rattle.dr_network.specs.declared.plan.Stations.TheVariants as stations
+use Rattle.dr_route.specs.declared.cell.StationValues.{StationValues}
+use Rattle.dr_network.specs.declared.plan.Format.{Format}
+use Rattle.dr_network.specs.declared.plan.Format.TheVariants.{One, Two}
+use Rattle.dr_network.specs.Formed.{IsLiteral, IsPrefix}
+use Rattle.dr_network.specs.Naming.{station_of, prefix_of}
+use Rattle.dr_plan_text.specs.Fields.{SaysFormat, SaysNamed, SaysStation, SaysStations, IsListOf, star}
+use Rattle.dr_plan_text.proofs.OneAnswer.{SaysOne, SaysText-one, IsListOf-one}
+
+same_number : (x y : ℕ) → integer (pos x) ≡ integer (pos y) → x ≡ y
+same_number x y e = let same : pos x ≡ pos y = cc in cc
+
+pub SaysFormat-one : SaysOne SaysFormat
+SaysFormat-one d One One a b = refl
+SaysFormat-one d One Two a b = absurd (let same : ◌≡◌ {A = ℕ} 1 2 = same_number 1 2 (sym a ∙ b) in omega arith)
+SaysFormat-one d Two One a b = absurd (let same : ◌≡◌ {A = ℕ} 1 2 = same_number 1 2 (sym b ∙ a) in omega arith)
+SaysFormat-one d Two Two a b = refl
+
+-- a value that is neither 1 nor 2 says no format
+pub no_format : (d : Data) → (d ≡ integer (pos 1) → ⊥) → (d ≡ integer (pos 2) → ⊥) → (x : Format) → SaysFormat d x → ⊥
+no_format d not_one not_two One says = not_one says
+no_format d not_one not_two Two says = not_two says
+
+-- no literal ends in an asterisk
+pub no_star_behind : (text prefix : Text) → IsLiteral text → text ≡ prefix ++ 42 ∷ [] → ⊥
+no_star_behind text prefix is same =
+    let among : Contains text 42 = subst (λ (t : Text). Contains t 42) (sym same) (Contains-push prefix 42) in
+    let plain = All-contains (λ (byte : ℕ). (32 ≤ byte) × (byte < 127) × (byte ≡ 42 → ⊥)) text 42 is.printable among in
+    plain.2 refl
+
+pub SaysNamed-one : SaysOne SaysNamed
+SaysNamed-one d station.Any station.Any a b = refl
+SaysNamed-one d station.Any (station.Literal y) a b = absurd a
+SaysNamed-one d station.Any (station.Prefix q) a b = absurd a
+SaysNamed-one d (station.Literal x) station.Any a b = absurd b
+SaysNamed-one d (station.Literal x) (station.Literal y) a b = ap station.Literal (SaysText-one d x y a.0 b.0)
+SaysNamed-one d (station.Literal x) (station.Prefix q) a b = absurd (no_star_behind x q a.1 (SaysText-one d x (q ++ 42 ∷ []) a.0 b.0))
+SaysNamed-one d (station.Prefix p) station.Any a b = absurd b
+SaysNamed-one d (station.Prefix p) (station.Literal y) a b = absurd (no_star_behind y p b.1 (SaysText-one d y (p ++ 42 ∷ []) b.0 a.0))
+SaysNamed-one d (station.Prefix p) (station.Prefix q) a b = ap station.Prefix (append_cancel_right p q (42 ∷ []) (SaysText-one d (p ++ 42 ∷ []) (q ++ 42 ∷ []) a.0 b.0))
+
+-- `*` names no station
+star_names_none : (d : Data) (x : StationPattern) → d ≡ star → SaysNamed d x → ⊥
+star_names_none d station.Any e says = says
+star_names_none d (station.Literal literal) e says = no_star_behind literal [] says.1 (SaysText-one d literal ([] ++ 42 ∷ []) says.0 e)
+star_names_none d (station.Prefix prefix) e says = says.1.some (append_cancel_right prefix [] (42 ∷ []) (SaysText-one d (prefix ++ 42 ∷ []) ([] ++ 42 ∷ []) says.0 e))
+
+-- the station that a value names is a rule's
+pub named_is : (d : Data) (x : StationPattern) → SaysNamed d x → SaysStation d x
+named_is d station.Any says = absurd says
+named_is d (station.Literal literal) says = says
+named_is d (station.Prefix prefix) says = says
+
+pub SaysStation-one : SaysOne SaysStation
+SaysStation-one d station.Any station.Any a b = refl
+SaysStation-one d station.Any (station.Literal y) a b = absurd (star_names_none d (station.Literal y) a b)
+SaysStation-one d station.Any (station.Prefix q) a b = absurd (star_names_none d (station.Prefix q) a b)
+SaysStation-one d (station.Literal x) station.Any a b = absurd (star_names_none d (station.Literal x) b a)
+SaysStation-one d (station.Literal x) (station.Literal y) a b = SaysNamed-one d (station.Literal x) (station.Literal y) a b
+SaysStation-one d (station.Literal x) (station.Prefix q) a b = SaysNamed-one d (station.Literal x) (station.Prefix q) a b
+SaysStation-one d (station.Prefix p) station.Any a b = absurd (star_names_none d (station.Prefix p) b a)
+SaysStation-one d (station.Prefix p) (station.Literal y) a b = SaysNamed-one d (station.Prefix p) (station.Literal y) a b
+SaysStation-one d (station.Prefix p) (station.Prefix q) a b = SaysNamed-one d (station.Prefix p) (station.Prefix q) a b
+
+-- a value that is no `*`, and names no station, says none
+pub no_station : (d : Data) → (d ≡ star → ⊥) → ((x : StationPattern) → SaysNamed d x → ⊥) → (x : StationPattern) → SaysStation d x → ⊥
+no_station d no_star no_name station.Any says = no_star says
+no_station d no_star no_name (station.Literal literal) says = no_name (station.Literal literal) says
+no_station d no_star no_name (station.Prefix prefix) says = no_name (station.Prefix prefix) says
+
+-- a text that is no literal, and no prefix with `*` behind it, names no station
+pub no_text_named : (text : Text) → (IsLiteral text → ⊥) → ((prefix : Text) → text ≡ prefix ++ 42 ∷ [] → IsPrefix prefix → ⊥) → (x : StationPattern) → SaysNamed (string text) x → ⊥
+no_text_named text no_literal no_prefix station.Any says = says
+no_text_named text no_literal no_prefix (station.Literal literal) says =
+    no_literal (subst IsLiteral (sym (SaysText-one (string text) text literal refl says.0)) says.1)
+no_text_named text no_literal no_prefix (station.Prefix prefix) says =
+    no_prefix prefix (SaysText-one (string text) text (prefix ++ 42 ∷ []) refl says.0) says.1
+
+-- a value that is no text names no station
+pub no_other_named : (d : Data) → None ≡ as_str d → (x : StationPattern) → SaysNamed d x → ⊥
+no_other_named d none station.Any says = says
+no_other_named d none (station.Literal literal) says = none-some literal (none ∙ ap as_str says.0)
+no_other_named d none (station.Prefix prefix) says = none-some (prefix ++ 42 ∷ []) (none ∙ ap as_str says.0)
+
+same_values : (literals literals2 prefixes prefixes2 : List Text) → literals ≡ literals2 → prefixes ≡ prefixes2 →
+    (let x : StationValues = record { literals = literals; prefixes = prefixes } in let y : StationValues = record { literals = literals2; prefixes = prefixes2 } in x ≡ y)
+same_values literals literals2 prefixes prefixes2 e_literals e_prefixes = rw (e_literals, e_prefixes) refl
+
+pub SaysStations-one : SaysOne SaysStations
+SaysStations-one d stations.Any stations.Any a b = refl
+SaysStations-one d stations.Any (stations.Listed y) a b = absurd (let both : star ≡ array b.1.0 = sym a ∙ b.1.1 in cc)
+SaysStations-one d (stations.Listed x) stations.Any a b = absurd (let both : star ≡ array a.1.0 = sym b ∙ a.1.1 in cc)
+SaysStations-one d (stations.Listed x) (stations.Listed y) a b =
+    let same : a.0 ≡ b.0 = IsListOf-one SaysNamed SaysNamed-one d a.0 b.0 a.1 b.1 in
+    let literals : x.literals ≡ y.literals = a.2 ∙ (ap (λ (ps : List StationPattern). flat_map station_of ps) same ∙ sym b.2) in
+    let prefixes : x.prefixes ≡ y.prefixes = a.3 ∙ (ap (λ (ps : List StationPattern). flat_map prefix_of ps) same ∙ sym b.3) in
+    ap stations.Listed (same_values x.literals y.literals x.prefixes y.prefixes literals prefixes)
+
+-- a value that is no `*`, and no list of named stations either, says no stations
+pub no_stations : (d : Data) → (d ≡ star → ⊥) → ((patterns : List StationPattern) → IsListOf SaysNamed d patterns → ⊥) → (x : Stations) → SaysStations d x → ⊥
+no_stations d no_star no_list stations.Any says = no_star says
+no_stations d no_star no_list (stations.Listed values) says = no_list says.0 says.1
