@@ -98,10 +98,23 @@ def many_values(count):
     return lines + ['modality = "*"' if it.startswith("modality") else it for it in nothing]
 
 
+def nested_prefixes():
+    """1,000 rules of one node, each for the stations that begin with another prefix: 16 chains of prefixes that begin each other, 64
+    deep but for the last."""
+    prefixes = [chain * depth for chain in "ABCDEFGHIJKLMNOP" for depth in range(1, 65)][:1000]
+    lines = ["format = 2", *node(1, "CT1"), *node(2, "GATE"), *accept("1.2"), *node(3, "ARCH"), *accept("1.2"), *KEEP]
+    at = lines.index('name = "ARCH"') - 1
+    rules = [line for it in prefixes for line in ["[[node.rule]]", f'station = "{it}*"', 'to = ["ARCH"]']]
+    rules += ["[[node.rule]]", 'to = ["ARCH"]']
+    values = {"at": '"CT1"', "to": '"GATE"', "class": quoted(["1.2"]), "syntax": quoted(SYNTAXES), "modality": '"*"', "station": '"*"'}
+    return lines[:at] + rules + lines[at:] + ["[[flow]]", *(f"{key} = {value}" for key, value in values.items())]
+
+
 PLANS = {
     "65,536 lines": many_lines, "64 nodes, 1,024 rules and flows": many_rules, "1,000 flows with the same lists": same_flows,
     "a target named 10,000 times": repeated_targets, "10,000 rows of accepts": many_accepts,
     "4,000 modalities and stations": lambda: many_values(4000), "16,000 modalities and stations": lambda: many_values(16000),
+    "1,000 prefixes, nested 64 deep": nested_prefixes,
 }
 
 
