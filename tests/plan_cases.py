@@ -255,6 +255,8 @@ UNSOUND = [
     # stations that begin with CT, and not with CT1, aren't sent on; nor those of the one station CT
     (sent('CT1*'), 'no\tDeadEnd\tKEY\tCT\tCT*\tCT1\tGATE\n'),
     (sent('CT'), 'no\tDeadEnd\tKEY\tCT\tCT*\tCT1\tGATE\n'),
+    # entries are taken in the order of what is printed: ! comes before *
+    (changed(sent('CT1*'), ('["CT*"]', '["CT*", "CT!"]')), 'no\tDeadEnd\tKEY\tCT\tCT!\tCT1\tGATE\n'),
     # where the last node neither accepts nor does anything, the hop is what is shown
     (changed(PLAN, ('"1.2.840.10008.1.2.1"]\n' + KEEP, '"1.2.840.10008.1.2"]\n')), 'no\tNoContext\tKEY\tCT\tS1\tCT1\tGATE\tARCH\n'),
 ]

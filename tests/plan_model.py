@@ -429,7 +429,7 @@ class PrefixesWithoutTheirStar(Model):
     """The entries are in the order of what is named, without the `*` behind a prefix."""
 
     def entry_order(self, entry):
-        return entry[0], [ANY if it is REST else it.rstrip('*') for it in entry[1]]
+        return entry[0], [ANY if it is REST else it.rstrip('*') for it in entry[1]], super().entry_order(entry)
 
 
 WRONG = {it.__name__: it for it in (

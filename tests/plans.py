@@ -177,7 +177,8 @@ def main():
     words = [int(it) for it in sys.argv[1:] if it != '--wrong']
     times, seed = (words + [1, 1][len(words):])[:2]
     hops = [text for name, text in LARGE.items() if 'hops' not in name or 'overfull' in name]
-    seen = seen_by(hops + [random_plan(random.Random(f'plan {seed} {i}')) for i in range(200)])
+    by_hand = [text.encode() for text, _ in worked.UNSOUND + worked.SOUND_IN_FORMAT_2]
+    seen = seen_by(hops + by_hand + [random_plan(random.Random(f'plan {seed} {i}')) for i in range(200)])
     if '--wrong' in sys.argv:
         for name, count in seen.items():
             print(f'{name}: {count}')
