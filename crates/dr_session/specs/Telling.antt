@@ -1,7 +1,7 @@
 -- What an input comes to, for an end that knows what it agreed on and what is under way.
-use Rattle.std.specs.Prelude.{◌≡◌, ◌≢◌, ◌⊎◌, ℕ, Option, Some, None, Result, Ok, Err}
+use Rattle.std.specs.Prelude.{◌≡◌, ◌≢◌, ◌⊎◌, ℕ, Option, Some, None, Result, Ok, Err, MatchOption}
 use Rattle.dr_base.specs.Texts.{Text}
-use Rattle.dr_base.specs.Syntaxes.{syntax_uid}
+use Rattle.dr_base.specs.Syntaxes.{syntax_uid, NamesNoSyntax}
 use Rattle.dr_base.specs.declared.syntax.Syntax.{Syntax}
 use Rattle.dr_ulstate.specs.declared.table.State.{State}
 use Rattle.dr_ulstate.specs.declared.table.State.TheVariants.{Sta6, Sta7}
@@ -54,6 +54,16 @@ abbrev pub FindsIn : Text → Body → Found → Type 0
 FindsIn syntax (body.Whole text) found = ((s : Syntax) × (read : Result Job ItemFault) × (syntax ≡ syntax_uid s) × ReadsItem s text read × Finds read found)
     ⊎ (((s : Syntax) → syntax ≢ syntax_uid s) × (found ≡ Unreadable))
 FindsIn syntax body.TooLarge found = found ≡ TooLarge
+
+-- the transfer syntax that a UID names: one of the two, or none
+abbrev pub NamesSyntax : Text → Option Syntax → Type 0
+NamesSyntax uid syntax = MatchOption syntax (NamesNoSyntax uid) (λ s. uid ≡ syntax_uid s)
+
+-- by the syntax that the context's transfer syntax names
+abbrev pub FindsAs : Option Syntax → Body → Found → Type 0
+FindsAs (Some s) (body.Whole text) found = (read : Result Job ItemFault) × ReadsItem s text read × Finds read found
+FindsAs None (body.Whole text) found = found ≡ Unreadable
+FindsAs s body.TooLarge found = found ≡ TooLarge
 
 -- ---- a value
 

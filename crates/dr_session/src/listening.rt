@@ -1,18 +1,21 @@
-//! The messages that an end is hearing.
+//! The messages that an end is hearing, with the scans of their data sets.
 ghost use Rattle.std.specs.Prelude.{◌≡◌, IfOk, IfSome};
 ghost use Rattle.dr_dimse.specs.Taking.{Idle, Takes};
 ghost use Rattle.dr_dimse.specs.Written.{Fits};
+ghost use Rattle.dr_hearing.specs.Stores.{HasScan, message_of};
 
-use dr_dimse::{Assembly, Awaited, DimseFault, Message};
+use dr_base::Syntax;
+use dr_dimse::{Awaited, DimseFault};
+use dr_hearing::{Heard, Hearing};
 use dr_pdu::Pdv;
 use std::alloc::Global;
 use std::marker::Model;
 
-/// An assembly in which the command whose data set is under way is one that was read, so that it can be answered.
-/// Contracts see it as the assembly.
+/// An assembly in which the command whose data set is under way is one that was read, so that it can be answered. The data
+/// set of a C-STORE-RQ is scanned while it comes. Contracts see it as the assembly.
 #[derive(Drop)]
 pub struct Listener {
-    assembly: Assembly,
+    hearing: Hearing,
 }
 
 impl Model for Listener {
@@ -21,9 +24,9 @@ impl Model for Listener {
 
     ghost Value = { Assembling };
 
-    ghost view = { λ l. l.assembly };
+    ghost view = { λ l. l.hearing };
 
-    ghost invariant = { λ l. StageFits l.assembly.stage };
+    ghost invariant = { λ l. StageFits l.hearing.stage };
 }
 
 impl Listener {
@@ -32,7 +35,7 @@ impl Listener {
         ensures { result ≡ record { awaited = awaited; stage = Idle } }
     {
         Listener {
-            assembly: Assembly::new(alloc, awaited),
+            hearing: Hearing::new(alloc, awaited),
         }
     }
 
@@ -40,15 +43,17 @@ impl Listener {
     pub fn await_other(&mut self, awaited: Awaited)
         ensures { self.new ≡ record { awaited = awaited; stage = self.old.stage } }
     {
-        self.assembly.set_awaited(awaited);
+        self.hearing.set_awaited(awaited);
     }
 
-    /// One more value, as the assembly takes it. The command of a message that it ends can be written.
-    pub fn take(&mut self, pdv: Pdv) -> Result<Option<Message>, DimseFault>
+    /// One more value, as the assembly takes it, of a context with that transfer syntax. The command of a message that it
+    /// ends can be written, and the scan that comes with it has heard its data set.
+    pub fn take(&mut self, pdv: Pdv, syntax: Option<Syntax>) -> Result<Option<Heard>, DimseFault>
         ensures awaited { self.new.awaited ≡ self.old.awaited }
-        ensures takes { Takes self.old.awaited self.old.stage pdv result self.new.stage }
-        ensures fits { IfOk result (λ ended. IfSome ended (λ m. Fits m.command)) }
+        ensures takes { Takes self.old.awaited self.old.stage pdv (message_of result) self.new.stage }
+        ensures fits { IfOk result (λ ended. IfSome ended (λ h. Fits h.message.command)) }
+        ensures scans { IfOk result (λ ended. IfSome ended (λ h. HasScan syntax h)) }
     {
-        self.assembly.take(pdv)
+        self.hearing.take(pdv, syntax)
     }
 }

@@ -1,14 +1,17 @@
 //! What an input comes to, for an end that knows what it agreed on and what is under way.
 ghost use Rattle.std.specs.Prelude.{◌≡◌, IfOk, IsTrue, ◌↔◌};
 ghost use Rattle.dr_dimse.specs.Written.{Fits};
+ghost use Rattle.dr_hearing.specs.Stores.{HasScan};
 ghost use Rattle.dr_session.specs.Fits.{InputFits, ToldFits};
 ghost use Rattle.dr_session.specs.Plays.{TellsTo, TellsValueTo};
-ghost use Rattle.dr_session.specs.Telling.{SaysOf, TakesData, state_at};
+ghost use Rattle.dr_session.specs.Telling.{NamesSyntax, SaysOf, TakesData, state_at};
 ghost use Rattle.dr_ulstate.specs.declared.table.State.TheVariants.{Sta5};
 
 use crate::ends::{Core, Input, Told};
 use crate::find::find;
-use dr_dimse::{Command, DimseFault, Message};
+use dr_base::Syntax;
+use dr_dimse::{Command, DimseFault};
+use dr_hearing::Heard;
 use dr_nego::{Pair, conclude};
 use dr_pdu::{AssociateAc, Pdv};
 use dr_ulstate::State;
@@ -63,10 +66,11 @@ fn tell_value(alloc: Global, pdv: Pdv, core: Core) -> Result<(Told, Core), Alloc
     let Some(pair) = agreed.context(pdv.id) else {
         return Ok((Told::Strange, core));
     };
-    match core.assembly.take(pdv) {
+    let syntax = Syntax::of_uid(pair.syntax.as_bytes());
+    match core.assembly.take(pdv, syntax) {
         Ok(None) => Ok((Told::Quiet, core)),
-        Ok(Some(message)) => {
-            let told = tell_message(alloc, pair, message)?;
+        Ok(Some(heard)) => {
+            let told = tell_message(alloc, pair, syntax, heard)?;
             Ok((told, core))
         }
         Err(fault) => match fault {
@@ -79,12 +83,20 @@ fn tell_value(alloc: Global, pdv: Pdv, core: Core) -> Result<(Told, Core), Alloc
     }
 }
 
-/// A whole message in a context: a store with what its data set was read as, or another command.
-fn tell_message(alloc: Global, pair: &Pair, message: Message) -> Result<Told, AllocError>
-    requires { Fits message.command }
-    ensures tells { IfOk result (λ told. SaysOf pair.now message.id message.body message.command told) }
+/// A whole message in a context: a store with what its data set was read as in the context's syntax, or another command.
+fn tell_message(
+    alloc: Global,
+    pair: &Pair,
+    syntax: Option<Syntax>,
+    heard: Heard,
+) -> Result<Told, AllocError>
+    requires fits { Fits heard.message.command }
+    requires names { NamesSyntax pair.now.syntax syntax }
+    requires scan { HasScan syntax heard }
+    ensures tells { IfOk result (λ told. SaysOf pair.now heard.message.id heard.message.body heard.message.command told) }
     ensures fits { IfOk result ToldFits }
 {
+    let Heard { message, scan } = heard;
     let of = pair.class.clone()?;
     let context = message.id;
     let command = message.command;
@@ -101,7 +113,7 @@ fn tell_message(alloc: Global, pair: &Pair, message: Message) -> Result<Told, Al
             class,
             instance,
         } => {
-            let found = find(alloc, &pair.syntax, body)?;
+            let found = find(alloc, syntax, body, scan)?;
             Ok(Told::Store {
                 context,
                 of,
