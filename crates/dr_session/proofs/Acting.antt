@@ -1,5 +1,5 @@
 -- What was done by a reaction was done by one that is equal to it.
-use Rattle.std.proofs.Common.{◌≡◌, ℕ, Bool, true, false, [], Result, Ok, Err, refl, sym, ap, subst, ◌∙◌, inl}
+use Rattle.std.proofs.Common.{◌≡◌, ℕ, Bool, true, false, [], ◌∷◌, Result, Ok, Err, refl, sym, ap, subst, ◌∙◌, inl}
 use Rattle.std.specs.Prelude.{◌&&◌, if◌then◌else◌, Option, Some, None, IfOk, OnErr}
 use Rattle.std.specs.declared.alloc.AllocError.{AllocError}
 use Rattle.dr_ulstate.specs.declared.table.Action.{Action}
@@ -10,7 +10,12 @@ use Rattle.dr_ulstate.specs.declared.table.State.{State}
 use Rattle.dr_ulstate.specs.Table.{cell}
 use Rattle.dr_ulstate.specs.Standing.{Standing, moved}
 use Rattle.dr_ulstate.specs.Phases.{standing_of, stepped_from, after_cell, in_its_phase, next_stepped, next_expired, next_late, next_sent, may_send, event_of as event_of_incoming, is_acceptable}
+use Rattle.dr_base.specs.Syntaxes.{syntax_uid}
+use Rattle.dr_ledger.specs.declared.content.Job.{Job}
+use Rattle.dr_nego.specs.declared.agreed.Agreed.{Agreed}
+use Rattle.dr_nego.specs.Agreeing.{context_for}
 use Rattle.dr_session.specs.declared.ends.Core.{Core}
+use Rattle.dr_session.specs.declared.ends.LinkAction.{LinkAction}
 use Rattle.dr_session.specs.declared.ends.Effect.{Effect}
 use Rattle.dr_session.specs.declared.ends.Input.{Input}
 use Rattle.dr_session.specs.declared.ends.Input.TheVariants as input
@@ -19,7 +24,7 @@ use Rattle.dr_session.specs.declared.ends.Told.{Told}
 use Rattle.dr_session.specs.declared.ends.Told.TheVariants.{Plain, Quiet, Fault, Strange, Store, Whole, Agreement}
 use Rattle.dr_session.specs.Desks.{DeskCall, DeskAnswer}
 use Rattle.dr_session.specs.Fits.{IsHeard, heard_as, IsLooked, told_as}
-use Rattle.dr_session.specs.Reactions.{Reaction, turn, occurs, moves, acts, effect, quiet, is_idle, is_free, is_impatient, event_of, is_taken}
+use Rattle.dr_session.specs.Reactions.{Reaction, turn, occurs, moves, acts, effect, gives, gives_in, leaves, quiet, is_idle, is_free, is_impatient, event_of, is_taken}
 use Rattle.dr_session.specs.Turns.{Ends, Asks, Fails, Turns, Broke}
 
 module _ {S : Type 0} (step : S → DeskCall → DeskAnswer → S → Type 0) where
@@ -43,6 +48,33 @@ module _ {S : Type 0} (step : S → DeskCall → DeskAnswer → S → Type 0) wh
   pub done_at : (x : Reaction) (value : Effect) (r : Result Effect AllocError) (s : S) → x ≡ Ends value → IfOk r (λ (e : Effect). e ≡ value) → IfOk r (λ (e : Effect). Turns step x s e s)
   done_at x value (Ok e) s same h = subst (λ (z : Reaction). Turns step z s e s) (sym same) (h, refl)
   done_at x value (Err f) s same h = tt
+
+  -- leaving with one thing done, by the parts that it is made of
+  pub left_done : (at : Moment) (r : Result Effect AllocError) (said act : LinkAction) (x y : Core) (s t : S) → said ≡ act → x ≡ y
+      → IfOk r (λ (e : Effect). Turns step (leaves at (said ∷ []) x) s e t) → IfOk r (λ (e : Effect). Turns step (leaves at (act ∷ []) y) s e t)
+  left_done at r said act x y s t is core h =
+      let P : LinkAction → Type 0 = λ a. IfOk r (λ (e : Effect). Turns step (leaves at (a ∷ []) x) s e t) in
+      let Q : Core → Type 0 = λ c. IfOk r (λ (e : Effect). Turns step (leaves at (act ∷ []) c) s e t) in
+      subst Q core (subst P is h)
+
+  pub left_broke : (at : Moment) (r : Result Effect AllocError) (said act : LinkAction) (x y : Core) (s t : S) → said ≡ act → x ≡ y
+      → OnErr r (Broke step (leaves at (said ∷ []) x) s t) → OnErr r (Broke step (leaves at (act ∷ []) y) s t)
+  left_broke at r said act x y s t is core h =
+      let P : LinkAction → Type 0 = λ a. OnErr r (Broke step (leaves at (a ∷ []) x) s t) in
+      let Q : Core → Type 0 = λ c. OnErr r (Broke step (leaves at (act ∷ []) c) s t) in
+      subst Q core (subst P is h)
+
+  -- an instance goes over by what was agreed on
+  pub given_at : (core : Core) (agreed : Agreed) (context : ℕ) (at : Moment) (job : Job) (r : Result Effect AllocError) (s : S) → core.agreed ≡ Some agreed
+      → Some context ≡ context_for agreed job.key.class (syntax_uid job.key.syntax)
+      → IfOk r (λ (e : Effect). (a : Agreed) → core.agreed ≡ Some a → gives_in (Some context) a at job core ≡ Ends e)
+      → IfOk r (λ (e : Effect). Turns step (gives core.agreed at job core) s e s)
+  given_at core agreed context at job (Ok e) s some found h =
+      let P : Option ℕ → Type 0 = λ o. gives_in o agreed at job core ≡ Ends e in
+      let Q : Option Agreed → Type 0 = λ o. Turns step (gives o at job core) s e s in
+      let R : Reaction → Type 0 = λ z. Turns step z s e s in
+      subst Q (sym some) (subst R (sym (subst P found (h agreed some))) (refl, refl))
+  given_at core agreed context at job (Err f) s some found h = tt
 
   pub done_as : (x y : Reaction) (r : Result Effect AllocError) (s : S) → x ≡ y → IfOk r (λ (e : Effect). y ≡ Ends e) → IfOk r (λ (e : Effect). Turns step x s e s)
   done_as x y (Ok e) s same h = subst (λ (z : Reaction). Turns step z s e s) (sym (same ∙ h)) (refl, refl)

@@ -10,7 +10,7 @@ ghost use Rattle.dr_session.specs.Messages.{command_pdus};
 ghost use Rattle.dr_session.specs.Reactions.{awaiting, id_after, pending, write};
 
 use crate::ends::{Core, Effect, LinkAction, Pending};
-use crate::react::{await_response, next_id, one, quiet};
+use crate::react::{act_once, await_response, next_id, quiet};
 use crate::writing::write_response;
 use dr_base::{Syntax, Text};
 use dr_dimse::Command;
@@ -40,9 +40,11 @@ pub fn ask_echo(alloc: Global, core: Core, now: u64) -> Result<Effect, AllocErro
     };
     let id = next_id(core.last);
     let action = write_echo(alloc, agreed, context, id, class)?;
-    let acts = one(alloc, action)?;
-    let core = await_response(core, id, Text::empty(alloc), now);
-    Ok(Effect { acts, core })
+    act_once(
+        alloc,
+        action,
+        await_response(core, id, Text::empty(alloc), now),
+    )
 }
 
 /// A C-ECHO-RQ.

@@ -4,6 +4,6 @@ mod leaving;
 mod requestor;
 mod turning;
 
-pub use leaving::{one, quiet};
+pub use leaving::{act_once, one, quiet};
 pub use requestor::{await_response, next_id};
 pub use turning::take_turn;

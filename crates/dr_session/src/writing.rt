@@ -12,7 +12,7 @@ use dr_dimse::{Command, write_command};
 use dr_ledger::Job;
 use dr_nego::concluding::is_too_small;
 use dr_nego::{Agreed, Kind, put_fragments};
-use dr_pdu::{Abort, AssociateRj, Pdu, encode};
+use dr_pdu::{Abort, AssociateAc, AssociateRj, Pdu, encode};
 use std::alloc::{AllocError, Global};
 
 /// One PDU.
@@ -29,6 +29,14 @@ pub fn write_abort(alloc: Global, source: u8, reason: u8) -> Result<LinkAction, 
     ensures { IfOk result (λ a. a ≡ write (abort_pdu source reason ∷ [])) }
 {
     write_pdu(alloc, &Pdu::Abort(Abort { source, reason }))
+}
+
+/// An A-ASSOCIATE-AC (PS3.8 9.3.3).
+pub fn write_acceptance(alloc: Global, ac: AssociateAc) -> Result<LinkAction, AllocError>
+    requires { Fits (pdu.AssociateAc ac) }
+    ensures { IfOk result (λ a. a ≡ write (pdu.AssociateAc ac ∷ [])) }
+{
+    write_pdu(alloc, &Pdu::AssociateAc(ac))
 }
 
 /// An A-ASSOCIATE-RJ (PS3.8 9.3.4).

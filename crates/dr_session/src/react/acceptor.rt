@@ -15,14 +15,14 @@ ghost use Rattle.dr_ulstate.specs.declared.table.Event.TheVariants.{AcceptRespon
 
 use crate::ends::{Core, Effect, Found, LinkAction, Moment};
 use crate::port::DeskPort;
-use crate::react::leaving::{abort, after, mark_rejected, one, quiet};
-use crate::writing::{write_pdu, write_rejection, write_response};
+use crate::react::leaving::{abort, act_once, after, mark_rejected, quiet};
+use crate::writing::{write_acceptance, write_rejection, write_response};
 use dr_base::{Seq, Text};
 use dr_dimse::Command;
 use dr_ledger::{Arrived, Item, LedgerFault};
 use dr_nego::acceptor::answer;
 use dr_nego::{Agreed, Answer, Policy};
-use dr_pdu::{AssociateAc, AssociateRj, AssociateRq, Pdu};
+use dr_pdu::{AssociateAc, AssociateRj, AssociateRq};
 use std::alloc::{AllocError, Global};
 
 /// The status of the response for a reply (PS3.4 B.2.3).
@@ -48,6 +48,15 @@ fn say(alloc: Global, core: &Core, context: u8, command: Command) -> Result<Link
     };
     let action = write_response(alloc, &agreed, context, &command)?;
     Ok(action)
+}
+
+/// A response in the context is all that is done.
+fn reply(alloc: Global, context: u8, command: Command, core: Core) -> Result<Effect, AllocError>
+    requires { Fits command }
+    ensures { IfOk result (λ e. e ≡ effect (says core context command ∷ []) core) }
+{
+    let action = say(alloc, &core, context, command)?;
+    act_once(alloc, action, core)
 }
 
 /// The greatest length that the other side takes; none where nothing is agreed on.
@@ -80,8 +89,7 @@ fn respond(
         instance,
         has_data: false,
     };
-    let acts = one(alloc, say(alloc, &core, context, command)?)?;
-    Ok(Effect { acts, core })
+    reply(alloc, context, command, core)
 }
 
 /// Whether the command names the instance.
@@ -242,8 +250,7 @@ fn answer_echo(
         class,
         has_data: false,
     };
-    let acts = one(alloc, say(alloc, &core, context, response)?)?;
-    Ok(Effect { acts, core })
+    reply(alloc, context, response, core)
 }
 
 /// A request that isn't known is answered by its field or 8000H; one without an id isn't answered.
@@ -287,8 +294,7 @@ fn answer_unknown(
         status: Some(0x0211),
         has_data: false,
     };
-    let acts = one(alloc, say(alloc, &core, context, response)?)?;
-    Ok(Effect { acts, core })
+    reply(alloc, context, response, core)
 }
 
 /// The field of the answer to a request (PS3.7 E.1).
@@ -342,15 +348,21 @@ fn accept(
     requires { PduFits (pdu.AssociateAc ac) }
     ensures { IfOk result (λ e. decides (answers.Accept ac agreed) at rq core ≡ Ends e) }
 {
-    let acts = one(alloc, write_pdu(alloc, &Pdu::AssociateAc(ac))?)?;
+    let action = write_acceptance(alloc, ac)?;
+    act_once(alloc, action, establish(agreed, rq, core, at.now))
+}
+
+/// The local user accepts the request (PS3.8 9.2.2, AE-7): the phase, the peer, and what is agreed on.
+fn establish(agreed: Agreed, rq: AssociateRq, core: Core, now: u64) -> Core
+    ensures { result ≡ record (stepped_by AcceptResponse now core) { peer = rq.front.calling; agreed = Some agreed } }
+{
     let front = rq.front;
-    let core = Core {
-        phase: after(core.phase.accept(at.now)),
+    Core {
+        phase: after(core.phase.accept(now)),
         peer: front.calling,
         agreed: Some(agreed),
         ..core
-    };
-    Ok(Effect { acts, core })
+    }
 }
 
 /// The association is rejected.
@@ -362,13 +374,20 @@ fn reject(
 ) -> Result<Effect, AllocError>
     ensures { IfOk result (λ e. e ≡ effect (write (pdu.AssociateRj rejection ∷ []) ∷ []) (rejected_with rejection (stepped_by RejectResponse at.now core))) }
 {
-    let acts = one(alloc, write_rejection(alloc, rejection)?)?;
-    let core = Core {
-        phase: after(core.phase.reject(at.now)),
+    let action = write_rejection(alloc, rejection)?;
+    act_once(
+        alloc,
+        action,
+        mark_rejected(rejection, step_reject(core, at.now)),
+    )
+}
+
+/// The request is rejected (PS3.8 9.2.2, AE-8): the phase.
+fn step_reject(core: Core, now: u64) -> Core
+    ensures { result ≡ stepped_by RejectResponse now core }
+{
+    Core {
+        phase: after(core.phase.reject(now)),
         ..core
-    };
-    Ok(Effect {
-        acts,
-        core: mark_rejected(rejection, core),
-    })
+    }
 }

@@ -39,6 +39,14 @@ pub fn one(alloc: Global, action: LinkAction) -> Result<Seq<LinkAction>, AllocEr
     Ok(Seq::from_vec(actions))
 }
 
+/// One thing is done on the link, by an end that goes on so.
+pub fn act_once(alloc: Global, action: LinkAction, core: Core) -> Result<Effect, AllocError>
+    ensures { IfOk result (λ e. e ≡ effect (action ∷ []) core) }
+{
+    let acts = one(alloc, action)?;
+    Ok(Effect { acts, core })
+}
+
 /// The phase after a service of the local user.
 pub fn after(step: Result<(Action, Next), Next>) -> Next
     ensures { result ≡ phase_after step }
@@ -134,6 +142,22 @@ pub fn leave<P: DeskPort>(
     }
 }
 
+/// One thing is done on the link, and what is pending is settled as broken.
+pub fn leave_with<P: DeskPort>(
+    alloc: Global,
+    action: LinkAction,
+    core: Core,
+    port: &mut P,
+    at: Moment,
+) -> Result<Effect, AllocError>
+    requires { at.now ≤ 2 ^ 62 }
+    ensures done { IfOk result (λ e. Turns P.step (leaves at (action ∷ []) core) port.old e port.new) }
+    ensures broke { OnErr result (Broke P.step (leaves at (action ∷ []) core) port.old port.new) }
+{
+    let acts = one(alloc, action)?;
+    leave(acts, core, port, at)
+}
+
 /// The end aborts by itself.
 pub fn abort<P: DeskPort>(
     alloc: Global,
@@ -145,17 +169,23 @@ pub fn abort<P: DeskPort>(
     ensures done { IfOk result (λ e. Turns P.step (aborts at core) port.old e port.new) }
     ensures broke { OnErr result (Broke P.step (aborts at core) port.old port.new) }
 {
-    let acts = one(alloc, write_abort(alloc, 0, 0)?)?;
-    leave(acts, mark_aborted(step_abort(core, at.now)), port, at)
+    let action = write_abort(alloc, 0, 0)?;
+    leave_with(
+        alloc,
+        action,
+        mark_aborted(step_abort(core, at.now)),
+        port,
+        at,
+    )
 }
 
 /// A store failed: the association is aborted, and what was pending is left as it is.
 pub fn abort_desk(alloc: Global, core: Core, at: Moment) -> Result<Effect, AllocError>
     ensures { IfOk result (λ e. aborts_desk at core ≡ Ends e) }
 {
-    let acts = one(alloc, write_abort(alloc, 0, 0)?)?;
+    let action = write_abort(alloc, 0, 0)?;
     let core = fail_desk(mark_aborted(leave_pending(step_abort(core, at.now))));
-    Ok(Effect { acts, core })
+    act_once(alloc, action, core)
 }
 
 /// The phase after the local user's abort.

@@ -3,6 +3,7 @@ ghost use Rattle.std.specs.Prelude.{◌≡◌, ◌∷◌, [], ◌≤◌, ◌^◌
 ghost use Rattle.std.specs.List.{list_all};
 ghost use Rattle.dr_base.specs.Syntaxes.{syntax_uid};
 ghost use Rattle.dr_nego.specs.Agreeing.{context_for};
+ghost use Rattle.dr_nego.specs.declared.agreed.Agreed.{Agreed as AgreedOn};
 ghost use Rattle.dr_nego.specs.declared.fault.NegoFault.TheVariants as negofault;
 ghost use Rattle.dr_session.specs.declared.ends.LinkAction.TheVariants.{Close};
 ghost use Rattle.dr_session.specs.Reactions.{agrees, refuses, settles_refused, replied, effect, gives, gives_in, hands, can_be_named, is_uid, is_graphic, id_after, due, pushes, gives_nothing, write, store_pdus, awaiting, pending, settled_with, desk_failed, dried};
@@ -10,7 +11,7 @@ ghost use Rattle.dr_session.specs.Turns.{Turns, Broke, Ends};
 
 use crate::ends::{Core, Effect, LinkAction, Moment, Pending};
 use crate::port::DeskPort;
-use crate::react::leaving::{abort, abort_desk, fail_desk, one, quiet};
+use crate::react::leaving::{abort, abort_desk, act_once, fail_desk, quiet};
 use crate::writing::write_store;
 use dr_base::Text;
 use dr_dimse::Awaited;
@@ -70,8 +71,7 @@ pub fn refuse<P: DeskPort>(
 pub fn close(alloc: Global, core: Core) -> Result<Effect, AllocError>
     ensures { IfOk result (λ e. e ≡ effect (Close ∷ []) core) }
 {
-    let acts = one(alloc, LinkAction::Close)?;
-    Ok(Effect { acts, core })
+    act_once(alloc, LinkAction::Close, core)
 }
 
 /// A row whose association was rejected.
@@ -249,13 +249,48 @@ fn give<P: DeskPort>(
     };
     match context_of(agreed, &job) {
         None => settle_without(alloc, job.uid, core, port, at),
-        Some(context) => {
-            let id = next_id(core.last);
-            let acts = one(alloc, write_store(alloc, agreed, context, id, &job)?)?;
-            let core = await_response(core, id, job.uid, at.now);
-            Ok(Effect { acts, core })
-        }
+        Some(context) => give_in(alloc, context, job, core, at),
     }
+}
+
+/// An instance goes over in that context.
+fn give_in(
+    alloc: Global,
+    context: u8,
+    job: Job,
+    core: Core,
+    at: Moment,
+) -> Result<Effect, AllocError>
+    requires { can_be_named job ≡ true }
+    ensures { IfOk result (λ e. (agreed : AgreedOn) → core.agreed ≡ Some agreed → gives_in (Some context) agreed at job core ≡ Ends e) }
+{
+    let id = next_id(core.last);
+    let action = store_in(alloc, context, id, &job, &core)?;
+    act_once(alloc, action, await_response(core, id, uid_of(job), at.now))
+}
+
+/// The C-STORE-RQ of an instance in that context, by what was agreed on.
+fn store_in(
+    alloc: Global,
+    context: u8,
+    id: u16,
+    job: &Job,
+    core: &Core,
+) -> Result<LinkAction, AllocError>
+    requires { can_be_named job.now ≡ true }
+    ensures { IfOk result (λ a. (agreed : AgreedOn) → core.now.agreed ≡ Some agreed → a ≡ write (store_pdus agreed context id job.now)) }
+{
+    match &core.agreed {
+        Some(agreed) => write_store(alloc, agreed, context, id, job),
+        None => Ok(LinkAction::Close),
+    }
+}
+
+/// The UID of an instance.
+fn uid_of(job: Job) -> Text
+    ensures { result ≡ job.uid }
+{
+    job.uid
 }
 
 /// The context in which an instance can go over.

@@ -15,8 +15,8 @@ use crate::ends::{Core, Effect, Input, LinkAction, Moment, Told};
 use crate::port::DeskPort;
 use crate::react::acceptor::{answer_request, decide, store};
 use crate::react::leaving::{
-    abort, after, leave, leave_pending, mark_aborted, mark_rejected, mark_released, none, one,
-    quiet,
+    abort, act_once, after, leave, leave_pending, leave_with, mark_aborted, mark_rejected,
+    mark_released, none, quiet,
 };
 use crate::react::requestor::{agree, close, hear_response, push, refuse};
 use crate::writing::{write_abort, write_release_answer, write_release_request};
@@ -126,25 +126,20 @@ fn step_respond(core: Core, now: u64) -> Core
 fn answer_release(alloc: Global, core: Core, now: u64) -> Result<Effect, AllocError>
     ensures { IfOk result (λ e. e ≡ effect (write (pdu.ReleaseRp ∷ []) ∷ []) (released (stepped_by ReleaseResponse now core))) }
 {
-    let acts = one(alloc, write_release_answer(alloc)?)?;
-    Ok(Effect {
-        acts,
-        core: step_respond(core, now),
-    })
+    let action = write_release_answer(alloc)?;
+    act_once(alloc, action, step_respond(core, now))
 }
 
 /// The release is asked for, and its answer awaited.
 fn ask_release(alloc: Global, core: Core, now: u64) -> Result<Effect, AllocError>
     ensures { IfOk result (λ e. e ≡ effect (write (pdu.ReleaseRq ∷ []) ∷ []) (record core { awaits = Some now })) }
 {
-    let acts = one(alloc, write_release_request(alloc)?)?;
-    Ok(Effect {
-        acts,
-        core: Core {
-            awaits: Some(now),
-            ..core
-        },
-    })
+    let action = write_release_request(alloc)?;
+    let core = Core {
+        awaits: Some(now),
+        ..core
+    };
+    act_once(alloc, action, core)
 }
 
 /// What an acceptance agrees on.
@@ -224,8 +219,8 @@ fn leave_aborting<P: DeskPort>(
     ensures done { IfOk result (λ e. Turns P.step (leaves at (write (abort_pdu source reason ∷ []) ∷ []) (aborted core)) port.old e port.new) }
     ensures broke { OnErr result (Broke P.step (leaves at (write (abort_pdu source reason ∷ []) ∷ []) (aborted core)) port.old port.new) }
 {
-    let acts = one(alloc, write_abort(alloc, source, reason)?)?;
-    leave(acts, mark_aborted(core), port, at)
+    let action = write_abort(alloc, source, reason)?;
+    leave_with(alloc, action, mark_aborted(core), port, at)
 }
 
 /// The end leaves and closes the transport connection.
@@ -239,8 +234,7 @@ fn leave_closing<P: DeskPort>(
     ensures done { IfOk result (λ e. Turns P.step (leaves at (Close ∷ []) core) port.old e port.new) }
     ensures broke { OnErr result (Broke P.step (leaves at (Close ∷ []) core) port.old port.new) }
 {
-    let acts = one(alloc, LinkAction::Close)?;
-    leave(acts, core, port, at)
+    leave_with(alloc, LinkAction::Close, core, port, at)
 }
 
 /// The end leaves as the other one asked for the release, which is answered.
@@ -254,8 +248,8 @@ fn leave_released<P: DeskPort>(
     ensures done { IfOk result (λ e. Turns P.step (leaves at (write (pdu.ReleaseRp ∷ []) ∷ []) (released (stepped_by ReleaseResponse at.now core))) port.old e port.new) }
     ensures broke { OnErr result (Broke P.step (leaves at (write (pdu.ReleaseRp ∷ []) ∷ []) (released (stepped_by ReleaseResponse at.now core))) port.old port.new) }
 {
-    let acts = one(alloc, write_release_answer(alloc)?)?;
-    leave(acts, step_respond(core, at.now), port, at)
+    let action = write_release_answer(alloc)?;
+    leave_with(alloc, action, step_respond(core, at.now), port, at)
 }
 
 /// An A-ABORT that was read is noted.
@@ -272,11 +266,8 @@ fn note(told: &Told, core: Core) -> Core
 fn abort_closing(alloc: Global, core: Core) -> Result<Effect, AllocError>
     ensures { IfOk result (λ e. e ≡ effect (write (abort_pdu 2 0 ∷ []) ∷ []) (aborted core)) }
 {
-    let acts = one(alloc, write_abort(alloc, 2, 0)?)?;
-    Ok(Effect {
-        acts,
-        core: mark_aborted(core),
-    })
+    let action = write_abort(alloc, 2, 0)?;
+    act_once(alloc, action, mark_aborted(core))
 }
 
 /// In a collision of releases the requestor answers at once (AR-8).

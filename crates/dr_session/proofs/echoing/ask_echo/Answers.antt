@@ -1,4 +1,4 @@
-use Rattle.std.proofs.Common.{◌≡◌, ℕ, List, [], ◌∷◌, Option, Some, None, false, refl, sym, subst, ap, ◌∙◌}
+use Rattle.std.proofs.Common.{◌≡◌, ℕ, [], Option, Some, None, false, sym, subst, ap, ◌∙◌}
 use Rattle.dr_base.specs.Texts.{Text}
 use Rattle.dr_base.specs.Syntaxes.{syntax_uid}
 use Rattle.dr_base.specs.declared.syntax.Syntax.TheVariants.{Implicit}
@@ -11,7 +11,9 @@ use Rattle.dr_session.specs.declared.ends.Effect.{Effect}
 use Rattle.dr_session.specs.declared.ends.LinkAction.{LinkAction}
 use Rattle.dr_session.specs.Ends.{echoes_by, echoes_in}
 use Rattle.dr_session.specs.Messages.{command_pdus}
-use Rattle.dr_session.specs.Reactions.{effect, write, awaiting, pending, id_after}
+use Rattle.dr_session.specs.Reactions.{write, awaiting, pending, id_after}
+use Rattle.std.specs.Prelude.{IfOk}
+use Rattle.dr_session.proofs.Effects.{acted}
 use Rattle.dr_session.proofs.echoing.ask_echo.Goals as goal
 
 pub returns-in_default : goal.returns-in_default
@@ -34,15 +36,13 @@ pub returns : goal.returns
 returns c =
     let some : context_for c.in-Some.agreed verification (syntax_uid Implicit) ≡ Some c.in-Some-context_for.context =
     ap (λ (t : Text). context_for c.in-Some.agreed t (syntax_uid Implicit)) (sym c.in_ok-class.ensures) ∙ (sym c.context_for.ensures ∙ c.in-Some-context_for.is) in
-    let acts : c.in_ok-acts.acts ≡ write (command_pdus c.in-Some.agreed.limit c.in-Some-context_for.context (EchoRq (id_after c.args.core.last) verification false)) ∷ [] =
-    c.in_ok-acts.ensures ∙ ap (λ (a : LinkAction). a ∷ [])
-    (c.in_ok-action.ensures ∙ ap (λ (i : ℕ). write (command_pdus c.in-Some.agreed.limit c.in-Some-context_for.context (EchoRq i verification false))) c.next_id-id.ensures) in
-    let core : c.await_response-core.result ≡ awaiting (pending (id_after c.args.core.last) []) c.args.now c.args.core =
-    c.await_response-core.ensures ∙ (ap (λ (i : ℕ). awaiting (pending i c.empty.result) c.args.now c.args.core) c.next_id-id.ensures
+    let act : LinkAction = write (command_pdus c.in-Some.agreed.limit c.in-Some-context_for.context (EchoRq (id_after c.args.core.last) verification false)) in
+    let said : c.in_ok-action.action ≡ act =
+    c.in_ok-action.ensures ∙ ap (λ (i : ℕ). write (command_pdus c.in-Some.agreed.limit c.in-Some-context_for.context (EchoRq i verification false))) c.next_id-id.ensures in
+    let after : Core = awaiting (pending (id_after c.args.core.last) []) c.args.now c.args.core in
+    let core : c.await_response.result ≡ after =
+    c.await_response.ensures ∙ (ap (λ (i : ℕ). awaiting (pending i c.empty.result) c.args.now c.args.core) c.next_id-id.ensures
     ∙ ap (λ (t : Text). awaiting (pending (id_after c.args.core.last) t) c.args.now c.args.core) c.empty.ensures) in
-    let done : Effect = effect c.in_ok-acts.acts c.await_response-core.result in
-    let P : Option Agreed → Type 0 = λ o. done ≡ echoes_by o c.args.now c.args.core in
-    let Q : Option ℕ → Type 0 = λ o. done ≡ echoes_in o c.in-Some.agreed c.args.now c.args.core in
-    subst P (sym c.in-Some.is) (subst Q (sym some)
-    (ap (λ (l : List LinkAction). effect l c.await_response-core.result) acts
-    ∙ ap (λ (x : Core). effect (write (command_pdus c.in-Some.agreed.limit c.in-Some-context_for.context (EchoRq (id_after c.args.core.last) verification false)) ∷ []) x) core))
+    let P : Option Agreed → Type 0 = λ o. IfOk c.act_once.result (λ (e : Effect). e ≡ echoes_by o c.args.now c.args.core) in
+    let Q : Option ℕ → Type 0 = λ o. IfOk c.act_once.result (λ (e : Effect). e ≡ echoes_in o c.in-Some.agreed c.args.now c.args.core) in
+    subst P (sym c.in-Some.is) (subst Q (sym some) (acted c.act_once.result c.in_ok-action.action act c.await_response.result after c.act_once.ensures said core))

@@ -1,14 +1,15 @@
-use Rattle.std.proofs.Common.{ℕ, false, arith, refl, ap, ◌∙◌}
+use Rattle.std.proofs.Common.{ℕ, false, arith, refl, ap}
 use Rattle.dr_dimse.specs.declared.command.Command.TheVariants.{EchoRsp}
 use Rattle.dr_dimse.proofs.FitLemmas.{echo_answer_fits}
 use Rattle.dr_session.specs.Reactions.{says, echo_status}
-use Rattle.dr_session.proofs.Effects.{same_effect}
+use Rattle.dr_session.proofs.Effects.{acted}
 use Rattle.dr_session.proofs.react.acceptor.answer_echo.Goals as goal
 
-pub say-requires : goal.say-requires
-say-requires c = echo_answer_fits c.args.id c.echo_status.result c.args.class false false c.requires (omega arith)
+pub reply-requires : goal.reply-requires
+reply-requires c = echo_answer_fits c.args.id c.echo_status.result c.args.class false false c.requires (omega arith)
 
 pub returns : goal.returns
 returns c =
-    same_effect c.in_ok-acts.acts c.in_ok-say.field-0 (says c.args.core c.args.context (EchoRsp c.args.id (echo_status c.args.class c.args.of) c.args.class false)) c.args.core c.args.core
-    c.in_ok-acts.ensures (c.in_ok-say.ensures ∙ ap (λ (n : ℕ). says c.args.core c.args.context (EchoRsp c.args.id n c.args.class false)) c.echo_status.ensures) refl
+    acted c.reply.result (says c.args.core c.args.context (EchoRsp c.args.id c.echo_status.result c.args.class false))
+    (says c.args.core c.args.context (EchoRsp c.args.id (echo_status c.args.class c.args.of) c.args.class false)) c.args.core c.args.core
+    c.reply.ensures (ap (λ (n : ℕ). says c.args.core c.args.context (EchoRsp c.args.id n c.args.class false)) c.echo_status.ensures) refl

@@ -1,21 +1,22 @@
-use Rattle.std.proofs.Common.{ℕ, ◌+◌, None, Some, false, arith, refl, sym, subst, ap, ◌∙◌}
+use Rattle.std.proofs.Common.{ℕ, ◌+◌, None, Some, false, arith, refl, sym, subst, ap}
 use Rattle.dr_dimse.specs.declared.command.Command.TheVariants.{Other}
 use Rattle.dr_dimse.specs.Written.{Fits}
 use Rattle.dr_dimse.proofs.FitLemmas.{other_answer_fits}
 use Rattle.dr_session.specs.Reactions.{says}
-use Rattle.dr_session.proofs.Effects.{same_effect}
+use Rattle.dr_session.proofs.Effects.{acted}
 use Rattle.dr_session.proofs.Fitting.{small_field}
 use Rattle.dr_session.proofs.react.acceptor.answer_unknown.Goals as goal
 
 pub answer_field-requires : goal.answer_field-requires
 answer_field-requires c = small_field c.args.field c.args.id c.requires.2
 
-pub say-requires : goal.say-requires
-say-requires c =
+pub reply-requires : goal.reply-requires
+reply-requires c =
     let P : ℕ → Type 0 = λ n. Fits (Other n (Some c.args.id) (Some 0x0211) false) in
     subst P (sym c.answer_field.ensures) (other_answer_fits c.args.field c.args.id 0x0211 None false false c.requires (small_field c.args.field c.args.id c.requires.2) (omega arith))
 
 pub returns : goal.returns
 returns c =
-    same_effect c.in_ok-acts.acts c.in_ok-say.field-0 (says c.args.core c.args.context (Other (0x8000 + c.args.field) (Some c.args.id) (Some 0x0211) false)) c.args.core c.args.core
-    c.in_ok-acts.ensures (c.in_ok-say.ensures ∙ ap (λ (n : ℕ). says c.args.core c.args.context (Other n (Some c.args.id) (Some 0x0211) false)) c.answer_field.ensures) refl
+    acted c.reply.result (says c.args.core c.args.context (Other c.answer_field.result (Some c.args.id) (Some 0x0211) false))
+    (says c.args.core c.args.context (Other (0x8000 + c.args.field) (Some c.args.id) (Some 0x0211) false)) c.args.core c.args.core
+    c.reply.ensures (ap (λ (n : ℕ). says c.args.core c.args.context (Other n (Some c.args.id) (Some 0x0211) false)) c.answer_field.ensures) refl

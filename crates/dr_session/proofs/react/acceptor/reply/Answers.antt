@@ -1,0 +1,8 @@
+use Rattle.std.proofs.Common.{refl}
+use Rattle.dr_session.specs.Reactions.{says}
+use Rattle.dr_session.proofs.Effects.{acted}
+use Rattle.dr_session.proofs.react.acceptor.reply.Goals as goal
+
+pub returns : goal.returns
+returns c =
+    acted c.act_once.result c.in_ok-action.action (says c.args.core c.args.context c.args.command) c.args.core c.args.core c.act_once.ensures c.in_ok-action.ensures refl
