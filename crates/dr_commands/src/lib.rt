@@ -3,6 +3,7 @@
 #![tactic(auto)]
 
 mod answer;
+mod command_line;
 mod input;
 pub mod laws;
 mod print;

@@ -12,7 +12,8 @@ ghost use Rattle.dr_commands.specs.declared.words.PlanChange.{PlanChange as Plan
 ghost use Rattle.dr_commands.specs.declared.words.Question.{Question as QuestionValue};
 ghost use Rattle.dr_commands.specs.declared.words.Question.TheVariants as questions;
 
-use clap::{Arg, ArgAction, ArgMatches, Command, Error, value_parser};
+use crate::command_line::command_line;
+use clap::{ArgMatches, Error};
 use std::alloc::{AllocError, Global};
 
 /// The four values of an instance by which it is routed, as words: the SOP class UID, the UID of the transfer syntax, the
@@ -407,227 +408,6 @@ fn read_plain<'a>(words: &'a [&'a str]) -> Option<Asked<'a>>
     }
 }
 
-/// A file or a node that has to be named.
-fn named<'a>(alloc: Global, name: &'a str, help: &'a str) -> Arg<'a> {
-    Arg::new(alloc, name)
-        .action(ArgAction::Set)
-        .required(true)
-        .help(help)
-}
-
-/// The word `check`.
-fn check_command<'a>(alloc: Global) -> Result<Command<'a>, AllocError> {
-    let plan = Arg::new(alloc, "PLAN").action(ArgAction::Set).help(
-        "the file with the plan; without it the plan is read from the standard input",
-    );
-    Command::new(alloc, "check")
-        .about("Checks a plan, and prints its certificate or what is wrong with it")
-        .arg(plan)
-}
-
-/// The word `verify`.
-fn verify_command<'a>(alloc: Global) -> Result<Command<'a>, AllocError> {
-    Command::new(alloc, "verify")
-        .about("Verifies that the plan is sound and that the certificate is its own")
-        .arg(named(alloc, "PLAN", "the file with the plan"))?
-        .arg(named(alloc, "CERT", "the file with the certificate"))
-}
-
-/// The word `simulate`.
-fn simulate_command<'a>(alloc: Global) -> Result<Command<'a>, AllocError> {
-    Command::new(alloc, "simulate")
-        .about(
-            "Plays a script of steps in a world of the plan's nodes, and prints what each has then",
-        )
-        .arg(named(alloc, "PLAN", "the file with the plan"))?
-        .arg(named(alloc, "CERT", "the file with the plan's certificate"))?
-        .arg(named(alloc, "SCRIPT", "the file with the script"))
-}
-
-/// The word `echo`.
-fn echo_command<'a>(alloc: Global) -> Result<Command<'a>, AllocError> {
-    Command::new(alloc, "echo")
-        .about("Asks a node for an echo as another one, and prints how it answers")
-        .arg(named(alloc, "PLAN", "the file with the plan"))?
-        .arg(named(alloc, "FROM", "the node that asks"))?
-        .arg(named(alloc, "TO", "the node that is asked"))
-}
-
-/// A value that may be left out where a file is named.
-fn value_behind<'a>(alloc: Global, name: &'a str, help: &'a str) -> Arg<'a> {
-    Arg::new(alloc, name).action(ArgAction::Set).help(help)
-}
-
-/// The word `route`.
-fn route_command<'a>(alloc: Global) -> Result<Command<'a>, AllocError> {
-    let syntax = value_behind(alloc, "SYNTAX", "the UID of its transfer syntax").requires_arg(
-        "STATION",
-    )?;
-    Command::new(alloc, "route")
-        .about(
-            "Prints where an instance goes that enters at a node: its hops, and the nodes that keep it",
-        )
-        .arg(named(alloc, "PLAN", "the file with the plan"))?
-        .arg(named(alloc, "CERT", "the file with the plan's certificate"))?
-        .arg(named(alloc, "AT", "the node at which it enters"))?
-        .arg(named(
-            alloc,
-            "FILE|CLASS",
-            "a Part 10 file, or the SOP class UID of an instance",
-        ))?
-        .arg(syntax)?
-        .arg(value_behind(
-            alloc,
-            "MODALITY",
-            "its modality; an empty word is the empty value",
-        ))?
-        .arg(value_behind(
-            alloc,
-            "STATION",
-            "its station name; an empty word is the empty value",
-        ))
-}
-
-/// The word `graph`.
-fn graph_command<'a>(alloc: Global) -> Result<Command<'a>, AllocError> {
-    Command::new(alloc, "graph")
-        .about("Prints the network of a plan as a graph for Graphviz")
-        .arg(named(alloc, "PLAN", "the file with the plan"))?
-        .arg(named(alloc, "CERT", "the file with the plan's certificate"))
-}
-
-/// The word `lint`.
-fn lint_command<'a>(alloc: Global) -> Result<Command<'a>, AllocError> {
-    Command::new(alloc, "lint")
-        .about("Prints what is sound in a plan and still looks wrong")
-        .arg(named(alloc, "PLAN", "the file with the plan"))?
-        .arg(named(alloc, "CERT", "the file with the plan's certificate"))
-}
-
-/// A word that works on a node's ledger.
-fn node_command<'a>(
-    alloc: Global,
-    name: &'a str,
-    about: &'a str,
-) -> Result<Command<'a>, AllocError> {
-    Command::new(alloc, name)
-        .about(about)
-        .arg(named(alloc, "PLAN", "the file with the plan"))?
-        .arg(named(alloc, "CERT", "the file with the plan's certificate"))?
-        .arg(named(alloc, "NODE", "the node"))?
-        .arg(named(
-            alloc,
-            "DB",
-            "the file with the node's ledger, which is made where there is none",
-        ))
-}
-
-/// The word `list`.
-fn list_command<'a>(alloc: Global) -> Result<Command<'a>, AllocError> {
-    let summary = Arg::new(alloc, "SUMMARY")
-        .long("summary")
-        .action(ArgAction::SetTrue)
-        .help("prints how many there are instead");
-    node_command(
-        alloc,
-        "list",
-        "Prints what a node has: its arrivals, what it keeps, and what is queued",
-    )?
-    .arg(summary)
-}
-
-/// The word `requeue`.
-fn requeue_command<'a>(alloc: Global) -> Result<Command<'a>, AllocError> {
-    let all = Arg::new(alloc, "ALL")
-        .long("all-held")
-        .action(ArgAction::Set)
-        .value_name("DEST")
-        .help("queues all held rows to that node again")
-        .conflicts_with("UID")?;
-    let uid = value_behind(alloc, "UID", "the SOP instance UID of the row")
-        .required_unless_present("ALL")?
-        .requires_arg("DEST")?;
-    node_command(alloc, "requeue", "Queues held rows of a node again")?
-        .arg(uid)?
-        .arg(value_behind(alloc, "DEST", "the node to which it is to be sent"))?
-        .arg(all)
-}
-
-/// The word `send`.
-fn send_command<'a>(alloc: Global) -> Result<Command<'a>, AllocError> {
-    node_command(
-        alloc,
-        "send",
-        "Brings an instance to a node, sends what is due once, and prints what the node has then",
-    )?
-    .arg(named(alloc, "FILE", "a Part 10 file"))
-}
-
-/// The word `adopt`.
-fn adopt_command<'a>(alloc: Global) -> Result<Command<'a>, AllocError> {
-    Command::new(alloc, "adopt")
-        .about("Brings the ledgers of all nodes of a plan over to another plan, while no node runs")
-        .arg(named(alloc, "OLDPLAN", "the file with the plan in force"))?
-        .arg(named(alloc, "OLDCERT", "the file with that plan's certificate"))?
-        .arg(named(alloc, "PLAN", "the file with the next plan"))?
-        .arg(named(alloc, "CERT", "the file with the next plan's certificate"))?
-        .arg(named(alloc, "DIR", "the folder with the ledger of each node"))
-}
-
-/// The levels of a log.
-const LEVELS: &[&str] = &["error", "info", "debug"];
-
-/// The word `serve`.
-fn serve_command<'a>(alloc: Global) -> Result<Command<'a>, AllocError> {
-    let links = Arg::new(alloc, "LINKS")
-        .long("links")
-        .action(ArgAction::Set)
-        .value_parser(value_parser!(u32))
-        .value_name("N")
-        .help("ends after so many associations, for 0 never (0 to 4294967295)");
-    let log = Arg::new(alloc, "LOG")
-        .long("log")
-        .action(ArgAction::Set)
-        .value_parser(LEVELS)
-        .value_name("LEVEL")
-        .help("what is logged on the standard error: error, info (the default) or debug");
-    let report = Arg::new(alloc, "REPORT")
-        .long("report")
-        .action(ArgAction::Set)
-        .value_name("FILE")
-        .help("writes what the node has to that file, at most every ten seconds");
-    node_command(
-        alloc,
-        "serve",
-        "Serves associations at a node's address and sends what is due; prints in the end what the node has",
-    )?
-    .arg(links)?
-    .arg(log)?
-    .arg(report)
-}
-
-/// The command line of the program.
-fn command<'a>(alloc: Global) -> Result<Command<'a>, AllocError> {
-    Command::new(alloc, "dr_router")
-        .bin_name("dr_router")?
-        .version("0.1.0")
-        .about("A DICOM store-and-forward router")
-        .no_binary_name(true)
-        .subcommand_required(true)
-        .subcommand(check_command(alloc)?)?
-        .subcommand(verify_command(alloc)?)?
-        .subcommand(route_command(alloc)?)?
-        .subcommand(graph_command(alloc)?)?
-        .subcommand(lint_command(alloc)?)?
-        .subcommand(simulate_command(alloc)?)?
-        .subcommand(echo_command(alloc)?)?
-        .subcommand(serve_command(alloc)?)?
-        .subcommand(send_command(alloc)?)?
-        .subcommand(list_command(alloc)?)?
-        .subcommand(requeue_command(alloc)?)?
-        .subcommand(adopt_command(alloc)?)
-}
-
 /// Where what is to go, as clap has read it: an instance with four values, or the one in a file.
 fn route_of<'a>(given: &ArgMatches<'a>) -> Question<'a> {
     let at = given.get_str("AT").unwrap_or("");
@@ -729,7 +509,8 @@ fn change_of<'a>(given: &ArgMatches<'a>) -> PlanChange<'a> {
 
 /// What clap makes of the words: options, help, and what the program doesn't know.
 fn read_others<'a>(alloc: Global, words: &'a [&'a str]) -> Result<Asked<'a>, AllocError> {
-    let matches = match command(alloc)?.try_get_matches_from(words) {
+    let line = command_line(alloc)?;
+    let matches = match line.try_get_matches_from(words) {
         Ok(matches) => matches,
         Err(error) => return Ok(Asked::Told(error)),
     };

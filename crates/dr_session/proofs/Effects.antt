@@ -16,14 +16,18 @@ use Rattle.dr_session.specs.Turns.{Ends}
 same_effect : (said act : LinkAction) (x y : Core) → said ≡ act → x ≡ y → effect (said ∷ []) x ≡ effect (act ∷ []) y
 same_effect said act x y is core = ap (λ (a : LinkAction). effect (a ∷ []) x) is ∙ ap (λ (c : Core). effect (act ∷ []) c) core
 
+-- it ends so, with no call
+abbrev ended : Effect → Reaction
+ended e = Ends e
+
 -- the one thing that was done is the one that was wanted
 pub acted : (r : Result Effect AllocError) (said act : LinkAction) (x y : Core) → IfOk r (λ (e : Effect). e ≡ effect (said ∷ []) x) → said ≡ act → x ≡ y → IfOk r (λ (e : Effect). e ≡ effect (act ∷ []) y)
 acted (Ok e) said act x y h is core = h ∙ same_effect said act x y is core
 acted (Err f) said act x y h is core = tt
 
 pub acted_so : (r : Result Effect AllocError) (said act : LinkAction) (x y : Core) → IfOk r (λ (e : Effect). e ≡ effect (said ∷ []) x) → said ≡ act → x ≡ y
-    → IfOk r (λ (e : Effect). Ends (effect (act ∷ []) y) ≡ Ends e)
-acted_so (Ok e) said act x y h is core = sym (ap (λ (d : Effect). Ends d) (h ∙ same_effect said act x y is core))
+    → IfOk r (λ (e : Effect). ended (effect (act ∷ []) y) ≡ ended e)
+acted_so (Ok e) said act x y h is core = sym (ap (λ (d : Effect). ended d) (h ∙ same_effect said act x y is core))
 acted_so (Err f) said act x y h is core = tt
 
 -- ---- an instance that goes over
@@ -42,5 +46,5 @@ gave (Ok e) core x context id at job uid said h says id_is x_is uid_is = λ agre
     let act : said ≡ write (store_pdus agreed context (id_after core.last) job) = says agreed some ∙ ap (λ (i : ℕ). write (store_pdus agreed context i job)) id_is in
     let after : x ≡ awaiting (pending (id_after core.last) job.uid) at.now core =
     x_is ∙ (ap (λ (i : ℕ). awaiting (pending i uid) at.now core) id_is ∙ ap (λ (u : Text). awaiting (pending (id_after core.last) u) at.now core) uid_is) in
-    sym (ap (λ (d : Effect). Ends d) (h ∙ same_effect said (write (store_pdus agreed context (id_after core.last) job)) x (awaiting (pending (id_after core.last) job.uid) at.now core) act after))
+    sym (ap (λ (d : Effect). ended d) (h ∙ same_effect said (write (store_pdus agreed context (id_after core.last) job)) x (awaiting (pending (id_after core.last) job.uid) at.now core) act after))
 gave (Err f) core x context id at job uid said h says id_is x_is uid_is = tt

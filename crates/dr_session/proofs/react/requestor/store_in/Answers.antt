@@ -1,4 +1,3 @@
-use Rattle.std.proofs.Common.{absurd}
 use Rattle.dr_session.proofs.Effects.{stored_by}
 use Rattle.dr_session.proofs.react.requestor.store_in.Goals as goal
 
