@@ -25,7 +25,7 @@ visited old new site cell place after =
     record {
       same_plan = after.1.plan;
       is_ready = after.0;
-      shown = λ missing shows. (shows.0 ∙ after.1.lines, λ real. missing_before old new after.1 (shows.1 real));
+      shown = λ missing s c shows. (shows.0 ∙ after.1.lines, λ real. missing_before old new after.1 (shows.1 real));
       kept = λ s c before. (let K : List Line → Type 0 = λ ls. IsMarked ls new.reached.items (entry_stop local s c) in subst K (sym after.1.lines) (marked_still old.lines.now old new (entry_stop local s c) after.1 before));
       wanted = λ s c this.
           (let P : Text → Type 0 = λ x. HasVisited new x c in

@@ -1,9 +1,12 @@
 -- The whole walk: from a walker's visits and steps to what it has found.
-use Rattle.std.proofs.Common.{◌≡◌, ℕ, ◌<◌, refl, sym, ◌∙◌, subst, List, length, Contains, Some, arith}
+use Rattle.std.proofs.Common.{◌≡◌, ℕ, ◌<◌, refl, sym, ◌∙◌, subst, List, [], length, Contains, Some, arith}
 use Rattle.std.specs.Prelude.{◌↔◌, IsTrue}
 use Rattle.std.proofs.lemmas.Bool.{false≢true}
 use Rattle.dr_base.specs.Texts.{Text}
+use Rattle.dr_base.specs.declared.syntax.Syntax.TheVariants.{Implicit}
 use Rattle.dr_route.specs.declared.cell.OwnedCell.{OwnedCell}
+use Rattle.dr_route.specs.declared.cell.OwnedField.TheVariants.{Rest}
+use Rattle.dr_route.specs.declared.cell.OwnedStation.TheVariants as station
 use Rattle.dr_network.specs.Networks.{Network}
 use Rattle.dr_network.specs.Plans.{IsWellFormed}
 use Rattle.dr_sound.specs.declared.certificate.Line.{Line}
@@ -25,8 +28,12 @@ use Rattle.dr_route.specs.Routes.{local}
 abbrev pub Visits : Walker → Walker → Type 0
 Visits start mid = GoesOn (λ (w : Walker). w.plan.now) IsWalking HasVisited Shows (IsEntryCell start.plan.now) start mid
 
+-- some cell, for what holds whatever the cell
+any : OwnedCell
+any = record { class = []; syntax = Implicit; modality = Rest; station = station.Rest }
+
 pub same_lines : (start mid : Walker) → Visits start mid → mid.lines.now ≡ start.lines.now
-same_lines start mid went = (went.shown (record { lines = mid.lines; count = 18446744073709551616 }) (refl, λ real. absurd (omega arith))).0
+same_lines start mid went = (went.shown (record { lines = mid.lines; count = 18446744073709551616 }) [] any (refl, λ real. absurd (omega arith))).0
 
 pub found : (start mid end : Walker) → Visits start mid → (survey : Survey) → AfterWalk mid end (Some survey) → (w : Walked) → w.survey ≡ survey →
     (IsTrue w.reached ↔ ((place : ℕ) → place < length end.lines.now → Contains end.reached.items place)) → AreWalked mid.plan.now mid.lines.now w

@@ -84,10 +84,10 @@ AfterWalk old new None = HasEachLine old.plan.now old.lines.now → ⊥
 abbrev pub HasVisited : Walker → Text → OwnedCell → Type 0
 HasVisited w site cell = IsMarked w.lines.now w.reached.items (record { caller = local; node = site; cell = cell })
 
--- The lines are the walker's, and some stop to which a walk comes has none of them. A count that no usize has stands for
+-- The lines are the walker's, and some stop to which a walk comes has none of them, whatever the entry. A count that no usize has stands for
 -- no finding: so the visits say by what they show that the lines stay the same.
-abbrev pub Shows : Walker → Missing → Type 0
-Shows w missing = (missing.lines.now ≡ w.lines.now) × (missing.count < 18446744073709551616 → HasEachLine w.plan.now w.lines.now → ⊥)
+abbrev pub Shows : Walker → Missing → Text → OwnedCell → Type 0
+Shows w missing site cell = (missing.lines.now ≡ w.lines.now) × (missing.count < 18446744073709551616 → HasEachLine w.plan.now w.lines.now → ⊥)
 
 -- so many of the places that were reached have been followed and surveyed
 pub record IsWalkedTo (old new : Walker) (survey : Survey) (count : ℕ) : Type 0 where

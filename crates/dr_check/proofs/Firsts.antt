@@ -1,5 +1,5 @@
 -- A search goes by byte order: no walk that comes before the one that it is on shows a fault.
-use Rattle.std.proofs.Common.{◌≡◌, ℕ, ◌<◌, ◌≤◌, ◌⊎◌, inl, inr, refl, sym, ◌∙◌, ap, subst, List, [], ◌∷◌, ◌++◌, length, Contains, get_or, arith}
+use Rattle.std.proofs.Common.{◌≡◌, ◌≢◌, ℕ, ◌<◌, ◌≤◌, ◌⊎◌, inl, inr, refl, sym, ◌∙◌, ap, subst, List, [], ◌∷◌, ◌++◌, length, Contains, get_or, arith}
 use Rattle.std.specs.declared.cmp.Ordering.{Ordering}
 use Rattle.std.specs.declared.cmp.Ordering.TheVariants.{Less, Equal, Greater}
 use Rattle.std.specs.Ordering.{ordering_reverse}
@@ -152,6 +152,23 @@ module _ (plan : Network) (cell : OwnedCell) (lines : List Line)
             absurd (omega (arith, less, low, again))
         | inr later ↦ no_return rest node next right.1.0 right.1.1 walk.1 later
       ]
+
+  -- no walk from such a stop shows a fault
+  pub harmless_from : (site : Text) (over : List Text) (r : ℕ) → HasRank local site r → IsWalk plan (key_of cell) local site over → IsHarmless plan (key_of cell) site over
+  harmless_from site over r has walk =
+      let ended = ends_lower over local site r has walk in
+      let last : Text × Text = last_place local site over in
+      record {
+        accepted = λ other. accepted_behind over walk other;
+        no_circle = λ back. no_return over local site r has walk (comes_back site over back);
+        goes_on = (ranked (record { caller = last.0; node = last.1; cell = cell }) ended.0 ended.1).goes_on;
+      }
+    where
+      accepted_behind : (ns : List Text) → IsWalk plan (key_of cell) local site ns → ns ≢ [] → Accepts plan (last_place local site ns).1 (last_place local site ns).0 cell.class cell.syntax
+      accepted_behind [] w other = absurd (other refl)
+      accepted_behind (next ∷ rest) w other =
+          let right = (ranked (record { caller = local; node = site; cell = cell }) r has).lower next w.0 in
+          ends_accepted rest site next right.1.0 right.1.1 w.1 right.0
 
   -- a walk that goes on over such a stop from one whose places have no lines shows no fault
   pub harmless_beyond : (site : Text) (over : List Text) (to : Text) (rest : List Text) (node : Text) (r : ℕ) → (last_place local site over).1 ≡ node →

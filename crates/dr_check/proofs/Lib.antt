@@ -1,3 +1,4 @@
+pub mod Entered
 pub mod Firsts
 pub mod Marking
 pub mod Named

@@ -148,7 +148,7 @@ first_behind plan cell f s node top below at = λ site over walked other walk be
     ]
 
 -- ---- the same for all keys of the cell
-harmless_alike : (plan : Network) → IsWellFormed plan → (cell : OwnedCell) → IsCellOf plan cell → (key : Key) → LiesIn plan cell key → (site : Text) (over : List Text) →
+pub harmless_alike : (plan : Network) → IsWellFormed plan → (cell : OwnedCell) → IsCellOf plan cell → (key : Key) → LiesIn plan cell key → (site : Text) (over : List Text) →
     IsHarmless plan (key_of cell) site over → IsHarmless plan key site over
 harmless_alike plan formed cell is key lies site over h =
     let back = cell_has_a_key plan formed cell is in

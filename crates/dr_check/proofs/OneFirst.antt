@@ -1,19 +1,26 @@
--- Of the faults that show themselves from one entry, one is named first.
+-- Of the faults of a plan one is named: of those of one entry the one of its first walk, and of the entries the first.
 use Rattle.std.proofs.Common.{◌≡◌, ◌⊎◌, inl, inr, refl, sym, ◌∙◌, ap, subst, List, [], ◌∷◌}
 use Rattle.std.proofs.Math.Logic.{⊎_elim}
-use Rattle.dr_base.specs.Texts.{Text}
+use Rattle.std.specs.declared.cmp.Ordering.{Ordering}
+use Rattle.std.specs.declared.cmp.Ordering.TheVariants.{Less, Equal, Greater}
+use Rattle.std.specs.Ordering.{ordering_reverse, ordering_then}
+use Rattle.std.proofs.lemmas.Cmp.{nat_list_cmp_total}
+use Rattle.dr_base.specs.Texts.{Text, text_cmp}
 use Rattle.dr_route.specs.Routes.{local}
 use Rattle.dr_route.specs.declared.key.Key.{Key}
 use Rattle.dr_route.specs.declared.cell.OwnedCell.{OwnedCell}
 use Rattle.dr_network.specs.Networks.{Network}
 use Rattle.dr_network.specs.Plans.{LiesIn}
+use Rattle.dr_sound.specs.HopPairs.{hop_cmp}
+use Rattle.dr_entry.specs.Visiting.{IsEntryCell}
+use Rattle.dr_entry.proofs.Orders.{one_is_before}
 use Rattle.dr_network.specs.Walks.{IsWalk}
 use Rattle.dr_check.specs.declared.fault.Fault.{Fault}
-use Rattle.dr_check.specs.declared.fault.Fault.TheVariants.{NoContext, Cycle, DeadEnd}
-use Rattle.dr_check.specs.Shown.{ShownBy, IsShown}
-use Rattle.dr_check.specs.Firsts.{IsBefore, IsHarmless, IsFirstWalk, IsNamedFirst}
-use Rattle.dr_check.specs.Laws.{OneIsNamedFirst}
-use Rattle.dr_check.proofs.Firsts.{text_cases}
+use Rattle.dr_check.specs.declared.fault.Fault.TheVariants.{NoContext, Cycle, DeadEnd, TooManyContexts}
+use Rattle.dr_check.specs.Shown.{ShownBy, IsShown, IsFirstOverfull}
+use Rattle.dr_check.specs.Firsts.{IsBefore, IsHarmless, IsFirstWalk, IsNamedFirst, IsOnWalk, IsHarmlessEntry, IsFirstEntry, IsOfFirstEntry, IsFirstOfPlan}
+use Rattle.dr_check.specs.Laws.{OneIsNamedAtAnEntry, OneIsNamedFirst}
+use Rattle.dr_check.proofs.Firsts.{not_below_itself, text_cases}
 
 abbrev first_of : Text → List Text → Text
 first_of d [] = d
@@ -150,8 +157,126 @@ module _ (plan : Network) (site : Text) (cell : OwnedCell) where
     ]
   ]
 
-pub one_is_named : OneIsNamedFirst
-one_is_named plan site cell f g on_f on_g shown_f first_f shown_g first_g =
+pub one_is_named_there : OneIsNamedAtAnEntry
+one_is_named_there plan site cell f g on_f on_g shown_f first_f shown_g first_g =
     let at_f = wrong_and_first plan site cell f on_f.0 on_f.1 shown_f first_f in
     let at_g = wrong_and_first plan site cell g on_g.0 on_g.1 shown_g first_g in
     same_kind plan site cell on_f.0 on_g.0 (same_walk plan site cell on_f.0 on_g.0 at_f.0 at_g.0 at_f.1 at_g.1) f g on_f.1 on_g.1 shown_f first_f shown_g first_g
+
+-- ---- the first entry
+-- the walk that is named begins at the entry: so that is the first one
+pub at_first_entry : (plan : Network) (site : Text) (cell : OwnedCell) (fault : Fault) → IsOnWalk site cell fault → IsFirstEntry plan site cell → IsFirstOfPlan plan fault
+at_first_entry plan site cell fault on first =
+    let P : Fault → Type 0 = λ f. IsFirstOfPlan plan f in
+    let begins : IsOfFirstEntry plan (site ∷ on.0) cell = λ s over walked. (let Q : Text → Type 0 = λ t. IsFirstEntry plan t cell in subst Q (ap (λ (ns : List Text). first_of site ns) walked) first) in
+    elim on.1 [
+      | inl e ↦ subst P (sym e) begins
+      | inr rest ↦ elim rest [ inl e ↦ subst P (sym e) begins | inr e ↦ subst P (sym e) begins ]
+    ]
+
+-- a fault on a walk of an entry of the plan, which is the first that shows one
+record IsFirstFault (plan : Network) (fault : Fault) : Type 0 where
+  site : Text
+  cell : OwnedCell
+  on : IsOnWalk site cell fault
+  entry : IsEntryCell plan site cell
+  wrong : IsWrong plan site cell on.0
+  first : IsFirstEntry plan site cell
+
+-- a hop with too many pairs, in a plan of which no entry shows a fault
+record IsOverfullHop (plan : Network) (fault : Fault) : Type 0 where
+  sender : Text
+  receiver : Text
+  is : fault ≡ TooManyContexts sender receiver
+  first : IsFirstOverfull plan sender receiver
+  harmless : (site : Text) (cell : OwnedCell) → IsEntryCell plan site cell → IsHarmlessEntry plan site cell
+
+first_fault : (plan : Network) (fault : Fault) → IsShown plan fault → IsFirstOfPlan plan fault → IsFirstFault plan fault ⊎ IsOverfullHop plan fault
+first_fault plan (NoContext walk cell) shown first =
+    let S : List Text → Type 0 = λ ns. IsShown plan (NoContext ns cell) in
+    inl (record {
+      site = shown.site;
+      cell = cell;
+      on = (shown.over, inl (ap (λ (ns : List Text). NoContext ns cell) shown.nodes));
+      entry = (shown.some.0, shown.some.1, (shown.each shown.some.0 shown.some.1).0);
+      wrong = no_context plan shown.site cell shown.over (subst S shown.nodes shown);
+      first = first shown.site shown.over shown.nodes;
+    })
+first_fault plan (Cycle walk cell) shown first =
+    let S : List Text → Type 0 = λ ns. IsShown plan (Cycle ns cell) in
+    inl (record {
+      site = shown.site;
+      cell = cell;
+      on = (shown.over, inr (inl (ap (λ (ns : List Text). Cycle ns cell) shown.nodes)));
+      entry = (shown.some.0, shown.some.1, (shown.each shown.some.0 shown.some.1).0);
+      wrong = cycle plan shown.site cell shown.over (subst S shown.nodes shown);
+      first = first shown.site shown.over shown.nodes;
+    })
+first_fault plan (DeadEnd walk cell) shown first =
+    let S : List Text → Type 0 = λ ns. IsShown plan (DeadEnd ns cell) in
+    inl (record {
+      site = shown.site;
+      cell = cell;
+      on = (shown.over, inr (inr (ap (λ (ns : List Text). DeadEnd ns cell) shown.nodes)));
+      entry = (shown.some.0, shown.some.1, (shown.each shown.some.0 shown.some.1).0);
+      wrong = dead_end plan shown.site cell shown.over (subst S shown.nodes shown);
+      first = first shown.site shown.over shown.nodes;
+    })
+first_fault plan (TooManyContexts sender receiver) shown first = inr (record { sender = sender; receiver = receiver; is = refl; first = shown; harmless = first })
+
+shows_one : (plan : Network) (fault : Fault) (a : IsFirstFault plan fault) → IsHarmlessEntry plan a.site a.cell → ⊥
+shows_one plan fault a harmless = a.wrong.wrong (harmless a.wrong.key a.wrong.lies a.on.0 a.wrong.walk)
+
+ties_itself : (text : Text) → text_cmp text text ≡ Equal
+ties_itself text = by_order (text_cmp text text) refl
+  where
+    by_order : (o : Ordering) → text_cmp text text ≡ o → text_cmp text text ≡ Equal
+    by_order Less e = absurd (not_below_itself text e)
+    by_order Equal e = e
+    by_order Greater e = absurd (not_below_itself text (nat_list_cmp_total.antisymm text text ∙ ap (λ (o : Ordering). ordering_reverse o) e))
+
+-- of two hops one comes before the other, or they are the same
+hop_cases : (a b c d : Text) → (hop_cmp (a, b) (c, d) ≡ Less) ⊎ (((a ≡ c) × (b ≡ d)) ⊎ (hop_cmp (c, d) (a, b) ≡ Less))
+hop_cases a b c d = elim (text_cases a c) [
+  | inl less ↦ inl (ap (λ (o : Ordering). ordering_then o (text_cmp b d)) less)
+  | inr rest ↦ elim rest [
+    | inl same ↦
+        let T : Text → Type 0 = λ t. text_cmp a t ≡ Equal in
+        let U : Text → Type 0 = λ t. text_cmp t a ≡ Equal in
+        elim (text_cases b d) [
+          | inl less ↦ inl (ap (λ (o : Ordering). ordering_then o (text_cmp b d)) (subst T same (ties_itself a)) ∙ less)
+          | inr other ↦ elim other [
+            | inl alike ↦ inr (inl (same, alike))
+            | inr more ↦ inr (inr (ap (λ (o : Ordering). ordering_then o (text_cmp d b)) (subst U same (ties_itself a)) ∙ more))
+          ]
+        ]
+    | inr more ↦ inr (inr (ap (λ (o : Ordering). ordering_then o (text_cmp d b)) more))
+  ]
+]
+
+same_hop : (plan : Network) (a b c d : Text) → IsFirstOverfull plan a b → IsFirstOverfull plan c d → (a ≡ c) × (b ≡ d)
+same_hop plan a b c d one other = elim (hop_cases a b c d) [
+  | inl less ↦ absurd (other.1 a b one.0 less)
+  | inr rest ↦ elim rest [ inl same ↦ same | inr more ↦ absurd (one.1 c d other.0 more) ]
+]
+
+pub one_is_named : OneIsNamedFirst
+one_is_named plan formed f g named_f named_g = by_kinds (first_fault plan f named_f.0 named_f.2) (first_fault plan g named_g.0 named_g.2)
+  where
+    by_kinds : IsFirstFault plan f ⊎ IsOverfullHop plan f → IsFirstFault plan g ⊎ IsOverfullHop plan g → f ≡ g
+    by_kinds (inl a) (inl b) = elim (one_is_before plan formed a.site b.site a.cell b.cell a.entry b.entry) [
+      | inl before ↦ absurd (shows_one plan f a (b.first a.site a.cell a.entry before))
+      | inr rest ↦ elim rest [
+        | inl same ↦
+            let P : Text → Type 0 = λ s. IsOnWalk s a.cell f in
+            let Q : OwnedCell → Type 0 = λ c. IsOnWalk b.site c f in
+            one_is_named_there plan b.site b.cell f g (subst Q same.1 (subst P same.0 a.on)) b.on named_f.0 named_f.1 named_g.0 named_g.1
+        | inr behind ↦ absurd (shows_one plan g b (a.first b.site b.cell b.entry behind))
+      ]
+    ]
+    by_kinds (inl a) (inr b) = absurd (shows_one plan f a (b.harmless a.site a.cell a.entry))
+    by_kinds (inr a) (inl b) = absurd (shows_one plan g b (a.harmless b.site b.cell b.entry))
+    by_kinds (inr a) (inr b) =
+        let same = same_hop plan a.sender a.receiver b.sender b.receiver a.first b.first in
+        let make : Text → Text → Fault = λ s r. TooManyContexts s r in
+        a.is ∙ (ap (λ (s : Text). make s a.receiver) same.0 ∙ (ap (λ (r : Text). make b.sender r) same.1 ∙ sym b.is))

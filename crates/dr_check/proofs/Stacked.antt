@@ -1,5 +1,6 @@
 -- The stack of a search, step by step.
-use Rattle.std.proofs.Common.{◌≡◌, ℕ, ◌+◌, ◌<◌, max, inl, inr, refl, sym, ◌∙◌, ap, subst, List, [], ◌∷◌, ◌++◌, length, Contains, Some, get_or, arith}
+use Rattle.std.proofs.Common.{◌≡◌, ℕ, ◌+◌, ◌<◌, max, inl, inr, refl, sym, ◌∙◌, ap, subst, List, [], ◌∷◌, ◌++◌, length, Contains, Some, get_or, reverse, arith}
+use Rattle.std.proofs.lemmas.List.{append_assoc}
 use Rattle.std.proofs.lemmas.List.Elements.{Contains-push_cases}
 use Rattle.dr_base.specs.Texts.{Text}
 use Rattle.dr_route.specs.Routes.{local}
@@ -12,9 +13,11 @@ use Rattle.dr_sound.specs.declared.certificate.Stop.{Stop}
 use Rattle.dr_sound.proofs.Hopping.{reached_not_local}
 use Rattle.dr_check.specs.declared.search.Search.{Search}
 use Rattle.dr_check.specs.declared.search.Frame.{Frame}
+use Rattle.dr_check.specs.declared.search.Found.{Found}
+use Rattle.dr_check.specs.declared.search.Found.TheVariants as found
 use Rattle.dr_check.specs.declared.search.Mark.TheVariants.{Open, Finished}
-use Rattle.dr_check.specs.Searching.{IsSearching, IsTrail, IsInside, IsDone, IsNew, IsRankedBy, IsTaken, IsFirstYet, EndsWell, IsAllOpen, mark_at, stop_at, pairs_from}
-use Rattle.dr_check.specs.Stacks.{IsTop, IsStack, IsSameFrame, Enters, Leaves, stop_of_frame}
+use Rattle.dr_check.specs.Searching.{IsSearching, IsTrail, IsInside, IsDone, IsNew, IsRankedBy, IsTaken, IsFirstYet, EndsWell, IsAllOpen, GoesOnFrom, AfterReach, mark_at, stop_at, pairs_from}
+use Rattle.dr_check.specs.Stacks.{IsTop, IsStack, IsSameFrame, Enters, Leaves, Steps, stop_of_frame}
 use Rattle.dr_check.proofs.Marking.{marking}
 use Rattle.dr_check.proofs.Named.{stop_ends_well}
 use Rattle.dr_check.proofs.Trails.{trail_pairs, trail_reaches}
@@ -142,3 +145,19 @@ pub same_stack : (plan : Network) (cell : OwnedCell) (start : Search) (caller no
     IsStack plan cell start caller node below f s → IsStack plan cell start caller node below g s
 same_stack plan cell start caller node [] f g s same stack = (same.caller ∙ stack.0, same.node ∙ stack.1, same_inside plan cell f g start s same stack.2)
 same_stack plan cell start caller node (h ∷ below) f g s same stack = (stack.0, same_inside plan cell f g stack.0 s same stack.1, stack.2, stack.3)
+
+-- ---- the walk begins where the search began
+pub begins_pushed : (start s : Search) (path : List Text) (node to : Text) → GoesOnFrom start node s → path ≡ s.path.items ++ to ∷ [] → (rest : List Text) × (path ≡ start.path.items ++ node ∷ rest)
+begins_pushed start s path node to begins pushed =
+    (begins.0 ++ to ∷ [], pushed ∙ (ap (λ (ns : List Text). ns ++ to ∷ []) begins.1 ∙ append_assoc start.path.items (node ∷ begins.0) (to ∷ [])))
+
+pub stack_begins : (plan : Network) (cell : OwnedCell) (start : Search) (caller node : Text) (below : List Frame) (f : Frame) (s : Search) → IsStack plan cell start caller node below f s → GoesOnFrom start node s
+stack_begins plan cell start caller node [] f s stack = ([], stack.2.path ∙ ap (λ (n : Text). start.path.items ++ n ∷ []) stack.1)
+stack_begins plan cell start caller node (g ∷ below) f s stack =
+    begins_pushed start stack.0 s.path.items node f.node (stack_begins plan cell start caller node below g stack.0 stack.3) stack.1.path
+
+-- what the last step of a search comes to, the whole search does
+pub after_steps : (plan : Network) (cell : OwnedCell) (old new start : Search) (f g : Frame) (below after : List Frame) (caller node : Text) (answer : Found) →
+    Steps plan cell old f below new g after (Some answer) → IsStack plan cell start caller node (reverse below) f old → AfterReach plan cell caller node start new answer
+after_steps plan cell old new start f g below after caller node (found.Rank r) steps stack = steps start caller node stack
+after_steps plan cell old new start f g below after caller node (found.End e) steps stack = (steps.0, steps.1 start caller node stack)

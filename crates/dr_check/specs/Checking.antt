@@ -8,7 +8,7 @@ use Rattle.dr_sound.specs.Ranked.{line_at}
 use Rattle.dr_check.specs.declared.checker.Checker.{Checker}
 use Rattle.dr_check.specs.declared.checker.Stopped.{Stopped}
 use Rattle.dr_check.specs.Searching.{IsSearching}
-use Rattle.dr_check.specs.Stopping.{IsStopped}
+use Rattle.dr_check.specs.Stopping.{IsStoppedAt}
 
 -- the checker stands on no walk, and can search any cell
 pub record IsReady (c : Checker) : Type 0 where
@@ -21,6 +21,6 @@ pub record IsReady (c : Checker) : Type 0 where
 abbrev pub HasVisited : Checker → Text → OwnedCell → Type 0
 HasVisited c site cell = (rank : ℕ) × Contains c.search.lines.items (line_at local site cell rank)
 
--- what stops the checker is true of its plan
-abbrev pub ShowsStopped : Checker → Stopped → Type 0
-ShowsStopped c stopped = IsStopped c.plan.now stopped
+-- what stops the checker is true of its plan, at the entry
+abbrev pub ShowsStopped : Checker → Stopped → Text → OwnedCell → Type 0
+ShowsStopped c stopped site cell = IsStoppedAt c.plan.now stopped site cell

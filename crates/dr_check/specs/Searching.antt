@@ -116,10 +116,14 @@ EndsWell plan cell walk = (site : Text) (over : List Text) → walk ≡ site ∷
 abbrev pub IsAllOpen : OwnedCell → Search → Type 0
 IsAllOpen cell s = (caller node : Text) → Contains (pairs_from local s.path.items) (caller, node) → mark_at s.marks (stop_at caller node cell) ≡ Some Open
 
--- what the whole search from a stop comes to: its rank, or an end that is right
+-- the walk that the search is on goes on from the one that it was on, over this node first
+abbrev pub GoesOnFrom : Search → Text → Search → Type 0
+GoesOnFrom old node new = (rest : List Text) × (new.path.items ≡ old.path.items ++ node ∷ rest)
+
+-- what the whole search from a stop comes to: its rank, or an end that is right, on a walk over that stop
 abbrev pub AfterReach : Network → OwnedCell → Text → Text → Search → Search → Found → Type 0
 AfterReach plan cell caller node old new (found.Rank r) = IsDone plan cell caller node r old new
-AfterReach plan cell caller node old new (found.End e) = IsFirstEnd plan cell new.path.items e
+AfterReach plan cell caller node old new (found.End e) = IsFirstEnd plan cell new.path.items e × GoesOnFrom old node new
 
 -- a stop that is seen for the first time: these are the nodes that it sends to, or it keeps
 pub record IsNew (plan : Network) (cell : OwnedCell) (caller node : Text) (stop : Stop) (targets : List Text) (s : Search) : Type 0 where

@@ -16,7 +16,7 @@ use Rattle.dr_check.specs.declared.search.Next.{Next}
 use Rattle.dr_check.specs.declared.search.Next.TheVariants as next
 use Rattle.dr_check.specs.declared.search.Found.{Found}
 use Rattle.dr_check.specs.declared.search.Found.TheVariants as found
-use Rattle.dr_check.specs.Searching.{IsSearching, IsTrail, IsInside, IsDone, IsNew, IsRankedBy, IsFirstEnd, IsFirstYet, EndsWell, IsAllOpen, IsTaken, mark_at, stop_at}
+use Rattle.dr_check.specs.Searching.{IsSearching, IsTrail, IsInside, IsDone, IsNew, IsRankedBy, IsFirstEnd, IsFirstYet, EndsWell, IsAllOpen, IsTaken, GoesOnFrom, mark_at, stop_at}
 
 -- the stop that the search stands on by this frame
 abbrev pub stop_of_frame : OwnedCell → Frame → Stop
@@ -82,4 +82,5 @@ Steps plan cell old f below new g after None =
     IsTop plan cell g new × IsStack plan cell start caller node (reverse after) g new)
 Steps plan cell old f below new g after (Some (found.Rank r)) =
     (start : Search) (caller node : Text) → IsStack plan cell start caller node (reverse below) f old → IsDone plan cell caller node r start new
-Steps plan cell old f below new g after (Some (found.End e)) = IsFirstEnd plan cell new.path.items e
+Steps plan cell old f below new g after (Some (found.End e)) =
+    IsFirstEnd plan cell new.path.items e × ((start : Search) (caller node : Text) → IsStack plan cell start caller node (reverse below) f old → GoesOnFrom start node new)

@@ -1,11 +1,13 @@
--- Why a checker stops, and what it has done before.
+-- Why a checker stops at an entry.
+use Rattle.dr_base.specs.Texts.{Text}
+use Rattle.dr_route.specs.declared.cell.OwnedCell.{OwnedCell}
 use Rattle.dr_network.specs.Networks.{Network}
 use Rattle.dr_check.specs.declared.checker.Stopped.{Stopped}
 use Rattle.dr_check.specs.declared.checker.Stopped.TheVariants.{Fault, TooLarge}
-use Rattle.dr_check.specs.Firsts.{IsNamedFirst}
+use Rattle.dr_check.specs.Firsts.{IsNamedFirst, IsOnWalk}
 use Rattle.dr_check.specs.Shown.{IsShown, IsTooLarge}
 
--- the fault shows itself, on the first walk from its entry that shows one, or the plan has too many lines
-abbrev pub IsStopped : Network → Stopped → Type 0
-IsStopped plan (Fault fault) = IsShown plan fault × IsNamedFirst plan fault
-IsStopped plan TooLarge = IsTooLarge plan
+-- the fault shows itself on a walk from the site for the keys of the cell, the first one that shows one; or the plan has too many lines
+abbrev pub IsStoppedAt : Network → Stopped → Text → OwnedCell → Type 0
+IsStoppedAt plan (Fault fault) site cell = IsShown plan fault × IsNamedFirst plan fault × IsOnWalk site cell fault
+IsStoppedAt plan TooLarge site cell = IsTooLarge plan

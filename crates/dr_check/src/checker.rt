@@ -1,11 +1,11 @@
 //! The checker at each entry of a plan: it searches all walks from there.
-ghost use Rattle.std.specs.Prelude.{◌≡◌, IfOk};
+ghost use Rattle.std.specs.Prelude.{◌≡◌, ◌∷◌, List, IfOk};
 ghost use Rattle.dr_base.specs.Texts.{Text as Words};
 ghost use Rattle.dr_route.specs.Routes.{local};
 ghost use Rattle.dr_network.specs.Networks.{Network};
 ghost use Rattle.dr_check.specs.Checking.{IsReady};
 ghost use Rattle.dr_check.specs.Searching.{IsFirstEnd};
-ghost use Rattle.dr_check.specs.Stopping.{IsStopped};
+ghost use Rattle.dr_check.specs.Stopping.{IsStoppedAt};
 
 use crate::fault::Fault;
 use crate::search::{End, Found, Search, reach};
@@ -75,7 +75,7 @@ fn copy_of(cell: &OwnedCell) -> Result<OwnedCell, AllocError>
 
 /// Why the checker stops where the search ended, at the end of this walk of the cell's keys.
 fn stopped_by(end: End, walk: Vec<Text>, cell: OwnedCell) -> Stopped
-    ensures { (plan : Network) → IsFirstEnd plan cell walk.items end → IsStopped plan result }
+    ensures { (plan : Network) (site : Words) (over : List Words) → walk.items ≡ site ∷ over → IsFirstEnd plan cell walk.items end → IsStoppedAt plan result site cell }
 {
     let walk = Seq::from_vec(walk);
     match end {

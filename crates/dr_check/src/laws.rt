@@ -1,5 +1,5 @@
 //! Laws of verdicts.
-ghost use Rattle.dr_check.specs.Laws.{OneIsNamedFirst, ShownFaultsAreUnsound, TooLargeHasManyLines};
+ghost use Rattle.dr_check.specs.Laws.{OneIsNamedAtAnEntry, OneIsNamedFirst, ShownFaultsAreUnsound, TooLargeHasManyLines};
 
 /// What a no shows, no sound plan has: so yes and no exclude each other.
 pub fn shown_faults_are_unsound()
@@ -12,6 +12,11 @@ pub fn too_large_has_many_lines()
 {}
 
 /// Which fault is named at an entry follows from the plan: of those that show themselves from there, just one is named first.
+pub fn one_is_named_at_an_entry()
+    ensures { OneIsNamedAtAnEntry }
+{}
+
+/// Which fault is named follows from the plan: of all that show themselves, just one is.
 pub fn one_is_named_first()
     ensures { OneIsNamedFirst }
 {}

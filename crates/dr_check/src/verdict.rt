@@ -1,8 +1,13 @@
 //! The check of a whole plan.
 ghost use Rattle.std.specs.Prelude.{◌≡◌, ◌≢◌, IfOk, AllPairs};
+ghost use Rattle.dr_base.specs.Texts.{Text as Words};
+ghost use Rattle.dr_route.specs.declared.cell.OwnedCell.{OwnedCell as CellValue};
+ghost use Rattle.dr_network.specs.Networks.{Network};
 ghost use Rattle.dr_network.specs.Plans.{IsWellFormed};
 ghost use Rattle.dr_sound.specs.Ranked.{AreRanked};
 ghost use Rattle.dr_check.specs.Answering.{Answers, Judges, AreFew};
+ghost use Rattle.dr_check.specs.Firsts.{IsFirstEntry};
+ghost use Rattle.dr_check.specs.Stopping.{IsStoppedAt};
 
 use crate::checker::{Checker, Stopped};
 use crate::fault::Fault;
@@ -63,15 +68,24 @@ fn judged(alloc: Global, plan: &Plan, lines: Vec<Line>) -> Result<Verdict, Alloc
     }
 }
 
+/// The answer where the checker stopped.
+fn answer_to(stopped: Stopped) -> Result<Verdict, CheckFault>
+    ensures { (plan : Network) (site : Words) (cell : CellValue) → IsStoppedAt plan stopped site cell → IsFirstEntry plan site cell → Answers plan result }
+{
+    match stopped {
+        Stopped::Fault(fault) => Ok(Verdict::No(fault)),
+        Stopped::TooLarge => Err(CheckFault::TooLarge),
+    }
+}
+
 /// Checks the plan: searches all walks from its entries, for all keys, cell by cell, and answers yes with the
-/// plan's certificate, or no with what is wrong.
+/// plan's certificate, or no with what is wrong: at the first entry from which a walk shows a fault, on the first such walk.
 pub fn check(alloc: Global, plan: &Plan) -> Result<Verdict, CheckFault>
     ensures { Answers plan.now result }
 {
     let mut checker = Checker::new(alloc, plan)?;
     match visit_entries(alloc, plan, &mut checker)? {
-        Some(Stopped::Fault(fault)) => Ok(Verdict::No(fault)),
-        Some(Stopped::TooLarge) => Err(CheckFault::TooLarge),
+        Some(stopped) => answer_to(stopped),
         None => Ok(judged(alloc, plan, checker.into_lines())?),
     }
 }

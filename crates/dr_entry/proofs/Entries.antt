@@ -27,8 +27,8 @@ use Rattle.dr_network.specs.Walks.{IsListed, IsStationListed, BeginsOne, Fits, I
 use Rattle.dr_network.specs.declared.literals.Attribute.TheVariants.{Modality, Station, StationPrefix}
 use Rattle.dr_network.specs.Laws.{IsCellOf}
 use Rattle.dr_network.specs.Naming.{listed, listed_stations, listed_prefixes}
-use Rattle.dr_network.specs.Plans.{LiesIn, literals_of, named_in}
-use Rattle.dr_network.proofs.WalksAlike.{flow_names}
+use Rattle.dr_network.specs.Plans.{IsWellFormed, LiesIn, literals_of, named_in}
+use Rattle.dr_network.proofs.WalksAlike.{flow_names, cell_has_a_key}
 use Rattle.dr_entry.specs.Entering.{Admits, AdmitsStation, AreStationParts, FitsAll, TakesIn, WantsAny, AreParts}
 use Rattle.dr_entry.specs.Visiting.{IsEntryCell}
 
@@ -80,9 +80,9 @@ enters plan site class syntax modality station cell k h same fit =
     )
 
 -- each transfer syntax is one of the two
-pub each_syntax : (syntax : Syntax) → Contains (Implicit ∷ Explicit ∷ []) syntax
-each_syntax Implicit = Contains-get_or (Implicit ∷ Explicit ∷ []) 0 Implicit (omega arith)
-each_syntax Explicit = Contains-get_or (Implicit ∷ Explicit ∷ []) 1 Explicit (omega arith)
+pub two_syntaxes : (syntax : Syntax) → (syntax ≡ Implicit) ⊎ (syntax ≡ Explicit)
+two_syntaxes Implicit = inl refl
+two_syntaxes Explicit = inr refl
 
 -- ---- the cells of entries are taken in by flows
 part_of_value : (values : FieldValues) (field : OwnedField) (value : Text) → InField values field value → IsPart values field
@@ -132,6 +132,30 @@ wanted_entry plan site cell entry =
     let key : Key = entry.0 in
     let flows = entry.2.1 in
     (cell_that_lies plan cell key entry.1, (flows.0, flows.1, flows.2, takes_in plan flows.0 cell key flows.1 entry.1 flows.4))
+
+-- where some flow takes the cell in, its keys enter
+pub entry_wanted : (plan : Network) → IsWellFormed plan → (site : Text) (cell : OwnedCell) → WantsAny plan site cell → IsEntryCell plan site cell
+entry_wanted plan formed site cell wanted =
+    let flow : Flow = wanted.1.0 in
+    let takes = wanted.1.3 in (
+      key_of cell,
+      cell_has_a_key plan formed cell wanted.0,
+      (
+        flow.to,
+        (
+          flow,
+          wanted.1.1,
+          wanted.1.2,
+          refl,
+          record {
+            class = takes.class;
+            syntax = takes.syntax;
+            modality = listed_value flow.modalities cell.modality takes.modality;
+            station = listed_station flow.stations cell.station takes.station;
+          },
+        ),
+      ),
+    )
 
 -- ---- values that name the same literals have the same parts
 pub parts_alike : (a b : FieldValues) (fields : List OwnedField) → ((t : Text) → Contains a.literals t ↔ Contains b.literals t) → AreParts a fields → AreParts b fields

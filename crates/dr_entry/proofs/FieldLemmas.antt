@@ -1,14 +1,21 @@
 -- The parts of a field, one literal after another.
-use Rattle.std.proofs.Common.{◌≡◌, ◌⊎◌, inl, inr, sym, ap, subst, List, [], ◌∷◌, ◌++◌, Contains}
+use Rattle.std.proofs.Common.{◌≡◌, ◌⊎◌, inl, inr, sym, ◌∙◌, ap, subst, List, [], ◌∷◌, ◌++◌, Contains, get_or, false, arith}
 use Rattle.std.specs.Prelude.{◌↔◌}
-use Rattle.std.proofs.lemmas.List.Elements.{Contains-push, Contains-push_cases, Contains-append_left, Contains-append_right, Contains-append_cases}
-use Rattle.dr_base.specs.Texts.{Text}
+use Rattle.std.specs.List.Sorted.{IsPermutation, IsSortedBy}
+use Rattle.std.specs.Ordering.{is_lt}
+use Rattle.std.specs.Cmp.Lexicographic.{nat_list_cmp_total}
+use Rattle.std.proofs.lemmas.Bool.{false≢true}
+use Rattle.std.proofs.lemmas.List.Elements.{Contains-push, Contains-push_cases, Contains-append_left}
+use Rattle.std.proofs.lemmas.List.Sorted.{IsPermutation-sym, Contains-permutation, sorted_far, ranks_by}
+use Rattle.dr_base.specs.Texts.{Text, text_cmp}
 use Rattle.dr_route.specs.declared.cell.OwnedField.{OwnedField}
 use Rattle.dr_route.specs.declared.cell.OwnedField.TheVariants.{Literal, Rest}
 use Rattle.dr_route.specs.declared.cell.FieldValues.{FieldValues}
 use Rattle.dr_route.specs.Laws.{IsPart}
 use Rattle.dr_network.proofs.Gathered.{nothing_in_nil}
+use Rattle.dr_sound.specs.Printed.{printed_field}
 use Rattle.dr_entry.specs.Entering.{IsLiteralOf, AreParts}
+use Rattle.dr_entry.specs.InOrder.{IsInPrintedOrder}
 
 pub no_literal : (field : OwnedField) → IsLiteralOf [] field → ⊥
 no_literal (Literal l) h = nothing_in_nil l h
@@ -43,41 +50,35 @@ literal_added first s n literals literal pushed so_far field = rw pushed (
   ],
 )
 
-both_from : (before after : List Text) (field : OwnedField) → IsLiteralOf (before ++ after) field → IsLiteralOf before field ⊎ IsLiteralOf after field
-both_from before after (Literal l) h = Contains-append_cases before after l h
-both_from before after Rest h = absurd h
-
--- all literals and the rest are just the parts
-pub all_parts : (values : FieldValues) (before after : List Text) → before ++ after ≡ values.literals → (none one two three : List OwnedField) → none ≡ [] →
-    ((field : OwnedField) → Contains one field ↔ (Contains none field ⊎ IsLiteralOf before field)) → two ≡ one ++ Rest ∷ [] →
-    ((field : OwnedField) → Contains three field ↔ (Contains two field ⊎ IsLiteralOf after field)) → AreParts values three
-all_parts values before after whole none one two three empty first rest last field = (forth field, back field)
+-- all literals and the rest are just the parts, in whatever order
+pub all_parts : (values : FieldValues) (none one two three : List OwnedField) → none ≡ [] →
+    ((field : OwnedField) → Contains one field ↔ (Contains none field ⊎ IsLiteralOf values.literals field)) → two ≡ one ++ Rest ∷ [] → IsPermutation two three → AreParts values three
+all_parts values none one two three empty literals rest moved field = (
+  λ h. forth field (Contains-permutation three two field (IsPermutation-sym two three moved) h),
+  λ h. Contains-permutation two three field moved (back field h),
+)
   where
-    two_from : (field : OwnedField) → Contains two field → IsLiteralOf before field ⊎ (Rest ≡ field)
+    two_from : (field : OwnedField) → Contains two field → IsLiteralOf values.literals field ⊎ (Rest ≡ field)
     two_from field h =
         let P : List OwnedField → Type 0 = λ fs. Contains fs field in
         elim (Contains-push_cases one Rest field (subst P rest h)) [
-          | inl x ↦ elim ((first field).0 x) [ inl y ↦ absurd (nothing_in_nil field (subst P empty y)) | inr y ↦ inl y ]
+          | inl x ↦ elim ((literals field).0 x) [ inl y ↦ absurd (nothing_in_nil field (subst P empty y)) | inr y ↦ inl y ]
           | inr same ↦ inr same
         ]
 
-    forth : (field : OwnedField) → Contains three field → IsPart values field
-    forth (Literal l) h =
-        let P : List Text → Type 0 = λ ls. Contains ls l in
-        elim ((last (Literal l)).0 h) [
-          | inl x ↦ elim (two_from (Literal l) x) [ inl y ↦ subst P whole (Contains-append_left before after l y) | inr y ↦ absurd (cc y) ]
-          | inr x ↦ subst P whole (Contains-append_right before after l x)
-        ]
+    forth : (field : OwnedField) → Contains two field → IsPart values field
+    forth (Literal l) h = elim (two_from (Literal l) h) [ inl y ↦ y | inr y ↦ absurd (cc y) ]
     forth Rest h = tt
 
-    back : (field : OwnedField) → IsPart values field → Contains three field
+    back : (field : OwnedField) → IsPart values field → Contains two field
     back (Literal l) h =
-        let P : List Text → Type 0 = λ ls. Contains ls l in
-        let Q : List OwnedField → Type 0 = λ fs. Contains fs (Literal l) in
-        elim (Contains-append_cases before after l (subst P (sym whole) h)) [
-          | inl x ↦ (last (Literal l)).1 (inl (subst Q (sym rest) (Contains-append_left one (Rest ∷ []) (Literal l) ((first (Literal l)).1 (inr x)))))
-          | inr x ↦ (last (Literal l)).1 (inr x)
-        ]
-    back Rest h =
-        let Q : List OwnedField → Type 0 = λ fs. Contains fs Rest in
-        (last Rest).1 (inl (subst Q (sym rest) (Contains-push one Rest)))
+        let P : List OwnedField → Type 0 = λ fs. Contains fs (Literal l) in
+        subst P (sym rest) (Contains-append_left one (Rest ∷ []) (Literal l) ((literals (Literal l)).1 (inr h)))
+    back Rest h = let P : List OwnedField → Type 0 = λ fs. Contains fs Rest in subst P (sym rest) (Contains-push one Rest)
+
+-- what was sorted by its text stands in the order in which it is printed
+pub sorted_fields : (fields : List OwnedField) → IsSortedBy (λ (a b : OwnedField). is_lt (text_cmp (printed_field a) (printed_field b))) fields → IsInPrintedOrder printed_field fields
+sorted_fields fields sorted = λ i j d lt long less.
+    let up : is_lt (text_cmp (printed_field (get_or fields j d)) (printed_field (get_or fields i d))) ≡ false =
+    sorted_far (λ (a b : OwnedField). is_lt (text_cmp (printed_field a) (printed_field b))) (ranks_by nat_list_cmp_total printed_field) fields sorted i j d (omega (arith, lt)) long in
+    false≢true (sym up ∙ ap is_lt less)

@@ -3,3 +3,5 @@ pub mod FieldLemmas
 pub mod StationLemmas
 pub mod Narrowing
 pub mod Visits
+pub mod Orders
+pub mod Wanted

@@ -4,6 +4,7 @@ use Rattle.std.specs.Prelude.{All, AllPairs}
 use Rattle.std.specs.List.Sorted.{IsPermutation, IsSortedBy}
 use Rattle.std.specs.Ordering.{is_lt}
 use Rattle.std.specs.Cmp.Lexicographic.{nat_list_cmp_total}
+use Rattle.std.proofs.lemmas.Bool.{false≢true}
 use Rattle.std.proofs.lemmas.List.{append_assoc}
 use Rattle.std.proofs.lemmas.List.Kept.{AllPairs-cons}
 use Rattle.std.proofs.lemmas.List.Elements.{Contains-push, Contains-push_cases, Contains-append_left, Contains-append_right, Contains-append_cases, All-map}
@@ -16,6 +17,7 @@ use Rattle.dr_network.proofs.Gathered.{nothing_in_nil, Contains-cons_cases, Cont
 use Rattle.dr_sound.specs.Printed.{printed_station}
 use Rattle.dr_entry.specs.declared.stations.Shown.{Shown}
 use Rattle.dr_entry.specs.Entering.{AreStationParts, HasItsText, part_of}
+use Rattle.dr_entry.specs.InOrder.{IsLess, IsInPrintedOrder}
 
 -- what one more of the texts makes
 pub made_more : {X : Type 0} (f : Text → X) (first now : List X) (texts : List Text) (text : Text) → now ≡ first ++ map f texts → now ++ f text ∷ [] ≡ first ++ map f (texts ++ text ∷ [])
@@ -138,11 +140,13 @@ AllPairs-map f R (x ∷ xs) h =
 
 -- what was sorted by texts that are its own stands in the order in which it is printed
 pub sorted_shown : (before after : List Shown) → All HasItsText before → IsPermutation before after → IsSortedBy (λ (a b : Shown). is_lt (text_cmp a.text b.text)) after →
-    AllPairs (λ a b. is_lt (text_cmp (printed_station b) (printed_station a)) ≡ false) (map part_of after)
+    IsInPrintedOrder printed_station (map part_of after)
 sorted_shown before after texts moved sorted =
     let known : All HasItsText after = All-permutation HasItsText before after moved texts in
-    AllPairs-map part_of (λ a b. is_lt (text_cmp (printed_station b) (printed_station a)) ≡ false) after
-    (λ i j d lt long.
+    AllPairs-map part_of (λ a b. IsLess (printed_station b) (printed_station a) → ⊥) after
+    (λ i j d lt long less.
     let up : is_lt (text_cmp (get_or after j d).text (get_or after i d).text) ≡ false =
     sorted_far (λ (a b : Shown). is_lt (text_cmp a.text b.text)) (ranks_by nat_list_cmp_total (λ (s : Shown). s.text)) after sorted i j d (omega (arith, lt)) long in
-    rw (← known i d (omega (arith, lt, long)), ← known j d long) up)
+    let none : is_lt (text_cmp (printed_station (get_or after j d).part) (printed_station (get_or after i d).part)) ≡ false =
+    rw (← known i d (omega (arith, lt, long)), ← known j d long) up in
+    false≢true (sym none ∙ ap is_lt less))

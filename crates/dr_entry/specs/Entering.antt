@@ -19,7 +19,8 @@ use Rattle.dr_network.specs.declared.plan.Stations.{Stations}
 use Rattle.dr_network.specs.declared.plan.Stations.TheVariants as stations
 use Rattle.dr_network.specs.declared.plan.Values.{Values}
 use Rattle.dr_network.specs.declared.plan.Values.TheVariants as values
-use Rattle.dr_sound.specs.Printed.{printed_station}
+use Rattle.dr_sound.specs.Printed.{printed_field, printed_station}
+use Rattle.dr_entry.specs.InOrder.{IsInPrintedOrder}
 use Rattle.dr_entry.specs.declared.stations.Shown.{Shown}
 use Rattle.dr_entry.specs.declared.narrow.Part.{Part}
 use Rattle.dr_entry.specs.declared.narrow.Part.TheVariants as part
@@ -122,9 +123,10 @@ part_of shown = shown.part
 abbrev pub HasItsText : Shown → Type 0
 HasItsText shown = shown.text ≡ printed_station shown.part
 
--- the two lists have just the parts of a plan's modality and of its station
+-- the two lists have just the parts of a plan's modality and of its station, in the order in which they are printed
 abbrev pub HasParts : Network → List OwnedField → List OwnedStation → Type 0
 HasParts plan modalities stations = AreParts (literals_of plan).modalities modalities × AreStationParts (literals_of plan).stations stations
+    × IsInPrintedOrder printed_field modalities × IsInPrintedOrder printed_station stations
 
 -- each class of a flow at one of the places is in the row
 abbrev pub HasClasses : List Flow → List ℕ → List Text → Type 0

@@ -1,2 +1,4 @@
 pub mod Entering
+pub mod InOrder
+pub mod Laws
 pub mod Visiting

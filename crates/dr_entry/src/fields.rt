@@ -2,15 +2,17 @@
 ghost use Rattle.std.specs.Prelude.{◌≡◌, ◌↔◌, ◌⊎◌, IfOk, OnOk, Contains};
 ghost use Rattle.dr_base.specs.Texts.{Text as Words};
 ghost use Rattle.dr_route.specs.declared.cell.OwnedField.{OwnedField as FieldValue};
+ghost use Rattle.dr_sound.specs.Printed.{printed_field};
 ghost use Rattle.dr_entry.specs.Entering.{AreParts, IsLiteralOf};
+ghost use Rattle.dr_entry.specs.InOrder.{IsInPrintedOrder};
 
 use dr_base::{Seq, Text};
 use dr_route::{FieldValues, OwnedField};
 use std::alloc::{AllocError, Global};
 
 /// Adds the parts of these literals.
-fn add_literals(fields: &mut Seq<OwnedField>, literals: &[Text]) -> Result<(), AllocError>
-    ensures { OnOk result ((field : FieldValue) → Contains fields.new field ↔ (Contains fields.old field ⊎ IsLiteralOf literals.now field)) }
+fn add_literals(fields: &mut Vec<OwnedField>, literals: &[Text]) -> Result<(), AllocError>
+    ensures { OnOk result ((field : FieldValue) → Contains fields.new.items field ↔ (Contains fields.old.items field ⊎ IsLiteralOf literals.now field)) }
 {
     for literal in literals {
         fields.push(OwnedField::Literal(literal.clone()?))?;
@@ -18,19 +20,24 @@ fn add_literals(fields: &mut Seq<OwnedField>, literals: &[Text]) -> Result<(), A
     Ok(())
 }
 
-/// The parts of the field: its literals, which are in byte order, and among them, where `*` stands in that
-/// order, the rest.
-pub fn parts_of(alloc: Global, values: &FieldValues) -> Result<Seq<OwnedField>, AllocError>
-    ensures { IfOk result (AreParts values.now) }
+/// The bytes by which the part is printed.
+fn shown(field: &OwnedField) -> &[u8]
+    ensures { result.now ≡ printed_field field.now }
 {
-    let literals = values.literals.as_slice();
-    let later = literals
-        .iter()
-        .position(|literal| literal.as_bytes() > b"*".as_slice());
-    let (before, after) = literals.split_at(later.unwrap_or(literals.len()));
-    let mut fields = Seq::new(alloc);
-    add_literals(&mut fields, before)?;
+    match field {
+        OwnedField::Literal(literal) => literal.as_bytes(),
+        OwnedField::Rest => b"*",
+    }
+}
+
+/// The parts of the field in the byte order in which they are printed: its literals, and the rest as `*`.
+pub fn parts_of(alloc: Global, values: &FieldValues) -> Result<Seq<OwnedField>, AllocError>
+    ensures same { IfOk result (AreParts values.now) }
+    ensures ordered { IfOk result (IsInPrintedOrder printed_field) }
+{
+    let mut fields = Vec::new(alloc);
+    add_literals(&mut fields, values.literals.as_slice())?;
     fields.push(OwnedField::Rest)?;
-    add_literals(&mut fields, after)?;
-    Ok(fields)
+    fields.sort_unstable_by(|a, b| shown(a).cmp(shown(b)));
+    Ok(Seq::from_vec(fields))
 }

@@ -3,6 +3,7 @@
 #![tactic(auto)]
 
 pub mod fields;
+pub mod laws;
 pub mod narrow;
 pub mod stations;
 pub mod sweep;

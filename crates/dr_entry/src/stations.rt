@@ -1,11 +1,11 @@
 //! The parts of a plan's stations, in the order in which they are printed.
-ghost use Rattle.std.specs.Prelude.{◌≡◌, ◌++◌, ◌∷◌, [], codes, List, IfOk, OnOk, All, AllPairs, map, false};
-ghost use Rattle.std.specs.Ordering.{is_lt};
-ghost use Rattle.dr_base.specs.Texts.{Text as Words, text_cmp};
+ghost use Rattle.std.specs.Prelude.{◌≡◌, ◌++◌, ◌∷◌, [], codes, List, IfOk, OnOk, All, map};
+ghost use Rattle.dr_base.specs.Texts.{Text as Words};
 ghost use Rattle.dr_route.specs.declared.cell.OwnedStation.{OwnedStation as StationValue};
 ghost use Rattle.dr_route.specs.declared.cell.OwnedStation.TheVariants as station;
 ghost use Rattle.dr_sound.specs.Printed.{printed_station};
 ghost use Rattle.dr_entry.specs.Entering.{AreStationParts, HasItsText, part_of};
+ghost use Rattle.dr_entry.specs.InOrder.{IsInPrintedOrder};
 
 use dr_base::{Seq, Text};
 use dr_route::{OwnedStation, StationValues};
@@ -80,7 +80,7 @@ fn shown_of(alloc: Global, values: &StationValues) -> Result<Vec<Shown>, AllocEr
 /// behind it, and the rest as `*`.
 pub fn stations_of(alloc: Global, values: &StationValues) -> Result<Seq<OwnedStation>, AllocError>
     ensures same { IfOk result (AreStationParts values.now) }
-    ensures ordered { IfOk result (AllPairs (λ a b. is_lt (text_cmp (printed_station b) (printed_station a)) ≡ false)) }
+    ensures ordered { IfOk result (IsInPrintedOrder printed_station) }
 {
     let mut shown = shown_of(alloc, values)?;
     shown.sort_unstable_by(|a, b| a.text.cmp(&b.text));

@@ -1,9 +1,9 @@
 //! The sweep over all entries of a plan: by site, class, transfer syntax, modality and station.
 ghost use Rattle.std.specs.Prelude.{◌≡◌, ◌↔◌, ◌<◌, IfOk, Contains, ℕ, Some, slice_get, length};
-ghost use Rattle.dr_base.specs.Texts.{Text as Words};
+ghost use Rattle.dr_base.specs.Texts.{Text as Words, IsInByteOrder};
 ghost use Rattle.dr_network.specs.Plans.{IsWellFormed, literals_of};
 ghost use Rattle.dr_network.specs.declared.plan.Flow.{Flow as FlowValue};
-ghost use Rattle.dr_entry.specs.Entering.{AllBelow, EachSpeaks, AreParts, HasParts, HasClasses, HasSites, FitsAll, FitsClass, FitsModality, FitsSyntax, WantsAny, WantsSite, WantsClass, WantsSyntax, WantsModality, WantsStation};
+ghost use Rattle.dr_entry.specs.Entering.{AllBelow, EachSpeaks, AreParts, HasParts, HasClasses, HasSites, FitsAll, FitsClass, FitsModality, FitsSyntax, WantsSite, WantsClass, WantsSyntax, WantsModality, WantsStation};
 ghost use Rattle.dr_entry.specs.Visiting.{AfterVisits, IsEntryCell};
 
 use crate::fields::parts_of;
@@ -31,7 +31,8 @@ struct Sweep<'a> {
 /// The classes of the flows at these places, in byte order.
 fn classes_of(alloc: Global, flows: &[Flow], among: &[usize]) -> Result<Seq<Text>, AllocError>
     requires { AllBelow among.now flows.now }
-    ensures { IfOk result (HasClasses flows.now among.now) }
+    ensures whole { IfOk result (HasClasses flows.now among.now) }
+    ensures ordered { IfOk result IsInByteOrder }
 {
     let mut names = BTreeSet::new(alloc);
     for place in among {
@@ -43,7 +44,8 @@ fn classes_of(alloc: Global, flows: &[Flow], among: &[usize]) -> Result<Seq<Text
 
 /// The sites of the flows, in byte order.
 fn sites_of(alloc: Global, flows: &[Flow]) -> Result<Seq<Text>, AllocError>
-    ensures { IfOk result (HasSites flows.now) }
+    ensures whole { IfOk result (HasSites flows.now) }
+    ensures ordered { IfOk result IsInByteOrder }
 {
     let mut names = BTreeSet::new(alloc);
     for flow in flows {
@@ -245,7 +247,7 @@ impl<'a> Sweep<'a> {
         requires plan { V.plan visitor.old ≡ self.now.plan.now }
         requires ready { V.is_ready visitor.old }
         requires parts { HasParts self.now.plan.now self.now.modalities self.now.stations }
-        ensures { IfOk result (AfterVisits V.plan V.is_ready V.has_visited V.shows (WantsAny self.now.plan.now) visitor.old visitor.new) }
+        ensures { IfOk result (AfterVisits V.plan V.is_ready V.has_visited V.shows (IsEntryCell self.now.plan.now) visitor.old visitor.new) }
     {
         let all = places_of(self.alloc, self.plan.flows())?;
         let sites = sites_of(self.alloc, self.plan.flows())?;
@@ -266,7 +268,7 @@ impl<'a> Sweep<'a> {
 }
 
 /// Visits all entries of the plan, in byte order of node, class, transfer syntax, modality and station as they
-/// are printed, until the visitor finds something.
+/// are printed, until the visitor finds something: at the first of them at which it does.
 pub fn visit_entries<V: EntryVisitor>(
     alloc: Global,
     plan: &Plan,

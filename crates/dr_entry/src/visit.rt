@@ -6,7 +6,7 @@ ghost use Rattle.dr_route.specs.declared.cell.OwnedCell.{OwnedCell as CellValue}
 ghost use Rattle.dr_network.specs.Networks.{Network};
 ghost use Rattle.dr_network.specs.Laws.{IsCellOf};
 ghost use Rattle.dr_network.specs.Walks.{IsEntry};
-ghost use Rattle.dr_entry.specs.Visiting.{AfterVisits, IsThis};
+ghost use Rattle.dr_entry.specs.Visiting.{AfterVisit};
 
 use dr_base::Text;
 use dr_route::OwnedCell;
@@ -26,13 +26,13 @@ pub trait EntryVisitor {
     /// It has done its work at the site, for the keys of the cell.
     ghost has_visited: { Self → Words → CellValue → Type 0 };
 
-    /// The finding is one of its plan.
-    ghost shows: { Self → Self.Finding → Type 0 };
+    /// What it finds is true of its plan, at the site and for the keys of the cell.
+    ghost shows: { Self → Self.Finding → Words → CellValue → Type 0 };
 
     /// Visits one entry, and goes on unless it finds something.
     fn visit(&mut self, site: &Text, cell: &OwnedCell) -> Result<Option<Self::Finding>, AllocError>
         requires ready { is_ready self.old }
         requires cell { IsCellOf (plan self.old) cell.now }
         requires entry { IsEntry (plan self.old) site.now (key_of cell.now) }
-        ensures { IfOk result (AfterVisits plan is_ready has_visited shows (IsThis site.now cell.now) self.old self.new) };
+        ensures { IfOk result (AfterVisit plan is_ready has_visited shows site.now cell.now self.old self.new) };
 }

@@ -1,6 +1,6 @@
 use Rattle.std.proofs.Common.{◌<◌, refl, sym, ◌∙◌, subst, rules}
 use Rattle.dr_network.specs.Networks.{Network}
-use Rattle.dr_entry.specs.Visiting.{GoesOn, IsEntryCell}
+use Rattle.dr_entry.specs.Visiting.{GoesOn, FindsAt, IsEntryCell}
 use Rattle.dr_cert.specs.Conditions.{HasEachLine}
 use Rattle.dr_cert.specs.Walking.{IsWalking, HasVisited, Shows}
 use Rattle.dr_cert.specs.declared.walker.Walker.{Walker}
@@ -9,8 +9,10 @@ use Rattle.dr_cert.proofs.walk.walk_lines.Goals as goal
 
 pub returns-in-Some : goal.returns-in-Some
 returns-in-Some c =
-    let shown : (c.in-Some.field-0.count < 18446744073709551616 → HasEachLine c.in_ok-walker.walker.plan.now c.in_ok-walker.walker.lines.now → ⊥) = (rw c.in-Some.is at c.in_ok-visit_entries.ensures).1 in
-    missing_at c.in_ok-walker.walker c.args.plan.now c.args.lines.now c.in_ok-walker.ensures.plan c.in_ok-walker.ensures.lines (shown (search rules))
+    let start : Walker = c.in_ok-walker.walker in
+    let at : FindsAt (λ (w : Walker). w.plan.now) IsWalking HasVisited Shows (IsEntryCell c.args.plan.now) start c.in-Some.field-0 = rw c.in-Some.is at c.in_ok-visit_entries.ensures in
+    let shown : (c.in-Some.field-0.count < 18446744073709551616 → HasEachLine start.plan.now start.lines.now → ⊥) = (at.earlier.shown c.in-Some.field-0 at.site at.cell at.shown).1 in
+    missing_at start c.args.plan.now c.args.lines.now c.in_ok-walker.ensures.plan c.in_ok-walker.ensures.lines (shown (search rules))
 
 pub returns-in_default : goal.returns-in_default
 returns-in_default c =

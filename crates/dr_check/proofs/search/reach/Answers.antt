@@ -10,7 +10,7 @@ use Rattle.dr_route.specs.declared.cell.OwnedCell.{OwnedCell}
 use Rattle.dr_check.specs.Searching.{IsTrail, IsNew, IsEnd, IsFirstEnd, IsFirstYet, IsAllOpen, WasTested, pairs_from}
 use Rattle.dr_check.specs.Stacks.{IsTop, IsStack, Enters}
 use Rattle.dr_check.proofs.Named.{first_alone, first_end}
-use Rattle.dr_check.proofs.Stacked.{new_top}
+use Rattle.dr_check.proofs.Stacked.{new_top, after_steps}
 use Rattle.dr_check.proofs.search.reach.Goals as goal
 
 -- a search that stands on no walk begins with the first one
@@ -30,9 +30,11 @@ returns-in-End c =
     rw c.in-End.is at c.in_ok-rank.ensures in
     let pushed : c.push.new.self.items ≡ s.path.items ++ node ∷ [] =
     c.in_ok-push-in-End.ensures.items ∙ ap (λ (n : Text). s.path.items ++ n ∷ []) c.in_ok-clone-in-End.ensures in
-    let N : List Text → Type 0 = λ ns. IsFirstEnd c.args.plan.now c.args.cell.now ns c.in-End.end in
-    subst N (sym pushed) (first_end c.args.plan.now c.requires.formed c.args.cell.now c.requires.cell s caller node (subst K c.requires.key c.requires.trail)
-    (all_open c.args.cell.now s c.requires.alone) (first_from c.args.plan.now c.args.cell.now s node c.requires.alone) c.in-End.end ended.0 ended.1)
+    let N : List Text → Type 0 = λ ns. IsFirstEnd c.args.plan.now c.args.cell.now ns c.in-End.end in (
+      subst N (sym pushed) (first_end c.args.plan.now c.requires.formed c.args.cell.now c.requires.cell s caller node (subst K c.requires.key c.requires.trail)
+          (all_open c.args.cell.now s c.requires.alone) (first_from c.args.plan.now c.args.cell.now s node c.requires.alone) c.in-End.end ended.0 ended.1),
+      ([], pushed),
+    )
 
 pub search-init : goal.search-init
 search-init c =
@@ -56,3 +58,8 @@ search-init c =
       top = subst P (sym is) both.1;
       stack = subst L (sym c.new-below.ensures.items) (subst Q (sym is) (refl, refl, both.0));
     }
+
+pub returns-in-Some : goal.returns-in-Some
+returns-in-Some c =
+    after_steps c.args.plan.now c.args.cell.now c.search.search c.step.new.search c.args.search.now c.search.top c.step.new.top c.search.below.items c.step.new.below.items
+    c.args.caller.now c.args.node.now c.in-Some.found (rw c.in-Some.is at c.in_ok-found.ensures) c.search.invariant.stack

@@ -10,7 +10,7 @@ use Rattle.dr_check.specs.declared.search.Frame.{Frame}
 use Rattle.dr_check.specs.Searching.{IsNew, IsDone, IsFirstEnd, IsFirstYet}
 use Rattle.dr_check.specs.Stacks.{IsTop, IsStack, IsSameFrame, Enters, stop_of_frame}
 use Rattle.dr_check.proofs.Trails.{trail_goes_on}
-use Rattle.dr_check.proofs.Stacked.{new_top, top_finished, top_resumed, stack_resumed, same_stack}
+use Rattle.dr_check.proofs.Stacked.{new_top, top_finished, top_resumed, stack_resumed, same_stack, begins_pushed, stack_begins}
 use Rattle.dr_check.proofs.search.step.Goals as goal
 
 nothing_there : {X : Type 0} (xs : List X) → length xs ≡ 0 → xs ≡ []
@@ -99,5 +99,8 @@ returns-in-None c = λ start caller from stack.
 pub returns-in_ok-push-in-End : goal.returns-in_ok-push-in-End
 returns-in_ok-push-in-End c =
     let ended : IsFirstEnd c.args.plan.now c.args.cell.now (c.args.search.now.path.items ++ c.in-End.node ∷ []) c.in-End.end = rw c.in-End.is at c.in_ok-node.ensures in
-    let P : List Text → Type 0 = λ ns. IsFirstEnd c.args.plan.now c.args.cell.now ns c.in-End.end in
-    subst P (sym c.in_ok-push-in-End.ensures.items) ended
+    let P : List Text → Type 0 = λ ns. IsFirstEnd c.args.plan.now c.args.cell.now ns c.in-End.end in (
+      subst P (sym c.in_ok-push-in-End.ensures.items) ended,
+      λ start caller from stack. begins_pushed start c.args.search.now _ from c.in-End.node
+          (stack_begins c.args.plan.now c.args.cell.now start caller from (reverse c.args.below.now.items) c.args.top.now c.args.search.now stack) c.in_ok-push-in-End.ensures.items,
+    )

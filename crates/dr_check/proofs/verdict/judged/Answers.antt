@@ -5,6 +5,7 @@ use Rattle.dr_sound.specs.HopPairs.{AreNumbered, IsFirstTooMany}
 use Rattle.dr_sound.proofs.RankedLines.{lines_are_the_lines}
 use Rattle.dr_sound.proofs.Hopping.{sound_by_lines}
 use Rattle.dr_cert_text.specs.Printable.{IsPrintableLine, IsPrintableHop, IsDigest}
+use Rattle.dr_check.proofs.Entered.{no_entry_shows}
 use Rattle.dr_check.proofs.Overfull.{first_overfull}
 use Rattle.dr_check.proofs.Ready.{line_is_printable, hop_is_printable, hops_are_the_hops}
 use Rattle.dr_check.proofs.verdict.judged.Goals as goal
@@ -22,8 +23,11 @@ order_lines-requires-clause-printable c =
 pub returns-in-TooMany : goal.returns-in-TooMany
 returns-in-TooMany c =
     let P : List Line → Type 0 = λ ls. IsFirstTooMany ls c.in-TooMany.from c.in-TooMany.to in
-    let many : IsFirstTooMany c.args.lines.items c.in-TooMany.from c.in-TooMany.to = subst P c.as_slice.ensures.value (rw c.in-TooMany.is at c.in_ok-from.ensures) in
-    (first_overfull c.args.plan.now c.requires.formed c.args.lines.items c.requires.ranked c.in-TooMany.from c.in-TooMany.to many, tt)
+    let many : IsFirstTooMany c.args.lines.items c.in-TooMany.from c.in-TooMany.to = subst P c.as_slice.ensures.value (rw c.in-TooMany.is at c.in_ok-from.ensures) in (
+      first_overfull c.args.plan.now c.requires.formed c.args.lines.items c.requires.ranked c.in-TooMany.from c.in-TooMany.to many,
+      tt,
+      no_entry_shows c.args.plan.now c.requires.formed c.args.lines.items c.requires.ranked,
+    )
 
 pub returns-in_ok-order_lines-in-Hops : goal.returns-in_ok-order_lines-in-Hops
 returns-in_ok-order_lines-in-Hops c =

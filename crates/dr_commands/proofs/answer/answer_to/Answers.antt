@@ -5,7 +5,7 @@ use Rattle.dr_cert_text.specs.Printable.{IsPrintable, IsDigest}
 use Rattle.dr_commands.proofs.Digests.{is_digest}
 use Rattle.dr_commands.proofs.Refuted.{refuted}
 use Rattle.dr_check.specs.Shown.{IsShown}
-use Rattle.dr_check.specs.Firsts.{IsNamedFirst}
+use Rattle.dr_check.specs.Firsts.{IsNamedFirst, IsFirstOfPlan}
 use Rattle.dr_commands.proofs.answer.answer_to.Goals as goal
 
 pub returns-in-Ok-write_certificate : goal.returns-in-Ok-write_certificate
@@ -25,5 +25,6 @@ returns-in-Ok-write_certificate c =
 
 pub returns-in-Ok-No : goal.returns-in-Ok-No
 returns-in-Ok-No c =
-    let shown : IsShown c.in-Ok.plan c.in-Ok-No.fault × IsNamedFirst c.in-Ok.plan c.in-Ok-No.fault = rw c.in-Ok-No.field-0-is at c.in-Ok-No.ensures in
+    let shown : IsShown c.in-Ok.plan c.in-Ok-No.fault × IsNamedFirst c.in-Ok.plan c.in-Ok-No.fault × IsFirstOfPlan c.in-Ok.plan c.in-Ok-No.fault =
+    rw c.in-Ok-No.field-0-is at c.in-Ok-No.ensures in
     refuted c.args.text.now c.in-Ok.plan c.in-Ok-No.fault c.answer_to_unsound.result c.in-Ok.ensures shown.0 c.answer_to_unsound.ensures

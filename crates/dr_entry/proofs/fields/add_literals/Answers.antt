@@ -13,10 +13,10 @@ loop-literal-preserved c =
     let e = take_more c.args.literals.now c.loop-literal.literal-index c.literal-item.result c.loop-literal-test.true in
     let more : take (c.loop-literal.literal-index + 1) c.args.literals.now ≡ take c.loop-literal.literal-index c.args.literals.now ++ c.literal-item.result ∷ [] =
     rw (← c.literal-item.is) at e in
-    let P : Text → Type 0 = λ t. c.push.new.self ≡ c.loop-literal.fields ++ Literal t ∷ [] in
+    let P : Text → Type 0 = λ t. c.push.new.self.items ≡ c.loop-literal.fields.items ++ Literal t ∷ [] in
     λ field. rw more
-    (literal_added c.args.fields.now c.loop-literal.fields c.push.new.self (take c.loop-literal.literal-index c.args.literals.now) c.literal-item.result
-    (subst P c.in_ok-clone.ensures c.in_ok-push.ensures.ok) c.loop-literal.invariant field)
+    (literal_added c.args.fields.now.items c.loop-literal.fields.items c.push.new.self.items (take c.loop-literal.literal-index c.args.literals.now) c.literal-item.result
+    (subst P c.in_ok-clone.ensures c.in_ok-push.ensures.items) c.loop-literal.invariant field)
 
 pub returns : goal.returns
 returns c =

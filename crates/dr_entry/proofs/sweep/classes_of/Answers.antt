@@ -26,8 +26,8 @@ loop-place-preserved c = λ k flow class among at has.
           added.1 (inr (subst R (sym c.as_slice.ensures) (subst R (ap (λ (f : Flow). f.classes) c.index-flows-place.is) (subst Q e has))))
     ]
 
-pub returns : goal.returns
-returns c = λ k flow class among at has.
+pub returns-clause-whole : goal.returns-clause-whole
+returns-clause-whole c = λ k flow class among at has.
     let all : take c.loop-place.place-index c.args.among.now ≡ c.args.among.now = take_all c.loop-place.place-index c.args.among.now (omega arith) in
     let A : List ℕ → Type 0 = λ ks. Contains ks k in
     (c.in_ok-classes.ensures.same class).1 (c.loop-place.invariant k flow class (subst A (sym all) among) at has)

@@ -19,8 +19,8 @@ loop-flow-preserved c = λ flow among.
           (c.in_ok-add_names.ensures flow.at).1 (inr (subst R (sym c.from_ref.ensures.value) (subst Q same (Contains-here c.flow-item.result.at []))))
     ]
 
-pub returns : goal.returns
-returns c = λ flow among.
+pub returns-clause-whole : goal.returns-clause-whole
+returns-clause-whole c = λ flow among.
     let all : take c.loop-flow.flow-index c.args.flows.now ≡ c.args.flows.now = take_all c.loop-flow.flow-index c.args.flows.now (omega arith) in
     let A : List Flow → Type 0 = λ fs. Contains fs flow in
     (c.in_ok-sites.ensures.same flow.at).1 (c.loop-flow.invariant flow (subst A (sym all) among))

@@ -5,7 +5,9 @@ use Rattle.dr_route.specs.Laws.{key_of}
 use Rattle.dr_route.specs.declared.key.Key.{Key}
 use Rattle.dr_route.specs.declared.cell.OwnedCell.{OwnedCell}
 use Rattle.dr_sound.specs.Ranked.{line_at}
-use Rattle.dr_check.specs.Searching.{IsDone, IsTrail, IsFirstEnd}
+use Rattle.dr_network.specs.Networks.{Network}
+use Rattle.dr_check.specs.Searching.{IsDone, IsTrail, IsFirstEnd, GoesOnFrom}
+use Rattle.dr_check.specs.Stopping.{IsStoppedAt}
 use Rattle.dr_check.proofs.Trails.{trail_begins}
 use Rattle.dr_check.proofs.Steps.{any_cell}
 use Rattle.dr_check.proofs.checker.CheckerEntryVisitor.visit.Goals as goal
@@ -37,7 +39,7 @@ returns-in-Rank c =
         no_walk = no_walk;
         searching = λ cell. any_cell c.args.self.now.plan.now c.args.cell.now cell c.reach.new.search no_walk done.searching;
       };
-      shown = λ finding h. h;
+      shown = λ finding s c h. h;
       kept = λ site cell before. (before.0, done.later.lines _ before.1);
       wanted = λ site cell this.
           let P : Text → Type 0 = λ caller. Contains c.reach.new.search.lines.items (line_at caller c.args.site.now c.args.cell.now c.in-Rank.field-0) in
@@ -48,8 +50,13 @@ returns-in-Rank c =
 
 pub returns : goal.returns
 returns c =
-    let T : List Text → Type 0 = λ walk. IsFirstEnd c.args.self.now.plan.now c.args.cell.now walk c.in-End.end in
-    let troubled : T c.reach.new.search.path.items = rw c.in-End.is at c.in_ok-reach.ensures in
-    let P : OwnedCell → Type 0 = λ x. IsFirstEnd c.args.self.now.plan.now x c.replace-walk.result.items c.in-End.end in
-    c.stopped_by.ensures c.args.self.now.plan.now
-    (subst P (sym c.in_ok-copy_of-in-End.ensures) (subst T (sym (ap (λ v. v.items) c.replace-walk.ensures.value)) troubled))
+    let plan : Network = c.args.self.now.plan.now in
+    let site : Text = c.args.site.now in
+    let T : List Text → Type 0 = λ walk. IsFirstEnd plan c.args.cell.now walk c.in-End.end in
+    let ended : T c.reach.new.search.path.items × GoesOnFrom c.args.self.now.search site c.reach.new.search = rw c.in-End.is at c.in_ok-reach.ensures in
+    let same : c.replace-walk.result.items ≡ c.reach.new.search.path.items = ap (λ v. v.items) c.replace-walk.ensures.value in
+    let begins : c.replace-walk.result.items ≡ site ∷ ended.1.0 = same ∙ (ended.1.1 ∙ ap (λ (ns : List Text). ns ++ site ∷ ended.1.0) c.requires.ready.no_walk) in
+    let P : OwnedCell → Type 0 = λ x. IsFirstEnd plan x c.replace-walk.result.items c.in-End.end in
+    let Q : OwnedCell → Type 0 = λ x. IsStoppedAt plan c.stopped_by.result site x in
+    subst Q c.in_ok-copy_of-in-End.ensures (c.stopped_by.ensures plan site ended.1.0 begins
+    (subst P (sym c.in_ok-copy_of-in-End.ensures) (subst T (sym same) ended.0)))

@@ -1,8 +1,9 @@
 use Rattle.std.proofs.Common.{ℕ, sym, subst, List, Contains}
-use Rattle.dr_base.specs.declared.syntax.Syntax.{Syntax}
+use Rattle.dr_network.specs.Networks.{Network}
 use Rattle.dr_network.specs.declared.plan.Flow.{Flow}
-use Rattle.dr_entry.specs.Entering.{AllBelow, SomeTakes, WantsSyntax}
-use Rattle.dr_entry.proofs.Visits.{Picks, picked_takes, picked_is, picked_below, wants_less}
+use Rattle.dr_entry.specs.Entering.{AllBelow, WantsSyntax}
+use Rattle.dr_entry.proofs.Visits.{Picks, picked_is, picked_below, wants_alike}
+use Rattle.dr_entry.proofs.Wanted.{syntax_alike}
 use Rattle.dr_entry.proofs.sweep.Sweep.visit_class_in.Goals as goal
 
 pub visit_syntax-requires-clause-fit : goal.visit_syntax-requires-clause-fit
@@ -24,17 +25,13 @@ visit_syntax-requires-clause-below g c =
 
 pub returns : goal.returns
 returns g c =
+    let plan : Network = c.args.self.now.plan.now in
     let S : Flow → Type 0 = λ f. Contains f.syntaxes c.args.syntax in
     let Q : List Flow → Type 0 = λ fs. Picks fs c.args.among.now S c.in_ok-here.here.items in
-    let picks = subst Q c.flows.ensures.same c.in_ok-here.ensures in
-    wants_less g.V.EntryVisitor.plan g.V.EntryVisitor.is_ready g.V.EntryVisitor.has_visited g.V.EntryVisitor.shows
-    (WantsSyntax c.args.self.now.plan.now c.args.site.now c.args.class.now c.args.syntax c.args.among.now)
-    (WantsSyntax c.args.self.now.plan.now c.args.site.now c.args.class.now c.args.syntax c.as_slice.result.now)
+    let H : List ℕ → Type 0 = λ ks. Picks plan.flows c.args.among.now S ks in
+    let picks : H c.as_slice.result.now = subst H (sym c.as_slice.ensures.value) (subst Q c.flows.ensures.same c.in_ok-here.ensures) in
+    wants_alike g.V.EntryVisitor.plan g.V.EntryVisitor.is_ready g.V.EntryVisitor.has_visited g.V.EntryVisitor.shows
+    (WantsSyntax plan c.args.site.now c.args.class.now c.args.syntax c.as_slice.result.now)
+    (WantsSyntax plan c.args.site.now c.args.class.now c.args.syntax c.args.among.now)
     c.args.visitor.now c.visit_syntax.new.visitor c.in_ok-found.found
-    (λ s x w.
-    let R : List ℕ → Type 0 = λ ks. SomeTakes c.args.self.now.plan.now.flows ks x in
-    let takes = subst R (sym c.as_slice.ensures.value)
-    (picked_takes c.args.self.now.plan.now.flows c.args.among.now c.in_ok-here.here.items S x picks
-    (λ flow t. let F : Syntax → Type 0 = λ y. Contains flow.syntaxes y in subst F w.0 t.syntax) w.1.1.2) in
-    (w.0, (w.1.0, (w.1.1.0, w.1.1.1, takes))))
-    c.in_ok-found.ensures
+    (syntax_alike plan c.args.site.now c.args.class.now c.args.syntax c.args.among.now c.as_slice.result.now picks) c.in_ok-found.ensures

@@ -1,12 +1,13 @@
-use Rattle.std.proofs.Common.{◌≡◌, ℕ, ◌+◌, sym, subst, List, [], ◌∷◌, ◌++◌, take, Contains, arith}
+use Rattle.std.proofs.Common.{◌≡◌, ℕ, ◌+◌, ◌∙◌, sym, subst, List, [], ◌∷◌, ◌++◌, take, Contains, arith}
 use Rattle.std.proofs.lemmas.List.{take_more, take_all}
-use Rattle.dr_base.specs.Texts.{Text}
-use Rattle.dr_entry.specs.Entering.{HasClasses}
-use Rattle.dr_route.specs.declared.cell.OwnedCell.{OwnedCell}
+use Rattle.dr_base.specs.Texts.{Text, IsInByteOrder}
+use Rattle.dr_network.specs.Networks.{Network}
 use Rattle.dr_network.specs.declared.plan.Flow.{Flow}
-use Rattle.dr_entry.specs.Entering.{AllBelow, SomeTakes, WantsSite, WantsClass}
+use Rattle.dr_entry.specs.Entering.{AllBelow, HasClasses, WantsSite, WantsClass}
 use Rattle.dr_entry.specs.Visiting.{GoesOn}
-use Rattle.dr_entry.proofs.Visits.{Picks, picked_takes, picked_is, picked_below, one_more, all_of_them, went_on}
+use Rattle.dr_entry.proofs.Orders.{by_class, byte_order_is_printed}
+use Rattle.dr_entry.proofs.Visits.{Picks, picked_is, picked_below, one_more, all_of_them, went_on, found_in_row}
+use Rattle.dr_entry.proofs.Wanted.{class_in, class_out}
 use Rattle.dr_entry.proofs.sweep.Sweep.visit_site.Goals as goal
 
 pub visit_class-requires-clause-fit : goal.visit_class-requires-clause-fit
@@ -28,24 +29,41 @@ visit_class-requires-clause-below g c =
 
 pub loop-class-preserved : goal.loop-class-preserved
 loop-class-preserved g c =
-    let S : Flow → Type 0 = λ f. Contains f.classes c.class-item.result in
-    let Q : List Flow → Type 0 = λ fs. Picks fs c.args.among.now S c.in_ok-here.here.items in
-    let picks = subst Q c.flows-in-loop-class.ensures.same c.in_ok-here.ensures in
+    let plan : Network = c.args.self.now.plan.now in
     let items : List Text = c.as_slice-class-items.result.now in
     let e = take_more items c.loop-class.class-index c.class-item.result c.loop-class-test.true in
     let more : take (c.loop-class.class-index + 1) items ≡ take c.loop-class.class-index items ++ c.class-item.result ∷ [] = rw (← c.class-item.is) at e in
     let went = went_on g.V.EntryVisitor.plan g.V.EntryVisitor.is_ready g.V.EntryVisitor.has_visited g.V.EntryVisitor.shows _ c.loop-class.visitor c.visit_class.new.visitor c.in_ok-found.found
     (sym c.if-is_some.ensures) c.in_ok-found.ensures in
-    let P : List ℕ → OwnedCell → Type 0 = λ ks x. SomeTakes c.args.self.now.plan.now.flows ks x in
+    let S : Flow → Type 0 = λ f. Contains f.classes c.class-item.result in
+    let Q : List Flow → Type 0 = λ fs. Picks fs c.args.among.now S c.in_ok-here.here.items in
+    let H : List ℕ → Type 0 = λ ks. Picks plan.flows c.args.among.now S ks in
+    let picks : H c.as_slice.result.now = subst H (sym c.as_slice.ensures.value) (subst Q c.flows-in-loop-class.ensures.same c.in_ok-here.ensures) in
     one_more g.V.EntryVisitor.plan g.V.EntryVisitor.is_ready g.V.EntryVisitor.has_visited g.V.EntryVisitor.shows
-    (λ s x. x.class) (WantsSite c.args.self.now.plan.now c.args.site.now c.args.among.now) (WantsClass c.args.self.now.plan.now c.args.site.now c.class-item.result c.as_slice.result.now)
+    (λ s x. x.class) (WantsSite plan c.args.site.now c.args.among.now) (WantsClass plan c.args.site.now c.class-item.result c.as_slice.result.now)
     (take c.loop-class.class-index items) (take (c.loop-class.class-index + 1) items) c.class-item.result c.args.visitor.now c.loop-class.visitor c.visit_class.new.visitor more
-    c.loop-class.invariant went
-    (λ s x w same.
-    let R : List ℕ → Type 0 = λ ks. P ks x in
-    let takes : P c.as_slice.result.now x = subst R (sym c.as_slice.ensures.value)
-    (picked_takes c.args.self.now.plan.now.flows c.args.among.now c.in_ok-here.here.items S x picks (λ flow t. let F : Text → Type 0 = λ y. Contains flow.classes y in subst F (sym same) t.class) w.2) in
-    (sym same, (w.0, w.1, takes)))
+    c.loop-class.invariant went (class_in plan c.args.site.now c.class-item.result c.args.among.now c.as_slice.result.now picks)
+
+pub returns-then-is_some : goal.returns-then-is_some
+returns-then-is_some g c =
+    let plan : Network = c.args.self.now.plan.now in
+    let items : List Text = c.as_slice-class-items.result.now in
+    let S : Flow → Type 0 = λ f. Contains f.classes c.class-item.result in
+    let Q : List Flow → Type 0 = λ fs. Picks fs c.args.among.now S c.in_ok-here.here.items in
+    let H : List ℕ → Type 0 = λ ks. Picks plan.flows c.args.among.now S ks in
+    let picks : H c.as_slice.result.now = subst H (sym c.as_slice.ensures.value) (subst Q c.flows-in-loop-class.ensures.same c.in_ok-here.ensures) in
+    let B : List Text → Type 0 = λ ts. IsInByteOrder ts in
+    let R : List Flow → Type 0 = λ fs. HasClasses fs c.args.among.now c.in_ok-classes.classes in
+    let row : HasClasses plan.flows c.args.among.now c.in_ok-classes.classes = subst R c.flows.ensures.same c.in_ok-classes.ensures.whole in
+    found_in_row g.V.EntryVisitor.plan g.V.EntryVisitor.is_ready g.V.EntryVisitor.has_visited g.V.EntryVisitor.shows
+    (λ t. t) (λ s x. x.class) (WantsSite plan c.args.site.now c.args.among.now) (WantsClass plan c.args.site.now c.class-item.result c.as_slice.result.now)
+    items c.loop-class.class-index c.class-item.result c.args.visitor.now c.loop-class.visitor c.visit_class.new.visitor c.in_ok-found.found (sym c.if-is_some.ensures)
+    (byte_order_is_printed items (subst B (sym c.as_slice-class-items.ensures) c.in_ok-classes.ensures.ordered)) c.loop-class-test.true (sym c.class-item.is)
+    c.loop-class.invariant c.in_ok-found.ensures
+    (λ s x w. let F : List Text → Type 0 = λ xs. Contains xs x.class in subst F (sym c.as_slice-class-items.ensures) (row w.2.0 w.2.2.0 x.class w.2.1 w.2.2.1 w.2.2.2.class))
+    (class_in plan c.args.site.now c.class-item.result c.args.among.now c.as_slice.result.now picks)
+    (class_out plan c.args.site.now c.class-item.result c.args.among.now c.as_slice.result.now picks)
+    (λ s t x y w v before. by_class s t x y (w.0 ∙ sym v.0) before)
 
 pub returns : goal.returns
 returns g c =
@@ -57,4 +75,4 @@ returns g c =
     items c.args.visitor.now c.loop-class.visitor (subst P all c.loop-class.invariant)
     (λ s x w. let F : List Text → Type 0 = λ xs. Contains xs x.class in
     let H : List Flow → Type 0 = λ fs. HasClasses fs c.args.among.now c.in_ok-classes.classes in
-    subst F (sym c.as_slice-class-items.ensures) (subst H c.flows.ensures.same c.in_ok-classes.ensures w.2.0 w.2.2.0 x.class w.2.1 w.2.2.1 w.2.2.2.class))
+    subst F (sym c.as_slice-class-items.ensures) (subst H c.flows.ensures.same c.in_ok-classes.ensures.whole w.2.0 w.2.2.0 x.class w.2.1 w.2.2.1 w.2.2.2.class))

@@ -1,29 +1,18 @@
-use Rattle.std.proofs.Common.{◌≡◌, ◌<◌, ℕ, sym, ◌∙◌, ap, subst, List, length, Some}
+use Rattle.std.proofs.Common.{◌≡◌, ◌<◌, ℕ, sym, ◌∙◌, subst, List, length, Some}
 use Rattle.std.specs.Prelude.{slice_get}
 use Rattle.std.proofs.lemmas.Option.{same_Some}
 use Rattle.std.proofs.lemmas.List.Elements.{All-contains}
-use Rattle.dr_base.specs.Texts.{Text}
-use Rattle.dr_base.specs.declared.syntax.Syntax.{Syntax}
 use Rattle.dr_route.specs.Laws.{key_of}
-use Rattle.dr_route.specs.declared.cell.OwnedCell.{OwnedCell}
-use Rattle.dr_route.specs.declared.cell.OwnedField.{OwnedField}
 use Rattle.dr_route.specs.declared.cell.OwnedStation.{OwnedStation}
 use Rattle.dr_network.specs.declared.plan.Flow.{Flow}
 use Rattle.dr_network.specs.Networks.{Network}
 use Rattle.dr_network.specs.Walks.{IsEntry}
 use Rattle.dr_entry.specs.Entering.{AdmitsStation, WantsStation}
-use Rattle.dr_entry.specs.Visiting.{IsThis}
 use Rattle.dr_entry.proofs.Entries.{enters}
-use Rattle.dr_entry.proofs.Visits.{stays, wants_less}
+use Rattle.dr_entry.proofs.Orders.{not_before_itself, same_cell}
+use Rattle.dr_entry.proofs.Visits.{stays, the_only_one}
+use Rattle.dr_entry.proofs.Wanted.{is_wanted}
 use Rattle.dr_entry.proofs.sweep.Sweep.visit_station.Goals as goal
-
-same_cell : (c : OwnedCell) (class : Text) (syntax : Syntax) (modality : OwnedField) (station : OwnedStation) → c.class ≡ class → c.syntax ≡ syntax → c.modality ≡ modality → c.station ≡ station →
-    c ≡ record { class = class; syntax = syntax; modality = modality; station = station }
-same_cell c class syntax modality station a b d e =
-    let mk : Text → Syntax → OwnedField → OwnedStation → OwnedCell = λ k s m t. record { class = k; syntax = s; modality = m; station = t } in
-    ap (λ (x : Text). mk x c.syntax c.modality c.station) a
-    ∙ (ap (λ (x : Syntax). mk class x c.modality c.station) b
-    ∙ (ap (λ (x : OwnedField). mk class syntax x c.station) d ∙ ap (λ (x : OwnedStation). mk class syntax modality x) e))
 
 pub visit-requires-clause-entry : goal.visit-requires-clause-entry
 visit-requires-clause-entry g c =
@@ -52,11 +41,19 @@ returns-in_default g c =
 
 pub returns : goal.returns
 returns g c =
-    wants_less g.V.EntryVisitor.plan g.V.EntryVisitor.is_ready g.V.EntryVisitor.has_visited g.V.EntryVisitor.shows
-    (WantsStation c.args.self.now.plan.now c.args.site.now c.args.class.now c.args.syntax c.args.modality.now c.args.station.now c.args.among.now)
-    (IsThis c.args.site.now c.in_ok-cell.cell) c.args.visitor.now c.visit.new.self c.in_ok-found.found
+    let plan : Network = c.args.self.now.plan.now in
+    let k : ℕ = c.in-Some.field-0 in
+    let A : List Flow → Type 0 = λ fs. (flow : Flow) × (slice_get fs k ≡ Some flow) × AdmitsStation flow.stations c.args.station.now in
+    let here = subst A c.flows.ensures.same c.in-Some.ensures.1 in
+    the_only_one g.V.EntryVisitor.plan g.V.EntryVisitor.is_ready g.V.EntryVisitor.has_visited g.V.EntryVisitor.shows
+    (WantsStation plan c.args.site.now c.args.class.now c.args.syntax c.args.modality.now c.args.station.now c.args.among.now)
+    c.args.site.now c.in_ok-cell.cell c.args.visitor.now c.visit.new.self c.in_ok-found.found c.requires.ready
+    (is_wanted plan c.args.site.now c.args.class.now c.args.syntax c.args.modality.now c.args.station.now c.args.among.now c.in_ok-cell.cell k here.0 c.in_ok-cell.ensures
+    ((c.requires.parts.0 c.args.modality.now).0 c.requires.modality_part, (c.requires.parts.1 c.args.station.now).0 c.requires.station_part)
+    c.in-Some.ensures.0 here.1 (here.2, c.requires.fit here.0 k c.in-Some.ensures.0 here.1))
     (λ s x w. (
       w.1.1.1.1.0,
-      same_cell x c.args.class.now c.args.syntax c.args.modality.now c.args.station.now w.1.1.1.0 w.1.1.0 w.1.0 w.0 ∙ sym c.in_ok-cell.ensures,
+      same_cell x (record { class = c.args.class.now; syntax = c.args.syntax; modality = c.args.modality.now; station = c.args.station.now }) w.1.1.1.0 w.1.1.0 w.1.0 w.0
+          ∙ sym c.in_ok-cell.ensures,
     ))
-    c.in_ok-found.ensures
+    (not_before_itself c.args.site.now c.in_ok-cell.cell) c.in_ok-found.ensures
