@@ -13,7 +13,7 @@ use std::sync::ledger::Blank;
 
 /// What was answered, and the ledger that the desk had.
 #[derive(Drop)]
-pub struct Deal<L> {
+pub struct Answered<L> {
     pub answer: String,
     pub ledger: L,
 }
@@ -50,7 +50,7 @@ fn close<L: Ledger + Drop, B: Sharing>(
     shared: SharedDesk<L, B>,
     pass: Pass<B>,
     answer: String,
-) -> Result<Deal<L>, anyhow::Error>
+) -> Result<Answered<L>, anyhow::Error>
     requires { B.all ≡ B.parts }
 {
     let passes = vec![in alloc; pass]?;
@@ -58,12 +58,12 @@ fn close<L: Ledger + Drop, B: Sharing>(
         Ok(closed) => {
             let answer = format!(in alloc; "{answer}, {} in all", closed.sum)?;
             let ledger = closed.desk.into_ledger();
-            Ok(Deal { answer, ledger })
+            Ok(Answered { answer, ledger })
         }
         Err(not_closed) => {
             let answer = format!(in alloc; "{answer}, {} at the end", not_closed.fault)?;
             let ledger = not_closed.desk.into_ledger();
-            Ok(Deal { answer, ledger })
+            Ok(Answered { answer, ledger })
         }
     }
 }
@@ -77,7 +77,7 @@ fn share<R: Wait, L: Ledger + Drop, B: Sharing>(
     caller: &Text,
     item: Item,
     blank: Blank,
-) -> Result<Deal<L>, anyhow::Error>
+) -> Result<Answered<L>, anyhow::Error>
     requires blank { (blank.name ≡ B.name) × (blank.parts ≡ B.parts) × (B.all ≡ B.parts) × (B.all ≡ 65536) }
     requires first { B.first ≡ (L.book ledger).lines }
     requires site { (L.site ledger ≡ site) × (B.site ≡ site) }
@@ -87,7 +87,7 @@ fn share<R: Wait, L: Ledger + Drop, B: Sharing>(
         Err((fault, desk)) => {
             let answer = format!(in alloc; "{fault} at the beginning")?;
             let ledger = desk.into_ledger();
-            return Ok(Deal { answer, ledger });
+            return Ok(Answered { answer, ledger });
         }
     };
     let Ok(mut pass) = shared.pass(rt, alloc) else {
@@ -105,7 +105,7 @@ pub fn deal<R: Wait, L: Ledger + Drop>(
     site: Site,
     caller: &Text,
     item: Item,
-) -> Result<Deal<L>, anyhow::Error>
+) -> Result<Answered<L>, anyhow::Error>
     requires { L.site ledger ≡ site }
 {
     share::<_, L, Brand>(rt, alloc, ledger, site, caller, item, Blank::new(65_536))

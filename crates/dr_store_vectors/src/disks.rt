@@ -144,7 +144,7 @@ fn remains_of(alloc: Global, files: Files<Fused>) -> Result<Remains, anyhow::Err
     })
 }
 
-fn open(
+fn open_files(
     alloc: Global,
     files: Files<Fused>,
     frames: usize,
@@ -171,7 +171,7 @@ impl Disks for MemoryDisks {
         frames: usize,
     ) -> Result<Result<Connection<FileStore<Fused>>, Remains>, anyhow::Error> {
         let files = files_of(alloc, image, limits)?;
-        match open(alloc, files, frames) {
+        match open_files(alloc, files, frames) {
             Ok(conn) => Ok(Ok(conn)),
             Err(files) => Ok(Err(remains_of(alloc, files)?)),
         }

@@ -46,7 +46,7 @@ fn found<D: Disks>(
 }
 
 /// The ledger of the node in the files that were left, or why it isn't opened.
-fn open<D: Disks>(
+fn reopened<D: Disks>(
     disks: &D,
     alloc: Global,
     image: &Image,
@@ -157,13 +157,13 @@ impl<'a, R: Wait, D: Disks> Playing<'a, R, D> {
     }
 
     /// A ledger is opened in the files that were left; why it isn't.
-    fn open(
+    fn reopen(
         &mut self,
         alloc: Global,
         named: &Named,
         words: &[&str],
     ) -> Result<String, anyhow::Error> {
-        match open(self.disks, alloc, &self.image, named, words)? {
+        match reopened(self.disks, alloc, &self.image, named, words)? {
             Ok(ledger) => {
                 put(&mut self.ledger, Some(ledger));
                 Ok(String::from_str(alloc, "opened")?)
@@ -231,7 +231,7 @@ impl<'a, R: Wait, D: Disks> Stage for Playing<'a, R, D> {
                 put(&mut self.image, Image::empty(alloc));
                 Ok(None)
             }
-            "open" => Ok(Some(self.open(alloc, named, words)?)),
+            "open" => Ok(Some(self.reopen(alloc, named, words)?)),
             "sql" => Ok(Some(self.change(alloc, words)?)),
             "stops" => Ok(Some(self.stop(alloc, named, words)?)),
             what => Ok(Some(self.call(alloc, named, what, words)?)),

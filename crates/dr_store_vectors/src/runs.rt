@@ -1,7 +1,7 @@
 //! One run of a call, over files that may stop.
 ghost use Rattle.std.specs.Prelude.{◌≡◌};
 
-use crate::desks::{Deal, deal};
+use crate::desks::{Answered, deal};
 use crate::disks::{Disks, Image, Limits, Remains};
 use crate::opened::found;
 use anyhow::bail;
@@ -28,7 +28,7 @@ pub struct Act<'a> {
 
 /// What came of a run.
 #[derive(Drop)]
-pub struct Run {
+pub struct Outcome {
     /// None, if the files weren't opened.
     pub answer: Option<String>,
     pub remains: Remains,
@@ -59,7 +59,7 @@ fn dealt<R: Wait, S: Alter + Drop>(
     site: Site,
     named: &Named,
     words: &[&str],
-) -> Result<Deal<SqlLedger<S>>, anyhow::Error>
+) -> Result<Answered<SqlLedger<S>>, anyhow::Error>
     requires { ledger.site ≡ site }
 {
     let [caller, item] = words else {
@@ -79,7 +79,7 @@ fn called<R: Wait, S: Alter + Drop>(
     named: &Named,
     what: &str,
     words: &[&str],
-) -> Result<Deal<SqlLedger<S>>, anyhow::Error>
+) -> Result<Answered<SqlLedger<S>>, anyhow::Error>
     requires { ledger.site ≡ site }
 {
     if what == "desk" {
@@ -87,7 +87,7 @@ fn called<R: Wait, S: Alter + Drop>(
     }
     let mut ledger = ledger;
     let answer = answer_of(alloc, &mut ledger, named, what, words)?;
-    Ok(Deal { answer, ledger })
+    Ok(Answered { answer, ledger })
 }
 
 /// The files are closed: `close`.
@@ -95,10 +95,10 @@ fn closed<D: Disks>(
     disks: &D,
     alloc: Global,
     ledger: SqlLedger<D::Store>,
-) -> Result<Run, anyhow::Error> {
+) -> Result<Outcome, anyhow::Error> {
     let (is_closed, remains) = disks.close(alloc, ledger.into_connection())?;
     let answer = String::from_str(alloc, if is_closed { "closed" } else { STOPPED })?;
-    Ok(Run {
+    Ok(Outcome {
         answer: Some(answer),
         remains,
     })
@@ -114,15 +114,15 @@ fn run_opened<R: Wait, D: Disks>(
     named: &Named,
     what: &str,
     words: &[&str],
-) -> Result<Run, anyhow::Error>
+) -> Result<Outcome, anyhow::Error>
     requires { ledger.site ≡ site }
 {
     if what == "close" {
         return closed(disks, alloc, ledger);
     }
-    let Deal { answer, ledger } = called(rt, alloc, ledger, site, named, what, words)?;
+    let Answered { answer, ledger } = called(rt, alloc, ledger, site, named, what, words)?;
     let remains = disks.leave(alloc, ledger.into_connection())?;
-    Ok(Run {
+    Ok(Outcome {
         answer: Some(answer),
         remains,
     })
@@ -136,11 +136,11 @@ fn run_found<R: Wait, D: Disks>(
     conn: Connection<D::Store>,
     act: &Act<'_>,
     named: &Named,
-) -> Result<Run, anyhow::Error> {
+) -> Result<Outcome, anyhow::Error> {
     let site = act.site.copy()?;
     match found(alloc, conn, act.site.copy()?) {
         Ok(ledger) => run_opened(rt, disks, alloc, ledger, site, named, act.what, act.words),
-        Err((OpeningFault::Store, conn)) => Ok(Run {
+        Err((OpeningFault::Store, conn)) => Ok(Outcome {
             answer: None,
             remains: disks.leave(alloc, conn)?,
         }),
@@ -170,11 +170,11 @@ fn run_made<D: Disks>(
     alloc: Global,
     conn: Connection<D::Store>,
     site: &Site,
-) -> Result<Run, anyhow::Error> {
+) -> Result<Outcome, anyhow::Error> {
     let mut conn = conn;
     let answer = made(alloc, &mut conn, site)?;
     let remains = disks.leave(alloc, conn)?;
-    Ok(Run {
+    Ok(Outcome {
         answer: Some(answer),
         remains,
     })
@@ -189,7 +189,7 @@ pub fn run<R: Wait, D: Disks>(
     limits: Limits,
     act: &Act<'_>,
     named: &Named,
-) -> Result<Run, anyhow::Error> {
+) -> Result<Outcome, anyhow::Error> {
     match disks.connect(alloc, image, limits, act.frames)? {
         Ok(conn) => {
             if act.what == "make" {
@@ -197,7 +197,7 @@ pub fn run<R: Wait, D: Disks>(
             }
             run_found(rt, disks, alloc, conn, act, named)
         }
-        Err(remains) => Ok(Run {
+        Err(remains) => Ok(Outcome {
             answer: None,
             remains,
         }),

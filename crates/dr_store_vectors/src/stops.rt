@@ -1,7 +1,7 @@
 //! Each stop of a file while a call is made.
 use crate::disks::{Disks, Image, Limits, NO_STOP, Remains};
 use crate::opened::told;
-use crate::runs::{Act, Run, STOPPED, run};
+use crate::runs::{Act, Outcome, STOPPED, run};
 use anyhow::{Context, bail};
 use dr_ledger_rows::Named;
 use std::alloc::{AllocError, Global};
@@ -157,7 +157,7 @@ fn count<R: Wait, D: Disks>(
                 database: calls,
             }
         };
-        let Run { answer, remains } =
+        let Outcome { answer, remains } =
             run(rt, disks, alloc, story.image, limits, story.act, named)?;
         if !remains.is_stopped {
             return Ok(counts);
@@ -205,17 +205,19 @@ pub fn stop<R: Wait, D: Disks>(
     named: &Named,
 ) -> Result<(String, Image), anyhow::Error> {
     let before = book_of(disks, alloc, image, act, named)?;
-    let Run { answer, remains } = run(rt, disks, alloc, image, NO_STOP, act, named)?;
+    let Outcome { answer, remains } = run(rt, disks, alloc, image, NO_STOP, act, named)?;
     let answer = answer.context("the ledger isn't opened")?;
     let after = book_of(disks, alloc, &remains.written, act, named)?;
-    let story = Story {
-        act,
-        image,
-        left: &remains.written,
-        before,
-        after,
+    let counts = {
+        let story = Story {
+            act,
+            image,
+            left: &remains.written,
+            before,
+            after,
+        };
+        count_both(rt, disks, alloc, &story, named)?
     };
-    let counts = count_both(rt, disks, alloc, &story, named)?;
     let answer = format!(in alloc; "{answer}{counts}")?;
     Ok((answer, remains.written))
 }
