@@ -73,11 +73,7 @@ pub trait Disks {
     ) -> Result<Result<Connection<Self::Store>, Remains>, anyhow::Error>;
 
     /// What is left where the connection ends, and its files aren't closed.
-    fn leave(
-        &self,
-        alloc: Global,
-        conn: Connection<Self::Store>,
-    ) -> Result<Remains, anyhow::Error>;
+    fn leave(&self, alloc: Global, conn: Connection<Self::Store>) -> Result<Remains, anyhow::Error>;
 
     /// Closes the files, and says whether it could; what is left.
     fn close(

@@ -17,11 +17,7 @@ use dr_ledger_rows::{Named, turn};
 use std::sync::Wait;
 
 /// Plays all lines. `waits` is the runtime too, by which desks are shared.
-fn play<R: Wait, D: Disks>(
-    rt: &HostRuntime,
-    waits: &R,
-    disks: &D,
-) -> Result<(), anyhow::Error> {
+fn play<R: Wait, D: Disks>(rt: &HostRuntime, waits: &R, disks: &D) -> Result<(), anyhow::Error> {
     let alloc = rt.alloc();
     let mut named = Named::new(alloc);
     let mut playing = Playing::new(waits, alloc, disks);

@@ -81,11 +81,7 @@ fn bodies<L: Ledger>(alloc: Global, ledger: &mut L) -> Result<String, anyhow::Er
 }
 
 /// All that the ledger's book holds.
-fn whole<L: Ledger>(
-    alloc: Global,
-    ledger: &mut L,
-    named: &Named,
-) -> Result<String, anyhow::Error> {
+fn whole<L: Ledger>(alloc: Global, ledger: &mut L, named: &Named) -> Result<String, anyhow::Error> {
     let report = call(alloc, ledger, named, "report", &[])?;
     let lines = call(alloc, ledger, named, "lines", &[])?;
     let bodies = bodies(alloc, ledger)?;

@@ -157,8 +157,15 @@ fn count<R: Wait, D: Disks>(
                 database: calls,
             }
         };
-        let Outcome { answer, remains } =
-            run(rt, disks, alloc, story.image, limits, story.act, named)?;
+        let Outcome { answer, remains } = run(
+            rt,
+            disks,
+            alloc,
+            story.image,
+            limits,
+            story.act,
+            named,
+        )?;
         if !remains.is_stopped {
             return Ok(counts);
         }
