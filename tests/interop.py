@@ -383,8 +383,8 @@ def hostile(silent):
         then(says(site, RELEASE_RQ), unasked)
         then(says(site, ABORT), b'')
         # an association that is released, aborted, left or asked for a second time at once
-        at_once = ((RELEASE_RQ, RELEASE_RP), (ABORT, None), (b'', None), (asked, invalid + b'\2'), (b'GET / HTTP/1.1\r\n', invalid + b'\1'),
-                   (b'\4\0\0\0\0\4\0\0\0\0', invalid + b'\6'))
+        at_once = ((RELEASE_RQ, RELEASE_RP), (RELEASE_RQ + RELEASE_RQ, RELEASE_RP), (ABORT, None), (b'', None), (asked, invalid + b'\2'),
+                   (b'GET / HTTP/1.1\r\n', invalid + b'\1'), (b'\4\0\0\0\0\4\0\0\0\0', invalid + b'\6'))
         for more, wanted in at_once:
             with Requestor(site.ports['GATE'], 'SENDER', 'GATE') as peer:
                 same(peer.answer[0], ACCEPTED)
@@ -395,6 +395,11 @@ def hostile(silent):
         # an instance that is only begun
         with Requestor(site.ports['GATE'], 'SENDER', 'GATE') as peer:
             peer.link.sendall(stored_in_part(b'1.2.3.4'))
+        site.answers(gate)
+        # a release within a data set is answered, and the instance isn't there
+        with Requestor(site.ports['GATE'], 'SENDER', 'GATE') as peer:
+            peer.link.sendall(stored_in_part(b'1.2.3.5') + RELEASE_RQ)
+            same(exactly(peer.link, 10), RELEASE_RP)
         site.answers(gate)
         for _ in range(silent):
             socket.create_connection(('127.0.0.1', site.ports['GATE']), timeout=LIMIT).close()
