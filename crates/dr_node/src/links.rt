@@ -150,7 +150,7 @@ impl Links {
         if self.is_known(link) {
             return Err(NodeFault::LinkKnown);
         }
-        let end = End::accept(alloc, site.copy()?, now);
+        let end = accept_at(alloc, site, now)?;
         let accepted = true;
         self.put(link, Side { end, accepted })?;
         Ok(())

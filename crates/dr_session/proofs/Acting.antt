@@ -25,6 +25,7 @@ use Rattle.dr_session.specs.declared.ends.Told.TheVariants.{Plain, Quiet, Fault,
 use Rattle.dr_session.specs.Desks.{DeskCall, DeskAnswer}
 use Rattle.dr_session.specs.Fits.{IsHeard, heard_as, IsLooked, told_as}
 use Rattle.dr_session.specs.Reactions.{Reaction, turn, occurs, moves, acts, effect, gives, gives_in, leaves, quiet, is_idle, is_free, is_impatient, event_of, is_taken}
+use Rattle.dr_session.specs.Changes.{after_step, phased}
 use Rattle.dr_session.specs.Turns.{Ends, Asks, Fails, Turns, Broke}
 
 module _ {S : Type 0} (step : S → DeskCall → DeskAnswer → S → Type 0) where
@@ -196,32 +197,66 @@ stays : (o : Option Standing) (e : Event) (acceptable : Bool) (next same : Next)
 stays None e acceptable next same now h = cc
 stays (Some a) e acceptable next same now h = cell_stays (cell e a.state a.requestor acceptable) a now next same h
 
+-- a test of a core that is seen is one of the core
+pub tested : (f : Core → Bool) (c seen : Core) (b v : Bool) → seen ≡ c → b ≡ f seen → b ≡ v → f c ≡ v
+tested f c seen b v same is value = ap f (sym same) ∙ (sym is ∙ value)
+
+pub late_stepped : (at : Moment) (c : Core) → next_expired c.phase at.now ≡ true → after_step c (next_late c.phase at.now) ≡ after_step c (next_stepped ArtimExpired true c.phase at.now)
+late_stepped at c h = ap (λ (r : Result (Action × Next) Next). after_step c r) (late_steps c.phase at.now h)
+
+pub data_stepped : (at : Moment) (c : Core) → is_free c ≡ true → after_step c (next_sent c.phase at.now) ≡ after_step c (next_stepped DataRequest true c.phase at.now)
+data_stepped at c h = ap (λ (r : Result (Action × Next) Next). after_step c r) (push_steps c at.now h)
+
+-- ---- what a step came to
+
+same_stepped : (x y : Action × Core) (r : Result (Action × Core) Core) → r ≡ Ok x → r ≡ Ok y → x ≡ y
+same_stepped x y r h k = cc
+
+same_unstepped : (x y : Core) (r : Result (Action × Core) Core) → r ≡ Err x → r ≡ Err y → x ≡ y
+same_unstepped x y r h k = cc
+
+not_both : (x : Action × Core) (y : Core) (r : Result (Action × Core) Core) → r ≡ Ok x → r ≡ Err y → ⊥
+not_both x y r h k = absurd (let e : Ok x ≡ Err y = sym h ∙ k in cc)
+
+-- the action of the step, and the end in the phase that follows
+stepped_acts : (at : Moment) (told : Told) (c d : Core) (r : Result (Action × Next) Next) (a : Action) → after_step c r ≡ Ok (a, d) → moves r at told c ≡ acts a at told d
+stepped_acts at told c d (Ok x) a h = ap (λ (p : Action × Core). acts p.0 at told p.1) (same_stepped (x.0, phased x.1 c) (a, d) (after_step c (Ok x)) refl h)
+stepped_acts at told c d (Err same) a h = absurd (not_both (a, d) (phased same c) (after_step c (Err same)) h refl)
+
+-- no step, and the end as it was
+unstepped : (c d : Core) (r : Result (Action × Next) Next) → after_step c r ≡ Err d → (same : Next) × (r ≡ Err same) × (phased same c ≡ d)
+unstepped c d (Ok x) h = absurd (not_both (x.0, phased x.1 c) d (after_step c (Ok x)) refl h)
+unstepped c d (Err same) h = (same, refl, same_unstepped (phased same c) d (after_step c (Err same)) refl h)
+
 module _ {S : Type 0} (step : S → DeskCall → DeskAnswer → S → Type 0) where
   -- it was met, and what its action does was done
-  pub done_moved : (at : Moment) (told : Told) (c : Core) (e : Event) (acceptable : Bool) (r : Result (Action × Next) Next) (a : Action) (next : Next)
-      → event_of told at c ≡ Some e → is_taken told at c ≡ acceptable → r ≡ next_stepped e acceptable c.phase at.now → r ≡ Ok (a, next)
+  pub done_moved : (at : Moment) (told : Told) (c d : Core) (e : Event) (acceptable : Bool) (r : Result (Action × Core) Core) (a : Action)
+      → event_of told at c ≡ Some e → is_taken told at c ≡ acceptable → r ≡ after_step c (next_stepped e acceptable c.phase at.now) → r ≡ Ok (a, d)
       → (result : Result Effect AllocError) (s t : S)
-      → IfOk result (λ (x : Effect). Turns step (acts a at told (record c { phase = next })) s x t) → IfOk result (λ (x : Effect). Turns step (turn at c told) s x t)
-  done_moved at told c e acceptable r a next event taken is ok result s t h =
-      done_by step (turn at c told) (acts a at told (record c { phase = next })) result s t
-      (met at told c e acceptable r event taken is ∙ ap (λ (x : Result (Action × Next) Next). moves x at told c) ok) h
+      → IfOk result (λ (x : Effect). Turns step (acts a at told d) s x t) → IfOk result (λ (x : Effect). Turns step (turn at c told) s x t)
+  done_moved at told c d e acceptable r a event taken is ok result s t h =
+      done_by step (turn at c told) (acts a at told d) result s t
+      (met at told c e acceptable (next_stepped e acceptable c.phase at.now) event taken refl ∙ stepped_acts at told c d (next_stepped e acceptable c.phase at.now) a (sym is ∙ ok)) h
 
-  pub broke_moved : (at : Moment) (told : Told) (c : Core) (e : Event) (acceptable : Bool) (r : Result (Action × Next) Next) (a : Action) (next : Next)
-      → event_of told at c ≡ Some e → is_taken told at c ≡ acceptable → r ≡ next_stepped e acceptable c.phase at.now → r ≡ Ok (a, next)
+  pub broke_moved : (at : Moment) (told : Told) (c d : Core) (e : Event) (acceptable : Bool) (r : Result (Action × Core) Core) (a : Action)
+      → event_of told at c ≡ Some e → is_taken told at c ≡ acceptable → r ≡ after_step c (next_stepped e acceptable c.phase at.now) → r ≡ Ok (a, d)
       → (result : Result Effect AllocError) (s t : S)
-      → OnErr result (Broke step (acts a at told (record c { phase = next })) s t) → OnErr result (Broke step (turn at c told) s t)
-  broke_moved at told c e acceptable r a next event taken is ok result s t h =
-      broke_by step (turn at c told) (acts a at told (record c { phase = next })) result s t
-      (met at told c e acceptable r event taken is ∙ ap (λ (x : Result (Action × Next) Next). moves x at told c) ok) h
+      → OnErr result (Broke step (acts a at told d) s t) → OnErr result (Broke step (turn at c told) s t)
+  broke_moved at told c d e acceptable r a event taken is ok result s t h =
+      broke_by step (turn at c told) (acts a at told d) result s t
+      (met at told c e acceptable (next_stepped e acceptable c.phase at.now) event taken refl ∙ stepped_acts at told c d (next_stepped e acceptable c.phase at.now) a (sym is ∙ ok)) h
 
   -- it was met, and nothing was done
-  pub done_unmoved : (at : Moment) (told : Told) (c : Core) (e : Event) (acceptable : Bool) (r : Result (Action × Next) Next) (same : Next)
-      → event_of told at c ≡ Some e → is_taken told at c ≡ acceptable → r ≡ next_stepped e acceptable c.phase at.now → r ≡ Err same
-      → (x : Effect) (s : S) → x ≡ effect [] (record c { phase = same }) → Turns step (turn at c told) s x s
-  done_unmoved at told c e acceptable r same event taken is err x s value =
-      let kept : same ≡ c.phase = stays (standing_of c.phase) e acceptable c.phase same at.now (sym is ∙ err) in
-      let none : turn at c told ≡ quiet c = met at told c e acceptable r event taken is ∙ ap (λ (y : Result (Action × Next) Next). moves y at told c) err in
-      done_at step (turn at c told) (effect [] c) (Ok x) s none (value ∙ ap (λ (n : Next). effect [] (record c { phase = n })) kept)
+  pub done_unmoved : (at : Moment) (told : Told) (c d : Core) (e : Event) (acceptable : Bool) (r : Result (Action × Core) Core)
+      → event_of told at c ≡ Some e → is_taken told at c ≡ acceptable → r ≡ after_step c (next_stepped e acceptable c.phase at.now) → r ≡ Err d
+      → (x : Effect) (s : S) → x ≡ effect [] d → Turns step (turn at c told) s x s
+  done_unmoved at told c d e acceptable r event taken is err x s value =
+      let next = next_stepped e acceptable c.phase at.now in
+      let found : (same : Next) × (next ≡ Err same) × (phased same c ≡ d) = unstepped c d next (sym is ∙ err) in
+      let kept : found.0 ≡ c.phase = stays (standing_of c.phase) e acceptable c.phase found.0 at.now found.1 in
+      let none : turn at c told ≡ quiet c = met at told c e acceptable next event taken refl ∙ ap (λ (y : Result (Action × Next) Next). moves y at told c) found.1 in
+      done_at step (turn at c told) (effect [] c) (Ok x) s none
+      (value ∙ (ap (λ (y : Core). effect [] y) (sym found.2) ∙ ap (λ (n : Next). effect [] (phased n c)) kept))
 
   -- it was no event, and nothing was done
   pub done_unmet : (at : Moment) (told : Told) (c : Core) → event_of told at c ≡ None → (x : Effect) (s : S) → x ≡ effect [] c → Turns step (turn at c told) s x s

@@ -1,3 +1,4 @@
+pub mod Changes
 pub mod Desks
 pub mod Ends
 pub mod Figures

@@ -9,8 +9,9 @@ ghost use Rattle.dr_session.specs.Ends.{echoes_by, echoes_in, is_free};
 ghost use Rattle.dr_session.specs.Messages.{command_pdus};
 ghost use Rattle.dr_session.specs.Reactions.{awaiting, id_after, pending, write};
 
-use crate::ends::{Core, Effect, LinkAction, Pending};
-use crate::react::{act_once, await_response, next_id, quiet};
+use crate::boxed::BoxedCore;
+use crate::ends::{Core, Effect, LinkAction};
+use crate::react::{act_once, next_id, quiet};
 use crate::writing::write_response;
 use dr_base::{Syntax, Text};
 use dr_dimse::Command;
@@ -28,22 +29,22 @@ pub fn is_free(core: &Core) -> bool
 }
 
 /// A C-ECHO-RQ goes out in a context of Verification, where one was accepted.
-pub fn ask_echo(alloc: Global, core: Core, now: u64) -> Result<Effect, AllocError>
+pub fn ask_echo(alloc: Global, core: BoxedCore, now: u64) -> Result<Effect, AllocError>
     ensures { IfOk result (λ e. e ≡ echoes_by core.agreed now core) }
 {
-    let Some(agreed) = &core.agreed else {
+    let Some(agreed) = &core.core().agreed else {
         return Ok(quiet(alloc, core));
     };
     let class = Text::copy_of(alloc, VERIFICATION)?;
     let Some(context) = agreed.context_for(&class, Syntax::Implicit) else {
         return Ok(quiet(alloc, core));
     };
-    let id = next_id(core.last);
+    let id = next_id(core.core().last);
     let action = write_echo(alloc, agreed, context, id, class)?;
     act_once(
         alloc,
         action,
-        await_response(core, id, Text::empty(alloc), now),
+        core.await_response(id, Text::empty(alloc), now),
     )
 }
 

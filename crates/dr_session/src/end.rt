@@ -8,6 +8,7 @@ ghost use Rattle.dr_pdu.specs.declared.pdu.Pdu.TheVariants as pdus;
 ghost use Rattle.dr_session.specs.Ends.{accepting, requesting, requesting_echo, begins, unmarked as no_marks, OpensTo, Meets, HearsOf, HearsBytes, LosesIn, TakesCore, TakesFree, EchoesIn, is_free_in, is_dry_in, state_in, over_of, ended_by};
 ghost use Rattle.dr_session.specs.Reactions.{write};
 
+use crate::boxed::BoxedCore;
 use crate::echoing::{ask_echo, is_free};
 use crate::ends::{Core, Effect, Ended, Heard, Input, LinkAction, Marks, Moment, Over};
 use crate::hearing::{hear, react};
@@ -30,7 +31,7 @@ use std::marker::Model;
 pub struct End {
     alloc: Global,
     ear: Feeder,
-    core: Option<Core>,
+    core: Option<BoxedCore>,
 }
 
 impl Model for End {
@@ -58,29 +59,16 @@ fn unmarked() -> Marks
 
 impl End {
     /// The acceptor of a transport connection that was opened at this moment, in milliseconds.
-    pub fn accept(alloc: Global, site: Site, now: u64) -> End
-        ensures { result ≡ begins site.max_pdu (accepting site now) }
+    pub fn accept(alloc: Global, site: Site, now: u64) -> Result<End, AllocError>
+        ensures { IfOk result (λ end. end ≡ begins site.max_pdu (accepting site now)) }
     {
-        let (_, end) = Assoc::<Opening>::indicate(now);
         let ear = Feeder::new(alloc, site.max_pdu());
-        let core = Core {
-            peer: Text::empty(alloc),
-            phase: Next::Opening(end),
-            proposed: None,
-            agreed: None,
-            assembly: Listener::new(alloc, Awaited::Requests),
-            pending: None,
-            last: 0,
-            awaits: None,
-            dry: false,
-            marks: unmarked(),
-            site: Some(site),
-        };
-        End {
+        let core = BoxedCore::new(alloc, acceptor(alloc, site, now))?;
+        Ok(End {
             alloc,
             ear,
             core: Some(core),
-        }
+        })
     }
 
     /// The requestor of an association for a hop of the site, whose transport connection is open at this moment, in
@@ -96,15 +84,9 @@ impl End {
         ensures { OpensTo site dest.now now result }
     {
         let proposal = propose(alloc, &site, dest)?;
-        let (proposal, actions) = write_request(alloc, proposal)?;
-        let ear = Feeder::new(alloc, site.max_pdu());
-        let core = requestor(alloc, Some(site), dest.clone()?, proposal, now);
-        let end = End {
-            alloc,
-            ear,
-            core: Some(core),
-        };
-        Ok((end, actions))
+        let limit = site.max_pdu();
+        let opened = open(alloc, limit, Some(site), dest, proposal, now)?;
+        Ok(opened)
     }
 
     /// The requestor of an echo between nodes of those names. It proposes Verification in context 1, in the implicit syntax
@@ -121,14 +103,8 @@ impl End {
         ensures actions { IfOk result (λ r. r.1 ≡ write (pdus.AssociateRq (echo_proposal caller.now called.now) ∷ []) ∷ []) }
     {
         let proposal = propose_echo(alloc, caller, called)?;
-        let (proposal, actions) = write_request(alloc, proposal)?;
-        let core = requestor(alloc, None, called.clone()?, proposal, now);
-        let end = End {
-            alloc,
-            ear: Feeder::new(alloc, ECHO_LIMIT),
-            core: Some(core),
-        };
-        Ok((end, actions))
+        let opened = open(alloc, ECHO_LIMIT, None, called, proposal, now)?;
+        Ok(opened)
     }
 
     /// The state in which it is (PS3.8 9.2.1); it takes no memory.
@@ -136,7 +112,7 @@ impl End {
         ensures { result ≡ state_in self.now.core }
     {
         match &self.core {
-            Some(core) => core.phase.state(),
+            Some(core) => core.state(),
             None => State::Sta1,
         }
     }
@@ -155,13 +131,14 @@ impl End {
         let Some(core) = &self.core else {
             return Some(Over::Memory);
         };
-        if core.phase.state() != State::Sta1 {
+        if core.state() != State::Sta1 {
             return None;
         }
-        if core.marks.desk_failed {
+        let marks = &core.core().marks;
+        if marks.desk_failed {
             return Some(Over::Desk);
         }
-        Some(Over::Ended(ended(&core.marks)))
+        Some(Over::Ended(ended(marks)))
     }
 
     /// Whether it is a requestor's end that may send: established, with nothing pending. It takes no memory.
@@ -169,7 +146,7 @@ impl End {
         ensures { result ≡ is_free_in self.now.core }
     {
         match &self.core {
-            Some(core) => is_free(core),
+            Some(core) => is_free(core.core()),
             None => false,
         }
     }
@@ -179,7 +156,7 @@ impl End {
         ensures { result ≡ is_dry_in self.now.core }
     {
         match &self.core {
-            Some(core) => core.dry,
+            Some(core) => core.core().dry,
             None => false,
         }
     }
@@ -295,7 +272,7 @@ impl End {
     }
 
     /// Its core, where it may send.
-    fn take_free(&mut self) -> Option<Core>
+    fn take_free(&mut self) -> Option<BoxedCore>
         ensures { TakesFree self.old result self.new }
     {
         if !self.is_free() {
@@ -316,7 +293,7 @@ impl End {
     }
 
     /// Its core again.
-    fn put(&mut self, core: Core)
+    fn put(&mut self, core: BoxedCore)
         requires { self.old.core ≡ None }
         ensures { self.new ≡ record { ear = self.old.ear; core = Some core } }
     {
@@ -324,7 +301,7 @@ impl End {
     }
 
     /// Its core, unless it is over.
-    fn take_core(&mut self) -> Option<Core>
+    fn take_core(&mut self) -> Option<BoxedCore>
         ensures { TakesCore self.old result self.new }
     {
         if self.state() == State::Sta1 {
@@ -335,7 +312,52 @@ impl End {
 }
 
 /// It goes.
-fn forget(_core: Core) {}
+fn forget(_core: BoxedCore) {}
+
+/// An acceptor whose transport connection was opened at that moment.
+fn acceptor(alloc: Global, site: Site, now: u64) -> Core
+    ensures { result ≡ accepting site now }
+{
+    let (_, opening) = Assoc::<Opening>::indicate(now);
+    Core {
+        peer: Text::empty(alloc),
+        phase: Next::Opening(opening),
+        proposed: None,
+        agreed: None,
+        assembly: Listener::new(alloc, Awaited::Requests),
+        pending: None,
+        last: 0,
+        awaits: None,
+        dry: false,
+        marks: unmarked(),
+        site: Some(site),
+    }
+}
+
+/// A requestor's end that sends that proposal at once, and what writes it.
+fn open(
+    alloc: Global,
+    limit: u32,
+    site: Option<Site>,
+    peer: &Text,
+    proposal: AssociateRq,
+    now: u64,
+) -> Result<(End, Seq<LinkAction>), AllocError>
+    requires { Fits (pdus.AssociateRq proposal) }
+    ensures end { IfOk result (λ r. r.0 ≡ begins limit (requesting site peer.now proposal now)) }
+    ensures actions { IfOk result (λ r. r.1 ≡ write (pdus.AssociateRq proposal ∷ []) ∷ []) }
+{
+    let (proposal, actions) = write_request(alloc, proposal)?;
+    let peer = peer.clone()?;
+    let core = BoxedCore::new(alloc, requestor(alloc, site, peer, proposal, now))?;
+    let ear = Feeder::new(alloc, limit);
+    let end = End {
+        alloc,
+        ear,
+        core: Some(core),
+    };
+    Ok((end, actions))
+}
 
 /// A requestor that has sent its request at that moment.
 fn requestor(alloc: Global, site: Option<Site>, peer: Text, proposal: AssociateRq, now: u64) -> Core

@@ -1,4 +1,5 @@
 //! One end without the bytes that it keeps, and what happens at it.
+use crate::boxed::BoxedCore;
 use crate::listening::Listener;
 use dr_base::{Octets, Seq, Text};
 use dr_dimse::Command;
@@ -162,5 +163,5 @@ pub struct Core {
 #[derive(Drop)]
 pub struct Effect {
     pub acts: Seq<LinkAction>,
-    pub core: Core,
+    pub core: BoxedCore,
 }

@@ -4,7 +4,8 @@ ghost use Rattle.std.specs.List.{AllByRecursion, flat_map};
 ghost use Rattle.dr_session.specs.Fits.{InputFits, PduFits};
 ghost use Rattle.dr_session.specs.Plays.{Reacts, Stops, Plays, PlaysMore, BreaksOff, PlaysBytes, BreaksBytes, PlaysOn, BreaksOn, EndsThere, at_moment, inputs_of, input_of};
 
-use crate::ends::{Core, Effect, Input, Moment};
+use crate::boxed::BoxedCore;
+use crate::ends::{Effect, Input, Moment};
 use crate::port::DeskPort;
 use crate::react::{quiet, take_turn};
 use crate::telling::tell;
@@ -16,7 +17,7 @@ use std::alloc::{AllocError, Global};
 pub fn react<P: DeskPort>(
     alloc: Global,
     input: Input,
-    core: Core,
+    core: BoxedCore,
     port: &mut P,
     at: Moment,
 ) -> Result<Effect, AllocError>
@@ -33,7 +34,7 @@ pub fn react<P: DeskPort>(
 fn hear_one<P: DeskPort>(
     alloc: Global,
     input: Input,
-    core: Core,
+    core: BoxedCore,
     port: &mut P,
     at: Moment,
 ) -> Result<Effect, AllocError>
@@ -50,7 +51,7 @@ fn hear_one<P: DeskPort>(
 fn hear_values<P: DeskPort>(
     alloc: Global,
     pdvs: Vec<Pdv>,
-    core: Core,
+    core: BoxedCore,
     port: &mut P,
     at: Moment,
 ) -> Result<Effect, AllocError>
@@ -75,7 +76,7 @@ fn hear_values<P: DeskPort>(
 fn hear_pdu<P: DeskPort>(
     alloc: Global,
     pdu: Pdu,
-    core: Core,
+    core: BoxedCore,
     port: &mut P,
     at: Moment,
 ) -> Result<Effect, AllocError>
@@ -104,7 +105,7 @@ fn hear_pdu<P: DeskPort>(
 fn hear_pdus<P: DeskPort>(
     alloc: Global,
     pdus: Vec<Pdu>,
-    core: Core,
+    core: BoxedCore,
     port: &mut P,
     at: Moment,
 ) -> Result<Effect, AllocError>
@@ -140,7 +141,7 @@ fn fault_input(fault: PduFault) -> Input
 pub fn hear<P: DeskPort>(
     alloc: Global,
     ear: &mut Feeder,
-    core: Core,
+    core: BoxedCore,
     piece: &[u8],
     port: &mut P,
     at: Moment,
@@ -170,7 +171,7 @@ fn hear_on<P: DeskPort>(
     alloc: Global,
     ear: &mut Feeder,
     pdus: Seq<Pdu>,
-    core: Core,
+    core: BoxedCore,
     port: &mut P,
     at: Moment,
 ) -> Result<Effect, AllocError>

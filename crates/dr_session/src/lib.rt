@@ -1,6 +1,7 @@
 //! One end of a link: what it does with what it hears and is asked, and the calls that it makes on a desk.
 #![tactic(auto)]
 
+pub mod boxed;
 pub mod desk;
 pub mod echo_desk;
 pub mod echoing;

@@ -5,5 +5,5 @@ mod requestor;
 mod turning;
 
 pub use leaving::{act_once, one, quiet};
-pub use requestor::{await_response, next_id};
+pub use requestor::next_id;
 pub use turning::take_turn;

@@ -289,7 +289,7 @@ pub fn receive<L: Link, P: DeskPort, C: Clock>(
     ensures counts { Counts (IsLinkFailure result) (L.failed link.old) (L.failed link.new) }
 {
     let site = site.copy()?;
-    let mut end = End::accept(alloc, site, link.opened());
+    let mut end = End::accept(alloc, site, link.opened())?;
     run(Kind::Receive, &mut end, link, port, clock, others)
 }
 

@@ -7,6 +7,7 @@ ghost use Rattle.dr_session.specs.Plays.{TellsTo, TellsValueTo};
 ghost use Rattle.dr_session.specs.Telling.{NamesSyntax, SaysOf, TakesData, state_at};
 ghost use Rattle.dr_ulstate.specs.declared.table.State.TheVariants.{Sta5};
 
+use crate::boxed::BoxedCore;
 use crate::ends::{Core, Input, Told};
 use crate::find::find;
 use dr_base::Syntax;
@@ -18,21 +19,22 @@ use dr_ulstate::State;
 use std::alloc::{AllocError, Global};
 
 /// What an input comes to, and the end after it: what is under way may have changed.
-pub fn tell(alloc: Global, input: Input, core: Core) -> Result<(Told, Core), AllocError>
+pub fn tell(alloc: Global, input: Input, core: BoxedCore) -> Result<(Told, BoxedCore), AllocError>
     requires { InputFits input }
     ensures tells { IfOk result (λ r. TellsTo core input r.0 r.1) }
     ensures fits { IfOk result (λ r. ToldFits r.0) }
 {
     match input {
         Input::Value(pdv) => {
-            if takes_data(core.phase.state()) {
-                return tell_value(alloc, pdv, core);
+            if takes_data(core.state()) {
+                return core.tell_value(alloc, pdv);
             }
             Ok((Told::Plain(Input::Value(pdv)), core))
         }
         Input::Acceptance(ac) => {
-            if awaits_answer(core.phase.state()) {
-                return tell_acceptance(alloc, ac, core);
+            if awaits_answer(core.state()) {
+                let told = tell_acceptance(alloc, ac, core.core());
+                return Ok((told, core));
             }
             Ok((Told::Plain(Input::Acceptance(ac)), core))
         }
@@ -55,30 +57,29 @@ fn awaits_answer(state: State) -> bool
 }
 
 /// A value where data is taken: in an accepted context it goes to the assembly.
-fn tell_value(alloc: Global, pdv: Pdv, core: Core) -> Result<(Told, Core), AllocError>
-    ensures tells { IfOk result (λ r. TellsValueTo core pdv r.0 r.1) }
-    ensures fits { IfOk result (λ r. ToldFits r.0) }
+pub fn tell_value(alloc: Global, pdv: Pdv, core: &mut Core) -> Result<Told, AllocError>
+    ensures tells { IfOk result (λ told. TellsValueTo core.old pdv told core.new) }
+    ensures fits { IfOk result ToldFits }
 {
-    let mut core = core;
     let Some(agreed) = &core.agreed else {
-        return Ok((Told::Strange, core));
+        return Ok(Told::Strange);
     };
     let Some(pair) = agreed.context(pdv.id) else {
-        return Ok((Told::Strange, core));
+        return Ok(Told::Strange);
     };
     let syntax = Syntax::of_uid(pair.syntax.as_bytes());
     match core.assembly.take(pdv, syntax) {
-        Ok(None) => Ok((Told::Quiet, core)),
+        Ok(None) => Ok(Told::Quiet),
         Ok(Some(heard)) => {
             let told = tell_message(alloc, pair, syntax, heard)?;
-            Ok((told, core))
+            Ok(told)
         }
         Err(fault) => match fault {
             DimseFault::Memory => Err(AllocError),
-            DimseFault::OutOfPlace => Ok((Told::Fault, core)),
-            DimseFault::MixedContext => Ok((Told::Fault, core)),
-            DimseFault::BadCommand => Ok((Told::Fault, core)),
-            DimseFault::TooLong => Ok((Told::Fault, core)),
+            DimseFault::OutOfPlace => Ok(Told::Fault),
+            DimseFault::MixedContext => Ok(Told::Fault),
+            DimseFault::BadCommand => Ok(Told::Fault),
+            DimseFault::TooLong => Ok(Told::Fault),
         },
     }
 }
@@ -132,14 +133,13 @@ fn tell_message(
 }
 
 /// What an acceptance agrees on.
-fn tell_acceptance(alloc: Global, ac: AssociateAc, core: Core) -> Result<(Told, Core), AllocError>
-    requires { state_at core ≡ Sta5 }
-    ensures tells { IfOk result (λ r. TellsTo core (Input.Acceptance ac) r.0 r.1) }
-    ensures fits { IfOk result (λ r. ToldFits r.0) }
+fn tell_acceptance(alloc: Global, ac: AssociateAc, core: &Core) -> Told
+    requires { state_at core.now ≡ Sta5 }
+    ensures tells { TellsTo core.now (Input.Acceptance ac) result core.now }
+    ensures fits { ToldFits result }
 {
     let Some(rq) = &core.proposed else {
-        return Ok((Told::Plain(Input::Acceptance(ac)), core));
+        return Told::Plain(Input::Acceptance(ac));
     };
-    let answer = conclude(alloc, rq, &ac);
-    Ok((Told::Agreement(answer), core))
+    Told::Agreement(conclude(alloc, rq, &ac))
 }

@@ -13,9 +13,10 @@ ghost use Rattle.dr_session.specs.Reactions.{arrives, stores, stored, status_of,
 ghost use Rattle.dr_session.specs.Turns.{Turns, Broke, Ends};
 ghost use Rattle.dr_ulstate.specs.declared.table.Event.TheVariants.{AcceptResponse, RejectResponse};
 
+use crate::boxed::BoxedCore;
 use crate::ends::{Core, Effect, Found, LinkAction, Moment};
 use crate::port::DeskPort;
-use crate::react::leaving::{abort, act_once, after, mark_rejected, quiet};
+use crate::react::leaving::{abort, act_once, quiet};
 use crate::writing::{write_acceptance, write_rejection, write_response};
 use dr_base::{Seq, Text};
 use dr_dimse::Command;
@@ -51,11 +52,16 @@ fn say(alloc: Global, core: &Core, context: u8, command: Command) -> Result<Link
 }
 
 /// A response in the context is all that is done.
-fn reply(alloc: Global, context: u8, command: Command, core: Core) -> Result<Effect, AllocError>
+fn reply(
+    alloc: Global,
+    context: u8,
+    command: Command,
+    core: BoxedCore,
+) -> Result<Effect, AllocError>
     requires { Fits command }
     ensures { IfOk result (λ e. e ≡ effect (says core context command ∷ []) core) }
 {
-    let action = say(alloc, &core, context, command)?;
+    let action = say(alloc, core.core(), context, command)?;
     act_once(alloc, action, core)
 }
 
@@ -77,7 +83,7 @@ fn respond(
     class: Text,
     instance: Text,
     status: u16,
-    core: Core,
+    core: BoxedCore,
 ) -> Result<Effect, AllocError>
     requires { Fits (StoreRq id class instance) }
     ensures { IfOk result (λ e. e ≡ stored core context id class instance status) }
@@ -107,7 +113,7 @@ fn bring<P: DeskPort>(
     class: Text,
     instance: Text,
     item: Item,
-    core: Core,
+    core: BoxedCore,
     port: &mut P,
 ) -> Result<Effect, AllocError>
     requires { Fits (StoreRq id class instance) }
@@ -115,7 +121,7 @@ fn bring<P: DeskPort>(
     ensures broke { OnErr result (Broke P.step (brings core context id class instance item) port.old port.new) }
 {
     if names(&item, &class, &instance) {
-        let reply = port.arrive(&core.peer, item);
+        let reply = port.arrive(core.peer(), item);
         let status = status(&reply);
         let done = respond(alloc, context, id, class, instance, status, core)?;
         return Ok(done);
@@ -131,7 +137,7 @@ fn store_found<P: DeskPort>(
     class: Text,
     instance: Text,
     found: Found,
-    core: Core,
+    core: BoxedCore,
     port: &mut P,
 ) -> Result<Effect, AllocError>
     requires { Fits (StoreRq id class instance) }
@@ -154,7 +160,7 @@ fn store_in<P: DeskPort>(
     class: Text,
     instance: Text,
     found: Found,
-    core: Core,
+    core: BoxedCore,
     port: &mut P,
 ) -> Result<Effect, AllocError>
     requires { Fits (StoreRq id class instance) }
@@ -177,7 +183,7 @@ pub fn store<P: DeskPort>(
     class: Text,
     instance: Text,
     found: Found,
-    core: Core,
+    core: BoxedCore,
     port: &mut P,
 ) -> Result<Effect, AllocError>
     requires { Fits (StoreRq id class instance) }
@@ -207,7 +213,7 @@ pub fn answer_request(
     context: u8,
     of: Text,
     command: Command,
-    core: Core,
+    core: BoxedCore,
 ) -> Result<Effect, AllocError>
     requires { Fits command }
     ensures { IfOk result (λ e. requested core context of command ≡ Ends e) }
@@ -239,7 +245,7 @@ fn answer_echo(
     of: Text,
     id: u16,
     class: Text,
-    core: Core,
+    core: BoxedCore,
 ) -> Result<Effect, AllocError>
     requires { Fits (EchoRq id class false) }
     ensures { IfOk result (λ e. e ≡ effect (says core context (EchoRsp id (status_of_echo class of) class false) ∷ []) core) }
@@ -260,7 +266,7 @@ fn answer_other(
     field: u16,
     id: Option<u16>,
     status: Option<u16>,
-    core: Core,
+    core: BoxedCore,
 ) -> Result<Effect, AllocError>
     requires { Fits (Other field id status false) }
     ensures { IfOk result (λ e. requested_other core context field id status ≡ Ends e) }
@@ -283,7 +289,7 @@ fn answer_unknown(
     context: u8,
     field: u16,
     id: u16,
-    core: Core,
+    core: BoxedCore,
 ) -> Result<Effect, AllocError>
     requires { Fits (Other field (Some id) None false) }
     ensures { IfOk result (λ e. e ≡ effect (says core context (Other (0x8000 + field) (Some id) (Some 0x0211) false) ∷ []) core) }
@@ -310,7 +316,7 @@ fn answer_field(field: u16) -> u16
 pub fn decide<P: DeskPort>(
     alloc: Global,
     rq: AssociateRq,
-    core: Core,
+    core: BoxedCore,
     port: &mut P,
     at: Moment,
 ) -> Result<Effect, AllocError>
@@ -319,7 +325,7 @@ pub fn decide<P: DeskPort>(
     ensures done { IfOk result (λ e. Turns P.step (decides_at core.site at rq core) port.old e port.new) }
     ensures broke { OnErr result (Broke P.step (decides_at core.site at rq core) port.old port.new) }
 {
-    let Some(site) = &core.site else {
+    let Some(site) = &core.core().site else {
         return Ok(quiet(alloc, core));
     };
     match answer(alloc, &rq, &Policy { site }, at.others)? {
@@ -342,7 +348,7 @@ fn accept(
     ac: AssociateAc,
     agreed: Agreed,
     rq: AssociateRq,
-    core: Core,
+    core: BoxedCore,
     at: Moment,
 ) -> Result<Effect, AllocError>
     requires { PduFits (pdu.AssociateAc ac) }
@@ -352,42 +358,23 @@ fn accept(
     act_once(alloc, action, establish(agreed, rq, core, at.now))
 }
 
-/// The local user accepts the request (PS3.8 9.2.2, AE-7): the phase, the peer, and what is agreed on.
-fn establish(agreed: Agreed, rq: AssociateRq, core: Core, now: u64) -> Core
+/// The local user accepts the request: the phase, the peer, and what is agreed on.
+fn establish(agreed: Agreed, rq: AssociateRq, core: BoxedCore, now: u64) -> BoxedCore
     ensures { result ≡ record (stepped_by AcceptResponse now core) { peer = rq.front.calling; agreed = Some agreed } }
 {
     let front = rq.front;
-    Core {
-        phase: after(core.phase.accept(now)),
-        peer: front.calling,
-        agreed: Some(agreed),
-        ..core
-    }
+    core.accept(now).agree_with(front.calling, agreed)
 }
 
 /// The association is rejected.
 fn reject(
     alloc: Global,
     rejection: AssociateRj,
-    core: Core,
+    core: BoxedCore,
     at: Moment,
 ) -> Result<Effect, AllocError>
     ensures { IfOk result (λ e. e ≡ effect (write (pdu.AssociateRj rejection ∷ []) ∷ []) (rejected_with rejection (stepped_by RejectResponse at.now core))) }
 {
     let action = write_rejection(alloc, rejection)?;
-    act_once(
-        alloc,
-        action,
-        mark_rejected(rejection, step_reject(core, at.now)),
-    )
-}
-
-/// The request is rejected (PS3.8 9.2.2, AE-8): the phase.
-fn step_reject(core: Core, now: u64) -> Core
-    ensures { result ≡ stepped_by RejectResponse now core }
-{
-    Core {
-        phase: after(core.phase.reject(now)),
-        ..core
-    }
+    act_once(alloc, action, core.reject(at.now).mark_rejected(rejection))
 }

@@ -1,16 +1,14 @@
 //! What an end does as it leaves the association, and the small parts of every reaction.
 ghost use Rattle.std.specs.Prelude.{◌≡◌, ◌∷◌, [], ◌≤◌, ◌^◌, IfOk, OnErr};
-ghost use Rattle.dr_session.specs.Reactions.{effect, leaves, aborts, aborts_desk, desk_failed, left, aborted, released, rejected as rejected_with, stepped_by, phase_after, abort_pdu};
+ghost use Rattle.dr_session.specs.Reactions.{effect, leaves, aborts, aborts_desk};
 ghost use Rattle.dr_session.specs.Turns.{Turns, Broke, Ends};
-ghost use Rattle.dr_ulstate.specs.declared.table.Event.TheVariants.{AbortRequest};
 
-use crate::ends::{Core, Effect, LinkAction, Marks, Moment};
+use crate::boxed::BoxedCore;
+use crate::ends::{Effect, LinkAction, Moment};
 use crate::port::DeskPort;
 use crate::writing::write_abort;
 use dr_base::Seq;
 use dr_ledger::{LedgerFault, Outcome};
-use dr_pdu::AssociateRj;
-use dr_ulstate::{Action, Next};
 use std::alloc::{AllocError, Global};
 
 /// Nothing is done on the link.
@@ -21,7 +19,7 @@ pub fn none(alloc: Global) -> Seq<LinkAction>
 }
 
 /// Nothing is done.
-pub fn quiet(alloc: Global, core: Core) -> Effect
+pub fn quiet(alloc: Global, core: BoxedCore) -> Effect
     ensures { result ≡ effect [] core }
 {
     Effect {
@@ -40,82 +38,17 @@ pub fn one(alloc: Global, action: LinkAction) -> Result<Seq<LinkAction>, AllocEr
 }
 
 /// One thing is done on the link, by an end that goes on so.
-pub fn act_once(alloc: Global, action: LinkAction, core: Core) -> Result<Effect, AllocError>
+pub fn act_once(alloc: Global, action: LinkAction, core: BoxedCore) -> Result<Effect, AllocError>
     ensures { IfOk result (λ e. e ≡ effect (action ∷ []) core) }
 {
     let acts = one(alloc, action)?;
     Ok(Effect { acts, core })
 }
 
-/// The phase after a service of the local user.
-pub fn after(step: Result<(Action, Next), Next>) -> Next
-    ensures { result ≡ phase_after step }
-{
-    match step {
-        Ok((_, next)) => next,
-        Err(same) => same,
-    }
-}
-
-/// Nothing is pending any more.
-pub fn leave_pending(core: Core) -> Core
-    ensures { result ≡ left core }
-{
-    Core {
-        pending: None,
-        awaits: None,
-        ..core
-    }
-}
-
-/// The mark of a failed desk.
-pub fn fail_desk(core: Core) -> Core
-    ensures { result ≡ desk_failed core }
-{
-    let marks = Marks {
-        desk_failed: true,
-        ..core.marks
-    };
-    Core { marks, ..core }
-}
-
-/// The mark of an A-ABORT.
-pub fn mark_aborted(core: Core) -> Core
-    ensures { result ≡ aborted core }
-{
-    let marks = Marks {
-        aborted: true,
-        ..core.marks
-    };
-    Core { marks, ..core }
-}
-
-/// The mark of an A-RELEASE-RP.
-pub fn mark_released(core: Core) -> Core
-    ensures { result ≡ released core }
-{
-    let marks = Marks {
-        released: true,
-        ..core.marks
-    };
-    Core { marks, ..core }
-}
-
-/// The mark of an A-ASSOCIATE-RJ.
-pub fn mark_rejected(rejection: AssociateRj, core: Core) -> Core
-    ensures { result ≡ rejected_with rejection core }
-{
-    let marks = Marks {
-        rejection: Some(rejection),
-        ..core.marks
-    };
-    Core { marks, ..core }
-}
-
 /// What is pending is settled as broken.
 pub fn leave<P: DeskPort>(
     acts: Seq<LinkAction>,
-    core: Core,
+    core: BoxedCore,
     port: &mut P,
     at: Moment,
 ) -> Result<Effect, AllocError>
@@ -123,21 +56,21 @@ pub fn leave<P: DeskPort>(
     ensures done { IfOk result (λ e. Turns P.step (leaves at acts core) port.old e port.new) }
     ensures broke { OnErr result (Broke P.step (leaves at acts core) port.old port.new) }
 {
-    let Some(pending) = &core.pending else {
+    let Some(pending) = &core.core().pending else {
         return Ok(Effect {
             acts,
-            core: leave_pending(core),
+            core: core.leave_pending(),
         });
     };
-    match port.settle(&pending.uid, &core.peer, Outcome::Broken, at.now) {
+    match port.settle(&pending.uid, core.peer(), Outcome::Broken, at.now) {
         Ok(()) | Err(LedgerFault::NotWaiting) => Ok(Effect {
             acts,
-            core: leave_pending(core),
+            core: core.leave_pending(),
         }),
         Err(LedgerFault::Memory) => Err(AllocError),
         Err(_) => Ok(Effect {
             acts,
-            core: fail_desk(leave_pending(core)),
+            core: core.leave_pending().fail_desk(),
         }),
     }
 }
@@ -146,7 +79,7 @@ pub fn leave<P: DeskPort>(
 pub fn leave_with<P: DeskPort>(
     alloc: Global,
     action: LinkAction,
-    core: Core,
+    core: BoxedCore,
     port: &mut P,
     at: Moment,
 ) -> Result<Effect, AllocError>
@@ -161,7 +94,7 @@ pub fn leave_with<P: DeskPort>(
 /// The end aborts by itself.
 pub fn abort<P: DeskPort>(
     alloc: Global,
-    core: Core,
+    core: BoxedCore,
     port: &mut P,
     at: Moment,
 ) -> Result<Effect, AllocError>
@@ -170,30 +103,14 @@ pub fn abort<P: DeskPort>(
     ensures broke { OnErr result (Broke P.step (aborts at core) port.old port.new) }
 {
     let action = write_abort(alloc, 0, 0)?;
-    leave_with(
-        alloc,
-        action,
-        mark_aborted(step_abort(core, at.now)),
-        port,
-        at,
-    )
+    leave_with(alloc, action, core.abort(at.now).mark_aborted(), port, at)
 }
 
 /// A store failed: the association is aborted, and what was pending is left as it is.
-pub fn abort_desk(alloc: Global, core: Core, at: Moment) -> Result<Effect, AllocError>
+pub fn abort_desk(alloc: Global, core: BoxedCore, at: Moment) -> Result<Effect, AllocError>
     ensures { IfOk result (λ e. aborts_desk at core ≡ Ends e) }
 {
     let action = write_abort(alloc, 0, 0)?;
-    let core = fail_desk(mark_aborted(leave_pending(step_abort(core, at.now))));
-    act_once(alloc, action, core)
-}
-
-/// The phase after the local user's abort.
-fn step_abort(core: Core, now: u64) -> Core
-    ensures { result ≡ stepped_by AbortRequest now core }
-{
-    Core {
-        phase: after(core.phase.abort(now)),
-        ..core
-    }
+    let core = core.abort(at.now).leave_pending();
+    act_once(alloc, action, core.mark_aborted().fail_desk())
 }

@@ -9,12 +9,12 @@ ghost use Rattle.dr_session.specs.declared.ends.LinkAction.TheVariants.{Close};
 ghost use Rattle.dr_session.specs.Reactions.{agrees, refuses, settles_refused, replied, effect, gives, gives_in, hands, can_be_named, is_uid, is_graphic, id_after, due, pushes, gives_nothing, write, store_pdus, awaiting, pending, settled_with, desk_failed, dried};
 ghost use Rattle.dr_session.specs.Turns.{Turns, Broke, Ends};
 
-use crate::ends::{Core, Effect, LinkAction, Moment, Pending};
+use crate::boxed::BoxedCore;
+use crate::ends::{Core, Effect, LinkAction, Moment};
 use crate::port::DeskPort;
-use crate::react::leaving::{abort, abort_desk, act_once, fail_desk, quiet};
+use crate::react::leaving::{abort, abort_desk, act_once, quiet};
 use crate::writing::write_store;
 use dr_base::Text;
-use dr_dimse::Awaited;
 use dr_ledger::{Job, LedgerFault, Outcome};
 use dr_nego::{Agreed, NegoFault};
 use std::alloc::{AllocError, Global};
@@ -23,7 +23,7 @@ use std::alloc::{AllocError, Global};
 pub fn agree<P: DeskPort>(
     alloc: Global,
     answer: Result<Agreed, NegoFault>,
-    core: Core,
+    core: BoxedCore,
     port: &mut P,
     at: Moment,
 ) -> Result<Effect, AllocError>
@@ -32,14 +32,7 @@ pub fn agree<P: DeskPort>(
     ensures broke { OnErr result (Broke P.step (agrees answer at core) port.old port.new) }
 {
     match answer {
-        Ok(agreed) => {
-            let core = Core {
-                agreed: Some(agreed),
-                awaits: None,
-                ..core
-            };
-            Ok(quiet(alloc, core))
-        }
+        Ok(agreed) => Ok(quiet(alloc, core.agree(agreed))),
         Err(NegoFault::Memory) => Err(AllocError),
         Err(NegoFault::StrangeId) => abort(alloc, core, port, at),
         Err(NegoFault::StrangeSyntax) => abort(alloc, core, port, at),
@@ -51,7 +44,7 @@ pub fn agree<P: DeskPort>(
 /// The association was rejected: the first row that is due is settled as broken.
 pub fn refuse<P: DeskPort>(
     alloc: Global,
-    core: Core,
+    core: BoxedCore,
     port: &mut P,
     at: Moment,
 ) -> Result<Effect, AllocError>
@@ -59,16 +52,16 @@ pub fn refuse<P: DeskPort>(
     ensures done { IfOk result (λ e. Turns P.step (refuses at core) port.old e port.new) }
     ensures broke { OnErr result (Broke P.step (refuses at core) port.old port.new) }
 {
-    match port.next(&core.peer, at.now) {
+    match port.next(core.peer(), at.now) {
         Ok(Some(job)) => settle_refused(alloc, job.uid, core, port, at),
         Ok(None) => close(alloc, core),
         Err(LedgerFault::Memory) => Err(AllocError),
-        Err(_) => close(alloc, fail_desk(core)),
+        Err(_) => close(alloc, core.fail_desk()),
     }
 }
 
 /// The transport connection is closed.
-pub fn close(alloc: Global, core: Core) -> Result<Effect, AllocError>
+pub fn close(alloc: Global, core: BoxedCore) -> Result<Effect, AllocError>
     ensures { IfOk result (λ e. e ≡ effect (Close ∷ []) core) }
 {
     act_once(alloc, LinkAction::Close, core)
@@ -78,7 +71,7 @@ pub fn close(alloc: Global, core: Core) -> Result<Effect, AllocError>
 fn settle_refused<P: DeskPort>(
     alloc: Global,
     uid: Text,
-    core: Core,
+    core: BoxedCore,
     port: &mut P,
     at: Moment,
 ) -> Result<Effect, AllocError>
@@ -86,10 +79,10 @@ fn settle_refused<P: DeskPort>(
     ensures done { IfOk result (λ e. Turns P.step (settles_refused at uid core) port.old e port.new) }
     ensures broke { OnErr result (Broke P.step (settles_refused at uid core) port.old port.new) }
 {
-    match port.settle(&uid, &core.peer, Outcome::Broken, at.now) {
+    match port.settle(&uid, core.peer(), Outcome::Broken, at.now) {
         Ok(()) | Err(LedgerFault::NotWaiting) => close(alloc, core),
         Err(LedgerFault::Memory) => Err(AllocError),
-        Err(_) => close(alloc, fail_desk(core)),
+        Err(_) => close(alloc, core.fail_desk()),
     }
 }
 
@@ -97,7 +90,7 @@ fn settle_refused<P: DeskPort>(
 pub fn hear_response<P: DeskPort>(
     alloc: Global,
     status: Option<u16>,
-    core: Core,
+    core: BoxedCore,
     port: &mut P,
     at: Moment,
 ) -> Result<Effect, AllocError>
@@ -108,27 +101,13 @@ pub fn hear_response<P: DeskPort>(
     let Some(status) = status else {
         return abort(alloc, core, port, at);
     };
-    let Some(pending) = &core.pending else {
+    let Some(pending) = &core.core().pending else {
         return abort(alloc, core, port, at);
     };
-    match port.settle(&pending.uid, &core.peer, Outcome::Status(status), at.now) {
-        Ok(()) | Err(LedgerFault::NotWaiting) => Ok(quiet(alloc, settle_core(core))),
+    match port.settle(&pending.uid, core.peer(), Outcome::Status(status), at.now) {
+        Ok(()) | Err(LedgerFault::NotWaiting) => Ok(quiet(alloc, core.settle())),
         Err(LedgerFault::Memory) => Err(AllocError),
         Err(_) => abort_desk(alloc, core, at),
-    }
-}
-
-/// Nothing is pending, and nothing is awaited.
-fn settle_core(core: Core) -> Core
-    ensures { result ≡ settled_with core }
-{
-    let mut assembly = core.assembly;
-    assembly.await_other(Awaited::Nothing);
-    Core {
-        pending: None,
-        awaits: None,
-        assembly,
-        ..core
     }
 }
 
@@ -139,25 +118,10 @@ pub fn next_id(last: u16) -> u16
     if last == 65535 { 1 } else { last + 1 }
 }
 
-/// A store is under way, and its response is awaited.
-pub fn await_response(core: Core, id: u16, uid: Text, now: u64) -> Core
-    ensures { result ≡ awaiting (pending id uid) now core }
-{
-    let mut assembly = core.assembly;
-    assembly.await_other(Awaited::AnswerTo(id));
-    Core {
-        pending: Some(Pending { id, uid }),
-        last: id,
-        awaits: Some(now),
-        assembly,
-        ..core
-    }
-}
-
 /// The first row that is due is sent.
 pub fn push<P: DeskPort>(
     alloc: Global,
-    core: Core,
+    core: BoxedCore,
     port: &mut P,
     at: Moment,
 ) -> Result<Effect, AllocError>
@@ -165,22 +129,15 @@ pub fn push<P: DeskPort>(
     ensures done { IfOk result (λ e. Turns P.step (pushes at core) port.old e port.new) }
     ensures broke { OnErr result (Broke P.step (pushes at core) port.old port.new) }
 {
-    match port.next(&core.peer, at.now) {
+    match port.next(core.peer(), at.now) {
         Ok(Some(job)) => {
             let done = hand(alloc, job, core, port, at)?;
             Ok(done)
         }
-        Ok(None) => Ok(quiet(alloc, run_dry(core))),
+        Ok(None) => Ok(quiet(alloc, core.run_dry())),
         Err(LedgerFault::Memory) => Err(AllocError),
         Err(_) => abort_desk(alloc, core, at),
     }
-}
-
-/// No row is due.
-fn run_dry(core: Core) -> Core
-    ensures { result ≡ dried core }
-{
-    Core { dry: true, ..core }
 }
 
 /// Whether a text is a UID: 1 to 64 bytes from 21H to 7EH.
@@ -216,7 +173,7 @@ fn can_be_named(job: &Job) -> bool
 fn hand<P: DeskPort>(
     alloc: Global,
     job: Job,
-    core: Core,
+    core: BoxedCore,
     port: &mut P,
     at: Moment,
 ) -> Result<Effect, AllocError>
@@ -235,7 +192,7 @@ fn hand<P: DeskPort>(
 fn give<P: DeskPort>(
     alloc: Global,
     job: Job,
-    core: Core,
+    core: BoxedCore,
     port: &mut P,
     at: Moment,
 ) -> Result<Effect, AllocError>
@@ -244,7 +201,7 @@ fn give<P: DeskPort>(
     ensures done { IfOk result (λ e. Turns P.step (gives core.agreed at job core) port.old e port.new) }
     ensures broke { OnErr result (Broke P.step (gives core.agreed at job core) port.old port.new) }
 {
-    let Some(agreed) = &core.agreed else {
+    let Some(agreed) = &core.core().agreed else {
         return Ok(quiet(alloc, core));
     };
     match context_of(agreed, &job) {
@@ -258,19 +215,19 @@ fn give_in(
     alloc: Global,
     context: u8,
     job: Job,
-    core: Core,
+    core: BoxedCore,
     at: Moment,
 ) -> Result<Effect, AllocError>
     requires { can_be_named job ≡ true }
     ensures { IfOk result (λ e. (agreed : AgreedOn) → core.agreed ≡ Some agreed → gives_in (Some context) agreed at job core ≡ Ends e) }
 {
-    let id = next_id(core.last);
-    let action = store_in(alloc, context, id, &job, &core)?;
-    act_once(alloc, action, await_response(core, id, uid_of(job), at.now))
+    let id = next_id(core.core().last);
+    let action = write_in(alloc, context, id, &job, core.core())?;
+    act_once(alloc, action, core.await_response(id, uid_of(job), at.now))
 }
 
 /// The C-STORE-RQ of an instance in that context, by what was agreed on.
-fn store_in(
+fn write_in(
     alloc: Global,
     context: u8,
     id: u16,
@@ -304,7 +261,7 @@ fn context_of(agreed: &Agreed, job: &Job) -> Option<u8>
 fn settle_without<P: DeskPort>(
     alloc: Global,
     uid: Text,
-    core: Core,
+    core: BoxedCore,
     port: &mut P,
     at: Moment,
 ) -> Result<Effect, AllocError>
@@ -312,7 +269,7 @@ fn settle_without<P: DeskPort>(
     ensures done { IfOk result (λ e. Turns P.step (gives_nothing at uid core) port.old e port.new) }
     ensures broke { OnErr result (Broke P.step (gives_nothing at uid core) port.old port.new) }
 {
-    match port.settle(&uid, &core.peer, Outcome::NoContext, at.now) {
+    match port.settle(&uid, core.peer(), Outcome::NoContext, at.now) {
         Ok(()) | Err(LedgerFault::NotWaiting) => Ok(quiet(alloc, core)),
         Err(LedgerFault::Memory) => Err(AllocError),
         Err(_) => abort_desk(alloc, core, at),

@@ -10,14 +10,12 @@ ghost use Rattle.dr_ulstate.specs.Phases.{event_of as event_of_incoming, is_acce
 ghost use Rattle.dr_ulstate.specs.declared.table.Action.TheVariants.{Ae3, Ae4, Ae6};
 ghost use Rattle.dr_ulstate.specs.declared.table.Event.TheVariants.{ReleaseResponse, AbortRequest};
 
+use crate::boxed::BoxedCore;
 use crate::echoing::is_free;
 use crate::ends::{Core, Effect, Input, LinkAction, Moment, Told};
 use crate::port::DeskPort;
 use crate::react::acceptor::{answer_request, decide, store};
-use crate::react::leaving::{
-    abort, act_once, after, leave, leave_pending, leave_with, mark_aborted, mark_rejected,
-    mark_released, none, quiet,
-};
+use crate::react::leaving::{abort, act_once, leave, leave_with, none, quiet};
 use crate::react::requestor::{agree, close, hear_response, push, refuse};
 use crate::writing::{write_abort, write_release_answer, write_release_request};
 use dr_base::Text;
@@ -35,7 +33,7 @@ const PATIENCE: u64 = 60_000;
 fn hear<P: DeskPort>(
     alloc: Global,
     told: Told,
-    core: Core,
+    core: BoxedCore,
     port: &mut P,
     at: Moment,
 ) -> Result<Effect, AllocError>
@@ -72,7 +70,7 @@ fn hear_whole<P: DeskPort>(
     context: u8,
     of: Text,
     command: Command,
-    core: Core,
+    core: BoxedCore,
     port: &mut P,
     at: Moment,
 ) -> Result<Effect, AllocError>
@@ -81,7 +79,7 @@ fn hear_whole<P: DeskPort>(
     ensures done { IfOk result (λ e. Turns P.step (hears (Told.Whole context of command) at core) port.old e port.new) }
     ensures broke { OnErr result (Broke P.step (hears (Told.Whole context of command) at core) port.old port.new) }
 {
-    if core.phase.is_requestor() {
+    if core.is_requestor() {
         return hear_response(alloc, status_of(&command), core, port, at);
     }
     answer_request(alloc, context, of, command, core)
@@ -112,41 +110,27 @@ fn reason(told: &Told) -> u8
     }
 }
 
-/// The local user answers the release (PS3.8 9.2.2, AR-4 and AR-9): its phase.
-fn step_respond(core: Core, now: u64) -> Core
-    ensures { result ≡ released (stepped_by ReleaseResponse now core) }
-{
-    mark_released(Core {
-        phase: after(core.phase.respond(now)),
-        ..core
-    })
-}
-
 /// The release is answered.
-fn answer_release(alloc: Global, core: Core, now: u64) -> Result<Effect, AllocError>
+fn answer_release(alloc: Global, core: BoxedCore, now: u64) -> Result<Effect, AllocError>
     ensures { IfOk result (λ e. e ≡ effect (write (pdu.ReleaseRp ∷ []) ∷ []) (released (stepped_by ReleaseResponse now core))) }
 {
     let action = write_release_answer(alloc)?;
-    act_once(alloc, action, step_respond(core, now))
+    act_once(alloc, action, core.respond(now).mark_released())
 }
 
 /// The release is asked for, and its answer awaited.
-fn ask_release(alloc: Global, core: Core, now: u64) -> Result<Effect, AllocError>
+fn ask_release(alloc: Global, core: BoxedCore, now: u64) -> Result<Effect, AllocError>
     ensures { IfOk result (λ e. e ≡ effect (write (pdu.ReleaseRq ∷ []) ∷ []) (record core { awaits = Some now })) }
 {
     let action = write_release_request(alloc)?;
-    let core = Core {
-        awaits: Some(now),
-        ..core
-    };
-    act_once(alloc, action, core)
+    act_once(alloc, action, core.await_since(now))
 }
 
 /// What an acceptance agrees on.
 fn act_acceptance<P: DeskPort>(
     alloc: Global,
     told: Told,
-    core: Core,
+    core: BoxedCore,
     port: &mut P,
     at: Moment,
 ) -> Result<Effect, AllocError>
@@ -164,7 +148,7 @@ fn act_acceptance<P: DeskPort>(
 fn act_rejection<P: DeskPort>(
     alloc: Global,
     told: Told,
-    core: Core,
+    core: BoxedCore,
     port: &mut P,
     at: Moment,
 ) -> Result<Effect, AllocError>
@@ -177,7 +161,7 @@ fn act_rejection<P: DeskPort>(
     };
     match input {
         Input::Rejection(rejection) => {
-            let core = mark_rejected(rejection, leave_pending(core));
+            let core = core.leave_pending().mark_rejected(rejection);
             refuse(alloc, core, port, at)
         }
         _ => Ok(quiet(alloc, core)),
@@ -188,7 +172,7 @@ fn act_rejection<P: DeskPort>(
 fn act_request<P: DeskPort>(
     alloc: Global,
     told: Told,
-    core: Core,
+    core: BoxedCore,
     port: &mut P,
     at: Moment,
 ) -> Result<Effect, AllocError>
@@ -211,7 +195,7 @@ fn leave_aborting<P: DeskPort>(
     alloc: Global,
     source: u8,
     reason: u8,
-    core: Core,
+    core: BoxedCore,
     port: &mut P,
     at: Moment,
 ) -> Result<Effect, AllocError>
@@ -220,13 +204,13 @@ fn leave_aborting<P: DeskPort>(
     ensures broke { OnErr result (Broke P.step (leaves at (write (abort_pdu source reason ∷ []) ∷ []) (aborted core)) port.old port.new) }
 {
     let action = write_abort(alloc, source, reason)?;
-    leave_with(alloc, action, mark_aborted(core), port, at)
+    leave_with(alloc, action, core.mark_aborted(), port, at)
 }
 
 /// The end leaves and closes the transport connection.
 fn leave_closing<P: DeskPort>(
     alloc: Global,
-    core: Core,
+    core: BoxedCore,
     port: &mut P,
     at: Moment,
 ) -> Result<Effect, AllocError>
@@ -240,7 +224,7 @@ fn leave_closing<P: DeskPort>(
 /// The end leaves as the other one asked for the release, which is answered.
 fn leave_released<P: DeskPort>(
     alloc: Global,
-    core: Core,
+    core: BoxedCore,
     port: &mut P,
     at: Moment,
 ) -> Result<Effect, AllocError>
@@ -249,32 +233,38 @@ fn leave_released<P: DeskPort>(
     ensures broke { OnErr result (Broke P.step (leaves at (write (pdu.ReleaseRp ∷ []) ∷ []) (released (stepped_by ReleaseResponse at.now core))) port.old port.new) }
 {
     let action = write_release_answer(alloc)?;
-    leave_with(alloc, action, step_respond(core, at.now), port, at)
+    leave_with(
+        alloc,
+        action,
+        core.respond(at.now).mark_released(),
+        port,
+        at,
+    )
 }
 
 /// An A-ABORT that was read is noted.
-fn note(told: &Told, core: Core) -> Core
+fn note(told: &Told, core: BoxedCore) -> BoxedCore
     ensures { result ≡ noted told.now core }
 {
     match told {
-        Told::Plain(Input::Abort(_)) => mark_aborted(core),
+        Told::Plain(Input::Abort(_)) => core.mark_aborted(),
         _ => core,
     }
 }
 
 /// An A-ABORT of the service provider as the connection closes (AA-7).
-fn abort_closing(alloc: Global, core: Core) -> Result<Effect, AllocError>
+fn abort_closing(alloc: Global, core: BoxedCore) -> Result<Effect, AllocError>
     ensures { IfOk result (λ e. e ≡ effect (write (abort_pdu 2 0 ∷ []) ∷ []) (aborted core)) }
 {
     let action = write_abort(alloc, 2, 0)?;
-    act_once(alloc, action, mark_aborted(core))
+    act_once(alloc, action, core.mark_aborted())
 }
 
 /// In a collision of releases the requestor answers at once (AR-8).
-fn act_collision(alloc: Global, core: Core, now: u64) -> Result<Effect, AllocError>
+fn act_collision(alloc: Global, core: BoxedCore, now: u64) -> Result<Effect, AllocError>
     ensures { IfOk result (λ e. collides now core ≡ Ends e) }
 {
-    if core.phase.is_requestor() {
+    if core.is_requestor() {
         let done = answer_release(alloc, core, now)?;
         return Ok(done);
     }
@@ -286,7 +276,7 @@ fn act<P: DeskPort>(
     alloc: Global,
     action: Action,
     told: Told,
-    core: Core,
+    core: BoxedCore,
     port: &mut P,
     at: Moment,
 ) -> Result<Effect, AllocError>
@@ -304,12 +294,12 @@ fn act<P: DeskPort>(
         Action::Ar6 => hear(alloc, told, core, port, at),
         Action::Ar1 => ask_release(alloc, core, at.now),
         Action::Ar2 => leave_released(alloc, core, port, at),
-        Action::Ar3 => close(alloc, mark_released(core)),
+        Action::Ar3 => close(alloc, core.mark_released()),
         Action::Ar8 => act_collision(alloc, core, at.now),
         Action::Ar10 => answer_release(alloc, core, at.now),
         Action::Aa1 => leave_aborting(alloc, 0, 0, core, port, at),
         Action::Aa2 => leave_closing(alloc, note(&told, core), port, at),
-        Action::Aa3 => leave_closing(alloc, mark_aborted(core), port, at),
+        Action::Aa3 => leave_closing(alloc, core.mark_aborted(), port, at),
         Action::Aa4 => leave(none(alloc), core, port, at),
         Action::Aa5 => leave(none(alloc), core, port, at),
         Action::Aa7 => abort_closing(alloc, core),
@@ -323,7 +313,7 @@ fn meet<P: DeskPort>(
     alloc: Global,
     incoming: Incoming,
     told: Told,
-    core: Core,
+    core: BoxedCore,
     port: &mut P,
     at: Moment,
 ) -> Result<Effect, AllocError>
@@ -334,9 +324,9 @@ fn meet<P: DeskPort>(
     ensures done { IfOk result (λ e. Turns P.step (turn at core told) port.old e port.new) }
     ensures broke { OnErr result (Broke P.step (turn at core told) port.old port.new) }
 {
-    match core.phase.step(incoming, at.now) {
-        Ok((action, phase)) => act(alloc, action, told, Core { phase, ..core }, port, at),
-        Err(phase) => Ok(quiet(alloc, Core { phase, ..core })),
+    match core.step(incoming, at.now) {
+        Ok((action, core)) => act(alloc, action, told, core, port, at),
+        Err(core) => Ok(quiet(alloc, core)),
     }
 }
 
@@ -344,7 +334,7 @@ fn meet<P: DeskPort>(
 fn meet_abort<P: DeskPort>(
     alloc: Global,
     told: Told,
-    core: Core,
+    core: BoxedCore,
     port: &mut P,
     at: Moment,
 ) -> Result<Effect, AllocError>
@@ -355,16 +345,16 @@ fn meet_abort<P: DeskPort>(
     ensures done { IfOk result (λ e. Turns P.step (turn at core told) port.old e port.new) }
     ensures broke { OnErr result (Broke P.step (turn at core told) port.old port.new) }
 {
-    match core.phase.abort(at.now) {
-        Ok((action, phase)) => act(alloc, action, told, Core { phase, ..core }, port, at),
-        Err(phase) => Ok(quiet(alloc, Core { phase, ..core })),
+    match core.step_abort(at.now) {
+        Ok((action, core)) => act(alloc, action, told, core, port, at),
+        Err(core) => Ok(quiet(alloc, core)),
     }
 }
 
 /// The local user asks for the release.
 fn meet_release<P: DeskPort>(
     alloc: Global,
-    core: Core,
+    core: BoxedCore,
     port: &mut P,
     at: Moment,
 ) -> Result<Effect, AllocError>
@@ -372,22 +362,26 @@ fn meet_release<P: DeskPort>(
     ensures done { IfOk result (λ e. Turns P.step (turn at core (Told.Plain Input.ReleaseAsked)) port.old e port.new) }
     ensures broke { OnErr result (Broke P.step (turn at core (Told.Plain Input.ReleaseAsked)) port.old port.new) }
 {
-    if !is_idle_requestor(&core) {
+    if !is_idle_requestor(core.core()) {
         return Ok(quiet(alloc, core));
     }
-    match core.phase.release(at.now) {
-        Ok((action, phase)) => {
-            let told = Told::Plain(Input::ReleaseAsked);
-            act(alloc, action, told, Core { phase, ..core }, port, at)
-        }
-        Err(phase) => Ok(quiet(alloc, Core { phase, ..core })),
+    match core.step_release(at.now) {
+        Ok((action, core)) => act(
+            alloc,
+            action,
+            Told::Plain(Input::ReleaseAsked),
+            core,
+            port,
+            at,
+        ),
+        Err(core) => Ok(quiet(alloc, core)),
     }
 }
 
 /// The local user is to send what is due.
 fn meet_push<P: DeskPort>(
     alloc: Global,
-    core: Core,
+    core: BoxedCore,
     port: &mut P,
     at: Moment,
 ) -> Result<Effect, AllocError>
@@ -395,15 +389,12 @@ fn meet_push<P: DeskPort>(
     ensures done { IfOk result (λ e. Turns P.step (turn at core (Told.Plain Input.PushAsked)) port.old e port.new) }
     ensures broke { OnErr result (Broke P.step (turn at core (Told.Plain Input.PushAsked)) port.old port.new) }
 {
-    if !is_free(&core) {
+    if !is_free(core.core()) {
         return Ok(quiet(alloc, core));
     }
-    match core.phase.send(at.now) {
-        Ok((action, phase)) => {
-            let told = Told::Plain(Input::PushAsked);
-            act(alloc, action, told, Core { phase, ..core }, port, at)
-        }
-        Err(phase) => Ok(quiet(alloc, Core { phase, ..core })),
+    match core.step_data(at.now) {
+        Ok((action, core)) => act(alloc, action, Told::Plain(Input::PushAsked), core, port, at),
+        Err(core) => Ok(quiet(alloc, core)),
     }
 }
 
@@ -417,7 +408,7 @@ fn is_idle_requestor(core: &Core) -> bool
 /// Time has passed: the table's timer ends, or a requestor that has awaited an answer for too long aborts.
 fn meet_late<P: DeskPort>(
     alloc: Global,
-    core: Core,
+    core: BoxedCore,
     port: &mut P,
     at: Moment,
 ) -> Result<Effect, AllocError>
@@ -425,16 +416,13 @@ fn meet_late<P: DeskPort>(
     ensures done { IfOk result (λ e. Turns P.step (turn at core (Told.Plain Input.Late)) port.old e port.new) }
     ensures broke { OnErr result (Broke P.step (turn at core (Told.Plain Input.Late)) port.old port.new) }
 {
-    if core.phase.artim_has_expired(at.now) {
-        return match core.phase.late(at.now) {
-            Ok((action, phase)) => {
-                let told = Told::Plain(Input::Late);
-                act(alloc, action, told, Core { phase, ..core }, port, at)
-            }
-            Err(phase) => Ok(quiet(alloc, Core { phase, ..core })),
+    if core.core().phase.artim_has_expired(at.now) {
+        return match core.step_late(at.now) {
+            Ok((action, core)) => act(alloc, action, Told::Plain(Input::Late), core, port, at),
+            Err(core) => Ok(quiet(alloc, core)),
         };
     }
-    if is_impatient(&core, at.now) {
+    if is_impatient(core.core(), at.now) {
         return meet_abort(alloc, Told::Plain(Input::Late), core, port, at);
     }
     Ok(quiet(alloc, core))
@@ -461,7 +449,7 @@ fn has_awaited(awaits: Option<u64>, now: u64) -> bool
 fn meet_request<P: DeskPort>(
     alloc: Global,
     rq: AssociateRq,
-    core: Core,
+    core: BoxedCore,
     port: &mut P,
     at: Moment,
 ) -> Result<Effect, AllocError>
@@ -470,7 +458,7 @@ fn meet_request<P: DeskPort>(
     ensures done { IfOk result (λ e. Turns P.step (turn at core (Told.Plain (Input.Request rq))) port.old e port.new) }
     ensures broke { OnErr result (Broke P.step (turn at core (Told.Plain (Input.Request rq))) port.old port.new) }
 {
-    let acceptable = is_acceptable(alloc, &rq, &core, at)?;
+    let acceptable = is_acceptable(alloc, &rq, core.core(), at)?;
     let incoming = Incoming::AssociateRq { acceptable };
     let told = Told::Plain(Input::Request(rq));
     meet(alloc, incoming, told, core, port, at)
@@ -499,7 +487,7 @@ fn is_acceptable(
 fn turn_plain<P: DeskPort>(
     alloc: Global,
     input: Input,
-    core: Core,
+    core: BoxedCore,
     port: &mut P,
     at: Moment,
 ) -> Result<Effect, AllocError>
@@ -533,7 +521,7 @@ fn turn_plain<P: DeskPort>(
 fn turn_heard<P: DeskPort>(
     alloc: Global,
     input: Input,
-    core: Core,
+    core: BoxedCore,
     port: &mut P,
     at: Moment,
 ) -> Result<Effect, AllocError>
@@ -574,7 +562,7 @@ fn incoming_of(input: &Input) -> Incoming
 pub fn take_turn<P: DeskPort>(
     alloc: Global,
     told: Told,
-    core: Core,
+    core: BoxedCore,
     port: &mut P,
     at: Moment,
 ) -> Result<Effect, AllocError>
@@ -593,7 +581,7 @@ pub fn take_turn<P: DeskPort>(
 fn turn_looked<P: DeskPort>(
     alloc: Global,
     told: Told,
-    core: Core,
+    core: BoxedCore,
     port: &mut P,
     at: Moment,
 ) -> Result<Effect, AllocError>

@@ -10,7 +10,7 @@ pub returns-clause-ends : goal.returns-clause-ends
 returns-clause-ends g c =
     let E : Terminal → Type 0 = λ x. EndsAs g.L.Link.hears g.L.Link.sends g.L.Link.closes g.P.DeskPort.step (g.C.Clock.tells c.args.clock.now) c.args.others Receive c.run.result (place c.args.link.now c.args.port.now x)
     c.run.new.link c.run.new.port in
-    subst E (c.accept-end.ensures ∙ (ap (λ (s : Part). begins s.max_pdu (accepting s c.opened.result)) c.in_ok-site.ensures
+    subst E (c.in_ok-end.ensures ∙ (ap (λ (s : Part). begins s.max_pdu (accepting s c.opened.result)) c.in_ok-site.ensures
     ∙ ap (λ (n : ℕ). begins c.args.site.now.max_pdu (accepting c.args.site.now n)) c.opened.ensures.at)) c.run.ensures.ends
 
 pub returns-clause-counts : goal.returns-clause-counts
@@ -23,3 +23,11 @@ returns-in_err-site-clause-ends g c =
 
 pub returns-in_err-site-clause-counts : goal.returns-in_err-site-clause-counts
 returns-in_err-site-clause-counts g c = memory_counts c.from_residual.result _ _ c.from_residual.ensures.0 c.from_residual.ensures.1 (omega arith)
+
+pub returns-in_err-end-clause-ends : goal.returns-in_err-end-clause-ends
+returns-in_err-end-clause-ends g c =
+    ends_unbegun g.L.Link.hears g.L.Link.sends g.L.Link.closes g.P.DeskPort.step (g.C.Clock.tells c.args.clock.now) c.args.others Receive c.from_residual-in_err-end.result (place c.args.link.now c.args.port.now _)
+    c.from_residual-in_err-end.ensures.0 c.from_residual-in_err-end.ensures.1
+
+pub returns-in_err-end-clause-counts : goal.returns-in_err-end-clause-counts
+returns-in_err-end-clause-counts g c = memory_counts c.from_residual-in_err-end.result _ _ c.from_residual-in_err-end.ensures.0 c.from_residual-in_err-end.ensures.1 (omega arith)

@@ -1,14 +1,14 @@
-use Rattle.std.proofs.Common.{Some, ◌∙◌}
-use Rattle.dr_session.proofs.Ending.{begin_as, requesting_as, opens_not}
+use Rattle.std.proofs.Common.{ℕ, Some, ap, ◌∙◌}
+use Rattle.dr_session.specs.Ends.{begins, requesting}
+use Rattle.dr_session.proofs.Ending.{opens_not}
 use Rattle.dr_session.proofs.end.End.request.Goals as goal
 
 pub returns : goal.returns
 returns c = (
   c.in_ok-proposal.proposal,
   c.in_ok-proposal.ensures.proposes.1,
-  begin_as c.new-ear.result c.requestor-core.result _ c.args.site.max_pdu c.max_pdu.result c.new-ear.ensures c.max_pdu.ensures
-      (c.requestor-core.ensures ∙ requesting_as (Some c.args.site) c.in_ok-clone.field-0 c.args.dest.now c.in_ok-proposal-2.proposal c.in_ok-proposal.proposal c.args.now c.in_ok-clone.ensures c.in_ok-proposal-2.ensures.same),
-  c.in_ok-proposal-2.ensures.actions,
+  c.in_ok-opened.ensures.end ∙ ap (λ (n : ℕ). begins n (requesting (Some c.args.site) c.args.dest.now c.in_ok-proposal.proposal c.args.now)) c.max_pdu-limit.ensures,
+  c.in_ok-opened.ensures.actions,
 )
 
 pub returns-in_err-proposal : goal.returns-in_err-proposal

@@ -9,4 +9,4 @@ use Rattle.dr_session.proofs.react.acceptor.reject.Goals as goal
 pub returns : goal.returns
 returns c =
     acted c.act_once.result c.in_ok-action.action (write (AssociateRj c.args.rejection ∷ [])) c.mark_rejected.result (rejected c.args.rejection (stepped_by RejectResponse c.args.at.now c.args.core))
-    c.act_once.ensures c.in_ok-action.ensures (c.mark_rejected.ensures ∙ ap (λ (x : Core). rejected c.args.rejection x) c.step_reject.ensures)
+    c.act_once.ensures c.in_ok-action.ensures (c.mark_rejected.ensures ∙ ap (λ (x : Core). rejected c.args.rejection x) c.reject.ensures)

@@ -8,9 +8,9 @@ use Rattle.dr_session.proofs.react.leaving.abort.Goals as goal
 pub returns-clause-done : goal.returns-clause-done
 returns-clause-done g c =
     left_done g.P.DeskPort.step c.args.at c.leave_with.result c.in_ok-action.action (write (abort_pdu 0 0 ∷ [])) c.mark_aborted.result (aborted (stepped_by AbortRequest c.args.at.now c.args.core)) c.args.port.now c.leave_with.new.port
-    c.in_ok-action.ensures (c.mark_aborted.ensures ∙ ap (λ (x : Core). aborted x) c.step_abort.ensures) c.leave_with.ensures.done
+    c.in_ok-action.ensures (c.mark_aborted.ensures ∙ ap (λ (x : Core). aborted x) c.abort.ensures) c.leave_with.ensures.done
 
 pub returns-clause-broke : goal.returns-clause-broke
 returns-clause-broke g c =
     left_broke g.P.DeskPort.step c.args.at c.leave_with.result c.in_ok-action.action (write (abort_pdu 0 0 ∷ [])) c.mark_aborted.result (aborted (stepped_by AbortRequest c.args.at.now c.args.core)) c.args.port.now c.leave_with.new.port
-    c.in_ok-action.ensures (c.mark_aborted.ensures ∙ ap (λ (x : Core). aborted x) c.step_abort.ensures) c.leave_with.ensures.broke
+    c.in_ok-action.ensures (c.mark_aborted.ensures ∙ ap (λ (x : Core). aborted x) c.abort.ensures) c.leave_with.ensures.broke

@@ -7,6 +7,6 @@ use Rattle.dr_session.proofs.react.leaving.abort_desk.Goals as goal
 
 pub returns : goal.returns
 returns c =
-    acted_so c.act_once.result c.in_ok-action.action (write (abort_pdu 0 0 ∷ [])) c.fail_desk-core.result (desk_failed (aborted (left (stepped_by AbortRequest c.args.at.now c.args.core))))
+    acted_so c.act_once.result c.in_ok-action.action (write (abort_pdu 0 0 ∷ [])) c.fail_desk.result (desk_failed (aborted (left (stepped_by AbortRequest c.args.at.now c.args.core))))
     c.act_once.ensures c.in_ok-action.ensures
-    (c.fail_desk-core.ensures ∙ ap (λ (x : Core). desk_failed x) (c.mark_aborted.ensures ∙ ap (λ (x : Core). aborted x) (c.leave_pending.ensures ∙ ap (λ (x : Core). left x) c.step_abort.ensures)))
+    (c.fail_desk.ensures ∙ ap (λ (x : Core). desk_failed x) (c.mark_aborted.ensures ∙ ap (λ (x : Core). aborted x) (c.leave_pending-core.ensures ∙ ap (λ (x : Core). left x) c.abort.ensures)))
