@@ -3,7 +3,7 @@ ghost use Rattle.std.specs.Prelude.{◌≡◌, ◌≤◌, ◌^◌, IfOk, Ok, OnE
 ghost use Rattle.std.specs.FinMap as map;
 ghost use Rattle.std.specs.List.{list_any};
 ghost use Rattle.dr_nego.specs.Proposing.{IsHopTo};
-ghost use Rattle.dr_session.specs.Ends.{OpensTo};
+ghost use Rattle.dr_session.specs.Ends.{OpensTo, accepting, begins};
 ghost use Rattle.dr_site.specs.Parts.{ends_at};
 ghost use Rattle.dr_sound.specs.declared.certificate.Hop.{Hop as HopValue};
 ghost use Rattle.dr_node.specs.Sides.{Accepts, Does, MeetsAt, MeetsEvent, Opens, Pushes, is_other as other_of, is_taken as taken_of, others, state_of_side};
@@ -150,7 +150,7 @@ impl Links {
         if self.is_known(link) {
             return Err(NodeFault::LinkKnown);
         }
-        let end = accept_at(alloc, site, now)?;
+        let end = accept(alloc, site, now)?;
         let accepted = true;
         self.put(link, Side { end, accepted })?;
         Ok(())
@@ -283,6 +283,15 @@ fn has_hop(hops: &[Hop], dest: &Text) -> bool
     ensures { result ≡ list_any (ends_at dest.now) hops.now }
 {
     hops.iter().any(|hop| hop.to == *dest)
+}
+
+/// An acceptor's end of a connection that was opened at that moment.
+fn accept(alloc: Global, site: &Site, now: u64) -> Result<End, AllocError>
+    ensures { IfOk result (λ end. end ≡ begins site.now.max_pdu (accepting site.now now)) }
+{
+    let site = site.copy()?;
+    let end = End::accept(alloc, site, now)?;
+    Ok(end)
 }
 
 /// A requestor's end for a hop that the site has, and what it writes at once.

@@ -49,7 +49,7 @@ impl BoxedCore {
     }
 
     /// The core by reference.
-    pub fn core(&self) -> &Core
+    pub fn as_core(&self) -> &Core
         ensures { result.now ≡ self.now }
     {
         self.core.as_ref()

@@ -32,14 +32,14 @@ pub fn is_free(core: &Core) -> bool
 pub fn ask_echo(alloc: Global, core: BoxedCore, now: u64) -> Result<Effect, AllocError>
     ensures { IfOk result (λ e. e ≡ echoes_by core.agreed now core) }
 {
-    let Some(agreed) = &core.core().agreed else {
+    let Some(agreed) = &core.as_core().agreed else {
         return Ok(quiet(alloc, core));
     };
     let class = Text::copy_of(alloc, VERIFICATION)?;
     let Some(context) = agreed.context_for(&class, Syntax::Implicit) else {
         return Ok(quiet(alloc, core));
     };
-    let id = next_id(core.core().last);
+    let id = next_id(core.as_core().last);
     let action = write_echo(alloc, agreed, context, id, class)?;
     act_once(
         alloc,

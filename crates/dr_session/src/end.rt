@@ -134,7 +134,7 @@ impl End {
         if core.state() != State::Sta1 {
             return None;
         }
-        let marks = &core.core().marks;
+        let marks = &core.as_core().marks;
         if marks.desk_failed {
             return Some(Over::Desk);
         }
@@ -146,7 +146,7 @@ impl End {
         ensures { result ≡ is_free_in self.now.core }
     {
         match &self.core {
-            Some(core) => is_free(core.core()),
+            Some(core) => is_free(core.as_core()),
             None => false,
         }
     }
@@ -156,7 +156,7 @@ impl End {
         ensures { result ≡ is_dry_in self.now.core }
     {
         match &self.core {
-            Some(core) => core.core().dry,
+            Some(core) => core.as_core().dry,
             None => false,
         }
     }

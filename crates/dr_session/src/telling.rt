@@ -33,7 +33,7 @@ pub fn tell(alloc: Global, input: Input, core: BoxedCore) -> Result<(Told, Boxed
         }
         Input::Acceptance(ac) => {
             if awaits_answer(core.state()) {
-                let told = tell_acceptance(alloc, ac, core.core());
+                let told = tell_acceptance(alloc, ac, core.as_core());
                 return Ok((told, core));
             }
             Ok((Told::Plain(Input::Acceptance(ac)), core))

@@ -81,7 +81,7 @@ impl BoxedCore {
     {
         let marks = Marks {
             desk_failed: true,
-            ..self.core().marks
+            ..self.as_core().marks
         };
         self.mark(marks)
     }
@@ -92,7 +92,7 @@ impl BoxedCore {
     {
         let marks = Marks {
             aborted: true,
-            ..self.core().marks
+            ..self.as_core().marks
         };
         self.mark(marks)
     }
@@ -103,7 +103,7 @@ impl BoxedCore {
     {
         let marks = Marks {
             released: true,
-            ..self.core().marks
+            ..self.as_core().marks
         };
         self.mark(marks)
     }
@@ -114,7 +114,7 @@ impl BoxedCore {
     {
         let marks = Marks {
             rejection: Some(rejection),
-            ..self.core().marks
+            ..self.as_core().marks
         };
         self.mark(marks)
     }

@@ -61,7 +61,7 @@ fn reply(
     requires { Fits command }
     ensures { IfOk result (λ e. e ≡ effect (says core context command ∷ []) core) }
 {
-    let action = say(alloc, core.core(), context, command)?;
+    let action = say(alloc, core.as_core(), context, command)?;
     act_once(alloc, action, core)
 }
 
@@ -325,7 +325,7 @@ pub fn decide<P: DeskPort>(
     ensures done { IfOk result (λ e. Turns P.step (decides_at core.site at rq core) port.old e port.new) }
     ensures broke { OnErr result (Broke P.step (decides_at core.site at rq core) port.old port.new) }
 {
-    let Some(site) = &core.core().site else {
+    let Some(site) = &core.as_core().site else {
         return Ok(quiet(alloc, core));
     };
     match answer(alloc, &rq, &Policy { site }, at.others)? {

@@ -56,7 +56,7 @@ pub fn leave<P: DeskPort>(
     ensures done { IfOk result (λ e. Turns P.step (leaves at acts core) port.old e port.new) }
     ensures broke { OnErr result (Broke P.step (leaves at acts core) port.old port.new) }
 {
-    let Some(pending) = &core.core().pending else {
+    let Some(pending) = &core.as_core().pending else {
         return Ok(Effect {
             acts,
             core: core.leave_pending(),

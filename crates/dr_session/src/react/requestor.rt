@@ -101,7 +101,7 @@ pub fn hear_response<P: DeskPort>(
     let Some(status) = status else {
         return abort(alloc, core, port, at);
     };
-    let Some(pending) = &core.core().pending else {
+    let Some(pending) = &core.as_core().pending else {
         return abort(alloc, core, port, at);
     };
     match port.settle(&pending.uid, core.peer(), Outcome::Status(status), at.now) {
@@ -201,7 +201,7 @@ fn give<P: DeskPort>(
     ensures done { IfOk result (λ e. Turns P.step (gives core.agreed at job core) port.old e port.new) }
     ensures broke { OnErr result (Broke P.step (gives core.agreed at job core) port.old port.new) }
 {
-    let Some(agreed) = &core.core().agreed else {
+    let Some(agreed) = &core.as_core().agreed else {
         return Ok(quiet(alloc, core));
     };
     match context_of(agreed, &job) {
@@ -221,8 +221,8 @@ fn give_in(
     requires { can_be_named job ≡ true }
     ensures { IfOk result (λ e. (agreed : AgreedOn) → core.agreed ≡ Some agreed → gives_in (Some context) agreed at job core ≡ Ends e) }
 {
-    let id = next_id(core.core().last);
-    let action = write_in(alloc, context, id, &job, core.core())?;
+    let id = next_id(core.as_core().last);
+    let action = write_in(alloc, context, id, &job, core.as_core())?;
     act_once(alloc, action, core.await_response(id, uid_of(job), at.now))
 }
 

@@ -233,13 +233,8 @@ fn leave_released<P: DeskPort>(
     ensures broke { OnErr result (Broke P.step (leaves at (write (pdu.ReleaseRp ∷ []) ∷ []) (released (stepped_by ReleaseResponse at.now core))) port.old port.new) }
 {
     let action = write_release_answer(alloc)?;
-    leave_with(
-        alloc,
-        action,
-        core.respond(at.now).mark_released(),
-        port,
-        at,
-    )
+    let core = core.respond(at.now).mark_released();
+    leave_with(alloc, action, core, port, at)
 }
 
 /// An A-ABORT that was read is noted.
@@ -362,7 +357,7 @@ fn meet_release<P: DeskPort>(
     ensures done { IfOk result (λ e. Turns P.step (turn at core (Told.Plain Input.ReleaseAsked)) port.old e port.new) }
     ensures broke { OnErr result (Broke P.step (turn at core (Told.Plain Input.ReleaseAsked)) port.old port.new) }
 {
-    if !is_idle_requestor(core.core()) {
+    if !is_idle_requestor(core.as_core()) {
         return Ok(quiet(alloc, core));
     }
     match core.step_release(at.now) {
@@ -389,7 +384,7 @@ fn meet_push<P: DeskPort>(
     ensures done { IfOk result (λ e. Turns P.step (turn at core (Told.Plain Input.PushAsked)) port.old e port.new) }
     ensures broke { OnErr result (Broke P.step (turn at core (Told.Plain Input.PushAsked)) port.old port.new) }
 {
-    if !is_free(core.core()) {
+    if !is_free(core.as_core()) {
         return Ok(quiet(alloc, core));
     }
     match core.step_data(at.now) {
@@ -416,13 +411,13 @@ fn meet_late<P: DeskPort>(
     ensures done { IfOk result (λ e. Turns P.step (turn at core (Told.Plain Input.Late)) port.old e port.new) }
     ensures broke { OnErr result (Broke P.step (turn at core (Told.Plain Input.Late)) port.old port.new) }
 {
-    if core.core().phase.artim_has_expired(at.now) {
+    if core.as_core().phase.artim_has_expired(at.now) {
         return match core.step_late(at.now) {
             Ok((action, core)) => act(alloc, action, Told::Plain(Input::Late), core, port, at),
             Err(core) => Ok(quiet(alloc, core)),
         };
     }
-    if is_impatient(core.core(), at.now) {
+    if is_impatient(core.as_core(), at.now) {
         return meet_abort(alloc, Told::Plain(Input::Late), core, port, at);
     }
     Ok(quiet(alloc, core))
@@ -458,7 +453,7 @@ fn meet_request<P: DeskPort>(
     ensures done { IfOk result (λ e. Turns P.step (turn at core (Told.Plain (Input.Request rq))) port.old e port.new) }
     ensures broke { OnErr result (Broke P.step (turn at core (Told.Plain (Input.Request rq))) port.old port.new) }
 {
-    let acceptable = is_acceptable(alloc, &rq, core.core(), at)?;
+    let acceptable = is_acceptable(alloc, &rq, core.as_core(), at)?;
     let incoming = Incoming::AssociateRq { acceptable };
     let told = Told::Plain(Input::Request(rq));
     meet(alloc, incoming, told, core, port, at)

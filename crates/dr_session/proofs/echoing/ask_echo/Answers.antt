@@ -19,7 +19,7 @@ use Rattle.dr_session.proofs.echoing.ask_echo.Goals as goal
 pub returns-in_default : goal.returns-in_default
 returns-in_default c =
     let P : Option Agreed → Type 0 = λ o. c.quiet.result ≡ echoes_by o c.args.now c.args.core in
-    subst P (sym (ap (λ (x : Core). x.agreed) (sym c.core.ensures) ∙ c.in_default.is)) c.quiet.ensures
+    subst P (sym (ap (λ (x : Core). x.agreed) (sym c.as_core.ensures) ∙ c.in_default.is)) c.quiet.ensures
 
 pub returns-in_default-context_for : goal.returns-in_default-context_for
 returns-in_default-context_for c =
@@ -27,7 +27,7 @@ returns-in_default-context_for c =
     ap (λ (t : Text). context_for c.in-Some.agreed t (syntax_uid Implicit)) (sym c.in_ok-class.ensures) ∙ (sym c.context_for.ensures ∙ c.in_default-context_for.is) in
     let P : Option Agreed → Type 0 = λ o. c.quiet-in_default-context_for.result ≡ echoes_by o c.args.now c.args.core in
     let Q : Option ℕ → Type 0 = λ o. c.quiet-in_default-context_for.result ≡ echoes_in o c.in-Some.agreed c.args.now c.args.core in
-    subst P (sym (ap (λ (x : Core). x.agreed) (sym c.core.ensures) ∙ c.in-Some.is)) (subst Q (sym none) c.quiet-in_default-context_for.ensures)
+    subst P (sym (ap (λ (x : Core). x.agreed) (sym c.as_core.ensures) ∙ c.in-Some.is)) (subst Q (sym none) c.quiet-in_default-context_for.ensures)
 
 pub write_echo-requires : goal.write_echo-requires
 write_echo-requires c = c.in_ok-class.ensures
@@ -36,7 +36,7 @@ pub returns : goal.returns
 returns c =
     let some : context_for c.in-Some.agreed verification (syntax_uid Implicit) ≡ Some c.in-Some-context_for.context =
     ap (λ (t : Text). context_for c.in-Some.agreed t (syntax_uid Implicit)) (sym c.in_ok-class.ensures) ∙ (sym c.context_for.ensures ∙ c.in-Some-context_for.is) in
-    let id : c.next_id-id.result ≡ id_after c.args.core.last = c.next_id-id.ensures ∙ ap (λ (x : Core). id_after x.last) c.core-2.ensures in
+    let id : c.next_id-id.result ≡ id_after c.args.core.last = c.next_id-id.ensures ∙ ap (λ (x : Core). id_after x.last) c.as_core-2.ensures in
     let act : LinkAction = write (command_pdus c.in-Some.agreed.limit c.in-Some-context_for.context (EchoRq (id_after c.args.core.last) verification false)) in
     let said : c.in_ok-action.action ≡ act =
     c.in_ok-action.ensures ∙ ap (λ (i : ℕ). write (command_pdus c.in-Some.agreed.limit c.in-Some-context_for.context (EchoRq i verification false))) id in
@@ -46,4 +46,4 @@ returns c =
     ∙ ap (λ (t : Text). awaiting (pending (id_after c.args.core.last) t) c.args.now c.args.core) c.empty.ensures) in
     let P : Option Agreed → Type 0 = λ o. IfOk c.act_once.result (λ (e : Effect). e ≡ echoes_by o c.args.now c.args.core) in
     let Q : Option ℕ → Type 0 = λ o. IfOk c.act_once.result (λ (e : Effect). e ≡ echoes_in o c.in-Some.agreed c.args.now c.args.core) in
-    subst P (sym (ap (λ (x : Core). x.agreed) (sym c.core.ensures) ∙ c.in-Some.is)) (subst Q (sym some) (acted c.act_once.result c.in_ok-action.action act c.await_response.result after c.act_once.ensures said core))
+    subst P (sym (ap (λ (x : Core). x.agreed) (sym c.as_core.ensures) ∙ c.in-Some.is)) (subst Q (sym some) (acted c.act_once.result c.in_ok-action.action act c.await_response.result after c.act_once.ensures said core))

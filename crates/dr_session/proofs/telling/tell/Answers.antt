@@ -21,12 +21,12 @@ returns-else-takes_data-clause-tells c =
     (λ takes. false_not c.takes_data.result (c.takes_data.ensures.1 (subst (λ (s : State). TakesData s) (sym c.state.ensures) takes)) c.if-takes_data.false))
 
 pub tell_acceptance-told-requires : goal.tell_acceptance-told-requires
-tell_acceptance-told-requires c = ap (λ (x : Core). state_at x) c.core.ensures ∙ (sym c.state-in-Acceptance.ensures ∙ c.awaits_answer.ensures.0 c.if-awaits_answer.true)
+tell_acceptance-told-requires c = ap (λ (x : Core). state_at x) c.as_core.ensures ∙ (sym c.state-in-Acceptance.ensures ∙ c.awaits_answer.ensures.0 c.if-awaits_answer.true)
 
 pub returns-then-awaits_answer-clause-tells : goal.returns-then-awaits_answer-clause-tells
 returns-then-awaits_answer-clause-tells c =
     let T : Core → Type 0 = λ x. TellsTo x (Acceptance c.in-Acceptance.ac) c.tell_acceptance-told.result x in
-    told_by c.args.core c.args.core c.args.input (Acceptance c.in-Acceptance.ac) c.tell_acceptance-told.result c.in-Acceptance.is (subst T c.core.ensures c.tell_acceptance-told.ensures.tells)
+    told_by c.args.core c.args.core c.args.input (Acceptance c.in-Acceptance.ac) c.tell_acceptance-told.result c.in-Acceptance.is (subst T c.as_core.ensures c.tell_acceptance-told.ensures.tells)
 
 pub returns-else-awaits_answer-clause-tells : goal.returns-else-awaits_answer-clause-tells
 returns-else-awaits_answer-clause-tells c =

@@ -7,8 +7,8 @@ use Rattle.dr_session.specs.Ends.{begins, requesting}
 use Rattle.dr_session.specs.Reactions.{write}
 use Rattle.dr_session.proofs.end.End.request_echo.Goals as goal
 
-pub open-opened-requires : goal.open-opened-requires
-open-opened-requires c =
+pub open-requires : goal.open-requires
+open-requires c =
     let P : AssociateRq → Type 0 = λ rq. Fits (pdus.AssociateRq rq) in
     subst P (sym c.in_ok-proposal.ensures) (echoes_fit c.args.caller.now c.args.called.now c.requires.caller c.requires.called)
 

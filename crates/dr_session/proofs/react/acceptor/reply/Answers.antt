@@ -7,4 +7,4 @@ use Rattle.dr_session.proofs.react.acceptor.reply.Goals as goal
 pub returns : goal.returns
 returns c =
     acted c.act_once.result c.in_ok-action.action (says c.args.core c.args.context c.args.command) c.args.core c.args.core c.act_once.ensures
-    (c.in_ok-action.ensures ∙ ap (λ (x : Core). says x c.args.context c.args.command) c.core.ensures) refl
+    (c.in_ok-action.ensures ∙ ap (λ (x : Core). says x c.args.context c.args.command) c.as_core.ensures) refl

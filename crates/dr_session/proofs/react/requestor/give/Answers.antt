@@ -7,7 +7,7 @@ use Rattle.dr_session.proofs.react.requestor.give.Goals as goal
 pub returns-in-Some-context_of-clause-done : goal.returns-in-Some-context_of-clause-done
 returns-in-Some-context_of-clause-done g c =
     given_at g.P.DeskPort.step c.args.core c.in-Some.agreed c.in-Some-context_of.context c.args.at c.args.job c.give_in.result c.args.port.now
-    (ap (λ (x : Core). x.agreed) (sym c.core.ensures) ∙ c.in-Some.is) c.in-Some-context_of.ensures c.give_in.ensures
+    (ap (λ (x : Core). x.agreed) (sym c.as_core.ensures) ∙ c.in-Some.is) c.in-Some-context_of.ensures c.give_in.ensures
 
 pub returns-in-Some-context_of-clause-broke : goal.returns-in-Some-context_of-clause-broke
 returns-in-Some-context_of-clause-broke g c = broke_at g.P.DeskPort.step (gives c.args.core.agreed c.args.at c.args.job c.args.core) c.give_in.result c.args.port.now

@@ -8,10 +8,10 @@ use Rattle.dr_session.proofs.react.turning.leave_released.Goals as goal
 
 pub returns-clause-done : goal.returns-clause-done
 returns-clause-done g c =
-    left_done g.P.DeskPort.step c.args.at c.leave_with.result c.in_ok-action.action (write (ReleaseRp ∷ [])) c.mark_released.result (released (stepped_by ReleaseResponse c.args.at.now c.args.core)) c.args.port.now c.leave_with.new.port
-    c.in_ok-action.ensures (c.mark_released.ensures ∙ ap (λ (x : Core). released x) c.respond.ensures) c.leave_with.ensures.done
+    left_done g.P.DeskPort.step c.args.at c.leave_with.result c.in_ok-action.action (write (ReleaseRp ∷ [])) c.mark_released-core.result (released (stepped_by ReleaseResponse c.args.at.now c.args.core)) c.args.port.now c.leave_with.new.port
+    c.in_ok-action.ensures (c.mark_released-core.ensures ∙ ap (λ (x : Core). released x) c.respond.ensures) c.leave_with.ensures.done
 
 pub returns-clause-broke : goal.returns-clause-broke
 returns-clause-broke g c =
-    left_broke g.P.DeskPort.step c.args.at c.leave_with.result c.in_ok-action.action (write (ReleaseRp ∷ [])) c.mark_released.result (released (stepped_by ReleaseResponse c.args.at.now c.args.core)) c.args.port.now c.leave_with.new.port
-    c.in_ok-action.ensures (c.mark_released.ensures ∙ ap (λ (x : Core). released x) c.respond.ensures) c.leave_with.ensures.broke
+    left_broke g.P.DeskPort.step c.args.at c.leave_with.result c.in_ok-action.action (write (ReleaseRp ∷ [])) c.mark_released-core.result (released (stepped_by ReleaseResponse c.args.at.now c.args.core)) c.args.port.now c.leave_with.new.port
+    c.in_ok-action.ensures (c.mark_released-core.ensures ∙ ap (λ (x : Core). released x) c.respond.ensures) c.leave_with.ensures.broke
