@@ -59,6 +59,8 @@ fn unmarked() -> Marks
 
 impl End {
     /// The acceptor of a transport connection that was opened at this moment, in milliseconds.
+    ///
+    /// Errors: AllocError.
     pub fn accept(alloc: Global, site: Site, now: u64) -> Result<End, AllocError>
         ensures { IfOk result (λ end. end ≡ begins site.max_pdu (accepting site now)) }
     {
