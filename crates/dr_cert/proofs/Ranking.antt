@@ -1,8 +1,8 @@
 -- A rank found by the cell of a key.
-use Rattle.std.proofs.Common.{ℕ, refl, List, Contains}
+use Rattle.std.proofs.Common.{ℕ, List, Contains}
 use Rattle.std.specs.Prelude.{◌↔◌}
 use Rattle.dr_base.specs.Texts.{Text}
-use Rattle.dr_route.specs.Cells.{InField, InStation}
+use Rattle.dr_route.specs.Cells.{InField, InStation, InCell}
 use Rattle.dr_route.specs.Laws.{key_of}
 use Rattle.dr_route.specs.declared.key.Key.{Key}
 use Rattle.dr_route.specs.declared.cell.FieldValues.{FieldValues}
@@ -43,13 +43,12 @@ station_alike a b (station.Prefix prefix) value same alike h = (
 )
 station_alike a b station.Rest value same alike h = (λ among. h.0 ((same value).1 among), λ prefix among begins. h.1 prefix ((alike prefix).1 among) begins)
 
-pub lies_there : (plan : Network) (literals : Literals) (key : Key) (modality : OwnedField) (station : OwnedStation) → AreLiteralsOf plan literals → InField literals.modalities modality key.modality →
-    InStation literals.stations station key.station → LiesIn plan (record { class = key.class; syntax = key.syntax; modality = modality; station = station }) key
-lies_there plan literals key modality station are m s = record {
-  class = refl;
-  syntax = refl;
-  modality = field_alike literals.modalities (literals_of plan).modalities modality key.modality are.modalities m;
-  station = station_alike literals.stations (literals_of plan).stations station key.station are.stations are.prefixes s;
+pub lies_there : (plan : Network) (literals : Literals) (key : Key) (cell : OwnedCell) → AreLiteralsOf plan literals → InCell literals cell key → LiesIn plan cell key
+lies_there plan literals key cell are lies = record {
+  class = lies.class;
+  syntax = lies.syntax;
+  modality = field_alike literals.modalities (literals_of plan).modalities cell.modality key.modality are.modalities lies.modality;
+  station = station_alike literals.stations (literals_of plan).stations cell.station key.station are.stations are.prefixes lies.station;
 }
 
 module _ (plan : Network) (formed : IsWellFormed plan) (index : List Line) (ranked : AreRanked plan index) (key : Key) (cell : OwnedCell) (lies : LiesIn plan cell key) (caller node : Text) where

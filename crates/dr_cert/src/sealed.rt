@@ -11,8 +11,7 @@ use crate::verify::{test_lines, test_order};
 use dr_base::Text;
 use dr_network::Plan;
 use dr_network::literals::literals;
-use dr_route::cell::{field_of, station_of};
-use dr_route::{Key, Literals};
+use dr_route::{Key, Literals, cell_of};
 use dr_sound::{Certificate, Line};
 use std::alloc::{AllocError, Global};
 use std::marker::Model;
@@ -114,14 +113,7 @@ impl Sealed {
     pub fn rank(&self, caller: &Text, node: &Text, key: &Key) -> Option<u32>
         ensures { IsRankIn self.now.plan key.now caller.now node.now result }
     {
-        let stop = Place::new(
-            caller,
-            node,
-            &key.class,
-            key.syntax,
-            field_of(&self.literals.modalities, &key.modality),
-            station_of(&self.literals.stations, &key.station),
-        );
+        let stop = Place::new(caller, node, cell_of(&self.literals, key));
         match rank_of(self.index.as_slice(), &stop) {
             Some(rank) => Some(rank),
             None => None,

@@ -5,3 +5,4 @@ pub mod Narrowing
 pub mod Visits
 pub mod Orders
 pub mod Wanted
+pub mod RowLemmas

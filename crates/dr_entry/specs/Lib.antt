@@ -1,4 +1,5 @@
 pub mod Entering
 pub mod InOrder
 pub mod Laws
+pub mod Listing
 pub mod Visiting

@@ -5,6 +5,7 @@
 pub mod fields;
 pub mod laws;
 pub mod narrow;
+pub mod rows;
 pub mod stations;
 pub mod sweep;
 pub mod visit;

@@ -3,14 +3,18 @@ ghost use Rattle.std.specs.Prelude.{◌≡◌, ◌↔◌, IsTrue, IfOk, MatchOpt
 ghost use Rattle.dr_route.specs.declared.cell.OwnedField.{OwnedField as FieldValue};
 ghost use Rattle.dr_route.specs.declared.cell.OwnedStation.{OwnedStation as StationValue};
 ghost use Rattle.dr_route.specs.declared.cell.OwnedCell.{OwnedCell as CellValue};
+ghost use Rattle.dr_base.specs.Texts.{Text as Words, IsInByteOrder};
 ghost use Rattle.dr_network.specs.declared.plan.Flow.{Flow as FlowValue};
+ghost use Rattle.dr_network.specs.Naming.{listed as listed_by, listed_stations};
+ghost use Rattle.dr_network.specs.Listings.{IsListedBy, AreListedBy};
 ghost use Rattle.dr_route.specs.Cells.{owned_field};
 ghost use Rattle.dr_entry.specs.Entering.{Admits, AdmitsStation, SpeaksOf, SpeaksAt, NoneSpeaks, TakesIn, AreNarrowed};
 ghost use Rattle.dr_entry.specs.Entering.{AllBelow};
 
 use dr_base::{Syntax, Text};
 use dr_network::sending::begins_one;
-use dr_network::{Flow, Plan, Stations, Values};
+use dr_network::{Flow, Listed, Stations, Values};
+use dr_route::names::is_in_set;
 use dr_route::{OwnedField, OwnedStation};
 use std::alloc::{AllocError, Global};
 
@@ -24,19 +28,24 @@ pub enum Part<'a> {
     Station(&'a OwnedStation),
 }
 
-/// Whether the flow's values take in the part of the field.
-fn admits(values: &Values, field: &OwnedField) -> bool
+/// Whether the flow's values take in the part of the field; what it lists is this set.
+fn admits(values: &Values, set: &[Text], field: &OwnedField) -> bool
+    requires same { (t : Words) → Contains set.now t ↔ Contains (listed_by values.now) t }
+    requires ordered { IsInByteOrder set.now }
     ensures { IsTrue result ↔ Admits values.now field.now }
 {
     match (values, field) {
         (Values::Any, _) => true,
-        (Values::Listed(texts), OwnedField::Literal(literal)) => texts.as_slice().contains(literal),
+        (Values::Listed(_), OwnedField::Literal(literal)) => is_in_set(set, literal),
         (Values::Listed(_), OwnedField::Rest) => false,
     }
 }
 
-/// Whether the flow's stations take in the part: a prefix is taken in where it begins with a listed one.
-fn admits_station(stations: &Stations, part: &OwnedStation) -> bool
+/// Whether the flow's stations take in the part: a prefix is taken in where it begins with a listed one. The single
+/// stations that it lists are this set.
+fn admits_station(stations: &Stations, set: &[Text], part: &OwnedStation) -> bool
+    requires same { (t : Words) → Contains set.now t ↔ Contains (listed_stations stations.now) t }
+    requires ordered { IsInByteOrder set.now }
     ensures { IsTrue result ↔ AdmitsStation stations.now part.now }
 {
     let Stations::Listed(values) = stations else {
@@ -44,24 +53,24 @@ fn admits_station(stations: &Stations, part: &OwnedStation) -> bool
     };
     match part {
         OwnedStation::Literal(literal) => {
-            values.literals.as_slice().contains(literal)
-                || begins_one(values.prefixes.as_slice(), literal)
+            is_in_set(set, literal) || begins_one(values.prefixes.as_slice(), literal)
         }
         OwnedStation::Prefix(prefix) => begins_one(values.prefixes.as_slice(), prefix),
         OwnedStation::Rest => false,
     }
 }
 
-/// Whether the flow speaks of the value.
-fn speaks_of(flow: &Flow, part: &Part<'_>) -> bool
+/// Whether the flow, which lists this, speaks of the value.
+fn speaks_of(flow: &Flow, listed: &Listed, part: &Part<'_>) -> bool
+    requires { IsListedBy flow.now listed.now }
     ensures { IsTrue result ↔ SpeaksOf flow.now part.now }
 {
     match part {
         Part::Site(site) => flow.at == **site,
         Part::Class(class) => flow.classes.as_slice().contains(class),
         Part::Syntax(syntax) => flow.syntaxes.as_slice().contains(syntax),
-        Part::Modality(field) => admits(&flow.modalities, field),
-        Part::Station(part) => admits_station(&flow.stations, part),
+        Part::Modality(field) => admits(&flow.modalities, listed.modalities.as_slice(), field),
+        Part::Station(part) => admits_station(&flow.stations, listed.stations.as_slice(), part),
     }
 }
 
@@ -69,15 +78,17 @@ fn speaks_of(flow: &Flow, part: &Part<'_>) -> bool
 pub fn narrowed(
     alloc: Global,
     flows: &[Flow],
+    all: &[Listed],
     among: &[usize],
     part: &Part<'_>,
 ) -> Result<Vec<usize>, AllocError>
-    requires { AllBelow among.now flows.now }
+    requires below { AllBelow among.now flows.now }
+    requires listed { AreListedBy flows.now all.now }
     ensures { IfOk result (λ v. AreNarrowed flows.now among.now part.now v.items) }
 {
     let mut found = Vec::new(alloc);
     for place in among {
-        if speaks_of(&flows[*place], part) {
+        if speaks_of(&flows[*place], &all[*place], part) {
             found.push(*place)?;
         }
     }
@@ -85,12 +96,18 @@ pub fn narrowed(
 }
 
 /// The first of the places at which a flow speaks of the value.
-pub fn first_that_speaks(flows: &[Flow], among: &[usize], part: &Part<'_>) -> Option<usize>
-    requires { AllBelow among.now flows.now }
+pub fn first_that_speaks(
+    flows: &[Flow],
+    all: &[Listed],
+    among: &[usize],
+    part: &Part<'_>,
+) -> Option<usize>
+    requires below { AllBelow among.now flows.now }
+    requires listed { AreListedBy flows.now all.now }
     ensures { MatchOption result (NoneSpeaks flows.now among.now part.now) (λ k. Contains among.now k × SpeaksAt flows.now k part.now) }
 {
     for place in among {
-        if speaks_of(&flows[*place], part) {
+        if speaks_of(&flows[*place], &all[*place], part) {
             return Some(*place);
         }
     }

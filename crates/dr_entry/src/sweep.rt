@@ -2,12 +2,15 @@
 ghost use Rattle.std.specs.Prelude.{◌≡◌, ◌↔◌, ◌<◌, IfOk, Contains, ℕ, Some, slice_get, length};
 ghost use Rattle.dr_base.specs.Texts.{Text as Words, IsInByteOrder};
 ghost use Rattle.dr_network.specs.Plans.{IsWellFormed, literals_of};
+ghost use Rattle.dr_route.specs.Laws.{IsPart, IsStationPart};
 ghost use Rattle.dr_network.specs.declared.plan.Flow.{Flow as FlowValue};
 ghost use Rattle.dr_entry.specs.Entering.{AllBelow, EachSpeaks, AreParts, HasParts, HasClasses, HasSites, FitsAll, FitsClass, FitsModality, FitsSyntax, WantsSite, WantsClass, WantsSyntax, WantsModality, WantsStation};
+ghost use Rattle.dr_entry.specs.Listing.{IsFieldRow, IsStationRow};
 ghost use Rattle.dr_entry.specs.Visiting.{AfterVisits, IsEntryCell};
 
 use crate::fields::parts_of;
 use crate::narrow::{Part, first_that_speaks, narrowed, places_of};
+use crate::rows::{Side, fields_from, names_in, stations_from};
 use crate::stations::stations_of;
 use crate::visit::EntryVisitor;
 use dr_base::{Seq, Syntax, Text};
@@ -86,15 +89,14 @@ impl<'a> Sweep<'a> {
     ) -> Result<Option<V::Finding>, AllocError>
         requires plan { V.plan visitor.old ≡ self.now.plan.now }
         requires ready { V.is_ready visitor.old }
-        requires parts { HasParts self.now.plan.now self.now.modalities self.now.stations }
-        requires modality_part { Contains self.now.modalities modality.now }
-        requires station_part { Contains self.now.stations station.now }
+        requires modality_part { IsPart (literals_of self.now.plan.now).modalities modality.now }
+        requires station_part { IsStationPart (literals_of self.now.plan.now).stations station.now }
         requires fit { (flow : FlowValue) → (k : ℕ) → Contains among.now k → slice_get self.now.plan.now.flows k ≡ Some flow → FitsModality flow site.now class.now syntax modality.now }
         requires below { AllBelow among.now self.now.plan.now.flows }
         ensures { IfOk result (AfterVisits V.plan V.is_ready V.has_visited V.shows (WantsStation self.now.plan.now site.now class.now syntax modality.now station.now among.now) visitor.old visitor.new) }
     {
         let part = Part::Station(station);
-        let Some(_) = first_that_speaks(self.plan.flows(), among, &part) else {
+        let Some(_) = first_that_speaks(self.plan.flows(), self.plan.listed(), among, &part) else {
             return Ok(None);
         };
         let cell = cell_from(class, syntax, modality, station)?;
@@ -102,7 +104,36 @@ impl<'a> Sweep<'a> {
         Ok(found)
     }
 
-    /// Visits the entries of this modality, station by station.
+    /// Visits the entries of this modality at the stations of the row, station by station.
+    fn visit_stations<V: EntryVisitor>(
+        &self,
+        visitor: &mut V,
+        site: &Text,
+        class: &Text,
+        syntax: Syntax,
+        modality: &OwnedField,
+        row: &[OwnedStation],
+        among: &[usize],
+    ) -> Result<Option<V::Finding>, AllocError>
+        requires plan { V.plan visitor.old ≡ self.now.plan.now }
+        requires ready { V.is_ready visitor.old }
+        requires modality_part { IsPart (literals_of self.now.plan.now).modalities modality.now }
+        requires row { IsStationRow self.now.plan.now among.now row.now }
+        requires fit { (flow : FlowValue) → (k : ℕ) → Contains among.now k → slice_get self.now.plan.now.flows k ≡ Some flow → FitsModality flow site.now class.now syntax modality.now }
+        requires below { AllBelow among.now self.now.plan.now.flows }
+        ensures { IfOk result (AfterVisits V.plan V.is_ready V.has_visited V.shows (WantsModality self.now.plan.now site.now class.now syntax modality.now among.now) visitor.old visitor.new) }
+    {
+        for station in row {
+            let found = self.visit_station(visitor, site, class, syntax, modality, station, among)?;
+            if found.is_some() {
+                return Ok(found);
+            }
+        }
+        Ok(None)
+    }
+
+    /// Visits the entries of this modality: at the stations that the flows at the places list, where they take in no
+    /// others, and else at all that the plan names.
     fn visit_modality<V: EntryVisitor>(
         &self,
         visitor: &mut V,
@@ -115,16 +146,64 @@ impl<'a> Sweep<'a> {
         requires plan { V.plan visitor.old ≡ self.now.plan.now }
         requires ready { V.is_ready visitor.old }
         requires parts { HasParts self.now.plan.now self.now.modalities self.now.stations }
-        requires modality_part { Contains self.now.modalities modality.now }
+        requires modality_part { IsPart (literals_of self.now.plan.now).modalities modality.now }
         requires fit { (flow : FlowValue) → (k : ℕ) → Contains among.now k → slice_get self.now.plan.now.flows k ≡ Some flow → FitsModality flow site.now class.now syntax modality.now }
         requires below { AllBelow among.now self.now.plan.now.flows }
         ensures { IfOk result (AfterVisits V.plan V.is_ready V.has_visited V.shows (WantsModality self.now.plan.now site.now class.now syntax modality.now among.now) visitor.old visitor.new) }
     {
-        if among.is_empty() {
-            return Ok(None);
-        }
-        for station in self.stations.as_slice() {
-            let found = self.visit_station(visitor, site, class, syntax, modality, station, among)?;
+        let named = names_in(
+            self.alloc,
+            self.plan.flows(),
+            self.plan.listed(),
+            among,
+            Side::Station,
+        )?;
+        let Some(names) = named else {
+            let all = self.stations.as_slice();
+            let found = self.visit_stations(visitor, site, class, syntax, modality, all, among)?;
+            return Ok(found);
+        };
+        let row = stations_from(self.alloc, names)?;
+        let listed = row.as_slice();
+        let found = self.visit_stations(visitor, site, class, syntax, modality, listed, among)?;
+        Ok(found)
+    }
+
+    /// Visits the entries of this transfer syntax at the modalities of the row, modality by modality.
+    fn visit_modalities<V: EntryVisitor>(
+        &self,
+        visitor: &mut V,
+        site: &Text,
+        class: &Text,
+        syntax: Syntax,
+        row: &[OwnedField],
+        among: &[usize],
+    ) -> Result<Option<V::Finding>, AllocError>
+        requires plan { V.plan visitor.old ≡ self.now.plan.now }
+        requires ready { V.is_ready visitor.old }
+        requires parts { HasParts self.now.plan.now self.now.modalities self.now.stations }
+        requires row { IsFieldRow self.now.plan.now among.now row.now }
+        requires fit { (flow : FlowValue) → (k : ℕ) → Contains among.now k → slice_get self.now.plan.now.flows k ≡ Some flow → FitsSyntax flow site.now class.now syntax }
+        requires below { AllBelow among.now self.now.plan.now.flows }
+        ensures { IfOk result (AfterVisits V.plan V.is_ready V.has_visited V.shows (WantsSyntax self.now.plan.now site.now class.now syntax among.now) visitor.old visitor.new) }
+    {
+        for modality in row {
+            let part = Part::Modality(modality);
+            let here = narrowed(
+                self.alloc,
+                self.plan.flows(),
+                self.plan.listed(),
+                among,
+                &part,
+            )?;
+            let found = self.visit_modality(
+                visitor,
+                site,
+                class,
+                syntax,
+                modality,
+                here.as_slice(),
+            )?;
             if found.is_some() {
                 return Ok(found);
             }
@@ -132,7 +211,8 @@ impl<'a> Sweep<'a> {
         Ok(None)
     }
 
-    /// Visits the entries of this transfer syntax, modality by modality.
+    /// Visits the entries of this transfer syntax: at the modalities that the flows at the places list, where they take
+    /// in no others, and else at all that the plan names.
     fn visit_syntax<V: EntryVisitor>(
         &self,
         visitor: &mut V,
@@ -148,29 +228,22 @@ impl<'a> Sweep<'a> {
         requires below { AllBelow among.now self.now.plan.now.flows }
         ensures { IfOk result (AfterVisits V.plan V.is_ready V.has_visited V.shows (WantsSyntax self.now.plan.now site.now class.now syntax among.now) visitor.old visitor.new) }
     {
-        if among.is_empty() {
-            return Ok(None);
-        }
-        for modality in self.modalities.as_slice() {
-            let here = narrowed(
-                self.alloc,
-                self.plan.flows(),
-                among,
-                &Part::Modality(modality),
-            )?;
-            let found = self.visit_modality(
-                visitor,
-                site,
-                class,
-                syntax,
-                modality,
-                here.as_slice(),
-            )?;
-            if found.is_some() {
-                return Ok(found);
-            }
-        }
-        Ok(None)
+        let named = names_in(
+            self.alloc,
+            self.plan.flows(),
+            self.plan.listed(),
+            among,
+            Side::Modality,
+        )?;
+        let Some(names) = named else {
+            let all = self.modalities.as_slice();
+            let found = self.visit_modalities(visitor, site, class, syntax, all, among)?;
+            return Ok(found);
+        };
+        let row = fields_from(self.alloc, names)?;
+        let listed = row.as_slice();
+        let found = self.visit_modalities(visitor, site, class, syntax, listed, among)?;
+        Ok(found)
     }
 
     /// Visits the entries of this class in one transfer syntax.
@@ -189,7 +262,14 @@ impl<'a> Sweep<'a> {
         requires below { AllBelow among.now self.now.plan.now.flows }
         ensures { IfOk result (AfterVisits V.plan V.is_ready V.has_visited V.shows (WantsSyntax self.now.plan.now site.now class.now syntax among.now) visitor.old visitor.new) }
     {
-        let here = narrowed(self.alloc, self.plan.flows(), among, &Part::Syntax(syntax))?;
+        let part = Part::Syntax(syntax);
+        let here = narrowed(
+            self.alloc,
+            self.plan.flows(),
+            self.plan.listed(),
+            among,
+            &part,
+        )?;
         let found = self.visit_syntax(visitor, site, class, syntax, here.as_slice())?;
         Ok(found)
     }
@@ -233,7 +313,14 @@ impl<'a> Sweep<'a> {
     {
         let classes = classes_of(self.alloc, self.plan.flows(), among)?;
         for class in classes.as_slice() {
-            let here = narrowed(self.alloc, self.plan.flows(), among, &Part::Class(class))?;
+            let part = Part::Class(class);
+            let here = narrowed(
+                self.alloc,
+                self.plan.flows(),
+                self.plan.listed(),
+                among,
+                &part,
+            )?;
             let found = self.visit_class(visitor, site, class, here.as_slice())?;
             if found.is_some() {
                 return Ok(found);
@@ -252,11 +339,13 @@ impl<'a> Sweep<'a> {
         let all = places_of(self.alloc, self.plan.flows())?;
         let sites = sites_of(self.alloc, self.plan.flows())?;
         for site in sites.as_slice() {
+            let part = Part::Site(site);
             let here = narrowed(
                 self.alloc,
                 self.plan.flows(),
+                self.plan.listed(),
                 all.as_slice(),
-                &Part::Site(site),
+                &part,
             )?;
             let found = self.visit_site(visitor, site, here.as_slice())?;
             if found.is_some() {

@@ -1,3 +1,4 @@
 pub mod Flowing
 pub mod Gathered
 pub mod WalksAlike
+pub mod SetLemmas

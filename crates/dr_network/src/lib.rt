@@ -2,9 +2,12 @@
 //! and the walks of instances through it.
 #![tactic(auto)]
 
+pub mod entering;
 pub mod laws;
+pub mod listed;
 pub mod literals;
 pub mod plan;
 pub mod sending;
 
+pub use listed::Listed;
 pub use plan::{Flow, Format, Node, Plan, Stations, Values};

@@ -58,7 +58,7 @@ fn prefix_in(pattern: &StationPattern) -> &[Text]
 }
 
 /// The modalities that a flow lists.
-fn modalities_in(values: &Values) -> &[Text]
+pub(crate) fn modalities_in(values: &Values) -> &[Text]
     ensures { result.now ≡ listed values.now }
 {
     match values {
@@ -68,7 +68,7 @@ fn modalities_in(values: &Values) -> &[Text]
 }
 
 /// The single stations that a flow lists.
-fn stations_in(stations: &Stations) -> &[Text]
+pub(crate) fn stations_in(stations: &Stations) -> &[Text]
     ensures { result.now ≡ listed_stations stations.now }
 {
     match stations {

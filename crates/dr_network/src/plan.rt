@@ -1,12 +1,14 @@
 //! Nodes, flows, and the plan that they make.
-ghost use Rattle.std.specs.Prelude.{◌≡◌};
+ghost use Rattle.std.specs.Prelude.{◌≡◌, ◌≢◌, [], OnErr};
 ghost use Rattle.dr_network.specs.Formed.{AreWellFormed};
+ghost use Rattle.dr_network.specs.Listings.{AreListedBy};
 ghost use Rattle.dr_network.specs.Plans.{IsWellFormed, IsTheNode, NamesNoNode};
 ghost use Rattle.std.specs.Prelude.{IfOk, MatchOption};
 
+use crate::listed::{Listed, all_listed};
 use dr_base::{Seq, Syntax, Text};
 use dr_route::{AcceptRow, Rule, StationValues};
-use std::alloc::AllocError;
+use std::alloc::{AllocError, Global};
 use std::marker::Model;
 
 /// A node of the network: its title, where it listens, the greatest length of the P-DATA-TF PDUs that it
@@ -86,12 +88,13 @@ pub struct Flow {
 }
 
 /// A plan. Its names are names of its nodes, its literals are printable, it keeps the limits of plans, and in format 1 it
-/// names no prefix.
+/// names no prefix. What its flows list is kept as sets too, in which a value is found sooner than in a list.
 #[derive(Debug, Drop)]
 pub struct Plan {
     format: Format,
     nodes: Seq<Node>,
     flows: Seq<Flow>,
+    listed: Seq<Listed>,
     digest: [u8; 32],
 }
 
@@ -101,10 +104,11 @@ impl Model for Plan {
     ghost Value = { Network };
 
     ghost use Rattle.dr_network.specs.Formed.{AreWellFormed};
+    ghost use Rattle.dr_network.specs.Listings.{AreListedBy};
 
     ghost view = { λ p. record { format = p.format; nodes = p.nodes; flows = p.flows; digest = p.digest } };
 
-    ghost invariant = { λ p. AreWellFormed p.format p.nodes p.flows };
+    ghost invariant = { λ p. AreWellFormed p.format p.nodes p.flows × AreListedBy p.flows p.listed };
 }
 
 fn copy_nodes(nodes: &Seq<Node>) -> Result<Seq<Node>, AllocError>
@@ -121,18 +125,34 @@ fn copy_flows(flows: &Seq<Flow>) -> Result<Seq<Flow>, AllocError>
     Ok(copy)
 }
 
+fn copy_listed(listed: &Seq<Listed>) -> Result<Seq<Listed>, AllocError>
+    ensures { IfOk result (λ copy. copy ≡ listed.now) }
+{
+    let copy = listed.clone()?;
+    Ok(copy)
+}
+
 impl Plan {
-    /// The plan of these nodes and flows, whose text is of this format and has this SHA-256.
-    pub fn new(format: Format, nodes: Seq<Node>, flows: Seq<Flow>, digest: [u8; 32]) -> Plan
+    /// The plan of these nodes and flows, whose text is of this format and has this SHA-256. Without flows it takes no memory.
+    pub fn new(
+        alloc: Global,
+        format: Format,
+        nodes: Seq<Node>,
+        flows: Seq<Flow>,
+        digest: [u8; 32],
+    ) -> Result<Plan, AllocError>
         requires { AreWellFormed format nodes flows }
-        ensures { result ≡ record { format = format; nodes = nodes; flows = flows; digest = digest } }
+        ensures plan { IfOk result (λ plan. plan ≡ record { format = format; nodes = nodes; flows = flows; digest = digest }) }
+        ensures memory { OnErr result (flows ≢ []) }
     {
-        Plan {
+        let listed = all_listed(alloc, flows.as_slice())?;
+        Ok(Plan {
             format,
             nodes,
             flows,
+            listed,
             digest,
-        }
+        })
     }
 
     /// A copy of it.
@@ -141,7 +161,14 @@ impl Plan {
     {
         let nodes = copy_nodes(&self.nodes)?;
         let flows = copy_flows(&self.flows)?;
-        Ok(Plan::new(self.format, nodes, flows, self.digest))
+        let listed = copy_listed(&self.listed)?;
+        Ok(Plan {
+            format: self.format,
+            nodes,
+            flows,
+            listed,
+            digest: self.digest,
+        })
     }
 
     /// The format of its text.
@@ -165,6 +192,13 @@ impl Plan {
         ensures well_formed { IsWellFormed self.now }
     {
         self.flows.as_slice()
+    }
+
+    /// What its flows list, in the order of its text.
+    pub fn listed(&self) -> &[Listed]
+        ensures { AreListedBy self.now.flows result.now }
+    {
+        self.listed.as_slice()
     }
 
     /// The SHA-256 of its text.

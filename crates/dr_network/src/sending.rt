@@ -4,6 +4,7 @@ ghost use Rattle.dr_base.specs.Texts.{Text as Words, IsInByteOrder};
 ghost use Rattle.dr_route.specs.Names.{HasName};
 ghost use Rattle.dr_network.specs.Walks.{Fits, IsListed, IsStationListed, BeginsOne, FlowsAmong, Sends, Keeps, Accepts};
 
+use crate::entering::first_targets;
 use crate::plan::{Flow, Plan, Stations, Values};
 use dr_base::{Seq, Syntax, Text};
 use dr_route::names::{add_names, has_name, names_in_order};
@@ -110,7 +111,7 @@ pub fn sends(
     ensures keep { IfOk result (λ t. IsTrue t.keep ↔ Keeps plan.now name.now caller.now key.now) }
 {
     if is_local(caller) {
-        let to = flow_targets(alloc, plan.flows(), name, key)?;
+        let to = first_targets(alloc, plan, name, key)?;
         return Ok(Targets { to, keep: false });
     }
     let Some(node) = plan.node(name) else {

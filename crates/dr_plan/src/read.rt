@@ -52,5 +52,6 @@ pub fn read_plan(alloc: Global, text: &[u8]) -> Result<Plan, PlanFault>
     } = written;
     let nodes = nodes_of(alloc, nodes)?;
     let flows = flows_of(alloc, flows)?;
-    Ok(Plan::new(format, nodes, flows, Sha256::digest(text)))
+    let plan = Plan::new(alloc, format, nodes, flows, Sha256::digest(text))?;
+    Ok(plan)
 }

@@ -4,11 +4,15 @@ ghost use Rattle.std.specs.Prelude.{◌++◌, ◌∷◌, []};
 ghost use Rattle.dr_base.specs.Texts.{IsInByteOrder};
 ghost use Rattle.dr_route.specs.Cells.{AreInOrder, InCell, InField, InStation, owned_field, owned_station};
 ghost use Rattle.dr_route.specs.Laws.{key_of, value_of, station_value_of};
+ghost use Rattle.dr_route.specs.contracts.cell.OwnedFieldOrd.TheImpl as fields;
+ghost use Rattle.dr_route.specs.contracts.cell.OwnedStationOrd.TheImpl as stations;
+ghost use Rattle.dr_route.specs.contracts.cell.OwnedCellOrd.TheImpl as cells;
 
 use crate::key::Key;
 use crate::search::{find, longest};
 use dr_base::{Seq, Syntax, Text};
 use std::alloc::{AllocError, Global};
+use std::cmp::Ordering;
 use std::marker::Model;
 
 /// The values that a plan names for modality.
@@ -169,6 +173,79 @@ impl<'a> Cell<'a> {
             modality: owned_part(&self.modality)?,
             station: owned_station_part(&self.station)?,
         })
+    }
+}
+
+/// The part of the modalities by reference.
+fn borrowed_part(field: &OwnedField) -> Field<'_>
+    ensures { owned_field result ≡ field.now }
+{
+    match field {
+        OwnedField::Literal(literal) => Field::Literal(literal),
+        OwnedField::Rest => Field::Rest,
+    }
+}
+
+/// The part of the stations by reference.
+fn borrowed_station_part(station: &OwnedStation) -> Station<'_>
+    ensures { owned_station result ≡ station.now }
+{
+    match station {
+        OwnedStation::Literal(literal) => Station::Literal(literal),
+        OwnedStation::Prefix(prefix) => Station::Prefix(prefix),
+        OwnedStation::Rest => Station::Rest,
+    }
+}
+
+/// How the part of the modalities compares to one by reference.
+fn compared_part(part: &OwnedField, field: &Field<'_>) -> Ordering
+    ensures { result ≡ fields.cmp-value.it part.now (owned_field field.now) }
+{
+    match (part, field) {
+        (OwnedField::Literal(literal), Field::Literal(other)) => literal.cmp(other),
+        (OwnedField::Literal(_), Field::Rest) => Ordering::Less,
+        (OwnedField::Rest, Field::Literal(_)) => Ordering::Greater,
+        (OwnedField::Rest, Field::Rest) => Ordering::Equal,
+    }
+}
+
+/// How the part of the stations compares to one by reference.
+fn compared_station_part(part: &OwnedStation, station: &Station<'_>) -> Ordering
+    ensures { result ≡ stations.cmp-value.it part.now (owned_station station.now) }
+{
+    match (part, station) {
+        (OwnedStation::Literal(literal), Station::Literal(other)) => literal.cmp(other),
+        (OwnedStation::Prefix(prefix), Station::Prefix(other)) => prefix.cmp(other),
+        (OwnedStation::Rest, Station::Rest) => Ordering::Equal,
+        (OwnedStation::Literal(_), _) => Ordering::Less,
+        (OwnedStation::Prefix(_), Station::Literal(_)) => Ordering::Greater,
+        (OwnedStation::Prefix(_), Station::Rest) => Ordering::Less,
+        (OwnedStation::Rest, _) => Ordering::Greater,
+    }
+}
+
+impl OwnedCell {
+    /// The cell by reference, which takes no memory.
+    pub fn borrowed(&self) -> Cell<'_>
+        ensures { result ≡ self.now }
+    {
+        Cell {
+            class: &self.class,
+            syntax: self.syntax,
+            modality: borrowed_part(&self.modality),
+            station: borrowed_station_part(&self.station),
+        }
+    }
+
+    /// How the cell compares to one by reference: in the order of cells.
+    pub fn compared(&self, other: &Cell<'_>) -> Ordering
+        ensures { result ≡ cells.cmp-value.it self.now other.now }
+    {
+        self.class.cmp(other.class).then(
+            self.syntax.cmp(&other.syntax).then(compared_part(&self.modality, &other.modality).then(
+                compared_station_part(&self.station, &other.station),
+            )),
+        )
     }
 }
 

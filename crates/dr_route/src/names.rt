@@ -3,6 +3,7 @@ ghost use Rattle.std.specs.Prelude.{◌↔◌, ◌⊎◌, IsTrue, IfOk, OnOk, Co
 ghost use Rattle.dr_base.specs.Texts.{Text as Words, IsInByteOrder};
 ghost use Rattle.dr_route.specs.Names.{HasName, Adds};
 
+use crate::search::find;
 use dr_base::{Seq, Text};
 use std::alloc::{AllocError, Global};
 use std::collections::BTreeSet;
@@ -42,4 +43,26 @@ pub fn names_in_order(alloc: Global, names: BTreeSet<Text>) -> Result<Seq<Text>,
 {
     let listed: Vec<Text> = names.into_iter().collect(alloc)?;
     Ok(Seq::from_vec(listed))
+}
+
+/// The names as a set: in byte order and each once.
+pub fn set_of(alloc: Global, names: &[Text]) -> Result<Seq<Text>, AllocError>
+    ensures same { IfOk result (λ seq. (name : Words) → Contains seq name ↔ Contains names.now name) }
+    ensures ordered { IfOk result IsInByteOrder }
+{
+    let mut set = BTreeSet::new(alloc);
+    add_names(&mut set, names)?;
+    let listed = names_in_order(alloc, set)?;
+    Ok(listed)
+}
+
+/// Whether the name is one of the set: a binary search.
+pub fn is_in_set(set: &[Text], name: &Text) -> bool
+    requires { IsInByteOrder set.now }
+    ensures { IsTrue result ↔ Contains set.now name.now }
+{
+    match find(set, name.as_bytes()) {
+        Some(_) => true,
+        None => false,
+    }
 }

@@ -1,12 +1,9 @@
 -- The stop of a caller and a key, and the line that is found there.
-use Rattle.std.proofs.Common.{◌≡◌, ℕ, refl, sym, ◌∙◌, ap, subst, List, Contains}
+use Rattle.std.proofs.Common.{◌≡◌, ℕ, sym, ◌∙◌, ap, subst, List, Contains}
 use Rattle.std.proofs.lemmas.Option.{slice_get_within, get_or_from_slice_get}
 use Rattle.dr_base.specs.Texts.{Text}
-use Rattle.dr_base.specs.declared.syntax.Syntax.{Syntax}
-use Rattle.dr_route.specs.Cells.{InField, InStation, InCell}
+use Rattle.dr_route.specs.Cells.{InCell}
 use Rattle.dr_route.specs.declared.key.Key.{Key}
-use Rattle.dr_route.specs.declared.cell.OwnedField.{OwnedField}
-use Rattle.dr_route.specs.declared.cell.OwnedStation.{OwnedStation}
 use Rattle.dr_route.specs.declared.cell.OwnedCell.{OwnedCell}
 use Rattle.dr_route.proofs.Agreement.{one_cell}
 use Rattle.dr_sound.specs.declared.certificate.Stop.{Stop}
@@ -15,20 +12,10 @@ use Rattle.dr_cert.specs.Indexing.{HasNoLine, StandsAt}
 use Rattle.dr_site.specs.Parts.{Part}
 use Rattle.dr_site.specs.Routing.{HasLineFor}
 
-abbrev cell_at : Text → Syntax → OwnedField → OwnedStation → OwnedCell
-cell_at class syntax modality station = record { class = class; syntax = syntax; modality = modality; station = station }
-
 abbrev stop_at : Text → Text → OwnedCell → Stop
 stop_at caller node cell = record { caller = caller; node = node; cell = cell }
 
-module _ (part : Part) (caller : Text) (key : Key) (modality : OwnedField) (station : OwnedStation) (lies : InField part.literals.modalities modality key.modality)
-    (stands : InStation part.literals.stations station key.station) where
-  abbrev cell : OwnedCell
-  cell = cell_at key.class key.syntax modality station
-
-  in_cell : InCell part.literals cell key
-  in_cell = record { class = refl; syntax = refl; modality = lies; station = stands }
-
+module _ (part : Part) (caller : Text) (key : Key) (cell : OwnedCell) (lies : InCell part.literals cell key) where
   pub found : (place : ℕ) → StandsAt part.lines (stop_at caller part.name cell) place → HasLineFor part caller key
   found place at =
       let line = at.0 in
@@ -37,7 +24,7 @@ module _ (part : Part) (caller : Text) (key : Key) (modality : OwnedField) (stat
         (place, slice_get_within part.lines place line at.1, get_or_from_slice_get part.lines place line line at.1),
         ap (λ (s : Stop). s.caller) at.2,
         ap (λ (s : Stop). s.node) at.2,
-        subst P (sym (ap (λ (s : Stop). s.cell) at.2)) in_cell,
+        subst P (sym (ap (λ (s : Stop). s.cell) at.2)) lies,
       )
 
   pub not_found : HasNoLine part.lines (stop_at caller part.name cell) → HasLineFor part caller key → ⊥
@@ -45,23 +32,21 @@ module _ (part : Part) (caller : Text) (key : Key) (modality : OwnedField) (stat
       let line = has.0 in
       let same : line.stop ≡ stop_at caller part.name cell =
       ap (λ (c : Text). stop_at c line.stop.node line.stop.cell) has.2
-      ∙ (ap (λ (n : Text). stop_at caller n line.stop.cell) has.3 ∙ ap (λ (c : OwnedCell). stop_at caller part.name c) (one_cell part.literals key line.stop.cell cell has.4 in_cell)) in
+      ∙ (ap (λ (n : Text). stop_at caller n line.stop.cell) has.3 ∙ ap (λ (c : OwnedCell). stop_at caller part.name c) (one_cell part.literals key line.stop.cell cell has.4 lies)) in
       let P : Stop → Type 0 = λ s. Contains part.lines (record { stop = s; rank = line.rank }) in
       none (line.rank, subst P same has.1)
 
 -- the same of lines and of a stop that are equal to these
-pub found_by : (part : Part) (caller : Text) (key : Key) (modality : OwnedField) (station : OwnedStation) → InField part.literals.modalities modality key.modality →
-    InStation part.literals.stations station key.station → (lines : List Line) (stop : Stop) → lines ≡ part.lines →
-    stop ≡ stop_at caller part.name (cell_at key.class key.syntax modality station) → (place : ℕ) → StandsAt lines stop place → HasLineFor part caller key
-found_by part caller key modality station lies stands lines stop same_lines same_stop place at =
+pub found_by : (part : Part) (caller : Text) (key : Key) (cell : OwnedCell) → InCell part.literals cell key → (lines : List Line) (stop : Stop) → lines ≡ part.lines →
+    stop ≡ stop_at caller part.name cell → (place : ℕ) → StandsAt lines stop place → HasLineFor part caller key
+found_by part caller key cell lies lines stop same_lines same_stop place at =
     let P : List Line → Type 0 = λ ls. StandsAt ls stop place in
     let Q : Stop → Type 0 = λ s. StandsAt part.lines s place in
-    found part caller key modality station lies stands place (subst Q same_stop (subst P same_lines at))
+    found part caller key cell lies place (subst Q same_stop (subst P same_lines at))
 
-pub not_found_by : (part : Part) (caller : Text) (key : Key) (modality : OwnedField) (station : OwnedStation) → InField part.literals.modalities modality key.modality →
-    InStation part.literals.stations station key.station → (lines : List Line) (stop : Stop) → lines ≡ part.lines →
-    stop ≡ stop_at caller part.name (cell_at key.class key.syntax modality station) → HasNoLine lines stop → HasLineFor part caller key → ⊥
-not_found_by part caller key modality station lies stands lines stop same_lines same_stop none =
+pub not_found_by : (part : Part) (caller : Text) (key : Key) (cell : OwnedCell) → InCell part.literals cell key → (lines : List Line) (stop : Stop) → lines ≡ part.lines →
+    stop ≡ stop_at caller part.name cell → HasNoLine lines stop → HasLineFor part caller key → ⊥
+not_found_by part caller key cell lies lines stop same_lines same_stop none =
     let P : List Line → Type 0 = λ ls. HasNoLine ls stop in
     let Q : Stop → Type 0 = λ s. HasNoLine part.lines s in
-    not_found part caller key modality station lies stands (subst Q same_stop (subst P same_lines none))
+    not_found part caller key cell lies (subst Q same_stop (subst P same_lines none))

@@ -17,9 +17,8 @@ use dr_cert::place::Place;
 use dr_network::literals::literals;
 use dr_network::sending::flow_targets;
 use dr_network::{Flow, Plan};
-use dr_route::cell::{field_of, station_of};
 use dr_route::routing::targets;
-use dr_route::{AcceptRow, Key, Literals, Rule, Targets, is_local};
+use dr_route::{AcceptRow, Key, Literals, Rule, Targets, cell_of, is_local};
 use dr_sound::{Certificate, Hop, Line};
 use std::alloc::{AllocError, Global};
 use std::marker::Model;
@@ -190,11 +189,7 @@ impl Site {
     pub fn has_line(&self, caller: &Text, key: &Key) -> bool
         ensures { IsTrue result ↔ HasLineFor self.now caller.now key.now }
     {
-        let modality = field_of(&self.literals.modalities, &key.modality);
-        let station = station_of(&self.literals.stations, &key.station);
-        let stop = Place::new(
-            caller, &self.name, &key.class, key.syntax, modality, station,
-        );
+        let stop = Place::new(caller, &self.name, cell_of(&self.literals, key));
         let Some(_) = find(self.lines.as_slice(), &stop) else {
             return false;
         };

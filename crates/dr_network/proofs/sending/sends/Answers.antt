@@ -11,8 +11,7 @@ use Rattle.dr_network.proofs.sending.sends.Goals as goal
 pub returns-then-is_local-clause-to : goal.returns-then-is_local-clause-to
 returns-then-is_local-clause-to c = λ to.
     let same : c.args.caller.now ≡ local = c.if-is_local.ensures.0 refl in
-    let flows : c.flows.result.now ≡ c.args.plan.now.flows = c.flows.ensures.same in
-    let by = rw flows at (c.in_ok-to.ensures.to to) in (
+    let by = c.in_ok-to.ensures.to to in (
       λ h. inl (same, by.0 h),
       λ s. elim s [
         | inl entered ↦ by.1 entered.1

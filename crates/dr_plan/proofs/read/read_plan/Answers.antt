@@ -1,6 +1,6 @@
 use Rattle.dr_plan.proofs.PlanForm.{well_formed}
 use Rattle.std.proofs.lemmas.Result.{err_from_is_err_and}
-use Rattle.dr_plan.proofs.Refusals.{no_nodes, no_flows, refused}
+use Rattle.dr_plan.proofs.Refusals.{no_nodes, no_flows, some_written, refused}
 use Rattle.dr_plan.proofs.read.read_plan.Goals as goal
 
 pub returns-in_err-pass : goal.returns-in_err-pass
@@ -18,6 +18,11 @@ returns-in_err-flows c =
     let p = err_from_is_err_and c.from_residual-in_err-flows.result c.from_residual-in_err-flows.ensures.1 in
     rw (p.1, p.2) (no_flows c.args.text.now c.in_ok-written.written c.in_ok-written.ensures c.in_err-flows.ensures.memory)
 
+pub returns-in_err-plan : goal.returns-in_err-plan
+returns-in_err-plan c =
+    let p = err_from_is_err_and c.from_residual-in_err-plan.result c.from_residual-in_err-plan.ensures.1 in
+    rw (p.1, p.2) (no_flows c.args.text.now c.in_ok-written.written c.in_ok-written.ensures (some_written c.in_ok-flows.flows _ c.in_ok-flows.ensures.flows c.in_err-plan.ensures.memory))
+
 pub new-requires : goal.new-requires
 new-requires c =
     let written = c.in_ok-written.ensures in
@@ -30,4 +35,4 @@ returns c =
     let written = c.in_ok-written.ensures in
     let nodes = c.in_ok-nodes.ensures.nodes in
     let flows = c.in_ok-flows.ensures.flows in
-    rw c.new.ensures ((written.0, written.1, rw (nodes, flows) written.2), rw (nodes, flows) c.in_ok-pass.ensures, c.digest.ensures)
+    rw c.in_ok-plan.ensures.plan ((written.0, written.1, rw (nodes, flows) written.2), rw (nodes, flows) c.in_ok-pass.ensures, c.digest.ensures)

@@ -1,5 +1,4 @@
 use Rattle.std.proofs.Common.{ap, subst, List}
-use Rattle.dr_route.specs.Cells.{owned_field, owned_station}
 use Rattle.dr_network.specs.Networks.{Network}
 use Rattle.dr_network.specs.Walks.{IsReached}
 use Rattle.dr_sound.specs.declared.certificate.Stop.{Stop}
@@ -13,7 +12,7 @@ use Rattle.dr_cert.proofs.sealed.Sealed.rank.Goals as goal
 pub returns-in-Some : goal.returns-in-Some
 returns-in-Some c =
     let i = c.self.invariant in
-    let lies = lies_there c.self.inside.plan c.self.inside.literals c.args.key.now (owned_field c.field_of.result) (owned_station c.station_of.result) i.literals_are c.field_of.ensures c.station_of.ensures in
+    let lies = lies_there c.self.inside.plan c.self.inside.literals c.args.key.now c.cell_of.result i.literals_are c.cell_of.ensures in
     let L : List Line → Type 0 = λ ls. HasRank ls c.new-stop.result c.in-Some.rank in
     let S : Stop → Type 0 = λ s. HasRank c.self.inside.index.items s c.in-Some.rank in
     let P : Network → Type 0 = λ p. IsReached p c.args.key.now c.args.caller.now c.args.node.now × IsRank p c.args.key.now c.args.caller.now c.args.node.now c.in-Some.rank in
@@ -24,7 +23,7 @@ returns-in-Some c =
 pub returns-in-None : goal.returns-in-None
 returns-in-None c =
     let i = c.self.invariant in
-    let lies = lies_there c.self.inside.plan c.self.inside.literals c.args.key.now (owned_field c.field_of.result) (owned_station c.station_of.result) i.literals_are c.field_of.ensures c.station_of.ensures in
+    let lies = lies_there c.self.inside.plan c.self.inside.literals c.args.key.now c.cell_of.result i.literals_are c.cell_of.ensures in
     let L : List Line → Type 0 = λ ls. HasNoLine ls c.new-stop.result in
     let S : Stop → Type 0 = λ s. HasNoLine c.self.inside.index.items s in
     let P : Network → Type 0 = λ p. IsReached p c.args.key.now c.args.caller.now c.args.node.now → ⊥ in

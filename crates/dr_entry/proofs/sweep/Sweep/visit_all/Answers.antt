@@ -13,8 +13,8 @@ use Rattle.dr_entry.proofs.Visits.{Picks, picked_is, picked_below, one_more, all
 use Rattle.dr_entry.proofs.Wanted.{site_in, site_out}
 use Rattle.dr_entry.proofs.sweep.Sweep.visit_all.Goals as goal
 
-pub narrowed-requires : goal.narrowed-requires
-narrowed-requires g c =
+pub narrowed-requires-clause-below : goal.narrowed-requires-clause-below
+narrowed-requires-clause-below g c =
     let P : List ℕ → Type 0 = λ ks. AllBelow ks c.flows-in-loop-site.result.now in
     let Q : List Flow → Type 0 = λ fs. AllBelow c.in_ok-all.all.items fs in
     subst P (sym c.as_slice.ensures.value) (subst Q (c.flows.ensures.same ∙ sym c.flows-in-loop-site.ensures.same)

@@ -1,45 +1,28 @@
-use Rattle.std.proofs.Common.{◌≡◌, ◌+◌, ◌∙◌, inl, sym, subst, List, [], ◌∷◌, ◌++◌, take, Contains, arith}
-use Rattle.std.proofs.lemmas.List.{take_more, take_all}
+use Rattle.std.proofs.Common.{◌∙◌, ℕ, sym, subst, List}
+use Rattle.std.specs.Prelude.{Option, MatchOption}
+use Rattle.dr_base.specs.Texts.{Text}
 use Rattle.dr_route.specs.declared.cell.OwnedStation.{OwnedStation}
-use Rattle.dr_sound.specs.Printed.{printed_station}
-use Rattle.dr_entry.specs.Entering.{WantsModality, WantsStation}
-use Rattle.dr_entry.specs.InOrder.{IsInPrintedOrder}
-use Rattle.dr_entry.specs.Visiting.{GoesOn}
-use Rattle.dr_entry.proofs.Orders.{by_station}
-use Rattle.dr_entry.proofs.Visits.{one_more, all_of_them, went_on, found_in_row}
+use Rattle.dr_network.specs.declared.plan.Flow.{Flow}
+use Rattle.dr_network.specs.Networks.{Network}
+use Rattle.dr_network.specs.Listings.{AreListedBy}
+use Rattle.dr_entry.specs.Entering.{AllBelow}
+use Rattle.dr_entry.specs.declared.rows.Side.TheVariants.{Station}
+use Rattle.dr_entry.specs.Listing.{AreNamed, IsStationRow}
+use Rattle.dr_entry.proofs.RowLemmas.{named_stations}
 use Rattle.dr_entry.proofs.sweep.Sweep.visit_modality.Goals as goal
 
-pub loop-station-preserved : goal.loop-station-preserved
-loop-station-preserved g c =
-    let items : List OwnedStation = c.as_slice-station-items.result.now in
-    let e = take_more items c.loop-station.station-index c.station-item.result c.loop-station-test.true in
-    let more : take (c.loop-station.station-index + 1) items ≡ take c.loop-station.station-index items ++ c.station-item.result ∷ [] = rw (← c.station-item.is) at e in
-    let went = went_on g.V.EntryVisitor.plan g.V.EntryVisitor.is_ready g.V.EntryVisitor.has_visited g.V.EntryVisitor.shows _ c.loop-station.visitor c.visit_station.new.visitor c.in_ok-found.found
-    (sym c.if-is_some.ensures) c.in_ok-found.ensures in
-    one_more g.V.EntryVisitor.plan g.V.EntryVisitor.is_ready g.V.EntryVisitor.has_visited g.V.EntryVisitor.shows
-    (λ s x. x.station) (WantsModality c.args.self.now.plan.now c.args.site.now c.args.class.now c.args.syntax c.args.modality.now c.args.among.now) (WantsStation c.args.self.now.plan.now c.args.site.now c.args.class.now c.args.syntax c.args.modality.now c.station-item.result c.args.among.now)
-    (take c.loop-station.station-index items) (take (c.loop-station.station-index + 1) items) c.station-item.result c.args.visitor.now c.loop-station.visitor c.visit_station.new.visitor more
-    c.loop-station.invariant went (λ s x w same. (sym same, w))
+pub names_in-requires-clause-below : goal.names_in-requires-clause-below
+names_in-requires-clause-below g c = let P : List Flow → Type 0 = λ fs. AllBelow c.args.among.now fs in subst P (sym c.flows.ensures.same) c.requires.below
 
-pub returns-then-is_some : goal.returns-then-is_some
-returns-then-is_some g c =
-    let items : List OwnedStation = c.as_slice-station-items.result.now in
-    let O : List OwnedStation → Type 0 = λ ps. IsInPrintedOrder printed_station ps in
-    found_in_row g.V.EntryVisitor.plan g.V.EntryVisitor.is_ready g.V.EntryVisitor.has_visited g.V.EntryVisitor.shows
-    printed_station (λ s x. x.station) (WantsModality c.args.self.now.plan.now c.args.site.now c.args.class.now c.args.syntax c.args.modality.now c.args.among.now) (WantsStation c.args.self.now.plan.now c.args.site.now c.args.class.now c.args.syntax c.args.modality.now c.station-item.result c.args.among.now)
-    items c.loop-station.station-index c.station-item.result c.args.visitor.now c.loop-station.visitor c.visit_station.new.visitor c.in_ok-found.found (sym c.if-is_some.ensures)
-    (subst O (sym c.as_slice-station-items.ensures) c.requires.parts.3) c.loop-station-test.true (sym c.station-item.is)
-    c.loop-station.invariant c.in_ok-found.ensures
-    (λ s x w. let F : List OwnedStation → Type 0 = λ xs. Contains xs x.station in subst F (sym c.as_slice-station-items.ensures) ((c.requires.parts.1 x.station).1 w.1.1.1.1.1))
-    (λ s x w same. (sym same, w)) (λ s x w. (w.1, w.0))
-    (λ s t x y w v before. inl (by_station s t x y (w.1.1.1.0 ∙ sym v.1.1.1.0) (w.1.1.0 ∙ sym v.1.1.0) (w.1.0 ∙ sym v.1.0) (w.0 ∙ sym v.0) before))
+pub names_in-requires-clause-listed : goal.names_in-requires-clause-listed
+names_in-requires-clause-listed g c = let P : List Flow → Type 0 = λ fs. AreListedBy fs c.listed.result.now in subst P (sym c.flows.ensures.same) c.listed.ensures
 
-pub returns : goal.returns
-returns g c =
-    let items : List OwnedStation = c.as_slice-station-items.result.now in
-    let all : take c.loop-station.station-index items ≡ items = take_all c.loop-station.station-index items (omega arith) in
-    let P : List OwnedStation → Type 0 = λ xs. GoesOn g.V.EntryVisitor.plan g.V.EntryVisitor.is_ready g.V.EntryVisitor.has_visited g.V.EntryVisitor.shows
-    (λ s x. WantsModality c.args.self.now.plan.now c.args.site.now c.args.class.now c.args.syntax c.args.modality.now c.args.among.now s x × Contains xs (x.station)) c.args.visitor.now c.loop-station.visitor in
-    all_of_them g.V.EntryVisitor.plan g.V.EntryVisitor.is_ready g.V.EntryVisitor.has_visited g.V.EntryVisitor.shows (λ s x. x.station) (WantsModality c.args.self.now.plan.now c.args.site.now c.args.class.now c.args.syntax c.args.modality.now c.args.among.now)
-    items c.args.visitor.now c.loop-station.visitor (subst P all c.loop-station.invariant)
-    (λ s x w. let F : List OwnedStation → Type 0 = λ xs. Contains xs x.station in subst F (sym c.as_slice-station-items.ensures) ((c.requires.parts.1 x.station).1 w.1.1.1.1.1))
+pub visit_stations-requires-2-clause-row : goal.visit_stations-requires-2-clause-row
+visit_stations-requires-2-clause-row g c =
+    let plan : Network = c.args.self.now.plan.now in
+    let among : List ℕ = c.args.among.now in
+    let O : Option (List Text) → Type 0 = λ o. MatchOption o (Unit {0}) (λ names. AreNamed Station c.flows.result.now among names) in
+    let named : AreNamed Station c.flows.result.now among c.in-Some.names = subst O c.in-Some.is c.in_ok-named.ensures in
+    let F : List Flow → Type 0 = λ fs. AreNamed Station fs among c.in-Some.names in
+    let R : List OwnedStation → Type 0 = λ row. IsStationRow plan among row in
+    subst R (sym (c.as_slice-listed.ensures.value ∙ c.in_ok-row.ensures)) (named_stations plan among c.in-Some.names (subst F c.flows.ensures.same named))

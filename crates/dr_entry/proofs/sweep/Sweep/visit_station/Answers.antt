@@ -49,7 +49,7 @@ returns g c =
     (WantsStation plan c.args.site.now c.args.class.now c.args.syntax c.args.modality.now c.args.station.now c.args.among.now)
     c.args.site.now c.in_ok-cell.cell c.args.visitor.now c.visit.new.self c.in_ok-found.found c.requires.ready
     (is_wanted plan c.args.site.now c.args.class.now c.args.syntax c.args.modality.now c.args.station.now c.args.among.now c.in_ok-cell.cell k here.0 c.in_ok-cell.ensures
-    ((c.requires.parts.0 c.args.modality.now).0 c.requires.modality_part, (c.requires.parts.1 c.args.station.now).0 c.requires.station_part)
+    (c.requires.modality_part, c.requires.station_part)
     c.in-Some.ensures.0 here.1 (here.2, c.requires.fit here.0 k c.in-Some.ensures.0 here.1))
     (λ s x w. (
       w.1.1.1.1.0,

@@ -1,76 +1,28 @@
-use Rattle.std.proofs.Common.{◌≡◌, ℕ, ◌+◌, ◌∙◌, sym, subst, List, [], ◌∷◌, ◌++◌, take, Contains, arith}
-use Rattle.std.proofs.lemmas.List.{take_more, take_all}
+use Rattle.std.proofs.Common.{◌∙◌, ℕ, sym, subst, List}
+use Rattle.std.specs.Prelude.{Option, MatchOption}
+use Rattle.dr_base.specs.Texts.{Text}
 use Rattle.dr_route.specs.declared.cell.OwnedField.{OwnedField}
-use Rattle.dr_network.specs.Networks.{Network}
 use Rattle.dr_network.specs.declared.plan.Flow.{Flow}
-use Rattle.dr_sound.specs.Printed.{printed_field}
-use Rattle.dr_entry.specs.Entering.{Admits, AllBelow, WantsSyntax, WantsModality}
-use Rattle.dr_entry.specs.InOrder.{IsInPrintedOrder}
-use Rattle.dr_entry.specs.Visiting.{GoesOn}
-use Rattle.dr_entry.proofs.Orders.{by_modality}
-use Rattle.dr_entry.proofs.Visits.{Picks, picked_is, picked_below, one_more, all_of_them, went_on, found_in_row}
-use Rattle.dr_entry.proofs.Wanted.{modality_in, modality_out}
+use Rattle.dr_network.specs.Networks.{Network}
+use Rattle.dr_network.specs.Listings.{AreListedBy}
+use Rattle.dr_entry.specs.Entering.{AllBelow}
+use Rattle.dr_entry.specs.declared.rows.Side.TheVariants.{Modality}
+use Rattle.dr_entry.specs.Listing.{AreNamed, IsFieldRow}
+use Rattle.dr_entry.proofs.RowLemmas.{named_fields}
 use Rattle.dr_entry.proofs.sweep.Sweep.visit_syntax.Goals as goal
 
-pub visit_modality-requires-clause-fit : goal.visit_modality-requires-clause-fit
-visit_modality-requires-clause-fit g c = λ flow k has at.
-    let S : Flow → Type 0 = λ f. Admits f.modalities c.modality-item.result in
-    let P : List ℕ → Type 0 = λ ks. Contains ks k in
-    let Q : List Flow → Type 0 = λ fs. Picks fs c.args.among.now S c.in_ok-here.here.items in
-    let n = picked_is c.args.self.now.plan.now.flows c.args.among.now c.in_ok-here.here.items S (subst Q c.flows.ensures.same c.in_ok-here.ensures) k flow
-    (subst P c.as_slice.ensures.value has) at in
-    (n.1, c.requires.fit flow k n.0 at)
+pub names_in-requires-clause-below : goal.names_in-requires-clause-below
+names_in-requires-clause-below g c = let P : List Flow → Type 0 = λ fs. AllBelow c.args.among.now fs in subst P (sym c.flows.ensures.same) c.requires.below
 
-pub visit_modality-requires-clause-below : goal.visit_modality-requires-clause-below
-visit_modality-requires-clause-below g c =
-    let S : Flow → Type 0 = λ f. Admits f.modalities c.modality-item.result in
-    let P : List ℕ → Type 0 = λ ks. AllBelow ks c.args.self.now.plan.now.flows in
-    let Q : List Flow → Type 0 = λ fs. Picks fs c.args.among.now S c.in_ok-here.here.items in
-    subst P (sym c.as_slice.ensures.value)
-    (picked_below c.args.self.now.plan.now.flows c.args.among.now c.in_ok-here.here.items S (subst Q c.flows.ensures.same c.in_ok-here.ensures) c.requires.below)
+pub names_in-requires-clause-listed : goal.names_in-requires-clause-listed
+names_in-requires-clause-listed g c = let P : List Flow → Type 0 = λ fs. AreListedBy fs c.listed.result.now in subst P (sym c.flows.ensures.same) c.listed.ensures
 
-pub loop-modality-preserved : goal.loop-modality-preserved
-loop-modality-preserved g c =
+pub visit_modalities-requires-2-clause-row : goal.visit_modalities-requires-2-clause-row
+visit_modalities-requires-2-clause-row g c =
     let plan : Network = c.args.self.now.plan.now in
-    let items : List OwnedField = c.as_slice-modality-items.result.now in
-    let S : Flow → Type 0 = λ f. Admits f.modalities c.modality-item.result in
-    let Q : List Flow → Type 0 = λ fs. Picks fs c.args.among.now S c.in_ok-here.here.items in
-    let H : List ℕ → Type 0 = λ ks. Picks plan.flows c.args.among.now S ks in
-    let picks : H c.as_slice.result.now = subst H (sym c.as_slice.ensures.value) (subst Q c.flows.ensures.same c.in_ok-here.ensures) in
-    let e = take_more items c.loop-modality.modality-index c.modality-item.result c.loop-modality-test.true in
-    let more : take (c.loop-modality.modality-index + 1) items ≡ take c.loop-modality.modality-index items ++ c.modality-item.result ∷ [] = rw (← c.modality-item.is) at e in
-    let went = went_on g.V.EntryVisitor.plan g.V.EntryVisitor.is_ready g.V.EntryVisitor.has_visited g.V.EntryVisitor.shows _ c.loop-modality.visitor c.visit_modality.new.visitor c.in_ok-found.found
-    (sym c.if-is_some.ensures) c.in_ok-found.ensures in
-    one_more g.V.EntryVisitor.plan g.V.EntryVisitor.is_ready g.V.EntryVisitor.has_visited g.V.EntryVisitor.shows
-    (λ s x. x.modality) (WantsSyntax plan c.args.site.now c.args.class.now c.args.syntax c.args.among.now) (WantsModality plan c.args.site.now c.args.class.now c.args.syntax c.modality-item.result c.as_slice.result.now)
-    (take c.loop-modality.modality-index items) (take (c.loop-modality.modality-index + 1) items) c.modality-item.result c.args.visitor.now c.loop-modality.visitor c.visit_modality.new.visitor more
-    c.loop-modality.invariant went (modality_in plan c.args.site.now c.args.class.now c.args.syntax c.modality-item.result c.args.among.now c.as_slice.result.now picks)
-
-pub returns-then-is_some : goal.returns-then-is_some
-returns-then-is_some g c =
-    let plan : Network = c.args.self.now.plan.now in
-    let items : List OwnedField = c.as_slice-modality-items.result.now in
-    let S : Flow → Type 0 = λ f. Admits f.modalities c.modality-item.result in
-    let Q : List Flow → Type 0 = λ fs. Picks fs c.args.among.now S c.in_ok-here.here.items in
-    let H : List ℕ → Type 0 = λ ks. Picks plan.flows c.args.among.now S ks in
-    let picks : H c.as_slice.result.now = subst H (sym c.as_slice.ensures.value) (subst Q c.flows.ensures.same c.in_ok-here.ensures) in
-    let O : List OwnedField → Type 0 = λ fs. IsInPrintedOrder printed_field fs in
-    found_in_row g.V.EntryVisitor.plan g.V.EntryVisitor.is_ready g.V.EntryVisitor.has_visited g.V.EntryVisitor.shows
-    printed_field (λ s x. x.modality) (WantsSyntax plan c.args.site.now c.args.class.now c.args.syntax c.args.among.now) (WantsModality plan c.args.site.now c.args.class.now c.args.syntax c.modality-item.result c.as_slice.result.now)
-    items c.loop-modality.modality-index c.modality-item.result c.args.visitor.now c.loop-modality.visitor c.visit_modality.new.visitor c.in_ok-found.found (sym c.if-is_some.ensures)
-    (subst O (sym c.as_slice-modality-items.ensures) c.requires.parts.2) c.loop-modality-test.true (sym c.modality-item.is)
-    c.loop-modality.invariant c.in_ok-found.ensures
-    (λ s x w. let F : List OwnedField → Type 0 = λ xs. Contains xs x.modality in subst F (sym c.as_slice-modality-items.ensures) ((c.requires.parts.0 x.modality).1 w.1.1.1.0))
-    (modality_in plan c.args.site.now c.args.class.now c.args.syntax c.modality-item.result c.args.among.now c.as_slice.result.now picks)
-    (modality_out plan c.args.site.now c.args.class.now c.args.syntax c.modality-item.result c.args.among.now c.as_slice.result.now picks)
-    (λ s t x y w v before. by_modality s t x y (w.1.1.0 ∙ sym v.1.1.0) (w.1.0 ∙ sym v.1.0) (w.0 ∙ sym v.0) before)
-
-pub returns : goal.returns
-returns g c =
-    let items : List OwnedField = c.as_slice-modality-items.result.now in
-    let all : take c.loop-modality.modality-index items ≡ items = take_all c.loop-modality.modality-index items (omega arith) in
-    let P : List OwnedField → Type 0 = λ xs. GoesOn g.V.EntryVisitor.plan g.V.EntryVisitor.is_ready g.V.EntryVisitor.has_visited g.V.EntryVisitor.shows
-    (λ s x. WantsSyntax c.args.self.now.plan.now c.args.site.now c.args.class.now c.args.syntax c.args.among.now s x × Contains xs (x.modality)) c.args.visitor.now c.loop-modality.visitor in
-    all_of_them g.V.EntryVisitor.plan g.V.EntryVisitor.is_ready g.V.EntryVisitor.has_visited g.V.EntryVisitor.shows (λ s x. x.modality) (WantsSyntax c.args.self.now.plan.now c.args.site.now c.args.class.now c.args.syntax c.args.among.now)
-    items c.args.visitor.now c.loop-modality.visitor (subst P all c.loop-modality.invariant)
-    (λ s x w. let F : List OwnedField → Type 0 = λ xs. Contains xs x.modality in subst F (sym c.as_slice-modality-items.ensures) ((c.requires.parts.0 x.modality).1 w.1.1.1.0))
+    let among : List ℕ = c.args.among.now in
+    let O : Option (List Text) → Type 0 = λ o. MatchOption o (Unit {0}) (λ names. AreNamed Modality c.flows.result.now among names) in
+    let named : AreNamed Modality c.flows.result.now among c.in-Some.names = subst O c.in-Some.is c.in_ok-named.ensures in
+    let F : List Flow → Type 0 = λ fs. AreNamed Modality fs among c.in-Some.names in
+    let R : List OwnedField → Type 0 = λ row. IsFieldRow plan among row in
+    subst R (sym (c.as_slice-listed.ensures.value ∙ c.in_ok-row.ensures)) (named_fields plan among c.in-Some.names (subst F c.flows.ensures.same named))

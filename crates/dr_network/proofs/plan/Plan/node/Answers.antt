@@ -25,7 +25,7 @@ loop-node-preserved c = λ node among named.
 pub returns-then-eq : goal.returns-then-eq
 returns-then-eq c =
     let P : Network → Type 0 = λ n. IsWellFormed n in
-    let formed : IsWellFormed c.args.self.now = subst P c.self.view_is c.self.invariant in
+    let formed : IsWellFormed c.args.self.now = subst P c.self.view_is c.self.invariant.0 in
     let nodes : c.as_slice-node-items.result.now ≡ c.args.self.now.nodes = c.as_slice-node-items.ensures ∙ ap (λ (n : Network). n.nodes) c.self.view_is in
     let here = Contains-get_or c.as_slice-node-items.result.now c.loop-node.node-index c.node-item.result c.loop-node-test.true in
     let named : c.node-item.result.name ≡ c.args.name.now = (slice_eq-Decides Decides-eqb c.node-item.result.name c.args.name.now true c.if-eq.ensures).0 refl in

@@ -12,7 +12,7 @@ returns-in_default c = (
       let P : Part → Type 0 = λ p. HasLineFor p c.args.caller.now c.args.key.now in
       let s = c.self.inside in
       let part : Part = record { name = s.name; max_pdu = s.max_pdu; digest = s.digest; rules = s.rules; accepts = s.accepts; flows = s.flows; lines = s.lines.items; hops = s.hops; literals = s.literals } in
-      absurd (not_found_by part c.args.caller.now c.args.key.now _ _ c.field_of-modality.ensures c.station_of-station.ensures _ _ c.as_slice.ensures.value c.new-stop.ensures
+      absurd (not_found_by part c.args.caller.now c.args.key.now _ c.cell_of.ensures _ _ c.as_slice.ensures.value c.new-stop.ensures
       c.in_default.ensures (subst P (sym c.self.view_is) has)),
 )
 
@@ -22,7 +22,7 @@ returns c = (
       let P : Part → Type 0 = λ p. HasLineFor p c.args.caller.now c.args.key.now in
       let s = c.self.inside in
       let part : Part = record { name = s.name; max_pdu = s.max_pdu; digest = s.digest; rules = s.rules; accepts = s.accepts; flows = s.flows; lines = s.lines.items; hops = s.hops; literals = s.literals } in
-      subst P c.self.view_is (found_by part c.args.caller.now c.args.key.now _ _ c.field_of-modality.ensures c.station_of-station.ensures _ _ c.as_slice.ensures.value c.new-stop.ensures
+      subst P c.self.view_is (found_by part c.args.caller.now c.args.key.now _ c.cell_of.ensures _ _ c.as_slice.ensures.value c.new-stop.ensures
       _ c.in-Some.ensures),
   λ has. refl,
 )
