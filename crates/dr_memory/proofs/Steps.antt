@@ -1,6 +1,6 @@
 -- Steps behind one that only made room.
 use Rattle.std.proofs.Common.{◌≡◌, ◌∙◌, ◌++◌, ◌∷◌, [], ℕ, Bool, List, Result, Ok, Err, ap, subst, sym}
-use Rattle.std.specs.Prelude.{IfOk, OnErr, T}
+use Rattle.std.specs.Prelude.{OnErr, T}
 use Rattle.std.specs.FinMap.{is_sorted}
 use Rattle.std.specs.BTreeSet as sorted
 use Rattle.dr_base.specs.Texts.{Text, text_cmp}
@@ -10,23 +10,20 @@ use Rattle.dr_ledger.specs.declared.item.Progress.{Progress}
 use Rattle.dr_ledger.specs.Pairs.{Pair, pair_cmp}
 use Rattle.dr_memory.specs.declared.bringing.Copies.{Copies}
 use Rattle.dr_memory.specs.declared.note.Note.{Note}
+use Rattle.dr_memory.specs.declared.note.Note.TheVariants as note
 use Rattle.dr_memory.specs.declared.parts.Bringing.{Bringing}
 use Rattle.dr_memory.specs.declared.parts.Parts.{Parts}
 use Rattle.dr_memory.specs.declared.parts.Rest.{Rest}
-use Rattle.dr_memory.specs.Bringings.{AreCopies, IsFor, IsNoted}
+use Rattle.dr_memory.specs.Bringings.{AreCopies, IsFor, IsJoined}
 use Rattle.dr_memory.specs.Changes.{AreAlike, IsBrought, IsMoved, IsOneMore, IsPutAt, IsRest, IsSame, MovesAt, TakesAt, Tree, at}
 use Rattle.dr_memory.specs.Entries.{IsTaken, Row}
-
-pub if_ok : {A E : Type 0} {P Q : A → Type 0} (r : Result A E) → ((x : A) → P x → Q x) → IfOk r P → IfOk r Q
-if_ok (Ok value) f h = f value h
-if_ok (Err why) f h = h
 
 pub on_err : {A E : Type 0} {P Q : Type 0} (r : Result A E) → (P → Q) → OnErr r P → OnErr r Q
 on_err (Ok value) f h = h
 on_err (Err why) f h = f h
 
--- what was copied, joined to the line
-pub is_for : (caller : Text) (item : Job) (targets : Targets) (rows : List Row) (copies : Copies) (new : Bringing) → AreCopies caller item targets.to rows copies → IsNoted caller item targets copies new →
+-- what was copied, with what the item and the targets have
+pub is_for : (caller : Text) (item : Job) (targets : Targets) (rows : List Row) (copies : Copies) (new : Bringing) → AreCopies caller item targets.to rows copies → IsJoined item targets copies new →
     IsFor caller item targets rows new
 is_for caller item targets rows copies new a j = record {
   is_item = j.is_item;
@@ -35,9 +32,9 @@ is_for caller item targets rows copies new a j = record {
   instance = j.instance ∙ a.instance;
   rows_are = j.rows ∙ a.rows_are;
   sorted = (let P : List Row → Type 0 = λ es. T (is_sorted text_cmp es) in subst P (sym j.rows) a.sorted);
-  keep = j.keep_is;
+  keep = j.keep;
   body = j.body;
-  note = j.note;
+  note = j.note ∙ (λ i. note.Arrival (a.line.caller_is i) (a.line.instance i) targets.to targets.keep);
 }
 
 -- the rest says what the whole said

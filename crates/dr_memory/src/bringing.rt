@@ -2,7 +2,7 @@
 ghost use Rattle.std.specs.Prelude.{◌≡◌, IfOk, T};
 ghost use Rattle.std.specs.FinMap.{is_sorted};
 ghost use Rattle.dr_base.specs.Texts.{text_cmp};
-ghost use Rattle.dr_memory.specs.Bringings.{AreCopies, IsFor, IsJoined, IsNoted, note_for};
+ghost use Rattle.dr_memory.specs.Bringings.{AreCopies, IsFor, IsJoined, IsLine};
 
 use crate::holding::filled;
 use crate::note::Note;
@@ -24,17 +24,25 @@ pub fn bringing(
     ensures { IfOk result (IsFor caller.now item targets rows.now) }
 {
     match copied(alloc, caller, &item, targets.to.as_slice(), rows) {
-        Ok(copies) => noted(caller, item, targets, copies),
+        Ok(copies) => Ok(joined(item, targets, copies)),
         Err(fault) => Err(fault),
     }
 }
 
-/// What is copied for it: nothing else of it takes memory but the line.
+/// What is copied for it: nothing else of it takes memory.
 #[derive(Drop)]
 struct Copies {
     arrival: (Text, Text),
     instance: Instance,
     rows: Vec<(Text, Progress)>,
+    line: Line,
+}
+
+/// What is copied for its line.
+#[derive(Drop)]
+struct Line {
+    caller: Text,
+    instance: Instance,
 }
 
 fn copied(
@@ -50,63 +58,50 @@ fn copied(
     let arrival = arrival_of(caller, item.uid())?;
     let rows = filled(alloc, rows, to)?;
     let instance = item.instance()?;
+    let line = line_of(caller, item)?;
     Ok(Copies {
         arrival,
         instance,
         rows,
+        line,
     })
 }
 
-fn arrival_of(caller: &Text, uid: &Text) -> Result<(Text, Text), AllocError>
-    ensures { IfOk result (λ arrival. arrival ≡ (caller.now, uid.now)) }
+fn line_of(caller: &Text, item: &Item) -> Result<Line, AllocError>
+    ensures { IfOk result (IsLine caller.now item.now) }
 {
     let caller = caller.clone()?;
-    let uid = uid.clone()?;
-    Ok((caller, uid))
+    let instance = item.instance()?;
+    Ok(Line { caller, instance })
 }
 
-/// The copies, the item and the line.
-fn noted(
-    caller: &Text,
-    item: Item,
-    targets: Targets,
-    copies: Copies,
-) -> Result<Bringing, AllocError>
-    ensures { IfOk result (IsNoted caller.now item targets copies) }
-{
-    let keep = targets.keep;
-    match note_of(caller, &item, targets) {
-        Ok(note) => Ok(joined(item, keep, copies, note)),
-        Err(fault) => Err(fault),
-    }
-}
-
-/// Nothing fails here, so that nothing is let go by halves.
-fn joined(item: Item, keep: bool, copies: Copies, note: Note) -> Bringing
-    ensures { IsJoined item keep copies note result }
+/// The copies with what the item and the targets have. Nothing fails here, so that nothing is let go by halves.
+fn joined(item: Item, targets: Targets, copies: Copies) -> Bringing
+    ensures { IsJoined item targets copies result }
 {
     let job = item.into_job();
+    let note = Note::Arrival {
+        caller: copies.line.caller,
+        instance: copies.line.instance,
+        to: targets.to,
+        keep: targets.keep,
+    };
     Bringing {
         arrival: copies.arrival,
         uid: job.uid,
         instance: copies.instance,
         rows: copies.rows,
-        keep,
+        keep: targets.keep,
         body: job.body,
         note,
     }
 }
 
-/// The line of the arrival.
-fn note_of(caller: &Text, item: &Item, targets: Targets) -> Result<Note, AllocError>
-    ensures { IfOk result (λ note. note ≡ note_for caller.now item.now targets) }
+/// What an arrival is noted by.
+pub fn arrival_of(caller: &Text, uid: &Text) -> Result<(Text, Text), AllocError>
+    ensures { IfOk result (λ arrival. arrival ≡ (caller.now, uid.now)) }
 {
     let caller = caller.clone()?;
-    let instance = item.instance()?;
-    Ok(Note::Arrival {
-        caller,
-        instance,
-        to: targets.to,
-        keep: targets.keep,
-    })
+    let uid = uid.clone()?;
+    Ok((caller, uid))
 }
