@@ -1,11 +1,11 @@
 //! A book with its data sets, in B-trees.
-ghost use Rattle.std.specs.Prelude.{◌≡◌, ◌<◌, ◌++◌, ◌∷◌, [], T, IsSome, None, Some, OnErr, OnOk, vec_len, vec_capacity};
+ghost use Rattle.std.specs.Prelude.{◌≡◌, ◌<◌, ◌++◌, ◌∷◌, [], T, IsSome, None, Some, cond, OnErr, OnOk, vec_len, vec_capacity};
 ghost use Rattle.std.specs.FinMap.{is_sorted};
 ghost use Rattle.std.specs.BTreeMap as tree;
-ghost use Rattle.dr_base.specs.Texts.{text_cmp};
+ghost use Rattle.dr_base.specs.Texts.{Text as Words, text_cmp};
 ghost use Rattle.dr_memory.specs.Dues.{AreExpected, Covers, Grows, IsExpected};
 ghost use Rattle.dr_memory.specs.Entries.{IsTaken, row_in};
-ghost use Rattle.dr_memory.specs.Changes.{AreAlike, IsOneMore, IsRest, IsSetAt, MovesAt, PrunesAll, TakesAt};
+ghost use Rattle.dr_memory.specs.Changes.{AreAlike, IsOneMore, IsRest, MovesAt, PrunesAll, TakesAt};
 
 use crate::held::Held;
 use crate::holding::first;
@@ -72,8 +72,7 @@ impl Parts {
         ensures held { self.new.held ≡ self.old.held }
         ensures waiting { self.new.waiting ≡ self.old.waiting }
     {
-        self.notes.reserve(1)?;
-        write(&mut self.notes, note);
+        add(&mut self.notes, note)?;
         Ok(())
     }
 
@@ -284,8 +283,18 @@ impl Parts {
     }
 }
 
+/// Adds a line; without memory nothing changes.
+fn add<T: Drop>(notes: &mut Vec<T>, note: T) -> Result<(), AllocError>
+    ensures ok { OnOk result (notes.new.items ≡ notes.old.items ++ note ∷ []) }
+    ensures err { OnErr result (notes.new.items ≡ notes.old.items) }
+{
+    notes.reserve(1)?;
+    write(notes, note);
+    Ok(())
+}
+
 /// Adds a line, for which there is room.
-fn write(notes: &mut Vec<Note>, note: Note)
+fn write<T: Drop>(notes: &mut Vec<T>, note: T)
     requires { vec_len notes.old < vec_capacity notes.old }
     ensures { notes.new.items ≡ notes.old.items ++ note ∷ [] }
 {
@@ -332,8 +341,12 @@ fn put_arrival(
 }
 
 /// Puts the entry of a new uid in; without memory nothing changes.
-fn put_entry(held: &mut BTreeMap<Text, Held>, uid: Text, entry: Held) -> Result<(), AllocError>
-    ensures ok { OnOk result (IsSetAt held.old uid (Some entry) held.new) }
+fn put_entry<V: Drop>(
+    held: &mut BTreeMap<Text, V>,
+    uid: Text,
+    entry: V,
+) -> Result<(), AllocError>
+    ensures ok { OnOk result ((other : Words) → tree.get text_cmp held.new other ≡ cond (tree.is_at (text_cmp uid) other) (Some entry) (tree.get text_cmp held.old other)) }
     ensures err { OnErr result (held.new.entries ≡ held.old.entries) }
     ensures was_ordered { tree.IsOrdered text_cmp held.old }
     ensures ordered { tree.IsOrdered text_cmp held.new }
