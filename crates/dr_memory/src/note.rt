@@ -102,12 +102,7 @@ fn repeat_entry(caller: &Text, instance: &Instance) -> Result<Entry, AllocError>
     Ok(entry)
 }
 
-fn settling_entry(
-    uid: &Text,
-    dest: &Text,
-    outcome: Outcome,
-    now: u64,
-) -> Result<Entry, AllocError>
+fn settling_entry(uid: &Text, dest: &Text, outcome: Outcome, now: u64) -> Result<Entry, AllocError>
     ensures { IfOk result (λ e. e ≡ entry_of (line_of (Note.Settling uid.now dest.now outcome now))) }
 {
     let entry = Entry::Settling {

@@ -248,14 +248,7 @@ impl Parts {
     }
 
     /// Moves the row on, where its key is there and there is room for the line.
-    fn move_on(
-        &mut self,
-        uid: &Text,
-        dest: &Text,
-        progress: Progress,
-        gone: &Due,
-        note: Note,
-    )
+    fn move_on(&mut self, uid: &Text, dest: &Text, progress: Progress, gone: &Due, note: Note)
         requires there { IsSome (row_in (tree.get text_cmp self.old.held uid.now) dest.now) }
         requires room { vec_len self.old.notes < vec_capacity self.old.notes }
         requires expected { IsExpected uid.now dest.now progress self.old.waiting }
@@ -341,11 +334,7 @@ fn put_arrival(
 }
 
 /// Puts the entry of a new uid in; without memory nothing changes.
-fn put_entry<V: Drop>(
-    held: &mut BTreeMap<Text, V>,
-    uid: Text,
-    entry: V,
-) -> Result<(), AllocError>
+fn put_entry<V: Drop>(held: &mut BTreeMap<Text, V>, uid: Text, entry: V) -> Result<(), AllocError>
     ensures ok { OnOk result ((other : Words) → tree.get text_cmp held.new other ≡ cond (tree.is_at (text_cmp uid) other) (Some entry) (tree.get text_cmp held.old other)) }
     ensures err { OnErr result (held.new.entries ≡ held.old.entries) }
     ensures was_ordered { tree.IsOrdered text_cmp held.old }
