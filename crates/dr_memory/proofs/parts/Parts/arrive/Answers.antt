@@ -1,5 +1,4 @@
-use Rattle.std.proofs.Common.{ap, refl, subst}
-use Rattle.std.proofs.Common.{None}
+use Rattle.std.proofs.Common.{None, ap, refl, subst}
 use Rattle.dr_base.specs.Texts.{Text}
 use Rattle.dr_ledger.specs.Pairs.{Pair}
 use Rattle.dr_ledger.proofs.Maps.{text_pairs}

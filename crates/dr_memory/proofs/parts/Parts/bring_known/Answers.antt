@@ -1,4 +1,4 @@
-use Rattle.std.proofs.Common.{List, refl, subst, sym}
+use Rattle.std.proofs.Common.{◌∙◌, ◌++◌, ◌∷◌, [], List, ap, refl, subst, sym}
 use Rattle.std.specs.Prelude.{IsSome, T}
 use Rattle.std.specs.BTreeMap as tree
 use Rattle.std.specs.FinMap.{is_sorted}
@@ -7,7 +7,6 @@ use Rattle.dr_memory.specs.Changes.{IsOneMore, at}
 use Rattle.dr_memory.specs.Entries.{Row}
 use Rattle.dr_ledger.specs.Pairs.{Pair}
 use Rattle.dr_memory.specs.declared.note.Note.{Note}
-use Rattle.std.proofs.Common.{◌∙◌, ◌++◌, ◌∷◌, [], ap}
 use Rattle.dr_memory.proofs.Steps.{rested}
 use Rattle.dr_memory.proofs.Trees.{known_taken}
 use Rattle.dr_memory.proofs.parts.Parts.bring_known.Goals as goal

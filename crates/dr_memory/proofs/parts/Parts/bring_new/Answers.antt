@@ -1,6 +1,5 @@
-use Rattle.std.proofs.Common.{◌∙◌, ◌++◌, ◌∷◌, [], Option, Some, ap, inl, inr, subst, sym}
-use Rattle.std.specs.BTreeMap as tree
-use Rattle.dr_base.specs.Texts.{Text, text_cmp}
+use Rattle.std.proofs.Common.{◌∙◌, ◌++◌, ◌∷◌, [], Option, Some, ap, subst, sym}
+use Rattle.dr_base.specs.Texts.{Text}
 use Rattle.dr_ledger.specs.Pairs.{Pair}
 use Rattle.dr_memory.specs.declared.held.Held.{Held as Entry}
 use Rattle.dr_memory.specs.declared.note.Note.{Note}

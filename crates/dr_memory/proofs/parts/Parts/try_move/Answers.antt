@@ -3,7 +3,6 @@ use Rattle.std.specs.Prelude.{IsSome}
 use Rattle.std.specs.BTreeMap as tree
 use Rattle.dr_base.specs.Texts.{text_cmp}
 use Rattle.dr_memory.specs.Changes.{Tree}
-use Rattle.dr_memory.specs.Dues.{Covers}
 use Rattle.dr_memory.specs.Entries.{row_in}
 use Rattle.dr_memory.proofs.Steps.{moved_from, roomed_same}
 use Rattle.dr_memory.proofs.Trees.{covers_same}
