@@ -51,6 +51,14 @@ IsLineOf fault (Sound printed) = ⊥
 IsLineOf fault (NoPlan refused place) = ⊥
 IsLineOf fault TooLarge = ⊥
 
+-- the answer to a plan with that certificate: its text, or want of memory
+abbrev pub IsPrintOf : Certificate → Answer → Type 0
+IsPrintOf certificate (Sound printed) = printed ≡ certificate_text certificate
+IsPrintOf certificate Memory = Unit {0}
+IsPrintOf certificate (Unsound printed why) = ⊥
+IsPrintOf certificate (NoPlan refused place) = ⊥
+IsPrintOf certificate TooLarge = ⊥
+
 -- what `check` may answer to a text; want of memory may be answered to any
 abbrev pub IsAnswerTo : Text → Answer → Type 0
 IsAnswerTo text (Sound printed) = IsProved text printed

@@ -1,7 +1,8 @@
 //! What the program answers to the text of a plan.
-ghost use Rattle.std.specs.Prelude.{◌≡◌, ◌≢◌, Err};
+ghost use Rattle.std.specs.Prelude.{◌≡◌, ◌≢◌, Err, Ok};
+ghost use Rattle.dr_base.specs.Texts.{Text as OfText};
 ghost use Rattle.dr_plan.specs.Reading.{Reads};
-ghost use Rattle.dr_commands.specs.Answers.{IsAnswerTo, IsLineOf, IsNoPlan, status_for};
+ghost use Rattle.dr_commands.specs.Answers.{IsAnswerTo, IsLineOf, IsNoPlan, IsPrintOf, status_for};
 ghost use Rattle.dr_commands.specs.declared.status.Status.TheVariants.{Usage};
 
 use crate::print::line_of;
@@ -12,6 +13,7 @@ use dr_check::{CheckFault, Fault, Verdict, check};
 use dr_places::explain;
 use dr_plan::{Plan, PlanFault, read_plan};
 use dr_reasons::describe;
+use dr_sound::Certificate;
 use std::alloc::{AllocError, Global};
 
 /// What the program answers to the text of a plan.
@@ -74,21 +76,34 @@ fn answer_to_unsound(alloc: Global, plan: &Plan, fault: &Fault) -> Answer
     }
 }
 
+/// The answer to a plan with this certificate.
+fn answer_to_sound(alloc: Global, certificate: &Certificate) -> Answer
+    ensures { IsPrintOf certificate.now result }
+{
+    match write_certificate(alloc, certificate) {
+        Ok(text) => Answer::Sound(text),
+        Err(AllocError) => Answer::Memory,
+    }
+}
+
+/// The answer to a plan that was read of a text.
+fn answer_to_plan(alloc: Global, plan: &Plan) -> Answer
+    ensures { (text : OfText) → Reads text (Ok plan.now) → IsAnswerTo text result }
+{
+    match check(alloc, plan) {
+        Ok(Verdict::Yes(certificate)) => answer_to_sound(alloc, &certificate),
+        Ok(Verdict::No(fault)) => answer_to_unsound(alloc, plan, &fault),
+        Err(CheckFault::TooLarge) => Answer::TooLarge,
+        Err(CheckFault::Memory) => Answer::Memory,
+    }
+}
+
 /// The answer to the text of a plan.
 pub fn answer_to(alloc: Global, text: &[u8]) -> Answer
     ensures { IsAnswerTo text.now result }
 {
-    let plan = match read_plan(alloc, text) {
-        Ok(plan) => plan,
-        Err(fault) => return answer_to_fault(alloc, text, fault),
-    };
-    match check(alloc, &plan) {
-        Ok(Verdict::Yes(certificate)) => match write_certificate(alloc, &certificate) {
-            Ok(text) => Answer::Sound(text),
-            Err(AllocError) => Answer::Memory,
-        },
-        Ok(Verdict::No(fault)) => answer_to_unsound(alloc, &plan, &fault),
-        Err(CheckFault::TooLarge) => Answer::TooLarge,
-        Err(CheckFault::Memory) => Answer::Memory,
+    match read_plan(alloc, text) {
+        Ok(plan) => answer_to_plan(alloc, &plan),
+        Err(fault) => answer_to_fault(alloc, text, fault),
     }
 }

@@ -39,28 +39,114 @@ fn optional<'a>(alloc: Global, name: &'a str, help: &'a str) -> Arg<'a> {
     Arg::new(alloc, name).action(ArgAction::Set).help(help)
 }
 
-/// A word with values that have to be given.
+/// What takes a part by value and comes back with it: a word takes its values and options, the line its words. The
+/// functions that may fail know such a value by this trait alone, whatever is in it.
+trait Takes<P>: Sized + Drop {
+    fn take(self, part: P) -> Result<Self, AllocError>;
+}
+
+impl<'a> Takes<Arg<'a>> for Command<'a> {
+    fn take(self, part: Arg<'a>) -> Result<Command<'a>, AllocError> {
+        self.arg(part)
+    }
+}
+
+impl<'a> Takes<Command<'a>> for Command<'a> {
+    fn take(self, part: Command<'a>) -> Result<Command<'a>, AllocError> {
+        self.subcommand(part)
+    }
+}
+
+/// What names a part.
+trait Makes<P>: Copy {
+    fn make(self, alloc: Global) -> Result<P, AllocError>;
+}
+
+impl<'a> Makes<Arg<'a>> for Value<'a> {
+    fn make(self, alloc: Global) -> Result<Arg<'a>, AllocError> {
+        Ok(needed(alloc, self.0, self.1))
+    }
+}
+
+/// One part more.
+fn add<W: Takes<P>, P: Drop>(whole: W, part: Result<P, AllocError>) -> Result<W, AllocError> {
+    whole.take(part?)
+}
+
+/// The whole with all of these parts.
+fn add_all<W: Takes<P>, P: Drop, N: Makes<P>>(
+    alloc: Global,
+    whole: Result<W, AllocError>,
+    names: &[N],
+) -> Result<W, AllocError> {
+    let mut whole = whole?;
+    for name in names {
+        whole = add(whole, name.make(alloc))?;
+    }
+    Ok(whole)
+}
+
+/// A word with values that have to be given, and with others.
 fn word<'a>(
     alloc: Global,
     name: &'a str,
     about: &'a str,
     values: &[Value<'a>],
+    choices: &[Choice],
 ) -> Result<Command<'a>, AllocError> {
-    let mut word = Command::new(alloc, name).about(about);
-    for value in values {
-        word = word.arg(needed(alloc, value.0, value.1))?;
+    let word = add_all(alloc, Ok(Command::new(alloc, name).about(about)), values);
+    add_all(alloc, word, choices)
+}
+
+/// The options, and the values that aren't like those of other words.
+#[derive(Clone, Copy)]
+enum Choice {
+    Plan,
+    Syntax,
+    Modality,
+    Station,
+    Summary,
+    Row,
+    Dest,
+    AllHeld,
+    File,
+    Links,
+    Log,
+    Report,
+}
+
+impl<'a> Makes<Arg<'a>> for Choice {
+    fn make(self, alloc: Global) -> Result<Arg<'a>, AllocError> {
+        match self {
+            Choice::Plan => Ok(file_of_check(alloc)),
+            Choice::Syntax => syntax(alloc),
+            Choice::Modality => Ok(modality(alloc)),
+            Choice::Station => Ok(station(alloc)),
+            Choice::Summary => Ok(summary(alloc)),
+            Choice::Row => row(alloc),
+            Choice::Dest => Ok(dest(alloc)),
+            Choice::AllHeld => all_held(alloc),
+            Choice::File => Ok(needed(alloc, "FILE", "a Part 10 file")),
+            Choice::Links => Ok(links(alloc)),
+            Choice::Log => Ok(log(alloc)),
+            Choice::Report => Ok(report(alloc)),
+        }
     }
-    Ok(word)
+}
+
+/// The file of `check`, which may be left out.
+fn file_of_check<'a>(alloc: Global) -> Arg<'a> {
+    optional(
+        alloc,
+        "PLAN",
+        "the file with the plan; without it the plan is read from the standard input",
+    )
 }
 
 /// The word `check`.
 fn check<'a>(alloc: Global) -> Result<Command<'a>, AllocError> {
     let about = "Checks a plan, and prints its certificate or what is wrong with it";
-    Command::new(alloc, "check").about(about).arg(optional(
-        alloc,
-        "PLAN",
-        "the file with the plan; without it the plan is read from the standard input",
-    ))
+    word(alloc, "check", about, &[], &[Choice::Plan])
 }
 
 /// The word `verify`.
@@ -71,6 +157,7 @@ fn verify<'a>(alloc: Global) -> Result<Command<'a>, AllocError> {
         "verify",
         about,
         &[PLAN, ("CERT", "the file with the certificate")],
+        &[],
     )
 }
 
@@ -83,6 +170,7 @@ fn simulate<'a>(alloc: Global) -> Result<Command<'a>, AllocError> {
         "simulate",
         about,
         &[PLAN, CERTIFICATE, ("SCRIPT", "the file with the script")],
+        &[],
     )
 }
 
@@ -98,6 +186,7 @@ fn echo<'a>(alloc: Global) -> Result<Command<'a>, AllocError> {
             ("FROM", "the node that asks"),
             ("TO", "the node that is asked"),
         ],
+        &[],
     )
 }
 
@@ -106,11 +195,29 @@ fn syntax<'a>(alloc: Global) -> Result<Arg<'a>, AllocError> {
     optional(alloc, "SYNTAX", "the UID of its transfer syntax").requires_arg("STATION")
 }
 
+/// Its modality.
+fn modality<'a>(alloc: Global) -> Arg<'a> {
+    optional(
+        alloc,
+        "MODALITY",
+        "its modality; an empty word is the empty value",
+    )
+}
+
+/// Its station name.
+fn station<'a>(alloc: Global) -> Arg<'a> {
+    optional(
+        alloc,
+        "STATION",
+        "its station name; an empty word is the empty value",
+    )
+}
+
 /// The word `route`.
 fn route<'a>(alloc: Global) -> Result<Command<'a>, AllocError> {
     let about =
         "Prints where an instance goes that enters at a node: its hops, and the nodes that keep it";
-    let word = word(
+    word(
         alloc,
         "route",
         about,
@@ -123,42 +230,34 @@ fn route<'a>(alloc: Global) -> Result<Command<'a>, AllocError> {
                 "a Part 10 file, or the SOP class UID of an instance",
             ),
         ],
-    )?;
-    let word = word.arg(syntax(alloc)?)?;
-    let word = word.arg(optional(
-        alloc,
-        "MODALITY",
-        "its modality; an empty word is the empty value",
-    ))?;
-    word.arg(optional(
-        alloc,
-        "STATION",
-        "its station name; an empty word is the empty value",
-    ))
+        &[Choice::Syntax, Choice::Modality, Choice::Station],
+    )
 }
 
 /// The word `graph`.
 fn graph<'a>(alloc: Global) -> Result<Command<'a>, AllocError> {
     let about = "Prints the network of a plan as a graph for Graphviz";
-    word(alloc, "graph", about, SEALED)
+    word(alloc, "graph", about, SEALED, &[])
 }
 
 /// The word `lint`.
 fn lint<'a>(alloc: Global) -> Result<Command<'a>, AllocError> {
     let about = "Prints what is sound in a plan and still looks wrong";
-    word(alloc, "lint", about, SEALED)
+    word(alloc, "lint", about, SEALED, &[])
+}
+
+/// The option of `list` for numbers alone.
+fn summary<'a>(alloc: Global) -> Arg<'a> {
+    Arg::new(alloc, "SUMMARY")
+        .long("summary")
+        .action(ArgAction::SetTrue)
+        .help("prints how many there are instead")
 }
 
 /// The word `list`.
 fn list<'a>(alloc: Global) -> Result<Command<'a>, AllocError> {
     let about = "Prints what a node has: its arrivals, what it keeps, and what is queued";
-    let word = word(alloc, "list", about, LEDGER)?;
-    word.arg(
-        Arg::new(alloc, "SUMMARY")
-            .long("summary")
-            .action(ArgAction::SetTrue)
-            .help("prints how many there are instead"),
-    )
+    word(alloc, "list", about, LEDGER, &[Choice::Summary])
 }
 
 /// The option of `requeue` for all held rows.
@@ -179,20 +278,28 @@ fn row<'a>(alloc: Global) -> Result<Arg<'a>, AllocError> {
     row.requires_arg("DEST")
 }
 
+/// Where that row goes.
+fn dest<'a>(alloc: Global) -> Arg<'a> {
+    optional(alloc, "DEST", "the node to which it is to be sent")
+}
+
 /// The word `requeue`.
 fn requeue<'a>(alloc: Global) -> Result<Command<'a>, AllocError> {
-    let word = word(alloc, "requeue", "Queues held rows of a node again", LEDGER)?;
-    let word = word.arg(row(alloc)?)?;
-    let word = word.arg(optional(alloc, "DEST", "the node to which it is to be sent"))?;
-    word.arg(all_held(alloc)?)
+    let about = "Queues held rows of a node again";
+    word(
+        alloc,
+        "requeue",
+        about,
+        LEDGER,
+        &[Choice::Row, Choice::Dest, Choice::AllHeld],
+    )
 }
 
 /// The word `send`.
 fn send<'a>(alloc: Global) -> Result<Command<'a>, AllocError> {
     let about =
         "Brings an instance to a node, sends what is due once, and prints what the node has then";
-    let word = word(alloc, "send", about, LEDGER)?;
-    word.arg(needed(alloc, "FILE", "a Part 10 file"))
+    word(alloc, "send", about, LEDGER, &[Choice::File])
 }
 
 /// The word `adopt`.
@@ -210,6 +317,7 @@ fn adopt<'a>(alloc: Global) -> Result<Command<'a>, AllocError> {
             ("CERT", "the file with the next plan's certificate"),
             ("DIR", "the folder with the ledger of each node"),
         ],
+        &[],
     )
 }
 
@@ -246,55 +354,77 @@ fn report<'a>(alloc: Global) -> Arg<'a> {
 fn serve<'a>(alloc: Global) -> Result<Command<'a>, AllocError> {
     let about =
         "Serves associations at a node's address and sends what is due; prints in the end what the node has";
-    let word = word(alloc, "serve", about, LEDGER)?;
-    let word = word.arg(links(alloc))?;
-    let word = word.arg(log(alloc))?;
-    word.arg(report(alloc))
+    word(
+        alloc,
+        "serve",
+        about,
+        LEDGER,
+        &[Choice::Links, Choice::Log, Choice::Report],
+    )
 }
 
 /// The program, with no word yet.
 fn program<'a>(alloc: Global) -> Result<Command<'a>, AllocError> {
-    let program = Command::new(alloc, "dr_router").bin_name("dr_router")?;
-    Ok(
-        program
-            .version("0.1.0")
-            .about("A DICOM store-and-forward router")
-            .no_binary_name(true)
-            .subcommand_required(true),
-    )
+    Command::new(alloc, "dr_router")
+        .version("0.1.0")
+        .about("A DICOM store-and-forward router")
+        .no_binary_name(true)
+        .subcommand_required(true)
+        .bin_name("dr_router")
 }
 
-/// One word more.
-fn add<'a>(
-    line: Command<'a>,
-    word: Result<Command<'a>, AllocError>,
-) -> Result<Command<'a>, AllocError> {
-    line.subcommand(word?)
+/// The words, in the order in which the help shows them: those about plans, and those about nodes.
+#[derive(Clone, Copy)]
+enum Verb {
+    Check,
+    Verify,
+    Route,
+    Graph,
+    Lint,
+    Simulate,
+    Echo,
+    Serve,
+    Send,
+    List,
+    Requeue,
+    Adopt,
 }
 
-/// The words about plans.
-fn add_plan_words<'a>(alloc: Global, line: Command<'a>) -> Result<Command<'a>, AllocError> {
-    let line = add(line, check(alloc))?;
-    let line = add(line, verify(alloc))?;
-    let line = add(line, route(alloc))?;
-    let line = add(line, graph(alloc))?;
-    let line = add(line, lint(alloc))?;
-    add(line, simulate(alloc))
-}
+const VERBS: &[Verb] = &[
+    Verb::Check,
+    Verb::Verify,
+    Verb::Route,
+    Verb::Graph,
+    Verb::Lint,
+    Verb::Simulate,
+    Verb::Echo,
+    Verb::Serve,
+    Verb::Send,
+    Verb::List,
+    Verb::Requeue,
+    Verb::Adopt,
+];
 
-/// The words about nodes.
-fn add_node_words<'a>(alloc: Global, line: Command<'a>) -> Result<Command<'a>, AllocError> {
-    let line = add(line, echo(alloc))?;
-    let line = add(line, serve(alloc))?;
-    let line = add(line, send(alloc))?;
-    let line = add(line, list(alloc))?;
-    let line = add(line, requeue(alloc))?;
-    add(line, adopt(alloc))
+impl<'a> Makes<Command<'a>> for Verb {
+    fn make(self, alloc: Global) -> Result<Command<'a>, AllocError> {
+        match self {
+            Verb::Check => check(alloc),
+            Verb::Verify => verify(alloc),
+            Verb::Route => route(alloc),
+            Verb::Graph => graph(alloc),
+            Verb::Lint => lint(alloc),
+            Verb::Simulate => simulate(alloc),
+            Verb::Echo => echo(alloc),
+            Verb::Serve => serve(alloc),
+            Verb::Send => send(alloc),
+            Verb::List => list(alloc),
+            Verb::Requeue => requeue(alloc),
+            Verb::Adopt => adopt(alloc),
+        }
+    }
 }
 
 /// The command line of the program.
 pub fn command_line<'a>(alloc: Global) -> Result<Command<'a>, AllocError> {
-    let line = program(alloc)?;
-    let line = add_plan_words(alloc, line)?;
-    add_node_words(alloc, line)
+    add_all(alloc, program(alloc), VERBS)
 }

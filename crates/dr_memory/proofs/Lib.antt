@@ -8,5 +8,6 @@ pub mod Lists
 pub mod Lookups
 pub mod NextDue
 pub mod Searching
+pub mod Steps
 pub mod Trees
 pub mod Whole

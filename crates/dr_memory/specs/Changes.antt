@@ -1,6 +1,7 @@
 -- What the calls make of the parts, by what is found at each uid.
 use Rattle.std.specs.Prelude.{◌≡◌, ℕ, Bool, ◌||◌, cond, List, [], ◌∷◌, ◌++◌, Option, None, Some}
 use Rattle.std.specs.Ordering.{eq_by_cmp}
+use Rattle.std.specs.BTreeMap.{is_at}
 use Rattle.std.specs.BTreeMap as tree
 use Rattle.std.specs.BTreeSet as sorted
 use Rattle.dr_base.specs.Texts.{Text, text_cmp}
@@ -11,6 +12,7 @@ use Rattle.dr_memory.specs.declared.note.Note.{Note}
 use Rattle.dr_memory.specs.declared.note.Note.TheVariants as note
 use Rattle.dr_memory.specs.declared.parts.Bringing.{Bringing}
 use Rattle.dr_memory.specs.declared.parts.Parts.{Parts}
+use Rattle.dr_memory.specs.declared.parts.Rest.{Rest}
 use Rattle.dr_memory.specs.Entries.{IsMovedOn, IsPruned, IsTaken, Row}
 
 -- what stands at each uid
@@ -23,6 +25,10 @@ at held uid = tree.get text_cmp held uid
 -- at one uid there is this entry, and elsewhere what was there
 abbrev pub IsPutAt : Tree → Text → Entry → Tree → Type 0
 IsPutAt old uid entry new = (other : Text) → at new other ≡ cond (eq_by_cmp text_cmp other uid) (Some entry) (at old other)
+
+-- the same of what is there or isn't, as trees put it
+abbrev pub IsSetAt : Tree → Text → Option Entry → Tree → Type 0
+IsSetAt old uid found new = (other : Text) → at new other ≡ cond (is_at (text_cmp uid) other) found (at old other)
 
 -- another arrival of the uid
 abbrev pub TakesAt : Tree → Text → List Row → Bool → List ℕ → Tree → Type 0
@@ -44,6 +50,18 @@ PrunesAll old new = (uid : Text) → IsPrunedIn (at old uid) (at new uid)
 abbrev pub AreAlike : sorted.BTreeSet Pair → sorted.BTreeSet Pair → Type 0
 AreAlike old new = (key : Pair) → sorted.contains pair_cmp new key ≡ sorted.contains pair_cmp old key
 
+-- one more of them
+abbrev pub IsOneMore : sorted.BTreeSet Pair → Pair → sorted.BTreeSet Pair → Type 0
+IsOneMore old arrival new = (key : Pair) → sorted.contains pair_cmp new key ≡ (eq_by_cmp pair_cmp key arrival || sorted.contains pair_cmp old key)
+
+-- what an arrival brings, but for who brought it
+pub record IsRest (new : Bringing) (rest : Rest) : Type 0 where
+  pub uid : rest.uid ≡ new.uid
+  pub rows : rest.rows.items ≡ new.rows.items
+  pub keep : rest.keep ≡ new.keep
+  pub body : rest.body ≡ new.body
+  pub note : rest.note ≡ new.note
+
 -- the same book and data sets
 pub record IsSame (p q : Parts) : Type 0 where
   pub held : q.held.entries ≡ p.held.entries
@@ -63,6 +81,18 @@ pub record IsBrought (p : Parts) (new : Bringing) (q : Parts) : Type 0 where
   pub held : IsPutAt p.held new.uid after q.held
   pub arrivals : (key : Pair) → sorted.contains pair_cmp q.arrivals key ≡ (eq_by_cmp pair_cmp key new.arrival || sorted.contains pair_cmp p.arrivals key)
   pub notes : q.notes.items ≡ p.notes.items ++ new.note ∷ []
+
+-- an arrival is noted, and what stands at each uid stays
+pub record HasArrived (p : Parts) (arrival : Pair) (note : Note) (q : Parts) : Type 0 where
+  pub held : q.held ≡ p.held
+  pub arrivals : IsOneMore p.arrivals arrival q.arrivals
+  pub notes : q.notes.items ≡ p.notes.items ++ note ∷ []
+
+-- what stood at the uid has left, and nothing else has changed
+pub record IsTakenOut (p : Parts) (uid : Text) (q : Parts) : Type 0 where
+  pub held : IsSetAt p.held uid None q.held
+  pub arrivals : AreAlike p.arrivals q.arrivals
+  pub notes : q.notes.items ≡ p.notes.items
 
 -- one row moves on
 pub record IsMoved (p : Parts) (uid dest : Text) (progress : Progress) (note : Note) (q : Parts) : Type 0 where

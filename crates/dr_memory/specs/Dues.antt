@@ -1,5 +1,5 @@
 -- The waiting rows of all destinations, in the order in which they are due.
-use Rattle.std.specs.Prelude.{◌≡◌, ℕ, Bool, true, false, cond, ◌==◌, ◌&&◌, nat_le, List, [], ◌∷◌, Option, None, Some}
+use Rattle.std.specs.Prelude.{◌≡◌, ℕ, Bool, Contains, true, false, cond, ◌==◌, ◌&&◌, nat_le, List, [], ◌∷◌, Option, None, Some}
 use Rattle.std.specs.declared.cmp.Ordering.{Ordering}
 use Rattle.std.specs.Ordering.{nat_cmp, ordering_then}
 use Rattle.std.specs.Str.{bytes_eq}
@@ -9,7 +9,7 @@ use Rattle.dr_base.specs.Texts.{Text, text_cmp}
 use Rattle.dr_ledger.specs.declared.item.Progress.{Progress}
 use Rattle.dr_ledger.specs.declared.item.Progress.TheVariants.{Waiting, Held, Done}
 use Rattle.dr_memory.specs.declared.held.Held.{Held as Entry}
-use Rattle.dr_memory.specs.Entries.{row_in}
+use Rattle.dr_memory.specs.Entries.{Row, row_in}
 
 -- a destination, since when a row to it is due, and the row's uid
 abbrev pub Due : Type 0
@@ -33,6 +33,14 @@ is_waiting held key = waits_since (row_in (tree.get text_cmp held key.1.1) key.0
 -- Each waiting row has its key. There may be other keys, which nobody misses.
 abbrev pub Covers : sorted.BTreeSet Due → tree.BTreeMap Text Entry → Type 0
 Covers waiting held = (uid dest : Text) (tries due : ℕ) → row_in (tree.get text_cmp held uid) dest ≡ Some (Waiting tries due) → sorted.contains due_cmp waiting (dest, (due, uid)) ≡ true
+
+-- where the row of that uid to that destination waits, its key is there
+abbrev pub IsExpected : Text → Text → Progress → sorted.BTreeSet Due → Type 0
+IsExpected uid dest row keys = (tries due : ℕ) → row ≡ Waiting tries due → sorted.contains due_cmp keys (dest, (due, uid)) ≡ true
+
+-- the same of all rows of a uid
+abbrev pub AreExpected : Text → List Row → sorted.BTreeSet Due → Type 0
+AreExpected uid rows keys = (dest : Text) (tries due : ℕ) → Contains rows (dest, Waiting tries due) → sorted.contains due_cmp keys (dest, (due, uid)) ≡ true
 
 -- no key has gone
 abbrev pub Grows : sorted.BTreeSet Due → sorted.BTreeSet Due → Type 0

@@ -20,7 +20,7 @@ ghost use Rattle.dr_memory.specs.Jobs.{IsJobOf};
 ghost use Rattle.dr_memory.specs.Sound.{IsSound, NeverFails, Shows};
 ghost use Rattle.dr_memory.specs.Unfits.{Fits, IsUnfitRow, UnfitsIn};
 
-use crate::bringing::bringing;
+use crate::bringing::{arrival_of, bringing};
 use crate::held::Held;
 use crate::holding::is_open;
 use crate::note::{Note, key_of};
@@ -133,11 +133,20 @@ impl MemoryLedger {
         ensures site { self.new.site ≡ self.old.site }
         ensures never { NeverFails result }
     {
-        let arrival = (caller.clone()?, item.uid().clone()?);
-        if self.parts.arrivals.contains(&arrival) {
+        let has = self.has_brought(caller, item.uid())?;
+        if has {
             return self.repeat(caller, &item);
         }
         self.bring(caller, item)
+    }
+
+    /// Whether the caller brought the uid before.
+    fn has_brought(&self, caller: &Text, uid: &Text) -> Result<bool, AllocError>
+        ensures { IfOk result (λ has. has ≡ set.contains (content self.now.parts).arrivals (caller.now, uid.now)) }
+    {
+        let arrival = arrival_of(caller, uid)?;
+        let has = self.parts.arrivals.contains(&arrival);
+        Ok(has)
     }
 
     /// Takes the item from the caller, if it may arrive.
@@ -358,12 +367,20 @@ impl MemoryLedger {
         ensures never { NeverFails result }
     {
         match self.parts.try_adopt() {
-            Ok(()) => {}
-            Err(_) => return Err(LedgerFault::Memory),
+            Ok(()) => {
+                put_site(&mut self.site, own);
+                Ok(())
+            }
+            Err(_) => Err(LedgerFault::Memory),
         }
-        self.site = own;
-        Ok(())
     }
+}
+
+/// Puts the site in the place of the one that was.
+fn put_site(site: &mut Site, own: Site)
+    ensures { site.new ≡ own }
+{
+    *site = own;
 }
 
 /// Adds the rows of a uid.

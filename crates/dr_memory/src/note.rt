@@ -46,23 +46,11 @@ impl Note {
                 to,
                 keep,
             } => {
-                let entry = Entry::Arrival {
-                    caller: caller.clone()?,
-                    uid: instance.uid.clone()?,
-                    key: key_of(instance)?,
-                    length: instance.size,
-                    to: names_of(to)?,
-                    keep: *keep,
-                };
+                let entry = arrival_entry(caller, instance, to, *keep)?;
                 Ok(entry)
             }
             Note::Repeat { caller, instance } => {
-                let entry = Entry::Repeat {
-                    caller: caller.clone()?,
-                    uid: instance.uid.clone()?,
-                    key: key_of(instance)?,
-                    length: instance.size,
-                };
+                let entry = repeat_entry(caller, instance)?;
                 Ok(entry)
             }
             Note::Settling {
@@ -71,24 +59,69 @@ impl Note {
                 outcome,
                 now,
             } => {
-                let entry = Entry::Settling {
-                    uid: uid.clone()?,
-                    dest: dest.clone()?,
-                    outcome: *outcome,
-                    now: *now,
-                };
+                let entry = settling_entry(uid, dest, *outcome, *now)?;
                 Ok(entry)
             }
             Note::Requeuing { uid, dest } => {
-                let entry = Entry::Requeuing {
-                    uid: uid.clone()?,
-                    dest: dest.clone()?,
-                };
+                let entry = requeuing_entry(uid, dest)?;
                 Ok(entry)
             }
             Note::Adoption => Ok(Entry::Adoption),
         }
     }
+}
+
+fn arrival_entry(
+    caller: &Text,
+    instance: &Instance,
+    to: &Seq<Text>,
+    keep: bool,
+) -> Result<Entry, AllocError>
+    ensures { IfOk result (λ e. e ≡ entry_of (line_of (Note.Arrival caller.now instance.now to.now keep))) }
+{
+    let entry = Entry::Arrival {
+        caller: caller.clone()?,
+        uid: instance.uid.clone()?,
+        key: key_of(instance)?,
+        length: instance.size,
+        to: names_of(to)?,
+        keep,
+    };
+    Ok(entry)
+}
+
+fn repeat_entry(caller: &Text, instance: &Instance) -> Result<Entry, AllocError>
+    ensures { IfOk result (λ e. e ≡ entry_of (line_of (Note.Repeat caller.now instance.now))) }
+{
+    let entry = Entry::Repeat {
+        caller: caller.clone()?,
+        uid: instance.uid.clone()?,
+        key: key_of(instance)?,
+        length: instance.size,
+    };
+    Ok(entry)
+}
+
+fn settling_entry(uid: &Text, dest: &Text, outcome: Outcome, now: u64) -> Result<Entry, AllocError>
+    ensures { IfOk result (λ e. e ≡ entry_of (line_of (Note.Settling uid.now dest.now outcome now))) }
+{
+    let entry = Entry::Settling {
+        uid: uid.clone()?,
+        dest: dest.clone()?,
+        outcome,
+        now,
+    };
+    Ok(entry)
+}
+
+fn requeuing_entry(uid: &Text, dest: &Text) -> Result<Entry, AllocError>
+    ensures { IfOk result (λ e. e ≡ entry_of (line_of (Note.Requeuing uid.now dest.now))) }
+{
+    let entry = Entry::Requeuing {
+        uid: uid.clone()?,
+        dest: dest.clone()?,
+    };
+    Ok(entry)
 }
 
 pub fn key_of(instance: &Instance) -> Result<Key, AllocError>

@@ -1,11 +1,8 @@
 //! The waiting rows of all destinations, in the order in which they are due.
-ghost use Rattle.std.specs.Prelude.{◌≡◌, ℕ, OnOk, IfOk, Contains, None, Some, true, option_map, []};
-ghost use Rattle.std.specs.BTreeMap as tree;
+ghost use Rattle.std.specs.Prelude.{◌≡◌, OnOk, IfOk, None, Some, option_map, []};
 ghost use Rattle.std.specs.BTreeSet as sorted;
 ghost use Rattle.std.specs.declared.ops.Bound.TheVariants.{Included, Unbounded};
-ghost use Rattle.dr_base.specs.Texts.{Text as Words, text_cmp};
-ghost use Rattle.dr_memory.specs.Dues.{Covers, Grows, due_cmp, first_waiting, is_waiting as is_waiting_row, waits_since};
-ghost use Rattle.dr_memory.specs.Entries.{row_in};
+ghost use Rattle.dr_memory.specs.Dues.{AreExpected, Covers, Grows, IsExpected, due_cmp, first_waiting, is_waiting as is_waiting_row, waits_since};
 
 use crate::held::Held;
 use dr_base::Text;
@@ -16,17 +13,27 @@ use std::collections::{BTreeMap, BTreeSet};
 /// A destination, since when a row to it is due (milliseconds), and the row's uid.
 pub type Due = (Text, (u64, Text));
 
+/// The key of a row to that destination.
+pub fn due_of(dest: &Text, due: u64, uid: &Text) -> Result<Due, AllocError>
+    ensures { IfOk result (λ key. key ≡ (dest.now, (due, uid.now))) }
+{
+    let dest = dest.clone()?;
+    let uid = uid.clone()?;
+    Ok((dest, (due, uid)))
+}
+
 /// Adds the row's key, where it waits. No key goes, whatever the answer.
 pub fn expect_one(
     keys: &mut BTreeSet<Due>,
     uid: &Text,
-    row: &(Text, Progress),
+    dest: &Text,
+    progress: Progress,
 ) -> Result<(), AllocError>
     ensures grows { Grows keys.old keys.new }
-    ensures there { OnOk result ((tries due : ℕ) → row.now.1 ≡ Progress.Waiting tries due → sorted.contains due_cmp keys.new (row.now.0, (due, uid.now)) ≡ true) }
+    ensures there { OnOk result (IsExpected uid.now dest.now progress keys.new) }
 {
-    if let Progress::Waiting { due, .. } = row.1 {
-        let key = (row.0.clone()?, (due, uid.clone()?));
+    if let Progress::Waiting { due, .. } = progress {
+        let key = due_of(dest, due, uid)?;
         keys.insert(key)?;
     }
     Ok(())
@@ -39,10 +46,10 @@ pub fn expect(
     rows: &[(Text, Progress)],
 ) -> Result<(), AllocError>
     ensures grows { Grows keys.old keys.new }
-    ensures there { OnOk result ((dest : Words) (tries due : ℕ) → Contains rows.now (dest, Progress.Waiting tries due) → sorted.contains due_cmp keys.new (dest, (due, uid.now)) ≡ true) }
+    ensures there { OnOk result (AreExpected uid.now rows.now keys.new) }
 {
     for row in rows {
-        expect_one(keys, uid, row)?;
+        expect_one(keys, uid, &row.0, row.1)?;
     }
     Ok(())
 }

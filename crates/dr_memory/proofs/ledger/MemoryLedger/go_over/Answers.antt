@@ -4,8 +4,8 @@ use Rattle.dr_memory.proofs.Trees.{either_way}
 use Rattle.dr_memory.proofs.Kept.{bodies_of, journal_of}
 use Rattle.dr_memory.proofs.ledger.MemoryLedger.go_over.Goals as goal
 
-pub invariant_of-self : goal.invariant_of-self
-invariant_of-self c =
+pub invariant_of-self-in-Err : goal.invariant_of-self-in-Err
+invariant_of-self-in-Err c =
     let l = c.args.self.now in
     let e = c.try_adopt.ensures in
     let order = e.ordered l.ordered in
@@ -15,20 +15,20 @@ invariant_of-self c =
 pub returns-in-Err-clause-reply : goal.returns-in-Err-clause-reply
 returns-in-Err-clause-reply c = same_content c.args.self.now.parts c.try_adopt.new.self c.in-Err.ensures.err
 
-pub invariant_of-self-2 : goal.invariant_of-self-2
-invariant_of-self-2 c =
+pub invariant_of-self : goal.invariant_of-self
+invariant_of-self c =
     let l = c.args.self.now in
     let e = c.try_adopt.ensures in
     let order = e.ordered l.ordered in
-    let sound = adopt_kept l.site c.args.own l.parts c.try_adopt.new.self l.ordered (e.ordered l.ordered) c.in-Ok.ensures.ok e.waiting l.sound in
-    record { ordered = order; sound = sound; journalled = journal_of c.args.own c.try_adopt.new.self sound; bodied = bodies_of c.args.own c.try_adopt.new.self order sound }
+    let sound = adopt_kept l.site c.put_site.new.site l.parts c.try_adopt.new.self l.ordered (e.ordered l.ordered) c.in-Ok.ensures.ok e.waiting l.sound in
+    record { ordered = order; sound = sound; journalled = journal_of c.put_site.new.site c.try_adopt.new.self sound; bodied = bodies_of c.put_site.new.site c.try_adopt.new.self order sound }
 
-pub returns-clause-reply : goal.returns-clause-reply
-returns-clause-reply c =
+pub returns-in-Ok-clause-reply : goal.returns-in-Ok-clause-reply
+returns-in-Ok-clause-reply c =
     let l = c.args.self.now in
     adopted_is l.parts c.try_adopt.new.self l.ordered (c.try_adopt.ensures.ordered l.ordered) c.in-Ok.ensures.ok
 
-pub returns-clause-bodies : goal.returns-clause-bodies
-returns-clause-bodies c =
+pub returns-in-Ok-clause-bodies : goal.returns-in-Ok-clause-bodies
+returns-in-Ok-clause-bodies c =
     let l = c.args.self.now in
     adopted_lets_go l.parts c.try_adopt.new.self l.ordered (c.try_adopt.ensures.ordered l.ordered) c.in-Ok.ensures.ok

@@ -1,21 +1,44 @@
-use Rattle.std.proofs.Common.{◌≡◌, ◌∙◌, true, ap, sym, subst}
-use Rattle.std.specs.BTreeSet as sorted
-use Rattle.std.specs.FinMap.{find}
-use Rattle.dr_base.specs.Texts.{Text, text_cmp}
-use Rattle.dr_memory.specs.Dues.{due_cmp}
+use Rattle.std.proofs.Common.{ap, sym, subst}
+use Rattle.std.specs.Prelude.{IsSome}
+use Rattle.std.specs.BTreeMap as tree
+use Rattle.dr_base.specs.Texts.{text_cmp}
+use Rattle.dr_memory.specs.Changes.{Tree}
 use Rattle.dr_memory.specs.Entries.{row_in}
-use Rattle.dr_memory.proofs.Trees.{covers_put, moved_own}
+use Rattle.dr_memory.proofs.Steps.{moved_from, roomed_same}
+use Rattle.dr_memory.proofs.Trees.{covers_same}
 use Rattle.dr_memory.proofs.parts.Parts.try_move.Goals as goal
 
-pub returns-clause-covers : goal.returns-clause-covers
-returns-clause-covers c = λ h.
+pub move_on-requires-clause-there : goal.move_on-requires-clause-there
+move_on-requires-clause-there c =
+    let P : Tree → Type 0 = λ t. IsSome (row_in (tree.get text_cmp t c.args.uid.now) c.args.dest.now) in
+    subst P (sym c.expect_row.ensures.held) c.requires.there
+
+pub returns-in-Ok-clause-ok : goal.returns-in-Ok-clause-ok
+returns-in-Ok-clause-ok c =
+    let e = c.expect_row.ensures in
+    moved_from c.args.self.now c.expect_row.new.self c.move_on.new.self e.held e.arrivals e.notes c.args.uid.now c.args.dest.now c.args.progress c.args.note c.move_on.ensures.moved
+
+pub returns-in-Ok-clause-covers : goal.returns-in-Ok-clause-covers
+returns-in-Ok-clause-covers c = λ h.
     let p = c.args.self.now in
-    let v = c.expect_one.new.keys in
-    let m = c.move_row.ensures.moved in
-    let uid = c.args.uid.now in
-    let grows = c.expect_one.ensures.grows in
-    c.forget.ensures (covers_put p.waiting v p.held c.move_row.new.held uid m.1 grows m.4 (λ d tries due f.
-    moved_own p.waiting v uid c.args.dest.now c.args.progress m.0.rows.items grows
-    (λ t u is. let P : Text → Type 0 = λ x. sorted.contains due_cmp v (x, (u, uid)) ≡ true in subst P c.in_ok-clone-3.ensures (c.in_ok-expect_one.ensures.there t u is))
-    (λ e t u g. h uid e t u (ap (λ o. row_in o e) m.2 ∙ g))
-    d tries due (ap (find text_cmp d) (sym m.3.rows_are) ∙ f)) h)
+    let m = c.expect_row.new.self in
+    let e = c.expect_row.ensures in
+    c.move_on.ensures.covers (covers_same p.waiting m.waiting p.held m.held e.grows (ap (λ (t : Tree). t.entries) e.held) h)
+
+pub returns-in-Err-clause-err : goal.returns-in-Err-clause-err
+returns-in-Err-clause-err c =
+    let m = c.expect_row.new.self in
+    let e = c.expect_row.ensures in
+    roomed_same c.args.self.now m m e.held e.arrivals e.notes
+
+pub returns-in-Err-clause-ordered : goal.returns-in-Err-clause-ordered
+returns-in-Err-clause-ordered c = λ h.
+    let P : Tree → Type 0 = λ t. tree.IsOrdered text_cmp t in
+    subst P (sym c.expect_row.ensures.held) h
+
+pub returns-in-Err-clause-covers : goal.returns-in-Err-clause-covers
+returns-in-Err-clause-covers c = λ h.
+    let p = c.args.self.now in
+    let m = c.expect_row.new.self in
+    let e = c.expect_row.ensures in
+    covers_same p.waiting m.waiting p.held m.held e.grows (ap (λ (t : Tree). t.entries) e.held) h
