@@ -160,6 +160,10 @@ mapped_order {X} text f names is ordered = λ i j d lt long less.
     let Q : Text → Type 0 = λ t. IsLess (get_or names j []) t in
     byte_order_is_printed names ordered i j [] lt below (subst Q (at i (omega (arith, lt, below))) (subst P (at j below) less))
 
+-- a row for some flows is one for fewer of them
+pub fewer_flows : (plan : Network) (among here : List ℕ) (row : List OwnedStation) → ((k : ℕ) → Contains here k → Contains among k) → IsStationRow plan among row → IsStationRow plan here row
+fewer_flows plan among here row of_them is = record { parts = is.parts; whole = λ k flow one has at admitted part. is.whole k flow one (of_them k has) at admitted part; ordered = is.ordered }
+
 module _ (plan : Network) (among : List ℕ) where
   -- the literals that flows list are a row of parts
   pub named_fields : (names : List Text) → AreNamed Modality plan.flows among names → IsFieldRow plan among (map (λ l. part.Literal l) names)

@@ -75,7 +75,35 @@ fn cell_from(
     })
 }
 
+fn copy_stations(stations: &Seq<OwnedStation>) -> Result<Seq<OwnedStation>, AllocError>
+    ensures { IfOk result (λ copy. copy ≡ stations.now) }
+{
+    let copy = stations.clone()?;
+    Ok(copy)
+}
+
 impl<'a> Sweep<'a> {
+    /// The stations that the flows at the places list, where they take in no others, and else all that the plan names.
+    fn stations_for(&self, among: &[usize]) -> Result<Seq<OwnedStation>, AllocError>
+        requires parts { HasParts self.now.plan.now self.now.modalities self.now.stations }
+        requires below { AllBelow among.now self.now.plan.now.flows }
+        ensures { IfOk result (IsStationRow self.now.plan.now among.now) }
+    {
+        let named = names_in(
+            self.alloc,
+            self.plan.flows(),
+            self.plan.listed(),
+            among,
+            Side::Station,
+        )?;
+        let Some(names) = named else {
+            let all = copy_stations(&self.stations)?;
+            return Ok(all);
+        };
+        let row = stations_from(self.alloc, names)?;
+        Ok(Seq::from_vec(row))
+    }
+
     /// Visits the entry of these values, if some flow at the places brings it in.
     fn visit_station<V: EntryVisitor>(
         &self,
@@ -169,6 +197,36 @@ impl<'a> Sweep<'a> {
         Ok(found)
     }
 
+    /// Visits the entries of this modality: at the stations of the row where the places are those for which it was made, and
+    /// else at those that the flows at the places list.
+    fn visit_left<V: EntryVisitor>(
+        &self,
+        visitor: &mut V,
+        site: &Text,
+        class: &Text,
+        syntax: Syntax,
+        modality: &OwnedField,
+        row: &[OwnedStation],
+        among: &[usize],
+        are_all: bool,
+    ) -> Result<Option<V::Finding>, AllocError>
+        requires plan { V.plan visitor.old ≡ self.now.plan.now }
+        requires ready { V.is_ready visitor.old }
+        requires parts { HasParts self.now.plan.now self.now.modalities self.now.stations }
+        requires modality_part { IsPart (literals_of self.now.plan.now).modalities modality.now }
+        requires row { IsStationRow self.now.plan.now among.now row.now }
+        requires fit { (flow : FlowValue) → (k : ℕ) → Contains among.now k → slice_get self.now.plan.now.flows k ≡ Some flow → FitsModality flow site.now class.now syntax modality.now }
+        requires below { AllBelow among.now self.now.plan.now.flows }
+        ensures { IfOk result (AfterVisits V.plan V.is_ready V.has_visited V.shows (WantsModality self.now.plan.now site.now class.now syntax modality.now among.now) visitor.old visitor.new) }
+    {
+        if are_all {
+            let found = self.visit_stations(visitor, site, class, syntax, modality, row, among)?;
+            return Ok(found);
+        }
+        let later = self.visit_modality(visitor, site, class, syntax, modality, among)?;
+        Ok(later)
+    }
+
     /// Visits the entries of this transfer syntax at the modalities of the row, modality by modality.
     fn visit_modalities<V: EntryVisitor>(
         &self,
@@ -177,12 +235,14 @@ impl<'a> Sweep<'a> {
         class: &Text,
         syntax: Syntax,
         row: &[OwnedField],
+        stations: &[OwnedStation],
         among: &[usize],
     ) -> Result<Option<V::Finding>, AllocError>
         requires plan { V.plan visitor.old ≡ self.now.plan.now }
         requires ready { V.is_ready visitor.old }
         requires parts { HasParts self.now.plan.now self.now.modalities self.now.stations }
         requires row { IsFieldRow self.now.plan.now among.now row.now }
+        requires stations { IsStationRow self.now.plan.now among.now stations.now }
         requires fit { (flow : FlowValue) → (k : ℕ) → Contains among.now k → slice_get self.now.plan.now.flows k ≡ Some flow → FitsSyntax flow site.now class.now syntax }
         requires below { AllBelow among.now self.now.plan.now.flows }
         ensures { IfOk result (AfterVisits V.plan V.is_ready V.has_visited V.shows (WantsSyntax self.now.plan.now site.now class.now syntax among.now) visitor.old visitor.new) }
@@ -196,13 +256,10 @@ impl<'a> Sweep<'a> {
                 among,
                 &part,
             )?;
-            let found = self.visit_modality(
-                visitor,
-                site,
-                class,
-                syntax,
-                modality,
-                here.as_slice(),
+            let left = here.as_slice();
+            let are_all = left.len() == among.len();
+            let found = self.visit_left(
+                visitor, site, class, syntax, modality, stations, left, are_all,
             )?;
             if found.is_some() {
                 return Ok(found);
@@ -228,6 +285,8 @@ impl<'a> Sweep<'a> {
         requires below { AllBelow among.now self.now.plan.now.flows }
         ensures { IfOk result (AfterVisits V.plan V.is_ready V.has_visited V.shows (WantsSyntax self.now.plan.now site.now class.now syntax among.now) visitor.old visitor.new) }
     {
+        let own = self.stations_for(among)?;
+        let stations = own.as_slice();
         let named = names_in(
             self.alloc,
             self.plan.flows(),
@@ -237,12 +296,12 @@ impl<'a> Sweep<'a> {
         )?;
         let Some(names) = named else {
             let all = self.modalities.as_slice();
-            let found = self.visit_modalities(visitor, site, class, syntax, all, among)?;
+            let found = self.visit_modalities(visitor, site, class, syntax, all, stations, among)?;
             return Ok(found);
         };
         let row = fields_from(self.alloc, names)?;
         let listed = row.as_slice();
-        let found = self.visit_modalities(visitor, site, class, syntax, listed, among)?;
+        let found = self.visit_modalities(visitor, site, class, syntax, listed, stations, among)?;
         Ok(found)
     }
 
