@@ -72,14 +72,14 @@ pub trait Disks {
         frames: usize,
     ) -> Result<Result<Connection<Self::Store>, Remains>, anyhow::Error>;
 
-    /// What is left where the connection ends, and its files aren't closed.
-    fn leave(&self, alloc: Global, conn: Connection<Self::Store>) -> Result<Remains, anyhow::Error>;
+    /// What is left where a database ends, and its files aren't closed.
+    fn leave(&self, alloc: Global, store: Self::Store) -> Result<Remains, anyhow::Error>;
 
-    /// Closes the files, and says whether it could; what is left.
+    /// Copies the log into the database file, and closes both; whether it could, and what is left.
     fn close(
         &self,
         alloc: Global,
-        conn: Connection<Self::Store>,
+        store: Self::Store,
     ) -> Result<(bool, Remains), anyhow::Error>;
 }
 
@@ -156,6 +156,13 @@ fn open_files(
     }
 }
 
+/// The log is copied; whether it could be.
+fn closed(store: FileStore<Fused>) -> (bool, Files<Fused>) {
+    let mut store = store;
+    let is_copied = store.checkpoint().is_ok();
+    (is_copied, store.close())
+}
+
 impl Disks for MemoryDisks {
     type Store = FileStore<Fused>;
 
@@ -173,22 +180,16 @@ impl Disks for MemoryDisks {
         }
     }
 
-    fn leave(
-        &self,
-        alloc: Global,
-        conn: Connection<FileStore<Fused>>,
-    ) -> Result<Remains, anyhow::Error> {
-        remains_of(alloc, conn.into_store().close())
+    fn leave(&self, alloc: Global, store: FileStore<Fused>) -> Result<Remains, anyhow::Error> {
+        remains_of(alloc, store.close())
     }
 
     fn close(
         &self,
         alloc: Global,
-        conn: Connection<FileStore<Fused>>,
+        store: FileStore<Fused>,
     ) -> Result<(bool, Remains), anyhow::Error> {
-        match conn.close_files() {
-            Ok(files) => Ok((true, remains_of(alloc, files)?)),
-            Err((_, store)) => Ok((false, remains_of(alloc, store.close())?)),
-        }
+        let (is_closed, files) = closed(store);
+        Ok((is_closed, remains_of(alloc, files)?))
     }
 }

@@ -72,7 +72,7 @@ fn leave<D: Disks>(
     alloc: Global,
     ledger: SqlLedger<D::Store>,
 ) -> Result<Image, anyhow::Error> {
-    Ok(disks.leave(alloc, ledger.into_connection())?.written)
+    Ok(disks.leave(alloc, ledger.into_connection().into_store())?.written)
 }
 
 /// What the files of a ledger hold when they are closed.
@@ -81,7 +81,7 @@ fn close<D: Disks>(
     alloc: Global,
     ledger: SqlLedger<D::Store>,
 ) -> Result<Image, anyhow::Error> {
-    let (is_closed, remains) = disks.close(alloc, ledger.into_connection())?;
+    let (is_closed, remains) = disks.close(alloc, ledger.into_connection().into_store())?;
     if !is_closed {
         bail!("the files aren't closed");
     }
@@ -114,7 +114,7 @@ fn change<D: Disks>(
     }
     let mut conn = connected(disks, alloc, image)?;
     let answer = execute(alloc, &mut conn, sql.as_str())?;
-    Ok((answer, disks.leave(alloc, conn)?.written))
+    Ok((answer, disks.leave(alloc, conn.into_store())?.written))
 }
 
 /// The call of a line `stops`.

@@ -96,7 +96,7 @@ fn closed<D: Disks>(
     alloc: Global,
     ledger: SqlLedger<D::Store>,
 ) -> Result<Outcome, anyhow::Error> {
-    let (is_closed, remains) = disks.close(alloc, ledger.into_connection())?;
+    let (is_closed, remains) = disks.close(alloc, ledger.into_connection().into_store())?;
     let answer = String::from_str(alloc, if is_closed { "closed" } else { STOPPED })?;
     Ok(Outcome {
         answer: Some(answer),
@@ -121,7 +121,7 @@ fn run_opened<R: Wait, D: Disks>(
         return closed(disks, alloc, ledger);
     }
     let Answered { answer, ledger } = called(rt, alloc, ledger, site, named, what, words)?;
-    let remains = disks.leave(alloc, ledger.into_connection())?;
+    let remains = disks.leave(alloc, ledger.into_connection().into_store())?;
     Ok(Outcome {
         answer: Some(answer),
         remains,
@@ -142,7 +142,7 @@ fn run_found<R: Wait, D: Disks>(
         Ok(ledger) => run_opened(rt, disks, alloc, ledger, site, named, act.what, act.words),
         Err((OpeningFault::Store, conn)) => Ok(Outcome {
             answer: None,
-            remains: disks.leave(alloc, conn)?,
+            remains: disks.leave(alloc, conn.into_store())?,
         }),
         Err((fault, _)) => bail!("{fault}"),
     }
@@ -173,7 +173,7 @@ fn run_made<D: Disks>(
 ) -> Result<Outcome, anyhow::Error> {
     let mut conn = conn;
     let answer = made(alloc, &mut conn, site)?;
-    let remains = disks.leave(alloc, conn)?;
+    let remains = disks.leave(alloc, conn.into_store())?;
     Ok(Outcome {
         answer: Some(answer),
         remains,
