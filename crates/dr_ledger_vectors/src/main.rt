@@ -5,22 +5,32 @@
 #![tactic(auto)]
 
 use anyhow::{Context, bail};
-use dr_ledger::Refusing;
+use dr_ledger::{Ledger, Refusing};
 use dr_ledger_rows::{Named, Stage, call, turn};
 use dr_memory::MemoryLedger;
+use dr_site::Site;
 use std::alloc::Global;
 
-/// A ledger that is played.
-type Played = Refusing<MemoryLedger>;
+/// A ledger that has a beginning. All but `main` is written for any such ledger: over one that is named, a proof of each call would unfold it.
+trait Empty {
+    /// The ledger of a site, with nothing in it.
+    fn empty(alloc: Global, site: Site) -> Self;
+}
+
+impl Empty for MemoryLedger {
+    fn empty(alloc: Global, site: Site) -> MemoryLedger {
+        MemoryLedger::new(alloc, site)
+    }
+}
 
 /// The ledgers so far; the last one is played.
 #[derive(Drop)]
-struct Ledgers(Vec<Played>);
+struct Ledgers<L>(Vec<Refusing<L>>);
 
-/// An empty ledger of a copy of the node's site.
-fn found(
+/// An empty ledger of the node's site.
+fn found<L: Ledger + Empty + Drop>(
     alloc: Global,
-    ledgers: &mut Ledgers,
+    ledgers: &mut Ledgers<L>,
     named: &Named,
     words: &[&str],
 ) -> Result<(), anyhow::Error> {
@@ -28,29 +38,28 @@ fn found(
         bail!("a plan and a node are missing");
     };
     let site = named.site(plan, node)?;
-    let ledger = Refusing::new(MemoryLedger::new(alloc, site.copy()?));
-    ledgers.0.push(ledger)?;
+    ledgers.0.push(Refusing::new(L::empty(alloc, site)))?;
     Ok(())
 }
 
 /// The store refuses the next line.
-fn refuse(ledgers: &mut Ledgers) -> Result<(), anyhow::Error> {
+fn refuse<L: Ledger>(ledgers: &mut Ledgers<L>) -> Result<(), anyhow::Error> {
     let ledger = ledgers.0.last_mut().context("no ledger")?;
     ledger.refuse_next();
     Ok(())
 }
 
 /// Whether a refusal is due, and how many were made.
-fn refusals(alloc: Global, ledgers: &Ledgers) -> Result<String, anyhow::Error> {
+fn refusals<L: Ledger>(alloc: Global, ledgers: &Ledgers<L>) -> Result<String, anyhow::Error> {
     let ledger = ledgers.0.last().context("no ledger")?;
     let refusals = ledger.refusals();
     Ok(format!(in alloc; "{} {}", refusals.is_due, refusals.made)?)
 }
 
 /// A call on the last ledger.
-fn answer(
+fn answer<L: Ledger>(
     alloc: Global,
-    ledgers: &mut Ledgers,
+    ledgers: &mut Ledgers<L>,
     named: &Named,
     what: &str,
     words: &[&str],
@@ -59,7 +68,7 @@ fn answer(
     call(alloc, ledger, named, what, words)
 }
 
-impl Stage for Ledgers {
+impl<L: Ledger + Empty + Drop> Stage for Ledgers<L> {
     fn play(
         &mut self,
         alloc: Global,
@@ -82,14 +91,19 @@ impl Stage for Ledgers {
     }
 }
 
-fn main(rt: HostRuntime) -> Result<(), anyhow::Error> {
+/// Plays all lines.
+fn play<L: Ledger + Empty + Drop>(rt: &HostRuntime) -> Result<(), anyhow::Error> {
     let alloc = rt.alloc();
     let mut named = Named::new(alloc);
-    let mut ledgers = Ledgers(Vec::new(alloc));
+    let mut ledgers = Ledgers::<L>(Vec::new(alloc));
     for line in rt.lines(alloc) {
         if let Some(text) = turn(alloc, &mut named, &mut ledgers, line?.as_str())? {
             println!(rt; "{text}")?;
         }
     }
     Ok(())
+}
+
+fn main(rt: HostRuntime) -> Result<(), anyhow::Error> {
+    play::<MemoryLedger>(&rt)
 }
