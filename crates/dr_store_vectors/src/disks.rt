@@ -76,11 +76,7 @@ pub trait Disks {
     fn leave(&self, alloc: Global, store: Self::Store) -> Result<Remains, anyhow::Error>;
 
     /// Copies the log into the database file, and closes both; whether it could, and what is left.
-    fn close(
-        &self,
-        alloc: Global,
-        store: Self::Store,
-    ) -> Result<(bool, Remains), anyhow::Error>;
+    fn close(&self, alloc: Global, store: Self::Store) -> Result<(bool, Remains), anyhow::Error>;
 }
 
 /// A file in memory that takes so many calls.
