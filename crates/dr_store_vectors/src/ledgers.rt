@@ -1,11 +1,9 @@
 //! Ledgers in databases, each opened by what its files hold.
-use crate::disks::{Disks, Image, Limits, NO_STOP, Remains};
+use crate::disks::{Disks, Image, NO_STOP, Remains};
 use anyhow::bail;
-use dr_ledger::{Ledger, LedgerFault};
+use dr_ledger::Ledger;
 use dr_site::Site;
 use dr_store::SqlLedger;
-use dr_store_files::making::make;
-use dr_store_files::opening::find;
 use dr_store_files::{OpeningFault, on};
 use sqlite::{Alter, Connection};
 use std::alloc::Global;
@@ -13,52 +11,18 @@ use std::alloc::Global;
 /// The log isn't copied into the database file before the close.
 const LONG_LOG: usize = 1000;
 
-/// How the tables of a ledger are made.
-#[derive(Drop)]
-pub enum Making {
-    /// The files weren't opened.
-    Unopened,
-    /// They weren't made.
-    Refused,
-    Made,
-}
-
 /// Where ledgers are opened by what their files hold. All that plays them is written for any such place: over one that is named, a proof
 /// of each call would unfold its tables.
 pub trait Ledgers {
     type Ledger: Ledger + Drop;
 
-    /// The ledger of a site, as the program opens it, or why it isn't opened. The disks don't stop.
+    /// The ledger of a site, as the program opens it, or why it isn't opened.
     fn open(
         &self,
         alloc: Global,
         image: &Image,
         site: Site,
     ) -> Result<Result<Self::Ledger, OpeningFault>, anyhow::Error>;
-
-    /// The ledger of a site that is there, on disks that may stop. `frames` is how long the log grows before it is copied into the
-    /// database file. Where the store fails, what is left.
-    fn find(
-        &self,
-        alloc: Global,
-        image: &Image,
-        limits: Limits,
-        frames: usize,
-        site: Site,
-    ) -> Result<Result<Self::Ledger, Remains>, anyhow::Error>;
-
-    /// Makes the tables of a site's ledger, on disks that may stop; how they were made, and what is left.
-    fn make(
-        &self,
-        alloc: Global,
-        image: &Image,
-        limits: Limits,
-        frames: usize,
-        site: &Site,
-    ) -> Result<(Making, Remains), anyhow::Error>;
-
-    /// Whether the files have no table.
-    fn is_blank(&self, alloc: Global, image: &Image) -> Result<bool, anyhow::Error>;
 
     /// What a statement of another connection answers, and what the files then hold.
     fn change(
@@ -75,7 +39,7 @@ pub trait Ledgers {
     fn close(&self, alloc: Global, ledger: Self::Ledger) -> Result<(bool, Remains), anyhow::Error>;
 }
 
-/// A connection to what the files hold, on disks that don't stop.
+/// A connection to what the files hold.
 fn connected<D: Disks>(
     disks: &D,
     alloc: Global,
@@ -99,48 +63,6 @@ fn opened<S: Alter + Drop>(
     match on(conn, alloc, &site) {
         Ok((conn, next)) => Ok(SqlLedger::of(alloc, conn, site, next)),
         Err(fault) => Err(fault),
-    }
-}
-
-/// The ledger of the site that is found over a connection. Where it isn't, the store comes back.
-fn found<S: Alter + Drop>(
-    alloc: Global,
-    conn: Connection<S>,
-    site: Site,
-) -> Result<SqlLedger<S>, (OpeningFault, S)> {
-    let mut conn = conn;
-    if !conn.is_autocommit() {
-        return Err((OpeningFault::OtherSite, conn.into_store()));
-    }
-    match find(&mut conn, alloc, &site) {
-        Ok(Some(next)) => Ok(SqlLedger::of(alloc, conn, site, next)),
-        Ok(None) => Err((OpeningFault::OtherSite, conn.into_store())),
-        Err(LedgerFault::Memory) => Err((OpeningFault::Memory, conn.into_store())),
-        Err(_) => Err((OpeningFault::Store, conn.into_store())),
-    }
-}
-
-/// What is left of a store over which no ledger was found; any other fault than the store's is an error.
-fn unfound<D: Disks>(
-    disks: &D,
-    alloc: Global,
-    fault: OpeningFault,
-    store: D::Store,
-) -> Result<Remains, anyhow::Error> {
-    if fault != OpeningFault::Store {
-        bail!("{fault}");
-    }
-    disks.leave(alloc, store)
-}
-
-/// How the tables are made.
-fn made<S: Alter>(conn: &mut Connection<S>, site: &Site) -> Making {
-    if !conn.is_autocommit() {
-        return Making::Refused;
-    }
-    match make(conn, site) {
-        Ok(()) => Making::Made,
-        Err(_) => Making::Refused,
     }
 }
 
@@ -173,47 +95,6 @@ impl<'a, D: Disks> Ledgers for Stored<'a, D> {
             Ok(conn) => Ok(opened(alloc, conn, site)),
             Err(error) => Err(error),
         }
-    }
-
-    fn find(
-        &self,
-        alloc: Global,
-        image: &Image,
-        limits: Limits,
-        frames: usize,
-        site: Site,
-    ) -> Result<Result<SqlLedger<D::Store>, Remains>, anyhow::Error> {
-        let conn = match self.0.connect(alloc, image, limits, frames)? {
-            Ok(conn) => conn,
-            Err(remains) => return Ok(Err(remains)),
-        };
-        match found(alloc, conn, site) {
-            Ok(ledger) => Ok(Ok(ledger)),
-            Err((fault, store)) => Ok(Err(unfound(self.0, alloc, fault, store)?)),
-        }
-    }
-
-    fn make(
-        &self,
-        alloc: Global,
-        image: &Image,
-        limits: Limits,
-        frames: usize,
-        site: &Site,
-    ) -> Result<(Making, Remains), anyhow::Error> {
-        match self.0.connect(alloc, image, limits, frames)? {
-            Ok(conn) => {
-                let mut conn = conn;
-                let making = made(&mut conn, site);
-                Ok((making, self.0.leave(alloc, conn.into_store())?))
-            }
-            Err(remains) => Ok((Making::Unopened, remains)),
-        }
-    }
-
-    fn is_blank(&self, alloc: Global, image: &Image) -> Result<bool, anyhow::Error> {
-        let conn = connected(self.0, alloc, image)?;
-        Ok(conn.schema().tables.is_empty())
     }
 
     fn change(
