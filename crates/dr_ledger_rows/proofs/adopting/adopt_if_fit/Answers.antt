@@ -1,7 +1,7 @@
 use Rattle.std.proofs.Common.{◌≡◌, ◌∙◌, ap, refl, sym}
 use Rattle.dr_site.specs.Parts.{Part}
-use Rattle.dr_ledger_vectors.proofs.Fitting.{fits}
-use Rattle.dr_ledger_vectors.proofs.adopting.adopt_if_fit.Goals as goal
+use Rattle.dr_ledger_rows.proofs.Fitting.{fits}
+use Rattle.dr_ledger_rows.proofs.adopting.adopt_if_fit.Goals as goal
 
 pub adopt-requires : goal.adopt-requires
 adopt-requires g c =
