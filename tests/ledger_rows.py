@@ -4,13 +4,15 @@ ledger of its own, written again from crates/dr_ledger/specs (Books, Replies, Ad
 `stdout`, which the gate compares with what the program prints. So the answers that the gate wants come from outside the programs.
 
 The lines for ledgers in tables begin with those for ledgers in memory, but for `refuse` and `refusals`, and this is looked at too. Behind them
-the files are closed, changed and opened again.
+the files are closed, changed, opened again and stopped. How often a disk can be stopped in a call is the program's to say; of what it says of
+those stops, it is looked at that the numbers go together.
 
     tests/ledger_rows.py              says where they differ; its status is 0 where they don't
     tests/ledger_rows.py --print      prints the answers of ledgers in memory
     tests/ledger_rows.py --lines      prints the lines with which those for ledgers in tables begin
 """
 import os
+import re
 import sys
 
 sys.dont_write_bytecode = True
@@ -19,6 +21,7 @@ from plan_reader import EXPLICIT, IMPLICIT, read_plan
 
 TOP = os.path.dirname(os.path.dirname(os.path.abspath(__file__)))
 MEMORY, TABLES = f'{TOP}/crates/dr_ledger_vectors', f'{TOP}/crates/dr_store_vectors'
+COUNTS = re.compile(r'(log|database): (\d+) stops; while opening (\d+)((?:; [A-Z][^:;]*: \d+)*); after, as written (\d+), as synced (\d+)')
 LARGEST = 64 * 1024 * 1024
 NAMES = {(0x0008, 0x0016): 'class', (0x0008, 0x0018): 'uid', (0x0008, 0x0060): 'modality', (0x0008, 0x1010): 'station'}
 
@@ -227,6 +230,18 @@ class Playing:
         self.ledger = self.files
         return 'opened'
 
+    def stopped(self, plan, node, what, words):
+        """The answer of a call that isn't stopped at last."""
+        if what == 'make':
+            self.files = Ledger(self.site(plan, node))
+            return 'made'
+        if what == 'close':
+            return 'closed'
+        self.open(self.site(plan, node))
+        if what == 'desk':
+            return f'{self.call("arrive", words)}, 1 lines, 1 counted, 1 receipts, 1 in all'
+        return self.call(what, words)
+
     def turn(self, line):
         """What is printed for the line, with `*` for what isn't known here."""
         if line.startswith('|'):
@@ -244,9 +259,14 @@ class Playing:
             self.ledger.armed = True
         elif what in ('leave', 'close'):
             self.ledger, self.files = None, self.ledger
+        elif what == 'blank':
+            self.files = None
         elif what == 'sql':
             self.files.changed = True
             return f'{line}: *\n'
+        elif what == 'stops':
+            _, plan, node, _, call, *words = words
+            return f'{line}: {self.stopped(plan, node, call, words)}\nlog: *\ndatabase: *\n'
         else:
             try:
                 if what == 'item':
@@ -263,9 +283,24 @@ class Playing:
         return f'{line}\n'
 
 
+def do_agree(line):
+    """Whether the numbers of a file's stops go together: each is counted once, and what was acknowledged is there."""
+    found = COUNTS.fullmatch(line)
+    if not found:
+        return False
+    answers = [it.rsplit(': ', 1) for it in found[4].split('; ')[1:]]
+    stops, opening, written, synced = (int(found[at]) for at in (2, 3, 5, 6))
+    done = sum(int(count) for answer, count in answers if not answer.startswith('Store'))
+    if stops != opening + sum(int(count) for _, count in answers):
+        return False
+    return min(written, synced) >= done
+
+
 def is_told(own, other):
     """Whether the line that is wanted says what is answered here."""
-    return other.startswith(own[:-1]) if own.endswith('*') else own == other
+    if not own.endswith('*'):
+        return own == other
+    return other.startswith(own[:-1]) and (not own.startswith(('log', 'database')) or do_agree(other))
 
 
 def lines_for_tables(lines):
