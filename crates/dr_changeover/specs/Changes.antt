@@ -7,7 +7,7 @@ use Rattle.dr_ledger.specs.Books.{Book, Adoption, after}
 use Rattle.dr_listing.specs.Openings.{IsSealedBy, SealsFiles}
 use Rattle.dr_listing.specs.declared.halt.Halt.{Halt}
 use Rattle.dr_listing.specs.declared.halt.Halt.TheVariants.{NoPlan, NoCertificate, NoNode, NotOpened, NoInstance, Refused, Receipt, Failed, Memory}
-use Rattle.dr_commands.specs.declared.words.PlanChange.{PlanChange}
+use Rattle.dr_words.specs.declared.words.PlanChange.{PlanChange}
 use Rattle.dr_network.specs.Networks.{Network}
 use Rattle.dr_network.specs.Plans.{NamesNoNode}
 use Rattle.dr_network.specs.declared.plan.Node.{Node}

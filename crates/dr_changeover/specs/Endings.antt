@@ -5,7 +5,7 @@ use Rattle.std.specs.Io.KnownBytes.{Appends}
 use Rattle.dr_base.specs.Texts.{Text}
 use Rattle.dr_commands.specs.declared.status.Status.{Status}
 use Rattle.dr_commands.specs.declared.status.Status.TheVariants as ends
-use Rattle.dr_commands.specs.declared.words.PlanChange.{PlanChange}
+use Rattle.dr_words.specs.declared.words.PlanChange.{PlanChange}
 use Rattle.dr_ledger.specs.Books.{Book}
 use Rattle.dr_listing.specs.Ends.{printed_by, status_by}
 use Rattle.dr_listing.specs.declared.halt.Halt.{Halt}

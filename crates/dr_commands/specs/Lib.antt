@@ -5,4 +5,3 @@ pub mod Laws
 pub mod Runs
 pub mod Statuses
 pub mod Verdicts
-pub mod Words

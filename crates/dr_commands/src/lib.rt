@@ -3,7 +3,6 @@
 #![tactic(auto)]
 
 mod answer;
-mod command_line;
 mod input;
 pub mod laws;
 mod print;
@@ -11,16 +10,15 @@ mod run;
 mod status;
 mod system;
 mod verify;
-mod words;
 
 pub use answer::Answer;
 pub use dr_cert_text::add_field;
+pub use dr_words::{
+    Asked, Duty, KeyWords, NodeFiles, PlanChange, Question, Serving, Verbosity, read_words,
+};
 pub use run::{
     Failure, Files, read_file, run_asked, run_words, tell_answer, tell_failure, tell_unread_words,
 };
 pub use status::Status;
 pub use system::{Disk, given_words};
 pub use verify::{plan_of, seal_text};
-pub use words::{
-    Asked, Duty, KeyWords, NodeFiles, PlanChange, Question, Serving, Verbosity, read_words,
-};

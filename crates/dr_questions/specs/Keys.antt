@@ -3,7 +3,7 @@ use Rattle.std.specs.Prelude.{◌≡◌, ◌≢◌, ℕ, List, drop, Result, Ok,
 use Rattle.dr_base.specs.Texts.{Text}
 use Rattle.dr_base.specs.Syntaxes.{syntax_uid, NamesNoSyntax}
 use Rattle.dr_base.specs.declared.syntax.Syntax.{Syntax}
-use Rattle.dr_commands.specs.declared.words.KeyWords.{KeyWords}
+use Rattle.dr_words.specs.declared.words.KeyWords.{KeyWords}
 use Rattle.dr_dataset.specs.Files.{ReadsFile}
 use Rattle.dr_dataset.specs.declared.fault.FileFault.TheVariants.{OtherSyntax, NotDicom, Meta, Memory as NoMemory}
 use Rattle.dr_dataset.specs.declared.values.Part10.{Part10}

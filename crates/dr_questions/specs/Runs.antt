@@ -15,8 +15,8 @@ use Rattle.dr_commands.specs.Runs.{Refuses}
 use Rattle.dr_commands.specs.Verdicts.{IsFaultOf, IsTextOf}
 use Rattle.dr_commands.specs.declared.status.Status.{Status}
 use Rattle.dr_commands.specs.declared.status.Status.TheVariants.{Refused, Memory}
-use Rattle.dr_commands.specs.declared.words.Question.{Question}
-use Rattle.dr_commands.specs.declared.words.Question.TheVariants.{RouteOfKey, RouteOfFile, Graph, Lint}
+use Rattle.dr_words.specs.declared.words.Question.{Question}
+use Rattle.dr_words.specs.declared.words.Question.TheVariants.{RouteOfKey, RouteOfFile, Graph, Lint}
 use Rattle.dr_overview.specs.Graphs.{IsGraphText}
 use Rattle.dr_overview.specs.Findings.{IsLintText}
 use Rattle.dr_questions.specs.Keys.{ReadsFileKey, ReadsWords}

@@ -3,9 +3,9 @@ use Rattle.std.specs.Prelude.{ℕ, List, Result}
 use Rattle.std.specs.declared.option.Option.{Option}
 use Rattle.dr_base.specs.Texts.{Text}
 use Rattle.dr_commands.specs.declared.status.Status.{Status}
-use Rattle.dr_commands.specs.declared.words.Duty.{Duty}
-use Rattle.dr_commands.specs.declared.words.Duty.TheVariants.{List as ToList, Summary, Requeue, RequeueAll, Send, Serve}
-use Rattle.dr_commands.specs.declared.words.NodeFiles.{NodeFiles}
+use Rattle.dr_words.specs.declared.words.Duty.{Duty}
+use Rattle.dr_words.specs.declared.words.Duty.TheVariants.{List as ToList, Summary, Requeue, RequeueAll, Send, Serve}
+use Rattle.dr_words.specs.declared.words.NodeFiles.{NodeFiles}
 use Rattle.dr_ledger.specs.Books.{Book}
 use Rattle.dr_listing.specs.Ends.{Ends}
 use Rattle.dr_listing.specs.Requeuings.{RequeuedAll}

@@ -4,8 +4,8 @@ ghost use Rattle.std.specs.Borrow.{Bor};
 ghost use Rattle.dr_base.specs.Texts.{Text};
 ghost use Rattle.dr_commands.specs.Runs.{Answers, Verifies};
 ghost use Rattle.dr_commands.specs.declared.status.Status.TheVariants.{Usage};
-ghost use Rattle.dr_commands.specs.declared.words.Asked.TheVariants as asks;
-ghost use Rattle.dr_commands.specs.declared.words.Question.{Question as QuestionValue};
+ghost use Rattle.dr_words.specs.declared.words.Asked.TheVariants as asks;
+ghost use Rattle.dr_words.specs.declared.words.Question.{Question as QuestionValue};
 ghost use Rattle.dr_questions.specs.Runs.{Asks};
 ghost use Rattle.dr_simulate.specs.Runs.{Simulates};
 

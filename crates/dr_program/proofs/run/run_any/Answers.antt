@@ -1,11 +1,11 @@
 use Rattle.std.proofs.Common.{◌≡◌, ap, subst, sym, ◌∙◌}
 use Rattle.std.specs.Prelude.{IfOk}
 use Rattle.dr_changeover.specs.Endings.{Adopts}
-use Rattle.dr_commands.specs.declared.words.Asked.{Asked}
-use Rattle.dr_commands.specs.declared.words.Asked.TheVariants as asks
-use Rattle.dr_commands.specs.declared.words.Duty.{Duty}
-use Rattle.dr_commands.specs.declared.words.NodeFiles.{NodeFiles}
-use Rattle.dr_commands.specs.declared.words.PlanChange.{PlanChange}
+use Rattle.dr_words.specs.declared.words.Asked.{Asked}
+use Rattle.dr_words.specs.declared.words.Asked.TheVariants as asks
+use Rattle.dr_words.specs.declared.words.Duty.{Duty}
+use Rattle.dr_words.specs.declared.words.NodeFiles.{NodeFiles}
+use Rattle.dr_words.specs.declared.words.PlanChange.{PlanChange}
 use Rattle.dr_serving.specs.contracts.tallied.OwnPortDeskPort.TheImpl as own
 use Rattle.dr_routing.specs.Sending.{VisitsBy}
 use Rattle.dr_routing.specs.Working.{Works}

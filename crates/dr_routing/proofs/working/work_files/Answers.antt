@@ -1,6 +1,6 @@
 use Rattle.std.proofs.Common.{sym, subst}
 use Rattle.std.specs.Prelude.{IfOk}
-use Rattle.dr_commands.specs.declared.words.Duty.{Duty}
+use Rattle.dr_words.specs.declared.words.Duty.{Duty}
 use Rattle.dr_serving.specs.contracts.tallied.OwnPortDeskPort.TheImpl as own
 use Rattle.dr_routing.specs.Sending.{VisitsBy}
 use Rattle.dr_routing.specs.Working.{Works}

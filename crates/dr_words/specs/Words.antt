@@ -1,15 +1,15 @@
 -- The words of the command line.
 use Rattle.std.specs.Prelude.{◌≡◌, ◌≢◌, ℕ, List, [], ◌∷◌, ◌++◌, ◌⊎◌, codes, None}
 use Rattle.std.specs.Borrow.{Bor}
-use Rattle.dr_commands.specs.declared.words.Duty.{Duty}
-use Rattle.dr_commands.specs.declared.words.Duty.TheVariants.{List as ToList, Summary, Requeue, RequeueAll, Send, Serve}
-use Rattle.dr_commands.specs.declared.words.KeyWords.{KeyWords}
-use Rattle.dr_commands.specs.declared.words.NodeFiles.{NodeFiles}
-use Rattle.dr_commands.specs.declared.words.PlanChange.{PlanChange}
-use Rattle.dr_commands.specs.declared.words.Question.{Question}
-use Rattle.dr_commands.specs.declared.words.Question.TheVariants.{RouteOfKey, RouteOfFile, Graph, Lint}
-use Rattle.dr_commands.specs.declared.words.Serving.{Serving}
-use Rattle.dr_commands.specs.declared.words.Verbosity.TheVariants.{Events}
+use Rattle.dr_words.specs.declared.words.Duty.{Duty}
+use Rattle.dr_words.specs.declared.words.Duty.TheVariants.{List as ToList, Summary, Requeue, RequeueAll, Send, Serve}
+use Rattle.dr_words.specs.declared.words.KeyWords.{KeyWords}
+use Rattle.dr_words.specs.declared.words.NodeFiles.{NodeFiles}
+use Rattle.dr_words.specs.declared.words.PlanChange.{PlanChange}
+use Rattle.dr_words.specs.declared.words.Question.{Question}
+use Rattle.dr_words.specs.declared.words.Question.TheVariants.{RouteOfKey, RouteOfFile, Graph, Lint}
+use Rattle.dr_words.specs.declared.words.Serving.{Serving}
+use Rattle.dr_words.specs.declared.words.Verbosity.TheVariants.{Events}
 
 -- none, or the one word check: they ask for a check of the plan on the standard input
 abbrev pub IsPlainCheck : List (Bor (List ℕ)) → Type 0

@@ -2,16 +2,16 @@ use Rattle.std.proofs.Common.{◌≡◌, ℕ, List, ap, subst, sym, Option, Some
 use Rattle.std.specs.Borrow.{Bor}
 use Rattle.std.specs.Prelude.{unwrap_or}
 use Rattle.std.proofs.lemmas.Option.{none-some}
-use Rattle.dr_commands.specs.declared.words.Asked.{Asked}
-use Rattle.dr_commands.specs.declared.words.Asked.TheVariants as asks
-use Rattle.dr_commands.specs.declared.words.Duty.{Duty}
-use Rattle.dr_commands.specs.declared.words.Duty.TheVariants as duties
-use Rattle.dr_commands.specs.declared.words.KeyWords.{KeyWords}
-use Rattle.dr_commands.specs.declared.words.NodeFiles.{NodeFiles}
-use Rattle.dr_commands.specs.declared.words.Question.{Question}
-use Rattle.dr_commands.specs.declared.words.Question.TheVariants as questions
-use Rattle.dr_commands.specs.Words.{IsGraphOf, IsLintOf, IsFileRouteOf, IsKeyRouteOf, IsQuestionOf, IsListOf, IsSummaryOf, IsServeOf, IsSendOf, IsRequeueOf, IsRequeueAllOf, IsDutyOf, plain_serving}
-use Rattle.dr_commands.proofs.words.read_words.Goals as goal
+use Rattle.dr_words.specs.declared.words.Asked.{Asked}
+use Rattle.dr_words.specs.declared.words.Asked.TheVariants as asks
+use Rattle.dr_words.specs.declared.words.Duty.{Duty}
+use Rattle.dr_words.specs.declared.words.Duty.TheVariants as duties
+use Rattle.dr_words.specs.declared.words.KeyWords.{KeyWords}
+use Rattle.dr_words.specs.declared.words.NodeFiles.{NodeFiles}
+use Rattle.dr_words.specs.declared.words.Question.{Question}
+use Rattle.dr_words.specs.declared.words.Question.TheVariants as questions
+use Rattle.dr_words.specs.Words.{IsGraphOf, IsLintOf, IsFileRouteOf, IsKeyRouteOf, IsQuestionOf, IsListOf, IsSummaryOf, IsServeOf, IsSendOf, IsRequeueOf, IsRequeueAllOf, IsDutyOf, plain_serving}
+use Rattle.dr_words.proofs.words.read_words.Goals as goal
 
 -- what an answer has
 abbrev what : Option Asked → Asked

@@ -1,16 +1,16 @@
 //! What the words of the command line ask for.
 ghost use Rattle.std.specs.Prelude.{◌≡◌, ◌↔◌, ℕ, List, Some, IfOk, IsTrue};
 ghost use Rattle.std.specs.Borrow.{Bor};
-ghost use Rattle.dr_commands.specs.Words.{IsPlainCheck, IsCheckOf, IsVerifyOf, IsSimulateOf, IsEchoOf, IsNoOption, IsGraphOf, IsLintOf, IsFileRouteOf, IsKeyRouteOf, IsQuestionOf, IsListOf, IsSummaryOf, IsServeOf, IsSendOf, IsRequeueOf, IsRequeueAllOf, IsDutyOf, IsAdoptOf, plain_serving};
-ghost use Rattle.dr_commands.specs.declared.words.Asked.{Asked as AskedValue};
-ghost use Rattle.dr_commands.specs.declared.words.Asked.TheVariants as asks;
-ghost use Rattle.dr_commands.specs.declared.words.Duty.{Duty as DutyValue};
-ghost use Rattle.dr_commands.specs.declared.words.Duty.TheVariants as duties;
-ghost use Rattle.dr_commands.specs.declared.words.KeyWords.{KeyWords as KeyWordsValue};
-ghost use Rattle.dr_commands.specs.declared.words.NodeFiles.{NodeFiles as NodeFilesValue};
-ghost use Rattle.dr_commands.specs.declared.words.PlanChange.{PlanChange as PlanChangeValue};
-ghost use Rattle.dr_commands.specs.declared.words.Question.{Question as QuestionValue};
-ghost use Rattle.dr_commands.specs.declared.words.Question.TheVariants as questions;
+ghost use Rattle.dr_words.specs.Words.{IsPlainCheck, IsCheckOf, IsVerifyOf, IsSimulateOf, IsEchoOf, IsNoOption, IsGraphOf, IsLintOf, IsFileRouteOf, IsKeyRouteOf, IsQuestionOf, IsListOf, IsSummaryOf, IsServeOf, IsSendOf, IsRequeueOf, IsRequeueAllOf, IsDutyOf, IsAdoptOf, plain_serving};
+ghost use Rattle.dr_words.specs.declared.words.Asked.{Asked as AskedValue};
+ghost use Rattle.dr_words.specs.declared.words.Asked.TheVariants as asks;
+ghost use Rattle.dr_words.specs.declared.words.Duty.{Duty as DutyValue};
+ghost use Rattle.dr_words.specs.declared.words.Duty.TheVariants as duties;
+ghost use Rattle.dr_words.specs.declared.words.KeyWords.{KeyWords as KeyWordsValue};
+ghost use Rattle.dr_words.specs.declared.words.NodeFiles.{NodeFiles as NodeFilesValue};
+ghost use Rattle.dr_words.specs.declared.words.PlanChange.{PlanChange as PlanChangeValue};
+ghost use Rattle.dr_words.specs.declared.words.Question.{Question as QuestionValue};
+ghost use Rattle.dr_words.specs.declared.words.Question.TheVariants as questions;
 
 use crate::command_line::command_line;
 use clap::{ArgMatches, Error};

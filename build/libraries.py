@@ -1,0 +1,151 @@
+#!/usr/bin/env python3
+"""Proves and builds the libraries below a program, side by side: `build/libraries.py PROGRAM LOG`.
+
+Each library is proved by `rt lib`, which holds all crates below it while it runs; so each runs in a folder of its own, to which the
+files of these crates are linked, and what it made is brought into the checkout when it has ended well. A library that is built
+already is left as it is. One line a library goes to standard error, and all that `rt` says to the file LOG.
+"""
+import fcntl
+import os
+import re
+import shutil
+import subprocess
+import sys
+import tempfile
+import time
+
+TOP = os.path.dirname(os.path.dirname(os.path.realpath(__file__)))
+# What a library is made from, and what was made of it.
+PARTS = ("src", "specs", "proofs", "out/rlib")
+# The memory that one check takes at most, but for the largest crates.
+ROOM = 2_500_000_000
+
+
+def listed():
+    """Each crate of the repository with those of its libraries that are the repository's own."""
+    uses = {}
+    with open(f"{TOP}/crates.txt", encoding="utf-8") as file:
+        for line in file:
+            if ":" in line and not line.startswith("#"):
+                name, _, libraries = line.partition(":")
+                uses[name.split()[0]] = libraries.split()
+    return {name: [it for it in libraries if it in uses] for name, libraries in uses.items()}
+
+
+def below(uses, name):
+    """The libraries below a crate, each after those that it uses."""
+    found = []
+    for library in uses[name]:
+        found += [it for it in [*below(uses, library), library] if it not in found]
+    return found
+
+
+def work_of(name):
+    """A crate's work, by the bytes of its sources."""
+    return sum(
+        os.path.getsize(f"{at}/{it}")
+        for part in ("src", "specs", "proofs")
+        for at, _, files in os.walk(f"{TOP}/crates/{name}/{part}")
+        for it in files
+    )
+
+
+def lanes():
+    """How many checks may run at a time: as many as there are processors, and as memory holds."""
+    with open("/proc/meminfo", encoding="ascii") as file:
+        free = 1024 * int(re.search(r"MemAvailable:\s+(\d+)", file.read())[1])
+    return max(1, min(len(os.sched_getaffinity(0)), free // ROOM))
+
+
+def link(source, target):
+    """One more name for a file, or a copy where the file system has no such links."""
+    try:
+        os.link(source, target)
+    except OSError:
+        shutil.copy2(source, target)
+
+
+class Library:
+    """A library that is being proved, in a folder of its own."""
+
+    def __init__(self, uses, name, room, jobs):
+        self.name, self.jobs, self.began = name, jobs, time.monotonic()
+        self.folder = f"{room}/{name}"
+        os.makedirs(f"{self.folder}/crates")
+        crates = [*below(uses, name), name]
+        with open(f"{TOP}/crates.txt", encoding="utf-8") as file, open(f"{self.folder}/crates.txt", "w", encoding="utf-8") as own:
+            own.writelines(line for line in file if line.split(":")[0].split()[:1] in [[it] for it in crates])
+        for crate in crates:
+            for part in (*PARTS, *["out/incremental"] * (crate == name)):
+                source = f"{TOP}/crates/{crate}/{part}"
+                if os.path.isdir(source):
+                    shutil.copytree(source, f"{self.folder}/crates/{crate}/{part}", copy_function=link)
+        self.log = open(f"{self.folder}/log", "w+", encoding="utf-8", errors="replace")
+        self.process = subprocess.Popen(
+            ["rt", "lib", "--jobs", str(jobs)],
+            cwd=f"{self.folder}/crates/{name}",
+            stdin=subprocess.DEVNULL,
+            stdout=self.log,
+            stderr=subprocess.STDOUT,
+        )
+
+    def end(self, log):
+        """Brings what was made into the checkout, and what was said into the log; whether it ended well."""
+        self.log.seek(0)
+        log.write(f"== {self.name}\n{self.log.read()}")
+        log.flush()
+        self.log.close()
+        if self.process.returncode == 0:
+            ours, theirs = f"{TOP}/crates/{self.name}/out", f"{self.folder}/crates/{self.name}/out"
+            os.makedirs(ours, exist_ok=True)
+            for part in os.listdir(theirs):
+                shutil.rmtree(f"{ours}/{part}", ignore_errors=True)
+                os.rename(f"{theirs}/{part}", f"{ours}/{part}")
+        shutil.rmtree(self.folder)
+        return self.process.returncode == 0
+
+
+def build(uses, program, room, log):
+    """Proves the libraries, first those with the longest chain of others above them; whether all ended well."""
+    left = below(uses, program)
+    count, cores, done, running = len(left), lanes(), set(), []
+    above = {it: work_of(it) for it in left}
+    for name in reversed(left):
+        for library in uses[name]:
+            above[library] = max(above[library], work_of(library) + above[name])
+    while left or running:
+        ready = sorted((it for it in left if done.issuperset(uses[it])), key=lambda it: -above[it])
+        idle = cores - sum(it.jobs for it in running)
+        for at, name in enumerate(ready[:idle]):
+            jobs = max(1, idle // (len(ready) - at))
+            idle -= jobs
+            left.remove(name)
+            running.append(Library(uses, name, room, jobs))
+        time.sleep(0.1)
+        for library in [it for it in running if it.process.poll() is not None]:
+            running.remove(library)
+            if not library.end(log):
+                for it in running:
+                    it.process.terminate()
+                    it.process.wait()
+                return False
+            done.add(library.name)
+            took = time.monotonic() - library.began
+            print(f"[{len(done):2}/{count}] {library.name} .. proved in {took:.0f} s", file=sys.stderr, flush=True)
+    return True
+
+
+def main(program, log):
+    with open(f"{TOP}/crates.txt", encoding="utf-8") as lock:
+        # One build at a time; what waits finds all that it wants built.
+        fcntl.flock(lock, fcntl.LOCK_EX)
+        room = tempfile.mkdtemp(prefix="building-", dir=f"{TOP}/crates/{program}")
+        try:
+            with open(log, "a", encoding="utf-8") as file:
+                return 0 if build(listed(), program, room, file) else 1
+        finally:
+            shutil.rmtree(room, ignore_errors=True)
+
+
+if __name__ == "__main__":
+    sys.exit(main(*sys.argv[1:]))
