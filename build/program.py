@@ -1,9 +1,9 @@
 #!/usr/bin/env python3
-"""Proves and builds the libraries below a program, side by side: `build/libraries.py PROGRAM LOG`.
+"""Proves and builds a program, the libraries below it side by side: `build/program.py PROGRAM LOG`.
 
 Each library is proved by `rt lib`, which holds all crates below it while it runs; so each runs in a folder of its own, to which the
-files of these crates are linked, and what it made is brought into the checkout when it has ended well. A library that is built
-already is left as it is. One line a library goes to standard error, and all that `rt` says to the file LOG.
+files of these crates are linked, and what it made is brought into the checkout when it has ended well. The program comes last, by
+`rt run`. What has been proved isn't proved again. One line a crate goes to standard error, and all that `rt` says to the file LOG.
 """
 import fcntl
 import os
@@ -57,6 +57,11 @@ def lanes():
     return max(1, min(len(os.sched_getaffinity(0)), free // ROOM))
 
 
+def tell(done, count, name, began):
+    """Says that a crate is proved, and how many are."""
+    print(f"[{done:2}/{count}] {name} .. proved in {time.monotonic() - began:.0f} s", file=sys.stderr, flush=True)
+
+
 def link(source, target):
     """One more name for a file, or a copy where the file system has no such links."""
     try:
@@ -105,10 +110,10 @@ class Library:
         return self.process.returncode == 0
 
 
-def build(uses, program, room, log):
-    """Proves the libraries, first those with the longest chain of others above them; whether all ended well."""
+def build_libraries(uses, program, room, log):
+    """Proves the libraries below a program, first those with the longest chain of others above them; whether all ended well."""
     left = below(uses, program)
-    count, cores, done, running = len(left), lanes(), set(), []
+    count, cores, done, running = len(left) + 1, lanes(), set(), []
     above = {it: work_of(it) for it in left}
     for name in reversed(left):
         for library in uses[name]:
@@ -130,21 +135,35 @@ def build(uses, program, room, log):
                     it.process.wait()
                 return False
             done.add(library.name)
-            took = time.monotonic() - library.began
-            print(f"[{len(done):2}/{count}] {library.name} .. proved in {took:.0f} s", file=sys.stderr, flush=True)
+            tell(len(done), count, library.name, library.began)
     return True
 
 
+def build_program(program, count, log):
+    """Proves and builds the program over its libraries, and runs it once for its help; whether it ended well."""
+    began = time.monotonic()
+    log.write(f"== {program}\n")
+    log.flush()
+    words = ["rt", "run", "--", "--help"]
+    status = subprocess.call(words, cwd=f"{TOP}/crates/{program}", stdin=subprocess.DEVNULL, stdout=log, stderr=subprocess.STDOUT)
+    if status == 0:
+        tell(count, count, program, began)
+    return status == 0
+
+
 def main(program, log):
-    with open(f"{TOP}/crates.txt", encoding="utf-8") as lock:
+    uses = listed()
+    out = f"{TOP}/crates/{program}/out"
+    os.makedirs(out, exist_ok=True)
+    with open(f"{TOP}/crates.txt", encoding="utf-8") as lock, open(log, "a", encoding="utf-8") as file:
         # One build at a time; what waits finds all that it wants built.
         fcntl.flock(lock, fcntl.LOCK_EX)
-        room = tempfile.mkdtemp(prefix="building-", dir=f"{TOP}/crates/{program}")
+        room = tempfile.mkdtemp(prefix="building-", dir=out)
         try:
-            with open(log, "a", encoding="utf-8") as file:
-                return 0 if build(listed(), program, room, file) else 1
+            libraries = build_libraries(uses, program, room, file)
         finally:
             shutil.rmtree(room, ignore_errors=True)
+        return 0 if libraries and build_program(program, len(below(uses, program)) + 1, file) else 1
 
 
 if __name__ == "__main__":
