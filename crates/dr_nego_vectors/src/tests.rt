@@ -1,14 +1,12 @@
 //! Worked negotiations.
 use super::plain::{are_answered, conclusion_of, numbers_of, verdict_of};
-use dr_base::{Seq, Syntax, Text};
-use dr_cert::Sealed;
-use dr_check::{Verdict, check};
+use dr_base::{Seq, Syntax};
 use dr_nego::acceptor::answer;
 use dr_nego::{
     Agreed, Answer, Kind, NegoFault, Policy, conclude, propose, propose_echo, put_fragments,
 };
 use dr_pdu::{AssociateAc, AssociateRq, Pdu, decode, encode, fits};
-use dr_plan::read_plan;
+use dr_samples::{name, sealed, site_of};
 use dr_site::Site;
 use std::alloc::Global;
 use std::test::Fail;
@@ -48,18 +46,10 @@ modality = ["CT"]
 station = ["S1"]
 "#;
 
-fn text(alloc: Global, bytes: &str) -> Result<Text, Fail> {
-    Ok(Text::copy_of(alloc, bytes.as_bytes())?)
-}
-
 /// The site of a node of the plan.
 fn site(alloc: Global, node: &str) -> Result<Site, Fail> {
-    let plan = read_plan(alloc, PLAN.as_bytes())?;
-    let Verdict::Yes(certificate) = check(alloc, &plan)? else {
-        return Err(Fail::from("the plan is not sound"));
-    };
-    let sealed = Sealed::new(alloc, plan, certificate)?;
-    Ok(Site::of(alloc, &sealed, &text(alloc, node)?)?)
+    let sealed = sealed(alloc, PLAN)?;
+    Ok(site_of(alloc, &sealed, node)?)
 }
 
 /// What is written of a PDU.
@@ -88,9 +78,9 @@ fn acceptance_of(alloc: Global, text: &[u8]) -> Option<AssociateAc> {
 /// The gateway's request for the archive, or its echo's, as it is written.
 fn request(alloc: Global, is_echo: bool) -> Result<Vec<u8>, Fail> {
     let rq = if is_echo {
-        propose_echo(alloc, &text(alloc, "GATE")?, &text(alloc, "ARCH")?)?
+        propose_echo(alloc, &name(alloc, "GATE")?, &name(alloc, "ARCH")?)?
     } else {
-        propose(alloc, &site(alloc, "GATE")?, &text(alloc, "ARCH")?)?
+        propose(alloc, &site(alloc, "GATE")?, &name(alloc, "ARCH")?)?
     };
     written(alloc, &Pdu::AssociateRq(rq))
 }
@@ -140,7 +130,7 @@ fn worked_lengths(rt: HostRuntime) -> Result<(), Fail> {
 
 /// What is found in an agreement of context 1 alone: the context of images in either syntax, and those of two ids.
 fn found_in(alloc: Global, agreed: &Agreed) -> Result<bool, Fail> {
-    let image = text(alloc, "1.2.840.10008.5.1.4.1.1.2")?;
+    let image = name(alloc, "1.2.840.10008.5.1.4.1.1.2")?;
     let explicit = agreed.context_for(&image, Syntax::Explicit);
     let implicit = agreed.context_for(&image, Syntax::Implicit);
     Ok(
@@ -172,7 +162,7 @@ fn both_ends_have_the_same_context(rt: HostRuntime) -> Result<(), Fail> {
 #[test]
 fn the_archive_proposes_nothing(rt: HostRuntime) -> Result<(), Fail> {
     let alloc = rt.alloc();
-    let back = propose(alloc, &site(alloc, "ARCH")?, &text(alloc, "GATE")?);
+    let back = propose(alloc, &site(alloc, "ARCH")?, &name(alloc, "GATE")?);
     assert_eq!(rt; back.err(), Some(NegoFault::NoHop));
     Ok(())
 }
