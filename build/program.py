@@ -14,30 +14,10 @@ import sys
 import tempfile
 import time
 
-TOP = os.path.dirname(os.path.dirname(os.path.realpath(__file__)))
-# What a library is made from, and what was made of it.
-PARTS = ("src", "specs", "proofs", "out/rlib")
+from rooms import TOP, below, furnish, listed
+
 # The memory that one check takes at most, but for the largest crates.
 ROOM = 2_500_000_000
-
-
-def listed():
-    """Each crate of the repository with those of its libraries that are the repository's own."""
-    uses = {}
-    with open(f"{TOP}/crates.txt", encoding="utf-8") as file:
-        for line in file:
-            if ":" in line and not line.startswith("#"):
-                name, _, libraries = line.partition(":")
-                uses[name.split()[0]] = libraries.split()
-    return {name: [it for it in libraries if it in uses] for name, libraries in uses.items()}
-
-
-def below(uses, name):
-    """The libraries below a crate, each after those that it uses."""
-    found = []
-    for library in uses[name]:
-        found += [it for it in [*below(uses, library), library] if it not in found]
-    return found
 
 
 def work_of(name):
@@ -62,29 +42,13 @@ def tell(done, count, name, began):
     print(f"[{done:2}/{count}] {name} .. proved in {time.monotonic() - began:.0f} s", file=sys.stderr, flush=True)
 
 
-def link(source, target):
-    """One more name for a file, or a copy where the file system has no such links."""
-    try:
-        os.link(source, target)
-    except OSError:
-        shutil.copy2(source, target)
-
-
 class Library:
     """A library that is being proved, in a folder of its own."""
 
     def __init__(self, uses, name, room, jobs):
         self.name, self.jobs, self.began = name, jobs, time.monotonic()
         self.folder = f"{room}/{name}"
-        os.makedirs(f"{self.folder}/crates")
-        crates = [*below(uses, name), name]
-        with open(f"{TOP}/crates.txt", encoding="utf-8") as file, open(f"{self.folder}/crates.txt", "w", encoding="utf-8") as own:
-            own.writelines(line for line in file if line.split(":")[0].split()[:1] in [[it] for it in crates])
-        for crate in crates:
-            for part in (*PARTS, *["out/incremental"] * (crate == name)):
-                source = f"{TOP}/crates/{crate}/{part}"
-                if os.path.isdir(source):
-                    shutil.copytree(source, f"{self.folder}/crates/{crate}/{part}", copy_function=link)
+        furnish(uses, name, self.folder)
         self.log = open(f"{self.folder}/log", "w+", encoding="utf-8", errors="replace")
         self.process = subprocess.Popen(
             ["rt", "lib", "--jobs", str(jobs)],
@@ -110,9 +74,9 @@ class Library:
         return self.process.returncode == 0
 
 
-def build_libraries(uses, program, room, log):
-    """Proves the libraries below a program, first those with the longest chain of others above them; whether all ended well."""
-    left = below(uses, program)
+def build_libraries(uses, libraries, room, log):
+    """Proves these libraries, each of which stands after those below it, first those with the longest chain of others above them; whether all ended well."""
+    left = [*libraries]
     count, cores, done, running = len(left) + 1, lanes(), set(), []
     above = {it: work_of(it) for it in left}
     for name in reversed(left):
@@ -159,11 +123,12 @@ def main(program, log):
         # One build at a time; what waits finds all that it wants built.
         fcntl.flock(lock, fcntl.LOCK_EX)
         room = tempfile.mkdtemp(prefix="building-", dir=out)
+        libraries = below(uses, program)
         try:
-            libraries = build_libraries(uses, program, room, file)
+            is_built = build_libraries(uses, libraries, room, file)
         finally:
             shutil.rmtree(room, ignore_errors=True)
-        return 0 if libraries and build_program(program, len(below(uses, program)) + 1, file) else 1
+        return 0 if is_built and build_program(program, len(libraries) + 1, file) else 1
 
 
 if __name__ == "__main__":
