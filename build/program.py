@@ -77,15 +77,16 @@ class Library:
 def build_libraries(uses, libraries, room, log):
     """Proves these libraries, each of which stands after those below it, first those with the longest chain of others above them; whether all ended well."""
     left = [*libraries]
-    count, cores, done, running = len(left) + 1, lanes(), set(), []
+    count, cores, done, running, failed = len(left) + 1, lanes(), set(), [], False
     above = {it: work_of(it) for it in left}
     for name in reversed(left):
         for library in uses[name]:
             above[library] = max(above[library], work_of(library) + above[name])
-    while left or running:
+    while running or (left and not failed):
         ready = sorted((it for it in left if done.issuperset(uses[it])), key=lambda it: -above[it])
         idle = cores - sum(it.jobs for it in running)
-        for at, name in enumerate(ready[:idle]):
+        # After a failure nothing more is begun, but what is running ends, so that its work is kept.
+        for at, name in enumerate(ready[: 0 if failed else idle]):
             jobs = max(1, idle // (len(ready) - at))
             idle -= jobs
             left.remove(name)
@@ -93,14 +94,13 @@ def build_libraries(uses, libraries, room, log):
         time.sleep(0.1)
         for library in [it for it in running if it.process.poll() is not None]:
             running.remove(library)
-            if not library.end(log):
-                for it in running:
-                    it.process.terminate()
-                    it.process.wait()
-                return False
-            done.add(library.name)
-            tell(len(done), count, library.name, library.began)
-    return True
+            if library.end(log):
+                done.add(library.name)
+                tell(len(done), count, library.name, library.began)
+            else:
+                failed = True
+                print(f"{library.name} .. NOT proved", file=sys.stderr, flush=True)
+    return not failed
 
 
 def build_program(program, count, log):

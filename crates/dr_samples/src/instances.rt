@@ -26,14 +26,10 @@ fn put_element(
 /// The data set of an image of that UID and station, of modality CT, in Explicit VR Little Endian.
 pub fn data_set(alloc: Global, uid: &str, station: &str) -> Result<Vec<u8>, SampleFault> {
     let mut body = Vec::new(alloc);
-    for (number, letters, value) in [
-        ([0x16u8, 0u8], "UI", "1.2.840.10008.5.1.4.1.1.2"),
-        ([0x18, 0], "UI", uid),
-        ([0x60, 0], "CS", "CT"),
-        ([0x10, 0x10], "SH", station),
-    ] {
-        put_element(&mut body, number, letters, value)?;
-    }
+    put_element(&mut body, [0x16, 0], "UI", "1.2.840.10008.5.1.4.1.1.2")?;
+    put_element(&mut body, [0x18, 0], "UI", uid)?;
+    put_element(&mut body, [0x60, 0], "CS", "CT")?;
+    put_element(&mut body, [0x10, 0x10], "SH", station)?;
     Ok(body)
 }
 
