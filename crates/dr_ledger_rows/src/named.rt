@@ -76,7 +76,13 @@ impl Named {
 
     /// The site of the node.
     pub fn site(&self, plan: &str, node: &str) -> Result<Site, anyhow::Error> {
-        let sealed = self.sealed(plan)?;
-        Ok(site_of(self.alloc, &sealed, node)?)
+        match self.sealed(plan) {
+            Ok(sealed) => {
+                let site = site_of(self.alloc, &sealed, node);
+                drop(sealed);
+                Ok(site?)
+            }
+            Err(error) => Err(error),
+        }
     }
 }
