@@ -54,12 +54,19 @@ fn site(alloc: Global, node: &str) -> Result<Site, SampleFault> {
     }
 }
 
-/// What is written of a PDU.
-fn written(alloc: Global, pdu: Pdu) -> Result<Vec<u8>, Fail> {
-    if !fits(&pdu) {
+/// What is written of a PDU that fits.
+fn text_of(alloc: Global, pdu: &Pdu) -> Result<Vec<u8>, Fail> {
+    if !fits(pdu) {
         return Err(Fail::from("it does not fit"));
     }
-    Ok(encode(alloc, &pdu)?)
+    Ok(encode(alloc, pdu)?)
+}
+
+/// What is written of a PDU, which is let go.
+fn written(alloc: Global, pdu: Pdu) -> Result<Vec<u8>, Fail> {
+    let text = text_of(alloc, &pdu);
+    drop(pdu);
+    text
 }
 
 /// The request that a text spells.
