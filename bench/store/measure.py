@@ -1,4 +1,5 @@
-"""Runs the built program on files of a folder, beside the disk's own syncs.
+"""Runs the built program on files of a folder, beside the disk's own syncs: `bench/run store` calls it, and `measure.py PROGRAM FOLDER [COUNTS]`
+does it with a program that is built.
 
 A commit can't be faster than the disk: so what the disk takes for an append and its fdatasync is measured by turns with the program,
 on a file of the same folder, before each task and after it.
@@ -120,3 +121,7 @@ def measure(program, words):
         if counts['rows']:
             queueing(program, folder, counts['rows'])
     print(f'load {os.getloadavg()[0]:.1f}')
+
+
+if __name__ == '__main__':
+    measure(sys.argv[1], sys.argv[2:])
