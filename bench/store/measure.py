@@ -88,21 +88,40 @@ def arriving(program, folder, name, size, count):
     row('  CPU for each, with making the item', f'{cpu / count:.3f} ms; greatest memory {memory:.0f} MB')
 
 
+def opening(program, path):
+    printed, cpu, memory = run(program, path, 'ask', 0)
+    row('  opening', f'{printed["open"][0] / 1000:.2f} s, CPU {cpu / 1000:.2f} s, greatest memory {memory:.0f} MB')
+    row('  the file, and its log', ', '.join(f'{os.path.getsize(it) / MB:.0f} MB' for it in (path, f'{path}-wal')))
+
+
+def committing(program, path, task, *numbers):
+    """A durable commit each, many of them."""
+    printed, cpu, memory = run(program, path, task, *numbers)
+    spent = printed[task]
+    tenth = max(1, len(spent) // 10)
+    row(f'  {task}', shown(spent))
+    row('    the first and the last tenth, by medians', f'{statistics.median(spent[:tenth]):.3f}, {statistics.median(spent[-tenth:]):.3f} ms')
+    row('    CPU of the run for each', f'{cpu / len(spent):.3f} ms; greatest memory {memory:.0f} MB')
+
+
 def queueing(program, folder, count):
-    """So many rows in the queue: how long they took, what is due, and the opening."""
+    """So many rows in the queue, of which none is done: what is due, and the opening."""
     path = f'{folder}/rows.db'
-    printed, cpu, memory = run(program, path, 'arrive', KB, count, 1)
-    spent = printed['arrive']
-    print(f'{count} rows, each of an item of 1 kB')
-    row('  arrive', shown(spent))
-    tenth = max(1, count // 10)
-    row('  the first and the last tenth, by medians', f'{statistics.median(spent[:tenth]):.3f}, {statistics.median(spent[-tenth:]):.3f} ms')
-    row('  CPU for each, with making the item', f'{cpu / count:.3f} ms; greatest memory {memory:.0f} MB')
-    row('  the file, and its log', ', '.join(f'{os.path.getsize(it) / MB:.0f} MB' for it in (path, f'{path}-wal') if os.path.exists(it)))
+    print(f'{count} items of 1 kB, in the queue')
+    committing(program, path, 'arrive', KB, count, 1)
     for calls in 1000, 10000:
-        printed, cpu, memory = run(program, path, 'ask', calls)
+        printed, _, _ = run(program, path, 'ask', calls)
         row(f'  {calls} calls of next', f'{1000 * printed["ask"][0] / calls:.2f} us each')
-        row('  opening', f'{printed["open"][0] / 1000:.2f} s, CPU of the run {cpu / 1000:.2f} s, greatest memory {memory:.0f} MB')
+    opening(program, path)
+
+
+def settling(program, folder, count):
+    """As many lines, of half as many items, each of which is then settled."""
+    path = f'{folder}/settled.db'
+    print(f'{count // 2} items of 1 kB, settled')
+    committing(program, path, 'arrive', KB, count // 2, 1)
+    committing(program, path, 'settle', count // 2)
+    opening(program, path)
 
 
 def measure(program, words):
@@ -120,6 +139,7 @@ def measure(program, words):
                 arriving(program, folder, name, size, counts[name])
         if counts['rows']:
             queueing(program, folder, counts['rows'])
+            settling(program, folder, counts['rows'])
     print(f'load {os.getloadavg()[0]:.1f}')
 
 
