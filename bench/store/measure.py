@@ -64,7 +64,7 @@ def shown(spent):
 
 
 def row(what, text):
-    print(f'{what:<44}{text}', flush=True)
+    print(f'{what:<48}{text}', flush=True)
 
 
 def above(spent, disk):
@@ -124,16 +124,21 @@ def settling(program, folder, count):
     opening(program, path)
 
 
-def measure(program, words):
-    """Runs all tasks in a folder of their own within the given folder."""
-    if len(words) not in (1, 1 + len(COUNTS)):
+def task_of(words):
+    """The folder, its file system, and the counts that the words say."""
+    if len(words) not in (1, 1 + len(COUNTS)) or not os.path.isdir(words[0]):
         sys.exit(USAGE)
     kind, device = file_system(words[0])
     if kind in ('tmpfs', 'ramfs'):
         sys.exit(f'{words[0]} lies on {kind}, which has no syncs')
-    counts = dict(zip(COUNTS, map(int, words[1:]))) if words[1:] else COUNTS
-    print(f'on {kind} ({device}), load {os.getloadavg()[0]:.1f}', flush=True)
-    with tempfile.TemporaryDirectory(prefix='store-', dir=words[0]) as folder:
+    return words[0], f'{kind} ({device})', dict(zip(COUNTS, map(int, words[1:]))) if words[1:] else COUNTS
+
+
+def measure(program, words):
+    """Runs all tasks in a folder of their own within the given folder."""
+    place, disk, counts = task_of(words)
+    print(f'on {disk}, load {os.getloadavg()[0]:.1f}', flush=True)
+    with tempfile.TemporaryDirectory(prefix='store-', dir=place) as folder:
         for name, size in SIZES.items():
             if counts[name]:
                 arriving(program, folder, name, size, counts[name])
