@@ -3,10 +3,15 @@
 //! What is claimed stands under a call's end: that the disk has returned what was written so far.
 #![tactic(auto)]
 
+mod asking;
 pub mod bodies;
+mod fault;
 pub mod finding;
 pub mod making;
+mod older;
 pub mod opening;
+mod renewing;
 mod testing;
 
-pub use opening::{OpeningFault, on};
+pub use fault::OpeningFault;
+pub use opening::on;
