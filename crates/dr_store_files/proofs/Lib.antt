@@ -1,3 +1,4 @@
+mod Answered
 mod Chains
 mod Filling
 mod Wholly

@@ -1,5 +1,5 @@
 -- What comparing and reading again say of the tables.
-use Rattle.std.proofs.Common.{◌≡◌, ◌+◌, ◌⊎◌, ◌∷◌, [], ℕ, Bool, List, length, Contains, Option, Some, None, Ok, Err, Result, cond, option_map, refl, sym, ap, subst, ◌∙◌, IsTrue, arith}
+use Rattle.std.proofs.Common.{◌≡◌, ◌+◌, ◌⊎◌, ◌∷◌, [], ℕ, Bool, List, length, Contains, Option, Some, None, Ok, Err, Result, cond, inl, option_map, refl, sym, ap, subst, ◌∙◌, IsTrue, arith}
 use Rattle.std.specs.Prelude.{All}
 use Rattle.std.specs.FinMap as map
 use Rattle.std.proofs.lemmas.List.{length-map}
@@ -122,13 +122,24 @@ no_lines n part s kept next first =
     no_element [] none = refl
     no_element (line ∷ lines) none = absurd (omega (arith, none))
 
+-- what was left before is left still, or what is committed
+pub found_left : (n : ℕ) (part : Part) (old mid new : State) → IsLedgerFound n part mid new → ((db : Trees) → new.may_leave db → mid.may_leave db) → LeavesOldOrCommitted old mid → LeavesOldOrCommitted old new
+found_left n part old mid new is leaves left = λ db h. let P : Database → Type 0 = λ d. old.may_leave db ⊎ (db ≡ d.trees) in subst P (sym is.same) (left db (leaves db h))
+
 -- tables that were made just now, and found
 pub new_ledger : (n : ℕ) (part : Part) (old mid new : State) → HasCleanDisk new → IsLedgerFound n part mid new → ((db : Trees) → new.may_leave db → mid.may_leave db) → n ≡ 1 → LeavesOldOrCommitted old mid → HasNewLedger old new
 new_ledger n part old mid new clean is leaves first left = record {
   book = no_lines n part new is.kept is.next first;
-  leaves = λ db h. let P : Database → Type 0 = λ d. old.may_leave db ⊎ (db ≡ d.trees) in subst P (sym is.same) (left db (leaves db h));
+  leaves = found_left n part old mid new is leaves left;
 }
 
 -- tables that stood in the file, and were found
 pub as_found : (n : ℕ) (part : Part) (old mid new : State) → IsLedgerFound n part mid new → ((db : Trees) → new.may_leave db → mid.may_leave db) → StaysAsFound old mid → StaysAsFound old new
 as_found n part old mid new is leaves stays = record { committed = is.same ∙ stays.committed; leaves = λ db h. stays.leaves db (leaves db h) }
+
+-- where nothing is done
+pub stays_still : (s : State) → StaysAsFound s s
+stays_still s = record { committed = refl; leaves = λ db h. h }
+
+pub left_still : (s : State) → LeavesOldOrCommitted s s
+left_still s = λ db h. inl h

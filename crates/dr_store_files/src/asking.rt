@@ -1,8 +1,11 @@
 //! Statements of a transaction, of which only the commit may leave something.
-ghost use Rattle.std.specs.Prelude.{◌≡◌};
+ghost use Rattle.std.specs.Prelude.{◌≡◌, IfOk, OnOk};
 ghost use Rattle.sqlite.specs.Held.{state};
-ghost use Rattle.sqlite.specs.State.{Survives};
+ghost use Rattle.sqlite.specs.State.{HasCleanDisk, Shown, Survives};
+ghost use Rattle.sqlite.specs.Values.{bound};
+ghost use Rattle.dr_store_files.specs.Renewing.{IsAnswer, IsQuery};
 
+use crate::alike::are_rows;
 use crate::fault::{OpeningFault, opening_fault};
 use dr_queries::fault_of;
 use sqlite::types::ValueRef;
@@ -17,6 +20,7 @@ pub fn ask_within<S: Alter>(
 ) -> Result<Vec<Row>, OpeningFault>
     ensures same_reference { tx.new.conn.ghost_name ≡ tx.old.conn.ghost_name }
     ensures survives { Survives (state S.Store tx.old.conn.now) (state S.Store tx.new.conn.now) (λ _. ⊥) }
+    ensures shown { HasCleanDisk (state S.Store tx.new.conn.now) → IfOk result (λ rows. Shown sql.now (bound params.now) (state S.Store tx.old.conn.now) (state S.Store tx.new.conn.now) rows.items) }
 {
     match tx.query_all(sql, params) {
         Ok(rows) => Ok(rows),
@@ -24,20 +28,32 @@ pub fn ask_within<S: Alter>(
     }
 }
 
-/// The answers of these queries, in their order.
-pub fn ask_all<S: Alter>(
-    tx: &mut Transaction<'_, S>,
-    alloc: Global,
-    texts: &[&str],
-) -> Result<Vec<Vec<Row>>, OpeningFault>
+/// The answer of a query without parameters, which changes nothing.
+pub fn ask_rows<S: Alter>(tx: &mut Transaction<'_, S>, sql: &str) -> Result<Vec<Row>, OpeningFault>
     ensures same_reference { tx.new.conn.ghost_name ≡ tx.old.conn.ghost_name }
     ensures survives { Survives (state S.Store tx.old.conn.now) (state S.Store tx.new.conn.now) (λ _. ⊥) }
+    ensures schema { HasCleanDisk (state S.Store tx.new.conn.now) → IfOk result (λ rows. (state S.Store tx.new.conn.now).now.schema ≡ (state S.Store tx.old.conn.now).now.schema) }
+    ensures answer { HasCleanDisk (state S.Store tx.new.conn.now) → IsQuery (state S.Store tx.old.conn.now).now.schema sql.now → IfOk result (λ rows. IsAnswer sql.now (state S.Store tx.old.conn.now).now rows.items × ((state S.Store tx.new.conn.now).now ≡ (state S.Store tx.old.conn.now).now)) }
 {
-    let mut all = Vec::new(alloc);
-    for text in texts {
-        all.push(ask_within(tx, text, &[])?)?;
+    ask_within(tx, sql, &[])
+}
+
+/// Tests that a query without parameters answers just these rows.
+pub fn test_rows<S: Alter>(
+    tx: &mut Transaction<'_, S>,
+    sql: &str,
+    rows: &[Row],
+) -> Result<(), OpeningFault>
+    ensures same_reference { tx.new.conn.ghost_name ≡ tx.old.conn.ghost_name }
+    ensures survives { Survives (state S.Store tx.old.conn.now) (state S.Store tx.new.conn.now) (λ _. ⊥) }
+    ensures schema { HasCleanDisk (state S.Store tx.new.conn.now) → OnOk result ((state S.Store tx.new.conn.now).now.schema ≡ (state S.Store tx.old.conn.now).now.schema) }
+    ensures answer { HasCleanDisk (state S.Store tx.new.conn.now) → IsQuery (state S.Store tx.old.conn.now).now.schema sql.now → OnOk result (IsAnswer sql.now (state S.Store tx.old.conn.now).now rows.now × ((state S.Store tx.new.conn.now).now ≡ (state S.Store tx.old.conn.now).now)) }
+{
+    let there = ask_rows(tx, sql)?;
+    if !are_rows(there.as_slice(), rows) {
+        return Err(OpeningFault::OtherSite);
     }
-    Ok(all)
+    Ok(())
 }
 
 /// Runs a statement.

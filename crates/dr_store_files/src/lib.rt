@@ -3,6 +3,7 @@
 //! What is claimed stands under a call's end: that the disk has returned what was written so far.
 #![tactic(auto)]
 
+mod alike;
 mod asking;
 pub mod bodies;
 mod fault;
@@ -11,6 +12,7 @@ pub mod making;
 mod older;
 pub mod opening;
 mod renewing;
+mod sheets;
 mod testing;
 
 pub use fault::OpeningFault;

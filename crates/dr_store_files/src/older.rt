@@ -6,6 +6,7 @@ ghost use Rattle.sha2.specs.Sha256.{sha256};
 
 use crate::asking::ask_within;
 use crate::fault::{OpeningFault, of_finding, opening_fault};
+use crate::sheets::Sheets;
 use dr_base::{Octets, Text};
 use dr_finding::Lacks;
 use dr_finding::needs::needed;
@@ -24,17 +25,7 @@ use sqlite::{Alter, Row, Transaction};
 use std::alloc::Global;
 use std::collections::{BTreeMap, BTreeSet};
 
-/// The rows of the tables that each such file has.
-pub const ROWS: [&str; 6] = [
-    "SELECT id, node, plan FROM site",
-    "SELECT uid, class, syntax, modality, station FROM item ORDER BY uid",
-    "SELECT caller, uid FROM arrival ORDER BY caller, uid",
-    "SELECT uid FROM kept ORDER BY uid",
-    "SELECT uid, dest, state, tries, due, cause FROM queue ORDER BY uid, dest",
-    "SELECT n, kind, caller, uid, dest, outcome, moment FROM journal ORDER BY n",
-];
-
-/// What they say.
+/// What the rows of such a file say.
 #[derive(Drop)]
 pub struct Told {
     pub keys: Vec<(Text, Key)>,
@@ -63,32 +54,22 @@ fn is_owned(rows: &[Row], site: &Site) -> bool {
 }
 
 /// What the rows say, if the file is this site's.
-pub fn told(alloc: Global, site: &Site, sheets: &[Vec<Row>]) -> Result<Told, OpeningFault> {
-    let [owner, items, arrivals, kept, rows, lines] = sheets else {
-        return Err(OpeningFault::Store);
-    };
-    if !is_owned(owner.as_slice(), site) {
+pub fn told(alloc: Global, site: &Site, sheets: &Sheets) -> Result<Told, OpeningFault> {
+    if !is_owned(sheets.site.as_slice(), site) {
         return Err(OpeningFault::OtherSite);
     }
-    match told_by(alloc, items, arrivals, kept, rows, lines) {
+    match told_by(alloc, sheets) {
         Ok(told) => Ok(told),
         Err(fault) => Err(opening_fault(fault)),
     }
 }
 
-fn told_by(
-    alloc: Global,
-    items: &Vec<Row>,
-    arrivals: &Vec<Row>,
-    kept: &Vec<Row>,
-    rows: &Vec<Row>,
-    lines: &Vec<Row>,
-) -> Result<Told, LedgerFault> {
-    let keys = key_entries(alloc, items.as_slice())?;
-    let arrivals = pair_keys(alloc, arrivals.as_slice())?;
-    let kept = text_keys(alloc, kept.as_slice())?;
-    let rows = row_entries(alloc, rows.as_slice())?;
-    let notes = note_entries(alloc, lines.as_slice())?;
+fn told_by(alloc: Global, sheets: &Sheets) -> Result<Told, LedgerFault> {
+    let keys = key_entries(alloc, sheets.items.as_slice())?;
+    let arrivals = pair_keys(alloc, sheets.arrivals.as_slice())?;
+    let kept = text_keys(alloc, sheets.kept.as_slice())?;
+    let rows = row_entries(alloc, sheets.rows.as_slice())?;
+    let notes = note_entries(alloc, sheets.lines.as_slice())?;
     Ok(Told {
         keys,
         arrivals,

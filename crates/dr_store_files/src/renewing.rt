@@ -5,17 +5,20 @@ ghost use Rattle.sqlite.specs.State.{HasCleanDisk, Survives};
 ghost use Rattle.sqlite_trees.specs.View.{doubt};
 ghost use Rattle.dr_finding.specs.Older.{IsOlder};
 ghost use Rattle.dr_store_files.specs.Opening.{LeavesOldOrCommitted, StaysAsFound};
+ghost use Rattle.dr_store_files.specs.Renewing.{AreQueries, KeepsRows};
+ghost use Rattle.dr_tables.specs.Tables.{tables};
 
-use crate::asking::{add_rows, ask_all, run_texts};
+use crate::asking::{add_rows, run_texts};
 use crate::fault::{OpeningFault, of_finding, opening_fault};
 use crate::making::LATER;
-use crate::older::{ROWS, Told, goals_for, prints_for, told};
+use crate::older::{Told, goals_for, prints_for, told};
+use crate::sheets::{Sheets, ask_sheets, test_sheets};
 use dr_base::Text;
 use dr_finding::{Lacks, agree, lacking};
 use dr_queries::{Print, fault_of};
 use dr_rows::{add_print, add_target, set_body};
 use dr_site::Site;
-use sqlite::{Alter, Connection, Error, Row, Transaction};
+use sqlite::{Alter, Connection, Error, Transaction};
 use std::alloc::Global;
 
 /// The last number that a cell holds.
@@ -161,37 +164,34 @@ fn put_goals<'x, S: Alter>(
 fn put_back<'x, S: Alter>(
     tx: &mut Transaction<'_, S>,
     alloc: Global,
-    sheets: &'x [Vec<Row>],
+    sheets: &'x Sheets,
 ) -> Result<(), OpeningFault>
     ensures same_reference { tx.new.conn.ghost_name ≡ tx.old.conn.ghost_name }
     ensures survives { Survives (state S.Store tx.old.conn.now) (state S.Store tx.new.conn.now) (λ _. ⊥) }
 {
-    let [_, _, arrivals, kept, rows, lines] = sheets else {
-        return Err(OpeningFault::Store);
-    };
     add_rows(
         tx,
         alloc,
         "INSERT INTO arrival (caller, uid) VALUES (?1, ?2)",
-        arrivals.as_slice(),
+        sheets.arrivals.as_slice(),
     )?;
     add_rows(
         tx,
         alloc,
         "INSERT INTO kept (uid) VALUES (?1)",
-        kept.as_slice(),
+        sheets.kept.as_slice(),
     )?;
     add_rows(
         tx,
         alloc,
         "INSERT INTO queue (uid, dest, state, tries, due, cause) VALUES (?1, ?2, ?3, ?4, ?5, ?6)",
-        rows.as_slice(),
+        sheets.rows.as_slice(),
     )?;
     add_rows(
         tx,
         alloc,
         "INSERT INTO journal (n, kind, caller, uid, dest, outcome, moment) VALUES (?1, ?2, ?3, ?4, ?5, ?6, ?7)",
-        lines.as_slice(),
+        sheets.lines.as_slice(),
     )
 }
 
@@ -199,7 +199,7 @@ fn put_back<'x, S: Alter>(
 fn make_anew<'x, S: Alter>(
     tx: &mut Transaction<'_, S>,
     alloc: Global,
-    sheets: &'x [Vec<Row>],
+    sheets: &'x Sheets,
     prints: &'x [(Text, Print)],
     goals: &'x [(u64, Text)],
 ) -> Result<(), OpeningFault>
@@ -213,7 +213,26 @@ fn make_anew<'x, S: Alter>(
     put_goals(tx, goals)
 }
 
-/// All that brings the file over, once it is tested that it is then a ledger's of the site: else nothing is written.
+/// Writes all that brings the file over, once it is tested that it is then a ledger's of the site.
+fn rewrite<'x, S: Alter>(
+    tx: &mut Transaction<'_, S>,
+    alloc: Global,
+    site: &'x Site,
+    lacks: Lacks,
+    sheets: &'x Sheets,
+) -> Result<(), OpeningFault>
+    ensures same_reference { tx.new.conn.ghost_name ≡ tx.old.conn.ghost_name }
+    ensures survives { Survives (state S.Store tx.old.conn.now) (state S.Store tx.new.conn.now) (λ _. ⊥) }
+{
+    let told = told(alloc, site, sheets)?;
+    let prints = prints_for(tx, alloc, lacks, &told)?;
+    let goals = goals_for(tx, alloc, site, lacks, &told, prints.as_slice())?;
+    test(alloc, site, &told, prints.as_slice(), goals.as_slice())?;
+    make_anew(tx, alloc, sheets, prints.as_slice(), goals.as_slice())?;
+    let_all_go(tx, prints.as_slice())
+}
+
+/// All that brings the file over, and a look at what it has then.
 fn renew<'x, S: Alter>(
     tx: &mut Transaction<'_, S>,
     alloc: Global,
@@ -222,20 +241,11 @@ fn renew<'x, S: Alter>(
 ) -> Result<(), OpeningFault>
     ensures same_reference { tx.new.conn.ghost_name ≡ tx.old.conn.ghost_name }
     ensures survives { Survives (state S.Store tx.old.conn.now) (state S.Store tx.new.conn.now) (λ _. ⊥) }
+    ensures kept { HasCleanDisk (state S.Store tx.new.conn.now) → AreQueries (state S.Store tx.old.conn.now).now.schema → AreQueries (state S.Store tx.new.conn.now).now.schema → OnOk result (KeepsRows (state S.Store tx.old.conn.now).now (state S.Store tx.new.conn.now).now) }
 {
-    let sheets = ask_all(tx, alloc, ROWS.as_slice())?;
-    let told = told(alloc, site, sheets.as_slice())?;
-    let prints = prints_for(tx, alloc, lacks, &told)?;
-    let goals = goals_for(tx, alloc, site, lacks, &told, prints.as_slice())?;
-    test(alloc, site, &told, prints.as_slice(), goals.as_slice())?;
-    make_anew(
-        tx,
-        alloc,
-        sheets.as_slice(),
-        prints.as_slice(),
-        goals.as_slice(),
-    )?;
-    let_all_go(tx, prints.as_slice())
+    let sheets = ask_sheets(tx)?;
+    rewrite(tx, alloc, site, lacks, &sheets)?;
+    test_sheets(tx, &sheets)
 }
 
 /// Brings the file over as one transaction.
@@ -249,6 +259,7 @@ fn bring_over<S: Alter>(
     ensures idle { conn.new.in_transaction ≡ false }
     ensures clean { doubt (state S.Store conn.old).is_clean ≤ doubt (state S.Store conn.new).is_clean }
     ensures made { HasCleanDisk (state S.Store conn.new) → OnOk result (LeavesOldOrCommitted (state S.Store conn.old) (state S.Store conn.new)) }
+    ensures kept { HasCleanDisk (state S.Store conn.new) → AreQueries (state S.Store conn.old).now.schema → AreQueries (state S.Store conn.new).committed.schema → OnOk result (KeepsRows (state S.Store conn.old).now (state S.Store conn.new).committed) }
 {
     let mut tx = conn.transaction();
     renew(&mut tx, alloc, site, lacks)?;
@@ -270,7 +281,8 @@ pub fn renew_older<S: Alter>(
     ensures idle { conn.new.in_transaction ≡ false }
     ensures clean { doubt (state S.Store conn.old).is_clean ≤ doubt (state S.Store conn.new).is_clean }
     ensures found { OnOk result ((IsOlder (state S.Store conn.old).now.schema → ⊥) → StaysAsFound (state S.Store conn.old) (state S.Store conn.new)) }
-    ensures older { HasCleanDisk (state S.Store conn.new) → OnOk result (LeavesOldOrCommitted (state S.Store conn.old) (state S.Store conn.new)) }
+    ensures leaves { HasCleanDisk (state S.Store conn.new) → OnOk result (LeavesOldOrCommitted (state S.Store conn.old) (state S.Store conn.new)) }
+    ensures kept { HasCleanDisk (state S.Store conn.new) → IsOlder (state S.Store conn.old).now.schema → (state S.Store conn.new).committed.schema ≡ tables → OnOk result (KeepsRows (state S.Store conn.old).now (state S.Store conn.new).committed) }
 {
     match lacking(conn.schema()) {
         Some(lacks) => bring_over(conn, alloc, site, lacks),
