@@ -34,9 +34,12 @@ indexes_of schema = length schema.indexes
 -- they have fewer tables, or fewer indexes
 differ : (p t d : Bool) → IsTrue (p || t || d) → older_tables (record { print = p; target = t; due = d }) ≡ tables → ⊥
 unfolding tables_of indexes_of
-differ true true d some same = let n : 6 ≡ 8 = ap tables_of same in omega (arith, n)
-differ true false d some same = let n : 7 ≡ 8 = ap tables_of same in omega (arith, n)
-differ false true d some same = let n : 7 ≡ 8 = ap tables_of same in omega (arith, n)
+differ true true true some same = let n : 6 ≡ 8 = ap tables_of same in omega (arith, n)
+differ true true false some same = let n : 6 ≡ 8 = ap tables_of same in omega (arith, n)
+differ true false true some same = let n : 7 ≡ 8 = ap tables_of same in omega (arith, n)
+differ true false false some same = let n : 7 ≡ 8 = ap tables_of same in omega (arith, n)
+differ false true true some same = let n : 7 ≡ 8 = ap tables_of same in omega (arith, n)
+differ false true false some same = let n : 7 ≡ 8 = ap tables_of same in omega (arith, n)
 differ false false true some same = let n : 6 ≡ 7 = ap indexes_of same in omega (arith, n)
 differ false false false some same = let e = some in cc
 

@@ -54,7 +54,7 @@ fn is_owned(rows: &[Row], site: &Site) -> bool {
 }
 
 /// What the rows say, if the file is this site's.
-pub fn told(alloc: Global, site: &Site, sheets: &Sheets) -> Result<Told, OpeningFault> {
+pub fn told_of(alloc: Global, site: &Site, sheets: &Sheets) -> Result<Told, OpeningFault> {
     if !is_owned(sheets.site.as_slice(), site) {
         return Err(OpeningFault::OtherSite);
     }

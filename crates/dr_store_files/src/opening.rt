@@ -6,7 +6,8 @@ ghost use Rattle.dr_tables.specs.Tables.{tables};
 ghost use Rattle.sqlite_trees.specs.View.{doubt};
 ghost use Rattle.dr_booking.specs.Calling.{IsKept};
 ghost use Rattle.dr_finding.specs.Older.{IsOlder};
-ghost use Rattle.dr_store_files.specs.Opening.{HasNewLedger, IsBlank, IsNext, IsOpened, IsOwnedBy, LeavesOldOrCommitted, StaysAsFound};
+ghost use Rattle.dr_store_files.specs.Renewing.{KeepsRows};
+ghost use Rattle.dr_store_files.specs.Opening.{HasNewLedger, IsBlank, IsBroughtOver, IsNext, IsOpened, IsOwnedBy, LeavesOldOrCommitted, StaysAsFound};
 
 use crate::fault::{OpeningFault, opening_fault};
 use crate::finding::find_owned;
@@ -101,6 +102,7 @@ fn prepare<S: Alter>(
     ensures found { IfOk result (λ made. made ≡ false → (IsBlank (state S.Store conn.old).now.schema → ⊥) × ((IsOlder (state S.Store conn.old).now.schema → ⊥) → StaysAsFound (state S.Store conn.old) (state S.Store conn.new))) }
     ensures leaves { HasCleanDisk (state S.Store conn.new) → OnOk result (LeavesOldOrCommitted (state S.Store conn.old) (state S.Store conn.new)) }
     ensures made { IfOk result (λ made. made ≡ true → IsBlank (state S.Store conn.old).now.schema) }
+    ensures kept { HasCleanDisk (state S.Store conn.new) → IsOlder (state S.Store conn.old).now.schema → (state S.Store conn.new).now.schema ≡ tables → (state S.Store conn.new).committed.schema ≡ tables → IfOk result (λ made. made ≡ false → KeepsRows (state S.Store conn.old).now (state S.Store conn.new).committed) }
 {
     if make_new(conn, site)? {
         return Ok(true);
@@ -135,7 +137,7 @@ pub fn on<S: Alter + Drop>(
     ensures kept { IfOk result (λ opened. HasCleanDisk (state S.Store opened.0) → IsKept opened.1 site.now (state S.Store opened.0) × IsOwnedBy site.now (state S.Store opened.0).committed.trees) }
     ensures next { IfOk result (λ opened. HasCleanDisk (state S.Store opened.0) → IsNext opened.1 (state S.Store opened.0).committed.trees) }
     ensures found { IfOk result (λ opened. HasCleanDisk (state S.Store opened.0) → (IsBlank (state S.Store conn).now.schema → ⊥) → (IsOlder (state S.Store conn).now.schema → ⊥) → StaysAsFound (state S.Store conn) (state S.Store opened.0)) }
-    ensures older { IfOk result (λ opened. HasCleanDisk (state S.Store opened.0) → IsOlder (state S.Store conn).now.schema → LeavesOldOrCommitted (state S.Store conn) (state S.Store opened.0)) }
+    ensures older { IfOk result (λ opened. HasCleanDisk (state S.Store opened.0) → IsOlder (state S.Store conn).now.schema → IsBroughtOver (state S.Store conn) (state S.Store opened.0)) }
     ensures made { IfOk result (λ opened. HasCleanDisk (state S.Store opened.0) → IsBlank (state S.Store conn).now.schema → HasNewLedger (state S.Store conn) (state S.Store opened.0)) }
     ensures idle { IfOk result (λ opened. opened.0.in_transaction ≡ false) }
     ensures clean { IfOk result (λ opened. doubt (state S.Store conn).is_clean ≤ doubt (state S.Store opened.0).is_clean) }

@@ -11,7 +11,7 @@ ghost use Rattle.dr_tables.specs.Tables.{tables};
 use crate::asking::{add_rows, run_texts};
 use crate::fault::{OpeningFault, of_finding, opening_fault};
 use crate::making::LATER;
-use crate::older::{Told, goals_for, prints_for, told};
+use crate::older::{Told, goals_for, prints_for, told_of};
 use crate::sheets::{Sheets, ask_sheets, test_sheets};
 use dr_base::Text;
 use dr_finding::{Lacks, agree, lacking};
@@ -224,7 +224,7 @@ fn rewrite<'x, S: Alter>(
     ensures same_reference { tx.new.conn.ghost_name ≡ tx.old.conn.ghost_name }
     ensures survives { Survives (state S.Store tx.old.conn.now) (state S.Store tx.new.conn.now) (λ _. ⊥) }
 {
-    let told = told(alloc, site, sheets)?;
+    let told = told_of(alloc, site, sheets)?;
     let prints = prints_for(tx, alloc, lacks, &told)?;
     let goals = goals_for(tx, alloc, site, lacks, &told, prints.as_slice())?;
     test(alloc, site, &told, prints.as_slice(), goals.as_slice())?;
@@ -282,7 +282,7 @@ pub fn renew_older<S: Alter>(
     ensures clean { doubt (state S.Store conn.old).is_clean ≤ doubt (state S.Store conn.new).is_clean }
     ensures found { OnOk result ((IsOlder (state S.Store conn.old).now.schema → ⊥) → StaysAsFound (state S.Store conn.old) (state S.Store conn.new)) }
     ensures leaves { HasCleanDisk (state S.Store conn.new) → OnOk result (LeavesOldOrCommitted (state S.Store conn.old) (state S.Store conn.new)) }
-    ensures kept { HasCleanDisk (state S.Store conn.new) → IsOlder (state S.Store conn.old).now.schema → (state S.Store conn.new).committed.schema ≡ tables → OnOk result (KeepsRows (state S.Store conn.old).now (state S.Store conn.new).committed) }
+    ensures kept { HasCleanDisk (state S.Store conn.new) → IsOlder (state S.Store conn.old).now.schema → (state S.Store conn.new).now.schema ≡ tables → (state S.Store conn.new).committed.schema ≡ tables → OnOk result (KeepsRows (state S.Store conn.old).now (state S.Store conn.new).committed) }
 {
     match lacking(conn.schema()) {
         Some(lacks) => bring_over(conn, alloc, site, lacks),

@@ -3,7 +3,9 @@ use Rattle.std.proofs.lemmas.Bool.{cases_Bool}
 use Rattle.sqlite.specs.Held.{state}
 use Rattle.sqlite.specs.State.{HasCleanDisk}
 use Rattle.dr_store_files.specs.Opening.{IfFound, IsLedgerFound}
-use Rattle.dr_store_files.proofs.Wholly.{as_found, found_left, new_ledger}
+use Rattle.dr_tables.specs.Tables.{tables}
+use Rattle.dr_store_files.proofs.Blank.{blank_no_older}
+use Rattle.dr_store_files.proofs.Wholly.{as_found, brought_over, new_ledger}
 use Rattle.dr_store_files.proofs.opening.on.Goals as goal
 
 pub returns-else-not-is_as_made-clause-found : goal.returns-else-not-is_as_made-clause-found
@@ -30,7 +32,11 @@ returns-else-not-is_as_made-clause-older g c clean older =
     let early : HasCleanDisk mid = omega (arith, c.in-Ok-Some.ensures.clean, clean) in
     let If : Option ℕ → Type 0 = λ found. IfFound (Ok found) (λ n. IsLedgerFound n part mid new) in
     let is : IsLedgerFound next part mid new = subst If c.in-Ok-Some.field-0-is (c.in-Ok-Some.ensures.kept clean) in
-    found_left next part old mid new is (c.in-Ok-Some.ensures.leaves clean) (c.in_ok-made.ensures.leaves early)
+    let named : mid.now.schema ≡ tables = subst (λ found. IfFound (Ok found) (λ n. mid.now.schema ≡ tables)) c.in-Ok-Some.field-0-is c.in-Ok-Some.ensures.has in
+    elim (cases_Bool c.in_ok-made.made) [
+      | inl was_made ↦ absurd (blank_no_older (state g.S.Store c.args.conn).now.schema (c.in_ok-made.ensures.made was_made).tables older)
+      | inr stood ↦ brought_over next part old mid new is (c.in-Ok-Some.ensures.leaves clean) (c.in_ok-made.ensures.leaves early) (λ committed. c.in_ok-made.ensures.kept early older named committed stood)
+    ]
 
 pub returns-else-not-is_as_made-clause-made : goal.returns-else-not-is_as_made-clause-made
 returns-else-not-is_as_made-clause-made g c clean blank =
