@@ -14,6 +14,7 @@ use Rattle.sqlite.specs.declared.run.Mode.{Mode}
 use Rattle.sqlite_schema.specs.declared.command.Command.{Command}
 use Rattle.sqlite_schema.specs.declared.command.Command.TheVariants.{Insert, InsertOr, Update, Delete}
 use Rattle.sqlite_schema.specs.declared.command.Returning.{Returning}
+use Rattle.dr_tables.specs.Statements as text
 use Rattle.dr_queries.proofs.Asking.{shown_same}
 use Rattle.dr_store_files.specs.declared.sheets.Sheets.{Sheets}
 use Rattle.dr_store_files.specs.Renewing.{AreQueries, IsAnswer, IsQuery, IsTold, KeepsRows}
@@ -91,3 +92,67 @@ pub told_again : {A E : Type 0} (r : Result A E) (old mid new : Database) (sheet
     → (AreQueries mid.schema → OnOk r (IsTold new sheets)) → OnOk r (KeepsRows old new)
 told_again (Err e) old mid new sheets one queries same two = tt
 told_again (Ok x) old mid new sheets one queries same two = both_keep old new sheets one (two (subst AreQueries same queries))
+
+-- ---- one after another
+
+pub on_ok_map : {A E P Q : Type 0} (r : Result A E) → (P → Q) → OnOk r P → OnOk r Q
+on_ok_map (Ok x) f h = f h
+on_ok_map (Err e) f h = tt
+
+-- what a query answers of a database, and that it is the same then
+abbrev pub Answers : List ℕ → Database → Database → List Row → Type 0
+Answers sql old new rows = IsAnswer sql old rows × (new ≡ old)
+
+-- three of them, of the first database
+abbrev pub ThreeAnswers : List ℕ → List ℕ → List ℕ → Database → Database → List Row → List Row → List Row → Type 0
+ThreeAnswers a b c old new r s t = IsAnswer a old r × IsAnswer b old s × IsAnswer c old t × (new ≡ old)
+
+pub three_answers : (a b c : List ℕ) (old one two new : Database) (r s t : List Row) → IsQuery old.schema b → IsQuery old.schema c → Answers a old one r → (IsQuery one.schema b → Answers b one two s)
+    → (IsQuery two.schema c → Answers c two new t) → ThreeAnswers a b c old new r s t
+three_answers a b c old one two new r s t q u first second third =
+    let it = second (subst (λ (d : Database). IsQuery d.schema b) (sym first.1) q) in
+    let same = it.1 ∙ first.1 in
+    let last = third (subst (λ (d : Database). IsQuery d.schema c) (sym same) u) in
+    (first.0, subst (λ d. IsAnswer b d s) first.1 it.0, subst (λ d. IsAnswer c d t) same last.0, last.1 ∙ same)
+
+-- the last of which may have failed
+pub three_tested : {A E : Type 0} (result : Result A E) (a b c : List ℕ) (old one two new : Database) (r s t : List Row) → IsQuery old.schema b → IsQuery old.schema c → Answers a old one r
+    → (IsQuery one.schema b → Answers b one two s) → (IsQuery two.schema c → OnOk result (Answers c two new t)) → OnOk result (ThreeAnswers a b c old new r s t)
+three_tested (Ok x) a b c old one two new r s t q u first second third = three_answers a b c old one two new r s t q u first second third
+three_tested (Err e) a b c old one two new r s t q u first second third = tt
+
+-- ---- what stands in the tables, by two looks
+
+abbrev pub StockAnswers : Database → Database → Sheets → Type 0
+StockAnswers old new sheets = ThreeAnswers text.the_site text.all_items text.all_arrivals old new sheets.site.items sheets.items.items sheets.arrivals.items
+
+abbrev pub MovesAnswers : Database → Database → Sheets → Type 0
+MovesAnswers old new sheets = ThreeAnswers text.all_kept text.all_rows text.all_lines old new sheets.kept.items sheets.rows.items sheets.lines.items
+
+told_before : (old mid new : Database) (sheets : Sheets) → StockAnswers old mid sheets → MovesAnswers mid new sheets → IsTold old sheets
+told_before old mid new sheets stock moves = record {
+  site = stock.0;
+  items = stock.1;
+  arrivals = stock.2;
+  kept = subst (λ d. IsAnswer text.all_kept d sheets.kept.items) stock.3 moves.0;
+  rows = subst (λ d. IsAnswer text.all_rows d sheets.rows.items) stock.3 moves.1;
+  lines = subst (λ d. IsAnswer text.all_lines d sheets.lines.items) stock.3 moves.2;
+}
+
+still_queries : (old mid : Database) → mid ≡ old → AreQueries old.schema → AreQueries mid.schema
+still_queries old mid same queries = subst (λ (d : Database). AreQueries d.schema) (sym same) queries
+
+pub both_asked : (old mid new : Database) (sheets : Sheets) → AreQueries old.schema → StockAnswers old mid sheets → (AreQueries mid.schema → MovesAnswers mid new sheets) → IsTold old sheets
+both_asked old mid new sheets queries stock moves = told_before old mid new sheets stock (moves (still_queries old mid stock.3 queries))
+
+pub both_tested : {A E : Type 0} (r : Result A E) (old mid new : Database) (sheets : Sheets) → AreQueries old.schema → StockAnswers old mid sheets
+    → (AreQueries mid.schema → OnOk r (MovesAnswers mid new sheets)) → OnOk r (IsTold new sheets)
+both_tested (Err e) old mid new sheets queries stock moves = tt
+both_tested (Ok x) old mid new sheets queries stock moves =
+    let then_moves = moves (still_queries old mid stock.3 queries) in
+    subst (λ d. IsTold d sheets) (sym (then_moves.3 ∙ stock.3)) (told_before old mid new sheets stock then_moves)
+
+-- what is said of a file that isn't from before
+pub if_older : {A E B C : Type 0} (r : Result A E) → B → OnOk r ((B → ⊥) → C)
+if_older (Ok x) older = λ no. absurd (no older)
+if_older (Err e) older = tt
