@@ -6,7 +6,7 @@ use Rattle.sqlite.specs.Effect.{Database, Reads}
 use Rattle.sqlite.specs.Given.{IsPlain}
 use Rattle.sqlite.specs.Listing.{IsSourceOf}
 use Rattle.sqlite.specs.Order.{Row}
-use Rattle.sqlite.specs.Rows.{Gives, Part, Task, Then, Written}
+use Rattle.sqlite.specs.Rows.{Gives, Outcome, Part, Task, Then, Written}
 use Rattle.sqlite.specs.State.{State, Shown, ShowsRows, mode_of}
 use Rattle.sqlite.specs.Schema.{Schema}
 use Rattle.sqlite.specs.Table.{Table}
@@ -39,13 +39,13 @@ answered sql old new rows q h = (is_answer sql old new rows q h, shown_same sql 
 
 -- ---- no text that shows rows changes the tables
 
-same_ok : {A E : Type 0} (x y : A) → Ok {E = E} x ≡ Ok y → x ≡ y
-same_ok x y e = cc
+same_ok : {A : Type 0} (r : Outcome A) (x y : A) → r ≡ Ok x → r ≡ Ok y → x ≡ y
+same_ok r x y one two = cc
 
 returned : (task : Task) (w : Written) (returning : Option Returning) (tally : List Row → Tally) (db after : Database) (last : Tally)
-    → Then (Returns task w returning) (λ rows. Gives (tally rows, db)) (Ok (last, after)) → after ≡ db
+    → Then {B = Tally × Database} (Returns task w returning) (λ rows. Gives {A = Tally × Database} (tally rows, db)) (Ok (last, after)) → after ≡ db
 returned task w returning tally db after last (inl stopped) = absurd (let e = stopped.2 in cc)
-returned task w returning tally db after last (inr went) = ap (λ (p : Tally × Database). p.1) (same_ok (last, after) (tally went.0, db) went.2)
+returned task w returning tally db after last (inr went) = ap (λ (p : Tally × Database). p.1) (same_ok {A = Tally × Database} (Ok (last, after)) (last, after) (tally went.0, db) refl went.2)
 
 concluded : (task : Task) (mode : Mode) (returning : Option Returning) (w : Written) (last : Tally) (after : Database) → Concludes task mode returning w (Ok (last, after)) → after.schema ≡ task.schema
 concluded task mode returning w last after (inl stopped) = absurd (let e = stopped.2 in cc)
@@ -153,6 +153,6 @@ both_tested (Ok x) old mid new sheets queries stock moves =
     subst (λ d. IsTold d sheets) (sym (then_moves.3 ∙ stock.3)) (told_before old mid new sheets stock then_moves)
 
 -- what is said of a file that isn't from before
-pub if_older : {A E B C : Type 0} (r : Result A E) → B → OnOk r ((B → ⊥) → C)
-if_older (Ok x) older = λ no. absurd (no older)
-if_older (Err e) older = tt
+pub if_older : {A E B : Type 0} (C : Type 0) (r : Result A E) → B → OnOk r ((B → ⊥) → C)
+if_older C (Ok x) older = λ no. absurd (no older)
+if_older C (Err e) older = tt

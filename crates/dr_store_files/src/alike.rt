@@ -8,7 +8,7 @@ use sqlite::types::ValueRef;
 
 /// Whether they are one value. No ledger has a number with a fraction.
 fn is_value(value: ValueRef<'_>, other: ValueRef<'_>) -> bool
-    ensures { IsTrue result → owned value ≡ owned other }
+    ensures { IsTrue result → owned value.entry ≡ owned other.entry }
 {
     match value {
         ValueRef::Null => match other {

@@ -3,7 +3,7 @@ use Rattle.sqlite.specs.Held.{state}
 use Rattle.dr_store_files.specs.Renewing.{IsAnswer}
 use Rattle.dr_store_files.proofs.asking.test_rows.Goals as goal
 
-pub returns-else-not-are_rows-clause-answer : goal.returns-else-not-are_rows-clause-answer
-returns-else-not-are_rows-clause-answer g c clean q =
+pub returns-clause-answer : goal.returns-clause-answer
+returns-clause-answer g c clean q =
     let it = c.in_ok-there.ensures.answer clean q in
     (subst (IsAnswer c.args.sql.now (state g.S.Store c.args.tx.now.conn.now).now) (c.are_rows.ensures c.if-not-are_rows.false) it.0, it.1)

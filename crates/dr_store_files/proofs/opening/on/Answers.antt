@@ -1,4 +1,4 @@
-use Rattle.std.proofs.Common.{ℕ, Ok, Option, inl, inr, arith, subst}
+use Rattle.std.proofs.Common.{◌≡◌, ℕ, Ok, Option, inl, inr, arith, subst}
 use Rattle.std.proofs.lemmas.Bool.{cases_Bool}
 use Rattle.sqlite.specs.Held.{state}
 use Rattle.sqlite.specs.State.{HasCleanDisk}

@@ -2,6 +2,7 @@ use Rattle.std.proofs.Common.{sym, subst, ◌∙◌}
 use Rattle.sqlite.specs.Held.{state}
 use Rattle.dr_finding.specs.Older.{IsOlder}
 use Rattle.dr_finding.proofs.Less.{no_older_is_new}
+use Rattle.dr_store_files.specs.Opening.{StaysAsFound}
 use Rattle.dr_store_files.specs.Renewing.{AreQueries}
 use Rattle.dr_store_files.proofs.Answered.{if_older}
 use Rattle.dr_store_files.proofs.Queried.{new_queries, queries_of}
@@ -11,7 +12,7 @@ use Rattle.dr_store_files.proofs.renewing.renew_older.Goals as goal
 pub returns-in-Some-clause-found : goal.returns-in-Some-clause-found
 returns-in-Some-clause-found g c =
     let older : IsOlder (state g.S.Store c.args.conn.now).now.schema = (c.in-Some.lacks, c.in-Some.ensures.0, sym c.schema.ensures.value ∙ c.in-Some.ensures.1) in
-    if_older c.bring_over.result older
+    if_older (StaysAsFound (state g.S.Store c.args.conn.now) (state g.S.Store c.bring_over.new.conn)) c.bring_over.result older
 
 pub returns-in-Some-clause-kept : goal.returns-in-Some-clause-kept
 returns-in-Some-clause-kept g c clean older named committed =

@@ -23,4 +23,4 @@ returns-clause-answers g c clean queries =
     let clean_two : HasCleanDisk two = omega (arith, c.test_rows-3.ensures.survives.clean, clean) in
     let clean_one : HasCleanDisk one = omega (arith, c.in_ok-test_rows-2.ensures.survives.clean, clean_two) in
     three_tested c.test_rows-3.result text.all_kept text.all_rows text.all_lines old.now one.now two.now new.now sheets.kept.items sheets.rows.items sheets.lines.items queries.rows queries.lines
-    (c.in_ok-test_rows.ensures.answer clean_one queries.kept) (c.in_ok-test_rows-2.ensures.answer clean_two) (c.test_rows-3.ensures.answer clean)
+    (rw c.as_slice.ensures at (c.in_ok-test_rows.ensures.answer clean_one queries.kept)) (rw c.as_slice-2.ensures at (c.in_ok-test_rows-2.ensures.answer clean_two)) (rw c.as_slice-3.ensures at (c.test_rows-3.ensures.answer clean))
