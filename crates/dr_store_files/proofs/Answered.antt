@@ -1,5 +1,5 @@
 -- Queries within a transaction, and what is known of all that a file from before has.
-use Rattle.std.proofs.Common.{◌≡◌, ◌∙◌, [], ℕ, List, Bool, true, false, inl, inr, Option, Some, None, Result, Ok, Err, IfOk, OnOk, refl, sym, ap, subst}
+use Rattle.std.proofs.Common.{◌≡◌, ◌∙◌, [], ℕ, List, Bool, true, false, inl, inr, Option, Some, None, Result, Ok, Err, IfOk, OnOk, refl, slice_get, sym, ap, subst}
 use Rattle.sqlite.specs.Clock.{timed}
 use Rattle.sqlite.specs.Does.{AtPlace, Concludes, Does, OnRows, Returns, Tally}
 use Rattle.sqlite.specs.Effect.{Database, Reads}
@@ -7,7 +7,7 @@ use Rattle.sqlite.specs.Given.{IsPlain}
 use Rattle.sqlite.specs.Listing.{IsSourceOf}
 use Rattle.sqlite.specs.Order.{Row}
 use Rattle.sqlite.specs.Rows.{Gives, Outcome, Part, Task, Then, Written}
-use Rattle.sqlite.specs.State.{State, Shown, ShowsRows, mode_of}
+use Rattle.sqlite.specs.State.{State, Shown, ShowsRows, mode_of, text_of}
 use Rattle.sqlite.specs.Schema.{Schema}
 use Rattle.sqlite.specs.Table.{Table}
 use Rattle.sqlite.specs.declared.run.Mode.{Mode}
@@ -55,16 +55,20 @@ on_rows : (task : Task) (mode : Mode) (returning : Option Returning) (command : 
 on_rows task mode returning command trees last after (inl stopped) = absurd (let e = stopped.2 in cc)
 on_rows task mode returning command trees last after (inr went) = concluded task mode returning went.0 last after went.2
 
-at_place : {X A : Type 0} (P : X → Part A) (o : Option X) (a : A) → AtPlace P o (Ok a) → (x : X) × P x (Ok a)
-at_place P None a h = absurd (let e = h in cc)
-at_place P (Some x) a h = (x, h)
+abbrev task_of : Option ℕ → Mode → Row → Database → Table → Task
+task_of limit mode params db table = record { limit = limit; keys = mode.keys; schema = db.schema; table = table; params = params }
+
+at_table : (limit : Option ℕ) (mode : Mode) (params : Row) (db : Database) (what : Returning) (command : Command) (last : Tally) (after : Database) (o : Option Table)
+    → AtPlace {X = Table} {A = Tally × Database} (λ table. OnRows (task_of limit mode params db table) mode (Some what) command db.trees) o (Ok (last, after)) → after.schema ≡ db.schema
+at_table limit mode params db what command last after None h = absurd (let e = h in cc)
+at_table limit mode params db what command last after (Some table) h = on_rows (task_of limit mode params db table) mode (Some what) command db.trees last after h
 
 kept_schema : (limit : Option ℕ) (mode : Mode) (params : Row) (db : Database) (text : List ℕ) (what : Returning) (command : Command) (last : Tally) (after : Database)
     → Does limit mode params db text (Some what) command (Ok (last, after)) → after.schema ≡ db.schema
-kept_schema limit mode params db text what (Insert at from) last after h = let it = at_place _ _ (last, after) h in on_rows _ mode (Some what) (Insert at from) db.trees last after it.1
-kept_schema limit mode params db text what (InsertOr at way from clauses) last after h = let it = at_place _ _ (last, after) h in on_rows _ mode (Some what) (InsertOr at way from clauses) db.trees last after it.1
-kept_schema limit mode params db text what (Update at q) last after h = let it = at_place _ _ (last, after) h in on_rows _ mode (Some what) (Update at q) db.trees last after it.1
-kept_schema limit mode params db text what (Delete at q) last after h = let it = at_place _ _ (last, after) h in on_rows _ mode (Some what) (Delete at q) db.trees last after it.1
+kept_schema limit mode params db text what (Insert at from) last after h = at_table limit mode params db what (Insert at from) last after (slice_get db.schema.tables at) h
+kept_schema limit mode params db text what (InsertOr at way from clauses) last after h = at_table limit mode params db what (InsertOr at way from clauses) last after (slice_get db.schema.tables at) h
+kept_schema limit mode params db text what (Update at q) last after h = at_table limit mode params db what (Update at q) last after (slice_get db.schema.tables at) h
+kept_schema limit mode params db text what (Delete at q) last after h = at_table limit mode params db what (Delete at q) last after (slice_get db.schema.tables at) h
 kept_schema limit mode params db text what _ last after h = absurd (let e = h in cc)
 
 pub shown_schema : (sql : List ℕ) (params : Row) (old new : State) (rows : List Row) → Shown sql params old new rows → new.now.schema ≡ old.now.schema
@@ -73,7 +77,7 @@ shown_schema sql params old new rows h = go h.0.returning h.2
   where
     go : (r : Option Returning) → ShowsRows old new sql h.0 (timed params h.0.formats h.1.now) rows r → new.now.schema ≡ old.now.schema
     go None it = ap (λ (d : Database). d.schema) it.3.0.now_is
-    go (Some what) it = kept_schema old.step_limit (mode_of old) _ old.now _ what h.0.command it.1.tally new.now it.1.changed
+    go (Some what) it = kept_schema old.step_limit (mode_of old) (timed params h.0.formats h.1.now) old.now (text_of sql h.0) what h.0.command it.1.tally new.now it.1.changed
 
 -- ---- all of it
 

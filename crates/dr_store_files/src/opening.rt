@@ -78,7 +78,7 @@ fn make_new<S: Alter>(conn: &mut Connection<S>, site: &Site) -> Result<bool, Ope
     requires { conn.old.in_transaction ≡ false }
     ensures idle { conn.new.in_transaction ≡ false }
     ensures clean { doubt (state S.Store conn.old).is_clean ≤ doubt (state S.Store conn.new).is_clean }
-    ensures found { IfOk result (λ made. made ≡ false → (IsBlank (state S.Store conn.old).now.schema → ⊥) × ((state S.Store conn.new) ≡ (state S.Store conn.old))) }
+    ensures found { IfOk result (λ made. made ≡ false → (IsBlank (state S.Store conn.old).now.schema → ⊥) × (conn.new ≡ conn.old)) }
     ensures made { IfOk result (λ made. made ≡ true → IsBlank (state S.Store conn.old).now.schema × (HasCleanDisk (state S.Store conn.new) → LeavesOldOrCommitted (state S.Store conn.old) (state S.Store conn.new))) }
 {
     if !is_blank(conn.schema()) {

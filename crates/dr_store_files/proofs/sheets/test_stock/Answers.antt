@@ -1,4 +1,4 @@
-use Rattle.std.proofs.Common.{◌∙◌, arith}
+use Rattle.std.proofs.Common.{◌≡◌, ◌∙◌, arith}
 use Rattle.sqlite.specs.Held.{state}
 use Rattle.sqlite.specs.State.{HasCleanDisk}
 use Rattle.dr_tables.specs.Statements as text
@@ -22,5 +22,8 @@ returns-clause-answers g c clean queries =
     let sheets = c.args.sheets.now in
     let clean_two : HasCleanDisk two = omega (arith, c.test_rows-3.ensures.survives.clean, clean) in
     let clean_one : HasCleanDisk one = omega (arith, c.in_ok-test_rows-2.ensures.survives.clean, clean_two) in
+    let first : c.as_slice.result.now ≡ sheets.site.items = c.as_slice.ensures.value in
+    let second : c.as_slice-2.result.now ≡ sheets.items.items = c.as_slice-2.ensures.value in
+    let third : c.as_slice-3.result.now ≡ sheets.arrivals.items = c.as_slice-3.ensures.value in
     three_tested c.test_rows-3.result text.the_site text.all_items text.all_arrivals old.now one.now two.now new.now sheets.site.items sheets.items.items sheets.arrivals.items queries.items queries.arrivals
-    (rw c.as_slice.ensures at (c.in_ok-test_rows.ensures.answer clean_one queries.site)) (rw c.as_slice-2.ensures at (c.in_ok-test_rows-2.ensures.answer clean_two)) (rw c.as_slice-3.ensures at (c.test_rows-3.ensures.answer clean))
+    (rw first at (c.in_ok-test_rows.ensures.answer clean_one queries.site)) (rw second at (c.in_ok-test_rows-2.ensures.answer clean_two)) (rw third at (c.test_rows-3.ensures.answer clean))
