@@ -6,7 +6,7 @@ ghost use Rattle.dr_finding.specs.OlderTables.{due_indexes, listed, moves_indexe
 ghost use Rattle.dr_finding.specs.Tables.{index_of};
 
 use crate::schema::{
-    after_arrival, after_item, after_journal, after_key, after_kept, after_print, after_queue,
+    after_arrival, after_item, after_journal, after_kept, after_key, after_print, after_queue,
     after_site, after_target, is_index,
 };
 use sqlite_schema::schema::{Index, Schema, Table};
@@ -117,14 +117,7 @@ fn behind_stock<'x>(indexes: &'x [Index], lacks_print: bool) -> Option<&'x [Inde
 {
     let arrival = number(lacks_print, 5);
     let rest = after_key(indexes, b"sqlite_autoindex_item_1", 2, 1, &[1])?;
-    let rest = behind_key(
-        rest,
-        lacks_print,
-        b"sqlite_autoindex_print_1",
-        4,
-        3,
-        &[1],
-    )?;
+    let rest = behind_key(rest, lacks_print, b"sqlite_autoindex_print_1", 4, 3, &[1])?;
     after_key(
         rest,
         b"sqlite_autoindex_arrival_1",

@@ -239,7 +239,10 @@ pub fn print_entries(alloc: Global, rows: &[Row]) -> Result<Vec<(Text, Print)>, 
 }
 
 /// Uids and destinations, with how far each is.
-pub fn row_entries(alloc: Global, rows: &[Row]) -> Result<Vec<((Text, Text), Progress)>, LedgerFault>
+pub fn row_entries(
+    alloc: Global,
+    rows: &[Row],
+) -> Result<Vec<((Text, Text), Progress)>, LedgerFault>
     ensures { Reads result (λ all. (all.items ≡ mapped shown_entry rows.now) × T (is_sorted pair_cmp all.items)) }
 {
     let entries = read_all::<((Text, Text), Progress)>(alloc, rows)?;

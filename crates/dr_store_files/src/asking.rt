@@ -72,10 +72,7 @@ pub fn run_within<S: Alter>(
 }
 
 /// Runs these statements, in their order.
-pub fn run_texts<S: Alter>(
-    tx: &mut Transaction<'_, S>,
-    texts: &[&str],
-) -> Result<(), OpeningFault>
+pub fn run_texts<S: Alter>(tx: &mut Transaction<'_, S>, texts: &[&str]) -> Result<(), OpeningFault>
     ensures same_reference { tx.new.conn.ghost_name ≡ tx.old.conn.ghost_name }
     ensures survives { Survives (state S.Store tx.old.conn.now) (state S.Store tx.new.conn.now) (λ _. ⊥) }
 {

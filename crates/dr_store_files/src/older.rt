@@ -37,9 +37,11 @@ pub struct Told {
 
 /// Whether the row of site says this site's node and plan.
 fn is_owner(row: &Row, site: &Site) -> bool {
-    let (Ok(ValueRef::Int(1)), Ok(ValueRef::Text(node)), Ok(ValueRef::Blob(plan))) =
-        (row.get_ref(0), row.get_ref(1), row.get_ref(2))
-    else {
+    let (Ok(ValueRef::Int(1)), Ok(ValueRef::Text(node)), Ok(ValueRef::Blob(plan))) = (
+        row.get_ref(0),
+        row.get_ref(1),
+        row.get_ref(2),
+    ) else {
         return false;
     };
     node == site.name().as_bytes() && plan == site.digest().as_slice()
