@@ -1,14 +1,13 @@
 -- Queries within a transaction, and what is known of all that a file from before has.
-use Rattle.std.proofs.Common.{◌≡◌, ◌∙◌, [], ℕ, List, Bool, true, false, inl, inr, Option, Some, None, Result, Ok, Err, IfOk, OnOk, refl, slice_get, sym, ap, subst}
+use Rattle.std.proofs.Common.{◌≡◌, ◌∙◌, [], ℕ, List, inl, inr, Option, Some, None, Result, Ok, Err, IfOk, OnOk, refl, slice_get, sym, ap, subst}
 use Rattle.sqlite.specs.Clock.{timed}
 use Rattle.sqlite.specs.Does.{AtPlace, Concludes, Does, OnRows, Returns, Tally}
 use Rattle.sqlite.specs.Effect.{Database, Reads}
 use Rattle.sqlite.specs.Given.{IsPlain}
 use Rattle.sqlite.specs.Listing.{IsSourceOf}
 use Rattle.sqlite.specs.Order.{Row}
-use Rattle.sqlite.specs.Rows.{Gives, Outcome, Part, Task, Then, Written}
+use Rattle.sqlite.specs.Rows.{Gives, Outcome, Task, Then, Written}
 use Rattle.sqlite.specs.State.{State, Shown, ShowsRows, mode_of, text_of}
-use Rattle.sqlite.specs.Schema.{Schema}
 use Rattle.sqlite.specs.Table.{Table}
 use Rattle.sqlite.specs.declared.run.Mode.{Mode}
 use Rattle.sqlite_schema.specs.declared.command.Command.{Command}

@@ -1,5 +1,5 @@
 -- A file without tables is none from before.
-use Rattle.std.proofs.Common.{◌≡◌, ◌∙◌, [], ℕ, List, Bool, true, false, length, sym, ap, arith}
+use Rattle.std.proofs.Common.{◌≡◌, ◌∙◌, [], List, Bool, true, false, length, sym, ap, arith}
 use Rattle.sqlite.specs.Schema.{Schema}
 use Rattle.sqlite.specs.Table.{Table}
 use Rattle.dr_finding.specs.Older.{IsOlder, older_tables}
