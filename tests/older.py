@@ -11,8 +11,8 @@ import sqlite3
 import sys
 
 sys.dont_write_bytecode = True
-from rooms import PROGRAM, Room, data_set, ended, part10, run_cases, same, told
-from adopting import NEXT, NEXT_TEXT, adopt, book, copy
+from rooms import PLAN, PROGRAM, Room, data_set, ended, part10, run_cases, same, stop, told
+from adopting import NEXT, NEXT_TEXT, adopt, book, copy, kept
 
 TABLES = {
     'site': 'id', 'item': 'uid', 'print': 'uid', 'arrival': 'caller, uid', 'kept': 'uid', 'queue': 'uid, dest', 'journal': 'n', 'target': 'n, dest',
@@ -117,11 +117,11 @@ def goes_on():
         prepare(room)
         make_older(room, 'older', 'GATE', tuple(LATER))
         copy(room, 'older', 'GATE')
-        arch, gate = room.serve('ARCH', 1), room.serve('GATE', 1)
-        same(room.at('send', 'CT1', 'first.dcm').returncode, 0)
-        ended(gate)
-        kept = [line for line in ended(arch) if line.startswith('kept\t')]
-        same(kept, [f'kept\t1.2.3.4\t{len(data_set(FIRST))}', f'kept\t1.2.3.5\t{len(data_set(SECOND))}'])
+        running = [room.serve('ARCH', 0), room.serve('GATE', 0, '--log', 'debug')]
+        room.wait_for_event('GATE', 'done dest="ARCH" uid=1.2.3.5 ')
+        for process in running:
+            stop(process)
+        same(kept(room, 'ARCH', PLAN), [f'kept\t{uid.decode()}\t{len(data_set(uid))}' for uid in (FIRST, SECOND)])
 
 
 def refused_files():
