@@ -195,6 +195,22 @@ fn put_back<'x, S: Alter>(
     )
 }
 
+/// Puts in what the tables had, and these prints and goals.
+fn fill_anew<'x, S: Alter>(
+    tx: &mut Transaction<'_, S>,
+    alloc: Global,
+    sheets: &'x Sheets,
+    prints: &'x [(Text, Print)],
+    goals: &'x [(u64, Text)],
+) -> Result<(), OpeningFault>
+    ensures same_reference { tx.new.conn.ghost_name ≡ tx.old.conn.ghost_name }
+    ensures survives { Survives (state S.Store tx.old.conn.now) (state S.Store tx.new.conn.now) (λ _. ⊥) }
+{
+    put_back(tx, alloc, sheets)?;
+    put_prints(tx, prints)?;
+    put_goals(tx, goals)
+}
+
 /// Makes the tables anew, with the rows that they had and with these prints and goals.
 fn make_anew<'x, S: Alter>(
     tx: &mut Transaction<'_, S>,
@@ -208,9 +224,7 @@ fn make_anew<'x, S: Alter>(
 {
     run_texts(tx, LEAVE.as_slice())?;
     run_texts(tx, LATER.as_slice())?;
-    put_back(tx, alloc, sheets)?;
-    put_prints(tx, prints)?;
-    put_goals(tx, goals)
+    fill_anew(tx, alloc, sheets, prints, goals)
 }
 
 /// Writes all that brings the file over, once it is tested that it is then a ledger's of the site.
