@@ -1,10 +1,14 @@
 #!/usr/bin/env python3
-"""Answers the calls in crates/dr_ledger_vectors/stdin by a ledger of its own, written again from crates/dr_ledger/specs (Books, Replies,
-Adopting, Bodies), and compares what it answers with the crate's `stdout`, which the gate compares with what the program prints. So the
-answers that the gate wants come from outside the program.
+"""Answers the calls in the `stdin` of crates/dr_ledger_vectors (ledgers in memory) and of crates/dr_store_vectors (ledgers in tables) by a
+ledger of its own, written again from crates/dr_ledger/specs (Books, Replies, Adopting, Bodies), and compares what it answers with the crate's
+`stdout`, which the gate compares with what the program prints. So the answers that the gate wants come from outside the programs.
+
+The lines for ledgers in tables begin with those for ledgers in memory, but for `refuse` and `refusals`, and this is looked at too. Behind them
+the files are closed, changed and opened again.
 
     tests/ledger_rows.py              says where they differ; its status is 0 where they don't
-    tests/ledger_rows.py --print      prints the answers
+    tests/ledger_rows.py --print      prints the answers of ledgers in memory
+    tests/ledger_rows.py --lines      prints the lines with which those for ledgers in tables begin
 """
 import os
 import sys
@@ -14,7 +18,7 @@ from plan_model import REST, Model
 from plan_reader import EXPLICIT, IMPLICIT, read_plan
 
 TOP = os.path.dirname(os.path.dirname(os.path.abspath(__file__)))
-ROWS = f'{TOP}/crates/dr_ledger_vectors'
+MEMORY, TABLES = f'{TOP}/crates/dr_ledger_vectors', f'{TOP}/crates/dr_store_vectors'
 LARGEST = 64 * 1024 * 1024
 NAMES = {(0x0008, 0x0016): 'class', (0x0008, 0x0018): 'uid', (0x0008, 0x0060): 'modality', (0x0008, 0x1010): 'station'}
 
@@ -86,7 +90,7 @@ def told(row):
 class Ledger:
     def __init__(self, site):
         self.site, self.items, self.bodies, self.arrivals, self.kept, self.rows, self.journal = site, {}, set(), set(), set(), {}, []
-        self.armed, self.made = False, 0
+        self.armed, self.made, self.changed = False, 0, False
 
     def add(self, line):
         """The line, where the store takes it."""
@@ -191,7 +195,7 @@ class Ledger:
 
 class Playing:
     def __init__(self):
-        self.plans, self.items, self.ledger, self.last = {}, {}, None, None
+        self.plans, self.items, self.ledger, self.files, self.last = {}, {}, None, None, None
 
     def site(self, plan, node):
         return Site(self.plans[plan].encode(), node)
@@ -216,8 +220,15 @@ class Playing:
             return f'{str(ledger.armed).lower()} {ledger.made}'
         return str(ledger.made) if what == 'failures' else getattr(ledger, what)(*words)
 
+    def open(self, site):
+        """The files have a ledger of this site alone, and none that another connection has changed."""
+        if self.files is None or self.files.changed or not self.files.site.is_same(site):
+            return 'OtherSite'
+        self.ledger = self.files
+        return 'opened'
+
     def turn(self, line):
-        """What is printed for the line."""
+        """What is printed for the line, with `*` for what isn't known here."""
         if line.startswith('|'):
             self.plans[self.last] += line[1:] + '\n'
             return ''
@@ -231,12 +242,19 @@ class Playing:
             self.ledger = Ledger(self.site(*words))
         elif what == 'refuse':
             self.ledger.armed = True
+        elif what in ('leave', 'close'):
+            self.ledger, self.files = None, self.ledger
+        elif what == 'sql':
+            self.files.changed = True
+            return f'{line}: *\n'
         else:
             try:
                 if what == 'item':
                     answer = self.item(*words[:2], bytes.fromhex(words[2]))
                 elif what == 'zeros':
                     answer = self.item(*words[:2], bytes(int(words[2])))
+                elif what == 'open':
+                    answer = self.open(self.site(*words))
                 else:
                     answer = self.call(what, words)
             except Refused as fault:
@@ -245,22 +263,56 @@ class Playing:
         return f'{line}\n'
 
 
-def main():
+def is_told(own, other):
+    """Whether the line that is wanted says what is answered here."""
+    return other.startswith(own[:-1]) if own.endswith('*') else own == other
+
+
+def lines_for_tables(lines):
+    """All lines that ask for no refusal; a section that has some is without its heading."""
+    sections = [[]]
+    for line in lines:
+        if line.startswith('#'):
+            sections.append([])
+        sections[-1].append(line)
+    for section in sections:
+        words = {line.split()[0] for line in section if line}
+        without = [line for line in section if line not in ('refuse', 'refusals')]
+        yield from without if 'refuse' not in words else without[1:]
+
+
+def read(path):
+    with open(path) as it:
+        return it.read().splitlines()
+
+
+def compare(crate):
     playing = Playing()
-    with open(f'{ROWS}/stdin') as it:
-        answers = ''.join(playing.turn(line.rstrip('\n')) for line in it)
-    if sys.argv[1:] == ['--print']:
-        print(answers, end='')
-        return
-    with open(f'{ROWS}/stdout') as it:
-        wanted = it.read()
-    pairs = list(zip(answers.split('\n'), wanted.split('\n')))
-    for number, (own, other) in enumerate(pairs, 1):
-        if own != other:
-            sys.exit(f'ledger rows: line {number} of stdout is {other!r}, and by the definitions {own!r}')
+    answers = ''.join(playing.turn(line) for line in read(f'{crate}/stdin')).splitlines()
+    wanted = read(f'{crate}/stdout')
+    name = os.path.basename(crate)
+    for number, (own, other) in enumerate(zip(answers, wanted), 1):
+        if not is_told(own, other):
+            sys.exit(f'ledger rows: line {number} of {name}/stdout is {other!r}, and by the definitions {own!r}')
     if len(answers) != len(wanted):
-        sys.exit('ledger rows: the one goes on where the other ends')
-    print(f'ledger rows: {len(pairs) - 1} lines of answers are those of the definitions')
+        sys.exit(f'ledger rows: of {name}, the one goes on where the other ends')
+    print(f'ledger rows: {len(answers)} lines of {name} are those of the definitions')
+
+
+def main():
+    lines = read(f'{MEMORY}/stdin')
+    if sys.argv[1:] == ['--print']:
+        playing = Playing()
+        print(''.join(playing.turn(line) for line in lines), end='')
+        return
+    shared = list(lines_for_tables(lines))
+    if sys.argv[1:] == ['--lines']:
+        print(*shared, sep='\n')
+        return
+    if read(f'{TABLES}/stdin')[:len(shared)] != shared:
+        sys.exit('ledger rows: the lines for ledgers in tables do not begin with those for ledgers in memory (--lines prints them)')
+    compare(MEMORY)
+    compare(TABLES)
 
 
 main()
