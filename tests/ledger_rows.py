@@ -4,13 +4,15 @@ ledger of its own, written again from crates/dr_ledger/specs (Books, Replies, Ad
 `stdout`, which the gate compares with what the program prints. So the answers that the gate wants come from outside the programs.
 
 The lines for ledgers in tables begin with those for ledgers in memory, but for `refuse` and `refusals`, and this is looked at too. Behind them
-the files are closed, changed and opened again.
+the files are closed, changed, opened again and stopped, and desks are shared. How often a disk can be stopped in a call is the program's to
+say; of what it says of those stops, it is looked at that each is answered as it may be, and that the numbers go together.
 
     tests/ledger_rows.py              says where they differ; its status is 0 where they don't
     tests/ledger_rows.py --print      prints the answers of ledgers in memory
     tests/ledger_rows.py --lines      prints the lines with which those for ledgers in tables begin
 """
 import os
+import re
 import sys
 
 sys.dont_write_bytecode = True
@@ -19,6 +21,8 @@ from plan_reader import EXPLICIT, IMPLICIT, read_plan
 
 TOP = os.path.dirname(os.path.dirname(os.path.abspath(__file__)))
 MEMORY, TABLES = f'{TOP}/crates/dr_ledger_vectors', f'{TOP}/crates/dr_store_vectors'
+COUNTS = re.compile(r'(?:log|database): (\d+) stops \| while opening (\d+)((?: \| [^|]*: \d+)*) \| after, as written (\d+), as synced (\d+)')
+UNCOUNTED = 'Store, 0 lines, 0 counted, 0 receipts; '
 LARGEST = 64 * 1024 * 1024
 NAMES = {(0x0008, 0x0016): 'class', (0x0008, 0x0018): 'uid', (0x0008, 0x0060): 'modality', (0x0008, 0x1010): 'station'}
 
@@ -227,6 +231,32 @@ class Playing:
         self.ledger = self.files
         return 'opened'
 
+    def desk(self, is_refused, caller, *items):
+        """What a desk answers to each arrival, with what its pass has."""
+        ledger, counted, answers = self.ledger, 0, []
+        ledger.armed, made = is_refused, ledger.made
+        for item in items:
+            try:
+                answer, added = ledger.arrive(caller, self.items[item]), 1
+            except Refused as fault:
+                answer, added = str(fault), 0
+            counted += added
+            answers.append(f'{answer}, {added} lines, {counted} counted, {counted} receipts; ')
+        ledger.armed, ledger.made = False, made
+        return ''.join(answers) + f'{counted} in all'
+
+    def stopped(self, plan, node, what, words):
+        """The answer of a call that isn't stopped at last."""
+        if what == 'make':
+            self.files = Ledger(self.site(plan, node))
+            return 'made'
+        if what == 'close':
+            return 'closed'
+        self.open(self.site(plan, node))
+        if what == 'desk':
+            return self.desk(False, *words)
+        return self.call(what, words)
+
     def turn(self, line):
         """What is printed for the line, with `*` for what isn't known here."""
         if line.startswith('|'):
@@ -244,9 +274,15 @@ class Playing:
             self.ledger.armed = True
         elif what in ('leave', 'close'):
             self.ledger, self.files = None, self.ledger
+        elif what == 'blank':
+            self.files = None
         elif what == 'sql':
             self.files.changed = True
             return f'{line}: *\n'
+        elif what == 'stops':
+            _, plan, node, _, call, *words = words
+            answer = self.stopped(plan, node, call, words)
+            return f'{line}: {answer}\nlog: *{answer}\ndatabase: *{answer}\n'
         else:
             try:
                 if what == 'item':
@@ -255,6 +291,8 @@ class Playing:
                     answer = self.item(*words[:2], bytes(int(words[2])))
                 elif what == 'open':
                     answer = self.open(self.site(*words))
+                elif what in ('desk', 'refused'):
+                    answer = self.desk(what == 'refused', *words[2:])
                 else:
                     answer = self.call(what, words)
             except Refused as fault:
@@ -263,9 +301,34 @@ class Playing:
         return f'{line}\n'
 
 
+def may_be_stopped(own, other):
+    """Whether a stopped call, which answers this else, may answer the other: it is refused and nothing is counted, or it was done."""
+    if other in ('Store', 'Store at the beginning') or other.startswith(UNCOUNTED):
+        return True
+    return other.split('; ')[0] == own.split('; ')[0]
+
+
+def do_agree(own, line):
+    """Whether the numbers of a file's stops go together: each is counted once, and what was acknowledged is there."""
+    found = COUNTS.fullmatch(line)
+    if not found:
+        return False
+    answers = [it.rsplit(': ', 1) for it in found[3].split(' | ')[1:]]
+    stops, opening, written, synced = (int(found[at]) for at in (1, 2, 4, 5))
+    if not all(may_be_stopped(own, answer) for answer, _ in answers):
+        return False
+    done = sum(int(count) for answer, count in answers if not answer.startswith('Store'))
+    if stops != opening + sum(int(count) for _, count in answers):
+        return False
+    return min(written, synced) >= done
+
+
 def is_told(own, other):
     """Whether the line that is wanted says what is answered here."""
-    return other.startswith(own[:-1]) if own.endswith('*') else own == other
+    if '*' not in own:
+        return own == other
+    start, answer = own.split('*')
+    return other.startswith(start) and (not answer or do_agree(answer, other))
 
 
 def lines_for_tables(lines):

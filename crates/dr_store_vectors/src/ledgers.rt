@@ -1,23 +1,40 @@
 //! Ledgers in databases, each opened by what its files hold.
-use crate::disks::{Disks, Image, NO_STOP, Remains};
+ghost use Rattle.std.specs.Prelude.{◌≡◌, IfOk, false};
+ghost use Rattle.sqlite.specs.Held.{state};
+ghost use Rattle.sqlite.specs.State.{HasCleanDisk};
+ghost use Rattle.dr_booking.specs.Calling.{IsKept};
+
+use crate::disks::{Disks, Image, Limits, NO_STOP, Remains};
 use anyhow::bail;
-use dr_ledger::Ledger;
+use dr_ledger::{Ledger, LedgerFault};
 use dr_ledger_files::ledger_on;
 use dr_listing::OpenFault;
 use dr_site::Site;
 use dr_store::SqlLedger;
+use dr_store_files::making::make;
+use dr_store_files::opening::find;
 use sqlite::{Alter, Connection};
 use std::alloc::Global;
 
 /// The log isn't copied into the database file before the close.
 const LONG_LOG: usize = 1000;
 
+/// How the tables of a ledger are made.
+#[derive(Drop)]
+pub enum Making {
+    /// The files weren't opened.
+    Unopened,
+    /// They weren't made.
+    Refused,
+    Made,
+}
+
 /// Where ledgers are opened by what their files hold. All that plays them is written for any such place: over one that is named, a proof
 /// of each call would unfold its tables.
 pub trait Ledgers {
     type Ledger: Ledger + Drop;
 
-    /// The ledger of a site, as the program opens it, or why it isn't opened.
+    /// The ledger of a site, as the program opens it, or why it isn't opened. The disks don't stop.
     fn open(
         &self,
         alloc: Global,
@@ -33,6 +50,30 @@ pub trait Ledgers {
         sql: &str,
     ) -> Result<(String, Image), anyhow::Error>;
 
+    /// The ledger of a site that is there, on disks that may stop. `frames` is how long the log grows before it is copied into the
+    /// database file. Where the store fails, what is left.
+    fn find(
+        &self,
+        alloc: Global,
+        image: &Image,
+        limits: Limits,
+        frames: usize,
+        site: Site,
+    ) -> Result<Result<Self::Ledger, Remains>, anyhow::Error>;
+
+    /// Makes the tables of a site's ledger, on disks that may stop; how they were made, and what is left.
+    fn make(
+        &self,
+        alloc: Global,
+        image: &Image,
+        limits: Limits,
+        frames: usize,
+        site: &Site,
+    ) -> Result<(Making, Remains), anyhow::Error>;
+
+    /// Whether the files have no table.
+    fn is_blank(&self, alloc: Global, image: &Image) -> Result<bool, anyhow::Error>;
+
     /// What is left where a ledger ends, and its files aren't closed.
     fn leave(&self, alloc: Global, ledger: Self::Ledger) -> Result<Remains, anyhow::Error>;
 
@@ -40,7 +81,7 @@ pub trait Ledgers {
     fn close(&self, alloc: Global, ledger: Self::Ledger) -> Result<(bool, Remains), anyhow::Error>;
 }
 
-/// A connection to what the files hold.
+/// A connection to what the files hold, on disks that don't stop.
 fn connected<D: Disks>(
     disks: &D,
     alloc: Global,
@@ -62,6 +103,64 @@ fn opened<S: Alter + Drop>(
         return Err(OpenFault::Store);
     }
     ledger_on(alloc, conn, site)
+}
+
+/// The number of the next line of the site's ledger that is there.
+fn find_next<S: Alter>(
+    conn: &mut Connection<S>,
+    alloc: Global,
+    site: &Site,
+) -> Result<u64, OpenFault>
+    requires { conn.old.in_transaction ≡ false }
+    ensures kept { IfOk result (λ n. HasCleanDisk (state S.Store conn.new) → IsKept n site.now (state S.Store conn.new)) }
+    ensures idle { conn.new.in_transaction ≡ false }
+{
+    match find(conn, alloc, site) {
+        Ok(Some(next)) => Ok(next),
+        Ok(None) => Err(OpenFault::OtherSite),
+        Err(LedgerFault::Memory) => Err(OpenFault::Memory),
+        Err(_) => Err(OpenFault::Store),
+    }
+}
+
+/// The ledger of the site that is found over a connection. Where it isn't, the store comes back.
+fn found<S: Alter + Drop>(
+    alloc: Global,
+    conn: Connection<S>,
+    site: Site,
+) -> Result<SqlLedger<S>, (OpenFault, S)> {
+    let mut conn = conn;
+    if !conn.is_autocommit() {
+        return Err((OpenFault::Store, conn.into_store()));
+    }
+    match find_next(&mut conn, alloc, &site) {
+        Ok(next) => Ok(SqlLedger::of(alloc, conn, site, next)),
+        Err(fault) => Err((fault, conn.into_store())),
+    }
+}
+
+/// What is left of a store over which no ledger was found; any other fault than the store's is an error.
+fn unfound<D: Disks>(
+    disks: &D,
+    alloc: Global,
+    fault: OpenFault,
+    store: D::Store,
+) -> Result<Remains, anyhow::Error> {
+    if fault != OpenFault::Store {
+        bail!("{fault}");
+    }
+    disks.leave(alloc, store)
+}
+
+/// How the tables are made.
+fn made<S: Alter>(conn: &mut Connection<S>, site: &Site) -> Making {
+    if !conn.is_autocommit() {
+        return Making::Refused;
+    }
+    match make(conn, site) {
+        Ok(()) => Making::Made,
+        Err(_) => Making::Refused,
+    }
 }
 
 /// How many rows the statement changes, or why it is refused.
@@ -104,6 +203,47 @@ impl<'a, D: Disks> Ledgers for Stored<'a, D> {
         let mut conn = connected(self.0, alloc, image)?;
         let answer = execute(alloc, &mut conn, sql)?;
         Ok((answer, self.0.leave(alloc, conn.into_store())?.written))
+    }
+
+    fn find(
+        &self,
+        alloc: Global,
+        image: &Image,
+        limits: Limits,
+        frames: usize,
+        site: Site,
+    ) -> Result<Result<SqlLedger<D::Store>, Remains>, anyhow::Error> {
+        let conn = match self.0.connect(alloc, image, limits, frames)? {
+            Ok(conn) => conn,
+            Err(remains) => return Ok(Err(remains)),
+        };
+        match found(alloc, conn, site) {
+            Ok(ledger) => Ok(Ok(ledger)),
+            Err((fault, store)) => Ok(Err(unfound(self.0, alloc, fault, store)?)),
+        }
+    }
+
+    fn make(
+        &self,
+        alloc: Global,
+        image: &Image,
+        limits: Limits,
+        frames: usize,
+        site: &Site,
+    ) -> Result<(Making, Remains), anyhow::Error> {
+        match self.0.connect(alloc, image, limits, frames)? {
+            Ok(conn) => {
+                let mut conn = conn;
+                let making = made(&mut conn, site);
+                Ok((making, self.0.leave(alloc, conn.into_store())?))
+            }
+            Err(remains) => Ok((Making::Unopened, remains)),
+        }
+    }
+
+    fn is_blank(&self, alloc: Global, image: &Image) -> Result<bool, anyhow::Error> {
+        let conn = connected(self.0, alloc, image)?;
+        Ok(conn.schema().tables.is_empty())
     }
 
     fn leave(&self, alloc: Global, ledger: SqlLedger<D::Store>) -> Result<Remains, anyhow::Error> {

@@ -1,17 +1,28 @@
 //! The lines that are played, beside those that tell plans and items:
 //! `ledger PLAN NODE`, an empty ledger of that node in new files, which the calls behind it go to; `leave`, by which it ends and its files
 //! stay as they are; `close`, by which it ends and its files are closed; `open PLAN NODE`, by which the ledger of that node is opened in
-//! them again; `sql WORDS`, a statement that another connection executes on them.
+//! them again; `blank`, by which the files hold nothing; `sql WORDS`, a statement that another connection executes on them;
+//! `desk PLAN NODE CALLER ITEM..`, arrivals at a desk over the ledger, which is that node's; `refused PLAN NODE CALLER ITEM..`, the same, but
+//! that its store refuses the first of them that would add a line;
+//! `stops FRAMES PLAN NODE NEXT CALL`, a call on the ledger of that node in the files that were left, whose log grows to so many frames
+//! before it is copied, at each stop of either file (`stops`): the ledger is of the plan NEXT behind it. Beside the calls of a ledger there
+//! are `make`, which makes its tables in files that hold nothing, `close`, and `desk CALLER ITEM`, an arrival at a desk over it.
+use crate::desks::{Answered, deal};
 use crate::disks::Image;
 use crate::ledgers::Ledgers;
+use crate::runs::Act;
+use crate::stops::stop;
 use anyhow::{Context, bail};
+use dr_ledger::{Ledger, Refusing};
 use dr_ledger_rows::{Named, Stage, call};
 use dr_listing::OpenFault;
 use std::alloc::Global;
+use std::sync::Wait;
 
 /// The ledger that is played, if one is open, and what the files hold that were left.
 #[derive(Drop)]
-pub struct Playing<'a, O: Ledgers> {
+pub struct Playing<'a, R: Wait, O: Ledgers> {
+    rt: &'a R,
     ledgers: &'a O,
     ledger: Option<O::Ledger>,
     image: Image,
@@ -63,10 +74,50 @@ fn statement(alloc: Global, words: &[&str]) -> Result<String, anyhow::Error> {
     Ok(sql)
 }
 
-impl<'a, O: Ledgers> Playing<'a, O> {
+/// Arrivals at a desk over the ledger, of which the first that would add a line is refused, if that is asked for.
+fn dealt<R: Wait, L: Ledger + Drop>(
+    rt: &R,
+    alloc: Global,
+    ledger: L,
+    named: &Named,
+    is_refused: bool,
+    words: &[&str],
+) -> Result<Answered<L>, anyhow::Error> {
+    let [plan, node, arrivals @ ..] = words else {
+        bail!("a plan and a node are missing");
+    };
+    let site = named.site(plan, node)?;
+    let mut ledger = Refusing::new(ledger);
+    if is_refused {
+        ledger.refuse_next();
+    }
+    let Answered { answer, ledger } = deal(rt, alloc, ledger, &site, named, arrivals)?;
+    let ledger = ledger.into_ledger();
+    Ok(Answered { answer, ledger })
+}
+
+/// The call of a line `stops`.
+fn act<'a>(named: &Named, words: &'a [&'a str]) -> Result<Act<'a>, anyhow::Error> {
+    let [frames, plan, node, next, what, rest @ ..] = words else {
+        bail!("a number, two plans, a node and a call are missing");
+    };
+    let frames = frames.parse()?;
+    let site = named.site(plan, node)?;
+    let next = named.site(next, node)?;
+    Ok(Act {
+        what,
+        words: rest,
+        site,
+        next,
+        frames,
+    })
+}
+
+impl<'a, R: Wait, O: Ledgers> Playing<'a, R, O> {
     /// No ledger, and files that hold nothing.
-    pub fn new(alloc: Global, ledgers: &'a O) -> Playing<'a, O> {
+    pub fn new(rt: &'a R, alloc: Global, ledgers: &'a O) -> Playing<'a, R, O> {
         Playing {
+            rt,
             ledgers,
             ledger: None,
             image: Image::empty(alloc),
@@ -116,6 +167,33 @@ impl<'a, O: Ledgers> Playing<'a, O> {
         Ok(answer)
     }
 
+    /// A call under each stop.
+    fn stop(
+        &mut self,
+        alloc: Global,
+        named: &Named,
+        words: &[&str],
+    ) -> Result<String, anyhow::Error> {
+        let act = act(named, words)?;
+        let (answer, image) = stop(self.rt, self.ledgers, alloc, &self.image, &act, named)?;
+        put(&mut self.image, image);
+        Ok(answer)
+    }
+
+    /// Arrivals at a desk over the ledger.
+    fn deal(
+        &mut self,
+        alloc: Global,
+        named: &Named,
+        is_refused: bool,
+        words: &[&str],
+    ) -> Result<String, anyhow::Error> {
+        let ledger = self.ledger.take().context("no ledger")?;
+        let Answered { answer, ledger } = dealt(self.rt, alloc, ledger, named, is_refused, words)?;
+        put(&mut self.ledger, Some(ledger));
+        Ok(answer)
+    }
+
     /// A call on the ledger.
     fn call(
         &mut self,
@@ -129,7 +207,7 @@ impl<'a, O: Ledgers> Playing<'a, O> {
     }
 }
 
-impl<'a, O: Ledgers> Stage for Playing<'a, O> {
+impl<'a, R: Wait, O: Ledgers> Stage for Playing<'a, R, O> {
     fn play(
         &mut self,
         alloc: Global,
@@ -150,8 +228,15 @@ impl<'a, O: Ledgers> Stage for Playing<'a, O> {
                 self.end(alloc, true)?;
                 Ok(None)
             }
+            "blank" => {
+                put(&mut self.image, Image::empty(alloc));
+                Ok(None)
+            }
             "open" => Ok(Some(self.reopen(alloc, named, words)?)),
             "sql" => Ok(Some(self.change(alloc, words)?)),
+            "desk" => Ok(Some(self.deal(alloc, named, false, words)?)),
+            "refused" => Ok(Some(self.deal(alloc, named, true, words)?)),
+            "stops" => Ok(Some(self.stop(alloc, named, words)?)),
             what => Ok(Some(self.call(alloc, named, what, words)?)),
         }
     }
