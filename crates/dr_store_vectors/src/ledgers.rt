@@ -105,37 +105,51 @@ fn opened<S: Alter + Drop>(
     ledger_on(alloc, conn, site)
 }
 
-/// The number of the next line of the site's ledger that is there.
-fn find_next<S: Alter>(
-    conn: &mut Connection<S>,
+/// The connection, with the number of the next line of the site's ledger that is there.
+fn found_next<S: Alter + Drop>(
+    conn: Connection<S>,
     alloc: Global,
     site: &Site,
-) -> Result<u64, OpenFault>
-    requires { conn.old.in_transaction ≡ false }
-    ensures kept { IfOk result (λ n. HasCleanDisk (state S.Store conn.new) → IsKept n site.now (state S.Store conn.new)) }
-    ensures idle { conn.new.in_transaction ≡ false }
+) -> Result<(Connection<S>, u64), (Connection<S>, OpenFault)>
+    requires { conn.in_transaction ≡ false }
+    ensures kept { IfOk result (λ found. HasCleanDisk (state S.Store found.0) → IsKept found.1 site.now (state S.Store found.0)) }
+    ensures idle { IfOk result (λ found. found.0.in_transaction ≡ false) }
 {
-    match find(conn, alloc, site) {
-        Ok(Some(next)) => Ok(next),
-        Ok(None) => Err(OpenFault::OtherSite),
-        Err(LedgerFault::Memory) => Err(OpenFault::Memory),
-        Err(_) => Err(OpenFault::Store),
+    let mut conn = conn;
+    match find(&mut conn, alloc, site) {
+        Ok(Some(next)) => Ok((conn, next)),
+        Ok(None) => Err((conn, OpenFault::OtherSite)),
+        Err(LedgerFault::Memory) => Err((conn, OpenFault::Memory)),
+        Err(_) => Err((conn, OpenFault::Store)),
     }
 }
 
-/// The ledger of the site that is found over a connection. Where it isn't, the store comes back.
+/// The ledger of the site that is found over a connection, or the connection.
+fn found_on<S: Alter + Drop>(
+    alloc: Global,
+    conn: Connection<S>,
+    site: Site,
+) -> Result<SqlLedger<S>, (Connection<S>, OpenFault)>
+    requires { conn.in_transaction ≡ false }
+{
+    match found_next(conn, alloc, &site) {
+        Ok((conn, next)) => Ok(SqlLedger::of(alloc, conn, site, next)),
+        Err(unfound) => Err(unfound),
+    }
+}
+
+/// The ledger of the site that is found over a connection, or its store.
 fn found<S: Alter + Drop>(
     alloc: Global,
     conn: Connection<S>,
     site: Site,
-) -> Result<SqlLedger<S>, (OpenFault, S)> {
-    let mut conn = conn;
+) -> Result<SqlLedger<S>, (S, OpenFault)> {
     if !conn.is_autocommit() {
-        return Err((OpenFault::Store, conn.into_store()));
+        return Err((conn.into_store(), OpenFault::Store));
     }
-    match find_next(&mut conn, alloc, &site) {
-        Ok(next) => Ok(SqlLedger::of(alloc, conn, site, next)),
-        Err(fault) => Err((fault, conn.into_store())),
+    match found_on(alloc, conn, site) {
+        Ok(ledger) => Ok(ledger),
+        Err((conn, fault)) => Err((conn.into_store(), fault)),
     }
 }
 
@@ -219,7 +233,7 @@ impl<'a, D: Disks> Ledgers for Stored<'a, D> {
         };
         match found(alloc, conn, site) {
             Ok(ledger) => Ok(Ok(ledger)),
-            Err((fault, store)) => Ok(Err(unfound(self.0, alloc, fault, store)?)),
+            Err((store, fault)) => Ok(Err(unfound(self.0, alloc, fault, store)?)),
         }
     }
 

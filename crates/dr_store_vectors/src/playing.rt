@@ -97,7 +97,7 @@ fn dealt<R: Wait, L: Ledger + Drop>(
 }
 
 /// The call of a line `stops`.
-fn act<'a>(named: &Named, words: &'a [&'a str]) -> Result<Act<'a>, anyhow::Error> {
+fn act_of<'a>(named: &Named, words: &'a [&'a str]) -> Result<Act<'a>, anyhow::Error> {
     let [frames, plan, node, next, what, rest @ ..] = words else {
         bail!("a number, two plans, a node and a call are missing");
     };
@@ -174,7 +174,7 @@ impl<'a, R: Wait, O: Ledgers> Playing<'a, R, O> {
         named: &Named,
         words: &[&str],
     ) -> Result<String, anyhow::Error> {
-        let act = act(named, words)?;
+        let act = act_of(named, words)?;
         let (answer, image) = stop(self.rt, self.ledgers, alloc, &self.image, &act, named)?;
         put(&mut self.image, image);
         Ok(answer)

@@ -30,7 +30,7 @@ pub struct Outcome {
 pub const STOPPED: &str = "Store";
 
 /// An answer, and what is left.
-fn outcome(alloc: Global, answer: &str, remains: Remains) -> Result<Outcome, anyhow::Error> {
+fn outcome_of(alloc: Global, answer: &str, remains: Remains) -> Result<Outcome, anyhow::Error> {
     let answer = String::from_str(alloc, answer)?;
     Ok(Outcome {
         answer: Some(answer),
@@ -74,7 +74,7 @@ fn closed<O: Ledgers>(
     ledger: O::Ledger,
 ) -> Result<Outcome, anyhow::Error> {
     let (is_closed, remains) = ledgers.close(alloc, ledger)?;
-    outcome(alloc, if is_closed { "closed" } else { STOPPED }, remains)
+    outcome_of(alloc, if is_closed { "closed" } else { STOPPED }, remains)
 }
 
 /// The tables of a new ledger are made: `make`.
@@ -91,8 +91,8 @@ fn made<O: Ledgers>(
             answer: None,
             remains,
         }),
-        Making::Refused => outcome(alloc, STOPPED, remains),
-        Making::Made => outcome(alloc, "made", remains),
+        Making::Refused => outcome_of(alloc, STOPPED, remains),
+        Making::Made => outcome_of(alloc, "made", remains),
     }
 }
 

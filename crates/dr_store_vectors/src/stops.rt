@@ -162,7 +162,7 @@ fn count_answer(
 }
 
 /// One file takes so many calls, and the other all.
-fn limits(is_log: bool, calls: u64) -> Limits {
+fn limits_of(is_log: bool, calls: u64) -> Limits {
     if is_log {
         Limits {
             log: calls,
@@ -186,7 +186,7 @@ fn run_within<R: Wait, O: Ledgers>(
     is_log: bool,
     calls: u64,
 ) -> Result<Outcome, anyhow::Error> {
-    let limits = limits(is_log, calls);
+    let limits = limits_of(is_log, calls);
     run(rt, ledgers, alloc, story.image, limits, story.act, named)
 }
 
