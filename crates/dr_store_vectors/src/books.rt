@@ -34,7 +34,18 @@ fn whole<L: Ledger + Drop>(
     Ok(text)
 }
 
-/// What the files hold, in words: no table, the book of the site's ledger, or nothing where they have another ledger.
+/// The ledger of the site in these files, or why it isn't opened.
+fn opened<O: Ledgers>(
+    ledgers: &O,
+    alloc: Global,
+    image: &Image,
+    site: &Site,
+) -> Result<Result<O::Ledger, OpenFault>, anyhow::Error> {
+    let site = site.copy()?;
+    ledgers.open(alloc, image, site)
+}
+
+/// The book of the site's ledger that the files hold, in words, or nothing where they have another ledger.
 pub fn told<O: Ledgers>(
     ledgers: &O,
     alloc: Global,
@@ -42,10 +53,7 @@ pub fn told<O: Ledgers>(
     site: &Site,
     named: &Named,
 ) -> Result<Option<String>, anyhow::Error> {
-    if ledgers.is_blank(alloc, image)? {
-        return Ok(Some(String::from_str(alloc, "no table")?));
-    }
-    match ledgers.open(alloc, image, site.copy()?)? {
+    match opened(ledgers, alloc, image, site)? {
         Ok(ledger) => Ok(Some(whole(alloc, ledger, named)?)),
         Err(OpenFault::OtherSite) => Ok(None),
         Err(fault) => bail!("{fault}"),

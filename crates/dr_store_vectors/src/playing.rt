@@ -16,6 +16,7 @@ use anyhow::{Context, bail};
 use dr_ledger::{Ledger, Refusing};
 use dr_ledger_rows::{Named, Stage, call};
 use dr_listing::OpenFault;
+use dr_site::Site;
 use std::alloc::Global;
 use std::sync::Wait;
 
@@ -96,21 +97,51 @@ fn dealt<R: Wait, L: Ledger + Drop>(
     Ok(Answered { answer, ledger })
 }
 
-/// The call of a line `stops`.
-fn act_of<'a>(named: &Named, words: &'a [&'a str]) -> Result<Act<'a>, anyhow::Error> {
-    let [frames, plan, node, next, what, rest @ ..] = words else {
+/// The sites of a ledger before a call and behind it.
+#[derive(Drop)]
+struct Sites {
+    site: Site,
+    next: Site,
+}
+
+/// The site of the node of the plan, with that of the next one.
+fn sites_with(named: &Named, site: Site, next: &str, node: &str) -> Result<Sites, anyhow::Error> {
+    match named.site(next, node) {
+        Ok(next) => Ok(Sites { site, next }),
+        Err(error) => Err(error),
+    }
+}
+
+/// The sites of the node of two plans.
+fn sites_of(named: &Named, plan: &str, node: &str, next: &str) -> Result<Sites, anyhow::Error> {
+    match named.site(plan, node) {
+        Ok(site) => sites_with(named, site, next, node),
+        Err(error) => Err(error),
+    }
+}
+
+/// A call under each stop: `FRAMES PLAN NODE NEXT CALL`.
+fn stopped<R: Wait, O: Ledgers>(
+    rt: &R,
+    ledgers: &O,
+    alloc: Global,
+    image: &Image,
+    named: &Named,
+    words: &[&str],
+) -> Result<(String, Image), anyhow::Error> {
+    let [frames, plan, node, next, what, words @ ..] = words else {
         bail!("a number, two plans, a node and a call are missing");
     };
     let frames = frames.parse()?;
-    let site = named.site(plan, node)?;
-    let next = named.site(next, node)?;
-    Ok(Act {
+    let sites = sites_of(named, plan, node, next)?;
+    let act = Act {
         what,
-        words: rest,
-        site,
-        next,
+        words,
+        site: &sites.site,
+        next: &sites.next,
         frames,
-    })
+    };
+    stop(rt, ledgers, alloc, image, &act, named)
 }
 
 impl<'a, R: Wait, O: Ledgers> Playing<'a, R, O> {
@@ -174,8 +205,7 @@ impl<'a, R: Wait, O: Ledgers> Playing<'a, R, O> {
         named: &Named,
         words: &[&str],
     ) -> Result<String, anyhow::Error> {
-        let act = act_of(named, words)?;
-        let (answer, image) = stop(self.rt, self.ledgers, alloc, &self.image, &act, named)?;
+        let (answer, image) = stopped(self.rt, self.ledgers, alloc, &self.image, named, words)?;
         put(&mut self.image, image);
         Ok(answer)
     }

@@ -1,7 +1,8 @@
 //! One run of a call, over files that may stop.
 use crate::desks::{Answered, deal};
-use crate::disks::{Image, Limits, Remains};
+use crate::disks::{Image, Limits, NO_STOP, Remains};
 use crate::ledgers::{Ledgers, Making};
+use anyhow::bail;
 use dr_ledger::Ledger;
 use dr_ledger_rows::{Named, call};
 use dr_site::Site;
@@ -13,8 +14,8 @@ use std::sync::Wait;
 pub struct Act<'a> {
     pub what: &'a str,
     pub words: &'a [&'a str],
-    pub site: Site,
-    pub next: Site,
+    pub site: &'a Site,
+    pub next: &'a Site,
     pub frames: usize,
 }
 
@@ -60,7 +61,7 @@ fn called<R: Wait, L: Ledger + Drop>(
     named: &Named,
 ) -> Result<Answered<L>, anyhow::Error> {
     if act.what == "desk" {
-        return deal(rt, alloc, ledger, &act.site, named, act.words);
+        return deal(rt, alloc, ledger, act.site, named, act.words);
     }
     let mut ledger = ledger;
     let answer = answer_of(alloc, &mut ledger, act, named)?;
@@ -85,7 +86,7 @@ fn made<O: Ledgers>(
     limits: Limits,
     act: &Act<'_>,
 ) -> Result<Outcome, anyhow::Error> {
-    let (making, remains) = ledgers.make(alloc, image, limits, act.frames, &act.site)?;
+    let (making, remains) = ledgers.make(alloc, image, limits, act.frames, act.site)?;
     match making {
         Making::Unopened => Ok(Outcome {
             answer: None,
@@ -116,6 +117,18 @@ fn taken<R: Wait, O: Ledgers>(
     })
 }
 
+/// The ledger that the files hold, or what is left of them.
+fn found<O: Ledgers>(
+    ledgers: &O,
+    alloc: Global,
+    image: &Image,
+    limits: Limits,
+    act: &Act<'_>,
+) -> Result<Result<O::Ledger, Remains>, anyhow::Error> {
+    let site = act.site.copy()?;
+    ledgers.find(alloc, image, limits, act.frames, site)
+}
+
 /// Opens what the files hold, and makes the call.
 pub fn run<R: Wait, O: Ledgers>(
     rt: &R,
@@ -129,11 +142,28 @@ pub fn run<R: Wait, O: Ledgers>(
     if act.what == "make" {
         return made(ledgers, alloc, image, limits, act);
     }
-    match ledgers.find(alloc, image, limits, act.frames, act.site.copy()?)? {
-        Ok(ledger) => taken(rt, ledgers, alloc, ledger, act, named),
-        Err(remains) => Ok(Outcome {
+    match found(ledgers, alloc, image, limits, act) {
+        Ok(Ok(ledger)) => taken(rt, ledgers, alloc, ledger, act, named),
+        Ok(Err(remains)) => Ok(Outcome {
             answer: None,
             remains,
         }),
+        Err(error) => Err(error),
+    }
+}
+
+/// The same, where nothing stops: the answer, and what is left.
+pub fn run_unstopped<R: Wait, O: Ledgers>(
+    rt: &R,
+    ledgers: &O,
+    alloc: Global,
+    image: &Image,
+    act: &Act<'_>,
+    named: &Named,
+) -> Result<(String, Remains), anyhow::Error> {
+    let Outcome { answer, remains } = run(rt, ledgers, alloc, image, NO_STOP, act, named)?;
+    match answer {
+        Some(answer) => Ok((answer, remains)),
+        None => bail!("the ledger isn't opened"),
     }
 }

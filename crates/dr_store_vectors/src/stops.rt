@@ -1,8 +1,8 @@
 //! Each stop of a file while a call is made.
 use crate::books::told;
-use crate::disks::{Image, Limits, NO_STOP, Remains};
+use crate::disks::{Image, Limits, Remains};
 use crate::ledgers::Ledgers;
-use crate::runs::{Act, Outcome, STOPPED, run};
+use crate::runs::{Act, Outcome, STOPPED, run, run_unstopped};
 use anyhow::{Context, bail};
 use dr_ledger_rows::Named;
 use std::alloc::{AllocError, Global};
@@ -59,7 +59,8 @@ impl Counts {
     }
 }
 
-/// The book that the files hold, of the ledger before the call or, where it was given to the next site, of that behind it.
+/// The book that the files hold, or that they have no table where the tables are made: of the ledger before the call or, where it was given
+/// to the next site, of that behind it.
 fn book_of<O: Ledgers>(
     ledgers: &O,
     alloc: Global,
@@ -67,10 +68,13 @@ fn book_of<O: Ledgers>(
     act: &Act<'_>,
     named: &Named,
 ) -> Result<String, anyhow::Error> {
-    if let Some(book) = told(ledgers, alloc, image, &act.site, named)? {
+    if act.what == "make" && ledgers.is_blank(alloc, image)? {
+        return Ok(String::from_str(alloc, "no table")?);
+    }
+    if let Some(book) = told(ledgers, alloc, image, act.site, named)? {
         return Ok(book);
     }
-    let book = told(ledgers, alloc, image, &act.next, named)?;
+    let book = told(ledgers, alloc, image, act.next, named)?;
     book.context("the files have another ledger, or none")
 }
 
@@ -83,8 +87,8 @@ fn go_on<R: Wait, O: Ledgers>(
     story: &Story<'_>,
     named: &Named,
 ) -> Result<(), anyhow::Error> {
-    let Outcome { answer, remains } = run(rt, ledgers, alloc, image, NO_STOP, story.act, named)?;
-    if answer.context("the ledger isn't opened")? != story.answer {
+    let (answer, remains) = run_unstopped(rt, ledgers, alloc, image, story.act, named)?;
+    if answer != story.answer {
         bail!("the call is answered otherwise when it is made again");
     }
     let book = book_of(ledgers, alloc, &remains.written, story.act, named)?;
@@ -176,33 +180,44 @@ fn limits_of(is_log: bool, calls: u64) -> Limits {
     }
 }
 
-/// A run in which one file takes so many calls.
-fn run_within<R: Wait, O: Ledgers>(
-    rt: &R,
-    ledgers: &O,
-    alloc: Global,
-    story: &Story<'_>,
-    named: &Named,
-    is_log: bool,
-    calls: u64,
-) -> Result<Outcome, anyhow::Error> {
-    let limits = limits_of(is_log, calls);
-    run(rt, ledgers, alloc, story.image, limits, story.act, named)
-}
-
 /// Counts a run that was stopped.
 fn count_run<R: Wait, O: Ledgers>(
     rt: &R,
     ledgers: &O,
     alloc: Global,
-    outcome: Outcome,
+    outcome: &Outcome,
     story: &Story<'_>,
     named: &Named,
     counts: &mut Counts,
 ) -> Result<(), anyhow::Error> {
-    let Outcome { answer, remains } = outcome;
-    let is_done = count_answer(alloc, &answer, counts)?;
-    count_left(rt, ledgers, alloc, &remains, is_done, story, named, counts)
+    let is_done = count_answer(alloc, &outcome.answer, counts)?;
+    let remains = &outcome.remains;
+    count_left(rt, ledgers, alloc, remains, is_done, story, named, counts)
+}
+
+/// The value takes the place of the one that was there, which is given back.
+fn replaced<T>(place: &mut T, value: T) -> T {
+    mem::replace(place, value)
+}
+
+/// A run in which one file takes a call more than in the last one; if it is stopped, the last one was, and is counted. Whether it is.
+fn count_last<R: Wait, O: Ledgers>(
+    rt: &R,
+    ledgers: &O,
+    alloc: Global,
+    limits: Limits,
+    last: &mut Outcome,
+    story: &Story<'_>,
+    named: &Named,
+    counts: &mut Counts,
+) -> Result<bool, anyhow::Error> {
+    let next = run(rt, ledgers, alloc, story.image, limits, story.act, named)?;
+    if !next.remains.is_stopped {
+        return Ok(false);
+    }
+    let stopped = replaced(last, next);
+    count_run(rt, ledgers, alloc, &stopped, story, named, counts)?;
+    Ok(true)
 }
 
 /// Stops one file at its first call, at its second, and so on, until a run isn't stopped. A run that leaves its file no call is told from
@@ -215,15 +230,24 @@ fn count<R: Wait, O: Ledgers>(
     named: &Named,
     is_log: bool,
 ) -> Result<Counts, anyhow::Error> {
+    let none = limits_of(is_log, 0);
+    let mut last = run(rt, ledgers, alloc, story.image, none, story.act, named)?;
     let mut counts = Counts::new(alloc);
-    let mut last = run_within(rt, ledgers, alloc, story, named, is_log, 0)?;
     for calls in 1..MOST_CALLS {
-        let next = run_within(rt, ledgers, alloc, story, named, is_log, calls)?;
-        if !next.remains.is_stopped {
+        let limits = limits_of(is_log, calls);
+        let goes_on = count_last(
+            rt,
+            ledgers,
+            alloc,
+            limits,
+            &mut last,
+            story,
+            named,
+            &mut counts,
+        )?;
+        if !goes_on {
             return Ok(counts);
         }
-        let stopped = mem::replace(&mut last, next);
-        count_run(rt, ledgers, alloc, stopped, story, named, &mut counts)?;
     }
     bail!("there is no end of the stops")
 }
@@ -256,6 +280,11 @@ fn tell_all<R: Wait, O: Ledgers>(
     Ok(text)
 }
 
+/// What was written of what is left.
+fn written_of(remains: Remains) -> Image {
+    remains.written
+}
+
 /// Makes the call on what the files hold, under each stop and under none: what is printed of it, and what the files hold behind it.
 pub fn stop<R: Wait, O: Ledgers>(
     rt: &R,
@@ -266,19 +295,19 @@ pub fn stop<R: Wait, O: Ledgers>(
     named: &Named,
 ) -> Result<(String, Image), anyhow::Error> {
     let before = book_of(ledgers, alloc, image, act, named)?;
-    let Outcome { answer, remains } = run(rt, ledgers, alloc, image, NO_STOP, act, named)?;
-    let answer = answer.context("the ledger isn't opened")?;
-    let after = book_of(ledgers, alloc, &remains.written, act, named)?;
-    let counts = {
+    let (answer, remains) = run_unstopped(rt, ledgers, alloc, image, act, named)?;
+    let left = written_of(remains);
+    let after = book_of(ledgers, alloc, &left, act, named)?;
+    let text = {
         let story = Story {
             act,
             image,
-            left: &remains.written,
+            left: &left,
             before,
             answer,
             after,
         };
         tell_all(rt, ledgers, alloc, &story, named)?
     };
-    Ok((counts, remains.written))
+    Ok((text, left))
 }
