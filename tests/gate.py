@@ -3,8 +3,11 @@
 
 The lines of `rt ci` go to standard output as they come, but for the last one, 'N passed, M failed', which stays the
 last: the table comes before it. With --quiet only the lines that say how a crate, a program or an edit came out are
-shown, each with the minutes since the start; the whole log is in the file that the first line names. The exit status
-is that of `rt ci`. The times are sampled from /proc, so a process that lives for less than the pause isn't counted.
+shown, each with the minutes since the start, how many crates are proved, and the minutes that are left, as far as the
+sizes of the crates tell; the whole log is in the file that the first line names, and its end is shown where the run fails.
+Names of crates are passed on: then these and those below them are proved, which is not the gate. The exit status is that
+of `rt ci`. The times are sampled from /proc, so a process that lives for less than the pause isn't counted; what an
+earlier run on this machine passed isn't proved again, and costs nothing.
 """
 import collections
 import os
@@ -80,12 +83,44 @@ def table(spent):
     return lines
 
 
+class Progress:
+    """How far a run is, by the bytes of the sources of the crates that are proved."""
+
+    def __init__(self):
+        self.start = time.time()
+        self.work = {name: work_of(name) for name in os.listdir("crates")}
+        self.proved = set()
+
+    def note(self, line):
+        """Takes in what a line of the run says."""
+        found = re.match(r"rt: (\w+) proved", line)
+        if found and found[1] in self.work:
+            self.proved.add(found[1])
+
+    def stand(self):
+        """The minutes since the start, the crates that are proved, and the minutes that are left, once a tenth of the work is done."""
+        minutes = (time.time() - self.start) / 60
+        done, all_work = sum(self.work[name] for name in self.proved), sum(self.work.values())
+        left = f", about {minutes * (all_work - done) / done:.0f} left" if 10 * done > all_work > done else ""
+        return f"[{minutes:3.0f} min{left}; {len(self.proved)} of {len(self.work)} crates]"
+
+
+def work_of(crate):
+    """A crate's work, by the bytes of its sources."""
+    return sum(
+        os.path.getsize(f"{at}/{name}")
+        for part in ("src", "specs", "proofs")
+        for at, _, files in os.walk(f"crates/{crate}/{part}")
+        for name in files
+    )
+
+
 def main():
-    quiet = "--quiet" in sys.argv[1:]
-    start = time.time()
+    quiet, names = "--quiet" in sys.argv[1:], [it for it in sys.argv[1:] if it != "--quiet"]
+    progress = Progress()
     log = tempfile.NamedTemporaryFile("w", prefix="gate-", suffix=".log", delete=False)
     print(f"the whole log of rt ci: {log.name}", flush=True)
-    gate = subprocess.Popen(["rt", "ci"], stdout=subprocess.PIPE, stderr=subprocess.STDOUT, text=True, errors="replace")
+    gate = subprocess.Popen(["rt", "ci", *names], stdout=subprocess.PIPE, stderr=subprocess.STDOUT, text=True, errors="replace")
     spent, ended = {}, threading.Event()
     watcher = threading.Thread(target=sample, args=(gate.pid, spent, ended))
     watcher.start()
@@ -94,12 +129,16 @@ def main():
     for line in gate.stdout:
         log.write(line)
         if last and (not quiet or shown.match(last)):
-            print(f"[{(time.time() - start) / 60:4.0f} min] {last}" if quiet else last, end="", flush=True)
+            print(f"{progress.stand()} {last}" if quiet else last, end="", flush=True)
+        progress.note(line)
         last = line
     status = gate.wait()
     ended.set()
     watcher.join()
     log.close()
+    if quiet and status != 0:
+        with open(log.name, encoding="utf-8") as file:
+            print("".join(file.readlines()[-300:]), end="")
     print("\n".join(table(spent)))
     print(last, end="")
     return status

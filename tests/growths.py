@@ -60,8 +60,8 @@ int posix_memalign(void **out, size_t align, size_t size) { NEXT(posix_memalign)
 MAIN = """//! Says whether the journal has as many lines as the passes count.
 #![tactic(auto)]
 
+mod empty;
 mod peer;
-mod samples;
 mod sessions;
 
 use sessions::{Open, serve_archive};
@@ -101,7 +101,7 @@ def desk_program(room):
     shutil.copy(f"{TOP}/HANDLES", room)
     folder, source = f"{room}/crates/desk_growths", f"{TOP}/crates/dr_workers_vectors"
     os.makedirs(f"{folder}/src")
-    for name in ("peer", "samples", "sessions"):
+    for name in ("empty", "peer", "sessions"):
         shutil.copy(f"{source}/src/{name}.rt", f"{folder}/src")
     os.makedirs(f"{folder}/proofs/sessions/serve_archive")
     with open(f"{source}/proofs/sessions/serve_archive/Invariants.antt") as it:

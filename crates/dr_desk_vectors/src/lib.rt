@@ -4,6 +4,4 @@
 #[cfg(test)]
 mod recording;
 #[cfg(test)]
-mod samples;
-#[cfg(test)]
 mod shared;

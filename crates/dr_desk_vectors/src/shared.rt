@@ -2,11 +2,11 @@
 ghost use Rattle.std.specs.Prelude.{◌≡◌, IfOk};
 
 use crate::recording::{Notes, Recording};
-use crate::samples::{item, site, text};
 use dr_base::Text;
 use dr_desk::{Desk, Pass, SharedDesk, Sharing};
 use dr_ledger::{Arrived, Ledger, LedgerFault, Outcome};
 use dr_memory::MemoryLedger;
+use dr_samples::{image, name, site_of_three};
 use dr_site::Site;
 use std::alloc::Global;
 use std::marker::Brand;
@@ -22,14 +22,14 @@ fn write<R: Wait, L: Ledger, B: Sharing>(
     pass: &mut Pass<B>,
     answers: &mut Notes,
 ) -> Result<(), Fail> {
-    let arch = text(alloc, "ARCH")?;
-    let uid = text(alloc, "1.2.3.4")?;
+    let arch = name(alloc, "ARCH")?;
+    let uid = name(alloc, "1.2.3.4")?;
     for (caller, station) in [("CT1", "S1"), ("CT1", "S1"), ("ARCH", "S1"), ("CT1", "S2")] {
         let answer = desk.arrive(
             rt,
             pass,
-            &text(alloc, caller)?,
-            item(alloc, "1.2.3.4", station)?,
+            &name(alloc, caller)?,
+            image(alloc, "1.2.3.4", station)?,
         );
         answers.note(&answer);
     }
@@ -93,9 +93,9 @@ fn read<R: Wait, L: Ledger, B: Sharing>(
     desk: &SharedDesk<L, B>,
     answers: &mut Notes,
 ) -> Result<(), Fail> {
-    let arch = text(alloc, "ARCH")?;
-    let uid = text(alloc, "1.2.3.4")?;
-    let other = item(alloc, "1.2.3.5", "S1")?;
+    let arch = name(alloc, "ARCH")?;
+    let uid = name(alloc, "1.2.3.4")?;
+    let other = image(alloc, "1.2.3.5", "S1")?;
     answers.note(&desk.admits(rt, &arch, &other));
     read_one(rt, desk, &uid, &arch, answers);
     read_next(rt, desk, &arch, answers);
@@ -200,8 +200,8 @@ fn begin_as_told(answers: &[String]) -> bool {
 fn add_a_line(alloc: Global, ledger: &mut MemoryLedger) -> Result<(), Fail>
     ensures { ledger.new.site ≡ ledger.old.site }
 {
-    let caller = text(alloc, "CT1")?;
-    let first = item(alloc, "1.2.3.3", "S1")?;
+    let caller = name(alloc, "CT1")?;
+    let first = image(alloc, "1.2.3.3", "S1")?;
     ledger.arrive(&caller, first)?;
     Ok(())
 }
@@ -219,7 +219,7 @@ fn recording_desk(alloc: Global, own: &Site) -> Result<Desk<Recording<MemoryLedg
 
 /// A desk of the gateway is shared, called and closed.
 fn share_gate<R: Wait>(rt: &R, alloc: Global) -> Result<Outcomes, Fail> {
-    let own = site(alloc, "GATE")?;
+    let own = site_of_three(alloc, "GATE")?;
     let desk = recording_desk(alloc, &own)?;
     share::<_, MemoryLedger, Brand>(rt, alloc, desk, own, Blank::new(65_536))
 }

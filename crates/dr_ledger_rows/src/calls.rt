@@ -5,13 +5,15 @@
 //! digits, `broken` or `no-context`. They go to any ledger, so that each is held to the same tables.
 ghost use Rattle.std.specs.Prelude.{◌≤◌, ◌^◌};
 
-use crate::adopting::{adopt, unfit};
+use crate::adopting::{Adopt, Unfit};
 use crate::named::Named;
-use crate::retried::{CHANGED, report, retried, told};
+use crate::retried::{Asking, report, retried, told};
 use crate::shown::{told_job, told_lines};
 use anyhow::bail;
 use dr_base::Text;
-use dr_ledger::{Item, Ledger, LedgerFault, Outcome};
+use dr_cert::Sealed;
+use dr_ledger::{Item, Ledger, Outcome};
+use dr_site::Site;
 use std::alloc::{AllocError, Global};
 
 /// The last moment at which a try may end, in milliseconds.
@@ -29,92 +31,157 @@ fn outcome(word: &str) -> Result<Outcome, anyhow::Error> {
     }
 }
 
-fn arrive<L: Ledger>(
-    alloc: Global,
-    ledger: &mut L,
-    caller: &str,
-    item: &Item,
-) -> Result<String, anyhow::Error> {
-    let caller = text(alloc, caller)?;
-    retried!(alloc, ledger, told, ledger.arrive(&caller, item.copy()?))
+/// `arrive`, from the caller.
+#[derive(Clone, Copy, Drop)]
+struct Arrive<'a> {
+    caller: &'a Text,
+    item: &'a Item,
 }
 
-fn admits<L: Ledger>(
-    alloc: Global,
-    ledger: &mut L,
-    caller: &str,
-    item: &Item,
-) -> Result<String, anyhow::Error> {
-    let caller = text(alloc, caller)?;
-    retried!(alloc, ledger, told, ledger.admits(&caller, item))
+impl<'a> Asking for Arrive<'a> {
+    fn ask<L: Ledger>(
+        &self,
+        alloc: Global,
+        ledger: &mut L,
+    ) -> Result<Option<String>, anyhow::Error> {
+        let item = self.item.copy()?;
+        told(alloc, ledger.arrive(self.caller, item))
+    }
 }
 
-fn next<L: Ledger>(
-    alloc: Global,
-    ledger: &mut L,
-    dest: &str,
+/// `admits`, from the caller.
+#[derive(Clone, Copy, Drop)]
+struct Admits<'a> {
+    caller: &'a Text,
+    item: &'a Item,
+}
+
+impl<'a> Asking for Admits<'a> {
+    fn ask<L: Ledger>(
+        &self,
+        alloc: Global,
+        ledger: &mut L,
+    ) -> Result<Option<String>, anyhow::Error> {
+        told(alloc, ledger.admits(self.caller, self.item))
+    }
+}
+
+/// `next`, of that destination at that moment.
+#[derive(Clone, Copy, Drop)]
+struct Next<'a> {
+    dest: &'a Text,
     now: u64,
-) -> Result<String, anyhow::Error> {
-    let dest = text(alloc, dest)?;
-    retried!(alloc, ledger, told_job, ledger.next(&dest, now))
 }
 
-fn settle<L: Ledger>(
-    alloc: Global,
-    ledger: &mut L,
-    uid: &str,
-    dest: &str,
+impl<'a> Asking for Next<'a> {
+    fn ask<L: Ledger>(
+        &self,
+        alloc: Global,
+        ledger: &mut L,
+    ) -> Result<Option<String>, anyhow::Error> {
+        told_job(alloc, ledger.next(self.dest, self.now))
+    }
+}
+
+/// `settle`, of that row.
+#[derive(Clone, Copy, Drop)]
+struct Settle<'a> {
+    uid: &'a Text,
+    dest: &'a Text,
     outcome: Outcome,
     now: u64,
-) -> Result<String, anyhow::Error> {
-    let uid = text(alloc, uid)?;
-    let dest = text(alloc, dest)?;
-    if now > LAST_MOMENT {
-        bail!("a moment too late");
+}
+
+impl<'a> Asking for Settle<'a> {
+    fn ask<L: Ledger>(
+        &self,
+        alloc: Global,
+        ledger: &mut L,
+    ) -> Result<Option<String>, anyhow::Error> {
+        if self.now > LAST_MOMENT {
+            bail!("a moment too late");
+        }
+        told(
+            alloc,
+            ledger.settle(self.uid, self.dest, self.outcome, self.now),
+        )
     }
-    retried!(
-        alloc,
-        ledger,
-        told,
-        ledger.settle(&uid, &dest, outcome, now)
-    )
 }
 
-fn requeue<L: Ledger>(
-    alloc: Global,
-    ledger: &mut L,
-    uid: &str,
-    dest: &str,
-) -> Result<String, anyhow::Error> {
-    let uid = text(alloc, uid)?;
-    let dest = text(alloc, dest)?;
-    retried!(alloc, ledger, told, ledger.requeue(&uid, &dest))
+/// `requeue`, of that row.
+#[derive(Clone, Copy, Drop)]
+struct Requeue<'a> {
+    uid: &'a Text,
+    dest: &'a Text,
 }
 
-fn has<L: Ledger>(alloc: Global, ledger: &mut L, uid: &str) -> Result<String, anyhow::Error> {
-    let uid = text(alloc, uid)?;
-    retried!(alloc, ledger, told, ledger.has(&uid))
+impl<'a> Asking for Requeue<'a> {
+    fn ask<L: Ledger>(
+        &self,
+        alloc: Global,
+        ledger: &mut L,
+    ) -> Result<Option<String>, anyhow::Error> {
+        told(alloc, ledger.requeue(self.uid, self.dest))
+    }
 }
 
-fn has_body<L: Ledger>(alloc: Global, ledger: &mut L, uid: &str) -> Result<String, anyhow::Error> {
-    let uid = text(alloc, uid)?;
-    retried!(alloc, ledger, told, ledger.has_body(&uid))
+/// `progress`, of that row.
+#[derive(Clone, Copy, Drop)]
+struct Progress<'a> {
+    uid: &'a Text,
+    dest: &'a Text,
 }
 
-fn progress<L: Ledger>(
-    alloc: Global,
-    ledger: &mut L,
-    uid: &str,
-    dest: &str,
-) -> Result<String, anyhow::Error> {
-    let uid = text(alloc, uid)?;
-    let dest = text(alloc, dest)?;
-    retried!(alloc, ledger, told, ledger.progress(&uid, &dest))
+impl<'a> Asking for Progress<'a> {
+    fn ask<L: Ledger>(
+        &self,
+        alloc: Global,
+        ledger: &mut L,
+    ) -> Result<Option<String>, anyhow::Error> {
+        told(alloc, ledger.progress(self.uid, self.dest))
+    }
 }
 
-/// The journal, a line each.
-fn lines<L: Ledger>(alloc: Global, ledger: &mut L) -> Result<String, anyhow::Error> {
-    retried!(alloc, ledger, told_lines, ledger.lines())
+/// `has`, of that uid.
+#[derive(Clone, Copy, Drop)]
+struct Has<'a>(&'a Text);
+
+impl<'a> Asking for Has<'a> {
+    fn ask<L: Ledger>(
+        &self,
+        alloc: Global,
+        ledger: &mut L,
+    ) -> Result<Option<String>, anyhow::Error> {
+        told(alloc, ledger.has(self.0))
+    }
+}
+
+/// `has_body`, of that uid.
+#[derive(Clone, Copy, Drop)]
+struct HasBody<'a>(&'a Text);
+
+impl<'a> Asking for HasBody<'a> {
+    fn ask<L: Ledger>(
+        &self,
+        alloc: Global,
+        ledger: &mut L,
+    ) -> Result<Option<String>, anyhow::Error> {
+        told(alloc, ledger.has_body(self.0))
+    }
+}
+
+/// `lines`: the journal, a line each.
+#[derive(Clone, Copy, Drop)]
+struct Lines;
+
+impl Asking for Lines {
+    fn ask<L: Ledger>(
+        &self,
+        alloc: Global,
+        ledger: &mut L,
+    ) -> Result<Option<String>, anyhow::Error> {
+        told_lines(alloc, ledger.lines())
+    }
 }
 
 /// What the book has, a line each.
@@ -122,6 +189,23 @@ fn whole<L: Ledger>(alloc: Global, ledger: &mut L) -> Result<String, anyhow::Err
     let report = report(alloc, ledger)?;
     let text = str::from_utf8(report.as_slice())?;
     Ok(format!(in alloc; "\n{}", text.trim_end())?)
+}
+
+/// `arrive` or `admits`, of that item.
+fn of_this_item<L: Ledger>(
+    alloc: Global,
+    ledger: &mut L,
+    is_arrival: bool,
+    caller: &str,
+    item: &Item,
+) -> Result<String, anyhow::Error> {
+    let caller = text(alloc, caller)?;
+    let caller = &caller;
+    if is_arrival {
+        retried(alloc, ledger, &Arrive { caller, item })
+    } else {
+        retried(alloc, ledger, &Admits { caller, item })
+    }
 }
 
 /// `arrive` or `admits`.
@@ -135,11 +219,13 @@ fn of_item<L: Ledger>(
     let [caller, item] = words else {
         bail!("a caller and an item are missing");
     };
-    let item = named.item(item)?;
-    if is_arrival {
-        arrive(alloc, ledger, caller, &item)
-    } else {
-        admits(alloc, ledger, caller, &item)
+    match named.item(item) {
+        Ok(item) => {
+            let answer = of_this_item(alloc, ledger, is_arrival, caller, &item);
+            drop(item);
+            answer
+        }
+        Err(error) => Err(error),
     }
 }
 
@@ -153,10 +239,11 @@ fn of_uid<L: Ledger>(
     let [uid] = words else {
         bail!("a uid is missing");
     };
+    let uid = text(alloc, uid)?;
     if is_body {
-        has_body(alloc, ledger, uid)
+        retried(alloc, ledger, &HasBody(&uid))
     } else {
-        has(alloc, ledger, uid)
+        retried(alloc, ledger, &Has(&uid))
     }
 }
 
@@ -170,10 +257,13 @@ fn of_row<L: Ledger>(
     let [uid, dest] = words else {
         bail!("a uid and a destination are missing");
     };
+    let uid = text(alloc, uid)?;
+    let dest = text(alloc, dest)?;
+    let (uid, dest) = (&uid, &dest);
     if is_requeuing {
-        requeue(alloc, ledger, uid, dest)
+        retried(alloc, ledger, &Requeue { uid, dest })
     } else {
-        progress(alloc, ledger, uid, dest)
+        retried(alloc, ledger, &Progress { uid, dest })
     }
 }
 
@@ -185,7 +275,9 @@ fn next_of<L: Ledger>(
     let [dest, now] = words else {
         bail!("a destination and a moment are missing");
     };
-    next(alloc, ledger, dest, now.parse()?)
+    let now = now.parse()?;
+    let dest = text(alloc, dest)?;
+    retried(alloc, ledger, &Next { dest: &dest, now })
 }
 
 fn settle_of<L: Ledger>(
@@ -196,8 +288,30 @@ fn settle_of<L: Ledger>(
     let [uid, dest, end, now] = words else {
         bail!("a row, an outcome and a moment are missing");
     };
-    let end = outcome(end)?;
-    settle(alloc, ledger, uid, dest, end, now.parse()?)
+    let outcome = outcome(end)?;
+    let now = now.parse()?;
+    let uid = text(alloc, uid)?;
+    let dest = text(alloc, dest)?;
+    retried(
+        alloc,
+        ledger,
+        &Settle {
+            uid: &uid,
+            dest: &dest,
+            outcome,
+            now,
+        },
+    )
+}
+
+/// Whether the ledger is of that site, in words.
+fn is_of_site<L: Ledger>(
+    alloc: Global,
+    ledger: &mut L,
+    site: &Site,
+) -> Result<String, anyhow::Error> {
+    let is_of = ledger.is_of(site);
+    Ok(format!(in alloc; "{is_of}")?)
 }
 
 fn is_of<L: Ledger>(
@@ -209,8 +323,14 @@ fn is_of<L: Ledger>(
     let [plan, node] = words else {
         bail!("a plan and a node are missing");
     };
-    let site = named.site(plan, node)?;
-    Ok(format!(in alloc; "{}", ledger.is_of(&site))?)
+    match named.site(plan, node) {
+        Ok(site) => {
+            let answer = is_of_site(alloc, ledger, &site);
+            drop(site);
+            answer
+        }
+        Err(error) => Err(error),
+    }
 }
 
 fn unfit_of<L: Ledger>(
@@ -222,8 +342,38 @@ fn unfit_of<L: Ledger>(
     let [plan] = words else {
         bail!("a plan is missing");
     };
-    let next = named.sealed(plan)?;
-    unfit(alloc, ledger, &next)
+    match named.sealed(plan) {
+        Ok(next) => {
+            let answer = retried(alloc, ledger, &Unfit(&next));
+            drop(next);
+            answer
+        }
+        Err(error) => Err(error),
+    }
+}
+
+/// `adopt`, where the ledger is of that node of the plan, of the next plan of that name.
+fn adopt_next<L: Ledger>(
+    alloc: Global,
+    ledger: &mut L,
+    named: &Named,
+    plan: &Sealed,
+    node: &Text,
+    next: &str,
+) -> Result<String, anyhow::Error> {
+    match named.sealed(next) {
+        Ok(next) => {
+            let call = Adopt {
+                plan,
+                next: &next,
+                node,
+            };
+            let answer = retried(alloc, ledger, &call);
+            drop(next);
+            answer
+        }
+        Err(error) => Err(error),
+    }
 }
 
 fn adopt_of<L: Ledger>(
@@ -235,10 +385,15 @@ fn adopt_of<L: Ledger>(
     let [plan, node, next] = words else {
         bail!("two plans and a node are missing");
     };
-    let sealed = named.sealed(plan)?;
-    let next = named.sealed(next)?;
     let node = text(alloc, node)?;
-    adopt(alloc, ledger, &sealed, &next, &node)
+    match named.sealed(plan) {
+        Ok(plan) => {
+            let answer = adopt_next(alloc, ledger, named, &plan, &node, next);
+            drop(plan);
+            answer
+        }
+        Err(error) => Err(error),
+    }
 }
 
 /// Makes a call, and says what it answers.
@@ -259,7 +414,7 @@ pub fn call<L: Ledger>(
         "has" => of_uid(alloc, ledger, false, words),
         "has_body" => of_uid(alloc, ledger, true, words),
         "report" => whole(alloc, ledger),
-        "lines" => lines(alloc, ledger),
+        "lines" => retried(alloc, ledger, &Lines),
         "unfit" => unfit_of(alloc, ledger, named, words),
         "adopt" => adopt_of(alloc, ledger, named, words),
         "is_of" => is_of(alloc, ledger, named, words),

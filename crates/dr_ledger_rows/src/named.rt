@@ -1,10 +1,8 @@
 //! Plans and items that have names, the last one last.
-use anyhow::{Context, bail};
-use dr_base::Text;
+use anyhow::Context;
 use dr_cert::Sealed;
-use dr_check::{Verdict, check};
 use dr_ledger::Item;
-use dr_plan::read_plan;
+use dr_samples::{sealed, site_of};
 use dr_site::Site;
 use std::alloc::Global;
 
@@ -73,21 +71,18 @@ impl Named {
     /// The plan, sealed with its certificate.
     pub fn sealed(&self, name: &str) -> Result<Sealed, anyhow::Error> {
         let text = self.plan(name).context("an unknown plan")?;
-        let plan = read_plan(self.alloc, text.as_bytes())?;
-        let Verdict::Yes(certificate) = check(self.alloc, &plan)? else {
-            bail!("the plan is not sound");
-        };
-        Ok(Sealed::new(self.alloc, plan, certificate)?)
+        Ok(sealed(self.alloc, text)?)
     }
 
     /// The site of the node.
     pub fn site(&self, plan: &str, node: &str) -> Result<Site, anyhow::Error> {
-        let sealed = self.sealed(plan)?;
-        site_of(self.alloc, &sealed, node)
+        match self.sealed(plan) {
+            Ok(sealed) => {
+                let site = site_of(self.alloc, &sealed, node);
+                drop(sealed);
+                Ok(site?)
+            }
+            Err(error) => Err(error),
+        }
     }
-}
-
-fn site_of(alloc: Global, sealed: &Sealed, node: &str) -> Result<Site, anyhow::Error> {
-    let node = Text::copy_of(alloc, node.as_bytes())?;
-    Ok(Site::of(alloc, sealed, &node)?)
 }

@@ -5,11 +5,11 @@
 //! (`tests/growths`).
 use dr_ledger::{Ledger, LedgerFault};
 use dr_script::put_report;
-use std::alloc::{AllocError, Global};
+use std::alloc::Global;
 use std::fmt::Debug;
 
 /// The answer of a call after which the book isn't as it was, though a growth was refused.
-pub const CHANGED: &str = "Memory, BUT THE BOOK HAS CHANGED";
+const CHANGED: &str = "Memory, BUT THE BOOK HAS CHANGED";
 
 /// What the ledger's book has, as a report.
 pub fn report<L: Ledger>(alloc: Global, ledger: &mut L) -> Result<Vec<u8>, LedgerFault> {
@@ -28,31 +28,55 @@ pub fn report<L: Ledger>(alloc: Global, ledger: &mut L) -> Result<Vec<u8>, Ledge
     Ok(out)
 }
 
-/// An answer as it is printed.
-pub fn told<T: Debug>(
-    alloc: Global,
-    answer: &Result<T, LedgerFault>,
-) -> Result<String, AllocError> {
-    match answer {
-        Ok(value) => format!(in alloc; "{value:?}"),
-        Err(fault) => format!(in alloc; "{fault}"),
+/// A call of a ledger.
+pub trait Asking {
+    /// Makes the call, and says what it answers; None where that is Memory.
+    fn ask<L: Ledger>(
+        &self,
+        alloc: Global,
+        ledger: &mut L,
+    ) -> Result<Option<String>, anyhow::Error>;
+}
+
+/// Words that are an answer, and not Memory.
+pub fn words(found: Result<String, anyhow::Error>) -> Result<Option<String>, anyhow::Error> {
+    Ok(Some(found?))
+}
+
+/// A ledger's fault in words; None for Memory.
+pub fn told_fault(alloc: Global, fault: LedgerFault) -> Result<Option<String>, anyhow::Error> {
+    match fault {
+        LedgerFault::Memory => Ok(None),
+        fault => Ok(Some(format!(in alloc; "{fault}")?)),
     }
 }
 
-/// A call's answer, as `$told` prints it; after Memory that of the same call once more, if the book is as it was.
-macro_rules! retried {
-    ($alloc:expr, $ledger:expr, $told:expr, $call:expr) => {{
-        let before = report($alloc, $ledger)?;
-        let answer = $call;
-        if !matches!(answer, Err(LedgerFault::Memory)) {
-            return Ok($told($alloc, &answer)?);
-        }
-        if report($alloc, $ledger)? != before {
-            return Ok(String::from_str($alloc, CHANGED)?);
-        }
-        let answer = $call;
-        Ok($told($alloc, &answer)?)
-    }};
+/// An answer in words; None for Memory.
+pub fn told<T: Debug + Drop>(
+    alloc: Global,
+    answer: Result<T, LedgerFault>,
+) -> Result<Option<String>, anyhow::Error> {
+    match answer {
+        Ok(value) => Ok(Some(format!(in alloc; "{value:?}")?)),
+        Err(fault) => told_fault(alloc, fault),
+    }
 }
 
-pub(crate) use retried;
+/// A call's answer; after Memory that of the same call once more, if the book is as it was.
+pub fn retried<L: Ledger, C: Asking>(
+    alloc: Global,
+    ledger: &mut L,
+    call: &C,
+) -> Result<String, anyhow::Error> {
+    let before = report(alloc, ledger)?;
+    if let Some(answer) = call.ask(alloc, ledger)? {
+        return Ok(answer);
+    }
+    if report(alloc, ledger)? != before {
+        return Ok(String::from_str(alloc, CHANGED)?);
+    }
+    match call.ask(alloc, ledger)? {
+        Some(answer) => Ok(answer),
+        None => Ok(String::from_str(alloc, "Memory")?),
+    }
+}

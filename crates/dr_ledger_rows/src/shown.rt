@@ -1,4 +1,5 @@
 //! Instances and lines of a journal in words.
+use crate::retried::{told_fault, words};
 use dr_base::{Seq, Text};
 use dr_ledger::{Entry, Job, LedgerFault, Outcome};
 use dr_route::Key;
@@ -15,30 +16,25 @@ pub fn shown(alloc: Global, uid: &Text, key: &Key, length: u64) -> Result<String
     Ok(line)
 }
 
-/// What `next` answers: what is to be sent, with its length.
+/// What is to be sent, with its length.
+fn job_of(alloc: Global, job: &Job) -> Result<String, anyhow::Error> {
+    shown(alloc, &job.uid, &job.key, job.body.len() as u64)
+}
+
+/// What `next` answers: what is to be sent, with its length; None for Memory.
 pub fn told_job(
     alloc: Global,
-    answer: &Result<Option<Job>, LedgerFault>,
-) -> Result<String, anyhow::Error> {
+    answer: Result<Option<Job>, LedgerFault>,
+) -> Result<Option<String>, anyhow::Error> {
     match answer {
-        Ok(Some(job)) => shown(alloc, &job.uid, &job.key, job.body.len() as u64),
-        Ok(None) => Ok(String::from_str(alloc, "nothing")?),
-        Err(fault) => Ok(format!(in alloc; "{fault}")?),
+        Ok(Some(job)) => words(job_of(alloc, &job)),
+        Ok(None) => Ok(Some(String::from_str(alloc, "nothing")?)),
+        Err(fault) => told_fault(alloc, fault),
     }
 }
 
-/// The line of a first arrival.
-fn arrival(
-    alloc: Global,
-    caller: &Text,
-    instance: &str,
-    to: &[Text],
-    keep: bool,
-) -> Result<String, anyhow::Error> {
-    let mut line = String::from_str(alloc, "arrival ")?;
-    line.push_str(str::from_utf8(caller.as_bytes())?)?;
-    line.push(' ')?;
-    line.push_str(instance)?;
+/// Puts the destinations of a first arrival behind a line.
+fn put_targets(line: &mut String, to: &[Text], keep: bool) -> Result<(), anyhow::Error> {
     for dest in to {
         line.push_str(" to ")?;
         line.push_str(str::from_utf8(dest.as_bytes())?)?;
@@ -46,6 +42,35 @@ fn arrival(
     if keep {
         line.push_str(" keep")?;
     }
+    Ok(())
+}
+
+/// The line of a repeat, and the beginning of that of a first arrival.
+fn arrived(
+    alloc: Global,
+    what: &str,
+    caller: &Text,
+    uid: &Text,
+    key: &Key,
+    length: u64,
+) -> Result<String, anyhow::Error> {
+    let instance = shown(alloc, uid, key, length)?;
+    let caller = str::from_utf8(caller.as_bytes())?;
+    Ok(format!(in alloc; "{what} {caller} {instance}")?)
+}
+
+/// The line of a first arrival.
+fn first(
+    alloc: Global,
+    caller: &Text,
+    uid: &Text,
+    key: &Key,
+    length: u64,
+    to: &[Text],
+    keep: bool,
+) -> Result<String, anyhow::Error> {
+    let mut line = arrived(alloc, "arrival", caller, uid, key, length)?;
+    put_targets(&mut line, to, keep)?;
     Ok(line)
 }
 
@@ -68,6 +93,13 @@ fn settling(
     }
 }
 
+/// The line of a requeuing.
+fn requeuing(alloc: Global, uid: &Text, dest: &Text) -> Result<String, anyhow::Error> {
+    let uid = str::from_utf8(uid.as_bytes())?;
+    let dest = str::from_utf8(dest.as_bytes())?;
+    Ok(format!(in alloc; "requeuing {uid} {dest}")?)
+}
+
 /// A line of the journal.
 fn line_of(alloc: Global, entry: &Entry) -> Result<String, anyhow::Error> {
     match entry {
@@ -78,51 +110,47 @@ fn line_of(alloc: Global, entry: &Entry) -> Result<String, anyhow::Error> {
             length,
             to,
             keep,
-        } => {
-            let instance = shown(alloc, uid, key, *length)?;
-            arrival(alloc, caller, instance.as_str(), to.as_slice(), *keep)
-        }
+        } => first(alloc, caller, uid, key, *length, to.as_slice(), *keep),
         Entry::Repeat {
             caller,
             uid,
             key,
             length,
-        } => {
-            let instance = shown(alloc, uid, key, *length)?;
-            let caller = str::from_utf8(caller.as_bytes())?;
-            Ok(format!(in alloc; "repeat {caller} {instance}")?)
-        }
+        } => arrived(alloc, "repeat", caller, uid, key, *length),
         Entry::Settling {
             uid,
             dest,
             outcome,
             now,
         } => settling(alloc, uid, dest, *outcome, *now),
-        Entry::Requeuing { uid, dest } => {
-            let uid = str::from_utf8(uid.as_bytes())?;
-            let dest = str::from_utf8(dest.as_bytes())?;
-            Ok(format!(in alloc; "requeuing {uid} {dest}")?)
-        }
+        Entry::Requeuing { uid, dest } => requeuing(alloc, uid, dest),
         Entry::Adoption => Ok(String::from_str(alloc, "adoption")?),
     }
+}
+
+/// Puts a line of the journal behind a text.
+fn put_line(alloc: Global, text: &mut String, entry: &Entry) -> Result<(), anyhow::Error> {
+    let line = line_of(alloc, entry)?;
+    text.push('\n')?;
+    text.push_str(line.as_str())?;
+    Ok(())
 }
 
 fn all_lines(alloc: Global, entries: &[Entry]) -> Result<String, anyhow::Error> {
     let mut text = String::new(alloc);
     for entry in entries {
-        text.push('\n')?;
-        text.push_str(line_of(alloc, entry)?.as_str())?;
+        put_line(alloc, &mut text, entry)?;
     }
     Ok(text)
 }
 
-/// What `lines` answers: the journal, a line each.
+/// What `lines` answers: the journal, a line each; None for Memory.
 pub fn told_lines(
     alloc: Global,
-    answer: &Result<Seq<Entry>, LedgerFault>,
-) -> Result<String, anyhow::Error> {
+    answer: Result<Seq<Entry>, LedgerFault>,
+) -> Result<Option<String>, anyhow::Error> {
     match answer {
-        Ok(entries) => all_lines(alloc, entries.as_slice()),
-        Err(fault) => Ok(format!(in alloc; "{fault}")?),
+        Ok(entries) => words(all_lines(alloc, entries.as_slice())),
+        Err(fault) => told_fault(alloc, fault),
     }
 }

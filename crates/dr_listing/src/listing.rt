@@ -39,7 +39,9 @@ fn list_node<'a, F: Files, O: Ledgers>(
     ensures { Lists (F.holds files.now given.entry.plan.now) (F.holds files.now given.entry.certificate.now) (O.opens ledgers.now given.entry.ledger.now) O.Ledger.site O.Ledger.book O.Ledger.stands given.entry.node.now result }
 {
     let mut opened = open_node(alloc, files, ledgers, given)?;
-    match list_opened(alloc, &mut opened) {
+    let came = list_opened(alloc, &mut opened);
+    drop(opened);
+    match came {
         Ok(report) => Ok(report),
         Err(fault) => Err(Halt::Refused(fault)),
     }

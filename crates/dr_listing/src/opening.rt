@@ -86,6 +86,25 @@ pub fn ledger_of<'a, O: Ledgers>(
     }
 }
 
+/// The site of a node of the sealed plan, and its ledger.
+fn open_site<'a, O: Ledgers>(
+    alloc: Global,
+    ledgers: &O,
+    sealed: &Sealed,
+    given: NodeFiles<'a>,
+) -> Result<(Site, O::Ledger), Halt<'a>>
+    ensures { MatchResult result (λ o. IsPartOf sealed.now.plan sealed.now.certificate o.0 × (o.0.name ≡ given.entry.node.now) × O.opens ledgers.now given.entry.ledger.now o.1 × (O.Ledger.site o.1 ≡ o.0)) (IsNotThere sealed.now given.entry.node.now) }
+{
+    let site = site_of(alloc, sealed, given.node)?;
+    match ledger_of(alloc, ledgers, given.ledger, &site) {
+        Ok(ledger) => Ok((site, ledger)),
+        Err(halt) => {
+            drop(site);
+            Err(halt)
+        }
+    }
+}
+
 /// Opens a node of the sealed plan.
 fn open_sealed<'a, O: Ledgers>(
     alloc: Global,
@@ -95,13 +114,17 @@ fn open_sealed<'a, O: Ledgers>(
 ) -> Result<Opened<O::Ledger>, Halt<'a>>
     ensures { MatchResult result (λ o. (o.sealed ≡ sealed) × IsPartOf sealed.plan sealed.certificate o.site × (o.site.name ≡ given.entry.node.now) × O.opens ledgers.now given.entry.ledger.now o.ledger × (O.Ledger.site o.ledger ≡ o.site)) (IsNotThere sealed given.entry.node.now) }
 {
-    let site = site_of(alloc, &sealed, given.node)?;
-    let ledger = ledger_of(alloc, ledgers, given.ledger, &site)?;
-    Ok(Opened {
-        sealed,
-        site,
-        ledger,
-    })
+    match open_site(alloc, ledgers, &sealed, given) {
+        Ok((site, ledger)) => Ok(Opened {
+            sealed,
+            site,
+            ledger,
+        }),
+        Err(halt) => {
+            drop(sealed);
+            Err(halt)
+        }
+    }
 }
 
 /// Opens a node: its plan and certificate are read and tested, then its site is taken, and then its ledger is opened. The first

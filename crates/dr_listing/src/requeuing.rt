@@ -51,7 +51,9 @@ fn requeue_node<'a, F: Files, O: Ledgers>(
     ensures { Requeued (F.holds files.now given.entry.plan.now) (F.holds files.now given.entry.certificate.now) (O.opens ledgers.now given.entry.ledger.now) O.Ledger.site O.Ledger.book O.Ledger.stands given.entry.node.now uid.now dest.now result }
 {
     let mut opened = open_node(alloc, files, ledgers, given)?;
-    match requeue_row(alloc, &mut opened.ledger, uid, dest) {
+    let came = requeue_row(alloc, &mut opened.ledger, uid, dest);
+    drop(opened);
+    match came {
         Ok(line) => Ok(line),
         Err(fault) => Err(Halt::Refused(fault)),
     }

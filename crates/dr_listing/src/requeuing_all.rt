@@ -95,7 +95,9 @@ fn requeue_all_node<'a, F: Files, O: Ledgers>(
     ensures { RequeuedAll (F.holds files.now given.entry.plan.now) (F.holds files.now given.entry.certificate.now) (O.opens ledgers.now given.entry.ledger.now) O.Ledger.site O.Ledger.book O.Ledger.stands given.entry.node.now dest.now result }
 {
     let mut opened = open_node(alloc, files, ledgers, given)?;
-    match requeue_held(alloc, &mut opened.ledger, dest) {
+    let came = requeue_held(alloc, &mut opened.ledger, dest);
+    drop(opened);
+    match came {
         Ok(text) => Ok(text),
         Err(fault) => Err(Halt::Refused(fault)),
     }

@@ -195,7 +195,9 @@ fn summarize_node<'a, F: Files, O: Ledgers>(
     ensures { Summarizes (F.holds files.now given.entry.plan.now) (F.holds files.now given.entry.certificate.now) (O.opens ledgers.now given.entry.ledger.now) O.Ledger.site O.Ledger.book O.Ledger.stands given.entry.node.now result }
 {
     let mut opened = open_node(alloc, files, ledgers, given)?;
-    match summarize_opened(alloc, &mut opened) {
+    let came = summarize_opened(alloc, &mut opened);
+    drop(opened);
+    match came {
         Ok(summary) => Ok(summary),
         Err(fault) => Err(Halt::Refused(fault)),
     }

@@ -1,14 +1,12 @@
 //! Worked negotiations.
 use super::plain::{are_answered, conclusion_of, numbers_of, verdict_of};
-use dr_base::{Seq, Syntax, Text};
-use dr_cert::Sealed;
-use dr_check::{Verdict, check};
+use dr_base::{Seq, Syntax};
 use dr_nego::acceptor::answer;
 use dr_nego::{
     Agreed, Answer, Kind, NegoFault, Policy, conclude, propose, propose_echo, put_fragments,
 };
 use dr_pdu::{AssociateAc, AssociateRq, Pdu, decode, encode, fits};
-use dr_plan::read_plan;
+use dr_samples::{SampleFault, name, sealed, site_of};
 use dr_site::Site;
 use std::alloc::Global;
 use std::test::Fail;
@@ -48,26 +46,27 @@ modality = ["CT"]
 station = ["S1"]
 "#;
 
-fn text(alloc: Global, bytes: &str) -> Result<Text, Fail> {
-    Ok(Text::copy_of(alloc, bytes.as_bytes())?)
-}
-
 /// The site of a node of the plan.
-fn site(alloc: Global, node: &str) -> Result<Site, Fail> {
-    let plan = read_plan(alloc, PLAN.as_bytes())?;
-    let Verdict::Yes(certificate) = check(alloc, &plan)? else {
-        return Err(Fail::from("the plan is not sound"));
-    };
-    let sealed = Sealed::new(alloc, plan, certificate)?;
-    Ok(Site::of(alloc, &sealed, &text(alloc, node)?)?)
+fn site(alloc: Global, node: &str) -> Result<Site, SampleFault> {
+    match sealed(alloc, PLAN) {
+        Ok(sealed) => site_of(alloc, &sealed, node),
+        Err(fault) => Err(fault),
+    }
 }
 
-/// What is written of a PDU.
-fn written(alloc: Global, pdu: &Pdu) -> Result<Vec<u8>, Fail> {
+/// What is written of a PDU that fits.
+fn text_of(alloc: Global, pdu: &Pdu) -> Result<Vec<u8>, Fail> {
     if !fits(pdu) {
         return Err(Fail::from("it does not fit"));
     }
     Ok(encode(alloc, pdu)?)
+}
+
+/// What is written of a PDU, which is let go.
+fn written(alloc: Global, pdu: Pdu) -> Result<Vec<u8>, Fail> {
+    let text = text_of(alloc, &pdu);
+    drop(pdu);
+    text
 }
 
 /// The request that a text spells.
@@ -85,37 +84,95 @@ fn acceptance_of(alloc: Global, text: &[u8]) -> Option<AssociateAc> {
     Some(ac)
 }
 
-/// The gateway's request for the archive, or its echo's, as it is written.
-fn request(alloc: Global, is_echo: bool) -> Result<Vec<u8>, Fail> {
-    let rq = if is_echo {
-        propose_echo(alloc, &text(alloc, "GATE")?, &text(alloc, "ARCH")?)?
-    } else {
-        propose(alloc, &site(alloc, "GATE")?, &text(alloc, "ARCH")?)?
-    };
-    written(alloc, &Pdu::AssociateRq(rq))
+/// What a site proposes to a node.
+fn proposed_by(alloc: Global, site: &Site, to: &str) -> Result<AssociateRq, NegoFault> {
+    match name(alloc, to) {
+        Ok(to) => propose(alloc, site, &to),
+        Err(_) => Err(NegoFault::Memory),
+    }
 }
 
-/// The archive's answer to it.
+/// What was found, or a test's failure.
+fn or_fail<T: Drop>(found: Result<T, NegoFault>) -> Result<T, Fail> {
+    Ok(found?)
+}
+
+/// The gateway's request for the archive.
+fn request_for_images(alloc: Global) -> Result<AssociateRq, Fail> {
+    match site(alloc, "GATE") {
+        Ok(gate) => or_fail(proposed_by(alloc, &gate, "ARCH")),
+        Err(fault) => Err(Fail::from(fault)),
+    }
+}
+
+/// The gateway's request for an echo of the archive.
+fn request_for_an_echo(alloc: Global) -> Result<AssociateRq, Fail> {
+    let caller = name(alloc, "GATE")?;
+    let called = name(alloc, "ARCH")?;
+    Ok(propose_echo(alloc, &caller, &called)?)
+}
+
+/// The gateway's request for the archive, or its echo's, as it is written.
+fn request(alloc: Global, is_echo: bool) -> Result<Vec<u8>, Fail> {
+    let asked = match is_echo {
+        true => request_for_an_echo(alloc),
+        false => request_for_images(alloc),
+    };
+    match asked {
+        Ok(rq) => written(alloc, Pdu::AssociateRq(rq)),
+        Err(fail) => Err(fail),
+    }
+}
+
+/// The archive's answer to a request.
+fn answer_of(
+    alloc: Global,
+    archive: &Site,
+    rq: &AssociateRq,
+    others: usize,
+) -> Result<Option<Answer>, Fail> {
+    match answer(alloc, rq, &Policy { site: archive }, others) {
+        Ok(answer) => Ok(Some(answer)),
+        Err(fault) => Err(Fail::from(fault)),
+    }
+}
+
+/// The archive's answer to the request that a text spells, if it spells one.
 fn answer_to(
     alloc: Global,
     archive: &Site,
     text: &[u8],
     others: usize,
 ) -> Result<Option<Answer>, Fail> {
-    let Some(rq) = request_of(alloc, text) else {
-        return Ok(None);
-    };
-    let answer = answer(alloc, &rq, &Policy { site: archive }, others)?;
-    Ok(Some(answer))
+    match request_of(alloc, text) {
+        Some(rq) => answer_of(alloc, archive, &rq, others),
+        None => Ok(None),
+    }
+}
+
+/// The acceptance as it is written, beside what was agreed on.
+fn written_with(alloc: Global, ac: AssociateAc, agreed: Agreed) -> Result<(Vec<u8>, Agreed), Fail> {
+    match written(alloc, Pdu::AssociateAc(ac)) {
+        Ok(text) => Ok((text, agreed)),
+        Err(fail) => Err(fail),
+    }
+}
+
+/// The acceptance of that site as it is written, and what it agreed on.
+fn accepted_by(alloc: Global, archive: &Site, text: &[u8]) -> Result<(Vec<u8>, Agreed), Fail> {
+    match answer_to(alloc, archive, text, 255) {
+        Ok(Some(Answer::Accept(ac, agreed))) => written_with(alloc, ac, agreed),
+        Ok(_) => Err(Fail::from("it is not accepted")),
+        Err(fail) => Err(fail),
+    }
 }
 
 /// The acceptance as it is written, and what the archive agreed on.
 fn accepted(alloc: Global, text: &[u8]) -> Result<(Vec<u8>, Agreed), Fail> {
-    let archive = site(alloc, "ARCH")?;
-    let Some(Answer::Accept(ac, agreed)) = answer_to(alloc, &archive, text, 255)? else {
-        return Err(Fail::from("it is not accepted"));
-    };
-    Ok((written(alloc, &Pdu::AssociateAc(ac))?, agreed))
+    match site(alloc, "ARCH") {
+        Ok(archive) => accepted_by(alloc, &archive, text),
+        Err(fault) => Err(Fail::from(fault)),
+    }
 }
 
 /// How long the request and the acceptance are, and how many contexts and which limit the archive agreed on.
@@ -140,7 +197,7 @@ fn worked_lengths(rt: HostRuntime) -> Result<(), Fail> {
 
 /// What is found in an agreement of context 1 alone: the context of images in either syntax, and those of two ids.
 fn found_in(alloc: Global, agreed: &Agreed) -> Result<bool, Fail> {
-    let image = text(alloc, "1.2.840.10008.5.1.4.1.1.2")?;
+    let image = name(alloc, "1.2.840.10008.5.1.4.1.1.2")?;
     let explicit = agreed.context_for(&image, Syntax::Explicit);
     let implicit = agreed.context_for(&image, Syntax::Implicit);
     Ok(
@@ -151,29 +208,55 @@ fn found_in(alloc: Global, agreed: &Agreed) -> Result<bool, Fail> {
     )
 }
 
+/// What a request's end concludes from an acceptance.
+fn concluded_of(alloc: Global, rq: &AssociateRq, answered: &[u8]) -> Result<Agreed, Fail> {
+    match acceptance_of(alloc, answered) {
+        Some(ac) => or_fail(conclude(alloc, rq, &ac)),
+        None => Err(Fail::from("no acceptance")),
+    }
+}
+
 /// What the gateway concludes from the archive's acceptance.
 fn concluded(alloc: Global, asked: &[u8], answered: &[u8]) -> Result<Agreed, Fail> {
-    let rq = request_of(alloc, asked).ok_or("no request")?;
-    let ac = acceptance_of(alloc, answered).ok_or("no acceptance")?;
-    Ok(conclude(alloc, &rq, &ac)?)
+    match request_of(alloc, asked) {
+        Some(rq) => concluded_of(alloc, &rq, answered),
+        None => Err(Fail::from("no request")),
+    }
+}
+
+/// Whether the archive finds what it agreed on.
+fn is_found_at_the_archive(alloc: Global) -> Result<bool, Fail> {
+    let asked = request(alloc, false)?;
+    let (_, agreed) = accepted(alloc, asked.as_slice())?;
+    found_in(alloc, &agreed)
+}
+
+/// Whether the gateway finds what it concluded.
+fn is_found_at_the_gateway(alloc: Global) -> Result<bool, Fail> {
+    let asked = request(alloc, false)?;
+    let (ac, _) = accepted(alloc, asked.as_slice())?;
+    let agreed = concluded(alloc, asked.as_slice(), ac.as_slice())?;
+    found_in(alloc, &agreed)
 }
 
 #[test]
 fn both_ends_have_the_same_context(rt: HostRuntime) -> Result<(), Fail> {
-    let alloc = rt.alloc();
-    let asked = request(alloc, false)?;
-    let (ac, at_archive) = accepted(alloc, asked.as_slice())?;
-    let at_gate = concluded(alloc, asked.as_slice(), ac.as_slice())?;
-    assert!(rt; found_in(alloc, &at_archive)?);
-    assert!(rt; found_in(alloc, &at_gate)?);
+    assert!(rt; is_found_at_the_archive(rt.alloc())?);
+    assert!(rt; is_found_at_the_gateway(rt.alloc())?);
     Ok(())
+}
+
+/// Why the archive proposes nothing to the gateway.
+fn fault_of_the_archive(alloc: Global) -> Result<Option<NegoFault>, SampleFault> {
+    match site(alloc, "ARCH") {
+        Ok(archive) => Ok(proposed_by(alloc, &archive, "GATE").err()),
+        Err(fault) => Err(fault),
+    }
 }
 
 #[test]
 fn the_archive_proposes_nothing(rt: HostRuntime) -> Result<(), Fail> {
-    let alloc = rt.alloc();
-    let back = propose(alloc, &site(alloc, "ARCH")?, &text(alloc, "GATE")?);
-    assert_eq!(rt; back.err(), Some(NegoFault::NoHop));
+    assert_eq!(rt; fault_of_the_archive(rt.alloc())?, Some(NegoFault::NoHop));
     Ok(())
 }
 
@@ -190,6 +273,19 @@ fn is_plain(rq: &AssociateRq, answer: &Answer, others: usize) -> bool {
     }
 }
 
+/// Whether the archive answers a request as the plain reader does.
+fn is_request_answered_plainly(
+    alloc: Global,
+    archive: &Site,
+    rq: &AssociateRq,
+    others: usize,
+) -> Result<bool, Fail> {
+    match answer(alloc, rq, &Policy { site: archive }, others) {
+        Ok(answer) => Ok(is_plain(rq, &answer, others)),
+        Err(fault) => Err(Fail::from(fault)),
+    }
+}
+
 /// Whether the archive answers the text as the plain reader does.
 fn is_answered_plainly(
     alloc: Global,
@@ -197,11 +293,10 @@ fn is_answered_plainly(
     text: &[u8],
     others: usize,
 ) -> Result<bool, Fail> {
-    let Some(rq) = request_of(alloc, text) else {
-        return Ok(true);
-    };
-    let answer = answer(alloc, &rq, &Policy { site: archive }, others)?;
-    Ok(is_plain(&rq, &answer, others))
+    match request_of(alloc, text) {
+        Some(rq) => is_request_answered_plainly(alloc, archive, &rq, others),
+        None => Ok(true),
+    }
 }
 
 /// Whether it does with each number of other associations.
@@ -239,19 +334,26 @@ fn changes_are_answered(
     Ok(true)
 }
 
-/// Whether each prefix of the request is answered plainly, and the request with each byte changed.
-fn request_is_answered(alloc: Global, is_echo: bool) -> Result<bool, Fail> {
-    let archive = site(alloc, "ARCH")?;
-    let rq = request(alloc, is_echo)?;
+/// Whether each prefix of a request is answered plainly, and the request with each byte changed.
+fn each_is_answered(alloc: Global, archive: &Site, rq: &[u8]) -> Result<bool, Fail> {
     for place in 0..rq.len() {
-        if !is_always_answered_plainly(alloc, &archive, &rq.as_slice()[..place])? {
+        if !is_always_answered_plainly(alloc, archive, &rq[..place])? {
             return Ok(false);
         }
-        if !changes_are_answered(alloc, &archive, rq.as_slice(), place)? {
+        if !changes_are_answered(alloc, archive, rq, place)? {
             return Ok(false);
         }
     }
     Ok(true)
+}
+
+/// The same of the gateway's request, or of its echo's.
+fn request_is_answered(alloc: Global, is_echo: bool) -> Result<bool, Fail> {
+    let rq = request(alloc, is_echo)?;
+    match site(alloc, "ARCH") {
+        Ok(archive) => each_is_answered(alloc, &archive, rq.as_slice()),
+        Err(fault) => Err(Fail::from(fault)),
+    }
 }
 
 #[test]
@@ -288,20 +390,27 @@ fn changes_are_concluded(
     Ok(true)
 }
 
-/// Whether each prefix of the acceptance is concluded plainly, and the acceptance with each byte changed.
-fn acceptance_is_concluded(alloc: Global) -> Result<bool, Fail> {
-    let asked = request(alloc, false)?;
-    let (ac, _agreed) = accepted(alloc, asked.as_slice())?;
-    let rq = request_of(alloc, asked.as_slice()).ok_or("no request")?;
+/// Whether each prefix of an acceptance is concluded plainly, and the acceptance with each byte changed.
+fn each_is_concluded(alloc: Global, rq: &AssociateRq, ac: &[u8]) -> Result<bool, Fail> {
     for place in 0..ac.len() {
-        if !is_concluded_plainly(alloc, &rq, &ac.as_slice()[..place]) {
+        if !is_concluded_plainly(alloc, rq, &ac[..place]) {
             return Ok(false);
         }
-        if !changes_are_concluded(alloc, &rq, ac.as_slice(), place)? {
+        if !changes_are_concluded(alloc, rq, ac, place)? {
             return Ok(false);
         }
     }
     Ok(true)
+}
+
+/// The same of the archive's acceptance.
+fn acceptance_is_concluded(alloc: Global) -> Result<bool, Fail> {
+    let asked = request(alloc, false)?;
+    let (ac, _) = accepted(alloc, asked.as_slice())?;
+    match request_of(alloc, asked.as_slice()) {
+        Some(rq) => each_is_concluded(alloc, &rq, ac.as_slice()),
+        None => Err(Fail::from("no request")),
+    }
 }
 
 #[test]
@@ -310,15 +419,29 @@ fn changed_acceptances_are_concluded_plainly(rt: HostRuntime) -> Result<(), Fail
     Ok(())
 }
 
+/// The request without its contexts.
+fn emptied(alloc: Global, rq: AssociateRq) -> AssociateRq {
+    let mut rq = rq;
+    rq.contexts = Seq::new(alloc);
+    rq
+}
+
+/// The gateway's request as it is written without its contexts.
+fn request_without_contexts(alloc: Global) -> Result<Vec<u8>, Fail> {
+    match request_for_images(alloc) {
+        Ok(rq) => written(alloc, Pdu::AssociateRq(emptied(alloc, rq))),
+        Err(fail) => Err(fail),
+    }
+}
+
 /// How many contexts are answered and agreed on where none is proposed.
 fn of_no_contexts(alloc: Global) -> Result<[usize; 2], Fail> {
-    let asked = request(alloc, false)?;
-    let mut rq = request_of(alloc, asked.as_slice()).ok_or("no request")?;
-    rq.contexts = Seq::new(alloc);
-    let asked = written(alloc, &Pdu::AssociateRq(rq))?;
+    let asked = request_without_contexts(alloc)?;
     let (ac, agreed) = accepted(alloc, asked.as_slice())?;
-    let ac = acceptance_of(alloc, ac.as_slice()).ok_or("no acceptance")?;
-    Ok([ac.contexts.len(), agreed.pairs.len()])
+    match acceptance_of(alloc, ac.as_slice()) {
+        Some(ac) => Ok([ac.contexts.len(), agreed.pairs.len()]),
+        None => Err(Fail::from("no acceptance")),
+    }
 }
 
 #[test]

@@ -1,6 +1,7 @@
 //! The commands over slices and lists, once each: tables of their answers are in tests/plan_cases.py, for the built program.
-use crate::samples::{PLAN, ROWS};
+use crate::samples::ROWS;
 use dr_commands::{Files, Status, run_words};
+use dr_samples::THREE_NODES;
 use std::alloc::Global;
 use std::io;
 use std::test::Fail;
@@ -48,11 +49,16 @@ fn run(
 #[test]
 fn a_sound_plan_is_checked_and_verified(rt: HostRuntime) -> Result<(), Fail> {
     let alloc = rt.alloc();
-    let (status, certificate) = run(alloc, &["check", "plan.toml"], PLAN.as_bytes(), b"")?;
+    let (status, certificate) = run(alloc, &["check", "plan.toml"], THREE_NODES.as_bytes(), b"")?;
     assert_eq!(rt; status.number(), 0);
     assert!(rt; certificate.as_slice().ends_with(ROWS.as_bytes()));
     let words = ["verify", "plan.toml", "certificate"];
-    let (status, printed) = run(alloc, &words, PLAN.as_bytes(), certificate.as_slice())?;
+    let (status, printed) = run(
+        alloc,
+        &words,
+        THREE_NODES.as_bytes(),
+        certificate.as_slice(),
+    )?;
     assert_eq!(rt; status.number(), 0);
     assert!(rt; printed.as_slice() == b"yes\n".as_slice());
     Ok(())

@@ -1,9 +1,9 @@
 //! What the plan of a text holds.
-use crate::samples::PLAN;
 use dr_base::Syntax;
 use dr_network::{Node, Plan};
 use dr_plan::{literals, read_plan};
 use dr_route::{AcceptRow, Callers, Pattern, Rule, StationPattern};
+use dr_samples::THREE_NODES;
 use std::alloc::Global;
 use std::test::Fail;
 
@@ -48,7 +48,7 @@ fn is_sample(alloc: Global, plan: &Plan) -> Result<bool, Fail> {
 
 #[test]
 fn a_plan_holds_what_its_text_says(rt: HostRuntime) -> Result<(), Fail> {
-    let plan = read_plan(rt.alloc(), PLAN.as_bytes())?;
+    let plan = read_plan(rt.alloc(), THREE_NODES.as_bytes())?;
     assert!(rt; is_sample(rt.alloc(), &plan)?);
     Ok(())
 }

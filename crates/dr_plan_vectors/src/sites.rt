@@ -1,34 +1,24 @@
 //! Ranks that a sealed plan gives, and the sites of its nodes.
-use crate::samples::PLAN;
 use dr_base::{Syntax, Text};
 use dr_cert::Sealed;
-use dr_check::{Verdict, check};
-use dr_plan::read_plan;
 use dr_route::Key;
+use dr_samples::{THREE_NODES, name, sealed};
 use dr_site::{Site, SiteFault};
 use std::alloc::Global;
 use std::test::Fail;
 
 /// The plan of three nodes, sealed with its certificate; a copy, which is equal.
-fn sealed(alloc: Global) -> Result<Sealed, Fail> {
-    let plan = read_plan(alloc, PLAN.as_bytes())?;
-    let Verdict::Yes(certificate) = check(alloc, &plan)? else {
-        return Err(Fail::from("the plan is not sound"));
-    };
-    let sealed = Sealed::new(alloc, plan, certificate)?;
+fn copied(alloc: Global) -> Result<Sealed, Fail> {
+    let sealed = sealed(alloc, THREE_NODES)?;
     Ok(sealed.copy()?)
-}
-
-fn text(alloc: Global, bytes: &str) -> Result<Text, Fail> {
-    Ok(Text::copy_of(alloc, bytes.as_bytes())?)
 }
 
 fn key(alloc: Global, modality: &str) -> Result<Key, Fail> {
     Ok(Key {
-        class: text(alloc, "1.2.840.10008.5.1.4.1.1.2")?,
+        class: name(alloc, "1.2.840.10008.5.1.4.1.1.2")?,
         syntax: Syntax::Explicit,
-        modality: text(alloc, modality)?,
-        station: text(alloc, "S1")?,
+        modality: name(alloc, modality)?,
+        station: name(alloc, "S1")?,
     })
 }
 
@@ -40,8 +30,8 @@ fn place(
     modality: &str,
 ) -> Result<(Text, Text, Key), Fail> {
     Ok((
-        text(alloc, caller)?,
-        text(alloc, node)?,
+        name(alloc, caller)?,
+        name(alloc, node)?,
         key(alloc, modality)?,
     ))
 }
@@ -49,7 +39,7 @@ fn place(
 /// The rank that the sealed plan of three nodes gives.
 fn rank_of(alloc: Global, caller: &str, node: &str, modality: &str) -> Result<Option<u32>, Fail> {
     let (caller, node, key) = place(alloc, caller, node, modality)?;
-    let sealed = sealed(alloc)?;
+    let sealed = copied(alloc)?;
     Ok(sealed.rank(&caller, &node, &key))
 }
 
@@ -70,8 +60,8 @@ fn ranks_are_those_of_the_plan(rt: HostRuntime) -> Result<(), Fail> {
 
 /// The site of a node of the plan of three nodes.
 fn site(alloc: Global, node: &str) -> Result<Option<Site>, Fail> {
-    let sealed = sealed(alloc)?;
-    let node = text(alloc, node)?;
+    let sealed = copied(alloc)?;
+    let node = name(alloc, node)?;
     match Site::of(alloc, &sealed, &node) {
         Ok(site) => Ok(Some(site.copy()?)),
         Err(SiteFault::NoNode) => Ok(None),
@@ -111,7 +101,7 @@ fn gate_has_line(alloc: Global, caller: &str, modality: &str) -> Result<bool, Fa
     let Some(site) = site(alloc, "GATE")? else {
         return Ok(false);
     };
-    let caller = text(alloc, caller)?;
+    let caller = name(alloc, caller)?;
     let key = key(alloc, modality)?;
     Ok(site.has_line(&caller, &key))
 }

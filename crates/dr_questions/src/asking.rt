@@ -60,6 +60,7 @@ fn ask_key<W: Write, E: Write>(
     };
     let key = key_of_words(alloc, words);
     let reply = reply_for(alloc, sealed, &site, key);
+    drop(site);
     let status = tell(&reply, output, faults)?;
     Ok(status)
 }
@@ -153,7 +154,9 @@ fn ask_sealed<'a, F: Files, W: Write, E: Write>(
             return Ok(status);
         }
     };
-    respond(alloc, &sealed, question, files, output, faults)
+    let status = respond(alloc, &sealed, question, files, output, faults);
+    drop(sealed);
+    status
 }
 
 /// Answers a question about the plan of a text, whose certificate is in a file, which is read only where the text has a plan.
@@ -176,16 +179,21 @@ fn ask_text<'a, F: Files, W: Write, E: Write>(
             return Ok(answer.status());
         }
     };
-    let second = read_file(alloc, files, certificate)?;
-    ask_sealed(
-        alloc,
-        plan,
-        second.as_slice(),
-        question,
-        files,
-        output,
-        faults,
-    )
+    match read_file(alloc, files, certificate) {
+        Ok(second) => ask_sealed(
+            alloc,
+            plan,
+            second.as_slice(),
+            question,
+            files,
+            output,
+            faults,
+        ),
+        Err(failure) => {
+            drop(plan);
+            Err(failure)
+        }
+    }
 }
 
 /// Answers a question about the plan in the one file, whose certificate is in the other.

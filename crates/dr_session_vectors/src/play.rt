@@ -79,17 +79,39 @@ fn bring<L: Ledger>(
     }
 }
 
+/// What came to the node before comes to its ledger.
+fn bring_all<L: Ledger>(alloc: Global, ledger: &mut L, case: &Case) -> Result<(), Fault> {
+    for (caller, body) in case.has.iter() {
+        bring(alloc, ledger, *caller, body)?;
+    }
+    Ok(())
+}
+
+/// The desk over that ledger, with what came to the node before.
+fn desk_over<L: Ledger + Drop>(
+    alloc: Global,
+    ledger: Refusing<L>,
+    case: &Case,
+) -> Result<LedgerDesk<Refusing<L>>, Fault> {
+    let mut ledger = ledger;
+    match bring_all(alloc, &mut ledger, case) {
+        Ok(()) => {
+            if case.setting.refuses {
+                ledger.refuse_next();
+            }
+            Ok(LedgerDesk { ledger })
+        }
+        Err(fault) => {
+            drop(ledger);
+            Err(fault)
+        }
+    }
+}
+
 /// The desk of the session's node, with what came there before.
 fn desk(alloc: Global, site: &Site, case: &Case) -> Result<Desk, Fault> {
     let site = site.copy()?;
-    let mut ledger = Refusing::new(MemoryLedger::new(alloc, site));
-    for (caller, body) in case.has.iter() {
-        bring(alloc, &mut ledger, *caller, body)?;
-    }
-    if case.setting.refuses {
-        ledger.refuse_next();
-    }
-    Ok(LedgerDesk { ledger })
+    desk_over(alloc, Refusing::new(MemoryLedger::new(alloc, site)), case)
 }
 
 /// The ledger's lines.
@@ -160,6 +182,41 @@ fn tape(alloc: Global, case: &Case, cut: Cut, fails_at: Option<u64>) -> Result<T
     })
 }
 
+/// The end of a play: what its desk has then is read.
+fn end_play<L: Ledger>(
+    alloc: Global,
+    tape: Tape,
+    ending: Ending,
+    ledger: &mut L,
+) -> Result<Played, Fault> {
+    match notes(alloc, ledger) {
+        Ok(notes) => Ok(come_to(tape, ending, notes)),
+        Err(fault) => {
+            drop(tape);
+            Err(fault)
+        }
+    }
+}
+
+/// Plays the session over a link and a desk.
+fn play_over<L: Ledger>(
+    alloc: Global,
+    site: &Site,
+    setting: Setting,
+    tape: Tape,
+    desk: &mut LedgerDesk<L>,
+) -> Result<Played, Fault> {
+    let mut tape = tape;
+    let clock = Still(setting.now);
+    match run(alloc, site, setting, &mut tape, desk, &clock) {
+        Ok(ending) => end_play(alloc, tape, ending, &mut desk.ledger),
+        Err(_) => {
+            drop(tape);
+            Err(Fault::Memory)
+        }
+    }
+}
+
 /// Plays the session, its texts so cut; the link's call of that number fails.
 pub fn play(
     alloc: Global,
@@ -168,12 +225,19 @@ pub fn play(
     cut: Cut,
     fails_at: Option<u64>,
 ) -> Result<Played, Fault> {
-    let mut desk = desk(alloc, site, case)?;
-    let mut tape = tape(alloc, case, cut, fails_at)?;
-    let clock = Still(case.setting.now);
-    let ending = run(alloc, site, case.setting, &mut tape, &mut desk, &clock)?;
-    let notes = notes(alloc, &mut desk.ledger)?;
-    Ok(come_to(tape, ending, notes))
+    let tape = tape(alloc, case, cut, fails_at)?;
+    match desk(alloc, site, case) {
+        Ok(desk) => {
+            let mut desk = desk;
+            let played = play_over(alloc, site, case.setting, tape, &mut desk);
+            drop(desk);
+            played
+        }
+        Err(fault) => {
+            drop(tape);
+            Err(fault)
+        }
+    }
 }
 
 /// What a play came to whose link this was.

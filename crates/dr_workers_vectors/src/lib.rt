@@ -2,8 +2,8 @@
 #![tactic(auto)]
 
 #[cfg(test)]
-mod peer;
+mod empty;
 #[cfg(test)]
-mod samples;
+mod peer;
 #[cfg(test)]
 mod sessions;

@@ -1,9 +1,10 @@
 //! Callers in the same process.
 ghost use Rattle.std.specs.Prelude.{◌≡◌, ◌^◌, ◌-◌};
 
-use crate::samples::{Empty, item, site, text};
+use crate::empty::Empty;
 use dr_base::{Seq, Text};
 use dr_ledger::Ledger;
+use dr_samples::{image, name, site_of_three};
 use dr_session::desk::LedgerDesk;
 use dr_session::wishes::{Kind, Wish, next_wish};
 use dr_session::{Clock, End, Heard, Link, LinkAction, Moment};
@@ -37,12 +38,12 @@ pub struct Peer<L> {
 impl<L: Ledger + Empty + Drop> Peer<L> {
     /// A gateway with one image to send.
     pub fn new(alloc: Global, uid: &str) -> Result<Peer<L>, Fail> {
-        let mut ledger = L::empty(alloc, site(alloc, "GATE")?);
-        ledger.arrive(&text(alloc, "CT1")?, item(alloc, uid, "S1")?)?;
+        let mut ledger = L::empty(alloc, site_of_three(alloc, "GATE")?);
+        ledger.arrive(&name(alloc, "CT1")?, image(alloc, uid, "S1")?)?;
         let (end, actions) = End::request(
             alloc,
-            site(alloc, "GATE")?,
-            &text(alloc, "ARCH")?,
+            site_of_three(alloc, "GATE")?,
+            &name(alloc, "ARCH")?,
             1000,
         )?;
         let mut peer = Peer {

@@ -1,13 +1,14 @@
 //! Sessions on a shared desk at the same time, by workers.
 ghost use Rattle.std.specs.Prelude.{◌≡◌, ◌≤◌, IfOk};
 
+use crate::empty::Empty;
 use crate::peer::{Peer, Still};
-use crate::samples::{Empty, site};
 use crossbeam_channel::{Receiver, Sender, bounded};
 use dr_base::Text;
 use dr_desk::{CloseFault, Desk, Pass, SharedDesk, Sharing};
 use dr_ledger::{Arrived, Ledger, LedgerFault};
 use dr_memory::MemoryLedger;
+use dr_samples::site_of_three;
 use dr_session::{Ended, SessionFault};
 use dr_site::Site;
 use dr_workers::{Connection, Gate, Point, Tally, workers};
@@ -294,7 +295,7 @@ pub fn serve_archive<R: Threads + Wait + Sync, G: Gate + Sync>(
 ) -> Result<Outcomes, Fail>
     requires { (1 ≤ n) × (n ≤ 64) }
 {
-    let own = site(alloc, "ARCH")?;
+    let own = site_of_three(alloc, "ARCH")?;
     let desk = empty_desk(alloc, &own)?;
     share_and_serve::<_, MemoryLedger, Brand, _>(
         rt,

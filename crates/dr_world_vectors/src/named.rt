@@ -1,8 +1,7 @@
 //! Plans that have names, the last one last.
-use anyhow::{Context, bail};
+use anyhow::Context;
 use dr_cert::Sealed;
-use dr_check::{Verdict, check};
-use dr_plan::read_plan;
+use dr_samples::sealed;
 use std::alloc::Global;
 
 #[derive(Drop)]
@@ -47,10 +46,6 @@ impl Named {
     /// The plan, sealed with its certificate.
     pub fn sealed(&self, name: &str) -> Result<Sealed, anyhow::Error> {
         let text = self.text(name).context("an unknown plan")?;
-        let plan = read_plan(self.alloc, text.as_bytes())?;
-        let Verdict::Yes(certificate) = check(self.alloc, &plan)? else {
-            bail!("the plan is not sound");
-        };
-        Ok(Sealed::new(self.alloc, plan, certificate)?)
+        Ok(sealed(self.alloc, text)?)
     }
 }

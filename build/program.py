@@ -1,9 +1,9 @@
 #!/usr/bin/env python3
-"""Proves and builds the libraries below a program, side by side: `build/libraries.py PROGRAM LOG`.
+"""Proves and builds a program, the libraries below it side by side: `build/program.py PROGRAM LOG`.
 
 Each library is proved by `rt lib`, which holds all crates below it while it runs; so each runs in a folder of its own, to which the
-files of these crates are linked, and what it made is brought into the checkout when it has ended well. A library that is built
-already is left as it is. One line a library goes to standard error, and all that `rt` says to the file LOG.
+files of these crates are linked, and what it made is brought into the checkout when it has ended well. The program comes last, by
+`rt run`. What has been proved isn't proved again. One line a crate goes to standard error, and all that `rt` says to the file LOG.
 """
 import fcntl
 import os
@@ -14,30 +14,10 @@ import sys
 import tempfile
 import time
 
-TOP = os.path.dirname(os.path.dirname(os.path.realpath(__file__)))
-# What a library is made from, and what was made of it.
-PARTS = ("src", "specs", "proofs", "out/rlib")
+from rooms import TOP, below, furnish, listed
+
 # The memory that one check takes at most, but for the largest crates.
 ROOM = 2_500_000_000
-
-
-def listed():
-    """Each crate of the repository with those of its libraries that are the repository's own."""
-    uses = {}
-    with open(f"{TOP}/crates.txt", encoding="utf-8") as file:
-        for line in file:
-            if ":" in line and not line.startswith("#"):
-                name, _, libraries = line.partition(":")
-                uses[name.split()[0]] = libraries.split()
-    return {name: [it for it in libraries if it in uses] for name, libraries in uses.items()}
-
-
-def below(uses, name):
-    """The libraries below a crate, each after those that it uses."""
-    found = []
-    for library in uses[name]:
-        found += [it for it in [*below(uses, library), library] if it not in found]
-    return found
 
 
 def work_of(name):
@@ -57,12 +37,9 @@ def lanes():
     return max(1, min(len(os.sched_getaffinity(0)), free // ROOM))
 
 
-def link(source, target):
-    """One more name for a file, or a copy where the file system has no such links."""
-    try:
-        os.link(source, target)
-    except OSError:
-        shutil.copy2(source, target)
+def tell(done, count, name, began):
+    """Says that a crate is proved, and how many are."""
+    print(f"[{done:2}/{count}] {name} .. proved in {time.monotonic() - began:.0f} s", file=sys.stderr, flush=True)
 
 
 class Library:
@@ -71,15 +48,7 @@ class Library:
     def __init__(self, uses, name, room, jobs):
         self.name, self.jobs, self.began = name, jobs, time.monotonic()
         self.folder = f"{room}/{name}"
-        os.makedirs(f"{self.folder}/crates")
-        crates = [*below(uses, name), name]
-        with open(f"{TOP}/crates.txt", encoding="utf-8") as file, open(f"{self.folder}/crates.txt", "w", encoding="utf-8") as own:
-            own.writelines(line for line in file if line.split(":")[0].split()[:1] in [[it] for it in crates])
-        for crate in crates:
-            for part in (*PARTS, *["out/incremental"] * (crate == name)):
-                source = f"{TOP}/crates/{crate}/{part}"
-                if os.path.isdir(source):
-                    shutil.copytree(source, f"{self.folder}/crates/{crate}/{part}", copy_function=link)
+        furnish(uses, name, self.folder)
         self.log = open(f"{self.folder}/log", "w+", encoding="utf-8", errors="replace")
         self.process = subprocess.Popen(
             ["rt", "lib", "--jobs", str(jobs)],
@@ -105,18 +74,19 @@ class Library:
         return self.process.returncode == 0
 
 
-def build(uses, program, room, log):
-    """Proves the libraries, first those with the longest chain of others above them; whether all ended well."""
-    left = below(uses, program)
-    count, cores, done, running = len(left), lanes(), set(), []
+def build_libraries(uses, libraries, room, log):
+    """Proves these libraries, each of which stands after those below it, first those with the longest chain of others above them; whether all ended well."""
+    left = [*libraries]
+    count, cores, done, running, failed = len(left) + 1, lanes(), set(), [], False
     above = {it: work_of(it) for it in left}
     for name in reversed(left):
         for library in uses[name]:
             above[library] = max(above[library], work_of(library) + above[name])
-    while left or running:
+    while running or (left and not failed):
         ready = sorted((it for it in left if done.issuperset(uses[it])), key=lambda it: -above[it])
         idle = cores - sum(it.jobs for it in running)
-        for at, name in enumerate(ready[:idle]):
+        # After a failure nothing more is begun, but what is running ends, so that its work is kept.
+        for at, name in enumerate(ready[: 0 if failed else idle]):
             jobs = max(1, idle // (len(ready) - at))
             idle -= jobs
             left.remove(name)
@@ -124,27 +94,41 @@ def build(uses, program, room, log):
         time.sleep(0.1)
         for library in [it for it in running if it.process.poll() is not None]:
             running.remove(library)
-            if not library.end(log):
-                for it in running:
-                    it.process.terminate()
-                    it.process.wait()
-                return False
-            done.add(library.name)
-            took = time.monotonic() - library.began
-            print(f"[{len(done):2}/{count}] {library.name} .. proved in {took:.0f} s", file=sys.stderr, flush=True)
-    return True
+            if library.end(log):
+                done.add(library.name)
+                tell(len(done), count, library.name, library.began)
+            else:
+                failed = True
+                print(f"{library.name} .. NOT proved", file=sys.stderr, flush=True)
+    return not failed
+
+
+def build_program(program, count, log):
+    """Proves and builds the program over its libraries, and runs it once for its help; whether it ended well."""
+    began = time.monotonic()
+    log.write(f"== {program}\n")
+    log.flush()
+    words = ["rt", "run", "--", "--help"]
+    status = subprocess.call(words, cwd=f"{TOP}/crates/{program}", stdin=subprocess.DEVNULL, stdout=log, stderr=subprocess.STDOUT)
+    if status == 0:
+        tell(count, count, program, began)
+    return status == 0
 
 
 def main(program, log):
-    with open(f"{TOP}/crates.txt", encoding="utf-8") as lock:
+    uses = listed()
+    out = f"{TOP}/crates/{program}/out"
+    os.makedirs(out, exist_ok=True)
+    with open(f"{TOP}/crates.txt", encoding="utf-8") as lock, open(log, "a", encoding="utf-8") as file:
         # One build at a time; what waits finds all that it wants built.
         fcntl.flock(lock, fcntl.LOCK_EX)
-        room = tempfile.mkdtemp(prefix="building-", dir=f"{TOP}/crates/{program}")
+        room = tempfile.mkdtemp(prefix="building-", dir=out)
+        libraries = below(uses, program)
         try:
-            with open(log, "a", encoding="utf-8") as file:
-                return 0 if build(listed(), program, room, file) else 1
+            is_built = build_libraries(uses, libraries, room, file)
         finally:
             shutil.rmtree(room, ignore_errors=True)
+        return 0 if is_built and build_program(program, len(libraries) + 1, file) else 1
 
 
 if __name__ == "__main__":
