@@ -136,6 +136,9 @@ fn remains_of(alloc: Global, files: Files<Fused>) -> Result<Remains, anyhow::Err
     })
 }
 
+/// How many pages that were read are kept. Their room is taken at once, so that many would make each opening a slow one.
+const CACHE_PAGES: usize = 32;
+
 fn open_files(
     alloc: Global,
     files: Files<Fused>,
@@ -145,6 +148,7 @@ fn open_files(
         return Err(files);
     }
     let mut options = Options::new(7);
+    options.cache_pages = CACHE_PAGES;
     options.checkpoint_frames = frames;
     match Connection::open_files(alloc, files, options) {
         Ok(conn) => Ok(conn),

@@ -108,7 +108,10 @@ struct Sites {
 fn sites_with(named: &Named, site: Site, next: &str, node: &str) -> Result<Sites, anyhow::Error> {
     match named.site(next, node) {
         Ok(next) => Ok(Sites { site, next }),
-        Err(error) => Err(error),
+        Err(error) => {
+            drop(site);
+            Err(error)
+        }
     }
 }
 
@@ -120,6 +123,30 @@ fn sites_of(named: &Named, plan: &str, node: &str, next: &str) -> Result<Sites, 
     }
 }
 
+/// A call under each stop, between these sites.
+fn stop_between<R: Wait, O: Ledgers>(
+    rt: &R,
+    ledgers: &O,
+    alloc: Global,
+    image: &Image,
+    named: &Named,
+    sites: &Sites,
+    frames: usize,
+    call: &[&str],
+) -> Result<(String, Image), anyhow::Error> {
+    let [what, words @ ..] = call else {
+        bail!("a call is missing");
+    };
+    let act = Act {
+        what,
+        words,
+        site: &sites.site,
+        next: &sites.next,
+        frames,
+    };
+    stop(rt, ledgers, alloc, image, &act, named)
+}
+
 /// A call under each stop: `FRAMES PLAN NODE NEXT CALL`.
 fn stopped<R: Wait, O: Ledgers>(
     rt: &R,
@@ -129,19 +156,18 @@ fn stopped<R: Wait, O: Ledgers>(
     named: &Named,
     words: &[&str],
 ) -> Result<(String, Image), anyhow::Error> {
-    let [frames, plan, node, next, what, words @ ..] = words else {
-        bail!("a number, two plans, a node and a call are missing");
+    let [frames, plan, node, next, call @ ..] = words else {
+        bail!("a number, two plans and a node are missing");
     };
     let frames = frames.parse()?;
-    let sites = sites_of(named, plan, node, next)?;
-    let act = Act {
-        what,
-        words,
-        site: &sites.site,
-        next: &sites.next,
-        frames,
-    };
-    stop(rt, ledgers, alloc, image, &act, named)
+    match sites_of(named, plan, node, next) {
+        Ok(sites) => {
+            let came = stop_between(rt, ledgers, alloc, image, named, &sites, frames, call);
+            drop(sites);
+            came
+        }
+        Err(error) => Err(error),
+    }
 }
 
 impl<'a, R: Wait, O: Ledgers> Playing<'a, R, O> {
