@@ -93,7 +93,7 @@ class Progress:
 
     def note(self, line):
         """Takes in what a line of the run says."""
-        found = re.match(r"rt: (\w+) proved", line)
+        found = re.match(r"rt: (\w+) (?:proved|is kept)", line)
         if found and found[1] in self.work:
             self.proved.add(found[1])
 
