@@ -4,6 +4,7 @@ mod Found
 mod Goaled
 mod Journals
 pub mod Needed
+pub mod Less
 mod Stocked
 mod Together
 mod Told

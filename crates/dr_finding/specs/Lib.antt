@@ -2,6 +2,8 @@ pub mod Found
 pub mod Goals
 pub mod Journal
 pub mod Needs
+pub mod Older
+pub mod OlderTables
 pub mod Stock
 pub mod Tables
 pub mod Telling

@@ -5,12 +5,15 @@
 pub mod agreeing;
 pub mod fault;
 pub mod goals;
+pub mod laws;
 pub mod lines;
 pub mod needs;
+pub mod older;
 pub mod schema;
 pub mod stock;
 pub mod telling;
 
 pub use agreeing::agree;
 pub use fault::FindingFault;
+pub use older::{Lacks, lacking};
 pub use schema::is_ours;

@@ -1,6 +1,6 @@
 //! Whether the tables of a file are those of a ledger.
 ghost use Rattle.std.specs.Prelude.{◌≡◌, IsTrue, [], ◌∷◌, IfSome, true};
-ghost use Rattle.dr_tables.specs.Tables.{arrival_table, column_named, item_table, journal_table, kept_table, print_table, queue_table, refers, site_table, tables, target_table};
+ghost use Rattle.dr_tables.specs.Tables.{arrival, arrival_table, column_named, item_table, journal, journal_table, kept, kept_table, print_table, queue, queue_table, refers, site_table, tables, target, target_table};
 ghost use Rattle.dr_finding.specs.Tables.{HasNothingMore, index_of, keyed, ledger_indexes, ledger_schema, ledger_tables, numbered};
 
 use sqlite_items::Items;
@@ -315,10 +315,10 @@ fn is_print(table: &Table) -> bool
     is_one_reference(table.references.as_slice(), 1, b"item", b"uid")
 }
 
-fn is_arrival(table: &Table) -> bool
-    ensures { IsTrue result → table.now ≡ arrival_table }
+fn is_arrival(table: &Table, tree: u32) -> bool
+    ensures { IsTrue result → table.now ≡ record arrival { tree = tree } }
 {
-    if !is_keyed(table, b"arrival", 5, &[1, 2]) {
+    if !is_keyed(table, b"arrival", tree, &[1, 2]) {
         return false;
     }
     if are_arrival_columns(table.columns.as_slice()).is_none() {
@@ -327,10 +327,10 @@ fn is_arrival(table: &Table) -> bool
     is_one_reference(table.references.as_slice(), 2, b"item", b"uid")
 }
 
-fn is_kept(table: &Table) -> bool
-    ensures { IsTrue result → table.now ≡ kept_table }
+fn is_kept(table: &Table, tree: u32) -> bool
+    ensures { IsTrue result → table.now ≡ record kept { tree = tree } }
 {
-    if !is_keyed(table, b"kept", 7, &[1]) {
+    if !is_keyed(table, b"kept", tree, &[1]) {
         return false;
     }
     if are_kept_columns(table.columns.as_slice()).is_none() {
@@ -339,10 +339,10 @@ fn is_kept(table: &Table) -> bool
     is_one_reference(table.references.as_slice(), 1, b"item", b"uid")
 }
 
-fn is_queue(table: &Table) -> bool
-    ensures { IsTrue result → table.now ≡ queue_table }
+fn is_queue(table: &Table, tree: u32) -> bool
+    ensures { IsTrue result → table.now ≡ record queue { tree = tree } }
 {
-    if !is_keyed(table, b"queue", 9, &[1, 2]) {
+    if !is_keyed(table, b"queue", tree, &[1, 2]) {
         return false;
     }
     if are_queue_columns(table.columns.as_slice()).is_none() {
@@ -351,10 +351,10 @@ fn is_queue(table: &Table) -> bool
     is_one_reference(table.references.as_slice(), 1, b"item", b"uid")
 }
 
-fn is_journal(table: &Table) -> bool
-    ensures { IsTrue result → table.now ≡ journal_table }
+fn is_journal(table: &Table, tree: u32) -> bool
+    ensures { IsTrue result → table.now ≡ record journal { tree = tree } }
 {
-    if !is_numbered(table, b"journal", 11) {
+    if !is_numbered(table, b"journal", tree) {
         return false;
     }
     if are_journal_columns(table.columns.as_slice()).is_none() {
@@ -363,10 +363,10 @@ fn is_journal(table: &Table) -> bool
     is_one_reference(table.references.as_slice(), 4, b"item", b"uid")
 }
 
-fn is_target(table: &Table) -> bool
-    ensures { IsTrue result → table.now ≡ target_table }
+fn is_target(table: &Table, tree: u32) -> bool
+    ensures { IsTrue result → table.now ≡ record target { tree = tree } }
 {
-    if !is_keyed(table, b"target", 12, &[1, 2]) {
+    if !is_keyed(table, b"target", tree, &[1, 2]) {
         return false;
     }
     if are_target_columns(table.columns.as_slice()).is_none() {
@@ -378,7 +378,7 @@ fn is_target(table: &Table) -> bool
 // ---- the indexes
 
 /// Whether the index is that one, in which all columns ascend.
-fn is_index(
+pub(crate) fn is_index(
     index: &Index,
     name: &[u8],
     tree: u32,
@@ -398,7 +398,7 @@ fn is_index(
 }
 
 /// The indexes after the first one, if that one is the index of a key.
-fn after_key<'x>(
+pub(crate) fn after_key<'x>(
     indexes: &'x [Index],
     name: &[u8],
     tree: u32,
@@ -436,7 +436,7 @@ fn are_indexes(indexes: &[Index]) -> Option<&[Index]>
 }
 
 /// The tables after site, if that one is the first.
-fn after_site(tables: &[Table]) -> Option<&[Table]>
+pub(crate) fn after_site(tables: &[Table]) -> Option<&[Table]>
     ensures { IfSome result (λ rest. tables.now ≡ site_table ∷ rest.now) }
 {
     let [first, rest @ ..] = tables else {
@@ -449,7 +449,7 @@ fn after_site(tables: &[Table]) -> Option<&[Table]>
 }
 
 /// The tables after item, if that one is the first.
-fn after_item(tables: &[Table]) -> Option<&[Table]>
+pub(crate) fn after_item(tables: &[Table]) -> Option<&[Table]>
     ensures { IfSome result (λ rest. tables.now ≡ item_table ∷ rest.now) }
 {
     let [first, rest @ ..] = tables else {
@@ -462,7 +462,7 @@ fn after_item(tables: &[Table]) -> Option<&[Table]>
 }
 
 /// The tables after print, if that one is the first.
-fn after_print(tables: &[Table]) -> Option<&[Table]>
+pub(crate) fn after_print(tables: &[Table]) -> Option<&[Table]>
     ensures { IfSome result (λ rest. tables.now ≡ print_table ∷ rest.now) }
 {
     let [first, rest @ ..] = tables else {
@@ -475,65 +475,65 @@ fn after_print(tables: &[Table]) -> Option<&[Table]>
 }
 
 /// The tables after arrival, if that one is the first.
-fn after_arrival(tables: &[Table]) -> Option<&[Table]>
-    ensures { IfSome result (λ rest. tables.now ≡ arrival_table ∷ rest.now) }
+pub(crate) fn after_arrival(tables: &[Table], tree: u32) -> Option<&[Table]>
+    ensures { IfSome result (λ rest. tables.now ≡ record arrival { tree = tree } ∷ rest.now) }
 {
     let [first, rest @ ..] = tables else {
         return None;
     };
-    if is_arrival(first) {
+    if is_arrival(first, tree) {
         return Some(rest);
     }
     None
 }
 
 /// The tables after kept, if that one is the first.
-fn after_kept(tables: &[Table]) -> Option<&[Table]>
-    ensures { IfSome result (λ rest. tables.now ≡ kept_table ∷ rest.now) }
+pub(crate) fn after_kept(tables: &[Table], tree: u32) -> Option<&[Table]>
+    ensures { IfSome result (λ rest. tables.now ≡ record kept { tree = tree } ∷ rest.now) }
 {
     let [first, rest @ ..] = tables else {
         return None;
     };
-    if is_kept(first) {
+    if is_kept(first, tree) {
         return Some(rest);
     }
     None
 }
 
 /// The tables after queue, if that one is the first.
-fn after_queue(tables: &[Table]) -> Option<&[Table]>
-    ensures { IfSome result (λ rest. tables.now ≡ queue_table ∷ rest.now) }
+pub(crate) fn after_queue(tables: &[Table], tree: u32) -> Option<&[Table]>
+    ensures { IfSome result (λ rest. tables.now ≡ record queue { tree = tree } ∷ rest.now) }
 {
     let [first, rest @ ..] = tables else {
         return None;
     };
-    if is_queue(first) {
+    if is_queue(first, tree) {
         return Some(rest);
     }
     None
 }
 
 /// The tables after journal, if that one is the first.
-fn after_journal(tables: &[Table]) -> Option<&[Table]>
-    ensures { IfSome result (λ rest. tables.now ≡ journal_table ∷ rest.now) }
+pub(crate) fn after_journal(tables: &[Table], tree: u32) -> Option<&[Table]>
+    ensures { IfSome result (λ rest. tables.now ≡ record journal { tree = tree } ∷ rest.now) }
 {
     let [first, rest @ ..] = tables else {
         return None;
     };
-    if is_journal(first) {
+    if is_journal(first, tree) {
         return Some(rest);
     }
     None
 }
 
 /// The tables after target, if that one is the first.
-fn after_target(tables: &[Table]) -> Option<&[Table]>
-    ensures { IfSome result (λ rest. tables.now ≡ target_table ∷ rest.now) }
+pub(crate) fn after_target(tables: &[Table], tree: u32) -> Option<&[Table]>
+    ensures { IfSome result (λ rest. tables.now ≡ record target { tree = tree } ∷ rest.now) }
 {
     let [first, rest @ ..] = tables else {
         return None;
     };
-    if is_target(first) {
+    if is_target(first, tree) {
         return Some(rest);
     }
     None
@@ -546,11 +546,11 @@ fn are_tables(tables: &[Table]) -> Option<&[Table]>
     let rest = after_site(tables)?;
     let rest = after_item(rest)?;
     let rest = after_print(rest)?;
-    let rest = after_arrival(rest)?;
-    let rest = after_kept(rest)?;
-    let rest = after_queue(rest)?;
-    let rest = after_journal(rest)?;
-    let rest = after_target(rest)?;
+    let rest = after_arrival(rest, 5)?;
+    let rest = after_kept(rest, 7)?;
+    let rest = after_queue(rest, 9)?;
+    let rest = after_journal(rest, 11)?;
+    let rest = after_target(rest, 12)?;
     let [] = rest else {
         return None;
     };

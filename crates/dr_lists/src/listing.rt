@@ -217,7 +217,7 @@ fn keys_rise<K: Ord>(keys: &[K]) -> bool
 // ---- the rows of an answer, whose keys have to rise
 
 /// Uids with keys.
-fn key_entries(alloc: Global, rows: &[Row]) -> Result<Vec<(Text, Key)>, LedgerFault>
+pub fn key_entries(alloc: Global, rows: &[Row]) -> Result<Vec<(Text, Key)>, LedgerFault>
     ensures { Reads result (λ all. (all.items ≡ mapped shown_key_entry rows.now) × T (is_sorted text_cmp all.items)) }
 {
     let entries = read_all::<(Text, Key)>(alloc, rows)?;
@@ -228,7 +228,7 @@ fn key_entries(alloc: Global, rows: &[Row]) -> Result<Vec<(Text, Key)>, LedgerFa
 }
 
 /// Uids with prints.
-fn print_entries(alloc: Global, rows: &[Row]) -> Result<Vec<(Text, Print)>, LedgerFault>
+pub fn print_entries(alloc: Global, rows: &[Row]) -> Result<Vec<(Text, Print)>, LedgerFault>
     ensures { Reads result (λ all. (all.items ≡ mapped shown_print_entry rows.now) × T (is_sorted text_cmp all.items)) }
 {
     let entries = read_all::<(Text, Print)>(alloc, rows)?;
@@ -239,7 +239,10 @@ fn print_entries(alloc: Global, rows: &[Row]) -> Result<Vec<(Text, Print)>, Ledg
 }
 
 /// Uids and destinations, with how far each is.
-fn row_entries(alloc: Global, rows: &[Row]) -> Result<Vec<((Text, Text), Progress)>, LedgerFault>
+pub fn row_entries(
+    alloc: Global,
+    rows: &[Row],
+) -> Result<Vec<((Text, Text), Progress)>, LedgerFault>
     ensures { Reads result (λ all. (all.items ≡ mapped shown_entry rows.now) × T (is_sorted pair_cmp all.items)) }
 {
     let entries = read_all::<((Text, Text), Progress)>(alloc, rows)?;
@@ -250,7 +253,7 @@ fn row_entries(alloc: Global, rows: &[Row]) -> Result<Vec<((Text, Text), Progres
 }
 
 /// Numbers with notes.
-fn note_entries(alloc: Global, rows: &[Row]) -> Result<Vec<(u64, Note)>, LedgerFault>
+pub fn note_entries(alloc: Global, rows: &[Row]) -> Result<Vec<(u64, Note)>, LedgerFault>
     ensures { Reads result (λ all. (all.items ≡ mapped shown_note_entry rows.now) × T (is_sorted nat_cmp all.items)) }
 {
     let entries = read_all::<(u64, Note)>(alloc, rows)?;
@@ -261,7 +264,7 @@ fn note_entries(alloc: Global, rows: &[Row]) -> Result<Vec<(u64, Note)>, LedgerF
 }
 
 /// Pairs of texts.
-fn pair_keys(alloc: Global, rows: &[Row]) -> Result<Vec<(Text, Text)>, LedgerFault>
+pub fn pair_keys(alloc: Global, rows: &[Row]) -> Result<Vec<(Text, Text)>, LedgerFault>
     ensures { Reads result (λ all. (all.items ≡ mapped shown_pair rows.now) × IsStrictlySortedBy pair_cmp all.items) }
 {
     let keys = read_all::<(Text, Text)>(alloc, rows)?;
@@ -272,7 +275,7 @@ fn pair_keys(alloc: Global, rows: &[Row]) -> Result<Vec<(Text, Text)>, LedgerFau
 }
 
 /// Texts.
-fn text_keys(alloc: Global, rows: &[Row]) -> Result<Vec<Text>, LedgerFault>
+pub fn text_keys(alloc: Global, rows: &[Row]) -> Result<Vec<Text>, LedgerFault>
     ensures { Reads result (λ all. (all.items ≡ mapped shown_text rows.now) × IsStrictlySortedBy text_cmp all.items) }
 {
     let keys = read_all::<Text>(alloc, rows)?;
@@ -283,7 +286,7 @@ fn text_keys(alloc: Global, rows: &[Row]) -> Result<Vec<Text>, LedgerFault>
 }
 
 /// Numbers and names.
-fn goal_keys(alloc: Global, rows: &[Row]) -> Result<Vec<(u64, Text)>, LedgerFault>
+pub fn goal_keys(alloc: Global, rows: &[Row]) -> Result<Vec<(u64, Text)>, LedgerFault>
     ensures { Reads result (λ all. (all.items ≡ mapped shown_goal rows.now) × IsStrictlySortedBy goal_cmp all.items) }
 {
     let keys = read_all::<(u64, Text)>(alloc, rows)?;

@@ -1,3 +1,6 @@
+mod Answered
+mod Blank
 mod Chains
 mod Filling
+mod Queried
 mod Wholly

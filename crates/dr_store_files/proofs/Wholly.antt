@@ -1,5 +1,5 @@
 -- What comparing and reading again say of the tables.
-use Rattle.std.proofs.Common.{◌≡◌, ◌+◌, ◌⊎◌, ◌∷◌, [], ℕ, Bool, List, length, Contains, Option, Some, None, Ok, Err, Result, cond, option_map, refl, sym, ap, subst, ◌∙◌, IsTrue, arith}
+use Rattle.std.proofs.Common.{◌≡◌, ◌+◌, ◌⊎◌, ◌∷◌, [], ℕ, Bool, List, length, Contains, Option, Some, None, Ok, Err, Result, cond, inl, option_map, refl, sym, ap, subst, ◌∙◌, IsTrue, arith}
 use Rattle.std.specs.Prelude.{All}
 use Rattle.std.specs.FinMap as map
 use Rattle.std.proofs.lemmas.List.{length-map}
@@ -25,7 +25,9 @@ use Rattle.dr_lists.specs.declared.listing.Note.{Note}
 use Rattle.dr_lists.proofs.Alike.{keys_and_prints}
 use Rattle.dr_finding.specs.Found.{IsFound}
 use Rattle.dr_finding.proofs.Needed.{both_parts, found_listed, whole_is, whole_print}
-use Rattle.dr_store_files.specs.Opening.{AreOwnUnder, AreReadIf, AreTested, HasNewLedger, IfFound, IsAgreedIf, IsLedgerFound, IsNext, IsOpened, IsOwn, IsOwnedBy, IsSpelled, IsWholeIf, LeavesOldOrCommitted, StaysAsFound}
+use Rattle.dr_tables.specs.Tables.{tables}
+use Rattle.dr_store_files.specs.Renewing.{KeepsRows}
+use Rattle.dr_store_files.specs.Opening.{AreOwnUnder, AreReadIf, AreTested, HasNewLedger, IfFound, IsBroughtOver, IsAgreedIf, IsLedgerFound, IsNext, IsOpened, IsOwn, IsOwnedBy, IsSpelled, IsWholeIf, LeavesOldOrCommitted, StaysAsFound}
 
 -- a data set that was read again is the instance's
 pub own_job : (db : Trees) (uid : Text) (job : Job) (print : Print) → IsJobOf uid db (Some job) → IsItem job → IsSpelled job print → map.get (prints_of db) uid ≡ Some (print.size, print.digest) → IsOwn uid db
@@ -76,7 +78,7 @@ whole_if part db (Some n) agrees owned = (agrees, owned)
 -- ---- an opening
 
 pub none_opened : (part : Part) (s : State) → IsOpened part (Ok None) s s
-none_opened part s = record { kept = λ clean. tt; leaves = λ clean db left. left; clean = omega arith; idle = λ h. h }
+none_opened part s = record { has = tt; kept = λ clean. tt; leaves = λ clean db left. left; clean = omega arith; idle = λ h. h }
 
 module _ (part : Part) (old new : State) (has : HasTables old.now) (live : IsLive old) (settled : IsTrue old.is_open → old.now ≡ old.committed) where
   -- what the tables showed, and what of them was tested
@@ -84,8 +86,13 @@ module _ (part : Part) (old new : State) (has : HasTables old.now) (live : IsLiv
   ShowsAll db found = AreTested db.trees × IsWholeIf part db.trees found
 
   pub opened : (r : Result (Option ℕ) LedgerFault) → Asked HasTables r old new (ShowsAll old.now) → IsOpened part r old new
-  opened r a = record { kept = λ clean. found clean r a; leaves = λ clean db left. a.leaves clean has db left; clean = a.clean; idle = a.idle }
+  opened r a = record { has = named r; kept = λ clean. found clean r a; leaves = λ clean db left. a.leaves clean has db left; clean = a.clean; idle = a.idle }
     where
+      named : (r : Result (Option ℕ) LedgerFault) → IfFound r (λ n. HasTables old.now)
+      named (Ok None) = tt
+      named (Ok (Some n)) = has
+      named (Err why) = tt
+
       found : HasCleanDisk new → (r : Result (Option ℕ) LedgerFault) → Asked HasTables r old new (ShowsAll old.now) → IfFound r (λ n. IsLedgerFound n part old new)
       found clean (Ok None) a = tt
       found clean (Err why) a = tt
@@ -122,13 +129,32 @@ no_lines n part s kept next first =
     no_element [] none = refl
     no_element (line ∷ lines) none = absurd (omega (arith, none))
 
+-- what was left before is left still, or what is committed
+pub found_left : (n : ℕ) (part : Part) (old mid new : State) → IsLedgerFound n part mid new → ((db : Trees) → new.may_leave db → mid.may_leave db) → LeavesOldOrCommitted old mid → LeavesOldOrCommitted old new
+found_left n part old mid new is leaves left = λ db h. let P : Database → Type 0 = λ d. old.may_leave db ⊎ (db ≡ d.trees) in subst P (sym is.same) (left db (leaves db h))
+
 -- tables that were made just now, and found
 pub new_ledger : (n : ℕ) (part : Part) (old mid new : State) → HasCleanDisk new → IsLedgerFound n part mid new → ((db : Trees) → new.may_leave db → mid.may_leave db) → n ≡ 1 → LeavesOldOrCommitted old mid → HasNewLedger old new
 new_ledger n part old mid new clean is leaves first left = record {
   book = no_lines n part new is.kept is.next first;
-  leaves = λ db h. let P : Database → Type 0 = λ d. old.may_leave db ⊎ (db ≡ d.trees) in subst P (sym is.same) (left db (leaves db h));
+  leaves = found_left n part old mid new is leaves left;
 }
 
 -- tables that stood in the file, and were found
 pub as_found : (n : ℕ) (part : Part) (old mid new : State) → IsLedgerFound n part mid new → ((db : Trees) → new.may_leave db → mid.may_leave db) → StaysAsFound old mid → StaysAsFound old new
 as_found n part old mid new is leaves stays = record { committed = is.same ∙ stays.committed; leaves = λ db h. stays.leaves db (leaves db h) }
+
+-- a file from before that was brought over, and found
+pub brought_over : (n : ℕ) (part : Part) (old mid new : State) → IsLedgerFound n part mid new → ((db : Trees) → new.may_leave db → mid.may_leave db) → LeavesOldOrCommitted old mid
+    → (mid.committed.schema ≡ tables → KeepsRows old.now mid.committed) → IsBroughtOver old new
+brought_over n part old mid new is leaves left kept = record {
+  keeps = subst (KeepsRows old.now) (sym is.same) (kept (ap (λ (d : Database). d.schema) (sym (is.kept.ready.settled ∙ is.same)) ∙ is.kept.ready.ledger.schema));
+  leaves = found_left n part old mid new is leaves left;
+}
+
+-- where nothing is done
+pub stays_still : (s : State) → StaysAsFound s s
+stays_still s = record { committed = refl; leaves = λ db h. h }
+
+pub left_still : (s : State) → LeavesOldOrCommitted s s
+left_still s = λ db h. inl h

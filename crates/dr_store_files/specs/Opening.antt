@@ -16,12 +16,14 @@ use Rattle.dr_ledger.specs.Items.{IsItem, instance_of}
 use Rattle.dr_ledger.specs.Replies.{Reads}
 use Rattle.dr_tables.specs.Books.{AreBelow, bodies_of, book_of, items_of, lines_of, prints_of}
 use Rattle.dr_tables.specs.Ledgers.{AreRows, IsCounted}
+use Rattle.dr_tables.specs.Tables.{tables}
 use Rattle.dr_rows.specs.Effects.{IsSiteOf}
 use Rattle.std.specs.List.{AllByRecursion}
 use Rattle.dr_queries.specs.Queries.{Stays}
 use Rattle.dr_queries.specs.declared.finding.Print.{Print}
 use Rattle.dr_booking.specs.Calling.{IsKept}
 use Rattle.dr_finding.specs.Found.{IsFound}
+use Rattle.dr_store_files.specs.Renewing.{KeepsRows}
 
 -- ---- what is tested of rows
 
@@ -109,6 +111,7 @@ pub record IsLedgerFound (n : ℕ) (part : Part) (old new : State) : Type 0 wher
 -- What tells whether a file has a ledger of this site does. Where it says the number n of the next line, that ledger is found. Whatever it
 -- answers, nothing is committed, and a crash leaves only what it could leave before.
 pub record IsOpened (part : Part) (result : Result (Option ℕ) LedgerFault) (old new : State) : Type 0 where
+  pub has : IfFound result (λ n. old.now.schema ≡ tables)
   pub kept : HasCleanDisk new → IfFound result (λ n. IsLedgerFound n part old new)
   pub leaves : HasCleanDisk new → (db : Trees) → new.may_leave db → old.may_leave db
   pub clean : doubt old.is_clean ≤ doubt new.is_clean
@@ -132,4 +135,10 @@ pub record StaysAsFound (old new : State) : Type 0 where
 -- the file has a ledger without any line, and a crash leaves what it could leave before, or that ledger
 pub record HasNewLedger (old new : State) : Type 0 where
   pub book : book_of new.committed.trees ≡ empty_book
+  pub leaves : LeavesOldOrCommitted old new
+
+-- What a file from before had is there still, in the tables of today: all that the queries ask for. A crash leaves what it could leave
+-- before, or what is committed.
+pub record IsBroughtOver (old new : State) : Type 0 where
+  pub keeps : KeepsRows old.now new.committed
   pub leaves : LeavesOldOrCommitted old new

@@ -3,10 +3,17 @@
 //! What is claimed stands under a call's end: that the disk has returned what was written so far.
 #![tactic(auto)]
 
+mod alike;
+mod asking;
 pub mod bodies;
+mod fault;
 pub mod finding;
 pub mod making;
+mod older;
 pub mod opening;
+mod renewing;
+mod sheets;
 mod testing;
 
-pub use opening::{OpeningFault, on};
+pub use fault::OpeningFault;
+pub use opening::on;

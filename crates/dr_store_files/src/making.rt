@@ -9,15 +9,15 @@ use dr_rows::add_site;
 use dr_site::Site;
 use sqlite::{Alter, Connection, Error, Transaction};
 
-/// The tables of instances.
-const STOCK: [&str; 3] = [
+/// The tables whose place no other one changes.
+const FIRST: [&str; 2] = [
     "CREATE TABLE site (id INTEGER PRIMARY KEY, node TEXT NOT NULL, plan BLOB NOT NULL) STRICT",
     "CREATE TABLE item (uid TEXT NOT NULL PRIMARY KEY, class TEXT NOT NULL, syntax TEXT NOT NULL, modality BLOB NOT NULL, station BLOB NOT NULL, body BLOB NOT NULL) STRICT",
-    "CREATE TABLE print (uid TEXT NOT NULL PRIMARY KEY REFERENCES item (uid), length INTEGER NOT NULL, sha256 BLOB NOT NULL, whole INTEGER NOT NULL) STRICT",
 ];
 
-/// The tables of what is done with them, and the index of the rows that are due.
-const MOVES: [&str; 6] = [
+/// The other tables, and the index of the rows that are due.
+pub const LATER: [&str; 7] = [
+    "CREATE TABLE print (uid TEXT NOT NULL PRIMARY KEY REFERENCES item (uid), length INTEGER NOT NULL, sha256 BLOB NOT NULL, whole INTEGER NOT NULL) STRICT",
     "CREATE TABLE arrival (caller TEXT NOT NULL, uid TEXT NOT NULL REFERENCES item (uid), PRIMARY KEY (caller, uid)) STRICT",
     "CREATE TABLE kept (uid TEXT NOT NULL PRIMARY KEY REFERENCES item (uid)) STRICT",
     "CREATE TABLE queue (uid TEXT NOT NULL REFERENCES item (uid), dest TEXT NOT NULL, state INTEGER NOT NULL, tries INTEGER NOT NULL, due INTEGER NOT NULL, cause INTEGER, PRIMARY KEY (uid, dest)) STRICT",
@@ -42,8 +42,8 @@ fn fill<S: Alter>(tx: &mut Transaction<'_, S>, site: &Site) -> Result<(), Error>
     ensures same_reference { tx.new.conn.ghost_name ≡ tx.old.conn.ghost_name }
     ensures survives { Survives (state S.Store tx.old.conn.now) (state S.Store tx.new.conn.now) (λ _. ⊥) }
 {
-    run_all(tx, STOCK.as_slice())?;
-    run_all(tx, MOVES.as_slice())?;
+    run_all(tx, FIRST.as_slice())?;
+    run_all(tx, LATER.as_slice())?;
     add_site(tx, site.name(), site.digest())?;
     Ok(())
 }

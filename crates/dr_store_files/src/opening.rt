@@ -1,14 +1,18 @@
 //! A file's ledger, opened.
-ghost use Rattle.std.specs.Prelude.{◌≡◌, ◌≤◌, ◌↔◌, IfOk, false, IsTrue, true};
+ghost use Rattle.std.specs.Prelude.{◌≡◌, ◌≤◌, ◌↔◌, IfOk, OnOk, false, IsTrue, true};
 ghost use Rattle.sqlite.specs.Held.{state};
 ghost use Rattle.sqlite.specs.State.{HasCleanDisk, IsLive};
 ghost use Rattle.dr_tables.specs.Tables.{tables};
 ghost use Rattle.sqlite_trees.specs.View.{doubt};
 ghost use Rattle.dr_booking.specs.Calling.{IsKept};
-ghost use Rattle.dr_store_files.specs.Opening.{HasNewLedger, IsBlank, IsNext, IsOpened, IsOwnedBy, LeavesOldOrCommitted, StaysAsFound};
+ghost use Rattle.dr_finding.specs.Older.{IsOlder};
+ghost use Rattle.dr_store_files.specs.Renewing.{KeepsRows};
+ghost use Rattle.dr_store_files.specs.Opening.{HasNewLedger, IsBlank, IsBroughtOver, IsNext, IsOpened, IsOwnedBy, LeavesOldOrCommitted, StaysAsFound};
 
+use crate::fault::{OpeningFault, opening_fault};
 use crate::finding::find_owned;
 use crate::making::make;
+use crate::renewing::renew_older;
 use crate::testing::test_tables;
 use dr_finding::is_ours;
 use dr_ledger::LedgerFault;
@@ -17,27 +21,6 @@ use dr_site::Site;
 use sqlite::{Alter, Connection};
 use sqlite_schema::schema::Schema;
 use std::alloc::Global;
-use thiserror::Error;
-
-/// Why a file's ledger isn't opened.
-#[derive(Clone, Copy, PartialEq, Eq, Debug, Error)]
-pub enum OpeningFault {
-    /// It is another node's, or was left under another plan, has other tables, or rows that aren't what the journal's lines make.
-    #[error("OtherSite")]
-    OtherSite,
-    #[error("Store")]
-    Store,
-    #[error("Memory")]
-    Memory,
-}
-
-/// The fault of an opening where a ledger answers this.
-fn opening_fault(fault: LedgerFault) -> OpeningFault {
-    match fault {
-        LedgerFault::Memory => OpeningFault::Memory,
-        _ => OpeningFault::Store,
-    }
-}
 
 /// Whether there is no table, no index and no view.
 fn is_blank(schema: &Schema) -> bool
@@ -95,7 +78,7 @@ fn make_new<S: Alter>(conn: &mut Connection<S>, site: &Site) -> Result<bool, Ope
     requires { conn.old.in_transaction ≡ false }
     ensures idle { conn.new.in_transaction ≡ false }
     ensures clean { doubt (state S.Store conn.old).is_clean ≤ doubt (state S.Store conn.new).is_clean }
-    ensures found { IfOk result (λ made. made ≡ false → (IsBlank (state S.Store conn.old).now.schema → ⊥) × StaysAsFound (state S.Store conn.old) (state S.Store conn.new)) }
+    ensures found { IfOk result (λ made. made ≡ false → (IsBlank (state S.Store conn.old).now.schema → ⊥) × (conn.new ≡ conn.old)) }
     ensures made { IfOk result (λ made. made ≡ true → IsBlank (state S.Store conn.old).now.schema × (HasCleanDisk (state S.Store conn.new) → LeavesOldOrCommitted (state S.Store conn.old) (state S.Store conn.new))) }
 {
     if !is_blank(conn.schema()) {
@@ -104,6 +87,29 @@ fn make_new<S: Alter>(conn: &mut Connection<S>, site: &Site) -> Result<bool, Ope
     match make(conn, site) {
         Ok(()) => Ok(true),
         Err(error) => Err(opening_fault(fault_of(&error))),
+    }
+}
+
+/// Makes the tables of a new ledger, where the file has no table, and says whether it did; a file from before is brought over.
+fn prepare<S: Alter>(
+    conn: &mut Connection<S>,
+    alloc: Global,
+    site: &Site,
+) -> Result<bool, OpeningFault>
+    requires { conn.old.in_transaction ≡ false }
+    ensures idle { conn.new.in_transaction ≡ false }
+    ensures clean { doubt (state S.Store conn.old).is_clean ≤ doubt (state S.Store conn.new).is_clean }
+    ensures found { IfOk result (λ made. made ≡ false → (IsBlank (state S.Store conn.old).now.schema → ⊥) × ((IsOlder (state S.Store conn.old).now.schema → ⊥) → StaysAsFound (state S.Store conn.old) (state S.Store conn.new))) }
+    ensures leaves { HasCleanDisk (state S.Store conn.new) → OnOk result (LeavesOldOrCommitted (state S.Store conn.old) (state S.Store conn.new)) }
+    ensures made { IfOk result (λ made. made ≡ true → IsBlank (state S.Store conn.old).now.schema) }
+    ensures kept { HasCleanDisk (state S.Store conn.new) → IsOlder (state S.Store conn.old).now.schema → (state S.Store conn.new).now.schema ≡ tables → (state S.Store conn.new).committed.schema ≡ tables → IfOk result (λ made. made ≡ false → KeepsRows (state S.Store conn.old).now (state S.Store conn.new).committed) }
+{
+    if make_new(conn, site)? {
+        return Ok(true);
+    }
+    match renew_older(conn, alloc, site) {
+        Ok(()) => Ok(false),
+        Err(fault) => Err(fault),
     }
 }
 
@@ -118,7 +124,8 @@ fn is_as_made(made: bool, next: u64) -> bool
 }
 
 /// The ledger of this site in a file, with the number of its next line: its tables are made where the file has none, and else they are
-/// found, and compared with what the journal's lines make. A refusal closes the connection and gives nothing back.
+/// found, and compared with what the journal's lines make; a file from before, which lacks some of them, is brought over first, as one
+/// transaction. A refusal closes the connection and gives nothing back.
 ///
 /// Errors: OtherSite; Store; Memory.
 pub fn on<S: Alter + Drop>(
@@ -129,13 +136,14 @@ pub fn on<S: Alter + Drop>(
     requires { conn.in_transaction ≡ false }
     ensures kept { IfOk result (λ opened. HasCleanDisk (state S.Store opened.0) → IsKept opened.1 site.now (state S.Store opened.0) × IsOwnedBy site.now (state S.Store opened.0).committed.trees) }
     ensures next { IfOk result (λ opened. HasCleanDisk (state S.Store opened.0) → IsNext opened.1 (state S.Store opened.0).committed.trees) }
-    ensures found { IfOk result (λ opened. HasCleanDisk (state S.Store opened.0) → (IsBlank (state S.Store conn).now.schema → ⊥) → StaysAsFound (state S.Store conn) (state S.Store opened.0)) }
+    ensures found { IfOk result (λ opened. HasCleanDisk (state S.Store opened.0) → (IsBlank (state S.Store conn).now.schema → ⊥) → (IsOlder (state S.Store conn).now.schema → ⊥) → StaysAsFound (state S.Store conn) (state S.Store opened.0)) }
+    ensures older { IfOk result (λ opened. HasCleanDisk (state S.Store opened.0) → IsOlder (state S.Store conn).now.schema → IsBroughtOver (state S.Store conn) (state S.Store opened.0)) }
     ensures made { IfOk result (λ opened. HasCleanDisk (state S.Store opened.0) → IsBlank (state S.Store conn).now.schema → HasNewLedger (state S.Store conn) (state S.Store opened.0)) }
     ensures idle { IfOk result (λ opened. opened.0.in_transaction ≡ false) }
     ensures clean { IfOk result (λ opened. doubt (state S.Store conn).is_clean ≤ doubt (state S.Store opened.0).is_clean) }
 {
     let mut conn = conn;
-    let made = make_new(&mut conn, site)?;
+    let made = prepare(&mut conn, alloc, site)?;
     match find(&mut conn, alloc, site) {
         Ok(Some(next)) => {
             if !is_as_made(made, next) {

@@ -1,0 +1,168 @@
+#!/usr/bin/env python3
+"""Opens ledger files from before: files that lack the table of prints, that of targets, or the index of the rows that are due. Each is made
+of a file of today by the sqlite3 of Python, and is opened by the built program, which brings it over; then it is the file of today again,
+row by row. A file that is refused stays as it was.
+
+    tests/older.py
+"""
+import itertools
+import os
+import sqlite3
+import sys
+
+sys.dont_write_bytecode = True
+from rooms import PLAN, PROGRAM, Room, data_set, ended, part10, run_cases, same, stop, told
+from adopting import NEXT, NEXT_TEXT, adopt, book, copy, kept
+
+TABLES = {
+    'site': 'id', 'item': 'uid', 'print': 'uid', 'arrival': 'caller, uid', 'kept': 'uid', 'queue': 'uid, dest', 'journal': 'n', 'target': 'n, dest',
+}
+LATER = {'print': 'DROP TABLE print', 'target': 'DROP TABLE target', 'queue_due': 'DROP INDEX queue_due'}
+LESS = [less for count in (1, 2, 3) for less in itertools.combinations(LATER, count)]
+FIRST, SECOND = b'1.2.3.4', b'1.2.3.5'
+
+
+def prepare(room):
+    """1.2.3.4 went from CT1 by GATE to ARCH, which keeps it; 1.2.3.5 came to GATE, where it waits for ARCH."""
+    room.put('first.dcm', part10(FIRST))
+    room.put('second.dcm', part10(SECOND))
+    arch, gate = room.serve('ARCH', 1), room.serve('GATE', 1)
+    same(room.at('send', 'CT1', 'first.dcm').returncode, 0)
+    ended(gate)
+    ended(arch)
+    gate = room.serve('GATE', 1)
+    same(room.at('send', 'CT1', 'second.dcm').returncode, 0)
+    ended(gate)
+
+
+def opened(room, name):
+    """The file as a database; what stands in the log beside it goes into it."""
+    file = sqlite3.connect(f'{room.folder}/{name}.db')
+    file.execute('PRAGMA wal_checkpoint(TRUNCATE)')
+    return file
+
+
+def all_of(room, name):
+    """All that the file has: its tables and indexes in their order, and the rows of each table."""
+    copy(room, name, 'looked-at')
+    file = opened(room, 'looked-at')
+    schema = file.execute('SELECT type, name, tbl_name, sql FROM sqlite_schema ORDER BY rowid').fetchall()
+    there = [name for kind, name, *_ in schema if kind == 'table']
+    rows = {table: file.execute(f'SELECT * FROM {table} ORDER BY {key}').fetchall() for table, key in TABLES.items() if table in there}
+    file.close()
+    return schema, rows
+
+
+def make_older(room, name, source, less, more=()):
+    """A copy of the file without some of what came later. Before there were prints each data set stayed in its file."""
+    copy(room, source, name)
+    file = opened(room, name)
+    file.execute('PRAGMA foreign_keys = OFF')
+    if 'print' in less:
+        for uid in FIRST, SECOND:
+            file.execute('UPDATE item SET body = ? WHERE uid = ?', (data_set(uid), uid.decode()))
+    for later in less:
+        file.execute(LATER[later])
+    for statement in more:
+        file.execute(statement)
+    file.commit()
+    file.close()
+
+
+def listed(room, node, name):
+    run = room.at('list', node, ledger=f'{name}.db')
+    same((run.returncode, run.stderr), (0, b''))
+    return run.stdout
+
+
+def summed_up(room, node, name):
+    run = room.at('list', node, '--summary', ledger=f'{name}.db')
+    same((run.returncode, run.stderr), (0, b''))
+    return run.stdout
+
+
+def older_files():
+    """Each is brought over as it is opened, and is the file of today then."""
+    with Room() as room:
+        prepare(room)
+        for node in 'CT1', 'GATE', 'ARCH':
+            book(room, node)
+            today, report, summary = all_of(room, node), listed(room, node, node), summed_up(room, node, node)
+            same([name for kind, name, *_ in today[0] if kind == 'table'], list(TABLES))
+            for less in LESS:
+                make_older(room, 'older', node, less)
+                before = [name for _, name, *_ in all_of(room, 'older')[0]]
+                same([later in before for later in LATER], [later not in less for later in LATER])
+                same(listed(room, node, 'older'), report)
+                same(all_of(room, 'older'), today)
+                same((listed(room, node, 'older'), summed_up(room, node, 'older')), (report, summary))
+
+
+def what_is_let_go():
+    """The length and the SHA-256 of a data set stay where it isn't needed any more, and it goes; one that is needed stays."""
+    with Room() as room:
+        prepare(room)
+        make_older(room, 'older', 'GATE', tuple(LATER))
+        same([row[-1] for row in all_of(room, 'older')[1]['item']], [data_set(FIRST), data_set(SECOND)])
+        listed(room, 'GATE', 'older')
+        rows = all_of(room, 'older')[1]
+        same([(row[0], row[1], row[3]) for row in rows['print']], [('1.2.3.4', len(data_set(FIRST)), 0), ('1.2.3.5', len(data_set(SECOND)), 1)])
+        same([row[-1] for row in rows['item']], [b'', data_set(SECOND)])
+        same([row[1] for row in rows['target']], ['ARCH', 'ARCH'])
+
+
+def goes_on():
+    """What waits in a file from before goes on."""
+    with Room() as room:
+        prepare(room)
+        make_older(room, 'older', 'GATE', tuple(LATER))
+        copy(room, 'older', 'GATE')
+        running = [room.serve('ARCH', 0), room.serve('GATE', 0, '--log', 'debug')]
+        room.wait_for_event('GATE', 'done dest="ARCH" uid=1.2.3.5 ')
+        for process in running:
+            stop(process)
+        same(kept(room, 'ARCH', PLAN), [f'kept\t{uid.decode()}\t{len(data_set(uid))}' for uid in (FIRST, SECOND)])
+
+
+def refused_files():
+    """A file from before of another node, of another plan, without a data set, with rows that its journal doesn't make, or with an adoption and
+    without targets is refused, and stays as it was."""
+    with Room() as room:
+        prepare(room)
+        room.put_plan(NEXT_TEXT, NEXT)
+        less = tuple(LATER)
+        changes = (
+            ('GATE', less, ["UPDATE item SET body = x'00' WHERE uid = '1.2.3.4'"]),
+            ('GATE', less, ["UPDATE item SET station = x'5332' WHERE uid = '1.2.3.4'"]),
+            ('GATE', less, ["UPDATE queue SET state = 2"]),
+            ('GATE', less, ["DELETE FROM arrival WHERE uid = '1.2.3.4'"]),
+            ('GATE', less, ["DELETE FROM journal WHERE n = 2"]),
+            ('GATE', ('target',), ["UPDATE print SET whole = 1"]),
+            ('GATE', ('queue_due',), ["DELETE FROM target WHERE n = 1"]),
+            ('GATE', less, ["CREATE TABLE more (id INTEGER PRIMARY KEY)"]),
+            ('CT1', less, []),
+        )
+        for node, lacks, more in changes:
+            make_older(room, 'older', node, lacks, more)
+            before = all_of(room, 'older')
+            told(room.at('list', 'GATE', ledger='older.db'), 1, '', 'dr_router: G6 OtherSite\n')
+            same(all_of(room, 'older'), before)
+        make_older(room, 'older', 'GATE', less)
+        before = all_of(room, 'older')
+        told(room.at('list', 'GATE', ledger='older.db', plan=NEXT), 1, '', 'dr_router: G6 OtherSite\n')
+        same(all_of(room, 'older'), before)
+        told(adopt(room), 0, 'adopted\n', '')
+        make_older(room, 'older', 'GATE', ('target',))
+        before = all_of(room, 'older')
+        told(room.at('list', 'GATE', ledger='older.db', plan=NEXT), 1, '', 'dr_router: G6 OtherSite\n')
+        same(all_of(room, 'older'), before)
+
+
+def main():
+    if not os.path.exists(PROGRAM):
+        sys.exit(f'{PROGRAM} is not built')
+    run_cases('older', older_files, what_is_let_go, goes_on, refused_files)
+
+
+if __name__ == '__main__':
+    main()
