@@ -58,14 +58,32 @@ fn ranks_are_those_of_the_plan(rt: HostRuntime) -> Result<(), Fail> {
     Ok(())
 }
 
-/// The site of a node of the plan of three nodes.
-fn site(alloc: Global, node: &str) -> Result<Option<Site>, Fail> {
-    let sealed = copied(alloc)?;
+/// A copy of the site, which is equal.
+fn copy_of(site: Site) -> Result<Option<Site>, Fail> {
+    let copy = site.copy();
+    drop(site);
+    Ok(Some(copy?))
+}
+
+/// The site of a node of a sealed plan.
+fn site_in(alloc: Global, sealed: &Sealed, node: &str) -> Result<Option<Site>, Fail> {
     let node = name(alloc, node)?;
-    match Site::of(alloc, &sealed, &node) {
-        Ok(site) => Ok(Some(site.copy()?)),
+    match Site::of(alloc, sealed, &node) {
+        Ok(site) => copy_of(site),
         Err(SiteFault::NoNode) => Ok(None),
         Err(fault) => Err(Fail::from(fault)),
+    }
+}
+
+/// The site of a node of the plan of three nodes.
+fn site(alloc: Global, node: &str) -> Result<Option<Site>, Fail> {
+    match copied(alloc) {
+        Ok(sealed) => {
+            let site = site_in(alloc, &sealed, node);
+            drop(sealed);
+            site
+        }
+        Err(fail) => Err(fail),
     }
 }
 
