@@ -1,12 +1,18 @@
 #!/usr/bin/env python3
-"""Answers the calls in crates/dr_ledger_vectors/stdin by a ledger of its own, written again from crates/dr_ledger/specs (Books, Replies,
-Adopting, Bodies), and compares what it answers with the crate's `stdout`, which the gate compares with what the program prints. So the
-answers that the gate wants come from outside the program.
+"""Answers the calls in the `stdin` of crates/dr_ledger_vectors (ledgers in memory) and of crates/dr_store_vectors (ledgers in tables) by a
+ledger of its own, written again from crates/dr_ledger/specs (Books, Replies, Adopting, Bodies), and compares what it answers with the crate's
+`stdout`, which the gate compares with what the program prints. So the answers that the gate wants come from outside the programs.
+
+The lines for ledgers in tables begin with those for ledgers in memory, but for `refuse` and `refusals`, and this is looked at too. Behind them
+the files are closed, changed, opened again and stopped, and desks are shared. How often a disk can be stopped in a call is the program's to
+say; of what it says of those stops, it is looked at that each is answered as it may be, and that the numbers go together.
 
     tests/ledger_rows.py              says where they differ; its status is 0 where they don't
-    tests/ledger_rows.py --print      prints the answers
+    tests/ledger_rows.py --print      prints the answers of ledgers in memory
+    tests/ledger_rows.py --lines      prints the lines with which those for ledgers in tables begin
 """
 import os
+import re
 import sys
 
 sys.dont_write_bytecode = True
@@ -14,7 +20,9 @@ from plan_model import REST, Model
 from plan_reader import EXPLICIT, IMPLICIT, read_plan
 
 TOP = os.path.dirname(os.path.dirname(os.path.abspath(__file__)))
-ROWS = f'{TOP}/crates/dr_ledger_vectors'
+MEMORY, TABLES = f'{TOP}/crates/dr_ledger_vectors', f'{TOP}/crates/dr_store_vectors'
+COUNTS = re.compile(r'(?:log|database): (\d+) stops \| while opening (\d+)((?: \| [^|]*: \d+)*) \| after, as written (\d+), as synced (\d+)')
+UNCOUNTED = 'Store, 0 lines, 0 counted, 0 receipts; '
 LARGEST = 64 * 1024 * 1024
 NAMES = {(0x0008, 0x0016): 'class', (0x0008, 0x0018): 'uid', (0x0008, 0x0060): 'modality', (0x0008, 0x1010): 'station'}
 
@@ -86,7 +94,7 @@ def told(row):
 class Ledger:
     def __init__(self, site):
         self.site, self.items, self.bodies, self.arrivals, self.kept, self.rows, self.journal = site, {}, set(), set(), set(), {}, []
-        self.armed, self.made = False, 0
+        self.armed, self.made, self.changed = False, 0, False
 
     def add(self, line):
         """The line, where the store takes it."""
@@ -191,7 +199,7 @@ class Ledger:
 
 class Playing:
     def __init__(self):
-        self.plans, self.items, self.ledger, self.last = {}, {}, None, None
+        self.plans, self.items, self.ledger, self.files, self.last = {}, {}, None, None, None
 
     def site(self, plan, node):
         return Site(self.plans[plan].encode(), node)
@@ -216,8 +224,41 @@ class Playing:
             return f'{str(ledger.armed).lower()} {ledger.made}'
         return str(ledger.made) if what == 'failures' else getattr(ledger, what)(*words)
 
+    def open(self, site):
+        """The files have a ledger of this site alone, and none that another connection has changed."""
+        if self.files is None or self.files.changed or not self.files.site.is_same(site):
+            return 'OtherSite'
+        self.ledger = self.files
+        return 'opened'
+
+    def desk(self, is_refused, caller, *items):
+        """What a desk answers to each arrival, with what its pass has."""
+        ledger, counted, answers = self.ledger, 0, []
+        ledger.armed, made = is_refused, ledger.made
+        for item in items:
+            try:
+                answer, added = ledger.arrive(caller, self.items[item]), 1
+            except Refused as fault:
+                answer, added = str(fault), 0
+            counted += added
+            answers.append(f'{answer}, {added} lines, {counted} counted, {counted} receipts; ')
+        ledger.armed, ledger.made = False, made
+        return ''.join(answers) + f'{counted} in all'
+
+    def stopped(self, plan, node, what, words):
+        """The answer of a call that isn't stopped at last."""
+        if what == 'make':
+            self.files = Ledger(self.site(plan, node))
+            return 'made'
+        if what == 'close':
+            return 'closed'
+        self.open(self.site(plan, node))
+        if what == 'desk':
+            return self.desk(False, *words)
+        return self.call(what, words)
+
     def turn(self, line):
-        """What is printed for the line."""
+        """What is printed for the line, with `*` for what isn't known here."""
         if line.startswith('|'):
             self.plans[self.last] += line[1:] + '\n'
             return ''
@@ -231,12 +272,27 @@ class Playing:
             self.ledger = Ledger(self.site(*words))
         elif what == 'refuse':
             self.ledger.armed = True
+        elif what in ('leave', 'close'):
+            self.ledger, self.files = None, self.ledger
+        elif what == 'blank':
+            self.files = None
+        elif what == 'sql':
+            self.files.changed = True
+            return f'{line}: *\n'
+        elif what == 'stops':
+            _, plan, node, _, call, *words = words
+            answer = self.stopped(plan, node, call, words)
+            return f'{line}: {answer}\nlog: *{answer}\ndatabase: *{answer}\n'
         else:
             try:
                 if what == 'item':
                     answer = self.item(*words[:2], bytes.fromhex(words[2]))
                 elif what == 'zeros':
                     answer = self.item(*words[:2], bytes(int(words[2])))
+                elif what == 'open':
+                    answer = self.open(self.site(*words))
+                elif what in ('desk', 'refused'):
+                    answer = self.desk(what == 'refused', *words[2:])
                 else:
                     answer = self.call(what, words)
             except Refused as fault:
@@ -245,22 +301,81 @@ class Playing:
         return f'{line}\n'
 
 
-def main():
+def may_be_stopped(own, other):
+    """Whether a stopped call, which answers this else, may answer the other: it is refused and nothing is counted, or it was done."""
+    if other in ('Store', 'Store at the beginning') or other.startswith(UNCOUNTED):
+        return True
+    return other.split('; ')[0] == own.split('; ')[0]
+
+
+def do_agree(own, line):
+    """Whether the numbers of a file's stops go together: each is counted once, and what was acknowledged is there."""
+    found = COUNTS.fullmatch(line)
+    if not found:
+        return False
+    answers = [it.rsplit(': ', 1) for it in found[3].split(' | ')[1:]]
+    stops, opening, written, synced = (int(found[at]) for at in (1, 2, 4, 5))
+    if not all(may_be_stopped(own, answer) for answer, _ in answers):
+        return False
+    done = sum(int(count) for answer, count in answers if not answer.startswith('Store'))
+    if stops != opening + sum(int(count) for _, count in answers):
+        return False
+    return min(written, synced) >= done
+
+
+def is_told(own, other):
+    """Whether the line that is wanted says what is answered here."""
+    if '*' not in own:
+        return own == other
+    start, answer = own.split('*')
+    return other.startswith(start) and (not answer or do_agree(answer, other))
+
+
+def lines_for_tables(lines):
+    """All lines that ask for no refusal; a section that has some is without its heading."""
+    sections = [[]]
+    for line in lines:
+        if line.startswith('#'):
+            sections.append([])
+        sections[-1].append(line)
+    for section in sections:
+        words = {line.split()[0] for line in section if line}
+        without = [line for line in section if line not in ('refuse', 'refusals')]
+        yield from without if 'refuse' not in words else without[1:]
+
+
+def read(path):
+    with open(path) as it:
+        return it.read().splitlines()
+
+
+def compare(crate):
     playing = Playing()
-    with open(f'{ROWS}/stdin') as it:
-        answers = ''.join(playing.turn(line.rstrip('\n')) for line in it)
-    if sys.argv[1:] == ['--print']:
-        print(answers, end='')
-        return
-    with open(f'{ROWS}/stdout') as it:
-        wanted = it.read()
-    pairs = list(zip(answers.split('\n'), wanted.split('\n')))
-    for number, (own, other) in enumerate(pairs, 1):
-        if own != other:
-            sys.exit(f'ledger rows: line {number} of stdout is {other!r}, and by the definitions {own!r}')
+    answers = ''.join(playing.turn(line) for line in read(f'{crate}/stdin')).splitlines()
+    wanted = read(f'{crate}/stdout')
+    name = os.path.basename(crate)
+    for number, (own, other) in enumerate(zip(answers, wanted), 1):
+        if not is_told(own, other):
+            sys.exit(f'ledger rows: line {number} of {name}/stdout is {other!r}, and by the definitions {own!r}')
     if len(answers) != len(wanted):
-        sys.exit('ledger rows: the one goes on where the other ends')
-    print(f'ledger rows: {len(pairs) - 1} lines of answers are those of the definitions')
+        sys.exit(f'ledger rows: of {name}, the one goes on where the other ends')
+    print(f'ledger rows: {len(answers)} lines of {name} are those of the definitions')
+
+
+def main():
+    lines = read(f'{MEMORY}/stdin')
+    if sys.argv[1:] == ['--print']:
+        playing = Playing()
+        print(''.join(playing.turn(line) for line in lines), end='')
+        return
+    shared = list(lines_for_tables(lines))
+    if sys.argv[1:] == ['--lines']:
+        print(*shared, sep='\n')
+        return
+    if read(f'{TABLES}/stdin')[:len(shared)] != shared:
+        sys.exit('ledger rows: the lines for ledgers in tables do not begin with those for ledgers in memory (--lines prints them)')
+    compare(MEMORY)
+    compare(TABLES)
 
 
 main()

@@ -1,0 +1,186 @@
+//! Arrivals at a shared desk, and what its pass then has.
+ghost use Rattle.std.specs.Prelude.{◌≡◌};
+
+use anyhow::bail;
+use dr_base::Text;
+use dr_desk::{Desk, Pass, SharedDesk, Sharing};
+use dr_ledger::{Arrived, Item, Ledger, LedgerFault};
+use dr_ledger_rows::Named;
+use dr_site::Site;
+use std::alloc::Global;
+use std::marker::Brand;
+use std::sync::Wait;
+use std::sync::ledger::Blank;
+
+/// What was answered, and the ledger that the desk had.
+#[derive(Drop)]
+pub struct Answered<L> {
+    pub answer: String,
+    pub ledger: L,
+}
+
+/// An answer as it is printed.
+fn told(alloc: Global, answer: Result<Arrived, LedgerFault>) -> Result<String, anyhow::Error> {
+    match answer {
+        Ok(arrived) => Ok(format!(in alloc; "{arrived:?}")?),
+        Err(fault) => Ok(format!(in alloc; "{fault}")?),
+    }
+}
+
+/// An arrival; the answer, and how many lines the desk then has more, how many the pass counts, and how many receipts it holds.
+fn arrive<R: Wait, L: Ledger, B: Sharing>(
+    rt: &R,
+    alloc: Global,
+    shared: &SharedDesk<L, B>,
+    pass: &mut Pass<B>,
+    caller: &Text,
+    item: Item,
+) -> Result<String, anyhow::Error> {
+    let before = shared.line_count(rt);
+    let answer = shared.arrive(rt, pass, caller, item);
+    let added = shared.line_count(rt).saturating_sub(before);
+    let count = pass.count();
+    let receipts = pass.receipts().len();
+    let answer = told(alloc, answer)?;
+    Ok(format!(in alloc; "{answer}, {added} lines, {count} counted, {receipts} receipts")?)
+}
+
+/// An arrival of each of these items.
+fn arrive_all<R: Wait, L: Ledger, B: Sharing>(
+    rt: &R,
+    alloc: Global,
+    shared: &SharedDesk<L, B>,
+    pass: &mut Pass<B>,
+    caller: &Text,
+    named: &Named,
+    items: &[&str],
+) -> Result<String, anyhow::Error> {
+    let mut text = String::new(alloc);
+    for item in items {
+        let answer = arrive(rt, alloc, shared, pass, caller, named.item(item)?)?;
+        text.push_str(answer.as_str())?;
+        text.push_str("; ")?;
+    }
+    Ok(text)
+}
+
+/// Ends the sharing; how many lines it added, or why that isn't known.
+fn close<L: Ledger + Drop, B: Sharing>(
+    alloc: Global,
+    shared: SharedDesk<L, B>,
+    pass: Pass<B>,
+    answer: String,
+) -> Result<Answered<L>, anyhow::Error>
+    requires { B.all ≡ B.parts }
+{
+    let passes = vec![in alloc; pass]?;
+    match shared.close(alloc, passes) {
+        Ok(closed) => {
+            let answer = format!(in alloc; "{answer}{} in all", closed.sum)?;
+            let ledger = closed.desk.into_ledger();
+            Ok(Answered { answer, ledger })
+        }
+        Err(not_closed) => {
+            let answer = format!(in alloc; "{answer}{} at the end", not_closed.fault)?;
+            let ledger = not_closed.desk.into_ledger();
+            Ok(Answered { answer, ledger })
+        }
+    }
+}
+
+/// What is answered where a desk isn't shared.
+fn unshared<L: Ledger + Drop>(
+    alloc: Global,
+    fault: LedgerFault,
+    desk: Desk<L>,
+) -> Result<Answered<L>, anyhow::Error> {
+    let answer = format!(in alloc; "{fault} at the beginning")?;
+    let ledger = desk.into_ledger();
+    Ok(Answered { answer, ledger })
+}
+
+/// The shared desk takes the items, and is closed.
+fn serve<R: Wait, L: Ledger + Drop, B: Sharing>(
+    rt: &R,
+    alloc: Global,
+    shared: SharedDesk<L, B>,
+    caller: &Text,
+    named: &Named,
+    items: &[&str],
+) -> Result<Answered<L>, anyhow::Error>
+    requires { B.all ≡ B.parts }
+{
+    let mut pass = match shared.pass(rt, alloc) {
+        Ok(pass) => pass,
+        Err(_) => bail!("there is no pass"),
+    };
+    match arrive_all(rt, alloc, &shared, &mut pass, caller, named, items) {
+        Ok(answer) => close(alloc, shared, pass, answer),
+        Err(error) => Err(error),
+    }
+}
+
+/// The desk is shared, takes the items, and is closed.
+fn share<R: Wait, L: Ledger + Drop, B: Sharing>(
+    rt: &R,
+    alloc: Global,
+    desk: Desk<L>,
+    site: Site,
+    caller: &Text,
+    named: &Named,
+    items: &[&str],
+    blank: Blank,
+) -> Result<Answered<L>, anyhow::Error>
+    requires blank { (blank.name ≡ B.name) × (blank.parts ≡ B.parts) × (B.all ≡ B.parts) × (B.all ≡ 65536) }
+    requires first { B.first ≡ (L.book desk.ledger).lines }
+    requires site { (L.site desk.ledger ≡ site) × (B.site ≡ site) }
+{
+    match SharedDesk::<L, B>::new(desk, site, blank) {
+        Ok(shared) => serve(rt, alloc, shared, caller, named, items),
+        Err((fault, desk)) => unshared(alloc, fault, desk),
+    }
+}
+
+/// The same, of a desk over a ledger of that site.
+fn share_over<R: Wait, L: Ledger + Drop>(
+    rt: &R,
+    alloc: Global,
+    ledger: L,
+    site: Site,
+    caller: &Text,
+    named: &Named,
+    items: &[&str],
+) -> Result<Answered<L>, anyhow::Error>
+    requires { L.site ledger ≡ site }
+{
+    share::<R, L, Brand>(
+        rt,
+        alloc,
+        Desk::new(ledger),
+        site,
+        caller,
+        named,
+        items,
+        Blank::new(65_536),
+    )
+}
+
+/// A desk over this ledger, if it is of that site, is shared, takes the items from a caller, and is closed: `CALLER ITEM..`.
+pub fn deal<R: Wait, L: Ledger + Drop>(
+    rt: &R,
+    alloc: Global,
+    ledger: L,
+    site: &Site,
+    named: &Named,
+    words: &[&str],
+) -> Result<Answered<L>, anyhow::Error> {
+    let [caller, items @ ..] = words else {
+        bail!("a caller is missing");
+    };
+    let caller = Text::copy_of(alloc, caller.as_bytes())?;
+    let site = site.copy()?;
+    if !ledger.is_of(&site) {
+        bail!("the ledger is of another site");
+    }
+    share_over(rt, alloc, ledger, site, &caller, named, items)
+}

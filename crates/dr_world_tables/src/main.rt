@@ -1,0 +1,71 @@
+//! Plays scripts twice: on nodes over ledgers in memory, and on nodes over ledgers in the tables of databases, whose files lie in memory.
+//! Both worlds are made by `World::with`, and the reports of all nodes are to be the same.
+//!
+//! The input has lines that tell what is played (`Told`). For each script its title is printed, and the report, if it is one.
+#![tactic(auto)]
+
+mod kinds;
+mod playing;
+mod tables;
+mod told;
+
+use crate::kinds::{InMemory, InTables, Kind};
+use crate::playing::report_of;
+use crate::told::Told;
+use dr_cert::Sealed;
+use dr_script::{Step, read_script};
+use std::alloc::Global;
+
+/// Both reports as they are printed: once where they are the same.
+fn printed(alloc: Global, memory: &[u8], tables: &[u8]) -> Result<String, anyhow::Error> {
+    let memory = str::from_utf8(memory)?;
+    let tables = str::from_utf8(tables)?;
+    if memory == tables {
+        return Ok(String::from_str(alloc, memory)?);
+    }
+    Ok(format!(in alloc; "in memory:\n{memory}BUT in tables:\n{tables}")?)
+}
+
+/// Plays the steps on nodes over ledgers of either kind.
+fn play_both<M: Kind, T: Kind>(
+    alloc: Global,
+    sealed: &Sealed,
+    steps: &[Step],
+    memory: &M,
+    tables: &T,
+) -> Result<String, anyhow::Error> {
+    let memory = report_of(alloc, sealed, steps, memory)?;
+    let tables = report_of(alloc, sealed, steps, tables)?;
+    printed(alloc, memory.as_slice(), tables.as_slice())
+}
+
+/// Plays what was told.
+fn play(alloc: Global, sealed: &Sealed, script: &str) -> Result<String, anyhow::Error> {
+    let steps = read_script(alloc, script.as_bytes())?;
+    play_both(alloc, sealed, steps.as_slice(), &InMemory, &InTables)
+}
+
+/// Plays what was told of a plan and a script.
+fn play_told(alloc: Global, told: &Told) -> Result<String, anyhow::Error> {
+    match dr_samples::sealed(alloc, told.plan()) {
+        Ok(sealed) => {
+            let report = play(alloc, &sealed, told.script());
+            drop(sealed);
+            report
+        }
+        Err(fault) => Err(anyhow::Error::from(fault)),
+    }
+}
+
+fn main(rt: HostRuntime) -> Result<(), anyhow::Error> {
+    let alloc = rt.alloc();
+    let mut told = Told::new(alloc);
+    for line in rt.lines(alloc) {
+        let line = line?;
+        if told.take(line.as_str())? {
+            let report = play_told(alloc, &told)?;
+            println!(rt; "{}\n{report}", told.title())?;
+        }
+    }
+    Ok(())
+}
