@@ -140,7 +140,10 @@ fn act_acceptance<P: DeskPort>(
 {
     match told {
         Told::Agreement(answer) => agree(alloc, answer, core, port, at),
-        _ => Ok(quiet(alloc, core)),
+        other => {
+            drop(other);
+            Ok(quiet(alloc, core))
+        }
     }
 }
 
@@ -164,7 +167,10 @@ fn act_rejection<P: DeskPort>(
             let core = core.leave_pending().mark_rejected(rejection);
             refuse(alloc, core, port, at)
         }
-        _ => Ok(quiet(alloc, core)),
+        other => {
+            drop(other);
+            Ok(quiet(alloc, core))
+        }
     }
 }
 
@@ -186,7 +192,10 @@ fn act_request<P: DeskPort>(
     };
     match input {
         Input::Request(rq) => decide(alloc, rq, core, port, at),
-        _ => Ok(quiet(alloc, core)),
+        other => {
+            drop(other);
+            Ok(quiet(alloc, core))
+        }
     }
 }
 
