@@ -112,6 +112,31 @@ impl Display for Answer {
     }
 }
 
+/// Tells of a row that is held.
+fn tell_held<G: Log>(log: &G, uid: &Text, dest: &Text, outcome: Outcome) {
+    let (uid, dest, answer) = (Shown(uid), Shown(dest), Answer(outcome));
+    warn!(log; target: "row", "held dest=\"{dest}\" uid={uid} status=\"{answer}\"");
+}
+
+/// Tells of a row that waits again: how often it was tried, and from when on it is due.
+fn tell_waiting<G: Log>(
+    log: &G,
+    uid: &Text,
+    dest: &Text,
+    outcome: Outcome,
+    tries: u32,
+    due: u64,
+) {
+    let (uid, dest, answer) = (Shown(uid), Shown(dest), Answer(outcome));
+    info!(log; target: "row", "waits dest=\"{dest}\" uid={uid} status=\"{answer}\" tries={tries} due={due}");
+}
+
+/// Tells of a row that needs nobody's eye, with what happened to it in a word.
+fn tell_settled<G: Log>(log: &G, word: &str, uid: &Text, dest: &Text, outcome: Outcome) {
+    let (uid, dest, answer) = (Shown(uid), Shown(dest), Answer(outcome));
+    debug!(log; target: "row", "{word} dest=\"{dest}\" uid={uid} status=\"{answer}\"");
+}
+
 /// Tells what came of a try to send an instance: how far its row is then.
 pub fn tell_row<G: Log>(
     log: &G,
@@ -120,20 +145,13 @@ pub fn tell_row<G: Log>(
     outcome: Outcome,
     came: Option<Progress>,
 ) {
-    let (uid, dest, answer) = (Shown(uid), Shown(dest), Answer(outcome));
     match came {
-        Some(Progress::Done) => {
-            debug!(log; target: "row", "done dest=\"{dest}\" uid={uid} status=\"{answer}\"");
-        }
-        Some(Progress::Held(_)) => {
-            warn!(log; target: "row", "held dest=\"{dest}\" uid={uid} status=\"{answer}\"");
-        }
+        Some(Progress::Done) => tell_settled(log, "done", uid, dest, outcome),
+        Some(Progress::Held(_)) => tell_held(log, uid, dest, outcome),
         Some(Progress::Waiting { tries, due }) => {
-            info!(log; target: "row", "waits dest=\"{dest}\" uid={uid} status=\"{answer}\" tries={tries} due={due}");
+            tell_waiting(log, uid, dest, outcome, tries, due);
         }
-        None => {
-            debug!(log; target: "row", "settled dest=\"{dest}\" uid={uid} status=\"{answer}\"");
-        }
+        None => tell_settled(log, "settled", uid, dest, outcome),
     }
 }
 

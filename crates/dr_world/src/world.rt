@@ -77,6 +77,7 @@ impl<L: Ledger> World<L> {
         ensures step { StepsTo (Submit name.now item) self.old result self.new }
     {
         let Some(node) = self.nodes.get_mut(name) else {
+            drop(item);
             return StepNote::Skipped;
         };
         match node.submit(item) {
