@@ -87,7 +87,8 @@ def build_libraries(uses, libraries, room, log):
         idle = cores - sum(it.jobs for it in running)
         # After a failure nothing more is begun, but what is running ends, so that its work is kept.
         for at, name in enumerate(ready[: 0 if failed else idle]):
-            jobs = max(1, idle // (len(ready) - at))
+            # What is left over goes to the one that most work waits for.
+            jobs = max(1, idle - (len(ready) - at - 1))
             idle -= jobs
             left.remove(name)
             running.append(Library(uses, name, room, jobs))
