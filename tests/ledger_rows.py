@@ -22,6 +22,8 @@ from plan_reader import EXPLICIT, IMPLICIT, read_plan
 TOP = os.path.dirname(os.path.dirname(os.path.abspath(__file__)))
 MEMORY, TABLES = f'{TOP}/crates/dr_ledger_vectors', f'{TOP}/crates/dr_store_vectors'
 COUNTS = re.compile(r'(?:log|database): (\d+) stops \| while opening (\d+)((?: \| [^|]*: \d+)*) \| after, as written (\d+), as synced (\d+)')
+# What a ledger's files were given last, the last one first: without these they are files from before.
+LATER = 'DROP INDEX queue_due', 'DROP TABLE target'
 UNCOUNTED = 'Store, 0 lines, 0 counted, 0 receipts; '
 LARGEST = 64 * 1024 * 1024
 NAMES = {(0x0008, 0x0016): 'class', (0x0008, 0x0018): 'uid', (0x0008, 0x0060): 'modality', (0x0008, 0x1010): 'station'}
@@ -94,7 +96,7 @@ def told(row):
 class Ledger:
     def __init__(self, site):
         self.site, self.items, self.bodies, self.arrivals, self.kept, self.rows, self.journal = site, {}, set(), set(), set(), {}, []
-        self.armed, self.made, self.changed = False, 0, False
+        self.armed, self.made, self.changed, self.lacks = False, 0, False, 0
 
     def add(self, line):
         """The line, where the store takes it."""
@@ -225,11 +227,22 @@ class Playing:
         return str(ledger.made) if what == 'failures' else getattr(ledger, what)(*words)
 
     def open(self, site):
-        """The files have a ledger of this site alone, and none that another connection has changed."""
+        """The files have a ledger of this site alone, and none that another connection has changed; one from before is brought over, but for one with an
+        adoption and without its targets."""
         if self.files is None or self.files.changed or not self.files.site.is_same(site):
             return 'OtherSite'
-        self.ledger = self.files
+        if self.files.lacks == len(LATER) and 'adoption' in self.files.journal:
+            return 'OtherSite'
+        self.ledger, self.files.lacks = self.files, 0
         return 'opened'
+
+    def change(self, statement):
+        """Another connection changes the files, or makes them such as they were before."""
+        lacks = self.files.lacks
+        if statement in LATER[lacks:lacks + 1]:
+            self.files.lacks += 1
+        else:
+            self.files.changed = True
 
     def desk(self, is_refused, caller, *items):
         """What a desk answers to each arrival, with what its pass has."""
@@ -277,7 +290,7 @@ class Playing:
         elif what == 'blank':
             self.files = None
         elif what == 'sql':
-            self.files.changed = True
+            self.change(' '.join(words))
             return f'{line}: *\n'
         elif what == 'stops':
             _, plan, node, _, call, *words = words

@@ -54,7 +54,8 @@ def all_of(room, name):
 
 
 def make_older(room, name, source, less, more=()):
-    """A copy of the file without some of what came later. Before there were prints each data set stayed in its file."""
+    """A copy of the file without some of what came later. Before there were prints each data set stayed in its file. VACUUM makes the file anew, since
+    its objects are numbered without gaps where they were never made."""
     copy(room, source, name)
     file = opened(room, name)
     file.execute('PRAGMA foreign_keys = OFF')
@@ -66,6 +67,7 @@ def make_older(room, name, source, less, more=()):
     for statement in more:
         file.execute(statement)
     file.commit()
+    file.execute('VACUUM')
     file.close()
 
 
