@@ -8,6 +8,7 @@ use dr_ledger::{Arrived, Item, Ledger, LedgerFault};
 use dr_ledger_rows::Named;
 use dr_site::Site;
 use std::alloc::Global;
+use std::fmt::Display;
 use std::marker::Brand;
 use std::sync::Wait;
 use std::sync::ledger::Blank;
@@ -64,39 +65,95 @@ fn arrive_all<R: Wait, L: Ledger, B: Sharing>(
     Ok(text)
 }
 
-/// Ends the sharing; how many lines it added, or why that isn't known.
-fn close<L: Ledger + Drop, B: Sharing>(
-    alloc: Global,
-    shared: SharedDesk<L, B>,
-    pass: Pass<B>,
-    answer: String,
-) -> Result<Answered<L>, anyhow::Error>
-    requires { B.all ≡ B.parts }
-{
-    let passes = vec![in alloc; pass]?;
-    match shared.close(alloc, passes) {
-        Ok(closed) => {
-            let answer = format!(in alloc; "{answer}{} in all", closed.sum)?;
-            let ledger = closed.desk.into_ledger();
-            Ok(Answered { answer, ledger })
-        }
-        Err(not_closed) => {
-            let answer = format!(in alloc; "{answer}{} at the end", not_closed.fault)?;
-            let ledger = not_closed.desk.into_ledger();
-            Ok(Answered { answer, ledger })
+/// What is answered, with the ledger of the desk.
+fn with_ledger<L: Ledger + Drop>(
+    answer: Result<String, anyhow::Error>,
+    desk: Desk<L>,
+) -> Result<Answered<L>, anyhow::Error> {
+    match answer {
+        Ok(answer) => Ok(Answered {
+            answer,
+            ledger: desk.into_ledger(),
+        }),
+        Err(error) => {
+            drop(desk);
+            Err(error)
         }
     }
 }
 
-/// What is answered where a desk isn't shared.
-fn unshared<L: Ledger + Drop>(
+/// What was answered, and how many lines a sharing added.
+fn told_sum(alloc: Global, answer: &str, sum: u64) -> Result<String, anyhow::Error> {
+    Ok(format!(in alloc; "{answer}{sum} in all")?)
+}
+
+/// What was answered, and why it isn't known how many lines a sharing added, or why there is none.
+fn told_fault<F: Display>(
     alloc: Global,
-    fault: LedgerFault,
-    desk: Desk<L>,
-) -> Result<Answered<L>, anyhow::Error> {
-    let answer = format!(in alloc; "{fault} at the beginning")?;
-    let ledger = desk.into_ledger();
-    Ok(Answered { answer, ledger })
+    answer: &str,
+    fault: &F,
+    when: &str,
+) -> Result<String, anyhow::Error> {
+    Ok(format!(in alloc; "{answer}{fault} at the {when}")?)
+}
+
+/// Ends the sharing; how many lines it added, or why that isn't known.
+fn close<L: Ledger + Drop, B: Sharing>(
+    alloc: Global,
+    shared: SharedDesk<L, B>,
+    passes: Vec<Pass<B>>,
+    answer: &str,
+) -> Result<Answered<L>, anyhow::Error>
+    requires { B.all ≡ B.parts }
+{
+    match shared.close(alloc, passes) {
+        Ok(closed) => with_ledger(told_sum(alloc, answer, closed.sum), closed.desk),
+        Err(not_closed) => {
+            let answer = told_fault(alloc, answer, &not_closed.fault, "end");
+            with_ledger(answer, not_closed.desk)
+        }
+    }
+}
+
+/// The same, with the one pass that was made.
+fn close_with<L: Ledger + Drop, B: Sharing>(
+    alloc: Global,
+    shared: SharedDesk<L, B>,
+    pass: Pass<B>,
+    answer: &str,
+) -> Result<Answered<L>, anyhow::Error>
+    requires { B.all ≡ B.parts }
+{
+    match vec![in alloc; pass] {
+        Ok(passes) => close(alloc, shared, passes, answer),
+        Err(error) => {
+            drop(shared);
+            Err(anyhow::Error::from(error))
+        }
+    }
+}
+
+/// The shared desk takes the items by this pass, and is closed.
+fn serve_by<R: Wait, L: Ledger + Drop, B: Sharing>(
+    rt: &R,
+    alloc: Global,
+    shared: SharedDesk<L, B>,
+    pass: Pass<B>,
+    caller: &Text,
+    named: &Named,
+    items: &[&str],
+) -> Result<Answered<L>, anyhow::Error>
+    requires { B.all ≡ B.parts }
+{
+    let mut pass = pass;
+    match arrive_all(rt, alloc, &shared, &mut pass, caller, named, items) {
+        Ok(answer) => close_with(alloc, shared, pass, answer.as_str()),
+        Err(error) => {
+            drop(pass);
+            drop(shared);
+            Err(error)
+        }
+    }
 }
 
 /// The shared desk takes the items, and is closed.
@@ -110,13 +167,12 @@ fn serve<R: Wait, L: Ledger + Drop, B: Sharing>(
 ) -> Result<Answered<L>, anyhow::Error>
     requires { B.all ≡ B.parts }
 {
-    let mut pass = match shared.pass(rt, alloc) {
-        Ok(pass) => pass,
-        Err(_) => bail!("there is no pass"),
-    };
-    match arrive_all(rt, alloc, &shared, &mut pass, caller, named, items) {
-        Ok(answer) => close(alloc, shared, pass, answer),
-        Err(error) => Err(error),
+    match shared.pass(rt, alloc) {
+        Ok(pass) => serve_by(rt, alloc, shared, pass, caller, named, items),
+        Err(_) => {
+            drop(shared);
+            bail!("there is no pass")
+        }
     }
 }
 
@@ -137,7 +193,7 @@ fn share<R: Wait, L: Ledger + Drop, B: Sharing>(
 {
     match SharedDesk::<L, B>::new(desk, site, blank) {
         Ok(shared) => serve(rt, alloc, shared, caller, named, items),
-        Err((fault, desk)) => unshared(alloc, fault, desk),
+        Err((fault, desk)) => with_ledger(told_fault(alloc, "", &fault, "beginning"), desk),
     }
 }
 

@@ -166,6 +166,22 @@ fn unfound<D: Disks>(
     disks.leave(alloc, store)
 }
 
+/// The ledger of the site that is found over a connection, or what is left where the store fails.
+fn found_or_left<D: Disks>(
+    disks: &D,
+    alloc: Global,
+    conn: Connection<D::Store>,
+    site: Site,
+) -> Result<Result<SqlLedger<D::Store>, Remains>, anyhow::Error> {
+    match found(alloc, conn, site) {
+        Ok(ledger) => Ok(Ok(ledger)),
+        Err((store, fault)) => match unfound(disks, alloc, fault, store) {
+            Ok(remains) => Ok(Err(remains)),
+            Err(error) => Err(error),
+        },
+    }
+}
+
 /// How the tables are made.
 fn made<S: Alter>(conn: &mut Connection<S>, site: &Site) -> Making {
     if !conn.is_autocommit() {
@@ -227,13 +243,16 @@ impl<'a, D: Disks> Ledgers for Stored<'a, D> {
         frames: usize,
         site: Site,
     ) -> Result<Result<SqlLedger<D::Store>, Remains>, anyhow::Error> {
-        let conn = match self.0.connect(alloc, image, limits, frames)? {
-            Ok(conn) => conn,
-            Err(remains) => return Ok(Err(remains)),
-        };
-        match found(alloc, conn, site) {
-            Ok(ledger) => Ok(Ok(ledger)),
-            Err((store, fault)) => Ok(Err(unfound(self.0, alloc, fault, store)?)),
+        match self.0.connect(alloc, image, limits, frames) {
+            Ok(Ok(conn)) => found_or_left(self.0, alloc, conn, site),
+            Ok(Err(remains)) => {
+                drop(site);
+                Ok(Err(remains))
+            }
+            Err(error) => {
+                drop(site);
+                Err(error)
+            }
         }
     }
 
