@@ -36,7 +36,10 @@ fn seal_both<'a, F: Files>(
     };
     match seal_files(alloc, files, given.next_plan, given.next_certificate) {
         Ok(next) => Ok((old, next)),
-        Err(halt) => Err(halt),
+        Err(halt) => {
+            drop(old);
+            Err(halt)
+        }
     }
 }
 
@@ -78,7 +81,12 @@ fn change_files<'a, F: Files, O: Ledgers>(
     ensures { Changes (F.holds files.now) (O.opens ledgers.now) O.Ledger.site O.Ledger.book O.Ledger.stands given.entry (came_of result) }
 {
     match seal_both(alloc, files, given) {
-        Ok((old, next)) => change_between(alloc, ledgers, given.folder, &old, &next),
+        Ok((old, next)) => {
+            let came = change_between(alloc, ledgers, given.folder, &old, &next);
+            drop(next);
+            drop(old);
+            came
+        }
         Err(halt) => Err(Stop { halt, node: None }),
     }
 }

@@ -78,9 +78,21 @@ fn look_into<L: Ledger + Drop>(ledger: L, own: Site, next: &Sealed) -> Result<Lo
     ensures { IfOk result (IsLookInto L.site L.book L.stands next.now own ledger) }
 {
     let mut ledger = ledger;
-    match ledger.unfit(next)? {
+    let unfit = match ledger.unfit(next) {
+        Ok(unfit) => unfit,
+        Err(fault) => {
+            drop(ledger);
+            drop(own);
+            return Err(fault);
+        }
+    };
+    match unfit {
         None => Ok(Look::Stands(Standing::Ready(ledger, own))),
-        Some((uid, dest)) => Ok(Look::Unfit(uid, dest)),
+        Some((uid, dest)) => {
+            drop(ledger);
+            drop(own);
+            Ok(Look::Unfit(uid, dest))
+        }
     }
 }
 
@@ -117,7 +129,10 @@ fn parts_of<'a>(
     };
     match part_of(alloc, next, name) {
         Ok(own) => Ok((site, own)),
-        Err(halt) => Err(halt),
+        Err(halt) => {
+            drop(site);
+            Err(halt)
+        }
     }
 }
 
@@ -157,9 +172,14 @@ fn look_at<'a, O: Ledgers>(
         Ok(parts) => parts,
         Err(halt) => return Err(halt),
     };
-    let found = match find_in(alloc, ledgers, folder, name, &site, &own) {
+    let found = find_in(alloc, ledgers, folder, name, &site, &own);
+    drop(site);
+    let found = match found {
         Ok(found) => found,
-        Err(halt) => return Err(halt),
+        Err(halt) => {
+            drop(own);
+            return Err(halt);
+        }
     };
     match look_by(found, own, next) {
         Ok(look) => Ok(look),

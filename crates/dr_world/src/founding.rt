@@ -51,18 +51,27 @@ fn found<L: Ledger + Drop>(
 {
     let mut ledger = ledger;
     if !ledger.is_of(&site) {
+        drop(ledger);
+        drop(site);
         return Err(WorldFault::WrongLedgers);
     }
-    let empty = is_empty(&mut ledger)?;
-    if !empty {
-        return Err(WorldFault::WrongLedgers);
+    match is_empty(&mut ledger) {
+        Ok(true) => {
+            let node = Node::new(alloc, site, Refusing::new(ledger))?;
+            Ok(node)
+        }
+        Ok(false) => {
+            drop(ledger);
+            drop(site);
+            Err(WorldFault::WrongLedgers)
+        }
+        Err(fault) => {
+            drop(ledger);
+            drop(site);
+            Err(fault)
+        }
     }
-    let node = Node::new(alloc, site, Refusing::new(ledger))?;
-    Ok(node)
 }
-
-/// Lets a node go.
-fn let_go<L: Ledger + Drop>(_node: Option<Node<L>>) {}
 
 /// The node of that name over its ledger is one more.
 fn seat<L: Ledger + Drop>(
@@ -77,11 +86,12 @@ fn seat<L: Ledger + Drop>(
 {
     // each name here is a node's, so that want of memory is all that can be in the way
     let Ok(site) = Site::of(alloc, sealed, name) else {
+        drop(ledger);
         return Err(WorldFault::Memory);
     };
     let node = found(alloc, site, ledger)?;
     let name = name.clone()?;
-    let_go(nodes.insert(name, node)?);
+    drop(nodes.insert(name, node)?);
     Ok(())
 }
 

@@ -1,11 +1,9 @@
 //! The kinds of ledgers.
-use crate::tables::begin_in_tables;
+use crate::tables::{Disks, ledger_over};
 use dr_ledger::Ledger;
 use dr_memory::MemoryLedger;
 use dr_site::Site;
 use dr_store::SqlLedger;
-use sqlite::FileStore;
-use sqlite_disk::Memory;
 use std::alloc::Global;
 
 /// A kind of ledgers. What is played is written for any kind.
@@ -28,18 +26,20 @@ impl Kind for InMemory {
     }
 }
 
-/// Ledgers in tables, each in a database of its own.
+/// Ledgers in tables, each in a database of its own on these disks.
 #[derive(Drop)]
-pub struct InTables;
+pub struct InTables<'a, D: Disks>(pub &'a D);
 
-impl Kind for InTables {
-    type Ledger = SqlLedger<FileStore<Memory>>;
+impl<'a, D: Disks> Kind for InTables<'a, D> {
+    type Ledger = SqlLedger<D::Store>;
 
-    fn begin(
-        &self,
-        alloc: Global,
-        site: Site,
-    ) -> Result<SqlLedger<FileStore<Memory>>, anyhow::Error> {
-        begin_in_tables(alloc, site)
+    fn begin(&self, alloc: Global, site: Site) -> Result<SqlLedger<D::Store>, anyhow::Error> {
+        match self.0.connect(alloc) {
+            Ok(conn) => ledger_over(alloc, conn, site),
+            Err(error) => {
+                drop(site);
+                Err(error)
+            }
+        }
     }
 }

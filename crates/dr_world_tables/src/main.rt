@@ -11,6 +11,7 @@ mod told;
 
 use crate::kinds::{InMemory, InTables, Kind};
 use crate::playing::report_of;
+use crate::tables::{Disks, MemoryDisks};
 use crate::told::Told;
 use dr_cert::Sealed;
 use dr_script::{Step, read_script};
@@ -39,17 +40,28 @@ fn play_both<M: Kind, T: Kind>(
     printed(alloc, memory.as_slice(), tables.as_slice())
 }
 
-/// Plays what was told.
-fn play(alloc: Global, sealed: &Sealed, script: &str) -> Result<String, anyhow::Error> {
+/// Plays what was told of a script.
+fn play_script<M: Kind, T: Kind>(
+    alloc: Global,
+    sealed: &Sealed,
+    script: &str,
+    memory: &M,
+    tables: &T,
+) -> Result<String, anyhow::Error> {
     let steps = read_script(alloc, script.as_bytes())?;
-    play_both(alloc, sealed, steps.as_slice(), &InMemory, &InTables)
+    play_both(alloc, sealed, steps.as_slice(), memory, tables)
 }
 
 /// Plays what was told of a plan and a script.
-fn play_told(alloc: Global, told: &Told) -> Result<String, anyhow::Error> {
+fn play_told<M: Kind, T: Kind>(
+    alloc: Global,
+    told: &Told,
+    memory: &M,
+    tables: &T,
+) -> Result<String, anyhow::Error> {
     match dr_samples::sealed(alloc, told.plan()) {
         Ok(sealed) => {
-            let report = play(alloc, &sealed, told.script());
+            let report = play_script(alloc, &sealed, told.script(), memory, tables);
             drop(sealed);
             report
         }
@@ -57,15 +69,25 @@ fn play_told(alloc: Global, told: &Told) -> Result<String, anyhow::Error> {
     }
 }
 
-fn main(rt: HostRuntime) -> Result<(), anyhow::Error> {
+/// Plays all lines.
+fn play<M: Kind, T: Kind>(rt: &HostRuntime, memory: &M, tables: &T) -> Result<(), anyhow::Error> {
     let alloc = rt.alloc();
     let mut told = Told::new(alloc);
     for line in rt.lines(alloc) {
         let line = line?;
         if told.take(line.as_str())? {
-            let report = play_told(alloc, &told)?;
+            let report = play_told(alloc, &told, memory, tables)?;
             println!(rt; "{}\n{report}", told.title())?;
         }
     }
     Ok(())
+}
+
+/// The same, with ledgers in tables on these disks.
+fn play_on<D: Disks>(rt: &HostRuntime, disks: &D) -> Result<(), anyhow::Error> {
+    play(rt, &InMemory, &InTables(disks))
+}
+
+fn main(rt: HostRuntime) -> Result<(), anyhow::Error> {
+    play_on(&rt, &MemoryDisks)
 }

@@ -7,7 +7,7 @@ returns-in-Ok g c = inl (
   c.in-Ok.old,
   c.in-Ok.next,
   c.in-Ok.ensures,
-  between (g.O.Ledgers.opens c.args.ledgers.now) g.O.Ledger.Ledger.site g.O.Ledger.Ledger.book g.O.Ledger.Ledger.stands c.args.given.folder.now c.in-Ok.old c.in-Ok.next c.change_between.result c.change_between.ensures,
+  between (g.O.Ledgers.opens c.args.ledgers.now) g.O.Ledger.Ledger.site g.O.Ledger.Ledger.book g.O.Ledger.Ledger.stands c.args.given.folder.now c.in-Ok.old c.in-Ok.next c.change_between-came.result c.change_between-came.ensures,
 )
 
 pub returns-in-Err : goal.returns-in-Err

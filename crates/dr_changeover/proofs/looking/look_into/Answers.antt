@@ -6,9 +6,9 @@ use Rattle.dr_changeover.proofs.looking.look_into.Goals as goal
 pub returns-in-None : goal.returns-in-None
 returns-in-None g c = (
   refl,
-  c.in_ok-unfit.ensures.site,
+  c.in-Ok.ensures.site,
   λ st. (
-    (c.in_ok-unfit.ensures.same st).0,
-    subst (λ (row : Option Pair). Unfits c.args.next.now.plan (g.L.Ledger.site c.args.ledger).name (g.L.Ledger.book c.args.ledger) row) c.in-None.is (c.in_ok-unfit.ensures.reply st),
+    (c.in-Ok.ensures.same st).0,
+    subst (λ (row : Option Pair). Unfits c.args.next.now.plan (g.L.Ledger.site c.args.ledger).name (g.L.Ledger.book c.args.ledger) row) c.in-None.is (c.in-Ok.ensures.reply st),
   ),
 )
