@@ -119,14 +119,7 @@ fn tell_held<G: Log>(log: &G, uid: &Text, dest: &Text, outcome: Outcome) {
 }
 
 /// Tells of a row that waits again: how often it was tried, and from when on it is due.
-fn tell_waiting<G: Log>(
-    log: &G,
-    uid: &Text,
-    dest: &Text,
-    outcome: Outcome,
-    tries: u32,
-    due: u64,
-) {
+fn tell_waiting<G: Log>(log: &G, uid: &Text, dest: &Text, outcome: Outcome, tries: u32, due: u64) {
     let (uid, dest, answer) = (Shown(uid), Shown(dest), Answer(outcome));
     info!(log; target: "row", "waits dest=\"{dest}\" uid={uid} status=\"{answer}\" tries={tries} due={due}");
 }

@@ -212,6 +212,64 @@ fn serve_all<
     )
 }
 
+/// All passes, where those of the ones who serve came back.
+fn all_passes<B: Sharing>(
+    passes: Result<Vec<Pass<B>>, WorkersFault>,
+    own: Pass<B>,
+) -> Result<Vec<Pass<B>>, ServeFault> {
+    match passes {
+        Ok(passes) => {
+            let mut passes = passes;
+            passes.push(own)?;
+            Ok(passes)
+        }
+        Err(_) => {
+            drop(own);
+            Err(ServeFault::Memory)
+        }
+    }
+}
+
+/// Serves and sends on a shared desk, of which this pass sends, and ends the sharing.
+fn serve_by<
+    R: Threads + Wait + Sync + time::Clock,
+    L: Ledger + Drop + Send,
+    B: Sharing + Send + Sync,
+    K: Link + Drop + Send,
+    D: Listening<Socket = K> + Sync,
+    N: Network + Sync,
+    C: Clock + Sync,
+    G: Monitor + Sync,
+>(
+    rt: &R,
+    alloc: Global,
+    desk: SharedDesk<L, B>,
+    own: Pass<B>,
+    hops: Vec<Hop>,
+    listener: &D,
+    links: u64,
+    network: &N,
+    clock: &C,
+    log: &G,
+) -> Result<L, ServeFault>
+    requires { B.all ≡ B.parts }
+    ensures begins { IfOk result (λ l. L.stands l → BeginWith B.first (L.book l).lines) }
+    ensures history { IfOk result (λ l. L.stands l → ∥ IsJournalled (site_routing B.site) (L.book l) ∥₁) }
+    ensures of { IfOk result (λ l. L.site l ≡ B.site) }
+{
+    let signal = Signal::new();
+    let (passes, own) = serve_all(
+        rt, alloc, &desk, own, hops, listener, links, &signal, network, clock, log,
+    );
+    match all_passes(passes, own) {
+        Ok(passes) => closed(alloc, desk, passes),
+        Err(fault) => {
+            drop(desk);
+            Err(fault)
+        }
+    }
+}
+
 /// Serves and sends on a shared desk, and ends the sharing.
 fn serve_shared<
     R: Threads + Wait + Sync + time::Clock,
@@ -238,18 +296,16 @@ fn serve_shared<
     ensures history { IfOk result (λ l. L.stands l → ∥ IsJournalled (site_routing B.site) (L.book l) ∥₁) }
     ensures of { IfOk result (λ l. L.site l ≡ B.site) }
 {
-    let Ok(own) = desk.pass(rt, alloc) else {
-        return Err(ServeFault::Memory);
-    };
-    let signal = Signal::new();
-    let (passes, own) = serve_all(
-        rt, alloc, &desk, own, hops, listener, links, &signal, network, clock, log,
-    );
-    let Ok(mut passes) = passes else {
-        return Err(ServeFault::Memory);
-    };
-    passes.push(own)?;
-    closed(alloc, desk, passes)
+    match desk.pass(rt, alloc) {
+        Ok(own) => serve_by(
+            rt, alloc, desk, own, hops, listener, links, network, clock, log,
+        ),
+        Err(_) => {
+            drop(hops);
+            drop(desk);
+            Err(ServeFault::Memory)
+        }
+    }
 }
 
 /// The desk is no longer shared.
