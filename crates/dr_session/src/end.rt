@@ -349,8 +349,19 @@ fn open(
     ensures end { IfOk result (λ r. r.0 ≡ begins limit (requesting site peer.now proposal now)) }
     ensures actions { IfOk result (λ r. r.1 ≡ write (pdus.AssociateRq proposal ∷ []) ∷ []) }
 {
-    let (proposal, actions) = write_request(alloc, proposal)?;
-    let peer = peer.clone()?;
+    let Ok(peer) = peer.clone() else {
+        drop(site);
+        drop(proposal);
+        return Err(AllocError);
+    };
+    let (proposal, actions) = match write_request(alloc, proposal) {
+        Ok(proposal) => proposal,
+        Err(error) => {
+            drop(site);
+            drop(peer);
+            return Err(error);
+        }
+    };
     let core = BoxedCore::new(alloc, requestor(alloc, site, peer, proposal, now))?;
     let ear = Feeder::new(alloc, limit);
     let end = End {
@@ -392,6 +403,16 @@ fn request_of(pdu: Pdu) -> Result<AssociateRq, AllocError>
     }
 }
 
+/// What writes this PDU alone.
+fn write_alone(alloc: Global, pdu: &Pdu) -> Result<Seq<LinkAction>, AllocError>
+    requires { Fits pdu.now }
+    ensures { IfOk result (λ actions. actions ≡ write (pdu.now ∷ []) ∷ []) }
+{
+    let action = write_pdu(alloc, pdu)?;
+    let actions = one(alloc, action)?;
+    Ok(actions)
+}
+
 /// A request, and what writes it.
 fn write_request(
     alloc: Global,
@@ -402,10 +423,16 @@ fn write_request(
     ensures actions { IfOk result (λ r. r.1 ≡ write (pdus.AssociateRq proposal ∷ []) ∷ []) }
 {
     let pdu = Pdu::AssociateRq(proposal);
-    let action = write_pdu(alloc, &pdu)?;
-    let actions = one(alloc, action)?;
-    let proposal = request_of(pdu)?;
-    Ok((proposal, actions))
+    match write_alone(alloc, &pdu) {
+        Ok(actions) => {
+            let proposal = request_of(pdu)?;
+            Ok((proposal, actions))
+        }
+        Err(error) => {
+            drop(pdu);
+            Err(error)
+        }
+    }
 }
 
 /// How the association ended, by what was written and read.
