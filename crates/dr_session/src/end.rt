@@ -355,7 +355,7 @@ fn open(
         return Err(AllocError);
     };
     let (proposal, actions) = match write_request(alloc, proposal) {
-        Ok(proposal) => proposal,
+        Ok(written) => written,
         Err(error) => {
             drop(site);
             drop(peer);
