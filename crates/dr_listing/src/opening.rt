@@ -30,7 +30,13 @@ fn seal_plan<'a, F: Files>(
 ) -> Result<Sealed, Halt<'a>>
     ensures { Seals (F.holds files.now path.now) plan result }
 {
-    let second = read_file(alloc, files, path)?;
+    let second = match read_file(alloc, files, path) {
+        Ok(second) => second,
+        Err(failure) => {
+            drop(plan);
+            return Err(Halt::Failed(failure));
+        }
+    };
     match seal_text(alloc, plan, second.as_slice()) {
         Ok(sealed) => Ok(sealed),
         Err(fault) => Err(Halt::NoCertificate(fault)),

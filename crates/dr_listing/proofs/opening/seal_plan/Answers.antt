@@ -5,5 +5,5 @@ use Rattle.dr_listing.proofs.opening.seal_plan.Goals as goal
 
 pub returns : goal.returns
 returns g c =
-    let P : Text → Type 0 = λ text. IsFaultOf c.args.plan text c.in-Err.fault in
-    (c.in_ok-second.second.items, c.in_ok-second.ensures, λ other. subst P c.as_slice.ensures.value (c.in-Err.ensures other))
+    let P : Text → Type 0 = λ text. IsFaultOf c.args.plan text c.in-Err-seal_text.fault in
+    (c.in-Ok.second.items, c.in-Ok.ensures, λ other. subst P c.as_slice.ensures.value (c.in-Err-seal_text.ensures other))
