@@ -45,8 +45,12 @@ fn report_after(alloc: Global, sealed: &Sealed, steps: &[Step]) -> Result<Text, 
 {
     let mut world = run(alloc, sealed, steps)?;
     let mut report = Vec::new(alloc);
-    world.report(&mut report)?;
-    Ok(Text::from_vec(report))
+    let told = world.report(&mut report);
+    drop(world);
+    match told {
+        Ok(()) => Ok(Text::from_vec(report)),
+        Err(fault) => Err(fault),
+    }
 }
 
 /// What comes of the text of a script, played in a world of the plan's nodes: each begins with nothing.

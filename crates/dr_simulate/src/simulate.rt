@@ -80,7 +80,9 @@ fn play_sealed<'a, F: Files, W: Write, E: Write>(
             return Ok(status);
         }
     };
-    play_file(alloc, &sealed, files, script, output, faults)
+    let played = play_file(alloc, &sealed, files, script, output, faults);
+    drop(sealed);
+    played
 }
 
 /// Plays a script for the plan of a text, whose certificate is in a file, which is read only where the text has a plan.
@@ -102,7 +104,13 @@ fn play_text<'a, F: Files, W: Write, E: Write>(
             return Ok(answer.status());
         }
     };
-    let second = read_file(alloc, files, certificate)?;
+    let second = match read_file(alloc, files, certificate) {
+        Ok(second) => second,
+        Err(failure) => {
+            drop(plan);
+            return Err(failure);
+        }
+    };
     play_sealed(
         alloc,
         plan,
