@@ -126,16 +126,29 @@ fn serve_opened<
     requires { L.site opened.ledger ≡ opened.site }
     ensures { MatchResult result (λ text. (last : L) × (L.stands last → Grew opened.site opened.site.name (L.book opened.ledger) (L.book last) text)) IsUnserved }
 {
+    let Ok(hops) = hops_of(alloc, &opened.site, opened.sealed.plan()) else {
+        drop(opened);
+        return Err(Halt::Memory);
+    };
+    let Ok(name) = opened.site.name().clone() else {
+        drop(opened);
+        return Err(Halt::Memory);
+    };
     let Opened {
         sealed,
         site,
         ledger,
     } = opened;
-    let hops = hops_of(alloc, &site, sealed.plan())?;
-    let name = site.name().clone()?;
+    drop(sealed);
     serve_ledger::<R, L, K, D, N, C, G>(
         rt, alloc, &name, ledger, site, hops, listener, links, network, clock, log,
     )
+}
+
+/// Tells that a node serves so many associations.
+fn tell_serving<G: Monitor>(log: &G, given: NodeFiles<'_>, links: u64) {
+    let (node, ledger) = (given.node, given.ledger);
+    info!(log; target: "node", "serves node=\"{node}\" ledger=\"{ledger}\" associations={links}");
 }
 
 /// Opens a node and serves at its address; the report of what it then has.
@@ -167,9 +180,14 @@ where
     ensures { Serves (F.holds files.now given.entry.plan.now) (F.holds files.now given.entry.certificate.now) (O.opens ledgers.now given.entry.ledger.now) O.Ledger.site O.Ledger.book O.Ledger.stands given.entry.node.now result }
 {
     let opened = open_node(alloc, files, ledgers, given)?;
-    let listener = listen_at(alloc, &opened, network, given.node)?;
-    let (node, ledger) = (given.node, given.ledger);
-    info!(log; target: "node", "serves node=\"{node}\" ledger=\"{ledger}\" associations={links}");
+    let listener = match listen_at(alloc, &opened, network, given.node) {
+        Ok(listener) => listener,
+        Err(halt) => {
+            drop(opened);
+            return Err(halt);
+        }
+    };
+    tell_serving(log, given, links);
     serve_opened::<R, O::Ledger, N::Socket, N::Listener, N, C, G>(
         rt, alloc, opened, &listener, links, network, clock, log,
     )

@@ -135,13 +135,18 @@ fn send_opened<'a, L: Ledger + Drop, N: Network, C: Clock, W: Write>(
     requires { L.site opened.ledger ≡ opened.site }
     ensures { MatchResult result (λ report. SentFrom L.book L.stands (VisitsBy (N.reaches network.now) N.Socket.hears N.Socket.sends N.Socket.closes ⟦<OwnPort<L> as DeskPort>⟧.step (C.tells clock.now)) opened.site (hops_from opened.site opened.sealed.plan.nodes) item opened.ledger report (W.contents output.old) (W.contents output.new)) IsUnsent }
 {
+    let Ok(hops) = hops_of(alloc, &opened.site, opened.sealed.plan()) else {
+        drop(opened);
+        drop(item);
+        return Err(Halt::Memory);
+    };
     let Opened {
         sealed,
         site,
         ledger,
     } = opened;
-    let hops = hops_of(alloc, &site, sealed.plan())?;
-    send_ledger(
+    drop(sealed);
+    let sent = send_ledger(
         alloc,
         &site,
         hops.as_slice(),
@@ -150,7 +155,9 @@ fn send_opened<'a, L: Ledger + Drop, N: Network, C: Clock, W: Write>(
         network,
         clock,
         output,
-    )
+    );
+    drop(site);
+    sent
 }
 
 /// Opens a node, and sends the instance in a Part 10 file, which enters there.
@@ -169,7 +176,13 @@ fn send_node<'a, F: Files, O: Ledgers, N: Network, C: Clock, W: Write>(
     ensures { Sends (F.holds files.now given.entry.plan.now) (F.holds files.now given.entry.certificate.now) (F.holds files.now file.now) (O.opens ledgers.now given.entry.ledger.now) O.Ledger.site O.Ledger.book O.Ledger.stands (VisitsBy (N.reaches network.now) N.Socket.hears N.Socket.sends N.Socket.closes ⟦<OwnPort<O::Ledger> as DeskPort>⟧.step (C.tells clock.now)) given.entry.node.now result (W.contents output.old) (W.contents output.new) }
 {
     let opened = open_node(alloc, files, ledgers, given)?;
-    let item = read_instance(alloc, files, file)?;
+    let item = match read_instance(alloc, files, file) {
+        Ok(item) => item,
+        Err(halt) => {
+            drop(opened);
+            return Err(halt);
+        }
+    };
     send_opened(alloc, opened, item, network, clock, output)
 }
 

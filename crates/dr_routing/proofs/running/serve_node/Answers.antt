@@ -9,13 +9,11 @@ returns-in_err-opened g c =
     (unopened_serves (g.F.Files.holds c.args.files.now c.args.given.plan.now) (g.F.Files.holds c.args.files.now c.args.given.certificate.now) (g.O.Ledgers.opens c.args.ledgers.now c.args.given.ledger.now) g.O.Ledger.Ledger.site g.O.Ledger.Ledger.book g.O.Ledger.Ledger.stands c.args.given.node.now
     c.in_err-opened.field-0.0 c.in_err-opened.ensures)
 
-pub returns-in_err-listener : goal.returns-in_err-listener
-returns-in_err-listener g c =
-    err_as (Serves (g.F.Files.holds c.args.files.now c.args.given.plan.now) (g.F.Files.holds c.args.files.now c.args.given.certificate.now) (g.O.Ledgers.opens c.args.ledgers.now c.args.given.ledger.now) g.O.Ledger.Ledger.site g.O.Ledger.Ledger.book g.O.Ledger.Ledger.stands c.args.given.node.now)
-    c.in_err-listener.field-0.0 c.from_residual-in_err-listener.result c.from_residual-in_err-listener.ensures.0 c.from_residual-in_err-listener.ensures.1
-    (unheard_serves (g.F.Files.holds c.args.files.now c.args.given.plan.now) (g.F.Files.holds c.args.files.now c.args.given.certificate.now) (g.O.Ledgers.opens c.args.ledgers.now c.args.given.ledger.now) g.O.Ledger.Ledger.site g.O.Ledger.Ledger.book g.O.Ledger.Ledger.stands c.args.given.node.now
+pub returns-in-Err : goal.returns-in-Err
+returns-in-Err g c =
+    unheard_serves (g.F.Files.holds c.args.files.now c.args.given.plan.now) (g.F.Files.holds c.args.files.now c.args.given.certificate.now) (g.O.Ledgers.opens c.args.ledgers.now c.args.given.ledger.now) g.O.Ledger.Ledger.site g.O.Ledger.Ledger.book g.O.Ledger.Ledger.stands c.args.given.node.now
     c.in_ok-opened.opened.sealed c.in_ok-opened.opened.site c.in_ok-opened.opened.ledger c.in_ok-opened.ensures
-    c.in_err-listener.field-0.0 c.in_err-listener.ensures)
+    c.in-Err.halt c.in-Err.ensures
 
 pub returns : goal.returns
 returns g c =

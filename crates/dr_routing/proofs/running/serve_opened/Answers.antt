@@ -8,4 +8,4 @@ pub returns : goal.returns
 returns g c =
     let P : Text → Type 0 = λ name. MatchResult c.serve_ledger.result
     (λ text. (last : g.row.L.Denot) × (g.L.Ledger.stands last → Grew c.args.opened.site name (g.L.Ledger.book c.args.opened.ledger) (g.L.Ledger.book last) text)) IsUnserved in
-    subst P (c.in_ok-name.ensures ∙ c.name.ensures) c.serve_ledger.ensures
+    subst P (c.in-Ok-clone.ensures ∙ c.name.ensures) c.serve_ledger.ensures

@@ -17,18 +17,13 @@ returns-in_err-opened g c =
     (g.F.Files.holds c.args.files.now c.args.file.now) (VisitsBy (g.N.Network.reaches c.args.network.now) g.N.Socket.Link.hears g.N.Socket.Link.sends g.N.Socket.Link.closes (own.step-value g.row.O-Ledger g.O.Ledger.Ledger g.O.Ledger.Ledger-dict).it (g.C.Clock.tells c.args.clock.now))
     (g.W.Write.contents c.args.output.now) (g.W.Write.contents c.args.output.now) c.in_err-opened.field-0.0 c.in_err-opened.ensures)
 
-pub returns-in_err-item : goal.returns-in_err-item
-returns-in_err-item g c =
-    let P : Result Text Halt → Type 0 = λ came. Sends (g.F.Files.holds c.args.files.now c.args.given.plan.now) (g.F.Files.holds c.args.files.now c.args.given.certificate.now) (g.F.Files.holds c.args.files.now c.args.file.now) (g.O.Ledgers.opens c.args.ledgers.now c.args.given.ledger.now)
-    g.O.Ledger.Ledger.site g.O.Ledger.Ledger.book g.O.Ledger.Ledger.stands
-    (VisitsBy (g.N.Network.reaches c.args.network.now) g.N.Socket.Link.hears g.N.Socket.Link.sends g.N.Socket.Link.closes (own.step-value g.row.O-Ledger g.O.Ledger.Ledger g.O.Ledger.Ledger-dict).it (g.C.Clock.tells c.args.clock.now))
-    c.args.given.node.now came (g.W.Write.contents c.args.output.now) (g.W.Write.contents c.args.output.now) in
-    err_as P c.in_err-item.field-0.0 c.from_residual-in_err-item.result c.from_residual-in_err-item.ensures.0 c.from_residual-in_err-item.ensures.1
-    (unread_sends (g.F.Files.holds c.args.files.now c.args.given.plan.now) (g.F.Files.holds c.args.files.now c.args.given.certificate.now) (g.O.Ledgers.opens c.args.ledgers.now c.args.given.ledger.now) g.O.Ledger.Ledger.site g.O.Ledger.Ledger.book g.O.Ledger.Ledger.stands c.args.given.node.now
+pub returns-in-Err : goal.returns-in-Err
+returns-in-Err g c =
+    unread_sends (g.F.Files.holds c.args.files.now c.args.given.plan.now) (g.F.Files.holds c.args.files.now c.args.given.certificate.now) (g.O.Ledgers.opens c.args.ledgers.now c.args.given.ledger.now) g.O.Ledger.Ledger.site g.O.Ledger.Ledger.book g.O.Ledger.Ledger.stands c.args.given.node.now
     (g.F.Files.holds c.args.files.now c.args.file.now) (VisitsBy (g.N.Network.reaches c.args.network.now) g.N.Socket.Link.hears g.N.Socket.Link.sends g.N.Socket.Link.closes (own.step-value g.row.O-Ledger g.O.Ledger.Ledger g.O.Ledger.Ledger-dict).it (g.C.Clock.tells c.args.clock.now))
     (g.W.Write.contents c.args.output.now) (g.W.Write.contents c.args.output.now)
     c.in_ok-opened.opened.sealed c.in_ok-opened.opened.site c.in_ok-opened.opened.ledger c.in_ok-opened.ensures
-    c.in_err-item.field-0.0 c.in_err-item.ensures)
+    c.in-Err.halt c.in-Err.ensures
 
 pub returns : goal.returns
 returns g c =
@@ -36,4 +31,4 @@ returns g c =
     (g.F.Files.holds c.args.files.now c.args.file.now) (VisitsBy (g.N.Network.reaches c.args.network.now) g.N.Socket.Link.hears g.N.Socket.Link.sends g.N.Socket.Link.closes (own.step-value g.row.O-Ledger g.O.Ledger.Ledger g.O.Ledger.Ledger-dict).it (g.C.Clock.tells c.args.clock.now))
     (g.W.Write.contents c.args.output.now) (g.W.Write.contents c.send_opened.new.output)
     c.in_ok-opened.opened.sealed c.in_ok-opened.opened.site c.in_ok-opened.opened.ledger c.in_ok-opened.ensures
-    c.in_ok-item.item c.in_ok-item.ensures c.send_opened.result c.send_opened.ensures
+    c.in-Ok.item c.in-Ok.ensures c.send_opened.result c.send_opened.ensures
