@@ -87,8 +87,8 @@ def build_libraries(uses, libraries, room, log):
         idle = cores - sum(it.jobs for it in running)
         # After a failure nothing more is begun, but what is running ends, so that its work is kept.
         for at, name in enumerate(ready[: 0 if failed else idle]):
-            # What is left over goes to the one that most work waits for.
-            jobs = max(1, idle - (len(ready) - at - 1))
+            # What is left over is shared, first by the one that most work waits for: so none of two runs on one processor beside one on three.
+            jobs = max(1, -(-idle // (len(ready) - at)))
             idle -= jobs
             left.remove(name)
             running.append(Library(uses, name, room, jobs))
@@ -105,12 +105,13 @@ def build_libraries(uses, libraries, room, log):
 
 
 def build_program(program, count, log):
-    """Proves and builds the program over its libraries, and runs it once for its help; whether it ended well."""
+    """Proves and builds the program over its libraries, and runs it once, for its help or for the certificate of a plan; whether it ended well."""
     began = time.monotonic()
     log.write(f"== {program}\n")
     log.flush()
     words = ["rt", "run", "--", "--help"]
-    status = subprocess.call(words, cwd=f"{TOP}/crates/{program}", stdin=subprocess.DEVNULL, stdout=log, stderr=subprocess.STDOUT)
+    with open(f"{TOP}/plans/three-nodes.toml", "rb") as plan:
+        status = subprocess.call(words, cwd=f"{TOP}/crates/{program}", stdin=plan, stdout=log, stderr=subprocess.STDOUT)
     if status == 0:
         tell(count, count, program, began)
     return status == 0

@@ -25,6 +25,7 @@ from plan_texts import LARGE, LARGEST, OddTexts, hostile, mutated, over_limits, 
 
 TOP = os.path.dirname(os.path.dirname(os.path.abspath(__file__)))
 PROGRAM = f'{TOP}/crates/dr_router/out/dr_router'
+CERTIFIER = f'{TOP}/crates/dr_certifier/out/dr_certifier'
 PLANS, CERTIFICATES, TEXTS = 1000, 1000, 1500
 STACK = 256 * 1024  # bytes of stack that the longest walk may take: the search takes none
 sys.setrecursionlimit(10_000)
@@ -34,9 +35,9 @@ def limit_stack():
     resource.setrlimit(resource.RLIMIT_STACK, (STACK, STACK))
 
 
-def run(*words, given=b'', first=None):
+def run(*words, given=b'', first=None, program=PROGRAM):
     """Both outputs and the status, without the lines that say where a fault stands, which are indented (tests/places.py)."""
-    ended = subprocess.run([PROGRAM, *words], input=given, capture_output=True, preexec_fn=first, close_fds=False)
+    ended = subprocess.run([program, *words], input=given, capture_output=True, preexec_fn=first, close_fds=False)
     return ended.stdout, b''.join(line for line in ended.stderr.splitlines(True) if not line.startswith(b'  ')), ended.returncode
 
 
@@ -63,7 +64,7 @@ class Comparison:
         self.room, self.answers = room, collections.Counter()
 
     def compare(self, what, want, got, **texts):
-        self.answers[want[0].split(b'\n')[0].split(b'\t')[:2][-1].decode() or want[1].decode().strip()] += 1
+        self.answers[want[0].split(b'\n')[0].split(b'\t')[:2][-1].decode() or want[1].decode().strip() or 'nothing'] += 1
         if want != got:
             for name, text in texts.items():
                 with open(f'{self.room}/{name}', 'wb') as it:
@@ -72,7 +73,11 @@ class Comparison:
             os._exit(1)
 
     def check(self, what, text, first=None):
-        self.compare(what, expected(text), run('check', given=text, first=first), plan=text)
+        want = expected(text)
+        self.compare(what, want, run('check', given=text, first=first), plan=text)
+        # the program of the first certificate prints the same certificate, or nothing
+        certificate = (want[0], b'', 0) if want[2] == 0 else (b'', b'', 1)
+        self.compare(f'{what}, its first certificate', certificate, run(given=text, first=first, program=CERTIFIER), plan=text)
 
     def verdict(self, what, verdict, plan, certificate):
         want = (b'yes\n', b'', 0) if verdict == 'yes' else (f'no\t{verdict}\n'.encode(), b'', 1)

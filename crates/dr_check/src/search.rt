@@ -170,6 +170,15 @@ fn look(
     })
 }
 
+/// Has the search stand on the stop at the node from here on.
+fn stand_on(search: &mut Search, node: &Text, stop: Stop) -> Result<(), AllocError>
+    ensures { OnOk result (Enters search.old search.new node.now stop) }
+{
+    search.marks.insert(stop, Mark::Open)?;
+    search.path.push(node.clone()?)?;
+    Ok(())
+}
+
 /// Enters the stop: the search stands on it from here on.
 fn enter(
     search: &mut Search,
@@ -181,15 +190,49 @@ fn enter(
     ensures frame { IfOk result (λ frame. frame ≡ record { caller = caller; node = node; targets = targets; searched = 0; rank = 0 }) }
     ensures search { OnOk result (Enters search.old search.new node stop) }
 {
-    search.path.push(node.clone()?)?;
-    search.marks.insert(stop, Mark::Open)?;
-    Ok(Frame {
+    let frame = Frame {
         caller,
         node,
         targets,
         searched: 0,
         rank: 0,
-    })
+    };
+    match stand_on(search, &frame.node, stop) {
+        Ok(()) => Ok(frame),
+        Err(AllocError) => {
+            drop(frame);
+            Err(AllocError)
+        }
+    }
+}
+
+/// Texts of their own.
+fn names_of(caller: &Text, node: &Text) -> Result<(Text, Text), AllocError>
+    ensures { IfOk result (λ names. (names.0 ≡ caller.now) × (names.1 ≡ node.now)) }
+{
+    let caller = caller.clone()?;
+    Ok((caller, node.clone()?))
+}
+
+/// Enters the stop at which a search begins.
+fn begin(
+    search: &mut Search,
+    caller: &Text,
+    node: &Text,
+    stop: Stop,
+    targets: Seq<Text>,
+) -> Result<Frame, AllocError>
+    ensures frame { IfOk result (λ frame. frame ≡ record { caller = caller.now; node = node.now; targets = targets; searched = 0; rank = 0 }) }
+    ensures search { OnOk result (Enters search.old search.new node.now stop) }
+{
+    match names_of(caller, node) {
+        Ok((caller, node)) => enter(search, caller, node, stop, targets),
+        Err(AllocError) => {
+            drop(targets);
+            drop(stop);
+            Err(AllocError)
+        }
+    }
 }
 
 /// Finishes the stop that the search stands on, whose targets have all been searched: it has its line from here on.
@@ -310,16 +353,15 @@ pub fn reach(
     requires trail { IsTrail plan.now key.now (search.old.path.items ++ node.now ∷ []) caller.now node.now }
     ensures { IfOk result (AfterReach plan.now cell.now caller.now node.now search.old search.new) }
 {
-    let (stop, targets) = match look(search, plan, cell, key, caller, node)? {
+    let mut top = match look(search, plan, cell, key, caller, node)? {
         Seen::Finished(rank) => return Ok(Found::Rank(rank)),
         Seen::End(end) => {
             search.path.push(node.clone()?)?;
             return Ok(Found::End(end));
         }
-        Seen::New { stop, targets } => (stop, targets),
+        Seen::New { stop, targets } => begin(search, caller, node, stop, targets)?,
     };
     let mut below = Vec::new(search.alloc);
-    let mut top = enter(search, caller.clone()?, node.clone()?, stop, targets)?;
     'search: loop {
         if let Some(found) = step(search, plan, cell, key, &mut top, &mut below)? {
             return Ok(found);

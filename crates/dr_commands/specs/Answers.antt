@@ -2,30 +2,16 @@
 use Rattle.std.specs.Prelude.{◌≡◌, ◌≢◌, [], Ok, Err}
 use Rattle.dr_base.specs.Texts.{Text}
 use Rattle.dr_network.specs.Networks.{Network}
-use Rattle.dr_sound.specs.declared.certificate.Certificate.{Certificate}
-use Rattle.dr_sound.specs.Soundness.{IsSound}
-use Rattle.dr_sound.specs.Certificates.{IsCertificateOf}
-use Rattle.dr_cert_text.specs.CertificateText.{certificate_text}
-use Rattle.dr_cert_text.specs.Printable.{IsPrintable}
 use Rattle.dr_plan.specs.Reading.{Reads}
 use Rattle.dr_plan.specs.declared.fault.PlanFault.TheVariants.{Memory as NoMemory}
 use Rattle.dr_check.specs.declared.fault.Fault.{Fault}
 use Rattle.dr_check.specs.Shown.{IsShown, IsTooLarge}
+use Rattle.dr_certify.specs.Certified.{IsCertified}
 use Rattle.dr_commands.specs.Faults.{no_line}
 use Rattle.dr_commands.specs.declared.answer.Answer.{Answer}
 use Rattle.dr_commands.specs.declared.answer.Answer.TheVariants.{Sound, Unsound, NoPlan, TooLarge, Memory}
 use Rattle.dr_commands.specs.declared.status.Status.{Status}
 use Rattle.dr_commands.specs.declared.status.Status.TheVariants.{Success, Refused, Memory as OutOfMemory}
-
--- the text writes a sound plan, and this is the text of the plan's certificate, which can be read back
-pub record IsProved (text output : Text) : Type 0 where
-  pub plan : Network
-  pub certificate : Certificate
-  pub reads : Reads text (Ok plan)
-  pub sound : IsSound plan
-  pub own : IsCertificateOf plan certificate
-  pub printable : IsPrintable certificate
-  pub printed : output ≡ certificate_text certificate
 
 -- the text writes a plan with this fault, and this is the fault's line
 pub record IsRefuted (text output : Text) : Type 0 where
@@ -51,17 +37,9 @@ IsLineOf fault (Sound printed) = ⊥
 IsLineOf fault (NoPlan refused place) = ⊥
 IsLineOf fault TooLarge = ⊥
 
--- the answer to a plan with that certificate: its text, or want of memory
-abbrev pub IsPrintOf : Certificate → Answer → Type 0
-IsPrintOf certificate (Sound printed) = printed ≡ certificate_text certificate
-IsPrintOf certificate Memory = Unit {0}
-IsPrintOf certificate (Unsound printed why) = ⊥
-IsPrintOf certificate (NoPlan refused place) = ⊥
-IsPrintOf certificate TooLarge = ⊥
-
 -- what `check` may answer to a text; want of memory may be answered to any
 abbrev pub IsAnswerTo : Text → Answer → Type 0
-IsAnswerTo text (Sound printed) = IsProved text printed
+IsAnswerTo text (Sound printed) = IsCertified text printed
 IsAnswerTo text (Unsound printed why) = IsRefuted text printed
 IsAnswerTo text (NoPlan fault place) = Reads text (Err fault) × (fault ≢ NoMemory)
 IsAnswerTo text TooLarge = (plan : Network) × Reads text (Ok plan) × IsTooLarge plan

@@ -1,6 +1,5 @@
 pub mod Answers
 pub mod Faults
-pub mod Inputs
 pub mod Laws
 pub mod Runs
 pub mod Statuses

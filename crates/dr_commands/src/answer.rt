@@ -2,18 +2,17 @@
 ghost use Rattle.std.specs.Prelude.{◌≡◌, ◌≢◌, Err, Ok};
 ghost use Rattle.dr_base.specs.Texts.{Text as OfText};
 ghost use Rattle.dr_plan.specs.Reading.{Reads};
-ghost use Rattle.dr_commands.specs.Answers.{IsAnswerTo, IsLineOf, IsNoPlan, IsPrintOf, status_for};
+ghost use Rattle.dr_commands.specs.Answers.{IsAnswerTo, IsLineOf, IsNoPlan, status_for};
 ghost use Rattle.dr_commands.specs.declared.status.Status.TheVariants.{Usage};
 
 use crate::print::line_of;
 use crate::status::Status;
 use dr_base::Text;
-use dr_cert_text::write_certificate;
-use dr_check::{CheckFault, Fault, Verdict, check};
+use dr_certify::{Refusal, certify};
+use dr_check::Fault;
 use dr_places::explain;
 use dr_plan::{Plan, PlanFault, read_plan};
 use dr_reasons::describe;
-use dr_sound::Certificate;
 use std::alloc::{AllocError, Global};
 
 /// What the program answers to the text of a plan.
@@ -76,25 +75,15 @@ fn answer_to_unsound(alloc: Global, plan: &Plan, fault: &Fault) -> Answer
     }
 }
 
-/// The answer to a plan with this certificate.
-fn answer_to_sound(alloc: Global, certificate: &Certificate) -> Answer
-    ensures { IsPrintOf certificate.now result }
-{
-    match write_certificate(alloc, certificate) {
-        Ok(text) => Answer::Sound(text),
-        Err(AllocError) => Answer::Memory,
-    }
-}
-
 /// The answer to a plan that was read of a text.
 fn answer_to_plan(alloc: Global, plan: &Plan) -> Answer
     ensures { (text : OfText) → Reads text (Ok plan.now) → IsAnswerTo text result }
 {
-    match check(alloc, plan) {
-        Ok(Verdict::Yes(certificate)) => answer_to_sound(alloc, &certificate),
-        Ok(Verdict::No(fault)) => answer_to_unsound(alloc, plan, &fault),
-        Err(CheckFault::TooLarge) => Answer::TooLarge,
-        Err(CheckFault::Memory) => Answer::Memory,
+    match certify(alloc, plan) {
+        Ok(certificate) => Answer::Sound(certificate),
+        Err(Refusal::Unsound(fault)) => answer_to_unsound(alloc, plan, &fault),
+        Err(Refusal::TooLarge) => Answer::TooLarge,
+        Err(Refusal::Memory) => Answer::Memory,
     }
 }
 

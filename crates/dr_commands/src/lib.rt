@@ -3,7 +3,6 @@
 #![tactic(auto)]
 
 mod answer;
-mod input;
 pub mod laws;
 mod print;
 mod run;

@@ -11,11 +11,11 @@ ghost use Rattle.dr_words.specs.declared.words.Asked.TheVariants as asks;
 ghost use Rattle.dr_commands.specs.declared.status.Status.TheVariants.{Success, Refused, Usage, InputOutput, Memory};
 
 use crate::answer::{Answer, answer_to};
-use crate::input::read_input;
 use crate::status::Status;
 use crate::verify::{Verdict, plan_of, verdict_on};
 use clap::Error;
 use clap::error::ErrorKind;
+use dr_certify::read_input;
 use dr_words::{Asked, read_words};
 use std::alloc::{AllocError, Global};
 use std::io;

@@ -1,11 +1,7 @@
-use Rattle.std.proofs.Common.{◌≡◌, ◌≢◌, ◌⊎◌, inl, inr, refl, sym, ◌∙◌, ap, subst, Ok, Err}
-use Rattle.std.specs.Prelude.{Result}
+use Rattle.std.proofs.Common.{◌≡◌, ◌⊎◌, inl, inr, refl, sym, ◌∙◌, subst, Ok}
 use Rattle.dr_base.specs.Texts.{Text}
 use Rattle.dr_network.specs.Networks.{Network}
 use Rattle.dr_plan.specs.Reading.{Reads}
-use Rattle.dr_plan.specs.declared.fault.PlanFault.{PlanFault}
-use Rattle.dr_plan.specs.declared.fault.PlanFault.TheVariants.{Memory as NoMemory}
-use Rattle.dr_plan.proofs.OneAnswer.{one_answer}
 use Rattle.dr_sound.specs.declared.certificate.Certificate.{Certificate}
 use Rattle.dr_sound.specs.Soundness.{IsSound}
 use Rattle.dr_sound.specs.Certificates.{IsCertificateOf}
@@ -13,22 +9,14 @@ use Rattle.dr_cert_text.proofs.Whole.{same_certificate}
 use Rattle.dr_cert.specs.Refusing.{IsRefused}
 use Rattle.dr_cert.specs.declared.fault.CertFault.{CertFault}
 use Rattle.dr_cert.proofs.Faultless.{own_is_taken}
-use Rattle.dr_commands.specs.Answers.{IsProved}
+use Rattle.dr_certify.specs.Certified.{IsCertified}
+use Rattle.dr_certify.proofs.Read.{read_once}
 use Rattle.dr_commands.specs.Verdicts.{IsVerdictOn}
 use Rattle.dr_commands.specs.declared.verify.Verdict.{Verdict}
 use Rattle.dr_commands.specs.declared.verify.Verdict.TheVariants.{Yes, No, Memory}
 use Rattle.dr_commands.proofs.laws.what_check_prints_is_verified.Goals as goal
 
-abbrev plan_or : Network → Result Network PlanFault → Network
-plan_or other (Ok plan) = plan
-plan_or other (Err fault) = other
-
-read_once : (text : Text) (a b : Network) → Reads text (Ok a) → Reads text (Ok b) → a ≡ b
-read_once text a b x y =
-    let none : (n : Network) → (let r : Result Network PlanFault = Ok n in r) ≢ Err NoMemory = λ n e. cc e in
-    ap (plan_or a) (one_answer text (Ok a) (Ok b) (none a) (none b) x y)
-
-verdicts : (text output : Text) → IsProved text output → (plan : Network) → Reads text (Ok plan) → (verdict : Verdict) → IsVerdictOn plan output verdict →
+verdicts : (text output : Text) → IsCertified text output → (plan : Network) → Reads text (Ok plan) → (verdict : Verdict) → IsVerdictOn plan output verdict →
     (verdict ≡ Yes) ⊎ (verdict ≡ Memory)
 verdicts text output proved plan reads Yes right = inl refl
 verdicts text output proved plan reads Memory right = inr refl

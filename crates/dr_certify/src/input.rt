@@ -1,7 +1,7 @@
 //! The standard input.
 ghost use Rattle.std.specs.Prelude.{◌≡◌, ◌<◌, ℕ, List, IfOk, OnOk, IfSome, length, true, Ok, vec_len};
 ghost use Rattle.std.specs.Io.KnownBytes.{IsAtEnd};
-ghost use Rattle.dr_commands.specs.Inputs.{TakesIn};
+ghost use Rattle.dr_certify.specs.Inputs.{TakesIn};
 
 use std::alloc::{AllocError, Global};
 use std::io;

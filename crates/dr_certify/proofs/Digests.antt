@@ -1,5 +1,5 @@
 -- A SHA-256 has 32 bytes.
-use Rattle.std.proofs.Common.{◌≡◌, ℕ, zero, suc, ◌<◌, ◌/◌, ◌^◌, mod-lt, List, [], ◌∷◌, ◌++◌, arith}
+use Rattle.std.proofs.Common.{ℕ, zero, suc, ◌<◌, ◌/◌, ◌^◌, mod-lt, List, [], ◌∷◌, arith}
 use Rattle.std.specs.Prelude.{All, slice_index}
 use Rattle.std.specs.Int.{to_be_bytes, byte_at, w32}
 use Rattle.std.proofs.lemmas.List.Elements.{All-nil, All-cons, All-append}

@@ -1,6 +1,6 @@
 use Rattle.std.proofs.Common.{◌<◌, vec_len}
-use Rattle.dr_commands.specs.Inputs.{TakesIn}
-use Rattle.dr_commands.proofs.input.read_input.Given as goal
+use Rattle.dr_certify.specs.Inputs.{TakesIn}
+use Rattle.dr_certify.proofs.input.read_input.Given as goal
 
 abbrev pub invariant-loop : goal.invariant-loop
 invariant-loop g l = record {

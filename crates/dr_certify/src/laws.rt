@@ -1,0 +1,16 @@
+//! Laws of certified plans.
+ghost use Rattle.dr_certify.specs.Laws.{NoTextHasBoth, OneCertificateIsPrinted};
+
+use dr_check::laws::too_large_has_many_lines;
+
+/// No text has a certificate and none: so what `print_certificate` answers follows from the text, want of memory and faults of input and output aside.
+pub fn no_text_has_both()
+    ensures { NoTextHasBoth }
+{
+    too_large_has_many_lines();
+}
+
+/// What is printed for a text tells which certificate its plan has, digest and all.
+pub fn one_certificate_is_printed()
+    ensures { OneCertificateIsPrinted }
+{}
