@@ -81,7 +81,11 @@ fn answer_to_plan(alloc: Global, plan: &Plan) -> Answer
 {
     match certify(alloc, plan) {
         Ok(certificate) => Answer::Sound(certificate),
-        Err(Refusal::Unsound(fault)) => answer_to_unsound(alloc, plan, &fault),
+        Err(Refusal::Unsound(fault)) => {
+            let answer = answer_to_unsound(alloc, plan, &fault);
+            drop(fault);
+            answer
+        }
         Err(Refusal::TooLarge) => Answer::TooLarge,
         Err(Refusal::Memory) => Answer::Memory,
     }

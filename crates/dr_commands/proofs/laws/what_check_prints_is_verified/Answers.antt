@@ -7,7 +7,6 @@ use Rattle.dr_sound.specs.Soundness.{IsSound}
 use Rattle.dr_sound.specs.Certificates.{IsCertificateOf}
 use Rattle.dr_cert_text.proofs.Whole.{same_certificate}
 use Rattle.dr_cert.specs.Refusing.{IsRefused}
-use Rattle.dr_cert.specs.declared.fault.CertFault.{CertFault}
 use Rattle.dr_cert.proofs.Faultless.{own_is_taken}
 use Rattle.dr_certify.specs.Certified.{IsCertified}
 use Rattle.dr_certify.proofs.Read.{read_once}
