@@ -99,7 +99,11 @@ fn shown(alloc: Global, command: &Command) -> Result<String, anyhow::Error> {
 fn read(alloc: Global, words: &[&str]) -> Result<String, anyhow::Error> {
     let text = bytes(alloc, words)?;
     match read_command(alloc, text.as_slice()) {
-        Ok(command) => shown(alloc, &command),
+        Ok(command) => {
+            let line = shown(alloc, &command);
+            drop(command);
+            line
+        }
         Err(fault) => refused(alloc, fault),
     }
 }
@@ -122,7 +126,11 @@ fn told(alloc: Global, command: &Command) -> Result<String, anyhow::Error> {
 
 fn again(alloc: Global, words: &[&str]) -> Result<String, anyhow::Error> {
     let text = bytes(alloc, words)?;
-    told(alloc, &read_command(alloc, text.as_slice())?)
+    let command = read_command(alloc, text.as_slice())?;
+    drop(text);
+    let line = told(alloc, &command);
+    drop(command);
+    line
 }
 
 /// The answer to an echo.
@@ -145,10 +153,18 @@ fn store(alloc: Global, instance: &[u8]) -> Result<Command, AllocError> {
 }
 
 fn stored(alloc: Global, instance: &str) -> Result<String, anyhow::Error> {
-    match instance {
-        "-" => told(alloc, &store(alloc, b"")?),
-        instance => told(alloc, &store(alloc, instance.as_bytes())?),
-    }
+    let instance = if instance == "-" { "" } else { instance };
+    let command = store(alloc, instance.as_bytes())?;
+    let line = told(alloc, &command);
+    drop(command);
+    line
+}
+
+fn echoed(alloc: Global, to: &str) -> Result<String, anyhow::Error> {
+    let command = echo_answer(alloc, to.parse()?)?;
+    let line = told(alloc, &command);
+    drop(command);
+    line
 }
 
 /// A number in hexadecimal, if there is one.
@@ -163,13 +179,20 @@ fn other(alloc: Global, words: &[&str]) -> Result<String, anyhow::Error> {
     let [field, id, status] = words else {
         bail!("a field, an id and a status are missing");
     };
+    let (field, id, status) = (
+        number(field)?.context("no field")?,
+        number(id)?,
+        number(status)?,
+    );
     let other = Command::Other {
-        field: number(field)?.context("no field")?,
-        id: number(id)?,
-        status: number(status)?,
+        field,
+        id,
+        status,
         has_data: false,
     };
-    told(alloc, &other)
+    let line = told(alloc, &other);
+    drop(other);
+    line
 }
 
 fn awaited(word: &str) -> Result<Awaited, anyhow::Error> {
@@ -228,7 +251,11 @@ fn answer(
     answer: Result<Option<Message>, DimseFault>,
 ) -> Result<String, anyhow::Error> {
     match answer {
-        Ok(Some(message)) => shown_message(alloc, &message),
+        Ok(Some(message)) => {
+            let line = shown_message(alloc, &message);
+            drop(message);
+            line
+        }
         Ok(None) => Ok(String::from_str(alloc, "waits")?),
         Err(fault) => refused(alloc, fault),
     }
@@ -238,14 +265,10 @@ fn taken(alloc: Global, assembly: &mut Assembly, words: &[&str]) -> Result<Strin
     let [id, header, rest @ ..] = words else {
         bail!("an id and a header are missing");
     };
+    let (id, header) = (id.parse()?, header.parse()?);
     let fragment = bytes(alloc, rest)?;
-    let taken = take(
-        alloc,
-        assembly,
-        id.parse()?,
-        header.parse()?,
-        fragment.as_slice(),
-    );
+    let taken = take(alloc, assembly, id, header, fragment.as_slice());
+    drop(fragment);
     answer(alloc, taken)
 }
 
@@ -260,27 +283,70 @@ fn data(alloc: Global, assembly: &Assembly) -> Result<String, anyhow::Error> {
     }
 }
 
+/// Takes a value, and lets go what it answers.
+fn pass(
+    alloc: Global,
+    assembly: &mut Assembly,
+    header: u8,
+    fragment: &[u8],
+) -> Result<(), DimseFault> {
+    match take(alloc, assembly, 1, header, fragment) {
+        Ok(message) => {
+            drop(message);
+            Ok(())
+        }
+        Err(fault) => Err(fault),
+    }
+}
+
+/// The spelling of the command whose data set is to come.
+fn store_text(alloc: Global) -> Result<Vec<u8>, anyhow::Error> {
+    let command = store(alloc, b"1.2.3.4")?;
+    let text = written(alloc, &command);
+    drop(command);
+    text?.context("doesn't fit")
+}
+
 /// Puts the command and 64 MiB of its data set.
 fn fill(alloc: Global, assembly: &mut Assembly) -> Result<(), anyhow::Error> {
-    if let Some(text) = written(alloc, &store(alloc, b"1.2.3.4")?)? {
-        let _waits = take(alloc, assembly, 1, 3, text.as_slice())?;
-    }
+    let text = store_text(alloc)?;
+    pass(alloc, assembly, 3, text.as_slice())?;
     let fragment = vec![in alloc; 7u8; 16384]?;
     for _ in 0..4096u16 {
-        let _waits = take(alloc, assembly, 1, 0, fragment.as_slice())?;
+        pass(alloc, assembly, 0, fragment.as_slice())?;
     }
     Ok(())
+}
+
+/// What the last fragment of a large data set is answered.
+fn take_large(
+    alloc: Global,
+    assembly: &mut Assembly,
+    last: &[u8],
+) -> Result<Option<Message>, anyhow::Error> {
+    fill(alloc, assembly)?;
+    Ok(take(alloc, assembly, 1, 2, last)?)
+}
+
+/// The length of a data set.
+fn length_of(alloc: Global, message: &Option<Message>) -> Result<String, anyhow::Error> {
+    let message = message.as_ref().context("no message")?;
+    match &message.body {
+        Some(Body::Whole(bytes)) => Ok(format!(in alloc; "{} bytes", bytes.len())?),
+        other => body(alloc, other),
+    }
 }
 
 fn large(alloc: Global, words: &[&str]) -> Result<String, anyhow::Error> {
     let last = bytes(alloc, words)?;
     let mut assembly = Assembly::new(alloc, Awaited::Requests);
-    fill(alloc, &mut assembly)?;
-    let message = take(alloc, &mut assembly, 1, 2, last.as_slice())?.context("no message")?;
-    match &message.body {
-        Some(Body::Whole(bytes)) => Ok(format!(in alloc; "{} bytes", bytes.len())?),
-        other => body(alloc, other),
-    }
+    let answer = take_large(alloc, &mut assembly, last.as_slice());
+    drop(assembly);
+    drop(last);
+    let message = answer?;
+    let line = length_of(alloc, &message);
+    drop(message);
+    line
 }
 
 fn put_assembly(
@@ -328,7 +394,7 @@ pub fn call(
     match (what, words) {
         ("read", words) => read(alloc, words),
         ("again", words) => again(alloc, words),
-        ("echo-answer", [to]) => told(alloc, &echo_answer(alloc, to.parse()?)?),
+        ("echo-answer", [to]) => echoed(alloc, to),
         ("store", [instance]) => stored(alloc, instance),
         ("other", words) => other(alloc, words),
         ("large", words) => large(alloc, words),

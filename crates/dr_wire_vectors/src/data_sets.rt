@@ -225,11 +225,11 @@ fn scan_call(
     words: &[&str],
 ) -> Result<String, anyhow::Error> {
     let scan = heard.scans.last_mut().context("no scan")?;
-    match what {
-        "feed" => fed(alloc, scan, bytes(alloc, words)?.as_slice()),
-        "finish" => shown(alloc, scan.finish(alloc)),
-        _ => bail!("an unknown call of dr_dataset"),
+    if what == "finish" {
+        return shown(alloc, scan.finish(alloc));
     }
+    let piece = bytes(alloc, words)?;
+    fed(alloc, scan, piece.as_slice())
 }
 
 fn scan_of(alloc: Global, words: &[&str]) -> Result<String, anyhow::Error> {
@@ -240,6 +240,17 @@ fn scan_of(alloc: Global, words: &[&str]) -> Result<String, anyhow::Error> {
     scan(alloc, text.as_slice(), syntax(letter)?)
 }
 
+/// The calls of a whole text.
+fn text_call(alloc: Global, what: &str, text: &[u8]) -> Result<String, anyhow::Error> {
+    match what {
+        "fronts" => fronts(alloc, text),
+        "cuts" => cuts(alloc, text),
+        "ends" => ends(alloc, text),
+        "file" => file(alloc, text),
+        _ => bail!("an unknown call of dr_dataset"),
+    }
+}
+
 pub fn call(
     alloc: Global,
     heard: &mut Heard,
@@ -248,11 +259,11 @@ pub fn call(
 ) -> Result<String, anyhow::Error> {
     match (what, words) {
         ("scan", words) => scan_of(alloc, words),
-        ("fronts", words) => fronts(alloc, bytes(alloc, words)?.as_slice()),
-        ("cuts", words) => cuts(alloc, bytes(alloc, words)?.as_slice()),
-        ("ends", words) => ends(alloc, bytes(alloc, words)?.as_slice()),
-        ("file", words) => file(alloc, bytes(alloc, words)?.as_slice()),
         ("hear", [letter]) => hear(alloc, heard, letter),
-        (what, words) => scan_call(alloc, heard, what, words),
+        ("feed" | "finish", words) => scan_call(alloc, heard, what, words),
+        (what, words) => {
+            let text = bytes(alloc, words)?;
+            text_call(alloc, what, text.as_slice())
+        }
     }
 }

@@ -73,15 +73,29 @@ fn shown(alloc: Global, pdu: &Pdu) -> Result<String, anyhow::Error> {
     }
 }
 
+/// What was read, and how many bytes it takes.
+fn shown_with_length(alloc: Global, pdu: &Pdu, used: usize) -> Result<String, anyhow::Error> {
+    let shown = shown(alloc, pdu)?;
+    Ok(format!(in alloc; "{shown}, {used} bytes")?)
+}
+
+fn decoded(
+    alloc: Global,
+    answer: &Result<(Pdu, usize), PduFault>,
+) -> Result<String, anyhow::Error> {
+    match answer {
+        Ok((pdu, used)) => shown_with_length(alloc, pdu, *used),
+        Err(fault) => refused(alloc, *fault),
+    }
+}
+
 fn read(alloc: Global, limit: u32, words: &[&str]) -> Result<String, anyhow::Error> {
     let text = bytes(alloc, words)?;
-    match decode(alloc, text.as_slice(), limit) {
-        Ok((pdu, used)) => {
-            let shown = shown(alloc, &pdu)?;
-            Ok(format!(in alloc; "{shown}, {used} bytes")?)
-        }
-        Err(fault) => refused(alloc, fault),
-    }
+    let answer = decode(alloc, text.as_slice(), limit);
+    drop(text);
+    let line = decoded(alloc, &answer);
+    drop(answer);
+    line
 }
 
 /// One context, of CT images in the explicit syntax.
@@ -139,7 +153,10 @@ fn told_bytes(alloc: Global, bytes: &[u8]) -> Result<String, anyhow::Error> {
 
 fn requested(alloc: Global, words: &[&str]) -> Result<String, anyhow::Error> {
     let called = bytes(alloc, words)?;
-    told(alloc, &request(alloc, called)?)
+    let pdu = request(alloc, called)?;
+    let line = told(alloc, &pdu);
+    drop(pdu);
+    line
 }
 
 /// A P-DATA-TF of one value.
@@ -157,11 +174,12 @@ fn transferred(alloc: Global, words: &[&str]) -> Result<String, anyhow::Error> {
     let [id, header, rest @ ..] = words else {
         bail!("an id and a header are missing");
     };
+    let (id, header) = (id.parse()?, header.parse()?);
     let fragment = bytes(alloc, rest)?;
-    told(
-        alloc,
-        &transfer(alloc, id.parse()?, header.parse()?, fragment)?,
-    )
+    let pdu = transfer(alloc, id, header, fragment)?;
+    let line = told(alloc, &pdu);
+    drop(pdu);
+    line
 }
 
 /// Feeds a piece; where a growth is refused, feeds it again.
@@ -182,14 +200,21 @@ fn spell(alloc: Global, out: &mut Vec<u8>, pdus: &[Pdu]) -> Result<(), AllocErro
     Ok(())
 }
 
+/// How many PDUs there are, and their spellings.
+fn counted(alloc: Global, pdus: &[Pdu]) -> Result<String, anyhow::Error> {
+    let mut out = Vec::new(alloc);
+    spell(alloc, &mut out, pdus)?;
+    let digits = digits(alloc, out.as_slice())?;
+    Ok(format!(in alloc; "{} PDUs [{digits}]", pdus.len())?)
+}
+
 /// How many PDUs a piece gives, and their spellings.
 fn fed(alloc: Global, feeder: &mut Feeder, piece: &[u8]) -> Result<String, anyhow::Error> {
     match take(feeder, piece) {
         Ok(pdus) => {
-            let mut out = Vec::new(alloc);
-            spell(alloc, &mut out, pdus.as_slice())?;
-            let digits = digits(alloc, out.as_slice())?;
-            Ok(format!(in alloc; "{} PDUs [{digits}]", pdus.len())?)
+            let line = counted(alloc, pdus.as_slice());
+            drop(pdus);
+            line
         }
         Err(fault) => refused(alloc, fault),
     }
@@ -203,7 +228,9 @@ fn hear(
     piece: &[u8],
 ) -> Result<(), anyhow::Error> {
     let pdus = take(feeder, piece)?;
-    spell(alloc, out, pdus.as_slice())?;
+    let spelled = spell(alloc, out, pdus.as_slice());
+    drop(pdus);
+    spelled?;
     Ok(())
 }
 
