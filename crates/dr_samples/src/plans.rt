@@ -52,7 +52,11 @@ fn plan_of(alloc: Global, text: &str) -> Result<Plan, SampleFault> {
 fn certificate_of(alloc: Global, plan: &Plan) -> Result<Certificate, SampleFault> {
     match check(alloc, plan) {
         Ok(Verdict::Yes(certificate)) => Ok(certificate),
-        _ => Err(SampleFault::NotSound),
+        Ok(Verdict::No(fault)) => {
+            drop(fault);
+            Err(SampleFault::NotSound)
+        }
+        Err(_) => Err(SampleFault::NotSound),
     }
 }
 

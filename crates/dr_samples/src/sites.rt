@@ -30,7 +30,11 @@ pub fn site_of(alloc: Global, sealed: &Sealed, node: &str) -> Result<Site, Sampl
 /// The site of a node of the plan of three nodes.
 pub fn site_of_three(alloc: Global, node: &str) -> Result<Site, SampleFault> {
     match sealed(alloc, THREE_NODES) {
-        Ok(sealed) => site_of(alloc, &sealed, node),
+        Ok(sealed) => {
+            let site = site_of(alloc, &sealed, node);
+            drop(sealed);
+            site
+        }
         Err(fault) => Err(fault),
     }
 }
