@@ -62,6 +62,34 @@ pub(crate) fn arrival(caller: &Text, item: &Item) -> Result<Call, AllocError>
     Ok(call)
 }
 
+/// What came of a try to send, as it is noted.
+pub(crate) fn settling(
+    uid: &Text,
+    dest: &Text,
+    outcome: Outcome,
+    now: u64,
+) -> Result<Call, AllocError>
+    ensures { IfOk result (λ call. call ≡ Call.Settling uid.now dest.now outcome now) }
+{
+    let uid = uid.clone()?;
+    let dest = dest.clone()?;
+    Ok(Call::Settling {
+        uid,
+        dest,
+        outcome,
+        now,
+    })
+}
+
+/// A held row that is queued again.
+pub(crate) fn requeuing(uid: &Text, dest: &Text) -> Result<Call, AllocError>
+    ensures { IfOk result (λ call. call ≡ Call.Requeuing uid.now dest.now) }
+{
+    let uid = uid.clone()?;
+    let dest = dest.clone()?;
+    Ok(Call::Requeuing { uid, dest })
+}
+
 fn copy_key(key: &Key) -> Result<Key, AllocError>
     ensures { IfOk result (λ copy. copy ≡ key.now) }
 {

@@ -13,7 +13,7 @@ use crate::desk::Desk;
 use crate::held::Held;
 use crate::holdings::Holdings;
 use crate::pass::{Pass, TooManyPasses};
-use crate::receipt::{Call, Receipt, Reply, arrival};
+use crate::receipt::{Call, Receipt, Reply, arrival, requeuing, settling};
 use crate::sharing::Sharing;
 use dr_base::{Seq, Text};
 use dr_cert::Sealed;
@@ -52,7 +52,10 @@ impl<L: Ledger, B: Sharing> SharedDesk<L, B> {
         let mut desk = desk;
         let kept = match desk.lines() {
             Ok(kept) => kept,
-            Err(fault) => return Err((fault, desk)),
+            Err(fault) => {
+                drop(site);
+                return Err((fault, desk));
+            }
         };
         let (tally, rest) = blank.open::<B>();
         let number = kept.len() as u64;
@@ -99,15 +102,30 @@ impl<L: Ledger, B: Sharing> SharedDesk<L, B> {
     ) -> Result<Arrived, LedgerFault>
         ensures { MatchResult result (λ r. Notes (arrival_of caller.now item) (Reply.Arrived r) pass.old.made.count pass.old.receipts.items pass.new.made.count pass.new.receipts.items) (λ why. Leaves pass.old.made.count pass.old.receipts.items pass.new.made.count pass.new.receipts.items) }
     {
-        let call = arrival(caller, &item)?;
-        pass.make_room()?;
-        let (number, arrived) = self.held.lock(rt).arrive(&mut pass.made, caller, item)?;
-        pass.note(Receipt {
-            number,
-            call,
-            reply: Reply::Arrived(arrived),
-        });
-        Ok(arrived)
+        if pass.make_room().is_err() {
+            drop(item);
+            return Err(LedgerFault::Memory);
+        }
+        let Ok(call) = arrival(caller, &item) else {
+            drop(item);
+            return Err(LedgerFault::Memory);
+        };
+        // The lock is given back here, before the receipt is noted.
+        let came = self.held.lock(rt).arrive(&mut pass.made, caller, item);
+        match came {
+            Ok((number, arrived)) => {
+                pass.note(Receipt {
+                    number,
+                    call,
+                    reply: Reply::Arrived(arrived),
+                });
+                Ok(arrived)
+            }
+            Err(fault) => {
+                drop(call);
+                Err(fault)
+            }
+        }
     }
 
     /// Notes what came of a try.
@@ -125,23 +143,26 @@ impl<L: Ledger, B: Sharing> SharedDesk<L, B> {
         requires { now ≤ 2 ^ 62 }
         ensures { MatchResult result (λ r. Notes (Call.Settling uid.now dest.now outcome now) Reply.Done pass.old.made.count pass.old.receipts.items pass.new.made.count pass.new.receipts.items) (λ why. Leaves pass.old.made.count pass.old.receipts.items pass.new.made.count pass.new.receipts.items) }
     {
-        let call = Call::Settling {
-            uid: uid.clone()?,
-            dest: dest.clone()?,
-            outcome,
-            now,
-        };
         pass.make_room()?;
-        let number = self
+        let call = settling(uid, dest, outcome, now)?;
+        let came = self
             .held
             .lock(rt)
-            .settle(&mut pass.made, uid, dest, outcome, now)?;
-        pass.note(Receipt {
-            number,
-            call,
-            reply: Reply::Done,
-        });
-        Ok(())
+            .settle(&mut pass.made, uid, dest, outcome, now);
+        match came {
+            Ok(number) => {
+                pass.note(Receipt {
+                    number,
+                    call,
+                    reply: Reply::Done,
+                });
+                Ok(())
+            }
+            Err(fault) => {
+                drop(call);
+                Err(fault)
+            }
+        }
     }
 
     /// Queues a held row again.
@@ -156,18 +177,23 @@ impl<L: Ledger, B: Sharing> SharedDesk<L, B> {
     ) -> Result<(), LedgerFault>
         ensures { MatchResult result (λ r. Notes (Call.Requeuing uid.now dest.now) Reply.Done pass.old.made.count pass.old.receipts.items pass.new.made.count pass.new.receipts.items) (λ why. Leaves pass.old.made.count pass.old.receipts.items pass.new.made.count pass.new.receipts.items) }
     {
-        let call = Call::Requeuing {
-            uid: uid.clone()?,
-            dest: dest.clone()?,
-        };
         pass.make_room()?;
-        let number = self.held.lock(rt).requeue(&mut pass.made, uid, dest)?;
-        pass.note(Receipt {
-            number,
-            call,
-            reply: Reply::Done,
-        });
-        Ok(())
+        let call = requeuing(uid, dest)?;
+        let came = self.held.lock(rt).requeue(&mut pass.made, uid, dest);
+        match came {
+            Ok(number) => {
+                pass.note(Receipt {
+                    number,
+                    call,
+                    reply: Reply::Done,
+                });
+                Ok(())
+            }
+            Err(fault) => {
+                drop(call);
+                Err(fault)
+            }
+        }
     }
 
     /// The ledger's `next`.
