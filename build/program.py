@@ -19,6 +19,9 @@ from rooms import TOP, below, furnish, listed
 # The memory that one check takes at most, but for the largest crates.
 ROOM = 2_500_000_000
 
+# The bytes of sources for which one more process pays.
+PIECE = 20_000
+
 
 def work_of(name):
     """A crate's work, by the bytes of its sources."""
@@ -87,8 +90,9 @@ def build_libraries(uses, libraries, room, log):
         idle = cores - sum(it.jobs for it in running)
         # After a failure nothing more is begun, but what is running ends, so that its work is kept.
         for at, name in enumerate(ready[: 0 if failed else idle]):
-            # What is left over is shared, first by the one that most work waits for: so none of two runs on one processor beside one on three.
-            jobs = max(1, -(-idle // (len(ready) - at)))
+            # What is left over is shared, first by the one that most work waits for: so none of two runs on one processor beside one on three. A small
+            # crate takes fewer, since each process loads what is below it anew.
+            jobs = max(1, min(-(-idle // (len(ready) - at)), 1 + work_of(name) // PIECE))
             idle -= jobs
             left.remove(name)
             running.append(Library(uses, name, room, jobs))
@@ -109,7 +113,9 @@ def build_program(program, count, log):
     began = time.monotonic()
     log.write(f"== {program}\n")
     log.flush()
-    words = ["rt", "run", "--", "--help"]
+    # Rattle's own compiler takes three seconds for the program of the first certificate, for which LLVM takes twenty.
+    backend = ["--backend", "rattle"] if program == "dr_certifier" else []
+    words = ["rt", "run", "--jobs", "1", *backend, "--", "--help"]
     with open(f"{TOP}/plans/three-nodes.toml", "rb") as plan:
         status = subprocess.call(words, cwd=f"{TOP}/crates/{program}", stdin=plan, stdout=log, stderr=subprocess.STDOUT)
     if status == 0:

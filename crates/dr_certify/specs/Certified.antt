@@ -12,7 +12,9 @@ use Rattle.dr_cert_text.specs.Printable.{IsPrintable}
 use Rattle.dr_plan.specs.Reading.{Reads}
 use Rattle.dr_plan.specs.declared.fault.PlanFault.{PlanFault}
 use Rattle.dr_plan.specs.declared.fault.PlanFault.TheVariants.{Memory as NoMemory}
-use Rattle.dr_check.specs.Shown.{IsShown, IsTooLarge}
+use Rattle.dr_check.specs.Answering.{Judges}
+use Rattle.dr_check.specs.Shown.{IsTooLarge}
+use Rattle.dr_check.specs.declared.verdict.Verdict.TheVariants.{No}
 use Rattle.dr_certify.specs.declared.certificate.Refusal.{Refusal}
 use Rattle.dr_certify.specs.declared.certificate.Refusal.TheVariants.{Unsound, TooLarge, Memory}
 
@@ -26,11 +28,11 @@ pub record IsCertified (text output : Text) : Type 0 where
   pub printable : IsPrintable certificate
   pub printed : output ≡ certificate_text certificate
 
--- what is found of a text that writes a plan: its certificate, a fault that shows that it isn't sound, or that it would have too many lines;
--- want of memory may be found of any
+-- what is found of a text that writes a plan: its certificate; the fault that is named first of those that show that it isn't sound; or that it would
+-- have too many lines; want of memory may be found of any
 abbrev pub Certifies : Text → Result Text Refusal → Type 0
 Certifies text (Ok output) = IsCertified text output
-Certifies text (Err (Unsound fault)) = (plan : Network) × Reads text (Ok plan) × IsShown plan fault
+Certifies text (Err (Unsound fault)) = (plan : Network) × Reads text (Ok plan) × Judges plan (No fault)
 Certifies text (Err TooLarge) = (plan : Network) × Reads text (Ok plan) × IsTooLarge plan
 Certifies text (Err Memory) = Unit {0}
 

@@ -5,7 +5,9 @@ use Rattle.dr_network.specs.Networks.{Network}
 use Rattle.dr_plan.specs.Reading.{Reads}
 use Rattle.dr_plan.specs.declared.fault.PlanFault.TheVariants.{Memory as NoMemory}
 use Rattle.dr_check.specs.declared.fault.Fault.{Fault}
-use Rattle.dr_check.specs.Shown.{IsShown, IsTooLarge}
+use Rattle.dr_check.specs.Answering.{Judges}
+use Rattle.dr_check.specs.Shown.{IsTooLarge}
+use Rattle.dr_check.specs.declared.verdict.Verdict.TheVariants.{No}
 use Rattle.dr_certify.specs.Certified.{IsCertified}
 use Rattle.dr_commands.specs.Faults.{no_line}
 use Rattle.dr_commands.specs.declared.answer.Answer.{Answer}
@@ -13,12 +15,12 @@ use Rattle.dr_commands.specs.declared.answer.Answer.TheVariants.{Sound, Unsound,
 use Rattle.dr_commands.specs.declared.status.Status.{Status}
 use Rattle.dr_commands.specs.declared.status.Status.TheVariants.{Success, Refused, Memory as OutOfMemory}
 
--- the text writes a plan with this fault, and this is the fault's line
+-- the text writes a plan of which this fault is named, the first of those that show themselves, and this is the fault's line
 pub record IsRefuted (text output : Text) : Type 0 where
   pub plan : Network
   pub fault : Fault
   pub reads : Reads text (Ok plan)
-  pub shown : IsShown plan fault
+  pub judged : Judges plan (No fault)
   pub printed : output ≡ no_line fault
 
 -- the answer to a text that has no plan: its fault, with words for people about it, or want of memory

@@ -28,7 +28,7 @@ unread text plan fault apart reads fails =
 refused : TooLargeHasManyLines → (text output : Text) → IsCertified text output → (refusal : Refusal) → refusal ≢ Memory → Certifies text (Err refusal) → ⊥
 refused many text output it (Unsound fault) apart is =
     let P : Network → Type 0 = λ plan. IsSound plan in
-    no_sound_plan is.0 fault is.2 (subst P (read_once text it.plan is.0 it.reads is.1) it.sound)
+    no_sound_plan is.0 fault is.2.0 (subst P (read_once text it.plan is.0 it.reads is.1) it.sound)
 refused many text output it TooLarge apart is =
     let P : Network → Type 0 = λ plan. IsTooLarge plan in
     let large : IsTooLarge it.plan = subst P (sym (read_once text it.plan is.0 it.reads is.1)) is.2 in
