@@ -55,7 +55,11 @@ fn found_of(certified: Result<Text, Refusal>) -> Result<Option<Text>, AllocError
 {
     match certified {
         Ok(certificate) => Ok(Some(certificate)),
-        Err(Refusal::Unsound(_)) | Err(Refusal::TooLarge) => Ok(None),
+        Err(Refusal::Unsound(fault)) => {
+            drop(fault);
+            Ok(None)
+        }
+        Err(Refusal::TooLarge) => Ok(None),
         Err(Refusal::Memory) => Err(AllocError),
     }
 }

@@ -3,7 +3,7 @@ ghost use Rattle.std.specs.Prelude.{◌≡◌, IfOk};
 
 use crate::recording::{Notes, Recording};
 use dr_base::Text;
-use dr_desk::{Desk, Pass, SharedDesk, Sharing};
+use dr_desk::{Closed, Desk, Pass, SharedDesk, Sharing};
 use dr_ledger::{Arrived, Ledger, LedgerFault, Outcome};
 use dr_memory::MemoryLedger;
 use dr_samples::{image, name, site_of_three};
@@ -13,6 +13,22 @@ use std::marker::Brand;
 use std::sync::Wait;
 use std::sync::ledger::Blank;
 use std::test::Fail;
+
+/// One arrival.
+fn arrive_from<R: Wait, L: Ledger, B: Sharing>(
+    rt: &R,
+    alloc: Global,
+    desk: &SharedDesk<L, B>,
+    pass: &mut Pass<B>,
+    from: (&str, &str),
+    answers: &mut Notes,
+) -> Result<(), Fail> {
+    let caller = name(alloc, from.0)?;
+    let item = image(alloc, "1.2.3.4", from.1)?;
+    let answer = desk.arrive(rt, pass, &caller, item);
+    answers.note(&answer);
+    Ok(())
+}
 
 /// Calls that add lines, and such as are refused.
 fn write<R: Wait, L: Ledger, B: Sharing>(
@@ -24,14 +40,8 @@ fn write<R: Wait, L: Ledger, B: Sharing>(
 ) -> Result<(), Fail> {
     let arch = name(alloc, "ARCH")?;
     let uid = name(alloc, "1.2.3.4")?;
-    for (caller, station) in [("CT1", "S1"), ("CT1", "S1"), ("ARCH", "S1"), ("CT1", "S2")] {
-        let answer = desk.arrive(
-            rt,
-            pass,
-            &name(alloc, caller)?,
-            image(alloc, "1.2.3.4", station)?,
-        );
-        answers.note(&answer);
+    for from in [("CT1", "S1"), ("CT1", "S1"), ("ARCH", "S1"), ("CT1", "S2")] {
+        arrive_from(rt, alloc, desk, pass, from, answers)?;
     }
     answers.note(&desk.requeue(rt, pass, &uid, &arch));
     answers.note(&desk.settle(rt, pass, &uid, &arch, Outcome::NoContext, 7));
@@ -97,6 +107,7 @@ fn read<R: Wait, L: Ledger, B: Sharing>(
     let uid = name(alloc, "1.2.3.4")?;
     let other = image(alloc, "1.2.3.5", "S1")?;
     answers.note(&desk.admits(rt, &arch, &other));
+    drop(other);
     read_one(rt, desk, &uid, &arch, answers);
     read_next(rt, desk, &arch, answers);
     read_arrivals(rt, desk, answers);
@@ -129,6 +140,24 @@ fn call<R: Wait, L: Ledger, B: Sharing>(
     Ok(answers)
 }
 
+/// What came of the sharing of a desk that is closed.
+fn outcomes_of<L: Ledger + Drop>(
+    closed: Closed<Recording<L>>,
+    answers: Notes,
+    count: u64,
+) -> Outcomes {
+    let (sum, passes) = (closed.sum, closed.passes);
+    let Recording { ledger, notes } = closed.desk.into_ledger();
+    drop(ledger);
+    Outcomes {
+        answers,
+        noted: notes,
+        count,
+        sum,
+        passes,
+    }
+}
+
 /// Ends the sharing of a desk that had one pass.
 fn close<L: Ledger + Drop, B: Sharing>(
     alloc: Global,
@@ -139,16 +168,40 @@ fn close<L: Ledger + Drop, B: Sharing>(
     requires { B.all ≡ B.parts }
 {
     let count = pass.count();
-    let passes = vec![in alloc; pass]?;
+    let Ok(passes) = vec![in alloc; pass] else {
+        drop(answers);
+        drop(shared);
+        return Err(Fail::from("there is no memory"));
+    };
     match shared.close(alloc, passes) {
-        Ok(closed) => Ok(Outcomes {
-            answers,
-            noted: closed.desk.into_ledger().notes,
-            count,
-            sum: closed.sum,
-            passes: closed.passes,
-        }),
-        Err(_) => Err(Fail::from("the receipts do not agree")),
+        Ok(closed) => Ok(outcomes_of(closed, answers, count)),
+        Err(refused) => {
+            drop(refused);
+            drop(answers);
+            Err(Fail::from("the receipts do not agree"))
+        }
+    }
+}
+
+/// The desk is called by one pass, and closed.
+fn call_and_close<R: Wait, L: Ledger + Drop, B: Sharing>(
+    rt: &R,
+    alloc: Global,
+    shared: SharedDesk<Recording<L>, B>,
+) -> Result<Outcomes, Fail>
+    requires { B.all ≡ B.parts }
+{
+    let Ok(mut pass) = shared.pass(rt, alloc) else {
+        drop(shared);
+        return Err(Fail::from("there is no pass"));
+    };
+    match call(rt, alloc, &shared, &mut pass) {
+        Ok(answers) => close(alloc, shared, pass, answers),
+        Err(fail) => {
+            drop(pass);
+            drop(shared);
+            Err(fail)
+        }
     }
 }
 
@@ -164,17 +217,12 @@ fn share<R: Wait, L: Ledger + Drop, B: Sharing>(
     requires first { B.first ≡ (L.book desk.ledger.ledger).lines }
     requires site { (L.site desk.ledger.ledger ≡ site) × (B.site ≡ site) }
 {
-    let shared: SharedDesk<Recording<L>, B> = match SharedDesk::new(desk, site, blank) {
-        Ok(shared) => shared,
-        Err(_) => return Err(Fail::from("the desk is not shared")),
-    };
-    let mut pass = match shared.pass(rt, alloc) {
-        Ok(pass) => pass,
-        Err(_) => return Err(Fail::from("there is no pass")),
-    };
-    match call(rt, alloc, &shared, &mut pass) {
-        Ok(answers) => close(alloc, shared, pass, answers),
-        Err(fail) => Err(fail),
+    match SharedDesk::<Recording<L>, B>::new(desk, site, blank) {
+        Ok(shared) => call_and_close(rt, alloc, shared),
+        Err(refused) => {
+            drop(refused);
+            Err(Fail::from("the desk is not shared"))
+        }
     }
 }
 
@@ -212,9 +260,16 @@ fn recording_desk(alloc: Global, own: &Site) -> Result<Desk<Recording<MemoryLedg
 {
     let copy = own.copy()?;
     let mut ledger = MemoryLedger::new(alloc, copy);
-    add_a_line(alloc, &mut ledger)?;
-    let notes = Notes::new(alloc);
-    Ok(Desk::new(Recording { ledger, notes }))
+    match add_a_line(alloc, &mut ledger) {
+        Ok(()) => Ok(Desk::new(Recording {
+            ledger,
+            notes: Notes::new(alloc),
+        })),
+        Err(fail) => {
+            drop(ledger);
+            Err(fail)
+        }
+    }
 }
 
 /// A desk of the gateway is shared, called and closed.

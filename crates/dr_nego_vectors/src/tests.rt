@@ -475,20 +475,32 @@ fn values_of(alloc: Global, pdu: &Pdu) -> Result<Vec<(usize, u8)>, Fail> {
     Ok(found)
 }
 
+/// How long the fragments are of the PDU that the text begins with, and their headers, and what comes behind it; None where it begins with
+/// no PDU.
+fn take_pdu<'a>(
+    alloc: Global,
+    text: &'a [u8],
+    limit: u32,
+) -> Result<Option<(Vec<(usize, u8)>, &'a [u8])>, Fail> {
+    let Ok((pdu, len)) = decode(alloc, text, limit) else {
+        return Ok(None);
+    };
+    let values = values_of(alloc, &pdu);
+    drop(pdu);
+    Ok(Some((values?, text.get(len..).unwrap_or(&[]))))
+}
+
 /// How long the fragments are that are read back, and their headers.
 fn read_back(alloc: Global, text: &[u8], limit: u32) -> Result<Vec<(usize, u8)>, Fail> {
     let mut found = Vec::new(alloc);
     let mut rest = text;
     for _ in 0..8 {
-        let Ok((pdu, len)) = decode(alloc, rest, limit) else {
+        let Some((values, later)) = take_pdu(alloc, rest, limit)? else {
             return Ok(found);
         };
-        for value in values_of(alloc, &pdu)? {
+        for value in values {
             found.push(value)?;
         }
-        let Some(later) = rest.get(len..) else {
-            return Ok(found);
-        };
         rest = later;
     }
     Ok(found)
