@@ -10,7 +10,9 @@ use std::test::Fail;
 /// The plan of three nodes, sealed with its certificate; a copy, which is equal.
 fn copied(alloc: Global) -> Result<Sealed, Fail> {
     let sealed = sealed(alloc, THREE_NODES)?;
-    Ok(sealed.copy()?)
+    let copy = sealed.copy();
+    drop(sealed);
+    Ok(copy?)
 }
 
 fn key(alloc: Global, modality: &str) -> Result<Key, Fail> {
@@ -40,7 +42,9 @@ fn place(
 fn rank_of(alloc: Global, caller: &str, node: &str, modality: &str) -> Result<Option<u32>, Fail> {
     let (caller, node, key) = place(alloc, caller, node, modality)?;
     let sealed = copied(alloc)?;
-    Ok(sealed.rank(&caller, &node, &key))
+    let rank = sealed.rank(&caller, &node, &key);
+    drop(sealed);
+    Ok(rank)
 }
 
 #[test]
@@ -92,13 +96,15 @@ fn parts_of(alloc: Global, node: &str) -> Result<Option<[usize; 5]>, Fail> {
     let Some(site) = site(alloc, node)? else {
         return Ok(None);
     };
-    Ok(Some([
+    let parts = [
         site.rules().len(),
         site.accepts().len(),
         site.flows().len(),
         site.lines().len(),
         site.hops().len(),
-    ]))
+    ];
+    drop(site);
+    Ok(Some(parts))
 }
 
 #[test]
@@ -116,12 +122,16 @@ fn a_site_is_its_nodes_part(rt: HostRuntime) -> Result<(), Fail> {
 
 /// Whether GATE's site has a line for the caller and the key.
 fn gate_has_line(alloc: Global, caller: &str, modality: &str) -> Result<bool, Fail> {
-    let Some(site) = site(alloc, "GATE")? else {
-        return Ok(false);
-    };
     let caller = name(alloc, caller)?;
     let key = key(alloc, modality)?;
-    Ok(site.has_line(&caller, &key))
+    match site(alloc, "GATE")? {
+        Some(site) => {
+            let has = site.has_line(&caller, &key);
+            drop(site);
+            Ok(has)
+        }
+        None => Ok(false),
+    }
 }
 
 #[test]
