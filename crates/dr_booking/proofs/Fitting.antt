@@ -30,7 +30,7 @@ use Rattle.dr_calls.specs.declared.first.Taking.TheVariants as taking
 use Rattle.dr_calls.specs.Bringing.{missing}
 use Rattle.dr_calls.specs.Changes.{HasBoth, HasNeither}
 use Rattle.dr_booking.specs.Calling.{IsLedgerOf}
-use Rattle.dr_booking.specs.Knowing.{Fits, IsThere}
+use Rattle.dr_booking.specs.Knowing.{Fits, IsThere, taking_absent, taking_there}
 use Rattle.dr_booking.proofs.Knows.{no_item_there}
 
 -- ---- what a site's targets are
@@ -67,6 +67,19 @@ missing_none rows uid dest to none among absent =
   where
     in_missing : (rows : FinMap pair_cmp Progress) (uid dest : Text) (to : List Text) → Contains to dest → map.get rows (uid, dest) ≡ None → Contains (missing rows uid to) dest
     in_missing rows uid dest to among absent = keeps_one (λ d. not (map.contains_key rows (uid, d))) to dest among (ap (λ o. not (is_some o)) absent)
+
+-- an empty list has no element, and any other one its first
+none_among : (to : List Text) → (length to == 0) ≡ true → (dest : Text) → Contains to dest → ⊥
+none_among [] is dest among = nothing_in_nil dest among
+none_among (first ∷ more) is dest among = let no : suc (length more) ≡ 0 = eqb-true _ _ is in omega (arith, no)
+
+some_among : (to : List Text) → (length to == 0) ≡ false → (dest : Text) × Contains to dest
+some_among [] is = absurd (true≢false is)
+some_among (first ∷ more) is = (first, Contains-here first more)
+
+nothing_in : (to : List Text) → (length to == 0) ≡ true → to ≡ []
+nothing_in [] is = refl
+nothing_in (first ∷ more) is = let no : suc (length more) ≡ 0 = eqb-true _ _ is in absurd (omega (arith, no))
 
 -- ---- an instance that isn't there
 
@@ -115,10 +128,10 @@ module _ (n : ℕ) (part : Part) (caller : Text) (item : Job) (to : List Text) (
         ]),
       )
 
-  pub fits_new : (keep ≡ true) ⊎ ((dest : Text) × Contains to dest) → Fits taking.New caller item to keep to keep base
+  fits_new : (keep ≡ true) ⊎ ((dest : Text) × Contains to dest) → Fits taking.New caller item to keep to keep base
   fits_new some = record { asks = neither; known = no_item; comes = new_needed some; missing_are = sym (missing_all (rows_of base) item.uid to no_rows); keeps_is = keeps_new; first = not_brought }
 
-  pub fits_bare : keep ≡ false → ((dest : Text) → Contains to dest → ⊥) → Fits taking.Bare caller item to keep to keep base
+  fits_bare : keep ≡ false → ((dest : Text) → Contains to dest → ⊥) → Fits taking.Bare caller item to keep to keep base
   fits_bare unkept none = record {
     asks = neither;
     known = no_item;
@@ -136,6 +149,14 @@ module _ (n : ℕ) (part : Part) (caller : Text) (item : Job) (to : List Text) (
     keeps_is = keeps_new;
     first = not_brought;
   }
+
+  pub fits_absent : Fits (taking_absent keep (length to == 0)) caller item to keep to keep base
+  fits_absent = go keep (length to == 0) refl refl
+    where
+      go : (k none : Bool) → keep ≡ k → (length to == 0) ≡ none → Fits (taking_absent k none) caller item to keep to keep base
+      go true none kept is = fits_new (inl kept)
+      go false true unkept is = fits_bare unkept (none_among to is)
+      go false false unkept is = fits_new (inr (some_among to is))
 
 -- ---- an instance that is there
 
@@ -166,16 +187,16 @@ module _ (n : ℕ) (part : Part) (caller : Text) (item : Job) (to : List Text) (
         ]),
       )
 
-  pub fits_again : (keep ≡ true) ⊎ ((dest : Text) × Contains dests dest) → Fits taking.Again caller item to keep dests (keep && not kept) base
+  fits_again : (keep ≡ true) ⊎ ((dest : Text) × Contains dests dest) → Fits taking.Again caller item to keep dests (keep && not kept) base
   fits_again some = record { asks = there.both; known = there.same; comes = again_needed some; missing_are = dests_are; keeps_is = keeps_more; first = first }
 
-  pub fits_whole : whole ≡ true → Fits taking.Nothing caller item to keep dests (keep && not kept) base
+  fits_whole : whole ≡ true → Fits taking.Nothing caller item to keep dests (keep && not kept) base
   fits_whole is = record { asks = tt; known = there.same; comes = λ needed. some_of (map.get (bodies_of base) item.uid) (there.body ∙ is); missing_are = dests_are; keeps_is = keeps_more; first = first }
 
   not_needed : whole ≡ false → IsNeeded (book_of base) item.uid → ⊥
   not_needed is needed = let body = (l.bodied.there item.uid).1 needed in true≢false (sym (ap is_some body.1) ∙ there.body ∙ is)
 
-  pub fits_nothing : whole ≡ false → keep ≡ false → dests ≡ [] → Fits taking.Nothing caller item to keep dests (keep && not kept) base
+  fits_nothing : whole ≡ false → keep ≡ false → dests ≡ [] → Fits taking.Nothing caller item to keep dests (keep && not kept) base
   fits_nothing bare unkept none = record {
     asks = tt;
     known = there.same;
@@ -203,18 +224,14 @@ module _ (n : ℕ) (part : Part) (caller : Text) (item : Job) (to : List Text) (
               let same : r ≡ row = inside r row (sym (rows_stay to (rows_of base) item.uid (item.uid, dest) r e) ∙ is) in
               (dest, r, e, λ done. undone (sym same ∙ done))
 
--- an empty list has no element, and any other one its first
-pub none_among : (to : List Text) → (length to == 0) ≡ true → (dest : Text) → Contains to dest → ⊥
-none_among [] is dest among = nothing_in_nil dest among
-none_among (first ∷ more) is dest among = let no : suc (length more) ≡ 0 = eqb-true _ _ is in omega (arith, no)
-
-pub some_among : (to : List Text) → (length to == 0) ≡ false → (dest : Text) × Contains to dest
-some_among [] is = absurd (true≢false is)
-some_among (first ∷ more) is = (first, Contains-here first more)
-
-pub nothing_in : (to : List Text) → (length to == 0) ≡ true → to ≡ []
-nothing_in [] is = refl
-nothing_in (first ∷ more) is = let no : suc (length more) ≡ 0 = eqb-true _ _ is in absurd (omega (arith, no))
+  pub fits_there : Fits (taking_there whole keep (length dests == 0)) caller item to keep dests (keep && not kept) base
+  fits_there = go whole keep (length dests == 0) refl refl refl
+    where
+      go : (w k none : Bool) → whole ≡ w → keep ≡ k → (length dests == 0) ≡ none → Fits (taking_there w k none) caller item to keep dests (keep && not kept) base
+      go true k none is kept one = fits_whole is
+      go false true none bare is one = fits_again (inl is)
+      go false false true bare unkept is = fits_nothing bare unkept (nothing_in dests is)
+      go false false false bare unkept is = fits_again (inr (some_among dests is))
 
 -- ---- rows that are missing, one destination after another
 

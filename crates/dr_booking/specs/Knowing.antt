@@ -1,5 +1,5 @@
 -- What the tables have of what arrives.
-use Rattle.std.specs.Prelude.{◌≡◌, ◌&&◌, Bool, not, false, List, Some, Ok}
+use Rattle.std.specs.Prelude.{◌≡◌, ◌&&◌, ◌||◌, Bool, cond, not, false, List, Some, Ok}
 use Rattle.std.specs.FinMap as map
 use Rattle.std.specs.FinSet as set
 use Rattle.sqlite.specs.Tree.{Trees}
@@ -14,6 +14,7 @@ use Rattle.dr_ledger.specs.Replies.{Arrives, HasConflict}
 use Rattle.dr_ledger.specs.SiteRoutes.{site_routing}
 use Rattle.dr_tables.specs.Books.{all_kept_in, arrivals_in, bodies_of, book_of, items_of, rows_of}
 use Rattle.dr_calls.specs.declared.first.Taking.{Taking}
+use Rattle.dr_calls.specs.declared.first.Taking.TheVariants.{New, Bare, Again, Nothing}
 use Rattle.dr_calls.specs.Bringing.{AsksToTake, IsKnownFor, missing}
 use Rattle.dr_calls.specs.Changes.{HasBoth, HasNeither}
 use Rattle.dr_calls.specs.Laws.{ComesWhereNeeded}
@@ -45,3 +46,11 @@ pub record Fits (how : Taking) (caller : Text) (item : Job) (to : List Text) (ke
 -- the book is that after an arrival that was accepted
 abbrev pub IsAccepted : Part → Text → Instance → Book → Book → Type 0
 IsAccepted part caller item old new = (answer : Arrived) × Arrives (site_routing part) caller item old (Ok answer) new
+
+-- how an instance is taken in that is there: its data set comes again where it isn't there, and the instance is to be kept or lacks a row
+abbrev pub taking_there : Bool → Bool → Bool → Taking
+taking_there whole keep none = cond (whole || (not keep && none)) Nothing Again
+
+-- how one is taken in that isn't there: with its data set, where it is to be kept or has a destination
+abbrev pub taking_absent : Bool → Bool → Taking
+taking_absent keep none = cond (not keep && none) Bare New

@@ -11,7 +11,7 @@ ghost use Rattle.dr_tables.specs.Books.{arrivals_in, bodies_of, book_of};
 ghost use Rattle.dr_calls.specs.Bringing.{AreNames, names_for};
 ghost use Rattle.dr_calls.specs.Changes.{HasNeither};
 ghost use Rattle.dr_booking.specs.Calling.{Called, advanced};
-ghost use Rattle.dr_booking.specs.Knowing.{Fits, IsThere};
+ghost use Rattle.dr_booking.specs.Knowing.{Fits, IsThere, taking_absent};
 
 use crate::writing::written;
 use dr_base::{Seq, Text};
@@ -164,6 +164,16 @@ pub fn bring_item<'x, S: Alter>(
     }
 }
 
+/// How an instance that isn't there is taken in: with its data set, where it is to be kept or has a destination.
+fn taking_of(keep: bool, none: bool) -> Taking
+    ensures { result ≡ taking_absent keep none }
+{
+    if !keep && none {
+        return Taking::Bare;
+    }
+    Taking::New
+}
+
 /// Takes the first arrival of an instance that isn't there.
 pub fn bring_new<'x, S: Alter>(
     conn: &mut Connection<S>,
@@ -190,36 +200,7 @@ pub fn bring_new<'x, S: Alter>(
     ensures idle { conn.new.in_transaction ≡ false }
 {
     let to = targets.to.as_slice();
-    if targets.keep {
-        return bring_item(
-            conn,
-            alloc,
-            site,
-            n,
-            caller,
-            item,
-            targets,
-            instance,
-            Taking::New,
-            to,
-            targets.keep,
-        );
-    }
-    if to.is_empty() {
-        return bring_item(
-            conn,
-            alloc,
-            site,
-            n,
-            caller,
-            item,
-            targets,
-            instance,
-            Taking::Bare,
-            to,
-            targets.keep,
-        );
-    }
+    let taking = taking_of(targets.keep, to.is_empty());
     bring_item(
         conn,
         alloc,
@@ -229,7 +210,7 @@ pub fn bring_new<'x, S: Alter>(
         item,
         targets,
         instance,
-        Taking::New,
+        taking,
         to,
         targets.keep,
     )

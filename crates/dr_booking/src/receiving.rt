@@ -12,7 +12,7 @@ ghost use Rattle.dr_tables.specs.Books.{all_kept_in, arrivals_in, bodies_of, boo
 ghost use Rattle.dr_calls.specs.Bringing.{AreNames, missing};
 ghost use Rattle.dr_calls.specs.Changes.{HasNeither};
 ghost use Rattle.dr_booking.specs.Calling.{Called, Looked, Nothing, advanced};
-ghost use Rattle.dr_booking.specs.Knowing.{IsAccepted, IsKnown, IsThere};
+ghost use Rattle.dr_booking.specs.Knowing.{IsAccepted, IsKnown, IsThere, taking_there};
 
 use crate::arriving::{bring_item, bring_new, repeat};
 use crate::knowing::{Known, know};
@@ -113,6 +113,16 @@ fn keeps_now(keep: bool, kept: bool) -> bool
     keep && !kept
 }
 
+/// How an instance that is there is taken in: where its data set isn't there, it comes again for an instance that is to be kept or has a new row.
+fn taking_of(whole: bool, keep: bool, none: bool) -> Taking
+    ensures { result ≡ taking_there whole keep none }
+{
+    if whole || (!keep && none) {
+        return Taking::Nothing;
+    }
+    Taking::Again
+}
+
 /// Takes the first arrival of an instance that is there, from a caller that has not brought it.
 fn bring_kept<'x, S: Alter>(
     conn: &mut Connection<S>,
@@ -142,63 +152,9 @@ fn bring_kept<'x, S: Alter>(
 {
     let keeps = keeps_now(targets.keep, kept);
     let all = dests.as_slice();
-    if whole {
-        return bring_item(
-            conn,
-            alloc,
-            site,
-            n,
-            caller,
-            item,
-            targets,
-            instance,
-            Taking::Nothing,
-            all,
-            keeps,
-        );
-    }
-    if targets.keep {
-        return bring_item(
-            conn,
-            alloc,
-            site,
-            n,
-            caller,
-            item,
-            targets,
-            instance,
-            Taking::Again,
-            all,
-            keeps,
-        );
-    }
-    if all.is_empty() {
-        return bring_item(
-            conn,
-            alloc,
-            site,
-            n,
-            caller,
-            item,
-            targets,
-            instance,
-            Taking::Nothing,
-            all,
-            keeps,
-        );
-    }
+    let taking = taking_of(whole, targets.keep, all.is_empty());
     bring_item(
-        conn,
-        alloc,
-        site,
-        n,
-        caller,
-        item,
-        targets,
-        instance,
-        Taking::Again,
-        all,
-        keeps,
+        conn, alloc, site, n, caller, item, targets, instance, taking, all, keeps,
     )
 }
 

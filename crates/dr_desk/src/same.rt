@@ -1,8 +1,10 @@
 //! Whether two lines of a journal are the same, part by part.
 ghost use Rattle.std.specs.Prelude.{◌≡◌, ◌↔◌, IsTrue};
+ghost use Rattle.dr_ledger.specs.declared.item.Entry.TheVariants as entry;
 
-use dr_base::Text;
-use dr_ledger::Entry;
+use dr_base::{Seq, Text};
+use dr_ledger::{Entry, Outcome};
+use dr_route::Key;
 
 /// Values that can be compared as contracts see them.
 pub trait Same {
@@ -32,71 +34,106 @@ impl Same for Text {
     }
 }
 
+/// Whether the line is this arrival.
+fn is_arrival(
+    line: &Entry,
+    caller: &Text,
+    uid: &Text,
+    key: &Key,
+    length: u64,
+    to: &Seq<Text>,
+    keep: bool,
+) -> bool
+    ensures { IsTrue result ↔ (line.now ≡ entry.Arrival caller.now uid.now key.now length to.now keep) }
+{
+    match line {
+        Entry::Arrival {
+            caller: from,
+            uid: of,
+            key: with,
+            length: size,
+            to: targets,
+            keep: keeps,
+        } => {
+            from == caller
+                && of == uid
+                && with == key
+                && *size == length
+                && *keeps == keep
+                && are_same(targets.as_slice(), to.as_slice())
+        }
+        _ => false,
+    }
+}
+
+/// Whether the line is this repeat.
+fn is_repeat(line: &Entry, caller: &Text, uid: &Text, key: &Key, length: u64) -> bool
+    ensures { IsTrue result ↔ (line.now ≡ entry.Repeat caller.now uid.now key.now length) }
+{
+    match line {
+        Entry::Repeat {
+            caller: from,
+            uid: of,
+            key: with,
+            length: size,
+        } => from == caller && of == uid && with == key && *size == length,
+        _ => false,
+    }
+}
+
+/// Whether the line is this settling.
+fn is_settling(line: &Entry, uid: &Text, dest: &Text, outcome: Outcome, now: u64) -> bool
+    ensures { IsTrue result ↔ (line.now ≡ entry.Settling uid.now dest.now outcome now) }
+{
+    match line {
+        Entry::Settling {
+            uid: of,
+            dest: towards,
+            outcome: came,
+            now: at,
+        } => of == uid && towards == dest && *came == outcome && *at == now,
+        _ => false,
+    }
+}
+
+/// Whether the line is this requeuing.
+fn is_requeuing(line: &Entry, uid: &Text, dest: &Text) -> bool
+    ensures { IsTrue result ↔ (line.now ≡ entry.Requeuing uid.now dest.now) }
+{
+    match line {
+        Entry::Requeuing {
+            uid: of,
+            dest: towards,
+        } => of == uid && towards == dest,
+        _ => false,
+    }
+}
+
 impl Same for Entry {
     fn is_same(&self, other: &Entry) -> bool {
-        match (self, other) {
-            (
-                Entry::Arrival {
-                    caller: from,
-                    uid: of,
-                    key: with,
-                    length: size,
-                    to: targets,
-                    keep: keeps,
-                },
-                Entry::Arrival {
-                    caller,
-                    uid,
-                    key,
-                    length,
-                    to,
-                    keep,
-                },
-            ) => {
-                from == caller
-                    && of == uid
-                    && with == key
-                    && size == length
-                    && keeps == keep
-                    && are_same(targets.as_slice(), to.as_slice())
-            }
-            (
-                Entry::Repeat {
-                    caller: from,
-                    uid: of,
-                    key: with,
-                    length: size,
-                },
-                Entry::Repeat {
-                    caller,
-                    uid,
-                    key,
-                    length,
-                },
-            ) => from == caller && of == uid && with == key && size == length,
-            (
-                Entry::Settling {
-                    uid: of,
-                    dest: towards,
-                    outcome: came,
-                    now: at,
-                },
-                Entry::Settling {
-                    uid,
-                    dest,
-                    outcome,
-                    now,
-                },
-            ) => of == uid && towards == dest && came == outcome && at == now,
-            (
-                Entry::Requeuing {
-                    uid: of,
-                    dest: towards,
-                },
-                Entry::Requeuing { uid, dest },
-            ) => of == uid && towards == dest,
-            (Entry::Adoption, Entry::Adoption) => true,
-            _ => false,
+        match self {
+            Entry::Arrival {
+                caller,
+                uid,
+                key,
+                length,
+                to,
+                keep,
+            } => is_arrival(other, caller, uid, key, *length, to, *keep),
+            Entry::Repeat {
+                caller,
+                uid,
+                key,
+                length,
+            } => is_repeat(other, caller, uid, key, *length),
+            Entry::Settling {
+                uid,
+                dest,
+                outcome,
+                now,
+            } => is_settling(other, uid, dest, *outcome, *now),
+            Entry::Requeuing { uid, dest } => is_requeuing(other, uid, dest),
+            Entry::Adoption => matches!(other, Entry::Adoption),
         }
     }
 }
