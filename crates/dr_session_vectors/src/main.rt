@@ -113,16 +113,30 @@ fn take(
     Ok(None)
 }
 
+/// Plays the lines of the input, in their order.
+fn play_all(
+    rt: &HostRuntime,
+    sealed: &Sealed,
+    named: &mut Named,
+    cases: &mut Vec<Case>,
+) -> Result<(), anyhow::Error> {
+    let alloc = rt.alloc();
+    for line in rt.lines(alloc) {
+        if let Some(text) = take(alloc, sealed, named, cases, line?.as_str())? {
+            println!(rt; "{text}")?;
+        }
+    }
+    Ok(())
+}
+
 fn main(rt: HostRuntime) -> Result<(), anyhow::Error> {
     let alloc = rt.alloc();
     let sealed = sites::sealed(alloc)?;
     let mut named = Named::new(alloc);
     let mut cases = Vec::new(alloc);
-    for line in rt.lines(alloc) {
-        let line = line?;
-        if let Some(text) = take(alloc, &sealed, &mut named, &mut cases, line.as_str())? {
-            println!(rt; "{text}")?;
-        }
-    }
-    Ok(())
+    let played = play_all(&rt, &sealed, &mut named, &mut cases);
+    drop(cases);
+    drop(named);
+    drop(sealed);
+    played
 }
