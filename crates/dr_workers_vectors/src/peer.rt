@@ -35,26 +35,54 @@ pub struct Peer<L> {
     asked: u32,
 }
 
+/// Takes an image of this uid into the gateway's ledger.
+fn take_in<L: Ledger>(alloc: Global, ledger: &mut L, uid: &str) -> Result<(), Fail> {
+    let caller = name(alloc, "CT1")?;
+    let item = image(alloc, uid, "S1")?;
+    ledger.arrive(&caller, item)?;
+    Ok(())
+}
+
+/// A ledger of the gateway that has an image of this uid.
+fn filled<L: Ledger + Empty + Drop>(alloc: Global, uid: &str) -> Result<L, Fail> {
+    let mut ledger = L::empty(alloc, site_of_three(alloc, "GATE")?);
+    match take_in(alloc, &mut ledger, uid) {
+        Ok(()) => Ok(ledger),
+        Err(fail) => {
+            drop(ledger);
+            Err(fail)
+        }
+    }
+}
+
+/// The gateway's end of an association with the archive, which it asks for, and what it does first.
+fn request(alloc: Global) -> Result<(End, Seq<LinkAction>), Fail> {
+    let called = name(alloc, "ARCH")?;
+    let site = site_of_three(alloc, "GATE")?;
+    Ok(End::request(alloc, site, &called, 1000)?)
+}
+
 impl<L: Ledger + Empty + Drop> Peer<L> {
     /// A gateway with one image to send.
     pub fn new(alloc: Global, uid: &str) -> Result<Peer<L>, Fail> {
-        let mut ledger = L::empty(alloc, site_of_three(alloc, "GATE")?);
-        ledger.arrive(&name(alloc, "CT1")?, image(alloc, uid, "S1")?)?;
-        let (end, actions) = End::request(
-            alloc,
-            site_of_three(alloc, "GATE")?,
-            &name(alloc, "ARCH")?,
-            1000,
-        )?;
-        let mut peer = Peer {
-            alloc,
-            end,
-            desk: LedgerDesk { ledger },
-            sent: VecDeque::new(alloc),
-            asked: 0,
-        };
-        peer.put(actions);
-        Ok(peer)
+        let ledger = filled(alloc, uid)?;
+        match request(alloc) {
+            Ok((end, actions)) => {
+                let mut peer = Peer {
+                    alloc,
+                    end,
+                    desk: LedgerDesk { ledger },
+                    sent: VecDeque::new(alloc),
+                    asked: 0,
+                };
+                peer.put(actions);
+                Ok(peer)
+            }
+            Err(fail) => {
+                drop(ledger);
+                Err(fail)
+            }
+        }
     }
 
     fn put(&mut self, actions: Seq<LinkAction>) {

@@ -261,7 +261,10 @@ fn share_and_serve<
     };
     let passes = match serve(rt, alloc, n, count, &shared, gate) {
         Ok(passes) => passes,
-        Err(fail) => return Err(fail),
+        Err(fail) => {
+            drop(shared);
+            return Err(fail);
+        }
     };
     let (least, greatest) = counts_of(passes.as_slice());
     let there = count_there(rt, alloc, &shared, count);
@@ -296,7 +299,13 @@ pub fn serve_archive<R: Threads + Wait + Sync, G: Gate + Sync>(
     requires { (1 ≤ n) × (n ≤ 64) }
 {
     let own = site_of_three(alloc, "ARCH")?;
-    let desk = empty_desk(alloc, &own)?;
+    let desk = match empty_desk(alloc, &own) {
+        Ok(desk) => desk,
+        Err(fail) => {
+            drop(own);
+            return Err(fail);
+        }
+    };
     share_and_serve::<_, MemoryLedger, Brand, _>(
         rt,
         alloc,
