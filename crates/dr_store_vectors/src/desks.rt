@@ -7,7 +7,7 @@ use dr_desk::{Desk, Pass, SharedDesk, Sharing};
 use dr_ledger::{Arrived, Item, Ledger, LedgerFault};
 use dr_ledger_rows::Named;
 use dr_site::Site;
-use std::alloc::Global;
+use std::alloc::{AllocError, Global};
 use std::fmt::Display;
 use std::marker::Brand;
 use std::sync::Wait;
@@ -221,7 +221,31 @@ fn share_over<R: Wait, L: Ledger + Drop>(
     )
 }
 
-/// A desk over this ledger, if it is of that site, is shared, takes the items from a caller, and is closed: `CALLER ITEM..`.
+/// A desk over this ledger, if it is of that site, is shared, takes the items from a caller, and is closed.
+fn deal_from<R: Wait, L: Ledger + Drop>(
+    rt: &R,
+    alloc: Global,
+    ledger: L,
+    site: Site,
+    caller: &Text,
+    named: &Named,
+    items: &[&str],
+) -> Result<Answered<L>, anyhow::Error> {
+    if !ledger.is_of(&site) {
+        drop(ledger);
+        drop(site);
+        bail!("the ledger is of another site");
+    }
+    share_over(rt, alloc, ledger, site, caller, named, items)
+}
+
+/// The caller of that name, and a copy of the site.
+fn caller_at(alloc: Global, name: &str, site: &Site) -> Result<(Text, Site), AllocError> {
+    let caller = Text::copy_of(alloc, name.as_bytes())?;
+    Ok((caller, site.copy()?))
+}
+
+/// The same, by words: `CALLER ITEM..`.
 pub fn deal<R: Wait, L: Ledger + Drop>(
     rt: &R,
     alloc: Global,
@@ -231,12 +255,14 @@ pub fn deal<R: Wait, L: Ledger + Drop>(
     words: &[&str],
 ) -> Result<Answered<L>, anyhow::Error> {
     let [caller, items @ ..] = words else {
+        drop(ledger);
         bail!("a caller is missing");
     };
-    let caller = Text::copy_of(alloc, caller.as_bytes())?;
-    let site = site.copy()?;
-    if !ledger.is_of(&site) {
-        bail!("the ledger is of another site");
+    match caller_at(alloc, caller, site) {
+        Ok((caller, site)) => deal_from(rt, alloc, ledger, site, &caller, named, items),
+        Err(error) => {
+            drop(ledger);
+            Err(error.into())
+        }
     }
-    share_over(rt, alloc, ledger, site, &caller, named, items)
 }

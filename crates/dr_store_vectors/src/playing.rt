@@ -75,7 +75,30 @@ fn statement(alloc: Global, words: &[&str]) -> Result<String, anyhow::Error> {
     Ok(sql)
 }
 
-/// Arrivals at a desk over the ledger, of which the first that would add a line is refused, if that is asked for.
+/// Arrivals at a desk over a ledger of that site, of which the first that would add a line is refused, if that is asked for.
+fn dealt_at<R: Wait, L: Ledger + Drop>(
+    rt: &R,
+    alloc: Global,
+    ledger: L,
+    site: &Site,
+    named: &Named,
+    is_refused: bool,
+    arrivals: &[&str],
+) -> Result<Answered<L>, anyhow::Error> {
+    let mut ledger = Refusing::new(ledger);
+    if is_refused {
+        ledger.refuse_next();
+    }
+    match deal(rt, alloc, ledger, site, named, arrivals) {
+        Ok(Answered { answer, ledger }) => Ok(Answered {
+            answer,
+            ledger: ledger.into_ledger(),
+        }),
+        Err(error) => Err(error),
+    }
+}
+
+/// The same, of the site of a node of a plan.
 fn dealt<R: Wait, L: Ledger + Drop>(
     rt: &R,
     alloc: Global,
@@ -85,16 +108,20 @@ fn dealt<R: Wait, L: Ledger + Drop>(
     words: &[&str],
 ) -> Result<Answered<L>, anyhow::Error> {
     let [plan, node, arrivals @ ..] = words else {
+        drop(ledger);
         bail!("a plan and a node are missing");
     };
-    let site = named.site(plan, node)?;
-    let mut ledger = Refusing::new(ledger);
-    if is_refused {
-        ledger.refuse_next();
+    match named.site(plan, node) {
+        Ok(site) => {
+            let came = dealt_at(rt, alloc, ledger, &site, named, is_refused, arrivals);
+            drop(site);
+            came
+        }
+        Err(error) => {
+            drop(ledger);
+            Err(error)
+        }
     }
-    let Answered { answer, ledger } = deal(rt, alloc, ledger, &site, named, arrivals)?;
-    let ledger = ledger.into_ledger();
-    Ok(Answered { answer, ledger })
 }
 
 /// The sites of a ledger before a call and behind it.

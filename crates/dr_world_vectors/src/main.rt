@@ -11,9 +11,10 @@ mod named;
 mod playing;
 
 use anyhow::bail;
+use dr_cert::Sealed;
 use dr_ledger::{Ledger, Refusing};
 use dr_memory::MemoryLedger;
-use dr_world::World;
+use dr_world::{World, WorldFault};
 use founding::{Empty, found};
 use named::Named;
 use playing::play;
@@ -27,7 +28,32 @@ fn plan(named: &mut Named, words: &[&str]) -> Result<(), anyhow::Error> {
     named.put(name)
 }
 
-/// A world begins: `begun`, or why it doesn't.
+/// A world more: `begun`.
+fn put<W: Drop>(alloc: Global, worlds: &mut Vec<W>, world: W) -> Result<String, anyhow::Error> {
+    worlds.push(world)?;
+    Ok(String::from_str(alloc, "begun")?)
+}
+
+/// Why a world doesn't begin.
+fn told(alloc: Global, fault: &WorldFault) -> Result<String, anyhow::Error> {
+    Ok(format!(in alloc; "{fault}")?)
+}
+
+/// A world of the sealed plan begins: `begun`, or why it doesn't.
+fn begin<L: Ledger + Empty + Drop>(
+    alloc: Global,
+    sealed: &Sealed,
+    worlds: &mut Vec<World<Refusing<L>>>,
+    nodes: &[&str],
+) -> Result<String, anyhow::Error> {
+    match found(alloc, sealed, nodes) {
+        Ok(Ok(world)) => put(alloc, worlds, world),
+        Ok(Err(fault)) => told(alloc, &fault),
+        Err(error) => Err(error),
+    }
+}
+
+/// A world of a plan begins.
 fn world<L: Ledger + Empty + Drop>(
     alloc: Global,
     named: &Named,
@@ -37,13 +63,10 @@ fn world<L: Ledger + Empty + Drop>(
     let Some((plan, nodes)) = words.split_first() else {
         bail!("a plan is missing");
     };
-    match found(alloc, &named.sealed(plan)?, nodes)? {
-        Ok(world) => {
-            worlds.push(world)?;
-            Ok(String::from_str(alloc, "begun")?)
-        }
-        Err(fault) => Ok(format!(in alloc; "{fault}")?),
-    }
+    let sealed = named.sealed(plan)?;
+    let began = begin(alloc, &sealed, worlds, nodes);
+    drop(sealed);
+    began
 }
 
 /// What comes of a line; None where nothing is printed of it.
