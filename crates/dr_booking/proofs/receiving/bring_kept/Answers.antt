@@ -40,5 +40,5 @@ returns-clause-called g c =
     let Makes : Trees → Trees → Type 0 = λ base db. Arrives (site_routing part) caller (instance_of item) (book_of base) (Ok New) (book_of db) in
     called_as n (advanced r n) part r (state g.S.Store c.args.conn.now) (state g.S.Store c.bring_item.new.conn) (Wants t ds ks) Asks (AnswersTo part caller item r) Makes (Accepts part caller item)
     (λ base l it. subst (λ x. Wants x ds ks base) (sym how) (subst (λ k. Wants (taking_there whole keep (length dests == 0)) ds k base) (sym keeps)
-        (subst (λ xs. Wants (taking_there whole keep (length dests == 0)) xs (keep && not kept) base) (sym all) (fits_there n part caller item to keep whole kept dests base l it.0 it.1 it.2 it.3))))
+    (subst (λ xs. Wants (taking_there whole keep (length dests == 0)) xs (keep && not kept) base) (sym all) (fits_there n part caller item to keep whole kept dests base l it.0 it.1 it.2 it.3))))
     (λ base db is. (New, is)) c.bring_item.ensures.called
