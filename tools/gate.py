@@ -1,17 +1,22 @@
 #!/usr/bin/env python3
-"""Runs `rt ci`, and says what each crate cost: CPU seconds of its proof, its tests and its must-fail edits.
+"""Runs `rt ci`, and says what each crate cost: CPU seconds of its proof and of its tests, and of all processes together.
 
 The lines of `rt ci` go to standard output as they come, but for the last one, 'N passed, M failed', which stays the
-last: the table comes before it. With --quiet only the lines that say how a crate, a program or an edit came out are
-shown, each with the minutes since the start, how many crates are proved, and the minutes that are left, as far as the
-sizes of the crates tell; the whole log is in the file that the first line names, and its end is shown where the run fails.
-Names of crates are passed on: then these and those below them are proved, which is not the gate. The exit status is that
-of `rt ci`. The times are sampled from /proc, so a process that lives for less than the pause isn't counted; what an
-earlier run on this machine passed isn't proved again, and costs nothing.
+last: the table comes before it. With --quiet only the lines that say how a crate or a program came out are shown, each
+with the minutes since the start, how many crates are proved, and the minutes that are left, as far as the sizes of the
+crates tell; the whole log is in the file that the first line names, and its end is shown where the run fails. Names of
+crates are passed on: then these and those below them are proved, which is not the gate. The exit status is that of
+`rt ci`. A crate's seconds are sampled from /proc, so a process that lives for less than the pause is counted in the last
+line alone, with rt itself, compilers and linkers. What an earlier run on this machine passed isn't proved again, and
+costs nothing.
+
+`rt ci` guesses a check's memory at twice what it takes, and leaves processors idle: where RT_JOBS isn't set and at least
+3.5 GB are free for each processor, it is set to the number of processors, which asks no guess.
 """
 import collections
 import os
 import re
+import resource
 import subprocess
 import sys
 import tempfile
@@ -53,10 +58,7 @@ def look(process):
     except OSError:
         return None
     crate = words[words.index("--crate-name") + 1]
-    # a library's proof is its build, a program's is a check whose result is kept, and an edit's is a check like any
-    is_edit = words[1:2] == ["check"] and not any("rt-proved-" in word for word in words)
-    kind = "tests" if "--test" in words else "edits" if is_edit else "proof"
-    return crate, kind, (int(fields[11]) + int(fields[12])) / TICKS
+    return crate, "tests" if "--test" in words else "proof", (int(fields[11]) + int(fields[12])) / TICKS
 
 
 def sample(root, spent, ended):
@@ -70,15 +72,15 @@ def sample(root, spent, ended):
 
 def table(spent):
     """The costs of each crate, dearest first, and their sum."""
-    costs = collections.defaultdict(lambda: {"proof": 0.0, "tests": 0.0, "edits": 0.0})
+    costs = collections.defaultdict(lambda: {"proof": 0.0, "tests": 0.0})
     for (_, crate, kind), seconds in spent.items():
         costs[crate][kind] += seconds
     rows = sorted(costs.items(), key=lambda it: -sum(it[1].values()))
-    lines = [f"{'crate':<22}{'proof':>8}{'tests':>8}{'edits':>8}   CPU seconds"]
+    lines = [f"{'crate':<22}{'proof':>8}{'tests':>8}   CPU seconds"]
     for crate, cost in rows:
-        lines.append(f"{crate:<22}{cost['proof']:>8.0f}{cost['tests']:>8.0f}{cost['edits']:>8.0f}")
-    total = {kind: sum(cost[kind] for cost in costs.values()) for kind in ("proof", "tests", "edits")}
-    lines.append(f"{'sum':<22}{total['proof']:>8.0f}{total['tests']:>8.0f}{total['edits']:>8.0f}"
+        lines.append(f"{crate:<22}{cost['proof']:>8.0f}{cost['tests']:>8.0f}")
+    total = {kind: sum(cost[kind] for cost in costs.values()) for kind in ("proof", "tests")}
+    lines.append(f"{'sum':<22}{total['proof']:>8.0f}{total['tests']:>8.0f}"
                  f"   {sum(total.values()) / 60:.0f} CPU minutes")
     return lines
 
@@ -105,6 +107,20 @@ class Progress:
         return f"[{minutes:3.0f} min{left}; {len(self.proved)} of {len(self.work)} crates]"
 
 
+def ruled_by_processors():
+    """The environment of `rt ci`: a lane for each processor, where memory holds them."""
+    processors = len(os.sched_getaffinity(0))
+    with open("/proc/meminfo", encoding="ascii") as file:
+        free = 1024 * int(re.search(r"MemAvailable:\s+(\d+)", file.read())[1])
+    return {"RT_JOBS": str(processors), **os.environ} if free >= 3_500_000_000 * processors else dict(os.environ)
+
+
+def spent_by_all():
+    """CPU minutes of all processes that this one has waited for, and of all below them."""
+    used = resource.getrusage(resource.RUSAGE_CHILDREN)
+    return (used.ru_utime + used.ru_stime) / 60
+
+
 def work_of(crate):
     """A crate's work, by the bytes of its sources."""
     return sum(
@@ -120,12 +136,13 @@ def main():
     progress = Progress()
     log = tempfile.NamedTemporaryFile("w", prefix="gate-", suffix=".log", delete=False)
     print(f"the whole log of rt ci: {log.name}", flush=True)
-    gate = subprocess.Popen(["rt", "ci", *names], stdout=subprocess.PIPE, stderr=subprocess.STDOUT, text=True, errors="replace")
+    gate = subprocess.Popen(["rt", "ci", *names], stdout=subprocess.PIPE, stderr=subprocess.STDOUT, text=True, errors="replace",
+                            env=ruled_by_processors())
     spent, ended = {}, threading.Event()
     watcher = threading.Thread(target=sample, args=(gate.pid, spent, ended))
     watcher.start()
     last = ""
-    shown = re.compile(r"^(rt: |\S+ (ran|proved|NOT)|REFUSED|refused|BAD|.*must-fail|.*tests (passed|FAILED))")
+    shown = re.compile(r"^(rt: |\S+ (ran|proved|NOT)|.*tests (passed|FAILED))")
     for line in gate.stdout:
         log.write(line)
         if last and (not quiet or shown.match(last)):
@@ -140,6 +157,7 @@ def main():
         with open(log.name, encoding="utf-8") as file:
             print("".join(file.readlines()[-300:]), end="")
     print("\n".join(table(spent)))
+    print(f"all processes: {spent_by_all():.0f} CPU minutes, {(time.time() - progress.start) / 60:.0f} minutes on the clock")
     print(last, end="")
     return status
 

@@ -1,0 +1,50 @@
+#!/usr/bin/env python3
+"""Looks at the form of what is committed, which needs no proof: `tools/formats.py`.
+
+Each source is in the kit's layout; each wrong body and wrong definition can be applied to the sources as they are; and each that
+wrong/gate names is there. What isn't so is printed, and the exit status is 1.
+"""
+import os
+import subprocess
+import sys
+
+from crates import TOP, listed, prover, sources_of
+from wrong import Bad, chosen, read_edit
+
+
+def out_of_layout():
+    """The sources that aren't in the kit's layout, as the kit says it."""
+    files = [it for crate in listed() for it in sources_of(crate) if it.endswith((".rt", ".antt"))]
+    said = []
+    for at in range(0, len(files), 400):
+        ran = subprocess.run([prover(), "fmt", "--check", *files[at:at + 400]], stdin=subprocess.DEVNULL,
+                             stdout=subprocess.PIPE, stderr=subprocess.STDOUT, text=True, errors="replace")
+        if ran.returncode != 0:
+            said += ran.stdout.strip().split("\n")
+    return said
+
+
+def unapplied():
+    """The edits that can't be applied, and why; and those of the gate that aren't there."""
+    said = []
+    for crate, paths in {**chosen(["--all"])}.items():
+        for path in paths:
+            try:
+                if crate not in listed():
+                    raise Bad("crates.txt has no such crate")
+                read_edit(path)
+            except (Bad, OSError, UnicodeDecodeError) as error:
+                said.append(f"wrong/{crate}/{os.path.basename(path)}: {error}")
+    missing = [it for paths in chosen(["--gate"]).values() for it in paths if not os.path.isfile(it)]
+    return said + [f"{it.removeprefix(f'{TOP}/')}: wrong/gate names it, and it isn't there" for it in missing]
+
+
+def main():
+    said = out_of_layout() + unapplied()
+    print("\n".join(said), end="\n" * bool(said))
+    print(f"formats: {len(said)} faults")
+    return 1 if said else 0
+
+
+if __name__ == "__main__":
+    sys.exit(main())

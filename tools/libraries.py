@@ -1,0 +1,120 @@
+"""Proves the libraries below a crate side by side, each over the statements of those below it: `build_libraries`.
+
+The kit's prover is called directly, as the gate calls it, and not by `rt lib`: a library is read without its proofs then, which
+takes half the time. What is made is in the crate's `out/rlib`; `rt check` and `rt run` don't take it, and prove these libraries
+for themselves. A library that the gate has made is taken as it is. What was made from other sources is made anew.
+"""
+import os
+import shutil
+import subprocess
+import sys
+import tempfile
+import time
+
+from crates import TOP, below, copy_sources, lanes, listed, prover, rlib_of, sources_of, work_of, words_of
+
+# The bytes of sources for which one more process pays.
+PIECE = 20_000
+
+
+def is_fresh(name):
+    """Whether the library is there, and newer than each source of it and of those below it. A file that gets a second name, or is
+    written, has its time of change renewed; so what the gate puts there is newer, too."""
+    try:
+        made = os.stat(f"{rlib_of(name)}/format").st_ctime
+    except OSError:
+        return False
+    sources = [file for crate in (*below(name), name) for file in sources_of(crate)]
+    return made >= max(os.stat(file).st_mtime for file in sources)
+
+
+def stale_of(libraries):
+    """Those of the libraries, lowest first, that have to be made, and with each those above it."""
+    stale = []
+    for name in libraries:
+        if not is_fresh(name) or any(it in stale for it in below(name)):
+            stale.append(name)
+    return stale
+
+
+class Library:
+    """A library that is being proved."""
+
+    def __init__(self, name, jobs):
+        self.name, self.jobs, self.began = name, jobs, time.monotonic()
+        out = os.path.dirname(rlib_of(name))
+        os.makedirs(out, exist_ok=True)
+        self.room = tempfile.mkdtemp(prefix="proving-", dir=os.path.dirname(out))
+        copy_sources(name, self.room)
+        self.log = open(f"{self.room}/log", "w+", encoding="utf-8", errors="replace")
+        self.process = subprocess.Popen(
+            [prover(), "build", *words_of(name, jobs), "--statements", "-o", f"{self.room}/made.rlib"],
+            cwd=self.room, stdin=subprocess.DEVNULL, stdout=self.log, stderr=subprocess.STDOUT,
+        )
+
+    def end(self, log):
+        """Puts the library into its place, and what was said into the log; whether it is proved."""
+        self.log.seek(0)
+        log.write(f"== {self.name}\n{self.log.read()}")
+        log.flush()
+        self.log.close()
+        if self.process.returncode == 0:
+            # Without the stamp of a library that `rt check` made, rt makes its own again.
+            shutil.rmtree(os.path.dirname(rlib_of(self.name)), ignore_errors=True)
+            os.makedirs(os.path.dirname(rlib_of(self.name)))
+            os.rename(f"{self.room}/made.rlib", rlib_of(self.name))
+        shutil.rmtree(self.room, ignore_errors=True)
+        return self.process.returncode == 0
+
+
+def tell(done, count, name, began):
+    """Says that a crate is proved, and how many are."""
+    print(f"[{done:2}/{count}] {name} .. proved in {time.monotonic() - began:.0f} s", file=sys.stderr, flush=True)
+
+
+def begin(ready, idle):
+    """Begins with as many of the ready libraries as there are idle processors; what is left over is shared, first by the one that
+    most work waits for, so none of two runs on one processor beside one on three. A small crate takes fewer, since each process
+    loads what is below it anew."""
+    begun = []
+    for at, name in enumerate(ready[:idle]):
+        jobs = max(1, min(-(-idle // (len(ready) - at)), 1 + work_of(name) // PIECE))
+        begun.append(Library(name, min(jobs, idle)))
+        idle -= begun[-1].jobs
+        if idle <= 0:
+            break
+    return begun
+
+
+def build_libraries(libraries, log, above=0):
+    """Proves those of these libraries (each after those that it uses) that aren't made, first those with the longest chain of others
+    above them; whether all are proved. `above`: how many crates the caller will prove over them, for the count that is shown."""
+    left = stale_of(libraries)
+    count, cores, running, failed = len(left) + above, lanes(), [], False
+    waiting = set(left)
+    chain = {it: work_of(it) for it in libraries}
+    for name in reversed(libraries):
+        for library in listed()[name][0]:
+            chain[library] = max(chain[library], work_of(library) + chain[name])
+    while running or (left and not failed):
+        ready = sorted((it for it in left if waiting.isdisjoint(below(it))), key=lambda it: -chain[it])
+        # After a failure nothing more is begun, but what is running ends, so that its work is kept.
+        begun = [] if failed else begin(ready, cores - sum(it.jobs for it in running))
+        left = [it for it in left if it not in [library.name for library in begun]]
+        running += begun
+        time.sleep(0.1)
+        for library in [it for it in running if it.process.poll() is not None]:
+            running.remove(library)
+            if library.end(log):
+                waiting.discard(library.name)
+                tell(count - above - len(waiting), count, library.name, library.began)
+            else:
+                failed = True
+                print(f"{library.name} .. NOT proved", file=sys.stderr, flush=True)
+    return not failed
+
+
+def made_for(names, log):
+    """Makes all libraries below these crates; whether all are proved."""
+    libraries = list(dict.fromkeys(library for name in names for library in below(name)))
+    return build_libraries(libraries, log)
