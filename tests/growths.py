@@ -1,9 +1,9 @@
 #!/usr/bin/env python3
 """Refuses each growth of memory in turn, one in each run of a built program, and looks for an answer that is another one then.
 
-    tests/growths.py ledger [FIRST]     calls on a ledger in memory (crates/dr_ledger_vectors)
-    tests/growths.py desk [FIRST]       two sessions on one shared desk (crates/dr_workers_vectors)
-    tests/growths.py world [FIRST]      an instance on its way over three nodes in the simulator (crates/dr_world_vectors)
+    tests/growths.py ledger [FIRST]     calls on a ledger in memory (crates/dr_test_ledger_memory)
+    tests/growths.py desk [FIRST]       two sessions on one shared desk (crates/dr_test_workers)
+    tests/growths.py world [FIRST]      an instance on its way over three nodes in the simulator (crates/dr_test_world)
 
 A small library that is loaded before the program (LD_PRELOAD) counts its calls for memory and refuses the one whose number it is told; the
 numbers go up, from the FIRST on, until a run meets no refusal. A run is as it is to be where it ends by itself and has printed what a
@@ -91,7 +91,7 @@ def desk_program(room):
     """A program over the modules of the workers' tests, beside copies of the crates below with what earlier checks left in their out/."""
     with open(f"{TOP}/crates.txt") as it:
         libraries = {front.strip(): back.split() for front, mark, back in (line.split("#")[0].partition(":") for line in it) if mark}
-    libraries["desk_growths"] = libraries["dr_workers_vectors"]
+    libraries["desk_growths"] = libraries["dr_test_workers"]
     needed = below("desk_growths", libraries)
     for name in needed:
         shutil.copytree(f"{TOP}/crates/{name}", f"{room}/crates/{name}")
@@ -99,13 +99,13 @@ def desk_program(room):
         for name in [*needed, "desk_growths"]:
             print(f"{name}:", *libraries[name], file=it)
     shutil.copy(f"{TOP}/HANDLES", room)
-    folder, source = f"{room}/crates/desk_growths", f"{TOP}/crates/dr_workers_vectors"
+    folder, source = f"{room}/crates/desk_growths", f"{TOP}/crates/dr_test_workers"
     os.makedirs(f"{folder}/src")
     for name in ("empty", "peer", "sessions"):
         shutil.copy(f"{source}/src/{name}.rt", f"{folder}/src")
     os.makedirs(f"{folder}/proofs/sessions/serve_archive")
     with open(f"{source}/proofs/sessions/serve_archive/Invariants.antt") as it:
-        answers = it.read().replace("dr_workers_vectors", "desk_growths")
+        answers = it.read().replace("dr_test_workers", "desk_growths")
     with open(f"{folder}/proofs/sessions/serve_archive/Invariants.antt", "w") as it:
         it.write(answers)
     with open(f"{folder}/src/main.rt", "w") as it:
@@ -124,13 +124,13 @@ def build(folder):
 
 def ledger_rows():
     """The rows, but for the data set that is too large: its growth is met as any other is."""
-    with open(f"{TOP}/crates/dr_ledger_vectors/stdin") as it:
+    with open(f"{TOP}/crates/dr_test_ledger_memory/stdin") as it:
         return "".join(line for line in it if not line.startswith("zeros "))
 
 
 def world_rows():
     """The worlds that begin or don't, and the way of one instance."""
-    with open(f"{TOP}/crates/dr_world_vectors/stdin") as it:
+    with open(f"{TOP}/crates/dr_test_world/stdin") as it:
         return it.read().partition("# another data set")[0]
 
 

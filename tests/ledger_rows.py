@@ -1,5 +1,5 @@
 #!/usr/bin/env python3
-"""Answers the calls in the `stdin` of crates/dr_ledger_vectors (ledgers in memory) and of crates/dr_store_vectors (ledgers in tables) by a
+"""Answers the calls in the `stdin` of crates/dr_test_ledger_memory (ledgers in memory) and of crates/dr_test_store (ledgers in tables) by a
 ledger of its own, written again from crates/dr_ledger/specs (Books, Replies, Adopting, Bodies), and compares what it answers with the crate's
 `stdout`, which the gate compares with what the program prints. So the answers that the gate wants come from outside the programs.
 
@@ -20,7 +20,7 @@ from plan_model import REST, Model
 from plan_reader import EXPLICIT, IMPLICIT, read_plan
 
 TOP = os.path.dirname(os.path.dirname(os.path.abspath(__file__)))
-MEMORY, TABLES = f'{TOP}/crates/dr_ledger_vectors', f'{TOP}/crates/dr_store_vectors'
+MEMORY, TABLES = f'{TOP}/crates/dr_test_ledger_memory', f'{TOP}/crates/dr_test_store'
 COUNTS = re.compile(r'(?:log|database): (\d+) stops \| while opening (\d+)((?: \| [^|]*: \d+)*) \| after, as written (\d+), as synced (\d+)')
 # What a ledger's files were given last, the last one first: without these they are files from before.
 LATER = 'DROP INDEX queue_due', 'DROP TABLE target'

@@ -1,5 +1,5 @@
 #!/usr/bin/env python3
-"""Plays random events over random sound plans, by the definitions of crates/dr_model/specs written again in Python,
+"""Plays random events over random sound plans, by the definitions of crates/dr_world_model/specs written again in Python,
 and tests the four claims of docs/HEADLINE.md, and what lasts, after each event.
 
     tests/message_world.py [RUNS] [SEED]       no claim may fail, and each event and reply must have happened (2,000 runs:

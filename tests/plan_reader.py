@@ -1,6 +1,6 @@
 """Reads the text of a plan: the plan that it writes, or the first of the seven faults; for plans.py.
 
-Written from the definitions in crates/dr_plan_text/specs, crates/dr_plan/specs and crates/dr_network/specs/Formed.antt.
+Written from the definitions in crates/dr_plan_text/specs, crates/dr_plan/specs and crates/dr_plan_model/specs/Formed.antt.
 """
 import re
 import tomllib

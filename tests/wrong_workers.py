@@ -1,5 +1,5 @@
 #!/usr/bin/env python3
-"""Tries wrong bodies of the shared desk and of its workers of which no contract speaks: the tests of `dr_workers_vectors` must fail.
+"""Tries wrong bodies of the shared desk and of its workers of which no contract speaks: the tests of `dr_test_workers` must fail.
 
     tests/wrong_workers.py [NAME..]
 
@@ -13,7 +13,7 @@ import sys
 import tempfile
 
 TOP = os.path.dirname(os.path.dirname(os.path.abspath(__file__)))
-SERVING, SHARED = "dr_workers/src/serving.rt", "dr_desk/src/shared.rt"
+SERVING, SHARED = "dr_desk_workers/src/serving.rt", "dr_desk/src/shared.rt"
 
 # of each wrong body: the file, a text that stands in it once, and what takes its place
 WRONG = {
@@ -47,7 +47,7 @@ def is_seen(edits):
             with open(f"{room}/crates/{path}", "w") as it:
                 it.write(text.replace(old, new))
         ran = subprocess.run(
-            ["rt", "try", "--test"], cwd=f"{room}/crates/dr_workers_vectors",
+            ["rt", "try", "--test"], cwd=f"{room}/crates/dr_test_workers",
             stdout=subprocess.PIPE, stderr=subprocess.STDOUT, text=True, errors="replace",
         )
     print("\n".join(it for it in ran.stdout.splitlines() if it.startswith(("test ", "error"))), flush=True)

@@ -1,10 +1,10 @@
 -- A sound plan with its certificate meets no fault.
 use Rattle.std.proofs.Common.{◌≡◌, inl, inr, refl}
-use Rattle.dr_network.specs.Networks.{Network}
-use Rattle.dr_sound.specs.declared.certificate.Certificate.{Certificate}
-use Rattle.dr_sound.specs.Soundness.{IsSound}
-use Rattle.dr_sound.specs.Certificates.{IsCertificateOf}
-use Rattle.dr_sound.proofs.Ranks.{sound_has_rank}
+use Rattle.dr_plan_model.specs.Networks.{Network}
+use Rattle.dr_plan_sound.specs.declared.certificate.Certificate.{Certificate}
+use Rattle.dr_plan_sound.specs.Soundness.{IsSound}
+use Rattle.dr_plan_sound.specs.Certificates.{IsCertificateOf}
+use Rattle.dr_plan_sound.proofs.Ranks.{sound_has_rank}
 use Rattle.dr_cert.specs.declared.fault.CertFault.{CertFault}
 use Rattle.dr_cert.specs.declared.fault.CertFault.TheVariants.{Text, OtherPlan, Order, MissingLine, NoContext, DeadEnd, WrongRank, HopList, Memory}
 use Rattle.dr_cert.specs.Conditions.{HasRightHops, UpToRanks}

@@ -9,18 +9,18 @@ use Rattle.dr_route.specs.Routes.{local}
 use Rattle.dr_route.specs.Laws.{key_of}
 use Rattle.dr_route.specs.declared.key.Key.{Key}
 use Rattle.dr_route.specs.declared.cell.OwnedCell.{OwnedCell}
-use Rattle.dr_network.specs.Networks.{Network}
-use Rattle.dr_network.specs.Plans.{IsWellFormed, LiesIn}
-use Rattle.dr_network.specs.Walks.{Sends, Keeps, Accepts, IsWalk, last_place, IsReached}
-use Rattle.dr_network.proofs.WalksAlike.{send_alike, keep_alike, walk_alike, cell_has_a_key}
-use Rattle.dr_sound.specs.declared.certificate.Stop.{Stop}
-use Rattle.dr_sound.specs.declared.certificate.Line.{Line}
-use Rattle.dr_sound.specs.Soundness.{IsRank}
-use Rattle.dr_sound.specs.Ranked.{line_at, SendsOn, AreRanked}
-use Rattle.dr_sound.proofs.RankedLines.{some_cell}
-use Rattle.dr_sound.proofs.Hopping.{last_hop, reached_next, reached_not_local}
-use Rattle.dr_entry.specs.Visiting.{IsEntryCell}
-use Rattle.dr_entry.proofs.Entries.{cell_that_lies}
+use Rattle.dr_plan_model.specs.Networks.{Network}
+use Rattle.dr_plan_model.specs.Plans.{IsWellFormed, LiesIn}
+use Rattle.dr_plan_model.specs.Walks.{Sends, Keeps, Accepts, IsWalk, last_place, IsReached}
+use Rattle.dr_plan_model.proofs.WalksAlike.{send_alike, keep_alike, walk_alike, cell_has_a_key}
+use Rattle.dr_plan_sound.specs.declared.certificate.Stop.{Stop}
+use Rattle.dr_plan_sound.specs.declared.certificate.Line.{Line}
+use Rattle.dr_plan_sound.specs.Soundness.{IsRank}
+use Rattle.dr_plan_sound.specs.Ranked.{line_at, SendsOn, AreRanked}
+use Rattle.dr_plan_sound.proofs.RankedLines.{some_cell}
+use Rattle.dr_plan_sound.proofs.Hopping.{last_hop, reached_next, reached_not_local}
+use Rattle.dr_plan_entries.specs.Visiting.{IsEntryCell}
+use Rattle.dr_plan_entries.proofs.Entries.{cell_that_lies}
 use Rattle.dr_cert.specs.Conditions.{IsReachedStop, HasEachLine, HasALine, AcceptsEachHop, GoesOnEverywhere, ReachesEachLine, HasRightRanks}
 use Rattle.dr_cert.specs.Indexing.{AreSorted}
 use Rattle.dr_cert.specs.Surveying.{EachAt, IsLetIn, IsGoingOn, IsRankedAmong}

@@ -7,13 +7,13 @@ use Rattle.std.proofs.lemmas.List.Elements.{Contains-push, Contains-push_cases, 
 use Rattle.std.proofs.lemmas.Option.{same_Some, slice_get_within, get_or_from_slice_get}
 use Rattle.dr_base.specs.Texts.{Text}
 use Rattle.dr_route.specs.Laws.{key_of}
-use Rattle.dr_network.specs.Networks.{Network}
-use Rattle.dr_network.specs.Plans.{IsWellFormed}
-use Rattle.dr_network.proofs.Gathered.{nothing_in_nil}
-use Rattle.dr_network.proofs.WalksAlike.{cell_has_a_key}
-use Rattle.dr_sound.specs.declared.certificate.Stop.{Stop}
-use Rattle.dr_sound.specs.declared.certificate.Line.{Line}
-use Rattle.dr_sound.specs.Ranked.{line_at}
+use Rattle.dr_plan_model.specs.Networks.{Network}
+use Rattle.dr_plan_model.specs.Plans.{IsWellFormed}
+use Rattle.dr_plan_model.proofs.Gathered.{nothing_in_nil}
+use Rattle.dr_plan_model.proofs.WalksAlike.{cell_has_a_key}
+use Rattle.dr_plan_sound.specs.declared.certificate.Stop.{Stop}
+use Rattle.dr_plan_sound.specs.declared.certificate.Line.{Line}
+use Rattle.dr_plan_sound.specs.Ranked.{line_at}
 use Rattle.dr_cert.specs.Conditions.{IsReachedStop, HasEachLine, HasALine}
 use Rattle.dr_cert.specs.Indexing.{StandsAt, HasNoLine}
 use Rattle.dr_cert.specs.Walking.{IsWalking, IsFurther, IsComeTo, IsMarked, AfterMark, AfterTargets, next_stop}

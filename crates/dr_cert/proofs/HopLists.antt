@@ -10,18 +10,18 @@ use Rattle.std.specs.Cmp.{Equal-is, ranks}
 use Rattle.std.proofs.lemmas.Bool.{cases_Bool, false≢true}
 use Rattle.std.proofs.lemmas.List.Elements.{Contains-push, Contains-push_cases, Contains-append_left}
 use Rattle.std.proofs.lemmas.Map.Views.{btree_set_contains_iff}
-use Rattle.dr_network.specs.Networks.{Network}
-use Rattle.dr_network.specs.Plans.{IsWellFormed}
-use Rattle.dr_network.proofs.Gathered.{nothing_in_nil}
-use Rattle.dr_sound.specs.declared.certificate.Line.{Line}
-use Rattle.dr_sound.specs.declared.certificate.Hop.{Hop}
-use Rattle.dr_sound.specs.Certificates.{HasHop}
-use Rattle.dr_sound.specs.HopPairs.{HasNumber, AreNumbered, AreTooMany}
-use Rattle.dr_sound.specs.Ranked.{AreRanked}
-use Rattle.dr_sound.proofs.Hopping.{hop_pairs, over_hop, over_goes, sound_by_lines}
-use Rattle.dr_hops.specs.Numbering.{passage_cmp}
-use Rattle.dr_hops.proofs.Keys.{then_equal, passage_exact}
-use Rattle.dr_hops.specs.declared.hops.Passage.{Passage}
+use Rattle.dr_plan_model.specs.Networks.{Network}
+use Rattle.dr_plan_model.specs.Plans.{IsWellFormed}
+use Rattle.dr_plan_model.proofs.Gathered.{nothing_in_nil}
+use Rattle.dr_plan_sound.specs.declared.certificate.Line.{Line}
+use Rattle.dr_plan_sound.specs.declared.certificate.Hop.{Hop}
+use Rattle.dr_plan_sound.specs.Certificates.{HasHop}
+use Rattle.dr_plan_sound.specs.HopPairs.{HasNumber, AreNumbered, AreTooMany}
+use Rattle.dr_plan_sound.specs.Ranked.{AreRanked}
+use Rattle.dr_plan_sound.proofs.Hopping.{hop_pairs, over_hop, over_goes, sound_by_lines}
+use Rattle.dr_cert_hops.specs.Numbering.{passage_cmp}
+use Rattle.dr_cert_hops.proofs.Keys.{then_equal, passage_exact}
+use Rattle.dr_cert_hops.specs.declared.hops.Passage.{Passage}
 use Rattle.dr_cert.specs.Conditions.{HasRightHops}
 use Rattle.dr_cert.specs.HopSets.{numbered, numbered_cmp, AreTheNumbered}
 use Rattle.dr_cert.specs.declared.hop_list.NumberedPassage.{NumberedPassage}

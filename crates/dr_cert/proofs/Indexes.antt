@@ -10,14 +10,14 @@ use Rattle.std.proofs.lemmas.List.Elements.{Contains-push, Contains-push_cases, 
 use Rattle.std.proofs.lemmas.Option.{same_Some}
 use Rattle.std.proofs.lemmas.Map.Keys.{Less-from_sorted}
 use Rattle.std.proofs.lemmas.Map.Views.{btree_map_get_iff}
-use Rattle.dr_hops.proofs.Rows.{map_has, map_of, map_pairs}
-use Rattle.dr_network.proofs.Gathered.{nothing_in_nil}
-use Rattle.dr_sound.specs.declared.certificate.Stop.{Stop}
-use Rattle.dr_sound.specs.declared.certificate.Line.{Line}
-use Rattle.dr_sound.specs.contracts.certificate.StopOrd.TheImpl.Laws as laws
-use Rattle.dr_sound.specs.Stops.{stop_cmp}
+use Rattle.dr_cert_hops.proofs.Rows.{map_has, map_of, map_pairs}
+use Rattle.dr_plan_model.proofs.Gathered.{nothing_in_nil}
+use Rattle.dr_plan_sound.specs.declared.certificate.Stop.{Stop}
+use Rattle.dr_plan_sound.specs.declared.certificate.Line.{Line}
+use Rattle.dr_plan_sound.specs.contracts.certificate.StopOrd.TheImpl.Laws as laws
+use Rattle.dr_plan_sound.specs.Stops.{stop_cmp}
 use Rattle.dr_cert.specs.Indexing.{line_of, AreRanksOf, IsIndexOf}
-use Rattle.dr_sound.proofs.SameStops.{stop_exact, same_stop_or_not}
+use Rattle.dr_plan_sound.proofs.SameStops.{stop_exact, same_stop_or_not}
 
 not_at : (a b : Stop) → (b ≡ a → ⊥) → is_at (stop_cmp a) b ≡ false
 not_at a b apart = elim (cases_Bool (is_at (stop_cmp a) b)) [

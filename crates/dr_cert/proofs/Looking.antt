@@ -9,14 +9,14 @@ use Rattle.std.proofs.lemmas.Cmp.{tied_itself}
 use Rattle.std.proofs.lemmas.Option.{slice_get-get_or, slice_get_within, get_or_from_slice_get, same_Some}
 use Rattle.dr_base.specs.Texts.{Text}
 use Rattle.dr_route.specs.Laws.{key_of}
-use Rattle.dr_network.specs.Networks.{Network}
-use Rattle.dr_network.specs.Walks.{Keeps}
-use Rattle.dr_sound.specs.declared.certificate.Stop.{Stop}
-use Rattle.dr_sound.specs.declared.certificate.Line.{Line}
-use Rattle.dr_sound.specs.contracts.certificate.StopOrd.TheImpl.Laws as laws
-use Rattle.dr_sound.specs.Ranked.{SendsOn}
-use Rattle.dr_sound.proofs.Hopping.{reached_next}
-use Rattle.dr_sound.specs.Stops.{stop_cmp}
+use Rattle.dr_plan_model.specs.Networks.{Network}
+use Rattle.dr_plan_model.specs.Walks.{Keeps}
+use Rattle.dr_plan_sound.specs.declared.certificate.Stop.{Stop}
+use Rattle.dr_plan_sound.specs.declared.certificate.Line.{Line}
+use Rattle.dr_plan_sound.specs.contracts.certificate.StopOrd.TheImpl.Laws as laws
+use Rattle.dr_plan_sound.specs.Ranked.{SendsOn}
+use Rattle.dr_plan_sound.proofs.Hopping.{reached_next}
+use Rattle.dr_plan_sound.specs.Stops.{stop_cmp}
 use Rattle.dr_cert.specs.Indexing.{AreSorted, StandsAt}
 use Rattle.dr_cert.specs.Surveying.{IsLetIn, IsRankedAmong}
 use Rattle.dr_cert.specs.Walking.{IsComeTo, IsCalledFor, AfterTargets, AfterLook, next_stop}

@@ -1,8 +1,8 @@
 -- The first condition that fails is one, so that a plan and a certificate have one fault at most.
 use Rattle.std.proofs.Common.{◌≡◌, ◌≢◌, ℕ, zero, suc, ◌<◌, inl, inr, refl, sym, ◌∙◌, ap, subst, arith}
 use Rattle.std.proofs.lemmas.Bool.{cases_lt, cases_eq}
-use Rattle.dr_network.specs.Networks.{Network}
-use Rattle.dr_sound.specs.declared.certificate.Certificate.{Certificate}
+use Rattle.dr_plan_model.specs.Networks.{Network}
+use Rattle.dr_plan_sound.specs.declared.certificate.Certificate.{Certificate}
 use Rattle.dr_cert.specs.declared.fault.CertFault.{CertFault}
 use Rattle.dr_cert.specs.declared.fault.CertFault.TheVariants.{Text, OtherPlan, Order, MissingLine, NoContext, DeadEnd, WrongRank, HopList, Memory}
 use Rattle.dr_cert.specs.Conditions.{IsOfPlan, IsInOrder, HasEachLine, AcceptsEachHop, GoesOnEverywhere, ReachesEachLine, HasRightRanks, HasRightHops}

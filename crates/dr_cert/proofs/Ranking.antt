@@ -13,16 +13,16 @@ use Rattle.dr_route.specs.declared.cell.StationValues.{StationValues}
 use Rattle.dr_route.specs.declared.cell.OwnedStation.{OwnedStation}
 use Rattle.dr_route.specs.declared.cell.OwnedStation.TheVariants as station
 use Rattle.dr_route.specs.declared.cell.OwnedCell.{OwnedCell}
-use Rattle.dr_network.specs.Networks.{Network}
-use Rattle.dr_network.specs.Plans.{IsWellFormed, LiesIn, literals_of}
-use Rattle.dr_network.specs.Walks.{IsReached}
-use Rattle.dr_network.proofs.WalksAlike.{reach_alike, cell_has_a_key}
-use Rattle.dr_sound.specs.declared.certificate.Stop.{Stop}
-use Rattle.dr_sound.specs.declared.certificate.Line.{Line}
-use Rattle.dr_sound.specs.Soundness.{IsRank}
-use Rattle.dr_sound.specs.Ranked.{AreRanked}
-use Rattle.dr_sound.proofs.RankedLines.{rank_holds, reached_has_line}
-use Rattle.dr_entry.proofs.Entries.{cell_that_lies}
+use Rattle.dr_plan_model.specs.Networks.{Network}
+use Rattle.dr_plan_model.specs.Plans.{IsWellFormed, LiesIn, literals_of}
+use Rattle.dr_plan_model.specs.Walks.{IsReached}
+use Rattle.dr_plan_model.proofs.WalksAlike.{reach_alike, cell_has_a_key}
+use Rattle.dr_plan_sound.specs.declared.certificate.Stop.{Stop}
+use Rattle.dr_plan_sound.specs.declared.certificate.Line.{Line}
+use Rattle.dr_plan_sound.specs.Soundness.{IsRank}
+use Rattle.dr_plan_sound.specs.Ranked.{AreRanked}
+use Rattle.dr_plan_sound.proofs.RankedLines.{rank_holds, reached_has_line}
+use Rattle.dr_plan_entries.proofs.Entries.{cell_that_lies}
 use Rattle.dr_cert.specs.Indexing.{HasRank, HasNoLine}
 use Rattle.dr_cert.specs.Sealing.{AreLiteralsOf}
 

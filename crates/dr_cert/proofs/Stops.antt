@@ -7,11 +7,11 @@ use Rattle.std.proofs.lemmas.Cmp.{tied_itself}
 use Rattle.std.proofs.lemmas.Bool.{cases_lt}
 use Rattle.std.proofs.lemmas.List.Sorted.{searchable_from_sorted}
 use Rattle.std.proofs.lemmas.Option.{slice_get-get_or}
-use Rattle.dr_sound.specs.declared.certificate.Stop.{Stop}
-use Rattle.dr_sound.specs.declared.certificate.Line.{Line}
-use Rattle.dr_sound.specs.contracts.certificate.StopOrd.TheImpl.Laws as laws
-use Rattle.dr_sound.specs.Stops.{stop_cmp}
-use Rattle.dr_sound.proofs.SameStops.{stop_exact}
+use Rattle.dr_plan_sound.specs.declared.certificate.Stop.{Stop}
+use Rattle.dr_plan_sound.specs.declared.certificate.Line.{Line}
+use Rattle.dr_plan_sound.specs.contracts.certificate.StopOrd.TheImpl.Laws as laws
+use Rattle.dr_plan_sound.specs.Stops.{stop_cmp}
+use Rattle.dr_plan_sound.proofs.SameStops.{stop_exact}
 use Rattle.dr_cert.specs.Indexing.{AreSorted, StandsAt, HasNoLine}
 
 pub found : (lines : List Line) (stop : Stop) (k : ℕ) → k < length lines → ((d : Line) → stop_cmp (get_or lines k d).stop stop ≡ Equal) → StandsAt lines stop k

@@ -2,14 +2,14 @@
 use Rattle.std.proofs.Common.{◌≡◌, ℕ, refl, sym, subst, List, Contains, true, false}
 use Rattle.std.specs.Prelude.{◌↔◌, Bool, not}
 use Rattle.std.proofs.lemmas.Bool.{false≢true}
-use Rattle.dr_network.specs.Networks.{Network}
-use Rattle.dr_network.specs.Plans.{IsWellFormed}
-use Rattle.dr_sound.specs.declared.certificate.Line.{Line}
-use Rattle.dr_sound.specs.declared.certificate.Certificate.{Certificate}
-use Rattle.dr_sound.specs.Soundness.{IsSound}
-use Rattle.dr_sound.specs.Certificates.{HasLine, IsCertificateOf}
-use Rattle.dr_sound.specs.Ranked.{AreRanked}
-use Rattle.dr_sound.proofs.RankedLines.{some_cell, no_pair_twice, one_rank, lines_are_the_lines}
+use Rattle.dr_plan_model.specs.Networks.{Network}
+use Rattle.dr_plan_model.specs.Plans.{IsWellFormed}
+use Rattle.dr_plan_sound.specs.declared.certificate.Line.{Line}
+use Rattle.dr_plan_sound.specs.declared.certificate.Certificate.{Certificate}
+use Rattle.dr_plan_sound.specs.Soundness.{IsSound}
+use Rattle.dr_plan_sound.specs.Certificates.{HasLine, IsCertificateOf}
+use Rattle.dr_plan_sound.specs.Ranked.{AreRanked}
+use Rattle.dr_plan_sound.proofs.RankedLines.{some_cell, no_pair_twice, one_rank, lines_are_the_lines}
 use Rattle.dr_cert.specs.Conditions.{HasEachLine, ReachesEachLine, HasRightRanks, HasRightHops, UpToReach}
 use Rattle.dr_cert.specs.Indexing.{IsIndexOf}
 use Rattle.dr_cert.proofs.Findings.{rank_for}

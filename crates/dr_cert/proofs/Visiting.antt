@@ -6,9 +6,9 @@ use Rattle.std.proofs.lemmas.Option.{slice_get_within, get_or_from_slice_get}
 use Rattle.dr_base.specs.Texts.{Text}
 use Rattle.dr_route.specs.Routes.{local}
 use Rattle.dr_route.specs.declared.cell.OwnedCell.{OwnedCell}
-use Rattle.dr_sound.specs.declared.certificate.Stop.{Stop}
-use Rattle.dr_sound.specs.declared.certificate.Line.{Line}
-use Rattle.dr_entry.specs.Visiting.{GoesOn, IsThis}
+use Rattle.dr_plan_sound.specs.declared.certificate.Stop.{Stop}
+use Rattle.dr_plan_sound.specs.declared.certificate.Line.{Line}
+use Rattle.dr_plan_entries.specs.Visiting.{GoesOn, IsThis}
 use Rattle.dr_cert.specs.Walking.{IsWalking, IsMarked, HasVisited, Shows, AfterMark}
 use Rattle.dr_cert.specs.declared.walker.Walker.{Walker}
 use Rattle.dr_cert.proofs.Following.{marked_still}

@@ -9,9 +9,9 @@ use Rattle.std.proofs.lemmas.Option.{same_Some, slice_get_within}
 use Rattle.std.proofs.lemmas.Map.Made.{IsDistinct-from_AllPairs}
 use Rattle.std.proofs.lemmas.Map.Steps.{length-le_from_distinct_below}
 use Rattle.std.proofs.lemmas.Map.Views.{Contains-from_any, exact_unsigned_eq}
-use Rattle.dr_network.specs.Networks.{Network}
-use Rattle.dr_network.proofs.Gathered.{nothing_in_nil}
-use Rattle.dr_sound.specs.declared.certificate.Line.{Line}
+use Rattle.dr_plan_model.specs.Networks.{Network}
+use Rattle.dr_plan_model.proofs.Gathered.{nothing_in_nil}
+use Rattle.dr_plan_sound.specs.declared.certificate.Line.{Line}
 use Rattle.dr_cert.specs.Conditions.{HasEachLine}
 use Rattle.dr_cert.specs.Surveying.{EachAt, IsLetIn, IsGoingOn, IsRankedAmong, IsSightOf}
 use Rattle.dr_cert.specs.Walking.{IsWalking, IsFurther, IsFollowed, AfterLook, IsWalkedTo, next_stop}

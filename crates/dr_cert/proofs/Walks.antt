@@ -7,10 +7,10 @@ use Rattle.dr_base.specs.declared.syntax.Syntax.TheVariants.{Implicit}
 use Rattle.dr_route.specs.declared.cell.OwnedCell.{OwnedCell}
 use Rattle.dr_route.specs.declared.cell.OwnedField.TheVariants.{Rest}
 use Rattle.dr_route.specs.declared.cell.OwnedStation.TheVariants as station
-use Rattle.dr_network.specs.Networks.{Network}
-use Rattle.dr_network.specs.Plans.{IsWellFormed}
-use Rattle.dr_sound.specs.declared.certificate.Line.{Line}
-use Rattle.dr_entry.specs.Visiting.{GoesOn, IsEntryCell}
+use Rattle.dr_plan_model.specs.Networks.{Network}
+use Rattle.dr_plan_model.specs.Plans.{IsWellFormed}
+use Rattle.dr_plan_sound.specs.declared.certificate.Line.{Line}
+use Rattle.dr_plan_entries.specs.Visiting.{GoesOn, IsEntryCell}
 use Rattle.dr_cert.specs.Conditions.{HasEachLine}
 use Rattle.dr_cert.specs.Indexing.{AreSorted}
 use Rattle.dr_cert.specs.Surveying.{EachAt, IsSurveyOf}

@@ -4,15 +4,15 @@ use Rattle.std.specs.declared.cmp.Ordering.TheVariants.{Less}
 use Rattle.dr_base.specs.Texts.{Text, text_cmp}
 use Rattle.dr_base.specs.declared.syntax.Syntax.{Syntax}
 use Rattle.dr_route.specs.declared.key.Key.{Key}
-use Rattle.dr_network.specs.Networks.{Network}
-use Rattle.dr_network.specs.Plans.{LiesIn}
-use Rattle.dr_network.specs.Walks.{Sends, Keeps, Accepts, IsReached, Goes, GoesOver}
-use Rattle.dr_sound.specs.declared.certificate.Stop.{Stop}
-use Rattle.dr_sound.specs.declared.certificate.Line.{Line}
-use Rattle.dr_sound.specs.declared.certificate.Hop.{Hop}
-use Rattle.dr_sound.specs.declared.certificate.Certificate.{Certificate}
-use Rattle.dr_sound.specs.Certificates.{HasLine, HasHop}
-use Rattle.dr_sound.specs.Printed.{printed_line, printed_hop}
+use Rattle.dr_plan_model.specs.Networks.{Network}
+use Rattle.dr_plan_model.specs.Plans.{LiesIn}
+use Rattle.dr_plan_model.specs.Walks.{Sends, Keeps, Accepts, IsReached, Goes, GoesOver}
+use Rattle.dr_plan_sound.specs.declared.certificate.Stop.{Stop}
+use Rattle.dr_plan_sound.specs.declared.certificate.Line.{Line}
+use Rattle.dr_plan_sound.specs.declared.certificate.Hop.{Hop}
+use Rattle.dr_plan_sound.specs.declared.certificate.Certificate.{Certificate}
+use Rattle.dr_plan_sound.specs.Certificates.{HasLine, HasHop}
+use Rattle.dr_plan_sound.specs.Printed.{printed_line, printed_hop}
 
 -- the certificate has the plan's format as its version, and names the plan's digest
 abbrev pub IsOfPlan : Network → Certificate → Type 0

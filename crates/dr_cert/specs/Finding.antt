@@ -1,9 +1,9 @@
 -- What the walk over all lines finds.
 use Rattle.std.specs.Prelude.{◌≡◌, ◌↔◌, List, IsTrue, false, Option, Some, None}
-use Rattle.dr_network.specs.Networks.{Network}
-use Rattle.dr_network.specs.Plans.{IsWellFormed}
-use Rattle.dr_sound.specs.declared.certificate.Line.{Line}
-use Rattle.dr_sound.specs.Ranked.{AreRanked}
+use Rattle.dr_plan_model.specs.Networks.{Network}
+use Rattle.dr_plan_model.specs.Plans.{IsWellFormed}
+use Rattle.dr_plan_sound.specs.declared.certificate.Line.{Line}
+use Rattle.dr_plan_sound.specs.Ranked.{AreRanked}
 use Rattle.dr_cert.specs.Conditions.{HasEachLine, AcceptsEachHop, GoesOnEverywhere, ReachesEachLine, HasRightRanks}
 use Rattle.dr_cert.specs.declared.walk.Walked.{Walked}
 

@@ -2,7 +2,7 @@
 use Rattle.std.specs.Prelude.{◌↔◌, List, Contains}
 use Rattle.std.specs.declared.cmp.Ordering.{Ordering}
 use Rattle.std.specs.BTreeSet.{BTreeSet}
-use Rattle.dr_sound.specs.declared.certificate.Hop.{Hop}
+use Rattle.dr_plan_sound.specs.declared.certificate.Hop.{Hop}
 use Rattle.dr_cert.specs.declared.hop_list.NumberedPassage.{NumberedPassage}
 use Rattle.dr_cert.specs.contracts.hop_list.NumberedPassageOrd.TheImpl as order
 

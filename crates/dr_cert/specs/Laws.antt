@@ -1,9 +1,9 @@
 -- Laws of sealing.
 use Rattle.std.specs.Prelude.{◌≡◌, ◌≢◌}
-use Rattle.dr_network.specs.Networks.{Network}
-use Rattle.dr_sound.specs.declared.certificate.Certificate.{Certificate}
-use Rattle.dr_sound.specs.Soundness.{IsSound}
-use Rattle.dr_sound.specs.Certificates.{IsCertificateOf}
+use Rattle.dr_plan_model.specs.Networks.{Network}
+use Rattle.dr_plan_sound.specs.declared.certificate.Certificate.{Certificate}
+use Rattle.dr_plan_sound.specs.Soundness.{IsSound}
+use Rattle.dr_plan_sound.specs.Certificates.{IsCertificateOf}
 use Rattle.dr_cert.specs.declared.fault.CertFault.{CertFault}
 use Rattle.dr_cert.specs.declared.fault.CertFault.TheVariants.{Memory}
 use Rattle.dr_cert.specs.Refusing.{IsRefused}

@@ -1,7 +1,7 @@
 -- What is read of the text of a certificate.
 use Rattle.std.specs.Prelude.{Result, Ok, Err}
 use Rattle.dr_base.specs.Texts.{Text as Words}
-use Rattle.dr_sound.specs.declared.certificate.Certificate.{Certificate}
+use Rattle.dr_plan_sound.specs.declared.certificate.Certificate.{Certificate}
 use Rattle.dr_cert_text.specs.CertificateText.{certificate_text}
 use Rattle.dr_cert_text.specs.Printable.{IsPrintable}
 use Rattle.dr_cert_text.specs.Reading.{IsReadBack, HasNone}

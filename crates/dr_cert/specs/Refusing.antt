@@ -1,9 +1,9 @@
 -- Why a plan and a certificate are refused: the first condition that fails.
 use Rattle.std.specs.Prelude.{◌≡◌, ◌⊎◌, Result, Ok, Err}
-use Rattle.dr_network.specs.Networks.{Network}
-use Rattle.dr_sound.specs.declared.certificate.Certificate.{Certificate}
-use Rattle.dr_sound.specs.Soundness.{IsSound}
-use Rattle.dr_sound.specs.Certificates.{IsCertificateOf}
+use Rattle.dr_plan_model.specs.Networks.{Network}
+use Rattle.dr_plan_sound.specs.declared.certificate.Certificate.{Certificate}
+use Rattle.dr_plan_sound.specs.Soundness.{IsSound}
+use Rattle.dr_plan_sound.specs.Certificates.{IsCertificateOf}
 use Rattle.dr_cert.specs.Sealing.{Certified}
 use Rattle.dr_cert_text.specs.declared.fault.ReadFault.{ReadFault}
 use Rattle.dr_cert_text.specs.declared.fault.ReadFault.TheVariants as read

@@ -4,14 +4,14 @@ use Rattle.dr_base.specs.Texts.{Text}
 use Rattle.dr_route.specs.declared.key.Key.{Key}
 use Rattle.dr_route.specs.Cells.{AreInOrder}
 use Rattle.dr_route.specs.declared.cell.Literals.{Literals}
-use Rattle.dr_network.specs.Networks.{Network}
-use Rattle.dr_network.specs.Plans.{IsWellFormed, modalities_of, stations_of, prefixes_of}
-use Rattle.dr_network.specs.Walks.{IsReached}
-use Rattle.dr_sound.specs.declared.certificate.Line.{Line}
-use Rattle.dr_sound.specs.declared.certificate.Certificate.{Certificate}
-use Rattle.dr_sound.specs.Soundness.{IsSound, IsRank}
-use Rattle.dr_sound.specs.Certificates.{IsCertificateOf}
-use Rattle.dr_sound.specs.Ranked.{AreRanked}
+use Rattle.dr_plan_model.specs.Networks.{Network}
+use Rattle.dr_plan_model.specs.Plans.{IsWellFormed, modalities_of, stations_of, prefixes_of}
+use Rattle.dr_plan_model.specs.Walks.{IsReached}
+use Rattle.dr_plan_sound.specs.declared.certificate.Line.{Line}
+use Rattle.dr_plan_sound.specs.declared.certificate.Certificate.{Certificate}
+use Rattle.dr_plan_sound.specs.Soundness.{IsSound, IsRank}
+use Rattle.dr_plan_sound.specs.Certificates.{IsCertificateOf}
+use Rattle.dr_plan_sound.specs.Ranked.{AreRanked}
 use Rattle.dr_cert.specs.Indexing.{AreSorted}
 
 -- a plan with its certificate, as contracts see what is sealed

@@ -1,12 +1,12 @@
 -- What the tests of a certificate answer, one after another.
 use Rattle.std.specs.Prelude.{◌≡◌, List, IsTrue, Bool, false, Result, Ok, Err}
-use Rattle.dr_network.specs.Networks.{Network}
-use Rattle.dr_network.specs.Plans.{IsWellFormed}
-use Rattle.dr_sound.specs.declared.certificate.Line.{Line}
-use Rattle.dr_sound.specs.declared.certificate.Certificate.{Certificate}
-use Rattle.dr_sound.specs.Soundness.{IsSound}
-use Rattle.dr_sound.specs.Certificates.{IsCertificateOf}
-use Rattle.dr_sound.specs.Ranked.{AreRanked}
+use Rattle.dr_plan_model.specs.Networks.{Network}
+use Rattle.dr_plan_model.specs.Plans.{IsWellFormed}
+use Rattle.dr_plan_sound.specs.declared.certificate.Line.{Line}
+use Rattle.dr_plan_sound.specs.declared.certificate.Certificate.{Certificate}
+use Rattle.dr_plan_sound.specs.Soundness.{IsSound}
+use Rattle.dr_plan_sound.specs.Certificates.{IsCertificateOf}
+use Rattle.dr_plan_sound.specs.Ranked.{AreRanked}
 use Rattle.dr_cert.specs.declared.fault.CertFault.{CertFault}
 use Rattle.dr_cert.specs.Conditions.{UpToOrder, UpToReach, HasRightRanks}
 use Rattle.dr_cert.specs.Refusing.{IsRefused}

@@ -4,13 +4,13 @@ use Rattle.dr_base.specs.Texts.{Text}
 use Rattle.dr_route.specs.Routes.{local}
 use Rattle.dr_route.specs.Laws.{key_of}
 use Rattle.dr_route.specs.declared.cell.OwnedCell.{OwnedCell}
-use Rattle.dr_network.specs.Networks.{Network}
-use Rattle.dr_network.specs.Plans.{IsWellFormed}
-use Rattle.dr_network.specs.Walks.{IsReached}
-use Rattle.dr_network.specs.Laws.{IsCellOf}
-use Rattle.dr_sound.specs.declared.certificate.Stop.{Stop}
-use Rattle.dr_sound.specs.declared.certificate.Line.{Line}
-use Rattle.dr_sound.specs.Ranked.{line_at, SendsOn}
+use Rattle.dr_plan_model.specs.Networks.{Network}
+use Rattle.dr_plan_model.specs.Plans.{IsWellFormed}
+use Rattle.dr_plan_model.specs.Walks.{IsReached}
+use Rattle.dr_plan_model.specs.Laws.{IsCellOf}
+use Rattle.dr_plan_sound.specs.declared.certificate.Stop.{Stop}
+use Rattle.dr_plan_sound.specs.declared.certificate.Line.{Line}
+use Rattle.dr_plan_sound.specs.Ranked.{line_at, SendsOn}
 use Rattle.dr_cert.specs.Conditions.{HasEachLine}
 use Rattle.dr_cert.specs.Indexing.{AreSorted, StandsAt, HasNoLine}
 use Rattle.dr_cert.specs.Surveying.{EachAt, IsSightOf, IsSurveyOf}

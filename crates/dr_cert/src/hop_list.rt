@@ -1,15 +1,15 @@
 //! Whether a certificate's hops are those that its lines show.
 ghost use Rattle.std.specs.Prelude.{◌≡◌, ◌↔◌, IsTrue, IfOk, Contains};
-ghost use Rattle.dr_network.specs.Networks.{Network};
-ghost use Rattle.dr_network.specs.Plans.{IsWellFormed};
-ghost use Rattle.dr_sound.specs.Ranked.{AreRanked};
-ghost use Rattle.dr_sound.specs.declared.certificate.Hop.{Hop as HopValue};
+ghost use Rattle.dr_plan_model.specs.Networks.{Network};
+ghost use Rattle.dr_plan_model.specs.Plans.{IsWellFormed};
+ghost use Rattle.dr_plan_sound.specs.Ranked.{AreRanked};
+ghost use Rattle.dr_plan_sound.specs.declared.certificate.Hop.{Hop as HopValue};
 ghost use Rattle.dr_cert.specs.Conditions.{HasRightHops};
 ghost use Rattle.dr_cert.specs.HopSets.{numbered, AreTheNumbered};
 
-use dr_hops::hops::Passage;
-use dr_hops::{Numbered, number_hops};
-use dr_sound::{Hop, Line};
+use dr_cert_hops::hops::Passage;
+use dr_cert_hops::{Numbered, number_hops};
+use dr_plan_sound::{Hop, Line};
 use std::alloc::{AllocError, Global};
 use std::collections::BTreeSet;
 

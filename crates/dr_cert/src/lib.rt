@@ -15,7 +15,7 @@ mod walk;
 mod walker;
 
 pub use dr_cert_text::write_certificate;
-pub use dr_sound::Certificate;
+pub use dr_plan_sound::Certificate;
 pub use fault::CertFault;
 pub use read::read_certificate;
 pub use sealed::Sealed;

@@ -1,10 +1,10 @@
 //! Stops by reference, which take no memory.
 ghost use Rattle.std.specs.Prelude.{◌≡◌};
-ghost use Rattle.dr_sound.specs.Stops.{stop_cmp};
+ghost use Rattle.dr_plan_sound.specs.Stops.{stop_cmp};
 
 use dr_base::Text;
+use dr_plan_sound::Stop;
 use dr_route::{Cell, OwnedCell};
-use dr_sound::Stop;
 use std::cmp::Ordering;
 use std::marker::Model;
 
@@ -17,7 +17,7 @@ pub struct Place<'a> {
 }
 
 impl<'a> Model for Place<'a> {
-    ghost use Rattle.dr_sound.specs.declared.certificate.Stop.{Stop};
+    ghost use Rattle.dr_plan_sound.specs.declared.certificate.Stop.{Stop};
 
     ghost Value = { Stop };
 

@@ -2,7 +2,7 @@
 ghost use Rattle.dr_cert.specs.ReadingBack.{ReadsCertificate};
 
 use crate::fault::CertFault;
-use dr_sound::Certificate;
+use dr_plan_sound::Certificate;
 use std::alloc::Global;
 
 /// The certificate of the text: exactly the one that is written so, else Text. Memory is answered only where a growth

@@ -1,18 +1,18 @@
 //! A plan that is sealed with its certificate.
 ghost use Rattle.std.specs.Prelude.{◌≡◌, IfOk};
-ghost use Rattle.dr_network.specs.Plans.{IsWellFormed};
-ghost use Rattle.dr_sound.specs.Soundness.{IsSound};
-ghost use Rattle.dr_sound.specs.Certificates.{IsCertificateOf};
+ghost use Rattle.dr_plan_model.specs.Plans.{IsWellFormed};
+ghost use Rattle.dr_plan_sound.specs.Soundness.{IsSound};
+ghost use Rattle.dr_plan_sound.specs.Certificates.{IsCertificateOf};
 
 use crate::fault::CertFault;
 use crate::index::{index_of, rank_of};
 use crate::place::Place;
 use crate::verify::{test_lines, test_order};
 use dr_base::Text;
-use dr_network::Plan;
-use dr_network::literals::literals;
+use dr_plan_model::Plan;
+use dr_plan_model::literals::literals;
+use dr_plan_sound::{Certificate, Line};
 use dr_route::{Key, Literals, cell_of};
-use dr_sound::{Certificate, Line};
 use std::alloc::{AllocError, Global};
 use std::marker::Model;
 

@@ -3,9 +3,9 @@ ghost use Rattle.std.specs.Prelude.{◌≡◌, ◌↔◌, ◌⊎◌, ◌&&◌, I
 ghost use Rattle.dr_base.specs.Texts.{Text as Words};
 ghost use Rattle.dr_cert.specs.Surveying.{IsLetIn};
 
-use dr_network::{Plan, sending};
+use dr_plan_model::{Plan, sending};
+use dr_plan_sound::Line;
 use dr_route::{Targets, is_local};
-use dr_sound::Line;
 
 /// What was found of lines of a certificate: whether each of their stops is let in, whether each goes on, and
 /// whether each rank is right among the others.

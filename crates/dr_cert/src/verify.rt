@@ -1,6 +1,6 @@
 //! The tests of a certificate, one after another.
 ghost use Rattle.std.specs.Prelude.{◌↔◌, IsTrue, Contains};
-ghost use Rattle.dr_sound.specs.declared.certificate.Line.{Line as LineValue};
+ghost use Rattle.dr_plan_sound.specs.declared.certificate.Line.{Line as LineValue};
 ghost use Rattle.dr_cert.specs.Conditions.{IsOfPlan, UpToOrder};
 ghost use Rattle.dr_cert.specs.Indexing.{IsIndexOf, AreSorted};
 ghost use Rattle.dr_cert.specs.Verifying.{Begins, Walks, Verifies};
@@ -11,8 +11,8 @@ use crate::index::find;
 use crate::place::Place;
 use crate::walk::walk_lines;
 use dr_cert_text::{are_hops_in_order, are_lines_in_order};
-use dr_network::Plan;
-use dr_sound::{Certificate, Line};
+use dr_plan_model::Plan;
+use dr_plan_sound::{Certificate, Line};
 use std::alloc::Global;
 
 /// Whether the certificate's version is the plan's format, and its digest the plan's.

@@ -6,9 +6,9 @@ ghost use Rattle.dr_cert.specs.Finding.{Finds};
 use crate::survey::Survey;
 use crate::walker::Walker;
 use dr_base::Text;
-use dr_entry::visit_entries;
-use dr_network::Plan;
-use dr_sound::Line;
+use dr_plan_entries::visit_entries;
+use dr_plan_model::Plan;
+use dr_plan_sound::Line;
 use std::alloc::{AllocError, Global};
 
 /// What was found of all stops to which a walk from an entry comes, and whether those are all lines.

@@ -1,20 +1,20 @@
 //! The walk over the lines of a certificate, from the entries of its plan on.
 ghost use Rattle.std.specs.Prelude.{◌≡◌, ◌<◌, ◌↔◌, ℕ, IsTrue, false, All, IfOk, Contains, Some, slice_get, length};
 ghost use Rattle.dr_base.specs.Texts.{Text as Words};
-ghost use Rattle.dr_sound.specs.declared.certificate.Line.{Line as LineValue};
+ghost use Rattle.dr_plan_sound.specs.declared.certificate.Line.{Line as LineValue};
 ghost use Rattle.dr_route.specs.Routes.{local};
-ghost use Rattle.dr_network.specs.Plans.{IsWellFormed};
+ghost use Rattle.dr_plan_model.specs.Plans.{IsWellFormed};
 ghost use Rattle.dr_cert.specs.Indexing.{AreSorted};
 
 use crate::index::find;
 use crate::place::Place;
 use crate::survey::{Survey, does_something, is_let_in};
 use dr_base::Text;
-use dr_entry::EntryVisitor;
-use dr_network::{Plan, sending};
+use dr_plan_entries::EntryVisitor;
+use dr_plan_model::{Plan, sending};
+use dr_plan_sound::{Line, Stop};
 use dr_route::OwnedCell;
 use dr_route::cell::key_in;
-use dr_sound::{Line, Stop};
 use std::alloc::{AllocError, Global};
 
 /// A stop to which a walk comes has no line: the lines among which it was looked for, and how many they are.

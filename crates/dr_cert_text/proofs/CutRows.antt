@@ -2,8 +2,8 @@
 use Rattle.std.proofs.Common.{◌≡◌, ◌≢◌, ℕ, suc, ◌<◌, ◌≤◌, List, [], ◌∷◌, length, decimal, sym, ap, ◌∙◌, arith}
 use Rattle.std.proofs.lemmas.Fmt.{decimal_injective}
 use Rattle.dr_base.specs.Syntaxes.{syntax_uid, NamesNoSyntax}
-use Rattle.dr_sound.specs.declared.certificate.Hop.{Hop}
-use Rattle.dr_sound.specs.Printed.{printed_line, printed_hop}
+use Rattle.dr_plan_sound.specs.declared.certificate.Hop.{Hop}
+use Rattle.dr_plan_sound.specs.Printed.{printed_line, printed_hop}
 use Rattle.dr_cert_text.specs.Printable.{IsPrintableLine, IsPrintableHop}
 use Rattle.dr_cert_text.specs.Cuts.{cuts, CutsField}
 use Rattle.dr_cert_text.specs.Reading.{HasNone}

@@ -18,9 +18,9 @@ use Rattle.dr_route.specs.declared.cell.OwnedField.{OwnedField}
 use Rattle.dr_route.specs.declared.cell.OwnedField.TheVariants.{Literal, Rest}
 use Rattle.dr_route.specs.declared.cell.OwnedStation.{OwnedStation}
 use Rattle.dr_route.specs.declared.cell.OwnedStation.TheVariants as station
-use Rattle.dr_sound.specs.declared.certificate.Line.{Line}
-use Rattle.dr_sound.specs.declared.certificate.Hop.{Hop}
-use Rattle.dr_sound.specs.Printed.{printed_field, printed_station, printed_line, printed_hop}
+use Rattle.dr_plan_sound.specs.declared.certificate.Line.{Line}
+use Rattle.dr_plan_sound.specs.declared.certificate.Hop.{Hop}
+use Rattle.dr_plan_sound.specs.Printed.{printed_field, printed_station, printed_line, printed_hop}
 use Rattle.dr_cert_text.specs.Printable.{IsPlain, IsPlainField, IsPlainStation, IsPrintableLine, IsPrintableHop}
 use Rattle.dr_cert_text.specs.Cuts.{cuts, grown, Lacks}
 use Rattle.dr_cert_text.proofs.Cuts.{cuts-at, cuts-last}

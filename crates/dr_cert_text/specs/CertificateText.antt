@@ -1,13 +1,13 @@
 -- The text of a certificate: rows ended by LF, whose fields are joined by one tab.
 use Rattle.std.specs.Prelude.{◌∷◌, ◌++◌, [], codes, flat_map}
-use Rattle.dr_network.specs.declared.plan.Format.{Format}
-use Rattle.dr_network.specs.declared.plan.Format.TheVariants.{One, Two}
+use Rattle.dr_plan_model.specs.declared.plan.Format.{Format}
+use Rattle.dr_plan_model.specs.declared.plan.Format.TheVariants.{One, Two}
 use Rattle.hex.specs.Hex.{encode_lower}
 use Rattle.dr_base.specs.Texts.{Text}
-use Rattle.dr_sound.specs.declared.certificate.Line.{Line}
-use Rattle.dr_sound.specs.declared.certificate.Hop.{Hop}
-use Rattle.dr_sound.specs.declared.certificate.Certificate.{Certificate}
-use Rattle.dr_sound.specs.Printed.{printed_line, printed_hop}
+use Rattle.dr_plan_sound.specs.declared.certificate.Line.{Line}
+use Rattle.dr_plan_sound.specs.declared.certificate.Hop.{Hop}
+use Rattle.dr_plan_sound.specs.declared.certificate.Certificate.{Certificate}
+use Rattle.dr_plan_sound.specs.Printed.{printed_line, printed_hop}
 
 -- a row of the text: its word, a tab, its other fields, and the LF that ends it
 abbrev pub row : Text → Text → Text

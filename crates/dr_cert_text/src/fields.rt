@@ -1,7 +1,7 @@
 //! Rows and fields of a text.
 ghost use Rattle.std.specs.Prelude.{◌≡◌, ◌≤◌, ◌++◌, ◌∷◌, [], ℕ, List, IfOk, MatchOption, decimal};
 ghost use Rattle.hex.specs.Hex.{encode_lower};
-ghost use Rattle.dr_sound.specs.Printed.{printed_field, printed_station};
+ghost use Rattle.dr_plan_sound.specs.Printed.{printed_field, printed_station};
 ghost use Rattle.dr_cert_text.specs.Printable.{IsPlain, IsPlainField, IsPlainStation, IsDigest};
 ghost use Rattle.dr_cert_text.specs.Cuts.{cuts, Lacks, SplitsAt, CutsField};
 ghost use Rattle.dr_cert_text.specs.Reading.{HasNone, IsReadBack};

@@ -1,6 +1,6 @@
 //! The row of a hop.
 ghost use Rattle.std.specs.Prelude.{MatchOption, codes};
-ghost use Rattle.dr_sound.specs.Printed.{printed_hop};
+ghost use Rattle.dr_plan_sound.specs.Printed.{printed_hop};
 ghost use Rattle.dr_cert_text.specs.Cuts.{Lacks};
 ghost use Rattle.dr_cert_text.specs.Fields.{AreHopFields};
 ghost use Rattle.dr_cert_text.specs.Printable.{IsPrintableHop};
@@ -10,7 +10,7 @@ use crate::fault::ReadFault;
 use crate::fields::{field_before_tab, read_number};
 use crate::printed::{Printed, add_field};
 use dr_base::{Syntax, Text};
-use dr_sound::Hop;
+use dr_plan_sound::Hop;
 use std::alloc::{AllocError, Global};
 
 const MAX_ID: u32 = 255;

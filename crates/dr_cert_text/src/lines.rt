@@ -1,6 +1,6 @@
 //! The row of a line.
 ghost use Rattle.std.specs.Prelude.{MatchOption, codes};
-ghost use Rattle.dr_sound.specs.Printed.{printed_line};
+ghost use Rattle.dr_plan_sound.specs.Printed.{printed_line};
 ghost use Rattle.dr_cert_text.specs.Cuts.{Lacks};
 ghost use Rattle.dr_cert_text.specs.Fields.{AreLineFields};
 ghost use Rattle.dr_cert_text.specs.Printable.{IsPrintableLine};
@@ -10,8 +10,8 @@ use crate::fault::ReadFault;
 use crate::fields::{field_before_tab, read_field, read_number, read_station};
 use crate::printed::{Printed, add_field, add_station, field_bytes};
 use dr_base::{Syntax, Text};
+use dr_plan_sound::{Line, Stop};
 use dr_route::OwnedCell;
-use dr_sound::{Line, Stop};
 use std::alloc::{AllocError, Global};
 
 /// The fields of a line, before they are copied.

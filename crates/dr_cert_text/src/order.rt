@@ -6,14 +6,14 @@ ghost use Rattle.std.specs.Cmp.Lexicographic.{pointwise, slice_cmp, nat_list_eq_
 ghost use Rattle.std.specs.Ordering.{nat_cmp, as_partial_cmp, on};
 ghost use Rattle.std.specs.declared.cmp.Ordering.TheVariants.{Less};
 ghost use Rattle.dr_base.specs.Texts.{text_cmp};
-ghost use Rattle.dr_sound.specs.declared.certificate.Line.{Line as LineValue};
-ghost use Rattle.dr_sound.specs.declared.certificate.Hop.{Hop as HopValue};
-ghost use Rattle.dr_sound.specs.Printed.{printed_line, printed_hop};
+ghost use Rattle.dr_plan_sound.specs.declared.certificate.Line.{Line as LineValue};
+ghost use Rattle.dr_plan_sound.specs.declared.certificate.Hop.{Hop as HopValue};
+ghost use Rattle.dr_plan_sound.specs.Printed.{printed_line, printed_hop};
 ghost use Rattle.dr_cert_text.specs.Printable.{IsPrintableLine, IsPrintableHop};
 
 use crate::printed::Printed;
 use dr_base::{Seq, Text};
-use dr_sound::{Hop, Line};
+use dr_plan_sound::{Hop, Line};
 use std::alloc::{AllocError, Global};
 use std::cmp::Ordering;
 

@@ -1,6 +1,6 @@
 //! What a certificate's text has a row for.
 ghost use Rattle.std.specs.Prelude.{◌≡◌, [], ◌∷◌, ◌++◌, List, ℕ, OnOk};
-ghost use Rattle.dr_sound.specs.Printed.{printed_field, printed_station};
+ghost use Rattle.dr_plan_sound.specs.Printed.{printed_field, printed_station};
 ghost use Rattle.dr_cert_text.specs.Cuts.{Lacks};
 ghost use Rattle.dr_cert_text.specs.Reading.{Reads};
 

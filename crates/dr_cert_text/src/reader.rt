@@ -2,7 +2,7 @@
 ghost use Rattle.std.specs.Prelude.{◌≡◌, ◌≢◌, ◌++◌, ◌∷◌, [], ℕ, List, MatchOption, MatchResult, All, flat_map};
 ghost use Rattle.dr_cert_text.specs.CertificateText.{row, front, certificate_text};
 ghost use Rattle.dr_cert_text.specs.Cuts.{Lacks};
-ghost use Rattle.dr_network.specs.declared.plan.Format.{Format as FormatValue};
+ghost use Rattle.dr_plan_model.specs.declared.plan.Format.{Format as FormatValue};
 ghost use Rattle.dr_cert_text.specs.Printable.{IsPrintable};
 ghost use Rattle.dr_cert_text.specs.Reading.{Reads, ReadsRows};
 
@@ -11,8 +11,8 @@ use crate::fields::{after, read_digest, split_at_byte};
 use crate::printed::Printed;
 use crate::writer::front_of;
 use dr_base::Seq;
-use dr_network::Format;
-use dr_sound::{Certificate, Hop, Line};
+use dr_plan_model::Format;
+use dr_plan_sound::{Certificate, Hop, Line};
 use std::alloc::Global;
 
 const LF: u8 = 10;

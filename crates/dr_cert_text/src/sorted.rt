@@ -2,11 +2,11 @@
 ghost use Rattle.std.specs.Prelude.{◌≡◌, ◌↔◌, IsTrue, IfOk, AllPairs, map};
 ghost use Rattle.std.specs.declared.cmp.Ordering.TheVariants.{Less};
 ghost use Rattle.dr_base.specs.Texts.{text_cmp};
-ghost use Rattle.dr_sound.specs.Printed.{printed_line, printed_hop};
+ghost use Rattle.dr_plan_sound.specs.Printed.{printed_line, printed_hop};
 
 use crate::printed::Printed;
 use dr_base::Text;
-use dr_sound::{Hop, Line};
+use dr_plan_sound::{Hop, Line};
 use std::alloc::{AllocError, Global};
 
 /// The printed text of the value.

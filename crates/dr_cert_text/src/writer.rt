@@ -4,8 +4,8 @@ ghost use Rattle.dr_cert_text.specs.CertificateText.{row, front, certificate_tex
 
 use crate::printed::Printed;
 use dr_base::Text;
-use dr_network::Format;
-use dr_sound::Certificate;
+use dr_plan_model::Format;
+use dr_plan_sound::Certificate;
 use std::alloc::{AllocError, Global};
 
 const LF: u8 = 10;

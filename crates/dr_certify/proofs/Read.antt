@@ -2,7 +2,7 @@
 use Rattle.std.proofs.Common.{◌≡◌, ◌≢◌, ap, Ok, Err}
 use Rattle.std.specs.Prelude.{Result}
 use Rattle.dr_base.specs.Texts.{Text}
-use Rattle.dr_network.specs.Networks.{Network}
+use Rattle.dr_plan_model.specs.Networks.{Network}
 use Rattle.dr_plan.specs.Reading.{Reads}
 use Rattle.dr_plan.specs.declared.fault.PlanFault.{PlanFault}
 use Rattle.dr_plan.specs.declared.fault.PlanFault.TheVariants.{Memory as NoMemory}

@@ -4,15 +4,15 @@ use Rattle.dr_base.specs.Texts.{Text}
 use Rattle.dr_route.specs.Routes.{local}
 use Rattle.dr_route.specs.Laws.{key_of}
 use Rattle.dr_route.specs.declared.cell.OwnedCell.{OwnedCell}
-use Rattle.dr_network.specs.Networks.{Network}
-use Rattle.dr_network.specs.Plans.{IsWellFormed}
-use Rattle.dr_network.specs.Laws.{IsCellOf}
-use Rattle.dr_network.proofs.WalksAlike.{walk_alike, cell_has_a_key}
-use Rattle.dr_sound.specs.declared.certificate.Stop.{Stop}
-use Rattle.dr_sound.specs.declared.certificate.Line.{Line}
-use Rattle.dr_sound.specs.Ranked.{line_at, IsRanked, AreRanked}
-use Rattle.dr_entry.specs.Visiting.{FindsAt, IsEntryCell}
-use Rattle.dr_entry.proofs.Entries.{cell_that_lies}
+use Rattle.dr_plan_model.specs.Networks.{Network}
+use Rattle.dr_plan_model.specs.Plans.{IsWellFormed}
+use Rattle.dr_plan_model.specs.Laws.{IsCellOf}
+use Rattle.dr_plan_model.proofs.WalksAlike.{walk_alike, cell_has_a_key}
+use Rattle.dr_plan_sound.specs.declared.certificate.Stop.{Stop}
+use Rattle.dr_plan_sound.specs.declared.certificate.Line.{Line}
+use Rattle.dr_plan_sound.specs.Ranked.{line_at, IsRanked, AreRanked}
+use Rattle.dr_plan_entries.specs.Visiting.{FindsAt, IsEntryCell}
+use Rattle.dr_plan_entries.proofs.Entries.{cell_that_lies}
 use Rattle.dr_check.specs.declared.checker.Checker.{Checker}
 use Rattle.dr_check.specs.declared.checker.Stopped.{Stopped}
 use Rattle.dr_check.specs.Checking.{IsReady, HasVisited, ShowsStopped}

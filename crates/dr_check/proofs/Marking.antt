@@ -9,13 +9,13 @@ use Rattle.std.proofs.lemmas.Bool.{cases_Bool, false≢true}
 use Rattle.std.proofs.lemmas.Option.{same_Some}
 use Rattle.std.proofs.lemmas.Map.Keys.{Less-from_sorted}
 use Rattle.std.proofs.lemmas.Map.Views.{All-keys_found}
-use Rattle.dr_sound.specs.declared.certificate.Stop.{Stop}
-use Rattle.dr_sound.specs.contracts.certificate.StopOrd.TheImpl.Laws as laws
-use Rattle.dr_sound.specs.Stops.{stop_cmp}
-use Rattle.dr_sound.proofs.SameStops.{stop_exact}
+use Rattle.dr_plan_sound.specs.declared.certificate.Stop.{Stop}
+use Rattle.dr_plan_sound.specs.contracts.certificate.StopOrd.TheImpl.Laws as laws
+use Rattle.dr_plan_sound.specs.Stops.{stop_cmp}
+use Rattle.dr_plan_sound.proofs.SameStops.{stop_exact}
 use Rattle.dr_check.specs.declared.search.Mark.{Mark}
 use Rattle.dr_check.specs.declared.search.Mark.TheVariants.{Open, Finished}
-use Rattle.dr_sound.specs.Stops.{stop_cmp}
+use Rattle.dr_plan_sound.specs.Stops.{stop_cmp}
 use Rattle.dr_check.specs.Searching.{Marks, mark_at}
 
 not_at : (a b : Stop) → (b ≡ a → ⊥) → is_at (stop_cmp a) b ≡ false

@@ -9,13 +9,13 @@ use Rattle.dr_route.specs.Routes.{local}
 use Rattle.dr_route.specs.Laws.{key_of}
 use Rattle.dr_route.specs.declared.key.Key.{Key}
 use Rattle.dr_route.specs.declared.cell.OwnedCell.{OwnedCell}
-use Rattle.dr_network.specs.Networks.{Network}
-use Rattle.dr_network.specs.Plans.{IsWellFormed, LiesIn}
-use Rattle.dr_network.specs.Laws.{IsCellOf}
-use Rattle.dr_network.specs.Walks.{Sends, Keeps, Accepts, IsWalk, IsEntry, places, last_place}
-use Rattle.dr_network.proofs.WalksAlike.{send_alike, keep_alike, walk_alike, cell_has_a_key}
-use Rattle.dr_sound.specs.Ranked.{line_at}
-use Rattle.dr_sound.proofs.Hopping.{last_hop, reached_not_local}
+use Rattle.dr_plan_model.specs.Networks.{Network}
+use Rattle.dr_plan_model.specs.Plans.{IsWellFormed, LiesIn}
+use Rattle.dr_plan_model.specs.Laws.{IsCellOf}
+use Rattle.dr_plan_model.specs.Walks.{Sends, Keeps, Accepts, IsWalk, IsEntry, places, last_place}
+use Rattle.dr_plan_model.proofs.WalksAlike.{send_alike, keep_alike, walk_alike, cell_has_a_key}
+use Rattle.dr_plan_sound.specs.Ranked.{line_at}
+use Rattle.dr_plan_sound.proofs.Hopping.{last_hop, reached_not_local}
 use Rattle.dr_check.specs.declared.search.Search.{Search}
 use Rattle.dr_check.specs.declared.search.Frame.{Frame}
 use Rattle.dr_check.specs.declared.search.End.{End}

@@ -9,12 +9,12 @@ use Rattle.dr_base.specs.Texts.{Text, text_cmp}
 use Rattle.dr_route.specs.Routes.{local}
 use Rattle.dr_route.specs.declared.key.Key.{Key}
 use Rattle.dr_route.specs.declared.cell.OwnedCell.{OwnedCell}
-use Rattle.dr_network.specs.Networks.{Network}
-use Rattle.dr_network.specs.Plans.{LiesIn}
-use Rattle.dr_sound.specs.HopPairs.{hop_cmp}
-use Rattle.dr_entry.specs.Visiting.{IsEntryCell}
-use Rattle.dr_entry.proofs.Orders.{one_is_before}
-use Rattle.dr_network.specs.Walks.{IsWalk}
+use Rattle.dr_plan_model.specs.Networks.{Network}
+use Rattle.dr_plan_model.specs.Plans.{LiesIn}
+use Rattle.dr_plan_sound.specs.HopPairs.{hop_cmp}
+use Rattle.dr_plan_entries.specs.Visiting.{IsEntryCell}
+use Rattle.dr_plan_entries.proofs.Orders.{one_is_before}
+use Rattle.dr_plan_model.specs.Walks.{IsWalk}
 use Rattle.dr_check.specs.declared.fault.Fault.{Fault}
 use Rattle.dr_check.specs.declared.fault.Fault.TheVariants.{NoContext, Cycle, DeadEnd, TooManyContexts}
 use Rattle.dr_check.specs.Shown.{ShownBy, IsShown, IsFirstOverfull}

@@ -1,12 +1,12 @@
 -- The first hop with more pairs than it can carry is so in the plan as in its lines.
 use Rattle.std.proofs.Common.{List, get_or}
 use Rattle.dr_base.specs.Texts.{Text}
-use Rattle.dr_network.specs.Networks.{Network}
-use Rattle.dr_network.specs.Plans.{IsWellFormed}
-use Rattle.dr_sound.specs.declared.certificate.Line.{Line}
-use Rattle.dr_sound.specs.HopPairs.{AreTooMany, IsFirstTooMany}
-use Rattle.dr_sound.specs.Ranked.{AreRanked}
-use Rattle.dr_sound.proofs.Hopping.{over_goes, goes_over}
+use Rattle.dr_plan_model.specs.Networks.{Network}
+use Rattle.dr_plan_model.specs.Plans.{IsWellFormed}
+use Rattle.dr_plan_sound.specs.declared.certificate.Line.{Line}
+use Rattle.dr_plan_sound.specs.HopPairs.{AreTooMany, IsFirstTooMany}
+use Rattle.dr_plan_sound.specs.Ranked.{AreRanked}
+use Rattle.dr_plan_sound.proofs.Hopping.{over_goes, goes_over}
 use Rattle.dr_check.specs.Shown.{IsOverfull, IsFirstOverfull}
 
 module _ (plan : Network) (formed : IsWellFormed plan) (lines : List Line) (ranked : AreRanked plan lines) where

@@ -8,8 +8,8 @@ use Rattle.std.proofs.lemmas.Option.{same_Some, slice_get_cases, slice_get_past}
 use Rattle.std.proofs.lemmas.List.Elements.{All-contains, All-nil, All-cons, Contains-get_or, Contains-push}
 use Rattle.dr_base.specs.Texts.{Text}
 use Rattle.dr_base.specs.Syntaxes.{syntax_uid}
-use Rattle.dr_hops.proofs.Rows.{same_sorted}
-use Rattle.dr_sound.specs.Certificates.{pair_cmp}
+use Rattle.dr_cert_hops.proofs.Rows.{same_sorted}
+use Rattle.dr_plan_sound.specs.Certificates.{pair_cmp}
 use Rattle.dr_base.specs.declared.syntax.Syntax.{Syntax}
 use Rattle.dr_base.specs.declared.syntax.Syntax.TheVariants.{Implicit}
 use Rattle.dr_route.specs.declared.cell.OwnedCell.{OwnedCell}
@@ -20,21 +20,21 @@ use Rattle.dr_route.specs.declared.cell.OwnedStation.TheVariants as station
 use Rattle.dr_route.specs.declared.key.Key.{Key}
 use Rattle.dr_route.specs.declared.cell.OwnedField.{OwnedField}
 use Rattle.dr_route.specs.declared.cell.OwnedField.TheVariants.{Literal, Rest}
-use Rattle.dr_network.specs.declared.literals.Attribute.TheVariants.{Modality, Station, StationPrefix}
-use Rattle.dr_network.specs.Networks.{Network}
-use Rattle.dr_network.specs.Formed.{IsName, IsLiteral, IsClass, IsKnownName, IsWellFormedNode, IsWellFormedFlow}
-use Rattle.dr_network.specs.Plans.{IsWellFormed, literals_of}
-use Rattle.dr_network.specs.Walks.{IsReached}
-use Rattle.dr_network.specs.Laws.{IsCellOf}
-use Rattle.dr_network.proofs.WalksAlike.{named_has_form}
-use Rattle.dr_sound.specs.declared.certificate.Line.{Line}
-use Rattle.dr_sound.specs.declared.certificate.Hop.{Hop}
-use Rattle.dr_sound.specs.Certificates.{HasHop}
-use Rattle.dr_sound.specs.HopPairs.{OverHop, HasNumber, AreNumbered}
-use Rattle.dr_sound.specs.Ranked.{AreRanked}
-use Rattle.dr_sound.proofs.Hopping.{last_hop, reached_is_known, hop_pairs, over_hop}
+use Rattle.dr_plan_model.specs.declared.literals.Attribute.TheVariants.{Modality, Station, StationPrefix}
+use Rattle.dr_plan_model.specs.Networks.{Network}
+use Rattle.dr_plan_model.specs.Formed.{IsName, IsLiteral, IsClass, IsKnownName, IsWellFormedNode, IsWellFormedFlow}
+use Rattle.dr_plan_model.specs.Plans.{IsWellFormed, literals_of}
+use Rattle.dr_plan_model.specs.Walks.{IsReached}
+use Rattle.dr_plan_model.specs.Laws.{IsCellOf}
+use Rattle.dr_plan_model.proofs.WalksAlike.{named_has_form}
+use Rattle.dr_plan_sound.specs.declared.certificate.Line.{Line}
+use Rattle.dr_plan_sound.specs.declared.certificate.Hop.{Hop}
+use Rattle.dr_plan_sound.specs.Certificates.{HasHop}
+use Rattle.dr_plan_sound.specs.HopPairs.{OverHop, HasNumber, AreNumbered}
+use Rattle.dr_plan_sound.specs.Ranked.{AreRanked}
+use Rattle.dr_plan_sound.proofs.Hopping.{last_hop, reached_is_known, hop_pairs, over_hop}
 use Rattle.dr_cert_text.specs.Printable.{IsPlain, IsPlainField, IsPlainStation, IsPrintableLine, IsPrintableHop}
-use Rattle.dr_entry.specs.Visiting.{IsEntryCell}
+use Rattle.dr_plan_entries.specs.Visiting.{IsEntryCell}
 use Rattle.dr_check.specs.declared.checker.Checker.{Checker}
 use Rattle.dr_check.specs.Checking.{IsReady, HasVisited}
 use Rattle.dr_check.specs.Answering.{AreFew}

@@ -6,11 +6,11 @@ use Rattle.dr_base.specs.Texts.{Text}
 use Rattle.dr_route.specs.Routes.{local}
 use Rattle.dr_route.specs.Laws.{key_of}
 use Rattle.dr_route.specs.declared.cell.OwnedCell.{OwnedCell}
-use Rattle.dr_network.specs.Networks.{Network}
-use Rattle.dr_network.specs.Plans.{IsWellFormed}
-use Rattle.dr_network.specs.Laws.{IsCellOf}
-use Rattle.dr_sound.specs.declared.certificate.Stop.{Stop}
-use Rattle.dr_sound.proofs.Hopping.{reached_not_local}
+use Rattle.dr_plan_model.specs.Networks.{Network}
+use Rattle.dr_plan_model.specs.Plans.{IsWellFormed}
+use Rattle.dr_plan_model.specs.Laws.{IsCellOf}
+use Rattle.dr_plan_sound.specs.declared.certificate.Stop.{Stop}
+use Rattle.dr_plan_sound.proofs.Hopping.{reached_not_local}
 use Rattle.dr_check.specs.declared.search.Search.{Search}
 use Rattle.dr_check.specs.declared.search.Frame.{Frame}
 use Rattle.dr_check.specs.declared.search.Found.{Found}

@@ -15,22 +15,22 @@ use Rattle.dr_route.specs.Routes.{local}
 use Rattle.dr_route.specs.Laws.{key_of}
 use Rattle.dr_route.specs.declared.key.Key.{Key}
 use Rattle.dr_route.specs.declared.cell.OwnedCell.{OwnedCell}
-use Rattle.dr_network.specs.Networks.{Network}
-use Rattle.dr_network.specs.Plans.{IsWellFormed, LiesIn}
-use Rattle.dr_network.specs.Laws.{IsCellOf}
-use Rattle.dr_network.specs.Walks.{Accepts, IsReached}
-use Rattle.dr_network.proofs.Gathered.{nothing_in_nil}
-use Rattle.dr_network.proofs.WalksAlike.{cell_has_a_key}
-use Rattle.dr_sound.specs.declared.certificate.Stop.{Stop}
-use Rattle.dr_sound.specs.declared.certificate.Line.{Line}
-use Rattle.dr_sound.specs.Ranked.{line_at, IsRanked}
+use Rattle.dr_plan_model.specs.Networks.{Network}
+use Rattle.dr_plan_model.specs.Plans.{IsWellFormed, LiesIn}
+use Rattle.dr_plan_model.specs.Laws.{IsCellOf}
+use Rattle.dr_plan_model.specs.Walks.{Accepts, IsReached}
+use Rattle.dr_plan_model.proofs.Gathered.{nothing_in_nil}
+use Rattle.dr_plan_model.proofs.WalksAlike.{cell_has_a_key}
+use Rattle.dr_plan_sound.specs.declared.certificate.Stop.{Stop}
+use Rattle.dr_plan_sound.specs.declared.certificate.Line.{Line}
+use Rattle.dr_plan_sound.specs.Ranked.{line_at, IsRanked}
 use Rattle.dr_check.specs.Shown.{IsTooLarge}
 use Rattle.dr_check.specs.declared.search.Search.{Search}
 use Rattle.dr_check.specs.declared.search.Mark.{Mark}
 use Rattle.dr_check.specs.declared.search.Mark.TheVariants.{Open, Finished}
-use Rattle.dr_sound.specs.Stops.{stop_cmp}
+use Rattle.dr_plan_sound.specs.Stops.{stop_cmp}
 use Rattle.dr_check.specs.Searching.{mark_at, stop_at, pairs_from, IsTrail, IsSearching, IsTaken, IsDone, IsNew, IsInside, IsRankedBy}
-use Rattle.dr_sound.proofs.SameStops.{same_stop_or_not}
+use Rattle.dr_plan_sound.proofs.SameStops.{same_stop_or_not}
 use Rattle.dr_check.proofs.Marking.{Marks-set, open_is_not_finished, none_is_not_some, finished_same, unmarked, keys_apart, keys_marked}
 use Rattle.dr_check.proofs.Trails.{trail_pairs, trail_reaches}
 

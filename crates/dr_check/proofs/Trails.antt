@@ -1,19 +1,19 @@
 -- Trails: walks from an entry, one node after another, and what they show at their end.
 use Rattle.std.proofs.Common.{◌≡◌, ◌≢◌, refl, sym, ◌∙◌, ap, subst, List, [], ◌∷◌, ◌++◌, length, Contains}
 use Rattle.std.specs.Prelude.{◌==◌, false}
-use Rattle.dr_network.proofs.Gathered.{Contains-here}
+use Rattle.dr_plan_model.proofs.Gathered.{Contains-here}
 use Rattle.dr_base.specs.Texts.{Text}
 use Rattle.dr_base.specs.declared.syntax.Syntax.{Syntax}
 use Rattle.dr_route.specs.Routes.{local}
 use Rattle.dr_route.specs.Laws.{key_of}
 use Rattle.dr_route.specs.declared.key.Key.{Key}
 use Rattle.dr_route.specs.declared.cell.OwnedCell.{OwnedCell}
-use Rattle.dr_network.specs.Networks.{Network}
-use Rattle.dr_network.specs.Plans.{IsWellFormed, LiesIn}
-use Rattle.dr_network.specs.Laws.{IsCellOf}
-use Rattle.dr_network.specs.Walks.{Sends, Keeps, Accepts, places, last_place, IsEntry, IsReached}
-use Rattle.dr_network.proofs.WalksAlike.{send_alike, keep_alike, enter_alike, walk_alike, cell_has_a_key}
-use Rattle.dr_sound.proofs.Hopping.{walk_push, last_push}
+use Rattle.dr_plan_model.specs.Networks.{Network}
+use Rattle.dr_plan_model.specs.Plans.{IsWellFormed, LiesIn}
+use Rattle.dr_plan_model.specs.Laws.{IsCellOf}
+use Rattle.dr_plan_model.specs.Walks.{Sends, Keeps, Accepts, places, last_place, IsEntry, IsReached}
+use Rattle.dr_plan_model.proofs.WalksAlike.{send_alike, keep_alike, enter_alike, walk_alike, cell_has_a_key}
+use Rattle.dr_plan_sound.proofs.Hopping.{walk_push, last_push}
 use Rattle.dr_check.specs.Shown.{ShownBy, ComesBack, IsShown}
 use Rattle.dr_check.specs.declared.fault.Fault.TheVariants as fault
 use Rattle.dr_check.specs.Searching.{IsTrail, pairs_from}

@@ -5,10 +5,10 @@ use Rattle.std.proofs.lemmas.List.{get_or_append_left}
 use Rattle.dr_base.specs.Texts.{Text}
 use Rattle.dr_route.specs.Routes.{local}
 use Rattle.dr_route.specs.declared.key.Key.{Key}
-use Rattle.dr_network.specs.Networks.{Network}
-use Rattle.dr_network.specs.Walks.{IsReached, last_place, places}
-use Rattle.dr_sound.specs.Soundness.{IsSound}
-use Rattle.dr_sound.proofs.Hopping.{last_hop}
+use Rattle.dr_plan_model.specs.Networks.{Network}
+use Rattle.dr_plan_model.specs.Walks.{IsReached, last_place, places}
+use Rattle.dr_plan_sound.specs.Soundness.{IsSound}
+use Rattle.dr_plan_sound.proofs.Hopping.{last_hop}
 use Rattle.dr_check.specs.declared.fault.Fault.{Fault}
 use Rattle.dr_check.specs.declared.fault.Fault.TheVariants.{NoContext, Cycle, DeadEnd, TooManyContexts}
 use Rattle.dr_check.specs.Shown.{IsShown}

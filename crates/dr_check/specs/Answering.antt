@@ -1,9 +1,9 @@
 -- What the checker answers.
 use Rattle.std.specs.Prelude.{◌≤◌, List, Contains, Result, Ok, Err, length}
-use Rattle.dr_network.specs.Networks.{Network}
-use Rattle.dr_sound.specs.declared.certificate.Line.{Line}
-use Rattle.dr_sound.specs.Soundness.{IsSound}
-use Rattle.dr_sound.specs.Certificates.{IsCertificateOf}
+use Rattle.dr_plan_model.specs.Networks.{Network}
+use Rattle.dr_plan_sound.specs.declared.certificate.Line.{Line}
+use Rattle.dr_plan_sound.specs.Soundness.{IsSound}
+use Rattle.dr_plan_sound.specs.Certificates.{IsCertificateOf}
 use Rattle.dr_cert_text.specs.Printable.{IsPrintable, IsDigest}
 use Rattle.dr_check.specs.declared.verdict.Verdict.{Verdict}
 use Rattle.dr_check.specs.declared.verdict.Verdict.TheVariants.{Yes, No}

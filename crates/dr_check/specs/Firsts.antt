@@ -5,11 +5,11 @@ use Rattle.dr_base.specs.Texts.{Text, text_cmp}
 use Rattle.dr_route.specs.Routes.{local}
 use Rattle.dr_route.specs.declared.key.Key.{Key}
 use Rattle.dr_route.specs.declared.cell.OwnedCell.{OwnedCell}
-use Rattle.dr_network.specs.Networks.{Network}
-use Rattle.dr_network.specs.Plans.{LiesIn}
-use Rattle.dr_network.specs.Walks.{Sends, Keeps, Accepts, IsWalk, last_place}
-use Rattle.dr_entry.specs.InOrder.{ComesBefore}
-use Rattle.dr_entry.specs.Visiting.{IsEntryCell}
+use Rattle.dr_plan_model.specs.Networks.{Network}
+use Rattle.dr_plan_model.specs.Plans.{LiesIn}
+use Rattle.dr_plan_model.specs.Walks.{Sends, Keeps, Accepts, IsWalk, last_place}
+use Rattle.dr_plan_entries.specs.InOrder.{ComesBefore}
+use Rattle.dr_plan_entries.specs.Visiting.{IsEntryCell}
 use Rattle.dr_check.specs.Shown.{ComesBack, IsShown}
 use Rattle.dr_check.specs.declared.fault.Fault.{Fault}
 use Rattle.dr_check.specs.declared.fault.Fault.TheVariants.{NoContext, Cycle, DeadEnd, TooManyContexts}

@@ -6,11 +6,11 @@ use Rattle.dr_base.specs.declared.syntax.Syntax.{Syntax}
 use Rattle.dr_route.specs.Routes.{local}
 use Rattle.dr_route.specs.declared.key.Key.{Key}
 use Rattle.dr_route.specs.declared.cell.OwnedCell.{OwnedCell}
-use Rattle.dr_network.specs.Networks.{Network}
-use Rattle.dr_network.specs.Plans.{LiesIn}
-use Rattle.dr_network.specs.Walks.{Sends, Keeps, Accepts, IsWalk, places, last_place, IsEntry, IsReached, GoesOver}
-use Rattle.dr_sound.specs.declared.certificate.Stop.{Stop}
-use Rattle.dr_sound.specs.HopPairs.{hop_cmp}
+use Rattle.dr_plan_model.specs.Networks.{Network}
+use Rattle.dr_plan_model.specs.Plans.{LiesIn}
+use Rattle.dr_plan_model.specs.Walks.{Sends, Keeps, Accepts, IsWalk, places, last_place, IsEntry, IsReached, GoesOver}
+use Rattle.dr_plan_sound.specs.declared.certificate.Stop.{Stop}
+use Rattle.dr_plan_sound.specs.HopPairs.{hop_cmp}
 use Rattle.dr_check.specs.declared.fault.Fault.{Fault}
 use Rattle.dr_check.specs.declared.fault.Fault.TheVariants.{NoContext, Cycle, DeadEnd, TooManyContexts}
 

@@ -4,11 +4,11 @@ use Rattle.std.specs.BTreeMap.{btree_map_len, Updates}
 use Rattle.dr_base.specs.Texts.{Text, IsInByteOrder}
 use Rattle.dr_route.specs.Laws.{key_of}
 use Rattle.dr_route.specs.declared.cell.OwnedCell.{OwnedCell}
-use Rattle.dr_network.specs.Networks.{Network}
-use Rattle.dr_network.specs.Walks.{Keeps}
-use Rattle.dr_sound.specs.Ranked.{SendsOn}
-use Rattle.dr_sound.specs.Stops.{stop_cmp}
-use Rattle.dr_sound.specs.declared.certificate.Stop.{Stop}
+use Rattle.dr_plan_model.specs.Networks.{Network}
+use Rattle.dr_plan_model.specs.Walks.{Keeps}
+use Rattle.dr_plan_sound.specs.Ranked.{SendsOn}
+use Rattle.dr_plan_sound.specs.Stops.{stop_cmp}
+use Rattle.dr_plan_sound.specs.declared.certificate.Stop.{Stop}
 use Rattle.dr_check.specs.declared.search.Search.{Search}
 use Rattle.dr_check.specs.declared.search.Frame.{Frame}
 use Rattle.dr_check.specs.declared.search.Mark.TheVariants.{Open, Finished}

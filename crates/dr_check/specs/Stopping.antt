@@ -1,7 +1,7 @@
 -- Why a checker stops at an entry.
 use Rattle.dr_base.specs.Texts.{Text}
 use Rattle.dr_route.specs.declared.cell.OwnedCell.{OwnedCell}
-use Rattle.dr_network.specs.Networks.{Network}
+use Rattle.dr_plan_model.specs.Networks.{Network}
 use Rattle.dr_check.specs.declared.checker.Stopped.{Stopped}
 use Rattle.dr_check.specs.declared.checker.Stopped.TheVariants.{Fault, TooLarge}
 use Rattle.dr_check.specs.Firsts.{IsNamedFirst, IsOnWalk}

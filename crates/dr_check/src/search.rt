@@ -3,17 +3,17 @@ ghost use Rattle.std.specs.Prelude.{◌≡◌, ◌≢◌, ◌↔◌, ◌⊎◌, 
 ghost use Rattle.dr_base.specs.Texts.{Text as Words};
 ghost use Rattle.dr_route.specs.Routes.{local};
 ghost use Rattle.dr_route.specs.Laws.{key_of};
-ghost use Rattle.dr_network.specs.Plans.{IsWellFormed, LiesIn};
-ghost use Rattle.dr_network.specs.Walks.{Accepts};
-ghost use Rattle.dr_network.specs.Laws.{IsCellOf};
+ghost use Rattle.dr_plan_model.specs.Plans.{IsWellFormed, LiesIn};
+ghost use Rattle.dr_plan_model.specs.Walks.{Accepts};
+ghost use Rattle.dr_plan_model.specs.Laws.{IsCellOf};
 ghost use Rattle.dr_check.specs.Searching.{IsSearching, IsTrail, Finds, AfterReach, stop_at, mark_at};
 ghost use Rattle.dr_check.specs.Stacks.{IsTop, Enters, Leaves, GoesOn, Steps};
 ghost use Rattle.dr_check.specs.declared.search.Frame.{Frame as FrameValue};
 
 use dr_base::{Seq, Text};
-use dr_network::{Plan, sending};
+use dr_plan_model::{Plan, sending};
+use dr_plan_sound::{Line, Stop};
 use dr_route::{Key, OwnedCell, Targets, is_local};
-use dr_sound::{Line, Stop};
 use std::alloc::{AllocError, Global};
 use std::collections::BTreeMap;
 use std::mem;

@@ -2,20 +2,20 @@
 ghost use Rattle.std.specs.Prelude.{◌≡◌, ◌≢◌, IfOk, AllPairs};
 ghost use Rattle.dr_base.specs.Texts.{Text as Words};
 ghost use Rattle.dr_route.specs.declared.cell.OwnedCell.{OwnedCell as CellValue};
-ghost use Rattle.dr_network.specs.Networks.{Network};
-ghost use Rattle.dr_network.specs.Plans.{IsWellFormed};
-ghost use Rattle.dr_sound.specs.Ranked.{AreRanked};
+ghost use Rattle.dr_plan_model.specs.Networks.{Network};
+ghost use Rattle.dr_plan_model.specs.Plans.{IsWellFormed};
+ghost use Rattle.dr_plan_sound.specs.Ranked.{AreRanked};
 ghost use Rattle.dr_check.specs.Answering.{Answers, Judges, AreFew};
 ghost use Rattle.dr_check.specs.Firsts.{IsFirstEntry};
 ghost use Rattle.dr_check.specs.Stopping.{IsStoppedAt};
 
 use crate::checker::{Checker, Stopped};
 use crate::fault::Fault;
+use dr_cert_hops::{Numbered, number_hops};
 use dr_cert_text::{order_hops, order_lines};
-use dr_entry::visit_entries;
-use dr_hops::{Numbered, number_hops};
-use dr_network::Plan;
-use dr_sound::{Certificate, Line};
+use dr_plan_entries::visit_entries;
+use dr_plan_model::Plan;
+use dr_plan_sound::{Certificate, Line};
 use std::alloc::{AllocError, Global};
 use thiserror::Error;
 

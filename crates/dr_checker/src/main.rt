@@ -1,9 +1,9 @@
-//! The program for plans alone: `run_words` of `dr_questions`, on the system's words, files, input and outputs. It has `check`, `verify`, `route`,
+//! The program for plans alone: `run_words` of `dr_word_route`, on the system's words, files, input and outputs. It has `check`, `verify`, `route`,
 //! `graph` and `lint`, and stands on no node and no link, so it is built long before the whole one.
 #![tactic(auto)]
 
-use dr_commands::{Disk, Status, given_words, tell_unread_words};
-use dr_questions::run_words;
+use dr_word_check::{Disk, Status, given_words, tell_unread_words};
+use dr_word_route::run_words;
 use std::io;
 use std::process::ExitCode;
 

@@ -2,12 +2,12 @@
 ghost use Rattle.std.specs.Prelude.{◌≡◌, IfOk, false};
 ghost use Rattle.sqlite.specs.Held.{state};
 ghost use Rattle.sqlite.specs.State.{HasCleanDisk};
-ghost use Rattle.dr_booking.specs.Calling.{IsKept};
+ghost use Rattle.dr_store_calls.specs.Calling.{IsKept};
 
-use dr_listing::{Ledgers, OpenFault};
 use dr_site::Site;
 use dr_store::SqlLedger;
-use dr_store_files::{OpeningFault, on};
+use dr_store_open::{OpeningFault, on};
+use dr_word_list::{Ledgers, OpenFault};
 use sqlite::{Alter, Connection, Error, ErrorCode, File, FileStore};
 use std::alloc::Global;
 

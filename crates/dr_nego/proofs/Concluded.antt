@@ -6,9 +6,9 @@ use Rattle.std.proofs.lemmas.Bool.{cases_Bool, false≢true, eqb-true, eqb-false
 use Rattle.std.proofs.lemmas.List.Elements.{Contains-append_left, Contains-append_right, Contains-append_cases}
 use Rattle.std.proofs.lemmas.List.Kept.{AllPairs-cons}
 use Rattle.dr_base.specs.Texts.{Text}
-use Rattle.dr_network.specs.Formed.{IsMaxPdu}
-use Rattle.dr_network.proofs.Gathered.{nothing_in_nil, Contains-cons_cases, Contains-there, Contains-here, only_one}
-use Rattle.dr_network.proofs.WalksAlike.{all_from_each}
+use Rattle.dr_plan_model.specs.Formed.{IsMaxPdu}
+use Rattle.dr_plan_model.proofs.Gathered.{nothing_in_nil, Contains-cons_cases, Contains-there, Contains-here, only_one}
+use Rattle.dr_plan_model.proofs.WalksAlike.{all_from_each}
 use Rattle.dr_site.specs.Parts.{Part}
 use Rattle.dr_site.proofs.FormedSites.{sites_are_formed}
 use Rattle.dr_pdu.specs.declared.pdu.ContextProposal.{ContextProposal}

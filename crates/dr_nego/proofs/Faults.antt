@@ -3,7 +3,7 @@ use Rattle.std.proofs.Common.{◌≡◌, ℕ, Bool, true, false, List, [], ◌�
 use Rattle.std.specs.Prelude.{not, ◌==◌, ◌&&◌, nat_le}
 use Rattle.std.specs.List.{list_any}
 use Rattle.std.proofs.lemmas.Bool.{cases_Bool, false≢true, eqb-true, eq-eqb, leb-true, le-leb}
-use Rattle.dr_network.proofs.Gathered.{Contains-there, Contains-here}
+use Rattle.dr_plan_model.proofs.Gathered.{Contains-there, Contains-here}
 use Rattle.dr_pdu.specs.declared.pdu.ContextProposal.{ContextProposal}
 use Rattle.dr_pdu.specs.declared.pdu.ContextAnswer.{ContextAnswer}
 use Rattle.dr_nego.specs.Agreeing.{AssociateRq, AssociateAc, HasStrangeId, HasStrangeSyntax, IsTooSmall}

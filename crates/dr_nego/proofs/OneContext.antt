@@ -14,7 +14,7 @@ use Rattle.dr_route.specs.Routes.{IsCaller, Takes, AcceptsBy}
 use Rattle.dr_route.specs.declared.accept.Callers.{Callers}
 use Rattle.dr_route.specs.declared.accept.Callers.TheVariants as callers
 use Rattle.dr_route.specs.declared.accept.AcceptRow.{AcceptRow}
-use Rattle.dr_network.proofs.Gathered.{nothing_in_nil, Contains-cons_cases, Contains-there, Contains-here}
+use Rattle.dr_plan_model.proofs.Gathered.{nothing_in_nil, Contains-cons_cases, Contains-there, Contains-here}
 use Rattle.dr_site.proofs.AsPlanned.{keeps_by}
 use Rattle.dr_pdu.specs.declared.pdu.ContextProposal.{ContextProposal}
 use Rattle.dr_pdu.specs.declared.pdu.ContextAnswer.{ContextAnswer}

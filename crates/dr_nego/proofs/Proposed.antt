@@ -3,14 +3,14 @@ use Rattle.std.proofs.Common.{◌≡◌, ℕ, ◌<◌, List, [], ◌∷◌, leng
 use Rattle.std.specs.Prelude.{◌==◌, AllPairs, replicate}
 use Rattle.std.proofs.lemmas.Bool.{false≢true, eqb-true, lt-ltb}
 use Rattle.dr_base.specs.Texts.{Text}
-use Rattle.dr_network.proofs.Gathered.{nothing_in_nil, Contains-here}
-use Rattle.dr_sound.specs.declared.certificate.Hop.{Hop}
+use Rattle.dr_plan_model.proofs.Gathered.{nothing_in_nil, Contains-here}
+use Rattle.dr_plan_sound.specs.declared.certificate.Hop.{Hop}
 use Rattle.std.specs.declared.cmp.Ordering.{Ordering}
 use Rattle.std.specs.declared.cmp.Ordering.TheVariants.{Less}
 use Rattle.std.specs.Ordering.{nat_cmp}
 use Rattle.std.specs.Cmp.{IsTotalOrder}
 use Rattle.std.proofs.lemmas.Cmp.{on_total, nat_cmp_total}
-use Rattle.dr_hops.proofs.Rows.{map_has, map_of, map_pairs, same_sorted}
+use Rattle.dr_cert_hops.proofs.Rows.{map_has, map_of, map_pairs, same_sorted}
 use Rattle.dr_site.specs.Parts.{Part, hops_to}
 use Rattle.dr_site.specs.Sites.{IsSite}
 use Rattle.dr_site.proofs.ContextsAsPlanned.{hop_to}

@@ -11,11 +11,11 @@ use Rattle.dr_base.specs.Syntaxes.{syntax_uid}
 use Rattle.dr_base.specs.declared.syntax.Syntax.{Syntax}
 use Rattle.dr_base.specs.declared.syntax.Syntax.TheVariants.{Implicit, Explicit}
 use Rattle.dr_base.proofs.PadLemmas.{unpadded_ends}
-use Rattle.dr_network.specs.Formed.{IsName, IsClass, IsMaxPdu, IsTrimmed, IsDigit}
-use Rattle.dr_network.proofs.Gathered.{nothing_in_nil, Contains-cons_cases, Contains-there, Contains-here}
-use Rattle.dr_network.proofs.WalksAlike.{all_from_each}
+use Rattle.dr_plan_model.specs.Formed.{IsName, IsClass, IsMaxPdu, IsTrimmed, IsDigit}
+use Rattle.dr_plan_model.proofs.Gathered.{nothing_in_nil, Contains-cons_cases, Contains-there, Contains-here}
+use Rattle.dr_plan_model.proofs.WalksAlike.{all_from_each}
 use Rattle.dr_route.specs.declared.accept.AcceptRow.{AcceptRow}
-use Rattle.dr_sound.specs.declared.certificate.Hop.{Hop}
+use Rattle.dr_plan_sound.specs.declared.certificate.Hop.{Hop}
 use Rattle.dr_site.specs.Forms.{IsFormedHop}
 use Rattle.dr_site.proofs.FormedSites.{sites_are_formed}
 use Rattle.dr_pdu.specs.declared.pdu.Front.{Front}

@@ -10,8 +10,8 @@ use crate::choosing::VERIFICATION;
 use crate::fault::NegoFault;
 use dr_base::{Seq, Syntax, Text};
 use dr_pdu::{AssociateRq, ContextProposal, Front};
+use dr_plan_sound::Hop;
 use dr_site::Site;
-use dr_sound::Hop;
 use std::alloc::{AllocError, Global};
 
 /// The greatest length, in bytes, that the caller of an echo takes.

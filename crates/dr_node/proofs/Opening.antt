@@ -5,9 +5,9 @@ use Rattle.std.specs.List.{list_any}
 use Rattle.std.specs.Str.{bytes_eq}
 use Rattle.std.specs.FinMap as map
 use Rattle.std.proofs.lemmas.Slice.Eq.{bytes_eq-Decides}
-use Rattle.dr_network.proofs.Gathered.{nothing_in_nil, Contains-cons_cases, Contains-here, Contains-there}
+use Rattle.dr_plan_model.proofs.Gathered.{nothing_in_nil, Contains-cons_cases, Contains-here, Contains-there}
 use Rattle.dr_base.specs.Texts.{Text}
-use Rattle.dr_sound.specs.declared.certificate.Hop.{Hop}
+use Rattle.dr_plan_sound.specs.declared.certificate.Hop.{Hop}
 use Rattle.dr_site.specs.Parts.{Part, ends_at}
 use Rattle.dr_nego.specs.Proposing.{IsHopTo}
 use Rattle.dr_session.specs.declared.ends.LinkAction.{LinkAction}

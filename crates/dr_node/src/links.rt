@@ -5,15 +5,15 @@ ghost use Rattle.std.specs.List.{list_any};
 ghost use Rattle.dr_nego.specs.Proposing.{IsHopTo};
 ghost use Rattle.dr_session.specs.Ends.{OpensTo, accepting, begins};
 ghost use Rattle.dr_site.specs.Parts.{ends_at};
-ghost use Rattle.dr_sound.specs.declared.certificate.Hop.{Hop as HopValue};
+ghost use Rattle.dr_plan_sound.specs.declared.certificate.Hop.{Hop as HopValue};
 ghost use Rattle.dr_node.specs.Sides.{Accepts, Does, MeetsAt, MeetsEvent, Opens, Pushes, is_other as other_of, is_taken as taken_of, others, state_of_side};
 
 use crate::event::LinkEvent;
 use crate::fault::NodeFault;
 use dr_base::{Seq, Text};
+use dr_plan_sound::Hop;
 use dr_session::{DeskPort, End, LinkAction, Moment};
 use dr_site::Site;
-use dr_sound::Hop;
 use dr_ulstate::State;
 use std::alloc::{AllocError, Global};
 use std::collections::BTreeMap;

@@ -8,11 +8,11 @@ use Rattle.dr_route.specs.declared.rule.Rule.{Rule}
 use Rattle.dr_route.specs.declared.rule.Pattern.TheVariants.{Any, Literal}
 use Rattle.dr_route.specs.declared.rule.StationPattern.{StationPattern}
 use Rattle.dr_route.specs.declared.rule.StationPattern.TheVariants as station
-use Rattle.dr_network.specs.Naming.{station_of, prefix_of}
-use Rattle.dr_network.specs.declared.plan.Stations.TheVariants as stations
+use Rattle.dr_plan_model.specs.Naming.{station_of, prefix_of}
+use Rattle.dr_plan_model.specs.declared.plan.Stations.TheVariants as stations
 use Rattle.std.specs.Prelude.{flat_map}
-use Rattle.dr_network.specs.declared.plan.Values.TheVariants as values
-use Rattle.dr_network.specs.Formed.{IsClass, IsLiteral, IsPrefix, IsAddress, HasForm, HasStationForm, AreLiterals, AreStations}
+use Rattle.dr_plan_model.specs.declared.plan.Values.TheVariants as values
+use Rattle.dr_plan_model.specs.Formed.{IsClass, IsLiteral, IsPrefix, IsAddress, HasForm, HasStationForm, AreLiterals, AreStations}
 use Rattle.dr_plan_text.specs.declared.words.AcceptText.{AcceptText}
 use Rattle.dr_plan_text.specs.declared.words.NodeText.{NodeText}
 use Rattle.dr_plan_text.specs.declared.words.FlowText.{FlowText}

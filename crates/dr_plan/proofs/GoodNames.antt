@@ -9,7 +9,7 @@ use Rattle.dr_route.specs.Names.{HasName}
 use Rattle.dr_plan_text.proofs.Repeats.{Seen, seen_one_more, seen_again}
 use Rattle.std.proofs.lemmas.Bool.{false≢true}
 use Rattle.dr_base.specs.Texts.{Text}
-use Rattle.dr_network.specs.Formed.{IsName, IsTrimmed}
+use Rattle.dr_plan_model.specs.Formed.{IsName, IsTrimmed}
 use Rattle.dr_plan_text.specs.declared.words.NodeText.{NodeText}
 
 pub some_text : (text : Text) → false ≡ (length text == 0) → text ≡ [] → ⊥

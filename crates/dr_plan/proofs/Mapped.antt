@@ -3,7 +3,7 @@ use Rattle.std.proofs.Common.{◌≡◌, ◌≢◌, ℕ, ◌+◌, ◌<◌, inl, 
 use Rattle.std.specs.Prelude.{All, AllPairs, sum_by}
 use Rattle.std.proofs.lemmas.List.{get_or-map, length-map}
 use Rattle.std.proofs.lemmas.List.Sums.{sum_by-cons}
-use Rattle.dr_network.proofs.Gathered.{Contains-cons_cases, Contains-here, Contains-there, nothing_in_nil}
+use Rattle.dr_plan_model.proofs.Gathered.{Contains-cons_cases, Contains-here, Contains-there, nothing_in_nil}
 
 pub All-unmap : {X Y : Type 0} (f : X → Y) (P : Y → Type 0) (xs : List X) → All P (map f xs) → All (λ x. P (f x)) xs
 All-unmap f P xs all = λ k d h. subst P (get_or-map f xs k d (f d) h) (all k (f d) (rw (length-map xs f) h))

@@ -11,12 +11,12 @@ use Rattle.dr_route.specs.declared.rule.Rule.{Rule}
 use Rattle.dr_route.specs.declared.accept.Callers.{Callers}
 use Rattle.dr_route.specs.declared.accept.Callers.TheVariants as callers
 use Rattle.dr_route.specs.declared.accept.AcceptRow.{AcceptRow}
-use Rattle.dr_network.specs.declared.plan.Node.{Node}
-use Rattle.dr_network.specs.declared.plan.Flow.{Flow}
-use Rattle.dr_network.specs.declared.plan.Format.{Format}
-use Rattle.dr_network.specs.declared.plan.Format.TheVariants.{One, Two}
-use Rattle.dr_network.specs.Formed.{IsName, IsMaxPdu, IsKnownName, HasForm, IsRuleOf, AreKnownCallers, IsAcceptRow, IsWellFormedNode, IsWellFormedFlow, IsInFormat, AreWellFormed}
-use Rattle.dr_network.specs.Naming.{prefix_of, listed_prefixes}
+use Rattle.dr_plan_model.specs.declared.plan.Node.{Node}
+use Rattle.dr_plan_model.specs.declared.plan.Flow.{Flow}
+use Rattle.dr_plan_model.specs.declared.plan.Format.{Format}
+use Rattle.dr_plan_model.specs.declared.plan.Format.TheVariants.{One, Two}
+use Rattle.dr_plan_model.specs.Formed.{IsName, IsMaxPdu, IsKnownName, HasForm, IsRuleOf, AreKnownCallers, IsAcceptRow, IsWellFormedNode, IsWellFormedFlow, IsInFormat, AreWellFormed}
+use Rattle.dr_plan_model.specs.Naming.{prefix_of, listed_prefixes}
 use Rattle.dr_plan_text.specs.declared.words.NodeText.{NodeText}
 use Rattle.dr_plan_text.specs.declared.words.FlowText.{FlowText}
 use Rattle.dr_plan_text.specs.declared.words.PlanText.{PlanText}

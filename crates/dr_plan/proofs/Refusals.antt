@@ -2,7 +2,7 @@
 use Rattle.std.proofs.Common.{◌≡◌, ◌≢◌, ◌∙◌, refl, subst, List, [], ◌∷◌, map, Err, codes}
 use Rattle.toml.specs.Data.{Members, get_member}
 use Rattle.dr_base.specs.Texts.{Text}
-use Rattle.dr_network.specs.declared.plan.Flow.{Flow}
+use Rattle.dr_plan_model.specs.declared.plan.Flow.{Flow}
 use Rattle.dr_plan_text.specs.declared.words.FlowText.{FlowText}
 use Rattle.dr_plan_text.specs.declared.words.PlanText.{PlanText}
 use Rattle.dr_plan_text.specs.Fields.{SaysTable, IsListOf, GivenOr}

@@ -1,8 +1,8 @@
 -- Laws of reading plans.
 use Rattle.std.specs.Prelude.{◌≡◌, ◌≢◌, Result, Ok, Err}
 use Rattle.dr_base.specs.Texts.{Text}
-use Rattle.dr_network.specs.Networks.{Network}
-use Rattle.dr_network.specs.Formed.{AreWellFormed}
+use Rattle.dr_plan_model.specs.Networks.{Network}
+use Rattle.dr_plan_model.specs.Formed.{AreWellFormed}
 use Rattle.dr_plan.specs.declared.fault.PlanFault.{PlanFault}
 use Rattle.dr_plan.specs.declared.fault.PlanFault.TheVariants.{Memory}
 use Rattle.dr_plan.specs.Reading.{Reads}

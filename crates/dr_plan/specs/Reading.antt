@@ -6,8 +6,8 @@ use Rattle.dr_base.specs.Syntaxes.{syntax_uid}
 use Rattle.dr_base.specs.declared.syntax.Syntax.{Syntax}
 use Rattle.dr_route.specs.declared.accept.Callers.{Callers}
 use Rattle.dr_route.specs.declared.accept.Callers.TheVariants as callers
-use Rattle.dr_network.specs.Formed.{IsName, IsMaxPdu, HasForm}
-use Rattle.dr_network.specs.Networks.{Network}
+use Rattle.dr_plan_model.specs.Formed.{IsName, IsMaxPdu, HasForm}
+use Rattle.dr_plan_model.specs.Networks.{Network}
 use Rattle.dr_plan_text.specs.declared.words.NodeText.{NodeText}
 use Rattle.dr_plan_text.specs.declared.words.PlanText.{PlanText}
 use Rattle.dr_plan_text.specs.Tables.{IsToml, Writes}

@@ -2,9 +2,9 @@
 use Rattle.std.specs.Prelude.{pos, map}
 use Rattle.dr_base.specs.Syntaxes.{syntax_uid}
 use Rattle.dr_route.specs.declared.accept.AcceptRow.{AcceptRow}
-use Rattle.dr_network.specs.declared.plan.Node.{Node}
-use Rattle.dr_network.specs.declared.plan.Flow.{Flow}
-use Rattle.dr_network.specs.Networks.{Network}
+use Rattle.dr_plan_model.specs.declared.plan.Node.{Node}
+use Rattle.dr_plan_model.specs.declared.plan.Flow.{Flow}
+use Rattle.dr_plan_model.specs.Networks.{Network}
 use Rattle.dr_plan_text.specs.declared.words.AcceptText.{AcceptText}
 use Rattle.dr_plan_text.specs.declared.words.NodeText.{NodeText}
 use Rattle.dr_plan_text.specs.declared.words.FlowText.{FlowText}

@@ -10,7 +10,7 @@ mod routes;
 mod syntaxes;
 mod typed;
 
-pub use dr_network::literals::literals;
-pub use dr_network::{Flow, Format, Node, Plan, Stations, Values};
+pub use dr_plan_model::literals::literals;
+pub use dr_plan_model::{Flow, Format, Node, Plan, Stations, Values};
 pub use fault::PlanFault;
 pub use read::read_plan;

@@ -2,7 +2,7 @@
 ghost use Rattle.std.specs.Prelude.{◌≡◌, ◌≢◌, ◌≤◌, ◌<◌, ◌↔◌, IsTrue, All, AllPairs, Contains, MatchOption, IfOk, OnErr, [], map, codes, ◌⊎◌};
 ghost use Rattle.dr_base.specs.Texts.{Text as Words};
 ghost use Rattle.dr_route.specs.Names.{HasName};
-ghost use Rattle.dr_network.specs.Formed.{IsName, HasForm};
+ghost use Rattle.dr_plan_model.specs.Formed.{IsName, HasForm};
 ghost use Rattle.dr_plan.specs.Reading.{EachCaller, EachNameOfNode, EachName};
 
 use dr_base::Text;

@@ -8,7 +8,7 @@ use crate::names::{Among, WellFormed, each_name, names_of};
 use crate::routes::sends_elsewhere;
 use crate::syntaxes::knows_syntaxes;
 use crate::typed::{flows_of, nodes_of};
-use dr_network::Plan;
+use dr_plan_model::Plan;
 use dr_plan_text::{PlanText, read_text};
 use sha2::{Digest, Sha256};
 use std::alloc::Global;

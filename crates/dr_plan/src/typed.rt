@@ -5,7 +5,7 @@ ghost use Rattle.dr_plan.specs.Reading.{IsSyntax, IsTypable};
 ghost use Rattle.dr_plan.specs.Spelling.{written_row, written_node, written_flow};
 
 use dr_base::{Seq, Syntax, Text};
-use dr_network::{Flow, Node};
+use dr_plan_model::{Flow, Node};
 use dr_plan_text::{AcceptText, FlowText, NodeText};
 use dr_route::AcceptRow;
 use std::alloc::{AllocError, Global};

@@ -8,13 +8,13 @@ use Rattle.toml.specs.Data.{Data, string, integer, array, as_str}
 use Rattle.dr_base.specs.Texts.{Text}
 use Rattle.dr_route.specs.declared.rule.StationPattern.{StationPattern}
 use Rattle.dr_route.specs.declared.rule.StationPattern.TheVariants as station
-use Rattle.dr_network.specs.declared.plan.Stations.{Stations}
-use Rattle.dr_network.specs.declared.plan.Stations.TheVariants as stations
+use Rattle.dr_plan_model.specs.declared.plan.Stations.{Stations}
+use Rattle.dr_plan_model.specs.declared.plan.Stations.TheVariants as stations
 use Rattle.dr_route.specs.declared.cell.StationValues.{StationValues}
-use Rattle.dr_network.specs.declared.plan.Format.{Format}
-use Rattle.dr_network.specs.declared.plan.Format.TheVariants.{One, Two}
-use Rattle.dr_network.specs.Formed.{IsLiteral, IsPrefix}
-use Rattle.dr_network.specs.Naming.{station_of, prefix_of}
+use Rattle.dr_plan_model.specs.declared.plan.Format.{Format}
+use Rattle.dr_plan_model.specs.declared.plan.Format.TheVariants.{One, Two}
+use Rattle.dr_plan_model.specs.Formed.{IsLiteral, IsPrefix}
+use Rattle.dr_plan_model.specs.Naming.{station_of, prefix_of}
 use Rattle.dr_plan_text.specs.Fields.{SaysFormat, SaysNamed, SaysStation, SaysStations, IsListOf, star}
 use Rattle.dr_plan_text.proofs.OneAnswer.{SaysOne, SaysText-one, IsListOf-one}
 

@@ -5,9 +5,9 @@ use Rattle.toml.specs.Data.{Data, string, array, Items, no_items, item}
 use Rattle.dr_base.specs.Texts.{Text}
 use Rattle.dr_route.specs.declared.accept.Callers.{Callers}
 use Rattle.dr_route.specs.declared.accept.Callers.TheVariants as callers
-use Rattle.dr_network.specs.declared.plan.Values.{Values}
-use Rattle.dr_network.specs.declared.plan.Values.TheVariants as values
-use Rattle.dr_network.specs.Formed.{IsLiteral}
+use Rattle.dr_plan_model.specs.declared.plan.Values.{Values}
+use Rattle.dr_plan_model.specs.declared.plan.Values.TheVariants as values
+use Rattle.dr_plan_model.specs.Formed.{IsLiteral}
 use Rattle.dr_plan_text.specs.Fields.{SaysText, SaysFormed, SaysValues, SaysCallers, Lists, IsListOf, IsSomeOf, Given, star}
 
 -- what a value says, it alone says

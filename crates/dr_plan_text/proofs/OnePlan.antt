@@ -10,12 +10,12 @@ use Rattle.dr_route.specs.declared.rule.StationPattern.{StationPattern}
 use Rattle.dr_route.specs.declared.rule.StationPattern.TheVariants as station
 use Rattle.dr_route.specs.declared.accept.Callers.{Callers}
 use Rattle.dr_route.specs.declared.accept.Callers.TheVariants as callers
-use Rattle.dr_network.specs.declared.plan.Values.{Values}
-use Rattle.dr_network.specs.declared.plan.Values.TheVariants as values
-use Rattle.dr_network.specs.declared.plan.Stations.{Stations}
-use Rattle.dr_network.specs.declared.plan.Format.{Format}
-use Rattle.dr_network.specs.declared.plan.Format.TheVariants.{One}
-use Rattle.dr_network.specs.Formed.{IsClass, IsLiteral, IsAddress}
+use Rattle.dr_plan_model.specs.declared.plan.Values.{Values}
+use Rattle.dr_plan_model.specs.declared.plan.Values.TheVariants as values
+use Rattle.dr_plan_model.specs.declared.plan.Stations.{Stations}
+use Rattle.dr_plan_model.specs.declared.plan.Format.{Format}
+use Rattle.dr_plan_model.specs.declared.plan.Format.TheVariants.{One}
+use Rattle.dr_plan_model.specs.Formed.{IsClass, IsLiteral, IsAddress}
 use Rattle.dr_plan_text.specs.declared.words.AcceptText.{AcceptText}
 use Rattle.dr_plan_text.specs.declared.words.NodeText.{NodeText}
 use Rattle.dr_plan_text.specs.declared.words.FlowText.{FlowText}

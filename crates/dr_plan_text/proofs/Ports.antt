@@ -9,7 +9,7 @@ use Rattle.std.proofs.lemmas.Int.Digits.{digits_value_more}
 use Rattle.std.proofs.lemmas.List.{take_more}
 use Rattle.std.proofs.lemmas.List.Elements.{All-push, All-contains, Contains-append_left, Contains-append_right, Contains-push}
 use Rattle.dr_base.specs.Texts.{Text}
-use Rattle.dr_network.specs.Formed.{IsDigit, IsAddress}
+use Rattle.dr_plan_model.specs.Formed.{IsDigit, IsAddress}
 use Rattle.dr_plan_text.specs.Splits.{SplitsAtLast, IsPort}
 
 pub digit_is : (b : ℕ) → true ≡ is_ascii_digit b → IsDigit b

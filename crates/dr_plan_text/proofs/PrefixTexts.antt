@@ -6,9 +6,9 @@ use Rattle.toml.specs.Data.{Data, string, integer, array, table, no_items, item,
 use Rattle.toml.specs.Parse.{parse_document}
 use Rattle.toml.proofs.OnLiterals.{toml_on_literals}
 use Rattle.dr_route.specs.declared.rule.StationPattern.TheVariants as station
-use Rattle.dr_network.specs.declared.plan.Format.{Format}
-use Rattle.dr_network.specs.declared.plan.Format.TheVariants.{One, Two}
-use Rattle.dr_network.specs.Formed.{IsLiteral, IsPrefix, IsClass, IsDigit}
+use Rattle.dr_plan_model.specs.declared.plan.Format.{Format}
+use Rattle.dr_plan_model.specs.declared.plan.Format.TheVariants.{One, Two}
+use Rattle.dr_plan_model.specs.Formed.{IsLiteral, IsPrefix, IsClass, IsDigit}
 use Rattle.dr_plan_text.specs.declared.words.NodeText.{NodeText}
 use Rattle.dr_plan_text.specs.declared.words.FlowText.{FlowText}
 use Rattle.dr_plan_text.specs.Fields.{SaysStations, SaysTable, IsListOf}

@@ -3,7 +3,7 @@ use Rattle.std.proofs.Common.{◌≡◌, ℕ, ◌+◌, ◌<◌, sym, ◌∙◌, 
 use Rattle.std.proofs.lemmas.List.{take_more, take_all, get_or_push}
 use Rattle.std.proofs.lemmas.Bool.Decides.{nat_tests}
 use Rattle.dr_base.specs.Texts.{Text}
-use Rattle.dr_network.specs.Formed.{IsTrimmed}
+use Rattle.dr_plan_model.specs.Formed.{IsTrimmed}
 
 last_is : (text : Text) (n : ℕ) → n + 1 ≡ length text → text ≡ take n text ++ get_or text n 0 ∷ []
 last_is text n e = let more = take_more text n 0 (omega arith) in let all : take (n + 1) text ≡ text = take_all _ _ (omega arith) in sym all ∙ more

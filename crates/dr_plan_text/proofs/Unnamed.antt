@@ -3,7 +3,7 @@ use Rattle.std.proofs.Common.{◌≡◌, ◌<◌, ◌≤◌, refl, sym, ◌∙�
 use Rattle.std.proofs.lemmas.List.{append_cancel_right, get_or_push}
 use Rattle.std.proofs.lemmas.List.Elements.{All-contains}
 use Rattle.dr_base.specs.Texts.{Text}
-use Rattle.dr_network.specs.Formed.{IsLiteral, IsPrefix}
+use Rattle.dr_plan_model.specs.Formed.{IsLiteral, IsPrefix}
 use Rattle.dr_plan_text.specs.Laws.{StarNamesNone, StarsInsideNameNone, SpacesNameNone}
 use Rattle.dr_plan_text.proofs.OfStations.{no_text_named}
 

@@ -8,14 +8,14 @@ use Rattle.dr_route.specs.declared.rule.StationPattern.{StationPattern}
 use Rattle.dr_route.specs.declared.rule.StationPattern.TheVariants as station
 use Rattle.dr_route.specs.declared.accept.Callers.{Callers}
 use Rattle.dr_route.specs.declared.accept.Callers.TheVariants as callers
-use Rattle.dr_network.specs.declared.plan.Values.{Values}
-use Rattle.dr_network.specs.declared.plan.Values.TheVariants as values
-use Rattle.dr_network.specs.declared.plan.Stations.{Stations}
-use Rattle.dr_network.specs.declared.plan.Stations.TheVariants as stations
-use Rattle.dr_network.specs.declared.plan.Format.{Format}
-use Rattle.dr_network.specs.declared.plan.Format.TheVariants.{One, Two}
-use Rattle.dr_network.specs.Naming.{station_of, prefix_of, listed_prefixes}
-use Rattle.dr_network.specs.Formed.{IsLiteral, IsPrefix}
+use Rattle.dr_plan_model.specs.declared.plan.Values.{Values}
+use Rattle.dr_plan_model.specs.declared.plan.Values.TheVariants as values
+use Rattle.dr_plan_model.specs.declared.plan.Stations.{Stations}
+use Rattle.dr_plan_model.specs.declared.plan.Stations.TheVariants as stations
+use Rattle.dr_plan_model.specs.declared.plan.Format.{Format}
+use Rattle.dr_plan_model.specs.declared.plan.Format.TheVariants.{One, Two}
+use Rattle.dr_plan_model.specs.Naming.{station_of, prefix_of, listed_prefixes}
+use Rattle.dr_plan_model.specs.Formed.{IsLiteral, IsPrefix}
 
 -- a string says its text
 abbrev pub SaysText : Data → Text → Type 0

@@ -1,7 +1,7 @@
 -- A text before and behind its last mark, and the digits of a port.
 use Rattle.std.specs.Prelude.{◌≡◌, ◌≢◌, ℕ, ◌≤◌, [], ◌∷◌, ◌++◌, length, All, Contains}
 use Rattle.dr_base.specs.Texts.{Text}
-use Rattle.dr_network.specs.Formed.{IsDigit}
+use Rattle.dr_plan_model.specs.Formed.{IsDigit}
 
 -- the mark stands between the two parts, and not in the second one
 abbrev pub SplitsAtLast : ℕ → Text → Text → Text → Type 0

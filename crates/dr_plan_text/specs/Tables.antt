@@ -7,9 +7,9 @@ use Rattle.dr_base.specs.Texts.{Text}
 use Rattle.dr_route.specs.declared.rule.Rule.{Rule}
 use Rattle.dr_route.specs.declared.rule.Pattern.TheVariants.{Any}
 use Rattle.dr_route.specs.declared.rule.StationPattern.TheVariants as station
-use Rattle.dr_network.specs.declared.plan.Format.{Format}
-use Rattle.dr_network.specs.declared.plan.Format.TheVariants.{One}
-use Rattle.dr_network.specs.Formed.{IsClass, IsLiteral, IsAddress}
+use Rattle.dr_plan_model.specs.declared.plan.Format.{Format}
+use Rattle.dr_plan_model.specs.declared.plan.Format.TheVariants.{One}
+use Rattle.dr_plan_model.specs.Formed.{IsClass, IsLiteral, IsAddress}
 use Rattle.dr_plan_text.specs.Fields.{SaysText, SaysFormed, SaysNumber, SaysFlag, SaysFormat, SaysPattern, SaysStation, SaysValues, SaysStations, SaysCallers, SaysTable, SaysTextsOnce, IsListOf, IsSomeOf, Given, GivenOr, HasOnly, PatternFits, StationsFit}
 use Rattle.dr_plan_text.specs.declared.words.AcceptText.{AcceptText}
 use Rattle.dr_plan_text.specs.declared.words.NodeText.{NodeText}

@@ -3,7 +3,7 @@ ghost use Rattle.std.specs.Prelude.{◌≡◌, ◌≢◌, ◌↔◌, IfOk, OnOk,
 ghost use Rattle.toml.specs.Data.{integer};
 ghost use Rattle.toml.specs.View.{view};
 ghost use Rattle.dr_base.specs.Texts.{Text as Words};
-ghost use Rattle.dr_network.specs.Formed.{IsClass, IsLiteral, IsAddress};
+ghost use Rattle.dr_plan_model.specs.Formed.{IsClass, IsLiteral, IsAddress};
 ghost use Rattle.dr_plan_text.specs.Fields.{SaysText, SaysFormed, SaysNumber, SaysFlag, SaysFormat, SaysPattern, SaysValues, SaysCallers, SaysTextsOnce, star};
 ghost use Rattle.dr_plan_text.specs.declared.fault.ReadFault.TheVariants.{Field};
 
@@ -11,7 +11,7 @@ use crate::fault::ReadFault;
 use crate::form::{Form, ListOf, SomeOf};
 use crate::forms::{is_address, is_class, is_literal};
 use dr_base::{Seq, Text};
-use dr_network::{Format, Values};
+use dr_plan_model::{Format, Values};
 use dr_route::{Callers, Pattern};
 use std::alloc::{AllocError, Global};
 use std::collections::BTreeSet;

@@ -1,11 +1,11 @@
 //! Whether a format has what a plan names for station.
 ghost use Rattle.std.specs.Prelude.{◌≡◌, ◌↔◌, [], IsTrue, All};
-ghost use Rattle.dr_network.specs.Naming.{prefix_of, listed_prefixes};
+ghost use Rattle.dr_plan_model.specs.Naming.{prefix_of, listed_prefixes};
 ghost use Rattle.dr_plan_text.specs.Fields.{PatternFits, StationsFit};
 ghost use Rattle.dr_plan_text.specs.Tables.{FitsFormat};
 
 use crate::words::{FlowText, NodeText, PlanText};
-use dr_network::{Format, Stations};
+use dr_plan_model::{Format, Stations};
 use dr_route::{Rule, StationPattern};
 
 /// Whether the pattern is no prefix.

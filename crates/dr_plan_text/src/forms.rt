@@ -2,7 +2,7 @@
 ghost use Rattle.std.specs.Prelude.{◌≡◌, ◌↔◌, IsTrue, IfSome, IfNone, MatchOption, Contains, All, ◌≢◌, ◌≤◌, ◌<◌};
 ghost use Rattle.std.specs.Str.Parse.{digits_value};
 ghost use Rattle.dr_plan_text.specs.Splits.{SplitsAtLast, IsPort};
-ghost use Rattle.dr_network.specs.Formed.{IsTrimmed, IsClass, IsLiteral, IsPrefix, IsAddress};
+ghost use Rattle.dr_plan_model.specs.Formed.{IsTrimmed, IsClass, IsLiteral, IsPrefix, IsAddress};
 
 /// Whether no space stands at its start, nor at its end.
 pub fn is_trimmed(text: &[u8]) -> bool

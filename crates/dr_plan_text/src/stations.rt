@@ -3,8 +3,8 @@ ghost use Rattle.std.specs.Prelude.{◌≡◌, ◌++◌, ◌∷◌, [], IfOk, If
 ghost use Rattle.toml.specs.Data.{string};
 ghost use Rattle.dr_base.specs.Texts.{Text as Words};
 ghost use Rattle.dr_route.specs.declared.rule.StationPattern.{StationPattern as Named};
-ghost use Rattle.dr_network.specs.Formed.{IsPrefix};
-ghost use Rattle.dr_network.specs.Naming.{station_of, prefix_of};
+ghost use Rattle.dr_plan_model.specs.Formed.{IsPrefix};
+ghost use Rattle.dr_plan_model.specs.Naming.{station_of, prefix_of};
 ghost use Rattle.dr_plan_text.specs.Fields.{SaysNamed, SaysStation, SaysStations};
 ghost use Rattle.dr_plan_text.specs.declared.fault.ReadFault.TheVariants.{Field};
 
@@ -13,7 +13,7 @@ use crate::fields::is_star;
 use crate::form::{Form, ListOf};
 use crate::forms::{is_literal, is_prefix};
 use dr_base::{Seq, Text};
-use dr_network::Stations;
+use dr_plan_model::Stations;
 use dr_route::{StationPattern, StationValues};
 use std::alloc::{AllocError, Global};
 use toml::Value;

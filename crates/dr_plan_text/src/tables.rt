@@ -16,7 +16,7 @@ use crate::form::{ListOf, SomeOf, TableForm, TableOf, defaulted, has_only, requi
 use crate::stations::{AnyStation, AnyStations};
 use crate::words::{AcceptText, FlowText, NodeText, PlanText};
 use dr_base::Seq;
-use dr_network::Format;
+use dr_plan_model::Format;
 use dr_route::{Pattern, Rule, StationPattern};
 use std::alloc::Global;
 use toml::Table;

@@ -1,6 +1,6 @@
 //! The parts of a plan, as they are written.
 use dr_base::{Seq, Text};
-use dr_network::{Format, Stations, Values};
+use dr_plan_model::{Format, Stations, Values};
 use dr_route::{Callers, Rule};
 
 /// A row of a node's accept list: `from` and the transfer syntaxes are any texts, `class` has its form. There

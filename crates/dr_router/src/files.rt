@@ -2,9 +2,9 @@
 ghost use Rattle.std.specs.Prelude.{◌≡◌, IfOk, false};
 
 use dr_ledger_files::ledger_on;
-use dr_listing::{Ledgers, OpenFault};
 use dr_site::Site;
 use dr_store::SqlLedger;
+use dr_word_list::{Ledgers, OpenFault};
 use sqlite::{Alter, Connection, Error, ErrorCode, File, FileStore};
 use std::alloc::Global;
 

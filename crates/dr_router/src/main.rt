@@ -1,4 +1,4 @@
-//! The program `dr_router`: `run_words` of `dr_program` on the system's words, files, ledgers, input, outputs, network, clock and log.
+//! The program `dr_router`: `run_words` of `dr_word_all` on the system's words, files, ledgers, input, outputs, network, clock and log.
 #![tactic(auto)]
 
 mod events;
@@ -8,8 +8,8 @@ mod over;
 use crate::events::EventLog;
 use crate::files::SystemFiles;
 use crate::over::run_stored;
-use dr_commands::{Disk, Status, given_words, tell_unread_words};
-use dr_sockets::{Sockets, SystemClock};
+use dr_run_net::{Sockets, SystemClock};
+use dr_word_check::{Disk, Status, given_words, tell_unread_words};
 use std::process::ExitCode;
 use std::sync::Wait;
 use std::thread::Threads;

@@ -1,10 +1,10 @@
 //! The program over anything that it can run on.
 use crate::files::{Databases, StoredLedgers};
-use dr_commands::{Files, Status};
-use dr_listing::Ledgers;
-use dr_program::run_words;
+use dr_run_net::Network;
 use dr_session::Clock;
-use dr_sockets::Network;
+use dr_word_all::run_words;
+use dr_word_check::{Files, Status};
+use dr_word_list::Ledgers;
 use log::Log;
 use std::alloc::Global;
 use std::io::{Read, Write};

@@ -13,8 +13,8 @@ use Rattle.dr_dimse.specs.Commands.{IsCommand}
 use Rattle.dr_dimse.specs.Taking.{Stage, Idle, InCommand, InData, Takes, TakesData, EndsCommand, Begins, kept, text_so_far}
 use Rattle.dr_dimse.specs.Written.{Fits, FieldFits}
 use Rattle.dr_dimse.proofs.FitLemmas.{read_fits}
-use Rattle.dr_hearing.specs.declared.heard.Heard.{Heard}
-use Rattle.dr_hearing.specs.Stores.{message_of}
+use Rattle.dr_dimse_scan.specs.declared.heard.Heard.{Heard}
+use Rattle.dr_dimse_scan.specs.Stores.{message_of}
 use Rattle.std.specs.Prelude.{Bool, true, false, not, ◌%◌, ◌==◌, ◌&&◌, nat_le, if◌then◌else◌}
 use Rattle.std.specs.Str.{bytes_eq}
 use Rattle.dr_pdu.specs.Written as pdus

@@ -11,8 +11,8 @@ use Rattle.dr_dimse.specs.declared.fault.DimseFault.{DimseFault}
 use Rattle.dr_dimse.specs.declared.message.Awaited.{Awaited}
 use Rattle.dr_dimse.specs.declared.message.Message.{Message}
 use Rattle.dr_dimse.specs.Taking.{Assembling, Takes}
-use Rattle.dr_hearing.specs.declared.heard.Heard.{Heard}
-use Rattle.dr_hearing.specs.Stores.{message_of}
+use Rattle.dr_dimse_scan.specs.declared.heard.Heard.{Heard}
+use Rattle.dr_dimse_scan.specs.Stores.{message_of}
 use Rattle.dr_nego.specs.declared.agreed.Agreed.{Agreed}
 use Rattle.dr_nego.specs.declared.agreed.Pair.{Pair}
 use Rattle.dr_nego.specs.declared.fault.NegoFault.{NegoFault}

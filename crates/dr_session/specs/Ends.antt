@@ -14,7 +14,7 @@ use Rattle.dr_pdu.specs.declared.pdu.AssociateRj.{AssociateRj}
 use Rattle.dr_dimse.specs.declared.message.Awaited.TheVariants.{Requests, Nothing}
 use Rattle.dr_dimse.specs.Taking.{Idle}
 use Rattle.dr_site.specs.Parts.{Part}
-use Rattle.dr_sound.specs.declared.certificate.Hop.{Hop}
+use Rattle.dr_plan_sound.specs.declared.certificate.Hop.{Hop}
 use Rattle.dr_base.specs.Syntaxes.{syntax_uid}
 use Rattle.dr_base.specs.declared.syntax.Syntax.TheVariants.{Implicit}
 use Rattle.dr_dimse.specs.declared.command.Command.TheVariants.{EchoRq}

@@ -1,7 +1,7 @@
 //! One end of a link, whole.
 ghost use Rattle.std.specs.Prelude.{◌≡◌, ◌∷◌, [], ◌≤◌, ◌^◌, IfOk, Some, None};
 ghost use Rattle.dr_session.specs.Fits.{InputFits};
-ghost use Rattle.dr_network.specs.Formed.{IsName};
+ghost use Rattle.dr_plan_model.specs.Formed.{IsName};
 ghost use Rattle.dr_nego.specs.Proposing.{echo_proposal};
 ghost use Rattle.dr_pdu.specs.Written.{Fits};
 ghost use Rattle.dr_pdu.specs.declared.pdu.Pdu.TheVariants as pdus;

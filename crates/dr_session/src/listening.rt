@@ -2,11 +2,11 @@
 ghost use Rattle.std.specs.Prelude.{◌≡◌, IfOk, IfSome};
 ghost use Rattle.dr_dimse.specs.Taking.{Idle, Takes};
 ghost use Rattle.dr_dimse.specs.Written.{Fits};
-ghost use Rattle.dr_hearing.specs.Stores.{HasScan, message_of};
+ghost use Rattle.dr_dimse_scan.specs.Stores.{HasScan, message_of};
 
 use dr_base::Syntax;
 use dr_dimse::{Awaited, DimseFault};
-use dr_hearing::{Heard, Hearing};
+use dr_dimse_scan::{Heard, Hearing};
 use dr_pdu::Pdv;
 use std::alloc::Global;
 use std::marker::Model;

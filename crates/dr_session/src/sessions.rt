@@ -2,7 +2,7 @@
 ghost use Rattle.std.specs.Prelude.{◌≡◌, ◌≤◌, ◌<◌, ◌^◌, ◌+◌, false};
 ghost use Rattle.dr_session.specs.Ends.{accepting, begins};
 ghost use Rattle.dr_session.specs.Links.{Counts, PerformsOne, PerformsOr, CarriesOut, GoesOn, EndsAs, DeliversAs, EchoesAs, StartsAs, Finishes, IsFaultBy, IsLinkFailure, IsMoment, IsWished, asked_by, place, reads_by, refusal_of};
-ghost use Rattle.dr_network.specs.Formed.{IsName};
+ghost use Rattle.dr_plan_model.specs.Formed.{IsName};
 ghost use Rattle.dr_session.specs.declared.wishes.Kind.TheVariants as kinds;
 ghost use Rattle.dr_session.specs.declared.wishes.Wish.TheVariants as wishes;
 

@@ -1,7 +1,7 @@
 //! What an input comes to, for an end that knows what it agreed on and what is under way.
 ghost use Rattle.std.specs.Prelude.{◌≡◌, IfOk, IsTrue, ◌↔◌};
 ghost use Rattle.dr_dimse.specs.Written.{Fits};
-ghost use Rattle.dr_hearing.specs.Stores.{HasScan};
+ghost use Rattle.dr_dimse_scan.specs.Stores.{HasScan};
 ghost use Rattle.dr_session.specs.Fits.{InputFits, ToldFits};
 ghost use Rattle.dr_session.specs.Plays.{TellsTo, TellsValueTo};
 ghost use Rattle.dr_session.specs.Telling.{NamesSyntax, SaysOf, TakesData, state_at};
@@ -12,7 +12,7 @@ use crate::ends::{Core, Input, Told};
 use crate::find::find;
 use dr_base::Syntax;
 use dr_dimse::{Command, DimseFault};
-use dr_hearing::Heard;
+use dr_dimse_scan::Heard;
 use dr_nego::{Pair, conclude};
 use dr_pdu::{AssociateAc, Pdv};
 use dr_ulstate::State;

@@ -10,17 +10,17 @@ use Rattle.dr_route.specs.Cells.{InCell}
 use Rattle.dr_route.specs.declared.key.Key.{Key}
 use Rattle.dr_route.specs.declared.cell.Literals.{Literals}
 use Rattle.dr_route.specs.declared.cell.OwnedCell.{OwnedCell}
-use Rattle.dr_network.specs.declared.plan.Node.{Node}
-use Rattle.dr_network.specs.declared.plan.Flow.{Flow}
-use Rattle.dr_network.specs.Networks.{Network}
-use Rattle.dr_network.specs.Plans.{LiesIn, literals_of}
-use Rattle.dr_network.specs.Walks.{FlowsAmong, Sends, Keeps, IsReached}
-use Rattle.dr_network.proofs.Gathered.{nothing_in_nil, Contains-cons_cases, Contains-there, Contains-here}
-use Rattle.dr_network.proofs.WalksAlike.{reach_alike}
-use Rattle.dr_sound.specs.declared.certificate.Line.{Line}
-use Rattle.dr_sound.specs.declared.certificate.Certificate.{Certificate}
-use Rattle.dr_sound.proofs.RankedLines.{some_cell}
-use Rattle.dr_sound.proofs.Ranks.{sound_has_rank}
+use Rattle.dr_plan_model.specs.declared.plan.Node.{Node}
+use Rattle.dr_plan_model.specs.declared.plan.Flow.{Flow}
+use Rattle.dr_plan_model.specs.Networks.{Network}
+use Rattle.dr_plan_model.specs.Plans.{LiesIn, literals_of}
+use Rattle.dr_plan_model.specs.Walks.{FlowsAmong, Sends, Keeps, IsReached}
+use Rattle.dr_plan_model.proofs.Gathered.{nothing_in_nil, Contains-cons_cases, Contains-there, Contains-here}
+use Rattle.dr_plan_model.proofs.WalksAlike.{reach_alike}
+use Rattle.dr_plan_sound.specs.declared.certificate.Line.{Line}
+use Rattle.dr_plan_sound.specs.declared.certificate.Certificate.{Certificate}
+use Rattle.dr_plan_sound.proofs.RankedLines.{some_cell}
+use Rattle.dr_plan_sound.proofs.Ranks.{sound_has_rank}
 use Rattle.dr_cert.specs.Sealing.{AreLiteralsOf}
 use Rattle.dr_cert.proofs.Ranking.{field_alike, station_alike}
 use Rattle.dr_site.specs.Parts.{Part, IsPartOf, is_at, is_of}

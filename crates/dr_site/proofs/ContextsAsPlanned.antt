@@ -8,13 +8,13 @@ use Rattle.dr_base.specs.Texts.{Text}
 use Rattle.dr_base.specs.declared.syntax.Syntax.{Syntax}
 use Rattle.dr_route.specs.Routes.{AcceptsBy}
 use Rattle.dr_route.specs.declared.accept.AcceptRow.{AcceptRow}
-use Rattle.dr_network.specs.declared.plan.Node.{Node}
-use Rattle.dr_network.specs.Networks.{Network}
-use Rattle.dr_network.specs.Walks.{GoesOver}
-use Rattle.dr_sound.specs.declared.certificate.Hop.{Hop}
-use Rattle.dr_sound.specs.declared.certificate.Certificate.{Certificate}
-use Rattle.dr_sound.specs.Certificates.{HasHop}
-use Rattle.dr_sound.proofs.PairLists.{hops_have_lists}
+use Rattle.dr_plan_model.specs.declared.plan.Node.{Node}
+use Rattle.dr_plan_model.specs.Networks.{Network}
+use Rattle.dr_plan_model.specs.Walks.{GoesOver}
+use Rattle.dr_plan_sound.specs.declared.certificate.Hop.{Hop}
+use Rattle.dr_plan_sound.specs.declared.certificate.Certificate.{Certificate}
+use Rattle.dr_plan_sound.specs.Certificates.{HasHop}
+use Rattle.dr_plan_sound.proofs.PairLists.{hops_have_lists}
 use Rattle.dr_site.specs.Parts.{Part, IsPartOf, begins_at, ends_at, hops_to}
 use Rattle.dr_site.specs.Sites.{IsCertified}
 use Rattle.dr_site.specs.Contexts.{PairsAreAsPlanned, AcceptsAsPlanned}

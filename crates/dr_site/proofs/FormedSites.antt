@@ -17,18 +17,18 @@ use Rattle.std.proofs.lemmas.Slice.Eq.{bytes_eq-Decides}
 use Rattle.dr_base.specs.Texts.{Text, text_cmp}
 use Rattle.dr_base.specs.declared.syntax.Syntax.{Syntax}
 use Rattle.dr_route.specs.declared.accept.AcceptRow.{AcceptRow}
-use Rattle.dr_network.specs.declared.plan.Node.{Node}
-use Rattle.dr_network.specs.Formed.{IsName, IsClass, IsMaxPdu, IsKnownName, IsWellFormedNode, IsWellFormedFlow, IsAcceptRow}
-use Rattle.dr_network.specs.Networks.{Network}
-use Rattle.dr_network.specs.Plans.{IsWellFormed}
-use Rattle.dr_network.specs.Walks.{GoesOver}
-use Rattle.dr_network.proofs.WalksAlike.{sent_to_a_node, all_from_each}
-use Rattle.dr_sound.specs.declared.certificate.Hop.{Hop}
-use Rattle.dr_sound.specs.declared.certificate.Certificate.{Certificate}
-use Rattle.dr_sound.specs.Certificates.{HasHop, AreHopPairs, pair_cmp}
-use Rattle.dr_sound.specs.Printed.{printed_hop}
-use Rattle.dr_sound.proofs.PairLists.{pair_total}
-use Rattle.dr_hops.proofs.Rows.{same_sorted, map_pairs, unmap_apart}
+use Rattle.dr_plan_model.specs.declared.plan.Node.{Node}
+use Rattle.dr_plan_model.specs.Formed.{IsName, IsClass, IsMaxPdu, IsKnownName, IsWellFormedNode, IsWellFormedFlow, IsAcceptRow}
+use Rattle.dr_plan_model.specs.Networks.{Network}
+use Rattle.dr_plan_model.specs.Plans.{IsWellFormed}
+use Rattle.dr_plan_model.specs.Walks.{GoesOver}
+use Rattle.dr_plan_model.proofs.WalksAlike.{sent_to_a_node, all_from_each}
+use Rattle.dr_plan_sound.specs.declared.certificate.Hop.{Hop}
+use Rattle.dr_plan_sound.specs.declared.certificate.Certificate.{Certificate}
+use Rattle.dr_plan_sound.specs.Certificates.{HasHop, AreHopPairs, pair_cmp}
+use Rattle.dr_plan_sound.specs.Printed.{printed_hop}
+use Rattle.dr_plan_sound.proofs.PairLists.{pair_total}
+use Rattle.dr_cert_hops.proofs.Rows.{same_sorted, map_pairs, unmap_apart}
 use Rattle.dr_site.specs.Parts.{Part, IsPartOf, begins_at, ends_at, hops_to}
 use Rattle.dr_site.specs.Sites.{IsCertified}
 use Rattle.dr_site.specs.Forms.{IsFormedHop, IsFormedRow, SitesAreFormed}

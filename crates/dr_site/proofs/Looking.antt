@@ -6,8 +6,8 @@ use Rattle.dr_route.specs.Cells.{InCell}
 use Rattle.dr_route.specs.declared.key.Key.{Key}
 use Rattle.dr_route.specs.declared.cell.OwnedCell.{OwnedCell}
 use Rattle.dr_route.proofs.Agreement.{one_cell}
-use Rattle.dr_sound.specs.declared.certificate.Stop.{Stop}
-use Rattle.dr_sound.specs.declared.certificate.Line.{Line}
+use Rattle.dr_plan_sound.specs.declared.certificate.Stop.{Stop}
+use Rattle.dr_plan_sound.specs.declared.certificate.Line.{Line}
 use Rattle.dr_cert.specs.Indexing.{HasNoLine, StandsAt}
 use Rattle.dr_site.specs.Parts.{Part}
 use Rattle.dr_site.specs.Routing.{HasLineFor}

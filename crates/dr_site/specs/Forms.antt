@@ -2,8 +2,8 @@
 use Rattle.std.specs.Prelude.{◌≡◌, ◌≢◌, ℕ, ◌+◌, ◌*◌, ◌<◌, ◌≤◌, [], length, All, AllPairs}
 use Rattle.dr_base.specs.Texts.{Text}
 use Rattle.dr_route.specs.declared.accept.AcceptRow.{AcceptRow}
-use Rattle.dr_network.specs.Formed.{IsName, IsClass, IsMaxPdu}
-use Rattle.dr_sound.specs.declared.certificate.Hop.{Hop}
+use Rattle.dr_plan_model.specs.Formed.{IsName, IsClass, IsMaxPdu}
+use Rattle.dr_plan_sound.specs.declared.certificate.Hop.{Hop}
 use Rattle.dr_site.specs.Parts.{Part, hops_to}
 use Rattle.dr_site.specs.Sites.{IsSite}
 

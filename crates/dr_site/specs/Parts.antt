@@ -6,13 +6,13 @@ use Rattle.dr_base.specs.Texts.{Text}
 use Rattle.dr_route.specs.declared.rule.Rule.{Rule}
 use Rattle.dr_route.specs.declared.accept.AcceptRow.{AcceptRow}
 use Rattle.dr_route.specs.declared.cell.Literals.{Literals}
-use Rattle.dr_network.specs.declared.plan.Node.{Node}
-use Rattle.dr_network.specs.declared.plan.Flow.{Flow}
-use Rattle.dr_network.specs.Networks.{Network}
-use Rattle.dr_network.specs.Plans.{IsTheNode}
-use Rattle.dr_sound.specs.declared.certificate.Line.{Line}
-use Rattle.dr_sound.specs.declared.certificate.Hop.{Hop}
-use Rattle.dr_sound.specs.declared.certificate.Certificate.{Certificate}
+use Rattle.dr_plan_model.specs.declared.plan.Node.{Node}
+use Rattle.dr_plan_model.specs.declared.plan.Flow.{Flow}
+use Rattle.dr_plan_model.specs.Networks.{Network}
+use Rattle.dr_plan_model.specs.Plans.{IsTheNode}
+use Rattle.dr_plan_sound.specs.declared.certificate.Line.{Line}
+use Rattle.dr_plan_sound.specs.declared.certificate.Hop.{Hop}
+use Rattle.dr_plan_sound.specs.declared.certificate.Certificate.{Certificate}
 use Rattle.dr_cert.specs.Indexing.{IsIndexOf}
 use Rattle.dr_cert.specs.Sealing.{AreLiteralsOf}
 

@@ -4,10 +4,10 @@ use Rattle.dr_base.specs.Texts.{Text}
 use Rattle.dr_route.specs.Routes.{local, SendsBy, KeepsBy}
 use Rattle.dr_route.specs.Cells.{InCell}
 use Rattle.dr_route.specs.declared.key.Key.{Key}
-use Rattle.dr_network.specs.Networks.{Network}
-use Rattle.dr_network.specs.Walks.{FlowsAmong, Sends, Keeps, IsReached}
-use Rattle.dr_sound.specs.declared.certificate.Line.{Line}
-use Rattle.dr_sound.specs.declared.certificate.Certificate.{Certificate}
+use Rattle.dr_plan_model.specs.Networks.{Network}
+use Rattle.dr_plan_model.specs.Walks.{FlowsAmong, Sends, Keeps, IsReached}
+use Rattle.dr_plan_sound.specs.declared.certificate.Line.{Line}
+use Rattle.dr_plan_sound.specs.declared.certificate.Certificate.{Certificate}
 use Rattle.dr_site.specs.Parts.{Part, IsPartOf}
 use Rattle.dr_site.specs.Sites.{IsCertified}
 

@@ -2,9 +2,9 @@
 ghost use Rattle.std.specs.Prelude.{◌≡◌, IfOk};
 
 use dr_base::{Seq, Text};
-use dr_network::Flow;
+use dr_plan_model::Flow;
+use dr_plan_sound::{Hop, Line};
 use dr_route::{AcceptRow, Literals, Rule};
-use dr_sound::{Hop, Line};
 use std::alloc::AllocError;
 
 /// A copy of a title. It fails for want of memory alone.

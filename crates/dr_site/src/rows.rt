@@ -4,8 +4,8 @@ ghost use Rattle.dr_site.specs.Parts.{is_at, is_of, begins_at, ends_at, AreHopsF
 
 use crate::copies::{copy_flow, copy_hop, copy_line};
 use dr_base::{Seq, Text};
-use dr_network::Flow;
-use dr_sound::{Hop, Line};
+use dr_plan_model::Flow;
+use dr_plan_sound::{Hop, Line};
 use std::alloc::{AllocError, Global};
 
 /// The flows at the site, in their order.

@@ -2,9 +2,9 @@
 ghost use Rattle.std.specs.Prelude.{◌≡◌, ◌↔◌, IsTrue};
 
 use dr_base::{Syntax, Text};
-use dr_network::{Flow, Stations, Values};
+use dr_plan_model::{Flow, Stations, Values};
+use dr_plan_sound::{Hop, Line};
 use dr_route::{AcceptRow, Callers, Literals, Pattern, Rule, StationPattern, StationValues};
-use dr_sound::{Hop, Line};
 
 /// Values that can be compared as contracts see them.
 pub trait Same {

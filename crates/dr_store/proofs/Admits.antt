@@ -11,12 +11,12 @@ use Rattle.dr_ledger.specs.declared.item.Instance.{Instance}
 use Rattle.dr_ledger.specs.Replies.{Admits}
 use Rattle.dr_ledger.specs.SiteRoutes.{site_routing}
 use Rattle.dr_ledger.proofs.Growing.{inside}
-use Rattle.dr_tables.specs.Books.{book_of, items_of}
-use Rattle.dr_booking.specs.Calling.{IsOwnFault}
-use Rattle.dr_booking.specs.Knowing.{IsKnown}
-use Rattle.dr_booking.specs.declared.knowing.Known.{Known}
-use Rattle.dr_booking.specs.declared.knowing.Known.TheVariants as known
-use Rattle.dr_booking.proofs.Knows.{no_item_there}
+use Rattle.dr_store_schema.specs.Books.{book_of, items_of}
+use Rattle.dr_store_calls.specs.Calling.{IsOwnFault}
+use Rattle.dr_store_calls.specs.Knowing.{IsKnown}
+use Rattle.dr_store_calls.specs.declared.knowing.Known.{Known}
+use Rattle.dr_store_calls.specs.declared.knowing.Known.TheVariants as known
+use Rattle.dr_store_calls.proofs.Knows.{no_item_there}
 use Rattle.dr_store.specs.Reading.{AdmitsKnown}
 
 module _ (part : Part) (caller : Text) (item : Instance) (line : HasLineFor part caller item.key) where

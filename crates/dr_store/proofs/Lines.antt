@@ -17,7 +17,7 @@ use Rattle.std.proofs.lemmas.Slice.Eq.{bytes_eq-Decides}
 use Rattle.sqlite.specs.Order.{Row}
 use Rattle.sqlite.specs.Tree.{Trees}
 use Rattle.dr_base.specs.Texts.{Text, text_cmp}
-use Rattle.dr_hops.proofs.Rows.{filter_has, map_has, map_of, same_sorted}
+use Rattle.dr_cert_hops.proofs.Rows.{filter_has, map_has, map_of, same_sorted}
 use Rattle.dr_route.specs.declared.key.Key.{Key}
 use Rattle.dr_site.specs.Parts.{Part}
 use Rattle.dr_ledger.specs.declared.item.Entry.{Entry}
@@ -27,12 +27,12 @@ use Rattle.dr_ledger.specs.Books.{Line}
 use Rattle.dr_ledger.specs.Replies.{Lists, entry_of}
 use Rattle.dr_ledger.proofs.Growing.{inside}
 use Rattle.dr_ledger.proofs.Maps.{texts, ties_itself}
-use Rattle.dr_tables.specs.Books.{Names, instance_by, item_or_none, items_of, keep_mark, keeps_in, lines_of, names_in, print_or_none, prints_of, targets_in}
-use Rattle.dr_lists.specs.declared.listing.Note.{Note}
-use Rattle.dr_lists.specs.declared.listing.Note.TheVariants as note
-use Rattle.dr_lists.specs.Lists.{Goal, IsJournal, goal_cmp, goals_of, keys_of, line_of, whole_prints_of}
-use Rattle.dr_lists.proofs.Alike.{goals_are_names, keys_and_prints}
-use Rattle.dr_queries.specs.declared.finding.Print.{Print}
+use Rattle.dr_store_schema.specs.Books.{Names, instance_by, item_or_none, items_of, keep_mark, keeps_in, lines_of, names_in, print_or_none, prints_of, targets_in}
+use Rattle.dr_store_lists.specs.declared.listing.Note.{Note}
+use Rattle.dr_store_lists.specs.declared.listing.Note.TheVariants as note
+use Rattle.dr_store_lists.specs.Lists.{Goal, IsJournal, goal_cmp, goals_of, keys_of, line_of, whole_prints_of}
+use Rattle.dr_store_lists.proofs.Alike.{goals_are_names, keys_and_prints}
+use Rattle.dr_store_reads.specs.declared.finding.Print.{Print}
 use Rattle.dr_store.specs.Journals.{AreByLine, AreEntries, AreGoalsOf, AreNames, AreTargets, IsEntry, IsKnownBy, is_mark}
 use Rattle.dr_store.proofs.Found.{left, less, right}
 

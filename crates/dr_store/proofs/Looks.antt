@@ -6,11 +6,11 @@ use Rattle.dr_site.specs.Parts.{Part}
 use Rattle.dr_ledger.specs.declared.fault.LedgerFault.{LedgerFault}
 use Rattle.dr_ledger.specs.declared.fault.LedgerFault.TheVariants as fault
 use Rattle.dr_ledger.specs.Replies.{LastsAfter, Reads}
-use Rattle.dr_tables.specs.Ledgers.{IsLedger}
-use Rattle.dr_queries.specs.Queries.{Asked, HasTables}
-use Rattle.dr_booking.specs.Calling.{Called, IsLedgerOf, IsOwnFault, Looked, Nothing}
-use Rattle.dr_booking.proofs.Calls.{asked_as, asked_looked, looked_failed, looked_read, looked_then, still_called}
-use Rattle.dr_booking.proofs.Reading.{reads_as}
+use Rattle.dr_store_schema.specs.Ledgers.{IsLedger}
+use Rattle.dr_store_reads.specs.Queries.{Asked, HasTables}
+use Rattle.dr_store_calls.specs.Calling.{Called, IsLedgerOf, IsOwnFault, Looked, Nothing}
+use Rattle.dr_store_calls.proofs.Calls.{asked_as, asked_looked, looked_failed, looked_read, looked_then, still_called}
+use Rattle.dr_store_calls.proofs.Reading.{reads_as}
 
 -- a query of any tables of that schema is one of a ledger's
 pub of_ledger : {A : Type 0} (r : Result A LedgerFault) (old new : State) (Shows : A → Type 0) → Asked HasTables r old new Shows → Asked IsLedger r old new Shows

@@ -13,10 +13,10 @@ use Rattle.dr_ledger.specs.Bodies.{IsNeeded, NextsWith}
 use Rattle.dr_ledger.specs.Items.{instance_of}
 use Rattle.dr_ledger.specs.Replies.{IsDue, IsNoLater}
 use Rattle.dr_ledger.proofs.Growing.{inside}
-use Rattle.dr_tables.specs.Books.{bodies_of, book_of, contents_in, instance_by, is_whole, items_of, prints_of, rows_of, wholes_in}
-use Rattle.dr_calls.proofs.LettingGo.{body_at}
-use Rattle.dr_queries.specs.Queries.{IsFirstDue, IsJobOf}
-use Rattle.dr_booking.specs.Calling.{IsLedgerOf}
+use Rattle.dr_store_schema.specs.Books.{bodies_of, book_of, contents_in, instance_by, is_whole, items_of, prints_of, rows_of, wholes_in}
+use Rattle.dr_store_changes.proofs.LettingGo.{body_at}
+use Rattle.dr_store_reads.specs.Queries.{IsFirstDue, IsJobOf}
+use Rattle.dr_store_calls.specs.Calling.{IsLedgerOf}
 
 waits_still : (tries due : ℕ) → Waiting tries due ≢ Done
 waits_still tries due e = let f : ⊥ = cc in f

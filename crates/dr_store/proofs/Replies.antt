@@ -18,7 +18,7 @@ use Rattle.dr_route.specs.declared.cell.OwnedStation.{OwnedStation}
 use Rattle.dr_route.specs.declared.cell.OwnedStation.TheVariants as station
 use Rattle.dr_route.specs.Cells.{InCell, InField, InStation}
 use Rattle.dr_route.proofs.Agreement.{some_station, one_station}
-use Rattle.dr_sound.specs.declared.certificate.Line.{Line as Ranked}
+use Rattle.dr_plan_sound.specs.declared.certificate.Line.{Line as Ranked}
 use Rattle.dr_site.specs.Parts.{Part}
 use Rattle.dr_site.specs.Routing.{HasLineFor}
 use Rattle.dr_ledger.specs.declared.content.Job.{Job}
@@ -36,7 +36,7 @@ use Rattle.dr_ledger.specs.Books.{Book}
 use Rattle.dr_ledger.specs.Replies.{Admits, Arrives, HasConflict, IsAdmitted, IsHeld, IsWaiting, Requeues, Settles}
 use Rattle.dr_ledger.specs.SiteRoutes.{site_routing}
 use Rattle.dr_ledger.proofs.Growing.{inside}
-use Rattle.dr_booking.specs.Knowing.{IsAccepted}
+use Rattle.dr_store_calls.specs.Knowing.{IsAccepted}
 use Rattle.dr_store.proofs.Sets.{coded_bodies, coded_book, coded_instance, coded_text}
 use Rattle.dr_store.proofs.Stable.{Stable, both, by_code, each, either, is_in, first_in, later_in, in_cases, never, not_in_none, of_dec, of_prop, tested, three}
 use Rattle.std.specs.Coded.{coded_list, coded_option, coded_ℕ}

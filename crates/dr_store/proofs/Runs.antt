@@ -3,7 +3,7 @@ use Rattle.std.proofs.Common.{◌≡◌, ◌⊎◌, inl, inr, ℕ, ◌+◌, ◌-
 use Rattle.std.proofs.lemmas.List.Elements.{filter_more}
 use Rattle.std.specs.List.Sorted.{IsPartitionPoint}
 use Rattle.dr_base.specs.Texts.{Text}
-use Rattle.dr_lists.specs.Lists.{Goal}
+use Rattle.dr_store_lists.specs.Lists.{Goal}
 use Rattle.dr_store.specs.Journals.{AreByLine, AreGoalsOf, is_mark}
 
 -- ---- names

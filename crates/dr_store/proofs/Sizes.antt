@@ -13,11 +13,11 @@ use Rattle.dr_ledger.specs.Replies.{AreKept, Lists}
 use Rattle.dr_ledger.specs.SiteRoutes.{site_routing}
 use Rattle.dr_ledger.proofs.Growing.{inside}
 use Rattle.dr_ledger.proofs.Solid.{journals_are_solid}
-use Rattle.dr_tables.specs.Books.{all_kept_in, book_of, instance_by, items_of, print_or_none, prints_of}
-use Rattle.dr_queries.specs.declared.finding.Print.{Print}
-use Rattle.dr_lists.specs.Lists.{keys_of, whole_prints_of}
-use Rattle.dr_lists.proofs.Alike.{keys_and_prints}
-use Rattle.dr_booking.specs.Calling.{IsLedgerOf}
+use Rattle.dr_store_schema.specs.Books.{all_kept_in, book_of, instance_by, items_of, print_or_none, prints_of}
+use Rattle.dr_store_reads.specs.declared.finding.Print.{Print}
+use Rattle.dr_store_lists.specs.Lists.{keys_of, whole_prints_of}
+use Rattle.dr_store_lists.proofs.Alike.{keys_and_prints}
+use Rattle.dr_store_calls.specs.Calling.{IsLedgerOf}
 use Rattle.dr_store.specs.Listing.{AreSized, IsSize, IsSized}
 use Rattle.dr_store.proofs.Zips.{zip_at}
 

@@ -7,8 +7,8 @@ use Rattle.std.specs.FinMap.{find, is_sorted}
 use Rattle.std.proofs.lemmas.Cmp.{tied_itself}
 use Rattle.sqlite.specs.Tree.{Trees}
 use Rattle.dr_base.specs.Texts.{Text, text_cmp}
-use Rattle.dr_network.specs.Networks.{Network}
-use Rattle.dr_network.specs.Walks.{IsReached}
+use Rattle.dr_plan_model.specs.Networks.{Network}
+use Rattle.dr_plan_model.specs.Walks.{IsReached}
 use Rattle.dr_route.specs.declared.key.Key.{Key}
 use Rattle.dr_ledger.specs.declared.fault.LedgerFault.{LedgerFault}
 use Rattle.dr_ledger.specs.declared.fault.LedgerFault.TheVariants as fault
@@ -20,10 +20,10 @@ use Rattle.dr_ledger.specs.Pairs.{Pair, pair_cmp}
 use Rattle.dr_ledger.specs.Replies.{LastsAfter, Reads}
 use Rattle.dr_ledger.proofs.Maps.{text_pairs, texts}
 use Rattle.dr_ledger.proofs.Growing.{inside}
-use Rattle.dr_tables.specs.Books.{book_of, instance_by, items_of, prints_of, rows_of}
-use Rattle.dr_lists.specs.Lists.{keys_of}
-use Rattle.dr_lists.proofs.Alike.{keys_and_prints}
-use Rattle.dr_booking.proofs.Reading.{reads_as, same_fault}
+use Rattle.dr_store_schema.specs.Books.{book_of, instance_by, items_of, prints_of, rows_of}
+use Rattle.dr_store_lists.specs.Lists.{keys_of}
+use Rattle.dr_store_lists.proofs.Alike.{keys_and_prints}
+use Rattle.dr_store_calls.proofs.Reading.{reads_as, same_fault}
 use Rattle.dr_store.specs.Listing.{FitsAmong, IsOfKey, IsUnfitRow, UnfitsAmong, UnfitsOf, is_open_at}
 use Rattle.dr_store.proofs.Among.{order_of, place_of, rise_at}
 use Rattle.dr_store.proofs.Found.{found_at}

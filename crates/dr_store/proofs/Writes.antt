@@ -13,8 +13,8 @@ use Rattle.dr_ledger.specs.declared.fault.LedgerFault.TheVariants as fault
 use Rattle.dr_ledger.specs.Books.{Book}
 use Rattle.dr_ledger.specs.Refusals.{Arms}
 use Rattle.dr_ledger.specs.Replies.{Counts, HasRisen, IsLastingFault, Lasts, LastsAfter, Reads}
-use Rattle.dr_tables.specs.Books.{bodies_of, book_of}
-use Rattle.dr_booking.specs.Calling.{Called, IsKept, IsSafe, Looked, Nothing}
+use Rattle.dr_store_schema.specs.Books.{bodies_of, book_of}
+use Rattle.dr_store_calls.specs.Calling.{Called, IsKept, IsSafe, Looked, Nothing}
 use Rattle.dr_store.specs.Counting.{failures_after}
 use Rattle.dr_store.specs.Surviving.{Wrote}
 use Rattle.dr_store.proofs.Stable.{Stable, both, by_code, either, of_set, tested}

@@ -8,11 +8,11 @@ use Rattle.dr_base.specs.Texts.{Text, text_cmp}
 use Rattle.dr_route.specs.declared.key.Key.{Key}
 use Rattle.dr_ledger.specs.declared.item.Entry.{Entry}
 use Rattle.dr_ledger.specs.declared.item.Entry.TheVariants as entry
-use Rattle.dr_tables.specs.Books.{keep_mark}
-use Rattle.dr_lists.specs.declared.listing.Note.{Note}
-use Rattle.dr_lists.specs.declared.listing.Note.TheVariants as note
-use Rattle.dr_lists.specs.Lists.{Goal}
-use Rattle.dr_queries.specs.declared.finding.Print.{Print}
+use Rattle.dr_store_schema.specs.Books.{keep_mark}
+use Rattle.dr_store_lists.specs.declared.listing.Note.{Note}
+use Rattle.dr_store_lists.specs.declared.listing.Note.TheVariants as note
+use Rattle.dr_store_lists.specs.Lists.{Goal}
+use Rattle.dr_store_reads.specs.declared.finding.Print.{Print}
 use Rattle.dr_store.specs.Listing.{IsOfKey}
 
 -- the name stands for keeping

@@ -4,15 +4,15 @@ use Rattle.std.specs.List.{AllZip, HoldsAt}
 use Rattle.std.specs.declared.cmp.Ordering.{Ordering}
 use Rattle.std.specs.FinMap.{find, is_sorted}
 use Rattle.dr_base.specs.Texts.{Text, text_cmp}
-use Rattle.dr_network.specs.Networks.{Network}
-use Rattle.dr_network.specs.Walks.{IsReached}
+use Rattle.dr_plan_model.specs.Networks.{Network}
+use Rattle.dr_plan_model.specs.Walks.{IsReached}
 use Rattle.dr_route.specs.declared.key.Key.{Key}
 use Rattle.dr_ledger.specs.declared.fault.LedgerFault.{LedgerFault}
 use Rattle.dr_ledger.specs.declared.item.Progress.{Progress}
 use Rattle.dr_ledger.specs.declared.item.Progress.TheVariants.{Waiting, Held, Done}
 use Rattle.dr_ledger.specs.Pairs.{Pair}
 use Rattle.dr_ledger.specs.Replies.{Reads}
-use Rattle.dr_queries.specs.declared.finding.Print.{Print}
+use Rattle.dr_store_reads.specs.declared.finding.Print.{Print}
 
 -- ---- entries
 

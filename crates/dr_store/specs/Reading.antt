@@ -5,9 +5,9 @@ use Rattle.dr_base.specs.Texts.{Text}
 use Rattle.dr_ledger.specs.declared.content.Job.{Job}
 use Rattle.dr_ledger.specs.declared.fault.LedgerFault.{LedgerFault}
 use Rattle.dr_ledger.specs.declared.fault.LedgerFault.TheVariants as fault
-use Rattle.dr_booking.specs.declared.knowing.Known.{Known}
-use Rattle.dr_booking.specs.declared.knowing.Known.TheVariants as known
-use Rattle.dr_queries.specs.Queries.{IsJobOf}
+use Rattle.dr_store_calls.specs.declared.knowing.Known.{Known}
+use Rattle.dr_store_calls.specs.declared.knowing.Known.TheVariants as known
+use Rattle.dr_store_reads.specs.Queries.{IsJobOf}
 
 -- the instance of that uid with what stands in its row for its data set
 abbrev pub IsWholeJob : Text → Trees → Option Job → Type 0

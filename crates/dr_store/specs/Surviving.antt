@@ -5,8 +5,8 @@ use Rattle.sqlite.specs.Tree.{Trees}
 use Rattle.dr_ledger.specs.declared.fault.LedgerFault.{LedgerFault}
 use Rattle.dr_ledger.specs.Books.{Book}
 use Rattle.dr_ledger.specs.Replies.{Lasts}
-use Rattle.dr_tables.specs.Books.{book_of}
-use Rattle.dr_booking.specs.Calling.{IsSafe}
+use Rattle.dr_store_schema.specs.Books.{book_of}
+use Rattle.dr_store_calls.specs.Calling.{IsSafe}
 
 -- It answers for the tables committed before and after it, while the disk has returned what was written and the store is open; only a failed
 -- store or want of memory ends that. A crash after it leaves the book from before it or the one that the accepted call makes, and where it

@@ -1,7 +1,7 @@
 //! The counts of a ledger: of its lines, and of the failures of its store.
 ghost use Rattle.std.specs.Prelude.{◌≡◌, ◌≤◌, ◌^◌, OnOk};
 ghost use Rattle.dr_ledger.specs.Replies.{Counts};
-ghost use Rattle.dr_booking.specs.Calling.{advanced};
+ghost use Rattle.dr_store_calls.specs.Calling.{advanced};
 ghost use Rattle.dr_store.specs.Counting.{failures_after, failures_with};
 
 use dr_ledger::LedgerFault;

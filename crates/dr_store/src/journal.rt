@@ -7,17 +7,17 @@ ghost use Rattle.sqlite.specs.Held.{state};
 ghost use Rattle.dr_base.specs.Texts.{text_cmp};
 ghost use Rattle.dr_site.specs.Parts.{Part};
 ghost use Rattle.dr_ledger.specs.Replies.{Reads, entry_of};
-ghost use Rattle.dr_tables.specs.Books.{lines_of};
-ghost use Rattle.dr_lists.specs.Lists.{IsJournal, keys_of, whole_prints_of};
-ghost use Rattle.dr_booking.specs.Calling.{Looked};
+ghost use Rattle.dr_store_schema.specs.Books.{lines_of};
+ghost use Rattle.dr_store_lists.specs.Lists.{IsJournal, keys_of, whole_prints_of};
+ghost use Rattle.dr_store_calls.specs.Calling.{Looked};
 ghost use Rattle.dr_store.specs.Journals.{AreEntries, AreGoalsOf, AreTargets, IsEntry, IsKnownBy, is_mark};
 
 use crate::lookup::get;
 use dr_base::{Seq, Text};
 use dr_ledger::{Entry, LedgerFault};
-use dr_lists::{Note, all_keys, all_notes, all_prints, all_targets};
-use dr_queries::Print;
 use dr_route::Key;
+use dr_store_lists::{Note, all_keys, all_notes, all_prints, all_targets};
+use dr_store_reads::Print;
 use sqlite::{Alter, Connection};
 use std::alloc::{AllocError, Global};
 

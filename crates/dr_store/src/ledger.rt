@@ -7,9 +7,9 @@ ghost use Rattle.dr_ledger.specs.Bodies.{OnlyLetsGo, OnlyTakes};
 ghost use Rattle.dr_ledger.specs.Items.{instance_of};
 ghost use Rattle.dr_ledger.specs.Replies.{Arrives, Counts, Requeues, Settles};
 ghost use Rattle.dr_ledger.specs.SiteRoutes.{site_routing};
-ghost use Rattle.dr_tables.specs.Books.{bodies_of, book_of};
-ghost use Rattle.dr_booking.specs.Calling.{IsKept, IsSafe};
-ghost use Rattle.dr_booking.specs.Knowing.{IsAccepted};
+ghost use Rattle.dr_store_schema.specs.Books.{bodies_of, book_of};
+ghost use Rattle.dr_store_calls.specs.Calling.{IsKept, IsSafe};
+ghost use Rattle.dr_store_calls.specs.Knowing.{IsAccepted};
 ghost use Rattle.dr_store.specs.Counting.{failures_after};
 ghost use Rattle.dr_store.specs.Surviving.{Wrote};
 
@@ -17,13 +17,13 @@ use crate::counting::{counted, next_after};
 use crate::journal::list_lines;
 use crate::listing::{first_unfit, list_arrivals, list_kept, list_rows, list_rows_and_keys};
 use crate::reading::{admit, has_data_set, has_item, next_job};
-use dr_adoption::adopt;
 use dr_base::{Seq, Text};
-use dr_booking::{arrive, requeue, settle};
 use dr_cert::Sealed;
 use dr_ledger::{Arrived, Entry, Item, Job, Ledger, LedgerFault, Outcome, Progress};
-use dr_queries::find_row;
 use dr_site::Site;
+use dr_store_adoption::adopt;
+use dr_store_calls::{arrive, requeue, settle};
+use dr_store_reads::find_row;
 use sqlite::{Alter, Connection};
 use std::alloc::Global;
 
@@ -163,8 +163,8 @@ impl<S: Alter> Ledger for SqlLedger<S> {
     ghost use mathlib.Core.Logic.{∥∥₁_map};
     ghost use Rattle.sqlite.specs.Held.{state};
     ghost use Rattle.sqlite.specs.State.{HasCleanDisk};
-    ghost use Rattle.dr_tables.specs.Books.{bodies_of, book_of};
-    ghost use Rattle.dr_booking.specs.Calling.{IsSafe};
+    ghost use Rattle.dr_store_schema.specs.Books.{bodies_of, book_of};
+    ghost use Rattle.dr_store_calls.specs.Calling.{IsSafe};
 
     ghost site = { λ l. l.site };
 

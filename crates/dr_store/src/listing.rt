@@ -7,18 +7,18 @@ ghost use Rattle.dr_site.specs.Parts.{Part};
 ghost use Rattle.dr_base.specs.Texts.{text_cmp};
 ghost use Rattle.dr_ledger.specs.Pairs.{pair_cmp};
 ghost use Rattle.dr_ledger.specs.Replies.{AreKept, Lists, Reads};
-ghost use Rattle.dr_tables.specs.Books.{all_kept_in, arrivals_in, book_of, rows_of};
-ghost use Rattle.dr_booking.specs.Calling.{Looked};
-ghost use Rattle.dr_lists.specs.Lists.{keys_of, whole_prints_of};
+ghost use Rattle.dr_store_schema.specs.Books.{all_kept_in, arrivals_in, book_of, rows_of};
+ghost use Rattle.dr_store_calls.specs.Calling.{Looked};
+ghost use Rattle.dr_store_lists.specs.Lists.{keys_of, whole_prints_of};
 ghost use Rattle.dr_store.specs.Listing.{AreSized, IsSized, IsUnfitAmong, UnfitsAmong, UnfitsOf, is_open_at};
 
 use crate::lookup::get;
 use dr_base::{Seq, Text};
 use dr_cert::Sealed;
 use dr_ledger::{LedgerFault, Progress};
-use dr_lists::{all_arrivals, all_kept, all_keys, all_prints, all_rows};
-use dr_queries::Print;
 use dr_route::Key;
+use dr_store_lists::{all_arrivals, all_kept, all_keys, all_prints, all_rows};
+use dr_store_reads::Print;
 use sqlite::{Alter, Connection};
 use std::alloc::Global;
 

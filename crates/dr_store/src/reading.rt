@@ -8,15 +8,15 @@ ghost use Rattle.dr_ledger.specs.Items.{instance_of};
 ghost use Rattle.dr_ledger.specs.Replies.{Admits};
 ghost use Rattle.dr_ledger.specs.SiteRoutes.{site_routing};
 ghost use Rattle.dr_site.specs.Routing.{HasLineFor};
-ghost use Rattle.dr_tables.specs.Books.{bodies_of, book_of, items_of};
-ghost use Rattle.dr_booking.specs.Calling.{Called, Looked, Nothing};
+ghost use Rattle.dr_store_schema.specs.Books.{bodies_of, book_of, items_of};
+ghost use Rattle.dr_store_calls.specs.Calling.{Called, Looked, Nothing};
 ghost use Rattle.dr_store.specs.Reading.{AdmitsKnown, IsWholeJob};
 
 use dr_base::Text;
-use dr_booking::{Known, know};
 use dr_ledger::{Instance, Item, Job, LedgerFault};
-use dr_queries::{find_item, find_job, find_key, find_next};
 use dr_site::Site;
+use dr_store_calls::{Known, know};
+use dr_store_reads::{find_item, find_job, find_key, find_next};
 use sqlite::{Alter, Connection};
 use std::alloc::Global;
 

@@ -8,8 +8,8 @@ use Rattle.std.specs.FinMap as map
 use Rattle.std.specs.BTreeMap as tree
 use Rattle.std.specs.BTreeMap.{BTreeMap, is_at}
 use Rattle.dr_base.specs.Texts.{Text, text_cmp}
-use Rattle.dr_network.specs.Networks.{Network}
-use Rattle.dr_sound.specs.declared.certificate.Certificate.{Certificate}
+use Rattle.dr_plan_model.specs.Networks.{Network}
+use Rattle.dr_plan_sound.specs.declared.certificate.Certificate.{Certificate}
 use Rattle.dr_site.specs.Sites.{IsCertified}
 use Rattle.dr_ulstate.specs.declared.table.State.{State}
 use Rattle.dr_ulstate.specs.declared.table.State.TheVariants.{Sta1}
@@ -25,9 +25,9 @@ use Rattle.dr_node.specs.declared.event.LinkEvent.TheVariants as event
 use Rattle.dr_node.specs.declared.links.Side.{Side as NodeSide}
 use Rattle.dr_node.specs.declared.node.Node.{Node}
 use Rattle.dr_node.specs.Sides.{state_of_side}
-use Rattle.dr_tie.specs.Desks.{LedgerStep}
-use Rattle.dr_tie.specs.Channels.{Terminal, Channel}
-use Rattle.dr_tie.specs.ByteWorlds.{ByteWorld, Move, Side, Requestor, Acceptor, StepNote as ByteNote, Done as WasDone, Skipped as WasSkipped, LinkStep, DoesIf, ReadsIf, Moves, CallerReads, ReceiverReads, CallerHears, ReceiverHears, CallerMeets, ReceiverMeets, Meets as MeetsBytes, IsMoved, core_at, is_over, with_done}
+use Rattle.dr_world_tie.specs.Desks.{LedgerStep}
+use Rattle.dr_world_tie.specs.Channels.{Terminal, Channel}
+use Rattle.dr_world_tie.specs.ByteWorlds.{ByteWorld, Move, Side, Requestor, Acceptor, StepNote as ByteNote, Done as WasDone, Skipped as WasSkipped, LinkStep, DoesIf, ReadsIf, Moves, CallerReads, ReceiverReads, CallerHears, ReceiverHears, CallerMeets, ReceiverMeets, Meets as MeetsBytes, IsMoved, core_at, is_over, with_done}
 use Rattle.dr_world.specs.declared.fronts.Due.{Due}
 use Rattle.dr_world.specs.declared.fronts.Due.TheVariants as due
 use Rattle.dr_world.specs.declared.steps.StepNote.{StepNote}
@@ -309,7 +309,7 @@ written_off side m acts w u v t h = record {
   caller = h.caller ∙ t.caller;
   receiver = h.receiver ∙ t.receiver;
   own = h.own ∙ t.own;
-  other = h.other ∙ ap (λ (z : List ℕ). z ++ Rattle.dr_tie.specs.Channels.bytes_of acts) t.other;
+  other = h.other ∙ ap (λ (z : List ℕ). z ++ Rattle.dr_world_tie.specs.Channels.bytes_of acts) t.other;
 }
 
 pub heard_named : {L : Type 0} {l : Ghosts L} (old new : World L l) (link m : ℕ) (side : Side) (w u v : Wires) (piece : List ℕ) (acts written_acts : List LinkAction) → written_acts ≡ acts → Some w ≡ tree.get nat_cmp old.wires link

@@ -6,8 +6,8 @@ use Rattle.std.specs.FinMap as map
 use Rattle.std.proofs.lemmas.List.{append-nil}
 use Rattle.std.specs.declared.alloc.AllocError.{AllocError}
 use Rattle.dr_base.specs.Texts.{Text}
-use Rattle.dr_network.specs.Networks.{Network}
-use Rattle.dr_sound.specs.declared.certificate.Certificate.{Certificate}
+use Rattle.dr_plan_model.specs.Networks.{Network}
+use Rattle.dr_plan_sound.specs.declared.certificate.Certificate.{Certificate}
 use Rattle.dr_site.specs.Parts.{Part}
 use Rattle.dr_site.specs.Sites.{IsCertified}
 use Rattle.dr_pdu.specs.Feeding.{Feeding}
@@ -25,14 +25,14 @@ use Rattle.dr_session.specs.Plays.{Reacts, at_moment}
 use Rattle.dr_session.specs.Reactions.{effect, is_free, is_idle, occurs, moves}
 use Rattle.dr_node.specs.declared.links.Side.{Side as NodeSide}
 use Rattle.dr_node.specs.Sides.{Sides, moment_at, with_end}
-use Rattle.dr_model.proofs.Lookups.{numbers}
-use Rattle.dr_model.specs.Worlds.{same_text}
-use Rattle.dr_tie.specs.Desks.{LedgerStep}
-use Rattle.dr_tie.specs.Channels.{Terminal, Channel, bytes_of}
-use Rattle.dr_tie.specs.Ties.{caller_did, receiver_did, caller_read, receiver_read, with_desk}
-use Rattle.dr_tie.specs.ByteWorlds.{ByteWorld, WorldStep, Push, Abort, Release, Late, Side, Requestor, Acceptor, StepNote, Done, Skipped, Steps, DoesIf, LinkStep, CallerMeets, CallerPushes, PushesIf, PushNote, Skips, Meets, IsMoment, AreOthers, caller_of, receiver_of, core_at, with_done, has_cell, acts_late}
-use Rattle.dr_tie.specs.ByteWorlds as bytes
-use Rattle.dr_tie.specs.Shown.{Shows}
+use Rattle.dr_world_model.proofs.Lookups.{numbers}
+use Rattle.dr_world_model.specs.Worlds.{same_text}
+use Rattle.dr_world_tie.specs.Desks.{LedgerStep}
+use Rattle.dr_world_tie.specs.Channels.{Terminal, Channel, bytes_of}
+use Rattle.dr_world_tie.specs.Ties.{caller_did, receiver_did, caller_read, receiver_read, with_desk}
+use Rattle.dr_world_tie.specs.ByteWorlds.{ByteWorld, WorldStep, Push, Abort, Release, Late, Side, Requestor, Acceptor, StepNote, Done, Skipped, Steps, DoesIf, LinkStep, CallerMeets, CallerPushes, PushesIf, PushNote, Skips, Meets, IsMoment, AreOthers, caller_of, receiver_of, core_at, with_done, has_cell, acts_late}
+use Rattle.dr_world_tie.specs.ByteWorlds as bytes
+use Rattle.dr_world_tie.specs.Shown.{Shows}
 use Rattle.std.specs.Option.{option_map_or}
 use Rattle.dr_ulstate.specs.declared.table.Event.TheVariants.{AbortRequest, ReleaseRequest, DataRequest}
 use Rattle.dr_ulstate.specs.declared.table.State.{State}

@@ -3,21 +3,21 @@ use Rattle.std.proofs.Common.{◌≡◌, ℕ, ◌+◌, ◌^◌, Bool, true, fals
 use Rattle.std.specs.Prelude.{min, if◌then◌else◌}
 use Rattle.std.specs.FinMap as map
 use Rattle.dr_base.specs.Texts.{Text}
-use Rattle.dr_network.specs.Networks.{Network}
-use Rattle.dr_sound.specs.declared.certificate.Certificate.{Certificate}
+use Rattle.dr_plan_model.specs.Networks.{Network}
+use Rattle.dr_plan_sound.specs.declared.certificate.Certificate.{Certificate}
 use Rattle.dr_site.specs.Parts.{Part, IsPartOf}
 use Rattle.dr_route.specs.Routes.{local}
 use Rattle.dr_ledger.proofs.Maps.{texts, same_or_not, ties_itself}
 use Rattle.dr_session.specs.Desks.{Arrive, Arrival}
 use Rattle.dr_session.specs.Ledgers.{Desk, desk}
 use Rattle.dr_node.specs.declared.links.Side.{Side}
-use Rattle.dr_model.specs.Worlds.{same_text}
-use Rattle.dr_model.specs.Events.{HasNode}
-use Rattle.dr_tie.specs.Channels.{Channel}
-use Rattle.dr_tie.specs.Desks.{LedgerStep}
-use Rattle.dr_tie.specs.Nodes.{RequeuesAt}
-use Rattle.dr_tie.specs.ByteWorlds.{ByteWorld, Submit, Open, Push, Move, Abort, Release, Close, Late, Restart, Requeue, Tick, Refuse, with_call}
-use Rattle.dr_tie.proofs.Sites.{site_steps}
+use Rattle.dr_world_model.specs.Worlds.{same_text}
+use Rattle.dr_world_model.specs.Events.{HasNode}
+use Rattle.dr_world_tie.specs.Channels.{Channel}
+use Rattle.dr_world_tie.specs.Desks.{LedgerStep}
+use Rattle.dr_world_tie.specs.Nodes.{RequeuesAt}
+use Rattle.dr_world_tie.specs.ByteWorlds.{ByteWorld, Submit, Open, Push, Move, Abort, Release, Close, Late, Restart, Requeue, Tick, Refuse, with_call}
+use Rattle.dr_world_tie.proofs.Sites.{site_steps}
 use Rattle.dr_world.specs.declared.wires.Wires.{Wires}
 use Rattle.dr_world.specs.Shows.{Contents, Seat, Seats, ShowsBytes, IsSeated, HasSide, LinkedAt, desk_at, with_seat, with_desk_of}
 use Rattle.dr_world.specs.Laws.{TickIsShown, StrangerIsSkipped, SubmitIsShown, RequeueIsShown, RefuseIsShown, with_seats}

@@ -7,8 +7,8 @@ use Rattle.dr_ledger.specs.Books.{empty_book}
 use Rattle.dr_session.specs.Ledgers.{desk}
 use Rattle.dr_node.specs.declared.links.Side.{Side}
 use Rattle.dr_node.specs.Sides.{Sides}
-use Rattle.dr_tie.specs.Channels.{Channel}
-use Rattle.dr_tie.specs.ByteWorlds.{beginning}
+use Rattle.dr_world_tie.specs.Channels.{Channel}
+use Rattle.dr_world_tie.specs.ByteWorlds.{beginning}
 use Rattle.dr_world.specs.declared.wires.Wires.{Wires}
 use Rattle.dr_world.specs.Shows.{Contents, Seat, HasSide, LinkedAt, desk_at}
 use Rattle.dr_world.specs.Laws.{IsNew, NewIsBeginning}

@@ -3,7 +3,7 @@ use Rattle.std.proofs.Common.{◌≡◌, ℕ, Bool, true, false, cond, List, Opt
 use Rattle.std.specs.Prelude.{IfOk, Contains}
 use Rattle.std.specs.List.{list_any}
 use Rattle.std.proofs.lemmas.Map.Views.{tells_apart}
-use Rattle.dr_sound.specs.declared.certificate.Hop.{Hop}
+use Rattle.dr_plan_sound.specs.declared.certificate.Hop.{Hop}
 use Rattle.dr_node.proofs.Opening.{hop_found, no_hop_found}
 use Rattle.std.specs.Option.{option_map}
 use Rattle.std.specs.Cmp.{eq_by_cmp_equiv}
@@ -22,7 +22,7 @@ use Rattle.dr_node.specs.Desks.{LedgerStep}
 use Rattle.dr_node.specs.Sides.{Sides, Accepts, Deed, Does, MeetsEvent, Opens, Pushes}
 use Rattle.dr_node.proofs.Booked.{input_booked, push_booked}
 use Rattle.dr_node.proofs.Keeping.{input_stays, push_stays, input_stood, push_stood}
-use Rattle.dr_model.specs.Worlds.{same_text}
+use Rattle.dr_world_model.specs.Worlds.{same_text}
 use Rattle.dr_world.specs.Shows.{Seat, Seats, with_seat}
 use Rattle.dr_world.specs.Nodes.{AcceptsAt, AllStandIn, HasSides, IsDoneAt, OpensAt, event_at, push_at, seat_of, seats_of}
 

@@ -9,7 +9,7 @@ use Rattle.dr_ledger.specs.declared.ledger.Ledger.{Ghosts}
 use Rattle.dr_ledger.proofs.Maps.{texts, same_or_not, ties_itself}
 use Rattle.dr_session.specs.Ledgers.{Desk, desk}
 use Rattle.dr_node.specs.declared.node.Node.{Node}
-use Rattle.dr_model.specs.Worlds.{same_text}
+use Rattle.dr_world_model.specs.Worlds.{same_text}
 use Rattle.dr_world.specs.declared.steps.StepNote.{StepNote}
 use Rattle.dr_world.specs.declared.steps.StepNote.TheVariants.{Skipped}
 use Rattle.dr_world.specs.declared.world.World.{World}

@@ -9,8 +9,8 @@ use Rattle.std.specs.FinMap as map
 use Rattle.std.specs.BTreeMap as tree
 use Rattle.std.specs.BTreeMap.{BTreeMap, is_at}
 use Rattle.dr_base.specs.Texts.{Text, text_cmp}
-use Rattle.dr_network.specs.Networks.{Network}
-use Rattle.dr_sound.specs.declared.certificate.Certificate.{Certificate}
+use Rattle.dr_plan_model.specs.Networks.{Network}
+use Rattle.dr_plan_sound.specs.declared.certificate.Certificate.{Certificate}
 use Rattle.dr_site.specs.Parts.{Part}
 use Rattle.dr_site.specs.Sites.{IsCertified}
 use Rattle.dr_ledger.specs.declared.ledger.Ledger.{Ghosts}
@@ -24,9 +24,9 @@ use Rattle.dr_node.specs.declared.fault.NodeFault.TheVariants.{LinkUnknown}
 use Rattle.dr_node.specs.declared.links.Side.{Side as NodeSide}
 use Rattle.dr_node.specs.declared.node.Node.{Node}
 use Rattle.dr_node.specs.Sides.{Sides, Deed, Does, DoesIn, moment_at, state_of_side, with_end}
-use Rattle.dr_model.proofs.Lookups.{numbers}
-use Rattle.dr_tie.specs.Channels.{Channel}
-use Rattle.dr_tie.specs.ByteWorlds.{ByteWorld, WorldStep, Steps, Close, Done, Skipped as WasSkipped, LinkStep, DoesIf, Closes, is_over}
+use Rattle.dr_world_model.proofs.Lookups.{numbers}
+use Rattle.dr_world_tie.specs.Channels.{Channel}
+use Rattle.dr_world_tie.specs.ByteWorlds.{ByteWorld, WorldStep, Steps, Close, Done, Skipped as WasSkipped, LinkStep, DoesIf, Closes, is_over}
 use Rattle.dr_world.specs.declared.steps.StepNote.TheVariants as note
 use Rattle.dr_world.specs.declared.wires.Wires.{Wires}
 use Rattle.dr_world.specs.declared.world.World.{World}
@@ -52,7 +52,7 @@ module _ (does : Deed Desk) (now link : ℕ) (old new : Sides) (s t : Desk) (act
 
 -- ---- ends that are over
 
-module _ {L : Type 0} {l : Ghosts L} (link : ℕ) (accepted : Bool) (t : Rattle.dr_tie.specs.Channels.Terminal) where
+module _ {L : Type 0} {l : Ghosts L} (link : ℕ) (accepted : Bool) (t : Rattle.dr_world_tie.specs.Channels.Terminal) where
   pub over_is : (o : Option (Node L l)) (seat : Seat) → option_map seat_of o ≡ Some seat → map.get seat.sides link ≡ Some (side_of accepted t) → over_at link o ≡ is_over t.core
   over_is None seat e h = (let x : None ≡ Some seat = e in let y : ⊥ = cc in absurd y)
   over_is (Some n) seat e h =
@@ -131,7 +131,7 @@ module _ {L : Type 0} {l : Ghosts L} (old new : World L l) (link : ℕ) (w v : W
       let near_seat = with_side (seat_of second.0) link (with_end mine.0 mine.1) g.1 in
       let new_at : (q : Text) → seats_of new.nodes q ≡ with_seat (with_seat (seats_of old.nodes) w.receiver far_seat) w.caller near_seat q = λ q.
       g.3 q ∙ (ap (λ (m : Sides). with_seat (seats_of mid) w.caller (let s : Seat = record { site = l.site second.0.desk.ledger; sides = m; desk = g.1 } in s) q) mine.4
-      ∙ ap (λ (o : Option Seat). cond (Rattle.dr_model.specs.Worlds.same_text q w.caller) (Some near_seat) o) (mid_at q)) in
+      ∙ ap (λ (o : Option Seat). cond (Rattle.dr_world_model.specs.Worlds.same_text q w.caller) (Some near_seat) o) (mid_at q)) in
       record {
         wires = w;
         after = v;

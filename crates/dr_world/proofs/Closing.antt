@@ -4,8 +4,8 @@ use Rattle.std.specs.Prelude.{◌&&◌, not, if◌then◌else◌}
 use Rattle.std.specs.Ordering.{nat_cmp, eq_by_cmp}
 use Rattle.std.specs.FinMap as map
 use Rattle.dr_base.specs.Texts.{Text}
-use Rattle.dr_network.specs.Networks.{Network}
-use Rattle.dr_sound.specs.declared.certificate.Certificate.{Certificate}
+use Rattle.dr_plan_model.specs.Networks.{Network}
+use Rattle.dr_plan_sound.specs.declared.certificate.Certificate.{Certificate}
 use Rattle.dr_site.specs.Parts.{Part}
 use Rattle.dr_site.specs.Sites.{IsCertified}
 use Rattle.dr_ledger.proofs.Maps.{texts, same_or_not, ties_itself, get_new, get_other}
@@ -15,13 +15,13 @@ use Rattle.dr_session.specs.declared.ends.Moment.{Moment}
 use Rattle.dr_session.specs.Ledgers.{Desk}
 use Rattle.dr_node.specs.declared.links.Side.{Side}
 use Rattle.dr_node.specs.Sides.{moment_at, with_end}
-use Rattle.dr_model.proofs.Lookups.{numbers}
-use Rattle.dr_model.specs.Worlds.{same_text}
-use Rattle.dr_tie.specs.Desks.{LedgerStep}
-use Rattle.dr_tie.specs.Channels.{Terminal, Channel, site_in}
-use Rattle.dr_tie.specs.Closing.{IsEnded, closed}
-use Rattle.dr_tie.specs.Ties.{with_desk}
-use Rattle.dr_tie.specs.ByteWorlds.{ByteWorld, Close, Done, Skipped, Steps, LinkStep, DoesIf, Closes, is_over, caller_of, receiver_of, with_done, with_call}
+use Rattle.dr_world_model.proofs.Lookups.{numbers}
+use Rattle.dr_world_model.specs.Worlds.{same_text}
+use Rattle.dr_world_tie.specs.Desks.{LedgerStep}
+use Rattle.dr_world_tie.specs.Channels.{Terminal, Channel, site_in}
+use Rattle.dr_world_tie.specs.Closing.{IsEnded, closed}
+use Rattle.dr_world_tie.specs.Ties.{with_desk}
+use Rattle.dr_world_tie.specs.ByteWorlds.{ByteWorld, Close, Done, Skipped, Steps, LinkStep, DoesIf, Closes, is_over, caller_of, receiver_of, with_done, with_call}
 use Rattle.dr_world.specs.declared.wires.Wires.{Wires}
 use Rattle.dr_world.specs.Shows.{Contents, Seat, Seats, ShowsBytes, IsSeated, Becomes, HasSide, IsLinked, LinkedAt, side_of, with_seat, with_side, with_wires, with_end_done}
 use Rattle.dr_world.specs.Closed.{AreLost, IsClosed}

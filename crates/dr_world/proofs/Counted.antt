@@ -10,17 +10,17 @@ use Rattle.std.specs.FinMap.{find, is_sorted}
 use Rattle.std.specs.FinMap.Entries.{below_all}
 use Rattle.std.proofs.lemmas.List.{length-map}
 use Rattle.dr_base.specs.Texts.{Text}
-use Rattle.dr_network.proofs.Gathered.{Contains-cons_cases, Contains-here, Contains-there, nothing_in_nil}
+use Rattle.dr_plan_model.proofs.Gathered.{Contains-cons_cases, Contains-here, Contains-there, nothing_in_nil}
 use Rattle.dr_ulstate.specs.declared.table.State.{State}
 use Rattle.dr_ulstate.specs.declared.table.State.TheVariants.{Sta1, Sta2, Sta3, Sta4, Sta5, Sta6, Sta7, Sta8, Sta9, Sta10, Sta11, Sta12, Sta13}
 use Rattle.dr_ulstate.specs.Phases.{state_of}
 use Rattle.dr_ledger.proofs.Maps.{same_or_not, ties_itself}
 use Rattle.dr_node.specs.declared.links.Side.{Side}
 use Rattle.dr_node.specs.Sides.{is_other, is_standing, is_taken}
-use Rattle.dr_model.proofs.Lookups.{numbers}
-use Rattle.dr_model.proofs.Picking.{sorted, first_of_two, both, both_true}
-use Rattle.dr_tie.specs.Channels.{Channel}
-use Rattle.dr_tie.specs.ByteWorlds.{ByteWorld, is_open, receiver_of}
+use Rattle.dr_world_model.proofs.Lookups.{numbers}
+use Rattle.dr_world_model.proofs.Picking.{sorted, first_of_two, both, both_true}
+use Rattle.dr_world_tie.specs.Channels.{Channel}
+use Rattle.dr_world_tie.specs.ByteWorlds.{ByteWorld, is_open, receiver_of}
 use Rattle.dr_world.specs.declared.wires.Wires.{Wires}
 use Rattle.dr_world.specs.Shows.{Contents, Seat, Seats, ShowsBytes, HasSide, IsLinked, LinkedAt, IsOfLink, side_of}
 use Rattle.dr_world.specs.Laws.{OthersAreCounted}

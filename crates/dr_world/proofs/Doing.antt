@@ -4,8 +4,8 @@ use Rattle.std.specs.Prelude.{if◌then◌else◌}
 use Rattle.std.specs.Ordering.{nat_cmp, eq_by_cmp}
 use Rattle.std.specs.FinMap as map
 use Rattle.dr_base.specs.Texts.{Text}
-use Rattle.dr_network.specs.Networks.{Network}
-use Rattle.dr_sound.specs.declared.certificate.Certificate.{Certificate}
+use Rattle.dr_plan_model.specs.Networks.{Network}
+use Rattle.dr_plan_sound.specs.declared.certificate.Certificate.{Certificate}
 use Rattle.dr_site.specs.Parts.{Part, IsPartOf}
 use Rattle.dr_pdu.specs.Feeding.{Feeding}
 use Rattle.dr_ledger.proofs.Maps.{texts, same_or_not, ties_itself, get_new, get_other, cases_of}
@@ -13,11 +13,11 @@ use Rattle.dr_session.specs.declared.ends.Effect.{Effect}
 use Rattle.dr_session.specs.Ledgers.{Desk}
 use Rattle.dr_node.specs.declared.links.Side.{Side}
 use Rattle.dr_node.specs.Sides.{is_taken}
-use Rattle.dr_model.proofs.Lookups.{numbers}
-use Rattle.dr_model.specs.Worlds.{same_text}
-use Rattle.dr_tie.specs.Channels.{Terminal, Channel, site_in, bytes_of}
-use Rattle.dr_tie.specs.Ties.{caller_as, receiver_as}
-use Rattle.dr_tie.specs.ByteWorlds.{ByteWorld, with_done}
+use Rattle.dr_world_model.proofs.Lookups.{numbers}
+use Rattle.dr_world_model.specs.Worlds.{same_text}
+use Rattle.dr_world_tie.specs.Channels.{Terminal, Channel, site_in, bytes_of}
+use Rattle.dr_world_tie.specs.Ties.{caller_as, receiver_as}
+use Rattle.dr_world_tie.specs.ByteWorlds.{ByteWorld, with_done}
 use Rattle.dr_world.specs.declared.wires.Wires.{Wires}
 use Rattle.dr_world.specs.Shows.{Contents, Seat, Seats, ShowsBytes, IsSeated, HasSide, IsLinked, LinkedAt, IsOfLink, side_of, desk_at, with_seat, with_side, with_wires, with_end_done}
 use Rattle.dr_world.proofs.AtNodes.{one_seat}

@@ -22,7 +22,7 @@ use Rattle.dr_session.specs.declared.ends.Told.TheVariants.{Plain}
 use Rattle.dr_session.specs.Desks.{DeskCall, DeskAnswer, Arrival, Upcoming, Settling}
 use Rattle.dr_session.specs.Reactions.{effect, moves, leaves_by, settling, left, desk_failed}
 use Rattle.dr_session.specs.Turns.{Turns, Ends}
-use Rattle.dr_tie.proofs.Leaving.{plain_turn}
+use Rattle.dr_world_tie.proofs.Leaving.{plain_turn}
 use Rattle.dr_world.proofs.Meeting.{Happened}
 
 -- the actions of a connection's end, each of which leads to Sta1

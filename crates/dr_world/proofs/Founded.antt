@@ -11,11 +11,11 @@ use Rattle.std.proofs.Math.Logic.{∥∥₁_map, ∥∥₁_map₂}
 use Rattle.std.specs.Option.{option_map}
 use Rattle.std.specs.Ordering.{nat_cmp}
 use Rattle.dr_base.specs.Texts.{Text, text_cmp}
-use Rattle.dr_network.specs.Networks.{Network}
-use Rattle.dr_sound.specs.declared.certificate.Certificate.{Certificate}
+use Rattle.dr_plan_model.specs.Networks.{Network}
+use Rattle.dr_plan_sound.specs.declared.certificate.Certificate.{Certificate}
 use Rattle.dr_ledger.specs.declared.ledger.Ledger.{Ghosts}
 use Rattle.dr_ledger.proofs.Maps.{texts, same_or_not, ties_itself}
-use Rattle.dr_model.specs.Worlds.{same_text}
+use Rattle.dr_world_model.specs.Worlds.{same_text}
 use Rattle.dr_node.specs.declared.node.Node.{Node}
 use Rattle.dr_world.specs.Founding.{AreFounded, AreNames, Founds, IsFounded, IsUnfitAt, SomeIsUnfit}
 use Rattle.dr_world.specs.declared.fault.WorldFault.{WorldFault}
@@ -29,12 +29,12 @@ use Rattle.dr_world.specs.Runs.{IsReached}
 use Rattle.dr_world.specs.Shows.{IsSeated, Seat}
 use Rattle.dr_world.specs.Whole.{AllStand, contents}
 use Rattle.dr_world.proofs.Beginning.{begins}
-use Rattle.dr_tie.specs.ByteWorlds.{beginning}
+use Rattle.dr_world_tie.specs.ByteWorlds.{beginning}
 use Rattle.dr_site.specs.Parts.{IsPartOf}
 use Rattle.dr_session.specs.Ledgers.{desk}
 use Rattle.dr_ledger.specs.Books.{Fold, empty_book}
-use Rattle.dr_network.specs.declared.plan.Node.{Node as PlannedNode}
-use Rattle.dr_network.proofs.Gathered.{Contains-cons_cases, Contains-here, Contains-there, nothing_in_nil}
+use Rattle.dr_plan_model.specs.declared.plan.Node.{Node as PlannedNode}
+use Rattle.dr_plan_model.proofs.Gathered.{Contains-cons_cases, Contains-here, Contains-there, nothing_in_nil}
 
 map_among : {X Y : Type 0} (g : X → Y) (xs : List X) (x : X) → Contains xs x → Contains (map g xs) (g x)
 map_among g [] x among = absurd (nothing_in_nil x among)

@@ -7,9 +7,9 @@ use Rattle.dr_pdu.specs.declared.pdu.Pdu.{Pdu}
 use Rattle.dr_pdu.specs.declared.pdu.Pdu.TheVariants as pdu
 use Rattle.dr_pdu.specs.Written.{Fits, MeetsLimit, written}
 use Rattle.dr_pdu.proofs.WrittenLemmas.{written_spells}
-use Rattle.dr_tie.specs.Channels.{Terminal}
-use Rattle.dr_tie.specs.ByteWorlds.{IsMoved}
-use Rattle.dr_tie.specs.Moves.{IsLeft}
+use Rattle.dr_world_tie.specs.Channels.{Terminal}
+use Rattle.dr_world_tie.specs.ByteWorlds.{IsMoved}
+use Rattle.dr_world_tie.specs.Moves.{IsLeft}
 use Rattle.dr_world.specs.Moved.{TellsLength, IsLeftOf, IsMovable}
 
 -- the limit 0 is met by each

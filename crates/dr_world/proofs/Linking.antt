@@ -8,8 +8,8 @@ use Rattle.std.specs.BTreeMap as tree
 use Rattle.std.specs.BTreeMap.{BTreeMap, is_at}
 use Rattle.std.specs.declared.alloc.AllocError.{AllocError}
 use Rattle.dr_base.specs.Texts.{Text, text_cmp}
-use Rattle.dr_network.specs.Networks.{Network}
-use Rattle.dr_sound.specs.declared.certificate.Certificate.{Certificate}
+use Rattle.dr_plan_model.specs.Networks.{Network}
+use Rattle.dr_plan_sound.specs.declared.certificate.Certificate.{Certificate}
 use Rattle.dr_site.specs.Parts.{Part}
 use Rattle.dr_site.specs.Sites.{IsCertified}
 use Rattle.dr_ledger.specs.declared.ledger.Ledger.{Ghosts}
@@ -24,10 +24,10 @@ use Rattle.dr_node.specs.declared.fault.NodeFault.TheVariants.{LinkUnknown}
 use Rattle.dr_node.specs.declared.links.Side.{Side as NodeSide}
 use Rattle.dr_node.specs.declared.node.Node.{Node}
 use Rattle.dr_node.specs.Sides.{Sides, Deed, Does, DoesIn, moment_at, with_end}
-use Rattle.dr_model.proofs.Lookups.{numbers}
-use Rattle.dr_tie.specs.Channels.{Channel}
-use Rattle.dr_tie.specs.ByteWorlds.{ByteWorld, Side, Requestor, Acceptor, WorldStep, Push, Abort, Release, Late, Steps, Skipped as WasSkipped}
-use Rattle.dr_tie.specs.ByteWorlds as bytes
+use Rattle.dr_world_model.proofs.Lookups.{numbers}
+use Rattle.dr_world_tie.specs.Channels.{Channel}
+use Rattle.dr_world_tie.specs.ByteWorlds.{ByteWorld, Side, Requestor, Acceptor, WorldStep, Push, Abort, Release, Late, Steps, Skipped as WasSkipped}
+use Rattle.dr_world_tie.specs.ByteWorlds as bytes
 use Rattle.dr_world.specs.declared.steps.StepNote.{StepNote}
 use Rattle.dr_world.specs.declared.steps.StepNote.TheVariants.{Skipped}
 use Rattle.dr_world.specs.declared.wires.Wires.{Wires}

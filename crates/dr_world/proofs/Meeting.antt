@@ -4,8 +4,8 @@ use Rattle.std.specs.Prelude.{◌&&◌, ◌||◌, is_some, length}
 use Rattle.std.specs.Option.{option_map_or}
 use Rattle.std.specs.FinMap as map
 use Rattle.dr_base.specs.Texts.{Text}
-use Rattle.dr_network.specs.Networks.{Network}
-use Rattle.dr_sound.specs.declared.certificate.Certificate.{Certificate}
+use Rattle.dr_plan_model.specs.Networks.{Network}
+use Rattle.dr_plan_sound.specs.declared.certificate.Certificate.{Certificate}
 use Rattle.dr_site.specs.Sites.{IsCertified}
 use Rattle.dr_ulstate.specs.declared.table.State.{State}
 use Rattle.dr_ulstate.specs.declared.table.State.TheVariants.{Sta1, Sta2, Sta3, Sta4, Sta5, Sta6, Sta7, Sta8, Sta9, Sta10, Sta11, Sta12, Sta13}
@@ -30,10 +30,10 @@ use Rattle.dr_session.specs.Reactions.{Reaction, effect, is_idle, is_free, is_im
 use Rattle.dr_session.specs.Turns.{Turns, Ends, Asks, Fails}
 use Rattle.dr_node.specs.declared.links.Side.{Side}
 use Rattle.dr_node.specs.Sides.{moment_at, with_end}
-use Rattle.dr_tie.specs.Desks.{LedgerStep}
-use Rattle.dr_tie.specs.Channels.{Terminal}
-use Rattle.dr_tie.specs.ByteWorlds.{ByteWorld, IsMoment, AreOthers, has_cell, acts_late}
-use Rattle.dr_tie.proofs.Sites.{site_steps}
+use Rattle.dr_world_tie.specs.Desks.{LedgerStep}
+use Rattle.dr_world_tie.specs.Channels.{Terminal}
+use Rattle.dr_world_tie.specs.ByteWorlds.{ByteWorld, IsMoment, AreOthers, has_cell, acts_late}
+use Rattle.dr_world_tie.proofs.Sites.{site_steps}
 use Rattle.dr_world.specs.Shows.{Contents, Seat, ShowsBytes, IsSeated, side_of}
 use Rattle.dr_world.proofs.Counted.{others_are_counted}
 use Rattle.dr_world.proofs.AtNodes.{desk_there}

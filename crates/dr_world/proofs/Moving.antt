@@ -4,8 +4,8 @@ use Rattle.std.specs.Prelude.{nat_le}
 use Rattle.std.specs.FinMap as map
 use Rattle.std.specs.declared.alloc.AllocError.{AllocError}
 use Rattle.dr_base.specs.Texts.{Text}
-use Rattle.dr_network.specs.Networks.{Network}
-use Rattle.dr_sound.specs.declared.certificate.Certificate.{Certificate}
+use Rattle.dr_plan_model.specs.Networks.{Network}
+use Rattle.dr_plan_sound.specs.declared.certificate.Certificate.{Certificate}
 use Rattle.dr_site.specs.Sites.{IsCertified}
 use Rattle.dr_pdu.specs.Feeding.{Feeding}
 use Rattle.dr_session.specs.declared.ends.Core.{Core}
@@ -19,9 +19,9 @@ use Rattle.dr_session.specs.Plays.{PlaysBytes}
 use Rattle.dr_node.specs.declared.event.LinkEvent.TheVariants as event
 use Rattle.dr_node.specs.declared.links.Side.{Side as NodeSide}
 use Rattle.dr_node.specs.Sides.{moment_at, with_end}
-use Rattle.dr_tie.specs.Desks.{LedgerStep}
-use Rattle.dr_tie.specs.Channels.{Terminal, Channel}
-use Rattle.dr_tie.specs.ByteWorlds.{ByteWorld, Move, Side, Requestor, Acceptor, StepNote, Done, LinkStep, DoesIf, ReadsIf, Moves, CallerReads, ReceiverReads, CallerHears, ReceiverHears, IsMoved, IsMoment, caller_of, receiver_of, core_at, is_over, with_done}
+use Rattle.dr_world_tie.specs.Desks.{LedgerStep}
+use Rattle.dr_world_tie.specs.Channels.{Terminal, Channel}
+use Rattle.dr_world_tie.specs.ByteWorlds.{ByteWorld, Move, Side, Requestor, Acceptor, StepNote, Done, LinkStep, DoesIf, ReadsIf, Moves, CallerReads, ReceiverReads, CallerHears, ReceiverHears, IsMoved, IsMoment, caller_of, receiver_of, core_at, is_over, with_done}
 use Rattle.dr_world.specs.Laws.{MoveIsShown}
 use Rattle.dr_world.specs.Shows.{Contents, ShowsBytes, IsSeated, Becomes, IsLinked, side_of}
 use Rattle.dr_world.specs.Ends.{IsDone, name_at, wire_at}

@@ -24,8 +24,8 @@ use Rattle.dr_session.specs.Desks.{DeskCall, DeskAnswer, Arrival, Upcoming, Sett
 use Rattle.dr_session.specs.Plays.{Reacts, at_moment}
 use Rattle.dr_session.specs.Reactions.{effect, turn, occurs, moves, leaves_by, settling, left, desk_failed, is_idle, is_free, is_impatient}
 use Rattle.dr_session.specs.Turns.{Turns, Ends}
-use Rattle.dr_tie.specs.ByteWorlds.{has_cell, acts_late}
-use Rattle.dr_tie.proofs.Leaving.{plain_turn}
+use Rattle.dr_world_tie.specs.ByteWorlds.{has_cell, acts_late}
+use Rattle.dr_world_tie.proofs.Leaving.{plain_turn}
 
 -- the actions of an end's own user and of its timer, which all write or close
 abbrev Speaks : Option Action → Type 0

@@ -8,13 +8,13 @@ use Rattle.dr_base.specs.Texts.{Text}
 use Rattle.dr_route.specs.declared.key.Key.{Key}
 use Rattle.dr_route.specs.declared.rule.Rule.{Rule}
 use Rattle.dr_route.specs.Routes.{SendsBy}
-use Rattle.dr_network.specs.Networks.{Network}
-use Rattle.dr_network.specs.Plans.{IsWellFormed}
-use Rattle.dr_network.specs.Formed.{IsWellFormedNode, IsWellFormedFlow, IsRuleOf, IsKnownName}
-use Rattle.dr_network.specs.Walks.{Sends}
-use Rattle.dr_network.proofs.Gathered.{Contains-here, Contains-there}
-use Rattle.dr_sound.specs.declared.certificate.Certificate.{Certificate}
-use Rattle.dr_sound.specs.declared.certificate.Hop.{Hop}
+use Rattle.dr_plan_model.specs.Networks.{Network}
+use Rattle.dr_plan_model.specs.Plans.{IsWellFormed}
+use Rattle.dr_plan_model.specs.Formed.{IsWellFormedNode, IsWellFormedFlow, IsRuleOf, IsKnownName}
+use Rattle.dr_plan_model.specs.Walks.{Sends}
+use Rattle.dr_plan_model.proofs.Gathered.{Contains-here, Contains-there}
+use Rattle.dr_plan_sound.specs.declared.certificate.Certificate.{Certificate}
+use Rattle.dr_plan_sound.specs.declared.certificate.Hop.{Hop}
 use Rattle.dr_site.specs.Parts.{Part, IsPartOf}
 use Rattle.dr_site.specs.Sites.{IsCertified}
 use Rattle.dr_site.proofs.ContextsAsPlanned.{hop_to, pairs_as_planned}
@@ -25,10 +25,10 @@ use Rattle.dr_session.specs.Ledgers.{Desk}
 use Rattle.dr_session.specs.Ends.{requesting}
 use Rattle.dr_node.specs.declared.links.Side.{Side}
 use Rattle.dr_node.specs.Sides.{is_taken, accepts_at}
-use Rattle.dr_model.proofs.Lookups.{numbers}
-use Rattle.dr_model.specs.Worlds.{same_text}
-use Rattle.dr_tie.specs.Channels.{Channel}
-use Rattle.dr_tie.specs.ByteWorlds.{ByteWorld, Open, Done, Skipped, Steps, HasNoHop, opened_between}
+use Rattle.dr_world_model.proofs.Lookups.{numbers}
+use Rattle.dr_world_model.specs.Worlds.{same_text}
+use Rattle.dr_world_tie.specs.Channels.{Channel}
+use Rattle.dr_world_tie.specs.ByteWorlds.{ByteWorld, Open, Done, Skipped, Steps, HasNoHop, opened_between}
 use Rattle.dr_world.specs.declared.wires.Wires.{Wires}
 use Rattle.dr_world.specs.Shows.{Contents, Seat, Seats, ShowsBytes, IsSeated, Becomes, HasSide, IsLinked, LinkedAt, IsOfLink, side_of, desk_at, with_seat, with_side, with_wires}
 use Rattle.dr_world.specs.Opened.{IsOpened, with_opened, asks_at}

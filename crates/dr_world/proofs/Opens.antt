@@ -9,9 +9,9 @@ use Rattle.std.specs.FinMap as map
 use Rattle.std.specs.BTreeMap as tree
 use Rattle.std.specs.BTreeMap.{BTreeMap, is_at}
 use Rattle.dr_base.specs.Texts.{Text, text_cmp}
-use Rattle.dr_network.specs.Networks.{Network}
-use Rattle.dr_sound.specs.declared.certificate.Certificate.{Certificate}
-use Rattle.dr_sound.specs.declared.certificate.Hop.{Hop}
+use Rattle.dr_plan_model.specs.Networks.{Network}
+use Rattle.dr_plan_sound.specs.declared.certificate.Certificate.{Certificate}
+use Rattle.dr_plan_sound.specs.declared.certificate.Hop.{Hop}
 use Rattle.dr_site.specs.Parts.{Part, IsPartOf}
 use Rattle.dr_site.specs.Sites.{IsCertified}
 use Rattle.dr_site.proofs.ContextsAsPlanned.{own_hop}
@@ -26,12 +26,12 @@ use Rattle.dr_node.specs.declared.fault.NodeFault.{NodeFault}
 use Rattle.dr_node.specs.declared.links.Side.{Side}
 use Rattle.dr_node.specs.declared.node.Node.{Node}
 use Rattle.dr_node.specs.Sides.{Sides, Accepts, AcceptsIn, Opens, OpensIn, accepts_at}
-use Rattle.dr_model.proofs.Lookups.{numbers}
-use Rattle.dr_model.specs.Worlds.{same_text}
-use Rattle.dr_model.specs.Events.{HasNode}
-use Rattle.dr_tie.specs.Channels.{bytes_of}
+use Rattle.dr_world_model.proofs.Lookups.{numbers}
+use Rattle.dr_world_model.specs.Worlds.{same_text}
+use Rattle.dr_world_model.specs.Events.{HasNode}
+use Rattle.dr_world_tie.specs.Channels.{bytes_of}
 use Rattle.dr_world.specs.Ends.{AreWritten}
-use Rattle.dr_tie.specs.ByteWorlds.{ByteWorld, Requestor, Open, Done, Skipped as WasSkipped, HasNoHop}
+use Rattle.dr_world_tie.specs.ByteWorlds.{ByteWorld, Requestor, Open, Done, Skipped as WasSkipped, HasNoHop}
 use Rattle.dr_world.specs.declared.steps.StepNote.TheVariants as note
 use Rattle.dr_world.specs.declared.wires.Wires.{Wires}
 use Rattle.dr_world.specs.declared.world.World.{World}

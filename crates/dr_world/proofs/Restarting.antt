@@ -12,11 +12,11 @@ use Rattle.std.proofs.lemmas.List.{append-nil, take_more, take_all}
 use Rattle.std.proofs.lemmas.List.Elements.{Contains-push, Contains-push_cases, Contains-append_left}
 use Rattle.std.proofs.lemmas.List.Kept.{IsStrictlySortedBy-filter}
 use Rattle.std.proofs.lemmas.Map.Views.{tells_apart, Contains-keys_from_lookup}
-use Rattle.dr_hops.proofs.Rows.{filter_has}
-use Rattle.dr_network.proofs.Gathered.{nothing_in_nil}
+use Rattle.dr_cert_hops.proofs.Rows.{filter_has}
+use Rattle.dr_plan_model.proofs.Gathered.{nothing_in_nil}
 use Rattle.dr_base.specs.Texts.{Text, text_cmp}
-use Rattle.dr_network.specs.Networks.{Network}
-use Rattle.dr_sound.specs.declared.certificate.Certificate.{Certificate}
+use Rattle.dr_plan_model.specs.Networks.{Network}
+use Rattle.dr_plan_sound.specs.declared.certificate.Certificate.{Certificate}
 use Rattle.dr_site.specs.Sites.{IsCertified}
 use Rattle.dr_ulstate.specs.declared.table.State.{State}
 use Rattle.dr_ledger.specs.declared.ledger.Ledger.{Ghosts}
@@ -29,12 +29,12 @@ use Rattle.dr_node.specs.declared.event.LinkEvent.TheVariants as event
 use Rattle.dr_node.specs.declared.links.Side.{Side}
 use Rattle.dr_node.specs.declared.node.Node.{Node}
 use Rattle.dr_node.specs.Sides.{Sides, is_standing, is_taken}
-use Rattle.dr_model.proofs.Lookups.{numbers}
-use Rattle.dr_model.specs.Worlds.{same_text}
-use Rattle.dr_model.specs.Events.{HasNode}
-use Rattle.dr_tie.specs.Channels.{Channel}
-use Rattle.dr_tie.specs.ByteWorlds.{Side as WorldSide, ByteWorld, AllFarEnd, AreLinksOf, Done, Restart, Restarts, Skipped as WasSkipped, is_there, caller_of, receiver_of}
-use Rattle.dr_tie.proofs.Others.{as_pairs}
+use Rattle.dr_world_model.proofs.Lookups.{numbers}
+use Rattle.dr_world_model.specs.Worlds.{same_text}
+use Rattle.dr_world_model.specs.Events.{HasNode}
+use Rattle.dr_world_tie.specs.Channels.{Channel}
+use Rattle.dr_world_tie.specs.ByteWorlds.{Side as WorldSide, ByteWorld, AllFarEnd, AreLinksOf, Done, Restart, Restarts, Skipped as WasSkipped, is_there, caller_of, receiver_of}
+use Rattle.dr_world_tie.proofs.Others.{as_pairs}
 use Rattle.dr_world.specs.declared.steps.StepNote.{StepNote}
 use Rattle.dr_world.specs.declared.steps.StepNote.TheVariants as note
 use Rattle.dr_world.specs.declared.wires.Wires.{Wires}

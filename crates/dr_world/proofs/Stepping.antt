@@ -5,17 +5,17 @@ use Rattle.std.specs.Option.{option_map}
 use Rattle.std.specs.BTreeMap as tree
 use Rattle.std.specs.BTreeMap.{BTreeMap}
 use Rattle.dr_base.specs.Texts.{Text, text_cmp}
-use Rattle.dr_network.specs.Networks.{Network}
-use Rattle.dr_sound.specs.declared.certificate.Certificate.{Certificate}
+use Rattle.dr_plan_model.specs.Networks.{Network}
+use Rattle.dr_plan_sound.specs.declared.certificate.Certificate.{Certificate}
 use Rattle.dr_site.specs.Sites.{IsCertified}
 use Rattle.dr_ledger.specs.declared.ledger.Ledger.{Ghosts}
 use Rattle.dr_ledger.specs.declared.content.Job.{Job}
 use Rattle.dr_ledger.proofs.Maps.{texts, same_or_not, ties_itself}
 use Rattle.dr_session.specs.Ledgers.{Desk}
 use Rattle.dr_node.specs.declared.node.Node.{Node}
-use Rattle.dr_model.specs.Worlds.{same_text}
-use Rattle.dr_tie.specs.ByteWorlds.{ByteWorld, WorldStep, Submit, Requeue, Refuse, Tick}
-use Rattle.dr_tie.specs.ByteWorlds as bytes
+use Rattle.dr_world_model.specs.Worlds.{same_text}
+use Rattle.dr_world_tie.specs.ByteWorlds.{ByteWorld, WorldStep, Submit, Requeue, Refuse, Tick}
+use Rattle.dr_world_tie.specs.ByteWorlds as bytes
 use Rattle.dr_world.specs.declared.steps.StepNote.{StepNote}
 use Rattle.dr_world.specs.declared.steps.StepNote.TheVariants.{Done}
 use Rattle.dr_world.specs.declared.world.World.{World}

@@ -2,19 +2,19 @@
 use Rattle.std.specs.Prelude.{◌≡◌, ℕ, ◌≤◌, false, List, length, map as mapped, Some}
 use Rattle.std.specs.FinMap as map
 use Rattle.dr_base.specs.Texts.{Text}
-use Rattle.dr_network.specs.Networks.{Network}
-use Rattle.dr_sound.specs.declared.certificate.Certificate.{Certificate}
+use Rattle.dr_plan_model.specs.Networks.{Network}
+use Rattle.dr_plan_sound.specs.declared.certificate.Certificate.{Certificate}
 use Rattle.dr_pdu.specs.declared.pdu.Pdu.{Pdu}
 use Rattle.dr_pdu.specs.Feeding.{Feeding, fresh}
 use Rattle.dr_session.specs.declared.ends.Effect.{Effect}
 use Rattle.dr_session.specs.declared.ends.Moment.{Moment}
 use Rattle.dr_session.specs.Ledgers.{Desk}
 use Rattle.dr_session.specs.Plays.{Plays, at_moment, inputs_of}
-use Rattle.dr_tie.specs.Desks.{LedgerStep}
-use Rattle.dr_tie.specs.Channels.{Terminal, Channel}
-use Rattle.dr_tie.specs.Moves.{IsLeft}
-use Rattle.dr_tie.specs.Ties.{caller_read, receiver_read}
-use Rattle.dr_tie.specs.ByteWorlds.{ByteWorld, Move, Side, Requestor, Acceptor, StepNote, Done, Steps, IsMoment, caller_of, receiver_of, core_at, is_over, with_done}
+use Rattle.dr_world_tie.specs.Desks.{LedgerStep}
+use Rattle.dr_world_tie.specs.Channels.{Terminal, Channel}
+use Rattle.dr_world_tie.specs.Moves.{IsLeft}
+use Rattle.dr_world_tie.specs.Ties.{caller_read, receiver_read}
+use Rattle.dr_world_tie.specs.ByteWorlds.{ByteWorld, Move, Side, Requestor, Acceptor, StepNote, Done, Steps, IsMoment, caller_of, receiver_of, core_at, is_over, with_done}
 
 -- an end of a link, its node, and what is on its way to it
 abbrev pub end_at : Side → Channel → Terminal

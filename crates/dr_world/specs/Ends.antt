@@ -10,10 +10,10 @@ use Rattle.dr_session.specs.Ends.{Terminal}
 use Rattle.dr_session.specs.Ledgers.{Desk}
 use Rattle.dr_node.specs.declared.links.Side.{Side as NodeSide}
 use Rattle.dr_node.specs.Sides.{moment_at, with_end}
-use Rattle.dr_tie.specs.Channels.{bytes_of}
-use Rattle.dr_tie.specs.ByteWorlds.{Side, Requestor, Acceptor, StepNote, Done, Skipped}
-use Rattle.dr_script.specs.declared.step.Side as steps
-use Rattle.dr_script.specs.declared.step.Side.TheVariants as side
+use Rattle.dr_world_tie.specs.Channels.{bytes_of}
+use Rattle.dr_world_tie.specs.ByteWorlds.{Side, Requestor, Acceptor, StepNote, Done, Skipped}
+use Rattle.dr_world_script.specs.declared.step.Side as steps
+use Rattle.dr_world_script.specs.declared.step.Side.TheVariants as side
 use Rattle.dr_world.specs.declared.wires.Wires.{Wires}
 use Rattle.dr_world.specs.Shows.{Contents, Seat, with_end_done}
 

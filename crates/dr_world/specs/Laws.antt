@@ -3,8 +3,8 @@ use Rattle.std.specs.Prelude.{◌≡◌, ℕ, ◌+◌, ◌^◌, ◌≢◌, min, 
 use Rattle.std.specs.FinMap as map
 use Rattle.dr_base.specs.Texts.{Text}
 use Rattle.dr_route.specs.Routes.{local}
-use Rattle.dr_network.specs.Networks.{Network}
-use Rattle.dr_sound.specs.declared.certificate.Certificate.{Certificate}
+use Rattle.dr_plan_model.specs.Networks.{Network}
+use Rattle.dr_plan_sound.specs.declared.certificate.Certificate.{Certificate}
 use Rattle.dr_site.specs.Sites.{IsCertified}
 use Rattle.dr_ledger.specs.declared.content.Job.{Job}
 use Rattle.dr_ledger.specs.Books.{empty_book}
@@ -17,13 +17,13 @@ use Rattle.dr_session.specs.Ledgers.{Desk, RoutedStep, desk}
 use Rattle.dr_ledger.specs.Refusals.{Arms}
 use Rattle.dr_ledger.specs.Replies.{Requeues, IsHeld}
 use Rattle.dr_node.specs.Sides.{others}
-use Rattle.dr_model.specs.Calls.{Reply, Answer}
-use Rattle.dr_tie.specs.ByteWorlds.{ByteWorld, beginning, WorldStep, Submit, Move, Restart, Requeue, Tick, Refuse, Side, Done, Skipped, AreOthers, IsMoved, note_of}
+use Rattle.dr_world_model.specs.Calls.{Reply, Answer}
+use Rattle.dr_world_tie.specs.ByteWorlds.{ByteWorld, beginning, WorldStep, Submit, Move, Restart, Requeue, Tick, Refuse, Side, Done, Skipped, AreOthers, IsMoved, note_of}
 use Rattle.dr_session.specs.declared.ends.Heard.TheVariants as heard
 use Rattle.dr_session.specs.declared.ends.LinkAction.{LinkAction}
 use Rattle.dr_session.specs.Ends.{is_gone, state_in}
 use Rattle.dr_node.specs.declared.event.LinkEvent.TheVariants as event
-use Rattle.dr_tie.specs.Channels.{Terminal}
+use Rattle.dr_world_tie.specs.Channels.{Terminal}
 use Rattle.dr_world.specs.Ends.{IsDone, wire_at}
 use Rattle.dr_world.specs.Nodes.{event_at}
 use Rattle.dr_world.specs.Shows.{Contents, Seat, ShowsBytes, IsSeated, Becomes, with_seat, with_desk_of}

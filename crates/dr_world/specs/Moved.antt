@@ -13,8 +13,8 @@ use Rattle.dr_session.specs.declared.ends.LinkAction.{LinkAction}
 use Rattle.dr_node.specs.declared.event.LinkEvent.TheVariants as event
 use Rattle.dr_node.specs.declared.links.Side.{Side as NodeSide}
 use Rattle.dr_node.specs.declared.node.Node.{Node}
-use Rattle.dr_tie.specs.Channels.{Terminal}
-use Rattle.dr_tie.specs.ByteWorlds.{Side, IsMoved}
+use Rattle.dr_world_tie.specs.Channels.{Terminal}
+use Rattle.dr_world_tie.specs.ByteWorlds.{Side, IsMoved}
 use Rattle.dr_world.specs.declared.fronts.Due.{Due}
 use Rattle.dr_world.specs.declared.fronts.Due.TheVariants as due
 use Rattle.dr_world.specs.declared.steps.StepNote.{StepNote}

@@ -5,7 +5,7 @@ use Rattle.std.specs.FinMap as map
 use Rattle.std.specs.BTreeMap as tree
 use Rattle.std.specs.BTreeMap.{BTreeMap}
 use Rattle.dr_base.specs.Texts.{Text, text_cmp}
-use Rattle.dr_sound.specs.declared.certificate.Hop.{Hop}
+use Rattle.dr_plan_sound.specs.declared.certificate.Hop.{Hop}
 use Rattle.dr_nego.specs.Proposing.{IsHopTo}
 use Rattle.dr_site.specs.Parts.{Part}
 use Rattle.dr_ledger.specs.declared.ledger.Ledger.{Ghosts}
@@ -16,7 +16,7 @@ use Rattle.dr_session.specs.Ledgers.{Desk, RoutedStep, desk}
 use Rattle.dr_node.specs.declared.event.LinkEvent.{LinkEvent}
 use Rattle.dr_node.specs.declared.node.Node.{Node}
 use Rattle.dr_node.specs.Sides.{Sides, Accepts, Deed, Does, MeetsEvent, Opens, Pushes, state_of_side}
-use Rattle.dr_model.specs.Worlds.{same_text}
+use Rattle.dr_world_model.specs.Worlds.{same_text}
 use Rattle.dr_world.specs.Shows.{Seat, Seats, with_seat}
 
 -- a node with its ledger as a desk; its site is its ledger's

@@ -10,8 +10,8 @@ use Rattle.dr_ledger.specs.declared.ledger.Ledger.{Ghosts}
 use Rattle.dr_node.specs.declared.node.Node.{Node}
 use Rattle.dr_session.specs.declared.ends.Heard.TheVariants as heard
 use Rattle.dr_node.specs.declared.event.LinkEvent.TheVariants as event
-use Rattle.dr_model.specs.Worlds.{same_text}
-use Rattle.dr_tie.specs.ByteWorlds.{Side, Requestor, Acceptor}
+use Rattle.dr_world_model.specs.Worlds.{same_text}
+use Rattle.dr_world_tie.specs.ByteWorlds.{Side, Requestor, Acceptor}
 use Rattle.dr_world.specs.declared.steps.StepNote.{StepNote}
 use Rattle.dr_world.specs.declared.wires.Wires.{Wires}
 use Rattle.dr_world.specs.declared.world.World.{World}

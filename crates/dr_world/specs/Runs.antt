@@ -3,17 +3,17 @@ use Rattle.std.specs.Prelude.{◌≡◌, List, [], ◌∷◌, ◌++◌, Some, ma
 use Rattle.std.specs.BTreeMap as tree
 use Rattle.dr_base.specs.Texts.{Text, text_cmp}
 use Rattle.dr_ledger.specs.declared.ledger.Ledger.{Ghosts}
-use Rattle.dr_network.specs.Networks.{Network}
-use Rattle.dr_sound.specs.declared.certificate.Certificate.{Certificate}
+use Rattle.dr_plan_model.specs.Networks.{Network}
+use Rattle.dr_plan_sound.specs.declared.certificate.Certificate.{Certificate}
 use Rattle.dr_site.specs.Sites.{IsCertified}
 use Rattle.dr_node.specs.declared.node.Node.{Node}
-use Rattle.dr_model.specs.Worlds as model
-use Rattle.dr_model.specs.Claims.{Headline}
-use Rattle.dr_tie.specs.ByteWorlds as bytes
-use Rattle.dr_tie.specs.ByteWorlds.{ByteWorld, beginning}
-use Rattle.dr_tie.specs.Shown.{RunsOf}
-use Rattle.dr_script.specs.declared.step.Step.{Step}
-use Rattle.dr_script.specs.declared.step.Step.TheVariants.{Submit, Open, Push, Move, Abort, Release, Close, Late, Restart, Requeue, Tick, RefuseStore}
+use Rattle.dr_world_model.specs.Worlds as model
+use Rattle.dr_world_model.specs.Claims.{Headline}
+use Rattle.dr_world_tie.specs.ByteWorlds as bytes
+use Rattle.dr_world_tie.specs.ByteWorlds.{ByteWorld, beginning}
+use Rattle.dr_world_tie.specs.Shown.{RunsOf}
+use Rattle.dr_world_script.specs.declared.step.Step.{Step}
+use Rattle.dr_world_script.specs.declared.step.Step.TheVariants.{Submit, Open, Push, Move, Abort, Release, Close, Late, Restart, Requeue, Tick, RefuseStore}
 use Rattle.dr_world.specs.declared.world.World.{World}
 use Rattle.dr_world.specs.Shows.{ShowsBytes, IsSeated}
 use Rattle.dr_world.specs.Ends.{named}

@@ -3,17 +3,17 @@ use Rattle.std.specs.Prelude.{◌≡◌, ◌≢◌, ◌⊎◌, ℕ, ◌<◌, Boo
 use Rattle.std.specs.Ordering.{nat_cmp, eq_by_cmp}
 use Rattle.std.specs.FinMap as map
 use Rattle.dr_base.specs.Texts.{Text}
-use Rattle.dr_network.specs.Networks.{Network}
-use Rattle.dr_sound.specs.declared.certificate.Certificate.{Certificate}
+use Rattle.dr_plan_model.specs.Networks.{Network}
+use Rattle.dr_plan_sound.specs.declared.certificate.Certificate.{Certificate}
 use Rattle.dr_site.specs.Parts.{Part, IsPartOf}
 use Rattle.dr_ledger.specs.Books.{empty_book}
 use Rattle.dr_session.specs.Ledgers.{Desk, desk}
 use Rattle.dr_node.specs.declared.links.Side.{Side}
 use Rattle.dr_node.specs.Sides.{Sides, is_taken}
-use Rattle.dr_model.specs.Worlds.{same_text}
-use Rattle.dr_model.specs.Events.{HasNode}
-use Rattle.dr_tie.specs.Channels.{Terminal, Channel}
-use Rattle.dr_tie.specs.ByteWorlds.{ByteWorld, WorldStep, StepNote, Steps, caller_of, receiver_of}
+use Rattle.dr_world_model.specs.Worlds.{same_text}
+use Rattle.dr_world_model.specs.Events.{HasNode}
+use Rattle.dr_world_tie.specs.Channels.{Terminal, Channel}
+use Rattle.dr_world_tie.specs.ByteWorlds.{ByteWorld, WorldStep, StepNote, Steps, caller_of, receiver_of}
 use Rattle.dr_world.specs.declared.wires.Wires.{Wires}
 
 -- a node: its site, its sides of links, and its ledger as a desk

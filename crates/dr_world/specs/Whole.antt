@@ -6,8 +6,8 @@ use Rattle.std.specs.BTreeMap as tree
 use Rattle.dr_base.specs.Texts.{Text, text_cmp}
 use Rattle.dr_route.specs.Routes.{local}
 use Rattle.dr_ledger.specs.declared.ledger.Ledger.{Ghosts}
-use Rattle.dr_network.specs.Networks.{Network}
-use Rattle.dr_sound.specs.declared.certificate.Certificate.{Certificate}
+use Rattle.dr_plan_model.specs.Networks.{Network}
+use Rattle.dr_plan_sound.specs.declared.certificate.Certificate.{Certificate}
 use Rattle.dr_site.specs.Sites.{IsCertified}
 use Rattle.dr_ledger.specs.declared.content.Job.{Job}
 use Rattle.dr_ledger.specs.Refusals.{Arms}
@@ -19,8 +19,8 @@ use Rattle.dr_node.specs.Sides.{Deed}
 use Rattle.dr_session.specs.declared.ends.LinkAction.{LinkAction}
 use Rattle.dr_session.specs.Desks.{Arrive, Arrival}
 use Rattle.dr_session.specs.Ledgers.{Desk, RoutedStep, desk}
-use Rattle.dr_model.specs.Calls.{Reply, Answer}
-use Rattle.dr_tie.specs.ByteWorlds as bytes
+use Rattle.dr_world_model.specs.Calls.{Reply, Answer}
+use Rattle.dr_world_tie.specs.ByteWorlds as bytes
 use Rattle.dr_world.specs.declared.steps.StepNote.{StepNote}
 use Rattle.dr_world.specs.declared.steps.StepNote.TheVariants.{Done, Skipped, Refused}
 use Rattle.dr_world.specs.declared.wires.Wires.{Wires}

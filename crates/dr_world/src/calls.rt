@@ -11,8 +11,8 @@ ghost use Rattle.dr_world.specs.Nodes.{AcceptsAt, IsDoneAt, OpensAt, event_at, o
 use dr_base::{Seq, Text};
 use dr_ledger::Ledger;
 use dr_node::{LinkEvent, Node, NodeFault};
+use dr_plan_sound::Hop;
 use dr_session::LinkAction;
-use dr_sound::Hop;
 use dr_ulstate::State;
 use std::collections::BTreeMap;
 

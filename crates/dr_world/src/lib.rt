@@ -20,7 +20,7 @@ pub mod time;
 pub mod wires;
 pub mod world;
 
-pub use dr_script::{Side, Step};
+pub use dr_world_script::{Side, Step};
 pub use fault::WorldFault;
 pub use listing::Listing;
 pub use playing::run;

@@ -8,9 +8,9 @@ use crate::world::World;
 use dr_base::Text;
 use dr_cert::Sealed;
 use dr_ledger::Refusing;
-use dr_memory::MemoryLedger;
-use dr_script::Step;
+use dr_ledger_memory::MemoryLedger;
 use dr_site::{Site, SiteFault};
+use dr_world_script::Step;
 use std::alloc::Global;
 
 /// A ledger in memory for each of these nodes.

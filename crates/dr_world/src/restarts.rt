@@ -2,7 +2,7 @@
 ghost use Rattle.std.specs.Prelude.{◌≡◌, IfOk, None, option_copied};
 ghost use Rattle.std.specs.BTreeMap as tree;
 ghost use Rattle.std.specs.Ordering.{nat_cmp};
-ghost use Rattle.dr_model.specs.Worlds.{same_text};
+ghost use Rattle.dr_world_model.specs.Worlds.{same_text};
 ghost use Rattle.dr_world.specs.Ends.{named};
 ghost use Rattle.dr_world.specs.Restarted.{AreForgotten, AreLinksAt, ComesUp, far_of, is_end};
 
@@ -10,7 +10,7 @@ use crate::wires::Wires;
 use dr_base::Text;
 use dr_ledger::Ledger;
 use dr_node::Node;
-use dr_script::Side;
+use dr_world_script::Side;
 use std::alloc::{AllocError, Global};
 use std::cmp::Ordering;
 use std::collections::BTreeMap;

@@ -1,14 +1,14 @@
 //! What is between the two ends of a link.
 ghost use Rattle.std.specs.Prelude.{◌≡◌, ◌++◌, ◌∷◌, [], IfOk, OnOk, drop, take};
-ghost use Rattle.dr_tie.specs.Channels.{bytes_of};
+ghost use Rattle.dr_world_tie.specs.Channels.{bytes_of};
 ghost use Rattle.dr_world.specs.Closed.{AreLost};
 ghost use Rattle.dr_world.specs.Ends.{AreWritten, name_at, named, wire_at};
 ghost use Rattle.dr_world.specs.Moved.{AreTaken};
 
 use bytes::BytesMut;
 use dr_base::{Octets, Text};
-use dr_script::Side;
 use dr_session::LinkAction;
+use dr_world_script::Side;
 use std::alloc::{AllocError, Global};
 
 /// A link between two nodes: its ends' names and what is under way.

@@ -4,7 +4,7 @@ ghost use Rattle.std.specs.BTreeMap as tree;
 ghost use Rattle.dr_base.specs.Texts.{text_cmp};
 ghost use Rattle.dr_session.specs.declared.ends.Heard.TheVariants as heard;
 ghost use Rattle.dr_node.specs.declared.event.LinkEvent.TheVariants as event_of;
-ghost use Rattle.dr_tie.specs.ByteWorlds.{Abort, Close as CloseStep, Late, Open, Push, Refuse, Release, Requestor, Requeue, Restart, Submit, Tick};
+ghost use Rattle.dr_world_tie.specs.ByteWorlds.{Abort, Close as CloseStep, Late, Open, Push, Refuse, Release, Requestor, Requeue, Restart, Submit, Tick};
 ghost use Rattle.dr_world.specs.declared.steps.StepNote.TheVariants.{Done as WasDone};
 ghost use Rattle.dr_world.specs.Ends.{named, note_by};
 ghost use Rattle.dr_world.specs.Nodes.{event_at, over_at, push_at as pushed_at};
@@ -26,8 +26,8 @@ use crate::wires::Wires;
 use dr_base::Text;
 use dr_ledger::{Item, Ledger, Refusing};
 use dr_node::{LinkEvent, Node};
-use dr_script::{Side, Step};
 use dr_session::{Heard, LinkAction};
+use dr_world_script::{Side, Step};
 use std::alloc::Global;
 use std::collections::BTreeMap;
 

@@ -3,7 +3,7 @@ ghost use Rattle.std.specs.Prelude.{◌≡◌, IfOk};
 ghost use Rattle.std.specs.BTreeMap as tree;
 ghost use Rattle.std.specs.Ordering.{nat_cmp};
 ghost use Rattle.dr_base.specs.Texts.{text_cmp};
-ghost use Rattle.dr_tie.specs.ByteWorlds.{Move};
+ghost use Rattle.dr_world_tie.specs.ByteWorlds.{Move};
 ghost use Rattle.dr_world.specs.Ends.{named, opposite};
 ghost use Rattle.dr_world.specs.Moved.{Hears, IsDue, IsDueAt, IsMovable, kept_at};
 ghost use Rattle.dr_world.specs.Whole.{StepsTo};
@@ -17,8 +17,8 @@ use crate::world::{World, ended};
 use dr_base::Text;
 use dr_ledger::Ledger;
 use dr_node::{LinkEvent, Node};
-use dr_script::Side;
 use dr_session::Heard;
+use dr_world_script::Side;
 use std::collections::BTreeMap;
 
 impl<L: Ledger> World<L> {

@@ -4,7 +4,7 @@ use Rattle.std.specs.BTreeSet.{contains}
 use Rattle.std.proofs.lemmas.Bool.{cases_lt, false≢true}
 use Rattle.std.proofs.lemmas.List.{get_or_default}
 use Rattle.std.proofs.lemmas.List.Elements.{Contains-get_or}
-use Rattle.dr_sound.specs.declared.certificate.Hop.{Hop}
+use Rattle.dr_plan_sound.specs.declared.certificate.Hop.{Hop}
 use Rattle.dr_cert.specs.HopSets.{numbered, numbered_cmp}
 use Rattle.dr_cert.specs.declared.hop_list.NumberedPassage.{NumberedPassage}
 use Rattle.dr_cert.proofs.HopLists.{in_set}

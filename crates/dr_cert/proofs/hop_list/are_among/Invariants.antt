@@ -1,5 +1,5 @@
 use Rattle.std.proofs.Common.{ℕ, ◌<◌, get_or, Contains}
-use Rattle.dr_sound.specs.declared.certificate.Hop.{Hop}
+use Rattle.dr_plan_sound.specs.declared.certificate.Hop.{Hop}
 use Rattle.dr_cert.proofs.hop_list.are_among.Given as goal
 
 abbrev pub invariant-loop-hop : goal.invariant-loop-hop

@@ -1,7 +1,7 @@
 use Rattle.std.proofs.Common.{subst, List, Contains}
 use Rattle.std.specs.Prelude.{◌↔◌, IsTrue}
-use Rattle.dr_sound.specs.declared.certificate.Hop.{Hop}
-use Rattle.dr_sound.specs.HopPairs.{IsFirstTooMany}
+use Rattle.dr_plan_sound.specs.declared.certificate.Hop.{Hop}
+use Rattle.dr_plan_sound.specs.HopPairs.{IsFirstTooMany}
 use Rattle.dr_cert.proofs.HopLists.{right_hops, too_many}
 use Rattle.dr_cert.proofs.hop_list.are_right_hops.Goals as goal
 

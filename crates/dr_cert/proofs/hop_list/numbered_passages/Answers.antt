@@ -1,7 +1,7 @@
 use Rattle.std.proofs.Common.{arith, ◌≡◌, ◌+◌, ◌++◌, ◌∷◌, [], sym, subst, List, take, true}
 use Rattle.std.specs.BTreeSet.{Updates}
 use Rattle.std.proofs.lemmas.List.{take_more, take_all}
-use Rattle.dr_sound.specs.declared.certificate.Hop.{Hop}
+use Rattle.dr_plan_sound.specs.declared.certificate.Hop.{Hop}
 use Rattle.dr_cert.specs.HopSets.{numbered_cmp, AreTheNumbered}
 use Rattle.dr_cert.specs.declared.hop_list.NumberedPassage.{NumberedPassage}
 use Rattle.dr_cert.proofs.HopLists.{numbered_none, numbered_more}

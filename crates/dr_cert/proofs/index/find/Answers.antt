@@ -1,7 +1,7 @@
 use Rattle.std.proofs.Common.{rules}
 use Rattle.std.proofs.lemmas.Fn.{always_returns_same}
 use Rattle.dr_cert.proofs.Stops.{found, not_found}
-use Rattle.dr_sound.specs.Stops.{stop_cmp}
+use Rattle.dr_plan_sound.specs.Stops.{stop_cmp}
 use Rattle.dr_cert.proofs.index.find.Goals as goal
 
 pub returns-in-Ok : goal.returns-in-Ok

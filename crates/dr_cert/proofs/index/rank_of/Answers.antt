@@ -1,6 +1,6 @@
 use Rattle.std.proofs.Common.{List, get_or}
 use Rattle.std.proofs.lemmas.Option.{slice_get-get_or}
-use Rattle.dr_sound.specs.declared.certificate.Line.{Line}
+use Rattle.dr_plan_sound.specs.declared.certificate.Line.{Line}
 use Rattle.dr_cert.proofs.Marks.{in_lines}
 use Rattle.dr_cert.proofs.Following.{stands_there}
 use Rattle.dr_cert.proofs.index.rank_of.Goals as goal

@@ -1,9 +1,9 @@
 use Rattle.std.proofs.Common.{◌≡◌, ◌+◌, ◌++◌, ◌∷◌, [], sym, subst, List, take, Some}
 use Rattle.std.specs.BTreeMap.{Updates}
 use Rattle.std.proofs.lemmas.List.{take_more}
-use Rattle.dr_sound.specs.declared.certificate.Stop.{Stop}
-use Rattle.dr_sound.specs.declared.certificate.Line.{Line}
-use Rattle.dr_sound.specs.Stops.{stop_cmp}
+use Rattle.dr_plan_sound.specs.declared.certificate.Stop.{Stop}
+use Rattle.dr_plan_sound.specs.declared.certificate.Line.{Line}
+use Rattle.dr_plan_sound.specs.Stops.{stop_cmp}
 use Rattle.dr_cert.specs.Indexing.{AreRanksOf}
 use Rattle.dr_cert.proofs.Indexes.{ranks_more}
 use Rattle.dr_cert.proofs.index.ranks_of.Goals as goal

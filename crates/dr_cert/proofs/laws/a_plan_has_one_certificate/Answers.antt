@@ -2,13 +2,13 @@ use Rattle.std.proofs.Common.{◌≡◌, sym, ◌∙◌}
 use Rattle.std.specs.Cmp.Lexicographic.{nat_list_cmp_total}
 use Rattle.std.proofs.lemmas.Cmp.{on_total}
 use Rattle.dr_base.specs.Texts.{text_cmp}
-use Rattle.dr_network.specs.Networks.{Network}
-use Rattle.dr_sound.specs.declared.certificate.Line.{Line}
-use Rattle.dr_sound.specs.declared.certificate.Hop.{Hop}
-use Rattle.dr_sound.specs.declared.certificate.Certificate.{Certificate}
-use Rattle.dr_sound.specs.Certificates.{IsCertificateOf}
-use Rattle.dr_sound.specs.Printed.{printed_line, printed_hop}
-use Rattle.dr_hops.proofs.Rows.{same_sorted}
+use Rattle.dr_plan_model.specs.Networks.{Network}
+use Rattle.dr_plan_sound.specs.declared.certificate.Line.{Line}
+use Rattle.dr_plan_sound.specs.declared.certificate.Hop.{Hop}
+use Rattle.dr_plan_sound.specs.declared.certificate.Certificate.{Certificate}
+use Rattle.dr_plan_sound.specs.Certificates.{IsCertificateOf}
+use Rattle.dr_plan_sound.specs.Printed.{printed_line, printed_hop}
+use Rattle.dr_cert_hops.proofs.Rows.{same_sorted}
 use Rattle.dr_cert.proofs.laws.a_plan_has_one_certificate.Goals as goal
 
 same_parts : (a b : Certificate) → a.format ≡ b.format → a.digest ≡ b.digest → a.hops ≡ b.hops → a.lines ≡ b.lines → a ≡ b

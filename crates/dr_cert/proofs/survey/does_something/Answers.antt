@@ -3,7 +3,7 @@ use Rattle.std.specs.Prelude.{IsTrue, ◌==◌, not, ◌↔◌, Bool}
 use Rattle.std.proofs.lemmas.Bool.{false≢true, cases_Bool}
 use Rattle.std.proofs.lemmas.Bool.Decides.{Decides-eqb}
 use Rattle.dr_base.specs.Texts.{Text}
-use Rattle.dr_network.proofs.Gathered.{Contains-here, nothing_in_nil}
+use Rattle.dr_plan_model.proofs.Gathered.{Contains-here, nothing_in_nil}
 use Rattle.dr_cert.proofs.survey.does_something.Goals as goal
 
 not_none : (name : Text) (names : List Text) → IsTrue (not (length (name ∷ names) == 0))

@@ -1,7 +1,7 @@
 use Rattle.std.proofs.Common.{◌≡◌, ℕ, ◌<◌, inl, inr, refl, sym, ◌∙◌, ap, subst, length, get_or, Contains, arith}
 use Rattle.std.proofs.lemmas.Bool.{cases_lt}
 use Rattle.std.proofs.lemmas.List.{get_or_default}
-use Rattle.dr_sound.specs.declared.certificate.Line.{Line}
+use Rattle.dr_plan_sound.specs.declared.certificate.Line.{Line}
 use Rattle.dr_cert.proofs.verify.are_indexed.Goals as goal
 
 pub loop-line-preserved : goal.loop-line-preserved

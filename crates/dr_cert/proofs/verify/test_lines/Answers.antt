@@ -1,9 +1,9 @@
 use Rattle.std.proofs.Common.{sym, ◌∙◌, subst, List, Contains}
 use Rattle.std.specs.Prelude.{IsTrue, ◌↔◌}
 use Rattle.std.proofs.lemmas.Bool.{false≢true}
-use Rattle.dr_sound.specs.declared.certificate.Line.{Line}
-use Rattle.dr_sound.specs.declared.certificate.Hop.{Hop}
-use Rattle.dr_sound.specs.Ranked.{AreRanked}
+use Rattle.dr_plan_sound.specs.declared.certificate.Line.{Line}
+use Rattle.dr_plan_sound.specs.declared.certificate.Hop.{Hop}
+use Rattle.dr_plan_sound.specs.Ranked.{AreRanked}
 use Rattle.dr_cert.specs.Conditions.{HasRightHops}
 use Rattle.dr_cert.proofs.Verified.{right_to, right_are_indexed, indexed_are_right, sealed}
 use Rattle.dr_cert.proofs.verify.test_lines.Goals as goal

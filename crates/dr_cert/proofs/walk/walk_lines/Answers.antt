@@ -1,6 +1,6 @@
 use Rattle.std.proofs.Common.{◌<◌, refl, sym, ◌∙◌, subst, rules}
-use Rattle.dr_network.specs.Networks.{Network}
-use Rattle.dr_entry.specs.Visiting.{GoesOn, FindsAt, IsEntryCell}
+use Rattle.dr_plan_model.specs.Networks.{Network}
+use Rattle.dr_plan_entries.specs.Visiting.{GoesOn, FindsAt, IsEntryCell}
 use Rattle.dr_cert.specs.Conditions.{HasEachLine}
 use Rattle.dr_cert.specs.Walking.{IsWalking, HasVisited, Shows}
 use Rattle.dr_cert.specs.declared.walker.Walker.{Walker}

@@ -1,6 +1,6 @@
 use Rattle.std.proofs.Common.{◌≤◌, sym, subst, List, ℕ, length}
-use Rattle.dr_sound.specs.Soundness.{IsSound}
-use Rattle.dr_sound.specs.Certificates.{IsCertificateOf}
+use Rattle.dr_plan_sound.specs.Soundness.{IsSound}
+use Rattle.dr_plan_sound.specs.Certificates.{IsCertificateOf}
 use Rattle.dr_cert_text.specs.Printable.{IsPrintable, IsDigest}
 use Rattle.dr_certify.proofs.Digests.{is_digest}
 use Rattle.dr_certify.proofs.certificate.certify.Goals as goal

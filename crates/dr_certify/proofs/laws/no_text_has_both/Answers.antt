@@ -1,8 +1,8 @@
 use Rattle.std.proofs.Common.{◌≡◌, ◌≢◌, ◌<◌, ◌≤◌, length, sym, subst, inl, inr, Ok, Err, refl, arith}
 use Rattle.std.specs.Prelude.{Result}
 use Rattle.dr_base.specs.Texts.{Text}
-use Rattle.dr_network.specs.Networks.{Network}
-use Rattle.dr_sound.specs.Soundness.{IsSound}
+use Rattle.dr_plan_model.specs.Networks.{Network}
+use Rattle.dr_plan_sound.specs.Soundness.{IsSound}
 use Rattle.dr_check.specs.Shown.{IsTooLarge}
 use Rattle.dr_check.specs.Laws.{TooLargeHasManyLines}
 use Rattle.dr_check.proofs.Unsound.{no_sound_plan}

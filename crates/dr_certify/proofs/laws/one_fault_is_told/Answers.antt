@@ -1,5 +1,5 @@
 use Rattle.std.proofs.Common.{subst}
-use Rattle.dr_network.specs.Networks.{Network}
+use Rattle.dr_plan_model.specs.Networks.{Network}
 use Rattle.dr_check.specs.Answering.{Judges}
 use Rattle.dr_check.specs.declared.verdict.Verdict.TheVariants.{No}
 use Rattle.dr_certify.proofs.Read.{read_once}

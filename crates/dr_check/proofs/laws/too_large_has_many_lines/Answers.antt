@@ -1,15 +1,15 @@
 use Rattle.std.proofs.Common.{◌≡◌, ◌<◌, ◌≤◌, List, length, Contains, get_or, arith}
 use Rattle.std.specs.Prelude.{All, map}
 use Rattle.std.proofs.lemmas.List.{length-map}
-use Rattle.dr_network.specs.Networks.{Network}
-use Rattle.dr_sound.specs.declared.certificate.Stop.{Stop}
-use Rattle.dr_sound.specs.declared.certificate.Line.{Line}
-use Rattle.dr_sound.specs.declared.certificate.Certificate.{Certificate}
-use Rattle.dr_sound.specs.Soundness.{IsSound}
-use Rattle.dr_sound.specs.Certificates.{IsCertificateOf}
-use Rattle.dr_sound.proofs.Ranks.{sound_has_rank}
-use Rattle.dr_sound.proofs.Pigeons.{no_more_than}
-use Rattle.dr_hops.proofs.Rows.{map_of}
+use Rattle.dr_plan_model.specs.Networks.{Network}
+use Rattle.dr_plan_sound.specs.declared.certificate.Stop.{Stop}
+use Rattle.dr_plan_sound.specs.declared.certificate.Line.{Line}
+use Rattle.dr_plan_sound.specs.declared.certificate.Certificate.{Certificate}
+use Rattle.dr_plan_sound.specs.Soundness.{IsSound}
+use Rattle.dr_plan_sound.specs.Certificates.{IsCertificateOf}
+use Rattle.dr_plan_sound.proofs.Ranks.{sound_has_rank}
+use Rattle.dr_plan_sound.proofs.Pigeons.{no_more_than}
+use Rattle.dr_cert_hops.proofs.Rows.{map_of}
 use Rattle.dr_check.specs.Shown.{IsTooLarge}
 use Rattle.dr_check.proofs.laws.too_large_has_many_lines.Goals as goal
 

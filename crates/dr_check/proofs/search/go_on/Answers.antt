@@ -5,7 +5,7 @@ use Rattle.std.proofs.lemmas.List.Elements.{Contains-get_or}
 use Rattle.dr_base.specs.Texts.{Text}
 use Rattle.dr_route.specs.Laws.{key_of}
 use Rattle.dr_route.specs.declared.key.Key.{Key}
-use Rattle.dr_sound.specs.Ranked.{SendsOn}
+use Rattle.dr_plan_sound.specs.Ranked.{SendsOn}
 use Rattle.dr_check.specs.declared.search.Mark.TheVariants.{Finished}
 use Rattle.dr_check.specs.Searching.{IsTrail, IsTaken, IsNew, IsEnd, IsFirstEnd, IsFirstYet, WasTested, mark_at, stop_at}
 use Rattle.dr_check.specs.Stacks.{IsTop}

@@ -5,9 +5,9 @@ use Rattle.std.proofs.Math.Logic.{⊎_elim}
 use Rattle.dr_base.specs.Texts.{Text}
 use Rattle.dr_route.specs.Laws.{key_of}
 use Rattle.dr_route.specs.declared.key.Key.{Key}
-use Rattle.dr_network.specs.Walks.{Keeps, Sends}
-use Rattle.dr_network.proofs.Gathered.{nothing_in_nil}
-use Rattle.dr_sound.specs.declared.certificate.Stop.{Stop}
+use Rattle.dr_plan_model.specs.Walks.{Keeps, Sends}
+use Rattle.dr_plan_model.proofs.Gathered.{nothing_in_nil}
+use Rattle.dr_plan_sound.specs.declared.certificate.Stop.{Stop}
 use Rattle.dr_check.specs.declared.search.Mark.{Mark}
 use Rattle.dr_check.specs.declared.search.Mark.TheVariants.{Open}
 use Rattle.dr_check.specs.Searching.{IsTrail, mark_at, stop_at, IsTaken}

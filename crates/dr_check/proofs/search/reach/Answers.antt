@@ -3,8 +3,8 @@ use Rattle.dr_base.specs.Texts.{Text}
 use Rattle.dr_route.specs.declared.key.Key.{Key}
 use Rattle.dr_check.specs.declared.search.Search.{Search}
 use Rattle.dr_check.specs.declared.search.Frame.{Frame}
-use Rattle.dr_network.specs.Networks.{Network}
-use Rattle.dr_network.proofs.Gathered.{nothing_in_nil}
+use Rattle.dr_plan_model.specs.Networks.{Network}
+use Rattle.dr_plan_model.proofs.Gathered.{nothing_in_nil}
 use Rattle.dr_route.specs.Routes.{local}
 use Rattle.dr_route.specs.declared.cell.OwnedCell.{OwnedCell}
 use Rattle.dr_check.specs.Searching.{IsTrail, IsNew, IsEnd, IsFirstEnd, IsFirstYet, IsAllOpen, WasTested, pairs_from}

@@ -3,8 +3,8 @@ use Rattle.std.specs.BTreeMap.{btree_map_len}
 use Rattle.std.proofs.lemmas.List.{reverse-append}
 use Rattle.dr_base.specs.Texts.{Text}
 use Rattle.dr_route.specs.Laws.{key_of}
-use Rattle.dr_sound.specs.declared.certificate.Stop.{Stop}
-use Rattle.dr_sound.specs.Ranked.{SendsOn}
+use Rattle.dr_plan_sound.specs.declared.certificate.Stop.{Stop}
+use Rattle.dr_plan_sound.specs.Ranked.{SendsOn}
 use Rattle.dr_check.specs.declared.search.Search.{Search}
 use Rattle.dr_check.specs.declared.search.Frame.{Frame}
 use Rattle.dr_check.specs.Searching.{IsNew, IsDone, IsFirstEnd, IsFirstYet}

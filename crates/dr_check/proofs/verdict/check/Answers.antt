@@ -1,9 +1,9 @@
 use Rattle.std.proofs.Common.{◌≡◌, ◌≢◌, sym, ◌∙◌, ap, subst, List}
 use Rattle.std.specs.Prelude.{AllPairs}
-use Rattle.dr_network.specs.Networks.{Network}
-use Rattle.dr_sound.specs.declared.certificate.Line.{Line}
-use Rattle.dr_sound.specs.Ranked.{AreRanked}
-use Rattle.dr_entry.specs.Visiting.{GoesOn, FindsAt, IsEntryCell}
+use Rattle.dr_plan_model.specs.Networks.{Network}
+use Rattle.dr_plan_sound.specs.declared.certificate.Line.{Line}
+use Rattle.dr_plan_sound.specs.Ranked.{AreRanked}
+use Rattle.dr_plan_entries.specs.Visiting.{GoesOn, FindsAt, IsEntryCell}
 use Rattle.dr_check.specs.Stopping.{IsStoppedAt}
 use Rattle.dr_check.proofs.Entered.{stops_first}
 use Rattle.dr_check.specs.declared.checker.Checker.{Checker}

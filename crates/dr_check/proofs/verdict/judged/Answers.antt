@@ -1,9 +1,9 @@
 use Rattle.std.proofs.Common.{◌≡◌, ℕ, sym, subst, List, length, ◌≤◌, arith}
-use Rattle.dr_network.proofs.WalksAlike.{all_from_each}
-use Rattle.dr_sound.specs.declared.certificate.Line.{Line}
-use Rattle.dr_sound.specs.HopPairs.{AreNumbered, IsFirstTooMany}
-use Rattle.dr_sound.proofs.RankedLines.{lines_are_the_lines}
-use Rattle.dr_sound.proofs.Hopping.{sound_by_lines}
+use Rattle.dr_plan_model.proofs.WalksAlike.{all_from_each}
+use Rattle.dr_plan_sound.specs.declared.certificate.Line.{Line}
+use Rattle.dr_plan_sound.specs.HopPairs.{AreNumbered, IsFirstTooMany}
+use Rattle.dr_plan_sound.proofs.RankedLines.{lines_are_the_lines}
+use Rattle.dr_plan_sound.proofs.Hopping.{sound_by_lines}
 use Rattle.dr_cert_text.specs.Printable.{IsPrintableLine, IsPrintableHop, IsDigest}
 use Rattle.dr_check.proofs.Entered.{no_entry_shows}
 use Rattle.dr_check.proofs.Overfull.{first_overfull}

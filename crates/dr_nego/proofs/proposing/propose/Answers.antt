@@ -1,7 +1,7 @@
 use Rattle.std.proofs.Common.{List, map, sym, ap, ◌∙◌}
 use Rattle.std.specs.Prelude.{replicate}
 use Rattle.dr_base.specs.Texts.{Text}
-use Rattle.dr_sound.specs.declared.certificate.Hop.{Hop}
+use Rattle.dr_plan_sound.specs.declared.certificate.Hop.{Hop}
 use Rattle.dr_pdu.specs.declared.pdu.Front.{Front}
 use Rattle.dr_nego.specs.Proposing.{context_of}
 use Rattle.dr_nego.proofs.Proposed.{no_hop, proposed}

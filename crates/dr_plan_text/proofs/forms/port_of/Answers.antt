@@ -1,5 +1,5 @@
 use Rattle.std.proofs.Common.{get_or}
-use Rattle.dr_network.specs.Formed.{IsDigit}
+use Rattle.dr_plan_model.specs.Formed.{IsDigit}
 use Rattle.dr_plan_text.proofs.Ports.{digit_is, one_digit_more}
 use Rattle.dr_plan_text.proofs.forms.port_of.Goals as goal
 

@@ -1,7 +1,7 @@
 use Rattle.std.proofs.Common.{refl, sym, ◌∙◌, subst, [], ◌∷◌}
 use Rattle.std.proofs.lemmas.Bool.{false≢true}
 use Rattle.std.proofs.lemmas.List.{append_cancel_right}
-use Rattle.dr_network.specs.Formed.{IsPrefix}
+use Rattle.dr_plan_model.specs.Formed.{IsPrefix}
 use Rattle.dr_plan_text.proofs.stations.prefix_in.Goals as goal
 
 pub returns-then-is_prefix : goal.returns-then-is_prefix

@@ -1,8 +1,8 @@
 use Rattle.std.proofs.Common.{◌≡◌, ◌∙◌, sym, ap, take, arith, List, ◌++◌}
 use Rattle.std.proofs.lemmas.List.{take_all}
 use Rattle.dr_base.specs.Texts.{Text}
-use Rattle.dr_network.specs.Naming.{station_of, prefix_of}
-use Rattle.dr_network.proofs.Gathered.{flat_map-one_more}
+use Rattle.dr_plan_model.specs.Naming.{station_of, prefix_of}
+use Rattle.dr_plan_model.proofs.Gathered.{flat_map-one_more}
 use Rattle.dr_plan_text.proofs.stations.values_of.Goals as goal
 
 pub loop-pattern-preserved : goal.loop-pattern-preserved

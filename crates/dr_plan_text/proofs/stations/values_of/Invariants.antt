@@ -1,6 +1,6 @@
 use Rattle.std.proofs.Common.{◌≡◌, take}
 use Rattle.std.specs.Prelude.{flat_map}
-use Rattle.dr_network.specs.Naming.{station_of, prefix_of}
+use Rattle.dr_plan_model.specs.Naming.{station_of, prefix_of}
 use Rattle.dr_plan_text.proofs.stations.values_of.Given as goal
 
 abbrev pub invariant-loop-pattern : goal.invariant-loop-pattern

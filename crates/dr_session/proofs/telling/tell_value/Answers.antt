@@ -1,6 +1,6 @@
 use Rattle.std.proofs.Common.{Some, None, Ok, Err, refl}
 use Rattle.dr_dimse.specs.declared.fault.DimseFault.TheVariants as dimse
-use Rattle.dr_hearing.specs.Stores.{message_of}
+use Rattle.dr_dimse_scan.specs.Stores.{message_of}
 use Rattle.dr_session.specs.declared.ends.Told.TheVariants.{Quiet, Fault}
 use Rattle.dr_session.proofs.Saying.{tells_unagreed, tells_strange, tells_taken, says_by, by_ok, by_err}
 use Rattle.dr_session.proofs.telling.tell_value.Goals as goal

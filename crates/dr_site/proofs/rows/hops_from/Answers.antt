@@ -2,7 +2,7 @@ use Rattle.std.proofs.Common.{sym, subst, List, rules}
 use Rattle.std.specs.Prelude.{IsPermutation}
 use Rattle.std.specs.List.Sorted.{IsNonDecreasingBy}
 use Rattle.std.proofs.lemmas.List.Sorted.{IsNonDecreasingBy-from_sort_by_key}
-use Rattle.dr_sound.specs.declared.certificate.Hop.{Hop}
+use Rattle.dr_plan_sound.specs.declared.certificate.Hop.{Hop}
 use Rattle.dr_site.specs.Parts.{AreHopsFrom}
 use Rattle.dr_site.proofs.rows.hops_from.Goals as goal
 

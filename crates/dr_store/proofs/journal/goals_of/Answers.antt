@@ -1,6 +1,6 @@
 use Rattle.std.proofs.Common.{rules}
 use Rattle.std.proofs.lemmas.List.Sorted.{IsPartitionPoint-from_clause, IsPartitionedBy-leb, IsPartitionedBy-ltb}
-use Rattle.dr_lists.specs.Lists.{Goal}
+use Rattle.dr_store_lists.specs.Lists.{Goal}
 use Rattle.dr_store.proofs.Runs.{IsBefore, IsUpTo, Parts, none_of, some_of}
 use Rattle.dr_store.proofs.journal.goals_of.Goals as goal
 

@@ -1,6 +1,6 @@
 use Rattle.std.proofs.Common.{◌+◌, List, ℕ, take, sym, subst}
 use Rattle.dr_ledger.specs.declared.item.Entry.{Entry}
-use Rattle.dr_lists.specs.declared.listing.Note.{Note}
+use Rattle.dr_store_lists.specs.declared.listing.Note.{Note}
 use Rattle.dr_store.specs.Journals.{AreEntries, IsEntry}
 use Rattle.dr_store.proofs.Zips.{zip_more}
 use Rattle.dr_store.proofs.journal.lines_of_notes.Goals as goal

@@ -6,12 +6,12 @@ use Rattle.dr_base.specs.Texts.{Text}
 use Rattle.dr_route.specs.declared.key.Key.{Key}
 use Rattle.dr_ledger.specs.declared.item.Entry.{Entry}
 use Rattle.dr_ledger.specs.Replies.{Lists, entry_of}
-use Rattle.dr_tables.specs.Books.{lines_of}
-use Rattle.dr_lists.specs.declared.listing.Note.{Note}
-use Rattle.dr_lists.specs.Lists.{Goal, IsJournal, goal_cmp, goals_of, keys_of, whole_prints_of}
-use Rattle.dr_queries.specs.declared.finding.Print.{Print}
-use Rattle.dr_booking.proofs.Calls.{asked_looked}
-use Rattle.dr_booking.proofs.Reading.{reads_as}
+use Rattle.dr_store_schema.specs.Books.{lines_of}
+use Rattle.dr_store_lists.specs.declared.listing.Note.{Note}
+use Rattle.dr_store_lists.specs.Lists.{Goal, IsJournal, goal_cmp, goals_of, keys_of, whole_prints_of}
+use Rattle.dr_store_reads.specs.declared.finding.Print.{Print}
+use Rattle.dr_store_calls.proofs.Calls.{asked_looked}
+use Rattle.dr_store_calls.proofs.Reading.{reads_as}
 use Rattle.dr_store.specs.Journals.{AreEntries}
 use Rattle.dr_store.proofs.Lines.{lines_are}
 use Rattle.dr_store.proofs.Looks.{failed_as, looked_both, looked_more, of_ledger}

@@ -3,7 +3,7 @@ use Rattle.std.specs.Cmp.Lexicographic.{nat_list_cmp_total}
 use Rattle.std.specs.Ordering.{is_lt}
 use Rattle.std.proofs.lemmas.List.Sorted.{answers_always}
 use Rattle.dr_base.specs.Texts.{text_cmp}
-use Rattle.dr_lists.proofs.Orders.{adjacent, keys_rise}
+use Rattle.dr_store_lists.proofs.Orders.{adjacent, keys_rise}
 use Rattle.dr_store.proofs.journal.names_rise.Goals as goal
 
 pub returns : goal.returns

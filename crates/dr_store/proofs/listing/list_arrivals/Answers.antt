@@ -4,8 +4,8 @@ use Rattle.sqlite.specs.Tree.{Trees}
 use Rattle.std.specs.FinMap as map
 use Rattle.dr_ledger.specs.Pairs.{Pair, pair_cmp}
 use Rattle.dr_ledger.specs.Replies.{Lists}
-use Rattle.dr_tables.specs.Books.{arrivals_in}
-use Rattle.dr_booking.proofs.Calls.{asked_looked, looked_read}
+use Rattle.dr_store_schema.specs.Books.{arrivals_in}
+use Rattle.dr_store_calls.proofs.Calls.{asked_looked, looked_read}
 use Rattle.dr_store.proofs.Looks.{failed_as, of_ledger}
 use Rattle.dr_store.proofs.listing.list_arrivals.Goals as goal
 

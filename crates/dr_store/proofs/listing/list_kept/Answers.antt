@@ -3,8 +3,8 @@ use Rattle.sqlite.specs.Held.{state}
 use Rattle.sqlite.specs.Tree.{Trees}
 use Rattle.dr_base.specs.Texts.{Text, text_cmp}
 use Rattle.dr_ledger.specs.Replies.{AreKept, Lists}
-use Rattle.dr_tables.specs.Books.{all_kept_in, book_of}
-use Rattle.dr_booking.proofs.Calls.{asked_looked}
+use Rattle.dr_store_schema.specs.Books.{all_kept_in, book_of}
+use Rattle.dr_store_calls.proofs.Calls.{asked_looked}
 use Rattle.dr_store.proofs.Looks.{failed_as, looked_both, of_ledger}
 use Rattle.dr_store.proofs.listing.list_kept.Goals as goal
 

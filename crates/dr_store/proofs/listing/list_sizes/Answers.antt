@@ -4,11 +4,11 @@ use Rattle.sqlite.specs.Held.{state}
 use Rattle.sqlite.specs.Tree.{Trees}
 use Rattle.dr_base.specs.Texts.{Text, text_cmp}
 use Rattle.dr_ledger.specs.Replies.{AreKept, Lists}
-use Rattle.dr_tables.specs.Books.{all_kept_in, book_of}
-use Rattle.dr_lists.specs.Lists.{whole_prints_of}
-use Rattle.dr_queries.specs.declared.finding.Print.{Print}
-use Rattle.dr_booking.proofs.Calls.{asked_looked}
-use Rattle.dr_booking.proofs.Reading.{reads_as}
+use Rattle.dr_store_schema.specs.Books.{all_kept_in, book_of}
+use Rattle.dr_store_lists.specs.Lists.{whole_prints_of}
+use Rattle.dr_store_reads.specs.declared.finding.Print.{Print}
+use Rattle.dr_store_calls.proofs.Calls.{asked_looked}
+use Rattle.dr_store_calls.proofs.Reading.{reads_as}
 use Rattle.dr_store.specs.Listing.{AreSized}
 use Rattle.dr_store.proofs.Looks.{failed_as, looked_more, of_ledger}
 use Rattle.dr_store.proofs.Sizes.{sizes}

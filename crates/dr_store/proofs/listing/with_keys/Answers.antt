@@ -6,9 +6,9 @@ use Rattle.dr_base.specs.Texts.{Text}
 use Rattle.dr_route.specs.declared.key.Key.{Key}
 use Rattle.dr_ledger.specs.declared.item.Progress.{Progress}
 use Rattle.dr_ledger.specs.Pairs.{Pair}
-use Rattle.dr_tables.specs.Books.{rows_of}
-use Rattle.dr_lists.specs.Lists.{keys_of}
-use Rattle.dr_booking.proofs.Calls.{asked_looked, looked_read}
+use Rattle.dr_store_schema.specs.Books.{rows_of}
+use Rattle.dr_store_lists.specs.Lists.{keys_of}
+use Rattle.dr_store_calls.proofs.Calls.{asked_looked, looked_read}
 use Rattle.dr_store.proofs.Looks.{failed_as, looked_both, of_ledger}
 use Rattle.dr_store.proofs.listing.with_keys.Goals as goal
 

@@ -7,9 +7,9 @@ use Rattle.dr_ledger.specs.Replies.{Admits}
 use Rattle.dr_ledger.specs.SiteRoutes.{site_routing}
 use Rattle.dr_route.specs.declared.key.Key.{Key}
 use Rattle.dr_site.specs.Routing.{HasLineFor}
-use Rattle.dr_tables.specs.Books.{book_of}
-use Rattle.dr_booking.specs.Calling.{Called, Nothing}
-use Rattle.dr_booking.proofs.Calls.{still_called}
+use Rattle.dr_store_schema.specs.Books.{book_of}
+use Rattle.dr_store_calls.specs.Calling.{Called, Nothing}
+use Rattle.dr_store_calls.proofs.Calls.{still_called}
 use Rattle.dr_store.proofs.reading.admit.Goals as goal
 
 pub returns-in-Ok-clause-called : goal.returns-in-Ok-clause-called

@@ -1,10 +1,10 @@
 use Rattle.std.proofs.Common.{◌≡◌, Ok, Err, refl}
 use Rattle.sqlite.specs.Held.{state}
 use Rattle.sqlite.specs.Tree.{Trees}
-use Rattle.dr_booking.specs.declared.knowing.Known.{Known}
-use Rattle.dr_booking.specs.Calling.{Nothing}
-use Rattle.dr_booking.specs.Knowing.{IsKnown}
-use Rattle.dr_booking.proofs.Calls.{looked_failed}
+use Rattle.dr_store_calls.specs.declared.knowing.Known.{Known}
+use Rattle.dr_store_calls.specs.Calling.{Nothing}
+use Rattle.dr_store_calls.specs.Knowing.{IsKnown}
+use Rattle.dr_store_calls.proofs.Calls.{looked_failed}
 use Rattle.dr_store.proofs.Admits.{Says, own, told}
 use Rattle.dr_store.proofs.Looks.{looked_answers}
 use Rattle.dr_store.proofs.reading.admit_instance.Goals as goal

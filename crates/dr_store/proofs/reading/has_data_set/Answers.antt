@@ -2,10 +2,10 @@ use Rattle.std.proofs.Common.{◌≡◌, Bool, true, false, is_some, Option, Som
 use Rattle.std.specs.FinMap as map
 use Rattle.sqlite.specs.Held.{state}
 use Rattle.sqlite.specs.Tree.{Trees}
-use Rattle.dr_tables.specs.Books.{bodies_of}
-use Rattle.dr_queries.specs.declared.finding.Stored.{Stored}
-use Rattle.dr_queries.specs.Queries.{IsStored}
-use Rattle.dr_booking.proofs.Calls.{asked_looked, looked_read}
+use Rattle.dr_store_schema.specs.Books.{bodies_of}
+use Rattle.dr_store_reads.specs.declared.finding.Stored.{Stored}
+use Rattle.dr_store_reads.specs.Queries.{IsStored}
+use Rattle.dr_store_calls.proofs.Calls.{asked_looked, looked_read}
 use Rattle.dr_store.proofs.Looks.{failed_as}
 use Rattle.dr_store.proofs.reading.has_data_set.Goals as goal
 

@@ -3,9 +3,9 @@ use Rattle.std.specs.FinMap as map
 use Rattle.sqlite.specs.Held.{state}
 use Rattle.sqlite.specs.Tree.{Trees}
 use Rattle.dr_route.specs.declared.key.Key.{Key}
-use Rattle.dr_tables.specs.Books.{items_of}
-use Rattle.dr_queries.specs.Queries.{IsKeyOf}
-use Rattle.dr_booking.proofs.Calls.{asked_looked, looked_read}
+use Rattle.dr_store_schema.specs.Books.{items_of}
+use Rattle.dr_store_reads.specs.Queries.{IsKeyOf}
+use Rattle.dr_store_calls.proofs.Calls.{asked_looked, looked_read}
 use Rattle.dr_store.proofs.Looks.{failed_as}
 use Rattle.dr_store.proofs.reading.has_item.Goals as goal
 

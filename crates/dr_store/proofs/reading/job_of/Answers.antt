@@ -3,8 +3,8 @@ use Rattle.sqlite.specs.Held.{state}
 use Rattle.sqlite.specs.Tree.{Trees}
 use Rattle.dr_ledger.specs.declared.content.Job.{Job}
 use Rattle.dr_ledger.specs.declared.fault.LedgerFault.TheVariants as fault
-use Rattle.dr_queries.specs.Queries.{IsJobOf}
-use Rattle.dr_booking.proofs.Calls.{asked_looked, looked_read}
+use Rattle.dr_store_reads.specs.Queries.{IsJobOf}
+use Rattle.dr_store_calls.proofs.Calls.{asked_looked, looked_read}
 use Rattle.dr_store.specs.Reading.{IsWholeJob}
 use Rattle.dr_store.proofs.Looks.{failed_as}
 use Rattle.dr_store.proofs.reading.job_of.Goals as goal

@@ -4,10 +4,10 @@ use Rattle.sqlite.specs.Tree.{Trees}
 use Rattle.dr_base.specs.Texts.{Text}
 use Rattle.dr_ledger.specs.declared.content.Job.{Job}
 use Rattle.dr_ledger.specs.Bodies.{NextsWith}
-use Rattle.dr_tables.specs.Books.{bodies_of, book_of}
-use Rattle.dr_queries.specs.Queries.{IsFirstDue}
-use Rattle.dr_booking.specs.Calling.{IsLedgerOf}
-use Rattle.dr_booking.proofs.Calls.{asked_looked, looked_read}
+use Rattle.dr_store_schema.specs.Books.{bodies_of, book_of}
+use Rattle.dr_store_reads.specs.Queries.{IsFirstDue}
+use Rattle.dr_store_calls.specs.Calling.{IsLedgerOf}
+use Rattle.dr_store_calls.proofs.Calls.{asked_looked, looked_read}
 use Rattle.dr_store.specs.Reading.{IsWholeJob}
 use Rattle.dr_store.proofs.Looks.{failed_as, looked_both}
 use Rattle.dr_store.proofs.Nexts.{next_is}

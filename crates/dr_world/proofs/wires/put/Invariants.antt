@@ -1,5 +1,5 @@
 use Rattle.std.proofs.Common.{◌≡◌, ◌++◌, take}
-use Rattle.dr_tie.specs.Channels.{bytes_of}
+use Rattle.dr_world_tie.specs.Channels.{bytes_of}
 use Rattle.dr_world.proofs.wires.put.Given as goal
 
 abbrev pub invariant-loop-action : goal.invariant-loop-action

@@ -1,9 +1,9 @@
 use Rattle.std.proofs.Common.{ap, subst, List}
-use Rattle.dr_network.specs.Networks.{Network}
-use Rattle.dr_network.specs.Walks.{IsReached}
-use Rattle.dr_sound.specs.declared.certificate.Stop.{Stop}
-use Rattle.dr_sound.specs.declared.certificate.Line.{Line}
-use Rattle.dr_sound.specs.Soundness.{IsRank}
+use Rattle.dr_plan_model.specs.Networks.{Network}
+use Rattle.dr_plan_model.specs.Walks.{IsReached}
+use Rattle.dr_plan_sound.specs.declared.certificate.Stop.{Stop}
+use Rattle.dr_plan_sound.specs.declared.certificate.Line.{Line}
+use Rattle.dr_plan_sound.specs.Soundness.{IsRank}
 use Rattle.dr_cert.specs.Indexing.{HasRank, HasNoLine}
 use Rattle.dr_cert.specs.Sealing.{Certified}
 use Rattle.dr_cert.proofs.Ranking.{lies_there, rank_there, no_rank}

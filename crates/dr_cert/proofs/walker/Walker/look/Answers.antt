@@ -2,8 +2,8 @@ use Rattle.std.proofs.Common.{refl, subst, List, Contains, Some}
 use Rattle.std.specs.Prelude.{◌↔◌, IsTrue}
 use Rattle.dr_base.specs.Texts.{Text}
 use Rattle.dr_route.specs.declared.key.Key.{Key}
-use Rattle.dr_network.specs.Networks.{Network}
-use Rattle.dr_network.specs.Walks.{Sends, Keeps}
+use Rattle.dr_plan_model.specs.Networks.{Network}
+use Rattle.dr_plan_model.specs.Walks.{Sends, Keeps}
 use Rattle.dr_cert.specs.Surveying.{IsLetIn}
 use Rattle.dr_cert.specs.Walking.{AfterTargets}
 use Rattle.dr_cert.proofs.Looking.{next_come_to, looked}

@@ -1,6 +1,6 @@
 use Rattle.std.proofs.Common.{◌≡◌, ℕ, ◌<◌, ◌≤◌, sym, ap, subst, List, length, get_or, Contains, arith, rules}
 use Rattle.std.proofs.lemmas.List.Elements.{Contains-get_or}
-use Rattle.dr_sound.specs.declared.certificate.Line.{Line}
+use Rattle.dr_plan_sound.specs.declared.certificate.Line.{Line}
 use Rattle.dr_cert.specs.Surveying.{EachAt, IsSurveyOf}
 use Rattle.dr_cert.specs.Walking.{IsFollowed}
 use Rattle.dr_cert.proofs.Walked.{place_below, few_reached, walk_begins, walk_goes_on, missing_before, walk_ends}

@@ -2,8 +2,8 @@ use Rattle.std.proofs.Common.{refl, sym, ◌∙◌, ap, subst, Some}
 use Rattle.dr_base.specs.Texts.{Text}
 use Rattle.dr_route.specs.Laws.{key_of}
 use Rattle.dr_route.specs.Routes.{local}
-use Rattle.dr_sound.specs.declared.certificate.Stop.{Stop}
-use Rattle.dr_sound.proofs.Hopping.{reached_entry}
+use Rattle.dr_plan_sound.specs.declared.certificate.Stop.{Stop}
+use Rattle.dr_plan_sound.proofs.Hopping.{reached_entry}
 use Rattle.dr_cert.specs.Indexing.{HasNoLine}
 use Rattle.dr_cert.specs.Walking.{IsComeTo, AfterMark}
 use Rattle.dr_cert.proofs.Marks.{unchanged}

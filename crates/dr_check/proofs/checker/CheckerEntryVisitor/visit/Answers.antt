@@ -4,8 +4,8 @@ use Rattle.dr_route.specs.Routes.{local}
 use Rattle.dr_route.specs.Laws.{key_of}
 use Rattle.dr_route.specs.declared.key.Key.{Key}
 use Rattle.dr_route.specs.declared.cell.OwnedCell.{OwnedCell}
-use Rattle.dr_sound.specs.Ranked.{line_at}
-use Rattle.dr_network.specs.Networks.{Network}
+use Rattle.dr_plan_sound.specs.Ranked.{line_at}
+use Rattle.dr_plan_model.specs.Networks.{Network}
 use Rattle.dr_check.specs.Searching.{IsDone, IsTrail, IsFirstEnd, GoesOnFrom}
 use Rattle.dr_check.specs.Stopping.{IsStoppedAt}
 use Rattle.dr_check.proofs.Trails.{trail_begins}

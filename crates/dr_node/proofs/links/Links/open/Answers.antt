@@ -2,7 +2,7 @@ use Rattle.std.proofs.Common.{refl, sym, ap, subst, ◌∙◌}
 use Rattle.std.specs.FinMap as map
 use Rattle.dr_nego.specs.Proposing.{IsHopTo}
 use Rattle.dr_site.specs.Parts.{Part}
-use Rattle.dr_sound.specs.declared.certificate.Hop.{Hop}
+use Rattle.dr_plan_sound.specs.declared.certificate.Hop.{Hop}
 use Rattle.dr_node.proofs.Opening.{opened, out_of_memory, with_hop, without_hop}
 use Rattle.dr_node.proofs.links.Links.open.Goals as goal
 

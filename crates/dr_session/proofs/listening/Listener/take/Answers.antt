@@ -1,4 +1,4 @@
-use Rattle.dr_hearing.specs.Stores.{message_of}
+use Rattle.dr_dimse_scan.specs.Stores.{message_of}
 use Rattle.dr_session.proofs.Fitting.{takes_fits, heard_fits}
 use Rattle.dr_session.proofs.listening.Listener.take.Goals as goal
 

@@ -2,8 +2,8 @@ use Rattle.std.proofs.Common.{◌≡◌, inl, inr, refl, sym, subst}
 use Rattle.std.proofs.lemmas.Bool.{false≢true}
 use Rattle.dr_base.specs.Texts.{Text}
 use Rattle.dr_route.specs.Routes.{local, SendsBy, KeepsBy}
-use Rattle.dr_network.specs.Walks.{FlowsAmong}
-use Rattle.dr_network.proofs.WalksAlike.{no_rule_sends, no_rule_keeps}
+use Rattle.dr_plan_model.specs.Walks.{FlowsAmong}
+use Rattle.dr_plan_model.proofs.WalksAlike.{no_rule_sends, no_rule_keeps}
 use Rattle.dr_site.specs.Parts.{Part}
 use Rattle.dr_site.proofs.site.Site.targets.Goals as goal
 

@@ -3,8 +3,8 @@ use Rattle.sqlite.specs.Held.{state}
 use Rattle.dr_site.specs.Parts.{Part}
 use Rattle.dr_ledger.specs.Adopting.{Adopting, site_after}
 use Rattle.dr_ledger.specs.Books.{Book}
-use Rattle.dr_tables.specs.Books.{bodies_of, book_of}
-use Rattle.dr_booking.specs.Calling.{IsKept, IsSafe, advanced}
+use Rattle.dr_store_schema.specs.Books.{bodies_of, book_of}
+use Rattle.dr_store_calls.specs.Calling.{IsKept, IsSafe, advanced}
 use Rattle.dr_store.proofs.Adopts.{Adoption, Adoptive, adopted}
 use Rattle.dr_store.proofs.Replies.{adopting, lets_go}
 use Rattle.dr_store.proofs.Stable.{both}

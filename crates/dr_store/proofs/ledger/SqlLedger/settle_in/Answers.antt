@@ -6,9 +6,9 @@ use Rattle.dr_ledger.specs.Books.{Book}
 use Rattle.dr_ledger.specs.Items.{instance_of}
 use Rattle.dr_ledger.specs.Replies.{Arrives, Requeues, Settles}
 use Rattle.dr_ledger.specs.SiteRoutes.{site_routing}
-use Rattle.dr_tables.specs.Books.{bodies_of, book_of}
-use Rattle.dr_booking.specs.Calling.{IsKept, IsSafe, advanced}
-use Rattle.dr_booking.specs.Knowing.{IsAccepted}
+use Rattle.dr_store_schema.specs.Books.{bodies_of, book_of}
+use Rattle.dr_store_calls.specs.Calling.{IsKept, IsSafe, advanced}
+use Rattle.dr_store_calls.specs.Knowing.{IsAccepted}
 use Rattle.dr_store.proofs.Replies.{accepted, arrives, lets_go, requeues, settles, takes}
 use Rattle.dr_store.proofs.Stable.{both}
 use Rattle.dr_store.proofs.Writes.{called, still_kept, wrote}

@@ -5,7 +5,7 @@ use Rattle.sqlite_trees.specs.Props.{Trees-set}
 use Rattle.dr_ledger.specs.Items.{instance_of}
 use Rattle.dr_ledger.specs.Replies.{Admits}
 use Rattle.dr_ledger.specs.SiteRoutes.{site_routing}
-use Rattle.dr_tables.specs.Books.{bodies_of, book_of}
+use Rattle.dr_store_schema.specs.Books.{bodies_of, book_of}
 use Rattle.dr_store.proofs.Replies.{admits}
 use Rattle.dr_store.proofs.Stable.{both, of_prop}
 use Rattle.dr_store.proofs.Writes.{answered, called, lasting, still_kept, was_safe}

@@ -3,7 +3,7 @@ use Rattle.sqlite.specs.Held.{state}
 use Rattle.sqlite.specs.Tree.{Trees}
 use Rattle.dr_ledger.specs.Pairs.{Pair, pair_cmp}
 use Rattle.dr_ledger.specs.Replies.{Lists}
-use Rattle.dr_tables.specs.Books.{arrivals_in}
+use Rattle.dr_store_schema.specs.Books.{arrivals_in}
 use Rattle.dr_store.proofs.Sets.{coded_pair}
 use Rattle.dr_store.proofs.Shown.{lists}
 use Rattle.dr_store.proofs.Writes.{looked_books, looked_kept, looked_lasting, looked_reads, looked_safe}

@@ -3,7 +3,7 @@ use Rattle.sqlite.specs.Held.{state}
 use Rattle.sqlite.specs.Tree.{Trees}
 use mathlib.Core.Bool.{Bool-set}
 use Rattle.std.specs.FinMap as map
-use Rattle.dr_tables.specs.Books.{items_of}
+use Rattle.dr_store_schema.specs.Books.{items_of}
 use Rattle.dr_store.proofs.Stable.{of_prop}
 use Rattle.dr_store.proofs.Writes.{looked_books, looked_kept, looked_lasting, looked_reads, looked_safe}
 use Rattle.dr_store.proofs.ledger.SqlLedgerLedger.has.Goals as goal

@@ -3,7 +3,7 @@ use Rattle.sqlite.specs.Held.{state}
 use Rattle.sqlite.specs.Tree.{Trees}
 use Rattle.dr_base.specs.Texts.{Text}
 use Rattle.dr_ledger.specs.Replies.{AreKept}
-use Rattle.dr_tables.specs.Books.{book_of}
+use Rattle.dr_store_schema.specs.Books.{book_of}
 use Rattle.dr_store.proofs.Shown.{are_kept}
 use Rattle.dr_store.proofs.Writes.{looked_books, looked_kept, looked_lasting, looked_reads, looked_safe}
 use Rattle.dr_store.proofs.ledger.SqlLedgerLedger.kept.Goals as goal

@@ -5,7 +5,7 @@ use Rattle.std.proofs.Common.{map as mapped}
 use Rattle.std.specs.Coded.{coded_list}
 use Rattle.dr_ledger.specs.declared.item.Entry.{Entry}
 use Rattle.dr_ledger.specs.Replies.{entry_of}
-use Rattle.dr_tables.specs.Books.{lines_of}
+use Rattle.dr_store_schema.specs.Books.{lines_of}
 use Rattle.dr_store.proofs.Sets.{coded_entry}
 use Rattle.dr_store.proofs.Stable.{by_code}
 use Rattle.dr_store.proofs.Writes.{looked_books, looked_kept, looked_lasting, looked_reads, looked_safe}

@@ -3,7 +3,7 @@ use Rattle.sqlite.specs.Held.{state}
 use Rattle.sqlite.specs.Tree.{Trees}
 use Rattle.dr_ledger.specs.declared.content.Job.{Job}
 use Rattle.dr_ledger.specs.Bodies.{NextsWith}
-use Rattle.dr_tables.specs.Books.{bodies_of, book_of}
+use Rattle.dr_store_schema.specs.Books.{bodies_of, book_of}
 use Rattle.dr_store.proofs.Shown.{nexts}
 use Rattle.dr_store.proofs.Writes.{looked_books, looked_kept, looked_lasting, looked_reads, looked_safe}
 use Rattle.dr_store.proofs.ledger.SqlLedgerLedger.next.Goals as goal

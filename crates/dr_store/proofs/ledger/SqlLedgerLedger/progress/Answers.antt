@@ -4,8 +4,8 @@ use Rattle.sqlite.specs.Tree.{Trees}
 use Rattle.std.specs.Coded.{coded_option}
 use Rattle.std.specs.FinMap as map
 use Rattle.dr_ledger.specs.declared.item.Progress.{Progress}
-use Rattle.dr_tables.specs.Books.{rows_of}
-use Rattle.dr_booking.proofs.Calls.{asked_looked}
+use Rattle.dr_store_schema.specs.Books.{rows_of}
+use Rattle.dr_store_calls.proofs.Calls.{asked_looked}
 use Rattle.dr_store.proofs.Sets.{coded_progress}
 use Rattle.dr_store.proofs.Stable.{by_code}
 use Rattle.dr_store.proofs.Writes.{looked_books, looked_kept, looked_lasting, looked_reads, looked_safe}

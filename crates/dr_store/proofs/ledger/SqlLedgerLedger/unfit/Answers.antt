@@ -8,8 +8,8 @@ use Rattle.dr_route.specs.declared.key.Key.{Key}
 use Rattle.dr_ledger.specs.declared.fault.LedgerFault.{LedgerFault}
 use Rattle.dr_ledger.specs.declared.item.Progress.{Progress}
 use Rattle.dr_ledger.specs.Pairs.{Pair}
-use Rattle.dr_tables.specs.Books.{rows_of}
-use Rattle.dr_lists.specs.Lists.{keys_of}
+use Rattle.dr_store_schema.specs.Books.{rows_of}
+use Rattle.dr_store_lists.specs.Lists.{keys_of}
 use Rattle.dr_store.specs.Listing.{UnfitsOf}
 use Rattle.dr_store.proofs.Sets.{coded_key, coded_pair, coded_progress, coded_text}
 use Rattle.dr_store.proofs.Stable.{both, by_code}

@@ -1,4 +1,4 @@
-use Rattle.dr_script.specs.declared.step.Step.TheVariants.{Submit, Open, Push, Move, Abort, Release, Close, Late, Restart, Requeue, Tick, RefuseStore}
+use Rattle.dr_world_script.specs.declared.step.Step.TheVariants.{Submit, Open, Push, Move, Abort, Release, Close, Late, Restart, Requeue, Tick, RefuseStore}
 use Rattle.dr_world.specs.declared.steps.StepNote.TheVariants.{Done}
 use Rattle.dr_world.proofs.Running.{as_if, as_it, copied}
 use Rattle.dr_world.proofs.world.World+Refusing+L.perform.Goals as goal

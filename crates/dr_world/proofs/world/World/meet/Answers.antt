@@ -2,7 +2,7 @@ use Rattle.std.proofs.Common.{refl, sym, ap, subst, ◌∙◌}
 use Rattle.std.specs.BTreeMap as tree
 use Rattle.std.specs.Ordering.{nat_cmp}
 use Rattle.dr_base.specs.Texts.{Text}
-use Rattle.dr_tie.specs.ByteWorlds.{Requestor}
+use Rattle.dr_world_tie.specs.ByteWorlds.{Requestor}
 use Rattle.dr_world.specs.Ends.{named}
 use Rattle.dr_world.specs.Nodes.{event_at, push_at, IsDoneAt}
 use Rattle.dr_world.proofs.Called.{there}

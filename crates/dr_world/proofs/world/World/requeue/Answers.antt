@@ -1,7 +1,7 @@
 use Rattle.std.proofs.Common.{sym, ap}
 use Rattle.std.specs.BTreeMap as tree
 use Rattle.dr_base.specs.Texts.{text_cmp}
-use Rattle.dr_tie.specs.ByteWorlds.{note_of}
+use Rattle.dr_world_tie.specs.ByteWorlds.{note_of}
 use Rattle.dr_world.specs.declared.steps.StepNote.TheVariants.{Done, Refused, Skipped}
 use Rattle.dr_world.specs.Whole.{Puts}
 use Rattle.dr_world.proofs.Calling.{called, uncalled, there}

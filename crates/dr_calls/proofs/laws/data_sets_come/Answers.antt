@@ -1,5 +1,0 @@
-use Rattle.dr_calls.proofs.Joins.{data_sets_come}
-use Rattle.dr_calls.proofs.laws.data_sets_come.Goals as goal
-
-pub returns : goal.returns
-returns c = data_sets_come

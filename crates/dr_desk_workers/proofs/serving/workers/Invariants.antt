@@ -1,0 +1,6 @@
+use Rattle.std.proofs.Common.{◌≡◌, ◌≤◌, vec_len}
+use Rattle.std.specs.Vec.{vec_capacity}
+use Rattle.dr_desk_workers.proofs.serving.workers.Given as goal
+
+abbrev pub invariant-loop-i : goal.invariant-loop-i
+invariant-loop-i g l = record { len : vec_len l.passes ≡ l._i; room : l.n ≤ vec_capacity l.passes }

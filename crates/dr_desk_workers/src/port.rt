@@ -1,0 +1,67 @@
+//! A shared desk as a session sees it.
+ghost use Rattle.dr_desk_workers.specs.Passes.{PassStep};
+
+use crate::counts::SessionCounts;
+use crate::gate::{Gate, Point};
+use dr_base::Text;
+use dr_desk::{Pass, SharedDesk, Sharing};
+use dr_ledger::{Arrived, Item, Job, Ledger, LedgerFault, Outcome};
+use dr_session::DeskPort;
+use std::alloc::AllocError;
+use std::sync::Wait;
+
+/// The shared desk with the pass of the worker that serves the session. After an arrival that the desk answered, and without its
+/// lock, the gate is passed.
+#[derive(Drop)]
+pub struct SessionPort<'a, R: Wait, L: Ledger, B: Sharing, G: Gate> {
+    pub rt: &'a R,
+    pub desk: &'a SharedDesk<L, B>,
+    pub pass: &'a mut Pass<B>,
+    pub gate: &'a G,
+    pub session: u64,
+    pub counts: &'a SessionCounts,
+}
+
+impl<'a, R: Wait, L: Ledger, B: Sharing, G: Gate> SessionPort<'a, R, L, B, G> {
+    /// Tells what the desk answered. Where there was no memory for the UID, nothing is told.
+    fn tell(
+        &self,
+        caller: &Text,
+        uid: Result<Text, AllocError>,
+        answer: Result<Arrived, LedgerFault>,
+    ) {
+        if let Ok(uid) = uid {
+            self.gate.arrived(self.session, caller, &uid, answer);
+        }
+    }
+}
+
+impl<'a, R: Wait, L: Ledger, B: Sharing, G: Gate> DeskPort for SessionPort<'a, R, L, B, G> {
+    ghost use Rattle.dr_desk_workers.specs.Passes.{PassStep};
+
+    ghost step = { λ s call answer t. PassStep call answer s.pass.now.made.count s.pass.now.receipts.items t.pass.now.made.count t.pass.now.receipts.items };
+
+    fn arrive(&mut self, caller: &Text, item: Item) -> Result<Arrived, LedgerFault> {
+        let uid: Result<Text, AllocError> = item.uid().clone();
+        let answer = self.desk.arrive(self.rt, self.pass, caller, item);
+        self.counts.note(answer.is_ok());
+        self.gate.at(self.session, Point::Stored);
+        self.tell(caller, uid, answer);
+        answer
+    }
+
+    fn next(&mut self, dest: &Text, now: u64) -> Result<Option<Job>, LedgerFault> {
+        self.desk.next(self.rt, dest, now)
+    }
+
+    fn settle(
+        &mut self,
+        uid: &Text,
+        dest: &Text,
+        outcome: Outcome,
+        now: u64,
+    ) -> Result<(), LedgerFault> {
+        self.desk
+            .settle(self.rt, self.pass, uid, dest, outcome, now)
+    }
+}

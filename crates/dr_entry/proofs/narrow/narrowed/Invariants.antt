@@ -1,6 +1,0 @@
-use Rattle.std.proofs.Common.{take}
-use Rattle.dr_entry.specs.Entering.{AreNarrowed}
-use Rattle.dr_entry.proofs.narrow.narrowed.Given as goal
-
-abbrev pub invariant-loop-place : goal.invariant-loop-place
-invariant-loop-place l = AreNarrowed l.flows (take l.place-index l.among) l.part l.found.items

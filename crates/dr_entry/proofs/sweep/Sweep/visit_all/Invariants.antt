@@ -1,8 +1,0 @@
-use Rattle.std.proofs.Common.{take, Contains}
-use Rattle.dr_entry.specs.Entering.{WantsAny}
-use Rattle.dr_entry.specs.Visiting.{GoesOn}
-use Rattle.dr_entry.proofs.sweep.Sweep.visit_all.Given as goal
-
-abbrev pub invariant-loop-site : goal.invariant-loop-site
-invariant-loop-site g l = GoesOn g.V.EntryVisitor.plan g.V.EntryVisitor.is_ready g.V.EntryVisitor.has_visited g.V.EntryVisitor.shows
-    (λ s c. WantsAny l.self.plan.now s c × Contains (take l.site-index l.site-items) s) l.initial.visitor l.visitor

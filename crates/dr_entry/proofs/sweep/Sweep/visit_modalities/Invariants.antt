@@ -1,8 +1,0 @@
-use Rattle.std.proofs.Common.{take, Contains}
-use Rattle.dr_entry.specs.Entering.{WantsSyntax}
-use Rattle.dr_entry.specs.Visiting.{GoesOn}
-use Rattle.dr_entry.proofs.sweep.Sweep.visit_modalities.Given as goal
-
-abbrev pub invariant-loop-modality : goal.invariant-loop-modality
-invariant-loop-modality g l = GoesOn g.V.EntryVisitor.plan g.V.EntryVisitor.is_ready g.V.EntryVisitor.has_visited g.V.EntryVisitor.shows
-    (λ s c. WantsSyntax l.self.plan.now l.site l.class l.syntax l.among s c × Contains (take l.modality-index l.row) c.modality) l.initial.visitor l.visitor

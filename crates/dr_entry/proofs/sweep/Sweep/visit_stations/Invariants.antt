@@ -1,8 +1,0 @@
-use Rattle.std.proofs.Common.{take, Contains}
-use Rattle.dr_entry.specs.Entering.{WantsModality}
-use Rattle.dr_entry.specs.Visiting.{GoesOn}
-use Rattle.dr_entry.proofs.sweep.Sweep.visit_stations.Given as goal
-
-abbrev pub invariant-loop-station : goal.invariant-loop-station
-invariant-loop-station g l = GoesOn g.V.EntryVisitor.plan g.V.EntryVisitor.is_ready g.V.EntryVisitor.has_visited g.V.EntryVisitor.shows
-    (λ s c. WantsModality l.self.plan.now l.site l.class l.syntax l.modality l.among s c × Contains (take l.station-index l.row) c.station) l.initial.visitor l.visitor

@@ -1,5 +1,0 @@
-use Rattle.dr_hearing.proofs.FoundLemmas.{stores_alone}
-use Rattle.dr_hearing.proofs.laws.only_stores_are_read.Goals as goal
-
-pub returns : goal.returns
-returns c = stores_alone

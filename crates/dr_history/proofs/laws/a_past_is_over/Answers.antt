@@ -1,5 +1,0 @@
-use Rattle.dr_history.proofs.Telling.{past_is_over}
-use Rattle.dr_history.proofs.laws.a_past_is_over.Goals as goal
-
-pub returns : goal.returns
-returns g c = past_is_over g.R.Routed.routing

@@ -1,0 +1,243 @@
+//! What a journal's lines make of a node, held in trees.
+ghost use Rattle.std.specs.Prelude.{◌≡◌, ◌↔◌, ◌<◌, ◌≤◌, ◌^◌, IsTrue, OnOk, Some, option_copied};
+ghost use Rattle.std.specs.FinMap as map;
+ghost use Rattle.std.specs.FinSet as set;
+ghost use Rattle.dr_ledger.specs.Books.{Arrival, Adoption, Repeat, Requeuing, Settling, after, empty_book};
+ghost use Rattle.dr_ledger.specs.Histories.{IsSame};
+ghost use Rattle.dr_ledger_history.specs.Contents.{all_of, book_of, content, content_of};
+ghost use Rattle.dr_ledger_history.specs.Lines.{line_of};
+ghost use Rattle.dr_ledger_history.specs.Takings.{Takes};
+ghost use Rattle.dr_ledger_history.specs.Trees.{as_map};
+ghost use Rattle.dr_base.specs.Texts.{text_cmp};
+
+use crate::comparing::{are_arrivals, are_items, are_kept, are_rows};
+use crate::line::{HistoryFault, JournalLine};
+use crate::progress::moved;
+use crate::trees::{clear, fill, prune, put_arrival, put_item, put_kept, put_row};
+use dr_base::{Seq, Text};
+use dr_ledger::{Instance, Outcome, Progress};
+use std::alloc::{AllocError, Global};
+use std::collections::{BTreeMap, BTreeSet};
+
+/// The last moment at which a try may end, in milliseconds.
+const LAST_MOMENT: u64 = 1 << 62;
+
+/// Instances by uid, who brought which uid, the kept uids, and how far each (uid, destination) is.
+#[derive(Drop)]
+pub struct Parts {
+    items: BTreeMap<Text, Instance>,
+    arrivals: BTreeSet<(Text, Text)>,
+    kept: BTreeSet<Text>,
+    rows: BTreeMap<(Text, Text), Progress>,
+}
+
+impl Parts {
+    /// Of nothing; it takes no memory.
+    pub fn new(alloc: Global) -> Parts
+        ensures { content result ≡ content_of empty_book }
+    {
+        Parts {
+            items: BTreeMap::new(alloc),
+            arrivals: BTreeSet::new(alloc),
+            kept: BTreeSet::new(alloc),
+            rows: BTreeMap::new(alloc),
+        }
+    }
+
+    /// Takes a line, whose plan may be gone.
+    pub fn take(&mut self, line: JournalLine) -> Result<(), HistoryFault>
+        ensures { Takes (line_of line) (content self.old) result (content self.new) }
+    {
+        match line {
+            JournalLine::Arrival {
+                caller,
+                instance,
+                to,
+                keep,
+            } => self.arrive(caller, instance, to, keep),
+            JournalLine::Repeat { caller, instance } => self.repeat(caller, instance),
+            JournalLine::Settling {
+                uid,
+                dest,
+                outcome,
+                now,
+            } => self.settle((uid, dest), outcome, now),
+            JournalLine::Requeuing { uid, dest } => self.requeue((uid, dest)),
+            JournalLine::Adoption => {
+                self.adopt();
+                Ok(())
+            }
+        }
+    }
+
+    /// A first arrival.
+    fn arrive(
+        &mut self,
+        caller: Text,
+        instance: Instance,
+        to: Seq<Text>,
+        keep: bool,
+    ) -> Result<(), HistoryFault>
+        ensures { Takes (Arrival caller instance to keep) (content self.old) result (content self.new) }
+    {
+        if !self.is_same(&instance) {
+            return Err(HistoryFault::NoCall);
+        }
+        let arrival = (caller, instance.uid.clone()?);
+        if self.has_arrival(&arrival) {
+            return Err(HistoryFault::NoCall);
+        }
+        self.bring(arrival, instance, to, keep)?;
+        Ok(())
+    }
+
+    /// What a first arrival puts in.
+    fn bring(
+        &mut self,
+        arrival: (Text, Text),
+        instance: Instance,
+        to: Seq<Text>,
+        keep: bool,
+    ) -> Result<(), AllocError>
+        requires { arrival.1 ≡ instance.uid }
+        ensures { OnOk result (content self.new ≡ content_of (after (Arrival arrival.0 instance to keep) (book_of (content self.old)))) }
+    {
+        fill(&mut self.rows, &instance.uid, to.as_slice())?;
+        if keep {
+            put_kept(&mut self.kept, &instance.uid)?;
+        }
+        put_arrival(&mut self.arrivals, arrival)?;
+        put_item(&mut self.items, instance)
+    }
+
+    /// Another arrival of what the caller brought before.
+    fn repeat(&mut self, caller: Text, instance: Instance) -> Result<(), HistoryFault>
+        ensures { Takes (Repeat caller instance) (content self.old) result (content self.new) }
+    {
+        if !self.is_same(&instance) {
+            return Err(HistoryFault::NoCall);
+        }
+        let arrival = (caller, instance.uid.clone()?);
+        if !self.has_arrival(&arrival) {
+            return Err(HistoryFault::NoCall);
+        }
+        Ok(())
+    }
+
+    /// What came of a try.
+    fn settle(&mut self, at: (Text, Text), outcome: Outcome, now: u64) -> Result<(), HistoryFault>
+        ensures { Takes (Settling at.0 at.1 outcome now) (content self.old) result (content self.new) }
+    {
+        match self.row(&at) {
+            Some(Progress::Waiting { tries, due }) => self.move_on(at, (tries, due), outcome, now),
+            Some(Progress::Held(_)) => Err(HistoryFault::NoCall),
+            Some(Progress::Done) => Err(HistoryFault::NoCall),
+            None => Err(HistoryFault::NoCall),
+        }
+    }
+
+    /// What came of a try of a row that waits, tried and due as given.
+    fn move_on(
+        &mut self,
+        at: (Text, Text),
+        was: (u32, u64),
+        outcome: Outcome,
+        now: u64,
+    ) -> Result<(), HistoryFault>
+        requires { map.get (content self.old).rows at ≡ Some (Progress.Waiting was.0 was.1) }
+        ensures { Takes (Settling at.0 at.1 outcome now) (content self.old) result (content self.new) }
+    {
+        if now > LAST_MOMENT {
+            return Err(HistoryFault::NoCall);
+        }
+        put_row(&mut self.rows, at, moved(was.0, outcome, now))?;
+        Ok(())
+    }
+
+    /// A held row is queued again.
+    fn requeue(&mut self, at: (Text, Text)) -> Result<(), HistoryFault>
+        ensures { Takes (Requeuing at.0 at.1) (content self.old) result (content self.new) }
+    {
+        match self.row(&at) {
+            Some(Progress::Held(_)) => {
+                put_row(&mut self.rows, at, Progress::Waiting { tries: 0, due: 0 })?;
+                Ok(())
+            }
+            Some(Progress::Waiting { .. }) => Err(HistoryFault::NoCall),
+            Some(Progress::Done) => Err(HistoryFault::NoCall),
+            None => Err(HistoryFault::NoCall),
+        }
+    }
+
+    /// Arrivals and done rows leave.
+    fn adopt(&mut self)
+        ensures { content self.new ≡ content_of (after Adoption (book_of (content self.old))) }
+    {
+        clear(&mut self.arrivals);
+        prune(&mut self.rows);
+    }
+
+    /// Whether no other instance has this one's uid.
+    fn is_same(&self, instance: &Instance) -> bool
+        ensures { IsTrue result ↔ IsSame (book_of (content self.now)) instance.now }
+    {
+        match self.item(&instance.uid) {
+            Some(held) => is_instance(held, instance),
+            None => true,
+        }
+    }
+
+    /// The instance with this uid.
+    pub fn item(&self, uid: &Text) -> Option<&Instance>
+        ensures { option_copied result ≡ map.get (content self.now).items uid.now }
+    {
+        self.items.get(uid)
+    }
+
+    /// Whether the caller brought the uid.
+    pub fn has_arrival(&self, arrival: &(Text, Text)) -> bool
+        ensures { result ≡ set.contains (content self.now).arrivals arrival.now }
+    {
+        self.arrivals.contains(arrival)
+    }
+
+    /// Whether the uid is kept.
+    pub fn is_kept(&self, uid: &Text) -> bool
+        ensures { result ≡ set.contains (content self.now).kept uid.now }
+    {
+        self.kept.contains(uid)
+    }
+
+    /// How far the uid is on its way to the destination.
+    pub fn row(&self, at: &(Text, Text)) -> Option<Progress>
+        ensures { result ≡ map.get (content self.now).rows at.now }
+    {
+        self.rows.get(at).copied()
+    }
+
+    /// Whether these are all of them.
+    pub fn has_just(
+        &self,
+        items: &BTreeMap<Text, Instance>,
+        arrivals: &[(Text, Text)],
+        kept: &[Text],
+        rows: &[((Text, Text), Progress)],
+    ) -> bool
+        ensures { IsTrue result → content self.now ≡ all_of (as_map text_cmp items.now) arrivals.now kept.now rows.now }
+    {
+        if !are_items(&self.items, items) || !are_arrivals(&self.arrivals, arrivals) {
+            return false;
+        }
+        are_kept(&self.kept, kept) && are_rows(&self.rows, rows)
+    }
+}
+
+/// Whether they are one instance.
+fn is_instance(one: &Instance, other: &Instance) -> bool
+    ensures { IsTrue result ↔ (one.now ≡ other.now) }
+{
+    one.uid == other.uid
+        && one.key == other.key
+        && one.size == other.size
+        && one.digest == other.digest
+}

@@ -1,0 +1,114 @@
+//! Changes of a book's maps and sets, each held in a tree.
+ghost use Rattle.std.specs.Prelude.{◌≡◌, OnOk, not, Some, unwrap_or};
+ghost use Rattle.std.specs.FinMap as map;
+ghost use Rattle.std.specs.FinSet as set;
+ghost use Rattle.dr_base.specs.Texts.{text_cmp};
+ghost use Rattle.dr_ledger.specs.Books.{is_done, not_done, with_rows};
+ghost use Rattle.dr_ledger.specs.Pairs.{pair_cmp};
+ghost use Rattle.dr_ledger_history.specs.Trees.{as_map, as_set};
+
+use dr_base::Text;
+use dr_ledger::{Instance, Progress};
+use std::alloc::AllocError;
+use std::collections::{BTreeMap, BTreeSet};
+
+/// The value that a key had before is nobody's concern.
+fn let_go<T: Drop>(_value: T) {}
+
+/// Puts an instance in, where its uid has none.
+pub fn put_item(items: &mut BTreeMap<Text, Instance>, instance: Instance) -> Result<(), AllocError>
+    ensures { OnOk result (as_map text_cmp items.new ≡ map.insert (as_map text_cmp items.old) instance.uid (unwrap_or (map.get (as_map text_cmp items.old) instance.uid) instance)) }
+{
+    if items.contains_key(&instance.uid) {
+        return Ok(());
+    }
+    let uid = instance.uid.clone()?;
+    let_go(items.insert(uid, instance)?);
+    Ok(())
+}
+
+/// Notes who brought which uid.
+pub fn put_arrival(
+    arrivals: &mut BTreeSet<(Text, Text)>,
+    arrival: (Text, Text),
+) -> Result<(), AllocError>
+    ensures { OnOk result (as_set pair_cmp arrivals.new ≡ set.insert (as_set pair_cmp arrivals.old) arrival) }
+{
+    arrivals.insert(arrival)?;
+    Ok(())
+}
+
+/// Notes that the uid is kept.
+pub fn put_kept(kept: &mut BTreeSet<Text>, uid: &Text) -> Result<(), AllocError>
+    ensures { OnOk result (as_set text_cmp kept.new ≡ set.insert (as_set text_cmp kept.old) uid.now) }
+{
+    kept.insert(uid.clone()?)?;
+    Ok(())
+}
+
+/// Puts a row in the place of the one that is there, if one is.
+pub fn put_row(
+    rows: &mut BTreeMap<(Text, Text), Progress>,
+    at: (Text, Text),
+    row: Progress,
+) -> Result<(), AllocError>
+    ensures { OnOk result (as_map pair_cmp rows.new ≡ map.insert (as_map pair_cmp rows.old) at row) }
+{
+    rows.insert(at, row)?;
+    Ok(())
+}
+
+/// Puts a waiting row in, where the uid has none to that destination.
+fn fill_one(
+    rows: &mut BTreeMap<(Text, Text), Progress>,
+    uid: &Text,
+    dest: &Text,
+) -> Result<(), AllocError>
+    ensures { OnOk result (as_map pair_cmp rows.new ≡ map.insert (as_map pair_cmp rows.old) (uid.now, dest.now) (unwrap_or (map.get (as_map pair_cmp rows.old) (uid.now, dest.now)) (Progress.Waiting 0 0))) }
+{
+    let at = (uid.clone()?, dest.clone()?);
+    if rows.contains_key(&at) {
+        return Ok(());
+    }
+    rows.insert(at, Progress::Waiting { tries: 0, due: 0 })?;
+    Ok(())
+}
+
+/// Puts a waiting row in for each destination to which the uid has none.
+pub fn fill(
+    rows: &mut BTreeMap<(Text, Text), Progress>,
+    uid: &Text,
+    to: &[Text],
+) -> Result<(), AllocError>
+    ensures { OnOk result (as_map pair_cmp rows.new ≡ with_rows (as_map pair_cmp rows.old) uid.now to.now) }
+{
+    for dest in to {
+        fill_one(rows, uid, dest)?;
+    }
+    Ok(())
+}
+
+/// Whether the row isn't done.
+fn is_open(row: Progress) -> bool
+    ensures { result ≡ not (is_done (Some row)) }
+{
+    match row {
+        Progress::Waiting { .. } => true,
+        Progress::Held(_) => true,
+        Progress::Done => false,
+    }
+}
+
+/// Lets done rows go.
+pub fn prune(rows: &mut BTreeMap<(Text, Text), Progress>)
+    ensures { as_map pair_cmp rows.new ≡ not_done (as_map pair_cmp rows.old) }
+{
+    rows.retain(|_, row| is_open(*row));
+}
+
+/// Lets all arrivals go.
+pub fn clear(arrivals: &mut BTreeSet<(Text, Text)>)
+    ensures { as_set pair_cmp arrivals.new ≡ set.empty }
+{
+    arrivals.clear();
+}

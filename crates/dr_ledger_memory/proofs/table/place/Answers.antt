@@ -1,0 +1,10 @@
+use Rattle.std.proofs.Common.{rules}
+use Rattle.std.proofs.lemmas.Fn.{always_returns_same}
+use Rattle.dr_ledger_memory.proofs.Searching.{searched}
+use Rattle.dr_ledger_memory.proofs.table.place.Goals as goal
+
+pub returns : goal.returns
+returns g c =
+    let facts = c.binary_search_by.ensures in
+    let by_key = facts.position (λ e. g.K.Ord.cmp e.0 c.args.key.now) (always_returns_same _ _ _ (λ a r f called. (search rules, search rules))) in
+    searched g.met.K.Ord.total c.args.key.now c.args.entries.now c.requires _ facts.bound by_key

@@ -1,8 +1,0 @@
-use Rattle.std.proofs.Common.{take}
-use Rattle.dr_listing.specs.Requeuings.{RequeuesEach}
-use Rattle.dr_listing.proofs.requeuing_all.requeue_each.Given as goal
-
-abbrev pub invariant-loop-uid : goal.invariant-loop-uid
-invariant-loop-uid g l =
-    (g.L.Ledger.stands l.ledger → g.L.Ledger.stands l.initial.ledger)
-    × (g.L.Ledger.stands l.ledger → RequeuesEach (take l.uid-index l.fn.uids) l.fn.dest (g.L.Ledger.book l.initial.ledger) (g.L.Ledger.book l.ledger))

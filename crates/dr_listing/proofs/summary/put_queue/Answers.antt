@@ -1,6 +1,0 @@
-use Rattle.std.proofs.Common.{refl}
-use Rattle.dr_listing.specs.Summaries.{queue_line}
-use Rattle.dr_listing.proofs.summary.put_queue.Goals as goal
-
-pub returns : goal.returns
-returns c = (queue_line c.args.rows.now c.args.dest.now c.oldest-moment.result, (c.oldest-moment.result, c.oldest-moment.ensures, refl), c.in_ok-put_queue_line.ensures)

@@ -1,5 +1,0 @@
-use Rattle.dr_lists.proofs.Alike.{goals_are_names}
-use Rattle.dr_lists.proofs.laws.goals_are_names.Goals as goal
-
-pub returns : goal.returns
-returns c = goals_are_names

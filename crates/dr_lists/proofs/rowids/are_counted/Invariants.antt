@@ -1,7 +1,0 @@
-use Rattle.std.proofs.Common.{take}
-use Rattle.std.specs.List.{AllByRecursion}
-use Rattle.dr_queries.specs.Queries.{IsCountedAsShown}
-use Rattle.dr_lists.proofs.rowids.are_counted.Given as goal
-
-abbrev pub invariant-loop-row : goal.invariant-loop-row
-invariant-loop-row l = AllByRecursion IsCountedAsShown (take l.row-index l.rows)

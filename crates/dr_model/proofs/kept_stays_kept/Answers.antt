@@ -1,5 +1,0 @@
-use Rattle.dr_model.proofs.kept_stays_kept.Goals as goal
-use Rattle.dr_model.proofs.Lasting.{kept_stays_kept as lemma}
-
-pub returns : goal.returns
-returns c = lemma

@@ -1,5 +1,0 @@
-use Rattle.dr_model.proofs.CarriedOver.{an_adoption_runs as lemma}
-use Rattle.dr_model.proofs.laws.an_adoption_runs.Goals as goal
-
-pub returns : goal.returns
-returns c = lemma

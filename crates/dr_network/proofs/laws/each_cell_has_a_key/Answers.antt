@@ -1,5 +1,0 @@
-use Rattle.dr_network.proofs.WalksAlike.{cell_has_a_key}
-use Rattle.dr_network.proofs.laws.each_cell_has_a_key.Goals as goal
-
-pub returns : goal.returns
-returns c = cell_has_a_key

@@ -1,6 +1,0 @@
-use Rattle.std.proofs.Common.{take}
-use Rattle.dr_network.specs.Listings.{AreListedBy}
-use Rattle.dr_network.proofs.listed.all_listed.Given as goal
-
-abbrev pub invariant-loop-flow : goal.invariant-loop-flow
-invariant-loop-flow l = AreListedBy (take l.flow-index l.flows) l.all.items

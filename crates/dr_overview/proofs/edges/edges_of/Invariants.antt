@@ -1,7 +1,0 @@
-use Rattle.std.proofs.Common.{◌≡◌, take}
-use Rattle.std.specs.Prelude.{flat_map}
-use Rattle.dr_overview.specs.Edges.{edges_at}
-use Rattle.dr_overview.proofs.edges.edges_of.Given as goal
-
-abbrev pub invariant-loop-hop : goal.invariant-loop-hop
-invariant-loop-hop l = l.edges.items ≡ flat_map (edges_at l.fn.hops) (take l.hop-index l.fn.hops)

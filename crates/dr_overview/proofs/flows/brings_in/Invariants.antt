@@ -1,7 +1,0 @@
-use Rattle.std.proofs.Common.{Contains, take}
-use Rattle.dr_network.specs.declared.plan.Flow.{Flow}
-use Rattle.dr_overview.proofs.Looking.{NoneOf}
-use Rattle.dr_overview.proofs.flows.brings_in.Given as goal
-
-abbrev pub invariant-loop-flow : goal.invariant-loop-flow
-invariant-loop-flow l = NoneOf (λ (flow : Flow). Contains flow.classes l.fn.class × Contains flow.syntaxes l.fn.syntax) (take l.flow-index l.fn.flows)

@@ -1,7 +1,0 @@
-use Rattle.std.proofs.Common.{take}
-use Rattle.dr_overview.specs.Graphs.{IsVertexRow}
-use Rattle.dr_overview.proofs.Numbered.{AreAdded}
-use Rattle.dr_overview.proofs.graph.add_vertices.Given as goal
-
-abbrev pub invariant-loop-node : goal.invariant-loop-node
-invariant-loop-node l = AreAdded (λ number. IsVertexRow l.fn.sealed.plan) (take l.node-index l.fn.sealed.plan.nodes) l.initial.out.items l.out.items

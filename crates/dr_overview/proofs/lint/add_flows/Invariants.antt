@@ -1,8 +1,0 @@
-use Rattle.std.proofs.Common.{◌≡◌, take}
-use Rattle.std.specs.Prelude.{◌-◌}
-use Rattle.dr_overview.specs.Findings.{IsFlowText}
-use Rattle.dr_overview.proofs.Numbered.{AreAdded}
-use Rattle.dr_overview.proofs.lint.add_flows.Given as goal
-
-abbrev pub invariant-loop-flow : goal.invariant-loop-flow
-invariant-loop-flow l = (l.number ≡ l.flow-index) × AreAdded (λ number. IsFlowText (take (number - 1) l.fn.flows) number) (take l.flow-index l.fn.flows) l.initial.out.items l.out.items

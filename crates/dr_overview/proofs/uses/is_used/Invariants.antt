@@ -1,7 +1,0 @@
-use Rattle.std.proofs.Common.{take}
-use Rattle.dr_overview.specs.Uses.{ServesLine}
-use Rattle.dr_overview.proofs.Looking.{NoneOf}
-use Rattle.dr_overview.proofs.uses.is_used.Given as goal
-
-abbrev pub invariant-loop-line : goal.invariant-loop-line
-invariant-loop-line l = NoneOf (ServesLine l.fn.name l.fn.part) (take l.line-index l.fn.sealed.certificate.lines)

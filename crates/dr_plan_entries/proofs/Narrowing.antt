@@ -1,0 +1,67 @@
+-- Flows that are narrowed one after another.
+use Rattle.std.proofs.Common.{◌≡◌, ℕ, ◌⊎◌, inl, inr, sym, ◌∙◌, subst, List, [], ◌∷◌, ◌++◌, Contains, Some}
+use Rattle.std.specs.Prelude.{slice_get, ◌↔◌}
+use Rattle.std.proofs.lemmas.Option.{same_Some}
+use Rattle.std.proofs.lemmas.List.Elements.{Contains-push, Contains-push_cases, Contains-append_left}
+use Rattle.dr_base.specs.Texts.{Text}
+use Rattle.dr_route.specs.declared.cell.OwnedField.{OwnedField}
+use Rattle.dr_route.specs.declared.cell.OwnedField.TheVariants.{Literal}
+use Rattle.dr_route.specs.declared.cell.OwnedStation.{OwnedStation}
+use Rattle.dr_route.specs.declared.cell.OwnedStation.TheVariants as station
+use Rattle.dr_route.specs.declared.cell.StationValues.{StationValues}
+use Rattle.dr_plan_model.specs.declared.plan.Flow.{Flow}
+use Rattle.dr_plan_model.specs.declared.plan.Values.{Values}
+use Rattle.dr_plan_model.specs.declared.plan.Values.TheVariants as values
+use Rattle.dr_plan_model.specs.declared.plan.Stations.{Stations}
+use Rattle.dr_plan_model.specs.declared.plan.Stations.TheVariants as stations
+use Rattle.dr_plan_model.specs.Naming.{listed, listed_stations, listed_prefixes}
+use Rattle.dr_plan_model.specs.Walks.{BeginsOne}
+use Rattle.dr_plan_model.proofs.Gathered.{nothing_in_nil}
+use Rattle.dr_plan_entries.specs.declared.narrow.Part.{Part}
+use Rattle.dr_plan_entries.specs.Entering.{Admits, AdmitsStation, SpeaksOf, AreNarrowed}
+
+pub narrowed_none : (flows : List Flow) (part : Part) → AreNarrowed flows [] part []
+narrowed_none flows part k = (λ h. absurd (nothing_in_nil k h), λ h. absurd (nothing_in_nil k h.0))
+
+pub narrowed_one_more : (flows : List Flow) (among found : List ℕ) (part : Part) (place : ℕ) (flow : Flow) → slice_get flows place ≡ Some flow → SpeaksOf flow part →
+    AreNarrowed flows among part found → AreNarrowed flows (among ++ place ∷ []) part (found ++ place ∷ [])
+narrowed_one_more flows among found part place flow at speaks so_far k = (
+  λ h. elim (Contains-push_cases found place k h) [
+    | inl before ↦ (let x = (so_far k).0 before in (Contains-append_left among (place ∷ []) k x.0, x.1))
+    | inr same ↦
+        let P : ℕ → Type 0 = λ n. Contains (among ++ place ∷ []) n × ((f : Flow) × (slice_get flows n ≡ Some f) × SpeaksOf f part) in
+        subst P same (Contains-push among place, (flow, at, speaks))
+  ],
+  λ h. elim (Contains-push_cases among place k h.0) [
+    | inl before ↦ Contains-append_left found (place ∷ []) k ((so_far k).1 (before, h.1))
+    | inr same ↦ (let P : ℕ → Type 0 = λ n. Contains (found ++ place ∷ []) n in subst P same (Contains-push found place))
+  ],
+)
+
+pub narrowed_passed_over : (flows : List Flow) (among found : List ℕ) (part : Part) (place : ℕ) (flow : Flow) → slice_get flows place ≡ Some flow → (SpeaksOf flow part → ⊥) →
+    AreNarrowed flows among part found → AreNarrowed flows (among ++ place ∷ []) part found
+narrowed_passed_over flows among found part place flow at fails so_far k = (
+  λ h. (let x = (so_far k).0 h in (Contains-append_left among (place ∷ []) k x.0, x.1)),
+  λ h. elim (Contains-push_cases among place k h.0) [
+    | inl before ↦ (so_far k).1 (before, h.1)
+    | inr same ↦
+        let P : ℕ → Type 0 = λ n. slice_get flows n ≡ Some flow in
+        let e : h.1.0 ≡ flow = same_Some _ _ (sym h.1.1 ∙ subst P same at) in
+        let Q : Flow → Type 0 = λ f. SpeaksOf f part in
+        absurd (fails (subst Q e h.1.2))
+  ],
+)
+
+-- a literal is taken in where the flow lists it
+pub admits_literal : (v : Values) (texts : List Text) (field : OwnedField) (literal : Text) → v ≡ values.Listed texts → field ≡ Literal literal → Admits v field ↔ Contains (listed v) literal
+admits_literal v texts field literal is lit =
+    let P : Values → Type 0 = λ x. Admits x field ↔ Contains (listed x) literal in
+    let Q : OwnedField → Type 0 = λ f. Admits (values.Listed texts) f ↔ Contains texts literal in
+    subst P (sym is) (subst Q (sym lit) (λ h. h, λ h. h))
+
+pub admits_station_literal : (s : Stations) (own : StationValues) (one : OwnedStation) (literal : Text) → s ≡ stations.Listed own → one ≡ station.Literal literal →
+    AdmitsStation s one ↔ (Contains (listed_stations s) literal ⊎ BeginsOne (listed_prefixes s) literal)
+admits_station_literal s own one literal is lit =
+    let P : Stations → Type 0 = λ x. AdmitsStation x one ↔ (Contains (listed_stations x) literal ⊎ BeginsOne (listed_prefixes x) literal) in
+    let Q : OwnedStation → Type 0 = λ f. AdmitsStation (stations.Listed own) f ↔ (Contains own.literals literal ⊎ BeginsOne own.prefixes literal) in
+    subst P (sym is) (subst Q (sym lit) (λ h. h, λ h. h))

@@ -1,0 +1,200 @@
+-- Rows of parts that flows list.
+use Rattle.std.proofs.Common.{◌≡◌, ℕ, zero, suc, ◌<◌, ◌⊎◌, inl, inr, refl, sym, ◌∙◌, ap, subst, List, [], ◌∷◌, ◌++◌, length, get_or, map, Contains, Some, arith}
+use Rattle.std.specs.Prelude.{slice_get, ◌==◌, ◌↔◌, true}
+use Rattle.std.proofs.Math.Dec.{eqb-suc-zero}
+use Rattle.std.proofs.lemmas.Bool.{false≢true}
+use Rattle.std.proofs.lemmas.Option.{same_Some, slice_get_within, get_or_from_slice_get}
+use Rattle.std.proofs.lemmas.List.{length-map}
+use Rattle.std.proofs.lemmas.List.Elements.{Contains-push_cases}
+use Rattle.dr_base.specs.Texts.{Text, IsInByteOrder}
+use Rattle.dr_route.specs.declared.cell.OwnedField.{OwnedField}
+use Rattle.dr_route.specs.declared.cell.OwnedField.TheVariants as part
+use Rattle.dr_route.specs.declared.cell.OwnedStation.{OwnedStation}
+use Rattle.dr_route.specs.declared.cell.OwnedStation.TheVariants as station
+use Rattle.dr_route.specs.declared.cell.StationValues.{StationValues}
+use Rattle.dr_route.specs.Laws.{IsPart, IsStationPart}
+use Rattle.dr_plan_model.specs.Networks.{Network}
+use Rattle.dr_plan_model.specs.Plans.{literals_of}
+use Rattle.dr_plan_model.specs.declared.plan.Flow.{Flow}
+use Rattle.dr_plan_model.specs.declared.plan.Values.{Values}
+use Rattle.dr_plan_model.specs.declared.plan.Values.TheVariants as values
+use Rattle.dr_plan_model.specs.declared.plan.Stations.{Stations}
+use Rattle.dr_plan_model.specs.declared.plan.Stations.TheVariants as stations
+use Rattle.dr_plan_model.specs.declared.listed.Listed.{Listed}
+use Rattle.dr_plan_model.specs.declared.literals.Attribute.TheVariants as attribute
+use Rattle.dr_plan_model.specs.Naming.{listed, listed_stations}
+use Rattle.dr_plan_model.specs.Listings.{IsListedBy}
+use Rattle.dr_plan_model.specs.Walks.{BeginsOne}
+use Rattle.dr_plan_model.proofs.Gathered.{nothing_in_nil, Contains-cons_cases, Contains-here, Contains-there}
+use Rattle.dr_plan_model.proofs.WalksAlike.{flow_names}
+use Rattle.dr_plan_sound.specs.Printed.{printed_field, printed_station}
+use Rattle.dr_plan_entries.specs.declared.rows.Side.{Side}
+use Rattle.dr_plan_entries.specs.declared.rows.Side.TheVariants.{Modality, Station}
+use Rattle.dr_plan_entries.specs.Entering.{Admits, AdmitsStation, IsLiteralOf}
+use Rattle.dr_plan_entries.specs.InOrder.{IsLess, IsInPrintedOrder}
+use Rattle.dr_plan_entries.specs.Listing.{IsStationOf, TakesListed, TakesListedStations, TakesAtMost, TakesJust, SomeLists, AreNamed, IsFieldRow, IsStationRow}
+use Rattle.dr_plan_entries.proofs.Orders.{byte_order_is_printed}
+
+-- ---- what one flow lists
+own_fields : (texts : List Text) (field : OwnedField) → Admits (values.Listed texts) field → IsLiteralOf texts field
+own_fields texts (part.Literal literal) h = h
+own_fields texts part.Rest h = h
+
+pub takes_listed : (v : Values) (texts : List Text) → v ≡ values.Listed texts → TakesListed v (listed v)
+takes_listed v texts is = let P : Values → Type 0 = λ x. TakesListed x (listed x) in subst P (sym is) (own_fields texts)
+
+no_prefix : (prefixes : List Text) (t : Text) → length prefixes ≡ 0 → BeginsOne prefixes t → ⊥
+no_prefix prefixes t none begun = let lt : begun.1.0 < length prefixes = begun.1.1 in omega (arith, none, lt)
+
+own_stations : (own : StationValues) → length own.prefixes ≡ 0 → (one : OwnedStation) → AdmitsStation (stations.Listed own) one → IsStationOf own.literals one
+own_stations own none (station.Literal literal) (inl h) = h
+own_stations own none (station.Literal literal) (inr begun) = absurd (no_prefix own.prefixes literal none begun)
+own_stations own none (station.Prefix prefix) begun = absurd (no_prefix own.prefixes prefix none begun)
+own_stations own none station.Rest h = h
+
+pub takes_listed_stations : (s : Stations) (own : StationValues) → s ≡ stations.Listed own → length own.prefixes ≡ 0 → TakesListedStations s (listed_stations s)
+takes_listed_stations s own is none = let P : Stations → Type 0 = λ x. TakesListedStations x (listed_stations x) in subst P (sym is) (own_stations own none)
+
+pub is_none : (texts : List Text) → (length texts == 0) ≡ true → length texts ≡ 0
+is_none [] e = refl
+is_none (t ∷ texts) e = absurd (false≢true (sym (eqb-suc-zero (length texts)) ∙ e))
+
+-- ---- more literals
+field_moves : (xs ys : List Text) (field : OwnedField) → ((t : Text) → Contains xs t → Contains ys t) → IsLiteralOf xs field → IsLiteralOf ys field
+field_moves xs ys (part.Literal literal) all h = all literal h
+field_moves xs ys part.Rest all h = h
+
+station_moves : (xs ys : List Text) (one : OwnedStation) → ((t : Text) → Contains xs t → Contains ys t) → IsStationOf xs one → IsStationOf ys one
+station_moves xs ys (station.Literal literal) all h = all literal h
+station_moves xs ys (station.Prefix prefix) all h = h
+station_moves xs ys station.Rest all h = h
+
+pub at_most_moves : (side : Side) (flow : Flow) (xs ys : List Text) → ((t : Text) → Contains xs t → Contains ys t) → TakesAtMost side flow xs → TakesAtMost side flow ys
+at_most_moves Modality flow xs ys all h = λ field admitted. field_moves xs ys field all (h field admitted)
+at_most_moves Station flow xs ys all h = λ one admitted. station_moves xs ys one all (h one admitted)
+
+pub just_modalities : (side : Side) (flow : Flow) (sets : Listed) (texts : List Text) → side ≡ Modality → IsListedBy flow sets → texts ≡ sets.modalities → TakesListed flow.modalities (listed flow.modalities) →
+    TakesJust side flow texts
+just_modalities side flow sets texts is by same takes =
+    let J : Side → Type 0 = λ s. TakesJust s flow texts in
+    let C : Text → List Text → Type 0 = λ t ts. Contains ts t in
+    subst J (sym is) (record {
+      named = λ t h. (by.modalities t).0 (subst (C t) same h);
+      most = at_most_moves Modality flow (listed flow.modalities) texts (λ t h. subst (C t) (sym same) ((by.modalities t).1 h)) takes;
+    })
+
+pub just_stations : (side : Side) (flow : Flow) (sets : Listed) (texts : List Text) → side ≡ Station → IsListedBy flow sets → texts ≡ sets.stations →
+    TakesListedStations flow.stations (listed_stations flow.stations) → TakesJust side flow texts
+just_stations side flow sets texts is by same takes =
+    let J : Side → Type 0 = λ s. TakesJust s flow texts in
+    let C : Text → List Text → Type 0 = λ t ts. Contains ts t in
+    subst J (sym is) (record {
+      named = λ t h. (by.stations t).0 (subst (C t) same h);
+      most = at_most_moves Station flow (listed_stations flow.stations) texts (λ t h. subst (C t) (sym same) ((by.stations t).1 h)) takes;
+    })
+
+-- ---- the flows at one place after another
+-- the literals are ones that flows at the places list, and the flows at those passed so far take in no others
+pub record AreGathered (side : Side) (flows : List Flow) (among passed : List ℕ) (literals : List Text) : Type 0 where
+  pub named : (t : Text) → Contains literals t → SomeLists side flows among t
+  pub most : (k : ℕ) (flow : Flow) → Contains passed k → slice_get flows k ≡ Some flow → TakesAtMost side flow literals
+
+pub none_gathered : (side : Side) (flows : List Flow) (among : List ℕ) (literals : List Text) → literals ≡ [] → AreGathered side flows among [] literals
+none_gathered side flows among literals none = record {
+  named = λ t h. (let C : List Text → Type 0 = λ ts. Contains ts t in absurd (nothing_in_nil t (subst C none h)));
+  most = λ k flow has at. absurd (nothing_in_nil k has);
+}
+
+pub gathered_more : (side : Side) (flows : List Flow) (among passed : List ℕ) (place : ℕ) (flow : Flow) (old new texts : List Text) → Contains among place → slice_get flows place ≡ Some flow →
+    TakesJust side flow texts → ((t : Text) → Contains new t ↔ (Contains old t ⊎ Contains texts t)) → AreGathered side flows among passed old → AreGathered side flows among (passed ++ place ∷ []) new
+gathered_more side flows among passed place flow old new texts has_place here just more so_far = record {
+  named = λ t h. elim ((more t).0 h) [
+    | inl before ↦ so_far.named t before
+    | inr added ↦ (place, has_place, (flow, here, just.named t added))
+  ];
+  most = λ k other has at. elim (Contains-push_cases passed place k has) [
+    | inl before ↦ at_most_moves side other old new (λ t h. (more t).1 (inl h)) (so_far.most k other before at)
+    | inr same ↦
+        let P : ℕ → Type 0 = λ n. slice_get flows n ≡ Some flow in
+        let e : flow ≡ other = same_Some _ _ (sym (subst P same here) ∙ at) in
+        let T : Flow → Type 0 = λ f. TakesAtMost side f new in
+        subst T e (at_most_moves side flow texts new (λ t h. (more t).1 (inr h)) just.most)
+  ];
+}
+
+pub gathered_all : (side : Side) (flows : List Flow) (among : List ℕ) (literals names : List Text) → ((t : Text) → Contains names t ↔ Contains literals t) → IsInByteOrder names →
+    AreGathered side flows among among literals → AreNamed side flows among names
+gathered_all side flows among literals names same ordered all = record {
+  named = λ t h. all.named t ((same t).0 h);
+  most = λ k flow has at. at_most_moves side flow literals names (λ t h. (same t).1 h) (all.most k flow has at);
+  ordered = ordered;
+}
+
+-- ---- literals as parts
+to_mapped : {X Y : Type 0} (f : X → Y) (xs : List X) (x : X) → Contains xs x → Contains (map f xs) (f x)
+to_mapped f [] x h = absurd (nothing_in_nil x h)
+to_mapped {X} {Y} f (z ∷ xs) x h = elim (Contains-cons_cases z xs x h) [
+  | inl same ↦ (let P : X → Type 0 = λ y. Contains (map f (z ∷ xs)) (f y) in subst P same (Contains-here (f z) (map f xs)))
+  | inr later ↦ Contains-there (f z) (map f xs) (f x) (to_mapped f xs x later)
+]
+
+from_mapped : {X Y : Type 0} (f : X → Y) (xs : List X) (y : Y) → Contains (map f xs) y → (x : X) × Contains xs x × (f x ≡ y)
+from_mapped f [] y h = absurd (nothing_in_nil y h)
+from_mapped f (z ∷ xs) y h = elim (Contains-cons_cases (f z) (map f xs) y h) [
+  | inl same ↦ (z, Contains-here z xs, same)
+  | inr later ↦ (let found = from_mapped f xs y later in (found.0, Contains-there z xs found.0 found.1, found.2))
+]
+
+get_or_mapped : {X Y : Type 0} (f : X → Y) (xs : List X) (i : ℕ) (d : Y) (e : X) → i < length xs → get_or (map f xs) i d ≡ f (get_or xs i e)
+get_or_mapped f [] i d e below = absurd (omega (arith, below))
+get_or_mapped f (x ∷ xs) zero d e below = refl
+get_or_mapped f (x ∷ xs) (suc i) d e below = get_or_mapped f xs i d e (omega (arith, below))
+
+mapped_order : {X : Type 0} (text : X → Text) (f : Text → X) (names : List Text) → ((t : Text) → text (f t) ≡ t) → IsInByteOrder names → IsInPrintedOrder text (map f names)
+mapped_order {X} text f names is ordered = λ i j d lt long less.
+    let longer : length (map f names) ≡ length names = length-map names f in
+    let below : j < length names = omega (arith, long, longer) in
+    let at : (k : ℕ) → k < length names → text (get_or (map f names) k d) ≡ get_or names k [] =
+    λ k few. ap text (get_or_mapped f names k d [] few) ∙ is (get_or names k []) in
+    let P : Text → Type 0 = λ t. IsLess t (text (get_or (map f names) i d)) in
+    let Q : Text → Type 0 = λ t. IsLess (get_or names j []) t in
+    byte_order_is_printed names ordered i j [] lt below (subst Q (at i (omega (arith, lt, below))) (subst P (at j below) less))
+
+-- a row for some flows is one for fewer of them
+pub fewer_flows : (plan : Network) (among here : List ℕ) (row : List OwnedStation) → ((k : ℕ) → Contains here k → Contains among k) → IsStationRow plan among row → IsStationRow plan here row
+fewer_flows plan among here row of_them is = record { parts = is.parts; whole = λ k flow one has at admitted part. is.whole k flow one (of_them k has) at admitted part; ordered = is.ordered }
+
+module _ (plan : Network) (among : List ℕ) where
+  -- the literals that flows list are a row of parts
+  pub named_fields : (names : List Text) → AreNamed Modality plan.flows among names → IsFieldRow plan among (map (λ l. part.Literal l) names)
+  named_fields names named = record {
+    parts = λ field h.
+        let found = from_mapped (λ l. part.Literal l) names field h in
+        let lists = named.named found.0 found.1 in
+        let flow : Flow = lists.2.0 in
+        let among_flows : Contains plan.flows flow = (lists.0, slice_get_within plan.flows lists.0 flow lists.2.1, get_or_from_slice_get plan.flows lists.0 flow flow lists.2.1) in
+        let P : OwnedField → Type 0 = λ f. IsPart (literals_of plan).modalities f in
+        subst P found.2 (flow_names plan attribute.Modality flow found.0 among_flows lists.2.2);
+    whole = λ k flow field has at admitted is. in_row field (named.most k flow has at field admitted);
+    ordered = mapped_order printed_field (λ l. part.Literal l) names (λ t. refl) named.ordered;
+  } where
+    in_row : (field : OwnedField) → IsLiteralOf names field → Contains (map (λ l. part.Literal l) names) field
+    in_row (part.Literal literal) h = to_mapped (λ l. part.Literal l) names literal h
+    in_row part.Rest h = absurd h
+
+  pub named_stations : (names : List Text) → AreNamed Station plan.flows among names → IsStationRow plan among (map (λ l. station.Literal l) names)
+  named_stations names named = record {
+    parts = λ one h.
+        let found = from_mapped (λ l. station.Literal l) names one h in
+        let lists = named.named found.0 found.1 in
+        let flow : Flow = lists.2.0 in
+        let among_flows : Contains plan.flows flow = (lists.0, slice_get_within plan.flows lists.0 flow lists.2.1, get_or_from_slice_get plan.flows lists.0 flow flow lists.2.1) in
+        let P : OwnedStation → Type 0 = λ f. IsStationPart (literals_of plan).stations f in
+        subst P found.2 (flow_names plan attribute.Station flow found.0 among_flows lists.2.2);
+    whole = λ k flow one has at admitted is. in_row one (named.most k flow has at one admitted);
+    ordered = mapped_order printed_station (λ l. station.Literal l) names (λ t. refl) named.ordered;
+  } where
+    in_row : (one : OwnedStation) → IsStationOf names one → Contains (map (λ l. station.Literal l) names) one
+    in_row (station.Literal literal) h = to_mapped (λ l. station.Literal l) names literal h
+    in_row (station.Prefix prefix) h = absurd h
+    in_row station.Rest h = absurd h

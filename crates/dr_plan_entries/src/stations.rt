@@ -1,0 +1,89 @@
+//! The parts of a plan's stations, in the order in which they are printed.
+ghost use Rattle.std.specs.Prelude.{◌≡◌, ◌++◌, ◌∷◌, [], codes, List, IfOk, OnOk, All, map};
+ghost use Rattle.dr_base.specs.Texts.{Text as Words};
+ghost use Rattle.dr_route.specs.declared.cell.OwnedStation.{OwnedStation as StationValue};
+ghost use Rattle.dr_route.specs.declared.cell.OwnedStation.TheVariants as station;
+ghost use Rattle.dr_plan_sound.specs.Printed.{printed_station};
+ghost use Rattle.dr_plan_entries.specs.Entering.{AreStationParts, HasItsText, part_of};
+ghost use Rattle.dr_plan_entries.specs.InOrder.{IsInPrintedOrder};
+
+use dr_base::{Seq, Text};
+use dr_route::{OwnedStation, StationValues};
+use std::alloc::{AllocError, Global};
+
+/// A part of the stations with its printed text, by which it is sorted.
+#[derive(Drop)]
+pub struct Shown {
+    text: Text,
+    part: OwnedStation,
+}
+
+/// The prefix with `*` behind it.
+fn starred(alloc: Global, prefix: &Text) -> Result<Text, AllocError>
+    ensures { IfOk result (λ t. t ≡ prefix.now ++ codes "*") }
+{
+    let mut bytes = Vec::from_slice(alloc, prefix.as_bytes())?;
+    bytes.push(b'*')?;
+    Ok(Text::from_vec(bytes))
+}
+
+/// Adds the parts of these literals.
+fn add_literals(shown: &mut Vec<Shown>, literals: &[Text]) -> Result<(), AllocError>
+    ensures parts { OnOk result (map part_of shown.new.items ≡ map part_of shown.old.items ++ map (λ l. station.Literal l) literals.now) }
+    ensures texts { OnOk result (All HasItsText shown.old.items → All HasItsText shown.new.items) }
+{
+    for literal in literals {
+        let text = literal.clone()?;
+        let part = OwnedStation::Literal(literal.clone()?);
+        shown.push(Shown { text, part })?;
+    }
+    Ok(())
+}
+
+/// Adds the parts of these prefixes.
+fn add_prefixes(alloc: Global, shown: &mut Vec<Shown>, prefixes: &[Text]) -> Result<(), AllocError>
+    ensures parts { OnOk result (map part_of shown.new.items ≡ map part_of shown.old.items ++ map (λ p. station.Prefix p) prefixes.now) }
+    ensures texts { OnOk result (All HasItsText shown.old.items → All HasItsText shown.new.items) }
+{
+    for prefix in prefixes {
+        let text = starred(alloc, prefix)?;
+        let part = OwnedStation::Prefix(prefix.clone()?);
+        shown.push(Shown { text, part })?;
+    }
+    Ok(())
+}
+
+/// The part of all stations that the plan doesn't name, which is printed `*`.
+fn rest(alloc: Global) -> Result<Shown, AllocError>
+    ensures { IfOk result (λ s. (s.part ≡ station.Rest) × HasItsText s) }
+{
+    let text = Text::copy_of(alloc, b"*")?;
+    Ok(Shown {
+        text,
+        part: OwnedStation::Rest,
+    })
+}
+
+/// All parts, each with its text.
+fn shown_of(alloc: Global, values: &StationValues) -> Result<Vec<Shown>, AllocError>
+    ensures parts { IfOk result (λ v. map part_of v.items ≡ map (λ l. station.Literal l) values.now.literals ++ map (λ p. station.Prefix p) values.now.prefixes ++ station.Rest ∷ []) }
+    ensures texts { IfOk result (λ v. All HasItsText v.items) }
+{
+    let mut shown = Vec::new(alloc);
+    add_literals(&mut shown, values.literals.as_slice())?;
+    add_prefixes(alloc, &mut shown, values.prefixes.as_slice())?;
+    shown.push(rest(alloc)?)?;
+    Ok(shown)
+}
+
+/// The parts of the stations in the byte order in which they are printed: its literals, its prefixes, each with `*`
+/// behind it, and the rest as `*`.
+pub fn stations_of(alloc: Global, values: &StationValues) -> Result<Seq<OwnedStation>, AllocError>
+    ensures same { IfOk result (AreStationParts values.now) }
+    ensures ordered { IfOk result (IsInPrintedOrder printed_station) }
+{
+    let mut shown = shown_of(alloc, values)?;
+    shown.sort_unstable_by(|a, b| a.text.cmp(&b.text));
+    let parts: Vec<OwnedStation> = shown.into_iter().map(|one| one.part).collect(alloc)?;
+    Ok(Seq::from_vec(parts))
+}

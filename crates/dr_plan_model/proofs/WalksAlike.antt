@@ -1,0 +1,303 @@
+-- Keys of one cell of a plan are sent, kept and walked alike; and what well-formed plans exclude.
+use Rattle.std.proofs.Common.{◌≡◌, ◌≢◌, ℕ, ◌<◌, inl, inr, refl, sym, ◌∙◌, ap, subst, List, [], ◌∷◌, length, get_or, Contains, arith}
+use Rattle.std.specs.Prelude.{◌↔◌, All, flat_map}
+use Rattle.std.proofs.lemmas.Bool.{cases_lt, cases_eq}
+use Rattle.std.proofs.lemmas.List.{get_or_default}
+use Rattle.std.proofs.lemmas.List.Elements.{Contains-append_left, Contains-append_right, Contains-append_cases, Contains-get_or, All-contains, All-head, All-tail}
+use Rattle.dr_base.specs.Texts.{Text}
+use Rattle.dr_base.specs.declared.syntax.Syntax.{Syntax}
+use Rattle.dr_route.specs.Routes.{local, SendsBy, KeepsBy}
+use Rattle.dr_route.specs.Cells.{InField, InStation}
+use Rattle.dr_route.specs.Laws.{IsKnown, IsKnownStation, IsKnownRule, ArePlain, ArePlainStations, key_of}
+use Rattle.dr_route.specs.declared.key.Key.{Key}
+use Rattle.dr_route.specs.declared.rule.Rule.{Rule}
+use Rattle.dr_route.specs.declared.rule.Pattern.{Pattern}
+use Rattle.dr_route.specs.declared.rule.Pattern.TheVariants.{Any, Literal}
+use Rattle.dr_route.specs.declared.rule.StationPattern.{StationPattern}
+use Rattle.dr_route.specs.declared.rule.StationPattern.TheVariants as pattern
+use Rattle.dr_route.specs.declared.cell.StationValues.{StationValues}
+use Rattle.dr_route.specs.declared.cell.OwnedStation.{OwnedStation}
+use Rattle.dr_route.specs.declared.cell.OwnedStation.TheVariants as station
+use Rattle.dr_route.specs.declared.cell.OwnedField.{OwnedField}
+use Rattle.dr_route.specs.declared.cell.OwnedField.TheVariants as part
+use Rattle.dr_route.specs.declared.cell.OwnedCell.{OwnedCell}
+use Rattle.dr_route.proofs.Agreement.{sends_agree, keeps_agree, part_has_value, station_has_value, prefix_agrees}
+use Rattle.dr_plan_model.specs.declared.plan.Node.{Node}
+use Rattle.dr_plan_model.specs.declared.plan.Flow.{Flow}
+use Rattle.dr_plan_model.specs.declared.plan.Values.{Values}
+use Rattle.dr_plan_model.specs.declared.plan.Values.TheVariants as values
+use Rattle.dr_plan_model.specs.declared.literals.Attribute.{Attribute}
+use Rattle.dr_plan_model.specs.declared.plan.Stations.{Stations}
+use Rattle.dr_plan_model.specs.declared.plan.Stations.TheVariants as stations
+use Rattle.dr_plan_model.specs.declared.plan.Format.{Format}
+use Rattle.dr_plan_model.specs.declared.plan.Format.TheVariants.{One}
+use Rattle.dr_plan_model.specs.declared.literals.Attribute.TheVariants.{Modality, Station, StationPrefix}
+use Rattle.dr_plan_model.specs.Networks.{Network}
+use Rattle.dr_plan_model.specs.Formed.{IsLiteral, IsPrefix, HasStationForm, AreStations, IsInFormat, IsKnownName, IsWellFormedNode, IsWellFormedFlow, IsRuleOf, AreLiterals, HasForm}
+use Rattle.dr_plan_model.specs.Naming.{literal_of, station_of, prefix_of, listed, listed_stations, listed_prefixes, named_by_rule, named_by_flow, named_by_rules, named_by_flows}
+use Rattle.dr_plan_model.specs.Plans.{IsWellFormed, IsNode, named_in, stations_of, prefixes_of, literals_of, LiesIn}
+use Rattle.dr_plan_model.specs.Walks.{IsListed, IsStationListed, Fits, Flows, Sends, Keeps, IsWalk, IsEntry, IsReached}
+use Rattle.dr_plan_model.specs.Laws.{IsCellOf, InPlainField}
+use Rattle.dr_plan_model.proofs.Gathered.{Contains-flat_map, Contains-here, Contains-there, Contains-flat_map_from, nothing_in_nil, only_one}
+
+-- ---- what each element has, all have
+pub all_from_each : {X : Type 0} (P : X → Type 0) (xs : List X) → ((x : X) → Contains xs x → P x) → All P xs
+all_from_each P xs each = λ k d high. each (get_or xs k d) (Contains-get_or xs k d high)
+
+-- ---- two nodes of one name
+pub one_node : (plan : Network) → IsWellFormed plan → (name : Text) (a b : Node) → IsNode plan name a → IsNode plan name b → a ≡ b
+one_node plan formed name a b is_a is_b =
+    let i : ℕ = is_a.0.0 in
+    let j : ℕ = is_b.0.0 in
+    let at_i : get_or plan.nodes i a ≡ a = is_a.0.2 in
+    let at_j : get_or plan.nodes j b ≡ b = is_b.0.2 in
+    let in_i : i < length plan.nodes = is_a.0.1 in
+    let in_j : j < length plan.nodes = is_b.0.1 in
+    let also_j : get_or plan.nodes j a ≡ b = get_or_default plan.nodes j a b in_j ∙ at_j in
+    let names : a.name ≡ b.name = is_a.1 ∙ sym is_b.1 in
+    elim (cases_lt i j) [
+      | inl before ↦ absurd (formed.apart i j a before in_j (ap (λ (n : Node). n.name) at_i ∙ (names ∙ ap (λ (n : Node). n.name) (sym also_j))))
+      | inr not_before ↦ elim (cases_eq i j) [
+        | inl same ↦ sym at_i ∙ (ap (λ (k : ℕ). get_or plan.nodes k a) same ∙ also_j)
+        | inr other ↦
+            let after : j < i = omega arith in
+            absurd (formed.apart j i a after in_i (ap (λ (n : Node). n.name) also_j ∙ (sym names ∙ ap (λ (n : Node). n.name) (sym at_i))))
+      ]
+    ]
+
+-- ---- the literals of rules and flows are the plan's
+known_pattern : (literals : List Text) (pattern : Pattern) → ((t : Text) → Contains (literal_of pattern) t → Contains literals t) → IsKnown (record { literals = literals }) pattern
+known_pattern literals Any all = tt
+known_pattern literals (Literal literal) all = all literal (Contains-here literal [])
+
+known_station : (values : StationValues) (pattern : StationPattern) → ((t : Text) → Contains (station_of pattern) t → Contains values.literals t) →
+    ((t : Text) → Contains (prefix_of pattern) t → Contains values.prefixes t) → IsKnownStation values pattern
+known_station values pattern.Any all each = tt
+known_station values (pattern.Literal literal) all each = all literal (Contains-here literal [])
+known_station values (pattern.Prefix prefix) all each = each prefix (Contains-here prefix [])
+
+rule_names : (plan : Network) (attribute : Attribute) (node : Node) (rule : Rule) (t : Text) → Contains plan.nodes node → Contains node.rules rule →
+    Contains (named_by_rule attribute rule) t → Contains (named_in attribute plan) t
+rule_names plan attribute node rule t has_node has_rule has_text =
+    Contains-append_left _ _ t
+    (Contains-flat_map (λ (n : Node). named_by_rules attribute n.rules) plan.nodes node t has_node
+    (Contains-flat_map (λ (r : Rule). named_by_rule attribute r) node.rules rule t has_rule has_text))
+
+pub known_rules : (plan : Network) (node : Node) → Contains plan.nodes node → All (IsKnownRule (literals_of plan)) node.rules
+known_rules plan node has_node = all_from_each (IsKnownRule (literals_of plan)) node.rules (λ rule has_rule. (
+  known_pattern (named_in Modality plan) rule.modality (λ t. rule_names plan Modality node rule t has_node has_rule),
+  known_station (literals_of plan).stations rule.station (λ t. rule_names plan Station node rule t has_node has_rule) (λ t. rule_names plan StationPrefix node rule t has_node has_rule),
+))
+
+pub flow_names : (plan : Network) (attribute : Attribute) (flow : Flow) (t : Text) → Contains plan.flows flow → Contains (named_by_flow attribute flow) t → Contains (named_in attribute plan) t
+flow_names plan attribute flow t has_flow has_text =
+    Contains-append_right _ _ t (Contains-flat_map (λ (f : Flow). named_by_flow attribute f) plan.flows flow t has_flow has_text)
+
+-- ---- keys of one cell
+listed_alike : (literals : List Text) (field : OwnedField) (texts : Values) (v w : Text) → ((t : Text) → Contains (listed texts) t → Contains literals t) →
+    InField (record { literals = literals }) field v → InField (record { literals = literals }) field w → IsListed texts v → IsListed texts w
+listed_alike literals field values.Any v w known a b h = tt
+listed_alike literals (part.Literal literal) (values.Listed texts) v w known a b h =
+    let P : Text → Type 0 = λ t. Contains texts t in subst P (sym a.1 ∙ b.1) h
+listed_alike literals part.Rest (values.Listed texts) v w known a b h = absurd (a (known v h))
+
+stations_listed_alike : (values : StationValues) (part : OwnedStation) (listed : Stations) (v w : Text) → ((t : Text) → Contains (listed_stations listed) t → Contains values.literals t) →
+    ((t : Text) → Contains (listed_prefixes listed) t → Contains values.prefixes t) →
+    InStation values part v → InStation values part w → IsStationListed listed v → IsStationListed listed w
+stations_listed_alike values part stations.Any v w known each a b h = tt
+stations_listed_alike values part (stations.Listed own) v w known each a b (inl one) = inl (same_literal part a b one) where
+  same_literal : (part : OwnedStation) → InStation values part v → InStation values part w → Contains own.literals v → Contains own.literals w
+  same_literal (station.Literal literal) a b one = let P : Text → Type 0 = λ t. Contains own.literals t in subst P (sym a.1 ∙ b.1) one
+  same_literal (station.Prefix prefix) a b one = absurd (a.0 (known v one))
+  same_literal station.Rest a b one = absurd (a.0 (known v one))
+stations_listed_alike values part (stations.Listed own) v w known each a b (inr begun) =
+    inr (begun.0, begun.1, prefix_agrees values part begun.0 v w (each begun.0 begun.1) a b begun.2)
+
+pub fits_alike : (plan : Network) (cell : OwnedCell) (k l : Key) → LiesIn plan cell k → LiesIn plan cell l → (flow : Flow) → Contains plan.flows flow → Fits flow k → Fits flow l
+fits_alike plan cell k l a b flow has_flow fit = record {
+  class = let P : Text → Type 0 = λ t. Contains flow.classes t in subst P (sym a.class ∙ b.class) fit.class;
+  syntax = let P : Syntax → Type 0 = λ t. Contains flow.syntaxes t in subst P (sym a.syntax ∙ b.syntax) fit.syntax;
+  modality = listed_alike (named_in Modality plan) cell.modality flow.modalities k.modality l.modality (λ t. flow_names plan Modality flow t has_flow) a.modality b.modality fit.modality;
+  station = stations_listed_alike (literals_of plan).stations cell.station flow.stations k.station l.station (λ t. flow_names plan Station flow t has_flow) (λ t. flow_names plan StationPrefix flow t has_flow)
+      a.station b.station fit.station;
+}
+
+pub flows_alike : (plan : Network) (cell : OwnedCell) (k l : Key) → LiesIn plan cell k → LiesIn plan cell l → (site to : Text) → Flows plan site k to → Flows plan site l to
+flows_alike plan cell k l a b site to f = (f.0, f.1, f.2, f.3, fits_alike plan cell k l a b f.0 f.1 f.4)
+
+pub send_alike : (plan : Network) (cell : OwnedCell) (k l : Key) → LiesIn plan cell k → LiesIn plan cell l → (name caller to : Text) → Sends plan name caller k to → Sends plan name caller l to
+send_alike plan cell k l a b name caller to (inl entered) = inl (entered.0, flows_alike plan cell k l a b name to entered.1)
+send_alike plan cell k l a b name caller to (inr ruled) =
+    inr (ruled.0, ruled.1, sends_agree (literals_of plan) cell k l a b ruled.0.rules (known_rules plan ruled.0 ruled.1.0) caller to ruled.2)
+
+pub keep_alike : (plan : Network) (cell : OwnedCell) (k l : Key) → LiesIn plan cell k → LiesIn plan cell l → (name caller : Text) → Keeps plan name caller k → Keeps plan name caller l
+keep_alike plan cell k l a b name caller kept =
+    (kept.0, kept.1, keeps_agree (literals_of plan) cell k l a b kept.0.rules (known_rules plan kept.0 kept.1.0) caller kept.2)
+
+pub enter_alike : (plan : Network) (cell : OwnedCell) (k l : Key) → LiesIn plan cell k → LiesIn plan cell l → (site : Text) → IsEntry plan site k → IsEntry plan site l
+enter_alike plan cell k l a b site entry = (entry.0, flows_alike plan cell k l a b site entry.0 entry.1)
+
+pub walk_alike : (plan : Network) (cell : OwnedCell) (k l : Key) → LiesIn plan cell k → LiesIn plan cell l →
+    (caller name : Text) (over : List Text) → IsWalk plan k caller name over → IsWalk plan l caller name over
+walk_alike plan cell k l a b caller name [] walk = tt
+walk_alike plan cell k l a b caller name (next ∷ rest) walk = (send_alike plan cell k l a b name caller next walk.0, walk_alike plan cell k l a b name next rest walk.1)
+
+pub reach_alike : (plan : Network) (cell : OwnedCell) (k l : Key) → LiesIn plan cell k → LiesIn plan cell l → (caller name : Text) → IsReached plan k caller name → IsReached plan l caller name
+reach_alike plan cell k l a b caller name r =
+    (r.0, r.1, enter_alike plan cell k l a b r.0 r.2, walk_alike plan cell k l a b local r.0 r.1 r.3, r.4)
+
+-- ---- the local caller
+pub no_rule_sends : (rules : List Rule) (key : Key) (name : Text) → SendsBy rules local key name → ⊥
+no_rule_sends [] key name h = h
+no_rule_sends (rule ∷ rules) key name (inl h) = h.0.0 refl
+no_rule_sends (rule ∷ rules) key name (inr h) = no_rule_sends rules key name h
+
+pub no_rule_keeps : (rules : List Rule) (key : Key) → KeepsBy rules local key → ⊥
+no_rule_keeps [] key h = h
+no_rule_keeps (rule ∷ rules) key (inl h) = h.0.0 refl
+no_rule_keeps (rule ∷ rules) key (inr h) = no_rule_keeps rules key h
+
+pub not_known_local : (plan : Network) → IsWellFormed plan → IsKnownName plan.nodes local → ⊥
+not_known_local plan formed known =
+    let node : IsWellFormedNode plan.nodes known.0 = All-contains (IsWellFormedNode plan.nodes) plan.nodes known.0 formed.each_node known.1 in
+    node.name.not_local known.2
+
+-- where some rule sends to a node, one of the rules names it
+named_target : (rules : List Rule) (caller : Text) (key : Key) (name : Text) → SendsBy rules caller key name → (rule : Rule) × Contains rules rule × Contains rule.to name
+named_target [] caller key name h = absurd h
+named_target (rule ∷ rules) caller key name (inl h) = (rule, Contains-here rule rules, h.1)
+named_target (rule ∷ rules) caller key name (inr h) =
+    let later = named_target rules caller key name h in (later.0, Contains-there rule rules later.0 later.1, later.2)
+
+-- what is sent goes to a node of the plan
+pub sent_to_a_node : (plan : Network) → IsWellFormed plan → (name caller : Text) (key : Key) (to : Text) → Sends plan name caller key to → IsKnownName plan.nodes to
+sent_to_a_node plan formed name caller key to (inl entered) =
+    let flow : IsWellFormedFlow plan.nodes entered.1.0 = All-contains (IsWellFormedFlow plan.nodes) plan.flows entered.1.0 formed.each_flow entered.1.1 in
+    let P : Text → Type 0 = λ t. IsKnownName plan.nodes t in subst P entered.1.3 flow.to
+sent_to_a_node plan formed name caller key to (inr ruled) =
+    let node : IsWellFormedNode plan.nodes ruled.0 = All-contains (IsWellFormedNode plan.nodes) plan.nodes ruled.0 formed.each_node ruled.1.0 in
+    let target = named_target ruled.0.rules caller key to ruled.2 in
+    let rule : IsRuleOf plan.nodes ruled.0.name target.0 = All-contains (IsRuleOf plan.nodes ruled.0.name) ruled.0.rules target.0 node.rules target.1 in
+    (All-contains (λ t. IsKnownName plan.nodes t × (t ≢ ruled.0.name)) target.0.to to rule.to target.2).0
+
+pub local_never_sent_to : (plan : Network) → IsWellFormed plan → (name caller : Text) (key : Key) → Sends plan name caller key local → ⊥
+local_never_sent_to plan formed name caller key sent = not_known_local plan formed (sent_to_a_node plan formed name caller key local sent)
+
+-- ---- the plan's literals are printable
+is_plain : (text : Text) → IsLiteral text → All (λ byte. byte < 127) text
+is_plain text literal = λ k d h. (literal.printable k d h).1
+
+pattern_is_literal : (pattern : Pattern) → HasForm IsLiteral pattern → (t : Text) → Contains (literal_of pattern) t → IsLiteral t
+pattern_is_literal Any form t among = absurd (nothing_in_nil t among)
+pattern_is_literal (Literal literal) form t among = let P : Text → Type 0 = λ x. IsLiteral x in subst P (only_one literal t among) form
+
+values_are_literals : (texts : Values) → AreLiterals texts → (t : Text) → Contains (listed texts) t → IsLiteral t
+values_are_literals values.Any form t among = absurd (nothing_in_nil t among)
+values_are_literals (values.Listed texts) form t among = All-contains IsLiteral texts t form among
+
+station_is_literal : (pattern : StationPattern) → HasStationForm pattern → (t : Text) → Contains (station_of pattern) t → IsLiteral t
+station_is_literal pattern.Any form t among = absurd (nothing_in_nil t among)
+station_is_literal (pattern.Literal literal) form t among = let P : Text → Type 0 = λ x. IsLiteral x in subst P (only_one literal t among) form
+station_is_literal (pattern.Prefix prefix) form t among = absurd (nothing_in_nil t among)
+
+prefix_is_prefix : (pattern : StationPattern) → HasStationForm pattern → (t : Text) → Contains (prefix_of pattern) t → IsPrefix t
+prefix_is_prefix pattern.Any form t among = absurd (nothing_in_nil t among)
+prefix_is_prefix (pattern.Literal literal) form t among = absurd (nothing_in_nil t among)
+prefix_is_prefix (pattern.Prefix prefix) form t among = let P : Text → Type 0 = λ x. IsPrefix x in subst P (only_one prefix t among) form
+
+stations_are_literals : (stations : Stations) → AreStations stations → (t : Text) → Contains (listed_stations stations) t → IsLiteral t
+stations_are_literals stations.Any form t among = absurd (nothing_in_nil t among)
+stations_are_literals (stations.Listed values) form t among = All-contains IsLiteral values.literals t form.0 among
+
+prefixes_are_prefixes : (stations : Stations) → AreStations stations → (t : Text) → Contains (listed_prefixes stations) t → IsPrefix t
+prefixes_are_prefixes stations.Any form t among = absurd (nothing_in_nil t among)
+prefixes_are_prefixes (stations.Listed values) form t among = All-contains IsPrefix values.prefixes t form.1 among
+
+-- what a text of the plan is, by what it is named for
+abbrev pub IsOf : Attribute → Text → Type 0
+IsOf Modality t = IsLiteral t
+IsOf Station t = IsLiteral t
+IsOf StationPrefix t = IsPrefix t
+
+rule_has_form : (nodes : List Node) (name : Text) (attribute : Attribute) (rule : Rule) → IsRuleOf nodes name rule → (t : Text) → Contains (named_by_rule attribute rule) t → IsOf attribute t
+rule_has_form nodes name Modality rule is t among = pattern_is_literal rule.modality is.modality t among
+rule_has_form nodes name Station rule is t among = station_is_literal rule.station is.station t among
+rule_has_form nodes name StationPrefix rule is t among = prefix_is_prefix rule.station is.station t among
+
+flow_has_form : (nodes : List Node) (attribute : Attribute) (flow : Flow) → IsWellFormedFlow nodes flow → (t : Text) → Contains (named_by_flow attribute flow) t → IsOf attribute t
+flow_has_form nodes Modality flow is t among = values_are_literals flow.modalities is.modalities t among
+flow_has_form nodes Station flow is t among = stations_are_literals flow.stations is.stations t among
+flow_has_form nodes StationPrefix flow is t among = prefixes_are_prefixes flow.stations is.stations t among
+
+-- each text that the plan names is a literal, or a prefix
+pub named_has_form : (plan : Network) → IsWellFormed plan → (attribute : Attribute) (t : Text) → Contains (named_in attribute plan) t → IsOf attribute t
+named_has_form plan formed attribute t among =
+    elim (Contains-append_cases (flat_map (λ (n : Node). named_by_rules attribute n.rules) plan.nodes) (named_by_flows attribute plan.flows) t among) [
+      | inl ruled ↦
+          let at_node = Contains-flat_map_from (λ (n : Node). named_by_rules attribute n.rules) plan.nodes t ruled in
+          let node : IsWellFormedNode plan.nodes at_node.0 = All-contains (IsWellFormedNode plan.nodes) plan.nodes at_node.0 formed.each_node at_node.1 in
+          let at_rule = Contains-flat_map_from (λ (r : Rule). named_by_rule attribute r) at_node.0.rules t at_node.2 in
+          let rule : IsRuleOf plan.nodes at_node.0.name at_rule.0 = All-contains (IsRuleOf plan.nodes at_node.0.name) at_node.0.rules at_rule.0 node.rules at_rule.1 in
+          rule_has_form plan.nodes at_node.0.name attribute at_rule.0 rule t at_rule.2
+      | inr flowed ↦
+          let at_flow = Contains-flat_map_from (λ (f : Flow). named_by_flow attribute f) plan.flows t flowed in
+          let flow : IsWellFormedFlow plan.nodes at_flow.0 = All-contains (IsWellFormedFlow plan.nodes) plan.flows at_flow.0 formed.each_flow at_flow.1 in
+          flow_has_form plan.nodes attribute at_flow.0 flow t at_flow.2
+    ]
+
+is_plain_of : (attribute : Attribute) (t : Text) → IsOf attribute t → All (λ byte. byte < 127) t
+is_plain_of Modality t is = is_plain t is
+is_plain_of Station t is = is_plain t is
+is_plain_of StationPrefix t is = is_plain t is.literal
+
+pub named_are_plain : (plan : Network) → IsWellFormed plan → (attribute : Attribute) → ArePlain (named_in attribute plan)
+named_are_plain plan formed attribute = all_from_each (All (λ byte. byte < 127)) (named_in attribute plan) (λ t among. is_plain_of attribute t (named_has_form plan formed attribute t among))
+
+pub stations_are_plain : (plan : Network) → IsWellFormed plan → ArePlainStations (literals_of plan).stations
+stations_are_plain plan formed = record {
+  literals = named_are_plain plan formed Station;
+  prefixes = named_are_plain plan formed StationPrefix;
+  some = all_from_each (λ t. t ≢ []) (prefixes_of plan) (λ t among. (named_has_form plan formed StationPrefix t among).some);
+}
+
+-- ---- format 1
+none_in_each : {X : Type 0} (f : X → List Text) (xs : List X) → All (λ x. f x ≡ []) xs → flat_map f xs ≡ []
+none_in_each f [] none = refl
+none_in_each f (x ∷ xs) none = rw (All-head (λ y. f y ≡ []) x xs none, none_in_each f xs (All-tail (λ y. f y ≡ []) x xs none)) refl
+
+none_in_format_1 : (format : Format) (nodes : List Node) (flows : List Flow) → format ≡ One → IsInFormat format nodes flows → IsInFormat One nodes flows
+none_in_format_1 format nodes flows one is = let P : Format → Type 0 = λ f. IsInFormat f nodes flows in subst P one is
+
+pub format_1_has_none : (plan : Network) → IsWellFormed plan → plan.format ≡ One → prefixes_of plan ≡ []
+format_1_has_none plan formed one =
+    let none = none_in_format_1 plan.format plan.nodes plan.flows one formed.in_format in
+    let ruled : flat_map (λ (n : Node). named_by_rules StationPrefix n.rules) plan.nodes ≡ [] =
+    none_in_each (λ (n : Node). named_by_rules StationPrefix n.rules) plan.nodes
+    (all_from_each (λ n. named_by_rules StationPrefix n.rules ≡ []) plan.nodes (λ n among. none_in_each (λ (r : Rule). named_by_rule StationPrefix r) n.rules
+    (All-contains (λ (node : Node). All (λ rule. prefix_of rule.station ≡ []) node.rules) plan.nodes n none.0 among))) in
+    let flowed : named_by_flows StationPrefix plan.flows ≡ [] = none_in_each (λ (f : Flow). named_by_flow StationPrefix f) plan.flows none.1 in
+    rw (ruled, flowed) refl
+
+-- where no prefix is named, the parts are the literals and the rest
+plain_parts : (values : StationValues) → values.prefixes ≡ [] → (part : OwnedStation) (value : Text) → InStation values part value ↔ InPlainField values.literals part value
+plain_parts values none (station.Literal literal) value = (λ h. h, λ h. h)
+plain_parts values none (station.Prefix prefix) value = (
+  λ h. nothing_in_nil prefix (let P : List Text → Type 0 = λ ts. Contains ts prefix in subst P none h.1.among),
+  λ h. absurd h,
+)
+plain_parts values none station.Rest value = (
+  λ h. h.0,
+  λ h. (h, λ prefix among begins. nothing_in_nil prefix (let P : List Text → Type 0 = λ ts. Contains ts prefix in subst P none among)),
+)
+
+pub format_1_keeps : (plan : Network) → IsWellFormed plan → plan.format ≡ One →
+    (part : OwnedStation) (value : Text) → InStation (literals_of plan).stations part value ↔ InPlainField (stations_of plan) part value
+format_1_keeps plan formed one part value = plain_parts (literals_of plan).stations (format_1_has_none plan formed one) part value
+
+pub cell_has_a_key : (plan : Network) → IsWellFormed plan → (cell : OwnedCell) → IsCellOf plan cell → LiesIn plan cell (key_of cell)
+cell_has_a_key plan formed cell is = record {
+  class = refl;
+  syntax = refl;
+  modality = part_has_value (literals_of plan).modalities cell.modality (named_are_plain plan formed Modality) is.0;
+  station = station_has_value (literals_of plan).stations cell.station (stations_are_plain plan formed) is.1;
+}

@@ -1,0 +1,148 @@
+-- Well-formed plans: names, addresses, classes and literals, names that exist, and the limits of a plan.
+use Rattle.std.specs.Prelude.{◌≡◌, ◌≢◌, ℕ, ◌≤◌, ◌<◌, ◌+◌, ◌⊎◌, List, [], ◌∷◌, ◌++◌, length, codes, All, AllPairs, Contains, sum_by}
+use Rattle.std.specs.Str.Parse.{digits_value}
+use Rattle.dr_base.specs.Texts.{Text}
+use Rattle.dr_route.specs.declared.rule.Pattern.{Pattern}
+use Rattle.dr_route.specs.declared.rule.Pattern.TheVariants.{Any, Literal}
+use Rattle.dr_route.specs.declared.rule.StationPattern.{StationPattern}
+use Rattle.dr_route.specs.declared.rule.StationPattern.TheVariants as station
+use Rattle.dr_route.specs.declared.rule.Rule.{Rule}
+use Rattle.dr_route.specs.declared.accept.Callers.{Callers}
+use Rattle.dr_route.specs.declared.accept.Callers.TheVariants as callers
+use Rattle.dr_route.specs.declared.accept.AcceptRow.{AcceptRow}
+use Rattle.dr_plan_model.specs.declared.plan.Node.{Node}
+use Rattle.dr_plan_model.specs.declared.plan.Flow.{Flow}
+use Rattle.dr_plan_model.specs.declared.plan.Values.{Values}
+use Rattle.dr_plan_model.specs.declared.plan.Values.TheVariants as values
+use Rattle.dr_plan_model.specs.declared.plan.Stations.{Stations}
+use Rattle.dr_plan_model.specs.declared.plan.Stations.TheVariants as stations
+use Rattle.dr_plan_model.specs.declared.plan.Format.{Format}
+use Rattle.dr_plan_model.specs.declared.plan.Format.TheVariants.{One, Two}
+use Rattle.dr_plan_model.specs.Naming.{prefix_of, listed_prefixes}
+
+-- no space stands at the start of the text, nor at its end
+abbrev pub IsTrimmed : Text → Type 0
+IsTrimmed text = (rest : Text) → (text ≡ 32 ∷ rest → ⊥) × (text ≡ rest ++ 32 ∷ [] → ⊥)
+
+-- a node's title: 1 to 16 printable bytes but the backslash, and neither `*` nor `-`
+pub record IsName (text : Text) : Type 0 where
+  pub some : text ≢ []
+  pub short : length text ≤ 16
+  pub printable : All (λ byte. (32 ≤ byte) × (byte < 127) × (byte ≢ 92)) text
+  pub trimmed : IsTrimmed text
+  pub not_any : text ≢ codes "*"
+  pub not_local : text ≢ codes "-"
+
+-- the value of a modality or a station: up to 64 printable bytes but the asterisk
+pub record IsLiteral (text : Text) : Type 0 where
+  pub short : length text ≤ 64
+  pub printable : All (λ byte. (32 ≤ byte) × (byte < 127) × (byte ≢ 42)) text
+  pub trimmed : IsTrimmed text
+
+-- what stations are named by that begin with it: a literal of one byte or more
+pub record IsPrefix (text : Text) : Type 0 where
+  pub literal : IsLiteral text
+  pub some : text ≢ []
+
+-- the byte is a digit, 0 to 9
+abbrev pub IsDigit : ℕ → Type 0
+IsDigit byte = (48 ≤ byte) × (byte ≤ 57)
+
+-- a SOP class: 1 to 64 digits and dots
+pub record IsClass (text : Text) : Type 0 where
+  pub some : text ≢ []
+  pub short : length text ≤ 64
+  pub digits : All (λ byte. IsDigit byte ⊎ (byte ≡ 46)) text
+
+-- `host:port`: up to 255 printable bytes without a blank, the port 1 to 5 digits and at most 65,535
+pub record IsAddress (text : Text) : Type 0 where
+  pub host : Text
+  pub port : Text
+  pub parts : text ≡ host ++ 58 ∷ port
+  pub some : host ≢ []
+  pub digits : All IsDigit port
+  pub few : (port ≢ []) × (length port ≤ 5)
+  pub small : digits_value 10 port ≤ 65535
+  pub printable : All (λ byte. (33 ≤ byte) × (byte < 127)) text
+  pub short : length text ≤ 255
+
+-- no limit, or 1,024 to 1,048,576 bytes
+abbrev pub IsMaxPdu : ℕ → Type 0
+IsMaxPdu bytes = (bytes ≡ 0) ⊎ ((1024 ≤ bytes) × (bytes ≤ 1048576))
+
+-- the name is that of some node
+abbrev pub IsKnownName : List Node → Text → Type 0
+IsKnownName nodes name = (node : Node) × Contains nodes node × (node.name ≡ name)
+
+-- the pattern's literal, if it has one, is of that form
+abbrev pub HasForm : (Text → Type 0) → Pattern → Type 0
+HasForm P Any = Unit {0}
+HasForm P (Literal literal) = P literal
+
+-- the station's pattern has a literal or a prefix of the right form, if it has one
+abbrev pub HasStationForm : StationPattern → Type 0
+HasStationForm station.Any = Unit {0}
+HasStationForm (station.Literal literal) = IsLiteral literal
+HasStationForm (station.Prefix prefix) = IsPrefix prefix
+
+-- a rule of the node of that name: it doesn't send to its own node
+pub record IsRuleOf (nodes : List Node) (name : Text) (rule : Rule) : Type 0 where
+  pub from : HasForm (IsKnownName nodes) rule.from
+  pub class : HasForm IsClass rule.class
+  pub modality : HasForm IsLiteral rule.modality
+  pub station : HasStationForm rule.station
+  pub to : All (λ target. IsKnownName nodes target × (target ≢ name)) rule.to
+
+-- the callers of an accept row are all, or names of nodes of the plan
+abbrev pub AreKnownCallers : List Node → Callers → Type 0
+AreKnownCallers nodes callers.Any = Unit {0}
+AreKnownCallers nodes (callers.Listed names) = All (IsKnownName nodes) names
+
+-- an accept row of a plan: known callers, a class, and one or more transfer syntaxes, none twice
+pub record IsAcceptRow (nodes : List Node) (row : AcceptRow) : Type 0 where
+  pub from : AreKnownCallers nodes row.from
+  pub class : IsClass row.class
+  pub some : row.syntaxes ≢ []
+  pub apart : AllPairs (λ a b. a ≢ b) row.syntaxes
+
+-- a node of a plan: its title, address and greatest length, its accept rows and its rules are each of the right form
+pub record IsWellFormedNode (nodes : List Node) (node : Node) : Type 0 where
+  pub name : IsName node.name
+  pub address : IsAddress node.address
+  pub max_pdu : IsMaxPdu node.max_pdu
+  pub accepts : All (IsAcceptRow nodes) node.accepts
+  pub rules : All (IsRuleOf nodes node.name) node.rules
+
+-- the values of a flow are all, or literals of the right form
+abbrev pub AreLiterals : Values → Type 0
+AreLiterals values.Any = Unit {0}
+AreLiterals (values.Listed texts) = All IsLiteral texts
+
+-- the stations of a flow are all, or literals and prefixes of the right form
+abbrev pub AreStations : Stations → Type 0
+AreStations stations.Any = Unit {0}
+AreStations (stations.Listed values) = All IsLiteral values.literals × All IsPrefix values.prefixes
+
+-- a flow of a plan: from one node to another, with classes, transfer syntaxes, and values of the right form
+pub record IsWellFormedFlow (nodes : List Node) (flow : Flow) : Type 0 where
+  pub at : IsKnownName nodes flow.at
+  pub to : IsKnownName nodes flow.to
+  pub apart : flow.at ≢ flow.to
+  pub classes : (flow.classes ≢ []) × All IsClass flow.classes
+  pub syntaxes : flow.syntaxes ≢ []
+  pub modalities : AreLiterals flow.modalities
+  pub stations : AreStations flow.stations
+
+-- the format has what the nodes and flows name: in format 1 there is no prefix
+abbrev pub IsInFormat : Format → List Node → List Flow → Type 0
+IsInFormat One nodes flows = All (λ node. All (λ rule. prefix_of rule.station ≡ []) node.rules) nodes × All (λ flow. listed_prefixes flow.stations ≡ []) flows
+IsInFormat Two nodes flows = Unit {0}
+
+-- the nodes and flows of a plan of that format: at most 64 nodes, each name once, and at most 1,024 rules and flows together
+pub record AreWellFormed (format : Format) (nodes : List Node) (flows : List Flow) : Type 0 where
+  pub few_nodes : length nodes ≤ 64
+  pub few_rules : sum_by (λ node. length node.rules) nodes + length flows ≤ 1024
+  pub apart : AllPairs (λ a b. a.name ≢ b.name) nodes
+  pub each_node : All (IsWellFormedNode nodes) nodes
+  pub each_flow : All (IsWellFormedFlow nodes) flows
+  pub in_format : IsInFormat format nodes flows

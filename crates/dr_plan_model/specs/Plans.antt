@@ -1,0 +1,53 @@
+-- The nodes of a plan, and the values that it names.
+use Rattle.std.specs.Prelude.{◌≡◌, List, ◌++◌, Contains, flat_map}
+use Rattle.dr_base.specs.Texts.{Text}
+use Rattle.dr_route.specs.declared.cell.Literals.{Literals}
+use Rattle.dr_route.specs.declared.cell.OwnedCell.{OwnedCell}
+use Rattle.dr_route.specs.declared.key.Key.{Key}
+use Rattle.dr_route.specs.Cells.{InCell}
+use Rattle.dr_plan_model.specs.declared.plan.Node.{Node}
+use Rattle.dr_plan_model.specs.declared.literals.Attribute.{Attribute}
+use Rattle.dr_plan_model.specs.declared.literals.Attribute.TheVariants.{Modality, Station, StationPrefix}
+use Rattle.dr_plan_model.specs.Networks.{Network}
+use Rattle.dr_plan_model.specs.Naming.{named_by_rules, named_by_flows}
+use Rattle.dr_plan_model.specs.Formed.{AreWellFormed}
+
+-- the plan's nodes and flows are well-formed
+abbrev pub IsWellFormed : Network → Type 0
+IsWellFormed plan = AreWellFormed plan.format plan.nodes plan.flows
+
+-- a node of the plan, by its name
+abbrev pub IsNode : Network → Text → Node → Type 0
+IsNode plan name node = Contains plan.nodes node × (node.name ≡ name)
+
+-- the one node of the plan with that name
+abbrev pub IsTheNode : Network → Text → Node → Type 0
+IsTheNode plan name node = IsNode plan name node × ((other : Node) → IsNode plan name other → other ≡ node)
+
+-- no node of the plan has that name
+abbrev pub NamesNoNode : Network → Text → Type 0
+NamesNoNode plan name = (node : Node) → IsNode plan name node → ⊥
+
+-- the values that the plan names, in its rules and in its flows
+abbrev pub named_in : Attribute → Network → List Text
+named_in attribute plan = flat_map (λ (node : Node). named_by_rules attribute node.rules) plan.nodes ++ named_by_flows attribute plan.flows
+
+-- the modalities that the plan names
+abbrev pub modalities_of : Network → List Text
+modalities_of plan = named_in Modality plan
+
+-- the single stations that the plan names
+abbrev pub stations_of : Network → List Text
+stations_of plan = named_in Station plan
+
+-- what the plan names stations by that begin with it
+abbrev pub prefixes_of : Network → List Text
+prefixes_of plan = named_in StationPrefix plan
+
+-- the modalities and stations that the plan names, which part all keys into cells
+abbrev pub literals_of : Network → Literals
+literals_of plan = record { modalities = record { literals = modalities_of plan }; stations = record { literals = stations_of plan; prefixes = prefixes_of plan } }
+
+-- the key lies in that cell of the plan
+abbrev pub LiesIn : Network → OwnedCell → Key → Type 0
+LiesIn plan cell key = InCell (literals_of plan) cell key

@@ -1,0 +1,28 @@
+//! Laws of walks: what a reader may take from the definitions.
+ghost use Rattle.dr_plan_model.specs.Laws.{LocalNeverKeeps, LocalIsNoNode, SendAlike, KeepAlike, EnterAlike, WalkAlike, ReachAlike, EachCellHasAKey, FormatOneHasNoPrefix, FormatOneKeepsItsCells};
+
+/// Nothing is kept for the local caller, and nothing is sent to it.
+pub fn the_local_caller_is_no_node()
+    ensures keeps { LocalNeverKeeps }
+    ensures sends { LocalIsNoNode }
+{}
+
+/// Keys of one cell of a plan are sent and kept alike, enter at the same nodes, and walk alike.
+pub fn keys_of_one_cell_walk_alike()
+    ensures send { SendAlike }
+    ensures keep { KeepAlike }
+    ensures enter { EnterAlike }
+    ensures walk { WalkAlike }
+    ensures reach { ReachAlike }
+{}
+
+/// Each cell of a plan has a key of bytes.
+pub fn each_cell_has_a_key()
+    ensures { EachCellHasAKey }
+{}
+
+/// A plan of format 1 names no prefix of stations, and its cells are those that there were before there were prefixes.
+pub fn format_1_has_no_prefix()
+    ensures none { FormatOneHasNoPrefix }
+    ensures cells { FormatOneKeepsItsCells }
+{}

@@ -1,0 +1,220 @@
+//! What a node that runs tells of itself: events, each a line of a log.
+//!
+//! A line says what it is about (`node`, `association`, `instance`, `row`, `visit`, `queue`, `report`, `listener`) and what happened, with its parts as `key=value`. Of an instance only
+//! the UID is told.
+use crate::visit::Visit;
+use dr_base::Text;
+use dr_desk_workers::Tally;
+use dr_ledger::{Arrived, LedgerFault, Outcome, Progress};
+use dr_session::{Ended, SessionFault};
+use dr_word_list::code_of;
+use log::{Log, debug, error, info, warn};
+use std::fmt::{Display, Formatter};
+use std::{fmt, io, str};
+
+/// A name or a UID as an event shows it; bytes that are no text are shown as a question mark.
+#[derive(Drop)]
+pub struct Shown<'a>(pub &'a Text);
+
+impl<'a> Display for Shown<'a> {
+    fn fmt<W: fmt::Write>(&self, f: &mut Formatter<W>) -> fmt::Result {
+        match str::from_utf8(self.0.as_bytes()) {
+            Ok(text) => f.write_str(text),
+            Err(_) => f.write_str("?"),
+        }
+    }
+}
+
+/// How an association ended, in a word.
+fn word_of(ended: Ended) -> &'static str {
+    match ended {
+        Ended::Rejected(_) => "rejected",
+        Ended::Aborted => "aborted",
+        Ended::Released => "released",
+        Ended::Closed => "closed",
+    }
+}
+
+/// Why an association was rejected, if it was: the result, source and reason of PS3.8 9.3.4.
+#[derive(Drop)]
+struct Why(Ended);
+
+impl Display for Why {
+    fn fmt<W: fmt::Write>(&self, f: &mut Formatter<W>) -> fmt::Result {
+        match self.0 {
+            Ended::Rejected(rejection) => write!(
+                f,
+                " why=\"{} {} {}\"",
+                rejection.result, rejection.source, rejection.reason
+            ),
+            _ => Ok(()),
+        }
+    }
+}
+
+/// Tells how an association ended that another node asked for, and what came of it.
+pub fn tell_association<G: Log>(
+    log: &G,
+    session: u64,
+    ended: Result<Ended, SessionFault>,
+    tally: Tally,
+) {
+    let Tally {
+        accepted,
+        refused,
+        milliseconds,
+    } = tally;
+    match ended {
+        Ok(ended) => {
+            let (word, why) = (word_of(ended), Why(ended));
+            info!(log; target: "association", "{word} session={session}{why} instances={accepted} refused={refused} milliseconds={milliseconds}");
+        }
+        Err(fault) => {
+            warn!(log; target: "association", "failed session={session} fault=\"{fault}\" instances={accepted} refused={refused} milliseconds={milliseconds}");
+        }
+    }
+}
+
+/// Tells what the ledger answered an instance that came.
+pub fn tell_arrival<G: Log>(
+    log: &G,
+    session: u64,
+    caller: &Text,
+    uid: &Text,
+    answer: Result<Arrived, LedgerFault>,
+) {
+    let (caller, uid) = (Shown(caller), Shown(uid));
+    match answer {
+        Ok(Arrived::New) => {
+            debug!(log; target: "instance", "new session={session} caller=\"{caller}\" uid={uid}");
+        }
+        Ok(Arrived::Again) => {
+            debug!(log; target: "instance", "again session={session} caller=\"{caller}\" uid={uid}");
+        }
+        Err(fault) => {
+            let fault = code_of(fault);
+            warn!(log; target: "instance", "refused session={session} caller=\"{caller}\" uid={uid} fault=\"{fault}\"");
+        }
+    }
+}
+
+/// What came of a try to send an instance, as an event shows it.
+#[derive(Drop)]
+struct Answer(Outcome);
+
+impl Display for Answer {
+    fn fmt<W: fmt::Write>(&self, f: &mut Formatter<W>) -> fmt::Result {
+        match self.0 {
+            Outcome::Status(status) => write!(f, "{status:04X}"),
+            Outcome::Broken => f.write_str("-"),
+            Outcome::NoContext => f.write_str("no context"),
+        }
+    }
+}
+
+/// Tells of a row that is held.
+fn tell_held<G: Log>(log: &G, uid: &Text, dest: &Text, outcome: Outcome) {
+    let (uid, dest, answer) = (Shown(uid), Shown(dest), Answer(outcome));
+    warn!(log; target: "row", "held dest=\"{dest}\" uid={uid} status=\"{answer}\"");
+}
+
+/// Tells of a row that waits again: how often it was tried, and from when on it is due.
+fn tell_waiting<G: Log>(log: &G, uid: &Text, dest: &Text, outcome: Outcome, tries: u32, due: u64) {
+    let (uid, dest, answer) = (Shown(uid), Shown(dest), Answer(outcome));
+    info!(log; target: "row", "waits dest=\"{dest}\" uid={uid} status=\"{answer}\" tries={tries} due={due}");
+}
+
+/// Tells of a row that needs nobody's eye, with what happened to it in a word.
+fn tell_settled<G: Log>(log: &G, word: &str, uid: &Text, dest: &Text, outcome: Outcome) {
+    let (uid, dest, answer) = (Shown(uid), Shown(dest), Answer(outcome));
+    debug!(log; target: "row", "{word} dest=\"{dest}\" uid={uid} status=\"{answer}\"");
+}
+
+/// Tells what came of a try to send an instance: how far its row is then.
+pub fn tell_row<G: Log>(
+    log: &G,
+    uid: &Text,
+    dest: &Text,
+    outcome: Outcome,
+    came: Option<Progress>,
+) {
+    match came {
+        Some(Progress::Done) => tell_settled(log, "done", uid, dest, outcome),
+        Some(Progress::Held(_)) => tell_held(log, uid, dest, outcome),
+        Some(Progress::Waiting { tries, due }) => {
+            tell_waiting(log, uid, dest, outcome, tries, due);
+        }
+        None => tell_settled(log, "settled", uid, dest, outcome),
+    }
+}
+
+/// Tells what came of a visit to a node at which rows were due, and how many outcomes were noted.
+pub fn tell_visit<G: Log>(
+    log: &G,
+    dest: &Text,
+    visited: &Result<Visit, LedgerFault>,
+    settled: u64,
+) {
+    let dest = Shown(dest);
+    match visited {
+        Ok(Visit::Idle) => {}
+        Ok(Visit::Unreached(error)) => {
+            warn!(log; target: "visit", "unreached dest=\"{dest}\" settled={settled} error=\"{error}\"");
+        }
+        Ok(Visit::Ended(Ended::Released)) => {
+            info!(log; target: "visit", "released dest=\"{dest}\" settled={settled}");
+        }
+        Ok(Visit::Ended(ended)) => {
+            let (word, why) = (word_of(*ended), Why(*ended));
+            warn!(log; target: "visit", "{word} dest=\"{dest}\"{why} settled={settled}");
+        }
+        Ok(Visit::Failed(fault)) => {
+            warn!(log; target: "visit", "failed dest=\"{dest}\" settled={settled} fault=\"{fault}\"");
+        }
+        Err(fault) => {
+            let fault = code_of(*fault);
+            error!(log; target: "visit", "ledger dest=\"{dest}\" settled={settled} fault=\"{fault}\"");
+        }
+    }
+}
+
+/// A moment as an event shows it, in milliseconds; a hyphen where there is none.
+#[derive(Drop)]
+struct Moment(Option<u64>);
+
+impl Display for Moment {
+    fn fmt<W: fmt::Write>(&self, f: &mut Formatter<W>) -> fmt::Result {
+        match self.0 {
+            Some(moment) => write!(f, "{moment}"),
+            None => f.write_str("-"),
+        }
+    }
+}
+
+/// Tells how much a node has.
+pub fn tell_holdings<G: Log>(log: &G, arrivals: usize, kept: usize, lines: u64) {
+    info!(log; target: "node", "has arrivals={arrivals} kept={kept} lines={lines}");
+}
+
+/// Tells how many rows wait for a node, are held and are done, and from when on the first of those that wait is due.
+pub fn tell_queue<G: Log>(log: &G, dest: &Text, stages: [usize; 3], oldest: Option<u64>) {
+    let [waiting, held, done] = stages;
+    let (dest, oldest) = (Shown(dest), Moment(oldest));
+    info!(log; target: "queue", "has dest=\"{dest}\" waiting={waiting} held={held} done={done} oldest={oldest}");
+}
+
+/// Tells that what the node has couldn't be read.
+pub fn tell_unread<G: Log>(log: &G, fault: LedgerFault) {
+    let fault = code_of(fault);
+    error!(log; target: "report", "unread fault=\"{fault}\"");
+}
+
+/// Tells that the report couldn't be written.
+pub fn tell_unwritten<G: Log>(log: &G, error: &io::Error) {
+    error!(log; target: "report", "unwritten error=\"{error}\"");
+}
+
+/// Tells that connections can't be accepted.
+pub fn tell_unaccepted<G: Log>(log: &G, error: &io::Error) {
+    error!(log; target: "listener", "failed error=\"{error}\"");
+}

@@ -1,0 +1,31 @@
+//! Visits to several hops, one after the other.
+ghost use Rattle.dr_run_serve.specs.Rounds.{VisitsEach};
+ghost use Rattle.dr_run_serve.specs.Visits.{Visits};
+
+use crate::tallied::Tallied;
+use crate::visit::visit_hop;
+use dr_ledger::LedgerFault;
+use dr_run_net::Network;
+use dr_session::Clock;
+use dr_site::Site;
+use dr_word_list::Hop;
+use std::alloc::Global;
+
+/// Visits each hop of the site once, in order.
+///
+/// Errors: those of a visit; then the hops behind it aren't visited.
+pub fn visit_each<N: Network, P: Tallied, C: Clock>(
+    alloc: Global,
+    site: &Site,
+    hops: &[Hop],
+    network: &N,
+    port: &mut P,
+    clock: &C,
+) -> Result<(), LedgerFault>
+    ensures { VisitsEach (λ hop s came t. Visits (N.reaches network.now) N.Socket.hears N.Socket.sends N.Socket.closes P.step (C.tells clock.now) site.now hop.dest hop.address s came t) hops.now port.old result port.new }
+{
+    for hop in hops {
+        let _visited = visit_hop(alloc, site, &hop.dest, &hop.address, network, port, clock)?;
+    }
+    Ok(())
+}

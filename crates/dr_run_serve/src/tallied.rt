@@ -1,0 +1,128 @@
+//! Desks that count what they took.
+ghost use Rattle.std.specs.Prelude.{◌≡◌};
+ghost use Rattle.dr_desk_workers.specs.Passes.{PassStep};
+
+use crate::events::tell_row;
+use dr_base::Text;
+use dr_desk::{Pass, SharedDesk, Sharing};
+use dr_ledger::{Arrived, Item, Job, Ledger, LedgerFault, Outcome, Progress};
+use dr_session::DeskPort;
+use dr_session::desk::LedgerDesk;
+use log::Log;
+use std::sync::Wait;
+
+/// A desk that tells how many of its calls were accepted; the count stays at its greatest value.
+pub trait Tallied: DeskPort {
+    fn tally(&self) -> u64;
+}
+
+/// How far a row is after an outcome; None where that can't be read. That a row is done after a success is known.
+fn came_of<R: Wait, L: Ledger, B: Sharing>(
+    rt: &R,
+    desk: &SharedDesk<L, B>,
+    uid: &Text,
+    dest: &Text,
+    outcome: Outcome,
+) -> Option<Progress> {
+    if outcome == Outcome::Status(0) {
+        return Some(Progress::Done);
+    }
+    desk.progress(rt, uid, dest).unwrap_or(None)
+}
+
+/// A ledger with one owner.
+#[derive(Drop)]
+pub struct OwnPort<L> {
+    pub desk: LedgerDesk<L>,
+    pub taken: u64,
+}
+
+impl<L: Ledger> OwnPort<L> {
+    /// Nothing was taken yet.
+    pub fn new(ledger: L) -> OwnPort<L>
+        ensures { result.desk.ledger ≡ ledger }
+    {
+        OwnPort {
+            desk: LedgerDesk { ledger },
+            taken: 0,
+        }
+    }
+}
+
+impl<L: Ledger> DeskPort for OwnPort<L> {
+    ghost step = { λ old call answer new. ⟦<LedgerDesk<L> as DeskPort>⟧.step old.desk call answer new.desk };
+
+    fn arrive(&mut self, caller: &Text, item: Item) -> Result<Arrived, LedgerFault> {
+        let answer = self.desk.arrive(caller, item);
+        self.taken = self.taken.saturating_add(u64::from(answer.is_ok()));
+        answer
+    }
+
+    fn next(&mut self, dest: &Text, now: u64) -> Result<Option<Job>, LedgerFault> {
+        self.desk.next(dest, now)
+    }
+
+    fn settle(
+        &mut self,
+        uid: &Text,
+        dest: &Text,
+        outcome: Outcome,
+        now: u64,
+    ) -> Result<(), LedgerFault> {
+        let answer = self.desk.settle(uid, dest, outcome, now);
+        self.taken = self.taken.saturating_add(u64::from(answer.is_ok()));
+        answer
+    }
+}
+
+impl<L: Ledger> Tallied for OwnPort<L> {
+    fn tally(&self) -> u64 {
+        self.taken
+    }
+}
+
+/// A shared desk, with the pass of the one who sends. What comes of each row that was sent is logged.
+#[derive(Drop)]
+pub struct SharedPort<'a, R: Wait, L: Ledger, B: Sharing, G: Log> {
+    pub rt: &'a R,
+    pub desk: &'a SharedDesk<L, B>,
+    pub pass: &'a mut Pass<B>,
+    pub log: &'a G,
+}
+
+impl<'a, R: Wait, L: Ledger, B: Sharing, G: Log> DeskPort for SharedPort<'a, R, L, B, G> {
+    ghost use Rattle.dr_desk_workers.specs.Passes.{PassStep};
+
+    ghost step = { λ s call answer t. PassStep call answer s.pass.now.made.count s.pass.now.receipts.items t.pass.now.made.count t.pass.now.receipts.items };
+
+    fn arrive(&mut self, caller: &Text, item: Item) -> Result<Arrived, LedgerFault> {
+        self.desk.arrive(self.rt, self.pass, caller, item)
+    }
+
+    fn next(&mut self, dest: &Text, now: u64) -> Result<Option<Job>, LedgerFault> {
+        self.desk.next(self.rt, dest, now)
+    }
+
+    fn settle(
+        &mut self,
+        uid: &Text,
+        dest: &Text,
+        outcome: Outcome,
+        now: u64,
+    ) -> Result<(), LedgerFault> {
+        let settled = self
+            .desk
+            .settle(self.rt, self.pass, uid, dest, outcome, now);
+        if settled.is_ok() {
+            let came = came_of(self.rt, self.desk, uid, dest, outcome);
+            tell_row(self.log, uid, dest, outcome, came);
+        }
+        settled
+    }
+}
+
+impl<'a, R: Wait, L: Ledger, B: Sharing, G: Log> Tallied for SharedPort<'a, R, L, B, G> {
+    fn tally(&self) -> u64 {
+        self.pass.count()
+    }
+}

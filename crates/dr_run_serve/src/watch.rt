@@ -1,0 +1,43 @@
+//! How a node's sessions are seen: they wake the one who sends, and are logged.
+use crate::events::{tell_arrival, tell_association};
+use crate::signal::Signal;
+use dr_base::Text;
+use dr_desk_workers::{Gate, Point, Tally};
+use dr_ledger::{Arrived, LedgerFault};
+use dr_session::{Ended, SessionFault};
+use log::{Log, debug};
+use std::sync::Wait;
+
+/// Rings where an arrival was answered, and logs what happens. No session is held.
+#[derive(Drop)]
+pub struct Watch<'a, R: Wait, G: Log> {
+    pub rt: &'a R,
+    pub signal: &'a Signal,
+    pub log: &'a G,
+}
+
+impl<'a, R: Wait, G: Log> Gate for Watch<'a, R, G> {
+    fn at(&self, session: u64, point: Point) {
+        match point {
+            Point::Taken => {
+                debug!(self.log; target: "association", "taken session={session}");
+            }
+            Point::Stored => self.signal.ring(self.rt),
+            Point::Answered => {}
+        }
+    }
+
+    fn arrived(
+        &self,
+        session: u64,
+        caller: &Text,
+        uid: &Text,
+        answer: Result<Arrived, LedgerFault>,
+    ) {
+        tell_arrival(self.log, session, caller, uid, answer);
+    }
+
+    fn ended(&self, session: u64, ended: Result<Ended, SessionFault>, tally: Tally) {
+        tell_association(self.log, session, ended, tally);
+    }
+}

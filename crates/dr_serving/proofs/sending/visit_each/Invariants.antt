@@ -1,7 +1,0 @@
-use Rattle.std.specs.Prelude.{drop}
-use Rattle.dr_serving.proofs.InTurn.{TowardAll}
-use Rattle.dr_serving.specs.Visits.{Visits}
-use Rattle.dr_serving.proofs.sending.visit_each.Given as goal
-
-abbrev pub invariant-loop-hop : goal.invariant-loop-hop
-invariant-loop-hop g l = TowardAll (λ hop s came t. Visits (g.N.Network.reaches l.network) g.N.Socket.Link.hears g.N.Socket.Link.sends g.N.Socket.Link.closes g.P.DeskPort.step (g.C.Clock.tells l.clock) l.site hop.dest hop.address s came t) l.initial.port l.hops l.port (drop l.hop-index l.hops)

@@ -1,5 +1,0 @@
-use Rattle.dr_sound.proofs.TwoNodes.{without_keep_they_are_not}
-use Rattle.dr_sound.proofs.laws.without_keep_they_are_not.Goals as goal
-
-pub returns : goal.returns
-returns c = without_keep_they_are_not

@@ -1,0 +1,22 @@
+use Rattle.std.proofs.Common.{◌≡◌, ◌+◌, ◌++◌, ◌∷◌, ◌∙◌, [], inl, inr, take, ap, subst, sym, arith}
+use Rattle.std.proofs.lemmas.List.{take_more}
+use Rattle.dr_store_lists.specs.declared.listing.Note.{Note}
+use Rattle.dr_store_audit.specs.Telling.{IsOver}
+use Rattle.dr_store_audit.proofs.telling.count_past.Goals as goal
+
+pub loop-i-preserved : goal.loop-i-preserved
+loop-i-preserved c =
+    let notes = c.args.notes.now in
+    let i = c.loop-i.i in
+    let entry = c.index-notes-i.result in
+    let inv = c.loop-i.invariant in
+    let low = inv.0 in
+    let e = take_more notes i entry c.loop-i-test.true in
+    let more : take (i + 1) notes ≡ take i notes ++ entry ∷ [] = rw (← c.index-notes-i.is) at e in
+    elim c.end_after-end.ensures [
+      | inl same ↦ (omega (arith, same, low), subst (λ k. IsOver (take k notes)) (sym same) inv.1)
+      | inr new ↦ (
+        (let is = new.0 in omega (arith, is)),
+        subst (λ k. IsOver (take k notes)) (sym new.0) (inr (take i notes, entry.0, more ∙ ap (λ (x : Note). take i notes ++ (entry.0, x) ∷ []) new.1)),
+      )
+    ]

@@ -1,0 +1,34 @@
+-- What is found to be a ledger's.
+use Rattle.std.specs.Prelude.{◌≡◌, ◌↔◌, ℕ, List, Some}
+use Rattle.std.specs.FinMap as map
+use Rattle.sqlite.specs.Tree.{Trees}
+use Rattle.dr_base.specs.Texts.{Text, text_cmp}
+use Rattle.dr_route.specs.declared.key.Key.{Key}
+use Rattle.dr_site.specs.Parts.{Part}
+use Rattle.dr_ledger.specs.declared.item.Progress.{Progress}
+use Rattle.dr_ledger.specs.Bodies.{IsNeeded}
+use Rattle.dr_ledger.specs.Histories.{IsJournalled}
+use Rattle.dr_ledger.specs.Pairs.{Pair, pair_cmp}
+use Rattle.dr_ledger.specs.Replies.{Lists}
+use Rattle.dr_ledger.specs.SiteRoutes.{site_routing}
+use Rattle.dr_store_schema.specs.Books.{all_kept_in, arrivals_in, bodies_of, book_of, rows_of}
+use Rattle.dr_store_reads.specs.declared.finding.Print.{Print}
+use Rattle.dr_store_lists.specs.declared.listing.Note.{Note}
+use Rattle.dr_store_lists.specs.Lists.{Goal, IsJournal, goal_cmp, goals_of, keys_of, whole_prints_of}
+use Rattle.dr_store_changes.specs.Bringing.{AreJoined}
+
+-- the lists of all tables but site
+pub record AreListsOf (db : Trees) (keys : List (Text × Key)) (prints : List (Text × Print)) (arrivals : List Pair) (kept : List Text) (rows : List (Pair × Progress)) (notes : List (ℕ × Note)) (goals : List Goal) : Type 0 where
+  pub keys_are : keys ≡ map.entries (keys_of db)
+  pub prints_are : prints ≡ map.entries (whole_prints_of db)
+  pub arrivals_are : Lists pair_cmp (arrivals_in (db 5)) arrivals
+  pub kept_are : Lists text_cmp (all_kept_in (db 7)) kept
+  pub rows_are : rows ≡ map.entries (rows_of db)
+  pub notes_are : IsJournal db notes
+  pub goals_are : Lists goal_cmp (goals_of db) goals
+
+-- The tables are those of a ledger of that site, whose next line has number n, but for what their data sets are.
+pub record IsFound (n : ℕ) (part : Part) (db : Trees) : Type 0 where
+  pub joined : AreJoined n db
+  pub journalled : IsJournalled (site_routing part) (book_of db)
+  pub there : (uid : Text) → ((body : List ℕ) × (map.get (bodies_of db) uid ≡ Some body)) ↔ IsNeeded (book_of db) uid

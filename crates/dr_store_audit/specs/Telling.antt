@@ -1,0 +1,17 @@
+-- A journal that was told.
+use Rattle.std.specs.Prelude.{◌≡◌, ◌⊎◌, ℕ, List, [], ◌∷◌, ◌++◌}
+use Rattle.dr_ledger.specs.Books.{Fold, Line}
+use Rattle.dr_ledger.specs.Histories.{IsJournalled}
+use Rattle.dr_ledger.specs.Routings.{Routing}
+use Rattle.dr_ledger_history.specs.Contents.{Content, content_of}
+use Rattle.dr_store_lists.specs.declared.listing.Note.{Note}
+use Rattle.dr_store_lists.specs.declared.listing.Note.TheVariants as note
+
+-- the notes are none, or end with an adoption
+abbrev pub IsOver : List (ℕ × Note) → Type 0
+IsOver notes = (notes ≡ []) ⊎ ((earlier : List (ℕ × Note)) × (n : ℕ) × (notes ≡ earlier ++ (n, note.Adoption) ∷ []))
+
+-- these lines are a journal of a ledger with that routing, and this is what they make
+pub record IsToldJournal (routing : Routing) (lines : List Line) (c : Content) : Type 0 where
+  pub journalled : IsJournalled routing (Fold lines)
+  pub fold : c ≡ content_of (Fold lines)

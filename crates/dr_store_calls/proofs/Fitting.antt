@@ -1,0 +1,249 @@
+-- First arrivals fit the tables.
+use Rattle.std.proofs.Common.{◌≡◌, ◌≢◌, ◌⊎◌, ◌↔◌, ◌==◌, inl, inr, ℕ, suc, Bool, true, false, cond, not, ◌&&◌, is_some, IsTrue, List, [], ◌∷◌, ◌++◌, Contains, length, Option, Some, None, arith, eqb-true, refl, sym, ap, subst, ◌∙◌, true≢false}
+use Rattle.std.specs.Cmp.{both_ways}
+use Rattle.std.specs.FinMap as map
+use Rattle.std.specs.FinMap.{FinMap}
+use Rattle.std.specs.FinSet as set
+use Rattle.sqlite.specs.Tree.{Trees}
+use Rattle.dr_base.specs.Texts.{IsInByteOrder, Text}
+use Rattle.dr_plan_model.proofs.Gathered.{Contains-here, nothing_in_nil}
+use Rattle.dr_route.specs.declared.key.Key.{Key}
+use Rattle.dr_route.specs.declared.rule.Targets.{Targets}
+use Rattle.dr_site.specs.Parts.{Part}
+use Rattle.dr_site.specs.Routing.{KeepsAt, SendsFrom}
+use Rattle.dr_site.proofs.AsPlanned.{keeps_by as keeps_one, kept_by}
+use Rattle.dr_ledger.specs.declared.content.Job.{Job}
+use Rattle.dr_ledger.specs.declared.item.Progress.{Progress}
+use Rattle.dr_ledger.specs.declared.item.Progress.TheVariants.{Waiting, Held, Done}
+use Rattle.dr_ledger.specs.Bodies.{HasBodies, IsNeeded}
+use Rattle.dr_ledger.specs.Books.{Book, Arrival, after, with_rows}
+use Rattle.dr_ledger.specs.Histories.{IsSolid}
+use Rattle.dr_ledger.specs.Items.{instance_of}
+use Rattle.dr_ledger.specs.Pairs.{pair_cmp}
+use Rattle.dr_ledger.specs.PlanRoutes.{keeps_by, targets_by}
+use Rattle.dr_ledger.specs.SiteRoutes.{site_routing}
+use Rattle.dr_ledger.proofs.Growing.{inside, kept_from, now_kept, rows_from, rows_made, rows_stay}
+use Rattle.dr_ledger.proofs.PlanRouting.{keeps_by_where_kept, one_list, targets_by_are_in_order, targets_by_are_sent_to}
+use Rattle.dr_ledger.proofs.Solid.{journals_are_solid}
+use Rattle.dr_store_schema.specs.Books.{all_kept_in, arrivals_in, bodies_of, book_of, items_of, rows_of}
+use Rattle.dr_store_changes.specs.declared.first.Taking.TheVariants as taking
+use Rattle.dr_store_changes.specs.Bringing.{missing}
+use Rattle.dr_store_changes.specs.Changes.{HasBoth, HasNeither}
+use Rattle.dr_store_calls.specs.Calling.{IsLedgerOf}
+use Rattle.dr_store_calls.specs.Knowing.{Fits, IsThere, taking_absent, taking_there}
+use Rattle.dr_store_calls.proofs.Knows.{no_item_there}
+
+-- ---- what a site's targets are
+
+pub targets_are : (part : Part) (caller : Text) (key : Key) (to : List Text) → ((t : Text) → Contains to t ↔ SendsFrom part caller key t) → IsInByteOrder to → to ≡ (site_routing part).targets caller key
+targets_are part caller key to each ordered =
+    let sent = targets_by_are_sent_to part.flows part.rules part.name caller key in
+    one_list to (targets_by part.flows part.rules part.name caller key) ordered (targets_by_are_in_order part.flows part.rules part.name caller key) (λ x. (λ h. (sent x).1 ((each x).0 h), λ h. (each x).1 ((sent x).0 h)))
+
+pub keep_is : (part : Part) (caller : Text) (key : Key) (keep : Bool) → (IsTrue keep ↔ KeepsAt part caller key) → keep ≡ (site_routing part).keeps caller key
+keep_is part caller key keep h = let k = keeps_by_where_kept part.rules caller key in both_ways keep (keeps_by part.rules caller key) (λ t. k.1 (h.0 t)) (λ t. h.1 (k.0 t))
+
+-- ---- rows that are missing
+
+missing_all : (rows : FinMap pair_cmp Progress) (uid : Text) (to : List Text) → ((dest : Text) → map.get rows (uid, dest) ≡ None) → missing rows uid to ≡ to
+missing_all rows uid [] none = refl
+missing_all rows uid (dest ∷ more) none =
+    ap (λ o. cond (not (is_some o)) (dest ∷ missing rows uid more) (missing rows uid more)) (none dest) ∙ ap (λ ds. dest ∷ ds) (missing_all rows uid more none)
+
+-- each of them has no row, and is a target
+missing_from : (rows : FinMap pair_cmp Progress) (uid dest : Text) (to : List Text) → Contains (missing rows uid to) dest → Contains to dest × (map.get rows (uid, dest) ≡ None)
+missing_from rows uid dest to among =
+    let it = kept_by (λ d. not (map.contains_key rows (uid, d))) to dest among in
+    (it.0, no_row (map.get rows (uid, dest)) it.1)
+  where
+    no_row : (o : Option Progress) → not (is_some o) ≡ true → o ≡ None
+    no_row None h = refl
+    no_row (Some row) h = absurd (true≢false (sym h))
+
+-- and where none is missing, each target has a row
+missing_none : (rows : FinMap pair_cmp Progress) (uid dest : Text) (to : List Text) → missing rows uid to ≡ [] → Contains to dest → map.get rows (uid, dest) ≡ None → ⊥
+missing_none rows uid dest to none among absent =
+    nothing_in_nil dest (subst (λ ds. Contains ds dest) none (in_missing rows uid dest to among absent))
+  where
+    in_missing : (rows : FinMap pair_cmp Progress) (uid dest : Text) (to : List Text) → Contains to dest → map.get rows (uid, dest) ≡ None → Contains (missing rows uid to) dest
+    in_missing rows uid dest to among absent = keeps_one (λ d. not (map.contains_key rows (uid, d))) to dest among (ap (λ o. not (is_some o)) absent)
+
+-- an empty list has no element, and any other one its first
+none_among : (to : List Text) → (length to == 0) ≡ true → (dest : Text) → Contains to dest → ⊥
+none_among [] is dest among = nothing_in_nil dest among
+none_among (first ∷ more) is dest among = let no : suc (length more) ≡ 0 = eqb-true _ _ is in omega (arith, no)
+
+some_among : (to : List Text) → (length to == 0) ≡ false → (dest : Text) × Contains to dest
+some_among [] is = absurd (true≢false is)
+some_among (first ∷ more) is = (first, Contains-here first more)
+
+nothing_in : (to : List Text) → (length to == 0) ≡ true → to ≡ []
+nothing_in [] is = refl
+nothing_in (first ∷ more) is = let no : suc (length more) ≡ 0 = eqb-true _ _ is in absurd (omega (arith, no))
+
+-- ---- an instance that isn't there
+
+absent : {A : Type 0} (o : Option A) → ((a : A) → o ≡ Some a → ⊥) → o ≡ None
+absent None none = refl
+absent (Some a) none = absurd (none a refl)
+
+unset : (b : Bool) → (b ≡ true → ⊥) → b ≡ false
+unset true none = absurd (none refl)
+unset false none = refl
+
+module _ (n : ℕ) (part : Part) (caller : Text) (item : Job) (to : List Text) (keep : Bool) (base : Trees) (l : IsLedgerOf n part base) (neither : HasNeither item.uid base) where
+  solid : IsSolid (book_of base)
+  solid = journals_are_solid (site_routing part) l.journalled.0 (book_of base) l.journalled.1
+
+  no_item : map.get (items_of base) item.uid ≡ None
+  no_item = no_item_there base item.uid neither.0
+
+  no_rows : (dest : Text) → map.get (rows_of base) (item.uid, dest) ≡ None
+  no_rows dest = absent (map.get (rows_of base) (item.uid, dest)) (λ row is. let there = (solid.rows item.uid dest row is).1 in let e : None ≡ _ = sym no_item ∙ there in cc)
+
+  not_kept : set.contains (all_kept_in (base 7)) item.uid ≡ false
+  not_kept = unset (set.contains (all_kept_in (base 7)) item.uid) (λ is. let there = (solid.kept item.uid is).1 in let e : None ≡ _ = sym no_item ∙ there in cc)
+
+  not_brought : set.contains (arrivals_in (base 5)) (caller, item.uid) ≡ false
+  not_brought = unset (set.contains (arrivals_in (base 5)) (caller, item.uid)) (λ is. let there = (solid.arrived caller item.uid is).1 in let e : None ≡ _ = sym no_item ∙ there in cc)
+
+  keeps_all : (k : Bool) → k ≡ (k && true)
+  keeps_all true = refl
+  keeps_all false = refl
+
+  keeps_new : keep ≡ (keep && not (set.contains (all_kept_in (base 7)) item.uid))
+  keeps_new = keeps_all keep ∙ ap (λ b. keep && not b) (sym not_kept)
+
+  new_needed : (keep ≡ true) ⊎ ((dest : Text) × Contains to dest) → IsNeeded (after (Arrival caller (instance_of item) to keep) (book_of base)) item.uid
+  new_needed (inl kept) = inl (now_kept keep (all_kept_in (base 7)) item.uid kept)
+  new_needed (inr some) =
+      let made = rows_made to (rows_of base) item.uid some.0 some.1 in
+      inr (
+        some.0,
+        made.0,
+        made.1,
+        (λ done. elim (rows_from to (rows_of base) item.uid (item.uid, some.0) made.0 made.1) [
+          | inl was ↦ (let e : None ≡ _ = sym (no_rows some.0) ∙ was in cc)
+          | inr is ↦ (let e : Waiting 0 0 ≡ Done = sym is.2 ∙ done in cc)
+        ]),
+      )
+
+  fits_new : (keep ≡ true) ⊎ ((dest : Text) × Contains to dest) → Fits taking.New caller item to keep to keep base
+  fits_new some = record { asks = neither; known = no_item; comes = new_needed some; missing_are = sym (missing_all (rows_of base) item.uid to no_rows); keeps_is = keeps_new; first = not_brought }
+
+  fits_bare : keep ≡ false → ((dest : Text) → Contains to dest → ⊥) → Fits taking.Bare caller item to keep to keep base
+  fits_bare unkept none = record {
+    asks = neither;
+    known = no_item;
+    comes = λ needed. elim needed [
+      | inl kept ↦ elim (kept_from keep (all_kept_in (base 7)) item.uid item.uid kept) [
+        | inl was ↦ true≢false (sym was ∙ not_kept)
+        | inr is ↦ true≢false (sym is.1 ∙ unkept)
+      ]
+      | inr row ↦ elim (rows_from to (rows_of base) item.uid (item.uid, row.0) row.1 row.2) [
+        | inl was ↦ (let e : None ≡ _ = sym (no_rows row.0) ∙ was in cc)
+        | inr is ↦ none row.0 is.1
+      ]
+    ];
+    missing_are = sym (missing_all (rows_of base) item.uid to no_rows);
+    keeps_is = keeps_new;
+    first = not_brought;
+  }
+
+  pub fits_absent : Fits (taking_absent keep (length to == 0)) caller item to keep to keep base
+  fits_absent = go keep (length to == 0) refl refl
+    where
+      go : (k none : Bool) → keep ≡ k → (length to == 0) ≡ none → Fits (taking_absent k none) caller item to keep to keep base
+      go true none kept is = fits_new (inl kept)
+      go false true unkept is = fits_bare unkept (none_among to is)
+      go false false unkept is = fits_new (inr (some_among to is))
+
+-- ---- an instance that is there
+
+some_of : {A : Type 0} (o : Option A) → is_some o ≡ true → (a : A) × (o ≡ Some a)
+some_of None h = absurd (true≢false (sym h))
+some_of (Some a) h = (a, refl)
+
+module _ (n : ℕ) (part : Part) (caller : Text) (item : Job) (to : List Text) (keep whole kept : Bool) (dests : List Text) (base : Trees) (l : IsLedgerOf n part base) (there : IsThere base (instance_of item) whole)
+    (first : set.contains (arrivals_in (base 5)) (caller, item.uid) ≡ false) (dests_are : dests ≡ missing (rows_of base) item.uid to) (kept_is : kept ≡ set.contains (all_kept_in (base 7)) item.uid) where
+  keeps_more : (keep && not kept) ≡ (keep && not (set.contains (all_kept_in (base 7)) item.uid))
+  keeps_more = ap (λ b. keep && not b) kept_is
+
+  abbrev made : Book
+  made = after (Arrival caller (instance_of item) to keep) (book_of base)
+
+  again_needed : (keep ≡ true) ⊎ ((dest : Text) × Contains dests dest) → IsNeeded made item.uid
+  again_needed (inl is) = inl (now_kept keep (all_kept_in (base 7)) item.uid is)
+  again_needed (inr some) =
+      let from = missing_from (rows_of base) item.uid some.0 to (subst (λ ds. Contains ds some.0) dests_are some.1) in
+      let row = rows_made to (rows_of base) item.uid some.0 from.0 in
+      inr (
+        some.0,
+        row.0,
+        row.1,
+        (λ done. elim (rows_from to (rows_of base) item.uid (item.uid, some.0) row.0 row.1) [
+          | inl was ↦ (let e : None ≡ _ = sym from.1 ∙ was in cc)
+          | inr is ↦ (let e : Waiting 0 0 ≡ Done = sym is.2 ∙ done in cc)
+        ]),
+      )
+
+  fits_again : (keep ≡ true) ⊎ ((dest : Text) × Contains dests dest) → Fits taking.Again caller item to keep dests (keep && not kept) base
+  fits_again some = record { asks = there.both; known = there.same; comes = again_needed some; missing_are = dests_are; keeps_is = keeps_more; first = first }
+
+  fits_whole : whole ≡ true → Fits taking.Nothing caller item to keep dests (keep && not kept) base
+  fits_whole is = record { asks = tt; known = there.same; comes = λ needed. some_of (map.get (bodies_of base) item.uid) (there.body ∙ is); missing_are = dests_are; keeps_is = keeps_more; first = first }
+
+  not_needed : whole ≡ false → IsNeeded (book_of base) item.uid → ⊥
+  not_needed is needed = let body = (l.bodied.there item.uid).1 needed in true≢false (sym (ap is_some body.1) ∙ there.body ∙ is)
+
+  fits_nothing : whole ≡ false → keep ≡ false → dests ≡ [] → Fits taking.Nothing caller item to keep dests (keep && not kept) base
+  fits_nothing bare unkept none = record {
+    asks = tt;
+    known = there.same;
+    comes = λ needed. absurd (not_needed bare (elim needed [
+      | inl k ↦ elim (kept_from keep (all_kept_in (base 7)) item.uid item.uid k) [
+        | inl was ↦ inl was
+        | inr is ↦ absurd (true≢false (sym is.1 ∙ unkept))
+      ]
+      | inr row ↦ elim (rows_from to (rows_of base) item.uid (item.uid, row.0) row.1 row.2) [
+        | inl was ↦ inr (row.0, row.1, was, row.3)
+        | inr is ↦ inr (had row.0 row.1 row.2 row.3 is.1)
+      ]
+    ]));
+    missing_are = dests_are;
+    keeps_is = keeps_more;
+    first = first;
+  }
+    where
+      had : (dest : Text) (row : Progress) → map.get made.rows (item.uid, dest) ≡ Some row → row ≢ Done → Contains to dest → (d : Text) × (r : Progress) × (map.get (rows_of base) (item.uid, d) ≡ Some r) × (r ≢ Done)
+      had dest row is undone among = go (map.get (rows_of base) (item.uid, dest)) refl
+        where
+          go : (o : Option Progress) → map.get (rows_of base) (item.uid, dest) ≡ o → (d : Text) × (r : Progress) × (map.get (rows_of base) (item.uid, d) ≡ Some r) × (r ≢ Done)
+          go None e = absurd (missing_none (rows_of base) item.uid dest to (sym dests_are ∙ none) among e)
+          go (Some r) e =
+              let same : r ≡ row = inside r row (sym (rows_stay to (rows_of base) item.uid (item.uid, dest) r e) ∙ is) in
+              (dest, r, e, λ done. undone (sym same ∙ done))
+
+  pub fits_there : Fits (taking_there whole keep (length dests == 0)) caller item to keep dests (keep && not kept) base
+  fits_there = go whole keep (length dests == 0) refl refl refl
+    where
+      go : (w k none : Bool) → whole ≡ w → keep ≡ k → (length dests == 0) ≡ none → Fits (taking_there w k none) caller item to keep dests (keep && not kept) base
+      go true k none is kept one = fits_whole is
+      go false true none bare is one = fits_again (inl is)
+      go false false true bare unkept is = fits_nothing bare unkept (nothing_in dests is)
+      go false false false bare unkept is = fits_again (inr (some_among dests is))
+
+-- ---- rows that are missing, one destination after another
+
+pub one_missing : (o : Option Progress) (dest : Text) → cond (is_some o) [] (dest ∷ []) ≡ cond (not (is_some o)) (dest ∷ []) []
+one_missing None dest = refl
+one_missing (Some row) dest = refl
+
+pub missing_more : (rows : FinMap pair_cmp Progress) (uid : Text) (to : List Text) (dest : Text) → missing rows uid (to ++ dest ∷ []) ≡ missing rows uid to ++ missing rows uid (dest ∷ [])
+missing_more rows uid [] dest = refl
+missing_more rows uid (first ∷ more) dest = go (map.contains_key rows (uid, first)) (missing_more rows uid more dest)
+  where
+    go : (b : Bool) → missing rows uid (more ++ dest ∷ []) ≡ missing rows uid more ++ missing rows uid (dest ∷ [])
+        → cond (not b) (first ∷ missing rows uid (more ++ dest ∷ [])) (missing rows uid (more ++ dest ∷ [])) ≡ cond (not b) (first ∷ missing rows uid more) (missing rows uid more) ++ missing rows uid (dest ∷ [])
+    go true later = later
+    go false later = ap (λ ds. first ∷ ds) later

@@ -1,0 +1,152 @@
+-- Rows that move on.
+use Rattle.std.proofs.Common.{◌≡◌, ◌≢◌, ◌⊎◌, ◌↔◌, inl, inr, ℕ, pos, ◌+◌, ◌≤◌, ◌^◌, Bool, true, false, cond, not, IsTrue, is_some, List, Option, Some, None, IsSome, Ok, Err, Result, refl, sym, ap, subst, ◌∙◌, true≢false, arith}
+use Rattle.std.specs.FinMap as map
+use Rattle.std.specs.FinSet as set
+use Rattle.std.specs.List.{AllByRecursion}
+use Rattle.std.specs.Ordering.{eq_by_cmp}
+use Rattle.sqlite.specs.Order.{Row, column}
+use Rattle.sqlite.specs.Tree.{Trees, put_row}
+use Rattle.sqlite_trees.proofs.ListLemmas.{all_weaker}
+use Rattle.sqlite_trees.proofs.TreeLemmas.{all-put_row}
+use Rattle.dr_base.specs.Texts.{Text}
+use Rattle.dr_site.specs.Parts.{Part}
+use Rattle.dr_ledger.specs.declared.fault.LedgerFault.{LedgerFault}
+use Rattle.dr_ledger.specs.declared.fault.LedgerFault.TheVariants as fault
+use Rattle.dr_ledger.specs.declared.item.Cause.{Cause}
+use Rattle.dr_ledger.specs.declared.item.Outcome.{Outcome}
+use Rattle.dr_ledger.specs.declared.item.Progress.{Progress}
+use Rattle.dr_ledger.specs.declared.item.Progress.TheVariants.{Waiting, Held, Done}
+use Rattle.dr_ledger.specs.Bodies.{Bodies, HasBodies, IsNeeded, OnlyLetsGo}
+use Rattle.dr_ledger.specs.Books.{Book, row_after}
+use Rattle.dr_ledger.specs.Histories.{IsJournalled}
+use Rattle.dr_ledger.specs.Pairs.{Pair, pair_cmp}
+use Rattle.dr_ledger.specs.Replies.{Requeues, Settles}
+use Rattle.dr_ledger.specs.SiteRoutes.{site_routing}
+use Rattle.dr_ledger.proofs.Folding.{requeuings_are_journalled, settlings_are_journalled}
+use Rattle.dr_ledger.proofs.Maps.{get_new, get_other, got, text_pairs, ties_itself, same_or_not}
+use Rattle.dr_ledger.proofs.Wholes.{settled_fits}
+use Rattle.dr_store_schema.specs.Books.{AreBelow, all_kept_in, bodies_by, bodies_of, book_of, contents_in, is_whole, items_of, names_in, rows_in, rows_of, wholes_in}
+use Rattle.dr_store_schema.specs.Cells.{due_of, number_in}
+use Rattle.dr_store_writes.specs.Effects.{HasRow, requeued_line, settled_line}
+use Rattle.dr_store_changes.specs.Bringing.{AreJoined, IsJoined}
+use Rattle.dr_store_changes.specs.Changes.{AsksForRow, HasBoth, MovesOn}
+use Rattle.dr_store_changes.specs.Laws.{GoesWhereNeededNoMore}
+use Rattle.dr_store_changes.specs.Writing.{IsReady}
+use Rattle.dr_store_changes.proofs.Bookings.{body_was, requeuings_requeue, settlings_settle, what_is_needed_stays}
+use Rattle.dr_store_changes.proofs.LettingGo.{body_at}
+use Rattle.dr_store_reads.specs.Queries.{IsOpenElsewhere}
+use Rattle.dr_store_calls.specs.Calling.{IsLedgerOf}
+use Rattle.dr_store_calls.specs.Needs.{IsKeptIn, IsNeededStill}
+
+-- ---- what is needed
+
+split : {A : Type 0} (b : Bool) (o : Option A) (x : A) → cond b o None ≡ Some x → (b ≡ true) × (o ≡ Some x)
+split true o x h = (refl, h)
+split false o x h = absurd (let e = h in cc)
+
+there_whole : (o : Option ℕ) → is_whole o ≡ true → IsSome o
+there_whole None h = absurd (true≢false (sym h))
+there_whole (Some n) h = refl
+
+-- an item whose data set is needed is there with its print
+pub both_there : (db : Trees) (uid : Text) → HasBodies (book_of db) (bodies_of db) → IsNeeded (book_of db) uid → HasBoth uid db
+both_there db uid has needed =
+    let body = (has.there uid).1 needed in
+    let parts = split (is_whole (map.get (wholes_in (db 3)) uid)) (map.get (contents_in (db 1)) uid) body.0 (sym (body_at (contents_in (db 1)) (wholes_in (db 3)) uid) ∙ body.1) in
+    (ap is_some parts.1, there_whole (map.get (wholes_in (db 3)) uid) parts.0)
+
+row_needed : (db : Trees) (uid dest : Text) (row : Progress) → map.get (rows_of db) (uid, dest) ≡ Some row → row ≢ Done → IsNeeded (book_of db) uid
+row_needed db uid dest row there unfinished = inr (dest, row, there, unfinished)
+
+-- a row that isn't done may move on
+pub row_asks : (db : Trees) (uid dest : Text) (row : Progress) → HasBodies (book_of db) (bodies_of db) → map.get (rows_of db) (uid, dest) ≡ Some row → row ≢ Done → AsksForRow (uid, dest) db
+row_asks db uid dest row has there unfinished = (ap is_some there, both_there db uid has (row_needed db uid dest row there unfinished))
+
+module _ (base db : Trees) (uid dest : Text) (to : Progress) (line : Row) (lets_go : Bool) (w : MovesOn (uid, dest) to line lets_go base db) where
+  at : Pair
+  at = (uid, dest)
+
+  other_pair : (other : Text) → (other ≡ dest → ⊥) → eq_by_cmp pair_cmp (uid, other) (uid, dest) ≡ false
+  other_pair other apart = elim (same_or_not text_pairs (uid, other) (uid, dest)) [ inl e ↦ absurd (apart (ap (λ (p : Pair). p.1) e)) | inr f ↦ f ]
+
+  still_needed : IsNeededStill base uid dest to → IsNeeded (book_of db) uid
+  still_needed (inl unfinished) = inr (dest, to, ap (λ rows. map.get rows (uid, dest)) w.rows ∙ get_new text_pairs (rows_of base) (uid, dest) to, unfinished)
+  still_needed (inr (inl e)) =
+      inr (e.0, e.1, ap (λ rows. map.get rows (uid, e.0)) w.rows ∙ get_other text_pairs (rows_of base) (uid, dest) to (uid, e.0) (other_pair e.0 e.2) ∙ e.3, e.4)
+  still_needed (inr (inr kept)) = inl (ap (λ rows. set.contains (all_kept_in rows) uid) w.kept ∙ kept)
+
+  only_needed : IsNeeded (book_of db) uid → IsNeededStill base uid dest to
+  only_needed (inl kept) = inr (inr (sym (ap (λ rows. set.contains (all_kept_in rows) uid) w.kept) ∙ kept))
+  only_needed (inr row) = elim (got text_pairs (rows_of base) (uid, dest) to (uid, row.0) row.1 (sym (ap (λ rows. map.get rows (uid, row.0)) w.rows) ∙ row.2)) [
+    | inl is ↦ inl (λ done. row.3 (is.1 ∙ done))
+    | inr was ↦ inr (inl (row.0, row.1, (λ same. true≢false (sym (ties_itself text_pairs (uid, dest)) ∙ ap (λ d. eq_by_cmp pair_cmp (uid, d) (uid, dest)) (sym same) ∙ was.0)), was.1, row.3))
+  ]
+
+  goes : (needed : Bool) → (IsTrue needed ↔ IsNeededStill base uid dest to) → GoesWhereNeededNoMore (not needed) db uid
+  goes true says = still_needed (says.0 refl)
+  goes false says = λ needed. true≢false (sym (says.1 (only_needed needed)))
+
+  moved_joined : (n : ℕ) → AreJoined n base → (number_in (column line 2) ≤ 1 → ⊥) → AreJoined (n + 1) db
+  moved_joined n j kind = record {
+    items = subst (λ rows. AllByRecursion (IsJoined (items_of db)) rows) (sym w.journal)
+        (subst (λ is. AllByRecursion (IsJoined is) (put_row line (base 11))) (sym w.items) (all-put_row (IsJoined (items_of base)) line (base 11) (λ few. absurd (kind few)) j.items));
+    targets = λ m later. ap (λ rows. names_in rows m) w.targets ∙ j.targets m (omega (arith, later));
+  }
+
+pub settles : (n : ℕ) (part : Part) (base db : Trees) (uid dest : Text) (tries due : ℕ) (to : Progress) (what : Outcome) (now : ℕ) (needed : Bool) → now ≤ 2 ^ 62 → AreBelow n (base 11) → IsLedgerOf n part base
+    → map.get (rows_of base) (uid, dest) ≡ Some (Waiting tries due) → to ≡ row_after tries what now → (IsTrue needed ↔ IsNeededStill base uid dest to)
+    → MovesOn (uid, dest) to (settled_line n uid dest what now) (not needed) base db
+    → IsLedgerOf (n + 1) part db × (Settles uid dest what now (book_of base) (Ok tt) (book_of db) × OnlyLetsGo (bodies_of base) (bodies_of db))
+settles n part base db uid dest tries due to what now needed early below l waits is says w =
+    let line : Row = settled_line n uid dest what now in
+    let P : Progress → Type 0 = λ p. MovesOn (uid, dest) p line (not needed) base db in
+    let book = settlings_settle base db n uid dest tries due what now (not needed) below waits (subst P is w) in
+    let answer : Settles uid dest what now (book_of base) (Ok tt) (book_of db) = ((tries, due, waits), book) in
+    let unfinished : Waiting tries due ≢ Done = λ e. cc in (
+      record {
+        joined = moved_joined base db uid dest to line (not needed) w n l.joined (λ few. omega (arith, few));
+        journalled = (l.journalled.0, settlings_are_journalled (site_routing part) l.journalled.0 uid dest what now (book_of base) (book_of db) (Ok tt) early l.journalled.1 answer);
+        bodied = what_is_needed_stays base db uid dest (Waiting tries due) to line (not needed) l.bodied (row_needed base uid dest (Waiting tries due) waits unfinished) w (goes base db uid dest to line (not needed) w needed says);
+      },
+      (answer, λ q body h. body_was base db (uid, dest) to line (not needed) q body w h),
+    )
+
+pub requeues : (n : ℕ) (part : Part) (base db : Trees) (uid dest : Text) (why : Cause) → AreBelow n (base 11) → IsLedgerOf n part base → map.get (rows_of base) (uid, dest) ≡ Some (Held why)
+    → MovesOn (uid, dest) (Waiting 0 0) (requeued_line n uid dest) false base db
+    → IsLedgerOf (n + 1) part db × (Requeues uid dest (book_of base) (Ok tt) (book_of db) × OnlyLetsGo (bodies_of base) (bodies_of db))
+requeues n part base db uid dest why below l held w =
+    let line : Row = requeued_line n uid dest in
+    let book = requeuings_requeue base db n uid dest why false below held w in
+    let answer : Requeues uid dest (book_of base) (Ok tt) (book_of db) = ((why, held), book) in
+    let unfinished : Held why ≢ Done = λ e. cc in
+    let again : Waiting 0 0 ≢ Done = λ e. cc in (
+      record {
+        joined = moved_joined base db uid dest (Waiting 0 0) line false w n l.joined (λ few. omega (arith, few));
+        journalled = (l.journalled.0, requeuings_are_journalled (site_routing part) l.journalled.0 uid dest (book_of base) (book_of db) (Ok tt) l.journalled.1 answer);
+        bodied = what_is_needed_stays base db uid dest (Held why) (Waiting 0 0) line false l.bodied (row_needed base uid dest (Held why) held unfinished) w (still_needed base db uid dest (Waiting 0 0) line false w (inl again));
+      },
+      (answer, λ q body h. body_was base db (uid, dest) (Waiting 0 0) line false q body w h),
+    )
+
+-- ---- how late a row is due
+
+due_low : (p : Progress) → ((tries due : ℕ) → p ≡ Waiting tries due → (tries ≤ 1000000) × (due ≤ 2 ^ 62 + 300000)) → due_of p ≤ 2 ^ 62 + 300000
+due_low (Waiting tries due) f = (f tries due refl).1
+due_low (Held why) f = omega arith
+due_low Done f = omega arith
+
+pub moved_low : (tries : ℕ) (what : Outcome) (now : ℕ) → now ≤ 2 ^ 62 → due_of (row_after tries what now) ≤ 2 ^ 62 + 300000
+moved_low tries what now early = due_low (row_after tries what now) (λ t d is. settled_fits tries what now early t d is)
+
+-- ---- refusals
+
+pub settles_own : (e : LedgerFault) (uid dest : Text) (what : Outcome) (now : ℕ) (b : Book) → (e ≡ fault.Store) ⊎ (e ≡ fault.Memory) → Settles uid dest what now b (Err e) b
+settles_own e uid dest what now b (inl is) = subst (λ x. Settles uid dest what now b (Err x) b) (sym is) refl
+settles_own e uid dest what now b (inr is) = subst (λ x. Settles uid dest what now b (Err x) b) (sym is) refl
+
+pub requeues_own : (e : LedgerFault) (uid dest : Text) (b : Book) → (e ≡ fault.Store) ⊎ (e ≡ fault.Memory) → Requeues uid dest b (Err e) b
+requeues_own e uid dest b (inl is) = subst (λ x. Requeues uid dest b (Err x) b) (sym is) refl
+requeues_own e uid dest b (inr is) = subst (λ x. Requeues uid dest b (Err x) b) (sym is) refl
+
+pub all_stay : (bodies : Bodies) → OnlyLetsGo bodies bodies
+all_stay bodies uid body h = h

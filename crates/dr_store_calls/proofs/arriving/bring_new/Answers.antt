@@ -1,0 +1,36 @@
+use Rattle.std.proofs.Common.{◌≡◌, ◌∙◌, ◌==◌, Ok, List, ap, length, sym, subst}
+use Rattle.sqlite.specs.Held.{state}
+use Rattle.sqlite.specs.Tree.{Trees}
+use Rattle.dr_base.specs.Texts.{Text}
+use Rattle.dr_ledger.specs.declared.item.Arrived.TheVariants.{New}
+use Rattle.dr_ledger.specs.Bodies.{OnlyTakes}
+use Rattle.dr_ledger.specs.Items.{instance_of}
+use Rattle.dr_ledger.specs.Replies.{Arrives}
+use Rattle.dr_ledger.specs.SiteRoutes.{site_routing}
+use Rattle.dr_store_schema.specs.Books.{bodies_of, book_of}
+use Rattle.dr_store_changes.specs.Changes.{HasNeither}
+use Rattle.dr_store_changes.specs.declared.first.Taking.{Taking}
+use Rattle.dr_store_calls.specs.Calling.{advanced}
+use Rattle.dr_store_calls.specs.Knowing.{Fits, taking_absent}
+use Rattle.dr_store_calls.proofs.Calls.{asked_as}
+use Rattle.dr_store_calls.proofs.Fitting.{fits_absent}
+use Rattle.dr_store_calls.proofs.arriving.bring_new.Goals as goal
+
+pub returns-clause-called : goal.returns-clause-called
+returns-clause-called g c =
+    let n = c.args.n in
+    let part = c.args.site.now in
+    let caller = c.args.caller.now in
+    let item = c.args.item.now in
+    let to = c.args.targets.now.to in
+    let keep = c.args.targets.now.keep in
+    let t = c.taking_of-taking.result in
+    let r = c.bring_item.result in
+    let all : c.as_slice-to.result.now ≡ to = c.as_slice-to.ensures in
+    let how : t ≡ taking_absent keep (length to == 0) = c.taking_of-taking.ensures ∙ ap (λ none. taking_absent keep none) (c.is_empty.ensures ∙ ap (λ ds. length ds == 0) all) in
+    let Answers : Trees → Trees → Type 0 = λ base db. Arrives (site_routing part) caller (instance_of item) (book_of base) r (book_of db) × OnlyTakes item (bodies_of base) (bodies_of db) in
+    let Makes : Trees → Trees → Type 0 = λ base db. Arrives (site_routing part) caller (instance_of item) (book_of base) (Ok New) (book_of db) in
+    let Wants : Taking → List Text → Trees → Type 0 = λ how dests base. Fits how caller item to keep dests keep base in
+    asked_as n (advanced r n) part r (state g.S.Store c.args.conn.now) (state g.S.Store c.bring_item.new.conn) (Wants t c.as_slice-to.result.now) (HasNeither item.uid) Answers Makes
+    (λ base l neither. subst (λ x. Wants x c.as_slice-to.result.now base) (sym how) (subst (λ dests. Wants (taking_absent keep (length to == 0)) dests base) (sym all) (fits_absent n part caller item to keep base l neither)))
+    c.bring_item.ensures.called

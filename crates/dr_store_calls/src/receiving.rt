@@ -1,0 +1,424 @@
+//! Arrivals, whatever the tables have of them.
+ghost use Rattle.std.specs.Prelude.{◌≡◌, ◌≤◌, ◌^◌, ◌++◌, ◌∷◌, [], ◌&&◌, cond, not, is_some, IfOk, OnOk, ℕ, false, true};
+ghost use Rattle.std.specs.FinSet as set;
+ghost use Rattle.sqlite.specs.Held.{state};
+ghost use Rattle.dr_ledger.specs.Bodies.{OnlyTakes};
+ghost use Rattle.dr_ledger.specs.Items.{IsItem, instance_of};
+ghost use Rattle.dr_ledger.specs.Replies.{Arrives, Reads};
+ghost use Rattle.dr_ledger.specs.SiteRoutes.{site_routing};
+ghost use Rattle.dr_site.specs.Parts.{Part};
+ghost use Rattle.dr_site.specs.Routing.{HasLineFor};
+ghost use Rattle.dr_store_schema.specs.Books.{all_kept_in, arrivals_in, bodies_of, book_of, rows_of};
+ghost use Rattle.dr_store_changes.specs.Bringing.{AreNames, missing};
+ghost use Rattle.dr_store_changes.specs.Changes.{HasNeither};
+ghost use Rattle.dr_store_calls.specs.Calling.{Called, Looked, Nothing, advanced};
+ghost use Rattle.dr_store_calls.specs.Knowing.{IsAccepted, IsKnown, IsThere, taking_there};
+
+use crate::arriving::{bring_item, bring_new, repeat};
+use crate::knowing::{Known, know};
+use dr_base::{Seq, Text};
+use dr_ledger::{Arrived, Instance, Item, Job, LedgerFault, Progress};
+use dr_route::{Key, Targets};
+use dr_site::Site;
+use dr_store_changes::Taking;
+use dr_store_reads::{find_arrival, find_kept, find_row};
+use sqlite::{Alter, Connection};
+use std::alloc::{AllocError, Global};
+
+/// What the site does with a key that the caller brings.
+fn targets_of(alloc: Global, site: &Site, caller: &Text, key: &Key) -> Result<Targets, AllocError>
+    ensures to { IfOk result (λ t. t.to ≡ (site_routing site.now).targets caller.now key.now) }
+    ensures keep { IfOk result (λ t. t.keep ≡ (site_routing site.now).keeps caller.now key.now) }
+    ensures formed { IfOk result (λ t. AreNames t.to) }
+{
+    // What a site accepts tells that it is one; so it sends nothing to the local caller.
+    let _accepts = site.accepts();
+    match site.targets(alloc, caller, key) {
+        Ok(targets) => Ok(targets),
+        Err(error) => Err(error),
+    }
+}
+
+/// These destinations, and this one if the instance has no row for it.
+fn with_missing(
+    dests: Seq<Text>,
+    dest: &Text,
+    row: Option<Progress>,
+) -> Result<Seq<Text>, LedgerFault>
+    ensures { Reads result (λ all. all ≡ dests ++ cond (is_some row) [] (dest.now ∷ [])) }
+{
+    let mut all = dests;
+    match row {
+        Some(_) => Ok(all),
+        None => {
+            all.push(dest.clone()?)?;
+            Ok(all)
+        }
+    }
+}
+
+/// The same, where the row is looked up.
+fn missing_one<'x, S: Alter>(
+    conn: &mut Connection<S>,
+    uid: &'x Text,
+    dest: &'x Text,
+    dests: Seq<Text>,
+) -> Result<Seq<Text>, LedgerFault>
+    ensures looked { (n : ℕ) (part : Part) → Looked n part result (state S.Store conn.old) (state S.Store conn.new) (λ base all. all ≡ dests ++ missing (rows_of base) uid.now (dest.now ∷ [])) }
+    ensures idle { conn.old.in_transaction ≡ false → conn.new.in_transaction ≡ false }
+{
+    match find_row(conn, uid, dest) {
+        Ok(row) => with_missing(dests, dest, row),
+        Err(fault) => Err(fault),
+    }
+}
+
+/// Of these destinations those to which the instance has no row.
+fn missing_from<'x, S: Alter>(
+    conn: &mut Connection<S>,
+    alloc: Global,
+    uid: &'x Text,
+    to: &'x [Text],
+) -> Result<Seq<Text>, LedgerFault>
+    ensures looked { (n : ℕ) (part : Part) → Looked n part result (state S.Store conn.old) (state S.Store conn.new) (λ base dests. dests ≡ missing (rows_of base) uid.now to.now) }
+    ensures idle { conn.old.in_transaction ≡ false → conn.new.in_transaction ≡ false }
+{
+    let mut dests = Seq::new(alloc);
+    for dest in to {
+        match missing_one(conn, uid, dest, dests) {
+            Ok(more) => dests = more,
+            Err(fault) => return Err(fault),
+        }
+    }
+    Ok(dests)
+}
+
+/// The same, of a site's targets.
+fn missing_of<'x, S: Alter>(
+    conn: &mut Connection<S>,
+    alloc: Global,
+    uid: &'x Text,
+    targets: &'x Targets,
+) -> Result<Seq<Text>, LedgerFault>
+    ensures looked { (n : ℕ) (part : Part) → Looked n part result (state S.Store conn.old) (state S.Store conn.new) (λ base dests. dests ≡ missing (rows_of base) uid.now targets.now.to) }
+    ensures idle { conn.old.in_transaction ≡ false → conn.new.in_transaction ≡ false }
+{
+    missing_from(conn, alloc, uid, targets.to.as_slice())
+}
+
+/// Whether what is to be kept is kept from now on: it is, where it wasn't before.
+fn keeps_now(keep: bool, kept: bool) -> bool
+    ensures { result ≡ (keep && not kept) }
+{
+    keep && !kept
+}
+
+/// How an instance that is there is taken in: where its data set isn't there, it comes again for an instance that is to be kept or has a new row.
+fn taking_of(whole: bool, keep: bool, none: bool) -> Taking
+    ensures { result ≡ taking_there whole keep none }
+{
+    if whole || (!keep && none) {
+        return Taking::Nothing;
+    }
+    Taking::Again
+}
+
+/// Takes the first arrival of an instance that is there, from a caller that has not brought it.
+fn bring_kept<'x, S: Alter>(
+    conn: &mut Connection<S>,
+    alloc: Global,
+    site: &Site,
+    n: u64,
+    caller: &'x Text,
+    item: &'x Job,
+    instance: &'x Instance,
+    targets: &'x Targets,
+    whole: bool,
+    dests: &'x Seq<Text>,
+    kept: bool,
+) -> Result<Arrived, LedgerFault>
+    requires idle { conn.old.in_transaction ≡ false }
+    requires line { HasLineFor site.now caller.now item.now.key }
+    requires instance { instance.now ≡ instance_of item.now }
+    requires is_item { IsItem item.now }
+    requires to { targets.now.to ≡ (site_routing site.now).targets caller.now item.now.key }
+    requires keep { targets.now.keep ≡ (site_routing site.now).keeps caller.now item.now.key }
+    requires formed { AreNames targets.now.to }
+    ensures called { Called n (advanced result n) site.now result (state S.Store conn.old) (state S.Store conn.new) (λ base. IsThere base (instance_of item.now) whole × (set.contains (arrivals_in (base 5)) (caller.now, item.now.uid) ≡ false) × (dests.now ≡ missing (rows_of base) item.now.uid targets.now.to) × (kept ≡ set.contains (all_kept_in (base 7)) item.now.uid))
+        (λ base db. Arrives (site_routing site.now) caller.now (instance_of item.now) (book_of base) result (book_of db) × OnlyTakes item.now (bodies_of base) (bodies_of db))
+        (λ base db. IsAccepted site.now caller.now (instance_of item.now) (book_of base) (book_of db)) }
+    ensures number { OnOk result (n ≤ 2 ^ 62) }
+    ensures idle { conn.new.in_transaction ≡ false }
+{
+    let keeps = keeps_now(targets.keep, kept);
+    let all = dests.as_slice();
+    let taking = taking_of(whole, targets.keep, all.is_empty());
+    bring_item(
+        conn, alloc, site, n, caller, item, targets, instance, taking, all, keeps,
+    )
+}
+
+/// The same; whether it is kept is looked up.
+fn bring_missing<'x, S: Alter>(
+    conn: &mut Connection<S>,
+    alloc: Global,
+    site: &Site,
+    n: u64,
+    caller: &'x Text,
+    item: &'x Job,
+    instance: &'x Instance,
+    targets: &'x Targets,
+    whole: bool,
+    dests: &'x Seq<Text>,
+) -> Result<Arrived, LedgerFault>
+    requires idle { conn.old.in_transaction ≡ false }
+    requires line { HasLineFor site.now caller.now item.now.key }
+    requires instance { instance.now ≡ instance_of item.now }
+    requires is_item { IsItem item.now }
+    requires to { targets.now.to ≡ (site_routing site.now).targets caller.now item.now.key }
+    requires keep { targets.now.keep ≡ (site_routing site.now).keeps caller.now item.now.key }
+    requires formed { AreNames targets.now.to }
+    ensures called { Called n (advanced result n) site.now result (state S.Store conn.old) (state S.Store conn.new) (λ base. IsThere base (instance_of item.now) whole × (set.contains (arrivals_in (base 5)) (caller.now, item.now.uid) ≡ false) × (dests.now ≡ missing (rows_of base) item.now.uid targets.now.to))
+        (λ base db. Arrives (site_routing site.now) caller.now (instance_of item.now) (book_of base) result (book_of db) × OnlyTakes item.now (bodies_of base) (bodies_of db))
+        (λ base db. IsAccepted site.now caller.now (instance_of item.now) (book_of base) (book_of db)) }
+    ensures number { OnOk result (n ≤ 2 ^ 62) }
+    ensures idle { conn.new.in_transaction ≡ false }
+{
+    match find_kept(conn, &item.uid) {
+        Ok(kept) => bring_kept(
+            conn, alloc, site, n, caller, item, instance, targets, whole, dests, kept,
+        ),
+        Err(fault) => Err(fault),
+    }
+}
+
+/// The same; the rows that it has are looked up.
+fn bring_known<'x, S: Alter>(
+    conn: &mut Connection<S>,
+    alloc: Global,
+    site: &Site,
+    n: u64,
+    caller: &'x Text,
+    item: &'x Job,
+    instance: &'x Instance,
+    targets: &'x Targets,
+    whole: bool,
+) -> Result<Arrived, LedgerFault>
+    requires idle { conn.old.in_transaction ≡ false }
+    requires line { HasLineFor site.now caller.now item.now.key }
+    requires instance { instance.now ≡ instance_of item.now }
+    requires is_item { IsItem item.now }
+    requires to { targets.now.to ≡ (site_routing site.now).targets caller.now item.now.key }
+    requires keep { targets.now.keep ≡ (site_routing site.now).keeps caller.now item.now.key }
+    requires formed { AreNames targets.now.to }
+    ensures called { Called n (advanced result n) site.now result (state S.Store conn.old) (state S.Store conn.new) (λ base. IsThere base (instance_of item.now) whole × (set.contains (arrivals_in (base 5)) (caller.now, item.now.uid) ≡ false))
+        (λ base db. Arrives (site_routing site.now) caller.now (instance_of item.now) (book_of base) result (book_of db) × OnlyTakes item.now (bodies_of base) (bodies_of db))
+        (λ base db. IsAccepted site.now caller.now (instance_of item.now) (book_of base) (book_of db)) }
+    ensures number { OnOk result (n ≤ 2 ^ 62) }
+    ensures idle { conn.new.in_transaction ≡ false }
+{
+    match missing_of(conn, alloc, &item.uid, targets) {
+        Ok(dests) => bring_missing(
+            conn, alloc, site, n, caller, item, instance, targets, whole, &dests,
+        ),
+        Err(fault) => Err(fault),
+    }
+}
+
+/// The same, by what the site does with it.
+fn arrive_first<'x, S: Alter>(
+    conn: &mut Connection<S>,
+    alloc: Global,
+    site: &Site,
+    n: u64,
+    caller: &'x Text,
+    item: &'x Job,
+    instance: &'x Instance,
+    whole: bool,
+) -> Result<Arrived, LedgerFault>
+    requires idle { conn.old.in_transaction ≡ false }
+    requires line { HasLineFor site.now caller.now item.now.key }
+    requires instance { instance.now ≡ instance_of item.now }
+    requires is_item { IsItem item.now }
+    ensures called { Called n (advanced result n) site.now result (state S.Store conn.old) (state S.Store conn.new) (λ base. IsThere base (instance_of item.now) whole × (set.contains (arrivals_in (base 5)) (caller.now, item.now.uid) ≡ false))
+        (λ base db. Arrives (site_routing site.now) caller.now (instance_of item.now) (book_of base) result (book_of db) × OnlyTakes item.now (bodies_of base) (bodies_of db))
+        (λ base db. IsAccepted site.now caller.now (instance_of item.now) (book_of base) (book_of db)) }
+    ensures number { OnOk result (n ≤ 2 ^ 62) }
+    ensures idle { conn.new.in_transaction ≡ false }
+{
+    match targets_of(alloc, site, caller, &item.key) {
+        Ok(targets) => bring_known(
+            conn, alloc, site, n, caller, item, instance, &targets, whole,
+        ),
+        Err(_) => Err(LedgerFault::Memory),
+    }
+}
+
+/// Takes the arrival of an instance that is there, whether or not the caller has brought it.
+fn arrive_there<'x, S: Alter>(
+    conn: &mut Connection<S>,
+    alloc: Global,
+    site: &Site,
+    n: u64,
+    caller: &'x Text,
+    item: &'x Job,
+    instance: &'x Instance,
+    whole: bool,
+    brought: bool,
+) -> Result<Arrived, LedgerFault>
+    requires idle { conn.old.in_transaction ≡ false }
+    requires line { HasLineFor site.now caller.now item.now.key }
+    requires instance { instance.now ≡ instance_of item.now }
+    requires is_item { IsItem item.now }
+    ensures called { Called n (advanced result n) site.now result (state S.Store conn.old) (state S.Store conn.new) (λ base. IsThere base (instance_of item.now) whole × (brought ≡ set.contains (arrivals_in (base 5)) (caller.now, item.now.uid)))
+        (λ base db. Arrives (site_routing site.now) caller.now (instance_of item.now) (book_of base) result (book_of db) × OnlyTakes item.now (bodies_of base) (bodies_of db))
+        (λ base db. IsAccepted site.now caller.now (instance_of item.now) (book_of base) (book_of db)) }
+    ensures number { OnOk result (n ≤ 2 ^ 62) }
+    ensures idle { conn.new.in_transaction ≡ false }
+{
+    if brought {
+        return repeat(conn, site, n, caller, item, whole);
+    }
+    arrive_first(conn, alloc, site, n, caller, item, instance, whole)
+}
+
+/// The same; whether the caller has brought it is looked up.
+fn arrive_known<'x, S: Alter>(
+    conn: &mut Connection<S>,
+    alloc: Global,
+    site: &Site,
+    n: u64,
+    caller: &'x Text,
+    item: &'x Job,
+    instance: &'x Instance,
+    whole: bool,
+) -> Result<Arrived, LedgerFault>
+    requires idle { conn.old.in_transaction ≡ false }
+    requires line { HasLineFor site.now caller.now item.now.key }
+    requires instance { instance.now ≡ instance_of item.now }
+    requires is_item { IsItem item.now }
+    ensures called { Called n (advanced result n) site.now result (state S.Store conn.old) (state S.Store conn.new) (λ base. IsThere base (instance_of item.now) whole)
+        (λ base db. Arrives (site_routing site.now) caller.now (instance_of item.now) (book_of base) result (book_of db) × OnlyTakes item.now (bodies_of base) (bodies_of db))
+        (λ base db. IsAccepted site.now caller.now (instance_of item.now) (book_of base) (book_of db)) }
+    ensures number { OnOk result (n ≤ 2 ^ 62) }
+    ensures idle { conn.new.in_transaction ≡ false }
+{
+    match find_arrival(conn, caller, &item.uid) {
+        Ok(brought) => arrive_there(conn, alloc, site, n, caller, item, instance, whole, brought),
+        Err(fault) => Err(fault),
+    }
+}
+
+/// Takes the arrival of an instance that isn't there, by what the site does with it.
+fn arrive_new<'x, S: Alter>(
+    conn: &mut Connection<S>,
+    alloc: Global,
+    site: &Site,
+    n: u64,
+    caller: &'x Text,
+    item: &'x Job,
+    instance: &'x Instance,
+) -> Result<Arrived, LedgerFault>
+    requires idle { conn.old.in_transaction ≡ false }
+    requires line { HasLineFor site.now caller.now item.now.key }
+    requires instance { instance.now ≡ instance_of item.now }
+    requires is_item { IsItem item.now }
+    ensures called { Called n (advanced result n) site.now result (state S.Store conn.old) (state S.Store conn.new) (λ base. HasNeither item.now.uid base)
+        (λ base db. Arrives (site_routing site.now) caller.now (instance_of item.now) (book_of base) result (book_of db) × OnlyTakes item.now (bodies_of base) (bodies_of db))
+        (λ base db. IsAccepted site.now caller.now (instance_of item.now) (book_of base) (book_of db)) }
+    ensures number { OnOk result (n ≤ 2 ^ 62) }
+    ensures idle { conn.new.in_transaction ≡ false }
+{
+    match targets_of(alloc, site, caller, &item.key) {
+        Ok(targets) => bring_new(conn, alloc, site, n, caller, item, &targets, instance),
+        Err(_) => Err(LedgerFault::Memory),
+    }
+}
+
+/// Takes an arrival by what is known of its uid.
+fn arrive_by<'x, S: Alter>(
+    conn: &mut Connection<S>,
+    alloc: Global,
+    site: &Site,
+    n: u64,
+    caller: &'x Text,
+    item: &'x Job,
+    instance: &'x Instance,
+    known: Known,
+) -> Result<Arrived, LedgerFault>
+    requires idle { conn.old.in_transaction ≡ false }
+    requires line { HasLineFor site.now caller.now item.now.key }
+    requires instance { instance.now ≡ instance_of item.now }
+    requires is_item { IsItem item.now }
+    ensures called { Called n (advanced result n) site.now result (state S.Store conn.old) (state S.Store conn.new) (λ base. IsKnown base (instance_of item.now) known)
+        (λ base db. Arrives (site_routing site.now) caller.now (instance_of item.now) (book_of base) result (book_of db) × OnlyTakes item.now (bodies_of base) (bodies_of db))
+        (λ base db. IsAccepted site.now caller.now (instance_of item.now) (book_of base) (book_of db)) }
+    ensures number { OnOk result (n ≤ 2 ^ 62) }
+    ensures idle { conn.new.in_transaction ≡ false }
+{
+    match known {
+        Known::No => arrive_new(conn, alloc, site, n, caller, item, instance),
+        Known::Other => Err(LedgerFault::Conflict),
+        Known::Same { whole } => {
+            arrive_known(conn, alloc, site, n, caller, item, instance, whole)
+        }
+    }
+}
+
+/// Takes an arrival that the certificate has a line for; what the tables have of its uid is looked up.
+///
+/// Errors: Conflict, Store and Memory.
+pub fn receive<'x, S: Alter>(
+    conn: &mut Connection<S>,
+    alloc: Global,
+    site: &Site,
+    n: u64,
+    caller: &'x Text,
+    item: &'x Job,
+    instance: &'x Instance,
+) -> Result<Arrived, LedgerFault>
+    requires idle { conn.old.in_transaction ≡ false }
+    requires line { HasLineFor site.now caller.now item.now.key }
+    requires instance { instance.now ≡ instance_of item.now }
+    requires is_item { IsItem item.now }
+    ensures called { Called n (advanced result n) site.now result (state S.Store conn.old) (state S.Store conn.new) Nothing
+        (λ base db. Arrives (site_routing site.now) caller.now (instance_of item.now) (book_of base) result (book_of db) × OnlyTakes item.now (bodies_of base) (bodies_of db))
+        (λ base db. IsAccepted site.now caller.now (instance_of item.now) (book_of base) (book_of db)) }
+    ensures number { OnOk result (n ≤ 2 ^ 62) }
+    ensures idle { conn.new.in_transaction ≡ false }
+{
+    match know(conn, alloc, instance) {
+        Ok(known) => arrive_by(conn, alloc, site, n, caller, item, instance, known),
+        Err(fault) => Err(fault),
+    }
+}
+
+/// Takes an item from a caller, `-` for what enters at the node itself.
+///
+/// Errors: NoLine, Conflict, Store and Memory, tested in this order; Store and Memory may come before a conflict is seen.
+pub fn arrive<'x, S: Alter>(
+    conn: &mut Connection<S>,
+    alloc: Global,
+    site: &Site,
+    n: u64,
+    caller: &'x Text,
+    item: Item,
+) -> Result<Arrived, LedgerFault>
+    requires idle { conn.old.in_transaction ≡ false }
+    ensures called { Called n (advanced result n) site.now result (state S.Store conn.old) (state S.Store conn.new) Nothing
+        (λ base db. Arrives (site_routing site.now) caller.now (instance_of item) (book_of base) result (book_of db) × OnlyTakes item (bodies_of base) (bodies_of db))
+        (λ base db. IsAccepted site.now caller.now (instance_of item) (book_of base) (book_of db)) }
+    ensures number { OnOk result (n ≤ 2 ^ 62) }
+    ensures idle { conn.new.in_transaction ≡ false }
+{
+    if !site.has_line(caller, item.key()) {
+        return Err(LedgerFault::NoLine);
+    }
+    match item.instance() {
+        Ok(instance) => {
+            let job = item.into_job();
+            receive(conn, alloc, site, n, caller, &job, &instance)
+        }
+        Err(_) => Err(LedgerFault::Memory),
+    }
+}

@@ -1,0 +1,405 @@
+-- What first arrivals make of the book, and of its data sets.
+use Rattle.std.proofs.Common.{◌≡◌, ◌≢◌, ◌↔◌, inl, inr, ℕ, pos, zero, suc, ◌≤◌, ◌<◌, ◌==◌, List, [], ◌∷◌, ◌++◌, Contains, map as mapped, Bool, true, false, cond, not, ◌&&◌, ◌||◌, T, is_some, Option, Some, None, IsSome, unwrap_or, refl, sym, ap, subst, ◌∙◌, true≢false, arith, ne_eqb, eq-eqb}
+use Rattle.std.specs.Cmp.Lexicographic.{nat_list_cmp_total}
+use Rattle.std.specs.declared.cmp.Ordering.{Ordering}
+use Rattle.std.specs.declared.cmp.Ordering.TheVariants.{Less, Equal, Greater}
+use Rattle.std.specs.FinMap as map
+use Rattle.std.specs.FinMap.{FinMap, is_sorted}
+use Rattle.std.specs.FinMap.Entries.{below_all}
+use Rattle.std.specs.FinSet as set
+use Rattle.std.specs.FinSet.{FinSet}
+use Rattle.std.specs.List.{AllByRecursion, list_any}
+use Rattle.std.specs.List.Sorted.{IsStrictlySortedBy}
+use Rattle.std.specs.Ordering.{eq_by_cmp, is_eq, is_lt, nat_cmp}
+use Rattle.std.proofs.lemmas.Cmp.{tied_itself}
+use Rattle.std.proofs.lemmas.Map.Lookups.{exact_bytes}
+use Rattle.std.proofs.lemmas.Map.Views.{tells_apart}
+use Rattle.sqlite.specs.declared.types.Value.{Value}
+use Rattle.sqlite.specs.declared.types.Value.TheVariants.{Int}
+use Rattle.sqlite.specs.Order.{Row, column}
+use Rattle.sqlite.specs.Tree.{Trees, put_row, rowid}
+use Rattle.dr_base.specs.Texts.{IsInByteOrder, Text, text_cmp}
+use Rattle.dr_plan_model.proofs.Gathered.{Contains-cons_cases, nothing_in_nil}
+use Rattle.dr_ledger.specs.declared.content.Job.{Job}
+use Rattle.dr_ledger.specs.declared.item.Instance.{Instance}
+use Rattle.dr_ledger.specs.declared.item.Outcome.{Outcome}
+use Rattle.dr_ledger.specs.declared.item.Progress.{Progress}
+use Rattle.dr_ledger.specs.declared.item.Progress.TheVariants.{Waiting}
+use Rattle.dr_ledger.specs.Bodies.{Bodies, HasBodies, IsNeeded}
+use Rattle.dr_ledger.specs.Books.{Book, Arrival, Repeat, after, with_rows}
+use Rattle.dr_ledger.specs.Items.{IsItem, instance_of}
+use Rattle.dr_ledger.specs.Pairs.{Pair, pair_cmp}
+use Rattle.dr_ledger.proofs.Growing.{inside, kept_from, rows_from, rows_stay, still_kept}
+use Rattle.dr_ledger.proofs.Maps.{filled_is, filled_keeps, get_new, get_other, same_or_not, texts, ties_itself}
+use Rattle.dr_ledger.proofs.PlanRouting.{any_from, one_list, or_right}
+use Rattle.dr_store_schema.specs.Books.{AreBelow, Names, all_kept_in, arrivals_in, bodies_of, book_of, item_or_none, items_of, keep_mark, line_by, line_in, lines_in, lines_of, names_in, numbered_line, rows_of}
+use Rattle.dr_store_schema.specs.Cells.{number_in, text_in}
+use Rattle.dr_store_writes.specs.Effects.{arrived_line}
+use Rattle.dr_store_writes.proofs.Keys.{pairs_exact, pairs_total}
+use Rattle.dr_store_writes.proofs.Maps.{equal}
+use Rattle.dr_store_changes.specs.declared.first.Taking.{Taking}
+use Rattle.dr_store_changes.specs.declared.first.Taking.TheVariants as taking
+use Rattle.dr_store_changes.specs.Bringing.{AreJoined, AreNames, Brings, IsJoined, IsKnownFor, bodies_taken, items_taken, missing, names_for}
+use Rattle.dr_store_changes.specs.Changes.{with_names}
+use Rattle.dr_store_changes.specs.Laws.{ArrivalsArrive, ComesWhereNeeded, DataSetsCome}
+use Rattle.dr_store_changes.proofs.Numbers.{lines_put}
+use Rattle.dr_store_changes.proofs.Sets.{present}
+
+-- ---- a map that gets what it has
+
+there_still : {X : Type 0} (b : Bool) (v : X) (o : Option X) → is_some o ≡ true → is_some (cond b (Some v) o) ≡ true
+there_still true v o h = refl
+there_still false v o h = h
+
+-- to insert what is there changes nothing
+same_put : (items : FinMap text_cmp Instance) (uid : Text) (item : Instance) → map.get items uid ≡ Some item → map.insert items uid item ≡ items
+same_put items uid item there = map.same_map nat_list_cmp_total exact_bytes _ _ (λ q. map.get-insert nat_list_cmp_total items uid item q ∙ go q (eq_by_cmp text_cmp q uid) refl)
+  where
+    go : (q : Text) (b : Bool) → eq_by_cmp text_cmp q uid ≡ b → cond b (Some item) (map.get items q) ≡ map.get items q
+    go q true is = sym (ap (map.get items) (exact_bytes q uid (equal _ is)) ∙ there)
+    go q false is = refl
+
+-- ---- rows for destinations that have none
+
+Grows : FinMap pair_cmp Progress → FinMap pair_cmp Progress → Type 0
+Grows base rows = (at : Pair) → map.contains_key base at ≡ true → map.contains_key rows at ≡ true
+
+abbrev row_put : FinMap pair_cmp Progress → Pair → FinMap pair_cmp Progress
+row_put rows at = map.insert rows at (unwrap_or (map.get rows at) (Waiting 0 0))
+
+with_first : (rows : FinMap pair_cmp Progress) (uid dest : Text) (more : List Text) → with_rows rows uid (dest ∷ more) ≡ with_rows (row_put rows (uid, dest)) uid more
+unfolding with_rows
+with_first rows uid dest more = refl
+
+row_there : (rows : FinMap pair_cmp Progress) (at : Pair) → map.contains_key rows at ≡ true → row_put rows at ≡ rows
+row_there rows at has = map.same_map pairs_total pairs_exact _ _ (λ q. map.get-insert pairs_total rows at (unwrap_or (map.get rows at) (Waiting 0 0)) q ∙ go q (eq_by_cmp pair_cmp q at) refl)
+  where
+    some : (o : Option Progress) → is_some o ≡ true → Some (unwrap_or o (Waiting 0 0)) ≡ o
+    some None h = absurd (true≢false (sym h))
+    some (Some row) h = refl
+
+    go : (q : Pair) (b : Bool) → eq_by_cmp pair_cmp q at ≡ b → cond b (Some (unwrap_or (map.get rows at) (Waiting 0 0))) (map.get rows q) ≡ map.get rows q
+    go q true is = some (map.get rows at) has ∙ sym (ap (map.get rows) (pairs_exact q at (equal _ is)))
+    go q false is = refl
+
+put_grows : (base rows : FinMap pair_cmp Progress) (at : Pair) → Grows base rows → Grows base (row_put rows at)
+unfolding Grows
+put_grows base rows at grows q h =
+    ap is_some (map.get-insert pairs_total rows at (unwrap_or (map.get rows at) (Waiting 0 0)) q)
+    ∙ there_still (eq_by_cmp pair_cmp q at) (unwrap_or (map.get rows at) (Waiting 0 0)) (map.get rows q) (grows q h)
+
+missing_first : (base rows : FinMap pair_cmp Progress) (uid dest : Text) (more : List Text) (b : Bool) → map.contains_key base (uid, dest) ≡ b → Grows base rows
+    → ((rs : FinMap pair_cmp Progress) → Grows base rs → with_rows rs uid (missing base uid more) ≡ with_rows rs uid more)
+    → with_rows rows uid (cond (not b) (dest ∷ missing base uid more) (missing base uid more)) ≡ with_rows rows uid (dest ∷ more)
+unfolding Grows
+missing_first base rows uid dest more true is grows later =
+    later rows grows ∙ ap (λ rs. with_rows rs uid more) (sym (row_there rows (uid, dest) (grows (uid, dest) is))) ∙ sym (with_first rows uid dest more)
+missing_first base rows uid dest more false is grows later =
+    with_first rows uid dest (missing base uid more) ∙ later (row_put rows (uid, dest)) (put_grows base rows (uid, dest) grows) ∙ sym (with_first rows uid dest more)
+
+with_missing : (base : FinMap pair_cmp Progress) (uid : Text) (to : List Text) (rows : FinMap pair_cmp Progress) → Grows base rows → with_rows rows uid (missing base uid to) ≡ with_rows rows uid to
+with_missing base uid [] rows grows = refl
+with_missing base uid (dest ∷ more) rows grows = missing_first base rows uid dest more (map.contains_key base (uid, dest)) refl grows (λ rs g. with_missing base uid more rs g)
+
+itself_grows : (rows : FinMap pair_cmp Progress) → Grows rows rows
+unfolding Grows
+itself_grows rows at h = h
+
+-- the rows for those that have none are those for all
+pub rows_missing : (rows : FinMap pair_cmp Progress) (uid : Text) (to : List Text) → with_rows rows uid (missing rows uid to) ≡ with_rows rows uid to
+rows_missing rows uid to = with_missing rows uid to rows (itself_grows rows)
+
+-- ---- kept, where it isn't
+
+kept_once : (kept : FinSet text_cmp) (uid : Text) (keep : Bool) → cond (keep && not (set.contains kept uid)) (set.insert kept uid) kept ≡ cond keep (set.insert kept uid) kept
+kept_once kept uid false = refl
+kept_once kept uid true = go (set.contains kept uid) refl
+  where
+    there : (q : Text) (b : Bool) → eq_by_cmp text_cmp q uid ≡ b → set.contains kept uid ≡ true → set.contains kept q ≡ (b || set.contains kept q)
+    there q true is has = ap (set.contains kept) (exact_bytes q uid (equal _ is)) ∙ has
+    there q false is has = refl
+
+    go : (b : Bool) → set.contains kept uid ≡ b → cond (true && not b) (set.insert kept uid) kept ≡ cond true (set.insert kept uid) kept
+    go true is = set.same_set nat_list_cmp_total exact_bytes _ _ (λ q. there q (eq_by_cmp text_cmp q uid) refl is ∙ sym (set.contains-insert nat_list_cmp_total kept uid q))
+    go false is = refl
+
+-- ---- where a line goes on to
+
+mark_itself : (q : Text) → eq_by_cmp text_cmp q q ≡ true
+mark_itself q = ap is_eq (tied_itself nat_list_cmp_total q)
+
+in_list : (q : Text) (xs : List Text) → list_any (eq_by_cmp text_cmp q) xs ≡ true → Contains xs q
+in_list q xs h = let found = any_from (eq_by_cmp text_cmp q) xs h in subst (λ t. Contains xs t) (sym (tells_apart exact_bytes q found.0 found.2)) found.1
+
+any_here : (q : Text) (xs : List Text) → Contains xs q → list_any (eq_by_cmp text_cmp q) xs ≡ true
+any_here q [] h = absurd (nothing_in_nil q h)
+any_here q (x ∷ xs) h = elim (Contains-cons_cases x xs q h) [
+  | inl same ↦ ap (λ b. b || list_any (eq_by_cmp text_cmp q) xs) (ap (λ t. eq_by_cmp text_cmp q t) same ∙ mark_itself q)
+  | inr later ↦ or_right (eq_by_cmp text_cmp q x) (list_any (eq_by_cmp text_cmp q) xs) (any_here q xs later)
+]
+
+keys_hold : (m : Names) (q : Text) → Contains (map.keys m) q ↔ (map.contains_key m q ≡ true)
+keys_hold m q = (λ h. map.contains_key-keys m q ∙ any_here q (map.keys m) h, λ h. in_list q (map.keys m) (sym (map.contains_key-keys m q) ∙ h))
+
+less : (r : Ordering) → T (is_lt r) → r ≡ Less
+less Less h = refl
+less Equal h = absurd h
+less Greater h = absurd h
+
+t_first : (a b : Bool) → T (a && b) → T a
+t_first true b h = tt
+t_first false b h = absurd h
+
+t_second : (a b : Bool) → T (a && b) → T b
+t_second true b h = h
+t_second false b h = absurd h
+
+keys_below : (x : Text) (es : List (Text × Unit {0})) → T (below_all text_cmp x es) → AllByRecursion (λ y. text_cmp x y ≡ Less) (mapped (λ (e : Text × Unit {0}). e.0) es)
+keys_below x [] h = tt
+keys_below x (e ∷ es) h = (less (text_cmp x e.0) (t_first _ _ h), keys_below x es (t_second _ _ h))
+
+sorted_keys : (es : List (Text × Unit {0})) → T (is_sorted text_cmp es) → IsStrictlySortedBy text_cmp (mapped (λ (e : Text × Unit {0}). e.0) es)
+unfolding IsStrictlySortedBy
+sorted_keys [] h = tt
+sorted_keys (e ∷ es) h = (keys_below e.0 es (t_first _ _ h), sorted_keys es (t_second _ _ h))
+
+names_got : (more : List Text) (names : Names) (q : Text) → map.get (with_names names more) q ≡ cond (list_any (eq_by_cmp text_cmp q) more) (Some tt) (map.get names q)
+names_got [] names q = refl
+names_got (x ∷ more) names q =
+    names_got more (map.insert names x tt) q ∙ ap (λ got. cond (list_any (eq_by_cmp text_cmp q) more) (Some tt) got) (map.get-insert nat_list_cmp_total names x tt q)
+    ∙ go (list_any (eq_by_cmp text_cmp q) more) (eq_by_cmp text_cmp q x)
+  where
+    go : (a b : Bool) → cond a (Some tt) (cond b (Some tt) (map.get names q)) ≡ cond (b || a) (Some tt) (map.get names q)
+    go true true = refl
+    go true false = refl
+    go false true = refl
+    go false false = refl
+
+no_names : Names
+no_names = map.empty
+
+module _ (keep : Bool) (to : List Text) (names : AreNames to) where
+  abbrev all : Names
+  all = with_names map.empty (names_for keep to)
+
+  among : (k : Bool) (q : Text) → list_any (eq_by_cmp text_cmp q) (names_for k to) ≡ ((k && eq_by_cmp text_cmp q keep_mark) || list_any (eq_by_cmp text_cmp q) to)
+  among true q = refl
+  among false q = refl
+
+  seen : (q : Text) → map.get all q ≡ present ((keep && eq_by_cmp text_cmp q keep_mark) || list_any (eq_by_cmp text_cmp q) to)
+  seen q =
+      names_got (names_for keep to) map.empty q ∙ ap (λ got. cond (list_any (eq_by_cmp text_cmp q) (names_for keep to)) (Some tt) got) (map.get-empty text_cmp q)
+      ∙ ap present (among keep q)
+
+  table : (k e a : Bool) → is_some (cond e None (present ((k && e) || a))) ≡ (not e && a)
+  table true true a = refl
+  table true false true = refl
+  table true false false = refl
+  table false true a = refl
+  table false false true = refl
+  table false false false = refl
+
+  others : (q : Text) → map.contains_key (map.remove all keep_mark) q ≡ (not (eq_by_cmp text_cmp q keep_mark) && list_any (eq_by_cmp text_cmp q) to)
+  others q =
+      ap is_some (map.get-remove nat_list_cmp_total all keep_mark q ∙ ap (λ got. cond (eq_by_cmp text_cmp q keep_mark) None got) (seen q))
+      ∙ table keep (eq_by_cmp text_cmp q keep_mark) (list_any (eq_by_cmp text_cmp q) to)
+
+  second : (e a : Bool) → (not e && a) ≡ true → a ≡ true
+  second true a h = absurd (true≢false (sym h))
+  second false a h = h
+
+  no_mark : (q : Text) (b : Bool) → eq_by_cmp text_cmp q keep_mark ≡ b → Contains to q → (not b && list_any (eq_by_cmp text_cmp q) to) ≡ true
+  no_mark q true is has = absurd (names.1 (subst (λ t. Contains to t) (exact_bytes q keep_mark (equal _ is)) has))
+  no_mark q false is has = any_here q to has
+
+  pub its_targets : map.keys (map.remove all keep_mark) ≡ to
+  its_targets = one_list (map.keys (map.remove all keep_mark)) to (sorted_keys (map.entries (map.remove all keep_mark)) (map.entries_sorted (map.remove all keep_mark))) names.0 (λ q. (
+    λ h. in_list q to (second (eq_by_cmp text_cmp q keep_mark) (list_any (eq_by_cmp text_cmp q) to) (sym (others q) ∙ (keys_hold (map.remove all keep_mark) q).0 h)),
+    λ h. (keys_hold (map.remove all keep_mark) q).1 (others q ∙ no_mark q (eq_by_cmp text_cmp q keep_mark) refl h),
+  ))
+
+  marked : (k b : Bool) → list_any (eq_by_cmp text_cmp keep_mark) to ≡ b → is_some (present ((k && true) || list_any (eq_by_cmp text_cmp keep_mark) to)) ≡ k
+  marked true b is = refl
+  marked false true is = absurd (names.1 (in_list keep_mark to is))
+  marked false false is = ap (λ b. is_some (present b)) is
+
+  pub it_keeps : map.contains_key all keep_mark ≡ keep
+  it_keeps =
+      ap is_some (seen keep_mark ∙ ap (λ b. present ((keep && b) || list_any (eq_by_cmp text_cmp keep_mark) to)) (mark_itself keep_mark))
+      ∙ marked keep (list_any (eq_by_cmp text_cmp keep_mark) to) refl
+
+-- ---- the lines that were there
+
+other_number : (n m : ℕ) (v : Value) → v ≡ Int (pos m) → m < n → (n == number_in v) ≡ false
+other_number n m v is below = ap (λ x. n == number_in x) is ∙ ne_eqb n m (λ e. omega (arith, e, below))
+
+line_same : (k : ℕ) (caller uid dest : Text) (what : Outcome) (now : ℕ) (a b : Instance) (to more : List Text) (keep also : Bool) → (k ≤ 1 → a ≡ b) → to ≡ more → keep ≡ also
+    → line_by k caller a uid dest what now to keep ≡ line_by k caller b uid dest what now more also
+line_same zero caller uid dest what now a b to more keep also f p q = λ i. Arrival caller (f (omega arith) i) (p i) (q i)
+line_same (suc zero) caller uid dest what now a b to more keep also f p q = ap (λ x. Repeat caller x) (f (omega arith))
+line_same (suc (suc zero)) caller uid dest what now a b to more keep also f p q = refl
+line_same (suc (suc (suc zero))) caller uid dest what now a b to more keep also f p q = refl
+line_same (suc (suc (suc (suc k)))) caller uid dest what now a b to more keep also f p q = refl
+
+-- what is there stays for the lines
+abbrev pub Stay : FinMap text_cmp Instance → FinMap text_cmp Instance → Type 0
+Stay items more = (uid : Text) → IsSome (map.get items uid) → map.get more uid ≡ map.get items uid
+
+module _ (items more : FinMap text_cmp Instance) (targets others : List Row) (n : ℕ) (names : (m : ℕ) → (n == m) ≡ false → names_in others m ≡ names_in targets m) (stay : Stay items more) where
+  one_line_same : (row : Row) → (m : ℕ) × (rowid row ≡ Int (pos m)) × (m < n) → IsJoined items row → line_in more others row ≡ line_in items targets row
+  one_line_same row below joined =
+      let uid = text_in (column row 4) in
+      let same = names (number_in (rowid row)) (other_number n below.0 (rowid row) below.1 below.2) in
+      line_same (number_in (column row 2)) _ uid _ _ _ (item_or_none uid (map.get more uid)) (item_or_none uid (map.get items uid)) _ _ _ _ (λ few. ap (item_or_none uid) (stay uid (joined few)))
+      (ap (λ (s : Names). map.keys (map.remove s keep_mark)) same) (ap (λ (s : Names). map.contains_key s keep_mark) same)
+
+  numbered_same : (rows : List Row) → AreBelow n rows → AllByRecursion (IsJoined items) rows → mapped (numbered_line more others) rows ≡ mapped (numbered_line items targets) rows
+  numbered_same [] below joined = refl
+  numbered_same (row ∷ rows) below joined = λ i. (number_in (rowid row), one_line_same row below.0 joined.0 i) ∷ numbered_same rows below.1 joined.1 i
+
+  lines_same : (rows : List Row) → AreBelow n rows → AllByRecursion (IsJoined items) rows → lines_in more others rows ≡ lines_in items targets rows
+  lines_same rows below joined = ap (λ es. map.values (map.from_entries {R = nat_cmp} es)) (numbered_same rows below joined)
+
+-- ---- the items
+
+put_stays : (items : FinMap text_cmp Instance) (item : Instance) (uid : Text) → map.get items item.uid ≡ None → (b : Bool) → eq_by_cmp text_cmp uid item.uid ≡ b → IsSome (map.get items uid)
+    → cond b (Some item) (map.get items uid) ≡ map.get items uid
+put_stays items item uid none true is there = absurd (let e : None ≡ map.get items uid = sym (ap (map.get items) (exact_bytes uid item.uid (equal _ is)) ∙ none) in true≢false (sym there ∙ sym (ap is_some e)))
+put_stays items item uid none false is there = refl
+
+new_stays : (items : FinMap text_cmp Instance) (item : Instance) → map.get items item.uid ≡ None → Stay items (map.insert items item.uid item)
+new_stays items item none uid there = map.get-insert nat_list_cmp_total items item.uid item uid ∙ put_stays items item uid none (eq_by_cmp text_cmp uid item.uid) refl there
+
+same_stays : (items : FinMap text_cmp Instance) → Stay items items
+same_stays items uid there = refl
+
+pub taken_stay : (how : Taking) (items : FinMap text_cmp Instance) (item : Instance) → IsKnownFor how item (map.get items item.uid) → Stay items (items_taken how items item)
+taken_stay taking.New items item known = new_stays items item known
+taken_stay taking.Bare items item known = new_stays items item known
+taken_stay taking.Again items item known = same_stays items
+taken_stay taking.Nothing items item known = same_stays items
+
+-- its own item is there then
+pub taken_there : (how : Taking) (items : FinMap text_cmp Instance) (item : Instance) → IsKnownFor how item (map.get items item.uid) → map.get (items_taken how items item) item.uid ≡ Some item
+taken_there taking.New items item known = get_new texts items item.uid item
+taken_there taking.Bare items item known = get_new texts items item.uid item
+taken_there taking.Again items item known = known
+taken_there taking.Nothing items item known = known
+
+taken_is : (how : Taking) (items : FinMap text_cmp Instance) (item : Instance) → IsKnownFor how item (map.get items item.uid)
+    → items_taken how items item ≡ map.insert items item.uid (unwrap_or (map.get items item.uid) item)
+taken_is taking.New items item known = ap (λ o. map.insert items item.uid (unwrap_or o item)) (sym known)
+taken_is taking.Bare items item known = ap (λ o. map.insert items item.uid (unwrap_or o item)) (sym known)
+taken_is taking.Again items item known = sym (same_put items item.uid item known) ∙ ap (λ o. map.insert items item.uid (unwrap_or o item)) (sym known)
+taken_is taking.Nothing items item known = sym (same_put items item.uid item known) ∙ ap (λ o. map.insert items item.uid (unwrap_or o item)) (sym known)
+
+-- ---- the book
+
+same_number : (n : ℕ) → (n == n) ≡ true
+same_number n = eq-eqb n n refl
+
+pub arrivals_arrive : ArrivalsArrive
+arrivals_arrive how old new n caller item body to keep below joined known names w =
+    let was = items_of old in
+    let items = w.items in
+    let stay : Stay was (items_of new) = subst (λ m. Stay was m) (sym items) (taken_stay how was item known) in
+    let others : (m : ℕ) → (n == m) ≡ false → names_in (new 12) m ≡ names_in (old 12) m = λ m is. w.targets m ∙ ap (λ b. cond b (with_names (names_in (old 12) m) (names_for keep to)) (names_in (old 12) m)) is in
+    let its : names_in (new 12) n ≡ with_names map.empty (names_for keep to) =
+    w.targets n ∙ ap (λ b. cond b (with_names (names_in (old 12) n) (names_for keep to)) (names_in (old 12) n)) (same_number n)
+    ∙ ap (λ (s : Names). with_names s (names_for keep to)) (joined.targets n (omega arith)) in
+    let there : map.get (items_of new) item.uid ≡ Some item = ap (λ m. map.get m item.uid) items ∙ taken_there how was item known in
+    let lines : lines_of new ≡ lines_of old ++ Arrival caller item to keep ∷ [] =
+    ap (λ rows. lines_in (items_of new) (new 12) rows) w.journal ∙ lines_put (items_of new) (new 12) n _ (old 11) below
+    ∙ (λ i. lines_same was (items_of new) (old 12) (new 12) n others stay (old 11) below joined.items i
+    ++ Arrival caller (item_or_none item.uid (there i)) ((ap (λ (s : Names). map.keys (map.remove s keep_mark)) its ∙ its_targets keep to names) i) ((ap (λ (s : Names). map.contains_key s keep_mark) its ∙ it_keeps keep to names) i) ∷ []) in
+    λ i. record {
+      items = (items ∙ taken_is how was item known) i;
+      arrivals = w.arrivals i;
+      kept = (w.kept ∙ kept_once (all_kept_in (old 7)) item.uid keep) i;
+      rows = (w.rows ∙ rows_missing (rows_of old) item.uid to) i;
+      lines = lines i;
+    }
+
+-- ---- the data sets
+
+module _ (b : Book) (caller : Text) (job : Job) (to : List Text) (keep : Bool) where
+  abbrev made : Book
+  made = after (Arrival caller (instance_of job) to keep) b
+
+  needed_still : (uid : Text) → IsNeeded b uid → IsNeeded made uid
+  needed_still uid needed = elim needed [
+    | inl kept ↦ inl (still_kept keep b.kept job.uid uid kept)
+    | inr row ↦ inr (row.0, row.1, rows_stay to b.rows job.uid (uid, row.0) row.1 row.2, row.3)
+  ]
+
+  needed_before : (uid : Text) → (uid ≡ job.uid → ⊥) → IsNeeded made uid → IsNeeded b uid
+  needed_before uid other needed = elim needed [
+    | inl kept ↦ elim (kept_from keep b.kept job.uid uid kept) [
+      | inl was ↦ inl was
+      | inr is ↦ absurd (other is.0)
+    ]
+    | inr row ↦ elim (rows_from to b.rows job.uid (uid, row.0) row.1 row.2) [
+      | inl was ↦ inr (row.0, row.1, was, row.3)
+      | inr is ↦ absurd (other is.0)
+    ]
+  ]
+
+  abbrev IsThere : Bodies → Text → Type 0
+  IsThere bodies uid = (body : List ℕ) × (map.get bodies uid ≡ Some body)
+
+  same_thing : (x : Bodies) (bodies : Bodies) (q : Text) → map.get x q ≡ map.get bodies q → (q ≡ job.uid → ⊥) → HasBodies b bodies → IsThere x q ↔ IsNeeded made q
+  same_thing x bodies q same other has = (
+    λ there. needed_still q ((has.there q).0 (there.0, sym same ∙ there.1)),
+    λ needed. let it = (has.there q).1 (needed_before q other needed) in (it.0, same ∙ it.1),
+  )
+
+  -- elsewhere all is as it was
+  elsewhere : (how : Taking) (bodies : Bodies) (q : Text) → eq_by_cmp text_cmp q job.uid ≡ false → map.get (bodies_taken how bodies job.uid job.body) q ≡ map.get bodies q
+  elsewhere taking.New bodies q other = get_other texts bodies job.uid job.body q other
+  elsewhere taking.Bare bodies q other = refl
+  elsewhere taking.Again bodies q other = get_other texts bodies job.uid job.body q other
+  elsewhere taking.Nothing bodies q other = refl
+
+  -- and here it is where it is needed
+  here : (how : Taking) (bodies : Bodies) → HasBodies b bodies → ComesWhereNeeded how made bodies job.uid → IsThere (bodies_taken how bodies job.uid job.body) job.uid ↔ IsNeeded made job.uid
+  here taking.New bodies has comes = (λ there. comes, λ needed. (job.body, get_new texts bodies job.uid job.body))
+  here taking.Bare bodies has comes = (λ there. needed_still job.uid ((has.there job.uid).0 there), λ needed. absurd (comes needed))
+  here taking.Again bodies has comes = (λ there. comes, λ needed. (job.body, get_new texts bodies job.uid job.body))
+  here taking.Nothing bodies has comes = (λ there. needed_still job.uid ((has.there job.uid).0 there), λ needed. comes needed)
+
+  abbrev IsOwn : Book → Text → List ℕ → Type 0
+  IsOwn book uid body = (item : Job) × IsItem item × (item.body ≡ body) × (map.get book.items uid ≡ Some (instance_of item))
+
+  own_still : (uid : Text) (body : List ℕ) → IsOwn b uid body → IsOwn made uid body
+  own_still uid body own = (own.0, own.1, own.2, filled_keeps texts b.items job.uid (instance_of job) uid (instance_of own.0) own.3)
+
+  its_own : ((held : Instance) → map.get b.items job.uid ≡ Some held → held ≡ instance_of job) → IsItem job → (body : List ℕ) → Some job.body ≡ Some body → IsOwn made job.uid body
+  its_own same is body e = (job, is, inside job.body body e, filled_is texts b.items job.uid (instance_of job) same)
+
+  own_here : (how : Taking) (bodies : Bodies) → HasBodies b bodies → ((held : Instance) → map.get b.items job.uid ≡ Some held → held ≡ instance_of job) → IsItem job → (body : List ℕ)
+      → map.get (bodies_taken how bodies job.uid job.body) job.uid ≡ Some body → IsOwn made job.uid body
+  own_here taking.New bodies has same is body h = its_own same is body (sym (get_new texts bodies job.uid job.body) ∙ h)
+  own_here taking.Bare bodies has same is body h = own_still job.uid body (has.own job.uid body h)
+  own_here taking.Again bodies has same is body h = its_own same is body (sym (get_new texts bodies job.uid job.body) ∙ h)
+  own_here taking.Nothing bodies has same is body h = own_still job.uid body (has.own job.uid body h)
+
+  apart : (q : Text) → eq_by_cmp text_cmp q job.uid ≡ false → q ≡ job.uid → ⊥
+  apart q other same = true≢false (sym (ties_itself texts job.uid) ∙ ap (λ x. eq_by_cmp text_cmp x job.uid) (sym same) ∙ other)
+
+  come : (how : Taking) (bodies : Bodies) → IsItem job → HasBodies b bodies → ((held : Instance) → map.get b.items job.uid ≡ Some held → held ≡ instance_of job)
+      → ComesWhereNeeded how made bodies job.uid → HasBodies made (bodies_taken how bodies job.uid job.body)
+  come how bodies is has same comes =
+      let now = bodies_taken how bodies job.uid job.body in
+      record {
+        there = λ q. elim (same_or_not texts q job.uid) [
+          | inl e ↦ subst (λ x. IsThere now x ↔ IsNeeded made x) (sym e) (here how bodies has comes)
+          | inr other ↦ same_thing now bodies q (elsewhere how bodies q other) (apart q other) has
+        ];
+        own = λ q body h. elim (same_or_not texts q job.uid) [
+          | inl e ↦ subst (λ x. IsOwn made x body) (sym e) (own_here how bodies has same is body (subst (λ x. map.get now x ≡ Some body) e h))
+          | inr other ↦ own_still q body (has.own q body (sym (elsewhere how bodies q other) ∙ h))
+        ];
+      }
+
+pub data_sets_come : DataSetsCome
+data_sets_come how b caller job to keep bodies is has same comes = come b caller job to keep how bodies is has same comes

@@ -1,0 +1,182 @@
+//! First arrivals, each with all that it makes of the tables.
+ghost use Rattle.std.specs.Prelude.{◌≡◌, ◌≤◌, ◌^◌};
+ghost use Rattle.sqlite.specs.Held.{state};
+ghost use Rattle.dr_store_writes.specs.Effects.{GoesOn, Step, arrived_line};
+ghost use Rattle.dr_store_changes.specs.Bringing.{AsksToTake, KeepsIf, TakesIn, Then};
+ghost use Rattle.dr_store_changes.specs.Changes.{AddsOnlyLine, AddsRows, AddsTargets, NotesArrival};
+
+use crate::arriving::{add_rows, add_targets, keep, note_arrival, store};
+use crate::bodies::take_back;
+use crate::writing::Change;
+use dr_base::Text;
+use dr_ledger::Instance;
+use dr_store_writes::add_arrived;
+use sqlite::{Alter, Error, Transaction};
+
+/// What a first arrival does with the instance and its data set.
+#[derive(Clone, Copy, PartialEq, Eq, Debug)]
+pub enum Taking {
+    /// The instance wasn't there: it is stored with its data set.
+    New,
+    /// The instance wasn't there: it is stored without its data set, which isn't needed.
+    Bare,
+    /// The instance is there: its data set, which was let go, comes again.
+    Again,
+    /// The instance is there, and nothing of it changes.
+    Nothing,
+}
+
+/// Takes the instance in, and its data set.
+fn take<'x, S: Alter>(
+    tx: &mut Transaction<'_, S>,
+    item: &'x Instance,
+    body: &'x [u8],
+    taking: Taking,
+) -> Result<(), Error>
+    requires { item.now.size ≤ 2 ^ 62 }
+    ensures same_reference { tx.new.conn.ghost_name ≡ tx.old.conn.ghost_name }
+    ensures step { Step result (state S.Store tx.old.conn.now) (state S.Store tx.new.conn.now) (AsksToTake taking item.now.uid (state S.Store tx.old.conn.now).now.trees
+        → GoesOn (state S.Store tx.old.conn.now) (state S.Store tx.new.conn.now) × TakesIn taking item.now body.now (state S.Store tx.old.conn.now).now.trees (state S.Store tx.new.conn.now).now.trees) }
+{
+    match taking {
+        Taking::New => store(tx, item, body, 1),
+        Taking::Bare => store(tx, item, &[], 0),
+        Taking::Again => take_back(tx, &item.uid, body),
+        Taking::Nothing => Ok(()),
+    }
+}
+
+/// The same, and who brought it.
+fn take_from<'x, S: Alter>(
+    tx: &mut Transaction<'_, S>,
+    caller: &'x Text,
+    item: &'x Instance,
+    body: &'x [u8],
+    taking: Taking,
+) -> Result<(), Error>
+    requires { item.now.size ≤ 2 ^ 62 }
+    ensures same_reference { tx.new.conn.ghost_name ≡ tx.old.conn.ghost_name }
+    ensures step { Step result (state S.Store tx.old.conn.now) (state S.Store tx.new.conn.now) (AsksToTake taking item.now.uid (state S.Store tx.old.conn.now).now.trees
+        → GoesOn (state S.Store tx.old.conn.now) (state S.Store tx.new.conn.now)
+        × Then (TakesIn taking item.now body.now) (NotesArrival (caller.now, item.now.uid)) (state S.Store tx.old.conn.now).now.trees (state S.Store tx.new.conn.now).now.trees) }
+{
+    take(tx, item, body, taking)?;
+    note_arrival(tx, caller, &item.uid)?;
+    Ok(())
+}
+
+/// Keeps an instance, if it is to be kept.
+fn keep_if<'x, S: Alter>(
+    tx: &mut Transaction<'_, S>,
+    uid: &'x Text,
+    keeps: bool,
+) -> Result<(), Error>
+    ensures same_reference { tx.new.conn.ghost_name ≡ tx.old.conn.ghost_name }
+    ensures step { Step result (state S.Store tx.old.conn.now) (state S.Store tx.new.conn.now) (GoesOn (state S.Store tx.old.conn.now) (state S.Store tx.new.conn.now)
+        × KeepsIf uid.now keeps (state S.Store tx.old.conn.now).now.trees (state S.Store tx.new.conn.now).now.trees) }
+{
+    if keeps {
+        return keep(tx, uid);
+    }
+    Ok(())
+}
+
+/// An instance waits for these destinations, and is kept if it is to be.
+fn queue<'x, S: Alter>(
+    tx: &mut Transaction<'_, S>,
+    uid: &'x Text,
+    dests: &'x [Text],
+    keeps: bool,
+) -> Result<(), Error>
+    ensures same_reference { tx.new.conn.ghost_name ≡ tx.old.conn.ghost_name }
+    ensures step { Step result (state S.Store tx.old.conn.now) (state S.Store tx.new.conn.now) (Unit {0}
+        → GoesOn (state S.Store tx.old.conn.now) (state S.Store tx.new.conn.now)
+        × Then (AddsRows uid.now dests.now) (KeepsIf uid.now keeps) (state S.Store tx.old.conn.now).now.trees (state S.Store tx.new.conn.now).now.trees) }
+{
+    add_rows(tx, uid, dests)?;
+    keep_if(tx, uid, keeps)?;
+    Ok(())
+}
+
+/// Adds the line of a first arrival.
+fn add_line<'x, S: Alter>(
+    tx: &mut Transaction<'_, S>,
+    n: u64,
+    caller: &'x Text,
+    uid: &'x Text,
+) -> Result<(), Error>
+    requires { n ≤ 2 ^ 62 }
+    ensures same_reference { tx.new.conn.ghost_name ≡ tx.old.conn.ghost_name }
+    ensures step { Step result (state S.Store tx.old.conn.now) (state S.Store tx.new.conn.now) (Unit {0}
+        → GoesOn (state S.Store tx.old.conn.now) (state S.Store tx.new.conn.now)
+        × AddsOnlyLine (arrived_line n 0 caller.now uid.now) (state S.Store tx.old.conn.now).now.trees (state S.Store tx.new.conn.now).now.trees) }
+{
+    add_arrived(tx, n, 0, caller, uid)?;
+    Ok(())
+}
+
+/// The same, and where it goes on to.
+fn write_line<'x, S: Alter>(
+    tx: &mut Transaction<'_, S>,
+    n: u64,
+    caller: &'x Text,
+    uid: &'x Text,
+    names: &'x [Text],
+) -> Result<(), Error>
+    requires { n ≤ 2 ^ 62 }
+    ensures same_reference { tx.new.conn.ghost_name ≡ tx.old.conn.ghost_name }
+    ensures step { Step result (state S.Store tx.old.conn.now) (state S.Store tx.new.conn.now) (Unit {0}
+        → GoesOn (state S.Store tx.old.conn.now) (state S.Store tx.new.conn.now)
+        × Then (AddsOnlyLine (arrived_line n 0 caller.now uid.now)) (AddsTargets n names.now) (state S.Store tx.old.conn.now).now.trees (state S.Store tx.new.conn.now).now.trees) }
+{
+    add_line(tx, n, caller, uid)?;
+    add_targets(tx, n, names)?;
+    Ok(())
+}
+
+/// A first arrival: a caller brings an instance that it hasn't brought before.
+#[derive(Drop)]
+pub struct Arriving<'x> {
+    pub caller: &'x Text,
+    pub item: &'x Instance,
+    pub body: &'x [u8],
+    /// What is done with the instance and its data set.
+    pub taking: Taking,
+    /// The destinations for which it waits from now on: those of its targets to which it has no row.
+    pub dests: &'x [Text],
+    /// Whether it is kept from now on.
+    pub keeps: bool,
+    /// Where its line goes on to, `-` standing for keeping.
+    pub names: &'x [Text],
+    ghost size: { item.now.size ≤ 2 ^ 62 },
+}
+
+impl Arriving<'_> {
+    /// All but its line.
+    fn fill<S: Alter>(&self, tx: &mut Transaction<'_, S>) -> Result<(), Error>
+        ensures same_reference { tx.new.conn.ghost_name ≡ tx.old.conn.ghost_name }
+        ensures step { Step result (state S.Store tx.old.conn.now) (state S.Store tx.new.conn.now) (AsksToTake self.now.taking self.now.item.now.uid (state S.Store tx.old.conn.now).now.trees
+            → GoesOn (state S.Store tx.old.conn.now) (state S.Store tx.new.conn.now)
+            × Then (Then (TakesIn self.now.taking self.now.item.now self.now.body.now) (NotesArrival (self.now.caller.now, self.now.item.now.uid)))
+            (Then (AddsRows self.now.item.now.uid self.now.dests.now) (KeepsIf self.now.item.now.uid self.now.keeps))
+            (state S.Store tx.old.conn.now).now.trees (state S.Store tx.new.conn.now).now.trees) }
+    {
+        take_from(tx, self.caller, self.item, self.body, self.taking)?;
+        queue(tx, &self.item.uid, self.dests, self.keeps)?;
+        Ok(())
+    }
+}
+
+impl Change for Arriving<'_> {
+    ghost use Rattle.dr_store_changes.specs.Bringing.{AsksToTake, Brings};
+
+    ghost asks = { λ s db. AsksToTake s.taking s.item.now.uid db };
+
+    ghost makes = { λ s n. Brings s.taking s.caller.now s.item.now s.body.now s.dests.now s.keeps s.names.now n };
+
+    fn run<S: Alter>(&self, tx: &mut Transaction<'_, S>, n: u64) -> Result<(), Error> {
+        self.fill(tx)?;
+        write_line(tx, n, self.caller, &self.item.uid, self.names)?;
+        Ok(())
+    }
+}

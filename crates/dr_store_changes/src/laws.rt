@@ -1,0 +1,32 @@
+//! What the calls that write make of the book.
+ghost use Rattle.dr_store_changes.specs.Laws.{ArrivalsArrive, DataSetsCome, RepeatsRepeat, RequeuingsRequeue, SettlingsSettle, WhatIsNeededStays};
+
+/// To move a waiting row on with the line of its settling is to settle it.
+pub fn settlings_settle()
+    ensures { SettlingsSettle }
+{}
+
+/// To let a held row wait again with the line of its requeuing is to queue it again.
+pub fn requeuings_requeue()
+    ensures { RequeuingsRequeue }
+{}
+
+/// Where a data set goes just if it is needed no more, those that are there are those that are needed.
+pub fn what_is_needed_stays()
+    ensures { WhatIsNeededStays }
+{}
+
+/// The line of a repeat is all that a repeat adds.
+pub fn repeats_repeat()
+    ensures { RepeatsRepeat }
+{}
+
+/// What a first arrival makes of the tables is what it makes of the book.
+pub fn arrivals_arrive()
+    ensures { ArrivalsArrive }
+{}
+
+/// Where a data set comes just if it is needed, those that are there are those that are needed.
+pub fn data_sets_come()
+    ensures { DataSetsCome }
+{}

@@ -1,0 +1,27 @@
+use Rattle.std.proofs.Common.{◌≡◌, ◌∙◌, ap, map, subst, sym}
+use Rattle.std.specs.List.Sorted.{IsStrictlySortedBy}
+use Rattle.dr_ledger.specs.Replies.{Lists}
+use Rattle.dr_store_lists.specs.Lists.{goal_cmp, goals_of, shown_goal}
+use Rattle.sqlite.specs.Held.{state}
+use Rattle.sqlite.specs.Listing.{understood}
+use Rattle.sqlite.proofs.Callers.{IsPlain}
+use Rattle.dr_store_schema.specs.Statements as text
+use Rattle.dr_store_lists.proofs.Lists.{targets_listed}
+use Rattle.dr_store_reads.proofs.Outcomes.{decoded, reads_map, refused}
+use Rattle.dr_store_lists.proofs.Wholes as whole
+use Rattle.dr_store_lists.proofs.listing.all_targets.Goals as goal
+
+pub returns-in_err-rows : goal.returns-in_err-rows
+returns-in_err-rows g c =
+    record { asked = refused c.from_residual.ensures (λ has. subst (λ s. IsPlain (understood s text.all_targets)) (sym has) whole.all_targets.plain) c.in_err-rows.ensures.asked }
+
+pub returns : goal.returns
+returns g c =
+    let old = state g.S.Store c.args.conn.now in
+    let new = state g.S.Store c.ask.new.conn in
+    let rows = c.in_ok-rows.rows.items in
+    record {
+      asked = decoded c.goal_keys.result (λ has. subst (λ s. IsPlain (understood s text.all_targets)) (sym has) whole.all_targets.plain)
+          (λ has shown. reads_map c.goal_keys.result
+          (λ all h. let is : all.items ≡ map shown_goal rows = h.0 ∙ ap (map shown_goal) c.as_slice.ensures.value in subst (Lists goal_cmp (goals_of old.now.trees)) (sym is) (targets_listed old new rows has shown (subst (IsStrictlySortedBy goal_cmp) is h.1))) c.goal_keys.ensures) c.in_ok-rows.ensures.asked;
+    }

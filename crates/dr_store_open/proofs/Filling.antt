@@ -1,0 +1,25 @@
+-- Statements of which only the commit may leave something.
+use Rattle.std.proofs.Common.{◌≡◌, ◌∙◌, [], false, true, inl, inr, refl, sym, ap, IsTrue, Ok, Err, Result, OnOk, arith}
+use Rattle.sqlite.specs.State.{State, HasCleanDisk, KeepsCounts, Shows, Survives}
+use Rattle.sqlite.specs.declared.error.Error.{Error}
+use Rattle.sqlite.specs.Effect.{Database}
+use Rattle.sqlite.proofs.StateLemmas.{survives_then}
+use Rattle.dr_store_open.specs.Opening.{LeavesOldOrCommitted}
+
+-- where nothing is run
+pub survives_still : (s : State) → Survives s s (λ _. ⊥)
+survives_still s = record { clean = omega arith; shield = λ h. h; counts = omega arith; limit = refl; closes = λ clean is_open. inl is_open; crash = λ clean db left. inl left }
+
+-- one after another
+pub survives_both : (a b c : State) → Survives a b (λ _. ⊥) → Survives b c (λ _. ⊥) → Survives a c (λ _. ⊥)
+survives_both a b c one two = survives_then a b c (λ _. ⊥) (λ _. ⊥) (λ _. ⊥) (λ _ db none. none) (λ _ db none. none) one two
+
+-- where the commit was made
+pub leaves_made : (old mid new : State) (r : Result (Unit {0}) Error) → Survives (record old { in_transaction = true }) mid (λ _. ⊥)
+    → (HasCleanDisk new → OnOk r (IsTrue mid.in_transaction × Shows mid new mid.now mid.now false × KeepsCounts mid new × (new.marks ≡ [])))
+    → Survives mid new (λ db. db ≡ mid.now.trees) → HasCleanDisk new → OnOk r (LeavesOldOrCommitted old new)
+leaves_made old mid new (Err e) filled done survives clean = tt
+leaves_made old mid new (Ok x) filled done survives clean = λ db left. elim (survives.crash clean db left) [
+  | inl earlier ↦ elim (filled.crash (omega (arith, survives.clean, clean)) db earlier) [ inl before ↦ inl before | inr none ↦ absurd none ]
+  | inr is ↦ inr (is ∙ ap (λ (d : Database). d.trees) (sym (done clean).1.committed_is))
+]

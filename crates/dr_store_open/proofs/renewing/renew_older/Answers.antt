@@ -1,0 +1,28 @@
+use Rattle.std.proofs.Common.{sym, subst, ◌∙◌}
+use Rattle.sqlite.specs.Held.{state}
+use Rattle.dr_store_audit.specs.Older.{IsOlder}
+use Rattle.dr_store_audit.proofs.Less.{no_older_is_new}
+use Rattle.dr_store_open.specs.Opening.{StaysAsFound}
+use Rattle.dr_store_open.specs.Renewing.{AreQueries}
+use Rattle.dr_store_open.proofs.Answered.{if_older}
+use Rattle.dr_store_open.proofs.Queried.{new_queries, queries_of}
+use Rattle.dr_store_open.proofs.Wholly.{left_still, stays_still}
+use Rattle.dr_store_open.proofs.renewing.renew_older.Goals as goal
+
+pub returns-in-Some-clause-found : goal.returns-in-Some-clause-found
+returns-in-Some-clause-found g c =
+    let older : IsOlder (state g.S.Store c.args.conn.now).now.schema = (c.in-Some.lacks, c.in-Some.ensures.0, sym c.schema.ensures.value ∙ c.in-Some.ensures.1) in
+    if_older (StaysAsFound (state g.S.Store c.args.conn.now) (state g.S.Store c.bring_over.new.conn)) c.bring_over.result older
+
+pub returns-in-Some-clause-kept : goal.returns-in-Some-clause-kept
+returns-in-Some-clause-kept g c clean older named committed =
+    c.bring_over.ensures.kept clean (queries_of (state g.S.Store c.args.conn.now).now.schema older) (subst AreQueries (sym committed) new_queries)
+
+pub returns-in-None-clause-found : goal.returns-in-None-clause-found
+returns-in-None-clause-found g c = λ no. stays_still (state g.S.Store c.args.conn.now)
+
+pub returns-in-None-clause-leaves : goal.returns-in-None-clause-leaves
+returns-in-None-clause-leaves g c clean = left_still (state g.S.Store c.args.conn.now)
+
+pub returns-in-None-clause-kept : goal.returns-in-None-clause-kept
+returns-in-None-clause-kept g c clean older named committed = absurd (no_older_is_new (state g.S.Store c.args.conn.now).now.schema older named)

@@ -1,0 +1,144 @@
+-- What is found in a file, and what an opening answers.
+use Rattle.std.specs.Prelude.{All, ◌≡◌, ◌≤◌, ◌+◌, ◌⊎◌, ℕ, false, IsTrue, List, [], Option, None, Some, Result, Ok, Err, OnOk, length, true}
+use Rattle.std.specs.FinMap as map
+use Rattle.sha2.specs.Sha256.{sha256}
+use Rattle.sqlite.specs.Effect.{Database}
+use Rattle.sqlite.specs.State.{State, HasCleanDisk}
+use Rattle.sqlite.specs.Tree.{Trees}
+use Rattle.sqlite_schema.specs.declared.schema.Schema.{Schema}
+use Rattle.sqlite_trees.specs.View.{doubt}
+use Rattle.dr_base.specs.Texts.{Text}
+use Rattle.dr_site.specs.Parts.{Part}
+use Rattle.dr_ledger.specs.declared.content.Job.{Job}
+use Rattle.dr_ledger.specs.declared.fault.LedgerFault.{LedgerFault}
+use Rattle.dr_ledger.specs.Books.{empty_book}
+use Rattle.dr_ledger.specs.Items.{IsItem, instance_of}
+use Rattle.dr_ledger.specs.Replies.{Reads}
+use Rattle.dr_store_schema.specs.Books.{AreBelow, bodies_of, book_of, items_of, lines_of, prints_of}
+use Rattle.dr_store_schema.specs.Ledgers.{AreRows, IsCounted}
+use Rattle.dr_store_schema.specs.Tables.{tables}
+use Rattle.dr_store_writes.specs.Effects.{IsSiteOf}
+use Rattle.std.specs.List.{AllByRecursion}
+use Rattle.dr_store_reads.specs.Queries.{Stays}
+use Rattle.dr_store_reads.specs.declared.finding.Print.{Print}
+use Rattle.dr_store_calls.specs.Calling.{IsKept}
+use Rattle.dr_store_audit.specs.Found.{IsFound}
+use Rattle.dr_store_open.specs.Renewing.{KeepsRows}
+
+-- ---- what is tested of rows
+
+-- the rows of the tables whose rows change or leave have integers for rowids, none twice, and queue's numbers are a ledger's
+pub record AreTested (db : Trees) : Type 0 where
+  pub items : AreRows (db 1)
+  pub prints : AreRows (db 3)
+  pub arrivals : AreRows (db 5)
+  pub queue : AreRows (db 9)
+  pub counted : AllByRecursion IsCounted (db 9)
+
+-- ---- data sets
+
+-- a data set of that uid, if it is there, is that of the item
+abbrev pub IsOwn : Text → Trees → Type 0
+IsOwn uid db = (body : List ℕ) → map.get (bodies_of db) uid ≡ Some body → (item : Job) × IsItem item × (item.body ≡ body) × (map.get (items_of db) uid ≡ Some (instance_of item))
+
+-- the data set has this length and this SHA-256
+abbrev pub IsSpelled : Job → Print → Type 0
+IsSpelled job print = (length job.body ≡ print.size) × (sha256 job.body ≡ print.digest)
+
+-- where the print is that of its uid, the data set is the instance's if the print says that it is there
+abbrev pub AreOwnUnder : Trees → Text × Print → Type 0
+AreOwnUnder db p = p.1.whole ≡ true → map.get (prints_of db) p.0 ≡ Some (p.1.size, p.1.digest) → IsOwn p.0 db
+
+-- ---- all of it
+
+-- the next line after all lines, which are numbered from 1, has number n
+abbrev pub IsNext : ℕ → Trees → Type 0
+IsNext n db = n ≡ length (lines_of db) + 1
+
+-- The tables are those of a ledger of that site, whose next line has number n.
+pub record IsAgreed (n : ℕ) (part : Part) (db : Trees) : Type 0 where
+  pub next : IsNext n db
+  pub below : AreBelow n (db 11)
+  pub found : IsFound n part db
+  pub own : (uid : Text) → IsOwn uid db
+
+-- they are, or it isn't said
+abbrev pub IsAgreedIf : Part → Trees → Option ℕ → Type 0
+IsAgreedIf part db None = Unit {0}
+IsAgreedIf part db (Some n) = IsAgreed n part db
+
+-- the tables are owned by the site: by its node, under its plan
+abbrev pub IsOwnedBy : Part → Trees → Type 0
+IsOwnedBy part db = IsSiteOf part.name part.digest db
+
+-- the tables are those of a ledger of that site, and it owns them; or it isn't said
+abbrev pub IsWholeIf : Part → Trees → Option ℕ → Type 0
+IsWholeIf part db None = Unit {0}
+IsWholeIf part db (Some n) = IsAgreed n part db × IsOwnedBy part db
+
+-- each data set that is there was read again, and the next line has this number; or it isn't said
+abbrev pub AreReadIf : Trees → List (Text × Print) → ℕ → Option ℕ → Type 0
+AreReadIf db prints next None = Unit {0}
+AreReadIf db prints next (Some n) = (n ≡ next) × All (AreOwnUnder db) prints
+
+-- ---- calls that only read
+
+-- What a call that only reads does, where the store is open: as a query's `Asked`, but that it may make no query at all.
+pub record Seen {A : Type 0} (Asks : Database → Type 0) (result : Result A LedgerFault) (old new : State) (Shows : A → Type 0) : Type 0 where
+  pub shown : HasCleanDisk new → IsTrue old.is_open → Asks old.now → Reads result Shows
+  pub same : HasCleanDisk new → IsTrue old.is_open → Asks old.now → OnOk result (IsTrue new.is_open × (new.now ≡ old.now))
+  pub stays : HasCleanDisk new → IsTrue new.is_open → Asks old.now → Stays old new
+  pub leaves : HasCleanDisk new → IsTrue old.is_open → Asks old.now → (db : Trees) → new.may_leave db → old.may_leave db
+  pub was_open : HasCleanDisk new → IsTrue new.is_open → IsTrue old.is_open
+  pub clean : doubt old.is_clean ≤ doubt new.is_clean
+  pub idle : old.in_transaction ≡ false → new.in_transaction ≡ false
+
+-- ---- an opening
+
+-- where something is found, this holds of it
+abbrev pub IfFound : {A : Type 0} → Result (Option A) LedgerFault → (A → Type 0) → Type 0
+IfFound (Ok None) P = Unit {0}
+IfFound (Ok (Some x)) P = P x
+IfFound (Err why) P = Unit {0}
+
+-- The store is open with the tables of a ledger of that site, which owns them, and whose next line has number n. All of it was committed before.
+pub record IsLedgerFound (n : ℕ) (part : Part) (old new : State) : Type 0 where
+  pub kept : IsKept n part new
+  pub owned : IsOwnedBy part new.committed.trees
+  pub next : IsNext n new.committed.trees
+  pub same : new.committed ≡ old.committed
+
+-- What tells whether a file has a ledger of this site does. Where it says the number n of the next line, that ledger is found. Whatever it
+-- answers, nothing is committed, and a crash leaves only what it could leave before.
+pub record IsOpened (part : Part) (result : Result (Option ℕ) LedgerFault) (old new : State) : Type 0 where
+  pub has : IfFound result (λ n. old.now.schema ≡ tables)
+  pub kept : HasCleanDisk new → IfFound result (λ n. IsLedgerFound n part old new)
+  pub leaves : HasCleanDisk new → (db : Trees) → new.may_leave db → old.may_leave db
+  pub clean : doubt old.is_clean ≤ doubt new.is_clean
+  pub idle : old.in_transaction ≡ false → new.in_transaction ≡ false
+
+-- there is no table, no index and no view
+pub record IsBlank (schema : Schema) : Type 0 where
+  pub tables : schema.tables ≡ []
+  pub indexes : schema.indexes ≡ []
+  pub views : schema.views ≡ []
+
+-- a crash leaves what it could leave before, or what is committed now
+abbrev pub LeavesOldOrCommitted : State → State → Type 0
+LeavesOldOrCommitted old new = (db : Trees) → new.may_leave db → old.may_leave db ⊎ (db ≡ new.committed.trees)
+
+-- what the file had stays, and a crash leaves what it could leave before
+pub record StaysAsFound (old new : State) : Type 0 where
+  pub committed : new.committed ≡ old.committed
+  pub leaves : (db : Trees) → new.may_leave db → old.may_leave db
+
+-- the file has a ledger without any line, and a crash leaves what it could leave before, or that ledger
+pub record HasNewLedger (old new : State) : Type 0 where
+  pub book : book_of new.committed.trees ≡ empty_book
+  pub leaves : LeavesOldOrCommitted old new
+
+-- What a file from before had is there still, in the tables of today: all that the queries ask for. A crash leaves what it could leave
+-- before, or what is committed.
+pub record IsBroughtOver (old new : State) : Type 0 where
+  pub keeps : KeepsRows old.now new.committed
+  pub leaves : LeavesOldOrCommitted old new

@@ -1,0 +1,53 @@
+-- What a file from before keeps where it is brought over.
+use Rattle.std.specs.Prelude.{◌≡◌, ℕ, false, List, [], Ok}
+use Rattle.sqlite.specs.Effect.{Database, Reads}
+use Rattle.sqlite.specs.Given.{IsPlain}
+use Rattle.sqlite.specs.Listing.{reads_listing, understood}
+use Rattle.sqlite.specs.Order.{Row}
+use Rattle.sqlite.specs.Schema.{Schema}
+use Rattle.sqlite_resolve.specs.declared.compiled.Compiled.{Compiled}
+use Rattle.dr_store_schema.specs.Statements as text
+use Rattle.dr_store_open.specs.declared.sheets.Sheets.{Sheets}
+
+-- over these tables the text is one of SQL, which writes nothing and doesn't read the list of tables
+pub record IsQuery (schema : Schema) (sql : List ℕ) : Type 0 where
+  pub plain : IsPlain (understood schema sql)
+  pub listing : reads_listing schema sql ≡ false
+
+-- the query answers these rows of that database
+pub record IsAnswer (sql : List ℕ) (db : Database) (rows : List Row) : Type 0 where
+  pub query : Compiled
+  pub is : understood db.schema sql ≡ Ok query
+  pub reads : Reads query.command db [] rows
+
+-- it answers the same of both
+abbrev pub AnswersTheSame : Database → Database → List ℕ → Type 0
+AnswersTheSame old new sql = (rows : List Row) × IsAnswer sql old rows × IsAnswer sql new rows
+
+-- Whose file it is, its instances, who brought them, which of them it keeps, its queue and its journal: all of it is asked for before and
+-- after by the same queries, in the order of the keys, and the answers are the same.
+pub record KeepsRows (old new : Database) : Type 0 where
+  pub site : AnswersTheSame old new text.the_site
+  pub items : AnswersTheSame old new text.all_items
+  pub arrivals : AnswersTheSame old new text.all_arrivals
+  pub kept : AnswersTheSame old new text.all_kept
+  pub rows : AnswersTheSame old new text.all_rows
+  pub lines : AnswersTheSame old new text.all_lines
+
+-- these are queries over the tables
+pub record AreQueries (schema : Schema) : Type 0 where
+  pub site : IsQuery schema text.the_site
+  pub items : IsQuery schema text.all_items
+  pub arrivals : IsQuery schema text.all_arrivals
+  pub kept : IsQuery schema text.all_kept
+  pub rows : IsQuery schema text.all_rows
+  pub lines : IsQuery schema text.all_lines
+
+-- the sheets have what it has
+pub record IsTold (db : Database) (sheets : Sheets) : Type 0 where
+  pub site : IsAnswer text.the_site db sheets.site.items
+  pub items : IsAnswer text.all_items db sheets.items.items
+  pub arrivals : IsAnswer text.all_arrivals db sheets.arrivals.items
+  pub kept : IsAnswer text.all_kept db sheets.kept.items
+  pub rows : IsAnswer text.all_rows db sheets.rows.items
+  pub lines : IsAnswer text.all_lines db sheets.lines.items

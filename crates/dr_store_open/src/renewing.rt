@@ -1,0 +1,305 @@
+//! A ledger's file from before, brought over to the tables of today.
+ghost use Rattle.std.specs.Prelude.{◌≡◌, ◌≤◌, IfOk, IfSome, OnOk, IsTrue, false, true};
+ghost use Rattle.sqlite.specs.Held.{state};
+ghost use Rattle.sqlite.specs.State.{HasCleanDisk, Survives};
+ghost use Rattle.sqlite_trees.specs.View.{doubt};
+ghost use Rattle.dr_store_audit.specs.Older.{IsOlder};
+ghost use Rattle.dr_store_open.specs.Opening.{LeavesOldOrCommitted, StaysAsFound};
+ghost use Rattle.dr_store_open.specs.Renewing.{AreQueries, KeepsRows};
+ghost use Rattle.dr_store_schema.specs.Tables.{tables};
+
+use crate::asking::{add_rows, run_texts};
+use crate::fault::{OpeningFault, of_finding, opening_fault};
+use crate::making::LATER;
+use crate::older::{Told, goals_for, prints_for, told_of};
+use crate::sheets::{Sheets, ask_sheets, test_sheets};
+use dr_base::Text;
+use dr_site::Site;
+use dr_store_audit::{Lacks, agree, lacking};
+use dr_store_reads::{Print, fault_of};
+use dr_store_writes::{add_print, add_target, set_body};
+use sqlite::{Alter, Connection, Error, Transaction};
+use std::alloc::Global;
+
+/// The last number that a cell holds.
+const LAST_NUMBER: u64 = 1 << 62;
+
+/// All tables but those of instances leave, each before the one to which it refers: only so do they stand in the order of today.
+const LEAVE: [&str; 6] = [
+    "DROP TABLE IF EXISTS target",
+    "DROP TABLE journal",
+    "DROP TABLE queue",
+    "DROP TABLE kept",
+    "DROP TABLE arrival",
+    "DROP TABLE IF EXISTS print",
+];
+
+/// The fault of an opening where the database answers this.
+fn of_error(error: &Error) -> OpeningFault {
+    opening_fault(fault_of(error))
+}
+
+/// Tests that what the file says, with these prints and goals, is a ledger's of the site.
+fn test(
+    alloc: Global,
+    site: &Site,
+    told: &Told,
+    prints: &[(Text, Print)],
+    goals: &[(u64, Text)],
+) -> Result<(), OpeningFault> {
+    let next = told.notes.len() as u64 + 1;
+    let agreed = agree(
+        alloc,
+        site,
+        told.keys.as_slice(),
+        prints,
+        told.arrivals.as_slice(),
+        told.kept.as_slice(),
+        told.rows.as_slice(),
+        told.notes.as_slice(),
+        goals,
+        next,
+    );
+    match agreed {
+        Ok(()) => Ok(()),
+        Err(fault) => Err(of_finding(fault)),
+    }
+}
+
+/// Puts a print in.
+fn put_print<'x, S: Alter>(
+    tx: &mut Transaction<'_, S>,
+    print: &'x (Text, Print),
+) -> Result<(), OpeningFault>
+    ensures same_reference { tx.new.conn.ghost_name ≡ tx.old.conn.ghost_name }
+    ensures survives { Survives (state S.Store tx.old.conn.now) (state S.Store tx.new.conn.now) (λ _. ⊥) }
+{
+    if print.1.size > LAST_NUMBER {
+        return Err(OpeningFault::Store);
+    }
+    let whole = u64::from(print.1.whole);
+    match add_print(tx, &print.0, print.1.size, &print.1.digest, whole) {
+        Ok(_) => Ok(()),
+        Err(error) => Err(of_error(&error)),
+    }
+}
+
+/// Puts prints in.
+fn put_prints<'x, S: Alter>(
+    tx: &mut Transaction<'_, S>,
+    prints: &'x [(Text, Print)],
+) -> Result<(), OpeningFault>
+    ensures same_reference { tx.new.conn.ghost_name ≡ tx.old.conn.ghost_name }
+    ensures survives { Survives (state S.Store tx.old.conn.now) (state S.Store tx.new.conn.now) (λ _. ⊥) }
+{
+    for print in prints {
+        put_print(tx, print)?;
+    }
+    Ok(())
+}
+
+/// Lets the data set go, if the print says so.
+fn let_go<'x, S: Alter>(
+    tx: &mut Transaction<'_, S>,
+    print: &'x (Text, Print),
+) -> Result<(), OpeningFault>
+    ensures same_reference { tx.new.conn.ghost_name ≡ tx.old.conn.ghost_name }
+    ensures survives { Survives (state S.Store tx.old.conn.now) (state S.Store tx.new.conn.now) (λ _. ⊥) }
+{
+    if print.1.whole {
+        return Ok(());
+    }
+    match set_body(tx, &print.0, &[]) {
+        Ok(_) => Ok(()),
+        Err(error) => Err(of_error(&error)),
+    }
+}
+
+/// Lets the data sets go of which the prints say so.
+fn let_all_go<'x, S: Alter>(
+    tx: &mut Transaction<'_, S>,
+    prints: &'x [(Text, Print)],
+) -> Result<(), OpeningFault>
+    ensures same_reference { tx.new.conn.ghost_name ≡ tx.old.conn.ghost_name }
+    ensures survives { Survives (state S.Store tx.old.conn.now) (state S.Store tx.new.conn.now) (λ _. ⊥) }
+{
+    for print in prints {
+        let_go(tx, print)?;
+    }
+    Ok(())
+}
+
+/// Puts a goal in.
+fn put_goal<'x, S: Alter>(
+    tx: &mut Transaction<'_, S>,
+    target: &'x (u64, Text),
+) -> Result<(), OpeningFault>
+    ensures same_reference { tx.new.conn.ghost_name ≡ tx.old.conn.ghost_name }
+    ensures survives { Survives (state S.Store tx.old.conn.now) (state S.Store tx.new.conn.now) (λ _. ⊥) }
+{
+    if target.0 > LAST_NUMBER {
+        return Err(OpeningFault::Store);
+    }
+    match add_target(tx, target.0, &target.1) {
+        Ok(_) => Ok(()),
+        Err(error) => Err(of_error(&error)),
+    }
+}
+
+/// Puts goals in.
+fn put_goals<'x, S: Alter>(
+    tx: &mut Transaction<'_, S>,
+    goals: &'x [(u64, Text)],
+) -> Result<(), OpeningFault>
+    ensures same_reference { tx.new.conn.ghost_name ≡ tx.old.conn.ghost_name }
+    ensures survives { Survives (state S.Store tx.old.conn.now) (state S.Store tx.new.conn.now) (λ _. ⊥) }
+{
+    for target in goals {
+        put_goal(tx, target)?;
+    }
+    Ok(())
+}
+
+/// Puts the rows back of who brought what, of what is kept, of the queue and of the journal.
+fn put_back<'x, S: Alter>(
+    tx: &mut Transaction<'_, S>,
+    alloc: Global,
+    sheets: &'x Sheets,
+) -> Result<(), OpeningFault>
+    ensures same_reference { tx.new.conn.ghost_name ≡ tx.old.conn.ghost_name }
+    ensures survives { Survives (state S.Store tx.old.conn.now) (state S.Store tx.new.conn.now) (λ _. ⊥) }
+{
+    add_rows(
+        tx,
+        alloc,
+        "INSERT INTO arrival (caller, uid) VALUES (?1, ?2)",
+        sheets.arrivals.as_slice(),
+    )?;
+    add_rows(
+        tx,
+        alloc,
+        "INSERT INTO kept (uid) VALUES (?1)",
+        sheets.kept.as_slice(),
+    )?;
+    add_rows(
+        tx,
+        alloc,
+        "INSERT INTO queue (uid, dest, state, tries, due, cause) VALUES (?1, ?2, ?3, ?4, ?5, ?6)",
+        sheets.rows.as_slice(),
+    )?;
+    add_rows(
+        tx,
+        alloc,
+        "INSERT INTO journal (n, kind, caller, uid, dest, outcome, moment) VALUES (?1, ?2, ?3, ?4, ?5, ?6, ?7)",
+        sheets.lines.as_slice(),
+    )
+}
+
+/// Puts in what the tables had, and these prints and goals.
+fn fill_anew<'x, S: Alter>(
+    tx: &mut Transaction<'_, S>,
+    alloc: Global,
+    sheets: &'x Sheets,
+    prints: &'x [(Text, Print)],
+    goals: &'x [(u64, Text)],
+) -> Result<(), OpeningFault>
+    ensures same_reference { tx.new.conn.ghost_name ≡ tx.old.conn.ghost_name }
+    ensures survives { Survives (state S.Store tx.old.conn.now) (state S.Store tx.new.conn.now) (λ _. ⊥) }
+{
+    put_back(tx, alloc, sheets)?;
+    put_prints(tx, prints)?;
+    put_goals(tx, goals)
+}
+
+/// Makes the tables anew, with the rows that they had and with these prints and goals.
+fn make_anew<'x, S: Alter>(
+    tx: &mut Transaction<'_, S>,
+    alloc: Global,
+    sheets: &'x Sheets,
+    prints: &'x [(Text, Print)],
+    goals: &'x [(u64, Text)],
+) -> Result<(), OpeningFault>
+    ensures same_reference { tx.new.conn.ghost_name ≡ tx.old.conn.ghost_name }
+    ensures survives { Survives (state S.Store tx.old.conn.now) (state S.Store tx.new.conn.now) (λ _. ⊥) }
+{
+    run_texts(tx, LEAVE.as_slice())?;
+    run_texts(tx, LATER.as_slice())?;
+    fill_anew(tx, alloc, sheets, prints, goals)
+}
+
+/// Writes all that brings the file over, once it is tested that it is then a ledger's of the site.
+fn rewrite<'x, S: Alter>(
+    tx: &mut Transaction<'_, S>,
+    alloc: Global,
+    site: &'x Site,
+    lacks: Lacks,
+    sheets: &'x Sheets,
+) -> Result<(), OpeningFault>
+    ensures same_reference { tx.new.conn.ghost_name ≡ tx.old.conn.ghost_name }
+    ensures survives { Survives (state S.Store tx.old.conn.now) (state S.Store tx.new.conn.now) (λ _. ⊥) }
+{
+    let told = told_of(alloc, site, sheets)?;
+    let prints = prints_for(tx, alloc, lacks, &told)?;
+    let goals = goals_for(tx, alloc, site, lacks, &told, prints.as_slice())?;
+    test(alloc, site, &told, prints.as_slice(), goals.as_slice())?;
+    make_anew(tx, alloc, sheets, prints.as_slice(), goals.as_slice())?;
+    let_all_go(tx, prints.as_slice())
+}
+
+/// All that brings the file over, and a look at what it has then.
+fn renew<'x, S: Alter>(
+    tx: &mut Transaction<'_, S>,
+    alloc: Global,
+    site: &'x Site,
+    lacks: Lacks,
+) -> Result<(), OpeningFault>
+    ensures same_reference { tx.new.conn.ghost_name ≡ tx.old.conn.ghost_name }
+    ensures survives { Survives (state S.Store tx.old.conn.now) (state S.Store tx.new.conn.now) (λ _. ⊥) }
+    ensures kept { HasCleanDisk (state S.Store tx.new.conn.now) → AreQueries (state S.Store tx.old.conn.now).now.schema → AreQueries (state S.Store tx.new.conn.now).now.schema → OnOk result (KeepsRows (state S.Store tx.old.conn.now).now (state S.Store tx.new.conn.now).now) }
+{
+    let sheets = ask_sheets(tx)?;
+    rewrite(tx, alloc, site, lacks, &sheets)?;
+    test_sheets(tx, &sheets)
+}
+
+/// Brings the file over as one transaction.
+fn bring_over<S: Alter>(
+    conn: &mut Connection<S>,
+    alloc: Global,
+    site: &Site,
+    lacks: Lacks,
+) -> Result<(), OpeningFault>
+    requires { conn.old.in_transaction ≡ false }
+    ensures idle { conn.new.in_transaction ≡ false }
+    ensures clean { doubt (state S.Store conn.old).is_clean ≤ doubt (state S.Store conn.new).is_clean }
+    ensures made { HasCleanDisk (state S.Store conn.new) → OnOk result (LeavesOldOrCommitted (state S.Store conn.old) (state S.Store conn.new)) }
+    ensures kept { HasCleanDisk (state S.Store conn.new) → AreQueries (state S.Store conn.old).now.schema → AreQueries (state S.Store conn.new).committed.schema → OnOk result (KeepsRows (state S.Store conn.old).now (state S.Store conn.new).committed) }
+{
+    let mut tx = conn.transaction();
+    renew(&mut tx, alloc, site, lacks)?;
+    match tx.commit() {
+        Ok(()) => Ok(()),
+        Err(error) => Err(of_error(&error)),
+    }
+}
+
+/// Brings a file from before over to the tables of today; another file stays as it is.
+///
+/// Errors: OtherSite, where it isn't this site's or has rows that its journal doesn't make; Store; Memory.
+pub fn renew_older<S: Alter>(
+    conn: &mut Connection<S>,
+    alloc: Global,
+    site: &Site,
+) -> Result<(), OpeningFault>
+    requires { conn.old.in_transaction ≡ false }
+    ensures idle { conn.new.in_transaction ≡ false }
+    ensures clean { doubt (state S.Store conn.old).is_clean ≤ doubt (state S.Store conn.new).is_clean }
+    ensures found { OnOk result ((IsOlder (state S.Store conn.old).now.schema → ⊥) → StaysAsFound (state S.Store conn.old) (state S.Store conn.new)) }
+    ensures leaves { HasCleanDisk (state S.Store conn.new) → OnOk result (LeavesOldOrCommitted (state S.Store conn.old) (state S.Store conn.new)) }
+    ensures kept { HasCleanDisk (state S.Store conn.new) → IsOlder (state S.Store conn.old).now.schema → (state S.Store conn.new).now.schema ≡ tables → (state S.Store conn.new).committed.schema ≡ tables → OnOk result (KeepsRows (state S.Store conn.old).now (state S.Store conn.new).committed) }
+{
+    match lacking(conn.schema()) {
+        Some(lacks) => bring_over(conn, alloc, site, lacks),
+        None => Ok(()),
+    }
+}

@@ -1,0 +1,22 @@
+//! Laws of the tables.
+ghost use Rattle.dr_store_schema.specs.Laws.{CellsSayWhatWasWritten, EmptyTablesAreEmpty, StatementsAreUnderstood, TextsMakeTables};
+
+/// The texts of CREATE TABLE make the tables.
+pub fn texts_make_the_tables()
+    ensures { TextsMakeTables }
+{}
+
+/// Over these tables each statement is understood.
+pub fn statements_are_understood()
+    ensures { StatementsAreUnderstood }
+{}
+
+/// Cells say what was written into them.
+pub fn cells_are_read_back()
+    ensures { CellsSayWhatWasWritten }
+{}
+
+/// Empty tables are the book of a node to which nothing came.
+pub fn empty_tables_are_an_empty_book()
+    ensures { EmptyTablesAreEmpty }
+{}

@@ -1,0 +1,157 @@
+-- What each statement of a ledger makes of its tables, inside a transaction.
+use Rattle.std.specs.Prelude.{◌≡◌, ◌≢◌, ℕ, ℤ, pos, false, IsTrue, List, [], ◌∷◌, Result, IsSome, OnOk}
+use Rattle.std.specs.FinMap as map
+use Rattle.std.specs.FinMap.{FinMap}
+use Rattle.sqlite.specs.declared.types.Value.TheVariants.{Null, Int, Text, Blob}
+use Rattle.sqlite.specs.Edit.{is_taken}
+use Rattle.sqlite.specs.Order.{Row}
+use Rattle.sqlite.specs.State.{State, HasCleanDisk, KeepsCommit, Survives}
+use Rattle.sqlite.specs.Tree.{Trees, put_row}
+use Rattle.dr_base.specs.Texts as texts
+use Rattle.dr_base.specs.Texts.{text_cmp}
+use Rattle.dr_ledger.specs.declared.item.Outcome.{Outcome}
+use Rattle.dr_ledger.specs.declared.item.Progress.{Progress}
+use Rattle.dr_ledger.specs.Books.{not_done}
+use Rattle.dr_ledger.specs.Pairs.{Pair}
+use Rattle.dr_route.specs.declared.key.Key.{Key}
+use Rattle.dr_store_schema.specs.Books.{Print, contents_in, items_in, prints_in, rows_in, wholes_in}
+use Rattle.dr_store_schema.specs.Cells.{mark_of, outcome_value}
+use Rattle.dr_store_schema.specs.Ledgers.{IsLedger}
+
+-- the transaction goes on over a ledger's tables, and nothing is committed
+pub record GoesOn (old new : State) : Type 0 where
+  pub ledger : IsLedger new.now
+  pub mode : IsTrue new.in_transaction
+  pub committed : new.committed ≡ old.committed
+  pub is_open : IsTrue new.is_open
+
+-- What a statement does inside a transaction. Where it is done it makes this of a ledger's tables; whatever it answers, nothing is
+-- committed, and a crash leaves what it could leave before.
+pub record Step {A E : Type 0} (result : Result A E) (old new : State) (Made : Type 0) : Type 0 where
+  pub ok : HasCleanDisk new → IsTrue old.in_transaction → IsTrue old.is_open → IsLedger old.now → OnOk result Made
+  pub kept : HasCleanDisk new → KeepsCommit old new
+  pub survives : Survives old new (λ _. ⊥)
+
+-- of the trees of a ledger's tables all but one are as they were
+pub record LeavesOthers (but : ℕ) (old new : Trees) : Type 0 where
+  pub site : but ≢ 0 → new 0 ≡ old 0
+  pub items : but ≢ 1 → new 1 ≡ old 1
+  pub prints : but ≢ 3 → new 3 ≡ old 3
+  pub arrivals : but ≢ 5 → new 5 ≡ old 5
+  pub kept : but ≢ 7 → new 7 ≡ old 7
+  pub queue : but ≢ 9 → new 9 ≡ old 9
+  pub journal : but ≢ 11 → new 11 ≡ old 11
+  pub targets : but ≢ 12 → new 12 ≡ old 12
+
+-- a row is added to the table of that tree, and its rowid was free
+pub record AddsRow (tree : ℕ) (row : Row) (old new : State) : Type 0 where
+  pub goes_on : GoesOn old new
+  pub rows : new.now.trees tree ≡ put_row row (old.now.trees tree)
+  pub free : is_taken (old.now.trees tree) row ≡ false
+  pub others : LeavesOthers tree old.now.trees new.now.trees
+
+-- a row with these cells is added, under some rowid
+pub record AddsCells (tree : ℕ) (cells : Row) (old new : State) : Type 0 where
+  pub id : ℤ
+  pub adds : AddsRow tree (Int id ∷ cells) old new
+
+-- ---- the cells of each table's row
+
+abbrev pub item_cells : texts.Text → Key → List ℕ → Row
+item_cells uid key body = Text uid ∷ Text key.class ∷ Text (mark_of key.syntax) ∷ Blob key.modality ∷ Blob key.station ∷ Blob body ∷ []
+
+-- `whole` is 1 where the data set is there, and else 0
+abbrev pub print_cells : texts.Text → ℕ → List ℕ → ℕ → Row
+print_cells uid size digest whole = Text uid ∷ Int (pos size) ∷ Blob digest ∷ Int (pos whole) ∷ []
+
+abbrev pub arrival_cells : Pair → Row
+arrival_cells at = Text at.0 ∷ Text at.1 ∷ []
+
+abbrev pub kept_cells : texts.Text → Row
+kept_cells uid = Text uid ∷ []
+
+-- it waits, untried, and is due at once
+abbrev pub new_cells : Pair → Row
+new_cells at = Text at.0 ∷ Text at.1 ∷ Int (pos 0) ∷ Int (pos 0) ∷ Int (pos 0) ∷ Null ∷ []
+
+abbrev pub target_cells : ℕ → texts.Text → Row
+target_cells n dest = Int (pos n) ∷ Text dest ∷ []
+
+-- the one row of site: the node that the ledger is of, and the SHA-256 of the plan in force
+abbrev pub site_row : texts.Text → List ℕ → Row
+site_row node plan = Int (pos 1) ∷ Null ∷ Text node ∷ Blob plan ∷ []
+
+-- ---- the lines of the journal
+
+-- kind 0 is a first arrival, 1 a repeat
+abbrev pub arrived_line : ℕ → ℕ → texts.Text → texts.Text → Row
+arrived_line n kind caller uid = Int (pos n) ∷ Null ∷ Int (pos kind) ∷ Text caller ∷ Text uid ∷ Null ∷ Int (pos kind) ∷ Null ∷ []
+
+abbrev pub settled_line : ℕ → texts.Text → texts.Text → Outcome → ℕ → Row
+settled_line n uid dest what now = Int (pos n) ∷ Null ∷ Int (pos 2) ∷ Null ∷ Text uid ∷ Text dest ∷ outcome_value what ∷ Int (pos now) ∷ []
+
+abbrev pub requeued_line : ℕ → texts.Text → texts.Text → Row
+requeued_line n uid dest = Int (pos n) ∷ Null ∷ Int (pos 3) ∷ Null ∷ Text uid ∷ Text dest ∷ Null ∷ Null ∷ []
+
+abbrev pub adopted_line : ℕ → Row
+adopted_line n = Int (pos n) ∷ Null ∷ Int (pos 4) ∷ Null ∷ Null ∷ Null ∷ Null ∷ Null ∷ []
+
+-- ---- rows that change or leave
+
+-- queue has a row for the pair
+abbrev pub HasRow : Pair → Trees → Type 0
+HasRow at db = IsSome (map.get (rows_in (db 9)) at)
+
+-- item has a row for the uid
+abbrev pub HasItem : texts.Text → Trees → Type 0
+HasItem uid db = IsSome (map.get (contents_in (db 1)) uid)
+
+-- print has a row for the uid
+abbrev pub HasPrint : texts.Text → Trees → Type 0
+HasPrint uid db = IsSome (map.get (wholes_in (db 3)) uid)
+
+-- the row of an instance and a destination moves on
+pub record SetsRow (at : Pair) (to : Progress) (old new : State) : Type 0 where
+  pub goes_on : GoesOn old new
+  pub rows : rows_in (new.now.trees 9) ≡ map.insert (rows_in (old.now.trees 9)) at to
+  pub others : LeavesOthers 9 old.now.trees new.now.trees
+
+-- an item has this data set; what is known of it stays
+pub record SetsBody (uid body : List ℕ) (old new : State) : Type 0 where
+  pub goes_on : GoesOn old new
+  pub contents : contents_in (new.now.trees 1) ≡ map.insert (contents_in (old.now.trees 1)) uid body
+  pub items : (prints : FinMap text_cmp Print) → items_in prints (new.now.trees 1) ≡ items_in prints (old.now.trees 1)
+  pub others : LeavesOthers 1 old.now.trees new.now.trees
+
+-- an item's print says whether the data set is there; length and digest stay
+pub record SetsWhole (uid : List ℕ) (whole : ℕ) (old new : State) : Type 0 where
+  pub goes_on : GoesOn old new
+  pub wholes : wholes_in (new.now.trees 3) ≡ map.insert (wholes_in (old.now.trees 3)) uid whole
+  pub prints : prints_in (new.now.trees 3) ≡ prints_in (old.now.trees 3)
+  pub others : LeavesOthers 3 old.now.trees new.now.trees
+
+-- site has one row, with this plan
+abbrev pub IsSiteOf : texts.Text → List ℕ → Trees → Type 0
+IsSiteOf node plan db = db 0 ≡ site_row node plan ∷ []
+
+-- the ledger has an owner
+abbrev pub HasSite : Trees → Type 0
+HasSite db = (node : texts.Text) × (plan : List ℕ) × IsSiteOf node plan db
+
+-- the plan in force is this one, for the same node
+pub record SetsPlan (plan : List ℕ) (old new : State) : Type 0 where
+  pub goes_on : GoesOn old new
+  pub site : (node : texts.Text) (was : List ℕ) → IsSiteOf node was old.now.trees → IsSiteOf node plan new.now.trees
+  pub others : LeavesOthers 0 old.now.trees new.now.trees
+
+-- no arrival is left
+pub record DropsArrivals (old new : State) : Type 0 where
+  pub goes_on : GoesOn old new
+  pub rows : new.now.trees 5 ≡ []
+  pub others : LeavesOthers 5 old.now.trees new.now.trees
+
+-- the rows that are done have left
+pub record DropsDone (old new : State) : Type 0 where
+  pub goes_on : GoesOn old new
+  pub rows : rows_in (new.now.trees 9) ≡ not_done (rows_in (old.now.trees 9))
+  pub others : LeavesOthers 9 old.now.trees new.now.trees

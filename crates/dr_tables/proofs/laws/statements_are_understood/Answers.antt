@@ -1,5 +1,0 @@
-use Rattle.dr_tables.proofs.Understood.{statements_are_understood}
-use Rattle.dr_tables.proofs.laws.statements_are_understood.Goals as goal
-
-pub returns : goal.returns
-returns c = statements_are_understood

@@ -1,5 +1,0 @@
-use Rattle.dr_tables.proofs.Understood.{texts_make_tables}
-use Rattle.dr_tables.proofs.laws.texts_make_the_tables.Goals as goal
-
-pub returns : goal.returns
-returns c = texts_make_tables

@@ -1,5 +1,0 @@
-use Rattle.dr_tie.proofs.Closing.{closing_is_close}
-use Rattle.dr_tie.proofs.closes.Goals as goal
-
-pub returns : goal.returns
-returns c = closing_is_close

@@ -1,5 +1,0 @@
-use Rattle.dr_tie.proofs.World.{world_steps}
-use Rattle.dr_tie.proofs.world_steps_are_events.Goals as goal
-
-pub returns : goal.returns
-returns c = world_steps

@@ -1,0 +1,176 @@
+//! The word `adopt`.
+ghost use Rattle.std.specs.Prelude.{◌≡◌, IfOk, MatchResult, Ok, Err};
+ghost use Rattle.dr_word_adopt.specs.Changes.{AreSealed, AreUnsealed, Changes, ChangesBetween, StopsAt, came_of};
+ghost use Rattle.dr_word_adopt.specs.Endings.{Adopts, EndsChange, unfit_line};
+
+use crate::change::{Change, Stop};
+use crate::changing::change_all;
+use crate::looking::look_at_all;
+use crate::names::{missing_in, names_of};
+use crate::standing::Looked;
+use dr_base::Text;
+use dr_cert::Sealed;
+use dr_word_check::{Failure, Files, PlanChange, Status};
+use dr_word_list::{Halt, Ledgers, seal_files, tell_halt};
+use std::alloc::{AllocError, Global};
+use std::io;
+use std::io::Write;
+
+const TAB: u8 = 9;
+
+const LF: u8 = 10;
+
+/// The plan in force and the next one, each sealed with its certificate.
+///
+/// Errors: NoPlan, NoCertificate, Failed.
+fn seal_both<'a, F: Files>(
+    alloc: Global,
+    files: &F,
+    given: PlanChange<'a>,
+) -> Result<(Sealed, Sealed), Halt<'a>>
+    ensures { MatchResult result (λ both. AreSealed (F.holds files.now) given.entry both.0 both.1) (AreUnsealed (F.holds files.now) given.entry) }
+{
+    let old = match seal_files(alloc, files, given.plan, given.certificate) {
+        Ok(sealed) => sealed,
+        Err(halt) => return Err(halt),
+    };
+    match seal_files(alloc, files, given.next_plan, given.next_certificate) {
+        Ok(next) => Ok((old, next)),
+        Err(halt) => {
+            drop(old);
+            Err(halt)
+        }
+    }
+}
+
+/// Changes the ledgers in the folder, of all nodes of the one sealed plan, to the next, where that goes on with all that they have still to send.
+///
+/// Errors: NoNode; those of `look_at_all` and `change_all`; Memory.
+fn change_between<'a, O: Ledgers>(
+    alloc: Global,
+    ledgers: &O,
+    folder: &str,
+    old: &Sealed,
+    next: &Sealed,
+) -> Result<Change, Stop<'a>>
+    ensures { MatchResult result (λ change. ChangesBetween (O.opens ledgers.now) O.Ledger.site O.Ledger.book O.Ledger.stands folder.now old.now next.now (Ok change)) (λ stop. StopsAt (O.opens ledgers.now) O.Ledger.site O.Ledger.book O.Ledger.stands folder.now old.now next.now stop.halt) }
+{
+    let names = names_of(alloc, old.plan())?;
+    if let Some(name) = missing_in(next.plan(), names.as_slice()) {
+        return Err(Stop::at(name, Halt::NoNode));
+    }
+    match look_at_all(alloc, ledgers, folder, old, next, names.as_slice()) {
+        Ok(Looked::All(all)) => match change_all(all, next) {
+            Ok(()) => Ok(Change::Made),
+            Err(stop) => Err(stop),
+        },
+        Ok(Looked::Unfit(name, uid, dest)) => Ok(Change::Unfit(name, uid, dest)),
+        Err(stop) => Err(stop),
+    }
+}
+
+/// Changes the ledgers in a folder from the plan in the first file to that in the third.
+///
+/// Errors: those of `seal_both` and `change_between`.
+fn change_files<'a, F: Files, O: Ledgers>(
+    alloc: Global,
+    files: &F,
+    ledgers: &O,
+    given: PlanChange<'a>,
+) -> Result<Change, Stop<'a>>
+    ensures { Changes (F.holds files.now) (O.opens ledgers.now) O.Ledger.site O.Ledger.book O.Ledger.stands given.entry (came_of result) }
+{
+    match seal_both(alloc, files, given) {
+        Ok((old, next)) => {
+            let came = change_between(alloc, ledgers, given.folder, &old, &next);
+            drop(next);
+            drop(old);
+            came
+        }
+        Err(halt) => Err(Stop { halt, node: None }),
+    }
+}
+
+/// The line that is printed of a row that isn't fit.
+fn unfit_text(alloc: Global, node: &Text, uid: &Text, dest: &Text) -> Result<Text, AllocError>
+    ensures { IfOk result (λ text. text ≡ unfit_line node.now uid.now dest.now) }
+{
+    let mut out = Vec::new(alloc);
+    out.extend_from_slice(b"no")?;
+    out.push(TAB)?;
+    out.extend_from_slice(b"U1 Unfit")?;
+    out.push(TAB)?;
+    out.extend_from_slice(node.as_bytes())?;
+    out.push(TAB)?;
+    out.extend_from_slice(uid.as_bytes())?;
+    out.push(TAB)?;
+    out.extend_from_slice(dest.as_bytes())?;
+    out.push(LF)?;
+    Ok(Text::from_vec(out))
+}
+
+/// Writes that all ledgers were changed, or which row isn't fit.
+fn tell_change<'a, W: Write>(
+    alloc: Global,
+    change: &Change,
+    output: &mut W,
+) -> Result<Status, Failure<'a>>
+    ensures { IfOk result (EndsChange (Ok change.now) (W.contents output.old) (W.contents output.new)) }
+{
+    match change {
+        Change::Made => {
+            output.write_all(b"adopted\n")?;
+            Ok(Status::Success)
+        }
+        Change::Unfit(node, uid, dest) => {
+            let line = match unfit_text(alloc, node, uid, dest) {
+                Ok(line) => line,
+                Err(AllocError) => return Err(Failure::Stream(io::Error::from(AllocError))),
+            };
+            output.write_all(line.as_bytes())?;
+            Ok(Status::Refused)
+        }
+    }
+}
+
+/// Writes why nothing was changed, or not all, and at which node, where it is at one.
+fn tell_stop<'a, W: Write, E: Write>(
+    stop: Stop<'a>,
+    output: &mut W,
+    faults: &mut E,
+) -> Result<Status, Failure<'a>>
+    ensures { IfOk result (EndsChange (Err stop.entry.halt) (W.contents output.old) (W.contents output.new)) }
+{
+    let Stop { halt, node } = stop;
+    let halt = match halt {
+        Halt::Failed(failure) => return Err(failure),
+        halt => halt,
+    };
+    tell_halt(&halt, output, faults)?;
+    if let Some(name) = node {
+        faults.write_all(b"  node ")?;
+        faults.write_all(name.as_bytes())?;
+        faults.write_all(b"\n")?;
+    }
+    Ok(halt.status())
+}
+
+/// Brings the ledgers in a folder, of all nodes of the plan in the first file, over to the plan in the third, and prints `adopted`; or which row is in
+/// the way, and then nothing has changed.
+///
+/// Errors: Stream, File.
+pub fn adopt_files<'a, F: Files, O: Ledgers, W: Write, E: Write>(
+    alloc: Global,
+    files: &F,
+    ledgers: &O,
+    given: PlanChange<'a>,
+    output: &mut W,
+    faults: &mut E,
+) -> Result<Status, Failure<'a>>
+    ensures { IfOk result (Adopts (F.holds files.now) (O.opens ledgers.now) O.Ledger.site O.Ledger.book O.Ledger.stands given.entry (W.contents output.old) (W.contents output.new)) }
+{
+    match change_files(alloc, files, ledgers, given) {
+        Ok(change) => tell_change(alloc, &change, output),
+        Err(stop) => tell_stop(stop, output, faults),
+    }
+}

@@ -1,0 +1,312 @@
+//! A run of the program.
+ghost use Rattle.std.specs.Prelude.{◌≡◌, ◌≢◌, ◌⊎◌, ℕ, List, IfOk, OnOk, IfSome};
+ghost use Rattle.std.specs.Borrow.{Bor};
+ghost use Rattle.dr_base.specs.Texts.{Text};
+ghost use Rattle.std.specs.Io.KnownBytes.{Appends};
+ghost use Rattle.dr_word_check.specs.Answers.{printed_for};
+ghost use Rattle.dr_word_check.specs.Verdicts.{verdict_line};
+ghost use Rattle.dr_word_check.specs.Runs.{Answers, Verifies};
+ghost use Rattle.dr_word_line.specs.Words.{IsPlainCheck, IsCheckOf, IsVerifyOf};
+ghost use Rattle.dr_word_line.specs.declared.words.Asked.TheVariants as asks;
+ghost use Rattle.dr_word_check.specs.declared.status.Status.TheVariants.{Success, Refused, Usage, InputOutput, Memory};
+
+use crate::answer::{Answer, answer_to};
+use crate::status::Status;
+use crate::verify::{Verdict, plan_of, verdict_on};
+use clap::Error;
+use clap::error::ErrorKind;
+use dr_certify::read_input;
+use dr_word_line::{Asked, read_words};
+use std::alloc::{AllocError, Global};
+use std::io;
+use std::io::{Read, Write};
+
+/// What reads a named file.
+pub trait Files {
+    ghost use Rattle.std.specs.Prelude.{ℕ, List, IfOk};
+
+    /// A file of this path holds these bytes.
+    ghost holds: { Self → List ℕ → List ℕ → Type 0 };
+
+    /// The bytes of the file.
+    fn read(&self, alloc: Global, path: &str) -> io::Result<Vec<u8>>
+        ensures { IfOk result (λ bytes. holds self.now path.now bytes.items) };
+
+    /// Puts this text in the place of what the file held, if there is one: who opens it finds the one or the other, whole.
+    fn replace(&self, alloc: Global, path: &str, text: &[u8]) -> io::Result<()>;
+}
+
+/// Why a run couldn't be brought to its end.
+#[derive(Drop)]
+pub enum Failure<'a> {
+    /// The standard input or an output failed.
+    Stream(io::Error),
+    /// The file of this path wasn't read.
+    File(&'a str, io::Error),
+}
+
+impl<'a> From<io::Error> for Failure<'a> {
+    fn from(error: io::Error) -> Failure<'a> {
+        Failure::Stream(error)
+    }
+}
+
+/// The bytes of the file.
+///
+/// Errors: File.
+pub fn read_file<'a, F: Files>(
+    alloc: Global,
+    files: &F,
+    path: &'a str,
+) -> Result<Vec<u8>, Failure<'a>>
+    ensures { IfOk result (λ bytes. F.holds files.now path.now bytes.items) }
+{
+    match files.read(alloc, path) {
+        Ok(bytes) => Ok(bytes),
+        Err(error) => Err(Failure::File(path, error)),
+    }
+}
+
+/// Writes the answer: a certificate or the line of a plan that isn't sound to the output; to the faults why there is neither, and what
+/// there is to say to people of what is wrong.
+pub fn tell_answer<W: Write, E: Write>(
+    answer: &Answer,
+    output: &mut W,
+    faults: &mut E,
+) -> io::Result<()>
+    ensures { OnOk result (Appends (W.contents output.old) (W.contents output.new) (printed_for answer.now)) }
+{
+    match answer {
+        Answer::Sound(text) => output.write_all(text.as_bytes()),
+        Answer::Unsound(line, why) => {
+            output.write_all(line.as_bytes())?;
+            faults.write_all(why.as_bytes())
+        }
+        Answer::NoPlan(fault, place) => {
+            writeln!(faults, "dr_router: {fault}")?;
+            faults.write_all(place.as_bytes())
+        }
+        Answer::TooLarge => writeln!(faults, "dr_router: TooLarge"),
+        Answer::Memory => writeln!(faults, "dr_router: Memory"),
+    }
+}
+
+/// Answers to the text of a plan.
+fn answer_text<W: Write, E: Write>(
+    alloc: Global,
+    text: &[u8],
+    output: &mut W,
+    faults: &mut E,
+) -> io::Result<Status>
+    ensures known { IfOk result (λ status. status ≢ Usage) }
+    ensures answered { IfOk result (Answers text.now (W.contents output.old) (W.contents output.new)) }
+{
+    let answer = answer_to(alloc, text);
+    tell_answer(&answer, output, faults)?;
+    Ok(answer.status())
+}
+
+/// Answers to the text of a plan on the input.
+fn answer_input<R: Read, W: Write, E: Write>(
+    alloc: Global,
+    input: &mut R,
+    output: &mut W,
+    faults: &mut E,
+) -> io::Result<Status>
+    ensures known { IfOk result (λ status. status ≢ Usage) }
+    ensures answered { IfOk result (λ status. IfSome (R.remaining input.old) (λ text. Answers text (W.contents output.old) (W.contents output.new) status)) }
+{
+    let text = read_input(alloc, input)?;
+    answer_text(alloc, text.as_slice(), output, faults)
+}
+
+/// Answers to the text of a plan in a file.
+fn answer_file<'a, F: Files, W: Write, E: Write>(
+    alloc: Global,
+    files: &F,
+    path: &'a str,
+    output: &mut W,
+    faults: &mut E,
+) -> Result<Status, Failure<'a>>
+    ensures { IfOk result (λ status. (text : Text) × F.holds files.now path.now text × Answers text (W.contents output.old) (W.contents output.new) status) }
+{
+    let text = read_file(alloc, files, path)?;
+    let status = answer_text(alloc, text.as_slice(), output, faults)?;
+    Ok(status)
+}
+
+/// Writes the verdict to the output, and want of memory to the faults.
+fn tell_verdict<W: Write, E: Write>(
+    verdict: Verdict,
+    output: &mut W,
+    faults: &mut E,
+) -> io::Result<()>
+    ensures { OnOk result (Appends (W.contents output.old) (W.contents output.new) (verdict_line verdict)) }
+{
+    match verdict {
+        Verdict::Memory => writeln!(faults, "dr_router: Memory"),
+        _ => output.write_all(verdict.line()),
+    }
+}
+
+/// Verifies, for the plan of the text, the certificate whose text is in a file, which is read only where the first
+/// text has a plan.
+fn verify_text<'a, F: Files, W: Write, E: Write>(
+    alloc: Global,
+    text: &[u8],
+    files: &F,
+    path: &'a str,
+    output: &mut W,
+    faults: &mut E,
+) -> Result<Status, Failure<'a>>
+    ensures { IfOk result (Verifies (F.holds files.now path.now) text.now (W.contents output.old) (W.contents output.new)) }
+{
+    let plan = match plan_of(alloc, text) {
+        Ok(plan) => plan,
+        Err(answer) => {
+            tell_answer(&answer, output, faults)?;
+            return Ok(answer.status());
+        }
+    };
+    let second = read_file(alloc, files, path)?;
+    let verdict = verdict_on(alloc, plan, second.as_slice());
+    tell_verdict(verdict, output, faults)?;
+    Ok(verdict.status())
+}
+
+/// Verifies, for the plan in the first file, the certificate in the second.
+fn verify_files<'a, F: Files, W: Write, E: Write>(
+    alloc: Global,
+    files: &F,
+    plan: &'a str,
+    certificate: &'a str,
+    output: &mut W,
+    faults: &mut E,
+) -> Result<Status, Failure<'a>>
+    ensures { IfOk result (λ status. (text : Text) × F.holds files.now plan.now text × Verifies (F.holds files.now certificate.now) text (W.contents output.old) (W.contents output.new) status) }
+{
+    let text = read_file(alloc, files, plan)?;
+    verify_text(alloc, text.as_slice(), files, certificate, output, faults)
+}
+
+/// Writes what clap has to say of the words, where it belongs.
+fn tell_words<W: Write, E: Write>(
+    error: &Error,
+    output: &mut W,
+    faults: &mut E,
+) -> io::Result<Status>
+    ensures { IfOk result (λ status. status ≢ Refused) }
+{
+    if error.kind() == ErrorKind::OutOfMemory {
+        writeln!(faults, "dr_router: Memory")?;
+        return Ok(Status::Memory);
+    }
+    if error.use_stderr() {
+        write!(faults, "{error}")?;
+        return Ok(Status::Usage);
+    }
+    write!(output, "{error}")?;
+    Ok(Status::Success)
+}
+
+/// Writes why the run failed, and ends so; a fault that can't be written is left unwritten.
+pub fn tell_failure<E: Write>(failure: &Failure<'_>, faults: &mut E) -> Status
+    ensures { (result ≡ InputOutput) ⊎ (result ≡ Memory) }
+{
+    let (Failure::Stream(error) | Failure::File(_, error)) = failure;
+    if error.kind() == io::ErrorKind::OutOfMemory {
+        let _ = writeln!(faults, "dr_router: Memory");
+        return Status::Memory;
+    }
+    let _ = match failure {
+        Failure::Stream(error) => writeln!(faults, "dr_router: {error}"),
+        Failure::File(path, error) => writeln!(faults, "dr_router: {path}: {error}"),
+    };
+    Status::InputOutput
+}
+
+/// Writes why the words of the command line couldn't be read, and ends so.
+pub fn tell_unread_words<E: Write>(error: &io::Error, faults: &mut E) -> Status
+    ensures { (result ≡ Usage) ⊎ (result ≡ Memory) }
+{
+    if error.kind() == io::ErrorKind::OutOfMemory {
+        let _ = writeln!(faults, "dr_router: Memory");
+        return Status::Memory;
+    }
+    let _ = writeln!(faults, "dr_router: a word isn't UTF-8");
+    Status::Usage
+}
+
+/// Says that a program for plans alone doesn't know the word.
+fn tell_other_word<E: Write>(faults: &mut E) -> io::Result<Status>
+    ensures { IfOk result (λ status. status ≡ Usage) }
+{
+    writeln!(
+        faults,
+        "dr_router: this program has the words check and verify alone"
+    )?;
+    Ok(Status::Usage)
+}
+
+/// Does what was asked for, where that is about plans alone; another word is none that it knows.
+///
+/// Errors: Stream, File.
+pub fn run_asked<'a, R: Read, W: Write, E: Write, F: Files>(
+    alloc: Global,
+    asked: Asked<'a>,
+    input: &mut R,
+    output: &mut W,
+    faults: &mut E,
+    files: &F,
+) -> Result<Status, Failure<'a>>
+    ensures known { asked.entry ≡ asks.CheckInput → IfOk result (λ status. status ≢ Usage) }
+    ensures answered { asked.entry ≡ asks.CheckInput → IfOk result (λ status. IfSome (R.remaining input.old) (λ text. Answers text (W.contents output.old) (W.contents output.new) status)) }
+    ensures checked { (plan : Bor (List ℕ)) → asked.entry ≡ asks.CheckFile plan
+        → IfOk result (λ status. (text : Text) × F.holds files.now plan.now text × Answers text (W.contents output.old) (W.contents output.new) status) }
+    ensures verified { (plan certificate : Bor (List ℕ)) → asked.entry ≡ asks.Verify plan certificate
+        → IfOk result (λ status. (text : Text) × F.holds files.now plan.now text × Verifies (F.holds files.now certificate.now) text (W.contents output.old) (W.contents output.new) status) }
+{
+    match asked {
+        Asked::CheckInput => Ok(answer_input(alloc, input, output, faults)?),
+        Asked::CheckFile(path) => answer_file(alloc, files, path, output, faults),
+        Asked::Verify(plan, certificate) => {
+            verify_files(alloc, files, plan, certificate, output, faults)
+        }
+        Asked::Simulate(_, _, _)
+        | Asked::Echo(_, _, _)
+        | Asked::Question(_, _, _)
+        | Asked::AtNode(_, _)
+        | Asked::Adopt(_) => { Ok(tell_other_word(faults)?) }
+        Asked::Told(error) => Ok(tell_words(&error, output, faults)?),
+    }
+}
+
+/// Runs the program for plans on the words of its command line, without the program's own name, and answers how it ends.
+pub fn run_words<R: Read, W: Write, E: Write, F: Files>(
+    alloc: Global,
+    words: &[&str],
+    input: &mut R,
+    output: &mut W,
+    faults: &mut E,
+    files: &F,
+) -> Status
+    ensures known { IsPlainCheck words.now → result ≢ Usage }
+    ensures answered { IsPlainCheck words.now → (result ≡ Success) ⊎ (result ≡ Refused)
+        → IfSome (R.remaining input.old) (λ text. Answers text (W.contents output.old) (W.contents output.new) result) }
+    ensures checked { (plan : Bor (List ℕ)) → IsCheckOf words.now plan → (result ≡ Success) ⊎ (result ≡ Refused)
+        → (text : Text) × F.holds files.now plan.now text × Answers text (W.contents output.old) (W.contents output.new) result }
+    ensures verified { (plan certificate : Bor (List ℕ)) → IsVerifyOf words.now plan certificate → (result ≡ Success) ⊎ (result ≡ Refused)
+        → (text : Text) × F.holds files.now plan.now text × Verifies (F.holds files.now certificate.now) text (W.contents output.old) (W.contents output.new) result }
+{
+    let asked = match read_words(alloc, words) {
+        Ok(asked) => asked,
+        Err(AllocError) => return tell_failure(
+            &Failure::Stream(io::Error::from(AllocError)),
+            faults,
+        ),
+    };
+    match run_asked(alloc, asked, input, output, faults, files) {
+        Ok(status) => status,
+        Err(failure) => tell_failure(&failure, faults),
+    }
+}

@@ -1,0 +1,93 @@
+//! The word `echo`.
+ghost use Rattle.std.specs.Prelude.{IfOk, OnOk};
+ghost use Rattle.std.specs.Io.KnownBytes.{Appends};
+ghost use Rattle.dr_base.specs.Texts.{Text};
+ghost use Rattle.dr_word_echo.specs.Outcomes.{printed_for};
+ghost use Rattle.dr_word_echo.specs.Runs.{Echoes};
+
+use crate::outcome::{Outcome, outcome_of};
+use crate::print::line_of;
+use dr_run_net::Network;
+use dr_session::Clock;
+use dr_word_check::{Failure, Files, Status, plan_of, read_file, tell_answer};
+use std::alloc::Global;
+use std::io;
+use std::io::Write;
+
+/// Writes the outcome: the line of an echo to the output, and why there is none to the faults.
+fn tell_outcome<W: Write, E: Write>(
+    alloc: Global,
+    outcome: &Outcome,
+    called: &str,
+    output: &mut W,
+    faults: &mut E,
+) -> io::Result<()>
+    ensures { OnOk result (Appends (W.contents output.old) (W.contents output.new) (printed_for outcome.now)) }
+{
+    match outcome {
+        Outcome::Answered(echoed) => {
+            let line = line_of(alloc, *echoed)?;
+            output.write_all(line.as_bytes())
+        }
+        Outcome::NoNode => writeln!(faults, "dr_router: NoNode"),
+        Outcome::Unreached(error) => writeln!(faults, "dr_router: {called}: {error}"),
+        Outcome::Failed(fault) => writeln!(faults, "dr_router: {fault}"),
+        Outcome::Memory => writeln!(faults, "dr_router: Memory"),
+    }
+}
+
+/// Asks for an echo between two nodes of the plan of a text.
+fn echo_text<N: Network, C: Clock, W: Write, E: Write>(
+    alloc: Global,
+    text: &[u8],
+    caller: &str,
+    called: &str,
+    network: &N,
+    clock: &C,
+    output: &mut W,
+    faults: &mut E,
+) -> io::Result<Status>
+    ensures { IfOk result (Echoes (N.reaches network.now) N.Socket.hears N.Socket.sends N.Socket.closes (C.tells clock.now) caller.now called.now text.now (W.contents output.old) (W.contents output.new)) }
+{
+    let plan = match plan_of(alloc, text) {
+        Ok(plan) => plan,
+        Err(answer) => {
+            tell_answer(&answer, output, faults)?;
+            return Ok(answer.status());
+        }
+    };
+    let outcome = outcome_of(alloc, &plan, caller, called, network, clock);
+    tell_outcome(alloc, &outcome, called, output, faults)?;
+    Ok(outcome.status())
+}
+
+/// Asks the node of the second name for an echo, as the node of the first one, both of the plan in the file.
+///
+/// Errors: Stream, File.
+pub fn echo_files<'a, F: Files, N: Network, C: Clock, W: Write, E: Write>(
+    alloc: Global,
+    files: &F,
+    plan: &'a str,
+    caller: &str,
+    called: &str,
+    network: &N,
+    clock: &C,
+    output: &mut W,
+    faults: &mut E,
+) -> Result<Status, Failure<'a>>
+    ensures { IfOk result (λ status. (text : Text) × F.holds files.now plan.now text
+        × Echoes (N.reaches network.now) N.Socket.hears N.Socket.sends N.Socket.closes (C.tells clock.now) caller.now called.now text (W.contents output.old) (W.contents output.new) status) }
+{
+    let text = read_file(alloc, files, plan)?;
+    let status = echo_text(
+        alloc,
+        text.as_slice(),
+        caller,
+        called,
+        network,
+        clock,
+        output,
+        faults,
+    )?;
+    Ok(status)
+}

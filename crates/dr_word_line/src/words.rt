@@ -1,0 +1,554 @@
+//! What the words of the command line ask for.
+ghost use Rattle.std.specs.Prelude.{◌≡◌, ◌↔◌, ℕ, List, Some, IfOk, IsTrue};
+ghost use Rattle.std.specs.Borrow.{Bor};
+ghost use Rattle.dr_word_line.specs.Words.{IsPlainCheck, IsCheckOf, IsVerifyOf, IsSimulateOf, IsEchoOf, IsNoOption, IsGraphOf, IsLintOf, IsFileRouteOf, IsKeyRouteOf, IsQuestionOf, IsListOf, IsSummaryOf, IsServeOf, IsSendOf, IsRequeueOf, IsRequeueAllOf, IsDutyOf, IsAdoptOf, plain_serving};
+ghost use Rattle.dr_word_line.specs.declared.words.Asked.{Asked as AskedValue};
+ghost use Rattle.dr_word_line.specs.declared.words.Asked.TheVariants as asks;
+ghost use Rattle.dr_word_line.specs.declared.words.Duty.{Duty as DutyValue};
+ghost use Rattle.dr_word_line.specs.declared.words.Duty.TheVariants as duties;
+ghost use Rattle.dr_word_line.specs.declared.words.KeyWords.{KeyWords as KeyWordsValue};
+ghost use Rattle.dr_word_line.specs.declared.words.NodeFiles.{NodeFiles as NodeFilesValue};
+ghost use Rattle.dr_word_line.specs.declared.words.PlanChange.{PlanChange as PlanChangeValue};
+ghost use Rattle.dr_word_line.specs.declared.words.Question.{Question as QuestionValue};
+ghost use Rattle.dr_word_line.specs.declared.words.Question.TheVariants as questions;
+
+use crate::command_line::command_line;
+use clap::{ArgMatches, Error};
+use std::alloc::{AllocError, Global};
+
+/// The four values of an instance by which it is routed, as words: the SOP class UID, the UID of the transfer syntax, the
+/// modality and the station name.
+#[derive(Clone, Copy, Drop)]
+pub struct KeyWords<'a> {
+    pub class: &'a str,
+    pub syntax: &'a str,
+    pub modality: &'a str,
+    pub station: &'a str,
+}
+
+/// What may be asked of a plan with its certificate.
+#[derive(Clone, Copy, Drop)]
+pub enum Question<'a> {
+    /// Where an instance with these values goes that enters at the node of that name.
+    RouteOfKey(&'a str, KeyWords<'a>),
+    /// Where the instance in a Part 10 file goes that enters at the node of that name.
+    RouteOfFile(&'a str, &'a str),
+    /// How the network looks.
+    Graph,
+    /// What is sound and still looks wrong.
+    Lint,
+}
+
+/// What names a node and its ledger: the paths of the plan's text, of its certificate's and of the ledger, and the node's name.
+#[derive(Clone, Copy, Debug, Drop)]
+pub struct NodeFiles<'a> {
+    pub plan: &'a str,
+    pub certificate: &'a str,
+    pub node: &'a str,
+    pub ledger: &'a str,
+}
+
+/// What names two plans and where the nodes' ledgers are: the paths of the plan in force, of its certificate, of the next plan, of that one's
+/// certificate, and of the folder that holds each node's ledger.
+#[derive(Clone, Copy, Debug, Drop)]
+pub struct PlanChange<'a> {
+    pub plan: &'a str,
+    pub certificate: &'a str,
+    pub next_plan: &'a str,
+    pub next_certificate: &'a str,
+    pub folder: &'a str,
+}
+
+/// Which events a node that serves logs.
+#[derive(Clone, Copy, PartialEq, Eq, Debug, Drop)]
+pub enum Verbosity {
+    /// Those that need somebody's care alone.
+    Errors,
+    /// Associations, what was refused, and visits to next nodes too.
+    Events,
+    /// Each arrival too.
+    Everything,
+}
+
+/// How a node is to serve.
+#[derive(Clone, Copy, Debug, Drop)]
+pub struct Serving<'a> {
+    /// After how many associations it ends; for 0 never.
+    pub links: u32,
+    /// What it logs.
+    pub verbosity: Verbosity,
+    /// The path of a file to which it writes what it has, now and then.
+    pub report: Option<&'a str>,
+}
+
+/// What a node may be asked to do with its ledger.
+#[derive(Clone, Copy, Drop)]
+pub enum Duty<'a> {
+    /// To print what it has.
+    List,
+    /// To print how much it has.
+    Summary,
+    /// To queue again the held row of the instance of this UID to that node.
+    Requeue(&'a str, &'a str),
+    /// To queue again all held rows to that node.
+    RequeueAll(&'a str),
+    /// To take in the instance in a Part 10 file, and to send what is due.
+    Send(&'a str),
+    /// To serve associations and send what is due.
+    Serve(Serving<'a>),
+}
+
+/// What the words ask for.
+#[derive(Drop)]
+pub enum Asked<'a> {
+    /// To check the plan whose text is on the standard input.
+    CheckInput,
+    /// To check the plan whose text is in this file.
+    CheckFile(&'a str),
+    /// To verify, for the plan whose text is in the first file, the certificate whose text is in the second.
+    Verify(&'a str, &'a str),
+    /// To play the script in the third file in a world of the nodes of the plan in the first, whose certificate is in the second.
+    Simulate(&'a str, &'a str, &'a str),
+    /// To ask for an echo, from the node of the first name to that of the second, of the plan in the file.
+    Echo(&'a str, &'a str, &'a str),
+    /// To answer a question about the plan in the first file, whose certificate is in the second.
+    Question(&'a str, &'a str, Question<'a>),
+    /// To do this at a node that has these files.
+    AtNode(NodeFiles<'a>, Duty<'a>),
+    /// To bring the ledgers of all nodes of a plan over to another plan.
+    Adopt(PlanChange<'a>),
+    /// Help, or nothing that the program knows.
+    Told(Error),
+}
+
+/// Whether the word is no option of the command line.
+fn is_no_option(word: &str) -> bool
+    ensures { IsTrue result ↔ IsNoOption word.now }
+{
+    let Some(first) = word.as_bytes().first() else {
+        return true;
+    };
+    *first != b'-'
+}
+
+/// What plain words ask to be done with the ledgers of all nodes: those of a known form, without options.
+fn read_change<'a>(words: &'a [&'a str]) -> Option<Asked<'a>>
+    ensures adopt { (change : PlanChangeValue) → IsAdoptOf words.now change → result ≡ Some (asks.Adopt change) }
+{
+    match words {
+        [word, plan, certificate, next_plan, next_certificate, folder]
+            if *word == "adopt"
+                && is_no_option(plan)
+                && is_no_option(certificate)
+                && is_no_option(next_plan)
+                && is_no_option(next_certificate)
+                && is_no_option(folder) => {
+            let change = PlanChange {
+                plan,
+                certificate,
+                next_plan,
+                next_certificate,
+                folder,
+            };
+            Some(Asked::Adopt(change))
+        }
+        _ => None,
+    }
+}
+
+/// What words ask a node to do with all of its ledger: those of a known form, with the option that says so.
+fn read_all<'a>(words: &'a [&'a str]) -> Option<Asked<'a>>
+    ensures summary { (given : NodeFilesValue) → IsSummaryOf words.now given → result ≡ Some (asks.AtNode given duties.Summary) }
+    ensures requeue_all { (given : NodeFilesValue) (dest : Bor (List ℕ)) → IsRequeueAllOf words.now given dest → result ≡ Some (asks.AtNode given (duties.RequeueAll dest)) }
+    ensures adopt { (change : PlanChangeValue) → IsAdoptOf words.now change → result ≡ Some (asks.Adopt change) }
+{
+    match words {
+        [word, plan, certificate, node, ledger, option]
+            if *word == "list"
+                && is_no_option(plan)
+                && is_no_option(certificate)
+                && is_no_option(node)
+                && is_no_option(ledger)
+                && *option == "--summary" => {
+            let given = NodeFiles {
+                plan,
+                certificate,
+                node,
+                ledger,
+            };
+            Some(Asked::AtNode(given, Duty::Summary))
+        }
+        [word, plan, certificate, node, ledger, option, dest]
+            if *word == "requeue"
+                && is_no_option(plan)
+                && is_no_option(certificate)
+                && is_no_option(node)
+                && is_no_option(ledger)
+                && *option == "--all-held"
+                && is_no_option(dest) => {
+            let given = NodeFiles {
+                plan,
+                certificate,
+                node,
+                ledger,
+            };
+            Some(Asked::AtNode(given, Duty::RequeueAll(dest)))
+        }
+        _ => read_change(words),
+    }
+}
+
+/// What plain words ask a node to do with one of its instances: those of a known form, without options.
+fn read_work<'a>(words: &'a [&'a str]) -> Option<Asked<'a>>
+    ensures requeue { (given : NodeFilesValue) (uid dest : Bor (List ℕ)) → IsRequeueOf words.now given uid dest → result ≡ Some (asks.AtNode given (duties.Requeue uid dest)) }
+    ensures send { (given : NodeFilesValue) (file : Bor (List ℕ)) → IsSendOf words.now given file → result ≡ Some (asks.AtNode given (duties.Send file)) }
+    ensures summary { (given : NodeFilesValue) → IsSummaryOf words.now given → result ≡ Some (asks.AtNode given duties.Summary) }
+    ensures requeue_all { (given : NodeFilesValue) (dest : Bor (List ℕ)) → IsRequeueAllOf words.now given dest → result ≡ Some (asks.AtNode given (duties.RequeueAll dest)) }
+    ensures adopt { (change : PlanChangeValue) → IsAdoptOf words.now change → result ≡ Some (asks.Adopt change) }
+{
+    match words {
+        [word, plan, certificate, node, ledger, file]
+            if *word == "send"
+                && is_no_option(plan)
+                && is_no_option(certificate)
+                && is_no_option(node)
+                && is_no_option(ledger)
+                && is_no_option(file) => {
+            let given = NodeFiles {
+                plan,
+                certificate,
+                node,
+                ledger,
+            };
+            Some(Asked::AtNode(given, Duty::Send(file)))
+        }
+        [word, plan, certificate, node, ledger, uid, dest]
+            if *word == "requeue"
+                && is_no_option(plan)
+                && is_no_option(certificate)
+                && is_no_option(node)
+                && is_no_option(ledger)
+                && is_no_option(uid)
+                && is_no_option(dest) => {
+            let given = NodeFiles {
+                plan,
+                certificate,
+                node,
+                ledger,
+            };
+            Some(Asked::AtNode(given, Duty::Requeue(uid, dest)))
+        }
+        _ => read_all(words),
+    }
+}
+
+/// What plain words ask a node to do with its ledger: those of a known form, without options.
+fn read_duty<'a>(words: &'a [&'a str]) -> Option<Asked<'a>>
+    ensures list { (given : NodeFilesValue) → IsListOf words.now given → result ≡ Some (asks.AtNode given duties.List) }
+    ensures requeue { (given : NodeFilesValue) (uid dest : Bor (List ℕ)) → IsRequeueOf words.now given uid dest → result ≡ Some (asks.AtNode given (duties.Requeue uid dest)) }
+    ensures send { (given : NodeFilesValue) (file : Bor (List ℕ)) → IsSendOf words.now given file → result ≡ Some (asks.AtNode given (duties.Send file)) }
+    ensures serve { (given : NodeFilesValue) → IsServeOf words.now given → result ≡ Some (asks.AtNode given (duties.Serve plain_serving)) }
+    ensures summary { (given : NodeFilesValue) → IsSummaryOf words.now given → result ≡ Some (asks.AtNode given duties.Summary) }
+    ensures requeue_all { (given : NodeFilesValue) (dest : Bor (List ℕ)) → IsRequeueAllOf words.now given dest → result ≡ Some (asks.AtNode given (duties.RequeueAll dest)) }
+    ensures adopt { (change : PlanChangeValue) → IsAdoptOf words.now change → result ≡ Some (asks.Adopt change) }
+{
+    match words {
+        [word, plan, certificate, node, ledger]
+            if *word == "list"
+                && is_no_option(plan)
+                && is_no_option(certificate)
+                && is_no_option(node)
+                && is_no_option(ledger) => {
+            let given = NodeFiles {
+                plan,
+                certificate,
+                node,
+                ledger,
+            };
+            Some(Asked::AtNode(given, Duty::List))
+        }
+        [word, plan, certificate, node, ledger]
+            if *word == "serve"
+                && is_no_option(plan)
+                && is_no_option(certificate)
+                && is_no_option(node)
+                && is_no_option(ledger) => {
+            let given = NodeFiles {
+                plan,
+                certificate,
+                node,
+                ledger,
+            };
+            let serving = Serving {
+                links: 0,
+                verbosity: Verbosity::Events,
+                report: None,
+            };
+            Some(Asked::AtNode(given, Duty::Serve(serving)))
+        }
+        _ => read_work(words),
+    }
+}
+
+/// What plain words ask about where an instance goes: those of a known form, without options.
+fn read_route<'a>(words: &'a [&'a str]) -> Option<Asked<'a>>
+    ensures route_of_file { (plan certificate at path : Bor (List ℕ)) → IsFileRouteOf words.now plan certificate at path → result ≡ Some (asks.Question plan certificate (questions.RouteOfFile at path)) }
+    ensures route_of_key { (plan certificate at : Bor (List ℕ)) (key : KeyWordsValue) → IsKeyRouteOf words.now plan certificate at key → result ≡ Some (asks.Question plan certificate (questions.RouteOfKey at key)) }
+    ensures list { (given : NodeFilesValue) → IsListOf words.now given → result ≡ Some (asks.AtNode given duties.List) }
+    ensures requeue { (given : NodeFilesValue) (uid dest : Bor (List ℕ)) → IsRequeueOf words.now given uid dest → result ≡ Some (asks.AtNode given (duties.Requeue uid dest)) }
+    ensures send { (given : NodeFilesValue) (file : Bor (List ℕ)) → IsSendOf words.now given file → result ≡ Some (asks.AtNode given (duties.Send file)) }
+    ensures serve { (given : NodeFilesValue) → IsServeOf words.now given → result ≡ Some (asks.AtNode given (duties.Serve plain_serving)) }
+    ensures summary { (given : NodeFilesValue) → IsSummaryOf words.now given → result ≡ Some (asks.AtNode given duties.Summary) }
+    ensures requeue_all { (given : NodeFilesValue) (dest : Bor (List ℕ)) → IsRequeueAllOf words.now given dest → result ≡ Some (asks.AtNode given (duties.RequeueAll dest)) }
+    ensures adopt { (change : PlanChangeValue) → IsAdoptOf words.now change → result ≡ Some (asks.Adopt change) }
+{
+    match words {
+        [word, plan, certificate, at, path]
+            if *word == "route"
+                && is_no_option(plan)
+                && is_no_option(certificate)
+                && is_no_option(at)
+                && is_no_option(path) => {
+            Some(Asked::Question(plan, certificate, Question::RouteOfFile(at, path)))
+        }
+        [
+            word,
+            plan,
+            certificate,
+            at,
+            class,
+            syntax,
+            modality,
+            station,
+        ] if *word == "route"
+            && is_no_option(plan)
+            && is_no_option(certificate)
+            && is_no_option(at)
+            && is_no_option(class)
+            && is_no_option(syntax)
+            && is_no_option(modality)
+            && is_no_option(station) => {
+            let key = KeyWords {
+                class,
+                syntax,
+                modality,
+                station,
+            };
+            Some(Asked::Question(plan, certificate, Question::RouteOfKey(at, key)))
+        }
+        _ => read_duty(words),
+    }
+}
+
+/// What plain words ask about a plan and its certificate: those of a known form, without options.
+fn read_question<'a>(words: &'a [&'a str]) -> Option<Asked<'a>>
+    ensures graph { (plan certificate : Bor (List ℕ)) → IsGraphOf words.now plan certificate → result ≡ Some (asks.Question plan certificate questions.Graph) }
+    ensures lint { (plan certificate : Bor (List ℕ)) → IsLintOf words.now plan certificate → result ≡ Some (asks.Question plan certificate questions.Lint) }
+    ensures route_of_file { (plan certificate at path : Bor (List ℕ)) → IsFileRouteOf words.now plan certificate at path → result ≡ Some (asks.Question plan certificate (questions.RouteOfFile at path)) }
+    ensures route_of_key { (plan certificate at : Bor (List ℕ)) (key : KeyWordsValue) → IsKeyRouteOf words.now plan certificate at key → result ≡ Some (asks.Question plan certificate (questions.RouteOfKey at key)) }
+    ensures list { (given : NodeFilesValue) → IsListOf words.now given → result ≡ Some (asks.AtNode given duties.List) }
+    ensures requeue { (given : NodeFilesValue) (uid dest : Bor (List ℕ)) → IsRequeueOf words.now given uid dest → result ≡ Some (asks.AtNode given (duties.Requeue uid dest)) }
+    ensures send { (given : NodeFilesValue) (file : Bor (List ℕ)) → IsSendOf words.now given file → result ≡ Some (asks.AtNode given (duties.Send file)) }
+    ensures serve { (given : NodeFilesValue) → IsServeOf words.now given → result ≡ Some (asks.AtNode given (duties.Serve plain_serving)) }
+    ensures summary { (given : NodeFilesValue) → IsSummaryOf words.now given → result ≡ Some (asks.AtNode given duties.Summary) }
+    ensures requeue_all { (given : NodeFilesValue) (dest : Bor (List ℕ)) → IsRequeueAllOf words.now given dest → result ≡ Some (asks.AtNode given (duties.RequeueAll dest)) }
+    ensures adopt { (change : PlanChangeValue) → IsAdoptOf words.now change → result ≡ Some (asks.Adopt change) }
+{
+    match words {
+        [word, plan, certificate]
+            if *word == "graph" && is_no_option(plan) && is_no_option(certificate) => {
+            Some(Asked::Question(plan, certificate, Question::Graph))
+        }
+        [word, plan, certificate]
+            if *word == "lint" && is_no_option(plan) && is_no_option(certificate) => {
+            Some(Asked::Question(plan, certificate, Question::Lint))
+        }
+        _ => read_route(words),
+    }
+}
+
+/// What plain words ask for: those of a known form, without options.
+fn read_plain<'a>(words: &'a [&'a str]) -> Option<Asked<'a>>
+    ensures input { IsPlainCheck words.now → result ≡ Some asks.CheckInput }
+    ensures file { (plan : Bor (List ℕ)) → IsCheckOf words.now plan → result ≡ Some (asks.CheckFile plan) }
+    ensures verify { (plan certificate : Bor (List ℕ)) → IsVerifyOf words.now plan certificate → result ≡ Some (asks.Verify plan certificate) }
+    ensures simulate { (plan certificate script : Bor (List ℕ)) → IsSimulateOf words.now plan certificate script → result ≡ Some (asks.Simulate plan certificate script) }
+    ensures echo { (plan caller called : Bor (List ℕ)) → IsEchoOf words.now plan caller called → result ≡ Some (asks.Echo plan caller called) }
+    ensures graph { (plan certificate : Bor (List ℕ)) → IsGraphOf words.now plan certificate → result ≡ Some (asks.Question plan certificate questions.Graph) }
+    ensures lint { (plan certificate : Bor (List ℕ)) → IsLintOf words.now plan certificate → result ≡ Some (asks.Question plan certificate questions.Lint) }
+    ensures route_of_file { (plan certificate at path : Bor (List ℕ)) → IsFileRouteOf words.now plan certificate at path → result ≡ Some (asks.Question plan certificate (questions.RouteOfFile at path)) }
+    ensures route_of_key { (plan certificate at : Bor (List ℕ)) (key : KeyWordsValue) → IsKeyRouteOf words.now plan certificate at key → result ≡ Some (asks.Question plan certificate (questions.RouteOfKey at key)) }
+    ensures list { (given : NodeFilesValue) → IsListOf words.now given → result ≡ Some (asks.AtNode given duties.List) }
+    ensures requeue { (given : NodeFilesValue) (uid dest : Bor (List ℕ)) → IsRequeueOf words.now given uid dest → result ≡ Some (asks.AtNode given (duties.Requeue uid dest)) }
+    ensures send { (given : NodeFilesValue) (file : Bor (List ℕ)) → IsSendOf words.now given file → result ≡ Some (asks.AtNode given (duties.Send file)) }
+    ensures serve { (given : NodeFilesValue) → IsServeOf words.now given → result ≡ Some (asks.AtNode given (duties.Serve plain_serving)) }
+    ensures summary { (given : NodeFilesValue) → IsSummaryOf words.now given → result ≡ Some (asks.AtNode given duties.Summary) }
+    ensures requeue_all { (given : NodeFilesValue) (dest : Bor (List ℕ)) → IsRequeueAllOf words.now given dest → result ≡ Some (asks.AtNode given (duties.RequeueAll dest)) }
+    ensures adopt { (change : PlanChangeValue) → IsAdoptOf words.now change → result ≡ Some (asks.Adopt change) }
+{
+    match words {
+        [] => Some(Asked::CheckInput),
+        [word] if *word == "check" => Some(Asked::CheckInput),
+        [word, plan] if *word == "check" && is_no_option(plan) => Some(Asked::CheckFile(plan)),
+        [word, plan, certificate]
+            if *word == "verify" && is_no_option(plan) && is_no_option(certificate) => {
+            Some(Asked::Verify(plan, certificate))
+        }
+        [word, plan, certificate, script]
+            if *word == "simulate"
+                && is_no_option(plan)
+                && is_no_option(certificate)
+                && is_no_option(script) => { Some(Asked::Simulate(plan, certificate, script)) }
+        [word, plan, caller, called]
+            if *word == "echo"
+                && is_no_option(plan)
+                && is_no_option(caller)
+                && is_no_option(called) => { Some(Asked::Echo(plan, caller, called)) }
+        _ => read_question(words),
+    }
+}
+
+/// Where what is to go, as clap has read it: an instance with four values, or the one in a file.
+fn route_of<'a>(given: &ArgMatches<'a>) -> Question<'a> {
+    let at = given.get_str("AT").unwrap_or("");
+    let first = given.get_str("FILE|CLASS").unwrap_or("");
+    let Some(syntax) = given.get_str("SYNTAX") else {
+        return Question::RouteOfFile(at, first);
+    };
+    let key = KeyWords {
+        class: first,
+        syntax,
+        modality: given.get_str("MODALITY").unwrap_or(""),
+        station: given.get_str("STATION").unwrap_or(""),
+    };
+    Question::RouteOfKey(at, key)
+}
+
+/// The question that a word asks about a plan and its certificate, if it asks one.
+fn question_of<'a>(name: &str, given: &ArgMatches<'a>) -> Option<Question<'a>> {
+    match name {
+        "route" => Some(route_of(given)),
+        "graph" => Some(Question::Graph),
+        "lint" => Some(Question::Lint),
+        _ => None,
+    }
+}
+
+/// How a node is to serve, as clap has read it.
+fn serving_of<'a>(given: &ArgMatches<'a>) -> Serving<'a> {
+    let verbosity = match given.get_str("LOG") {
+        Some("error") => Verbosity::Errors,
+        Some("debug") => Verbosity::Everything,
+        _ => Verbosity::Events,
+    };
+    Serving {
+        links: given.get_one("LINKS").unwrap_or(0),
+        verbosity,
+        report: given.get_str("REPORT"),
+    }
+}
+
+/// Which held rows are to be queued again, as clap has read it.
+fn requeue_of<'a>(given: &ArgMatches<'a>) -> Duty<'a> {
+    let dest = given.get_str("DEST").unwrap_or("");
+    match given.get_str("ALL") {
+        Some(all) => Duty::RequeueAll(all),
+        None => Duty::Requeue(given.get_str("UID").unwrap_or(""), dest),
+    }
+}
+
+/// What a word asks a node to do, as clap has read it, if it asks that.
+fn duty_of<'a>(name: &str, given: &ArgMatches<'a>) -> Option<Duty<'a>> {
+    match name {
+        "list" if given.get_flag("SUMMARY") => Some(Duty::Summary),
+        "list" => Some(Duty::List),
+        "requeue" => Some(requeue_of(given)),
+        "send" => Some(Duty::Send(given.get_str("FILE").unwrap_or(""))),
+        "serve" => Some(Duty::Serve(serving_of(given))),
+        _ => None,
+    }
+}
+
+/// What clap makes of words that name a plan and its certificate.
+fn read_certified<'a>(
+    name: &str,
+    given: &ArgMatches<'a>,
+    plan: &'a str,
+    certificate: &'a str,
+) -> Asked<'a> {
+    if let Some(question) = question_of(name, given) {
+        return Asked::Question(plan, certificate, question);
+    }
+    if let Some(duty) = duty_of(name, given) {
+        let node = given.get_str("NODE").unwrap_or("");
+        let ledger = given.get_str("DB").unwrap_or("");
+        let files = NodeFiles {
+            plan,
+            certificate,
+            node,
+            ledger,
+        };
+        return Asked::AtNode(files, duty);
+    }
+    if name == "verify" {
+        return Asked::Verify(plan, certificate);
+    }
+    Asked::Simulate(plan, certificate, given.get_str("SCRIPT").unwrap_or(""))
+}
+
+/// Which plans and which folder are named, as clap has read it.
+fn change_of<'a>(given: &ArgMatches<'a>) -> PlanChange<'a> {
+    PlanChange {
+        plan: given.get_str("OLDPLAN").unwrap_or(""),
+        certificate: given.get_str("OLDCERT").unwrap_or(""),
+        next_plan: given.get_str("PLAN").unwrap_or(""),
+        next_certificate: given.get_str("CERT").unwrap_or(""),
+        folder: given.get_str("DIR").unwrap_or(""),
+    }
+}
+
+/// What clap makes of the words: options, help, and what the program doesn't know.
+fn read_others<'a>(alloc: Global, words: &'a [&'a str]) -> Result<Asked<'a>, AllocError> {
+    let line = command_line(alloc)?;
+    let matches = match line.try_get_matches_from(words) {
+        Ok(matches) => matches,
+        Err(error) => return Ok(Asked::Told(error)),
+    };
+    let Some((name, given)) = matches.subcommand() else {
+        return Ok(Asked::CheckInput);
+    };
+    let Some(plan) = given.get_str("PLAN") else {
+        return Ok(Asked::CheckInput);
+    };
+    if name == "check" {
+        return Ok(Asked::CheckFile(plan));
+    }
+    if name == "echo" {
+        let caller = given.get_str("FROM").unwrap_or("");
+        let called = given.get_str("TO").unwrap_or("");
+        return Ok(Asked::Echo(plan, caller, called));
+    }
+    if name == "adopt" {
+        return Ok(Asked::Adopt(change_of(given)));
+    }
+    let certificate = given.get_str("CERT").unwrap_or("");
+    Ok(read_certified(name, given, plan, certificate))
+}
+
+/// What the words ask for.
+pub fn read_words<'a>(alloc: Global, words: &'a [&'a str]) -> Result<Asked<'a>, AllocError>
+    ensures input { IfOk result (λ a. IsPlainCheck words.now → a ≡ asks.CheckInput) }
+    ensures file { IfOk result (λ a. (plan : Bor (List ℕ)) → IsCheckOf words.now plan → a ≡ asks.CheckFile plan) }
+    ensures verify { IfOk result (λ a. (plan certificate : Bor (List ℕ)) → IsVerifyOf words.now plan certificate → a ≡ asks.Verify plan certificate) }
+    ensures simulate { IfOk result (λ a. (plan certificate script : Bor (List ℕ)) → IsSimulateOf words.now plan certificate script → a ≡ asks.Simulate plan certificate script) }
+    ensures echo { IfOk result (λ a. (plan caller called : Bor (List ℕ)) → IsEchoOf words.now plan caller called → a ≡ asks.Echo plan caller called) }
+    ensures question { IfOk result (λ a. (plan certificate : Bor (List ℕ)) (question : QuestionValue) → IsQuestionOf words.now plan certificate question → a ≡ asks.Question plan certificate question) }
+    ensures duty { IfOk result (λ a. (given : NodeFilesValue) (duty : DutyValue) → IsDutyOf words.now given duty → a ≡ asks.AtNode given duty) }
+    ensures adopt { IfOk result (λ a. (change : PlanChangeValue) → IsAdoptOf words.now change → a ≡ asks.Adopt change) }
+{
+    if let Some(asked) = read_plain(words) {
+        return Ok(asked);
+    }
+    let others = read_others(alloc, words)?;
+    Ok(others)
+}

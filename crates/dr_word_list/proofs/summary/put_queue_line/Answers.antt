@@ -1,0 +1,36 @@
+use Rattle.std.proofs.Common.{◌∙◌, ◌++◌, ◌∷◌, [], ℕ, List, ap}
+use Rattle.std.specs.Prelude.{codes, decimal}
+use Rattle.dr_base.specs.Texts.{Text}
+use Rattle.dr_world_script.specs.Reports.{next_field}
+use Rattle.dr_word_list.specs.Queues.{how_many}
+use Rattle.dr_word_list.specs.Summaries.{moment_field}
+use Rattle.dr_word_list.specs.declared.queues.Stage.TheVariants as stages
+use Rattle.dr_word_list.proofs.Pieces.{as_fields, chained}
+use Rattle.dr_word_list.proofs.summary.put_queue_line.Goals as goal
+
+pub returns : goal.returns
+returns c =
+    let old = c.args.out.now.items in
+    let rows = c.args.rows.now in
+    let dest = c.args.dest.now in
+    let word : Text = codes "queue" in
+    let name : Text = next_field dest in
+    let a : Text = next_field (codes "waiting") in
+    let b : Text = next_field (decimal (how_many rows dest stages.Waiting)) in
+    let e : Text = next_field (codes "held") in
+    let f : Text = next_field (decimal (how_many rows dest stages.Held)) in
+    let g : Text = next_field (codes "done") in
+    let h : Text = next_field (decimal (how_many rows dest stages.Done)) in
+    let o : Text = next_field (codes "oldest") in
+    let m : Text = next_field (moment_field c.args.oldest) in
+    let l : Text = 10 ∷ [] in
+    let named = c.in_ok-put_field.ensures ∙ ap (λ (t : Text). c.extend_from_slice.new.self.items ++ next_field t) c.as_bytes.ensures in
+    let added = chained old (word ++ name ++ (a ++ b) ++ (e ++ f) ++ (g ++ h) ++ o ++ m) l c.put_moment.new.out.items c.push.new.self.items
+    (chained old (word ++ name ++ (a ++ b) ++ (e ++ f) ++ (g ++ h) ++ o) m c.put_field-2.new.out.items c.put_moment.new.out.items
+    (chained old (word ++ name ++ (a ++ b) ++ (e ++ f) ++ (g ++ h)) o c.put_stage-3.new.out.items c.put_field-2.new.out.items
+    (chained old (word ++ name ++ (a ++ b) ++ (e ++ f)) (g ++ h) c.put_stage-2.new.out.items c.put_stage-3.new.out.items
+    (chained old (word ++ name ++ (a ++ b)) (e ++ f) c.put_stage.new.out.items c.put_stage-2.new.out.items
+    (chained old (word ++ name) (a ++ b) c.put_field.new.out.items c.put_stage.new.out.items
+    (chained old word name c.extend_from_slice.new.self.items c.put_field.new.out.items
+    c.in_ok-extend_from_slice.ensures.items named) c.in_ok-put_stage.ensures) c.in_ok-put_stage-2.ensures) c.in_ok-put_stage-3.ensures) c.in_ok-put_field-2.ensures) c.in_ok-put_moment.ensures) c.in_ok-push.ensures.items in
+    added ∙ ap (λ (x : List ℕ). old ++ x) (as_fields word name a b e f g h o m l)

@@ -1,0 +1,222 @@
+//! The option `--summary` of the word `list`.
+ghost use Rattle.std.specs.Prelude.{◌≡◌, ◌++◌, IfOk, OnOk, Result, decimal};
+ghost use Rattle.dr_base.specs.Texts.{Text as Words};
+ghost use Rattle.dr_world_script.specs.Reports.{next_field};
+ghost use Rattle.dr_word_list.specs.Ends.{Ends};
+ghost use Rattle.dr_word_list.specs.Hops.{hops_from};
+ghost use Rattle.dr_word_list.specs.Queues.{how_many as number_of};
+ghost use Rattle.dr_word_list.specs.Summaries.{AreQueueLines, IsQueueLine, IsSummary, IsSummaryOf, Summarizes, count_line, moment_field, queue_line};
+ghost use Rattle.dr_word_list.specs.declared.halt.Halt.{Halt as HaltValue};
+
+use crate::ending::finish;
+use crate::halt::Halt;
+use crate::hops::{Hop, hops_of};
+use crate::ledgers::Ledgers;
+use crate::opening::{Opened, open_node};
+use crate::queues::{Row, Stage, how_many, oldest};
+use dr_base::Text;
+use dr_ledger::{Ledger, LedgerFault};
+use dr_word_check::{Failure, Files, NodeFiles, Status};
+use dr_world_script::put_name;
+use std::alloc::{AllocError, Global};
+use std::io::Write;
+
+const TAB: u8 = 9;
+
+const LF: u8 = 10;
+
+/// Adds a field behind the one before it.
+fn put_field(out: &mut Vec<u8>, field: &[u8]) -> Result<(), AllocError>
+    ensures { OnOk result (out.new.items ≡ out.old.items ++ next_field field.now) }
+{
+    out.push(TAB)?;
+    out.extend_from_slice(field)
+}
+
+/// Adds a number as a field.
+fn put_number(out: &mut Vec<u8>, number: u64) -> Result<(), AllocError>
+    ensures { OnOk result (out.new.items ≡ out.old.items ++ next_field (decimal number)) }
+{
+    let mut digits = itoa::Buffer::new();
+    put_field(out, digits.format(number).as_bytes())
+}
+
+/// Adds the line of a kind, with how many there are.
+fn put_count(out: &mut Vec<u8>, word: &[u8], count: usize) -> Result<(), AllocError>
+    ensures { OnOk result (out.new.items ≡ out.old.items ++ count_line word.now count) }
+{
+    out.extend_from_slice(word)?;
+    put_number(out, count as u64)?;
+    out.push(LF)?;
+    Ok(())
+}
+
+/// Adds how many rows for that node are at this stage, behind a word for the stage.
+fn put_stage(
+    out: &mut Vec<u8>,
+    word: &[u8],
+    rows: &[Row],
+    dest: &Text,
+    stage: Stage,
+) -> Result<(), AllocError>
+    ensures { OnOk result (out.new.items ≡ out.old.items ++ (next_field word.now ++ next_field (decimal (number_of rows.now dest.now stage)))) }
+{
+    put_field(out, word)?;
+    put_number(out, how_many(rows, dest, stage) as u64)
+}
+
+/// Adds a moment, where there is one.
+fn put_moment(out: &mut Vec<u8>, moment: Option<u64>) -> Result<(), AllocError>
+    ensures { OnOk result (out.new.items ≡ out.old.items ++ next_field (moment_field moment)) }
+{
+    match moment {
+        Some(moment) => put_number(out, moment),
+        None => put_field(out, b"-"),
+    }
+}
+
+/// Adds the line of a node to which this one sends, with this moment.
+fn put_queue_line(
+    out: &mut Vec<u8>,
+    rows: &[Row],
+    dest: &Text,
+    oldest: Option<u64>,
+) -> Result<(), AllocError>
+    ensures { OnOk result (out.new.items ≡ out.old.items ++ queue_line rows.now dest.now oldest) }
+{
+    out.extend_from_slice(b"queue")?;
+    put_field(out, dest.as_bytes())?;
+    put_stage(out, b"waiting", rows, dest, Stage::Waiting)?;
+    put_stage(out, b"held", rows, dest, Stage::Held)?;
+    put_stage(out, b"done", rows, dest, Stage::Done)?;
+    put_field(out, b"oldest")?;
+    put_moment(out, oldest)?;
+    out.push(LF)?;
+    Ok(())
+}
+
+/// Adds the line of a node to which this one sends.
+fn put_queue(out: &mut Vec<u8>, rows: &[Row], dest: &Text) -> Result<(), AllocError>
+    ensures { OnOk result ((line : Words) × IsQueueLine rows.now dest.now line × (out.new.items ≡ out.old.items ++ line)) }
+{
+    let moment = oldest(rows, dest);
+    put_queue_line(out, rows, dest, moment)?;
+    Ok(())
+}
+
+/// Adds the lines of the nodes to which these hops lead.
+fn put_queues(out: &mut Vec<u8>, rows: &[Row], hops: &[Hop]) -> Result<(), AllocError>
+    ensures { OnOk result ((lines : Words) × AreQueueLines rows.now hops.now lines × (out.new.items ≡ out.old.items ++ lines)) }
+{
+    for hop in hops {
+        put_queue(out, rows, &hop.dest)?;
+    }
+    Ok(())
+}
+
+/// The lines of a node with so many arrivals and kept instances, these rows, and so many lines in its journal.
+fn summary_text(
+    alloc: Global,
+    name: &Text,
+    hops: &[Hop],
+    arrivals: usize,
+    kept: usize,
+    rows: &[Row],
+    lines: usize,
+) -> Result<Text, AllocError>
+    ensures { IfOk result (λ text. IsSummary name.now hops.now arrivals kept rows.now lines text) }
+{
+    let mut out = Vec::new(alloc);
+    put_name(&mut out, name)?;
+    put_count(&mut out, b"arrivals", arrivals)?;
+    put_count(&mut out, b"kept", kept)?;
+    put_queues(&mut out, rows, hops)?;
+    put_count(&mut out, b"lines", lines)?;
+    Ok(Text::from_vec(out))
+}
+
+/// How much a node with these hops and this ledger has. The ledger is only read.
+///
+/// Errors: Store, Memory.
+fn summary_of<L: Ledger>(
+    alloc: Global,
+    name: &Text,
+    hops: &[Hop],
+    ledger: &mut L,
+) -> Result<Text, LedgerFault>
+    ensures summary { IfOk result (λ text. L.stands ledger.new → IsSummaryOf name.now hops.now (L.book ledger.new) text) }
+    ensures same { L.stands ledger.new → L.book ledger.new ≡ L.book ledger.old }
+    ensures stood { L.stands ledger.new → L.stands ledger.old }
+{
+    let arrivals = ledger.arrivals()?;
+    let kept = ledger.kept()?;
+    let rows = ledger.rows()?;
+    let lines = ledger.lines()?;
+    let text = summary_text(
+        alloc,
+        name,
+        hops,
+        arrivals.len(),
+        kept.len(),
+        rows.as_slice(),
+        lines.len(),
+    )?;
+    Ok(text)
+}
+
+/// How much a node that was opened has.
+///
+/// Errors: Store, Memory.
+fn summarize_opened<L: Ledger + Drop>(
+    alloc: Global,
+    opened: &mut Opened<L>,
+) -> Result<Text, LedgerFault>
+    ensures summary { IfOk result (λ text. L.stands opened.new.ledger → IsSummaryOf opened.old.site.name (hops_from opened.old.site opened.old.sealed.plan.nodes) (L.book opened.new.ledger) text) }
+    ensures same { L.stands opened.new.ledger → L.book opened.new.ledger ≡ L.book opened.old.ledger }
+{
+    let hops = hops_of(alloc, &opened.site, opened.sealed.plan())?;
+    summary_of(
+        alloc,
+        opened.site.name(),
+        hops.as_slice(),
+        &mut opened.ledger,
+    )
+}
+
+/// How much a node has.
+///
+/// Errors: those of `open_node`; Refused with Store or Memory.
+fn summarize_node<'a, F: Files, O: Ledgers>(
+    alloc: Global,
+    files: &F,
+    ledgers: &O,
+    given: NodeFiles<'a>,
+) -> Result<Text, Halt<'a>>
+    ensures { Summarizes (F.holds files.now given.entry.plan.now) (F.holds files.now given.entry.certificate.now) (O.opens ledgers.now given.entry.ledger.now) O.Ledger.site O.Ledger.book O.Ledger.stands given.entry.node.now result }
+{
+    let mut opened = open_node(alloc, files, ledgers, given)?;
+    let came = summarize_opened(alloc, &mut opened);
+    drop(opened);
+    match came {
+        Ok(summary) => Ok(summary),
+        Err(fault) => Err(Halt::Refused(fault)),
+    }
+}
+
+/// Prints how much a node has, whose plan, certificate and ledger are in these files.
+///
+/// Errors: Stream, File.
+pub fn summarize_files<'a, F: Files, O: Ledgers, W: Write, E: Write>(
+    alloc: Global,
+    files: &F,
+    ledgers: &O,
+    given: NodeFiles<'a>,
+    output: &mut W,
+    faults: &mut E,
+) -> Result<Status, Failure<'a>>
+    ensures { IfOk result (λ status. (came : Result Words HaltValue) × Summarizes (F.holds files.now given.entry.plan.now) (F.holds files.now given.entry.certificate.now) (O.opens ledgers.now given.entry.ledger.now) O.Ledger.site O.Ledger.book O.Ledger.stands given.entry.node.now came
+        × Ends came (W.contents output.old) (W.contents output.new) status) }
+{
+    let came = summarize_node(alloc, files, ledgers, given);
+    finish(came, output, faults)
+}

@@ -1,0 +1,223 @@
+//! Runs on questions.
+ghost use Rattle.std.specs.Prelude.{◌≡◌, ◌≢◌, ◌⊎◌, ℕ, List, IfOk, OnOk};
+ghost use Rattle.std.specs.Io.KnownBytes.{Appends};
+ghost use Rattle.dr_base.specs.Texts.{Text};
+ghost use Rattle.dr_cert.specs.declared.fault.CertFault.TheVariants.{Memory as NoMemory};
+ghost use Rattle.dr_word_check.specs.Runs.{Refuses};
+ghost use Rattle.dr_word_check.specs.declared.status.Status.TheVariants.{Refused, Memory};
+ghost use Rattle.dr_word_route.specs.Keys.{ReadsFileKey, ReadsWords};
+ghost use Rattle.dr_word_route.specs.Replies.{IsRouteReply, IsSiteReply, printed_for};
+ghost use Rattle.dr_word_route.specs.Runs.{Asks, IsTold, Judges, Replies, Responds, Seals, Unseals};
+
+use crate::keys::{key_of_file, key_of_words, site_of};
+use crate::reply::Reply;
+use crate::replying::{graph_reply, lint_reply, reply_for};
+use dr_cert::{CertFault, Sealed};
+use dr_plan::Plan;
+use dr_word_check::{
+    Failure, Files, KeyWords, Question, Status, plan_of, read_file, seal_text, tell_answer,
+};
+use std::alloc::Global;
+use std::io;
+use std::io::Write;
+
+/// Writes a reply: what is answered to the output, and why there is no answer to the faults.
+fn write_reply<W: Write, E: Write>(reply: &Reply, output: &mut W, faults: &mut E) -> io::Result<()>
+    ensures { OnOk result (Appends (W.contents output.old) (W.contents output.new) (printed_for reply.now)) }
+{
+    match reply {
+        Reply::Printed(text) => output.write_all(text.as_bytes()),
+        Reply::NoLine => output.write_all(b"no\tG1 NoLine\n"),
+        Reply::Refused(refusal) => writeln!(faults, "dr_router: {refusal}"),
+    }
+}
+
+/// Tells a reply, and ends as it says.
+fn tell<W: Write, E: Write>(reply: &Reply, output: &mut W, faults: &mut E) -> io::Result<Status>
+    ensures { IfOk result (IsTold reply.now (W.contents output.old) (W.contents output.new)) }
+{
+    write_reply(reply, output, faults)?;
+    Ok(reply.status())
+}
+
+/// Tells where an instance with these values goes that enters at the node of that name.
+fn ask_key<W: Write, E: Write>(
+    alloc: Global,
+    sealed: &Sealed,
+    at: &str,
+    words: &KeyWords<'_>,
+    output: &mut W,
+    faults: &mut E,
+) -> io::Result<Status>
+    ensures { IfOk result (Replies (IsRouteReply sealed.now.plan at.now (ReadsWords words.now)) (W.contents output.old) (W.contents output.new)) }
+{
+    let site = match site_of(alloc, sealed.plan(), at) {
+        Ok(site) => site,
+        Err(refusal) => {
+            let status = tell(&Reply::Refused(refusal), output, faults)?;
+            return Ok(status);
+        }
+    };
+    let key = key_of_words(alloc, words);
+    let reply = reply_for(alloc, sealed, &site, key);
+    drop(site);
+    let status = tell(&reply, output, faults)?;
+    Ok(status)
+}
+
+/// Tells where the instance in the file goes that enters at the node of that name; the file is read where there is such a node.
+fn ask_file<'a, F: Files, W: Write, E: Write>(
+    alloc: Global,
+    sealed: &Sealed,
+    at: &str,
+    files: &F,
+    path: &'a str,
+    output: &mut W,
+    faults: &mut E,
+) -> Result<Status, Failure<'a>>
+    ensures { IfOk result (λ status. Replies (IsSiteReply sealed.now.plan at.now) (W.contents output.old) (W.contents output.new) status
+        ⊎ ((bytes : Text) × F.holds files.now path.now bytes × Replies (IsRouteReply sealed.now.plan at.now (ReadsFileKey bytes)) (W.contents output.old) (W.contents output.new) status)) }
+{
+    let site = match site_of(alloc, sealed.plan(), at) {
+        Ok(site) => site,
+        Err(refusal) => {
+            let status = tell(&Reply::Refused(refusal), output, faults)?;
+            return Ok(status);
+        }
+    };
+    let bytes = read_file(alloc, files, path)?;
+    let key = key_of_file(alloc, bytes.as_slice());
+    let reply = reply_for(alloc, sealed, &site, key);
+    let status = tell(&reply, output, faults)?;
+    Ok(status)
+}
+
+/// Answers a question about a sealed plan.
+fn respond<'a, F: Files, W: Write, E: Write>(
+    alloc: Global,
+    sealed: &Sealed,
+    question: Question<'a>,
+    files: &F,
+    output: &mut W,
+    faults: &mut E,
+) -> Result<Status, Failure<'a>>
+    ensures { IfOk result (Responds (F.holds files.now) sealed.now.plan sealed.now.certificate question.entry (W.contents output.old) (W.contents output.new)) }
+{
+    match question {
+        Question::RouteOfKey(at, words) => {
+            let status = ask_key(alloc, sealed, at, &words, output, faults)?;
+            Ok(status)
+        }
+        Question::RouteOfFile(at, path) => {
+            ask_file(alloc, sealed, at, files, path, output, faults)
+        }
+        Question::Graph => {
+            let status = tell(&graph_reply(alloc, sealed), output, faults)?;
+            Ok(status)
+        }
+        Question::Lint => {
+            let status = tell(&lint_reply(alloc, sealed), output, faults)?;
+            Ok(status)
+        }
+    }
+}
+
+/// Writes why a certificate isn't the plan's.
+fn tell_refusal<E: Write>(fault: CertFault, faults: &mut E) -> io::Result<Status>
+    ensures refused { fault ≢ NoMemory → IfOk result (λ status. status ≡ Refused) }
+    ensures memory { fault ≡ NoMemory → IfOk result (λ status. status ≡ Memory) }
+{
+    writeln!(faults, "dr_router: {fault}")?;
+    match fault {
+        CertFault::Memory => Ok(Status::Memory),
+        _ => Ok(Status::Refused),
+    }
+}
+
+/// Answers a question about a plan and the text of its certificate.
+fn ask_sealed<'a, F: Files, W: Write, E: Write>(
+    alloc: Global,
+    plan: Plan,
+    text: &[u8],
+    question: Question<'a>,
+    files: &F,
+    output: &mut W,
+    faults: &mut E,
+) -> Result<Status, Failure<'a>>
+    ensures { IfOk result (λ status. Unseals plan text.now (W.contents output.old) (W.contents output.new) status
+        ⊎ Seals (F.holds files.now) question.entry plan text.now (W.contents output.old) (W.contents output.new) status) }
+{
+    let sealed = match seal_text(alloc, plan, text) {
+        Ok(sealed) => sealed,
+        Err(fault) => {
+            let status = tell_refusal(fault, faults)?;
+            return Ok(status);
+        }
+    };
+    let status = respond(alloc, &sealed, question, files, output, faults);
+    drop(sealed);
+    status
+}
+
+/// Answers a question about the plan of a text, whose certificate is in a file, which is read only where the text has a plan.
+fn ask_text<'a, F: Files, W: Write, E: Write>(
+    alloc: Global,
+    text: &[u8],
+    certificate: &'a str,
+    question: Question<'a>,
+    files: &F,
+    output: &mut W,
+    faults: &mut E,
+) -> Result<Status, Failure<'a>>
+    ensures { IfOk result (λ status. Refuses text.now (W.contents output.old) (W.contents output.new) status
+        ⊎ Judges (F.holds files.now) certificate.now question.entry text.now (W.contents output.old) (W.contents output.new) status) }
+{
+    let plan = match plan_of(alloc, text) {
+        Ok(plan) => plan,
+        Err(answer) => {
+            tell_answer(&answer, output, faults)?;
+            return Ok(answer.status());
+        }
+    };
+    match read_file(alloc, files, certificate) {
+        Ok(second) => ask_sealed(
+            alloc,
+            plan,
+            second.as_slice(),
+            question,
+            files,
+            output,
+            faults,
+        ),
+        Err(failure) => {
+            drop(plan);
+            Err(failure)
+        }
+    }
+}
+
+/// Answers a question about the plan in the one file, whose certificate is in the other.
+///
+/// Errors: Stream, File.
+pub fn ask_files<'a, F: Files, W: Write, E: Write>(
+    alloc: Global,
+    plan: &'a str,
+    certificate: &'a str,
+    question: Question<'a>,
+    files: &F,
+    output: &mut W,
+    faults: &mut E,
+) -> Result<Status, Failure<'a>>
+    ensures { IfOk result (Asks (F.holds files.now) plan.entry certificate.entry question.entry (W.contents output.old) (W.contents output.new)) }
+{
+    let text = read_file(alloc, files, plan)?;
+    ask_text(
+        alloc,
+        text.as_slice(),
+        certificate,
+        question,
+        files,
+        output,
+        faults,
+    )
+}

@@ -1,0 +1,12 @@
+//! The words of the program `dr_router` that ask about a plan with its certificate: `route`, `graph` and `lint`. And all words for
+//! plans: `check` and `verify` (`dr_word_check`), and these.
+#![tactic(auto)]
+
+mod asking;
+mod keys;
+mod reply;
+mod replying;
+mod run;
+
+pub use reply::{Refusal, Reply};
+pub use run::{run_asked, run_words};

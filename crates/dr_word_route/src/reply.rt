@@ -1,0 +1,51 @@
+//! What is answered to a question.
+ghost use Rattle.std.specs.Prelude.{◌≡◌};
+ghost use Rattle.dr_word_route.specs.Replies.{status_for};
+
+use dr_base::Text;
+use dr_dataset::FileFault;
+use dr_ledger::ItemFault;
+use dr_word_check::Status;
+use thiserror::Error;
+
+/// Why a question isn't answered.
+#[derive(Clone, Copy, Debug, Error)]
+pub enum Refusal {
+    /// The plan has no node of that name.
+    #[error("NoNode")]
+    NoNode,
+    /// The file is none that can be read, or the transfer syntax none in which instances are routed.
+    #[error("{0}")]
+    File(FileFault),
+    /// The file's data set is no item.
+    #[error("{0}")]
+    Item(ItemFault),
+    /// There was no memory.
+    #[error("Memory")]
+    Memory,
+}
+
+/// What is answered to a question.
+#[derive(Debug, Drop)]
+pub enum Reply {
+    /// What was asked for.
+    Printed(Text),
+    /// No flow at the node fits the instance.
+    NoLine,
+    /// Why there is no answer.
+    Refused(Refusal),
+}
+
+impl Reply {
+    /// The status with which the program ends, where the reply is told.
+    pub fn status(&self) -> Status
+        ensures { result ≡ status_for self.now }
+    {
+        match self {
+            Reply::Printed(_) => Status::Success,
+            Reply::NoLine => Status::Refused,
+            Reply::Refused(Refusal::Memory) => Status::Memory,
+            Reply::Refused(_) => Status::Refused,
+        }
+    }
+}

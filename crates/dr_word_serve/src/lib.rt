@@ -1,0 +1,14 @@
+//! The words of the program by which a node works with its ledger, over any ledgers, files and network.
+//!
+//! - `work_files` does what is asked of a node: `list`, `requeue` (both of `dr_word_list`), `send` or `serve`.
+//! - `send_files`: a Part 10 file enters at a node, each hop with a due row is visited once, and the node's report is printed.
+//! - `serve_files`: a node serves associations at its address and sends what is due; after so many connections its report is printed.
+#![tactic(auto)]
+
+pub mod running;
+pub mod submitting;
+pub mod working;
+
+pub use running::serve_files;
+pub use submitting::send_files;
+pub use working::work_files;

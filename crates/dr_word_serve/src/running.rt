@@ -1,0 +1,253 @@
+//! The word `serve`.
+ghost use Rattle.std.specs.Prelude.{◌≡◌, IfErr, IfOk, MatchResult, Result};
+ghost use Rattle.dr_base.specs.Texts.{Text as Words};
+ghost use Rattle.dr_word_list.specs.Ends.{Ends};
+ghost use Rattle.dr_word_list.specs.declared.halt.Halt.{Halt as HaltValue};
+ghost use Rattle.dr_word_serve.specs.Serving.{Grew, IsUnheard, IsUnserved, Serves};
+
+use dr_base::Text;
+use dr_ledger::{Ledger, LedgerFault};
+use dr_run_net::{Listening, Network};
+use dr_run_serve::{FileMonitor, Monitor, ServeFault, serve};
+use dr_session::{Clock, Link};
+use dr_site::Site;
+use dr_word_check::{Failure, Files, NodeFiles, Serving, Status, Verbosity};
+use dr_word_list::{Halt, Hop, Ledgers, Opened, finish, hops_of, open_node, report_of};
+use log::{LevelFilter, Log, Logged, info};
+use std::alloc::Global;
+use std::io::{ErrorKind, Write};
+use std::sync::Wait;
+use std::thread::Threads;
+use std::{io, time};
+
+/// The events that are logged.
+fn level_of(verbosity: Verbosity) -> LevelFilter {
+    match verbosity {
+        Verbosity::Errors => LevelFilter::Error,
+        Verbosity::Events => LevelFilter::Info,
+        Verbosity::Everything => LevelFilter::Debug,
+    }
+}
+
+/// Why a node that served has no report.
+fn unserved<'a>(fault: ServeFault) -> Halt<'a>
+    ensures { IsUnserved result }
+{
+    match fault {
+        ServeFault::Receipt => Halt::Receipt,
+        ServeFault::Store => Halt::Refused(LedgerFault::Store),
+        ServeFault::Memory => Halt::Memory,
+    }
+}
+
+/// Where the site's node listens, by the sealed plan.
+///
+/// Errors: NoNode; Failed with the node's name where its address can't be listened at.
+fn listen_at<'a, L: Ledger + Drop, N: Network>(
+    alloc: Global,
+    opened: &Opened<L>,
+    network: &N,
+    node: &'a str,
+) -> Result<N::Listener, Halt<'a>>
+    ensures { IfErr result (IsUnheard opened.now.sealed.plan opened.now.site.name) }
+{
+    let Some(node_there) = opened.sealed.plan().node(opened.site.name()) else {
+        return Err(Halt::NoNode);
+    };
+    match network.listen(alloc, &node_there.address) {
+        Ok(listener) => Ok(listener),
+        Err(error) => Err(Halt::Failed(Failure::File(node, error))),
+    }
+}
+
+/// Serves on a ledger of the site; the report of what it then has.
+///
+/// Errors: Receipt, Refused with Store or Memory, Memory.
+fn serve_ledger<
+    'a,
+    R: Threads + Wait + Sync + time::Clock,
+    L: Ledger + Drop + Send,
+    K: Link + Drop + Send,
+    D: Listening<Socket = K> + Sync,
+    N: Network + Sync,
+    C: Clock + Sync,
+    G: Monitor + Sync,
+>(
+    rt: &R,
+    alloc: Global,
+    name: &Text,
+    ledger: L,
+    site: Site,
+    hops: Vec<Hop>,
+    listener: &D,
+    links: u64,
+    network: &N,
+    clock: &C,
+    log: &G,
+) -> Result<Text, Halt<'a>>
+    requires { L.site ledger ≡ site }
+    ensures { MatchResult result (λ text. (last : L) × (L.stands last → Grew site name.now (L.book ledger) (L.book last) text)) IsUnserved }
+{
+    let served = serve::<R, L, K, D, N, C, G>(
+        rt, alloc, ledger, site, hops, listener, links, network, clock, log,
+    );
+    let mut ledger = match served {
+        Ok(ledger) => ledger,
+        Err(fault) => return Err(unserved(fault)),
+    };
+    match report_of(alloc, name, &mut ledger) {
+        Ok(report) => Ok(report),
+        Err(fault) => Err(Halt::Refused(fault)),
+    }
+}
+
+/// Serves at a listener on the ledger of a node that was opened; the report of what it then has.
+///
+/// Errors: Receipt, Refused with Store or Memory, Memory.
+fn serve_opened<
+    'a,
+    R: Threads + Wait + Sync + time::Clock,
+    L: Ledger + Drop + Send,
+    K: Link + Drop + Send,
+    D: Listening<Socket = K> + Sync,
+    N: Network + Sync,
+    C: Clock + Sync,
+    G: Monitor + Sync,
+>(
+    rt: &R,
+    alloc: Global,
+    opened: Opened<L>,
+    listener: &D,
+    links: u64,
+    network: &N,
+    clock: &C,
+    log: &G,
+) -> Result<Text, Halt<'a>>
+    requires { L.site opened.ledger ≡ opened.site }
+    ensures { MatchResult result (λ text. (last : L) × (L.stands last → Grew opened.site opened.site.name (L.book opened.ledger) (L.book last) text)) IsUnserved }
+{
+    let Ok(hops) = hops_of(alloc, &opened.site, opened.sealed.plan()) else {
+        drop(opened);
+        return Err(Halt::Memory);
+    };
+    let Ok(name) = opened.site.name().clone() else {
+        drop(opened);
+        return Err(Halt::Memory);
+    };
+    let Opened {
+        sealed,
+        site,
+        ledger,
+    } = opened;
+    drop(sealed);
+    serve_ledger::<R, L, K, D, N, C, G>(
+        rt, alloc, &name, ledger, site, hops, listener, links, network, clock, log,
+    )
+}
+
+/// Tells that a node serves so many associations.
+fn tell_serving<G: Monitor>(log: &G, given: NodeFiles<'_>, links: u64) {
+    let (node, ledger) = (given.node, given.ledger);
+    info!(log; target: "node", "serves node=\"{node}\" ledger=\"{ledger}\" associations={links}");
+}
+
+/// Opens a node and serves at its address; the report of what it then has.
+///
+/// Errors: those of `open_node`; Failed with the node's name where its address can't be listened at; those of `serve_opened`.
+fn serve_node<
+    'a,
+    R: Threads + Wait + Sync + time::Clock,
+    F: Files,
+    O: Ledgers,
+    N: Network + Sync,
+    C: Clock + Sync,
+    G: Monitor + Sync,
+>(
+    rt: &R,
+    alloc: Global,
+    files: &F,
+    ledgers: &O,
+    given: NodeFiles<'a>,
+    links: u64,
+    network: &N,
+    clock: &C,
+    log: &G,
+) -> Result<Text, Halt<'a>>
+where
+    O::Ledger: Send,
+    N::Socket: Send,
+    N::Listener: Sync,
+    ensures { Serves (F.holds files.now given.entry.plan.now) (F.holds files.now given.entry.certificate.now) (O.opens ledgers.now given.entry.ledger.now) O.Ledger.site O.Ledger.book O.Ledger.stands given.entry.node.now result }
+{
+    let opened = open_node(alloc, files, ledgers, given)?;
+    let listener = match listen_at(alloc, &opened, network, given.node) {
+        Ok(listener) => listener,
+        Err(halt) => {
+            drop(opened);
+            return Err(halt);
+        }
+    };
+    tell_serving(log, given, links);
+    serve_opened::<R, O::Ledger, N::Socket, N::Listener, N, C, G>(
+        rt, alloc, opened, &listener, links, network, clock, log,
+    )
+}
+
+/// Whether a path is that of one of a node's files.
+fn is_given(given: NodeFiles<'_>, path: &str) -> bool {
+    path == given.plan || path == given.certificate || path == given.ledger
+}
+
+/// Serves at the address of a node, whose plan, certificate and ledger are in these files, and sends what is due. After so many connections
+/// (for 0 never) the node's report is printed. Events are logged as they happen; where a file is named for it, the report is written there too,
+/// at most every ten seconds.
+///
+/// Errors: Stream, File; File with the node's name where its address can't be listened at, and with the report's path where that is one of the node's
+/// files, which it would replace.
+pub fn serve_files<
+    'a,
+    R: Threads + Wait + Sync + time::Clock,
+    F: Files + Sync,
+    O: Ledgers,
+    N: Network + Sync,
+    C: Clock + Sync,
+    G: Log + Sync,
+    W: Write,
+    E: Write,
+>(
+    rt: &R,
+    alloc: Global,
+    files: &F,
+    ledgers: &O,
+    given: NodeFiles<'a>,
+    serving: Serving<'a>,
+    network: &N,
+    clock: &C,
+    log: &G,
+    output: &mut W,
+    faults: &mut E,
+) -> Result<Status, Failure<'a>>
+where
+    O::Ledger: Send,
+    N::Socket: Send,
+    N::Listener: Sync,
+    ensures { IfOk result (λ status. (came : Result Words HaltValue) × Serves (F.holds files.now given.entry.plan.now) (F.holds files.now given.entry.certificate.now) (O.opens ledgers.now given.entry.ledger.now) O.Ledger.site O.Ledger.book O.Ledger.stands given.entry.node.now came
+        × Ends came (W.contents output.old) (W.contents output.new) status) }
+{
+    if let Some(path) = serving.report {
+        if is_given(given, path) {
+            return Err(Failure::File(path, io::Error::from(ErrorKind::InvalidInput)));
+        }
+    }
+    let logged = Logged::new((), level_of(serving.verbosity), log);
+    let monitor = FileMonitor {
+        log: &logged,
+        files,
+        path: serving.report,
+    };
+    let links = u64::from(serving.links);
+    let came = serve_node(
+        rt, alloc, files, ledgers, given, links, network, clock, &monitor,
+    );
+    finish(came, output, faults)
+}

@@ -1,0 +1,68 @@
+//! What a node may be asked to do with its ledger.
+ghost use Rattle.std.specs.Prelude.{IfOk};
+ghost use Rattle.dr_word_serve.specs.Sending.{VisitsBy};
+ghost use Rattle.dr_word_serve.specs.Working.{Works};
+
+use crate::running::serve_files;
+use crate::submitting::send_files;
+use dr_run_net::Network;
+use dr_run_serve::OwnPort;
+use dr_session::{Clock, DeskPort};
+use dr_word_check::{Duty, Failure, Files, NodeFiles, Status};
+use dr_word_list::{Ledgers, list_files, requeue_all_files, requeue_files, summarize_files};
+use log::Log;
+use std::alloc::Global;
+use std::io::Write;
+use std::sync::Wait;
+use std::thread::Threads;
+use std::time;
+
+/// Does what is asked of a node, whose plan, certificate and ledger are in these files.
+///
+/// Errors: Stream, File.
+pub fn work_files<
+    'a,
+    R: Threads + Wait + Sync + time::Clock,
+    F: Files + Sync,
+    O: Ledgers,
+    N: Network + Sync,
+    C: Clock + Sync,
+    G: Log + Sync,
+    W: Write,
+    E: Write,
+>(
+    rt: &R,
+    alloc: Global,
+    files: &F,
+    ledgers: &O,
+    given: NodeFiles<'a>,
+    duty: Duty<'a>,
+    network: &N,
+    clock: &C,
+    log: &G,
+    output: &mut W,
+    faults: &mut E,
+) -> Result<Status, Failure<'a>>
+where
+    O::Ledger: Send,
+    N::Socket: Send,
+    N::Listener: Sync,
+    ensures { IfOk result (Works (F.holds files.now) (O.opens ledgers.now) O.Ledger.site O.Ledger.book O.Ledger.stands (VisitsBy (N.reaches network.now) N.Socket.hears N.Socket.sends N.Socket.closes ⟦<OwnPort<O::Ledger> as DeskPort>⟧.step (C.tells clock.now)) given.entry duty.entry (W.contents output.old) (W.contents output.new)) }
+{
+    match duty {
+        Duty::List => list_files(alloc, files, ledgers, given, output, faults),
+        Duty::Summary => summarize_files(alloc, files, ledgers, given, output, faults),
+        Duty::RequeueAll(dest) => {
+            requeue_all_files(alloc, files, ledgers, given, dest, output, faults)
+        }
+        Duty::Requeue(uid, dest) => {
+            requeue_files(alloc, files, ledgers, given, uid, dest, output, faults)
+        }
+        Duty::Send(file) => send_files(
+            alloc, files, ledgers, given, file, network, clock, output, faults,
+        ),
+        Duty::Serve(serving) => serve_files(
+            rt, alloc, files, ledgers, given, serving, network, clock, log, output, faults,
+        ),
+    }
+}

@@ -1,0 +1,178 @@
+-- Worlds of which a claim of the headline is false.
+use Rattle.std.proofs.Common.{◌≡◌, ◌≢◌, refl, sym, ap, subst, ◌∙◌, inl, inr, ℕ, Bool, true, false, cond, List, [], ◌∷◌, Contains, Some}
+use Rattle.std.specs.declared.cmp.Ordering.{Ordering}
+use Rattle.std.specs.Ordering.{nat_cmp}
+use Rattle.std.specs.FinMap as map
+use Rattle.std.specs.FinMap.{FinMap}
+use Rattle.std.specs.FinSet as set
+use Rattle.std.specs.FinSet.{FinSet}
+use Rattle.dr_base.specs.Texts.{Text, text_cmp}
+use Rattle.dr_base.specs.declared.syntax.Syntax.{Syntax}
+use Rattle.dr_route.specs.Routes.{local}
+use Rattle.dr_plan_model.specs.Networks.{Network}
+use Rattle.dr_plan_model.specs.Walks.{GoesOver, last_place}
+use Rattle.dr_plan_model.proofs.Gathered.{Contains-here}
+use Rattle.dr_plan_sound.specs.Certificates.{pair_cmp as context_cmp}
+use Rattle.dr_ledger.specs.declared.item.Instance.{Instance}
+use Rattle.dr_ledger.specs.declared.item.Outcome.TheVariants.{NoContext}
+use Rattle.dr_ledger.specs.declared.item.Progress.{Progress}
+use Rattle.dr_ledger.specs.declared.item.Progress.TheVariants.{Done}
+use Rattle.dr_ledger.specs.Books.{Book, Line, Settling, empty_book}
+use Rattle.dr_ledger.specs.Pairs.{Pair, pair_cmp}
+use Rattle.dr_ledger.proofs.Growing.{inside}
+use Rattle.dr_ledger.proofs.Maps.{texts, text_pairs, cases_of, same_or_not, ties_itself, contains_new, contained, get_new, got}
+use Rattle.dr_world_model.specs.Worlds.{World, Link, Open, Replying, start, same_text}
+use Rattle.dr_world_model.specs.Claims.{Brought, Has, HasArrival, HasRow, IsQueued, IsHonest, NoneRefused, NothingLost, WithinRank}
+use Rattle.dr_world_model.specs.Failing.{ClaimsCanFail, brought_by, come_from_nowhere, done_and_gone, done_for_nothing, keeps_instead, kept_as_another, link_at, only, opened_without_pairs, settled_without_context, success_for_nothing}
+use Rattle.dr_world_model.proofs.AdoptionsKept.{no_row}
+use Rattle.dr_world_model.proofs.Lookups.{numbers}
+use Rattle.dr_world_model.proofs.Safety.{book_here, book_there}
+
+none_in : {K : Type 0} (R : K → K → Ordering) (k : K) → set.contains (set.empty {R = R}) k ≡ true → ⊥
+none_in R k h = let e = set.contains-empty R k in cc
+
+-- ---- the world in which one node alone has a book
+module _ (name : Text) (b : Book) where
+  at_name : (only name b).books name ≡ b
+  at_name = book_here start.books name b
+
+  at_same : (at : Text) → at ≡ name → (only name b).books at ≡ b
+  at_same at same = ap (only name b).books same ∙ at_name
+
+  elsewhere : (at : Text) → same_text at name ≡ false → (only name b).books at ≡ empty_book
+  elsewhere at other = book_there start.books name b at other
+
+  arrivals_of : (at caller uid : Text) → set.contains ((only name b).books at).arrivals (caller, uid) ≡ true → (at ≡ name) × (set.contains b.arrivals (caller, uid) ≡ true)
+  arrivals_of at caller uid h =
+      let A : Book → Bool = λ x. set.contains x.arrivals (caller, uid) in
+      elim (same_or_not texts at name) [
+        | inl same ↦ (same, ap A (sym (at_same at same)) ∙ h)
+        | inr other ↦ absurd (none_in pair_cmp (caller, uid) (ap A (sym (elsewhere at other)) ∙ h))
+      ]
+
+  kept_of : (at uid : Text) → set.contains ((only name b).books at).kept uid ≡ true → set.contains b.kept uid ≡ true
+  kept_of at uid h =
+      let A : Book → Bool = λ x. set.contains x.kept uid in
+      elim (same_or_not texts at name) [
+        | inl same ↦ ap A (sym (at_same at same)) ∙ h
+        | inr other ↦ absurd (none_in text_cmp uid (ap A (sym (elsewhere at other)) ∙ h))
+      ]
+
+  rows_of : (at : Text) (q : Pair) (row : Progress) → map.get ((only name b).books at).rows q ≡ Some row → map.get b.rows q ≡ Some row
+  rows_of at q row h = elim (same_or_not texts at name) [
+    | inl same ↦ ap (λ (x : Book). map.get x.rows q) (sym (at_same at same)) ∙ h
+    | inr other ↦ absurd (no_row row (sym (map.get-empty pair_cmp q) ∙ (ap (λ (x : Book). map.get x.rows q) (sym (elsewhere at other)) ∙ h)))
+  ]
+
+-- ---- a book with one item
+module _ (caller name : Text) (item : Instance) (rows : FinMap pair_cmp Progress) (kept : FinSet text_cmp) where
+  brought : Brought (brought_by caller item rows kept) caller item
+  brought = record { arrival = contains_new text_pairs set.empty (caller, item.uid); item_is = get_new texts map.empty item.uid item }
+
+  arrived : HasArrival (only name (brought_by caller item rows kept)) name caller item
+  arrived = subst (λ b. Brought b caller item) (sym (at_name name (brought_by caller item rows kept))) brought
+
+  -- nobody else brought it
+  from_caller : (at other : Text) → HasArrival (only name (brought_by caller item rows kept)) at other item → (at ≡ name) × (other ≡ caller)
+  from_caller at other h =
+      let a = arrivals_of name (brought_by caller item rows kept) at other item.uid h.arrival in
+      elim (contained text_pairs set.empty (caller, item.uid) (other, item.uid) a.1) [
+        | inl same ↦ (a.0, ap (λ (p : Pair). p.0) same)
+        | inr none ↦ absurd (none_in pair_cmp (other, item.uid) none)
+      ]
+
+queued_not_done : (row : Progress) → row ≡ Done → IsQueued row → ⊥
+queued_not_done row e q = subst IsQueued e q
+
+module _ (plan : Network) (caller name to : Text) (item other : Instance) where
+  no_context : NoneRefused plan (settled_without_context name item.uid to) → ⊥
+  no_context h =
+      let line = Settling item.uid to NoContext 0 in
+      let b : Book = record { items = map.empty; arrivals = set.empty; kept = set.empty; rows = map.empty; lines = line ∷ [] } in
+      h.lines name line (subst (λ (x : Book). Contains x.lines line) (sym (at_name name b)) (Contains-here line []))
+
+  no_pairs : (pair : Text × Syntax) → GoesOver plan caller name pair → NoneRefused plan (opened_without_pairs caller name) → ⊥
+  no_pairs pair over h =
+      let link = link_at caller name (Open set.empty) in
+      none_in context_cmp pair (h.agreed 1 link set.empty (get_new numbers start.links 1 link) refl pair over)
+
+  from_nowhere : caller ≢ local → WithinRank plan (come_from_nowhere caller name item) → ⊥
+  from_nowhere away h =
+      let s = (h caller name item (arrived caller name item map.empty set.empty)).0 in
+      elim s.origin [
+        | inl entered ↦ away (sym (from_caller caller name item map.empty set.empty s.site local entered.1).1)
+        | inr stood ↦ no_row stood.0.0 (sym (map.get-empty pair_cmp (item.uid, s.site)) ∙ stood.0.1)
+      ]
+
+  nothing_done : name ≢ to → IsHonest plan (done_for_nothing name to item) → ⊥
+  nothing_done apart h =
+      let rows : FinMap pair_cmp Progress = map.insert map.empty (item.uid, to) Done in
+      let b = brought_by name item rows set.empty in
+      let is = at_name name b in
+      let row : HasRow (done_for_nothing name to item) name item.uid to Done = ap (λ (x : Book). map.get x.rows (item.uid, to)) is ∙ get_new text_pairs map.empty (item.uid, to) Done in
+      let has : Has (done_for_nothing name to item) name item = ap (λ (x : Book). map.get x.items item.uid) is ∙ get_new texts map.empty item.uid item in
+      apart (sym (from_caller name name item rows set.empty to name (h.done name to item row has)).0)
+
+  no_success : IsHonest plan (success_for_nothing caller name item) → ⊥
+  no_success h =
+      let link = link_at caller name (Replying set.empty item 0) in
+      none_in pair_cmp (caller, item.uid) (h.replies 1 link set.empty item (get_new numbers start.links 1 link) refl).arrival
+
+  all_gone : NothingLost plan (done_and_gone caller name to item) → ⊥
+  all_gone h =
+      let rows : FinMap pair_cmp Progress = map.insert map.empty (item.uid, to) Done in
+      let b = brought_by caller item rows set.empty in
+      let a = arrived caller name item rows set.empty in
+      let s = h.some caller name item a in
+      elim (h.each caller name item a s.0 s.1) [
+        | inl kept ↦ none_in text_cmp item.uid (kept_of name b s.0 item.uid kept.kept)
+        | inr under ↦ elim (got text_pairs map.empty (item.uid, to) Done (item.uid, under.to) under.row
+            (rows_of name b (last_place caller name under.over).1 (item.uid, under.to) under.row under.at)) [
+              | inl is ↦ queued_not_done under.row is.1 under.queued
+              | inr was ↦ no_row under.row (sym (map.get-empty pair_cmp (item.uid, under.to)) ∙ was.1)
+            ]
+      ]
+
+  abbrev here : Book
+  here = brought_by caller item map.empty set.empty
+
+  abbrev there : Book
+  there = keeps_instead item.uid other
+
+  abbrev w : World
+  w = kept_as_another caller name item other
+
+  at_node : w.books name ≡ here
+  at_node = ap (λ b. cond b here there) (ties_itself texts name)
+
+  no_rows : (at : Text) (q : Pair) (row : Progress) → map.get (w.books at).rows q ≡ Some row → ⊥
+  no_rows at q row h = elim (cases_of (same_text at name)) [
+    | inl same ↦ no_row row (sym (map.get-empty pair_cmp q) ∙ (ap (λ b. map.get (cond b here there).rows q) (sym same) ∙ h))
+    | inr apart ↦ no_row row (sym (map.get-empty pair_cmp q) ∙ (ap (λ b. map.get (cond b here there).rows q) (sym apart) ∙ h))
+  ]
+
+  not_kept : other ≢ item → (dest : Text) → set.contains (w.books dest).kept item.uid ≡ true → Has w dest item → ⊥
+  not_kept differ dest k has = elim (cases_of (same_text dest name)) [
+    | inl same ↦ none_in text_cmp item.uid (ap (λ b. set.contains (cond b here there).kept item.uid) (sym same) ∙ k)
+    | inr apart ↦ differ (inside other item (sym (get_new texts map.empty item.uid other) ∙ (ap (λ b. map.get (cond b here there).items item.uid) (sym apart) ∙ has)))
+  ]
+
+  another_kept : other ≢ item → NothingLost plan (kept_as_another caller name item other) → ⊥
+  another_kept differ h =
+      let a : HasArrival w name caller item = subst (λ b. Brought b caller item) (sym at_node) (brought caller name item map.empty set.empty) in
+      let s = h.some caller name item a in
+      elim (h.each caller name item a s.0 s.1) [
+        | inl kept ↦ not_kept differ s.0 kept.kept kept.has
+        | inr under ↦ no_rows (last_place caller name under.over).1 (item.uid, under.to) under.row under.at
+      ]
+
+pub claims_can_fail : ClaimsCanFail
+claims_can_fail plan caller name to item other away apart differ = record {
+  without_context = no_context plan caller name to item other;
+  without_pairs = no_pairs plan caller name to item other;
+  from_nowhere = from_nowhere plan caller name to item other away;
+  done = nothing_done plan caller name to item other apart;
+  success = no_success plan caller name to item other;
+  gone = all_gone plan caller name to item other;
+  kept = another_kept plan caller name to item other differ;
+}

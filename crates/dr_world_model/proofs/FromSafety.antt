@@ -1,0 +1,164 @@
+-- What is safe has the headline.
+use Rattle.std.specs.Prelude.{◌≡◌, ℕ, ◌≤◌, ◌⊎◌, Bool, true, false, List, [], ◌∷◌, length, zero, suc, Some}
+use Rattle.std.proofs.Common.{refl, sym, ap, subst, ◌∙◌, arith}
+use mathlib.Core.Logic.{inl, inr}
+use Rattle.std.specs.Ordering.{nat_cmp}
+use Rattle.std.specs.FinMap as map
+use Rattle.std.specs.FinSet as set
+use Rattle.dr_base.specs.Texts.{Text}
+use Rattle.dr_route.specs.Routes.{local}
+use Rattle.dr_route.specs.declared.key.Key.{Key}
+use Rattle.dr_plan_model.specs.Networks.{Network}
+use Rattle.dr_plan_model.specs.Walks.{Sends, Keeps, IsReached, IsWalk, last_place, IsDestination, Goes}
+use Rattle.dr_plan_sound.specs.Soundness.{IsSound}
+use Rattle.dr_plan_sound.proofs.Ranks.{sound_has_rank}
+use Rattle.dr_ledger.specs.declared.item.Instance.{Instance}
+use Rattle.dr_ledger.specs.declared.item.Progress.{Progress}
+use Rattle.dr_ledger.specs.declared.item.Progress.TheVariants.{Waiting, Held, Done}
+use Rattle.dr_ledger.specs.Pairs.{pair_cmp}
+use Rattle.dr_world_model.specs.Worlds.{World, Contexts, Stage, Asking, Answering, Rejecting, Open, Storing, Replying, Gone, start}
+use Rattle.dr_world_model.specs.Runs.{Action, Occurs, Adopt, Runs}
+use Rattle.dr_world_model.specs.Claims.{Has, HasArrival, HasRow, CoversHop, IsOpen, IsOrigin, IsQueued, IsKept, IsCovered, Headline}
+use Rattle.dr_world_model.specs.Theorem.{HeadlineHolds}
+use Rattle.dr_world_model.proofs.Walking.{goes_reached, reached_on, destination_before}
+use Rattle.dr_world_model.proofs.Safety.{IsSafe, IsFairStage}
+use Rattle.dr_world_model.proofs.CallsKept.{one_item}
+use Rattle.dr_world_model.proofs.EventsKept.{step_kept}
+use Rattle.dr_world_model.proofs.AdoptionsKept.{adoption_kept, empty_right, no_row}
+
+not_both : (b : Bool) → b ≡ true → b ≡ false → ⊥
+not_both b t f = cc
+
+covers_open : (plan : Network) (w : World) (caller receiver : Text) (stage : Stage) (accepted : Contexts) → IsFairStage plan w caller receiver stage → IsOpen stage accepted → CoversHop plan caller receiver accepted
+covers_open plan w caller receiver Asking accepted fair opened = absurd opened
+covers_open plan w caller receiver (Answering pairs) accepted fair opened = absurd opened
+covers_open plan w caller receiver Rejecting accepted fair opened = absurd opened
+covers_open plan w caller receiver Gone accepted fair opened = absurd opened
+covers_open plan w caller receiver (Open pairs) accepted fair opened = subst (CoversHop plan caller receiver) opened fair
+covers_open plan w caller receiver (Storing pairs item) accepted fair opened = subst (CoversHop plan caller receiver) opened fair.0
+covers_open plan w caller receiver (Replying pairs item status) accepted fair opened = subst (CoversHop plan caller receiver) opened fair.0
+
+no_length : (x : Text) → length (x ∷ []) ≤ 0 → ⊥
+no_length x h = omega arith
+
+one_shorter : (x : Text) (over : List Text) (most : ℕ) → length (x ∷ over) ≤ suc most → length over ≤ most
+one_shorter x over most h = omega arith
+
+-- a walk that ends goes to a node that keeps
+reaches_keeper : (most : ℕ) (plan : Network) → IsSound plan → (key : Key) (caller name : Text) → IsReached plan key caller name →
+    ((over : List Text) → IsWalk plan key caller name over → length over ≤ most) → (dest : Text) × IsDestination plan caller name key dest
+reaches_keeper zero plan sound key caller name reached bound = elim (sound.goes_on key caller name reached) [
+  | inl k ↦ (name, ([], tt, refl, k))
+  | inr s ↦ absurd (let h : length (s.0 ∷ []) ≤ 0 = bound (s.0 ∷ []) (s.1, tt) in no_length s.0 h)
+]
+reaches_keeper (suc most) plan sound key caller name reached bound = elim (sound.goes_on key caller name reached) [
+  | inl k ↦ (name, ([], tt, refl, k))
+  | inr s ↦
+      let d = reaches_keeper most plan sound key name s.0 (reached_on plan key caller name s.0 reached s.1)
+      (λ over walk. one_shorter s.0 over most (bound (s.0 ∷ over) (s.1, walk))) in
+      (d.0, destination_before plan key caller name s.0 d.0 s.1 d.1)
+]
+
+-- what covers the next node's arrival covers this one's
+covered_before : (plan : Network) (w : World) (caller name to : Text) (item : Instance) (dest : Text) → Sends plan name caller item.key to → IsCovered plan w name to item dest → IsCovered plan w caller name item dest
+covered_before plan w caller name to item dest sends (inl k) = inl k
+covered_before plan w caller name to item dest sends (inr u) = inr (record {
+  over = to ∷ u.over;
+  walk = (sends, u.walk);
+  to = u.to;
+  row = u.row;
+  queued = u.queued;
+  at = u.at;
+  has = u.has;
+  goes = u.goes;
+})
+
+-- by a row's state: it is queued, or what is done is covered further on
+by_row : (plan : Network) (w : World) (caller name to : Text) (item : Instance) (dest : Text) → Sends plan name caller item.key to → IsDestination plan name to item.key dest → Has w name item →
+    (row : Progress) → map.get (w.books name).rows (item.uid, to) ≡ Some row → (row ≡ Done → IsCovered plan w name to item dest) → IsCovered plan w caller name item dest
+by_row plan w caller name to item dest sends goes has (Waiting tries due) at further = inr (record { over = []; walk = tt; to = to; row = Waiting tries due; queued = tt; at = at; has = has; goes = goes })
+by_row plan w caller name to item dest sends goes has (Held cause) at further = inr (record { over = []; walk = tt; to = to; row = Held cause; queued = tt; at = at; has = has; goes = goes })
+by_row plan w caller name to item dest sends goes has Done at further = covered_before plan w caller name to item dest sends (further refl)
+
+-- by the walk to the destination: a queued row covers it, or the next node has the arrival
+covered : (over : List Text) (plan : Network) (w : World) → IsSafe plan w → (caller name : Text) (item : Instance) (dest : Text) → HasArrival w name caller item →
+    IsWalk plan item.key caller name over → (last_place caller name over).1 ≡ dest → Keeps plan dest (last_place caller name over).0 item.key → IsCovered plan w caller name item dest
+covered [] plan w safe caller name item dest a walk here keeps = inl (subst (IsKept w item) here (record {
+  kept = (safe.books name).kept caller item a (subst (λ (d : Text). Keeps plan d caller item.key) (sym here) keeps);
+  has = a.item_is;
+}))
+covered (to ∷ over) plan w safe caller name item dest a walk last keeps =
+    let row = (safe.books name).rows caller to item a walk.0 in
+    by_row plan w caller name to item dest walk.0 (over, walk.1, last, keeps) a.item_is row.0 row.1
+    (λ done. covered over plan w safe name to item dest (safe.done name to item (row.1 ∙ ap Some done) a.item_is) walk.1 last keeps)
+
+origin_reached : (plan : Network) (w : World) → IsSafe plan w → (caller name : Text) (item : Instance) → IsOrigin w caller name item → IsReached plan item.key caller name
+origin_reached plan w safe caller name item (inl a) = subst (λ c. IsReached plan item.key c name) (sym a.0) ((safe.books name).reached local item a.1)
+origin_reached plan w safe caller name item (inr r) =
+    let s = (safe.books caller).stands item.uid name r.0.0 r.0.1 in
+    goes_reached plan item.key caller name (subst (λ (i : Instance). Goes plan i.key caller name) (one_item w caller s.item item s.named s.has r.1) s.goes)
+
+-- a row that stood is queued, or its node has the arrival
+stood_covered : (plan : Network) (w : World) → IsSafe plan w → (name to : Text) (item : Instance) (dest : Text) → Has w name item → IsDestination plan name to item.key dest →
+    (row : Progress) → HasRow w name item.uid to row →
+    ((row : Progress) × HasRow w name item.uid to row × IsQueued row) ⊎ (HasArrival w to name item × IsCovered plan w name to item dest)
+stood_covered plan w safe name to item dest has d (Waiting tries due) at = inl (Waiting tries due, at, tt)
+stood_covered plan w safe name to item dest has d (Held cause) at = inl (Held cause, at, tt)
+stood_covered plan w safe name to item dest has d Done at =
+    let a = safe.done name to item at has in
+    inr (a, covered d.0 plan w safe name to item dest a d.1 d.2 d.3)
+
+pub safe_headline : (plan : Network) (w : World) → IsSound plan → IsSafe plan w → Headline plan w
+safe_headline plan w sound safe = record {
+  items = record {
+    arrived = λ name caller uid h.
+        let k = (safe.books name).known caller uid h in
+        let u = (safe.books name).named uid k.0 k.1 in
+        (k.0, u, record { arrival = ap (λ x. set.contains (w.books name).arrivals (caller, x)) u ∙ h; item_is = ap (map.get (w.books name).items) u ∙ k.1 });
+    named = λ name. (safe.books name).named;
+  };
+  none_refused = record {
+    lines = λ name. (safe.books name).lines;
+    agreed = λ number link accepted h opened. covers_open plan w link.caller link.receiver link.stage accepted (safe.links number link h) opened;
+  };
+  within_rank = λ caller name item a.
+      let source = safe.sources name caller item a in
+      let ranked = sound_has_rank plan sound item.key source.first source.site (origin_reached plan w safe source.first source.site item source.origin) in
+      (source, (ranked.0, ranked.1, ranked.1.greatest source.over source.walk));
+  honest = record {
+    replies = λ number link accepted item h stage. (subst (IsFairStage plan w link.caller link.receiver) stage (safe.links number link h)).3 refl;
+    done = λ name to item row has. safe.done name to item row has;
+    rows = λ name uid to row h. let f = (safe.books name).from uid to row h in (f.item, f.named, f.has, f.why);
+  };
+  nothing_lost = record {
+    some = λ caller name item a.
+        let reached = (safe.books name).reached caller item a in
+        let ranked = sound_has_rank plan sound item.key caller name reached in
+        reaches_keeper ranked.0 plan sound item.key caller name reached ranked.1.greatest;
+    each = λ caller name item a dest d. covered d.0 plan w safe caller name item dest a d.1 d.2 d.3;
+    carried_some = λ name to item stood has.
+        let reached = origin_reached plan w safe name to item (inr (stood, has)) in
+        let ranked = sound_has_rank plan sound item.key name to reached in
+        reaches_keeper ranked.0 plan sound item.key name to reached ranked.1.greatest;
+    carried_each = λ name to item stood has dest d.
+        let s = (safe.books name).stands item.uid to stood.0 stood.1 in
+        stood_covered plan w safe name to item dest has d s.row.0 s.row.1;
+  };
+}
+
+-- ---- runs
+pub start_safe : (plan : Network) → IsSafe plan start
+start_safe plan = record {
+  books = λ name. empty_right plan name map.empty (λ at. map.get-empty pair_cmp at);
+  sources = λ name caller item h. absurd (not_both _ h.arrival (set.contains-empty pair_cmp (caller, item.uid)));
+  done = λ name to item h i. absurd (no_row Done (sym (map.get-empty pair_cmp (item.uid, to)) ∙ h));
+  links = λ number link h. absurd (no_row link (sym (map.get-empty nat_cmp number) ∙ h));
+}
+
+pub run_kept : (actions : List Action) (plan last : Network) → IsSound plan → (w new : World) → IsSafe plan w → Runs plan w actions last new → IsSafe last new × IsSound last
+run_kept [] plan last sound w new safe r = (subst (λ (p : Network × World). IsSafe p.0 p.1) (λ j. (sym r.0 j, sym r.1 j)) safe, subst IsSound (sym r.0) sound)
+run_kept (Occurs event ∷ actions) plan last sound w new safe r = run_kept actions plan last sound r.0 new (step_kept plan sound event w r.0 safe r.1).safe r.2
+run_kept (Adopt next ∷ actions) plan last sound w new safe r = run_kept actions next last r.0.1 r.1.0 new (adoption_kept plan next w r.1.0 safe r.1.1) r.1.2
+
+pub headline_holds : HeadlineHolds
+headline_holds plan sound actions last w r = let k = run_kept actions plan last sound start w (start_safe plan) r in safe_headline last w k.1 k.0

@@ -1,0 +1,164 @@
+-- What holds of the message world over a sound plan, after any events: nothing is refused for want of a presentation context, each
+-- arrival lies within its rank of its source, what was answered with success is there, and nothing acknowledged is lost.
+use Rattle.std.specs.Prelude.{◌≡◌, ℕ, ◌≤◌, ◌⊎◌, true, List, length, Contains, Some}
+use Rattle.std.specs.FinMap as map
+use Rattle.std.specs.FinSet as set
+use Rattle.dr_base.specs.Texts.{Text}
+use Rattle.dr_base.specs.declared.syntax.Syntax.{Syntax}
+use Rattle.dr_route.specs.Routes.{local}
+use Rattle.dr_plan_model.specs.Networks.{Network}
+use Rattle.dr_plan_model.specs.Walks.{Sends, IsWalk, last_place, GoesOver, IsDestination}
+use Rattle.dr_plan_sound.specs.Soundness.{IsRank}
+use Rattle.dr_ledger.specs.declared.item.Instance.{Instance}
+use Rattle.dr_ledger.specs.declared.item.Outcome.{Outcome}
+use Rattle.dr_ledger.specs.declared.item.Outcome.TheVariants.{Status, Broken, NoContext}
+use Rattle.dr_ledger.specs.declared.item.Progress.{Progress}
+use Rattle.dr_ledger.specs.declared.item.Progress.TheVariants.{Waiting, Held, Done}
+use Rattle.dr_ledger.specs.Books.{Book, Line, Arrival, Repeat, Settling, Requeuing, Adoption}
+use Rattle.dr_world_model.specs.Worlds.{World, Link, Contexts, Stage, Asking, Answering, Rejecting, Open, Storing, Replying, Gone}
+use Rattle.dr_world_model.specs.Steps.{IsLink}
+
+-- ---- what a node has
+
+-- the node's book has this very item
+abbrev pub Has : World → Text → Instance → Type 0
+Has w name item = map.get (w.books name).items item.uid ≡ Some item
+
+-- the caller has brought this very item
+pub record Brought (book : Book) (caller : Text) (item : Instance) : Type 0 where
+  pub arrival : set.contains book.arrivals (caller, item.uid) ≡ true
+  pub item_is : map.get book.items item.uid ≡ Some item
+
+-- the caller has brought this very item to the node
+abbrev pub HasArrival : World → Text → Text → Instance → Type 0
+HasArrival w name caller item = Brought (w.books name) caller item
+
+-- how far the node is with the uid on its way to the next node
+abbrev pub HasRow : World → Text → Text → Text → Progress → Type 0
+HasRow w name uid to row = map.get (w.books name).rows (uid, to) ≡ Some row
+
+-- a row for the uid and the destination stood in the node's book when the plan was adopted
+abbrev pub WasCarriedOver : World → Text → Text → Text → Type 0
+WasCarriedOver w name uid to = (row : Progress) × (map.get (w.carried_over name) (uid, to) ≡ Some row)
+
+-- Each arrival in a book is of an item there, and each item stands under its own uid.
+pub record HasItems (w : World) : Type 0 where
+  pub arrived : (name caller uid : Text) → set.contains (w.books name).arrivals (caller, uid) ≡ true → (item : Instance) × (item.uid ≡ uid) × HasArrival w name caller item
+  pub named : (name uid : Text) (item : Instance) → map.get (w.books name).items uid ≡ Some item → item.uid ≡ uid
+
+-- ---- 1. nothing is refused for want of a presentation context
+
+-- a status that a sound plan leaves room for: success, out of resources, or other data under this uid
+abbrev pub IsFairStatus : ℕ → Type 0
+IsFairStatus status = (status ≡ 0) ⊎ ((status ≡ 0xA700) ⊎ (status ≡ 0xC0F1))
+
+-- the outcome of a try is fair: a fair status, or no answer; want of a presentation context is not
+abbrev pub IsFairOutcome : Outcome → Type 0
+IsFairOutcome (Status status) = IsFairStatus status
+IsFairOutcome Broken = Unit {0}
+IsFairOutcome NoContext = ⊥
+
+-- each settling of a journal has a fair outcome; other lines have none
+abbrev pub IsFairLine : Line → Type 0
+IsFairLine (Arrival caller item to keep) = Unit {0}
+IsFairLine (Repeat caller item) = Unit {0}
+IsFairLine (Settling uid dest outcome now) = IsFairOutcome outcome
+IsFairLine (Requeuing uid dest) = Unit {0}
+IsFairLine Adoption = Unit {0}
+
+-- each pair that goes over the hop was accepted
+abbrev pub CoversHop : Network → Text → Text → Contexts → Type 0
+CoversHop plan caller receiver accepted = (pair : Text × Syntax) → GoesOver plan caller receiver pair → set.contains accepted pair ≡ true
+
+-- the link is open, with these pairs
+abbrev pub IsOpen : Stage → Contexts → Type 0
+IsOpen Asking pairs = ⊥
+IsOpen (Answering accepted) pairs = ⊥
+IsOpen Rejecting pairs = ⊥
+IsOpen Gone pairs = ⊥
+IsOpen (Open accepted) pairs = accepted ≡ pairs
+IsOpen (Storing accepted item) pairs = accepted ≡ pairs
+IsOpen (Replying accepted item status) pairs = accepted ≡ pairs
+
+-- No line settles for want of a context, and over each open link all that goes over its hop was accepted.
+pub record NoneRefused (plan : Network) (w : World) : Type 0 where
+  pub lines : (name : Text) (line : Line) → Contains (w.books name).lines line → IsFairLine line
+  pub agreed : (number : ℕ) (link : Link) (accepted : Contexts) → IsLink w number link → IsOpen link.stage accepted → CoversHop plan link.caller link.receiver accepted
+
+-- ---- 2. each arrival lies within its rank of its source
+
+-- the item entered at the node, or stood at the caller for the node when the plan was adopted
+abbrev pub IsOrigin : World → Text → Text → Instance → Type 0
+IsOrigin w caller name item = ((caller ≡ local) × HasArrival w name local item) ⊎ (WasCarriedOver w caller item.uid name × Has w caller item)
+
+-- where the item began, and a walk by which it came
+pub record HasSource (plan : Network) (w : World) (caller name : Text) (item : Instance) : Type 0 where
+  pub first : Text
+  pub site : Text
+  pub origin : IsOrigin w first site item
+  pub over : List Text
+  pub walk : IsWalk plan item.key first site over
+  pub last_is : last_place first site over ≡ (caller, name)
+
+-- Each arrival has a source, by a walk no longer than the rank there.
+abbrev pub WithinRank : Network → World → Type 0
+WithinRank plan w = (caller name : Text) (item : Instance) → HasArrival w name caller item →
+    (source : HasSource plan w caller name item) × ((rank : ℕ) × IsRank plan item.key source.first source.site rank × (length source.over ≤ rank))
+
+-- ---- 3. what was answered with success is there
+
+-- Where success is under way the receiver has the arrival, where a row is done the next node has it, and each row has a reason.
+pub record IsHonest (plan : Network) (w : World) : Type 0 where
+  pub replies : (number : ℕ) (link : Link) (accepted : Contexts) (item : Instance) → IsLink w number link → link.stage ≡ Replying accepted item 0 →
+      HasArrival w link.receiver link.caller item
+  pub done : (name to : Text) (item : Instance) → HasRow w name item.uid to Done → Has w name item → HasArrival w to name item
+  pub rows : (name uid to : Text) (row : Progress) → HasRow w name uid to row → (item : Instance) × (item.uid ≡ uid) × Has w name item
+      × (((caller : Text) × HasArrival w name caller item × Sends plan name caller item.key to) ⊎ WasCarriedOver w name uid to)
+
+-- ---- 4. nothing acknowledged is lost
+
+-- a row that isn't done: it waits, or is held
+abbrev pub IsQueued : Progress → Type 0
+IsQueued (Waiting tries due) = Unit {0}
+IsQueued (Held cause) = Unit {0}
+IsQueued Done = ⊥
+
+-- some node on a walk has the item queued, on its way to the destination
+pub record IsUnderway (plan : Network) (w : World) (caller name : Text) (item : Instance) (dest : Text) : Type 0 where
+  pub over : List Text
+  pub walk : IsWalk plan item.key caller name over
+  pub to : Text
+  pub row : Progress
+  pub queued : IsQueued row
+  pub at : HasRow w (last_place caller name over).1 item.uid to row
+  pub has : Has w (last_place caller name over).1 item
+  pub goes : IsDestination plan (last_place caller name over).1 to item.key dest
+
+-- the destination keeps the item, unchanged
+pub record IsKept (w : World) (item : Instance) (dest : Text) : Type 0 where
+  pub kept : set.contains (w.books dest).kept item.uid ≡ true
+  pub has : Has w dest item
+
+-- the destination keeps the item, or some node has it under way to there
+abbrev pub IsCovered : Network → World → Text → Text → Instance → Text → Type 0
+IsCovered plan w caller name item dest = IsKept w item dest ⊎ IsUnderway plan w caller name item dest
+
+-- Each arrival has a destination and is covered for each. So is each row that stood when the plan was adopted: by itself
+-- while it is queued, else by the arrival at its node.
+pub record NothingLost (plan : Network) (w : World) : Type 0 where
+  pub some : (caller name : Text) (item : Instance) → HasArrival w name caller item → (dest : Text) × IsDestination plan caller name item.key dest
+  pub each : (caller name : Text) (item : Instance) → HasArrival w name caller item → (dest : Text) → IsDestination plan caller name item.key dest →
+      IsCovered plan w caller name item dest
+  pub carried_some : (name to : Text) (item : Instance) → WasCarriedOver w name item.uid to → Has w name item → (dest : Text) × IsDestination plan name to item.key dest
+  pub carried_each : (name to : Text) (item : Instance) → WasCarriedOver w name item.uid to → Has w name item → (dest : Text) → IsDestination plan name to item.key dest →
+      ((row : Progress) × HasRow w name item.uid to row × IsQueued row) ⊎ (HasArrival w to name item × IsCovered plan w name to item dest)
+
+-- ---- all of it
+
+-- all four claims of the plan in force
+pub record Headline (plan : Network) (w : World) : Type 0 where
+  pub items : HasItems w
+  pub none_refused : NoneRefused plan w
+  pub within_rank : WithinRank plan w
+  pub honest : IsHonest plan w
+  pub nothing_lost : NothingLost plan w

@@ -1,0 +1,93 @@
+-- For each claim of the headline a world of which it is false, so that none of them is said of every world.
+use Rattle.std.specs.Prelude.{◌≡◌, ◌≢◌, ℕ, true, List, [], ◌∷◌, cond}
+use Rattle.std.specs.FinMap as map
+use Rattle.std.specs.FinMap.{FinMap}
+use Rattle.std.specs.FinSet as set
+use Rattle.std.specs.FinSet.{FinSet}
+use Rattle.dr_base.specs.Texts.{Text, text_cmp}
+use Rattle.dr_base.specs.declared.syntax.Syntax.{Syntax}
+use Rattle.dr_route.specs.Routes.{local}
+use Rattle.dr_plan_model.specs.Networks.{Network}
+use Rattle.dr_plan_model.specs.Walks.{GoesOver}
+use Rattle.dr_ledger.specs.declared.item.Instance.{Instance}
+use Rattle.dr_ledger.specs.declared.item.Outcome.TheVariants.{NoContext}
+use Rattle.dr_ledger.specs.declared.item.Progress.{Progress}
+use Rattle.dr_ledger.specs.declared.item.Progress.TheVariants.{Done}
+use Rattle.dr_ledger.specs.Books.{Book, Settling}
+use Rattle.dr_ledger.specs.Pairs.{pair_cmp}
+use Rattle.dr_world_model.specs.Worlds.{World, Link, Stage, Open, Replying, same_text, start, with_book, with_link}
+use Rattle.dr_world_model.specs.Claims.{NoneRefused, WithinRank, IsHonest, NothingLost}
+
+-- a book with just that item, brought by that caller, and with these rows and kept uids
+abbrev pub brought_by : Text → Instance → FinMap pair_cmp Progress → FinSet text_cmp → Book
+brought_by caller item rows kept = record {
+  items = map.insert map.empty item.uid item;
+  arrivals = set.insert set.empty (caller, item.uid);
+  kept = kept;
+  rows = rows;
+  lines = [];
+}
+
+-- the world in which one node alone has a book
+abbrev pub only : Text → Book → World
+only name book = with_book start name book
+
+-- a link that is connected at both ends
+abbrev pub link_at : Text → Text → Stage → Link
+link_at caller receiver stage = record { caller = caller; receiver = receiver; caller_connected = true; receiver_connected = true; stage = stage }
+
+-- against claim 1: a row was settled for want of a presentation context
+abbrev pub settled_without_context : Text → Text → Text → World
+settled_without_context name uid dest =
+    only name (record { items = map.empty; arrivals = set.empty; kept = set.empty; rows = map.empty; lines = Settling uid dest NoContext 0 ∷ [] })
+
+-- against claim 1: a link is open, and none of the pairs of its hop was accepted
+abbrev pub opened_without_pairs : Text → Text → World
+opened_without_pairs caller receiver = with_link start 1 (link_at caller receiver (Open set.empty))
+
+-- against claim 2: an instance has arrived from a caller that never had it
+abbrev pub come_from_nowhere : Text → Text → Instance → World
+come_from_nowhere caller name item = only name (brought_by caller item map.empty set.empty)
+
+-- against claim 3: a row is done, and the node that it was for has no arrival
+abbrev pub done_for_nothing : Text → Text → Instance → World
+done_for_nothing name to item = only name (brought_by name item (map.insert map.empty (item.uid, to) Done) set.empty)
+
+-- against claim 3: success is under way on a link, and its receiver has no arrival
+abbrev pub success_for_nothing : Text → Text → Instance → World
+success_for_nothing caller receiver item = with_link start 1 (link_at caller receiver (Replying set.empty item 0))
+
+-- against claim 4: the one row of an arrival is done, and no other node has anything
+abbrev pub done_and_gone : Text → Text → Text → Instance → World
+done_and_gone caller name to item = only name (brought_by caller item (map.insert map.empty (item.uid, to) Done) set.empty)
+
+-- a book that keeps another item under the uid
+abbrev pub keeps_instead : Text → Instance → Book
+keeps_instead uid other =
+    record { items = map.insert map.empty uid other; arrivals = set.empty; kept = set.insert set.empty uid; rows = map.empty; lines = [] }
+
+-- against claim 4: an arrival has no row, and every other node keeps another item under its uid
+abbrev pub kept_as_another : Text → Text → Instance → Instance → World
+kept_as_another caller name item other = record {
+  time = 0;
+  books = λ at. cond (same_text at name) (brought_by caller item map.empty set.empty) (keeps_instead item.uid other);
+  carried_over = λ at. map.empty;
+  armed = set.empty;
+  links = map.empty;
+  opened = 0;
+}
+
+-- Each claim is false of its worlds, over every plan.
+pub record ClaimsFail (plan : Network) (caller name to : Text) (item other : Instance) : Type 0 where
+  pub without_context : NoneRefused plan (settled_without_context name item.uid to) → ⊥
+  pub without_pairs : (pair : Text × Syntax) → GoesOver plan caller name pair → NoneRefused plan (opened_without_pairs caller name) → ⊥
+  pub from_nowhere : WithinRank plan (come_from_nowhere caller name item) → ⊥
+  pub done : IsHonest plan (done_for_nothing name to item) → ⊥
+  pub success : IsHonest plan (success_for_nothing caller name item) → ⊥
+  pub gone : NothingLost plan (done_and_gone caller name to item) → ⊥
+  pub kept : NothingLost plan (kept_as_another caller name item other) → ⊥
+
+-- each claim is false of some world, over every plan, where the caller is no local one and nodes and items differ
+abbrev pub ClaimsCanFail : Type 0
+ClaimsCanFail = (plan : Network) (caller name to : Text) (item other : Instance) → caller ≢ local → name ≢ to → other ≢ item →
+    ClaimsFail plan caller name to item other

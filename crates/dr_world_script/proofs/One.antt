@@ -1,0 +1,105 @@
+-- A line tells one step.
+use Rattle.std.proofs.Common.{◌≡◌, ◌≢◌, ℕ, List, [], ◌∷◌, Result, Ok, decimal, refl, sym, ap, subst, ◌∙◌}
+use mathlib.Core.Bool.{true≢false}
+use Rattle.std.specs.Prelude.{codes}
+use Rattle.std.specs.Str.{bytes_eq}
+use Rattle.std.specs.List.{AllZip}
+use Rattle.std.proofs.lemmas.Fmt.{decimal_injective}
+use Rattle.hex.specs.Hex.{decode_of}
+use Rattle.dr_base.specs.Texts.{Text}
+use Rattle.dr_base.specs.declared.syntax.Syntax.{Syntax}
+use Rattle.dr_base.specs.declared.syntax.Syntax.TheVariants.{Implicit, Explicit}
+use Rattle.dr_ledger.specs.declared.content.Job.{Job}
+use Rattle.dr_ledger.specs.declared.content.ItemFault.{ItemFault}
+use Rattle.dr_ledger.specs.Items.{IsItem}
+use Rattle.dr_ledger.proofs.Reading.{items_are_one}
+use Rattle.dr_world_script.specs.declared.step.Side.{Side}
+use Rattle.dr_world_script.specs.declared.step.Side.TheVariants.{Requestor, Acceptor}
+use Rattle.dr_world_script.specs.declared.step.Step.{Step}
+use Rattle.dr_world_script.specs.declared.step.Step.TheVariants.{Submit, Open, Push, Move, Abort, Release, Close, Late, Restart, Requeue, Tick, RefuseStore}
+use Rattle.dr_world_script.specs.declared.step.Word.{Word}
+use Rattle.dr_world_script.specs.declared.step.Word.TheVariants as word
+use Rattle.dr_world_script.specs.Laws.{OneStepForALine, OneScriptForAText}
+use Rattle.dr_world_script.specs.Scripts.{AreEnd, AreMove, AreNumber, Follows, IsNumber, Tells, side_word, spelled, syntax_letter, told_lines}
+use Rattle.dr_world_script.proofs.Spelling.{spelled_one}
+
+number_one : (n m : ℕ) (field other : Text) → IsNumber n field → IsNumber m other → field ≡ other → n ≡ m
+number_one n m field other a b e = decimal_injective n m a.1 b.1 (a.0 ∙ e ∙ sym b.0)
+
+only_number : (n m : ℕ) (fields : List Text) → AreNumber n fields → AreNumber m fields → n ≡ m
+only_number n m fields (f, e, a) (g, d, b) = number_one n m f g a b (let h : f ∷ [] ≡ g ∷ [] = sym e ∙ d in cc)
+
+side_one : (a b : Side) → side_word a ≡ side_word b → a ≡ b
+side_one Requestor Requestor e = refl
+side_one Requestor Acceptor e = absurd (cc)
+side_one Acceptor Requestor e = absurd (cc)
+side_one Acceptor Acceptor e = refl
+
+letter_one : (a b : Syntax) → syntax_letter a ≡ syntax_letter b → a ≡ b
+letter_one Implicit Implicit e = refl
+letter_one Implicit Explicit e = absurd (true≢false (ap (λ t. bytes_eq t (codes "I")) e))
+letter_one Explicit Implicit e = absurd (true≢false (ap (λ t. bytes_eq t (codes "E")) e))
+letter_one Explicit Explicit e = refl
+
+end_one : (n m : ℕ) (s t : Side) (fields : List Text) → AreEnd n s fields → AreEnd m t fields → (n ≡ m) × (s ≡ t)
+end_one n m s t fields (f, e, a) (g, d, b) =
+    let h : f ∷ side_word s ∷ [] ≡ g ∷ side_word t ∷ [] = sym e ∙ d in
+    (number_one n m f g a b (cc), side_one s t (cc))
+
+move_one : (n m k l : ℕ) (s t : Side) (fields : List Text) → AreMove n s k fields → AreMove m t l fields → (n ≡ m) × (s ≡ t) × (k ≡ l)
+move_one n m k l s t fields (f, c, e, a, p) (g, d, h, b, q) =
+    let i : f ∷ side_word s ∷ c ∷ [] ≡ g ∷ side_word t ∷ d ∷ [] = sym e ∙ h in
+    (number_one n m f g a b (cc), side_one s t (cc), number_one k l c d p q (cc))
+
+-- an item is what its data set has in its transfer syntax
+item_one : (a b : Job) → IsItem a → IsItem b → a.key.syntax ≡ b.key.syntax → a.body ≡ b.body → a ≡ b
+item_one a b is also of_syntax of_body =
+    let both : ◌≡◌ {A = Result Job ItemFault} (Ok a) (Ok b) = items_are_one a.key.syntax a.body (Ok a) (Ok b) (λ e. cc) (λ e. cc) (is, refl, refl) (also, sym of_syntax, sym of_body) in
+    cc
+
+submit_one : (node mode digits figures : Text) (a b : Job) (fields : List Text) → fields ≡ node ∷ syntax_letter a.key.syntax ∷ digits ∷ [] → fields ≡ mode ∷ syntax_letter b.key.syntax ∷ figures ∷ [] →
+    decode_of digits ≡ Ok a.body → decode_of figures ≡ Ok b.body → IsItem a → IsItem b → (node ≡ mode) × (a ≡ b)
+submit_one node mode digits figures a b fields e d p q is also =
+    let h : node ∷ syntax_letter a.key.syntax ∷ digits ∷ [] ≡ mode ∷ syntax_letter b.key.syntax ∷ figures ∷ [] = sym e ∙ d in
+    let same : digits ≡ figures = cc in
+    let bodies : ◌≡◌ {A = Result (List ℕ) _} (Ok a.body) (Ok b.body) = sym p ∙ ap decode_of same ∙ q in
+    (cc, item_one a b is also (letter_one a.key.syntax b.key.syntax (cc)) (cc))
+
+follow_one : (w : Word) (fields : List Text) (a b : Step) → Follows w fields a → Follows w fields b → a ≡ b
+follow_one word.Submit fields a b (node, digits, item, e, d, p, is) (mode, figures, job, f, g, q, also) =
+    let h = submit_one node mode digits figures item job fields d g p q is also in e ∙ (rw (h.0, h.1) refl) ∙ sym f
+follow_one word.Open fields a b (x, y, e, d) (u, v, f, g) =
+    let h : x ∷ y ∷ [] ≡ u ∷ v ∷ [] = sym d ∙ g in let p : x ≡ u = cc in let q : y ≡ v = cc in e ∙ (rw (p, q) refl) ∙ sym f
+follow_one word.Push fields a b (n, e, is) (m, f, also) = e ∙ ap Push (only_number n m fields is also) ∙ sym f
+follow_one word.Move fields a b (n, k, s, e, is) (m, l, t, f, also) =
+    let h = move_one n m k l s t fields is also in e ∙ (rw (h.0, h.1, h.2) refl) ∙ sym f
+follow_one word.Abort fields a b (n, s, e, is) (m, t, f, also) = let h = end_one n m s t fields is also in e ∙ (rw (h.0, h.1) refl) ∙ sym f
+follow_one word.Release fields a b (n, e, is) (m, f, also) = e ∙ ap Release (only_number n m fields is also) ∙ sym f
+follow_one word.Close fields a b (n, e, is) (m, f, also) = e ∙ ap Close (only_number n m fields is also) ∙ sym f
+follow_one word.Late fields a b (n, s, e, is) (m, t, f, also) = let h = end_one n m s t fields is also in e ∙ (rw (h.0, h.1) refl) ∙ sym f
+follow_one word.Restart fields a b (x, e, d) (u, f, g) = let h : x ∷ [] ≡ u ∷ [] = sym d ∙ g in let p : x ≡ u = cc in e ∙ ap Restart p ∙ sym f
+follow_one word.Requeue fields a b (x, y, z, e, d) (u, v, w, f, g) =
+    let h : x ∷ y ∷ z ∷ [] ≡ u ∷ v ∷ w ∷ [] = sym d ∙ g in
+    let p : x ≡ u = cc in let q : y ≡ v = cc in let r : z ≡ w = cc in e ∙ (rw (p, q, r) refl) ∙ sym f
+follow_one word.Tick fields a b (n, e, is) (m, f, also) = e ∙ ap Tick (only_number n m fields is also) ∙ sym f
+follow_one word.Refuse fields a b (x, e, d) (u, f, g) = let h : x ∷ [] ≡ u ∷ [] = sym d ∙ g in let p : x ≡ u = cc in e ∙ ap RefuseStore p ∙ sym f
+
+pub step_one : OneStepForALine
+step_one line a b (v, fields, e, s) (w, others, d, t) =
+    let h : spelled v ∷ fields ≡ spelled w ∷ others = sym e ∙ d in
+    let same : v ≡ w = spelled_one v w (cc) in
+    let rest : fields ≡ others = cc in
+    let P : Word → Type 0 = λ x. Follows x others b in
+    let Q : List Text → Type 0 = λ fs. Follows v fs b in
+    follow_one v fields a b s (subst Q (sym rest) (subst P (sym same) t))
+
+steps_one : (lines : List Text) (some others : List Step) → AllZip Tells lines some → AllZip Tells lines others → some ≡ others
+steps_one [] [] [] a b = refl
+steps_one [] [] (y ∷ ys) a b = absurd b
+steps_one [] (x ∷ xs) ys a b = absurd a
+steps_one (l ∷ ls) [] ys a b = absurd a
+steps_one (l ∷ ls) (x ∷ xs) [] a b = absurd b
+steps_one (l ∷ ls) (x ∷ xs) (y ∷ ys) a b = let p = step_one l x y a.0 b.0 in let q = steps_one ls xs ys a.1 b.1 in rw (p, q) refl
+
+pub script_one : OneScriptForAText
+script_one text some others a b = steps_one (told_lines text) some others a b

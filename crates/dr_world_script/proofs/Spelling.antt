@@ -1,0 +1,41 @@
+-- The words are told apart by how they are spelled.
+use Rattle.std.proofs.Common.{◌≡◌, ℕ, List, refl, sym, ap, ◌∙◌}
+use Rattle.std.specs.Prelude.{codes, if◌then◌else◌, Option, Some, None}
+use Rattle.std.specs.Str.{bytes_eq}
+use Rattle.dr_base.specs.Texts.{Text}
+use Rattle.dr_world_script.specs.declared.step.Word.{Word}
+use Rattle.dr_world_script.specs.declared.step.Word.TheVariants.{Submit, Open, Push, Move, Abort, Release, Close, Late, Restart, Requeue, Tick, Refuse}
+use Rattle.dr_world_script.specs.Scripts.{spelled}
+
+word_in : Text → Option Word
+word_in text =
+    if bytes_eq text (codes "submit") then Some Submit else
+    if bytes_eq text (codes "open") then Some Open else
+    if bytes_eq text (codes "push") then Some Push else
+    if bytes_eq text (codes "move") then Some Move else
+    if bytes_eq text (codes "abort") then Some Abort else
+    if bytes_eq text (codes "release") then Some Release else
+    if bytes_eq text (codes "close") then Some Close else
+    if bytes_eq text (codes "late") then Some Late else
+    if bytes_eq text (codes "restart") then Some Restart else
+    if bytes_eq text (codes "requeue") then Some Requeue else
+    if bytes_eq text (codes "tick") then Some Tick else
+    Some Refuse
+
+known : (w : Word) → word_in (spelled w) ≡ Some w
+unfolding word_in
+known Submit = refl
+known Open = refl
+known Push = refl
+known Move = refl
+known Abort = refl
+known Release = refl
+known Close = refl
+known Late = refl
+known Restart = refl
+known Requeue = refl
+known Tick = refl
+known Refuse = refl
+
+pub spelled_one : (a b : Word) → spelled a ≡ spelled b → a ≡ b
+spelled_one a b e = let same : ◌≡◌ {A = Option Word} (Some a) (Some b) = sym (known a) ∙ ap word_in e ∙ known b in cc

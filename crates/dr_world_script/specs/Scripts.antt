@@ -1,0 +1,133 @@
+-- Scripts: a step a line, its fields joined by tabs.
+use Rattle.std.specs.Prelude.{◌≡◌, ◌⊎◌, ℕ, ◌+◌, ◌<◌, ◌^◌, ◌==◌, Bool, true, false, List, [], ◌∷◌, ◌++◌, All, length, codes, decimal, filter, not, Result, Ok, Err}
+use Rattle.std.specs.List.{AllZip}
+use Rattle.std.specs.Borrow.{Bor}
+use Rattle.hex.specs.Hex.{decode_of}
+use Rattle.dr_base.specs.Texts.{Text}
+use Rattle.dr_base.specs.declared.syntax.Syntax.{Syntax}
+use Rattle.dr_base.specs.declared.syntax.Syntax.TheVariants.{Implicit, Explicit}
+use Rattle.dr_cert_text.specs.Cuts.{cuts}
+use Rattle.dr_ledger.specs.Items.{IsItem}
+use Rattle.dr_ledger.specs.declared.content.Job.{Job}
+use Rattle.dr_world_script.specs.declared.step.Side.{Side}
+use Rattle.dr_world_script.specs.declared.step.Side.TheVariants.{Requestor, Acceptor}
+use Rattle.dr_world_script.specs.declared.step.Step.{Step}
+use Rattle.dr_world_script.specs.declared.step.Step.TheVariants.{Submit, Open, Push, Move, Abort, Release, Close, Late, Restart, Requeue, Tick, RefuseStore}
+use Rattle.dr_world_script.specs.declared.step.Word.{Word}
+use Rattle.dr_world_script.specs.declared.step.Word.TheVariants as word
+use Rattle.dr_world_script.specs.declared.fault.LineFault.{LineFault}
+use Rattle.dr_world_script.specs.declared.fault.LineFault.TheVariants as lines
+use Rattle.dr_world_script.specs.declared.fault.ScriptFault.{ScriptFault}
+use Rattle.dr_world_script.specs.declared.fault.ScriptFault.TheVariants as script
+
+-- how a word is spelled
+abbrev pub spelled : Word → Text
+spelled word.Submit = codes "submit"
+spelled word.Open = codes "open"
+spelled word.Push = codes "push"
+spelled word.Move = codes "move"
+spelled word.Abort = codes "abort"
+spelled word.Release = codes "release"
+spelled word.Close = codes "close"
+spelled word.Late = codes "late"
+spelled word.Restart = codes "restart"
+spelled word.Requeue = codes "requeue"
+spelled word.Tick = codes "tick"
+spelled word.Refuse = codes "refuse"
+
+-- the word for an end of a link
+abbrev pub side_word : Side → Text
+side_word Requestor = codes "requestor"
+side_word Acceptor = codes "acceptor"
+
+-- the letter for a transfer syntax: Implicit or Explicit VR Little Endian (PS3.5 A.1 and A.2)
+abbrev pub syntax_letter : Syntax → Text
+syntax_letter Implicit = codes "I"
+syntax_letter Explicit = codes "E"
+
+-- the field is the number in decimal, without leading zeros; numbers have 64 bits
+abbrev pub IsNumber : ℕ → Text → Type 0
+IsNumber n field = (decimal n ≡ field) × (n < 2 ^ 64)
+
+-- the fields are one number
+abbrev pub AreNumber : ℕ → List Text → Type 0
+AreNumber n fields = (field : Text) × (fields ≡ field ∷ []) × IsNumber n field
+
+-- the fields are a link's number and an end of it
+abbrev pub AreEnd : ℕ → Side → List Text → Type 0
+AreEnd link side fields = (field : Text) × (fields ≡ field ∷ side_word side ∷ []) × IsNumber link field
+
+-- the fields are a link's number, the end that reads, and how many bytes it reads at most
+abbrev pub AreMove : ℕ → Side → ℕ → List Text → Type 0
+AreMove link reader most fields = (field count : Text) × (fields ≡ field ∷ side_word reader ∷ count ∷ []) × IsNumber link field × IsNumber most count
+
+-- What the fields behind a word tell. A data set is written in hex digits of either case; its item is what the data set has in
+-- the given transfer syntax.
+abbrev pub Follows : Word → List Text → Step → Type 0
+Follows word.Submit fields step = (node digits : Text) × (item : Job)
+    × (step ≡ Submit node item) × (fields ≡ node ∷ syntax_letter item.key.syntax ∷ digits ∷ []) × (decode_of digits ≡ Ok item.body) × IsItem item
+Follows word.Open fields step = («from» «to» : Text) × (step ≡ Open «from» «to») × (fields ≡ «from» ∷ «to» ∷ [])
+Follows word.Push fields step = (link : ℕ) × (step ≡ Push link) × AreNumber link fields
+Follows word.Move fields step = (link most : ℕ) × (reader : Side) × (step ≡ Move link reader most) × AreMove link reader most fields
+Follows word.Abort fields step = (link : ℕ) × (side : Side) × (step ≡ Abort link side) × AreEnd link side fields
+Follows word.Release fields step = (link : ℕ) × (step ≡ Release link) × AreNumber link fields
+Follows word.Close fields step = (link : ℕ) × (step ≡ Close link) × AreNumber link fields
+Follows word.Late fields step = (link : ℕ) × (side : Side) × (step ≡ Late link side) × AreEnd link side fields
+Follows word.Restart fields step = (node : Text) × (step ≡ Restart node) × (fields ≡ node ∷ [])
+Follows word.Requeue fields step = (node uid dest : Text) × (step ≡ Requeue node uid dest) × (fields ≡ node ∷ uid ∷ dest ∷ [])
+Follows word.Tick fields step = (milliseconds : ℕ) × (step ≡ Tick milliseconds) × AreNumber milliseconds fields
+Follows word.Refuse fields step = (node : Text) × (step ≡ RefuseStore node) × (fields ≡ node ∷ [])
+
+-- the line tells the step: a word, and what follows, parted by tabs
+abbrev pub Tells : Text → Step → Type 0
+Tells line step = (w : Word) × (fields : List Text) × (cuts 9 line ≡ spelled w ∷ fields) × Follows w fields step
+
+-- a line that tells nothing: one without a byte, or with `#` first
+abbrev pub is_skipped : Text → Bool
+is_skipped [] = true
+is_skipped (byte ∷ line) = byte == 35
+
+-- the lines that are no comments
+abbrev pub told_lines : Text → List Text
+told_lines text = filter (λ line. not (is_skipped line)) (cuts 10 text)
+
+-- what reading a line answers: the step that it tells, or that it tells none; or memory ran out
+abbrev pub ReadsLine : Text → Result Step LineFault → Type 0
+ReadsLine line (Ok step) = Tells line step
+ReadsLine line (Err lines.NoStep) = (step : Step) → Tells line step → ⊥
+ReadsLine line (Err lines.Memory) = Unit {0}
+
+-- what reading the fields behind a word answers
+abbrev pub ReadsFields : Word → List Text → Result Step LineFault → Type 0
+ReadsFields w fields (Ok step) = Follows w fields step
+ReadsFields w fields (Err lines.NoStep) = (step : Step) → Follows w fields step → ⊥
+ReadsFields w fields (Err lines.Memory) = Unit {0}
+
+-- the text is a script of these steps: a line each, in order, but for lines that tell nothing
+abbrev pub IsScriptOf : Text → List Step → Type 0
+IsScriptOf text steps = AllZip Tells (told_lines text) steps
+
+-- the n-th line, counted from 1, is the first that isn't skipped and tells no step
+abbrev pub IsFirstWrong : Text → ℕ → Type 0
+IsFirstWrong text n = (before : List Text) × (line : Text) × (later : List Text)
+    × (cuts 10 text ≡ before ++ line ∷ later) × (n ≡ length before + 1)
+    × (is_skipped line ≡ false) × ((step : Step) → Tells line step → ⊥)
+    × All (λ earlier. (is_skipped earlier ≡ true) ⊎ ((step : Step) × Tells earlier step)) before
+
+-- what reading a script answers
+abbrev pub ReadsScript : Text → Result (List Step) ScriptFault → Type 0
+ReadsScript text (Ok steps) = IsScriptOf text steps
+ReadsScript text (Err (script.Line n)) = IsFirstWrong text n
+ReadsScript text (Err script.Memory) = Unit {0}
+
+-- what reading hex digits answers: their bytes, or that they are none; or memory ran out
+abbrev pub DecodesBody : Text → Result (List ℕ) LineFault → Type 0
+DecodesBody digits (Ok bytes) = decode_of digits ≡ Ok bytes
+DecodesBody digits (Err lines.NoStep) = (bytes : List ℕ) → decode_of digits ≡ Ok bytes → ⊥
+DecodesBody digits (Err lines.Memory) = Unit {0}
+
+-- what taking a data set as an item answers: the item that it has in the transfer syntax, or that it has none
+abbrev pub TakesItem : Syntax → List ℕ → Result Job LineFault → Type 0
+TakesItem syntax body (Ok item) = IsItem item × (item.key.syntax ≡ syntax) × (item.body ≡ body)
+TakesItem syntax body (Err lines.NoStep) = (item : Job) → IsItem item → item.key.syntax ≡ syntax → item.body ≡ body → ⊥
+TakesItem syntax body (Err lines.Memory) = Unit {0}

@@ -1,0 +1,109 @@
+//! Lines, fields and what is written in one field.
+ghost use Rattle.std.specs.Prelude.{◌≡◌, ◌<◌, ◌^◌, ℕ, IfOk, MatchOption, map, decimal, Result, Ok};
+ghost use Rattle.hex.specs.Hex.{decode_of};
+ghost use Rattle.dr_base.specs.declared.syntax.Syntax.{Syntax as SyntaxValue};
+ghost use Rattle.dr_cert_text.specs.Cuts.{Lacks, SplitsAt, cuts};
+ghost use Rattle.dr_world_script.specs.Scripts.{IsNumber, side_word, spelled, syntax_letter, DecodesBody};
+ghost use Rattle.dr_world_script.specs.declared.step.Side.{Side as SideValue};
+ghost use Rattle.dr_world_script.specs.declared.step.Word.{Word as WordValue};
+
+use crate::fault::LineFault;
+use crate::step::{Side, Word};
+use dr_base::{Octets, Syntax};
+use hex::FromHexError;
+use memchr::memchr;
+use std::alloc::{AllocError, Global};
+use std::str;
+
+/// What stands before the first mark, and what follows the mark; None where there is no mark.
+fn split_at_byte(text: &[u8], mark: u8) -> Option<(&[u8], &[u8])>
+    ensures { MatchOption result (Lacks mark text.now) (λ p. SplitsAt mark text.now p.0.now p.1.now) }
+{
+    let at = memchr(mark, text)?;
+    Some((&text[..at], &text[at + 1..]))
+}
+
+/// The parts of a text between its marks, in order; a text without the mark is one part.
+pub fn parts_of<'a>(alloc: Global, text: &'a [u8], mark: u8) -> Result<Vec<&'a [u8]>, AllocError>
+    ensures { IfOk result (λ parts. map (λ part. part.now) parts.items ≡ cuts mark text.now) }
+{
+    let mut parts = Vec::new(alloc);
+    let mut rest = text;
+    while let Some((part, behind)) = split_at_byte(rest, mark) {
+        parts.push(part)?;
+        rest = behind;
+    }
+    parts.push(rest)?;
+    Ok(parts)
+}
+
+/// The word that is spelled so.
+pub fn read_word(field: &[u8]) -> Option<Word>
+    ensures { MatchOption result ((word : WordValue) → spelled word ≡ field.now → ⊥) (λ word. spelled word ≡ field.now) }
+{
+    match field {
+        b"submit" => Some(Word::Submit),
+        b"open" => Some(Word::Open),
+        b"push" => Some(Word::Push),
+        b"move" => Some(Word::Move),
+        b"abort" => Some(Word::Abort),
+        b"release" => Some(Word::Release),
+        b"close" => Some(Word::Close),
+        b"late" => Some(Word::Late),
+        b"restart" => Some(Word::Restart),
+        b"requeue" => Some(Word::Requeue),
+        b"tick" => Some(Word::Tick),
+        b"refuse" => Some(Word::Refuse),
+        _ => None,
+    }
+}
+
+/// The number that is written so: decimal, without leading zeros, below 2^64.
+pub fn read_number(field: &[u8]) -> Option<u64>
+    ensures { MatchOption result ((n : ℕ) → IsNumber n field.now → ⊥) (λ n. IsNumber n field.now) }
+{
+    let Ok(text) = str::from_utf8(field) else {
+        return None;
+    };
+    let Ok(number) = text.parse::<u64>() else {
+        return None;
+    };
+    let mut digits = itoa::Buffer::new();
+    if digits.format(number).as_bytes() != field {
+        return None;
+    }
+    Some(number)
+}
+
+/// The end of a link that is named so.
+pub fn read_side(field: &[u8]) -> Option<Side>
+    ensures { MatchOption result ((side : SideValue) → side_word side ≡ field.now → ⊥) (λ side. side_word side ≡ field.now) }
+{
+    match field {
+        b"requestor" => Some(Side::Requestor),
+        b"acceptor" => Some(Side::Acceptor),
+        _ => None,
+    }
+}
+
+/// The transfer syntax with this letter.
+pub fn read_syntax(field: &[u8]) -> Option<Syntax>
+    ensures { MatchOption result ((syntax : SyntaxValue) → syntax_letter syntax ≡ field.now → ⊥) (λ syntax. syntax_letter syntax ≡ field.now) }
+{
+    match field {
+        b"I" => Some(Syntax::Implicit),
+        b"E" => Some(Syntax::Explicit),
+        _ => None,
+    }
+}
+
+/// The bytes that are written so in hex.
+pub fn read_bytes(alloc: Global, field: &[u8]) -> Result<Octets, LineFault>
+    ensures { DecodesBody field.now result }
+{
+    match hex::decode(alloc, field) {
+        Ok(bytes) => Ok(Octets::from_vec(bytes)),
+        Err(FromHexError::OutOfMemory) => Err(LineFault::Memory),
+        Err(_) => Err(LineFault::NoStep),
+    }
+}

@@ -1,0 +1,19 @@
+//! Laws of scripts and reports.
+ghost use Rattle.dr_world_script.specs.Laws.{LinesTellNone, LinesTellSteps, OneScriptForAText, OneStepForALine, ReportOfANode};
+
+/// A line tells one step, and a text is the script of one list of steps.
+pub fn a_script_has_one_reading()
+    ensures line { OneStepForALine }
+    ensures text { OneScriptForAText }
+{}
+
+/// Lines that tell steps, and lines that tell none.
+pub fn lines_tell_steps()
+    ensures steps { LinesTellSteps }
+    ensures none { LinesTellNone }
+{}
+
+/// The report of a node.
+pub fn a_report_is_printed_so()
+    ensures { ReportOfANode }
+{}

@@ -1,0 +1,14 @@
+use Rattle.dr_world_tie.proofs.Nodes.{submitting_takes, requeueing_is_requeue, refusing_is_refuse, time_passes}
+use Rattle.dr_world_tie.proofs.nodes_act.Goals as goal
+
+pub returns-clause-submitting : goal.returns-clause-submitting
+returns-clause-submitting c = submitting_takes
+
+pub returns-clause-requeueing : goal.returns-clause-requeueing
+returns-clause-requeueing c = requeueing_is_requeue
+
+pub returns-clause-refusing : goal.returns-clause-refusing
+returns-clause-refusing c = refusing_is_refuse
+
+pub returns-clause-time : goal.returns-clause-time
+returns-clause-time c = time_passes

@@ -1,0 +1,133 @@
+//! What ends do with bytes is what the message world's events do.
+//!
+//! A link as bytes is its two ends, what they keep of what they heard, and what is on the two wires
+//! (`specs/Channels.antt`); which link of the message world it is, is said there by `ShowsLink`. What happens at an end
+//! is an event of the message world, and leaves the channel that link (`specs/Ties.antt`, `Moves.antt`,
+//! `Closing.antt`). A whole world of bytes and its steps stand in `specs/ByteWorlds.antt`, and beside which message
+//! world it stands in `specs/Shown.antt`. Nothing here runs: the crate has definitions, and functions without a body
+//! whose contracts are theorems about them.
+#![tactic(auto)]
+
+ghost use Rattle.dr_world_tie.specs.Closing.{ClosingIsClose};
+ghost use Rattle.dr_world_tie.specs.Desks.{SiteStepsArePlanSteps};
+ghost use Rattle.dr_world_tie.specs.Moves.{CallerMoves, ReceiverMoves};
+ghost use Rattle.dr_world_tie.specs.Nodes.{RefusingIsRefuse, RequeueingIsRequeue, SubmittingTakes, TimePasses};
+ghost use Rattle.dr_world_tie.specs.Shown.{RunsKeepTheHeadline, WhatIsKeptStaysKept, WorldStepsAreEvents};
+ghost use Rattle.dr_world_tie.specs.Ties.{AgreesAtReceiver, CallerHearsControl, CallerHearsNothing, CallerLeaves, GivesStore, HearsAcceptance, HearsRejection, HearsReply, HearsStore, LateAtCaller, LateAtReceiver, OffCallerIsNoEvent, OffReceiverIsNoEvent, OffStaysOff, OpensAreAsks, PiecesMakeCommands, PiecesMakeStores, PushGives, ReceiverHearsControl, ReceiverHearsNothing, ReceiverLeaves, ReleaseLeaves, RestartLeaves};
+
+use dr_session::DeskPort;
+
+/// A step of a whole world of bytes is an event of the message world beside it, or none where it is skipped, where the
+/// end is off, where nothing was due, or where the bytes end no message.
+pub fn world_steps_are_events()
+    ensures { WorldStepsAreEvents }
+{}
+
+/// After any steps from the beginning the headline's four claims hold of the books, and what was kept stays kept.
+pub fn runs_keep_the_headline()
+    ensures headline { RunsKeepTheHeadline }
+    ensures kept { WhatIsKeptStaysKept }
+{}
+
+/// Bytes that are moved from a wire to an end that is on are an event where they end one, or else nothing.
+pub fn moves_are_events()
+    ensures receiver { ReceiverMoves }
+    ensures caller { CallerMoves }
+{}
+
+/// Bytes that end no PDU are no event.
+pub fn hears_nothing<P: DeskPort>()
+    ensures receiver { ReceiverHearsNothing P.step }
+    ensures caller { CallerHearsNothing P.step }
+{}
+
+/// A link that was opened shows the link that was asked for.
+pub fn opens_are_asks()
+    ensures { OpensAreAsks }
+{}
+
+/// The request's last byte is the receiver's agreement.
+pub fn agrees_at_receiver()
+    ensures { AgreesAtReceiver }
+{}
+
+/// The acceptance's last byte opens the link at its caller.
+pub fn hears_acceptances()
+    ensures { HearsAcceptance }
+{}
+
+/// A rejection is heard: the first row that is due is settled as broken.
+pub fn hears_rejections()
+    ensures { HearsRejection }
+{}
+
+/// A push sends the first row that is due.
+pub fn pushes_give()
+    ensures { PushGives }
+{}
+
+/// A job that a ledger hands out is under way as a store.
+pub fn gives_stores()
+    ensures { GivesStore }
+{}
+
+/// A store is heard: each of its PDUs but the last is no event, and the last is the arrival.
+pub fn hears_stores()
+    ensures { HearsStore }
+{}
+
+/// A response is heard: its last byte settles the row by its status.
+pub fn hears_responses()
+    ensures { HearsReply }
+{}
+
+/// What makes an end leave is its break in the message world.
+pub fn ends_leave()
+    ensures caller { CallerLeaves }
+    ensures receiver { ReceiverLeaves }
+    ensures late { LateAtCaller }
+    ensures late_receiver { LateAtReceiver }
+    ensures release { ReleaseLeaves }
+{}
+
+/// What a writer wrote as it left makes its reader leave.
+pub fn hears_controls()
+    ensures receiver { ReceiverHearsControl }
+    ensures caller { CallerHearsControl }
+{}
+
+/// An end that is off calls nothing and stays off, whatever it hears and is asked, and its channel is the same link.
+pub fn stays_off<P: DeskPort>()
+    ensures off { OffStaysOff P.step }
+    ensures caller { OffCallerIsNoEvent P.step }
+    ensures receiver { OffReceiverIsNoEvent P.step }
+{}
+
+/// Closing a link at both ends is its close.
+pub fn closes()
+    ensures { ClosingIsClose }
+{}
+
+/// A restart makes each far caller leave, in the order of their links, also where several of them are one node's.
+pub fn restarts()
+    ensures { RestartLeaves }
+{}
+
+/// What is done at a node alone is the event of that node, and time passes for all.
+pub fn nodes_act()
+    ensures submitting { SubmittingTakes }
+    ensures requeueing { RequeueingIsRequeue }
+    ensures refusing { RefusingIsRefuse }
+    ensures time { TimePasses }
+{}
+
+/// What a ledger does by its site's routes is what its node does by the plan.
+pub fn site_steps_are_plan_steps()
+    ensures { SiteStepsArePlanSteps }
+{}
+
+/// The fragments of a command make its message.
+pub fn pieces_make_commands()
+    ensures alone { PiecesMakeCommands }
+    ensures with_data { PiecesMakeStores }
+{}
