@@ -1,4 +1,6 @@
 pub mod Found
 pub mod Laws
+pub mod Routes
+pub mod Rows
 pub mod Stages
 pub mod Traces

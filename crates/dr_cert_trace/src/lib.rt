@@ -1,12 +1,15 @@
 //! Where an instance goes that enters at a site of a sealed plan: over which hops, with which presentation contexts, and
-//! which nodes keep it.
+//! which nodes keep it; and what the word `route` of the program `dr_router` prints of it.
 #![tactic(auto)]
 
 mod contexts;
 pub mod laws;
 mod pairs;
+mod print;
+mod routes;
 mod stages;
 mod tracing;
 mod walking;
 
+pub use routes::route_text;
 pub use tracing::{Journey, trace};

@@ -7,7 +7,6 @@ pub mod history;
 pub mod laws;
 mod line;
 mod parts;
-mod progress;
 mod site;
 mod trees;
 

@@ -12,10 +12,9 @@ ghost use Rattle.dr_base.specs.Texts.{text_cmp};
 
 use crate::comparing::{are_arrivals, are_items, are_kept, are_rows};
 use crate::line::{HistoryFault, JournalLine};
-use crate::progress::moved;
 use crate::trees::{clear, fill, prune, put_arrival, put_item, put_kept, put_row};
 use dr_base::{Seq, Text};
-use dr_ledger::{Instance, Outcome, Progress};
+use dr_ledger::{Instance, Outcome, Progress, moved};
 use std::alloc::{AllocError, Global};
 use std::collections::{BTreeMap, BTreeSet};
 

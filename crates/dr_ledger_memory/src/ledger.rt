@@ -25,12 +25,11 @@ use crate::held::Held;
 use crate::holding::is_open;
 use crate::note::{Note, key_of};
 use crate::parts::Parts;
-use crate::progress::moved;
 use crate::waiting::first_due;
 use dr_base::{Seq, Text};
 use dr_cert::Sealed;
 use dr_ledger::{
-    Arrived, Cause, Entry, Instance, Item, Job, Ledger, LedgerFault, Outcome, Progress,
+    Arrived, Cause, Entry, Instance, Item, Job, Ledger, LedgerFault, Outcome, Progress, moved,
 };
 use dr_site::Site;
 use std::alloc::{AllocError, Global};

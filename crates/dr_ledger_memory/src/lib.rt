@@ -7,7 +7,6 @@ mod holding;
 pub mod ledger;
 mod note;
 mod parts;
-mod progress;
 mod table;
 mod waiting;
 

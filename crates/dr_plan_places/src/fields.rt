@@ -1,7 +1,7 @@
 //! The place of a field that is missing, unknown or ill-formed, in words.
 use crate::print::{add_index, add_quoted};
+use crate::{FieldPlace, Flaw, NodePart, Wrong, field_in};
 use dr_base::Text;
-use dr_plan_fields::{FieldPlace, Flaw, NodePart, Wrong, field_in};
 use std::alloc::{AllocError, Global};
 use std::str;
 use toml::Table;

@@ -1,20 +1,31 @@
-//! Where in a plan's text its fault stands.
+//! Where in a plan's text its fault is: in which table, at which key.
+//!
+//! - `field_in`: a place at which the text's tables show that a field is missing, unknown or ill-formed. The place is right;
+//!   that one is found in each text with the fault is tested.
 #![tactic(auto)]
 
 mod explaining;
+mod field_place;
 mod fields;
 pub mod first;
+mod flaw;
 mod flaws;
+mod keys;
+pub mod laws;
 mod limits;
 mod names;
 mod nodes;
 mod own;
 mod place;
 pub mod print;
+mod rows;
 mod syntaxes;
+mod tables;
 mod wording;
 
 pub use explaining::explain;
+pub use field_place::{FieldPlace, NodePart, field_in};
+pub use flaw::{Flaw, Wrong};
 pub use flaws::{NameFlaw, name_flaw};
 pub use limits::{LimitPlace, limit_in};
 pub use names::{FlowName, NamePlace, NodeName, RuleName, name_in};

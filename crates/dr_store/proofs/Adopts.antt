@@ -9,7 +9,7 @@ use Rattle.dr_ledger.specs.Adopting.{Adopting, site_after}
 use Rattle.dr_ledger.specs.Bodies.{Bodies, OnlyLetsGo}
 use Rattle.dr_store_schema.specs.Books.{bodies_of, book_of}
 use Rattle.dr_store_calls.specs.Calling.{Nothing, advanced}
-use Rattle.dr_store_adoption.specs.Adoptions.{Adopted}
+use Rattle.dr_store_calls.specs.Adoptions.{Adopted}
 use Rattle.dr_store.proofs.Writes.{Done}
 
 abbrev pub Adoption : Result (Unit {0}) LedgerFault → Trees → Trees → Type 0

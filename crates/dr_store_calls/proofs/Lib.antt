@@ -1,4 +1,6 @@
+pub mod Adoptions
 pub mod Calls
+pub mod Changes
 pub mod Fitting
 pub mod Knows
 pub mod Moves

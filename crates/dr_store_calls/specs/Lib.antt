@@ -1,3 +1,5 @@
+pub mod AdoptionLaws
+pub mod Adoptions
 pub mod Calling
 pub mod Knowing
 pub mod Needs

@@ -4,16 +4,20 @@
 //! claimed stands under a call's end: that the disk has returned what was written so far, and that the store is open.
 #![tactic(auto)]
 
+pub mod adopting;
+pub mod adoption_laws;
 pub mod arriving;
 pub mod knowing;
 pub mod laws;
 mod needs;
-mod progress;
+pub mod plan;
 pub mod receiving;
 pub mod settling;
 mod writing;
 
+pub use adopting::adopt;
 pub use arriving::{bring_item, bring_new, repeat};
 pub use knowing::{Known, know};
+pub use plan::NewPlan;
 pub use receiving::{arrive, receive};
 pub use settling::{requeue, settle};

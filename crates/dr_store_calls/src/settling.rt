@@ -9,10 +9,9 @@ ghost use Rattle.dr_store_schema.specs.Books.{bodies_of, book_of, rows_of};
 ghost use Rattle.dr_store_calls.specs.Calling.{Called, Nothing, advanced};
 
 use crate::needs::is_needed;
-use crate::progress::moved;
 use crate::writing::written;
 use dr_base::Text;
-use dr_ledger::{Cause, LedgerFault, Outcome, Progress};
+use dr_ledger::{Cause, LedgerFault, Outcome, Progress, moved};
 use dr_store_changes::{Requeuing, Settling};
 use dr_store_reads::find_row;
 use sqlite::{Alter, Connection};

@@ -7,7 +7,7 @@ use Rattle.dr_base.specs.declared.syntax.Syntax.{Syntax}
 use Rattle.dr_plan_model.specs.Networks.{Network}
 use Rattle.dr_plan_model.specs.Walks.{IsEntry}
 use Rattle.dr_route.specs.declared.key.Key.{Key}
-use Rattle.dr_cert_routes.specs.Routes.{IsJourneyText}
+use Rattle.dr_cert_trace.specs.Routes.{IsJourneyText}
 use Rattle.dr_word_route.specs.Keys.{ReadsDataSet, ReadsFileKey, ReadsItemKey, ReadsSite}
 use Rattle.dr_word_route.specs.Replies.{IsRouted, IsRoutedFor, IsRefusalAt, IsRouteReply, IsSiteReply}
 use Rattle.dr_word_route.specs.declared.reply.Refusal.{Refusal}

@@ -8,7 +8,7 @@ use Rattle.dr_plan_model.specs.Plans.{IsTheNode, NamesNoNode}
 use Rattle.dr_plan_model.specs.Walks.{IsEntry}
 use Rattle.dr_plan_model.specs.declared.plan.Node.{Node}
 use Rattle.dr_route.specs.declared.key.Key.{Key}
-use Rattle.dr_cert_routes.specs.Routes.{IsJourneyText}
+use Rattle.dr_cert_trace.specs.Routes.{IsJourneyText}
 use Rattle.dr_word_route.specs.declared.reply.Refusal.{Refusal}
 use Rattle.dr_word_route.specs.declared.reply.Refusal.TheVariants.{NoNode, File, Item, Memory}
 use Rattle.dr_word_route.specs.declared.reply.Reply.{Reply}

@@ -8,7 +8,7 @@ use crate::reply::{Refusal, Reply};
 use dr_base::Text;
 use dr_cert::Sealed;
 use dr_cert_lint::{graph_text, lint_text};
-use dr_cert_routes::route_text;
+use dr_cert_trace::route_text;
 use dr_route::Key;
 use std::alloc::{AllocError, Global};
 

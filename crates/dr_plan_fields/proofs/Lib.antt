@@ -1,4 +1,0 @@
-pub mod Flawed
-pub mod Refuted
-pub mod Indices
-pub mod Small

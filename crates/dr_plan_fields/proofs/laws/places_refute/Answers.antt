@@ -1,5 +1,0 @@
-use Rattle.dr_plan_fields.proofs.Refuted.{refuted_text}
-use Rattle.dr_plan_fields.proofs.laws.places_refute.Goals as goal
-
-pub returns : goal.returns
-returns c = refuted_text

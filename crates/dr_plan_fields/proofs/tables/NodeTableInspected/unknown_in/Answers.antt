@@ -1,7 +1,0 @@
-use Rattle.toml.specs.View.{table_view}
-use Rattle.dr_plan_text.specs.Tables.{IsNodeTable, node_keys}
-use Rattle.dr_plan_fields.proofs.Flawed.{unknown_found}
-use Rattle.dr_plan_fields.proofs.tables.NodeTableInspected.unknown_in.Goals as goal
-
-pub returns : goal.returns
-returns c = λ format. unknown_found IsNodeTable (table_view c.args.table.now) node_keys (λ other x is. is.only) c.unknown_key.result c.unknown_key.ensures

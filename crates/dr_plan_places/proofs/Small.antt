@@ -1,0 +1,82 @@
+-- Flaws of small tables.
+use Rattle.std.proofs.Common.{◌≡◌, refl, sym, ap, ◌∙◌, subst, ℕ, pos, Option, [], ◌∷◌, codes, get_or, Contains, arith, inl, inr, lit<}
+use Rattle.std.specs.Prelude.{All}
+use Rattle.std.proofs.lemmas.List.Elements.{All-nil}
+use Rattle.dr_route.specs.declared.rule.Rule.{Rule}
+use Rattle.dr_route.specs.declared.rule.StationPattern.{StationPattern}
+use Rattle.dr_route.specs.declared.rule.StationPattern.TheVariants as station
+use Rattle.dr_plan_model.specs.declared.plan.Format.TheVariants.{One}
+use Rattle.dr_plan_model.specs.Naming.{prefix_of}
+use Rattle.dr_plan_text.specs.declared.words.NodeText.{NodeText}
+use Rattle.dr_plan_text.specs.declared.words.FlowText.{FlowText}
+use Rattle.dr_plan_text.specs.Fields.{PatternFits, StationsFit, GivenOr, SaysStation}
+use Rattle.dr_plan_text.specs.Laws.{written_rule}
+use Rattle.dr_plan_text.proofs.OfStations.{no_format, SaysStation-one}
+use Rattle.dr_plan_text.proofs.PrefixTexts.{ct_is}
+use Rattle.toml.specs.Data.{Data, integer, string, no_members}
+use Rattle.dr_base.specs.Texts.{Text}
+use Rattle.dr_plan_model.proofs.Gathered.{Contains-cons_cases, only_one}
+use Rattle.dr_plan_text.specs.Tables.{IsRoot, IsRuleTable, IsFormat, root_keys}
+use Rattle.dr_plan_places.proofs.FieldsFlawed.{unknown}
+use Rattle.dr_plan_places.specs.Laws.{ColourIsUnknown, FormatIsNotMissing, ThirdFormatIsIllFormed, PrefixIsIllFormedInFormatOne, PrefixIsOfFormatTwo, coloured, prefixed}
+
+first_byte : (x y : Text) (a b : ℕ) → get_or x 0 0 ≡ a → get_or y 0 0 ≡ b → (a ≡ b → ⊥) → x ≡ y → ⊥
+first_byte x y a b at bt apart same = apart (sym at ∙ (ap (λ (t : Text). get_or t 0 0) same ∙ bt))
+
+no_colour : Contains root_keys (codes "colour") → ⊥
+no_colour among = elim (Contains-cons_cases (codes "format") (codes "node" ∷ codes "flow" ∷ []) (codes "colour") among) [
+  | inl same ↦ first_byte (codes "format") (codes "colour") 102 99 refl refl (λ e. omega arith) same
+  | inr later ↦ elim (Contains-cons_cases (codes "node") (codes "flow" ∷ []) (codes "colour") later) [
+    | inl same ↦ first_byte (codes "node") (codes "colour") 110 99 refl refl (λ e. omega arith) same
+    | inr last ↦ first_byte (codes "flow") (codes "colour") 102 99 refl refl (λ e. omega arith) (only_one (codes "flow") (codes "colour") last)
+  ]
+]
+
+pub colour_is_unknown : ColourIsUnknown
+colour_is_unknown = unknown IsRoot coloured root_keys (codes "colour") (λ other x is. is.only) refl no_colour
+
+pub format_is_not_missing : FormatIsNotMissing
+format_is_not_missing = λ h. h.0 no_members (record { format = One; nodes = []; flows = [] }) refl (record {
+  only = tt;
+  format = refl;
+  node = refl;
+  flow = refl;
+  fits = record { rules = All-nil (λ (node : NodeText). All (λ (rule : Rule). PatternFits One rule.station) node.rules); flows = All-nil (λ (flow : FlowText). StationsFit One flow.stations) };
+})
+
+apart_numbers : (x y : ℕ) → (x ≡ y → ⊥) → integer (pos x) ≡ integer (pos y) → ⊥
+apart_numbers x y apart e = let same : pos x ≡ pos y = cc in let numbers : x ≡ y = cc in apart numbers
+
+pub third_format_is_ill_formed : ThirdFormatIsIllFormed
+third_format_is_ill_formed = (
+  λ other plan same is.
+      let P : Option Data → Type 0 = λ value. IsFormat value plan.format in
+      no_format (integer (pos 3)) (apart_numbers 3 1 (λ e. omega arith)) (apart_numbers 3 2 (λ e. omega arith)) plan.format (subst P same is.format),
+  refl,
+)
+
+pub prefix_is_ill_formed_in_format_1 : PrefixIsIllFormedInFormatOne
+prefix_is_ill_formed_in_format_1 = (
+  λ other rule same is.
+      let P : Option Data → Type 0 = λ value. GivenOr station.Any SaysStation value rule.station in
+      let one : rule.station ≡ station.Prefix (codes "CT") =
+      SaysStation-one (string (codes "CT*")) rule.station (station.Prefix (codes "CT")) (subst P same is.0.station) (refl, ct_is) in
+      let Q : StationPattern → Type 0 = λ pattern. prefix_of pattern ≡ [] in
+      let none : codes "CT" ∷ [] ≡ [] = subst Q one is.1 in
+      cc,
+  refl,
+)
+
+prefixed_rule : IsRuleTable prefixed written_rule
+prefixed_rule = record {
+  only = ((3, lit< tt, refl), tt);
+  from = refl;
+  class = refl;
+  modality = refl;
+  station = (refl, ct_is);
+  to = refl;
+  keep = refl;
+}
+
+pub prefix_is_of_format_2 : PrefixIsOfFormatTwo
+prefix_is_of_format_2 = λ h. h.0 prefixed written_rule refl (prefixed_rule, tt)

@@ -1,0 +1,50 @@
+-- Laws of flaws, and small tables.
+use Rattle.std.specs.Prelude.{pos, codes}
+use Rattle.toml.specs.Data.{integer, string, Members, no_members, member}
+use Rattle.dr_plan_text.specs.Tables.{IsRoot}
+use Rattle.dr_plan_text.specs.declared.words.PlanText.{PlanText}
+use Rattle.dr_plan_model.specs.declared.plan.Format.TheVariants.{One, Two}
+use Rattle.dr_plan_places.specs.FieldFlaws.{HasFlaw, IsIn, IsRuleOf}
+use Rattle.dr_plan_places.specs.declared.flaw.Flaw.{Flaw}
+use Rattle.dr_plan_places.specs.declared.flaw.Wrong.TheVariants.{Missing, Unknown, IllFormed}
+use Rattle.dr_plan_places.specs.declared.field_place.FieldPlace.{FieldPlace}
+
+-- tables with a flaw at any place write no plan
+abbrev pub PlacesRefute : Type 0
+PlacesRefute = (root : Members) (place : FieldPlace) (flaw : Flaw) (plan : PlanText) → IsIn root place flaw → IsRoot root plan → ⊥
+
+-- the text's table `colour = 1`
+abbrev pub coloured : Members
+coloured = member (codes "colour") (integer (pos 1)) no_members
+
+-- its key isn't known
+abbrev pub ColourIsUnknown : Type 0
+ColourIsUnknown = HasFlaw IsRoot coloured (record { key = codes "colour"; wrong = Unknown })
+
+-- nothing is wrong with its format, which it doesn't give
+abbrev pub FormatIsNotMissing : Type 0
+FormatIsNotMissing = HasFlaw IsRoot coloured (record { key = codes "format"; wrong = Missing }) → ⊥
+
+-- the text's table `format = 3`
+abbrev pub third_format : Members
+third_format = member (codes "format") (integer (pos 3)) no_members
+
+-- its format is ill-formed
+abbrev pub ThirdFormatIsIllFormed : Type 0
+ThirdFormatIsIllFormed = HasFlaw IsRoot third_format (record { key = codes "format"; wrong = IllFormed })
+
+-- a rule's table `station = "CT*"`
+abbrev pub prefixed : Members
+prefixed = member (codes "station") (string (codes "CT*")) no_members
+
+-- its station, and what would be wrong with it
+abbrev pub prefix_flaw : Flaw
+prefix_flaw = record { key = codes "station"; wrong = IllFormed }
+
+-- in a text of format 1 it is ill-formed
+abbrev pub PrefixIsIllFormedInFormatOne : Type 0
+PrefixIsIllFormedInFormatOne = HasFlaw (IsRuleOf One) prefixed prefix_flaw
+
+-- in a text of format 2 it isn't
+abbrev pub PrefixIsOfFormatTwo : Type 0
+PrefixIsOfFormatTwo = HasFlaw (IsRuleOf Two) prefixed prefix_flaw → ⊥

@@ -1,5 +1,0 @@
-use Rattle.dr_store_adoption.proofs.Adoptions.{adopted_ledgers_are_of_the_next}
-use Rattle.dr_store_adoption.proofs.laws.adopted_ledgers_are_of_the_next.Goals as goal
-
-pub returns : goal.returns
-returns c = adopted_ledgers_are_of_the_next

@@ -1,0 +1,199 @@
+-- An adoption as one transaction.
+use Rattle.std.proofs.Common.{◌≡◌, ◌≤◌, ◌+◌, ◌⊎◌, inl, inr, ℕ, pos, false, IsTrue, List, Result, Ok, Err, IfErr, refl, sym, ap, subst, ◌∙◌, arith}
+use Rattle.sqlite.specs.declared.types.Value.TheVariants.{Int}
+use Rattle.sqlite.specs.Effect.{Database}
+use Rattle.sqlite.specs.State.{State, HasCleanDisk}
+use Rattle.sqlite.specs.Tree.{Trees, put_row}
+use Rattle.dr_base.specs.Texts.{Text}
+use Rattle.dr_site.specs.Parts.{Part}
+use Rattle.dr_ledger.specs.declared.fault.LedgerFault.{LedgerFault}
+use Rattle.dr_ledger.specs.declared.fault.LedgerFault.TheVariants as fault
+use Rattle.dr_ledger.specs.Adopting.{Adopting}
+use Rattle.dr_ledger.specs.Books.{Book, not_done}
+use Rattle.dr_ledger.specs.Replies.{Reads}
+use Rattle.dr_store_schema.specs.Books.{bodies_of, book_of, rows_in}
+use Rattle.dr_store_writes.specs.Effects.{AddsRow, DropsArrivals, DropsDone, GoesOn, HasSite, IsSiteOf, SetsPlan, adopted_line}
+use Rattle.dr_store_changes.specs.Writing.{IsMade, IsReady, Written}
+use Rattle.dr_store_changes.proofs.Movements.{goes_over}
+use Rattle.dr_store_calls.specs.Calling.{Called, IsKept, IsLedgerOf, IsOwnFault, Looked, Nothing}
+use Rattle.dr_store_calls.proofs.Calls.{below_of, looked_failed, still_called, unmade_called}
+use Rattle.dr_store_calls.specs.Adoptions.{Adopted, Adopts, Answers, Clears, IsAdopted, NotesPlan}
+use Rattle.dr_store_calls.proofs.Adoptions.{adopted_ledgers_are_of_the_next, adoptions_adopt}
+
+-- ---- the statements
+
+pub cleared : (old mid new : State) → DropsArrivals old mid → DropsDone mid new → GoesOn old new × Clears old.now.trees new.now.trees
+cleared old mid new a d =
+    let x = a.others in
+    let y = d.others in (
+      goes_over old mid new a.goes_on d.goes_on,
+      record {
+        arrivals = y.arrivals (omega arith) ∙ a.rows;
+        rows = d.rows ∙ ap (λ rows. not_done (rows_in rows)) (x.queue (omega arith));
+        site = y.site (omega arith) ∙ x.site (omega arith);
+        items = y.items (omega arith) ∙ x.items (omega arith);
+        prints = y.prints (omega arith) ∙ x.prints (omega arith);
+        kept = y.kept (omega arith) ∙ x.kept (omega arith);
+        journal = y.journal (omega arith) ∙ x.journal (omega arith);
+        targets = y.targets (omega arith) ∙ x.targets (omega arith);
+      },
+    )
+
+pub noted : (plan : List ℕ) (n : ℕ) (old mid new : State) → SetsPlan plan old mid → AddsRow 11 (adopted_line n) mid new → GoesOn old new × NotesPlan plan n old.now.trees new.now.trees
+noted plan n old mid new s a =
+    let x = s.others in
+    let y = a.others in (
+      goes_over old mid new s.goes_on a.goes_on,
+      record {
+        site = λ node was is. y.site (omega arith) ∙ s.site node was is;
+        journal = a.rows ∙ ap (put_row (adopted_line n)) (x.journal (omega arith));
+        items = y.items (omega arith) ∙ x.items (omega arith);
+        prints = y.prints (omega arith) ∙ x.prints (omega arith);
+        arrivals = y.arrivals (omega arith) ∙ x.arrivals (omega arith);
+        kept = y.kept (omega arith) ∙ x.kept (omega arith);
+        queue = y.queue (omega arith) ∙ x.queue (omega arith);
+        targets = y.targets (omega arith) ∙ x.targets (omega arith);
+      },
+    )
+
+-- the owner is there still
+pub owned_still : (old mid : State) → HasSite old.now.trees → GoesOn old mid × Clears old.now.trees mid.now.trees → GoesOn old mid × HasSite mid.now.trees
+owned_still old mid owned c = (c.0, (owned.0, owned.1, c.1.site ∙ owned.2))
+
+pub adopts : (plan : List ℕ) (n : ℕ) (old mid new : State) → GoesOn old mid × Clears old.now.trees mid.now.trees → GoesOn mid new × NotesPlan plan n mid.now.trees new.now.trees → IsMade n (Adopts plan n) old new
+adopts plan n old mid new one two =
+    let c = one.1 in
+    let p = two.1 in
+    let journal : new.now.trees 11 ≡ put_row (adopted_line n) (old.now.trees 11) = p.journal ∙ ap (put_row (adopted_line n)) c.journal in
+    record {
+      goes_on = goes_over old mid new one.0 two.0;
+      line = record { row = adopted_line n; numbered = refl; journal = journal };
+      made = record {
+        site = λ node was is. p.site node was (c.site ∙ is);
+        items = p.items ∙ c.items;
+        prints = p.prints ∙ c.prints;
+        arrivals = p.arrivals ∙ c.arrivals;
+        kept = p.kept ∙ c.kept;
+        rows = ap rows_in p.queue ∙ c.rows;
+        journal = journal;
+        targets = p.targets ∙ c.targets;
+      };
+    }
+
+-- ---- the call
+
+pub adopting_own : (e : LedgerFault) (b : Book) → IsOwnFault e → Adopting b (Err e) b
+adopting_own e b (inl is) = subst (λ x. Adopting b (Err x) b) (sym is) refl
+adopting_own e b (inr is) = subst (λ x. Adopting b (Err x) b) (sym is) refl
+
+-- nothing of the tables has changed
+abbrev pub Stood : Trees → Trees → Type 0
+Stood base db = db ≡ base
+
+module _ (n : ℕ) (part next : Part) (old new : State) (Asks : Trees → Type 0) where
+  -- a call that was refused, and left the tables as they were
+  pub refused_adopted : (e : LedgerFault) → (HasCleanDisk new → IsTrue new.is_open → IsKept n part old → IsOwnFault e) → Called {A = Unit {0}} n n part (Err e) old new Asks Stood (IsAdopted next) → Adopted n part next (Err e) old new Asks
+  refused_adopted e own c = record {
+    clean = c.clean;
+    was_open = c.was_open;
+    idle = c.idle;
+    lasts = c.lasts;
+    kept = c.kept;
+    answers = λ clean is_open k asks.
+        let same = c.answers clean is_open k asks in
+        record {
+          reply = subst (λ db. Adopting (book_of old.committed.trees) (Err e) (book_of db)) (sym same) (adopting_own e (book_of old.committed.trees) (own clean is_open k));
+          bodies = ap bodies_of same;
+          owner = tt;
+          same = same;
+        };
+    crash = c.crash;
+  }
+
+-- what was written, where the tables had this owner
+abbrev pub OwnedBy : Text → Trees → Type 0
+OwnedBy node base = (was : List ℕ) × IsSiteOf node was base
+
+module _ (n : ℕ) (part next : Part) (old new : State) (still : old.in_transaction ≡ false → new.in_transaction ≡ false) (node : Text) (named : node ≡ next.name) where
+  owned : IsReady n old → IsLedgerOf n part old.committed.trees → OwnedBy node old.committed.trees → HasSite old.committed.trees
+  owned ready l asks = (node, asks.0, asks.1)
+
+  adopted_so : IsReady n old → IsLedgerOf n part old.committed.trees → OwnedBy node old.committed.trees → (db : Trees) → Adopts next.digest n old.committed.trees db → IsAdopted next old.committed.trees db
+  adopted_so ready l asks db w =
+      let it = adoptions_adopt old.committed.trees db next.digest n (below_of n old ready) w in
+      record { book = it.0; bodies = it.1; owner = subst (λ name. IsSiteOf name next.digest db) named (w.site node asks.0 asks.1) }
+
+  pub written_adopted : (r : Result (Unit {0}) LedgerFault) → IfErr r IsOwnFault → Written {E = LedgerFault} n HasSite (Adopts next.digest n) r old new → Adopted n part next r old new (OwnedBy node)
+  written_adopted (Ok done) own w = record {
+    clean = w.clean;
+    was_open = w.was_open;
+    idle = still;
+    lasts = λ clean k asks. (w.ok clean k.ready (before k asks)).0.is_open;
+    kept = λ clean is_open k asks.
+        let it = w.ok clean k.ready (before k asks) in
+        record { ready = it.0; ledger = adopted_ledgers_are_of_the_next part next old.committed.trees new.committed.trees next.digest n (below_of n old k.ready) k.ledger it.1 };
+    answers = λ clean is_open k asks.
+        let it = adopted_so k.ready k.ledger asks new.committed.trees (w.ok clean k.ready (before k asks)).1 in
+        record { reply = it.book; bodies = it.bodies; owner = it.owner; same = tt };
+    crash = λ clean k asks db left. elim ((w.crash k.ready (before k asks)).crash clean db left) [
+      | inl was ↦ inl was
+      | inr made ↦ inr (adopted_so k.ready k.ledger asks db made)
+    ];
+  }
+    where
+      before : IsKept n part old → OwnedBy node old.committed.trees → HasSite old.now.trees
+      before k asks = subst (λ (d : Database). HasSite d.trees) (sym k.ready.settled) (node, asks.0, asks.1)
+  written_adopted (Err e) own w = refused_adopted n part next old new (OwnedBy node) e (λ clean is_open k. own)
+      (unmade_called {A = Unit {0}} n part HasSite (OwnedBy node) (Adopts next.digest n) Stood (IsAdopted next) old new still owned e own w adopted_so (λ asks. refl))
+
+-- where nothing is tried
+pub not_adopted : (n : ℕ) (part next : Part) (s : State) (Asks : Trees → Type 0) → Adopted n part next (Err fault.Store) s s Asks
+not_adopted n part next s Asks = refused_adopted n part next s s Asks fault.Store (λ clean is_open k. inl refl)
+    (still_called {A = Unit {0}} n part (Err fault.Store) s Asks Stood (IsAdopted next) (λ db asks. refl) (λ P h. tt))
+
+-- the owner was read, and then it was adopted
+module _ {A : Type 0} (n : ℕ) (part next : Part) (old mid new : State) (Shows : Trees → A → Type 0) where
+  pub looked_adopted : (a : A) (r : Result (Unit {0}) LedgerFault) (Given : Trees → Type 0) → Looked n part (Ok a) old mid Shows → Adopted n part next r mid new Given
+      → ((db : Trees) → Shows db a → Given db) → Adopted n part next r old new Nothing
+  looked_adopted a r Given l c gives = record {
+    clean = omega (arith, l.clean, c.clean);
+    was_open = λ clean is_open. l.was_open (early clean) (c.was_open clean is_open);
+    idle = λ h. c.idle (l.idle h);
+    lasts = λ clean k any. c.lasts clean (middle clean k) (given clean k);
+    kept = λ clean is_open k any. c.kept clean is_open (middle clean k) (given clean k);
+    answers = λ clean is_open k any. subst (λ base. Answers next r base new.committed.trees) (shown clean k).0 (c.answers clean is_open (middle clean k) (given clean k));
+    crash = λ clean k any db left. elim (c.crash clean (middle clean k) (given clean k) db left) [
+      | inl before ↦ elim (l.crash (early clean) k tt db before) [ inl h ↦ inl h | inr none ↦ absurd none ]
+      | inr made ↦ inr (subst (λ base. IsAdopted next base db) (shown clean k).0 made)
+    ];
+  }
+    where
+      early : HasCleanDisk new → HasCleanDisk mid
+      early clean = omega (arith, c.clean, clean)
+
+      middle : HasCleanDisk new → IsKept n part old → IsKept n part mid
+      middle clean k = l.kept (early clean) (l.lasts (early clean) k tt) k tt
+
+      shown : HasCleanDisk new → IsKept n part old → (mid.committed.trees ≡ old.committed.trees) × Shows old.committed.trees a
+      shown clean k = l.answers (early clean) (l.lasts (early clean) k tt) k tt
+
+      given : HasCleanDisk new → IsKept n part old → Given mid.committed.trees
+      given clean k = subst Given (sym (shown clean k).0) (gives old.committed.trees (shown clean k).1)
+
+-- the owner was read, and it wasn't tried
+pub looked_only : {A : Type 0} (n : ℕ) (part next : Part) (old new : State) (Shows : Trees → A → Type 0) (a : A) → Looked n part (Ok a) old new Shows → Adopted n part next (Err fault.Store) old new Nothing
+looked_only n part next old new Shows a l = looked_adopted n part next old new new Shows a (Err fault.Store) Nothing l (not_adopted n part next new Nothing) (λ db shown. tt)
+
+own_of : {A : Type 0} (e : LedgerFault) (Shows : A → Type 0) → Reads (Err e) Shows → IsOwnFault e
+own_of fault.Store Shows h = inl refl
+own_of fault.Memory Shows h = inr refl
+own_of fault.NoLine Shows h = absurd h
+own_of fault.Conflict Shows h = absurd h
+own_of fault.NotWaiting Shows h = absurd h
+own_of fault.NotHeld Shows h = absurd h
+
+-- the owner couldn't be read
+pub looked_none : {A : Type 0} (n : ℕ) (part next : Part) (old new : State) (Shows : Trees → A → Type 0) (e : LedgerFault) → Looked n part (Err e) old new Shows → Adopted n part next (Err e) old new Nothing
+looked_none n part next old new Shows e l =
+    refused_adopted n part next old new Nothing e (λ clean is_open k. own_of e (Shows old.committed.trees) (l.answers clean is_open k tt).1)
+    (looked_failed {B = Unit {0}} n part old new Shows e Nothing Stood (IsAdopted next) l (λ base any own. refl))

@@ -1,0 +1,85 @@
+//! Adoptions.
+ghost use Rattle.std.specs.Prelude.{◌≡◌, ◌≤◌, ◌↔◌, ◌^◌, IfErr, IsTrue, OnOk, false, List, ℕ};
+ghost use Rattle.sqlite.specs.Held.{state};
+ghost use Rattle.dr_site.specs.Parts.{Part};
+ghost use Rattle.dr_store_writes.specs.Effects.{HasSite, IsSiteOf};
+ghost use Rattle.dr_store_changes.specs.Writing.{Written};
+ghost use Rattle.dr_store_calls.specs.Calling.{IsOwnFault, Nothing};
+ghost use Rattle.dr_store_calls.specs.Adoptions.{Adopted, Adopts};
+
+use crate::plan::NewPlan;
+use dr_base::Text;
+use dr_ledger::LedgerFault;
+use dr_site::Site;
+use dr_store_changes::write;
+use dr_store_reads::{fault_of, find_owner};
+use sqlite::{Alter, Connection};
+use std::alloc::Global;
+
+/// A journal is full with so many lines.
+const MOST_LINES: u64 = 1 << 62;
+
+/// Sets the plan in force as one transaction.
+fn write_plan<S: Alter>(conn: &mut Connection<S>, n: u64, digest: &[u8]) -> Result<(), LedgerFault>
+    requires { conn.old.in_transaction ≡ false }
+    ensures idle { conn.new.in_transaction ≡ false }
+    ensures number { OnOk result (n ≤ 2 ^ 62) }
+    ensures fault { IfErr result IsOwnFault }
+    ensures written { Written n HasSite (Adopts digest.now n) result (state S.Store conn.old) (state S.Store conn.new) }
+{
+    if n > MOST_LINES {
+        return Err(LedgerFault::Store);
+    }
+    let change = NewPlan { digest };
+    match write(conn, n, &change) {
+        Ok(()) => Ok(()),
+        Err(error) => Err(fault_of(&error)),
+    }
+}
+
+/// Whether the name is that one.
+fn is_name(name: &Text, other: &Text) -> bool
+    ensures { IsTrue result ↔ (name.now ≡ other.now) }
+{
+    name == other
+}
+
+/// Adopts the plan of the next site, where the tables are owned by this node.
+fn adopt_at<S: Alter>(
+    conn: &mut Connection<S>,
+    n: u64,
+    next: &Site,
+    node: &Text,
+) -> Result<(), LedgerFault>
+    requires { conn.old.in_transaction ≡ false }
+    ensures adopted { (part : Part) → Adopted n part next.now result (state S.Store conn.old) (state S.Store conn.new) (λ base. (was : List ℕ) × IsSiteOf node.now was base) }
+    ensures number { OnOk result (n ≤ 2 ^ 62) }
+    ensures idle { conn.new.in_transaction ≡ false }
+{
+    if !is_name(node, next.name()) {
+        return Err(LedgerFault::Store);
+    }
+    write_plan(conn, n, next.digest())
+}
+
+/// Adopts the plan of the next site of the tables' node, as line `n` of the journal: arrivals and done rows leave, and the tables are
+/// from now on those of a ledger of that site. Data sets stay, since just those are needed that were needed before.
+///
+/// Errors: Store, also where the tables aren't those of the next site's node, or the journal is full; Memory.
+pub fn adopt<S: Alter>(
+    conn: &mut Connection<S>,
+    alloc: Global,
+    n: u64,
+    next: &Site,
+) -> Result<(), LedgerFault>
+    requires { conn.old.in_transaction ≡ false }
+    ensures adopted { (part : Part) → Adopted n part next.now result (state S.Store conn.old) (state S.Store conn.new) Nothing }
+    ensures number { OnOk result (n ≤ 2 ^ 62) }
+    ensures idle { conn.new.in_transaction ≡ false }
+{
+    match find_owner(conn, alloc) {
+        Ok(Some(owner)) => adopt_at(conn, n, next, &owner.node),
+        Ok(None) => Err(LedgerFault::Store),
+        Err(fault) => Err(fault),
+    }
+}
