@@ -16,13 +16,19 @@ use dr_route::{Key, Literals, cell_of};
 use std::alloc::{AllocError, Global};
 use std::marker::Model;
 
-/// A plan with its certificate. None can be made but of a sound plan with just its certificate.
-#[derive(Debug, Drop)]
-pub struct Sealed {
+/// A plan and its certificate, with what finds a line of it: the plan's literals, and the lines by their stops.
+#[derive(Drop)]
+struct Parts {
     plan: Plan,
     certificate: Certificate,
     literals: Literals,
     index: Vec<Line>,
+}
+
+/// A plan with its certificate. None can be made but of a sound plan with just its certificate. It moves as a pointer.
+#[derive(Drop)]
+pub struct Sealed {
+    parts: Box<Parts>,
 }
 
 impl Model for Sealed {
@@ -30,9 +36,17 @@ impl Model for Sealed {
 
     ghost Value = { Certified };
 
-    ghost view = { λ s. record { plan = s.plan; certificate = s.certificate } };
+    ghost view = { λ s. record { plan = s.parts.value.plan; certificate = s.parts.value.certificate } };
 
-    ghost invariant = { λ s. IsSealed s.plan s.certificate s.literals s.index.items };
+    ghost invariant = { λ s. IsSealed s.parts.value.plan s.parts.value.certificate s.parts.value.literals s.parts.value.index.items };
+}
+
+/// Puts the parts of a sealed plan on the heap.
+fn boxed(alloc: Global, parts: Parts) -> Result<Box<Parts>, AllocError>
+    ensures { IfOk result (λ b. b.value ≡ parts) }
+{
+    let boxed = Box::new(alloc, parts)?;
+    Ok(boxed)
 }
 
 fn copy_certificate(certificate: &Certificate) -> Result<Certificate, AllocError>
@@ -71,24 +85,29 @@ impl Sealed {
         let index = index_of(alloc, certificate.lines.as_slice())?;
         test_lines(alloc, &plan, &certificate, index.as_slice())?;
         let literals = literals(alloc, &plan)?;
-        Ok(Sealed {
+        let parts = Parts {
             plan,
             certificate,
             literals,
             index,
-        })
+        };
+        let parts = boxed(alloc, parts)?;
+        Ok(Sealed { parts })
     }
 
     /// A copy of it.
     pub fn copy(&self) -> Result<Sealed, AllocError>
         ensures { IfOk result (λ sealed. sealed ≡ self.now) }
     {
-        Ok(Sealed {
-            plan: self.plan.copy()?,
-            certificate: copy_certificate(&self.certificate)?,
-            literals: copy_literals(&self.literals)?,
-            index: copy_lines(&self.index)?,
-        })
+        let own = self.parts.as_ref();
+        let parts = Parts {
+            plan: own.plan.copy()?,
+            certificate: copy_certificate(&own.certificate)?,
+            literals: copy_literals(&own.literals)?,
+            index: copy_lines(&own.index)?,
+        };
+        let parts = boxed(*Box::allocator(&self.parts), parts)?;
+        Ok(Sealed { parts })
     }
 
     /// The plan, which is sound.
@@ -97,7 +116,7 @@ impl Sealed {
         ensures well_formed { IsWellFormed self.now.plan }
         ensures sound { IsSound self.now.plan }
     {
-        &self.plan
+        &self.parts.as_ref().plan
     }
 
     /// The certificate of the plan.
@@ -105,7 +124,7 @@ impl Sealed {
         ensures same { result.now ≡ self.now.certificate }
         ensures own { IsCertificateOf self.now.plan self.now.certificate }
     {
-        &self.certificate
+        &self.parts.as_ref().certificate
     }
 
     /// How many hops an instance of the key may still make from the node to which the caller brings it, at most;
@@ -113,8 +132,9 @@ impl Sealed {
     pub fn rank(&self, caller: &Text, node: &Text, key: &Key) -> Option<u32>
         ensures { IsRankIn self.now.plan key.now caller.now node.now result }
     {
-        let stop = Place::new(caller, node, cell_of(&self.literals, key));
-        match rank_of(self.index.as_slice(), &stop) {
+        let parts = self.parts.as_ref();
+        let stop = Place::new(caller, node, cell_of(&parts.literals, key));
+        match rank_of(parts.index.as_slice(), &stop) {
             Some(rank) => Some(rank),
             None => None,
         }

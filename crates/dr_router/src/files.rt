@@ -1,9 +1,9 @@
 //! The system's files as databases, and ledgers in databases.
 ghost use Rattle.std.specs.Prelude.{◌≡◌, IfOk, false};
 
-use dr_ledger_files::ledger_on;
 use dr_site::Site;
 use dr_store::SqlLedger;
+use dr_store_open::{OpeningFault, ledger_on};
 use dr_word_list::{Ledgers, OpenFault};
 use sqlite::{Alter, Connection, Error, ErrorCode, File, FileStore};
 use std::alloc::Global;
@@ -38,6 +38,30 @@ fn file_fault(error: &Error) -> OpenFault {
     }
 }
 
+/// Why a ledger isn't opened whose database is.
+fn ledger_fault(fault: OpeningFault) -> OpenFault {
+    match fault {
+        OpeningFault::OtherSite => OpenFault::OtherSite,
+        OpeningFault::Store => OpenFault::Store,
+        OpeningFault::Memory => OpenFault::Memory,
+    }
+}
+
+/// The ledger of a site over a connection to its database.
+fn ledger_over<S: Alter + Drop>(
+    alloc: Global,
+    conn: Connection<S>,
+    site: Site,
+) -> Result<SqlLedger<S>, OpenFault>
+    requires { conn.in_transaction ≡ false }
+    ensures { IfOk result (λ l. l.site ≡ site) }
+{
+    match ledger_on(alloc, conn, site) {
+        Ok(ledger) => Ok(ledger),
+        Err(fault) => Err(ledger_fault(fault)),
+    }
+}
+
 /// Ledgers, each in a database of its own.
 #[derive(Drop)]
 pub struct StoredLedgers<'a, D: Databases>(pub &'a D);
@@ -55,7 +79,7 @@ impl<'a, D: Databases> Ledgers for StoredLedgers<'a, D> {
         site: Site,
     ) -> Result<SqlLedger<D::Store>, OpenFault> {
         match self.0.open_database(path) {
-            Ok(conn) => ledger_on(alloc, conn, site),
+            Ok(conn) => ledger_over(alloc, conn, site),
             Err(error) => Err(file_fault(&error)),
         }
     }

@@ -45,12 +45,9 @@ impl From<AllocError> for SiteFault {
     }
 }
 
-/// What one node works by: its part of a sound plan and of the plan's certificate. It has the node's name, the
-/// greatest length of the P-DATA-TF PDUs that it takes (bytes; 0 is no limit), the plan's SHA-256, its own rules,
-/// accept rows and flows, its own lines and the hops that begin at it, and the literals of the whole plan, by
-/// which the cell of a key is found.
-#[derive(Debug, Drop)]
-pub struct Site {
+/// The parts of a site, as they are kept.
+#[derive(Drop)]
+struct Parts {
     name: Text,
     max_pdu: u32,
     digest: [u8; 32],
@@ -62,15 +59,32 @@ pub struct Site {
     literals: Literals,
 }
 
+/// What one node works by: its part of a sound plan and of the plan's certificate. It has the node's name, the
+/// greatest length of the P-DATA-TF PDUs that it takes (bytes; 0 is no limit), the plan's SHA-256, its own rules,
+/// accept rows and flows, its own lines and the hops that begin at it, and the literals of the whole plan, by
+/// which the cell of a key is found. It moves as a pointer.
+#[derive(Drop)]
+pub struct Site {
+    parts: Box<Parts>,
+}
+
 impl Model for Site {
     ghost use Rattle.dr_site.specs.Parts.{Part};
     ghost use Rattle.dr_site.specs.Sites.{IsSite};
 
     ghost Value = { Part };
 
-    ghost view = { λ s. record { name = s.name; max_pdu = s.max_pdu; digest = s.digest; rules = s.rules; accepts = s.accepts; flows = s.flows; lines = s.lines.items; hops = s.hops; literals = s.literals } };
+    ghost view = { λ s. record { name = s.parts.value.name; max_pdu = s.parts.value.max_pdu; digest = s.parts.value.digest; rules = s.parts.value.rules; accepts = s.parts.value.accepts; flows = s.parts.value.flows; lines = s.parts.value.lines.items; hops = s.parts.value.hops; literals = s.parts.value.literals } };
 
-    ghost invariant = { λ s. IsSite (record { name = s.name; max_pdu = s.max_pdu; digest = s.digest; rules = s.rules; accepts = s.accepts; flows = s.flows; lines = s.lines.items; hops = s.hops; literals = s.literals }) };
+    ghost invariant = { λ s. IsSite (record { name = s.parts.value.name; max_pdu = s.parts.value.max_pdu; digest = s.parts.value.digest; rules = s.parts.value.rules; accepts = s.parts.value.accepts; flows = s.parts.value.flows; lines = s.parts.value.lines.items; hops = s.parts.value.hops; literals = s.parts.value.literals }) };
+}
+
+/// Puts the parts of a site on the heap.
+fn boxed(alloc: Global, parts: Parts) -> Result<Box<Parts>, AllocError>
+    ensures { IfOk result (λ b. b.value ≡ parts) }
+{
+    let boxed = Box::new(alloc, parts)?;
+    Ok(boxed)
 }
 
 impl Site {
@@ -103,7 +117,7 @@ impl Site {
         let lines = index_of(alloc, own.as_slice())?;
         let hops = hops_from(alloc, certificate.hops.as_slice(), name)?;
         let literals = literals(alloc, plan)?;
-        Ok(Site {
+        let parts = Parts {
             name: copy_name(name)?,
             max_pdu: node.max_pdu,
             digest: *plan.digest(),
@@ -113,35 +127,37 @@ impl Site {
             lines,
             hops,
             literals,
-        })
+        };
+        let parts = boxed(alloc, parts)?;
+        Ok(Site { parts })
     }
 
     /// The name of its node.
     pub fn name(&self) -> &Text
         ensures { result.now ≡ self.now.name }
     {
-        &self.name
+        &self.parts.as_ref().name
     }
 
     /// The greatest length of the P-DATA-TF PDUs that its node takes, in bytes; 0 is no limit.
     pub fn max_pdu(&self) -> u32
         ensures { result ≡ self.now.max_pdu }
     {
-        self.max_pdu
+        self.parts.as_ref().max_pdu
     }
 
     /// The SHA-256 of the plan's text.
     pub fn digest(&self) -> &[u8; 32]
         ensures { result.now ≡ self.now.digest }
     {
-        &self.digest
+        &self.parts.as_ref().digest
     }
 
     /// Its node's rules, in the order of the plan's text.
     pub fn rules(&self) -> &[Rule]
         ensures { result.now ≡ self.now.rules }
     {
-        self.rules.as_slice()
+        self.parts.as_ref().rules.as_slice()
     }
 
     /// Its node's accept rows, in the order of the plan's text.
@@ -149,21 +165,21 @@ impl Site {
         ensures same { result.now ≡ self.now.accepts }
         ensures site { IsSite self.now }
     {
-        self.accepts.as_slice()
+        self.parts.as_ref().accepts.as_slice()
     }
 
     /// The flows that enter at its node, in the order of the plan's text.
     pub fn flows(&self) -> &[Flow]
         ensures { result.now ≡ self.now.flows }
     {
-        self.flows.as_slice()
+        self.parts.as_ref().flows.as_slice()
     }
 
     /// The certificate's lines of its node, in the order of their stops.
     pub fn lines(&self) -> &[Line]
         ensures { result.now ≡ self.now.lines }
     {
-        self.lines.as_slice()
+        self.parts.as_ref().lines.as_slice()
     }
 
     /// The presentation contexts of the hops that begin at its node, by their ids.
@@ -171,7 +187,7 @@ impl Site {
         ensures same { result.now ≡ self.now.hops }
         ensures site { IsSite self.now }
     {
-        self.hops.as_slice()
+        self.parts.as_ref().hops.as_slice()
     }
 
     /// The presentation contexts of its node's hop to that node, by their ids (1, 3, 5 and so on); none where it
@@ -180,7 +196,7 @@ impl Site {
         ensures hops { IfOk result (λ s. s ≡ hops_to self.now dest.now) }
         ensures site { IsSite self.now }
     {
-        let hops = hops_ending_at(alloc, self.hops.as_slice(), dest)?;
+        let hops = hops_ending_at(alloc, self.parts.as_ref().hops.as_slice(), dest)?;
         Ok(hops)
     }
 
@@ -189,8 +205,9 @@ impl Site {
     pub fn has_line(&self, caller: &Text, key: &Key) -> bool
         ensures { IsTrue result ↔ HasLineFor self.now caller.now key.now }
     {
-        let stop = Place::new(caller, &self.name, cell_of(&self.literals, key));
-        let Some(_) = find(self.lines.as_slice(), &stop) else {
+        let parts = self.parts.as_ref();
+        let stop = Place::new(caller, &parts.name, cell_of(&parts.literals, key));
+        let Some(_) = find(parts.lines.as_slice(), &stop) else {
             return false;
         };
         true
@@ -204,11 +221,12 @@ impl Site {
         ensures ordered { IfOk result (λ t. IsInByteOrder t.to) }
         ensures keep { IfOk result (λ t. IsTrue t.keep ↔ KeepsAt self.now caller.now key.now) }
     {
+        let parts = self.parts.as_ref();
         if is_local(caller) {
-            let to = flow_targets(alloc, self.flows.as_slice(), &self.name, key)?;
+            let to = flow_targets(alloc, parts.flows.as_slice(), &parts.name, key)?;
             return Ok(Targets { to, keep: false });
         }
-        let targets = targets(alloc, self.rules.as_slice(), caller, key)?;
+        let targets = targets(alloc, parts.rules.as_slice(), caller, key)?;
         Ok(targets)
     }
 
@@ -216,31 +234,36 @@ impl Site {
     pub fn is_same(&self, other: &Site) -> bool
         ensures { IsTrue result ↔ (self.now ≡ other.now) }
     {
-        self.max_pdu == other.max_pdu
-            && self.digest == other.digest
-            && self.name.is_same(&other.name)
-            && are_same(self.rules.as_slice(), other.rules.as_slice())
-            && are_same(self.accepts.as_slice(), other.accepts.as_slice())
-            && are_same(self.flows.as_slice(), other.flows.as_slice())
-            && are_same(self.lines.as_slice(), other.lines.as_slice())
-            && are_same(self.hops.as_slice(), other.hops.as_slice())
-            && self.literals.is_same(&other.literals)
+        let own = self.parts.as_ref();
+        let other = other.parts.as_ref();
+        own.max_pdu == other.max_pdu
+            && own.digest == other.digest
+            && own.name.is_same(&other.name)
+            && are_same(own.rules.as_slice(), other.rules.as_slice())
+            && are_same(own.accepts.as_slice(), other.accepts.as_slice())
+            && are_same(own.flows.as_slice(), other.flows.as_slice())
+            && are_same(own.lines.as_slice(), other.lines.as_slice())
+            && are_same(own.hops.as_slice(), other.hops.as_slice())
+            && own.literals.is_same(&other.literals)
     }
 
     /// Another one, equal to it.
     pub fn copy(&self) -> Result<Site, AllocError>
         ensures { IfOk result (λ s. s ≡ self.now) }
     {
-        Ok(Site {
-            name: copy_name(&self.name)?,
-            max_pdu: self.max_pdu,
-            digest: self.digest,
-            rules: copy_rules(&self.rules)?,
-            accepts: copy_accepts(&self.accepts)?,
-            flows: copy_flows(&self.flows)?,
-            lines: copy_lines(&self.lines)?,
-            hops: copy_hops(&self.hops)?,
-            literals: copy_literals(&self.literals)?,
-        })
+        let own = self.parts.as_ref();
+        let parts = Parts {
+            name: copy_name(&own.name)?,
+            max_pdu: own.max_pdu,
+            digest: own.digest,
+            rules: copy_rules(&own.rules)?,
+            accepts: copy_accepts(&own.accepts)?,
+            flows: copy_flows(&own.flows)?,
+            lines: copy_lines(&own.lines)?,
+            hops: copy_hops(&own.hops)?,
+            literals: copy_literals(&own.literals)?,
+        };
+        let parts = boxed(*Box::allocator(&self.parts), parts)?;
+        Ok(Site { parts })
     }
 }

@@ -8,6 +8,7 @@ mod asking;
 pub mod bodies;
 mod fault;
 pub mod finding;
+mod ledger;
 pub mod making;
 mod older;
 pub mod opening;
@@ -16,4 +17,5 @@ mod sheets;
 mod testing;
 
 pub use fault::OpeningFault;
+pub use ledger::ledger_on;
 pub use opening::on;

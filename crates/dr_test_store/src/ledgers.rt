@@ -7,11 +7,11 @@ ghost use Rattle.dr_store_calls.specs.Calling.{IsKept};
 use crate::disks::{Disks, Image, Limits, NO_STOP, Remains};
 use anyhow::bail;
 use dr_ledger::{Ledger, LedgerFault};
-use dr_ledger_files::ledger_on;
 use dr_site::Site;
 use dr_store::SqlLedger;
 use dr_store_open::making::make;
 use dr_store_open::opening::find;
+use dr_store_open::{OpeningFault, ledger_on};
 use dr_word_list::OpenFault;
 use sqlite::{Alter, Connection};
 use std::alloc::Global;
@@ -93,6 +93,15 @@ fn connected<D: Disks>(
     }
 }
 
+/// Why a ledger isn't opened whose files are.
+fn ledger_fault(fault: OpeningFault) -> OpenFault {
+    match fault {
+        OpeningFault::OtherSite => OpenFault::OtherSite,
+        OpeningFault::Store => OpenFault::Store,
+        OpeningFault::Memory => OpenFault::Memory,
+    }
+}
+
 /// The ledger of the site over a connection, as the program opens it.
 fn opened<S: Alter + Drop>(
     alloc: Global,
@@ -102,7 +111,10 @@ fn opened<S: Alter + Drop>(
     if !conn.is_autocommit() {
         return Err(OpenFault::Store);
     }
-    ledger_on(alloc, conn, site)
+    match ledger_on(alloc, conn, site) {
+        Ok(ledger) => Ok(ledger),
+        Err(fault) => Err(ledger_fault(fault)),
+    }
 }
 
 /// The connection, with the number of the next line of the site's ledger that is there.

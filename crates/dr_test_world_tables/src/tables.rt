@@ -1,8 +1,8 @@
 //! Ledgers in the tables of databases.
 use anyhow::bail;
-use dr_ledger_files::ledger_on;
 use dr_site::Site;
 use dr_store::SqlLedger;
+use dr_store_open::ledger_on;
 use sqlite::{Alter, Connection, FileStore, Files, Options};
 use sqlite_disk::Memory;
 use std::alloc::Global;

@@ -1,6 +1,8 @@
 -- The words of the command line.
-use Rattle.std.specs.Prelude.{◌≡◌, ◌≢◌, ℕ, List, [], ◌∷◌, ◌++◌, ◌⊎◌, codes, None}
+use Rattle.std.specs.Prelude.{◌≡◌, ◌≢◌, ℕ, List, [], ◌∷◌, ◌++◌, ◌⊎◌, codes, Option, None, MatchOption}
 use Rattle.std.specs.Borrow.{Bor}
+use Rattle.dr_word_line.specs.declared.words.Asked.{Asked}
+use Rattle.dr_word_line.specs.declared.words.Asked.TheVariants.{CheckInput, CheckFile, Verify, Simulate, Echo, Question as AsksQuestion, AtNode, Adopt, Told}
 use Rattle.dr_word_line.specs.declared.words.Duty.{Duty}
 use Rattle.dr_word_line.specs.declared.words.Duty.TheVariants.{List as ToList, Summary, Requeue, RequeueAll, Send, Serve}
 use Rattle.dr_word_line.specs.declared.words.KeyWords.{KeyWords}
@@ -120,3 +122,19 @@ IsAdoptOf words change =
     (word : Bor (List ℕ)) × (words ≡ word ∷ change.plan ∷ change.certificate ∷ change.next_plan ∷ change.next_certificate ∷ change.folder ∷ []) × (word.now ≡ codes "adopt")
     × IsNoOption change.plan.now × IsNoOption change.certificate.now
     × IsNoOption change.next_plan.now × IsNoOption change.next_certificate.now × IsNoOption change.folder.now
+
+-- the words are of a plain form, which asks for this
+abbrev pub Asks : List (Bor (List ℕ)) → Asked → Type 0
+Asks words CheckInput = IsPlainCheck words
+Asks words (CheckFile plan) = IsCheckOf words plan
+Asks words (Verify plan certificate) = IsVerifyOf words plan certificate
+Asks words (Simulate plan certificate script) = IsSimulateOf words plan certificate script
+Asks words (Echo plan caller called) = IsEchoOf words plan caller called
+Asks words (AsksQuestion plan certificate question) = IsQuestionOf words plan certificate question
+Asks words (AtNode given duty) = IsDutyOf words given duty
+Asks words (Adopt change) = IsAdoptOf words change
+Asks words (Told error) = ⊥
+
+-- what the words of a plain form ask for, and nothing where they are of none
+abbrev pub Reads : List (Bor (List ℕ)) → Option Asked → Type 0
+Reads words found = MatchOption found ((asked : Asked) → Asks words asked → ⊥) (Asks words)

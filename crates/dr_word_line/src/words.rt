@@ -1,16 +1,14 @@
 //! What the words of the command line ask for.
-ghost use Rattle.std.specs.Prelude.{◌≡◌, ◌↔◌, ℕ, List, Some, IfOk, IsTrue};
+ghost use Rattle.std.specs.Prelude.{◌≡◌, ◌↔◌, ℕ, List, IfNone, IfOk, IfSome, IsTrue};
 ghost use Rattle.std.specs.Borrow.{Bor};
-ghost use Rattle.dr_word_line.specs.Words.{IsPlainCheck, IsCheckOf, IsVerifyOf, IsSimulateOf, IsEchoOf, IsNoOption, IsGraphOf, IsLintOf, IsFileRouteOf, IsKeyRouteOf, IsQuestionOf, IsListOf, IsSummaryOf, IsServeOf, IsSendOf, IsRequeueOf, IsRequeueAllOf, IsDutyOf, IsAdoptOf, plain_serving};
+ghost use Rattle.dr_word_line.specs.Words.{Asks, Reads, IsPlainCheck, IsCheckOf, IsVerifyOf, IsSimulateOf, IsEchoOf, IsNoOption, IsGraphOf, IsLintOf, IsFileRouteOf, IsKeyRouteOf, IsQuestionOf, IsListOf, IsSummaryOf, IsServeOf, IsSendOf, IsRequeueOf, IsRequeueAllOf, IsDutyOf, IsAdoptOf};
 ghost use Rattle.dr_word_line.specs.declared.words.Asked.{Asked as AskedValue};
 ghost use Rattle.dr_word_line.specs.declared.words.Asked.TheVariants as asks;
 ghost use Rattle.dr_word_line.specs.declared.words.Duty.{Duty as DutyValue};
-ghost use Rattle.dr_word_line.specs.declared.words.Duty.TheVariants as duties;
 ghost use Rattle.dr_word_line.specs.declared.words.KeyWords.{KeyWords as KeyWordsValue};
 ghost use Rattle.dr_word_line.specs.declared.words.NodeFiles.{NodeFiles as NodeFilesValue};
 ghost use Rattle.dr_word_line.specs.declared.words.PlanChange.{PlanChange as PlanChangeValue};
 ghost use Rattle.dr_word_line.specs.declared.words.Question.{Question as QuestionValue};
-ghost use Rattle.dr_word_line.specs.declared.words.Question.TheVariants as questions;
 
 use crate::command_line::command_line;
 use clap::{ArgMatches, Error};
@@ -131,9 +129,10 @@ fn is_no_option(word: &str) -> bool
     *first != b'-'
 }
 
-/// What plain words ask to be done with the ledgers of all nodes: those of a known form, without options.
+/// What words ask to be done with the ledgers of all nodes, if they are of that form.
 fn read_change<'a>(words: &'a [&'a str]) -> Option<Asked<'a>>
-    ensures adopt { (change : PlanChangeValue) → IsAdoptOf words.now change → result ≡ Some (asks.Adopt change) }
+    ensures asked { IfSome result (λ asked. Asks words.now asked) }
+    ensures adopt { IfNone result ((change : PlanChangeValue) → IsAdoptOf words.now change → ⊥) }
 {
     match words {
         [word, plan, certificate, next_plan, next_certificate, folder]
@@ -156,11 +155,11 @@ fn read_change<'a>(words: &'a [&'a str]) -> Option<Asked<'a>>
     }
 }
 
-/// What words ask a node to do with all of its ledger: those of a known form, with the option that says so.
+/// What words with an option ask a node to do with all of its ledger, if they are of such a form.
 fn read_all<'a>(words: &'a [&'a str]) -> Option<Asked<'a>>
-    ensures summary { (given : NodeFilesValue) → IsSummaryOf words.now given → result ≡ Some (asks.AtNode given duties.Summary) }
-    ensures requeue_all { (given : NodeFilesValue) (dest : Bor (List ℕ)) → IsRequeueAllOf words.now given dest → result ≡ Some (asks.AtNode given (duties.RequeueAll dest)) }
-    ensures adopt { (change : PlanChangeValue) → IsAdoptOf words.now change → result ≡ Some (asks.Adopt change) }
+    ensures asked { IfSome result (λ asked. Asks words.now asked) }
+    ensures summary { IfNone result ((given : NodeFilesValue) → IsSummaryOf words.now given → ⊥) }
+    ensures requeue_all { IfNone result ((given : NodeFilesValue) (dest : Bor (List ℕ)) → IsRequeueAllOf words.now given dest → ⊥) }
 {
     match words {
         [word, plan, certificate, node, ledger, option]
@@ -194,17 +193,15 @@ fn read_all<'a>(words: &'a [&'a str]) -> Option<Asked<'a>>
             };
             Some(Asked::AtNode(given, Duty::RequeueAll(dest)))
         }
-        _ => read_change(words),
+        _ => None,
     }
 }
 
-/// What plain words ask a node to do with one of its instances: those of a known form, without options.
+/// What words ask a node to do with one of its instances, if they are of such a form.
 fn read_work<'a>(words: &'a [&'a str]) -> Option<Asked<'a>>
-    ensures requeue { (given : NodeFilesValue) (uid dest : Bor (List ℕ)) → IsRequeueOf words.now given uid dest → result ≡ Some (asks.AtNode given (duties.Requeue uid dest)) }
-    ensures send { (given : NodeFilesValue) (file : Bor (List ℕ)) → IsSendOf words.now given file → result ≡ Some (asks.AtNode given (duties.Send file)) }
-    ensures summary { (given : NodeFilesValue) → IsSummaryOf words.now given → result ≡ Some (asks.AtNode given duties.Summary) }
-    ensures requeue_all { (given : NodeFilesValue) (dest : Bor (List ℕ)) → IsRequeueAllOf words.now given dest → result ≡ Some (asks.AtNode given (duties.RequeueAll dest)) }
-    ensures adopt { (change : PlanChangeValue) → IsAdoptOf words.now change → result ≡ Some (asks.Adopt change) }
+    ensures asked { IfSome result (λ asked. Asks words.now asked) }
+    ensures requeue { IfNone result ((given : NodeFilesValue) (uid dest : Bor (List ℕ)) → IsRequeueOf words.now given uid dest → ⊥) }
+    ensures send { IfNone result ((given : NodeFilesValue) (file : Bor (List ℕ)) → IsSendOf words.now given file → ⊥) }
 {
     match words {
         [word, plan, certificate, node, ledger, file]
@@ -238,19 +235,15 @@ fn read_work<'a>(words: &'a [&'a str]) -> Option<Asked<'a>>
             };
             Some(Asked::AtNode(given, Duty::Requeue(uid, dest)))
         }
-        _ => read_all(words),
+        _ => None,
     }
 }
 
-/// What plain words ask a node to do with its ledger: those of a known form, without options.
+/// What words ask a node to do with its ledger, if they have no more than what names them.
 fn read_duty<'a>(words: &'a [&'a str]) -> Option<Asked<'a>>
-    ensures list { (given : NodeFilesValue) → IsListOf words.now given → result ≡ Some (asks.AtNode given duties.List) }
-    ensures requeue { (given : NodeFilesValue) (uid dest : Bor (List ℕ)) → IsRequeueOf words.now given uid dest → result ≡ Some (asks.AtNode given (duties.Requeue uid dest)) }
-    ensures send { (given : NodeFilesValue) (file : Bor (List ℕ)) → IsSendOf words.now given file → result ≡ Some (asks.AtNode given (duties.Send file)) }
-    ensures serve { (given : NodeFilesValue) → IsServeOf words.now given → result ≡ Some (asks.AtNode given (duties.Serve plain_serving)) }
-    ensures summary { (given : NodeFilesValue) → IsSummaryOf words.now given → result ≡ Some (asks.AtNode given duties.Summary) }
-    ensures requeue_all { (given : NodeFilesValue) (dest : Bor (List ℕ)) → IsRequeueAllOf words.now given dest → result ≡ Some (asks.AtNode given (duties.RequeueAll dest)) }
-    ensures adopt { (change : PlanChangeValue) → IsAdoptOf words.now change → result ≡ Some (asks.Adopt change) }
+    ensures asked { IfSome result (λ asked. Asks words.now asked) }
+    ensures list { IfNone result ((given : NodeFilesValue) → IsListOf words.now given → ⊥) }
+    ensures serve { IfNone result ((given : NodeFilesValue) → IsServeOf words.now given → ⊥) }
 {
     match words {
         [word, plan, certificate, node, ledger]
@@ -286,21 +279,15 @@ fn read_duty<'a>(words: &'a [&'a str]) -> Option<Asked<'a>>
             };
             Some(Asked::AtNode(given, Duty::Serve(serving)))
         }
-        _ => read_work(words),
+        _ => None,
     }
 }
 
-/// What plain words ask about where an instance goes: those of a known form, without options.
+/// What words ask about where an instance goes, if they are of such a form.
 fn read_route<'a>(words: &'a [&'a str]) -> Option<Asked<'a>>
-    ensures route_of_file { (plan certificate at path : Bor (List ℕ)) → IsFileRouteOf words.now plan certificate at path → result ≡ Some (asks.Question plan certificate (questions.RouteOfFile at path)) }
-    ensures route_of_key { (plan certificate at : Bor (List ℕ)) (key : KeyWordsValue) → IsKeyRouteOf words.now plan certificate at key → result ≡ Some (asks.Question plan certificate (questions.RouteOfKey at key)) }
-    ensures list { (given : NodeFilesValue) → IsListOf words.now given → result ≡ Some (asks.AtNode given duties.List) }
-    ensures requeue { (given : NodeFilesValue) (uid dest : Bor (List ℕ)) → IsRequeueOf words.now given uid dest → result ≡ Some (asks.AtNode given (duties.Requeue uid dest)) }
-    ensures send { (given : NodeFilesValue) (file : Bor (List ℕ)) → IsSendOf words.now given file → result ≡ Some (asks.AtNode given (duties.Send file)) }
-    ensures serve { (given : NodeFilesValue) → IsServeOf words.now given → result ≡ Some (asks.AtNode given (duties.Serve plain_serving)) }
-    ensures summary { (given : NodeFilesValue) → IsSummaryOf words.now given → result ≡ Some (asks.AtNode given duties.Summary) }
-    ensures requeue_all { (given : NodeFilesValue) (dest : Bor (List ℕ)) → IsRequeueAllOf words.now given dest → result ≡ Some (asks.AtNode given (duties.RequeueAll dest)) }
-    ensures adopt { (change : PlanChangeValue) → IsAdoptOf words.now change → result ≡ Some (asks.Adopt change) }
+    ensures asked { IfSome result (λ asked. Asks words.now asked) }
+    ensures route_of_file { IfNone result ((plan certificate at path : Bor (List ℕ)) → IsFileRouteOf words.now plan certificate at path → ⊥) }
+    ensures route_of_key { IfNone result ((plan certificate at : Bor (List ℕ)) (key : KeyWordsValue) → IsKeyRouteOf words.now plan certificate at key → ⊥) }
 {
     match words {
         [word, plan, certificate, at, path]
@@ -336,23 +323,15 @@ fn read_route<'a>(words: &'a [&'a str]) -> Option<Asked<'a>>
             };
             Some(Asked::Question(plan, certificate, Question::RouteOfKey(at, key)))
         }
-        _ => read_duty(words),
+        _ => None,
     }
 }
 
-/// What plain words ask about a plan and its certificate: those of a known form, without options.
+/// What words ask about a plan and its certificate, if they have no more than what names them.
 fn read_question<'a>(words: &'a [&'a str]) -> Option<Asked<'a>>
-    ensures graph { (plan certificate : Bor (List ℕ)) → IsGraphOf words.now plan certificate → result ≡ Some (asks.Question plan certificate questions.Graph) }
-    ensures lint { (plan certificate : Bor (List ℕ)) → IsLintOf words.now plan certificate → result ≡ Some (asks.Question plan certificate questions.Lint) }
-    ensures route_of_file { (plan certificate at path : Bor (List ℕ)) → IsFileRouteOf words.now plan certificate at path → result ≡ Some (asks.Question plan certificate (questions.RouteOfFile at path)) }
-    ensures route_of_key { (plan certificate at : Bor (List ℕ)) (key : KeyWordsValue) → IsKeyRouteOf words.now plan certificate at key → result ≡ Some (asks.Question plan certificate (questions.RouteOfKey at key)) }
-    ensures list { (given : NodeFilesValue) → IsListOf words.now given → result ≡ Some (asks.AtNode given duties.List) }
-    ensures requeue { (given : NodeFilesValue) (uid dest : Bor (List ℕ)) → IsRequeueOf words.now given uid dest → result ≡ Some (asks.AtNode given (duties.Requeue uid dest)) }
-    ensures send { (given : NodeFilesValue) (file : Bor (List ℕ)) → IsSendOf words.now given file → result ≡ Some (asks.AtNode given (duties.Send file)) }
-    ensures serve { (given : NodeFilesValue) → IsServeOf words.now given → result ≡ Some (asks.AtNode given (duties.Serve plain_serving)) }
-    ensures summary { (given : NodeFilesValue) → IsSummaryOf words.now given → result ≡ Some (asks.AtNode given duties.Summary) }
-    ensures requeue_all { (given : NodeFilesValue) (dest : Bor (List ℕ)) → IsRequeueAllOf words.now given dest → result ≡ Some (asks.AtNode given (duties.RequeueAll dest)) }
-    ensures adopt { (change : PlanChangeValue) → IsAdoptOf words.now change → result ≡ Some (asks.Adopt change) }
+    ensures asked { IfSome result (λ asked. Asks words.now asked) }
+    ensures graph { IfNone result ((plan certificate : Bor (List ℕ)) → IsGraphOf words.now plan certificate → ⊥) }
+    ensures lint { IfNone result ((plan certificate : Bor (List ℕ)) → IsLintOf words.now plan certificate → ⊥) }
 {
     match words {
         [word, plan, certificate]
@@ -363,33 +342,32 @@ fn read_question<'a>(words: &'a [&'a str]) -> Option<Asked<'a>>
             if *word == "lint" && is_no_option(plan) && is_no_option(certificate) => {
             Some(Asked::Question(plan, certificate, Question::Lint))
         }
-        _ => read_route(words),
+        _ => None,
     }
 }
 
-/// What plain words ask for: those of a known form, without options.
-fn read_plain<'a>(words: &'a [&'a str]) -> Option<Asked<'a>>
-    ensures input { IsPlainCheck words.now → result ≡ Some asks.CheckInput }
-    ensures file { (plan : Bor (List ℕ)) → IsCheckOf words.now plan → result ≡ Some (asks.CheckFile plan) }
-    ensures verify { (plan certificate : Bor (List ℕ)) → IsVerifyOf words.now plan certificate → result ≡ Some (asks.Verify plan certificate) }
-    ensures simulate { (plan certificate script : Bor (List ℕ)) → IsSimulateOf words.now plan certificate script → result ≡ Some (asks.Simulate plan certificate script) }
-    ensures echo { (plan caller called : Bor (List ℕ)) → IsEchoOf words.now plan caller called → result ≡ Some (asks.Echo plan caller called) }
-    ensures graph { (plan certificate : Bor (List ℕ)) → IsGraphOf words.now plan certificate → result ≡ Some (asks.Question plan certificate questions.Graph) }
-    ensures lint { (plan certificate : Bor (List ℕ)) → IsLintOf words.now plan certificate → result ≡ Some (asks.Question plan certificate questions.Lint) }
-    ensures route_of_file { (plan certificate at path : Bor (List ℕ)) → IsFileRouteOf words.now plan certificate at path → result ≡ Some (asks.Question plan certificate (questions.RouteOfFile at path)) }
-    ensures route_of_key { (plan certificate at : Bor (List ℕ)) (key : KeyWordsValue) → IsKeyRouteOf words.now plan certificate at key → result ≡ Some (asks.Question plan certificate (questions.RouteOfKey at key)) }
-    ensures list { (given : NodeFilesValue) → IsListOf words.now given → result ≡ Some (asks.AtNode given duties.List) }
-    ensures requeue { (given : NodeFilesValue) (uid dest : Bor (List ℕ)) → IsRequeueOf words.now given uid dest → result ≡ Some (asks.AtNode given (duties.Requeue uid dest)) }
-    ensures send { (given : NodeFilesValue) (file : Bor (List ℕ)) → IsSendOf words.now given file → result ≡ Some (asks.AtNode given (duties.Send file)) }
-    ensures serve { (given : NodeFilesValue) → IsServeOf words.now given → result ≡ Some (asks.AtNode given (duties.Serve plain_serving)) }
-    ensures summary { (given : NodeFilesValue) → IsSummaryOf words.now given → result ≡ Some (asks.AtNode given duties.Summary) }
-    ensures requeue_all { (given : NodeFilesValue) (dest : Bor (List ℕ)) → IsRequeueAllOf words.now given dest → result ≡ Some (asks.AtNode given (duties.RequeueAll dest)) }
-    ensures adopt { (change : PlanChangeValue) → IsAdoptOf words.now change → result ≡ Some (asks.Adopt change) }
+/// What words ask of a plan's text alone, if they are of such a form.
+fn read_check<'a>(words: &'a [&'a str]) -> Option<Asked<'a>>
+    ensures asked { IfSome result (λ asked. Asks words.now asked) }
+    ensures input { IfNone result (IsPlainCheck words.now → ⊥) }
+    ensures file { IfNone result ((plan : Bor (List ℕ)) → IsCheckOf words.now plan → ⊥) }
 {
     match words {
         [] => Some(Asked::CheckInput),
         [word] if *word == "check" => Some(Asked::CheckInput),
         [word, plan] if *word == "check" && is_no_option(plan) => Some(Asked::CheckFile(plan)),
+        _ => None,
+    }
+}
+
+/// What words ask of a plan and something else, if they are of such a form.
+fn read_pair<'a>(words: &'a [&'a str]) -> Option<Asked<'a>>
+    ensures asked { IfSome result (λ asked. Asks words.now asked) }
+    ensures verify { IfNone result ((plan certificate : Bor (List ℕ)) → IsVerifyOf words.now plan certificate → ⊥) }
+    ensures simulate { IfNone result ((plan certificate script : Bor (List ℕ)) → IsSimulateOf words.now plan certificate script → ⊥) }
+    ensures echo { IfNone result ((plan caller called : Bor (List ℕ)) → IsEchoOf words.now plan caller called → ⊥) }
+{
+    match words {
         [word, plan, certificate]
             if *word == "verify" && is_no_option(plan) && is_no_option(certificate) => {
             Some(Asked::Verify(plan, certificate))
@@ -404,7 +382,50 @@ fn read_plain<'a>(words: &'a [&'a str]) -> Option<Asked<'a>>
                 && is_no_option(plan)
                 && is_no_option(caller)
                 && is_no_option(called) => { Some(Asked::Echo(plan, caller, called)) }
-        _ => read_question(words),
+        _ => None,
+    }
+}
+
+/// What plain words ask a node to do with its ledger, or of the ledgers of all nodes: those of a known form.
+fn read_ledger<'a>(words: &'a [&'a str]) -> Option<Asked<'a>>
+    ensures asked { IfSome result (λ asked. Asks words.now asked) }
+    ensures duty { IfNone result ((given : NodeFilesValue) (duty : DutyValue) → IsDutyOf words.now given duty → ⊥) }
+    ensures adopt { IfNone result ((change : PlanChangeValue) → IsAdoptOf words.now change → ⊥) }
+{
+    if let Some(asked) = read_duty(words) {
+        return Some(asked);
+    }
+    if let Some(asked) = read_work(words) {
+        return Some(asked);
+    }
+    if let Some(asked) = read_all(words) {
+        return Some(asked);
+    }
+    match read_change(words) {
+        Some(asked) => Some(asked),
+        None => None,
+    }
+}
+
+/// What plain words ask for: those of a known form, without options.
+fn read_plain<'a>(words: &'a [&'a str]) -> Option<Asked<'a>>
+    ensures { Reads words.now result }
+{
+    if let Some(asked) = read_check(words) {
+        return Some(asked);
+    }
+    if let Some(asked) = read_pair(words) {
+        return Some(asked);
+    }
+    if let Some(asked) = read_question(words) {
+        return Some(asked);
+    }
+    if let Some(asked) = read_route(words) {
+        return Some(asked);
+    }
+    match read_ledger(words) {
+        Some(asked) => Some(asked),
+        None => None,
     }
 }
 

@@ -10,7 +10,7 @@ returns-in_default c = (
   λ never. absurd (false≢true never),
   λ has.
       let P : Part → Type 0 = λ p. HasLineFor p c.args.caller.now c.args.key.now in
-      let s = c.self.inside in
+      let s = c.self.inside.parts.value in
       let part : Part = record { name = s.name; max_pdu = s.max_pdu; digest = s.digest; rules = s.rules; accepts = s.accepts; flows = s.flows; lines = s.lines.items; hops = s.hops; literals = s.literals } in
       absurd (not_found_by part c.args.caller.now c.args.key.now _ c.cell_of.ensures _ _ c.as_slice.ensures.value c.new-stop.ensures
       c.in_default.ensures (subst P (sym c.self.view_is) has)),
@@ -20,7 +20,7 @@ pub returns : goal.returns
 returns c = (
   λ always.
       let P : Part → Type 0 = λ p. HasLineFor p c.args.caller.now c.args.key.now in
-      let s = c.self.inside in
+      let s = c.self.inside.parts.value in
       let part : Part = record { name = s.name; max_pdu = s.max_pdu; digest = s.digest; rules = s.rules; accepts = s.accepts; flows = s.flows; lines = s.lines.items; hops = s.hops; literals = s.literals } in
       subst P c.self.view_is (found_by part c.args.caller.now c.args.key.now _ c.cell_of.ensures _ _ c.as_slice.ensures.value c.new-stop.ensures
       _ c.in-Some.ensures),

@@ -1,0 +1,30 @@
+//! A file's ledger, opened, as a ledger over its connection.
+ghost use Rattle.std.specs.Prelude.{◌≡◌, IfOk, false};
+ghost use Rattle.sqlite.specs.Held.{state};
+ghost use Rattle.sqlite.specs.State.{HasCleanDisk};
+ghost use Rattle.dr_store_calls.specs.Calling.{IsKept};
+
+use crate::fault::OpeningFault;
+use crate::opening::on;
+use dr_site::Site;
+use dr_store::SqlLedger;
+use sqlite::{Alter, Connection};
+use std::alloc::Global;
+
+/// The ledger of a site over a connection to a file: its tables are made where the file has none, a file from before is brought over, and
+/// then they are compared with what the journal's lines make.
+///
+/// Errors: OtherSite, Store, Memory.
+pub fn ledger_on<S: Alter + Drop>(
+    alloc: Global,
+    conn: Connection<S>,
+    site: Site,
+) -> Result<SqlLedger<S>, OpeningFault>
+    requires { conn.in_transaction ≡ false }
+    ensures of { IfOk result (λ l. l.site ≡ site) }
+{
+    match on(conn, alloc, &site) {
+        Ok((conn, next)) => Ok(SqlLedger::of(alloc, conn, site, next)),
+        Err(fault) => Err(fault),
+    }
+}

@@ -1,0 +1,2 @@
+mod OneAsked
+mod Places

@@ -1,0 +1,112 @@
+-- Words of a plain form ask for one thing.
+use Rattle.std.proofs.Common.{◌≡◌, ◌∙◌, ap, cond, false, get_or, ne_eqb, refl, subst, sym, ℕ, List, [], ◌∷◌, ◌==◌, codes, inl, inr, None}
+use Rattle.std.specs.Borrow.{Bor}
+use Rattle.dr_word_line.specs.declared.words.Asked.{Asked}
+use Rattle.dr_word_line.specs.declared.words.Asked.TheVariants as asks
+use Rattle.dr_word_line.specs.declared.words.Duty.{Duty}
+use Rattle.dr_word_line.specs.declared.words.Duty.TheVariants as duties
+use Rattle.dr_word_line.specs.declared.words.KeyWords.{KeyWords}
+use Rattle.dr_word_line.specs.declared.words.NodeFiles.{NodeFiles}
+use Rattle.dr_word_line.specs.declared.words.PlanChange.{PlanChange}
+use Rattle.dr_word_line.specs.declared.words.Question.{Question}
+use Rattle.dr_word_line.specs.declared.words.Question.TheVariants as questions
+use Rattle.dr_word_line.specs.Words.{Asks, IsNoOption, plain_serving}
+
+abbrev Word : Type 0
+Word = Bor (List ℕ)
+
+-- the first byte of a word
+abbrev initial : List ℕ → ℕ
+initial word = get_or word 0 0
+
+abbrev files : Word → Word → Word → Word → NodeFiles
+files plan certificate node ledger = record { plan = plan; certificate = certificate; node = node; ledger = ledger }
+
+-- what words of a plain form ask for: their number says nearly all, and then the first byte of the first word or of the option
+abbrev meant : List Word → Asked
+meant [] = asks.CheckInput
+meant (word ∷ []) = asks.CheckInput
+meant (word ∷ a ∷ []) = asks.CheckFile a
+meant (word ∷ a ∷ b ∷ []) =
+    cond (initial word.now == 118) (asks.Verify a b) (cond (initial word.now == 103) (asks.Question a b questions.Graph) (asks.Question a b questions.Lint))
+meant (word ∷ a ∷ b ∷ c ∷ []) = cond (initial word.now == 115) (asks.Simulate a b c) (asks.Echo a b c)
+meant (word ∷ a ∷ b ∷ c ∷ d ∷ []) =
+    cond (initial word.now == 114) (asks.Question a b (questions.RouteOfFile c d))
+    (cond (initial word.now == 108) (asks.AtNode (files a b c d) duties.List) (asks.AtNode (files a b c d) (duties.Serve plain_serving)))
+meant (word ∷ a ∷ b ∷ c ∷ d ∷ e ∷ []) =
+    cond (initial word.now == 108) (asks.AtNode (files a b c d) duties.Summary)
+    (cond (initial word.now == 115) (asks.AtNode (files a b c d) (duties.Send e))
+    (asks.Adopt (record { plan = a; certificate = b; next_plan = c; next_certificate = d; folder = e })))
+meant (word ∷ a ∷ b ∷ c ∷ d ∷ e ∷ f ∷ []) =
+    cond (initial e.now == 45) (asks.AtNode (files a b c d) (duties.RequeueAll f)) (asks.AtNode (files a b c d) (duties.Requeue e f))
+meant (word ∷ a ∷ b ∷ c ∷ d ∷ e ∷ f ∷ g ∷ more) =
+    asks.Question a b (questions.RouteOfKey c (record { class = d; syntax = e; modality = f; station = g }))
+
+no_hyphen : (word : List ℕ) → IsNoOption word → (initial word == 45) ≡ false
+no_hyphen [] h = refl
+no_hyphen (x ∷ rest) h = ne_eqb x 45 (λ e. h rest (ap (λ n. n ∷ rest) e))
+
+module _ (words : List Word) where
+  abbrev Means : Asked → List Word → Type 0
+  Means asked ws = meant ws ≡ asked
+
+  is_meant : (asked : Asked) → Asks words asked → meant words ≡ asked
+  is_meant asks.CheckInput (inl none) = subst (Means asks.CheckInput) (sym none) refl
+  is_meant asks.CheckInput (inr h) = subst (Means asks.CheckInput) (sym h.1) refl
+  is_meant (asks.CheckFile a) h = subst (Means (asks.CheckFile a)) (sym h.1) refl
+  is_meant (asks.Verify a b) h =
+      subst (Means (asks.Verify a b)) (sym h.1)
+      (subst (λ n. cond (initial n == 118) (asks.Verify a b) (cond (initial n == 103) (asks.Question a b questions.Graph) (asks.Question a b questions.Lint)) ≡ asks.Verify a b) (sym h.2) refl)
+  is_meant (asks.Simulate a b c) h =
+      subst (Means (asks.Simulate a b c)) (sym h.1)
+      (subst (λ n. cond (initial n == 115) (asks.Simulate a b c) (asks.Echo a b c) ≡ asks.Simulate a b c) (sym h.2) refl)
+  is_meant (asks.Echo a b c) h =
+      subst (Means (asks.Echo a b c)) (sym h.1)
+      (subst (λ n. cond (initial n == 115) (asks.Simulate a b c) (asks.Echo a b c) ≡ asks.Echo a b c) (sym h.2) refl)
+  is_meant (asks.Question a b questions.Graph) h =
+      subst (Means (asks.Question a b questions.Graph)) (sym h.1)
+      (subst (λ n. cond (initial n == 118) (asks.Verify a b) (cond (initial n == 103) (asks.Question a b questions.Graph) (asks.Question a b questions.Lint)) ≡ asks.Question a b questions.Graph) (sym h.2) refl)
+  is_meant (asks.Question a b questions.Lint) h =
+      subst (Means (asks.Question a b questions.Lint)) (sym h.1)
+      (subst (λ n. cond (initial n == 118) (asks.Verify a b) (cond (initial n == 103) (asks.Question a b questions.Graph) (asks.Question a b questions.Lint)) ≡ asks.Question a b questions.Lint) (sym h.2) refl)
+  is_meant (asks.Question a b (questions.RouteOfFile c d)) h =
+      subst (Means (asks.Question a b (questions.RouteOfFile c d))) (sym h.1)
+      (subst (λ n. cond (initial n == 114) (asks.Question a b (questions.RouteOfFile c d))
+      (cond (initial n == 108) (asks.AtNode (files a b c d) duties.List) (asks.AtNode (files a b c d) (duties.Serve plain_serving))) ≡ asks.Question a b (questions.RouteOfFile c d)) (sym h.2) refl)
+  is_meant (asks.Question a b (questions.RouteOfKey c key)) h = subst (Means (asks.Question a b (questions.RouteOfKey c key))) (sym h.1) refl
+  is_meant (asks.AtNode given duties.List) h =
+      subst (Means (asks.AtNode given duties.List)) (sym h.1)
+      (subst (λ n. cond (initial n == 114) (asks.Question given.plan given.certificate (questions.RouteOfFile given.node given.ledger))
+      (cond (initial n == 108) (asks.AtNode given duties.List) (asks.AtNode given (duties.Serve plain_serving))) ≡ asks.AtNode given duties.List) (sym h.2) refl)
+  is_meant (asks.AtNode given (duties.Serve serving)) h =
+      subst (λ s. meant words ≡ asks.AtNode given (duties.Serve s)) (sym h.1)
+      (subst (Means (asks.AtNode given (duties.Serve plain_serving))) (sym h.0.1)
+      (subst (λ n. cond (initial n == 114) (asks.Question given.plan given.certificate (questions.RouteOfFile given.node given.ledger))
+      (cond (initial n == 108) (asks.AtNode given duties.List) (asks.AtNode given (duties.Serve plain_serving))) ≡ asks.AtNode given (duties.Serve plain_serving)) (sym h.0.2) refl))
+  is_meant (asks.AtNode given duties.Summary) h =
+      subst (Means (asks.AtNode given duties.Summary)) (sym h.1.1)
+      (subst (λ n. cond (initial n == 108) (asks.AtNode given duties.Summary) (cond (initial n == 115) (asks.AtNode given (duties.Send h.0))
+      (asks.Adopt (record { plan = given.plan; certificate = given.certificate; next_plan = given.node; next_certificate = given.ledger; folder = h.0 }))) ≡ asks.AtNode given duties.Summary)
+      (sym h.1.2) refl)
+  is_meant (asks.AtNode given (duties.Send file)) h =
+      subst (Means (asks.AtNode given (duties.Send file))) (sym h.0.1)
+      (subst (λ n. cond (initial n == 108) (asks.AtNode given duties.Summary) (cond (initial n == 115) (asks.AtNode given (duties.Send file))
+      (asks.Adopt (record { plan = given.plan; certificate = given.certificate; next_plan = given.node; next_certificate = given.ledger; folder = file }))) ≡ asks.AtNode given (duties.Send file))
+      (sym h.0.2) refl)
+  is_meant (asks.AtNode given (duties.RequeueAll dest)) h =
+      subst (Means (asks.AtNode given (duties.RequeueAll dest))) (sym h.1.1)
+      (subst (λ n. cond (initial n == 45) (asks.AtNode given (duties.RequeueAll dest)) (asks.AtNode given (duties.Requeue h.0 dest)) ≡ asks.AtNode given (duties.RequeueAll dest))
+      (sym h.2) refl)
+  is_meant (asks.AtNode given (duties.Requeue uid dest)) h =
+      subst (Means (asks.AtNode given (duties.Requeue uid dest))) (sym h.0.1)
+      (ap (λ b. cond b (asks.AtNode given (duties.RequeueAll dest)) (asks.AtNode given (duties.Requeue uid dest))) (no_hyphen uid.now h.1))
+  is_meant (asks.Adopt change) h =
+      subst (Means (asks.Adopt change)) (sym h.1)
+      (subst (λ n. cond (initial n == 108) (asks.AtNode (files change.plan change.certificate change.next_plan change.next_certificate) duties.Summary)
+      (cond (initial n == 115) (asks.AtNode (files change.plan change.certificate change.next_plan change.next_certificate) (duties.Send change.folder))
+      (asks.Adopt change)) ≡ asks.Adopt change) (sym h.2) refl)
+  is_meant (asks.Told error) ()
+
+  -- words of a plain form ask for one thing
+  pub one_asked : (a b : Asked) → Asks words a → Asks words b → a ≡ b
+  one_asked a b h k = sym (is_meant a h) ∙ is_meant b k
