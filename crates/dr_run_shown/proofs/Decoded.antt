@@ -38,9 +38,9 @@ read_back b small r = elim (form b) [
   | inl plain ↦ ap (λ (l : List ℕ). first_of (l ++ r)) plain.1 ∙ cond-false (b == 92) _ _ (grind (arith, nat_tests))
   | inr (inl feed) ↦ ap (λ (l : List ℕ). first_of (l ++ r)) feed.1 ∙ ap (λ (n : ℕ). (n, r)) (sym feed.0)
   | inr (inr (inl marked)) ↦ ap (λ (l : List ℕ). first_of (l ++ r)) marked.1 ∙ elim marked.0 [
-      | inl quote ↦ subst (λ (n : ℕ). behind (n ∷ r) ≡ (n, r)) (sym quote) refl
-      | inr mark ↦ subst (λ (n : ℕ). behind (n ∷ r) ≡ (n, r)) (sym mark) refl
-    ]
+    | inl quote ↦ subst (λ (n : ℕ). behind (n ∷ r) ≡ (n, r)) (sym quote) refl
+    | inr mark ↦ subst (λ (n : ℕ). behind (n ∷ r) ≡ (n, r)) (sym mark) refl
+  ]
   | inr (inr (inr hex)) ↦
       ap (λ (l : List ℕ). first_of (l ++ r)) hex ∙ ap₂ (λ (h l : ℕ). (h * 16 + l, r)) (digit_value (b / 16) (omega arith)) (digit_value (b % 16) (omega arith)) ∙ ap (λ (n : ℕ). (n, r)) (omega arith)
 ]

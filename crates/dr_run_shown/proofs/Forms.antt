@@ -19,12 +19,12 @@ pub form : (b : ℕ) → Form b
 form b = elim (cases_Bool (is_plain b)) [
   | inl is ↦ inl (is, cond-true _ _ _ is)
   | inr isnt ↦ inr (elim (cases_Bool (b == 10)) [
-      | inl feed ↦ inl (grind (arith, nat_tests), cond-false _ _ _ isnt ∙ cond-true _ _ _ feed)
-      | inr other ↦ inr (elim (cases_Bool ((b == 34) || (b == 92))) [
-          | inl marked ↦ inl (grind (arith, nat_tests), cond-false _ _ _ isnt ∙ cond-false _ _ _ other ∙ cond-true _ _ _ marked)
-          | inr rest ↦ inr (cond-false _ _ _ isnt ∙ cond-false _ _ _ other ∙ cond-false _ _ _ rest)
-        ])
+    | inl feed ↦ inl (grind (arith, nat_tests), cond-false _ _ _ isnt ∙ cond-true _ _ _ feed)
+    | inr other ↦ inr (elim (cases_Bool ((b == 34) || (b == 92))) [
+      | inl marked ↦ inl (grind (arith, nat_tests), cond-false _ _ _ isnt ∙ cond-false _ _ _ other ∙ cond-true _ _ _ marked)
+      | inr rest ↦ inr (cond-false _ _ _ isnt ∙ cond-false _ _ _ other ∙ cond-false _ _ _ rest)
     ])
+  ])
 ]
 
 -- a digit prints

@@ -5,17 +5,14 @@ ghost use Rattle.dr_run_shown.specs.Laws.{HasOneForm, IsBounded, OnlyPrintsText,
 pub fn only_text_is_shown()
     ensures text { OnlyPrintsText }
     ensures bounded { IsBounded }
-{
-}
+{}
 
 /// What needs no escape stands as it is.
 pub fn plain_text_stands()
     ensures { PlainStands }
-{
-}
+{}
 
 /// A text has one form, which no other has.
 pub fn a_text_has_one_form()
     ensures { HasOneForm }
-{
-}
+{}
