@@ -19,8 +19,8 @@ import time
 sys.dont_write_bytecode = True
 HERE = os.path.dirname(os.path.abspath(__file__))
 sys.path.insert(0, f'{os.path.dirname(HERE)}/tests')
-from requestor import ACCEPTED, RELEASED, Requestor
-from rooms import PROGRAM, Room, element, part10, stop
+from lib.requestor import ACCEPTED, RELEASED, Requestor
+from lib.nodes import PROGRAM, Room, element, part10, stop
 
 LONG = 600
 SIZES = (('1 kB', 1 << 10, 1000), ('512 kB', 512 << 10, 200), ('32 MB', 32 << 20, 8))

@@ -9,7 +9,7 @@ import shutil
 import sys
 
 sys.dont_write_bytecode = True
-from rooms import PLAN, PROGRAM, TOP, Room, data_set, element, ended, lines, part10, run_cases, same, stop, told
+from lib.nodes import PLAN, PROGRAM, TOP, Room, data_set, element, ended, lines, part10, run_cases, same, stop, told
 
 NODES = 'ARCH', 'CT1', 'GATE'
 NEXT, OTHER = ('next', 'next.certificate'), ('other', 'other.certificate')

@@ -13,8 +13,8 @@ import threading
 import time
 
 sys.dont_write_bytecode = True
-from requestor import ABORT, RELEASE_RP, RELEASE_RQ, VERIFICATION, associate, command, context, item, pdu
-from rooms import IMPLICIT, PROGRAM
+from lib.requestor import ABORT, RELEASE_RP, RELEASE_RQ, VERIFICATION, associate, command, context, item, pdu
+from lib.nodes import IMPLICIT, PROGRAM
 
 # C-ECHO-RQ, context 1, message 1 (PS3.7 9.3.5)
 ECHO_RQ = bytes.fromhex(

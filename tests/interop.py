@@ -15,9 +15,9 @@ import sys
 import time
 
 sys.dont_write_bytecode = True
-from requestor import (ABORT, ACCEPTED, APPLICATION, CONTEXTS, DATA, RELEASED, RELEASE_RP, RELEASE_RQ, STORE, VERIFICATION, Acceptor, Requestor, associate,
+from lib.requestor import (ABORT, ACCEPTED, APPLICATION, CONTEXTS, DATA, RELEASED, RELEASE_RP, RELEASE_RQ, STORE, VERIFICATION, Acceptor, Requestor, associate,
                        command, context, exactly, pdu, stored, values)
-from rooms import CT, EXPLICIT, IMPLICIT, LIMIT, PROGRAM, Room, behind_meta, data_set, element, ended, lines, part10, run_cases, same, stop
+from lib.nodes import CT, EXPLICIT, IMPLICIT, LIMIT, PROGRAM, Room, behind_meta, data_set, element, ended, lines, part10, run_cases, same, stop
 
 TOOLS = 'echoscu', 'storescu', 'dcmsend', 'storescp'
 MR = b'1.2.840.10008.5.1.4.1.1.4'

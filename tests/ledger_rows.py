@@ -16,8 +16,8 @@ import re
 import sys
 
 sys.dont_write_bytecode = True
-from plan_model import REST, Model
-from plan_reader import EXPLICIT, IMPLICIT, read_plan
+from lib.plan_model import REST, Model
+from lib.plan_reader import EXPLICIT, IMPLICIT, read_plan
 
 TOP = os.path.dirname(os.path.dirname(os.path.abspath(__file__)))
 MEMORY, TABLES = f'{TOP}/tests/played/ledger', f'{TOP}/tests/played/tables'

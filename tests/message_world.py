@@ -11,8 +11,8 @@ import random
 import sys
 
 sys.dont_write_bytecode = True
-from message_claims import CONFLICT, Claim, NO_LINE, NO_STORE, SUCCESS, is_honest, lasts, none_refused, nothing_lost, seen
-from message_plans import KEYS, LOCAL, grown, random_plan
+from lib.message_claims import CONFLICT, Claim, NO_LINE, NO_STORE, SUCCESS, is_honest, lasts, none_refused, nothing_lost, seen
+from lib.message_plans import KEYS, LOCAL, grown, random_plan
 
 OTHERS = 2  # associations that a receiver takes; 256 in the definitions, few here so that rejections come
 WRONG = {

@@ -11,7 +11,7 @@ import sqlite3
 import sys
 
 sys.dont_write_bytecode = True
-from rooms import PLAN, PROGRAM, Room, data_set, ended, part10, run_cases, same, stop, told
+from lib.nodes import PLAN, PROGRAM, Room, data_set, ended, part10, run_cases, same, stop, told
 from adopting import NEXT, NEXT_TEXT, adopt, book, copy, kept
 
 TABLES = {

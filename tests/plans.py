@@ -18,10 +18,10 @@ import sys
 import tempfile
 
 sys.dont_write_bytecode = True
-import plan_cases as worked
-from plan_model import WRONG, Model
-from plan_reader import Refused, read_plan
-from plan_texts import LARGE, LARGEST, OddTexts, hostile, mutated, over_limits, random_plan
+import lib.plan_cases as worked
+from lib.plan_model import WRONG, Model
+from lib.plan_reader import Refused, read_plan
+from lib.plan_texts import LARGE, LARGEST, OddTexts, hostile, mutated, over_limits, random_plan
 
 TOP = os.path.dirname(os.path.dirname(os.path.abspath(__file__)))
 PROGRAM = f'{TOP}/crates/dr_router/out/dr_router'

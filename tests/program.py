@@ -157,7 +157,7 @@ def main():
         sys.exit('the program is not built')
     sys.path.insert(0, f'{TOP}/tests')
     sys.dont_write_bytecode = True
-    from plan_texts import LARGEST
+    from lib.plan_texts import LARGEST
     with tempfile.TemporaryDirectory(prefix='program-') as room:
         large = f'{room}/large.toml'
         with open(large, 'wb') as it:

@@ -11,7 +11,7 @@ import sys
 import time
 
 sys.dont_write_bytecode = True
-from rooms import LIMIT, PROGRAM, Room, data_set, element, ended, lines, part10, run_cases, same, stop, told
+from lib.nodes import LIMIT, PROGRAM, Room, data_set, element, ended, lines, part10, run_cases, same, stop, told
 
 
 def three_nodes():

@@ -15,10 +15,10 @@ import sys
 import tempfile
 
 sys.dont_write_bytecode = True
-from plan_model import REST, Fault, Model
-from plan_reader import EXPLICIT, IMPLICIT, Refused, read_plan
-from plan_texts import KEEP, flow_of, plan_text, random_plan, taking
-from script_world import Item, World
+from lib.plan_model import REST, Fault, Model
+from lib.plan_reader import EXPLICIT, IMPLICIT, Refused, read_plan
+from lib.plan_texts import KEEP, flow_of, plan_text, random_plan, taking
+from lib.script_world import Item, World
 
 TOP = os.path.dirname(os.path.dirname(os.path.abspath(__file__)))
 PROGRAM = f'{TOP}/crates/dr_router/out/dr_router'

@@ -7,7 +7,7 @@ use log::{Line, Log, Metadata, Record};
 use std::fmt;
 use std::fmt::{Display, Formatter};
 
-/// Writes each event as a line on the standard error, behind the moment at which it happened (UTC, RFC 3339).
+/// Writes each event as a line on the standard error, behind the moment at which it happened (UTC, RFC 3339, with three decimals).
 #[derive(Drop)]
 pub struct EventLog<'a, R: Eprint, C: Clock> {
     pub rt: &'a R,
@@ -25,7 +25,7 @@ impl<L: Display> Display for Dated<L> {
     fn fmt<W: fmt::Write>(&self, f: &mut Formatter<W>) -> fmt::Result {
         let moment = i64::try_from(self.now).unwrap_or(i64::MAX);
         match Timestamp::from_millisecond(moment) {
-            Ok(moment) => write!(f, "{moment} {}", self.line),
+            Ok(moment) => write!(f, "{moment:.3} {}", self.line),
             Err(_) => write!(f, "- {}", self.line),
         }
     }

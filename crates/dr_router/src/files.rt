@@ -1,12 +1,15 @@
 //! The system's files as databases, and ledgers in databases.
 ghost use Rattle.std.specs.Prelude.{◌≡◌, IfOk, false};
 
+use dr_run_report::{FileId, Paths, Place, SystemPaths};
 use dr_site::Site;
 use dr_store::SqlLedger;
 use dr_store_open::{OpeningFault, ledger_on};
+use dr_word_check::{Disk, Files};
 use dr_word_list::{Ledgers, OpenFault};
 use sqlite::{Alter, Connection, Error, ErrorCode, File, FileStore};
 use std::alloc::Global;
+use std::io;
 
 /// Where databases are opened by a path.
 pub trait Databases {
@@ -26,6 +29,50 @@ impl<'a> Databases for SystemFiles<'a> {
     /// A file that isn't there is made.
     fn open_database(&self, path: &str) -> Result<Connection<FileStore<File>>, Error> {
         Connection::open(self.0, path)
+    }
+}
+
+/// The system's files, as they are read and written by name, and asked before a report is written.
+#[derive(Drop)]
+pub struct SystemDisk<'a> {
+    disk: Disk<'a>,
+    paths: SystemPaths<'a>,
+}
+
+impl<'a> SystemDisk<'a> {
+    /// The files that the program may open.
+    pub fn new(rt: &'a HostRuntime) -> SystemDisk<'a> {
+        SystemDisk {
+            disk: Disk::new(rt),
+            paths: SystemPaths::new(rt),
+        }
+    }
+}
+
+/// What a file of the system holds isn't known to contracts.
+impl<'a> Files for SystemDisk<'a> {
+    ghost holds = { λ disk path bytes. Unit {0} };
+
+    fn read(&self, alloc: Global, path: &str) -> io::Result<Vec<u8>> {
+        self.disk.read(alloc, path)
+    }
+
+    fn replace(&self, alloc: Global, path: &str, text: &[u8]) -> io::Result<()> {
+        self.disk.replace(alloc, path, text)
+    }
+}
+
+impl<'a> Paths for SystemDisk<'a> {
+    fn place(&self, alloc: Global, path: &str) -> io::Result<Place> {
+        self.paths.place(alloc, path)
+    }
+
+    fn real_path(&self, alloc: Global, path: &str) -> io::Result<Option<String>> {
+        self.paths.real_path(alloc, path)
+    }
+
+    fn file_id(&self, path: &str) -> io::Result<Option<FileId>> {
+        self.paths.file_id(path)
     }
 }
 

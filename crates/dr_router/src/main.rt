@@ -6,10 +6,10 @@ mod files;
 mod over;
 
 use crate::events::EventLog;
-use crate::files::SystemFiles;
+use crate::files::{SystemDisk, SystemFiles};
 use crate::over::run_stored;
 use dr_run_net::{Sockets, SystemClock};
-use dr_word_check::{Disk, Status, given_words, tell_unread_words};
+use dr_word_check::{Status, given_words, tell_unread_words};
 use std::process::ExitCode;
 use std::sync::Wait;
 use std::thread::Threads;
@@ -34,7 +34,7 @@ fn run<T: Threads + Wait + Sync + time::Clock>(
         &mut input,
         &mut output,
         &mut faults,
-        &Disk::new(rt),
+        &SystemDisk::new(rt),
         &SystemFiles(rt),
         &Sockets::new(rt, &clock),
         &clock,

@@ -1,6 +1,7 @@
 //! The program over anything that it can run on.
 use crate::files::{Databases, StoredLedgers};
 use dr_run_net::Network;
+use dr_run_report::Paths;
 use dr_session::Clock;
 use dr_word_all::run_words;
 use dr_word_check::{Files, Status};
@@ -19,7 +20,7 @@ pub fn run_over<
     R: Read,
     W: Write,
     E: Write,
-    F: Files + Sync,
+    F: Files + Paths + Sync,
     O: Ledgers,
     N: Network + Sync,
     C: Clock + Sync,
@@ -53,7 +54,7 @@ pub fn run_stored<
     R: Read,
     W: Write,
     E: Write,
-    F: Files + Sync,
+    F: Files + Paths + Sync,
     D: Databases,
     N: Network + Sync,
     C: Clock + Sync,

@@ -29,4 +29,7 @@ pub trait Listening {
 
     /// Waits for the next connection.
     fn accept(&self) -> io::Result<Self::Socket>;
+
+    /// Ends the waiting: from now on `accept` answers an error, also where it waits already.
+    fn close(&self);
 }

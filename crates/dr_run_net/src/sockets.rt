@@ -5,7 +5,8 @@ use dr_base::Text;
 use dr_session::Clock;
 use std::alloc::Global;
 use std::io::ErrorKind;
-use std::net::{Net, TcpListener, TcpStream, ToSocketAddrs};
+use std::net::{Net, Shutdown, TcpListener, TcpStream, ToSocketAddrs};
+use std::os::fd::OwnedFd;
 use std::time::Duration;
 use std::{io, str};
 
@@ -98,5 +99,12 @@ impl<'a, C: Clock> Listening for Listener<'a, C> {
     fn accept(&self) -> io::Result<Socket<'a, TcpStream, C>> {
         let (stream, _) = self.listener.accept()?;
         Socket::new(self.alloc, stream, self.clock)
+    }
+
+    /// The listening socket is shut down by a second handle of it, which wakes who waits at the first.
+    fn close(&self) {
+        if let Ok(listener) = self.listener.try_clone() {
+            let _ended = TcpStream::from(OwnedFd::from(listener)).shutdown(Shutdown::Both);
+        }
     }
 }

@@ -1,29 +1,17 @@
 //! What a node that runs tells of itself: events, each a line of a log.
 //!
-//! A line says what it is about (`node`, `association`, `instance`, `row`, `visit`, `queue`, `report`, `listener`) and what happened, with its parts as `key=value`. Of an instance only
-//! the UID is told.
+//! A line says what it is about (`node`, `association`, `instance`, `row`, `visit`, `queue`, `report`, `listener`) and what happened, with its parts as
+//! `key=value`. Of an instance only the UID is told. What a peer sent, as a title or a UID, goes through `Shown`, so that it can't begin a line or end a quote.
 use crate::visit::Visit;
 use dr_base::Text;
 use dr_desk_workers::Tally;
 use dr_ledger::{Arrived, LedgerFault, Outcome, Progress};
+use dr_run_shown::Shown;
 use dr_session::{Ended, SessionFault};
 use dr_word_list::code_of;
 use log::{Log, debug, error, info, warn};
 use std::fmt::{Display, Formatter};
-use std::{fmt, io, str};
-
-/// A name or a UID as an event shows it; bytes that are no text are shown as a question mark.
-#[derive(Drop)]
-pub struct Shown<'a>(pub &'a Text);
-
-impl<'a> Display for Shown<'a> {
-    fn fmt<W: fmt::Write>(&self, f: &mut Formatter<W>) -> fmt::Result {
-        match str::from_utf8(self.0.as_bytes()) {
-            Ok(text) => f.write_str(text),
-            Err(_) => f.write_str("?"),
-        }
-    }
-}
+use std::{fmt, io};
 
 /// How an association ended, in a word.
 fn word_of(ended: Ended) -> &'static str {
@@ -83,7 +71,7 @@ pub fn tell_arrival<G: Log>(
     uid: &Text,
     answer: Result<Arrived, LedgerFault>,
 ) {
-    let (caller, uid) = (Shown(caller), Shown(uid));
+    let (caller, uid) = (Shown(caller.as_bytes()), Shown(uid.as_bytes()));
     match answer {
         Ok(Arrived::New) => {
             debug!(log; target: "instance", "new session={session} caller=\"{caller}\" uid={uid}");
@@ -114,19 +102,31 @@ impl Display for Answer {
 
 /// Tells of a row that is held.
 fn tell_held<G: Log>(log: &G, uid: &Text, dest: &Text, outcome: Outcome) {
-    let (uid, dest, answer) = (Shown(uid), Shown(dest), Answer(outcome));
+    let (uid, dest, answer) = (
+        Shown(uid.as_bytes()),
+        Shown(dest.as_bytes()),
+        Answer(outcome),
+    );
     warn!(log; target: "row", "held dest=\"{dest}\" uid={uid} status=\"{answer}\"");
 }
 
 /// Tells of a row that waits again: how often it was tried, and from when on it is due.
 fn tell_waiting<G: Log>(log: &G, uid: &Text, dest: &Text, outcome: Outcome, tries: u32, due: u64) {
-    let (uid, dest, answer) = (Shown(uid), Shown(dest), Answer(outcome));
+    let (uid, dest, answer) = (
+        Shown(uid.as_bytes()),
+        Shown(dest.as_bytes()),
+        Answer(outcome),
+    );
     info!(log; target: "row", "waits dest=\"{dest}\" uid={uid} status=\"{answer}\" tries={tries} due={due}");
 }
 
 /// Tells of a row that needs nobody's eye, with what happened to it in a word.
 fn tell_settled<G: Log>(log: &G, word: &str, uid: &Text, dest: &Text, outcome: Outcome) {
-    let (uid, dest, answer) = (Shown(uid), Shown(dest), Answer(outcome));
+    let (uid, dest, answer) = (
+        Shown(uid.as_bytes()),
+        Shown(dest.as_bytes()),
+        Answer(outcome),
+    );
     debug!(log; target: "row", "{word} dest=\"{dest}\" uid={uid} status=\"{answer}\"");
 }
 
@@ -155,7 +155,7 @@ pub fn tell_visit<G: Log>(
     visited: &Result<Visit, LedgerFault>,
     settled: u64,
 ) {
-    let dest = Shown(dest);
+    let dest = Shown(dest.as_bytes());
     match visited {
         Ok(Visit::Idle) => {}
         Ok(Visit::Unreached(error)) => {
@@ -199,7 +199,7 @@ pub fn tell_holdings<G: Log>(log: &G, arrivals: usize, kept: usize, lines: u64) 
 /// Tells how many rows wait for a node, are held and are done, and from when on the first of those that wait is due.
 pub fn tell_queue<G: Log>(log: &G, dest: &Text, stages: [usize; 3], oldest: Option<u64>) {
     let [waiting, held, done] = stages;
-    let (dest, oldest) = (Shown(dest), Moment(oldest));
+    let (dest, oldest) = (Shown(dest.as_bytes()), Moment(oldest));
     info!(log; target: "queue", "has dest=\"{dest}\" waiting={waiting} held={held} done={done} oldest={oldest}");
 }
 
@@ -212,6 +212,12 @@ pub fn tell_unread<G: Log>(log: &G, fault: LedgerFault) {
 /// Tells that the report couldn't be written.
 pub fn tell_unwritten<G: Log>(log: &G, error: &io::Error) {
     error!(log; target: "report", "unwritten error=\"{error}\"");
+}
+
+/// Tells that the store of the node's ledger is shut: nothing can be read or written any more, and the node ends.
+pub fn tell_shut<G: Log>(log: &G) {
+    let fault = code_of(LedgerFault::Store);
+    error!(log; target: "node", "shut fault=\"{fault}\"");
 }
 
 /// Tells that connections can't be accepted.

@@ -4,13 +4,14 @@ ghost use Rattle.std.specs.Prelude.{◌≡◌, ◌≤◌, ◌^◌, IfErr, false}
 use crate::events::tell_visit;
 use crate::monitor::Monitor;
 use crate::reporting::{PERIOD, Told, report_changes};
-use crate::signal::{BEGIN, News, Signal};
+use crate::shutting::{Wake, is_shut};
+use crate::signal::{BEGIN, News};
 use crate::tallied::{SharedPort, Tallied};
 use crate::visit::{Visit, visit_hop};
 use dr_base::Text;
 use dr_desk::{Pass, SharedDesk, Sharing};
 use dr_ledger::{Ledger, LedgerFault, Progress};
-use dr_run_net::Network;
+use dr_run_net::{Listening, Network};
 use dr_session::{Clock, Ended};
 use dr_word_list::Hop;
 use log::Log;
@@ -60,7 +61,7 @@ fn again_at(visit: &Visit, due: u64, now: u64) -> u64
 }
 
 /// Visits a hop, if one of its rows is due; where a worker may have made one, that is looked up. After a
-/// fault it is looked at in the next round, since it isn't known what is due.
+/// fault it is looked at in the next round, since it isn't known what is due. That the store is shut is told by who ends the node.
 ///
 /// Errors: those of a visit.
 fn look<R: Wait, L: Ledger, B: Sharing, N: Network, C: Clock, G: Log>(
@@ -97,8 +98,11 @@ fn look<R: Wait, L: Ledger, B: Sharing, N: Network, C: Clock, G: Log>(
         clock,
     );
     let settled = port.tally().saturating_sub(before);
-    tell_visit(log, &hop.dest, &visited, settled);
     let due = mem::replace(&mut hop.due, 0);
+    if visited.is_err() && is_shut(rt, desk) {
+        return Err(LedgerFault::Store);
+    }
+    tell_visit(log, &hop.dest, &visited, settled);
     match visited? {
         Visit::Idle if !is_due => hop.due = due,
         visit => {
@@ -142,48 +146,71 @@ fn sleep_for(hops: &[Hop], now: u64, all_well: bool) -> u64
 }
 
 /// Sends what is due, round after round, until no worker is left; then there is one last round. After each it is told what has changed. Where no worker
-/// ever begins, nothing is sent.
-fn send_rounds<R: Wait + time::Clock, L: Ledger, B: Sharing, N: Network, C: Clock, G: Monitor>(
+/// ever begins, nothing is sent; where the store is shut, nothing more.
+fn send_rounds<
+    R: Wait + time::Clock,
+    L: Ledger,
+    B: Sharing,
+    D: Listening,
+    N: Network,
+    C: Clock,
+    G: Monitor,
+>(
     rt: &R,
     alloc: Global,
     desk: &SharedDesk<L, B>,
     pass: &mut Pass<B>,
     hops: &mut [Hop],
-    signal: &Signal,
+    wake: &Wake<'_, D>,
     network: &N,
     clock: &C,
     log: &G,
 ) {
-    if !signal.has_begun(rt, BEGIN) {
+    if !wake.signal.has_begun(rt, BEGIN) {
         return;
     }
     let mut news = News {
         begun: true,
         rows: true,
         over: false,
+        doubts: false,
     };
     let mut told = Told::new();
     for _ in rt.forever() {
+        if news.doubts && wake.ends(rt, desk, log) {
+            return;
+        }
         let looks = news.rows || news.over;
         let all_well = round(rt, alloc, desk, pass, hops, looks, network, clock, log);
+        if !all_well && wake.ends(rt, desk, log) {
+            return;
+        }
         let now = clock.now();
         told = report_changes(rt, alloc, desk, hops, told, now, news.over, log);
         if news.over {
             return;
         }
         let sleep = sleep_for(hops, now, all_well).min(PERIOD);
-        news = signal.wait(rt, sleep);
+        news = wake.signal.wait(rt, sleep);
     }
 }
 
 /// Sends what is due for these hops, as long as workers serve, and gives its pass back.
-pub fn send_all<R: Wait + time::Clock, L: Ledger, B: Sharing, N: Network, C: Clock, G: Monitor>(
+pub fn send_all<
+    R: Wait + time::Clock,
+    L: Ledger,
+    B: Sharing,
+    D: Listening,
+    N: Network,
+    C: Clock,
+    G: Monitor,
+>(
     rt: &R,
     alloc: Global,
     desk: &SharedDesk<L, B>,
     pass: Pass<B>,
     hops: Vec<Hop>,
-    signal: &Signal,
+    wake: &Wake<'_, D>,
     network: &N,
     clock: &C,
     log: &G,
@@ -195,7 +222,7 @@ pub fn send_all<R: Wait + time::Clock, L: Ledger, B: Sharing, N: Network, C: Clo
         desk,
         &mut pass,
         hops.as_mut_slice(),
-        signal,
+        wake,
         network,
         clock,
         log,

@@ -1,5 +1,5 @@
 //! A node that serves associations and sends what is due.
-ghost use Rattle.std.specs.Prelude.{◌≡◌, IfOk};
+ghost use Rattle.std.specs.Prelude.{◌≡◌, IfOk, IsErr, IsTrue};
 ghost use Rattle.dr_desk.specs.Growing.{BeginWith};
 ghost use Rattle.dr_ledger.specs.Histories.{IsJournalled};
 ghost use Rattle.dr_ledger.specs.SiteRoutes.{site_routing};
@@ -7,6 +7,7 @@ ghost use Rattle.dr_ledger.specs.SiteRoutes.{site_routing};
 use crate::events::tell_unaccepted;
 use crate::monitor::Monitor;
 use crate::rounds::send_all;
+use crate::shutting::Wake;
 use crate::signal::{BEGIN, Signal};
 use crate::watch::Watch;
 use crossbeam_channel::{Receiver, Sender, bounded};
@@ -27,8 +28,8 @@ use std::time::Duration;
 use std::{thread, time};
 use thiserror::Error;
 
-/// How many threads serve associations.
-const WORKERS: usize = 4;
+/// How many threads serve associations. Each holds its worker until it ends, also where its peer says nothing.
+const WORKERS: usize = 32;
 
 /// How many connections wait for one of them; others wait to be accepted.
 const QUEUE: usize = 256;
@@ -72,8 +73,8 @@ impl<'a, C: Clock> Clock for ClockOf<'a, C> {
     }
 }
 
-/// Accepts so many connections, or, for 0, each that comes, and hands them to the workers. Of accepts that fail one after the other the first is told.
-/// Says whether there were workers: where the system gave no thread for them it accepts nothing.
+/// Accepts so many connections, or, for 0, each that comes, and hands them to the workers, until the store is shut. Of accepts that fail one after the
+/// other the first is told. Says whether there were workers: where the system gave no thread for them it accepts nothing.
 fn accept_links<
     'a,
     R: Wait + time::Clock,
@@ -98,7 +99,11 @@ fn accept_links<
         if links != 0 && count >= links {
             return true;
         }
-        let link = match listener.accept() {
+        let came = listener.accept();
+        if signal.is_shut() {
+            return true;
+        }
+        let link = match came {
             Ok(link) => link,
             Err(error) => {
                 if !is_failing {
@@ -205,18 +210,27 @@ fn serve_all<
     clock: &C,
     log: &G,
 ) -> (Result<Vec<Pass<B>>, WorkersFault>, Pass<B>) {
+    let wake = Wake { signal, listener };
     thread::join(
         rt,
         || serve_links(rt, alloc, desk, listener, links, signal, clock, log),
-        || send_all(rt, alloc, desk, own, hops, signal, network, clock, log),
+        || send_all(rt, alloc, desk, own, hops, &wake, network, clock, log),
     )
 }
 
-/// All passes, where those of the ones who serve came back.
+/// All passes, where those of the ones who serve came back, and the store isn't shut.
 fn all_passes<B: Sharing>(
     passes: Result<Vec<Pass<B>>, WorkersFault>,
     own: Pass<B>,
-) -> Result<Vec<Pass<B>>, ServeFault> {
+    is_shut: bool,
+) -> Result<Vec<Pass<B>>, ServeFault>
+    ensures { IsTrue is_shut → IsErr result }
+{
+    if is_shut {
+        drop(passes);
+        drop(own);
+        return Err(ServeFault::Store);
+    }
     match passes {
         Ok(passes) => {
             let mut passes = passes;
@@ -261,7 +275,7 @@ fn serve_by<
     let (passes, own) = serve_all(
         rt, alloc, &desk, own, hops, listener, links, &signal, network, clock, log,
     );
-    match all_passes(passes, own) {
+    match all_passes(passes, own, signal.is_shut()) {
         Ok(passes) => closed(alloc, desk, passes),
         Err(fault) => {
             drop(desk);
@@ -372,10 +386,11 @@ fn share<
     serve_shared(rt, alloc, desk, hops, listener, links, network, clock, log)
 }
 
-/// Serves the associations that are asked for at a listener, by four workers, and sends what is due, by one thread: each hop with a due
+/// Serves the associations that are asked for at a listener, by 32 workers, and sends what is due, by one thread: each hop with a due
 /// row is visited once a round. It ends after so many connections (for 0 never), when these are served and one last round is
 /// made, and gives the ledger back: its journal begins with the lines that it had, and is a history of the node's site. Events are
 /// logged as they happen; where reports are wanted, the one who sends writes one at the start, every ten seconds if something has changed, and at the end.
+/// Where the store of the ledger is shut, that is logged once, and serving ends as soon as the sessions do.
 ///
 /// Errors: Receipt, Store, Memory.
 pub fn serve<

@@ -1,4 +1,5 @@
 //! What wakes the one who sends.
+use std::sync::atomic::{AtomicBool, Ordering};
 use std::sync::{Condvar, Mutex, MutexGuard, Wait};
 use std::time::{Clock, Duration};
 
@@ -11,6 +12,8 @@ pub struct News {
     pub rows: bool,
     /// No worker is left: what is due now is sent, and that is all.
     pub over: bool,
+    /// The ledger answered a worker that its store failed.
+    pub doubts: bool,
 }
 
 /// For how many milliseconds the workers' thread is awaited.
@@ -21,6 +24,7 @@ pub const BEGIN: u64 = 60_000;
 pub struct Signal {
     news: Mutex<News>,
     changed: Condvar,
+    shut: AtomicBool,
 }
 
 impl Signal {
@@ -31,8 +35,10 @@ impl Signal {
                 begun: false,
                 rows: false,
                 over: false,
+                doubts: false,
             }),
             changed: Condvar::new(),
+            shut: AtomicBool::new(false),
         }
     }
 
@@ -60,6 +66,22 @@ impl Signal {
         self.changed.notify_all();
     }
 
+    /// The ledger answered that its store failed.
+    pub fn doubt<R: Wait>(&self, rt: &R) {
+        self.news.lock(rt).doubts = true;
+        self.changed.notify_all();
+    }
+
+    /// The store is shut.
+    pub fn shut(&self) {
+        self.shut.store(true, Ordering::SeqCst);
+    }
+
+    /// Whether the store is shut.
+    pub fn is_shut(&self) -> bool {
+        self.shut.load(Ordering::SeqCst)
+    }
+
     /// No worker is left.
     pub fn end<R: Wait>(&self, rt: &R) {
         self.news.lock(rt).over = true;
@@ -73,10 +95,11 @@ impl Signal {
             rt,
             held,
             Duration::from_millis(milliseconds),
-            |news| !news.rows && !news.over,
+            |news| !news.rows && !news.over && !news.doubts,
         );
         let news = *held;
         held.rows = false;
+        held.doubts = false;
         news
     }
 }

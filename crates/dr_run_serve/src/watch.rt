@@ -1,4 +1,4 @@
-//! How a node's sessions are seen: they wake the one who sends, and are logged.
+//! How a node's sessions are seen: they wake the one who sends, and are logged. Where the store is shut, they end.
 use crate::events::{tell_arrival, tell_association};
 use crate::signal::Signal;
 use dr_base::Text;
@@ -8,7 +8,7 @@ use dr_session::{Ended, SessionFault};
 use log::{Log, debug};
 use std::sync::Wait;
 
-/// Rings where an arrival was answered, and logs what happens. No session is held.
+/// Rings where an arrival was answered, and logs what happens; doubts the store where it failed. No session is held.
 #[derive(Drop)]
 pub struct Watch<'a, R: Wait, G: Log> {
     pub rt: &'a R,
@@ -34,7 +34,14 @@ impl<'a, R: Wait, G: Log> Gate for Watch<'a, R, G> {
         uid: &Text,
         answer: Result<Arrived, LedgerFault>,
     ) {
+        if let Err(LedgerFault::Store) = answer {
+            self.signal.doubt(self.rt);
+        }
         tell_arrival(self.log, session, caller, uid, answer);
+    }
+
+    fn is_over(&self) -> bool {
+        self.signal.is_shut()
     }
 
     fn ended(&self, session: u64, ended: Result<Ended, SessionFault>, tally: Tally) {

@@ -18,6 +18,7 @@ ghost use Rattle.dr_word_serve.specs.Working.{Works};
 ghost use Rattle.dr_word_simulate.specs.Runs.{Simulates};
 
 use dr_run_net::Network;
+use dr_run_report::Paths;
 use dr_run_serve::OwnPort;
 use dr_session::{Clock, DeskPort};
 use dr_word_adopt::adopt_files;
@@ -42,7 +43,7 @@ fn run_any<
     R: Read,
     W: Write,
     E: Write,
-    F: Files + Sync,
+    F: Files + Paths + Sync,
     O: Ledgers,
     N: Network + Sync,
     C: Clock + Sync,
@@ -100,7 +101,7 @@ pub fn run_words<
     R: Read,
     W: Write,
     E: Write,
-    F: Files + Sync,
+    F: Files + Paths + Sync,
     O: Ledgers,
     N: Network + Sync,
     C: Clock + Sync,

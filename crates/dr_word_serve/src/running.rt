@@ -8,17 +8,19 @@ ghost use Rattle.dr_word_serve.specs.Serving.{Grew, IsUnheard, IsUnserved, Serve
 use dr_base::Text;
 use dr_ledger::{Ledger, LedgerFault};
 use dr_run_net::{Listening, Network};
+use dr_run_report::{OwnPaths, Paths, test_path};
 use dr_run_serve::{FileMonitor, Monitor, ServeFault, serve};
+use dr_run_shown::Shown;
 use dr_session::{Clock, Link};
 use dr_site::Site;
 use dr_word_check::{Failure, Files, NodeFiles, Serving, Status, Verbosity};
 use dr_word_list::{Halt, Hop, Ledgers, Opened, finish, hops_of, open_node, report_of};
 use log::{LevelFilter, Log, Logged, info};
 use std::alloc::Global;
-use std::io::{ErrorKind, Write};
+use std::io::Write;
 use std::sync::Wait;
 use std::thread::Threads;
-use std::{io, time};
+use std::time;
 
 /// The events that are logged.
 fn level_of(verbosity: Verbosity) -> LevelFilter {
@@ -147,7 +149,7 @@ fn serve_opened<
 
 /// Tells that a node serves so many associations.
 fn tell_serving<G: Monitor>(log: &G, given: NodeFiles<'_>, links: u64) {
-    let (node, ledger) = (given.node, given.ledger);
+    let (node, ledger) = (Shown(given.node.as_bytes()), Shown(given.ledger.as_bytes()));
     info!(log; target: "node", "serves node=\"{node}\" ledger=\"{ledger}\" associations={links}");
 }
 
@@ -193,21 +195,38 @@ where
     )
 }
 
-/// Whether a path is that of one of a node's files.
-fn is_given(given: NodeFiles<'_>, path: &str) -> bool {
-    path == given.plan || path == given.certificate || path == given.ledger
+/// Tests, before anything is opened, that a report takes no place of the node's own files, nor that of a file that isn't a report.
+///
+/// Errors: File, with the report's path.
+fn test_report<'a, P: Paths>(
+    alloc: Global,
+    paths: &P,
+    given: NodeFiles<'a>,
+    report: Option<&'a str>,
+) -> Result<(), Failure<'a>> {
+    let Some(path) = report else {
+        return Ok(());
+    };
+    let own = OwnPaths {
+        plan: given.plan,
+        certificate: given.certificate,
+        ledger: given.ledger,
+    };
+    match test_path(alloc, paths, own, path) {
+        Ok(()) => Ok(()),
+        Err(error) => Err(Failure::File(path, error)),
+    }
 }
 
 /// Serves at the address of a node, whose plan, certificate and ledger are in these files, and sends what is due. After so many connections
 /// (for 0 never) the node's report is printed. Events are logged as they happen; where a file is named for it, the report is written there too,
 /// at most every ten seconds.
 ///
-/// Errors: Stream, File; File with the node's name where its address can't be listened at, and with the report's path where that is one of the node's
-/// files, which it would replace.
+/// Errors: Stream, File; File with the node's name where its address can't be listened at, and with the report's path where no report may be written there.
 pub fn serve_files<
     'a,
     R: Threads + Wait + Sync + time::Clock,
-    F: Files + Sync,
+    F: Files + Paths + Sync,
     O: Ledgers,
     N: Network + Sync,
     C: Clock + Sync,
@@ -234,11 +253,7 @@ where
     ensures { IfOk result (λ status. (came : Result Words HaltValue) × Serves (F.holds files.now given.entry.plan.now) (F.holds files.now given.entry.certificate.now) (O.opens ledgers.now given.entry.ledger.now) O.Ledger.site O.Ledger.book O.Ledger.stands given.entry.node.now came
         × Ends came (W.contents output.old) (W.contents output.new) status) }
 {
-    if let Some(path) = serving.report {
-        if is_given(given, path) {
-            return Err(Failure::File(path, io::Error::from(ErrorKind::InvalidInput)));
-        }
-    }
+    test_report(alloc, files, given, serving.report)?;
     let logged = Logged::new((), level_of(serving.verbosity), log);
     let monitor = FileMonitor {
         log: &logged,

@@ -6,6 +6,7 @@ ghost use Rattle.dr_word_serve.specs.Working.{Works};
 use crate::running::serve_files;
 use crate::submitting::send_files;
 use dr_run_net::Network;
+use dr_run_report::Paths;
 use dr_run_serve::OwnPort;
 use dr_session::{Clock, DeskPort};
 use dr_word_check::{Duty, Failure, Files, NodeFiles, Status};
@@ -23,7 +24,7 @@ use std::time;
 pub fn work_files<
     'a,
     R: Threads + Wait + Sync + time::Clock,
-    F: Files + Sync,
+    F: Files + Paths + Sync,
     O: Ledgers,
     N: Network + Sync,
     C: Clock + Sync,

@@ -6,7 +6,7 @@ Written from the definitions in crates/dr_route/specs, dr_plan_model/specs, dr_p
 import hashlib
 import re
 
-from plan_reader import ANY, SYNTAXES
+from lib.plan_reader import ANY, SYNTAXES
 
 LOCAL = '-'
 REST = None  # the part of a field with the values that the plan doesn't name

@@ -4,7 +4,7 @@ import socket
 import struct
 import threading
 
-from rooms import CT, EXPLICIT, IMPLICIT, LIMIT
+from lib.nodes import CT, EXPLICIT, IMPLICIT, LIMIT
 
 VERIFICATION, APPLICATION = b'1.2.840.10008.1.1', b'1.2.840.10008.3.1.1.1'
 RELEASE_RQ, RELEASE_RP, ABORT = (bytes([kind, 0, 0, 0, 0, 4, 0, 0, 0, 0]) for kind in (5, 6, 7))

@@ -10,7 +10,7 @@ import subprocess
 import tempfile
 import time
 
-TOP = os.path.dirname(os.path.dirname(os.path.abspath(__file__)))
+TOP = os.path.dirname(os.path.dirname(os.path.dirname(os.path.abspath(__file__))))
 PROGRAM = os.environ.get('DR_ROUTER') or f'{TOP}/crates/dr_router/out/dr_router'
 SAMPLE = f'{TOP}/plans/three-nodes.toml'
 IMPLICIT, EXPLICIT = b'1.2.840.10008.1.2', b'1.2.840.10008.1.2.1'

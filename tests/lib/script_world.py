@@ -4,7 +4,7 @@ is written and read, so that nothing is shared with the product.
 """
 import collections
 
-from plan_model import LOCAL, REST
+from lib.plan_model import LOCAL, REST
 
 MOST_OTHERS = 256    # associations that a node takes
 ARTIM = 30_000       # milliseconds

@@ -1,5 +1,5 @@
 """The four claims of docs/HEADLINE.md, and what lasts; for message_world.py."""
-from message_plans import LOCAL
+from lib.message_plans import LOCAL
 
 SUCCESS, NO_LINE, CONFLICT, NO_STORE = 0x0000, 0xC0F0, 0xC0F1, 0xA700
 

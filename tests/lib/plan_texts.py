@@ -1,5 +1,5 @@
 """Random texts of plans and certificates; for plans.py. Each is made from its own dice, so a seed gives it again."""
-from plan_reader import ANY, EXPLICIT, IMPLICIT, SYNTAXES
+from lib.plan_reader import ANY, EXPLICIT, IMPLICIT, SYNTAXES
 
 NAMES = ['A', 'A B', 'B', 'C-', 'D', 'a', 'CT1', '-x', '*y']
 CLASSES = ['1', '1.2', '1.2.3']

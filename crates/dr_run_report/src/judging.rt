@@ -1,0 +1,140 @@
+//! Whether a report may take the place of what is at a path.
+ghost use Rattle.std.specs.Prelude.{◌≡◌, ◌↔◌, IsTrue};
+ghost use Rattle.dr_run_report.specs.Places.{HasRoom, IsAmong, IsFileOf, IsOwn, IsTakenBy, Judges, Takes};
+
+use crate::names::is_ledger_name;
+use dr_base::Text;
+use thiserror::Error;
+
+/// What tells a file from all others of the machine: its device, and its number there. A hard link has the same one.
+#[derive(PartialEq, Eq, Debug, Drop)]
+pub struct FileId {
+    pub device: u64,
+    pub inode: u64,
+}
+
+/// What a path leads to.
+#[derive(PartialEq, Eq, Debug, Drop)]
+pub enum Found {
+    /// No file.
+    Nothing,
+    /// A plain file that begins as a report does.
+    Report(FileId),
+    /// Anything else.
+    Other(FileId),
+}
+
+/// A name in a folder, whose own path has no link and no dots in it: no folder has two of them.
+#[derive(Debug, Drop)]
+pub struct Spot {
+    pub folder: Text,
+    pub name: Text,
+}
+
+/// Where a path stands, and what it leads to.
+#[derive(Debug, Drop)]
+pub struct Place {
+    pub spot: Spot,
+    pub found: Found,
+}
+
+/// Why a report can't be written to a path.
+#[derive(Clone, Copy, PartialEq, Eq, Debug, Error)]
+pub enum ReportFault {
+    /// The ledger takes the file or the name, or it is the plan or the certificate.
+    #[error("R1 OwnFile")]
+    OwnFile,
+    /// What is there isn't a report.
+    #[error("R2 NoReport")]
+    NoReport,
+}
+
+fn is_id(this: &FileId, that: &FileId) -> bool
+    ensures { IsTrue result ↔ (this.now ≡ that.now) }
+{
+    this == that
+}
+
+fn is_listed(id: &FileId, files: &[FileId]) -> bool
+    ensures { IsTrue result ↔ IsFileOf files.now id.now }
+{
+    for file in files {
+        if is_id(file, id) {
+            return true;
+        }
+    }
+    false
+}
+
+/// Whether what was found is one of the files.
+fn is_among(found: &Found, files: &[FileId]) -> bool
+    ensures { IsTrue result ↔ IsAmong files.now found.now }
+{
+    match found {
+        Found::Nothing => false,
+        Found::Report(id) => is_listed(id, files),
+        Found::Other(id) => is_listed(id, files),
+    }
+}
+
+fn is_same(this: &Text, that: &Text) -> bool
+    ensures { IsTrue result ↔ (this.now ≡ that.now) }
+{
+    this == that
+}
+
+/// Whether a ledger whose database stands there takes the name of the spot.
+fn takes(ledger: &Spot, spot: &Spot) -> bool
+    ensures { IsTrue result ↔ Takes spot.now ledger.now }
+{
+    is_same(&ledger.folder, &spot.folder)
+        && is_ledger_name(ledger.name.as_bytes(), spot.name.as_bytes())
+}
+
+/// Whether one of the ledger's spots takes the name.
+fn is_taken(ledgers: &[Spot], spot: &Spot) -> bool
+    ensures { IsTrue result ↔ IsTakenBy ledgers.now spot.now }
+{
+    for ledger in ledgers {
+        if takes(ledger, spot) {
+            return true;
+        }
+    }
+    false
+}
+
+/// Whether the place is one of the node's own.
+fn is_own(ledgers: &[Spot], files: &[FileId], place: &Place) -> bool
+    ensures { IsTrue result ↔ IsOwn ledgers.now files.now place.now }
+{
+    if is_taken(ledgers, &place.spot) {
+        return true;
+    }
+    is_among(&place.found, files)
+}
+
+/// Whether nothing is lost where a report takes the place of what was found.
+fn has_room(found: &Found) -> bool
+    ensures { IsTrue result ↔ HasRoom found.now }
+{
+    match found {
+        Found::Nothing | Found::Report(_) => true,
+        Found::Other(_) => false,
+    }
+}
+
+/// Whether a report may be written to the place: the ledger's database stands at these spots (as it is named, and where links lead), and these are the
+/// node's own files that are there.
+///
+/// Errors: OwnFile, NoReport.
+pub fn judge(ledgers: &[Spot], files: &[FileId], place: &Place) -> Result<(), ReportFault>
+    ensures { Judges ledgers.now files.now place.now result }
+{
+    if is_own(ledgers, files, place) {
+        return Err(ReportFault::OwnFile);
+    }
+    if has_room(&place.found) {
+        return Ok(());
+    }
+    Err(ReportFault::NoReport)
+}
