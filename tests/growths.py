@@ -1,9 +1,9 @@
 #!/usr/bin/env python3
 """Refuses each growth of memory in turn, one in each run of a built program, and looks for an answer that is another one then.
 
-    tests/growths.py ledger [FIRST]     calls on a ledger in memory (crates/dr_test_ledger_memory)
-    tests/growths.py desk [FIRST]       two sessions on one shared desk (crates/dr_test_workers)
-    tests/growths.py world [FIRST]      an instance on its way over three nodes in the simulator (crates/dr_test_world)
+    tests/growths.py ledger [FIRST]     calls on a ledger in memory (tests/played/ledger)
+    tests/growths.py desk [FIRST]       two sessions on one shared desk (tests/played/workers)
+    tests/growths.py world [FIRST]      an instance on its way over three nodes in the simulator (tests/played/world)
 
 A small library that is loaded before the program (LD_PRELOAD) counts its calls for memory and refuses the one whose number it is told; the
 numbers go up, from the FIRST on, until a run meets no refusal. A run is as it is to be where it ends by itself and has printed what a
@@ -19,7 +19,13 @@ import subprocess
 import sys
 import tempfile
 
-TOP = os.path.dirname(os.path.dirname(os.path.abspath(__file__)))
+sys.dont_write_bytecode = True
+sys.path.insert(0, f"{os.path.dirname(os.path.dirname(os.path.abspath(__file__)))}/tools")
+from crates import TOP, below, listed
+from played import PLAYED, below as played_below, words_of
+
+# The endings of sources, which the gate reads where they end so, and of what they are here.
+ENDINGS = {"rattle": "rt", "proof": "antt"}
 
 SHIM = r"""
 #define _GNU_SOURCE
@@ -57,14 +63,18 @@ void *aligned_alloc(size_t align, size_t size) { NEXT(aligned_alloc); return ref
 int posix_memalign(void **out, size_t align, size_t size) { NEXT(posix_memalign); return refuses() ? ENOMEM : next(out, align, size); }
 """
 
-MAIN = """//! Says whether the journal has as many lines as the passes count.
+PLAYING = """//! Plays what tests/played plays.
 #![tactic(auto)]
 
-mod empty;
-mod peer;
-mod sessions;
+fn main(rt: HostRuntime) -> Result<(), anyhow::Error> {
+    played_%s::play(&rt)
+}
+"""
 
-use sessions::{Open, serve_archive};
+SHARING = """//! Says whether the journal has as many lines as the passes count.
+#![tactic(auto)]
+
+use played_workers::{Open, serve_archive};
 use std::test::Fail;
 
 fn main(rt: HostRuntime) -> Result<(), Fail> {
@@ -75,41 +85,43 @@ fn main(rt: HostRuntime) -> Result<(), Fail> {
 }
 """
 
-
-def below(name, libraries):
-    """The crates of the repository that this one stands on."""
-    found, left = [], list(libraries[name])
-    while left:
-        it = left.pop()
-        if it in libraries and it not in found:
-            found.append(it)
-            left += libraries[it]
-    return found
+# of each sweep: what of tests/played it stands on, and its `main`
+MAINS = {"ledger": ("ledger", PLAYING % "ledger"), "desk": ("workers", SHARING), "world": ("world", PLAYING % "world")}
 
 
-def desk_program(room):
-    """A program over the modules of the workers' tests, beside copies of the crates below with what earlier checks left in their out/."""
-    with open(f"{TOP}/crates.txt") as it:
-        libraries = {front.strip(): back.split() for front, mark, back in (line.split("#")[0].partition(":") for line in it) if mark}
-    libraries["desk_growths"] = libraries["dr_test_workers"]
-    needed = below("desk_growths", libraries)
-    for name in needed:
-        shutil.copytree(f"{TOP}/crates/{name}", f"{room}/crates/{name}")
-    with open(f"{room}/crates.txt", "w") as it:
-        for name in [*needed, "desk_growths"]:
-            print(f"{name}:", *libraries[name], file=it)
+def put_crate(room, name, libraries):
+    """What is played as a crate of a room, with what it takes to prove it."""
+    folder = f"{PLAYED}/{name}"
+    for at, _, files in os.walk(folder):
+        to = f"{room}/crates/played_{name}{at[len(folder):]}"
+        for file in files:
+            stem, dot, ending = file.rpartition(".")
+            if ending in ENDINGS:
+                os.makedirs(to, exist_ok=True)
+                shutil.copy(f"{at}/{file}", f"{to}/{stem}{dot}{ENDINGS[ending]}")
+    with open(f"{room}/crates.txt", "a", encoding="utf-8") as it:
+        print(f"played_{name}:", *libraries, file=it)
+
+
+def put_program(room, what):
+    """The program of a sweep, over copies of the crates below with what earlier checks left in their out/."""
+    name, main = MAINS[what]
+    used = {it: words_of(f"{PLAYED}/{it}/libraries") for it in played_below([name])}
+    needed = dict.fromkeys(crate for uses in used.values() for it in uses if it in listed() for crate in (*below(it), it))
+    for crate in needed:
+        shutil.copytree(f"{TOP}/crates/{crate}", f"{room}/crates/{crate}")
+    with open(f"{room}/crates.txt", "w", encoding="utf-8") as it:
+        for crate in needed:
+            own, of_kit = listed()[crate]
+            print(f"{crate}:", *own, *of_kit, file=it)
+        print(f"{what}_growths: played_{name} anyhow", file=it)
+    for it, libraries in used.items():
+        put_crate(room, it, libraries)
     shutil.copy(f"{TOP}/HANDLES", room)
-    folder, source = f"{room}/crates/desk_growths", f"{TOP}/crates/dr_test_workers"
+    folder = f"{room}/crates/{what}_growths"
     os.makedirs(f"{folder}/src")
-    for name in ("empty", "peer", "sessions"):
-        shutil.copy(f"{source}/src/{name}.rt", f"{folder}/src")
-    os.makedirs(f"{folder}/proofs/sessions/serve_archive")
-    with open(f"{source}/proofs/sessions/serve_archive/Invariants.antt") as it:
-        answers = it.read().replace("dr_test_workers", "desk_growths")
-    with open(f"{folder}/proofs/sessions/serve_archive/Invariants.antt", "w") as it:
-        it.write(answers)
-    with open(f"{folder}/src/main.rt", "w") as it:
-        it.write(MAIN)
+    with open(f"{folder}/src/main.rt", "w", encoding="utf-8") as it:
+        it.write(main)
     return folder
 
 
@@ -124,13 +136,13 @@ def build(folder):
 
 def ledger_rows():
     """The rows, but for the data set that is too large: its growth is met as any other is."""
-    with open(f"{TOP}/crates/dr_test_ledger_memory/stdin") as it:
+    with open(f"{PLAYED}/ledger/stdin") as it:
         return "".join(line for line in it if not line.startswith("zeros "))
 
 
 def world_rows():
     """The worlds that begin or don't, and the way of one instance."""
-    with open(f"{TOP}/crates/dr_test_world/stdin") as it:
+    with open(f"{PLAYED}/world/stdin") as it:
         return it.read().partition("# another data set")[0]
 
 
@@ -193,12 +205,13 @@ def main():
         sys.exit(__doc__)
     first = int(sys.argv[2]) if len(sys.argv) == 3 else 1
     with tempfile.TemporaryDirectory(prefix="growths-") as room:
+        program = build(put_program(room, sys.argv[1]))
         if sys.argv[1] == "desk":
-            sweep = Sweep(room, build(desk_program(room)), "")
+            sweep = Sweep(room, program, "")
         else:
             rows = {"ledger": ledger_rows, "world": world_rows}[sys.argv[1]]
             is_right = is_right_of_worlds if sys.argv[1] == "world" else str.startswith
-            sweep = Sweep(room, build(f"{TOP}/crates/dr_{sys.argv[1]}_vectors"), rows(), is_right)
+            sweep = Sweep(room, program, rows(), is_right)
         number, found, ended = first, 0, 0
         with concurrent.futures.ThreadPoolExecutor(os.cpu_count()) as pool:
             while True:

@@ -1,7 +1,7 @@
 #!/usr/bin/env python3
-"""Answers the calls in the `stdin` of crates/dr_test_ledger_memory (ledgers in memory) and of crates/dr_test_store (ledgers in tables) by a
-ledger of its own, written again from crates/dr_ledger/specs (Books, Replies, Adopting, Bodies), and compares what it answers with the crate's
-`stdout`, which the gate compares with what the program prints. So the answers that the gate wants come from outside the programs.
+"""Answers the calls in the `stdin` of tests/played/ledger (ledgers in memory) and of tests/played/tables (ledgers in tables) by a ledger of
+its own, written again from crates/dr_ledger/specs (Books, Replies, Adopting, Bodies), and compares what it answers with the `stdout` there,
+with which tests/played.py compares what the ledgers answer. So the answers that are wanted come from outside the programs.
 
 The lines for ledgers in tables begin with those for ledgers in memory, but for `refuse` and `refusals`, and this is looked at too. Behind them
 the files are closed, changed, opened again and stopped, and desks are shared. How often a disk can be stopped in a call is the program's to
@@ -20,8 +20,8 @@ from lib.plan_model import REST, Model
 from lib.plan_reader import EXPLICIT, IMPLICIT, read_plan
 
 TOP = os.path.dirname(os.path.dirname(os.path.abspath(__file__)))
-MEMORY, TABLES = f'{TOP}/crates/dr_test_ledger_memory', f'{TOP}/crates/dr_test_store'
-COUNTS = re.compile(r'(?:log|database): (\d+) stops \| while opening (\d+)((?: \| [^|]*: \d+)*) \| after, as written (\d+), as synced (\d+)')
+MEMORY, TABLES = f'{TOP}/tests/played/ledger', f'{TOP}/tests/played/tables'
+COUNTS = re.compile(r'(?:log|database): (\d+) stops(?: \| while opening (\d+)| behind the \d+ of opening)((?: \| [^|]*: \d+)*) \| after, as written (\d+), as synced (\d+)')
 # What a ledger's files were given last, the last one first: without these they are files from before.
 LATER = 'DROP INDEX queue_due', 'DROP TABLE target'
 UNCOUNTED = 'Store, 0 lines, 0 counted, 0 receipts; '
@@ -292,7 +292,7 @@ class Playing:
         elif what == 'sql':
             self.change(' '.join(words))
             return f'{line}: *\n'
-        elif what == 'stops':
+        elif what in ('stops', 'late_stops'):
             _, plan, node, _, call, *words = words
             answer = self.stopped(plan, node, call, words)
             return f'{line}: {answer}\nlog: *{answer}\ndatabase: *{answer}\n'
@@ -327,7 +327,7 @@ def do_agree(own, line):
     if not found:
         return False
     answers = [it.rsplit(': ', 1) for it in found[3].split(' | ')[1:]]
-    stops, opening, written, synced = (int(found[at]) for at in (1, 2, 4, 5))
+    stops, opening, written, synced = (int(found[at] or 0) for at in (1, 2, 4, 5))
     if not all(may_be_stopped(own, answer) for answer, _ in answers):
         return False
     done = sum(int(count) for answer, count in answers if not answer.startswith('Store'))
@@ -362,14 +362,14 @@ def read(path):
         return it.read().splitlines()
 
 
-def compare(crate):
+def compare(folder, case=''):
     playing = Playing()
-    answers = ''.join(playing.turn(line) for line in read(f'{crate}/stdin')).splitlines()
-    wanted = read(f'{crate}/stdout')
-    name = os.path.basename(crate)
+    answers = ''.join(playing.turn(line) for line in read(f'{folder}/stdin{case}')).splitlines()
+    wanted = read(f'{folder}/stdout{case}')
+    name = os.path.basename(folder) + case
     for number, (own, other) in enumerate(zip(answers, wanted), 1):
         if not is_told(own, other):
-            sys.exit(f'ledger rows: line {number} of {name}/stdout is {other!r}, and by the definitions {own!r}')
+            sys.exit(f'ledger rows: line {number} of what {name} prints is {other!r}, and by the definitions {own!r}')
     if len(answers) != len(wanted):
         sys.exit(f'ledger rows: of {name}, the one goes on where the other ends')
     print(f'ledger rows: {len(answers)} lines of {name} are those of the definitions')
@@ -389,6 +389,7 @@ def main():
         sys.exit('ledger rows: the lines for ledgers in tables do not begin with those for ledgers in memory (--lines prints them)')
     compare(MEMORY)
     compare(TABLES)
+    compare(TABLES, '.all')
 
 
 main()
