@@ -40,7 +40,7 @@ def main():
         network, alone = commands()
         ended = subprocess.run(['bash', '-euc', network], cwd=folder, stdin=subprocess.DEVNULL, capture_output=True, text=True, timeout=LIMIT, check=False)
         assert ended.returncode == 0, ended
-        size = 96
+        size = 90
         same(re.sub(r'status\t0000\n', '', ended.stdout),
              'new\nnode\tCT1\narrival\t-\t1.2.3.4\nrow\t1.2.3.4\tGATE\tdone\nlines\t2\n'
              'node\tGATE\narrival\tCT1\t1.2.3.4\nrow\t1.2.3.4\tARCH\tdone\nlines\t2\n'
