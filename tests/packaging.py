@@ -55,7 +55,7 @@ def contents(folder):
 def versions():
     """The version is the same wherever it is told."""
     number = release.version()
-    for path, told in (('crates/dr_words/src/command_line.rt', rf'\.version\("{re.escape(number)}"\)'), ('packaging/dr_router.1', f'"dr_router {number}"'),
+    for path, told in (('crates/dr_word_line/src/command_line.rt', rf'\.version\("{re.escape(number)}"\)'), ('packaging/dr_router.1', f'"dr_router {number}"'),
                        ('docs/USAGE.md', f'^dr_router {number}$'), ('CHANGELOG.md', rf'\A# [^\n]*\n\n(?:[^#\n][^\n]*\n|\n)*## {number}\b')):
         assert re.search(told, release.content(f'{TOP}/{path}').decode(), re.M), f'{path} has another version than VERSION'
 
@@ -69,7 +69,7 @@ def sources():
     same(paths, sorted(paths))
     for path, is_there in (('crates.txt', True), ('HANDLES', True), ('crates/dr_router/src/main.rt', True), ('crates/dr_base/src/lib.rt', True), ('README.md', False)):
         same((path, path in paths), (path, is_there))
-    assert not any(path.startswith('crates/dr_wire_vectors/') or '/must-fail/' in path or '/out/' in path for path in paths)
+    assert not any(path.startswith('crates/dr_test_wire/') or '/must-fail/' in path or '/out/' in path for path in paths)
 
 
 def builds():
@@ -113,8 +113,7 @@ def checkout(folder):
     """A copy of what the script at the top needs, with no program built."""
     for name in 'dr_router', 'crates.txt', 'HANDLES':
         shutil.copy(f'{TOP}/{name}', folder)
-    for name in 'build', 'tools':
-        shutil.copytree(f'{TOP}/{name}', f'{folder}/{name}')
+    shutil.copytree(f'{TOP}/tools', f'{folder}/tools')
     shutil.copytree(f'{TOP}/crates', f'{folder}/crates', ignore=shutil.ignore_patterns('out', 'must-fail'))
 
 
