@@ -22,7 +22,7 @@ sys.dont_write_bytecode = True
 TOP = os.path.dirname(os.path.dirname(os.path.abspath(__file__)))
 sys.path.insert(0, f'{TOP}/packaging')
 import release
-from rooms import LIMIT, PROGRAM, free_port, listening_ports, part10, run_cases, same, stop
+from lib.nodes import LIMIT, PROGRAM, free_port, listening_ports, part10, run_cases, same, stop
 
 CLOSING = '12 passed, 0 failed'
 PASSWORDS = 'etc/passwd', 'etc/group'

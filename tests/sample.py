@@ -11,7 +11,7 @@ import sys
 import tempfile
 
 sys.dont_write_bytecode = True
-from rooms import LIMIT, PROGRAM, TOP, free_port, same
+from lib.nodes import LIMIT, PROGRAM, TOP, free_port, same
 
 PAGES = 'README.md', 'docs/README.new.md'
 
