@@ -1,18 +1,19 @@
 #!/usr/bin/env python3
-"""Tries wrong bodies of the shared desk and of its workers of which no contract speaks: the tests of `dr_test_workers` must fail.
+"""Tries wrong bodies of the shared desk and of its workers of which no contract speaks: the test tests/played/workers must fail.
 
     tests/wrong_workers.py [NAME..]
 
-Each is tried in a copy of the crates, without a proof (`rt try --test`). It takes two or three minutes each, so it is no part of ./test: run it
+Each is tried in a copy of the crates, without a proof (`tests/played.py`). It takes two or three minutes each, so it is no part of ./test: run it
 where you have changed those crates. The last line is 'N passed, M failed'.
 """
 import os
 import shutil
-import subprocess
 import sys
 import tempfile
 
-TOP = os.path.dirname(os.path.dirname(os.path.abspath(__file__)))
+sys.dont_write_bytecode = True
+from played import TOP, play
+
 SERVING, SHARED = "dr_desk_workers/src/serving.rt", "dr_desk/src/shared.rt"
 
 # of each wrong body: the file, a text that stands in it once, and what takes its place
@@ -46,14 +47,13 @@ def is_seen(edits):
                 sys.exit(f"{path}: the text to be changed doesn't stand there once")
             with open(f"{room}/crates/{path}", "w") as it:
                 it.write(text.replace(old, new))
-        ran = subprocess.run(
-            ["rt", "try", "--test"], cwd=f"{room}/crates/dr_test_workers",
-            stdout=subprocess.PIPE, stderr=subprocess.STDOUT, text=True, errors="replace",
-        )
-    print("\n".join(it for it in ran.stdout.splitlines() if it.startswith(("test ", "error"))), flush=True)
-    if "test result:" not in ran.stdout and "FAILED" not in ran.stdout:
-        print(ran.stdout)
-    return "FAILED" in ran.stdout and ran.returncode != 0
+        came, said = play(["workers"], f"{room}/crates")
+    if "workers" not in came:
+        print(said)
+        return False
+    is_so, said = came["workers"]
+    print(said, end="")
+    return not is_so
 
 
 def main():

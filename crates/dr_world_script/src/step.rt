@@ -12,7 +12,7 @@ pub enum Side {
 }
 
 /// A step of a world of nodes. Links are numbered from 1 in the order in which they are opened.
-#[derive(Debug, Drop)]
+#[derive(Drop)]
 pub enum Step {
     /// An item enters at the node itself.
     Submit { node: Text, item: Item },
