@@ -26,6 +26,7 @@ from lib.nodes import LIMIT, PROGRAM, free_port, listening_ports, part10, run_ca
 
 CLOSING = '12 passed, 0 failed'
 PASSWORDS = 'etc/passwd', 'etc/group'
+DEVICES = {'null': 3, 'zero': 5, 'random': 8, 'urandom': 9}
 
 
 def put(path, text):
@@ -215,8 +216,9 @@ def furnish(root):
             shutil.copy(f'/var/lib/dpkg/info/{path}', f'{root}/var/lib/dpkg/info')
     for name in PASSWORDS:
         shutil.copy(f'{root}/usr/share/base-passwd/{os.path.basename(name)}.master', f'{root}/{name}')
-    os.mknod(f'{root}/dev/null', 0o666 | stat.S_IFCHR, os.makedev(1, 3))
-    os.chmod(f'{root}/dev/null', 0o666)
+    for name, number in DEVICES.items():
+        os.mknod(f'{root}/dev/{name}', 0o666 | stat.S_IFCHR, os.makedev(1, number))
+        os.chmod(f'{root}/dev/{name}', 0o666)
 
 
 class Root:
@@ -369,6 +371,7 @@ def can_change_roots():
 def main():
     if not os.path.exists(PROGRAM):
         sys.exit('packaging: the program is not built')
+    os.umask(0o022)
     run_cases('packaging', versions, sources, builds, refused_builds, one_library, releases_of_a_checkout)
     if can_change_roots():
         run_cases('packaging', installation)
