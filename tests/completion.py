@@ -1,5 +1,5 @@
 #!/usr/bin/env python3
-"""Compares what bash offers for the words of the program (docs/dr_router.bash) with the words that the program's help lists.
+"""Compares what bash offers for the words of the program (packaging/dr_router.bash) with the words that the program's help lists.
 
     tests/completion.py [PROGRAM]
 """
@@ -15,7 +15,7 @@ PROGRAM = sys.argv[1] if sys.argv[1:] else f'{TOP}/crates/dr_router/out/dr_route
 def offered(*words):
     """What is offered for the last of these words."""
     quoted = ' '.join(f"'{word}'" for word in ('dr_router', *words))
-    script = f'source docs/dr_router.bash; COMP_WORDS=({quoted}); COMP_CWORD={len(words)}; _dr_router; printf "%s\\n" "${{COMPREPLY[@]}}"'
+    script = f'source packaging/dr_router.bash; COMP_WORDS=({quoted}); COMP_CWORD={len(words)}; _dr_router; printf "%s\\n" "${{COMPREPLY[@]}}"'
     ended = subprocess.run(['bash', '-c', script], cwd=TOP, capture_output=True, text=True, check=True)
     return ended.stdout.split('\n')[:-1]
 

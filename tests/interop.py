@@ -405,7 +405,7 @@ def hostile(silent):
             socket.create_connection(('127.0.0.1', site.ports['GATE']), timeout=LIMIT).close()
         site.answers(gate)
         # as many as there are workers stay open, and say nothing; others wait for no longer than it takes until these are closed
-        quiet = [socket.create_connection(('127.0.0.1', site.ports['GATE']), timeout=LIMIT) for _ in range(4)]
+        quiet = [socket.create_connection(('127.0.0.1', site.ports['GATE']), timeout=LIMIT) for _ in range(32)]
         time.sleep(0.2)
         for link in quiet:
             link.close()

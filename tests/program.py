@@ -135,7 +135,7 @@ def words():
     is_answer('help of lint', run(['lint', '--help']), 0, (b'Usage: dr_router lint <PLAN> <CERT>\n',), b'')
     is_answer('help of simulate', run(['simulate', '--help']), 0, (b'Usage: dr_router simulate <PLAN> <CERT> <SCRIPT>\n',), b'')
     is_answer('help of echo', run(['echo', '--help']), 0, (b'Usage: dr_router echo <PLAN> <FROM> <TO>\n',), b'')
-    is_answer('version', run(['--version']), 0, b'dr_router 0.1.0\n', b'')
+    is_answer('version', run(['--version']), 0, b'dr_router ' + content(f'{TOP}/VERSION'), b'')
 
 
 def failures(room, large):

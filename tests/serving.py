@@ -1,17 +1,23 @@
 #!/usr/bin/env python3
 """Runs routers of the sample plan on loopback, each a process of the built program with a ledger in a file: an instance enters at CT1, goes by
-GATE and is kept at ARCH. Then what a person meets: a file that another program has open, another node's file, a dead hop, repeats, kill -9.
+GATE and is kept at ARCH. Then what a person meets: a file that another program has open, another node's file, a dead hop, repeats, reports that would
+replace a file, forged lines of a log, peers that say nothing, kill -9.
 
     tests/serving.py
 """
 import os
 import re
+import shutil
 import signal
 import sys
+import threading
 import time
 
 sys.dont_write_bytecode = True
+from lib.requestor import ACCEPTED, RELEASED, Requestor
 from lib.nodes import LIMIT, PROGRAM, Room, data_set, element, ended, lines, part10, run_cases, same, stop, told
+
+WORKERS = 32
 
 
 def three_nodes():
@@ -145,13 +151,108 @@ def reports():
         waits = [event[3] for event in room.events('GATE') if event[2] == 'row']
         assert waits and all(re.fullmatch(r'waits dest="ARCH" uid=1\.2\.3\.5 status="-" tries=1 due=\d+', event) for event in waits), waits
     with Room() as room:
-        told(room.at('serve', 'GATE', '--report', 'GATE.db'), 3, '', 'dr_router: GATE.db: invalid input parameter\n')
-        gate = room.serve('GATE', 1, '--report', 'no/folder/report')
+        os.mkdir(f'{room.folder}/reports')
+        gate = room.serve('GATE', 1, '--report', 'reports/GATE')
+        same(room.wait_for_text('reports/GATE', 'node\tGATE\nlines\t0\n'), True)
+        shutil.rmtree(f'{room.folder}/reports')
         room.put('image.dcm', part10(b'1.2.3.4'))
         same(room.at('send', 'CT1', 'image.dcm').returncode, 0)
         ended(gate)
         told_at_gate = [event[1:] for event in room.events('GATE') if event[2] == 'report']
         assert told_at_gate and told_at_gate[0][0] == 'ERROR' and told_at_gate[0][2].startswith('unwritten error='), told_at_gate
+
+
+def report_paths():
+    """A report takes the place of no file of the node's own, by whatever path that is named, and of no other file that isn't a report."""
+    own, other = 'R1 OwnFile', 'R2 NoReport'
+    tails = ['', '-wal', '-shm', '-journal', '.data', '.journal.1']
+    with Room() as room:
+        def refused(path, fault, ledger=None):
+            told(room.at('serve', 'GATE', '--links', '1', '--report', path, ledger=ledger), 3, '', f'dr_router: {path}: {fault}\n')
+        def at(name):
+            return f'{room.folder}/{name}'
+        os.mkdir(at('sub'))
+        os.symlink('.', at('here'))
+        names = [f'GATE.db{tail}{end}' for tail in tails for end in ('', '.new')]
+        # while no file is there; where the file that is written first would be the ledger's, too
+        for name in names:
+            for path in name, f'./{name}', f'sub/../{name}', f'here/{name}', at(name):
+                refused(path, own)
+        refused('GATE', own, ledger='GATE.new')
+        same(sorted(os.listdir(room.folder)), ['certificate', 'here', 'plan', 'sub'])
+        # with a ledger: by its name, by links, and by the other name of a ledger that is named by a link
+        same(room.at('list', 'GATE').returncode, 0)
+        os.symlink('GATE.db', at('link'))
+        os.link(at('GATE.db'), at('hard'))
+        for path in [*names, './GATE.db', 'sub/../GATE.db-wal', 'here/GATE.db', at('GATE.db-wal'), 'link', 'hard', 'plan', './certificate', 'sub/../plan']:
+            refused(path, own)
+        for path in 'link', 'link-wal', 'GATE.db', 'GATE.db-wal', 'here/GATE.db-wal':
+            refused(path, own, ledger='link')
+        os.link(at('GATE.db'), at('report.new'))
+        refused('report', own)
+        os.unlink(at('report.new'))
+        # what is no report, and links to nothing
+        room.put('notes', b'node by node')
+        room.put('report.new', b'what somebody wrote')
+        os.symlink('nothing', at('dangling'))
+        os.mkfifo(at('pipe'))
+        for path in 'notes', 'report', 'dangling', 'pipe', 'sub':
+            refused(path, other)
+        refused('none/report', 'No such file or directory (os error 2)')
+        os.unlink(at('report.new'))
+        told(room.at('list', 'GATE'), 0, 'node\tGATE\nlines\t0\n', '')
+        same(room.text('notes'), 'node by node')
+    with Room() as room:
+        # a report from before, what a loss of power leaves of one, and a name that is only like the ledger's
+        for name, text in ('old', b'node\tARCH\nlines\t7\n'), ('empty', b''), ('cut', b'nod'), ('GATE.db2', None), ('GATE.report', None):
+            if text is not None:
+                room.put(name, text)
+            gate = room.serve('GATE', 0, '--report', name)
+            same(room.wait_for_text(name, 'node\tGATE\nlines\t0\n'), True)
+            stop(gate)
+
+
+def forged():
+    """A title and a UID of a peer begin no line of the log, end no quoted value, and send nothing to a terminal."""
+    with Room() as room:
+        arch = room.serve('ARCH', 2, '--log', 'debug')
+        with Requestor(room.ports['ARCH'], 'A\nB\x1b[1m" \\C', 'ARCH') as caller:
+            same(caller.answer[0], ACCEPTED)
+            same(caller.store(b'1.2.3.4', data_set(b'1.2.3.4')), 0xC0F0)
+            same(caller.release(), RELEASED)
+        with Requestor(room.ports['ARCH'], 'GATE', 'ARCH') as caller:
+            long = b'1.' + 200 * b'7'
+            caller.store(long, data_set(long))
+            same(caller.release(), RELEASED)
+        ended(arch)
+        told_at_arch = [event[3] for event in room.events('ARCH') if event[2] == 'instance']
+        same(told_at_arch[0], 'refused session=1 caller="A\\nB\\x1b[1m\\" \\\\C" uid=1.2.3.4 fault="G1 NoLine"')
+        assert all(len(event) < 250 for event in told_at_arch), told_at_arch
+
+
+def held_workers():
+    """Connections that say nothing hold a worker each; who waits for one counts its 30 seconds from when it has one."""
+    with Room() as room:
+        arch = room.serve('ARCH', 0)
+        held = [Requestor(room.ports['ARCH'], 'GATE', 'ARCH') for _ in range(WORKERS - 1)]
+        with Requestor(room.ports['ARCH'], 'GATE', 'ARCH') as caller:
+            same(caller.answer[0], ACCEPTED)
+            same(caller.release(), RELEASED)
+        held.append(Requestor(room.ports['ARCH'], 'GATE', 'ARCH'))
+        begun = time.monotonic()
+        def let_go():
+            time.sleep(32)
+            same(held[0].release(), RELEASED)
+        waits = threading.Thread(target=let_go)
+        waits.start()
+        with Requestor(room.ports['ARCH'], 'GATE', 'ARCH') as late:
+            same(late.answer[0], ACCEPTED)
+            assert time.monotonic() - begun > 31, time.monotonic() - begun
+            same(late.release(), RELEASED)
+        waits.join()
+        for one in held:
+            one.link.close()
+        stop(arch)
 
 
 def killed():
@@ -192,7 +293,7 @@ def killed():
 def main():
     if not os.path.exists(PROGRAM):
         sys.exit(f'{PROGRAM} is not built')
-    run_cases('serving', three_nodes, refusals, dead_hop, held_rows, events, reports, killed)
+    run_cases('serving', three_nodes, refusals, dead_hop, held_rows, events, reports, report_paths, forged, held_workers, killed)
 
 
 if __name__ == '__main__':

@@ -17,7 +17,7 @@ IMPLICIT, EXPLICIT = b'1.2.840.10008.1.2', b'1.2.840.10008.1.2.1'
 CT = b'1.2.840.10008.5.1.4.1.1.2'
 PLAN = ('plan', 'certificate')
 LIMIT = 60
-EVENT = re.compile(r'(\d{4}-\d\d-\d\dT\d\d:\d\d:\d\d(?:\.\d+)?Z) \[(\w+) +(\w+)\] (.*)')
+EVENT = re.compile(r'(\d{4}-\d\d-\d\dT\d\d:\d\d:\d\d\.\d{3}Z) \[(\w+) +(\w+)\] (.*)')
 
 
 # ---- files of the standard

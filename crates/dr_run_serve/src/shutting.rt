@@ -10,18 +10,33 @@ use dr_run_net::Listening;
 use log::Log;
 use std::sync::Wait;
 
-/// Whether a call was answered that the store failed.
-fn is_store_fault<T>(answer: &Result<T, LedgerFault>) -> bool
-    ensures { IsTrue result ↔ (answer.now ≡ Err Store) }
+fn is_store(fault: LedgerFault) -> bool
+    ensures { IsTrue result ↔ (fault ≡ Store) }
 {
-    matches!(answer, Err(LedgerFault::Store))
+    match fault {
+        LedgerFault::Store => true,
+        LedgerFault::NoLine
+        | LedgerFault::Conflict
+        | LedgerFault::NotWaiting
+        | LedgerFault::NotHeld
+        | LedgerFault::Memory => false,
+    }
+}
+
+/// Whether a call was answered that the store failed.
+fn is_store_fault(answer: Result<bool, LedgerFault>) -> bool
+    ensures { IsTrue result ↔ (answer ≡ Err Store) }
+{
+    match answer {
+        Ok(_) => false,
+        Err(fault) => is_store(fault),
+    }
 }
 
 /// Whether the store of the desk's ledger is shut, as it is after a sync that failed: then it answers Store to a call that only reads, too. A disk that
 /// is full refuses what would be written alone.
 pub fn is_shut<R: Wait, L: Ledger, B: Sharing>(rt: &R, desk: &SharedDesk<L, B>) -> bool {
-    let answer = desk.has(rt, desk.site().name());
-    is_store_fault(&answer)
+    is_store_fault(desk.has(rt, desk.site().name()))
 }
 
 /// What the one who sends is woken by, and what it ends where the store is shut.

@@ -105,7 +105,7 @@ module _ (words : List Word) where
       (subst (λ n. cond (initial n == 108) (asks.AtNode (files change.plan change.certificate change.next_plan change.next_certificate) duties.Summary)
       (cond (initial n == 115) (asks.AtNode (files change.plan change.certificate change.next_plan change.next_certificate) (duties.Send change.folder))
       (asks.Adopt change)) ≡ asks.Adopt change) (sym h.2) refl)
-  is_meant (asks.Told error) ()
+  is_meant (asks.Told error) h = absurd h
 
   -- words of a plain form ask for one thing
   pub one_asked : (a b : Asked) → Asks words a → Asks words b → a ≡ b

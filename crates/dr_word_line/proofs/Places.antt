@@ -74,4 +74,4 @@ module _ {X : Type 0} (d : X) where
 
 -- two words of which a test says that they are the same
 pub same_word : (answer : Bool) (word other : List ℕ) → answer ≡ pointwise eqb word other → answer ≡ true → word ≡ other
-same_word answer word other is yes = (bytes_eq-Decides word other).0 (sym is ∙ yes)
+same_word answer word other is same = (bytes_eq-Decides word other).0 (sym is ∙ same)

@@ -366,7 +366,7 @@ fn serve<'a>(alloc: Global) -> Result<Command<'a>, AllocError> {
 /// The program, with no word yet.
 fn program<'a>(alloc: Global) -> Result<Command<'a>, AllocError> {
     Command::new(alloc, "dr_router")
-        .version("0.1.0")
+        .version("0.3.0")
         .about("A DICOM store-and-forward router")
         .no_binary_name(true)
         .subcommand_required(true)

@@ -1,4 +1,4 @@
-# What bash offers for the words of dr_router; `source docs/dr_router.bash` turns it on.
+# What bash offers for the words of dr_router; `source packaging/dr_router.bash` turns it on.
 
 # The titles of the nodes in a plan's text.
 _dr_router_nodes() {

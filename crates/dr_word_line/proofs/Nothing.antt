@@ -1,0 +1,55 @@
+-- Words of no plain form ask for nothing.
+use Rattle.std.specs.Prelude.{ℕ, List}
+use Rattle.std.specs.Borrow.{Bor}
+use Rattle.dr_word_line.specs.declared.words.Asked.{Asked}
+use Rattle.dr_word_line.specs.declared.words.Asked.TheVariants as asks
+use Rattle.dr_word_line.specs.declared.words.Duty.{Duty}
+use Rattle.dr_word_line.specs.declared.words.Duty.TheVariants as duties
+use Rattle.dr_word_line.specs.declared.words.KeyWords.{KeyWords}
+use Rattle.dr_word_line.specs.declared.words.NodeFiles.{NodeFiles}
+use Rattle.dr_word_line.specs.declared.words.PlanChange.{PlanChange}
+use Rattle.dr_word_line.specs.declared.words.Question.TheVariants as questions
+use Rattle.dr_word_line.specs.Words.{Asks, IsAdoptOf, IsCheckOf, IsDutyOf, IsEchoOf, IsFileRouteOf, IsGraphOf, IsKeyRouteOf, IsLintOf, IsListOf, IsPlainCheck, IsRequeueAllOf, IsRequeueOf, IsSendOf, IsServeOf, IsSimulateOf, IsSummaryOf, IsVerifyOf}
+
+-- no duty is asked for, where none of each kind is
+module _ (words : List (Bor (List ℕ)))
+    (list : (given : NodeFiles) → IsListOf words given → ⊥)
+    (serve : (given : NodeFiles) → IsServeOf words given → ⊥)
+    (requeue : (given : NodeFiles) (uid dest : Bor (List ℕ)) → IsRequeueOf words given uid dest → ⊥)
+    (send : (given : NodeFiles) (file : Bor (List ℕ)) → IsSendOf words given file → ⊥)
+    (summary : (given : NodeFiles) → IsSummaryOf words given → ⊥)
+    (requeue_all : (given : NodeFiles) (dest : Bor (List ℕ)) → IsRequeueAllOf words given dest → ⊥) where
+  pub no_duty : (given : NodeFiles) (duty : Duty) → IsDutyOf words given duty → ⊥
+  no_duty given duties.List h = list given h
+  no_duty given duties.Summary h = summary given h
+  no_duty given (duties.RequeueAll dest) h = requeue_all given dest h
+  no_duty given (duties.Requeue uid dest) h = requeue given uid dest h
+  no_duty given (duties.Send file) h = send given file h
+  no_duty given (duties.Serve serving) h = serve given h.0
+
+-- nothing is asked for, where nothing of each form is
+module _ (words : List (Bor (List ℕ)))
+    (input : IsPlainCheck words → ⊥)
+    (file : (plan : Bor (List ℕ)) → IsCheckOf words plan → ⊥)
+    (verify : (plan certificate : Bor (List ℕ)) → IsVerifyOf words plan certificate → ⊥)
+    (simulate : (plan certificate script : Bor (List ℕ)) → IsSimulateOf words plan certificate script → ⊥)
+    (echo : (plan caller called : Bor (List ℕ)) → IsEchoOf words plan caller called → ⊥)
+    (graph : (plan certificate : Bor (List ℕ)) → IsGraphOf words plan certificate → ⊥)
+    (lint : (plan certificate : Bor (List ℕ)) → IsLintOf words plan certificate → ⊥)
+    (route_of_file : (plan certificate at path : Bor (List ℕ)) → IsFileRouteOf words plan certificate at path → ⊥)
+    (route_of_key : (plan certificate at : Bor (List ℕ)) (key : KeyWords) → IsKeyRouteOf words plan certificate at key → ⊥)
+    (duty : (given : NodeFiles) (duty : Duty) → IsDutyOf words given duty → ⊥)
+    (adopt : (change : PlanChange) → IsAdoptOf words change → ⊥) where
+  pub nothing_asked : (asked : Asked) → Asks words asked → ⊥
+  nothing_asked asks.CheckInput h = input h
+  nothing_asked (asks.CheckFile plan) h = file plan h
+  nothing_asked (asks.Verify plan certificate) h = verify plan certificate h
+  nothing_asked (asks.Simulate plan certificate script) h = simulate plan certificate script h
+  nothing_asked (asks.Echo plan caller called) h = echo plan caller called h
+  nothing_asked (asks.Question plan certificate questions.Graph) h = graph plan certificate h
+  nothing_asked (asks.Question plan certificate questions.Lint) h = lint plan certificate h
+  nothing_asked (asks.Question plan certificate (questions.RouteOfFile at path)) h = route_of_file plan certificate at path h
+  nothing_asked (asks.Question plan certificate (questions.RouteOfKey at key)) h = route_of_key plan certificate at key h
+  nothing_asked (asks.AtNode given work) h = duty given work h
+  nothing_asked (asks.Adopt change) h = adopt change h
+  nothing_asked (asks.Told error) h = absurd h

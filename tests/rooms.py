@@ -1,0 +1,62 @@
+#!/usr/bin/env python3
+"""Looks at the rooms of crates.txt: `tests/rooms.py`.
+
+Each crate is in the section of its room, behind those of the room that it stands on; no arrow goes up to a later room, but for those that
+are named here; each folder of crates/ has its line; and the picture in docs/ is that of crates.txt.
+"""
+import os
+import sys
+
+TOP = os.path.dirname(os.path.dirname(os.path.abspath(__file__)))
+sys.dont_write_bytecode = True
+sys.path.insert(0, f"{TOP}/tools")
+import picture
+from crates import listed
+
+# Crates whose names don't have their room's stem, with their rooms: the names are those of the program and of the field.
+OTHER_NAMES = {
+    "dr_ulstate": "wire", "dr_pdu": "wire", "dr_dimse": "wire", "dr_dimse_scan": "wire", "dr_dataset": "wire",
+    "dr_route": "plan", "dr_check": "cert", "dr_check_reasons": "cert", "dr_certify": "cert", "dr_site": "cert",
+    "dr_nego": "run", "dr_session": "run", "dr_desk": "run", "dr_desk_workers": "run", "dr_node": "world",
+    "dr_certifier": "program", "dr_checker": "program", "dr_router": "program",
+}
+# Arrows that go up, which are to go: a running node takes files, hops, counts of rows and the text of a report from the words.
+UP = {("dr_run_serve", "dr_word_check"), ("dr_run_serve", "dr_word_list")}
+
+
+def faults():
+    """What isn't as it is to be, a line each."""
+    places, names = picture.room_of(), [name for name, _, _ in picture.rooms()]
+    order = list(places)
+    for crate in order:
+        own = OTHER_NAMES.get(crate)
+        if names[places[crate]] != own and not (own is None and f"{crate}_".startswith(f"dr_{names[places[crate]]}_")):
+            yield f"{crate} is in the room {names[places[crate]]}"
+        for library in listed()[crate][0]:
+            if places[library] > places[crate] and (crate, library) not in UP:
+                yield f"{crate} stands on {library}, of a later room"
+            if places[library] == places[crate] and order.index(library) > order.index(crate):
+                yield f"{crate} has its line before {library}, on which it stands"
+    for crate, library in UP:
+        if library not in listed()[crate][0]:
+            yield f"{crate} doesn't stand on {library} any more: take it from this test's list"
+    for folder in sorted(os.listdir(f"{TOP}/crates")):
+        if folder not in listed():
+            yield f"crates/{folder} has no line"
+    with open(f"{TOP}/docs/rooms.dot", encoding="utf-8") as file:
+        if file.read() != picture.text():
+            yield "docs/rooms.dot isn't that of crates.txt: run tools/picture.py, and draw docs/rooms.svg by dot"
+    with open(f"{TOP}/docs/rooms.svg", encoding="utf-8") as file:
+        drawn = file.read()
+    for crate in listed():
+        if f">{crate}<" not in drawn:
+            yield f"docs/rooms.svg lacks {crate}: draw it by dot -Tsvg docs/rooms.dot"
+
+
+def main():
+    found = list(faults())
+    print("\n".join([*found, f"rooms: {len(found)} faults"]))
+    return 1 if found else 0
+
+
+sys.exit(main())
