@@ -44,7 +44,10 @@ def version():
 def moment():
     """The moment of the last commit, in seconds since 1970; SOURCE_DATE_EPOCH where there is no repository."""
     given = os.environ.get("SOURCE_DATE_EPOCH")
-    return int(given or printed("git", "log", "-1", "--format=%ct"))
+    try:
+        return int(given or printed("git", "log", "-1", "--format=%ct"))
+    except (OSError, ValueError, subprocess.CalledProcessError) as fault:
+        raise Refused("P6 NoMoment: git tells no last commit, and SOURCE_DATE_EPOCH isn't set") from fault
 
 
 def told(text):

@@ -372,6 +372,10 @@ def main():
     if not os.path.exists(PROGRAM):
         sys.exit('packaging: the program is not built')
     os.umask(0o022)
+    try:
+        release.moment()
+    except release.Refused:
+        os.environ['SOURCE_DATE_EPOCH'] = '1795719701'
     run_cases('packaging', versions, sources, builds, refused_builds, one_library, releases_of_a_checkout)
     if can_change_roots():
         run_cases('packaging', installation)

@@ -38,7 +38,8 @@ pub trait Gate {
     /// The session is over.
     fn ended(&self, session: u64, ended: Result<Ended, SessionFault>, tally: Tally);
 
-    /// Whether all sessions are to end: each ends, as by a fault of its link, at what it hears next.
+    /// Whether all sessions are to end: each ends, as by a fault of its link, at what it hears
+    /// next.
     fn is_over(&self) -> bool {
         false
     }

@@ -7,7 +7,8 @@ use crate::gate::{Gate, Point};
 use dr_session::{Heard, Link};
 
 /// A connection's link. After a write that was done the gate is passed once for each arrival that was answered and whose
-/// reply wasn't sent before. It counts as open from the moment at which a worker took it, however long it waited for one. Where the gate is over, a fault is heard.
+/// reply wasn't sent before. It counts as open from the moment at which a worker took it, however
+/// long it waited for one. Where the gate is over, a fault is heard.
 #[derive(Drop)]
 pub struct GatedLink<'a, K: Link + Drop, G: Gate> {
     pub link: K,
@@ -53,7 +54,8 @@ impl<'a, K: Link + Drop, G: Gate> Link for GatedLink<'a, K, G> {
     ghost use Rattle.std.specs.Prelude.{◌≡◌, ◌⊎◌};
     ghost use Rattle.dr_session.specs.declared.ends.Heard.TheVariants.{Fault};
 
-    ghost hears = { λ s heard t. K.hears s.link heard t.link ⊎ ((heard ≡ Fault) × (t.link ≡ s.link)) };
+    ghost hears = { λ s heard t. K.hears s.link heard t.link
+        ⊎ ((heard ≡ Fault) × (t.link ≡ s.link)) };
 
     ghost sends = { λ s bytes sent t. K.sends s.link bytes sent t.link };
 

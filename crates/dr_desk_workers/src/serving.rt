@@ -90,7 +90,8 @@ fn work<R: Wait, L: Ledger, B: Sharing, K: Link + Drop, C: Clock + Drop, G: Gate
     }
 }
 
-/// Serves one connection to its end, however the session ends. The session counts from this moment, and its length from that at which the connection came.
+/// Serves one connection to its end, however the session ends. The session counts from this moment,
+/// and its length from that at which the connection came.
 fn serve<R: Wait, L: Ledger, B: Sharing, K: Link + Drop, C: Clock + Drop, G: Gate>(
     rt: &R,
     alloc: Global,

@@ -7,7 +7,8 @@ use log::{Line, Log, Metadata, Record};
 use std::fmt;
 use std::fmt::{Display, Formatter};
 
-/// Writes each event as a line on the standard error, behind the moment at which it happened (UTC, RFC 3339, with three decimals).
+/// Writes each event as a line on the standard error, behind the moment at which it happened (UTC,
+/// RFC 3339, with three decimals).
 #[derive(Drop)]
 pub struct EventLog<'a, R: Eprint, C: Clock> {
     pub rt: &'a R,

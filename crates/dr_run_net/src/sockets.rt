@@ -101,7 +101,8 @@ impl<'a, C: Clock> Listening for Listener<'a, C> {
         Socket::new(self.alloc, stream, self.clock)
     }
 
-    /// The listening socket is shut down by a second handle of it, which wakes who waits at the first.
+    /// The listening socket is shut down by a second handle of it, which wakes who waits at the
+    /// first.
     fn close(&self) {
         if let Ok(listener) = self.listener.try_clone() {
             let _ended = TcpStream::from(OwnedFd::from(listener)).shutdown(Shutdown::Both);

@@ -6,6 +6,7 @@ use Rattle.dr_base.specs.Texts.{Text}
 abbrev pub report_head : Text
 report_head = codes "node" ++ (9 ∷ [])
 
--- The text begins as a report does: its first five bytes are a report's; one that is shorter is a beginning of them.
+-- The text begins as a report does: its first five bytes are a report's; one that is shorter is a
+-- beginning of them.
 abbrev pub BeginsAsReport : Text → Type 0
 BeginsAsReport text = (rest : Text) × (report_head ≡ take 5 text ++ rest)

@@ -2,10 +2,17 @@
 use Rattle.std.specs.Prelude.{◌≡◌, ◌++◌, ◌⊎◌, [], codes}
 use Rattle.dr_base.specs.Texts.{Text}
 
--- What a file of the ledger has behind the database's name: nothing, or what SQLite puts behind it for the log, its index and a rollback, or
+-- What a file of the ledger has behind the database's name: nothing, or what SQLite puts behind it
+-- for the log, its index and a rollback, or
 -- what the data sets and the parts of a journal have.
 abbrev pub IsTail : Text → Type 0
-IsTail tail = (tail ≡ []) ⊎ ((tail ≡ codes "-wal") ⊎ ((tail ≡ codes "-shm") ⊎ ((tail ≡ codes "-journal") ⊎ ((tail ≡ codes ".data") ⊎ ((rest : Text) × (tail ≡ codes ".journal." ++ rest))))))
+IsTail tail =
+    (tail ≡ [])
+    ⊎ ((tail ≡ codes "-wal")
+    ⊎ ((tail ≡ codes "-shm")
+    ⊎ ((tail ≡ codes "-journal")
+    ⊎ ((tail ≡ codes ".data")
+    ⊎ ((rest : Text) × (tail ≡ codes ".journal." ++ rest))))))
 
 -- the name of the database, or of a file that belongs to it
 abbrev pub IsOwnName : Text → Text → Type 0
@@ -13,4 +20,6 @@ IsOwnName database name = (tail : Text) × IsTail tail × (name ≡ database ++ 
 
 -- such a name, also with `.new` behind it, as a file has it that is to take the other's place
 abbrev pub IsLedgerName : Text → Text → Type 0
-IsLedgerName database name = IsOwnName database name ⊎ ((front : Text) × IsOwnName database front × (name ≡ front ++ codes ".new"))
+IsLedgerName database name =
+    IsOwnName database name
+    ⊎ ((front : Text) × IsOwnName database front × (name ≡ front ++ codes ".new"))

@@ -27,7 +27,8 @@ Takes spot ledger = (ledger.folder ≡ spot.folder) × IsLedgerName ledger.name 
 abbrev pub IsTakenBy : List Spot → Spot → Type 0
 IsTakenBy ledgers spot = (ledger : Spot) × Contains ledgers ledger × Takes spot ledger
 
--- the ledger takes the name, whether a file is there or not, or what is there is one of the node's own files
+-- the ledger takes the name, whether a file is there or not, or what is there is one of the node's
+-- own files
 abbrev pub IsOwn : List Spot → List FileId → Place → Type 0
 IsOwn ledgers files place = IsTakenBy ledgers place.spot ⊎ IsAmong files place.found
 
@@ -37,9 +38,11 @@ HasRoom Nothing = Unit {0}
 HasRoom (Report id) = Unit {0}
 HasRoom (Other id) = ⊥
 
--- What is answered of a place: a report may be written there just where it isn't the node's own and has room. That it is the node's own
+-- What is answered of a place: a report may be written there just where it isn't the node's own and
+-- has room. That it is the node's own
 -- comes first.
 abbrev pub Judges : List Spot → List FileId → Place → Result (Unit {0}) ReportFault → Type 0
 Judges ledgers files place (Ok done) = (IsOwn ledgers files place → ⊥) × HasRoom place.found
 Judges ledgers files place (Err OwnFile) = IsOwn ledgers files place
-Judges ledgers files place (Err NoReport) = (IsOwn ledgers files place → ⊥) × (HasRoom place.found → ⊥)
+Judges ledgers files place (Err NoReport) =
+    (IsOwn ledgers files place → ⊥) × (HasRoom place.found → ⊥)

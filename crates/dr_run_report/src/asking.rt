@@ -24,7 +24,8 @@ pub struct OwnPaths<'a> {
     pub ledger: &'a str,
 }
 
-/// What the files of a ledger that are asked for have behind the name of its database. (Of the parts of a journal only the names are known.)
+/// What the files of a ledger that are asked for have behind the name of its database. (Of the
+/// parts of a journal only the names are known.)
 const TAILS: [&str; 10] = [
     "",
     "-wal",
@@ -38,7 +39,8 @@ const TAILS: [&str; 10] = [
     ".data.new",
 ];
 
-/// What the file that is written has behind the report's path, before it takes the report's place, and then.
+/// What the file that is written has behind the report's path, before it takes the report's place,
+/// and then.
 const ENDS: [&str; 2] = [".new", ""];
 
 /// A path with something behind it.
@@ -118,9 +120,11 @@ fn own_files<P: Paths>(
     Ok(files)
 }
 
-/// Tests whether a report may be written to a path: by `judge`, of the path itself and of the one that is written before it takes its place.
+/// Tests whether a report may be written to a path: by `judge`, of the path itself and of the one
+/// that is written before it takes its place.
 ///
-/// Errors: `R1 OwnFile` or `R2 NoReport`; those of the file system, also where the report's folder isn't there; want of memory.
+/// Errors: `R1 OwnFile` or `R2 NoReport`; those of the file system, also where the report's folder
+/// isn't there; want of memory.
 pub fn test_path<P: Paths>(
     alloc: Global,
     paths: &P,

@@ -1,12 +1,14 @@
 //! Whether a report may take the place of what is at a path.
 ghost use Rattle.std.specs.Prelude.{◌≡◌, ◌↔◌, IsTrue};
-ghost use Rattle.dr_run_report.specs.Places.{HasRoom, IsAmong, IsFileOf, IsOwn, IsTakenBy, Judges, Takes};
+ghost use Rattle.dr_run_report.specs.Places.{HasRoom, IsAmong, IsFileOf, IsOwn, IsTakenBy};
+ghost use Rattle.dr_run_report.specs.Places.{Judges, Takes};
 
 use crate::names::is_ledger_name;
 use dr_base::Text;
 use thiserror::Error;
 
-/// What tells a file from all others of the machine: its device, and its number there. A hard link has the same one.
+/// What tells a file from all others of the machine: its device, and its number there. A hard link
+/// has the same one.
 #[derive(PartialEq, Eq, Debug, Drop)]
 pub struct FileId {
     pub device: u64,
@@ -123,7 +125,8 @@ fn has_room(found: &Found) -> bool
     }
 }
 
-/// Whether a report may be written to the place: the ledger's database stands at these spots (as it is named, and where links lead), and these are the
+/// Whether a report may be written to the place: the ledger's database stands at these spots (as it
+/// is named, and where links lead), and these are the
 /// node's own files that are there.
 ///
 /// Errors: OwnFile, NoReport.

@@ -4,14 +4,18 @@ ghost use Rattle.dr_run_report.specs.Names.{IsLedgerName, IsOwnName, IsTail};
 
 /// What follows the front, where the text begins with it.
 fn after<'a>(front: &[u8], text: &'a [u8]) -> Option<&'a [u8]>
-    ensures { MatchOption result ((rest : List ℕ) → text.now ≡ front.now ++ rest → ⊥) (λ rest. text.now ≡ front.now ++ rest.now) }
+    ensures { MatchOption result
+        ((rest : List ℕ) → text.now ≡ front.now ++ rest → ⊥)
+        (λ rest. text.now ≡ front.now ++ rest.now) }
 {
     text.strip_prefix(front)
 }
 
 /// What stands before the end, where the text ends with it.
 fn before<'a>(end: &[u8], text: &'a [u8]) -> Option<&'a [u8]>
-    ensures { MatchOption result ((rest : List ℕ) → text.now ≡ rest ++ end.now → ⊥) (λ rest. text.now ≡ rest.now ++ end.now) }
+    ensures { MatchOption result
+        ((rest : List ℕ) → text.now ≡ rest ++ end.now → ⊥)
+        (λ rest. text.now ≡ rest.now ++ end.now) }
 {
     text.strip_suffix(end)
 }
@@ -22,7 +26,8 @@ fn is_text(this: &[u8], that: &[u8]) -> bool
     this == that
 }
 
-/// Whether a file of the ledger has this behind the database's name: nothing, or what the log, the index of the log, the journal of a
+/// Whether a file of the ledger has this behind the database's name: nothing, or what the log, the
+/// index of the log, the journal of a
 /// rollback, the data sets and the journal's parts have there.
 fn is_tail(tail: &[u8]) -> bool
     ensures { IsTrue result ↔ IsTail tail.now }
@@ -58,7 +63,8 @@ fn is_own_name(database: &[u8], name: &[u8]) -> bool
     }
 }
 
-/// Whether a ledger in the database of this name takes the name, in the same folder: for itself, or while it writes such a file anew.
+/// Whether a ledger in the database of this name takes the name, in the same folder: for itself, or
+/// while it writes such a file anew.
 pub fn is_ledger_name(database: &[u8], name: &[u8]) -> bool
     ensures { IsTrue result ↔ IsLedgerName database.now name.now }
 {

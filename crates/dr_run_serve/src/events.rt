@@ -1,7 +1,9 @@
 //! What a node that runs tells of itself: events, each a line of a log.
 //!
-//! A line says what it is about (`node`, `association`, `instance`, `row`, `visit`, `queue`, `report`, `listener`) and what happened, with its parts as
-//! `key=value`. Of an instance only the UID is told. What a peer sent, as a title or a UID, goes through `Shown`, so that it can't begin a line or end a quote.
+//! A line says what it is about (`node`, `association`, `instance`, `row`, `visit`, `queue`,
+//! `report`, `listener`) and what happened, with its parts as
+//! `key=value`. Of an instance only the UID is told. What a peer sent, as a title or a UID, goes
+//! through `Shown`, so that it can't begin a line or end a quote.
 use crate::visit::Visit;
 use dr_base::Text;
 use dr_desk_workers::Tally;
@@ -214,7 +216,8 @@ pub fn tell_unwritten<G: Log>(log: &G, error: &io::Error) {
     error!(log; target: "report", "unwritten error=\"{error}\"");
 }
 
-/// Tells that the store of the node's ledger is shut: nothing can be read or written any more, and the node ends.
+/// Tells that the store of the node's ledger is shut: nothing can be read or written any more, and
+/// the node ends.
 pub fn tell_shut<G: Log>(log: &G) {
     let fault = code_of(LedgerFault::Store);
     error!(log; target: "node", "shut fault=\"{fault}\"");

@@ -5,7 +5,8 @@
 //! - `visit_each`: each hop with a due row is visited once, in order.
 //! - `events`: what is logged of associations, instances and visits. `Monitor`: a log that may want reports of what the node has too.
 //!
-//! A node whose store is shut (`shutting`) ends: its log says so once, no more connections are accepted, and those that are served end.
+//! A node whose store is shut (`shutting`) ends: its log says so once, no more connections are
+//! accepted, and those that are served end.
 //!
 //! A visit is one association for each hop (`dr_session::deliver`). Where there is no connection, or the association came to
 //! nothing, the first due row is settled as broken, so that it is due later, and each visit gets on.

@@ -61,7 +61,8 @@ fn again_at(visit: &Visit, due: u64, now: u64) -> u64
 }
 
 /// Visits a hop, if one of its rows is due; where a worker may have made one, that is looked up. After a
-/// fault it is looked at in the next round, since it isn't known what is due. That the store is shut is told by who ends the node.
+/// fault it is looked at in the next round, since it isn't known what is due. That the store is
+/// shut is told by who ends the node.
 ///
 /// Errors: those of a visit.
 fn look<R: Wait, L: Ledger, B: Sharing, N: Network, C: Clock, G: Log>(

@@ -28,7 +28,8 @@ use std::time::Duration;
 use std::{thread, time};
 use thiserror::Error;
 
-/// How many threads serve associations. Each holds its worker until it ends, also where its peer says nothing.
+/// How many threads serve associations. Each holds its worker until it ends, also where its peer
+/// says nothing.
 const WORKERS: usize = 32;
 
 /// How many connections wait for one of them; others wait to be accepted.
@@ -73,8 +74,10 @@ impl<'a, C: Clock> Clock for ClockOf<'a, C> {
     }
 }
 
-/// Accepts so many connections, or, for 0, each that comes, and hands them to the workers, until the store is shut. Of accepts that fail one after the
-/// other the first is told. Says whether there were workers: where the system gave no thread for them it accepts nothing.
+/// Accepts so many connections, or, for 0, each that comes, and hands them to the workers, until
+/// the store is shut. Of accepts that fail one after the
+/// other the first is told. Says whether there were workers: where the system gave no thread for
+/// them it accepts nothing.
 fn accept_links<
     'a,
     R: Wait + time::Clock,
@@ -386,11 +389,13 @@ fn share<
     serve_shared(rt, alloc, desk, hops, listener, links, network, clock, log)
 }
 
-/// Serves the associations that are asked for at a listener, by 32 workers, and sends what is due, by one thread: each hop with a due
+/// Serves the associations that are asked for at a listener, by 32 workers, and sends what is due,
+/// by one thread: each hop with a due
 /// row is visited once a round. It ends after so many connections (for 0 never), when these are served and one last round is
 /// made, and gives the ledger back: its journal begins with the lines that it had, and is a history of the node's site. Events are
 /// logged as they happen; where reports are wanted, the one who sends writes one at the start, every ten seconds if something has changed, and at the end.
-/// Where the store of the ledger is shut, that is logged once, and serving ends as soon as the sessions do.
+/// Where the store of the ledger is shut, that is logged once, and serving ends as soon as the
+/// sessions do.
 ///
 /// Errors: Receipt, Store, Memory.
 pub fn serve<

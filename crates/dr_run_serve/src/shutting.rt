@@ -33,7 +33,8 @@ fn is_store_fault(answer: Result<bool, LedgerFault>) -> bool
     }
 }
 
-/// Whether the store of the desk's ledger is shut, as it is after a sync that failed: then it answers Store to a call that only reads, too. A disk that
+/// Whether the store of the desk's ledger is shut, as it is after a sync that failed: then it
+/// answers Store to a call that only reads, too. A disk that
 /// is full refuses what would be written alone.
 pub fn is_shut<R: Wait, L: Ledger, B: Sharing>(rt: &R, desk: &SharedDesk<L, B>) -> bool {
     is_store_fault(desk.has(rt, desk.site().name()))
@@ -47,7 +48,8 @@ pub struct Wake<'a, D: Listening> {
 }
 
 impl<'a, D: Listening> Wake<'a, D> {
-    /// Ends the node, if its store is shut: that is told, nothing is accepted any more, and the sessions that are served end at what they hear next. Says whether
+    /// Ends the node, if its store is shut: that is told, nothing is accepted any more, and the
+    /// sessions that are served end at what they hear next. Says whether
     /// it is.
     pub fn ends<R: Wait, L: Ledger, B: Sharing, G: Log>(
         &self,

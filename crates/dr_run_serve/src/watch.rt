@@ -1,4 +1,5 @@
-//! How a node's sessions are seen: they wake the one who sends, and are logged. Where the store is shut, they end.
+//! How a node's sessions are seen: they wake the one who sends, and are logged. Where the store is
+//! shut, they end.
 use crate::events::{tell_arrival, tell_association};
 use crate::signal::Signal;
 use dr_base::Text;
@@ -8,7 +9,8 @@ use dr_session::{Ended, SessionFault};
 use log::{Log, debug};
 use std::sync::Wait;
 
-/// Rings where an arrival was answered, and logs what happens; doubts the store where it failed. No session is held.
+/// Rings where an arrival was answered, and logs what happens; doubts the store where it failed. No
+/// session is held.
 #[derive(Drop)]
 pub struct Watch<'a, R: Wait, G: Log> {
     pub rt: &'a R,

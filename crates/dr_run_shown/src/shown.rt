@@ -1,7 +1,8 @@
 //! Bytes as a line shows them.
 ghost use Rattle.std.specs.Prelude.{◌≡◌, ◌<◌, ◌≤◌, ◌/◌, ◌%◌, ◌∷◌, ◌++◌, [], codes, length, take};
 ghost use Rattle.std.specs.Fmt.{WritesOnOk};
-ghost use Rattle.dr_run_shown.specs.Showing.{escaped, hex_digit, hex_escape, is_plain, shown, shown_byte};
+ghost use Rattle.dr_run_shown.specs.Showing.{escaped, hex_digit, hex_escape};
+ghost use Rattle.dr_run_shown.specs.Showing.{is_plain, shown, shown_byte};
 
 use std::fmt;
 use std::fmt::{Display, Formatter};
@@ -54,7 +55,8 @@ fn write_behind<W: fmt::Write>(f: &mut Formatter<W>, byte: u8) -> fmt::Result
 
 /// Both hexadecimal digits of a byte.
 fn write_digits<W: fmt::Write>(f: &mut Formatter<W>, byte: u8) -> fmt::Result
-    ensures { WritesOnOk W.write_str_gives f.old result (hex_digit (byte / 16) ∷ hex_digit (byte % 16) ∷ []) f.new }
+    ensures { WritesOnOk W.write_str_gives f.old result
+        (hex_digit (byte / 16) ∷ hex_digit (byte % 16) ∷ []) f.new }
 {
     write_byte(f, hex_digit(byte / 16))?;
     write_byte(f, hex_digit(byte % 16))
@@ -102,7 +104,8 @@ fn first_bytes(bytes: &[u8]) -> &[u8]
 /// What is longer is cut, and a mark says so, which no text has.
 fn write_cut<W: fmt::Write>(f: &mut Formatter<W>, bytes: &[u8]) -> fmt::Result
     requires { 128 < length bytes.now }
-    ensures { WritesOnOk W.write_str_gives f.old result (escaped (take 128 bytes.now) ++ codes "\\..") f.new }
+    ensures { WritesOnOk W.write_str_gives f.old result
+        (escaped (take 128 bytes.now) ++ codes "\\..") f.new }
 {
     write_escaped(f, first_bytes(bytes))?;
     f.write_str("\\..")

@@ -3,3 +3,4 @@ pub mod Assembled
 pub mod ContextsAsPlanned
 pub mod FormedSites
 pub mod Looking
+pub mod Shown

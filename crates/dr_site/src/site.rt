@@ -128,6 +128,15 @@ impl Site {
             hops,
             literals,
         };
+        let site = Site::of_parts(alloc, parts)?;
+        Ok(site)
+    }
+
+    /// The site of these parts, on the heap.
+    fn of_parts(alloc: Global, parts: Parts) -> Result<Site, AllocError>
+        requires { IsSite (record { name = parts.name; max_pdu = parts.max_pdu; digest = parts.digest; rules = parts.rules; accepts = parts.accepts; flows = parts.flows; lines = parts.lines.items; hops = parts.hops; literals = parts.literals }) }
+        ensures { IfOk result (λ s. s ≡ record { name = parts.name; max_pdu = parts.max_pdu; digest = parts.digest; rules = parts.rules; accepts = parts.accepts; flows = parts.flows; lines = parts.lines.items; hops = parts.hops; literals = parts.literals }) }
+    {
         let parts = boxed(alloc, parts)?;
         Ok(Site { parts })
     }

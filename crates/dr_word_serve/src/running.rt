@@ -195,7 +195,8 @@ where
     )
 }
 
-/// Tests, before anything is opened, that a report takes no place of the node's own files, nor that of a file that isn't a report.
+/// Tests, before anything is opened, that a report takes no place of the node's own files, nor that
+/// of a file that isn't a report.
 ///
 /// Errors: File, with the report's path.
 fn test_report<'a, P: Paths>(
@@ -222,7 +223,8 @@ fn test_report<'a, P: Paths>(
 /// (for 0 never) the node's report is printed. Events are logged as they happen; where a file is named for it, the report is written there too,
 /// at most every ten seconds.
 ///
-/// Errors: Stream, File; File with the node's name where its address can't be listened at, and with the report's path where no report may be written there.
+/// Errors: Stream, File; File with the node's name where its address can't be listened at, and with
+/// the report's path where no report may be written there.
 pub fn serve_files<
     'a,
     R: Threads + Wait + Sync + time::Clock,
