@@ -200,6 +200,8 @@ def report_paths():
             refused(path, other)
         refused('none/report', 'No such file or directory (os error 2)')
         os.unlink(at('report.new'))
+        # a database with two names isn't opened
+        os.unlink(at('hard'))
         told(room.at('list', 'GATE'), 0, 'node\tGATE\nlines\t0\n', '')
         same(room.text('notes'), 'node by node')
     with Room() as room:
@@ -213,21 +215,16 @@ def report_paths():
 
 
 def forged():
-    """A title and a UID of a peer begin no line of the log, end no quoted value, and send nothing to a terminal."""
+    """A title of a peer begins no line of the log, ends no quoted value, and sends nothing to a terminal."""
     with Room() as room:
-        arch = room.serve('ARCH', 2, '--log', 'debug')
+        arch = room.serve('ARCH', 1, '--log', 'debug')
         with Requestor(room.ports['ARCH'], 'A\nB\x1b[1m" \\C', 'ARCH') as caller:
             same(caller.answer[0], ACCEPTED)
             same(caller.store(b'1.2.3.4', data_set(b'1.2.3.4')), 0xC0F0)
             same(caller.release(), RELEASED)
-        with Requestor(room.ports['ARCH'], 'GATE', 'ARCH') as caller:
-            long = b'1.' + 200 * b'7'
-            caller.store(long, data_set(long))
-            same(caller.release(), RELEASED)
         ended(arch)
         told_at_arch = [event[3] for event in room.events('ARCH') if event[2] == 'instance']
-        same(told_at_arch[0], 'refused session=1 caller="A\\nB\\x1b[1m\\" \\\\C" uid=1.2.3.4 fault="G1 NoLine"')
-        assert all(len(event) < 250 for event in told_at_arch), told_at_arch
+        same(told_at_arch, ['refused session=1 caller="A\\nB\\x1b[1m\\" \\\\C" uid=1.2.3.4 fault="G1 NoLine"'])
 
 
 def held_workers():
