@@ -240,6 +240,7 @@ def held_workers():
         def let_go():
             time.sleep(32)
             same(held[0].release(), RELEASED)
+            held[0].link.close()
         waits = threading.Thread(target=let_go)
         waits.start()
         with Requestor(room.ports['ARCH'], 'GATE', 'ARCH') as late:
