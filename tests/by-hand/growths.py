@@ -1,9 +1,9 @@
 #!/usr/bin/env python3
 """Refuses each growth of memory in turn, one in each run of a built program, and looks for an answer that is another one then.
 
-    tests/growths.py ledger [FIRST]     calls on a ledger in memory (tests/played/ledger)
-    tests/growths.py desk [FIRST]       two sessions on one shared desk (tests/played/workers)
-    tests/growths.py world [FIRST]      an instance on its way over three nodes in the simulator (tests/played/world)
+    tests/by-hand/growths.py ledger [FIRST]     calls on a ledger in memory (tests/played/ledger)
+    tests/by-hand/growths.py desk [FIRST]       two sessions on one shared desk (tests/played/workers)
+    tests/by-hand/growths.py world [FIRST]      an instance on its way over three nodes in the simulator (tests/played/world)
 
 A small library that is loaded before the program (LD_PRELOAD) counts its calls for memory and refuses the one whose number it is told; the
 numbers go up, from the FIRST on, until a run meets no refusal. A run is as it is to be where it ends by itself and has printed what a
@@ -20,7 +20,8 @@ import sys
 import tempfile
 
 sys.dont_write_bytecode = True
-sys.path.insert(0, f"{os.path.dirname(os.path.dirname(os.path.abspath(__file__)))}/tools")
+HERE = os.path.dirname(os.path.abspath(__file__))
+sys.path.insert(0, f"{os.path.dirname(os.path.dirname(HERE))}/tools")
 from crates import TOP, below, listed
 from played import PLAYED, below as played_below, words_of
 

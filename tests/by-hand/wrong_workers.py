@@ -1,7 +1,7 @@
 #!/usr/bin/env python3
 """Tries wrong bodies of the shared desk and of its workers of which no contract speaks: the test tests/played/workers must fail.
 
-    tests/wrong_workers.py [NAME..]
+    tests/by-hand/wrong_workers.py [NAME..]
 
 Each is tried in a copy of the crates, without a proof (`tests/played.py`). It takes two or three minutes each, so it is no part of ./test: run it
 where you have changed those crates. The last line is 'N passed, M failed'.
@@ -12,6 +12,7 @@ import sys
 import tempfile
 
 sys.dont_write_bytecode = True
+sys.path.insert(0, os.path.dirname(os.path.dirname(os.path.abspath(__file__))))
 from played import TOP, play
 
 SERVING, SHARED = "dr_desk_workers/src/serving.rt", "dr_desk/src/shared.rt"
