@@ -47,7 +47,7 @@ def moment():
     try:
         return int(given or printed("git", "log", "-1", "--format=%ct"))
     except (OSError, ValueError, subprocess.CalledProcessError) as fault:
-        raise Refused("P6 NoMoment: git tells no last commit, and SOURCE_DATE_EPOCH isn't set") from fault
+        raise Refused("X6 NoMoment: git tells no last commit, and SOURCE_DATE_EPOCH isn't set") from fault
 
 
 def told(text):
@@ -58,13 +58,13 @@ def told(text):
 def gate_of(log):
     """What the log of a gate says: its sources, its kit, its program's digest, and its closing line."""
     if not os.path.isfile(log):
-        raise Refused(f"P1 NoGate: {log} isn't there; ./test leaves it when it has passed")
+        raise Refused(f"X1 NoGate: {log} isn't there; ./test leaves it when it has passed")
     text = content(log).decode(errors="replace").rstrip("\n")
     found, last = told(text), text.rpartition("\n")[2]
     if not CLOSING.fullmatch(last):
-        raise Refused(f"P1 NoGate: {log} doesn't end in 'N passed, 0 failed'")
+        raise Refused(f"X1 NoGate: {log} doesn't end in 'N passed, 0 failed'")
     if not all(key in found for key in ("sources", "kit", "program")):
-        raise Refused(f"P1 NoGate: {log} doesn't name its sources, its kit and its program")
+        raise Refused(f"X1 NoGate: {log} doesn't name its sources, its kit and its program")
     return {**found, "gate": last}
 
 
@@ -78,16 +78,16 @@ def statement(program, log):
     """What a release is made from, as text; refused where the gate of the log was another one's."""
     gate = gate_of(log)
     if gate["sources"] != printed("tools/sources"):
-        raise Refused("P2 OtherSources: the gate has passed for other sources than the checkout's")
+        raise Refused("X2 OtherSources: the gate has passed for other sources than the checkout's")
     if gate["program"] != digest(program):
-        raise Refused("P3 OtherProgram: the gate has built another program")
+        raise Refused("X3 OtherProgram: the gate has built another program")
     return statement_of(gate, version())
 
 
 def libc_of(program):
     """The version of the C library that the program asks for at least."""
     if program[:4] != b"\x7fELF" or program[18:20] != b"\x3e\x00":
-        raise Refused("P4 NoProgram: the program isn't one for x86-64")
+        raise Refused("X4 NoProgram: the program isn't one for x86-64")
     wanted = re.findall(rb"GLIBC_(\d+)\.(\d+)", program)
     return max(((int(major), int(minor)) for major, minor in wanted), default=(2, 31))
 
@@ -119,7 +119,7 @@ def unit():
     """The unit with the program where the package puts it."""
     text = part("dr_router@.service")
     if text.count(b"/usr/local/bin/dr_router") != 3:
-        raise Refused("P5 Unit: the unit doesn't name the program in three places")
+        raise Refused("X5 Unit: the unit doesn't name the program in three places")
     return text.replace(b"/usr/local/bin/dr_router", b"/usr/bin/dr_router")
 
 

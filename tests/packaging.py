@@ -102,9 +102,9 @@ def refused_builds():
     """No release is made where no gate has passed for these sources and this program."""
     program = release.content(PROGRAM)
     with tempfile.TemporaryDirectory() as folder:
-        for log, fault in ((gate_log(program, '11 passed, 1 failed'), 'P1 NoGate'), (gate_log(program, '0 passed, 0 failed'), 'P1 NoGate'),
-                           (gate_log(program) + 'more\n', 'P1 NoGate'), (f'{CLOSING}\n', 'P1 NoGate'), ('', 'P1 NoGate'),
-                           (gate_log(program, sources=64 * '0'), 'P2 OtherSources'), (gate_log(program + b'\0'), 'P3 OtherProgram')):
+        for log, fault in ((gate_log(program, '11 passed, 1 failed'), 'X1 NoGate'), (gate_log(program, '0 passed, 0 failed'), 'X1 NoGate'),
+                           (gate_log(program) + 'more\n', 'X1 NoGate'), (f'{CLOSING}\n', 'X1 NoGate'), ('', 'X1 NoGate'),
+                           (gate_log(program, sources=64 * '0'), 'X2 OtherSources'), (gate_log(program + b'\0'), 'X3 OtherProgram')):
             ended = build(folder, 'none', log)
             same((ended.returncode, ended.stdout, ended.stderr.startswith(f'packaging: {fault}: ')), (1, '', True))
         same(os.path.exists(f'{folder}/none'), False)
@@ -148,21 +148,21 @@ def releases_of_a_checkout():
         same((told.returncode, told.stdout.decode()), (0, wanted))
         says = release.content(f'{unpacked}/STATEMENT')
         put(f'{unpacked}/STATEMENT', says.replace(CLOSING.encode(), b'11 passed, 1 failed'))
-        refuses('R1 NoStatement')
+        refuses('V1 NoStatement')
         os.remove(f'{unpacked}/STATEMENT')
-        refuses('R1 NoStatement')
+        refuses('V1 NoStatement')
         put(f'{unpacked}/STATEMENT', says)
         put(f'{unpacked}/dr_router', program + b'\0')
-        refuses('R3 OtherProgram')
+        refuses('V3 OtherProgram')
         put(f'{unpacked}/dr_router', program)
         same(run('check', plan).returncode, 0)
         for path in 'crates/dr_base/src/lib.rt', 'crates/dr_router/src/main.rt', 'crates.txt', 'HANDLES':
             text = release.content(f'{folder}/here/{path}')
             put(f'{folder}/here/{path}', text + b'\n')
-            refuses('R2 OtherSources')
+            refuses('V2 OtherSources')
             put(f'{folder}/here/{path}', text)
         put(f'{folder}/here/crates/dr_base/src/more.rt', b'')
-        refuses('R2 OtherSources')
+        refuses('V2 OtherSources')
 
 
 def one_library():

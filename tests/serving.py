@@ -164,7 +164,7 @@ def reports():
 
 def report_paths():
     """A report takes the place of no file of the node's own, by whatever path that is named, and of no other file that isn't a report."""
-    own, other = 'R1 OwnFile', 'R2 NoReport'
+    own, other = 'Q1 OwnFile', 'Q2 NoReport'
     tails = ['', '-wal', '-shm', '-journal', '.data', '.journal.1']
     with Room() as room:
         def refused(path, fault, ledger=None):

@@ -54,8 +54,8 @@ fn path_of(alloc: Global, path: &str, tail: &str) -> Result<String, AllocError> 
 /// A fault as an error of the file that it is about.
 fn error_of(fault: ReportFault) -> io::Error {
     match fault {
-        ReportFault::OwnFile => io::Error::new(ErrorKind::InvalidInput, "R1 OwnFile"),
-        ReportFault::NoReport => io::Error::new(ErrorKind::InvalidInput, "R2 NoReport"),
+        ReportFault::OwnFile => io::Error::new(ErrorKind::InvalidInput, "Q1 OwnFile"),
+        ReportFault::NoReport => io::Error::new(ErrorKind::InvalidInput, "Q2 NoReport"),
     }
 }
 
@@ -123,7 +123,7 @@ fn own_files<P: Paths>(
 /// Tests whether a report may be written to a path: by `judge`, of the path itself and of the one
 /// that is written before it takes its place.
 ///
-/// Errors: `R1 OwnFile` or `R2 NoReport`; those of the file system, also where the report's folder
+/// Errors: `Q1 OwnFile` or `Q2 NoReport`; those of the file system, also where the report's folder
 /// isn't there; want of memory.
 pub fn test_path<P: Paths>(
     alloc: Global,

@@ -44,10 +44,10 @@ pub struct Place {
 #[derive(Clone, Copy, PartialEq, Eq, Debug, Error)]
 pub enum ReportFault {
     /// The ledger takes the file or the name, or it is the plan or the certificate.
-    #[error("R1 OwnFile")]
+    #[error("Q1 OwnFile")]
     OwnFile,
     /// What is there isn't a report.
-    #[error("R2 NoReport")]
+    #[error("Q2 NoReport")]
     NoReport,
 }
 
