@@ -194,7 +194,7 @@ def main():
         return
     if subprocess.run([f'{TOP}/dr_router', 'simulate', '--help'], stdout=subprocess.DEVNULL).returncode != 0:
         sys.exit('the program is not built')
-    if not os.access(CERTIFIER, os.X_OK) and subprocess.run([f'{TOP}/build/program.py', 'dr_certifier', os.devnull]).returncode != 0:
+    if not os.access(CERTIFIER, os.X_OK) and subprocess.run([f'{TOP}/tools/program.py', 'dr_certifier', os.devnull]).returncode != 0:
         sys.exit('the program of the first certificate is not built')
     room = tempfile.mkdtemp(prefix='plans-')
     it = Comparison(room)
