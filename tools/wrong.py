@@ -169,6 +169,31 @@ def merged(edits):
     return texts
 
 
+# The names by which the prover knows functions, where these aren't the ones that their places give: the name of a method of some instances
+# of a type has these in it, as in `step::Assoc+ReleaseAsked::may_send`.
+KNOWN = {}
+
+
+def is_own(name, function):
+    """Whether what the prover names is this function, or in it."""
+    plain = re.sub(r"\+\w+", "", name)
+    return plain == function or plain.startswith(f"{function}::")
+
+
+def learn(function, crate, said):
+    """Learns from the prover's refusal of a name by which names it knows the function; whether it told something new."""
+    end = function.split("::")[-1]
+    if f"no function `{function}`" in said and (crate, function) not in KNOWN:
+        KNOWN[crate, function] = [end]
+        return True
+    several = re.search(rf"several functions are named `{end}`: help: write one of (.*)", said)
+    if several and KNOWN.get((crate, function)) == [end]:
+        names = [it.removeprefix(f"{crate}::") for it in re.findall(r"`([^`]+)`", several[1])]
+        KNOWN[crate, function] = [it for it in names if is_own(it, function)] or [function.split("::")[0]]
+        return True
+    return False
+
+
 def check(crate, texts, functions, kept):
     """Checks the crate with these texts in place of its own, whole or these functions of it; the status and the lines that it said."""
     with tempfile.TemporaryDirectory(prefix="wrong-") as room:
@@ -176,10 +201,13 @@ def check(crate, texts, functions, kept):
         for path, text in texts.items():
             with open(f"{room}/{path}", "w", encoding="utf-8") as file:
                 file.write(text)
-        only = [word for name in sorted(functions) for word in ("--only", name)]
-        ran = subprocess.run([prover(), "check", *words_of(crate), "--incremental", kept, *only], cwd=room,
-                             stdin=subprocess.DEVNULL, stdout=subprocess.PIPE, stderr=subprocess.STDOUT, text=True, errors="replace")
-        return ran.returncode, ran.stdout.rstrip("\n").split("\n")
+        while True:
+            asked = [name for function in sorted(functions) for name in KNOWN.get((crate, function), [function])]
+            only = [word for name in asked for word in ("--only", name)]
+            ran = subprocess.run([prover(), "check", *words_of(crate), "--incremental", kept, *only], cwd=room,
+                                 stdin=subprocess.DEVNULL, stdout=subprocess.PIPE, stderr=subprocess.STDOUT, text=True, errors="replace")
+            if ran.returncode != 2 or not any([learn(it, crate, ran.stdout) for it in functions]):
+                return ran.returncode, ran.stdout.rstrip("\n").split("\n")
 
 
 def is_unread(line, texts):
@@ -224,7 +252,7 @@ def reason(lines):
 def judge(edit, status, lines, crate):
     """What a check came to for an edit of functions."""
     refused = refused_among(lines, crate)
-    own = {name: why for name, why in refused.items() if any(name == it or name.startswith(f"{it}::") for it in edit.functions)}
+    own = {name: why for name, why in refused.items() if any(is_own(name, it) for it in edit.functions)}
     if own:
         name, why = next(iter(own.items()))
         by_limit = "by a limit of the prover, " if status == 3 and any(LIMITS.search(it) for it in lines) else ""
