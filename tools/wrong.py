@@ -175,9 +175,11 @@ KNOWN = {}
 
 
 def is_own(name, function):
-    """Whether what the prover names is this function, or in it."""
-    plain = re.sub(r"\+\w+", "", name)
-    return plain == function or plain.startswith(f"{function}::")
+    """Whether what the prover names is this function, or in it. A method has the module of its type there, and not that of its `impl`."""
+    plain, parts = re.sub(r"\+\w+", "", name), function.split("::")
+    is_method = len(parts) > 2 and parts[-2][:1].isupper()
+    tail = "::".join(parts[-2:])
+    return plain == function or plain.startswith(f"{function}::") or is_method and f"::{tail}::" in f"::{plain}::"
 
 
 def learn(function, crate, said):
