@@ -87,7 +87,10 @@ def block_of(header):
         return words[words.index("trait") + 1].strip(":")
     last = lambda it: re.sub(r"[^\w]", "", it.split("::")[-1])
     if "for" in words:
-        return last(words[words.index("for") + 1].lstrip("&")) + last(words[words.index("for") - 1])
+        trait = last(words[words.index("for") - 1])
+        given = re.search(rf"\b{trait}<([^>]*)>\s+for\b", header)
+        of_trait = "".join(last(it.split("<")[0]) for it in given[1].split(",")) if given else ""
+        return last(words[words.index("for") + 1].lstrip("&")) + trait + of_trait
     return last(words[-1])
 
 
