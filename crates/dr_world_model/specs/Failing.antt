@@ -1,5 +1,5 @@
 -- For each claim of the headline a world of which it is false, so that none of them is said of every world.
-use Rattle.std.specs.Prelude.{◌≡◌, ◌≢◌, ℕ, true, List, [], ◌∷◌, cond}
+use Rattle.std.specs.Prelude.{◌≡◌, ◌≢◌, ℕ, true, false, List, [], ◌∷◌, cond}
 use Rattle.std.specs.FinMap as map
 use Rattle.std.specs.FinMap.{FinMap}
 use Rattle.std.specs.FinSet as set
@@ -10,10 +10,10 @@ use Rattle.dr_route.specs.Routes.{local}
 use Rattle.dr_plan_model.specs.Networks.{Network}
 use Rattle.dr_plan_model.specs.Walks.{GoesOver}
 use Rattle.dr_ledger.specs.declared.item.Instance.{Instance}
-use Rattle.dr_ledger.specs.declared.item.Outcome.TheVariants.{NoContext}
+use Rattle.dr_ledger.specs.declared.item.Outcome.TheVariants.{NoContext, Status}
 use Rattle.dr_ledger.specs.declared.item.Progress.{Progress}
 use Rattle.dr_ledger.specs.declared.item.Progress.TheVariants.{Done}
-use Rattle.dr_ledger.specs.Books.{Book, Settling}
+use Rattle.dr_ledger.specs.Books.{Book, Arrival, Forgetting, Settling, empty_book}
 use Rattle.dr_ledger.specs.Pairs.{pair_cmp}
 use Rattle.dr_world_model.specs.Worlds.{World, Link, Stage, Open, Replying, same_text, start, with_book, with_link}
 use Rattle.dr_world_model.specs.Claims.{NoneRefused, WithinRank, IsHonest, NothingLost}
@@ -25,7 +25,7 @@ brought_by caller item rows kept = record {
   arrivals = set.insert set.empty (caller, item.uid);
   kept = kept;
   rows = rows;
-  lines = [];
+  lines = Arrival caller item [] false ∷ [];
 }
 
 -- the world in which one node alone has a book
@@ -53,6 +53,16 @@ come_from_nowhere caller name item = only name (brought_by caller item map.empty
 abbrev pub done_for_nothing : Text → Text → Instance → World
 done_for_nothing name to item = only name (brought_by name item (map.insert map.empty (item.uid, to) Done) set.empty)
 
+-- against claim 3: a journal notes a success, its row is forgotten, and the node that it was for had no arrival
+abbrev pub answered_for_nothing : Text → Text → Instance → World
+answered_for_nothing name to item = only name (record {
+  items = map.empty;
+  arrivals = set.empty;
+  kept = set.empty;
+  rows = map.empty;
+  lines = Arrival name item [] false ∷ Settling item.uid to (Status 0) 0 ∷ Forgetting item.uid ∷ [];
+})
+
 -- against claim 3: success is under way on a link, and its receiver has no arrival
 abbrev pub success_for_nothing : Text → Text → Instance → World
 success_for_nothing caller receiver item = with_link start 1 (link_at caller receiver (Replying set.empty item 0))
@@ -60,6 +70,11 @@ success_for_nothing caller receiver item = with_link start 1 (link_at caller rec
 -- against claim 4: the one row of an arrival is done, and no other node has anything
 abbrev pub done_and_gone : Text → Text → Text → Instance → World
 done_and_gone caller name to item = only name (brought_by caller item (map.insert map.empty (item.uid, to) Done) set.empty)
+
+-- against claim 4: what was acknowledged was forgotten, and no other node has anything
+abbrev pub forgotten_too_early : Text → Text → Instance → World
+forgotten_too_early caller name item =
+    only name (record { items = map.empty; arrivals = set.empty; kept = set.empty; rows = map.empty; lines = Arrival caller item [] false ∷ Forgetting item.uid ∷ [] })
 
 -- a book that keeps another item under the uid
 abbrev pub keeps_instead : Text → Instance → Book
@@ -71,7 +86,7 @@ abbrev pub kept_as_another : Text → Text → Instance → Instance → World
 kept_as_another caller name item other = record {
   time = 0;
   books = λ at. cond (same_text at name) (brought_by caller item map.empty set.empty) (keeps_instead item.uid other);
-  carried_over = λ at. map.empty;
+  stood = λ at. empty_book;
   armed = set.empty;
   links = map.empty;
   opened = 0;
@@ -83,8 +98,10 @@ pub record ClaimsFail (plan : Network) (caller name to : Text) (item other : Ins
   pub without_pairs : (pair : Text × Syntax) → GoesOver plan caller name pair → NoneRefused plan (opened_without_pairs caller name) → ⊥
   pub from_nowhere : WithinRank plan (come_from_nowhere caller name item) → ⊥
   pub done : IsHonest plan (done_for_nothing name to item) → ⊥
+  pub answered : IsHonest plan (answered_for_nothing name to item) → ⊥
   pub success : IsHonest plan (success_for_nothing caller name item) → ⊥
   pub gone : NothingLost plan (done_and_gone caller name to item) → ⊥
+  pub forgotten : NothingLost plan (forgotten_too_early caller name item) → ⊥
   pub kept : NothingLost plan (kept_as_another caller name item other) → ⊥
 
 -- each claim is false of some world, over every plan, where the caller is no local one and nodes and items differ
