@@ -29,7 +29,7 @@ use crate::waiting::first_due;
 use dr_base::{Seq, Text};
 use dr_cert::Sealed;
 use dr_ledger::{
-    Arrived, Cause, Entry, Instance, Item, Job, Ledger, LedgerFault, Outcome, Progress, moved,
+    Arrived, Cause, Entry, Instance, Item, Job, Ledger, LedgerFault, LetsGo, Outcome, Progress, moved,
 };
 use dr_site::Site;
 use std::alloc::{AllocError, Global};
@@ -543,14 +543,6 @@ impl Ledger for MemoryLedger {
         self.requeue_at(uid, dest)
     }
 
-    fn forget(&mut self, uid: &Text) -> Result<(), LedgerFault> {
-        self.forget_at(uid)
-    }
-
-    fn is_over(&mut self, uid: &Text) -> Result<bool, LedgerFault> {
-        Ok(self.is_over_with(uid))
-    }
-
     fn admits(&mut self, caller: &Text, item: &Item) -> Result<(), LedgerFault> {
         self.test(caller, item)
     }
@@ -597,5 +589,15 @@ impl Ledger for MemoryLedger {
 
     fn failures(&self) -> u64 {
         0
+    }
+}
+
+impl LetsGo for MemoryLedger {
+    fn forget(&mut self, uid: &Text) -> Result<(), LedgerFault> {
+        self.forget_at(uid)
+    }
+
+    fn is_over(&mut self, uid: &Text) -> Result<bool, LedgerFault> {
+        Ok(self.is_over_with(uid))
     }
 }

@@ -1,5 +1,5 @@
 use Rattle.dr_ledger_memory.proofs.Always.{arms, counts, lasts}
-use Rattle.dr_ledger_memory.proofs.ledger.MemoryLedgerLedger.forget.Goals as goal
+use Rattle.dr_ledger_memory.proofs.ledger.MemoryLedgerLetsGo.forget.Goals as goal
 
 -- by hand: the search loses itself in what the trait asks
 pub returns : goal.returns

@@ -1,6 +1,6 @@
 use Rattle.std.proofs.Common.{Ok, refl}
 use Rattle.dr_ledger_memory.proofs.Always.{counts, lasts}
-use Rattle.dr_ledger_memory.proofs.ledger.MemoryLedgerLedger.is_over.Goals as goal
+use Rattle.dr_ledger_memory.proofs.ledger.MemoryLedgerLetsGo.is_over.Goals as goal
 
 -- by hand: the search loses itself in what the trait asks
 pub returns : goal.returns
