@@ -10,7 +10,7 @@ use Rattle.dr_session.specs.declared.ends.Core.{Core}
 use Rattle.dr_session.specs.declared.ends.Effect.{Effect}
 use Rattle.dr_session.specs.declared.ends.LinkAction.{LinkAction}
 use Rattle.dr_session.specs.declared.ends.Moment.{Moment}
-use Rattle.dr_session.specs.Reactions.{Reaction, awaiting, effect, gives_in, id_after, pending, store_pdus, write}
+use Rattle.dr_session.specs.Reactions.{Reaction, awaiting, effect, gives_in, id_after, store_pdus, storing, write}
 use Rattle.dr_session.specs.Turns.{Ends}
 
 same_effect : (said act : LinkAction) (x y : Core) → said ≡ act → x ≡ y → effect (said ∷ []) x ≡ effect (act ∷ []) y
@@ -40,11 +40,13 @@ stored_by o agreed (Err f) context id job some h = tt
 
 pub gave : (r : Result Effect AllocError) (core x : Core) (context id : ℕ) (at : Moment) (job : Job) (uid : Text) (said : LinkAction)
     → IfOk r (λ (e : Effect). e ≡ effect (said ∷ []) x) → ((agreed : Agreed) → core.agreed ≡ Some agreed → said ≡ write (store_pdus agreed context id job))
-    → id ≡ id_after core.last → x ≡ awaiting (pending id uid) at.now core → uid ≡ job.uid
+    → id ≡ id_after core.last → x ≡ awaiting (storing id context uid) at.now core → uid ≡ job.uid
     → IfOk r (λ (e : Effect). (agreed : Agreed) → core.agreed ≡ Some agreed → gives_in (Some context) agreed at job core ≡ Ends e)
 gave (Ok e) core x context id at job uid said h says id_is x_is uid_is = λ agreed some.
     let act : said ≡ write (store_pdus agreed context (id_after core.last) job) = says agreed some ∙ ap (λ (i : ℕ). write (store_pdus agreed context i job)) id_is in
-    let after : x ≡ awaiting (pending (id_after core.last) job.uid) at.now core =
-    x_is ∙ (ap (λ (i : ℕ). awaiting (pending i uid) at.now core) id_is ∙ ap (λ (u : Text). awaiting (pending (id_after core.last) u) at.now core) uid_is) in
-    sym (ap (λ (d : Effect). ended d) (h ∙ same_effect said (write (store_pdus agreed context (id_after core.last) job)) x (awaiting (pending (id_after core.last) job.uid) at.now core) act after))
+    let after : x ≡ awaiting (storing (id_after core.last) context job.uid) at.now core =
+    x_is ∙ (ap (λ (i : ℕ). awaiting (storing i context uid) at.now core) id_is
+    ∙ ap (λ (u : Text). awaiting (storing (id_after core.last) context u) at.now core) uid_is) in
+    sym (ap (λ (d : Effect). ended d) (h ∙ same_effect said (write (store_pdus agreed context (id_after core.last) job)) x
+        (awaiting (storing (id_after core.last) context job.uid) at.now core) act after))
 gave (Err f) core x context id at job uid said h says id_is x_is uid_is = tt

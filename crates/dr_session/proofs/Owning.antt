@@ -13,7 +13,6 @@ use Rattle.dr_ulstate.specs.Phases.{next_stepped}
 use Rattle.dr_pdu.specs.declared.pdu.Pdu.TheVariants as pdu
 use Rattle.dr_dimse.specs.declared.command.Command.{Command}
 use Rattle.dr_dimse.specs.declared.command.Command.TheVariants.{StoreRq, StoreRsp, EchoRq, EchoRsp, Other}
-use Rattle.dr_dimse.specs.Commands as commands
 use Rattle.dr_site.specs.Parts.{Part}
 use Rattle.dr_ledger.specs.declared.content.Job.{Job}
 use Rattle.dr_ledger.specs.declared.item.Arrived.{Arrived}
@@ -38,7 +37,7 @@ use Rattle.dr_session.specs.declared.ends.Pending.{Pending}
 use Rattle.dr_session.specs.declared.ends.Told.{Told}
 use Rattle.dr_session.specs.declared.ends.Told.TheVariants.{Plain, Quiet, Fault, Strange, Store, Whole, Agreement}
 use Rattle.dr_session.specs.Desks.{DeskAnswer, Arrive, Arrival, Upcoming, Settling}
-use Rattle.dr_session.specs.Reactions.{Reaction, turn, occurs, moves, acts, hears, stores, stored, status_of, arrives, brings, is_named, requested, requested_other, replied, decides, decides_at, rj, agrees, can_be_named, due, gives, gives_in, refused, leaves, leaves_by, aborts, aborts_desk, abort_pdu, aborted, released, desk_failed, settled_with, left, stepped_by, noted, reason_of, settling, arrival, job, write, effect, quiet, is_requestor, is_taken, event_of, rejected as marked}
+use Rattle.dr_session.specs.Reactions.{Reaction, turn, occurs, moves, acts, hears, stores, stored, status_of, arrives, brings, is_named, requested, requested_other, replied, settles_by, status_for, decides, decides_at, rj, agrees, can_be_named, due, gives, gives_in, refused, leaves, leaves_by, aborts, aborts_desk, abort_pdu, aborted, released, desk_failed, settled_with, left, stepped_by, noted, reason_of, settling, arrival, job, write, effect, quiet, is_requestor, is_taken, event_of, rejected as marked}
 use Rattle.dr_session.specs.declared.ends.LinkAction.TheVariants.{Close}
 use Rattle.dr_session.specs.Turns.{Ends, Asks}
 use Rattle.dr_session.specs.Laws.{Given, Pends, SettlesOwn, SettlesOwnAlone}
@@ -118,17 +117,22 @@ deciding_at : (site : Option Part) (at : Moment) (rq : AssociateRq) (c : Core) �
 deciding_at (Some site) at rq c = deciding (answer rq site at.others) at rq c
 deciding_at None at rq c = tt
 
-replying : (p : Option Pending) (status : Option ℕ) (at : Moment) (c : Core) → c.pending ≡ p → SettlesOwn (replied p status at c) c.peer at.now (λ uid. Pends p uid)
-replying (Some p) (Some status) at c is =
+settling_by : (p : Pending) (status : Option ℕ) (at : Moment) (c : Core) → c.pending ≡ Some p →
+    SettlesOwn (settles_by p status at c) c.peer at.now (λ uid. Pends (Some p) uid)
+settling_by p (Some status) at c is =
     (refl, refl, refl, λ reply. settled c.peer at.now (Ends (effect [] (settled_with c))) (aborts_desk at c) (λ uid. uid ≡ p.uid) tt tt reply)
-replying (Some p) None at c is = subst (λ (o : Option Pending). SettlesOwn (aborts at c) c.peer at.now (λ uid. Pends o uid)) is (aborting at c)
-replying None status at c is = subst (λ (o : Option Pending). SettlesOwn (aborts at c) c.peer at.now (λ uid. Pends o uid)) is (aborting at c)
+settling_by p None at c is = subst (λ (o : Option Pending). SettlesOwn (aborts at c) c.peer at.now (λ uid. Pends o uid)) is (aborting at c)
+
+replying : (p : Option Pending) (context : ℕ) (command : Command) (at : Moment) (c : Core) → c.pending ≡ p →
+    SettlesOwn (replied p context command at c) c.peer at.now (λ uid. Pends p uid)
+replying (Some p) context command at c is = settling_by p (status_for p context command) at c is
+replying None context command at c is = subst (λ (o : Option Pending). SettlesOwn (aborts at c) c.peer at.now (λ uid. Pends o uid)) is (aborting at c)
 
 hearing : (told : Told) (at : Moment) (c : Core) → SettlesOwn (hears told at c) c.peer at.now (λ uid. Pends c.pending uid)
 hearing (Store context of id class instance found) at c = storing c.peer at.now c context of id class instance found (λ uid. Pends c.pending uid)
 hearing (Whole context of command) at c =
-    either c.peer at.now (is_requestor c) (replied c.pending (commands.status_of command) at c) (requested c context of command) (λ uid. Pends c.pending uid)
-    (replying c.pending (commands.status_of command) at c refl) (asked c.peer at.now c context of command (λ uid. Pends c.pending uid))
+    either c.peer at.now (is_requestor c) (replied c.pending context command at c) (requested c context of command) (λ uid. Pends c.pending uid)
+    (replying c.pending context command at c refl) (asked c.peer at.now c context of command (λ uid. Pends c.pending uid))
 hearing Fault at c = aborting at c
 hearing (Plain i) at c = tt
 hearing Quiet at c = tt

@@ -16,7 +16,6 @@ use Rattle.dr_pdu.specs.declared.pdu.Pdu.{Pdu}
 use Rattle.dr_pdu.specs.declared.pdu.Pdu.TheVariants as pdu
 use Rattle.dr_dimse.specs.declared.command.Command.{Command}
 use Rattle.dr_dimse.specs.declared.command.Command.TheVariants.{StoreRq, StoreRsp, EchoRq, EchoRsp, Other}
-use Rattle.dr_dimse.specs.Commands as commands
 use Rattle.dr_site.specs.Parts.{Part}
 use Rattle.dr_ledger.specs.declared.content.Job.{Job}
 use Rattle.dr_ledger.specs.declared.item.Arrived.{Arrived}
@@ -41,7 +40,7 @@ use Rattle.dr_session.specs.declared.ends.Pending.{Pending}
 use Rattle.dr_session.specs.declared.ends.Told.{Told}
 use Rattle.dr_session.specs.declared.ends.Told.TheVariants.{Plain, Quiet, Fault, Strange, Store, Whole, Agreement}
 use Rattle.dr_session.specs.Desks.{DeskCall, DeskAnswer, Arrive, Arrival, Upcoming, Settling}
-use Rattle.dr_session.specs.Reactions.{Reaction, turn, occurs, moves, acts, hears, stores, stored, status_of, arrives, brings, is_named, requested, requested_other, echo_status, replied, decides, decides_at, rj, agrees, can_be_named, due, gives, gives_in, store_pdus, id_after, refused, leaves_by, aborts, aborts_desk, abort_pdu, aborted, released, desk_failed, settled_with, left, stepped_by, noted, reason_of, says, settling, arrival, job, write, effect, quiet, is_requestor, is_taken, event_of, rejected as marked}
+use Rattle.dr_session.specs.Reactions.{Reaction, turn, occurs, moves, acts, hears, stores, stored, status_of, arrives, brings, is_named, requested, requested_other, echo_status, replied, settles_by, status_for, decides, decides_at, rj, agrees, can_be_named, due, gives, gives_in, store_pdus, id_after, refused, leaves_by, aborts, aborts_desk, abort_pdu, aborted, released, desk_failed, settled_with, left, stepped_by, noted, reason_of, says, settling, arrival, job, write, effect, quiet, is_requestor, is_taken, event_of, rejected as marked}
 use Rattle.dr_session.specs.Messages.{command_pdus}
 use Rattle.dr_session.specs.declared.ends.LinkAction.TheVariants.{Close}
 use Rattle.dr_session.specs.Turns.{Ends, Asks, Fails, Turns}
@@ -144,15 +143,20 @@ asked c context of (StoreRq id class instance) = tt
 asked c context of (StoreRsp to status class instance has_data) = tt
 asked c context of (EchoRsp to status class has_data) = tt
 
-answered : (p : Option Pending) (status : Option ℕ) (at : Moment) (c : Core) → Spells (replied p status at c)
-answered (Some p) (Some status) at c = λ reply. settled (Ends (effect [] (settled_with c))) (aborts_desk at c) tt (wrote (abort_pdu 0 0 ∷ [])) reply
-answered (Some p) None at c = aborting at c
-answered None status at c = aborting at c
+settling_by : (p : Pending) (status : Option ℕ) (at : Moment) (c : Core) → Spells (settles_by p status at c)
+settling_by p (Some status) at c = λ reply. settled (Ends (effect [] (settled_with c))) (aborts_desk at c) tt (wrote (abort_pdu 0 0 ∷ [])) reply
+settling_by p None at c = aborting at c
+
+answered : (p : Option Pending) (context : ℕ) (command : Command) (at : Moment) (c : Core) →
+    Spells (replied p context command at c)
+answered (Some p) context command at c = settling_by p (status_for p context command) at c
+answered None context command at c = aborting at c
 
 hearing : (told : Told) (at : Moment) (c : Core) → Spells (hears told at c)
 hearing (Store context of id class instance found) at c = storing c context of id class instance found
 hearing (Whole context of command) at c =
-    either (is_requestor c) (replied c.pending (commands.status_of command) at c) (requested c context of command) (answered c.pending (commands.status_of command) at c) (asked c context of command)
+    either (is_requestor c) (replied c.pending context command at c) (requested c context of command)
+    (answered c.pending context command at c) (asked c context of command)
 hearing Fault at c = aborting at c
 hearing (Plain i) at c = tt
 hearing Quiet at c = tt

@@ -25,6 +25,7 @@ use Rattle.dr_nego.specs.declared.fault.NegoFault.TheVariants.{NoHop, Memory}
 use Rattle.dr_nego.specs.Agreeing.{AssociateRq, context_for}
 use Rattle.dr_nego.specs.Answering.{verification}
 use Rattle.dr_nego.specs.Proposing.{IsProposal, IsHopTo, echo_proposal}
+use Rattle.dr_session.specs.declared.ends.Asked.TheVariants.{Echo}
 use Rattle.dr_session.specs.declared.ends.Core.{Core}
 use Rattle.dr_session.specs.declared.ends.Effect.{Effect}
 use Rattle.dr_session.specs.declared.ends.Ended.{Ended}
@@ -38,10 +39,11 @@ use Rattle.dr_session.specs.declared.ends.Marks.{Marks}
 use Rattle.dr_session.specs.declared.ends.Moment.{Moment}
 use Rattle.dr_session.specs.declared.ends.Over.{Over}
 use Rattle.dr_session.specs.declared.ends.Over.TheVariants as over
+use Rattle.dr_session.specs.declared.ends.Pending.{Pending}
 use Rattle.dr_session.specs.Desks.{DeskCall, DeskAnswer}
 use Rattle.dr_session.specs.Plays.{At, Reacts, Stops, PlaysBytes, BreaksBytes, at_moment}
 use Rattle.dr_session.specs.Messages.{command_pdus}
-use Rattle.dr_session.specs.Reactions.{assembling, effect, write, awaiting, pending, id_after}
+use Rattle.dr_session.specs.Reactions.{assembling, effect, write, awaiting, id_after}
 pub use Rattle.dr_session.specs.Reactions.{is_free}
 
 -- an end with the bytes that it keeps; none of it is there once memory ended
@@ -165,10 +167,14 @@ abbrev pub is_dry_in : Option Core → Bool
 is_dry_in None = false
 is_dry_in (Some c) = c.dry
 
+-- an echo that awaits its response
+abbrev pub echoing : ℕ → ℕ → Pending
+echoing id context = record { id = id; context = context; asked = Echo; uid = [] }
+
 -- a C-ECHO-RQ (PS3.7 9.1.5) in a context of Verification, whose response is awaited; nothing where none was accepted
 abbrev pub echoes_in : Option ℕ → Agreed → ℕ → Core → Effect
 echoes_in (Some context) agreed now c =
-    effect (write (command_pdus agreed.limit context (EchoRq (id_after c.last) verification false)) ∷ []) (awaiting (pending (id_after c.last) []) now c)
+    effect (write (command_pdus agreed.limit context (EchoRq (id_after c.last) verification false)) ∷ []) (awaiting (echoing (id_after c.last) context) now c)
 echoes_in None agreed now c = effect [] c
 
 abbrev pub echoes_by : Option Agreed → ℕ → Core → Effect

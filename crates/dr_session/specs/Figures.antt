@@ -8,7 +8,10 @@ use Rattle.dr_ulstate.specs.Standing.{standing}
 use Rattle.dr_pdu.specs.declared.pdu.Abort.{Abort}
 use Rattle.dr_pdu.specs.declared.pdu.AssociateRj.{AssociateRj}
 use Rattle.dr_pdu.specs.declared.pdu.Pdv.{Pdv}
-use Rattle.dr_ledger.specs.declared.item.Outcome.TheVariants.{Broken}
+use Rattle.dr_base.specs.Texts.{Text}
+use Rattle.dr_dimse.specs.declared.command.Command.{Command}
+use Rattle.dr_dimse.specs.declared.command.Command.TheVariants.{StoreRsp, EchoRsp, Other}
+use Rattle.dr_ledger.specs.declared.item.Outcome.TheVariants.{Broken, Status}
 use Rattle.dr_nego.specs.declared.agreed.Agreed.{Agreed}
 use Rattle.dr_nego.specs.declared.fault.NegoFault.TheVariants.{StrangeId}
 use Rattle.dr_nego.specs.Agreeing.{AssociateRq, AssociateAc}
@@ -17,6 +20,8 @@ use Rattle.dr_nego.specs.Figures.{archive, arch, gate, image, context, request, 
 use Rattle.dr_nego.specs.Answering.{acceptance_of}
 use Rattle.dr_base.specs.declared.syntax.Syntax.TheVariants.{Explicit}
 use Rattle.dr_pdu.specs.declared.pdu.Pdu.TheVariants as pdu
+use Rattle.dr_session.specs.declared.ends.Asked.{Asked}
+use Rattle.dr_session.specs.declared.ends.Asked.TheVariants.{Echo, Store}
 use Rattle.dr_session.specs.declared.ends.Core.{Core}
 use Rattle.dr_session.specs.declared.ends.Ended.{Ended}
 use Rattle.dr_session.specs.declared.ends.Ended.TheVariants.{Rejected, Aborted, Released, Closed}
@@ -190,6 +195,30 @@ pub record Aborts (c : Core) (at : Moment) (a : Abort) (p : Pending) : Type 0 wh
   pub heard : Does c at (acceptor Sta2 ∷ requestor Sta5 ∷ acceptor Sta13 ∷ requestor Sta13 ∷ associated) (told.Plain (input.Abort a)) 1 closes Aborted
   -- what pends is settled as broken
   pub breaks : calls (turn at (pended p (requestor Sta6) c) (told.Plain (input.Abort a))) ≡ Some (Settle p.uid c.peer Broken at.now)
+
+-- ---- event 10: a response, at a requestor
+
+-- a request that awaits its response: its message id is 7, its context 3
+abbrev pub asked_for : Asked → Text → Pending
+asked_for of uid = record { id = 7; context = 3; asked = of; uid = uid }
+
+-- what the end asks its desk for where this is pending and it hears that message
+abbrev pub hears_then : Core → Moment → Pending → ℕ → Command → Option DeskCall
+hears_then c at p context command = calls (turn at (pended p (requestor Sta6) c) (told.Whole context [] command))
+
+-- The response of a store settles its row by the status. One in another context, that of an echo and any other are out of place:
+-- the end aborts, and the row is to be tried again.
+pub record Responses (c : Core) (at : Moment) (class uid : Text) : Type 0 where
+  pub stored : hears_then c at (asked_for Store uid) 3 (StoreRsp 7 0xA700 class uid false)
+      ≡ Some (Settle uid c.peer (Status 0xA700) at.now)
+  pub elsewhere : hears_then c at (asked_for Store uid) 5 (StoreRsp 7 0 class uid false)
+      ≡ Some (Settle uid c.peer Broken at.now)
+  pub an_echo : hears_then c at (asked_for Store uid) 3 (EchoRsp 7 0 class false)
+      ≡ Some (Settle uid c.peer Broken at.now)
+  pub another : hears_then c at (asked_for Store uid) 3 (Other 0x8020 7 (Some 0) false)
+      ≡ Some (Settle uid c.peer Broken at.now)
+  pub echoed : hears_then c at (asked_for Echo []) 3 (EchoRsp 7 0 class false) ≡ Some (Settle [] c.peer (Status 0) at.now)
+  pub no_echo : hears_then c at (asked_for Echo []) 3 (StoreRsp 7 0 class uid false) ≡ Some (Settle [] c.peer Broken at.now)
 
 -- ---- events 17 and 18: the end of the connection, and of the timer
 

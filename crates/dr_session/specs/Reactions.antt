@@ -19,7 +19,6 @@ use Rattle.dr_dimse.specs.declared.command.Command.{Command}
 use Rattle.dr_dimse.specs.declared.command.Command.TheVariants.{StoreRq, StoreRsp, EchoRq, EchoRsp, Other}
 use Rattle.dr_dimse.specs.declared.message.Awaited.{Awaited}
 use Rattle.dr_dimse.specs.declared.message.Awaited.TheVariants.{AnswerTo, Nothing}
-use Rattle.dr_dimse.specs.Commands as commands
 use Rattle.dr_dimse.specs.Taking.{Stage, Assembling}
 use Rattle.dr_ledger.specs.declared.content.Job.{Job}
 use Rattle.dr_ledger.specs.declared.item.Arrived.{Arrived}
@@ -42,6 +41,8 @@ use Rattle.dr_session.specs.declared.ends.Told.{Told}
 use Rattle.dr_session.specs.declared.ends.Told.TheVariants.{Plain, Fault, Strange, Store, Whole, Agreement}
 use Rattle.dr_session.specs.declared.ends.LinkAction.{LinkAction}
 use Rattle.dr_session.specs.declared.ends.LinkAction.TheVariants.{Write, Close}
+use Rattle.dr_session.specs.declared.ends.Asked.{Asked}
+use Rattle.dr_session.specs.declared.ends.Asked.TheVariants as asked
 use Rattle.dr_session.specs.declared.ends.Pending.{Pending}
 use Rattle.dr_session.specs.declared.ends.Marks.{Marks}
 use Rattle.dr_session.specs.declared.ends.Core.{Core}
@@ -227,15 +228,33 @@ requested c context of command = quiet c
 
 -- ---- a message, at a requestor: the response that it awaits
 
-abbrev pub replied : Option Pending → Option ℕ → Moment → Core → Reaction
-replied (Some p) (Some status) at c = Asks (Settle p.uid c.peer (Status status) at.now) (settling (Ends (effect [] (settled_with c))) (aborts_desk at c))
-replied p status at c = aborts at c
+-- the status of a response, where it is one of the service that was asked for (PS3.7 9.1.1, 9.1.5)
+abbrev pub answers : Asked → Command → Option ℕ
+answers asked.Store (StoreRsp to status class instance has_data) = Some status
+answers asked.Echo (EchoRsp to status class has_data) = Some status
+answers of command = None
+
+-- the same, in the context of the request
+abbrev pub status_for : Pending → ℕ → Command → Option ℕ
+status_for p context command = if p.context == context then answers p.asked command else None
+
+-- what is pending is settled by that status; with none, what came is out of place
+abbrev pub settles_by : Pending → Option ℕ → Moment → Core → Reaction
+settles_by p (Some status) at c =
+    Asks (Settle p.uid c.peer (Status status) at.now)
+        (settling (Ends (effect [] (settled_with c))) (aborts_desk at c))
+settles_by p None at c = aborts at c
+
+abbrev pub replied : Option Pending → ℕ → Command → Moment → Core → Reaction
+replied (Some p) context command at c = settles_by p (status_for p context command) at c
+replied None context command at c = aborts at c
 
 -- ---- a value
 
 abbrev pub hears : Told → Moment → Core → Reaction
 hears (Store context of id class instance found) at c = stores c context of id class instance found
-hears (Whole context of command) at c = if is_requestor c then replied c.pending (commands.status_of command) at c else requested c context of command
+hears (Whole context of command) at c =
+    if is_requestor c then replied c.pending context command at c else requested c context of command
 hears Fault at c = aborts at c
 hears told at c = quiet c
 
@@ -248,15 +267,16 @@ id_after last = if last == 65535 then 1 else last + 1
 abbrev pub store_pdus : Agreed → ℕ → ℕ → Job → List Pdu
 store_pdus agreed context id item = command_pdus agreed.limit context (StoreRq id item.key.class item.uid) ++ data_pdus agreed.limit context item.body
 
-abbrev pub pending : ℕ → Text → Pending
-pending id uid = record { id = id; uid = uid }
+-- a store that awaits its response
+abbrev pub storing : ℕ → ℕ → Text → Pending
+storing id context uid = record { id = id; context = context; asked = asked.Store; uid = uid }
 
 abbrev pub gives_nothing : Moment → Text → Core → Reaction
 gives_nothing at uid c = Asks (Settle uid c.peer NoContext at.now) (settling (quiet c) (aborts_desk at c))
 
 abbrev pub gives_in : Option ℕ → Agreed → Moment → Job → Core → Reaction
 gives_in (Some context) agreed at item c =
-    Ends (effect (write (store_pdus agreed context (id_after c.last) item) ∷ []) (awaiting (pending (id_after c.last) item.uid) at.now c))
+    Ends (effect (write (store_pdus agreed context (id_after c.last) item) ∷ []) (awaiting (storing (id_after c.last) context item.uid) at.now c))
 gives_in None agreed at item c = gives_nothing at item.uid c
 
 abbrev pub gives : Option Agreed → Moment → Job → Core → Reaction

@@ -7,10 +7,10 @@ ghost use Rattle.dr_nego.specs.Agreeing.{context_for};
 ghost use Rattle.dr_nego.specs.Answering.{verification};
 ghost use Rattle.dr_session.specs.Ends.{echoes_by, echoes_in, is_free};
 ghost use Rattle.dr_session.specs.Messages.{command_pdus};
-ghost use Rattle.dr_session.specs.Reactions.{awaiting, id_after, pending, write};
+ghost use Rattle.dr_session.specs.Reactions.{id_after, write};
 
 use crate::boxed::BoxedCore;
-use crate::ends::{Core, Effect, LinkAction};
+use crate::ends::{Asked, Core, Effect, LinkAction, Pending};
 use crate::react::{act_once, next_id, quiet};
 use crate::writing::write_response;
 use dr_base::{Syntax, Text};
@@ -41,10 +41,16 @@ pub fn ask_echo(alloc: Global, core: BoxedCore, now: u64) -> Result<Effect, Allo
     };
     let id = next_id(core.as_core().last);
     let action = write_echo(alloc, agreed, context, id, class)?;
+    let pending = Pending {
+        id,
+        context,
+        asked: Asked::Echo,
+        uid: Text::empty(alloc),
+    };
     act_once(
         alloc,
         action,
-        core.await_response(id, Text::empty(alloc), now),
+        core.await_response(pending, now),
     )
 }
 

@@ -121,10 +121,20 @@ pub enum LinkAction {
     Close,
 }
 
-/// A store that awaits its response.
+/// What a requestor asks its acceptor for.
+#[derive(Clone, Copy, PartialEq, Eq)]
+pub enum Asked {
+    Store,
+    Echo,
+}
+
+/// A request that awaits its response: that of the same service, with this message id, in this presentation context.
 #[derive(Drop)]
 pub struct Pending {
     pub id: u16,
+    pub context: u8,
+    pub asked: Asked,
+    /// The instance that was sent; an echo has none.
     pub uid: Text,
 }
 

@@ -24,7 +24,7 @@ pub mod writing;
 pub use echo_desk::Echoed;
 pub use end::End;
 pub use ends::{
-    Core, Effect, Ended, Found, Heard, Input, LinkAction, Marks, Moment, Over, Pending, Told,
+    Asked, Core, Effect, Ended, Found, Heard, Input, LinkAction, Marks, Moment, Over, Pending, Told,
 };
 pub use link::{Clock, Link};
 pub use port::DeskPort;

@@ -1,6 +1,6 @@
 //! What changes of a core but for its phase.
 ghost use Rattle.std.specs.Prelude.{◌≡◌, Some, None};
-ghost use Rattle.dr_session.specs.Reactions.{aborted, awaiting, desk_failed, dried, left, pending, rejected as rejected_with, released, settled_with};
+ghost use Rattle.dr_session.specs.Reactions.{aborted, awaiting, desk_failed, dried, left, rejected as rejected_with, released, settled_with};
 
 use super::BoxedCore;
 use crate::ends::{Core, Marks, Pending};
@@ -29,12 +29,13 @@ impl BoxedCore {
         BoxedCore { core }
     }
 
-    /// A store is under way, and its response is awaited.
-    pub fn await_response(self, id: u16, uid: Text, now: u64) -> BoxedCore
-        ensures { result ≡ awaiting (pending id uid) now self }
+    /// A request is under way, and its response is awaited.
+    pub fn await_response(self, asked: Pending, now: u64) -> BoxedCore
+        ensures { result ≡ awaiting asked now self }
     {
         let mut core = self.core;
-        set_pending(core.as_mut(), id, uid, now);
+        let id = asked.id;
+        set_pending(core.as_mut(), asked, now);
         await_other(core.as_mut(), Awaited::AnswerTo(id));
         BoxedCore { core }
     }
@@ -136,11 +137,11 @@ fn clear_pending(core: &mut Core)
     core.awaits = None;
 }
 
-fn set_pending(core: &mut Core, id: u16, uid: Text, now: u64)
-    ensures { core.new ≡ record core.old { pending = Some (pending id uid); last = id; awaits = Some now } }
+fn set_pending(core: &mut Core, asked: Pending, now: u64)
+    ensures { core.new ≡ record core.old { pending = Some asked; last = asked.id; awaits = Some now } }
 {
-    core.pending = Some(Pending { id, uid });
-    core.last = id;
+    core.last = asked.id;
+    core.pending = Some(asked);
     core.awaits = Some(now);
 }
 

@@ -1,6 +1,7 @@
 //! Each row of the state table (PS3.8 section 9.2.3) that a session can meet: the state that follows, what is written, and
 //! the first call on the desk.
 ghost use Rattle.std.specs.Prelude.{ℕ};
+ghost use Rattle.dr_base.specs.Texts.{Text};
 ghost use Rattle.dr_nego.specs.Agreeing.{AssociateRq, AssociateAc};
 ghost use Rattle.dr_nego.specs.declared.agreed.Agreed.{Agreed};
 ghost use Rattle.dr_pdu.specs.declared.pdu.Abort.{Abort};
@@ -9,7 +10,7 @@ ghost use Rattle.dr_pdu.specs.declared.pdu.Pdv.{Pdv};
 ghost use Rattle.dr_session.specs.declared.ends.Core.{Core};
 ghost use Rattle.dr_session.specs.declared.ends.Moment.{Moment};
 ghost use Rattle.dr_session.specs.declared.ends.Pending.{Pending};
-ghost use Rattle.dr_session.specs.Figures.{Acceptances, Rejections, Requests, Values, Pushes, Releases, ReleaseAnswers, Aborts, Endings, LateMarks, NoPdus};
+ghost use Rattle.dr_session.specs.Figures.{Acceptances, Rejections, Requests, Values, Pushes, Responses, Releases, ReleaseAnswers, Aborts, Endings, LateMarks, NoPdus};
 
 /// An A-ASSOCIATE-AC and an A-ASSOCIATE-RJ (events 3 and 4).
 pub fn answers()
@@ -26,6 +27,11 @@ pub fn requests()
 pub fn data()
     ensures values { (c : Core) (at : Moment) (p : Pdv) → Values c at p }
     ensures pushes { (c : Core) (at : Moment) → Pushes c at }
+{}
+
+/// Responses that a requestor hears (event 10).
+pub fn responses()
+    ensures { (c : Core) (at : Moment) (class uid : Text) → Responses c at class uid }
 {}
 
 /// The release (events 11 to 14).

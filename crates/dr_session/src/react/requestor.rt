@@ -6,15 +6,16 @@ ghost use Rattle.dr_nego.specs.Agreeing.{context_for};
 ghost use Rattle.dr_nego.specs.declared.agreed.Agreed.{Agreed as AgreedOn};
 ghost use Rattle.dr_nego.specs.declared.fault.NegoFault.TheVariants as negofault;
 ghost use Rattle.dr_session.specs.declared.ends.LinkAction.TheVariants.{Close};
-ghost use Rattle.dr_session.specs.Reactions.{agrees, refuses, settles_refused, replied, effect, gives, gives_in, hands, can_be_named, is_uid, is_graphic, id_after, due, pushes, gives_nothing, write, store_pdus, awaiting, pending, settled_with, desk_failed, dried};
+ghost use Rattle.dr_session.specs.Reactions.{agrees, refuses, settles_refused, answers, replied, status_for, effect, gives, gives_in, hands, can_be_named, is_uid, is_graphic, id_after, due, pushes, gives_nothing, write, store_pdus, awaiting, settled_with, desk_failed, dried};
 ghost use Rattle.dr_session.specs.Turns.{Turns, Broke, Ends};
 
 use crate::boxed::BoxedCore;
-use crate::ends::{Core, Effect, LinkAction, Moment};
+use crate::ends::{Asked, Core, Effect, LinkAction, Moment, Pending};
 use crate::port::DeskPort;
 use crate::react::leaving::{abort, abort_desk, act_once, quiet};
 use crate::writing::write_store;
 use dr_base::Text;
+use dr_dimse::Command;
 use dr_ledger::{Job, LedgerFault, Outcome};
 use dr_nego::{Agreed, NegoFault};
 use std::alloc::{AllocError, Global};
@@ -86,22 +87,49 @@ fn settle_refused<P: DeskPort>(
     }
 }
 
-/// A response: where a store awaits it, its row is settled by its status; else the end aborts.
+/// The status of a response, where it is one of the service that was asked for.
+fn answers(asked: Asked, command: &Command) -> Option<u16>
+    ensures { result ≡ answers asked command.now }
+{
+    match asked {
+        Asked::Store => match command {
+            Command::StoreRsp { status, .. } => Some(*status),
+            _ => None,
+        },
+        Asked::Echo => match command {
+            Command::EchoRsp { status, .. } => Some(*status),
+            _ => None,
+        },
+    }
+}
+
+/// The same, in the context of the request.
+fn status_for(pending: &Pending, context: u8, command: &Command) -> Option<u16>
+    ensures { result ≡ status_for pending.now context command.now }
+{
+    if pending.context == context {
+        return answers(pending.asked, command);
+    }
+    None
+}
+
+/// A response: where what is pending awaits it, its row is settled by its status; else the end aborts.
 pub fn hear_response<P: DeskPort>(
     alloc: Global,
-    status: Option<u16>,
+    context: u8,
+    command: &Command,
     core: BoxedCore,
     port: &mut P,
     at: Moment,
 ) -> Result<Effect, AllocError>
     requires { at.now ≤ 2 ^ 62 }
-    ensures done { IfOk result (λ e. Turns P.step (replied core.pending status at core) port.old e port.new) }
-    ensures broke { OnErr result (Broke P.step (replied core.pending status at core) port.old port.new) }
+    ensures done { IfOk result (λ e. Turns P.step (replied core.pending context command.now at core) port.old e port.new) }
+    ensures broke { OnErr result (Broke P.step (replied core.pending context command.now at core) port.old port.new) }
 {
-    let Some(status) = status else {
+    let Some(pending) = &core.as_core().pending else {
         return abort(alloc, core, port, at);
     };
-    let Some(pending) = &core.as_core().pending else {
+    let Some(status) = status_for(pending, context, command) else {
         return abort(alloc, core, port, at);
     };
     match port.settle(&pending.uid, core.peer(), Outcome::Status(status), at.now) {
@@ -223,7 +251,13 @@ fn give_in(
 {
     let id = next_id(core.as_core().last);
     let action = write_in(alloc, context, id, &job, core.as_core())?;
-    act_once(alloc, action, core.await_response(id, uid_of(job), at.now))
+    let pending = Pending {
+        id,
+        context,
+        asked: Asked::Store,
+        uid: uid_of(job),
+    };
+    act_once(alloc, action, core.await_response(pending, at.now))
 }
 
 /// The C-STORE-RQ of an instance in that context, by what was agreed on.

@@ -1,6 +1,5 @@
 //! The table's actions (PS3.8 9.2.2) and events: what an end does with what it was told.
 ghost use Rattle.std.specs.Prelude.{◌≡◌, ◌∷◌, [], ◌≤◌, ◌^◌, IfOk, OnErr, Some, None, true};
-ghost use Rattle.dr_dimse.specs.Commands.{status_of as status_in};
 ghost use Rattle.dr_pdu.specs.declared.pdu.Pdu.TheVariants as pdu;
 ghost use Rattle.dr_session.specs.declared.ends.LinkAction.TheVariants.{Close};
 ghost use Rattle.dr_session.specs.Fits.{ToldFits, IsHeard, heard_as, IsLooked, told_as};
@@ -80,22 +79,9 @@ fn hear_whole<P: DeskPort>(
     ensures broke { OnErr result (Broke P.step (hears (Told.Whole context of command) at core) port.old port.new) }
 {
     if core.is_requestor() {
-        return hear_response(alloc, status_of(&command), core, port, at);
+        return hear_response(alloc, context, &command, core, port, at);
     }
     answer_request(alloc, context, of, command, core)
-}
-
-/// The status of a response.
-fn status_of(command: &Command) -> Option<u16>
-    ensures { result ≡ status_in command.now }
-{
-    match command {
-        Command::StoreRsp { status, .. } => Some(*status),
-        Command::EchoRsp { status, .. } => Some(*status),
-        Command::Other { status, .. } => *status,
-        Command::StoreRq { .. } => None,
-        Command::EchoRq { .. } => None,
-    }
 }
 
 /// Why the service provider aborts (PS3.8 9.3.8): an unknown type, a PDU out of place, or an invalid one.

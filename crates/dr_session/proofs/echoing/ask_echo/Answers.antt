@@ -9,9 +9,10 @@ use Rattle.dr_nego.specs.Answering.{verification}
 use Rattle.dr_session.specs.declared.ends.Core.{Core}
 use Rattle.dr_session.specs.declared.ends.Effect.{Effect}
 use Rattle.dr_session.specs.declared.ends.LinkAction.{LinkAction}
-use Rattle.dr_session.specs.Ends.{echoes_by, echoes_in}
+use Rattle.dr_session.specs.Ends.{echoes_by, echoes_in, echoing}
+use Rattle.dr_session.specs.declared.ends.Asked.TheVariants.{Echo}
 use Rattle.dr_session.specs.Messages.{command_pdus}
-use Rattle.dr_session.specs.Reactions.{write, awaiting, pending, id_after}
+use Rattle.dr_session.specs.Reactions.{write, awaiting, id_after}
 use Rattle.std.specs.Prelude.{IfOk}
 use Rattle.dr_session.proofs.Effects.{acted}
 use Rattle.dr_session.proofs.echoing.ask_echo.Goals as goal
@@ -40,10 +41,12 @@ returns c =
     let act : LinkAction = write (command_pdus c.in-Some.agreed.limit c.in-Some-context_for.context (EchoRq (id_after c.args.core.last) verification false)) in
     let said : c.in_ok-action.action ≡ act =
     c.in_ok-action.ensures ∙ ap (λ (i : ℕ). write (command_pdus c.in-Some.agreed.limit c.in-Some-context_for.context (EchoRq i verification false))) id in
-    let after : Core = awaiting (pending (id_after c.args.core.last) []) c.args.now c.args.core in
+    let context : ℕ = c.in-Some-context_for.context in
+    let after : Core = awaiting (echoing (id_after c.args.core.last) context) c.args.now c.args.core in
     let core : c.await_response.result ≡ after =
-    c.await_response.ensures ∙ (ap (λ (i : ℕ). awaiting (pending i c.empty.result) c.args.now c.args.core) id
-    ∙ ap (λ (t : Text). awaiting (pending (id_after c.args.core.last) t) c.args.now c.args.core) c.empty.ensures) in
+    c.await_response.ensures ∙ (ap (λ (i : ℕ). awaiting (record { id = i; context = context; asked = Echo; uid = c.empty.result }) c.args.now c.args.core) id
+    ∙ ap (λ (t : Text). awaiting (record { id = id_after c.args.core.last; context = context; asked = Echo; uid = t }) c.args.now c.args.core)
+        c.empty.ensures) in
     let P : Option Agreed → Type 0 = λ o. IfOk c.act_once.result (λ (e : Effect). e ≡ echoes_by o c.args.now c.args.core) in
     let Q : Option ℕ → Type 0 = λ o. IfOk c.act_once.result (λ (e : Effect). e ≡ echoes_in o c.in-Some.agreed c.args.now c.args.core) in
     subst P (sym (ap (λ (x : Core). x.agreed) (sym c.as_core.ensures) ∙ c.in-Some.is)) (subst Q (sym some) (acted c.act_once.result c.in_ok-action.action act c.await_response.result after c.act_once.ensures said core))
