@@ -47,7 +47,7 @@ use Rattle.dr_session.specs.declared.ends.LinkAction.{LinkAction}
 use Rattle.dr_session.specs.Desks.{DeskCall, DeskAnswer, Settle, Arrival, Upcoming, Settling}
 use Rattle.dr_nego.specs.Fragments.{spellings}
 use Rattle.dr_session.specs.declared.ends.Moment.{Moment}
-use Rattle.dr_session.specs.Reactions.{turn, occurs, event_of, has_waited, is_requestor, is_idle, leaves_by, left, aborted, desk_failed, settling, effect, write, abort_pdu, pending}
+use Rattle.dr_session.specs.Reactions.{turn, occurs, event_of, has_waited, is_requestor, is_idle, leaves_by, left, aborted, desk_failed, settling, effect, write, abort_pdu, storing}
 use Rattle.dr_session.specs.Turns.{Ends, Turns}
 use Rattle.dr_session.specs.Plays.{Reacts, at_moment}
 use Rattle.std.specs.FinSet as set
@@ -67,15 +67,15 @@ use Rattle.dr_world_tie.proofs.Leaving.{AreFit, carries_more, only_link, acts_by
 
 abbrev HasPendingOf : Option Instance → Core → Type 0
 HasPendingOf None c = c.pending ≡ None
-HasPendingOf (Some item) c = (id : ℕ) × (c.pending ≡ Some (pending id item.uid))
+HasPendingOf (Some item) c = (id context : ℕ) × (c.pending ≡ Some (storing id context item.uid))
 
 caller_stands : (stage : Stage) (receiver : Text) (c : Core) → IsCaller true stage receiver c → (IsAt c true Sta5 ⊎ IsAt c true Sta6) × HasPendingOf (pending_of stage) c
 caller_stands Asking receiver c h = (inl h.0, h.1)
 caller_stands (Answering accepted) receiver c h = (inl h.0, h.1)
 caller_stands Rejecting receiver c h = (inl h.0, h.1)
 caller_stands (Open accepted) receiver c h = (inr h.0.0, h.1)
-caller_stands (Storing accepted item) receiver c h = (inr h.0.0, (h.1.0, h.1.1))
-caller_stands (Replying accepted item status) receiver c h = (inr h.0.0, (h.1.0, h.1.1))
+caller_stands (Storing accepted item) receiver c h = (inr h.0.0, (h.1.0, h.1.1, h.1.2))
+caller_stands (Replying accepted item status) receiver c h = (inr h.0.0, (h.1.0, h.1.1, h.1.2))
 caller_stands Gone receiver c h = absurd h
 
 -- ---- what was left, and what the desk answered
@@ -108,9 +108,9 @@ left_of : (plan : Network) (name : Text) (item : Option Instance) (now : ℕ) (a
 left_of plan name None now acts c s t x none h =
     let e : (x ≡ effect acts (left c)) × (t ≡ s) = subst (λ (o : Option Pending). Turns (LedgerStep plan name) (leaves_by o now acts c) s x t) none h in
     (None, e.1, inl e.0)
-left_of plan name (Some item) now acts c s t x (id, has) h =
-    let e : Turns (LedgerStep plan name) (leaves_by (Some (pending id item.uid)) now acts c) s x t = subst (λ (o : Option Pending). Turns (LedgerStep plan name) (leaves_by o now acts c) s x t) has h in
-    let r = by_answer plan name (pending id item.uid) now acts c s e.1 t x e.0 e.2 e.3 in
+left_of plan name (Some item) now acts c s t x (id, context, has) h =
+    let e : Turns (LedgerStep plan name) (leaves_by (Some (storing id context item.uid)) now acts c) s x t = subst (λ (o : Option Pending). Turns (LedgerStep plan name) (leaves_by o now acts c) s x t) has h in
+    let r = by_answer plan name (storing id context item.uid) now acts c s e.1 t x e.0 e.2 e.3 in
     (Some r.0, r.1, r.2)
 
 -- ---- the wire to the receiver

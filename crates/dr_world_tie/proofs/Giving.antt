@@ -41,7 +41,7 @@ use Rattle.dr_session.specs.Ledgers.{Hands}
 use Rattle.dr_nego.specs.Fragments.{spellings}
 use Rattle.dr_session.specs.declared.ends.Moment.{Moment}
 use Rattle.dr_nego.specs.Agreeing.{context_for, is_for}
-use Rattle.dr_session.specs.Reactions.{awaiting, effect, gives_in, id_after, pending, store_pdus, write}
+use Rattle.dr_session.specs.Reactions.{awaiting, effect, gives_in, id_after, store_pdus, storing, write}
 use Rattle.dr_session.specs.Turns.{Turns}
 use Rattle.dr_world_tie.specs.Desks.{Desk, LedgerStep}
 use Rattle.dr_world_tie.specs.Channels.{Channel, Carries, ShowsLink, ToCaller, ToReceiver, IsAt, IsCaller, IsReceiver, contexts_of, site_of}
@@ -107,7 +107,7 @@ module _ (plan : Network) (certificate : Certificate) (w : World) (number : ℕ)
       old.joined ∙ (ap (λ (l : List Pdu). spellings (l ++ old.controls)) old.is ∙ ap (λ (l : List Pdu). spellings l) (old.none refl))
 
   abbrev core : Core
-  core = awaiting (pending (id_after k.caller.core.last) job.uid) moment.now (record k.caller.core { phase = in_its_phase (moved at.0 Sta6 moment.now) })
+  core = awaiting (storing (id_after k.caller.core.last) context job.uid) moment.now (record k.caller.core { phase = in_its_phase (moved at.0 Sta6 moment.now) })
 
   abbrev given : Effect
   given = effect (write (store_pdus agreed context (id_after k.caller.core.last) job) ∷ []) core
@@ -134,7 +134,8 @@ module _ (plan : Network) (certificate : Certificate) (w : World) (number : ℕ)
       let F : ℕ → Type 0 = λ l. AllByRecursion (λ (p : Pdu). Fits p × MeetsLimit l p) pdus in
       let G : List Pdu → Type 0 = λ ps. AllByRecursion (λ (p : Pdu). Fits p × MeetsLimit k.receiver.ear.limit p) ps in record {
         coming = pdus;
-        is = (job, refl, (id_after k.caller.core.last, context, is_item, m.0, (λ p e. (let same : Some (pending (id_after k.caller.core.last) job.uid) ≡ Some p = e in ap (λ (q : Pending). q.id) (sym (same_Some _ _ same)))), id_small k.caller.core.last (shows.caller_agrees on).1));
+        is = (job, refl, (id_after k.caller.core.last, context, is_item, m.0, (λ p e. (let same : Some (storing (id_after k.caller.core.last) context job.uid) ≡ Some p = e in
+            (ap (λ (q : Pending). q.id) (sym (same_Some _ _ same)), ap (λ (q : Pending). q.context) (sym (same_Some _ _ same))))), id_small k.caller.core.last (shows.caller_agrees on).1));
         controls = [];
         joined = written_on k.receiver k.to_receiver (spellings pdus) (nothing_there o) ∙ ap (λ (l : List Pdu). spellings l) (sym (append-nil pdus));
         works = old.works;

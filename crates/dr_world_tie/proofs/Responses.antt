@@ -3,7 +3,7 @@ use Rattle.std.proofs.Common.{◌≡◌, ℕ, Bool, true, false, List, [], ◌�
 use Rattle.std.specs.List.{AllByRecursion}
 use Rattle.std.specs.FinMap as map_of
 use Rattle.std.proofs.lemmas.List.{append-nil}
-use Rattle.std.proofs.lemmas.Bool.{false≢true}
+use Rattle.std.proofs.lemmas.Bool.{eq-eqb, false≢true}
 use Rattle.dr_base.specs.Texts.{Text}
 use Rattle.dr_plan_model.specs.Networks.{Network}
 use Rattle.dr_plan_sound.specs.declared.certificate.Certificate.{Certificate}
@@ -15,6 +15,7 @@ use Rattle.dr_ulstate.specs.Phases.{in_its_phase}
 use Rattle.dr_pdu.specs.declared.pdu.Pdu.{Pdu}
 use Rattle.dr_pdu.specs.declared.pdu.Pdv.{Pdv}
 use Rattle.dr_pdu.specs.Written.{written}
+use Rattle.dr_dimse.specs.declared.command.Command.{Command}
 use Rattle.dr_dimse.specs.declared.command.Command.TheVariants.{StoreRsp}
 use Rattle.dr_dimse.specs.Taking.{Stage as Taken, Idle as NothingTaken, Takes}
 use Rattle.dr_nego.specs.Agreeing.{pair_at}
@@ -38,7 +39,7 @@ use Rattle.dr_session.specs.declared.ends.Pending.{Pending}
 use Rattle.dr_session.specs.Desks.{DeskCall, DeskAnswer, Settle, Arrival, Upcoming, Settling}
 use Rattle.dr_nego.specs.Fragments.{spellings}
 use Rattle.dr_session.specs.declared.ends.Moment.{Moment}
-use Rattle.dr_session.specs.Reactions.{Reaction, turn, occurs, event_of, has_waited, is_requestor, replied, settled_with, aborts_desk, stepped_by, leaves_by, left, aborted, desk_failed, settling, effect, write, abort_pdu, pending}
+use Rattle.dr_session.specs.Reactions.{Reaction, turn, occurs, event_of, has_waited, is_requestor, replied, settled_with, aborts_desk, stepped_by, leaves_by, left, aborted, desk_failed, settling, effect, write, abort_pdu, settles_by, storing}
 use Rattle.dr_session.specs.Turns.{Ends, Turns}
 use Rattle.dr_session.specs.Plays.{PlaysBytes, Reacts, at_moment, with_stage}
 use Rattle.dr_session.specs.declared.ends.Told.{Told}
@@ -143,7 +144,7 @@ module _ (plan : Network) (certificate : Certificate) (w : World) (number : ℕ)
   abbrev new_ear : Feeding
   new_ear = record { limit = k.caller.ear.limit; failed = false; kept = [] }
 
-  module _ (id number_of : ℕ) (has_pending : c.pending ≡ Some (pending id item.uid)) (m : IsMessageFor c (message number_of (StoreRsp id status item.key.class item.uid false) None) item.key.class item.key.syntax carries.coming)
+  module _ (id number_of : ℕ) (has_pending : c.pending ≡ Some (storing id number_of item.uid)) (m : IsMessageFor c (message number_of (StoreRsp id status item.key.class item.uid false) None) item.key.class item.key.syntax carries.coming)
       (v : Pdv) (vs : List Pdv) (rest : drop n k.to_caller ≡ spellings (map alone vs ++ carries.controls)) (fits : AreFit k.caller.ear.limit (map alone vs ++ carries.controls)) (ear_is : new ≡ new_ear)
       (in_context : (v.id ≡ m.context.id) × AllByRecursion (λ (p : Pdv). p.id ≡ m.context.id) vs) (r : Reacts cstep c (at_moment moment (Value v)) s x t) where
     found : pair_at m.agreed v.id ≡ Some m.context
@@ -193,12 +194,18 @@ module _ (plan : Network) (certificate : Certificate) (w : World) (number : ℕ)
         let told : Told = Whole number_of m.context.class (StoreRsp id status item.key.class item.uid false) in
         let h : Turns cstep (turn moment (with_stage NothingTaken c) told) s x t = subst (λ (y : Told). Turns cstep (turn moment (with_stage NothingTaken c) y) s x t) td.1 td.2 in
         let core : Core = stays NothingTaken in
-        let a : Turns cstep (if is_requestor core then replied core.pending (Some status) moment core else Rattle.dr_session.specs.Reactions.requested core number_of m.context.class (StoreRsp id status item.key.class item.uid false)) s x t =
+        let answer : Command = StoreRsp id status item.key.class item.uid false in
+        let asks : Pending = storing id number_of item.uid in
+        let other = Rattle.dr_session.specs.Reactions.requested core number_of m.context.class answer in
+        let a : Turns cstep (if is_requestor core then replied core.pending number_of answer moment core else other) s x t =
         acts_by cstep moment (with_stage NothingTaken c) told DataPdu true Sta6 Dt2 Sta6 s t x at refl refl refl h in
-        let b : Turns cstep (replied core.pending (Some status) moment core) s x t =
-        subst (λ (y : Bool). Turns cstep (if y then replied core.pending (Some status) moment core else Rattle.dr_session.specs.Reactions.requested core number_of m.context.class (StoreRsp id status item.key.class item.uid false)) s x t) at.2 a in
-        let d : Turns cstep (replied (Some (pending id item.uid)) (Some status) moment core) s x t = subst (λ (o : Option Pending). Turns cstep (replied o (Some status) moment core) s x t) has_pending b in
-        by_answer plan link.caller (pending id item.uid) (Status status) moment core s d.1 t x d.0 d.2 d.3
+        let b : Turns cstep (replied core.pending number_of answer moment core) s x t =
+        subst (λ (y : Bool). Turns cstep (if y then replied core.pending number_of answer moment core else other) s x t) at.2 a in
+        let e : Turns cstep (replied (Some asks) number_of answer moment core) s x t =
+        subst (λ (o : Option Pending). Turns cstep (replied o number_of answer moment core) s x t) has_pending b in
+        let d : Turns cstep (settles_by asks (Some status) moment core) s x t =
+        subst (λ (y : Bool). Turns cstep (settles_by asks (if y then Some status else None) moment core) s x t) (eq-eqb number_of number_of refl) e in
+        by_answer plan link.caller (storing id number_of item.uid) (Status status) moment core s d.1 t x d.0 d.2 d.3
 
     module _ (none : vs ≡ []) (answer : Answer) (h : cstep s (Settle item.uid c.peer (Status status) moment.now) (Settling answer) t) where
       st : Settled w link item.uid (Status status) answer t
@@ -289,7 +296,7 @@ module _ (plan : Network) (certificate : Certificate) (w : World) (number : ℕ)
     event none (Err fault.Conflict) h g = absurd g
     event none (Err fault.NotHeld) h g = absurd g
 
-  by_values : (id number_of : ℕ) (has_pending : c.pending ≡ Some (pending id item.uid)) (m : IsMessageFor c (message number_of (StoreRsp id status item.key.class item.uid false) None) item.key.class item.key.syntax carries.coming) (vs : List Pdv) → m.values ≡ vs → Result_is
+  by_values : (id number_of : ℕ) (has_pending : c.pending ≡ Some (storing id number_of item.uid)) (m : IsMessageFor c (message number_of (StoreRsp id status item.key.class item.uid false) None) item.key.class item.key.syntax carries.coming) (vs : List Pdv) → m.values ≡ vs → Result_is
   by_values id number_of has_pending m [] e = absurd (subst (λ (l : List Pdv). Gets c.assembly.awaited c.assembly.stage l (message number_of (StoreRsp id status item.key.class item.uid false) None)) e m.gets)
   by_values id number_of has_pending m (v ∷ vs) e =
       let one : carries.coming ++ carries.controls ≡ alone v ∷ (map alone vs ++ carries.controls) = ap (λ (l : List Pdu). l ++ carries.controls) (m.are ∙ ap (λ (l : List Pdv). map alone l) e) in

@@ -47,7 +47,7 @@ use Rattle.dr_session.specs.declared.ends.Pending.{Pending}
 use Rattle.dr_session.specs.Desks.{DeskCall, DeskAnswer, Arrive, Arrival}
 use Rattle.dr_nego.specs.Fragments.{spellings}
 use Rattle.dr_session.specs.declared.ends.Moment.{Moment}
-use Rattle.dr_session.specs.Reactions.{stored, status_of, effect, pending}
+use Rattle.dr_session.specs.Reactions.{stored, status_of, effect, storing}
 use Rattle.dr_session.specs.Plays.{PlaysBytes, with_stage}
 use Rattle.dr_world_model.specs.Calls.{StoreOutcome, Written, Untried, Failed}
 use Rattle.dr_world_model.specs.Worlds.{with_book, with_armed}
@@ -115,7 +115,7 @@ module _ (plan : Network) (certificate : Certificate) (w : World) (number : ℕ)
   abbrev new_ear : Feeding
   new_ear = record { limit = k.receiver.ear.limit; failed = false; kept = [] }
 
-  module _ (id number_of : ℕ) (is_item : IsItem item) (asked : (p : Pending) → k.caller.core.pending ≡ Some p → p.id ≡ id) (small : id < 2 ^ 16) (m : IsMessageFor c (message number_of (StoreRq id item.key.class item.uid) (Some (body.Whole item.body))) item.key.class item.key.syntax carries.coming)
+  module _ (id number_of : ℕ) (is_item : IsItem item) (asked : (p : Pending) → k.caller.core.pending ≡ Some p → (p.id ≡ id) × (p.context ≡ number_of)) (small : id < 2 ^ 16) (m : IsMessageFor c (message number_of (StoreRq id item.key.class item.uid) (Some (body.Whole item.body))) item.key.class item.key.syntax carries.coming)
       (v : Pdv) (vs : List Pdv) (rest : drop n k.to_receiver ≡ spellings (map alone vs ++ carries.controls)) (fits : AreFit k.receiver.ear.limit (map alone vs ++ carries.controls)) (ear_is : new ≡ new_ear)
       (in_context : (v.id ≡ m.context.id) × AllByRecursion (λ (p : Pdv). p.id ≡ m.context.id) vs) (r : Rattle.dr_session.specs.Plays.Reacts rstep c (Rattle.dr_session.specs.Plays.at_moment moment (Value v)) s x t) where
     found : pair_at m.agreed v.id ≡ Some m.context
@@ -164,11 +164,12 @@ module _ (plan : Network) (certificate : Certificate) (w : World) (number : ℕ)
         let storer : IsCaller true (Storing accepted (instance_of item)) link.receiver k.caller.core = subst (λ (b : Bool). IsCaller b (Storing accepted (instance_of item)) link.receiver k.caller.core) o caller_at in
         let agreed = storer.0.1.0 in
         let has = storer.0.1.1 in
-        let ids : storer.1.0 ≡ id = asked (pending storer.1.0 item.uid) storer.1.1 in
+        let same_ids = asked (storing storer.1.0 storer.1.1 item.uid) storer.1.2 in
+        let ids : storer.1.0 ≡ id = same_ids.0 in
         let there : m.agreed ≡ record { pairs = hop_contexts from to; limit = from.max_pdu } = shows.receiver_agrees on m.agreed m.has in
         let answer : Command = StoreRsp id status item.key.class item.uid false in
         let back = response_carried from to (is_site plan certificate from certified shows.from.0) (is_site plan certificate to certified shows.to.0) item is_item id status small status_is m.context k.caller.core agreed m.agreed has
-        ((shows.caller_agrees o).0 agreed has) there m.found m.of (storer.1.2 ∙ ap (λ (n : ℕ). AnswerTo n) ids) storer.2 in
+        ((shows.caller_agrees o).0 agreed has) there m.found m.of (storer.1.3 ∙ ap (λ (n : ℕ). AnswerTo n) ids) storer.2 in
         let pdus = command_pdus from.max_pdu m.context.id answer in
         let same : command_pdus (option_map_or (λ (a : Agreed). a.limit) c.agreed 0) number_of answer ≡ pdus =
         ap (λ (a : Option Agreed). command_pdus (option_map_or (λ (b : Agreed). b.limit) a 0) number_of answer) m.has
@@ -177,7 +178,13 @@ module _ (plan : Network) (certificate : Certificate) (w : World) (number : ℕ)
         let F : ℕ → Type 0 = λ l. AllByRecursion (λ (p : Pdu). Fits p × MeetsLimit l p) pdus in
         let G : List Pdu → Type 0 = λ ps. AllByRecursion (λ (p : Pdu). Fits p × MeetsLimit k.caller.ear.limit p) ps in record {
           coming = pdus;
-          is = (id, m.context.id, storer.1.1 ∙ ap (λ (n : ℕ). Some (pending n item.uid)) ids, back.0);
+          is = (
+            id,
+            m.context.id,
+            storer.1.2 ∙ (ap (λ (n : ℕ). Some (storing n storer.1.1 item.uid)) ids
+            ∙ ap (λ (n : ℕ). Some (storing id n item.uid)) (same_ids.1 ∙ m.at)),
+            back.0,
+          );
           controls = [];
           joined = written_on k.caller k.to_caller (spellings (command_pdus (option_map_or (λ (a : Agreed). a.limit) c.agreed 0) number_of answer)) (empty_there o) ∙ ap (λ (l : List Pdu). spellings l) (same ∙ sym (append-nil pdus));
           works = old.works;
@@ -253,7 +260,7 @@ module _ (plan : Network) (certificate : Certificate) (w : World) (number : ℕ)
               };
             })
 
-  by_values : (id number_of : ℕ) (is_item : IsItem item) (asked : (p : Pending) → k.caller.core.pending ≡ Some p → p.id ≡ id) (small : id < 2 ^ 16) (m : IsMessageFor c (message number_of (StoreRq id item.key.class item.uid) (Some (body.Whole item.body))) item.key.class item.key.syntax carries.coming) (vs : List Pdv) → m.values ≡ vs → Result_is
+  by_values : (id number_of : ℕ) (is_item : IsItem item) (asked : (p : Pending) → k.caller.core.pending ≡ Some p → (p.id ≡ id) × (p.context ≡ number_of)) (small : id < 2 ^ 16) (m : IsMessageFor c (message number_of (StoreRq id item.key.class item.uid) (Some (body.Whole item.body))) item.key.class item.key.syntax carries.coming) (vs : List Pdv) → m.values ≡ vs → Result_is
   by_values id number_of is_item asked small m [] e = absurd (subst (λ (l : List Pdv). Gets c.assembly.awaited c.assembly.stage l (message number_of (StoreRq id item.key.class item.uid) (Some (body.Whole item.body)))) e m.gets)
   by_values id number_of is_item asked small m (v ∷ vs) e =
       let one : carries.coming ++ carries.controls ≡ alone v ∷ (map alone vs ++ carries.controls) = ap (λ (l : List Pdu). l ++ carries.controls) (m.are ∙ ap (λ (l : List Pdv). map alone l) e) in

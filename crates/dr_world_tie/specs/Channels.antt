@@ -41,7 +41,7 @@ use Rattle.dr_session.specs.declared.ends.Pending.{Pending}
 use Rattle.dr_session.specs.declared.ends.LinkAction.{LinkAction}
 use Rattle.dr_session.specs.declared.ends.LinkAction.TheVariants.{Write, Close}
 use Rattle.dr_nego.specs.Fragments.{spellings}
-use Rattle.dr_session.specs.Reactions.{pending}
+use Rattle.dr_session.specs.Reactions.{storing}
 use Rattle.dr_ledger.specs.Items.{IsItem, instance_of}
 use Rattle.dr_ledger.specs.declared.content.Job.{Job}
 use Rattle.dr_world_model.specs.Worlds.{Link, Contexts, Stage, Asking, Answering, Rejecting, Open, Storing, Replying, Gone}
@@ -113,7 +113,8 @@ IsEstablished c requestor accepted = IsAt c requestor Sta6 × ((agreed : Agreed)
 
 -- it has this store pending
 abbrev pub HasPending : Core → Instance → Type 0
-HasPending c item = (id : ℕ) × (c.pending ≡ Some (pending id item.uid)) × (c.assembly.awaited ≡ AnswerTo id)
+HasPending c item =
+    (id context : ℕ) × (c.pending ≡ Some (storing id context item.uid)) × (c.assembly.awaited ≡ AnswerTo id)
 
 -- the caller's end, by whether it is on and what the link has come to
 abbrev pub IsCaller : Bool → Stage → Text → Core → Type 0
@@ -170,7 +171,7 @@ message id command body = record { id = id; command = command; body = body }
 -- A store of an item, as its PDUs come to the receiver. What the caller has pending, if anything, is this request.
 abbrev pub Brings : Job → Core → Core → List Pdu → Type 0
 Brings job from c pdus = (id context : ℕ) × IsItem job × IsMessageFor c (message context (StoreRq id job.key.class job.uid) (Some (Whole job.body))) job.key.class job.key.syntax pdus
-    × ((p : Pending) → from.pending ≡ Some p → p.id ≡ id) × (id < 2 ^ 16)
+    × ((p : Pending) → from.pending ≡ Some p → (p.id ≡ id) × (p.context ≡ context)) × (id < 2 ^ 16)
 
 -- ---- what both ends agreed on
 
@@ -193,7 +194,7 @@ abbrev pub ToCaller : Stage → Part → Core → List Pdu → Type 0
 ToCaller (Answering accepted) to c pdus = (rq : AssociateRq) × (ac : AssociateAc) × (agreed : Agreed) × (c.proposed ≡ Some rq) × Concludes rq ac (Ok agreed)
     × (accepted ≡ contexts_of agreed.pairs) × (pdus ≡ pdu.AssociateAc ac ∷ []) × (agreed ≡ record { pairs = hop_contexts (site_of c) to; limit = to.max_pdu })
 ToCaller Rejecting to c pdus = (rj : AssociateRj) × (pdus ≡ pdu.AssociateRj rj ∷ [])
-ToCaller (Replying accepted item status) to c pdus = (id context : ℕ) × (c.pending ≡ Some (pending id item.uid))
+ToCaller (Replying accepted item status) to c pdus = (id context : ℕ) × (c.pending ≡ Some (storing id context item.uid))
     × IsMessageFor c (message context (StoreRsp id status item.key.class item.uid false) None) item.key.class item.key.syntax pdus
 ToCaller stage to c pdus = pdus ≡ []
 
