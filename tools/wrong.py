@@ -3,7 +3,7 @@
 names, `--all` those of all crates, `CRATE..` those of these crates, `--itself` the tester. With `--table` a table of the crates is
 printed at the end.
 
-wrong/CRATE/NAME.edit changes one place of a crate's source: lines 'file: ', 'old: ' (a text that is there once) and 'new: '. The
+wrong/CRATE/NAME.edit changes one place of a crate's source: lines 'file: ', 'old: ' (a text that is there once, on a line or on several) and 'new: '. The
 edits of a crate that change different functions are applied together, and these functions alone are checked; an edit is refused only
 where the prover refuses the function that it changed. What can't be told apart so is tried alone. An edit of a definition is in no
 function: the crate's laws are checked for it, and where they don't refuse it all of the crate. What isn't refused, can't be applied or
@@ -71,6 +71,23 @@ def pairs_of(path):
                 old = None
 
 
+def places_of(text, old):
+    """Where a text stands in a file's, as pairs of first and behind the last. A blank within it is
+    any blanks and line breaks, since a clause may be on several lines; before a bracket that closes
+    one it is also what the formatter then puts there."""
+    ahead, inner = re.match(r"(\s*)(.*)", old).groups()
+    words = re.split(r"\s+", inner)
+    looked = re.escape(ahead) + re.escape(words[0])
+    for word in words[1:]:
+        looked += (r"[,;]?\s+" if word[:1] in ("}", ")") else r"\s+") + re.escape(word)
+    return [it.span() for it in re.finditer(looked, text)]
+
+
+def replaced(text, place, new):
+    """The text with another in a place of it."""
+    return text[:place[0]] + new + text[place[1]:]
+
+
 def without_generics(text):
     """The text without what stands in angle brackets."""
     before = None
@@ -133,13 +150,14 @@ def read_edit(path):
         if file not in texts:
             with open(whole, encoding="utf-8") as it:
                 texts[file] = it.read()
-        if texts[file].count(old) != 1:
-            raise Bad(f"an 'old:' text is in {file} {texts[file].count(old)} times, and not once")
-        line = texts[file][:texts[file].index(old)].count("\n")
+        places = places_of(texts[file], old)
+        if len(places) != 1:
+            raise Bad(f"an 'old:' text is in {file} {len(places)} times, and not once")
+        line = texts[file][:places[0][0]].count("\n")
         inside = [name for first, last, name in functions_of(file, texts[file]) if file.startswith("src/") and first <= line <= last]
         functions |= set(inside[-1:])
         beyond |= not inside
-        texts[file] = texts[file].replace(old, new)
+        texts[file] = replaced(texts[file], places[0], new)
     if not texts:
         raise Bad("it has no 'old:' and 'new:' pair")
     return Edit(path, texts, functions, beyond)
@@ -166,9 +184,10 @@ def merged(edits):
             if file not in texts:
                 with open(f"{TOP}/crates/{edit.path.split('/')[-2]}/{file}", encoding="utf-8") as it:
                     texts[file] = it.read()
-            if texts[file].count(old) != 1:
+            places = places_of(texts[file], old)
+            if len(places) != 1:
                 return None
-            texts[file] = texts[file].replace(old, new)
+            texts[file] = replaced(texts[file], places[0], new)
     return texts
 
 
