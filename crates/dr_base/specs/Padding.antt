@@ -1,5 +1,5 @@
--- Padding of values (PS3.5 section 6.2): a name or a UID may be followed by spaces and NULs, and a title also has spaces
--- in front that don't count.
+-- Padding of values (PS3.5 section 6.2): a name or a UID may be followed by spaces and NULs, and a
+-- title also has spaces in front that don't count.
 use Rattle.std.specs.Prelude.{ℕ, Bool, List, [], ◌∷◌, ◌==◌, ◌||◌, if◌then◌else◌}
 
 -- the byte is one that pads values: a NUL or a space (PS3.5 6.2)
@@ -21,6 +21,7 @@ abbrev pub without_spaces : List ℕ → List ℕ
 without_spaces [] = []
 without_spaces (b ∷ bs) = if b == 32 then without_spaces bs else b ∷ bs
 
--- a value without the spaces in front and the padding at its end, as titles and the values of a data set are read
+-- a value without the spaces in front and the padding at its end, as titles and the values of a
+-- data set are read
 abbrev pub trimmed : List ℕ → List ℕ
 trimmed bytes = unpadded (without_spaces bytes)

@@ -3,7 +3,8 @@ use Rattle.std.specs.Prelude.{◌≡◌, ℕ, List, codes}
 use Rattle.dr_base.specs.declared.syntax.Syntax.{Syntax}
 use Rattle.dr_base.specs.declared.syntax.Syntax.TheVariants.{Implicit, Explicit}
 
--- the UID of a transfer syntax: Implicit VR Little Endian (PS3.5 A.1) or Explicit VR Little Endian (A.2)
+-- the UID of a transfer syntax: Implicit VR Little Endian (PS3.5 A.1) or Explicit VR Little Endian
+-- (A.2)
 abbrev pub syntax_uid : Syntax → List ℕ
 syntax_uid Implicit = codes "1.2.840.10008.1.2"
 syntax_uid Explicit = codes "1.2.840.10008.1.2.1"

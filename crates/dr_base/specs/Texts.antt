@@ -9,7 +9,8 @@ use Rattle.std.specs.List.Sorted.{IsStrictlySortedBy}
 abbrev pub Text : Type 0
 Text = List ℕ
 
--- byte order: texts are compared byte by byte, and a text comes before each longer one that it begins
+-- byte order: texts are compared byte by byte, and a text comes before each longer one that it
+-- begins
 abbrev pub text_cmp : Text → Text → Ordering
 text_cmp = slice_cmp nat_cmp
 

@@ -1,5 +1,5 @@
-//! Values and definitions that every crate with a text or a grammar shares: byte texts and lists that
-//! contracts see as plain lists, and texts that are made of parts, one after the other.
+//! Values and definitions that every crate with a text or a grammar shares: byte texts and lists
+//! that contracts see as plain lists, and texts that are made of parts, one after the other.
 #![tactic(auto)]
 
 pub mod laws;

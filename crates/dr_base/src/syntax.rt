@@ -25,7 +25,8 @@ impl Syntax {
 
     /// The transfer syntax of this UID (without padding), and None where it is neither.
     pub fn of_uid(uid: &[u8]) -> Option<Syntax>
-        ensures { MatchOption result (NamesNoSyntax uid.now) (λ syntax. uid.now ≡ syntax_uid syntax) }
+        ensures { MatchOption result (NamesNoSyntax uid.now) (λ syntax.
+            uid.now ≡ syntax_uid syntax) }
     {
         if uid == b"1.2.840.10008.1.2".as_slice() {
             return Some(Syntax::Implicit);

@@ -32,7 +32,8 @@ IsInOrder certificate = AreLinesInOrder certificate.lines × AreHopsInOrder cert
 
 -- a walk from an entry comes to the stop, for some key of its cell
 abbrev pub IsReachedStop : Network → Stop → Type 0
-IsReachedStop plan stop = (key : Key) × LiesIn plan stop.cell key × IsReached plan key stop.caller stop.node
+IsReachedStop plan stop =
+    (key : Key) × LiesIn plan stop.cell key × IsReached plan key stop.caller stop.node
 
 -- the stop has a line, whatever its rank
 abbrev pub HasALine : List Line → Stop → Type 0
@@ -44,11 +45,15 @@ HasEachLine plan lines = (stop : Stop) → IsReachedStop plan stop → HasALine 
 
 -- each hop of a walk from an entry is accepted
 abbrev pub AcceptsEachHop : Network → Type 0
-AcceptsEachHop plan = (key : Key) (from to : Text) → Goes plan key from to → Accepts plan to from key.class key.syntax
+AcceptsEachHop plan =
+    (key : Key) (from to : Text) → Goes plan key from to → Accepts plan to from key.class key.syntax
 
 -- each node to which a walk comes keeps the instance or sends it on
 abbrev pub GoesOnEverywhere : Network → Type 0
-GoesOnEverywhere plan = (key : Key) (caller name : Text) → IsReached plan key caller name → Keeps plan name caller key ⊎ ((to : Text) × Sends plan name caller key to)
+GoesOnEverywhere plan =
+    (key : Key) (caller name : Text)
+    → IsReached plan key caller name
+    → Keeps plan name caller key ⊎ ((to : Text) × Sends plan name caller key to)
 
 -- a walk comes to the stop of each line
 abbrev pub ReachesEachLine : Network → List Line → Type 0
@@ -60,7 +65,11 @@ HasRightRanks plan lines = (line : Line) → Contains lines line → HasLine pla
 
 -- no hop has more than 128 pairs
 abbrev pub HasFewPairs : Network → Type 0
-HasFewPairs plan = (from to : Text) (apart : List (Text × Syntax)) → AllPairs (λ p q. p ≢ q) apart → All (GoesOver plan from to) apart → length apart ≤ 128
+HasFewPairs plan =
+    (from to : Text) (apart : List (Text × Syntax))
+    → AllPairs (λ p q. p ≢ q) apart
+    → All (GoesOver plan from to) apart
+    → length apart ≤ 128
 
 -- the hops are just those of the plan, with their numbers
 abbrev pub HasRightHops : Network → List Hop → Type 0
@@ -76,7 +85,8 @@ UpToOrder plan certificate = IsOfPlan plan certificate × IsInOrder certificate
 abbrev pub UpToLines : Network → Certificate → Type 0
 UpToLines plan certificate = UpToOrder plan certificate × HasEachLine plan certificate.lines
 
--- the conditions up to here: digest, order, a line for each stop, and each hop of a walk is accepted
+-- the conditions up to here: digest, order, a line for each stop, and each hop of a walk is
+-- accepted
 abbrev pub UpToContexts : Network → Certificate → Type 0
 UpToContexts plan certificate = UpToLines plan certificate × AcceptsEachHop plan
 
@@ -84,7 +94,8 @@ UpToContexts plan certificate = UpToLines plan certificate × AcceptsEachHop pla
 abbrev pub UpToEnds : Network → Certificate → Type 0
 UpToEnds plan certificate = UpToContexts plan certificate × GoesOnEverywhere plan
 
--- the conditions up to here: digest, order, lines, contexts, ends, and a walk comes to the stop of each line
+-- the conditions up to here: digest, order, lines, contexts, ends, and a walk comes to the stop of
+-- each line
 abbrev pub UpToReach : Network → Certificate → Type 0
 UpToReach plan certificate = UpToEnds plan certificate × ReachesEachLine plan certificate.lines
 

@@ -8,7 +8,11 @@ use Rattle.dr_cert.specs.contracts.hop_list.NumberedPassageOrd.TheImpl as order
 
 -- a hop of a certificate as its pair (sender, receiver, class, transfer syntax) with its id
 abbrev pub numbered : Hop → NumberedPassage
-numbered hop = record { passage = record { «from» = hop.from; «to» = hop.to; class = hop.class; syntax = hop.syntax }; id = hop.id }
+numbered hop = record {
+  passage =
+      record { «from» = hop.from; «to» = hop.to; class = hop.class; syntax = hop.syntax };
+  id = hop.id;
+}
 
 -- the order of pairs with their ids: by sender, receiver, class, transfer syntax, and then the id
 abbrev pub numbered_cmp : NumberedPassage → NumberedPassage → Ordering

@@ -35,5 +35,8 @@ line_of entry = record { stop = entry.0; rank = entry.1 }
 
 -- ranks by stops: for each stop that has lines just one of their ranks
 pub record AreRanksOf (lines : List Line) (ranks : BTreeMap Stop ℕ) : Type 0 where
-  pub sound : (stop : Stop) (rank : ℕ) → get stop_cmp ranks stop ≡ Some rank → Contains lines (record { stop = stop; rank = rank })
-  pub whole : (stop : Stop) → HasALine lines stop → (rank : ℕ) × (get stop_cmp ranks stop ≡ Some rank)
+  pub sound : (stop : Stop) (rank : ℕ)
+      → get stop_cmp ranks stop ≡ Some rank
+      → Contains lines (record { stop = stop; rank = rank })
+  pub whole : (stop : Stop) → HasALine lines stop
+      → (rank : ℕ) × (get stop_cmp ranks stop ≡ Some rank)

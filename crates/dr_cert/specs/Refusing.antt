@@ -8,8 +8,13 @@ use Rattle.dr_cert.specs.Sealing.{Certified}
 use Rattle.dr_cert_text.specs.declared.fault.ReadFault.{ReadFault}
 use Rattle.dr_cert_text.specs.declared.fault.ReadFault.TheVariants as read
 use Rattle.dr_cert.specs.declared.fault.CertFault.{CertFault}
-use Rattle.dr_cert.specs.declared.fault.CertFault.TheVariants.{Text, OtherPlan, Order, MissingLine, NoContext, DeadEnd, WrongRank, HopList, Memory}
-use Rattle.dr_cert.specs.Conditions.{IsOfPlan, IsInOrder, HasEachLine, AcceptsEachHop, GoesOnEverywhere, ReachesEachLine, HasRightRanks, HasRightHops, UpToOrder, UpToLines, UpToContexts, UpToEnds, UpToReach, UpToRanks}
+use Rattle.dr_cert.specs.declared.fault.CertFault.TheVariants.{Text, OtherPlan, Order, MissingLine}
+use Rattle.dr_cert.specs.declared.fault.CertFault.TheVariants.{NoContext, DeadEnd, WrongRank}
+use Rattle.dr_cert.specs.declared.fault.CertFault.TheVariants.{HopList, Memory}
+use Rattle.dr_cert.specs.Conditions.{IsOfPlan, IsInOrder, HasEachLine, AcceptsEachHop}
+use Rattle.dr_cert.specs.Conditions.{GoesOnEverywhere, ReachesEachLine, HasRightRanks, HasRightHops}
+use Rattle.dr_cert.specs.Conditions.{UpToOrder, UpToLines, UpToContexts, UpToEnds, UpToReach}
+use Rattle.dr_cert.specs.Conditions.{UpToRanks}
 
 -- the conditions before this one hold, and this one doesn't
 abbrev pub FailsAfter : Type 0 → Type 0 → Type 0
@@ -20,12 +25,17 @@ abbrev pub IsRefused : Network → Certificate → CertFault → Type 0
 IsRefused plan certificate Text = ⊥
 IsRefused plan certificate OtherPlan = IsOfPlan plan certificate → ⊥
 IsRefused plan certificate Order =
-    FailsAfter (IsOfPlan plan certificate) (IsInOrder certificate) ⊎ FailsAfter (UpToEnds plan certificate) (ReachesEachLine plan certificate.lines)
-IsRefused plan certificate MissingLine = FailsAfter (UpToOrder plan certificate) (HasEachLine plan certificate.lines)
+    FailsAfter (IsOfPlan plan certificate) (IsInOrder certificate)
+    ⊎ FailsAfter (UpToEnds plan certificate) (ReachesEachLine plan certificate.lines)
+IsRefused plan certificate MissingLine =
+    FailsAfter (UpToOrder plan certificate) (HasEachLine plan certificate.lines)
 IsRefused plan certificate NoContext = FailsAfter (UpToLines plan certificate) (AcceptsEachHop plan)
-IsRefused plan certificate DeadEnd = FailsAfter (UpToContexts plan certificate) (GoesOnEverywhere plan)
-IsRefused plan certificate WrongRank = FailsAfter (UpToReach plan certificate) (HasRightRanks plan certificate.lines)
-IsRefused plan certificate HopList = FailsAfter (UpToRanks plan certificate) (HasRightHops plan certificate.hops)
+IsRefused plan certificate DeadEnd =
+    FailsAfter (UpToContexts plan certificate) (GoesOnEverywhere plan)
+IsRefused plan certificate WrongRank =
+    FailsAfter (UpToReach plan certificate) (HasRightRanks plan certificate.lines)
+IsRefused plan certificate HopList =
+    FailsAfter (UpToRanks plan certificate) (HasRightHops plan certificate.hops)
 IsRefused plan certificate Memory = Unit {0}
 
 -- the fault of a certificate whose text isn't read, by the same name
@@ -33,7 +43,11 @@ abbrev pub named_for : ReadFault → CertFault
 named_for read.Text = Text
 named_for read.Memory = Memory
 
--- what sealing answers: a sound plan with its own certificate, as they are; else the first condition that fails
+-- what sealing answers: a sound plan with its own certificate, as they are; else the first
+-- condition that fails
 abbrev pub Seals : Network → Certificate → Result Certified CertFault → Type 0
-Seals plan certificate (Ok sealed) = (sealed ≡ record { plan = plan; certificate = certificate }) × IsSound plan × IsCertificateOf plan certificate
+Seals plan certificate (Ok sealed) =
+    (sealed ≡ record { plan = plan; certificate = certificate })
+    × IsSound plan
+    × IsCertificateOf plan certificate
 Seals plan certificate (Err fault) = IsRefused plan certificate fault

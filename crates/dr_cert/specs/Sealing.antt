@@ -21,13 +21,16 @@ pub record Certified : Type 0 where
 
 -- the modalities, stations and prefixes are those that the plan names, each in byte order
 pub record AreLiteralsOf (plan : Network) (literals : Literals) : Type 0 where
-  pub modalities : (t : Text) → Contains literals.modalities.literals t ↔ Contains (modalities_of plan) t
+  pub modalities : (t : Text)
+      → Contains literals.modalities.literals t ↔ Contains (modalities_of plan) t
   pub stations : (t : Text) → Contains literals.stations.literals t ↔ Contains (stations_of plan) t
   pub prefixes : (t : Text) → Contains literals.stations.prefixes t ↔ Contains (prefixes_of plan) t
   pub ordered : AreInOrder literals
 
--- what a sealed plan keeps: the plan is sound, this is its certificate, and its lines can be found by their stops
-pub record IsSealed (plan : Network) (certificate : Certificate) (literals : Literals) (index : List Line) : Type 0 where
+-- what a sealed plan keeps: the plan is sound, this is its certificate, and its lines can be found
+-- by their stops
+pub record IsSealed (plan : Network) (certificate : Certificate) (literals : Literals)
+    (index : List Line) : Type 0 where
   pub formed : IsWellFormed plan
   pub sound : IsSound plan
   pub own : IsCertificateOf plan certificate
@@ -37,5 +40,6 @@ pub record IsSealed (plan : Network) (certificate : Certificate) (literals : Lit
 
 -- the rank of the pair for the key where a walk from an entry comes to it, and none elsewhere
 abbrev pub IsRankIn : Network → Key → Text → Text → Option ℕ → Type 0
-IsRankIn plan key caller node (Some rank) = IsReached plan key caller node × IsRank plan key caller node rank
+IsRankIn plan key caller node (Some rank) =
+    IsReached plan key caller node × IsRank plan key caller node rank
 IsRankIn plan key caller node None = IsReached plan key caller node → ⊥

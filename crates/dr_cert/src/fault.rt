@@ -3,8 +3,8 @@ use dr_cert_text::ReadFault;
 use std::alloc::{AllocError, AllocFailed};
 use thiserror::Error;
 
-/// Why a certificate isn't accepted, in the order of the tests; Memory, which comes last, is answered only where a
-/// growth was refused.
+/// Why a certificate isn't accepted, in the order of the tests; Memory, which comes last, is
+/// answered only where a growth was refused.
 #[derive(Clone, Copy, PartialEq, Eq, Debug, Error)]
 pub enum CertFault {
     /// No certificate is written so.
@@ -13,8 +13,9 @@ pub enum CertFault {
     /// It is that of a plan with another SHA-256.
     #[error("C2 OtherPlan")]
     OtherPlan,
-    /// The lines or the hops aren't in the byte order of their printed rows, or one of them stands there twice;
-    /// or, where no fault before WrongRank shows, no walk from an entry comes to the stop of some line.
+    /// The lines or the hops aren't in the byte order of their printed rows, or one of them stands
+    /// there twice; or, where no fault before WrongRank shows, no walk from an entry comes to the
+    /// stop of some line.
     #[error("C8 Order")]
     Order,
     /// A walk from an entry comes to a stop that has no line.

@@ -49,7 +49,8 @@ fn numbered_passages(alloc: Global, hops: &[Hop]) -> Result<BTreeSet<NumberedPas
 
 /// Whether each of the hops is one of the others.
 fn are_among(alloc: Global, hops: &[Hop], others: &[Hop]) -> Result<bool, AllocError>
-    ensures { IfOk result (λ b. IsTrue b ↔ ((hop : HopValue) → Contains hops.now hop → Contains others.now hop)) }
+    ensures { IfOk result (λ b.
+        IsTrue b ↔ ((hop : HopValue) → Contains hops.now hop → Contains others.now hop)) }
 {
     let all = numbered_passages(alloc, others)?;
     for hop in hops {
@@ -63,7 +64,8 @@ fn are_among(alloc: Global, hops: &[Hop], others: &[Hop]) -> Result<bool, AllocE
 
 /// Whether both have the same hops.
 fn are_same(alloc: Global, hops: &[Hop], others: &[Hop]) -> Result<bool, AllocError>
-    ensures { IfOk result (λ b. IsTrue b ↔ ((hop : HopValue) → Contains hops.now hop ↔ Contains others.now hop)) }
+    ensures { IfOk result (λ b.
+        IsTrue b ↔ ((hop : HopValue) → Contains hops.now hop ↔ Contains others.now hop)) }
 {
     if !are_among(alloc, hops, others)? {
         return Ok(false);
@@ -72,10 +74,11 @@ fn are_same(alloc: Global, hops: &[Hop], others: &[Hop]) -> Result<bool, AllocEr
     Ok(back)
 }
 
-/// Whether the hops are just those of a plan, with their numbers, and none has more than 128 pairs, where these
-/// are the plan's lines.
+/// Whether the hops are just those of a plan, with their numbers, and none has more than 128 pairs,
+/// where these are the plan's lines.
 pub fn are_right_hops(alloc: Global, hops: &[Hop], lines: &[Line]) -> Result<bool, AllocError>
-    ensures { IfOk result (λ b. (plan : Network) → IsWellFormed plan → AreRanked plan lines.now → IsTrue b ↔ HasRightHops plan hops.now) }
+    ensures { IfOk result (λ b. (plan : Network) → IsWellFormed plan → AreRanked plan lines.now
+        → IsTrue b ↔ HasRightHops plan hops.now) }
 {
     match number_hops(alloc, lines)? {
         Numbered::TooMany { .. } => Ok(false),

@@ -3,7 +3,8 @@ ghost use Rattle.std.specs.Prelude.{◌≡◌, IfOk, MatchOption, map};
 ghost use Rattle.std.specs.BTreeMap.{keys};
 ghost use Rattle.std.specs.List.Sorted.{IsStrictlySortedBy};
 ghost use Rattle.dr_plan_sound.specs.Stops.{stop_cmp};
-ghost use Rattle.dr_cert.specs.Indexing.{IsIndexOf, AreSorted, StandsAt, HasNoLine, HasRank, AreRanksOf, line_of};
+ghost use Rattle.dr_cert.specs.Indexing.{IsIndexOf, AreSorted, StandsAt, HasNoLine, HasRank};
+ghost use Rattle.dr_cert.specs.Indexing.{AreRanksOf, line_of};
 
 use crate::place::Place;
 use dr_plan_sound::{Line, Stop};

@@ -1,5 +1,5 @@
-//! The verifier of certificates: a plan and its certificate, read back and trusted for nothing, become a sealed
-//! plan, whose type keeps that the plan is sound and that this is its certificate.
+//! The verifier of certificates: a plan and its certificate, read back and trusted for nothing,
+//! become a sealed plan, whose type keeps that the plan is sound and that this is its certificate.
 #![tactic(auto)]
 
 mod fault;

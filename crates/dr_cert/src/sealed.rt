@@ -16,7 +16,8 @@ use dr_route::{Key, Literals, cell_of};
 use std::alloc::{AllocError, Global};
 use std::marker::Model;
 
-/// A plan and its certificate, with what finds a line of it: the plan's literals, and the lines by their stops.
+/// A plan and its certificate, with what finds a line of it: the plan's literals, and the lines by
+/// their stops.
 #[derive(Drop)]
 struct Parts {
     plan: Plan,
@@ -25,7 +26,8 @@ struct Parts {
     index: Vec<Line>,
 }
 
-/// A plan with its certificate. None can be made but of a sound plan with just its certificate. It moves as a pointer.
+/// A plan with its certificate. None can be made but of a sound plan with just its certificate. It
+/// moves as a pointer.
 #[derive(Drop)]
 pub struct Sealed {
     parts: Box<Parts>,
@@ -36,9 +38,11 @@ impl Model for Sealed {
 
     ghost Value = { Certified };
 
-    ghost view = { λ s. record { plan = s.parts.value.plan; certificate = s.parts.value.certificate } };
+    ghost view = { λ s.
+        record { plan = s.parts.value.plan; certificate = s.parts.value.certificate } };
 
-    ghost invariant = { λ s. IsSealed s.parts.value.plan s.parts.value.certificate s.parts.value.literals s.parts.value.index.items };
+    ghost invariant = { λ s. IsSealed s.parts.value.plan s.parts.value.certificate
+        s.parts.value.literals s.parts.value.index.items };
 }
 
 /// Puts the parts of a sealed plan on the heap.
@@ -74,10 +78,11 @@ impl Sealed {
     ghost use Rattle.dr_cert.specs.Refusing.{Seals};
     ghost use Rattle.dr_cert.specs.Sealing.{IsRankIn};
 
-    /// Seals the plan with its certificate, which is trusted for nothing: each rank is tested against the plan,
-    /// and so are the lines and the hops. The faults are tested one after another, each over the whole
-    /// certificate: OtherPlan; Order (of lines and hops); MissingLine, NoContext and DeadEnd of what a walk from an
-    /// entry comes to; Order (of a line to which none comes); WrongRank; HopList.
+    /// Seals the plan with its certificate, which is trusted for nothing: each rank is tested
+    /// against the plan, and so are the lines and the hops. The faults are tested one after
+    /// another, each over the whole certificate: OtherPlan; Order (of lines and hops); MissingLine,
+    /// NoContext and DeadEnd of what a walk from an entry comes to; Order (of a line to which none
+    /// comes); WrongRank; HopList.
     pub fn new(alloc: Global, plan: Plan, certificate: Certificate) -> Result<Sealed, CertFault>
         ensures { Seals plan certificate result }
     {
@@ -127,8 +132,9 @@ impl Sealed {
         &self.parts.as_ref().certificate
     }
 
-    /// How many hops an instance of the key may still make from the node to which the caller brings it, at most;
-    /// None where no walk from an entry brings it there. It takes no memory: a binary search over the lines.
+    /// How many hops an instance of the key may still make from the node to which the caller brings
+    /// it, at most; None where no walk from an entry brings it there. It takes no memory: a binary
+    /// search over the lines.
     pub fn rank(&self, caller: &Text, node: &Text, key: &Key) -> Option<u32>
         ensures { IsRankIn self.now.plan key.now caller.now node.now result }
     {

@@ -41,8 +41,8 @@ pub fn test_order(alloc: Global, plan: &Plan, certificate: &Certificate) -> Resu
     Ok(())
 }
 
-/// The stops of the lines are those to which a walk comes, each is let in, and each goes on. The answer is
-/// whether the ranks are right among each other.
+/// The stops of the lines are those to which a walk comes, each is let in, and each goes on. The
+/// answer is whether the ranks are right among each other.
 fn test_walk(
     alloc: Global,
     plan: &Plan,
@@ -83,7 +83,8 @@ fn is_indexed(line: &Line, index: &[Line]) -> bool
 /// Whether each line is the one that the index has for its stop: so no stop has two lines.
 fn are_indexed(lines: &[Line], index: &[Line]) -> bool
     requires { AreSorted index.now }
-    ensures { IsTrue result ↔ ((line : LineValue) → Contains lines.now line → Contains index.now line) }
+    ensures { IsTrue result
+        ↔ ((line : LineValue) → Contains lines.now line → Contains index.now line) }
 {
     for line in lines {
         if !is_indexed(line, index) {

@@ -11,14 +11,16 @@ use dr_plan_model::Plan;
 use dr_plan_sound::Line;
 use std::alloc::{AllocError, Global};
 
-/// What was found of all stops to which a walk from an entry comes, and whether those are all lines.
+/// What was found of all stops to which a walk from an entry comes, and whether those are all
+/// lines.
 #[derive(Clone, Copy, Debug, Drop)]
 pub struct Walked {
     pub survey: Survey,
     pub reached: bool,
 }
 
-/// Walks over the lines from all entries of the plan; None where a stop to which a walk comes has no line.
+/// Walks over the lines from all entries of the plan; None where a stop to which a walk comes has
+/// no line.
 pub fn walk_lines(alloc: Global, plan: &Plan, lines: &[Line]) -> Result<Option<Walked>, AllocError>
     requires { AreSorted lines.now }
     ensures { IfOk result (Finds plan.now lines.now) }

@@ -1,5 +1,6 @@
 //! The walk over the lines of a certificate, from the entries of its plan on.
-ghost use Rattle.std.specs.Prelude.{◌≡◌, ◌<◌, ◌↔◌, ℕ, IsTrue, false, All, IfOk, Contains, Some, slice_get, length};
+ghost use Rattle.std.specs.Prelude.{◌≡◌, ◌<◌, ◌↔◌, ℕ, IsTrue, false, All, IfOk, Contains, Some};
+ghost use Rattle.std.specs.Prelude.{slice_get, length};
 ghost use Rattle.dr_base.specs.Texts.{Text as Words};
 ghost use Rattle.dr_plan_sound.specs.declared.certificate.Line.{Line as LineValue};
 ghost use Rattle.dr_route.specs.Routes.{local};
@@ -17,7 +18,8 @@ use dr_route::OwnedCell;
 use dr_route::cell::key_in;
 use std::alloc::{AllocError, Global};
 
-/// A stop to which a walk comes has no line: the lines among which it was looked for, and how many they are.
+/// A stop to which a walk comes has no line: the lines among which it was looked for, and how many
+/// they are.
 #[derive(Clone, Copy, Debug, Drop)]
 pub struct Missing<'a> {
     pub lines: &'a [Line],
@@ -56,7 +58,8 @@ fn unmarked(alloc: Global, count: usize) -> Result<Vec<bool>, AllocError>
 }
 
 impl<'a> Walker<'a> {
-    ghost use Rattle.dr_cert.specs.Walking.{IsWalking, IsComeTo, AfterMark, AfterTargets, AfterLook, AfterWalk, next_stop};
+    ghost use Rattle.dr_cert.specs.Walking.{IsWalking, IsComeTo, AfterMark, AfterTargets};
+    ghost use Rattle.dr_cert.specs.Walking.{AfterLook, AfterWalk, next_stop};
 
     /// A walker that has gone nowhere yet; the local caller is `-`.
     pub fn new(
@@ -86,7 +89,10 @@ impl<'a> Walker<'a> {
     /// Whether all lines have been reached.
     pub fn has_all(&self) -> bool
         requires { IsWalking self.now }
-        ensures { IsTrue result ↔ ((place : ℕ) → place < length self.now.lines.now → Contains self.now.reached.items place) }
+        ensures { IsTrue result
+            ↔ ((place : ℕ)
+            → place < length self.now.lines.now
+            → Contains self.now.reached.items place) }
     {
         for mark in self.marks.as_slice() {
             if !*mark {
@@ -112,11 +118,12 @@ impl<'a> Walker<'a> {
         Ok(Some(place))
     }
 
-    /// Goes to the stops at which the instances come to the targets, and gives the rank that they call for; None
-    /// where one of them has no line.
+    /// Goes to the stops at which the instances come to the targets, and gives the rank that they
+    /// call for; None where one of them has no line.
     fn mark_targets(&mut self, stop: &Stop, targets: &[Text]) -> Result<Option<u64>, AllocError>
         requires walking { IsWalking self.old }
-        requires come_to { (to : Words) → Contains targets.now to → IsComeTo self.old.plan.now (next_stop stop.now to) }
+        requires come_to { (to : Words) → Contains targets.now to
+            → IsComeTo self.old.plan.now (next_stop stop.now to) }
         ensures { IfOk result (AfterTargets self.old self.new stop.now targets.now) }
     {
         let lines = self.lines;
@@ -130,7 +137,8 @@ impl<'a> Walker<'a> {
         Ok(Some(rank))
     }
 
-    /// Goes on from the line, and says what is right about it; None where a stop that comes next has no line.
+    /// Goes on from the line, and says what is right about it; None where a stop that comes next
+    /// has no line.
     fn look(&mut self, line: &Line) -> Result<Option<Survey>, AllocError>
         requires walking { IsWalking self.old }
         requires come_to { IsComeTo self.old.plan.now line.now.stop }
@@ -149,8 +157,8 @@ impl<'a> Walker<'a> {
         }))
     }
 
-    /// Goes on from all that was reached, and says what is right about it; None where a stop to which a walk comes
-    /// has no line.
+    /// Goes on from all that was reached, and says what is right about it; None where a stop to
+    /// which a walk comes has no line.
     pub fn walk(&mut self) -> Result<Option<Survey>, AllocError>
         requires { IsWalking self.old }
         ensures { IfOk result (AfterWalk self.old self.new) }

@@ -1,5 +1,6 @@
 -- The pairs that go over hops, one list of them for all hops, and their numbers.
-use Rattle.std.specs.Prelude.{◌≡◌, ◌≢◌, ℕ, ◌+◌, ◌*◌, ◌≤◌, ◌↔◌, ◌&&◌, Bool, List, [], ◌∷◌, ◌++◌, length, filter, map, Contains, AllPairs, unwrap_or}
+use Rattle.std.specs.Prelude.{◌≡◌, ◌≢◌, ℕ, ◌+◌, ◌*◌, ◌≤◌, ◌↔◌, ◌&&◌, Bool, List, [], ◌∷◌, ◌++◌}
+use Rattle.std.specs.Prelude.{length, filter, map, Contains, AllPairs, unwrap_or}
 use Rattle.std.specs.declared.cmp.Ordering.{Ordering}
 use Rattle.std.specs.BTreeMap.{BTreeMap, get}
 use Rattle.std.specs.List.Sorted.{IsStrictlySortedBy}
@@ -32,9 +33,15 @@ pair_of p = (p.class, p.syntax)
 abbrev pub ends_at : Passage → Ends
 ends_at p = record { «from» = p.from; «to» = p.to }
 
--- the passage that a line shows: from its caller to its node, with the class and transfer syntax of its cell
+-- the passage that a line shows: from its caller to its node, with the class and transfer syntax of
+-- its cell
 abbrev pub shown_passage : Line → Passage
-shown_passage line = record { «from» = line.stop.caller; «to» = line.stop.node; class = line.stop.cell.class; syntax = line.stop.cell.syntax }
+shown_passage line = record {
+  «from» = line.stop.caller;
+  «to» = line.stop.node;
+  class = line.stop.cell.class;
+  syntax = line.stop.cell.syntax;
+}
 
 -- some of the lines shows the passage
 abbrev pub IsPassage : List Line → Passage → Type 0
@@ -59,21 +66,29 @@ counted counts p = unwrap_or (get ends_cmp counts (ends_at p)) 0
 
 -- the passage as a hop of a certificate, behind so many others: its id is 1, 3, 5 and so on
 abbrev pub hop_after : Passage → ℕ → Hop
-hop_after p before = record { «from» = p.from; «to» = p.to; id = 2 * before + 1; class = p.class; syntax = p.syntax }
+hop_after p before =
+    record { «from» = p.from; «to» = p.to; id = 2 * before + 1; class = p.class; syntax = p.syntax }
 
 -- the passages behind others, each with its number on its hop
 abbrev pub numbered_after : List Passage → List Passage → List Hop
 numbered_after before [] = []
-numbered_after before (p ∷ ps) = hop_after p (count_over p.from p.to before) ∷ numbered_after (before ++ p ∷ []) ps
+numbered_after before (p ∷ ps) =
+    hop_after p (count_over p.from p.to before) ∷ numbered_after (before ++ p ∷ []) ps
 
--- what numbering lines answers: the numbered hops that they show, or the first hop with more than 128 pairs
+-- what numbering lines answers: the numbered hops that they show, or the first hop with more than
+-- 128 pairs
 abbrev pub Numbers : List Line → Numbered → Type 0
 Numbers lines (numbered.Hops hops) = AreNumbered lines hops.items
 Numbers lines (numbered.TooMany a b) = IsFirstTooMany lines a b
 
--- what numbering passages answers: all of them numbered, over no hop more than 128; or the hop of the first passage
--- that is one more than 128
+-- what numbering passages answers: all of them numbered, over no hop more than 128; or the hop of
+-- the first passage that is one more than 128
 abbrev pub NumbersAll : List Passage → Numbered → Type 0
-NumbersAll all (numbered.Hops hops) = (hops.items ≡ numbered_after [] all) × ((a b : Text) → count_over a b all ≤ 128)
-NumbersAll all (numbered.TooMany a b) = (front : List Passage) × (q : Passage) × (rest : List Passage) × (all ≡ front ++ q ∷ rest) × (q.from ≡ a) × (q.to ≡ b)
-    × (count_over a b front ≡ 128) × ((c d : Text) → count_over c d front ≤ 128)
+NumbersAll all (numbered.Hops hops) =
+    (hops.items ≡ numbered_after [] all) × ((a b : Text) → count_over a b all ≤ 128)
+NumbersAll all (numbered.TooMany a b) =
+    (front : List Passage) × (q : Passage) × (rest : List Passage)
+    × (all ≡ front ++ q ∷ rest)
+    × (q.from ≡ a) × (q.to ≡ b)
+    × (count_over a b front ≡ 128)
+    × ((c d : Text) → count_over c d front ≤ 128)

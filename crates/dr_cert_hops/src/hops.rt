@@ -2,7 +2,8 @@
 ghost use Rattle.std.specs.Prelude.{◌≡◌, ◌<◌, ◌↔◌, IfOk, Contains};
 ghost use Rattle.std.specs.List.Sorted.{IsStrictlySortedBy};
 ghost use Rattle.dr_cert_hops.specs.declared.hops.Passage.{Passage as PassageValue};
-ghost use Rattle.dr_cert_hops.specs.Numbering.{ArePassages, Numbers, NumbersAll, shown_passage, ends_at, hop_after, passage_cmp};
+ghost use Rattle.dr_cert_hops.specs.Numbering.{ArePassages, Numbers, NumbersAll, shown_passage};
+ghost use Rattle.dr_cert_hops.specs.Numbering.{ends_at, hop_after, passage_cmp};
 
 use dr_base::{Syntax, Text};
 use dr_plan_sound::{Hop, Line};
@@ -10,7 +11,8 @@ use dr_route::is_local;
 use std::alloc::{AllocError, Global};
 use std::collections::{BTreeMap, BTreeSet};
 
-/// How many presentation contexts an association has at most: their ids are odd, 1 to 255 (PS3.8 7.1.1.13).
+/// How many presentation contexts an association has at most: their ids are odd, 1 to 255 (PS3.8
+/// 7.1.1.13).
 pub const MOST_CONTEXTS: u8 = 128;
 
 /// The hops of a plan, or the first that has too many pairs.
@@ -74,14 +76,16 @@ fn hop_of(passage: &Passage, before: u8) -> Result<Hop, AllocError>
 
 /// The passages of the set, in order.
 fn in_order(alloc: Global, passages: BTreeSet<Passage>) -> Result<Vec<Passage>, AllocError>
-    ensures same { IfOk result (λ v. (p : PassageValue) → Contains v.items p ↔ Contains passages.keys p) }
+    ensures same { IfOk result (λ v.
+        (p : PassageValue) → Contains v.items p ↔ Contains passages.keys p) }
     ensures ordered { IfOk result (λ v. IsStrictlySortedBy passage_cmp v.items) }
 {
     let listed: Vec<Passage> = passages.into_iter().collect(alloc)?;
     Ok(listed)
 }
 
-/// The pairs over all hops that the lines show, by sender, receiver, class and transfer syntax, each once.
+/// The pairs over all hops that the lines show, by sender, receiver, class and transfer syntax,
+/// each once.
 fn passages_of(alloc: Global, lines: &[Line]) -> Result<Vec<Passage>, AllocError>
     ensures { IfOk result (λ v. ArePassages lines.now v.items) }
 {
@@ -114,9 +118,9 @@ fn number(alloc: Global, passages: &[Passage]) -> Result<Numbered, AllocError>
     Ok(Numbered::Hops(hops))
 }
 
-/// The presentation contexts of the hops that the lines show: over each hop its pairs of class and transfer
-/// syntax, numbered 1, 3, 5 and so on in byte order of class, then transfer syntax. Where a hop has more than
-/// 128 pairs, the first such hop in byte order is named.
+/// The presentation contexts of the hops that the lines show: over each hop its pairs of class and
+/// transfer syntax, numbered 1, 3, 5 and so on in byte order of class, then transfer syntax. Where
+/// a hop has more than 128 pairs, the first such hop in byte order is named.
 pub fn number_hops(alloc: Global, lines: &[Line]) -> Result<Numbered, AllocError>
     ensures { IfOk result (Numbers lines.now) }
 {

@@ -1,5 +1,5 @@
-//! The presentation contexts of a plan's hops: the pairs of a class and a transfer syntax that go over each,
-//! numbered.
+//! The presentation contexts of a plan's hops: the pairs of a class and a transfer syntax that go
+//! over each, numbered.
 #![tactic(auto)]
 
 pub mod hops;

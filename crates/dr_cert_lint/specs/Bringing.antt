@@ -14,7 +14,9 @@ Brings flows class = (flow : Flow) × Contains flows flow × Contains flow.class
 
 -- some flow brings the class in that transfer syntax
 abbrev pub BringsIn : List Flow → Text → Syntax → Type 0
-BringsIn flows class syntax = (flow : Flow) × Contains flows flow × (Contains flow.classes class × Contains flow.syntaxes syntax)
+BringsIn flows class syntax =
+    (flow : Flow) × Contains flows flow
+    × (Contains flow.classes class × Contains flow.syntaxes syntax)
 
 -- one of those is the same flow
 abbrev pub IsAgain : List Flow → Flow → Type 0

@@ -1,5 +1,6 @@
 -- The graph of a network, in the language of Graphviz.
-use Rattle.std.specs.Prelude.{◌≡◌, ◌↔◌, Bool, List, [], ◌∷◌, ◌++◌, codes, decimal, flat_map, if◌then◌else◌, IsTrue}
+use Rattle.std.specs.Prelude.{◌≡◌, ◌↔◌, Bool, List, [], ◌∷◌, ◌++◌, codes, decimal, flat_map}
+use Rattle.std.specs.Prelude.{if◌then◌else◌, IsTrue}
 use Rattle.std.specs.Borrow.{Bor}
 use Rattle.dr_base.specs.Texts.{Text}
 use Rattle.dr_route.specs.Routes.{KeepsBy}
@@ -16,7 +17,10 @@ use Rattle.dr_cert_lint.specs.declared.edges.Edge.{Edge}
 
 -- the node keeps something that comes there
 abbrev pub KeepsSome : Network → Node → Type 0
-KeepsSome plan node = (key : Key) × (caller : Text) × IsReached plan key caller node.name × KeepsBy node.rules caller key
+KeepsSome plan node =
+    (key : Key) × (caller : Text)
+    × IsReached plan key caller node.name
+    × KeepsBy node.rules caller key
 
 -- what stands before a label
 abbrev pub label_start : Text
@@ -26,30 +30,40 @@ label_start = codes " [label=" ++ (34 ∷ [])
 abbrev pub row_end : Text
 row_end = codes "];" ++ (10 ∷ [])
 
--- the row of a node: title and address, round corners where instances enter, and a double line where they are kept
+-- the row of a node: title and address, round corners where instances enter, and a double line
+-- where they are kept
 abbrev pub vertex_row : Node → Bool → Bool → Text
 vertex_row node enters keeps =
-    codes "  " ++ quoted node.name ++ label_start ++ escaped node.name ++ (92 ∷ codes "n") ++ escaped node.address ++ (34 ∷ [])
-    ++ (if enters then codes ", style=rounded" else []) ++ (if keeps then codes ", peripheries=2" else []) ++ row_end
+    codes "  " ++ quoted node.name ++ label_start ++ escaped node.name ++ (92 ∷ codes "n")
+    ++ escaped node.address ++ (34 ∷ []) ++ (if enters then codes ", style=rounded" else [])
+    ++ (if keeps then codes ", peripheries=2" else []) ++ row_end
 
 -- the row of a node of the plan
 abbrev pub IsVertexRow : Network → Node → Text → Type 0
-IsVertexRow plan node row = (enters : Bool) × (keeps : Bool) × (IsTrue enters ↔ EntersAt plan.flows node.name) × (IsTrue keeps ↔ KeepsSome plan node) × (row ≡ vertex_row node enters keeps)
+IsVertexRow plan node row =
+    (enters : Bool) × (keeps : Bool)
+    × (IsTrue enters ↔ EntersAt plan.flows node.name)
+    × (IsTrue keeps ↔ KeepsSome plan node)
+    × (row ≡ vertex_row node enters keeps)
 
 -- the row of an edge: from where to where, with the number of its contexts
 abbrev pub edge_row : Edge → Text
-edge_row edge = codes "  " ++ quoted edge.from ++ codes " -> " ++ quoted edge.to ++ label_start ++ decimal edge.contexts ++ (34 ∷ row_end)
+edge_row edge =
+    codes "  " ++ quoted edge.from ++ codes " -> " ++ quoted edge.to ++ label_start
+    ++ decimal edge.contexts ++ (34 ∷ row_end)
 
 -- the first rows
 abbrev pub head : Text
-head = codes "digraph network {" ++ (10 ∷ codes "  rankdir=LR;") ++ (10 ∷ codes "  node [shape=box];") ++ (10 ∷ [])
+head =
+    codes "digraph network {" ++ (10 ∷ codes "  rankdir=LR;") ++ (10 ∷ codes "  node [shape=box];")
+    ++ (10 ∷ [])
 
 -- the last row
 abbrev pub foot : Text
 foot = codes "}" ++ (10 ∷ [])
 
--- The text of the graph: a row for each node, in the order of the plan, and for each hop of the certificate, in its order, one row with
--- the number of its contexts.
+-- The text of the graph: a row for each node, in the order of the plan, and for each hop of the
+-- certificate, in its order, one row with the number of its contexts.
 pub record IsGraphText (plan : Network) (certificate : Certificate) (text : Text) : Type 0 where
   pub vertices : Text
   pub each_node : Rows (λ number. IsVertexRow plan) 1 plan.nodes vertices

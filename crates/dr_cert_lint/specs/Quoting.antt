@@ -4,7 +4,8 @@ use Rattle.dr_base.specs.Texts.{Text}
 
 -- a byte between quotes: a quote (34) and a backslash (92) stand behind a backslash
 abbrev pub escaped_byte : ℕ → Text
-escaped_byte byte = if byte == 34 then 92 ∷ 34 ∷ [] else (if byte == 92 then 92 ∷ 92 ∷ [] else byte ∷ [])
+escaped_byte byte =
+    if byte == 34 then 92 ∷ 34 ∷ [] else (if byte == 92 then 92 ∷ 92 ∷ [] else byte ∷ [])
 
 -- a text between quotes
 abbrev pub escaped : Text → Text

@@ -46,7 +46,8 @@ pub fn brings(flows: &[Flow], class: &Text) -> bool
 
 /// Whether the flow brings the class in that transfer syntax.
 fn is_brought_by(flow: &Flow, class: &Text, syntax: Syntax) -> bool
-    ensures { IsTrue result ↔ (Contains flow.now.classes class.now × Contains flow.now.syntaxes syntax) }
+    ensures { IsTrue result
+        ↔ (Contains flow.now.classes class.now × Contains flow.now.syntaxes syntax) }
 {
     flow.classes.as_slice().contains(class) && flow.syntaxes.as_slice().contains(&syntax)
 }

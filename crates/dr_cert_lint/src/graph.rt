@@ -18,7 +18,8 @@ const HEAD: &[u8] = b"digraph network {\n  rankdir=LR;\n  node [shape=box];\n";
 
 const FOOT: &[u8] = b"}\n";
 
-/// Adds the row of a node: one where instances enter has round corners, one that keeps them a double line.
+/// Adds the row of a node: one where instances enter has round corners, one that keeps them a
+/// double line.
 fn add_vertex_row(
     out: &mut Vec<u8>,
     node: &Node,
@@ -48,7 +49,10 @@ fn add_vertex(
     node: &Node,
 ) -> Result<(), AllocError>
     requires { Contains sealed.now.plan.nodes node.now }
-    ensures { OnOk result ((row : Words) × IsVertexRow sealed.now.plan node.now row × (out.new.items ≡ out.old.items ++ row)) }
+    ensures { OnOk result
+        ((row : Words)
+        × IsVertexRow sealed.now.plan node.now row
+        × (out.new.items ≡ out.old.items ++ row)) }
 {
     let enters = is_entry(sealed.plan().flows(), &node.name);
     let keeps = is_used(alloc, sealed, &node.name, Part::Kept(node.rules.as_slice()))?;
@@ -58,7 +62,10 @@ fn add_vertex(
 
 /// Adds the rows of all nodes of the plan.
 fn add_vertices(alloc: Global, out: &mut Vec<u8>, sealed: &Sealed) -> Result<(), AllocError>
-    ensures { OnOk result ((rows : Words) × Rows (λ number. IsVertexRow sealed.now.plan) 1 sealed.now.plan.nodes rows × (out.new.items ≡ out.old.items ++ rows)) }
+    ensures { OnOk result
+        ((rows : Words)
+        × Rows (λ number. IsVertexRow sealed.now.plan) 1 sealed.now.plan.nodes rows
+        × (out.new.items ≡ out.old.items ++ rows)) }
 {
     for node in sealed.plan().nodes() {
         add_vertex(alloc, out, sealed, node)?;
@@ -98,8 +105,8 @@ fn edges_in(alloc: Global, sealed: &Sealed) -> Result<Vec<Edge>, AllocError>
     Ok(edges)
 }
 
-/// The network of the plan as a graph for Graphviz: a vertex for each node, with its address, and an edge for each hop, with its
-/// number of presentation contexts.
+/// The network of the plan as a graph for Graphviz: a vertex for each node, with its address, and
+/// an edge for each hop, with its number of presentation contexts.
 ///
 /// Errors: want of memory.
 pub fn graph_text(alloc: Global, sealed: &Sealed) -> Result<Text, AllocError>

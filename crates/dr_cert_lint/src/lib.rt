@@ -1,5 +1,5 @@
-//! What the words `graph` and `lint` of the program `dr_router` print of a sealed plan: the network as a graph, and what is sound and
-//! still looks wrong.
+//! What the words `graph` and `lint` of the program `dr_router` print of a sealed plan: the network
+//! as a graph, and what is sound and still looks wrong.
 #![tactic(auto)]
 
 mod edges;

@@ -2,7 +2,10 @@
 ghost use Rattle.std.specs.Prelude.{◌≡◌, ◌↔◌, ◌++◌, ◌-◌, IfOk, OnOk, IsTrue, Contains, take};
 ghost use Rattle.dr_cert_lint.specs.Bringing.{Brings};
 ghost use Rattle.dr_base.specs.Texts.{Text as Words};
-ghost use Rattle.dr_cert_lint.specs.Findings.{IsAcceptText, IsFlowText, IsLintText, IsNodeText, IsRuleText, IsSyntaxText, IsUnusedText, IsWholeText, flow_row, rule_row, syntax_row, unused_row, whole_row};
+ghost use Rattle.dr_cert_lint.specs.Findings.{IsAcceptText, IsFlowText, IsLintText, IsNodeText};
+ghost use Rattle.dr_cert_lint.specs.Findings.{IsRuleText, IsSyntaxText, IsUnusedText, IsWholeText};
+ghost use Rattle.dr_cert_lint.specs.Findings.{flow_row, rule_row, syntax_row, unused_row};
+ghost use Rattle.dr_cert_lint.specs.Findings.{whole_row};
 ghost use Rattle.dr_cert_lint.specs.Texts.{Rows};
 
 use crate::flows::{brings, brings_in, is_among};
@@ -32,7 +35,10 @@ fn add_whole(
     sealed: &Sealed,
     node: &Node,
 ) -> Result<(), AllocError>
-    ensures { OnOk result ((text : Words) × IsWholeText sealed.now.plan node.now text × (out.new.items ≡ out.old.items ++ text)) }
+    ensures { OnOk result
+        ((text : Words)
+        × IsWholeText sealed.now.plan node.now text
+        × (out.new.items ≡ out.old.items ++ text)) }
 {
     if is_used(alloc, sealed, &node.name, Part::Whole)? {
         return Ok(());
@@ -66,7 +72,10 @@ fn add_unused(
     number: usize,
     row: &AcceptRow,
 ) -> Result<(), AllocError>
-    ensures { OnOk result ((text : Words) × IsUnusedText sealed.now.plan node.now number row.now text × (out.new.items ≡ out.old.items ++ text)) }
+    ensures { OnOk result
+        ((text : Words)
+        × IsUnusedText sealed.now.plan node.now number row.now text
+        × (out.new.items ≡ out.old.items ++ text)) }
 {
     if is_used(alloc, sealed, &node.name, Part::Row(row))? {
         return Ok(());
@@ -83,7 +92,8 @@ fn add_syntax_row(
     row: &AcceptRow,
     syntax: Syntax,
 ) -> Result<(), AllocError>
-    ensures { OnOk result (out.new.items ≡ out.old.items ++ syntax_row node.now number row.now syntax) }
+    ensures { OnOk result
+        (out.new.items ≡ out.old.items ++ syntax_row node.now number row.now syntax) }
 {
     out.extend_from_slice(b"syntax")?;
     add_field(out, node.name.as_bytes())?;
@@ -100,7 +110,8 @@ fn is_wanted(flows: &[Flow], row: &AcceptRow, syntax: Syntax) -> bool
     row.syntaxes.as_slice().contains(&syntax) && brings(flows, &row.class)
 }
 
-/// Adds a row for a transfer syntax of an accept row in which no flow brings the row's class, while some flow brings it.
+/// Adds a row for a transfer syntax of an accept row in which no flow brings the row's class, while
+/// some flow brings it.
 fn add_syntax(
     out: &mut Vec<u8>,
     flows: &[Flow],
@@ -109,7 +120,10 @@ fn add_syntax(
     row: &AcceptRow,
     syntax: Syntax,
 ) -> Result<(), AllocError>
-    ensures { OnOk result ((text : Words) × IsSyntaxText flows.now node.now number row.now syntax text × (out.new.items ≡ out.old.items ++ text)) }
+    ensures { OnOk result
+        ((text : Words)
+        × IsSyntaxText flows.now node.now number row.now syntax text
+        × (out.new.items ≡ out.old.items ++ text)) }
 {
     if brings_in(flows, &row.class, syntax) {
         return Ok(());
@@ -130,7 +144,10 @@ fn add_accept(
     number: usize,
     row: &AcceptRow,
 ) -> Result<(), AllocError>
-    ensures { OnOk result ((text : Words) × IsAcceptText sealed.now.plan node.now number row.now text × (out.new.items ≡ out.old.items ++ text)) }
+    ensures { OnOk result
+        ((text : Words)
+        × IsAcceptText sealed.now.plan node.now number row.now text
+        × (out.new.items ≡ out.old.items ++ text)) }
 {
     add_unused(alloc, out, sealed, node, number, row)?;
     let flows = sealed.plan().flows();
@@ -146,7 +163,10 @@ fn add_accepts(
     sealed: &Sealed,
     node: &Node,
 ) -> Result<(), AllocError>
-    ensures { OnOk result ((text : Words) × Rows (IsAcceptText sealed.now.plan node.now) 1 node.now.accepts text × (out.new.items ≡ out.old.items ++ text)) }
+    ensures { OnOk result
+        ((text : Words)
+        × Rows (IsAcceptText sealed.now.plan node.now) 1 node.now.accepts text
+        × (out.new.items ≡ out.old.items ++ text)) }
 {
     let mut number = 0;
     for row in node.accepts.as_slice() {
@@ -177,7 +197,10 @@ fn add_rule(
 ) -> Result<(), AllocError>
     requires node { Contains sealed.now.plan.nodes node.now }
     requires rule { Contains node.now.rules rule.now }
-    ensures { OnOk result ((text : Words) × IsRuleText sealed.now.plan node.now number rule.now text × (out.new.items ≡ out.old.items ++ text)) }
+    ensures { OnOk result
+        ((text : Words)
+        × IsRuleText sealed.now.plan node.now number rule.now text
+        × (out.new.items ≡ out.old.items ++ text)) }
 {
     if is_used(alloc, sealed, &node.name, Part::Rule(rule))? {
         return Ok(());
@@ -194,7 +217,10 @@ fn add_rules(
     node: &Node,
 ) -> Result<(), AllocError>
     requires { Contains sealed.now.plan.nodes node.now }
-    ensures { OnOk result ((text : Words) × Rows (IsRuleText sealed.now.plan node.now) 1 node.now.rules text × (out.new.items ≡ out.old.items ++ text)) }
+    ensures { OnOk result
+        ((text : Words)
+        × Rows (IsRuleText sealed.now.plan node.now) 1 node.now.rules text
+        × (out.new.items ≡ out.old.items ++ text)) }
 {
     let mut number = 0;
     for rule in node.rules.as_slice() {
@@ -212,7 +238,10 @@ fn add_node(
     node: &Node,
 ) -> Result<(), AllocError>
     requires { Contains sealed.now.plan.nodes node.now }
-    ensures { OnOk result ((text : Words) × IsNodeText sealed.now.plan node.now text × (out.new.items ≡ out.old.items ++ text)) }
+    ensures { OnOk result
+        ((text : Words)
+        × IsNodeText sealed.now.plan node.now text
+        × (out.new.items ≡ out.old.items ++ text)) }
 {
     add_whole(alloc, out, sealed, node)?;
     add_accepts(alloc, out, sealed, node)?;
@@ -222,7 +251,10 @@ fn add_node(
 
 /// Adds the rows for all nodes of the plan.
 fn add_nodes(alloc: Global, out: &mut Vec<u8>, sealed: &Sealed) -> Result<(), AllocError>
-    ensures { OnOk result ((text : Words) × Rows (λ number. IsNodeText sealed.now.plan) 1 sealed.now.plan.nodes text × (out.new.items ≡ out.old.items ++ text)) }
+    ensures { OnOk result
+        ((text : Words)
+        × Rows (λ number. IsNodeText sealed.now.plan) 1 sealed.now.plan.nodes text
+        × (out.new.items ≡ out.old.items ++ text)) }
 {
     for node in sealed.plan().nodes() {
         add_node(alloc, out, sealed, node)?;
@@ -248,7 +280,10 @@ fn add_flow(
     number: usize,
     flow: &Flow,
 ) -> Result<(), AllocError>
-    ensures { OnOk result ((text : Words) × IsFlowText before.now number flow.now text × (out.new.items ≡ out.old.items ++ text)) }
+    ensures { OnOk result
+        ((text : Words)
+        × IsFlowText before.now number flow.now text
+        × (out.new.items ≡ out.old.items ++ text)) }
 {
     if is_among(before, flow) {
         add_flow_row(out, number, flow)?;
@@ -259,7 +294,10 @@ fn add_flow(
 
 /// Adds the rows for the flows.
 fn add_flows(out: &mut Vec<u8>, flows: &[Flow]) -> Result<(), AllocError>
-    ensures { OnOk result ((text : Words) × Rows (λ number. IsFlowText (take (number - 1) flows.now) number) 1 flows.now text × (out.new.items ≡ out.old.items ++ text)) }
+    ensures { OnOk result
+        ((text : Words)
+        × Rows (λ number. IsFlowText (take (number - 1) flows.now) number) 1 flows.now text
+        × (out.new.items ≡ out.old.items ++ text)) }
 {
     let mut number = 0;
     for flow in flows {
@@ -270,7 +308,8 @@ fn add_flows(out: &mut Vec<u8>, flows: &[Flow]) -> Result<(), AllocError>
     Ok(())
 }
 
-/// What is sound in the plan and still looks wrong: one line for each finding, those for the nodes first, in the order of the plan.
+/// What is sound in the plan and still looks wrong: one line for each finding, those for the nodes
+/// first, in the order of the plan.
 ///
 /// Errors: want of memory.
 pub fn lint_text(alloc: Global, sealed: &Sealed) -> Result<Text, AllocError>

@@ -23,7 +23,8 @@ pub enum Part<'a> {
     Kept(&'a [Rule]),
 }
 
-/// Whether the part is of use for what the caller brings. What enters at the node itself isn't accepted by a row.
+/// Whether the part is of use for what the caller brings. What enters at the node itself isn't
+/// accepted by a row.
 fn uses(alloc: Global, part: Part<'_>, caller: &Text, key: &Key) -> Result<bool, AllocError>
     ensures { IfOk result (λ b. IsTrue b ↔ Uses part.entry caller.now key.now) }
 {

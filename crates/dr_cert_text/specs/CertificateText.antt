@@ -17,7 +17,8 @@ row word fields = word ++ (9 ∷ fields) ++ (10 ∷ [])
 abbrev pub hop_row : Hop → Text
 hop_row hop = row (codes "hop") (printed_hop hop)
 
--- the row of a line: `line`, and then caller, node, class, transfer syntax, modality, station and rank
+-- the row of a line: `line`, and then caller, node, class, transfer syntax, modality, station and
+-- rank
 abbrev pub line_row : Line → Text
 line_row line = row (codes "line") (printed_line line)
 
@@ -30,9 +31,10 @@ version Two = codes "2"
 abbrev pub front : Format → Text
 front format = row (codes "certificate") (version format) ++ codes "plan" ++ (9 ∷ [])
 
--- the text of a certificate: its version, the SHA-256 of the plan's text in lower-case hex, the hops, the lines,
--- and nothing behind the end
+-- the text of a certificate: its version, the SHA-256 of the plan's text in lower-case hex, the
+-- hops, the lines, and nothing behind the end
 abbrev pub certificate_text : Certificate → Text
 certificate_text certificate =
-    row (codes "certificate") (version certificate.format) ++ row (codes "plan") (encode_lower certificate.digest)
-    ++ flat_map hop_row certificate.hops ++ flat_map line_row certificate.lines ++ codes "end" ++ (10 ∷ [])
+    row (codes "certificate") (version certificate.format)
+    ++ row (codes "plan") (encode_lower certificate.digest) ++ flat_map hop_row certificate.hops
+    ++ flat_map line_row certificate.lines ++ codes "end" ++ (10 ∷ [])

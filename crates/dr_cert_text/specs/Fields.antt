@@ -5,10 +5,13 @@ use Rattle.dr_cert_text.specs.Printable.{IsPlain}
 use Rattle.dr_cert_text.specs.declared.lines.LineFields.{LineFields}
 use Rattle.dr_cert_text.specs.declared.hops.HopFields.{HopFields}
 
--- the row, without its word, is these seven fields of a line joined by tabs; none has a tab or an LF in it
+-- the row, without its word, is these seven fields of a line joined by tabs; none has a tab or an
+-- LF in it
 pub record AreLineFields (row : List ℕ) (fields : LineFields) : Type 0 where
-  pub whole : row ≡ fields.caller.now ++ (9 ∷ fields.node.now) ++ (9 ∷ fields.class.now) ++ (9 ∷ syntax_uid fields.syntax)
-      ++ (9 ∷ fields.modality.now) ++ (9 ∷ fields.station.now) ++ (9 ∷ decimal fields.rank)
+  pub whole : row
+      ≡ fields.caller.now ++ (9 ∷ fields.node.now) ++ (9 ∷ fields.class.now)
+      ++ (9 ∷ syntax_uid fields.syntax) ++ (9 ∷ fields.modality.now) ++ (9 ∷ fields.station.now)
+      ++ (9 ∷ decimal fields.rank)
   pub caller : IsPlain fields.caller.now
   pub node : IsPlain fields.node.now
   pub class : IsPlain fields.class.now
@@ -16,9 +19,12 @@ pub record AreLineFields (row : List ℕ) (fields : LineFields) : Type 0 where
   pub station : IsPlain fields.station.now
   pub rank : fields.rank ≤ 4294967295
 
--- the row, without its word, is these five fields of a hop joined by tabs; none has a tab or an LF in it
+-- the row, without its word, is these five fields of a hop joined by tabs; none has a tab or an LF
+-- in it
 pub record AreHopFields (row : List ℕ) (fields : HopFields) : Type 0 where
-  pub whole : row ≡ fields.from.now ++ (9 ∷ fields.to.now) ++ (9 ∷ decimal fields.id) ++ (9 ∷ fields.class.now) ++ (9 ∷ syntax_uid fields.syntax)
+  pub whole : row
+      ≡ fields.from.now ++ (9 ∷ fields.to.now) ++ (9 ∷ decimal fields.id) ++ (9 ∷ fields.class.now)
+      ++ (9 ∷ syntax_uid fields.syntax)
   pub «from» : IsPlain fields.from.now
   pub «to» : IsPlain fields.to.now
   pub id : fields.id ≤ 255

@@ -13,15 +13,17 @@ use Rattle.dr_plan_sound.specs.declared.certificate.Certificate.{Certificate}
 abbrev pub IsPlain : Text → Type 0
 IsPlain text = All (λ byte. (byte ≢ 9) × (byte ≢ 10)) text
 
--- the field can be told from its text: a literal isn't `*`, which stands for none of the plan's literals
+-- the field can be told from its text: a literal isn't `*`, which stands for none of the plan's
+-- literals
 abbrev pub IsPlainField : OwnedField → Type 0
 IsPlainField (Literal literal) = IsPlain literal × (literal ≢ codes "*")
 IsPlainField Rest = Unit {0}
 
--- the part of the stations can be told from its text: a literal doesn't end with `*`, which stands behind a prefix, and a prefix isn't empty, as `*`
--- alone stands for the rest
+-- the part of the stations can be told from its text: a literal doesn't end with `*`, which stands
+-- behind a prefix, and a prefix isn't empty, as `*` alone stands for the rest
 abbrev pub IsPlainStation : OwnedStation → Type 0
-IsPlainStation (station.Literal literal) = IsPlain literal × ((front : Text) → literal ≡ front ++ codes "*" → ⊥)
+IsPlainStation (station.Literal literal) =
+    IsPlain literal × ((front : Text) → literal ≡ front ++ codes "*" → ⊥)
 IsPlainStation (station.Prefix prefix) = IsPlain prefix × (prefix ≢ [])
 IsPlainStation station.Rest = Unit {0}
 
@@ -45,7 +47,8 @@ pub record IsPrintableHop (hop : Hop) : Type 0 where
 abbrev pub IsDigest : List ℕ → Type 0
 IsDigest digest = (length digest ≡ 32) × All (λ byte. byte < 256) digest
 
--- a certificate that can be read back from its text: digest, hops and lines can, and it has at most 65,536 lines
+-- a certificate that can be read back from its text: digest, hops and lines can, and it has at most
+-- 65,536 lines
 pub record IsPrintable (certificate : Certificate) : Type 0 where
   pub digest : IsDigest certificate.digest
   pub hops : All IsPrintableHop certificate.hops

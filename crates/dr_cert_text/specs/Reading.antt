@@ -5,7 +5,8 @@ use Rattle.dr_cert_text.specs.CertificateText.{row}
 use Rattle.dr_cert_text.specs.declared.fault.ReadFault.{ReadFault}
 use Rattle.dr_cert_text.specs.declared.fault.ReadFault.TheVariants.{Text, Memory}
 
--- `written` gives the text of a value, and `Can` says which values can be read back: this one can, and has this text
+-- `written` gives the text of a value, and `Can` says which values can be read back: this one can,
+-- and has this text
 abbrev pub IsReadBack : {X : Type 0} → (X → List ℕ) → (X → Type 0) → List ℕ → X → Type 0
 IsReadBack written Can text x = (written x ≡ text) × Can x
 
@@ -24,11 +25,19 @@ abbrev pub BeginsWith : List ℕ → List ℕ → Type 0
 BeginsWith word text = (rest : List ℕ) × (text ≡ word ++ (9 ∷ []) ++ rest)
 
 -- the text is the rows of these values, and behind them is what begins with no such row
-abbrev pub AreRowsOf : {X : Type 0} → List ℕ → (X → List ℕ) → (X → Type 0) → List ℕ → List X → List ℕ → Type 0
-AreRowsOf word written Can text items rest = (text ≡ flat_map (λ item. row word (written item)) items ++ rest) × All Can items × (BeginsWith word rest → ⊥)
+abbrev pub AreRowsOf : {X : Type 0} → List ℕ → (X → List ℕ) → (X → Type 0) → List ℕ → List X
+    → List ℕ → Type 0
+AreRowsOf word written Can text items rest =
+    (text ≡ flat_map (λ item. row word (written item)) items ++ rest)
+    × All Can items
+    × (BeginsWith word rest → ⊥)
 
--- what reading rows answers: their values and the text behind them, that it has no such rows, or want of memory
-abbrev pub ReadsRows : {X : Type 0} → List ℕ → (X → List ℕ) → (X → Type 0) → List ℕ → Result (List X × Bor (List ℕ)) ReadFault → Type 0
+-- what reading rows answers: their values and the text behind them, that it has no such rows, or
+-- want of memory
+abbrev pub ReadsRows : {X : Type 0} → List ℕ → (X → List ℕ) → (X → Type 0) → List ℕ
+    → Result (List X × Bor (List ℕ)) ReadFault
+    → Type 0
 ReadsRows word written Can text (Ok found) = AreRowsOf word written Can text found.0 found.1.now
-ReadsRows {X} word written Can text (Err Text) = (items : List X) (rest : List ℕ) → AreRowsOf word written Can text items rest → ⊥
+ReadsRows {X} word written Can text (Err Text) =
+    (items : List X) (rest : List ℕ) → AreRowsOf word written Can text items rest → ⊥
 ReadsRows word written Can text (Err Memory) = Unit {0}

@@ -2,8 +2,8 @@
 use std::alloc::{AllocError, AllocFailed};
 use thiserror::Error;
 
-/// Why a text isn't read. Memory is answered only where a growth was refused, and it may come before a later
-/// row is known to be wrong.
+/// Why a text isn't read. Memory is answered only where a growth was refused, and it may come
+/// before a later row is known to be wrong.
 #[derive(Clone, Copy, PartialEq, Eq, Debug, Error)]
 pub enum ReadFault {
     /// No certificate is written so.

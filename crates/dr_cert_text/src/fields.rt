@@ -16,14 +16,16 @@ const TAB: u8 = 9;
 
 /// What follows these bytes, where the text begins with them.
 pub fn after<'a>(text: &'a [u8], start: &[u8]) -> Option<&'a [u8]>
-    ensures { MatchOption result ((rest : List ℕ) → text.now ≡ start.now ++ rest → ⊥) (λ rest. text.now ≡ start.now ++ rest.now) }
+    ensures { MatchOption result ((rest : List ℕ) → text.now ≡ start.now ++ rest → ⊥)
+        (λ rest. text.now ≡ start.now ++ rest.now) }
 {
     text.strip_prefix(start)
 }
 
 /// The part before the first mark, and what follows the mark; None where there is no mark.
 pub fn split_at_byte(text: &[u8], mark: u8) -> Option<(&[u8], &[u8])>
-    ensures { MatchOption result (Lacks mark text.now) (λ p. SplitsAt mark text.now p.0.now p.1.now) }
+    ensures { MatchOption result (Lacks mark text.now) (λ p.
+        SplitsAt mark text.now p.0.now p.1.now) }
 {
     for (i, byte) in text.iter().enumerate() {
         if *byte == mark {
@@ -36,14 +38,16 @@ pub fn split_at_byte(text: &[u8], mark: u8) -> Option<(&[u8], &[u8])>
 /// The first field of a row and what follows its tab; None where the row is one field.
 pub fn field_before_tab(row: &[u8]) -> Option<(&[u8], &[u8])>
     requires { Lacks 10 row.now }
-    ensures { MatchOption result (cuts 9 row.now ≡ row.now ∷ []) (λ p. CutsField row.now p.0.now p.1.now) }
+    ensures { MatchOption result (cuts 9 row.now ≡ row.now ∷ []) (λ p.
+        CutsField row.now p.0.now p.1.now) }
 {
     split_at_byte(row, TAB)
 }
 
 /// The number that is written so, without a sign or a leading zero.
 pub fn read_number(field: &[u8]) -> Option<u32>
-    ensures { MatchOption result (HasNone decimal (λ n. n ≤ 4294967295) field.now) (IsReadBack decimal (λ n. n ≤ 4294967295) field.now) }
+    ensures { MatchOption result (HasNone decimal (λ n. n ≤ 4294967295) field.now)
+        (IsReadBack decimal (λ n. n ≤ 4294967295) field.now) }
 {
     let Ok(text) = str::from_utf8(field) else {
         return None;
@@ -72,12 +76,14 @@ pub fn read_field(alloc: Global, field: &[u8]) -> Result<OwnedField, AllocError>
 
 /// What stands before these bytes, where the text ends with them.
 fn before<'a>(text: &'a [u8], end: &[u8]) -> Option<&'a [u8]>
-    ensures { MatchOption result ((front : List ℕ) → text.now ≡ front ++ end.now → ⊥) (λ front. text.now ≡ front.now ++ end.now) }
+    ensures { MatchOption result ((front : List ℕ) → text.now ≡ front ++ end.now → ⊥)
+        (λ front. text.now ≡ front.now ++ end.now) }
 {
     text.strip_suffix(end)
 }
 
-/// The part of the stations that is printed so: `*` is the rest, and another text with `*` at its end a prefix.
+/// The part of the stations that is printed so: `*` is the rest, and another text with `*` at its
+/// end a prefix.
 pub fn read_station(alloc: Global, field: &[u8]) -> Result<OwnedStation, AllocError>
     requires { IsPlain field.now }
     ensures { IfOk result (λ part. (printed_station part ≡ field.now) × IsPlainStation part) }
@@ -95,7 +101,8 @@ pub fn read_station(alloc: Global, field: &[u8]) -> Result<OwnedStation, AllocEr
 
 /// The digest that is written so in lower-case hex.
 pub fn read_digest(field: &[u8]) -> Option<[u8; 32]>
-    ensures { MatchOption result (HasNone encode_lower IsDigest field.now) (IsReadBack encode_lower IsDigest field.now) }
+    ensures { MatchOption result (HasNone encode_lower IsDigest field.now)
+        (IsReadBack encode_lower IsDigest field.now) }
 {
     let Ok(digest) = <[u8; 32] as FromHex>::from_hex(field) else {
         return None;

@@ -28,7 +28,8 @@ pub struct HopFields<'a> {
 /// The fields of a hop; None where no hop is printed so.
 fn cut_hop(row: &[u8]) -> Option<HopFields<'_>>
     requires { Lacks 10 row.now }
-    ensures { MatchOption result (HasNone printed_hop IsPrintableHop row.now) (AreHopFields row.now) }
+    ensures { MatchOption result (HasNone printed_hop IsPrintableHop row.now)
+        (AreHopFields row.now) }
 {
     let (from, after_from) = field_before_tab(row)?;
     let (to, after_to) = field_before_tab(after_from)?;

@@ -1,5 +1,9 @@
 //! Laws of certificates' texts.
-ghost use Rattle.dr_cert_text.specs.Laws.{OneCertificateForAText, OneLineForAText, OneHopForAText, StopsAreToldApart, OneStopForATextUpToTheRank, WhatIsWrittenIsRead, TextOfTheEmptyPlan, TabsAreNotToldApart, AnAsteriskIsNotTold, APrefixIsNotALiteral, FormatTwoIsVersionTwo, empty_plan};
+ghost use Rattle.dr_cert_text.specs.Laws.{OneCertificateForAText, OneLineForAText, OneHopForAText};
+ghost use Rattle.dr_cert_text.specs.Laws.{StopsAreToldApart, OneStopForATextUpToTheRank};
+ghost use Rattle.dr_cert_text.specs.Laws.{WhatIsWrittenIsRead, TextOfTheEmptyPlan};
+ghost use Rattle.dr_cert_text.specs.Laws.{TabsAreNotToldApart, AnAsteriskIsNotTold};
+ghost use Rattle.dr_cert_text.specs.Laws.{APrefixIsNotALiteral, FormatTwoIsVersionTwo, empty_plan};
 ghost use Rattle.dr_cert_text.specs.Printable.{IsPrintable};
 
 /// Two certificates that can be read back have one text only where they are equal.
@@ -7,8 +11,8 @@ pub fn a_text_has_one_certificate()
     ensures { OneCertificateForAText }
 {}
 
-/// Lines and hops that can be read back are printed alike only where they are equal; lines of different stops
-/// are printed differently.
+/// Lines and hops that can be read back are printed alike only where they are equal; lines of
+/// different stops are printed differently.
 pub fn printed_rows_tell_what_they_are_of()
     ensures line { OneLineForAText }
     ensures hop { OneHopForAText }

@@ -1,5 +1,5 @@
-//! Certificates as texts: the lines and hops of a certificate in the order of their printed bytes, a text of a
-//! certificate written, and a text read back.
+//! Certificates as texts: the lines and hops of a certificate in the order of their printed bytes,
+//! a text of a certificate written, and a text read back.
 #![tactic(auto)]
 
 pub mod fault;

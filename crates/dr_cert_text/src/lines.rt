@@ -29,7 +29,8 @@ pub struct LineFields<'a> {
 /// The fields of a line; None where no line is printed so.
 fn cut_line(row: &[u8]) -> Option<LineFields<'_>>
     requires { Lacks 10 row.now }
-    ensures { MatchOption result (HasNone printed_line IsPrintableLine row.now) (AreLineFields row.now) }
+    ensures { MatchOption result (HasNone printed_line IsPrintableLine row.now)
+        (AreLineFields row.now) }
 {
     let (caller, after_caller) = field_before_tab(row)?;
     let (node, after_node) = field_before_tab(after_caller)?;

@@ -1,8 +1,10 @@
 //! Lines and hops in the order of their printed bytes.
-ghost use Rattle.std.specs.Prelude.{◌≡◌, ◌≢◌, ◌↔◌, IfOk, All, AllPairs, Contains, length, map, nat_eq};
+ghost use Rattle.std.specs.Prelude.{◌≡◌, ◌≢◌, ◌↔◌, IfOk, All, AllPairs, Contains, length, map};
+ghost use Rattle.std.specs.Prelude.{nat_eq};
 ghost use Rattle.std.proofs.Common.{refl};
 ghost use Rattle.std.specs.Cmp.{partial_equiv_from_equiv, on_equiv, on_po, on_total};
-ghost use Rattle.std.specs.Cmp.Lexicographic.{pointwise, slice_cmp, nat_list_eq_equiv, nat_list_cmp_total, texts_po, texts_ties};
+ghost use Rattle.std.specs.Cmp.Lexicographic.{pointwise, slice_cmp, nat_list_eq_equiv};
+ghost use Rattle.std.specs.Cmp.Lexicographic.{nat_list_cmp_total, texts_po, texts_ties};
 ghost use Rattle.std.specs.Ordering.{nat_cmp, as_partial_cmp, on};
 ghost use Rattle.std.specs.declared.cmp.Ordering.TheVariants.{Less};
 ghost use Rattle.dr_base.specs.Texts.{text_cmp};
@@ -82,7 +84,8 @@ fn in_printed_order<P: Printed>(alloc: Global, items: Vec<P>) -> Result<Seq<P>, 
     requires { AllPairs (λ a b. P.printed a ≢ P.printed b) items.items }
     ensures same { IfOk result (λ seq. (item : P) → Contains seq item ↔ Contains items.items item) }
     ensures long { IfOk result (λ seq. length seq ≡ length items.items) }
-    ensures ordered { IfOk result (λ seq. AllPairs (λ a b. text_cmp (P.printed a) (P.printed b) ≡ Less) seq) }
+    ensures ordered { IfOk result (λ seq.
+        AllPairs (λ a b. text_cmp (P.printed a) (P.printed b) ≡ Less) seq) }
 {
     let mut all = with_texts(alloc, items)?;
     all.sort_unstable();
@@ -94,9 +97,11 @@ fn in_printed_order<P: Printed>(alloc: Global, items: Vec<P>) -> Result<Seq<P>, 
 pub fn order_lines(alloc: Global, lines: Vec<Line>) -> Result<Seq<Line>, AllocError>
     requires printable { All IsPrintableLine lines.items }
     requires different { AllPairs (λ a b. a ≢ b) lines.items }
-    ensures same { IfOk result (λ seq. (line : LineValue) → Contains seq line ↔ Contains lines.items line) }
+    ensures same { IfOk result (λ seq.
+        (line : LineValue) → Contains seq line ↔ Contains lines.items line) }
     ensures long { IfOk result (λ seq. length seq ≡ length lines.items) }
-    ensures ordered { IfOk result (λ seq. AllPairs (λ a b. text_cmp (printed_line a) (printed_line b) ≡ Less) seq) }
+    ensures ordered { IfOk result (λ seq.
+        AllPairs (λ a b. text_cmp (printed_line a) (printed_line b) ≡ Less) seq) }
 {
     in_printed_order(alloc, lines)
 }
@@ -105,9 +110,11 @@ pub fn order_lines(alloc: Global, lines: Vec<Line>) -> Result<Seq<Line>, AllocEr
 pub fn order_hops(alloc: Global, hops: Vec<Hop>) -> Result<Seq<Hop>, AllocError>
     requires printable { All IsPrintableHop hops.items }
     requires different { AllPairs (λ a b. a ≢ b) hops.items }
-    ensures same { IfOk result (λ seq. (hop : HopValue) → Contains seq hop ↔ Contains hops.items hop) }
+    ensures same { IfOk result (λ seq.
+        (hop : HopValue) → Contains seq hop ↔ Contains hops.items hop) }
     ensures long { IfOk result (λ seq. length seq ≡ length hops.items) }
-    ensures ordered { IfOk result (λ seq. AllPairs (λ a b. text_cmp (printed_hop a) (printed_hop b) ≡ Less) seq) }
+    ensures ordered { IfOk result (λ seq.
+        AllPairs (λ a b. text_cmp (printed_hop a) (printed_hop b) ≡ Less) seq) }
 {
     in_printed_order(alloc, hops)
 }

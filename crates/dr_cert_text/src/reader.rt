@@ -1,5 +1,6 @@
 //! A certificate read back from its text.
-ghost use Rattle.std.specs.Prelude.{◌≡◌, ◌≢◌, ◌++◌, ◌∷◌, [], ℕ, List, MatchOption, MatchResult, All, flat_map};
+ghost use Rattle.std.specs.Prelude.{◌≡◌, ◌≢◌, ◌++◌, ◌∷◌, [], ℕ, List, MatchOption, MatchResult};
+ghost use Rattle.std.specs.Prelude.{All, flat_map};
 ghost use Rattle.dr_cert_text.specs.CertificateText.{row, front, certificate_text};
 ghost use Rattle.dr_cert_text.specs.Cuts.{Lacks};
 ghost use Rattle.dr_plan_model.specs.declared.plan.Format.{Format as FormatValue};
@@ -39,7 +40,9 @@ fn read_rows<P: Printed>(alloc: Global, text: &[u8]) -> Result<(Seq<P>, &[u8]), 
 
 /// The version of the certificate, and what follows the words before its digest.
 fn read_front(text: &[u8]) -> Option<(Format, &[u8])>
-    ensures { MatchOption result ((format : FormatValue) (rest : List ℕ) → text.now ≡ front format ++ rest → ⊥) (λ p. text.now ≡ front p.0 ++ p.1.now) }
+    ensures { MatchOption result
+        ((format : FormatValue) (rest : List ℕ) → text.now ≡ front format ++ rest → ⊥)
+        (λ p. text.now ≡ front p.0 ++ p.1.now) }
 {
     if let Some(behind) = after(text, front_of(Format::One)) {
         return Some((Format::One, behind));
@@ -50,11 +53,12 @@ fn read_front(text: &[u8]) -> Option<(Format, &[u8])>
     }
 }
 
-/// The certificate of this text, in one pass: it takes exactly the texts that `write_certificate` writes of
-/// certificates that can be read back. It does not test that the rows are in order.
+/// The certificate of this text, in one pass: it takes exactly the texts that `write_certificate`
+/// writes of certificates that can be read back. It does not test that the rows are in order.
 ///
-/// Errors: Text where no such certificate has the text, as with a CR before an LF, an upper-case digest, a number
-/// with a leading zero or beyond its range, a 65,537th line, or anything behind the row `end`; Memory.
+/// Errors: Text where no such certificate has the text, as with a CR before an LF, an upper-case
+/// digest, a number with a leading zero or beyond its range, a 65,537th line, or anything behind
+/// the row `end`; Memory.
 pub fn read_certificate(alloc: Global, text: &[u8]) -> Result<Certificate, ReadFault>
     ensures { Reads certificate_text IsPrintable text.now result }
 {

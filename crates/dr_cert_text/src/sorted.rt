@@ -43,7 +43,8 @@ fn ascend(texts: &[Text]) -> bool
 
 /// Whether the values stand in the byte order of their texts, each text once.
 fn are_in_order<P: Printed>(alloc: Global, items: &[P]) -> Result<bool, AllocError>
-    ensures { IfOk result (λ b. IsTrue b ↔ AllPairs (λ x y. text_cmp (P.printed x) (P.printed y) ≡ Less) items.now) }
+    ensures { IfOk result (λ b.
+        IsTrue b ↔ AllPairs (λ x y. text_cmp (P.printed x) (P.printed y) ≡ Less) items.now) }
 {
     let texts = texts_of(alloc, items)?;
     Ok(ascend(texts.as_slice()))
@@ -51,14 +52,16 @@ fn are_in_order<P: Printed>(alloc: Global, items: &[P]) -> Result<bool, AllocErr
 
 /// Whether the lines stand in the byte order of their printed texts, none twice.
 pub fn are_lines_in_order(alloc: Global, lines: &[Line]) -> Result<bool, AllocError>
-    ensures { IfOk result (λ b. IsTrue b ↔ AllPairs (λ x y. text_cmp (printed_line x) (printed_line y) ≡ Less) lines.now) }
+    ensures { IfOk result (λ b.
+        IsTrue b ↔ AllPairs (λ x y. text_cmp (printed_line x) (printed_line y) ≡ Less) lines.now) }
 {
     are_in_order(alloc, lines)
 }
 
 /// Whether the hops stand in the byte order of their printed texts, none twice.
 pub fn are_hops_in_order(alloc: Global, hops: &[Hop]) -> Result<bool, AllocError>
-    ensures { IfOk result (λ b. IsTrue b ↔ AllPairs (λ x y. text_cmp (printed_hop x) (printed_hop y) ≡ Less) hops.now) }
+    ensures { IfOk result (λ b.
+        IsTrue b ↔ AllPairs (λ x y. text_cmp (printed_hop x) (printed_hop y) ≡ Less) hops.now) }
 {
     are_in_order(alloc, hops)
 }

@@ -12,7 +12,9 @@ const LF: u8 = 10;
 
 /// Adds a row for each of the values.
 fn write_rows<P: Printed>(out: &mut Vec<u8>, items: &[P]) -> Result<(), AllocError>
-    ensures { OnOk result (out.new.items ≡ out.old.items ++ flat_map (λ item. row P.word (P.printed item)) items.now) }
+    ensures { OnOk result
+        (out.new.items
+        ≡ out.old.items ++ flat_map (λ item. row P.word (P.printed item)) items.now) }
 {
     for item in items {
         out.extend_from_slice(P::row_start())?;

@@ -21,27 +21,36 @@ abbrev pub IsKnown : BTreeSet (Text × Text) → Text → Text × Text → Type 
 IsKnown pairs site place = (place ≡ (local, site)) ⊎ HasPair pairs place
 
 -- the pairs of a node and of those others are there too, and no more
-abbrev pub AddsPairs : BTreeSet (Text × Text) → BTreeSet (Text × Text) → Text → (Text → Type 0) → Type 0
-AddsPairs old new from To = (pair : Text × Text) → HasPair new pair ↔ (HasPair old pair ⊎ ((pair.0 ≡ from) × To pair.1))
+abbrev pub AddsPairs : BTreeSet (Text × Text) → BTreeSet (Text × Text) → Text → (Text → Type 0)
+    → Type 0
+AddsPairs old new from To =
+    (pair : Text × Text) → HasPair new pair ↔ (HasPair old pair ⊎ ((pair.0 ≡ from) × To pair.1))
 
 -- from that place the key goes on to these, and the node keeps it or not
-pub record GoesOn (plan : Network) (key : Key) (place : Text × Text) (old new : BTreeSet (Text × Text)) (kept now_kept : BTreeSet Text) : Type 0 where
+pub record GoesOn (plan : Network) (key : Key) (place : Text × Text)
+    (old new : BTreeSet (Text × Text)) (kept now_kept : BTreeSet Text) : Type 0 where
   pub pairs : AddsPairs old new place.1 (λ to. Sends plan place.1 place.0 key to)
-  pub keeps : (name : Text) → HasName now_kept name ↔ (HasName kept name ⊎ ((name ≡ place.1) × Keeps plan place.1 place.0 key))
+  pub keeps : (name : Text)
+      → HasName now_kept name
+      ↔ (HasName kept name ⊎ ((name ≡ place.1) × Keeps plan place.1 place.0 key))
 
 -- where it isn't known that the key comes there, nothing is found; else all that is done there
-abbrev pub Passes : Network → Text → Key → Text × Text → BTreeSet (Text × Text) → BTreeSet (Text × Text) → BTreeSet Text → BTreeSet Text → Type 0
+abbrev pub Passes : Network → Text → Key → Text × Text → BTreeSet (Text × Text)
+    → BTreeSet (Text × Text) → BTreeSet Text → BTreeSet Text → Type 0
 Passes plan site key place old new kept now_kept =
-    ((IsKnown old site place → ⊥) × (new.keys ≡ old.keys) × (now_kept.keys ≡ kept.keys)) ⊎ (IsKnown old site place × GoesOn plan key place old new kept now_kept)
+    ((IsKnown old site place → ⊥) × (new.keys ≡ old.keys) × (now_kept.keys ≡ kept.keys))
+    ⊎ (IsKnown old site place × GoesOn plan key place old new kept now_kept)
 
 -- exactly the hops of the key's walks, and exactly the nodes that keep it
-pub record AreFound (plan : Network) (site : Text) (key : Key) (pairs : BTreeSet (Text × Text)) (keeps : BTreeSet Text) : Type 0 where
+pub record AreFound (plan : Network) (site : Text) (key : Key) (pairs : BTreeSet (Text × Text))
+    (keeps : BTreeSet Text) : Type 0 where
   pub goes : (from to : Text) → HasPair pairs (from, to) ↔ GoesOnTo plan site key from to
   pub ends : (dest : Text) → HasName keeps dest ↔ IsDestination plan local site key dest
 
 -- the key goes over the hop in this context, where the pairs are those on which it goes
 abbrev pub Carries : Key → BTreeSet (Text × Text) → Hop → Type 0
-Carries key pairs hop = (hop.class ≡ key.class) × (hop.syntax ≡ key.syntax) × HasPair pairs (hop.from, hop.to)
+Carries key pairs hop =
+    (hop.class ≡ key.class) × (hop.syntax ≡ key.syntax) × HasPair pairs (hop.from, hop.to)
 
 -- one more, if that is so; else the same
 abbrev pub AddsIf : {X : Type 0} → Type 0 → X → List X → List X → Type 0

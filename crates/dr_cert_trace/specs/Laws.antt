@@ -11,7 +11,11 @@ use Rattle.dr_cert_trace.specs.Traces.{IsJourney}
 
 -- a key that enters at a site has one journey
 abbrev pub OneJourney : Type 0
-OneJourney = (plan : Network) (site : Text) (key : Key) (a b : Journey) → IsJourney plan site key a → IsJourney plan site key b → a ≡ b
+OneJourney =
+    (plan : Network) (site : Text) (key : Key) (a b : Journey)
+    → IsJourney plan site key a
+    → IsJourney plan site key b
+    → a ≡ b
 
 -- the hop of the plan of two nodes, with its one presentation context
 abbrev pub the_hop : Hop
@@ -23,8 +27,11 @@ to_the_archive = record { rank = 1; hops = the_hop ∷ []; keeps = archive ∷ [
 
 -- an image of any modality and station
 abbrev pub an_image : Text → Text → Key
-an_image modality station = record { class = image; syntax = Explicit; modality = modality; station = station }
+an_image modality station =
+    record { class = image; syntax = Explicit; modality = modality; station = station }
 
 -- the journey of each image that enters at the scanner of the plan of two nodes
 abbrev pub TwoNodesJourney : Type 0
-TwoNodesJourney = (modality station : Text) → IsJourney (two_nodes (keep_all ∷ [])) scanner (an_image modality station) to_the_archive
+TwoNodesJourney =
+    (modality station : Text)
+    → IsJourney (two_nodes (keep_all ∷ [])) scanner (an_image modality station) to_the_archive

@@ -7,10 +7,12 @@ use Rattle.dr_plan_sound.specs.declared.certificate.Hop.{Hop}
 use Rattle.dr_plan_sound.specs.Printed.{printed_field, printed_station}
 use Rattle.dr_cert_trace.specs.declared.tracing.Journey.{Journey}
 
--- `cell`, and then class, transfer syntax, modality and station, as a line of the certificate has them
+-- `cell`, and then class, transfer syntax, modality and station, as a line of the certificate has
+-- them
 abbrev pub cell_row : OwnedCell → Text
 cell_row cell =
-    codes "cell" ++ (9 ∷ cell.class) ++ (9 ∷ syntax_uid cell.syntax) ++ (9 ∷ printed_field cell.modality) ++ (9 ∷ printed_station cell.station) ++ (10 ∷ [])
+    codes "cell" ++ (9 ∷ cell.class) ++ (9 ∷ syntax_uid cell.syntax)
+    ++ (9 ∷ printed_field cell.modality) ++ (9 ∷ printed_station cell.station) ++ (10 ∷ [])
 
 -- `rank`, and how many hops there are at most
 abbrev pub rank_row : ℕ → Text
@@ -26,4 +28,6 @@ keep_row name = codes "keep" ++ (9 ∷ name) ++ (10 ∷ [])
 
 -- the rows of a journey: the cell of its keys, its rank, its hops, and the nodes that keep
 abbrev pub journey_text : OwnedCell → Journey → Text
-journey_text cell journey = cell_row cell ++ rank_row journey.rank ++ flat_map hop_row journey.hops ++ flat_map keep_row journey.keeps
+journey_text cell journey =
+    cell_row cell ++ rank_row journey.rank ++ flat_map hop_row journey.hops
+    ++ flat_map keep_row journey.keeps

@@ -14,18 +14,23 @@ use Rattle.dr_cert_trace.specs.declared.tracing.Journey.{Journey}
 
 -- a walk of the key from the site, where it enters, ends with the pair (caller, name)
 abbrev pub ComesTo : Network → Text → Key → Text × Text → Type 0
-ComesTo plan site key place = (over : List Text) × IsWalk plan key local site over × (last_place local site over ≡ place)
+ComesTo plan site key place =
+    (over : List Text) × IsWalk plan key local site over × (last_place local site over ≡ place)
 
 -- on such a walk the key goes from the one node to the other
 abbrev pub GoesOnTo : Network → Text → Key → Text → Text → Type 0
-GoesOnTo plan site key from to = (caller : Text) × ComesTo plan site key (caller, from) × Sends plan from caller key to
+GoesOnTo plan site key from to =
+    (caller : Text) × ComesTo plan site key (caller, from) × Sends plan from caller key to
 
 -- the hop is one on which the key goes from there, and this is its context in the certificate
 abbrev pub IsHopOf : Network → Text → Key → Hop → Type 0
-IsHopOf plan site key hop = HasHop plan hop × (hop.class ≡ key.class) × (hop.syntax ≡ key.syntax) × GoesOnTo plan site key hop.from hop.to
+IsHopOf plan site key hop =
+    HasHop plan hop × (hop.class ≡ key.class)
+    × (hop.syntax ≡ key.syntax)
+    × GoesOnTo plan site key hop.from hop.to
 
--- Of a key that enters at the site: how many hops it makes at most, exactly the hops of its walks in the byte order of
--- their printed lines, and exactly the nodes that keep it, in byte order.
+-- Of a key that enters at the site: how many hops it makes at most, exactly the hops of its walks
+-- in the byte order of their printed lines, and exactly the nodes that keep it, in byte order.
 pub record IsJourney (plan : Network) (site : Text) (key : Key) (journey : Journey) : Type 0 where
   pub enters : IsEntry plan site key
   pub rank : IsRank plan key local site journey.rank

@@ -39,7 +39,8 @@ fn add_carried(
     key: &Key,
     pairs: &BTreeSet<(Text, Text)>,
 ) -> Result<(), AllocError>
-    ensures { OnOk result (AddsIf (Carries key.now pairs.now hop.now) hop.now own.old.items own.new.items) }
+    ensures { OnOk result
+        (AddsIf (Carries key.now pairs.now hop.now) hop.now own.old.items own.new.items) }
 {
     if !carries(hop, key, pairs)? {
         return Ok(());
@@ -55,7 +56,8 @@ pub fn contexts_of(
     key: &Key,
     pairs: &BTreeSet<(Text, Text)>,
 ) -> Result<Seq<Hop>, AllocError>
-    ensures each { IfOk result (λ all. (hop : PlannedHop) → Contains all hop ↔ (Contains hops.now hop × Carries key.now pairs.now hop)) }
+    ensures each { IfOk result (λ all. (hop : PlannedHop)
+        → Contains all hop ↔ (Contains hops.now hop × Carries key.now pairs.now hop)) }
     ensures ordered { AreInOrder hops.now → IfOk result AreInOrder }
 {
     let mut own = Vec::new(alloc);

@@ -1,5 +1,6 @@
-//! Where an instance goes that enters at a site of a sealed plan: over which hops, with which presentation contexts, and
-//! which nodes keep it; and what the word `route` of the program `dr_router` prints of it.
+//! Where an instance goes that enters at a site of a sealed plan: over which hops, with which
+//! presentation contexts, and which nodes keep it; and what the word `route` of the program
+//! `dr_router` prints of it.
 #![tactic(auto)]
 
 mod contexts;

@@ -22,7 +22,8 @@ pub fn has_pair(pairs: &BTreeSet<(Text, Text)>, pair: &(Text, Text)) -> bool
     pairs.contains(pair)
 }
 
-/// Whether it is known that a key comes to the place: it is where it enters, or a pair that was found.
+/// Whether it is known that a key comes to the place: it is where it enters, or a pair that was
+/// found.
 pub fn is_known(pairs: &BTreeSet<(Text, Text)>, site: &Text, place: &(Text, Text)) -> bool
     ensures { IsTrue result ↔ IsKnown pairs.now site.now place.now }
 {

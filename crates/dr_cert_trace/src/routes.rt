@@ -21,8 +21,8 @@ fn cell_in(alloc: Global, plan: &Plan, key: &Key) -> Result<OwnedCell, AllocErro
     Ok(cell)
 }
 
-/// The text of the journey of a key that enters at the site: its cell, how many hops it makes at most, its hops and the nodes
-/// that keep it; None where no flow at the site fits the key.
+/// The text of the journey of a key that enters at the site: its cell, how many hops it makes at
+/// most, its hops and the nodes that keep it; None where no flow at the site fits the key.
 ///
 /// Errors: want of memory.
 pub fn route_text(

@@ -8,7 +8,8 @@ use dr_plan_sound::Line;
 use dr_route::Key;
 use std::alloc::{AllocError, Global};
 
-/// A place that a key comes to, and how deep it lies: the fewer hops there may still be, the deeper.
+/// A place that a key comes to, and how deep it lies: the fewer hops there may still be, the
+/// deeper.
 #[derive(Drop)]
 pub struct Stage {
     pub depth: u32,
@@ -18,7 +19,8 @@ pub struct Stage {
 
 /// The stage of a place with this rank.
 fn stage_of(caller: &Text, node: &Text, rank: u32) -> Result<Stage, AllocError>
-    ensures { IfOk result (λ s. (s.place ≡ (caller.now, node.now)) × (s.depth + rank ≡ 2 ^ 32 - 1)) }
+    ensures { IfOk result (λ s.
+        (s.place ≡ (caller.now, node.now)) × (s.depth + rank ≡ 2 ^ 32 - 1)) }
 {
     let place = (caller.clone()?, node.clone()?);
     let depth = u32::MAX - rank;
@@ -32,7 +34,8 @@ fn add_stage(
     line: &Line,
     key: &Key,
 ) -> Result<(), AllocError>
-    ensures { OnOk result (Gathers sealed.now.plan key.now line.now stages.old.items stages.new.items) }
+    ensures { OnOk result
+        (Gathers sealed.now.plan key.now line.now stages.old.items stages.new.items) }
 {
     let stop = &line.stop;
     let Some(rank) = sealed.rank(&stop.caller, &stop.node, key) else {
@@ -42,7 +45,8 @@ fn add_stage(
     Ok(())
 }
 
-/// The places that the key comes to, in the order of the certificate's lines; one may stand there more than once.
+/// The places that the key comes to, in the order of the certificate's lines; one may stand there
+/// more than once.
 fn unsorted_stages(alloc: Global, sealed: &Sealed, key: &Key) -> Result<Vec<Stage>, AllocError>
     ensures { IfOk result (λ all. AreStages sealed.now.plan key.now all.items) }
 {

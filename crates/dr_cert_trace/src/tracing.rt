@@ -22,7 +22,8 @@ use std::alloc::{AllocError, Global};
 pub struct Journey {
     /// How many hops it makes at most.
     pub rank: u32,
-    /// The hops that it may make, each with its presentation context, in the byte order of their printed lines.
+    /// The hops that it may make, each with its presentation context, in the byte order of their
+    /// printed lines.
     pub hops: Seq<Hop>,
     /// The titles of the nodes that keep it, in byte order.
     pub keeps: Seq<Text>,
@@ -57,8 +58,8 @@ fn follow(
     Ok(Journey { rank, hops, keeps })
 }
 
-/// Where an instance of the key goes that enters at the site; None where no flow there fits it. A line of the certificate is
-/// looked at once, and each lookup is a binary search.
+/// Where an instance of the key goes that enters at the site; None where no flow there fits it. A
+/// line of the certificate is looked at once, and each lookup is a binary search.
 ///
 /// Errors: want of memory.
 pub fn trace(

@@ -21,7 +21,10 @@ use std::slice;
 
 /// One name more, if it is to be added.
 fn add_if(names: &mut BTreeSet<Text>, name: &Text, is_added: bool) -> Result<(), AllocError>
-    ensures { OnOk result ((other : Words) → HasName names.new other ↔ (HasName names.old other ⊎ ((other ≡ name.now) × IsTrue is_added))) }
+    ensures { OnOk result
+        ((other : Words)
+        → HasName names.new other
+        ↔ (HasName names.old other ⊎ ((other ≡ name.now) × IsTrue is_added))) }
 {
     if !is_added {
         return Ok(());
@@ -39,7 +42,8 @@ fn go_on(
     pairs: &mut BTreeSet<(Text, Text)>,
     keeps: &mut BTreeSet<Text>,
 ) -> Result<(), AllocError>
-    ensures { OnOk result (GoesOn plan.now key.now place.now pairs.old pairs.new keeps.old keeps.new) }
+    ensures { OnOk result
+        (GoesOn plan.now key.now place.now pairs.old pairs.new keeps.old keeps.new) }
 {
     let targets = sends(alloc, plan, &place.1, &place.0, key)?;
     add_pairs(pairs, &place.1, targets.to.as_slice())?;
@@ -57,7 +61,8 @@ fn pass(
     pairs: &mut BTreeSet<(Text, Text)>,
     keeps: &mut BTreeSet<Text>,
 ) -> Result<(), AllocError>
-    ensures { OnOk result (Passes plan.now site.now key.now place.now pairs.old pairs.new keeps.old keeps.new) }
+    ensures { OnOk result
+        (Passes plan.now site.now key.now place.now pairs.old pairs.new keeps.old keeps.new) }
 {
     if !is_known(pairs, site, place) {
         return Ok(());
@@ -65,8 +70,8 @@ fn pass(
     go_on(alloc, plan, key, place, pairs, keeps)
 }
 
-/// The hops of the key's walks from the site, and the nodes that keep it. A place is passed after all from which more hops may
-/// be left, so that it is known by then whether the key comes there.
+/// The hops of the key's walks from the site, and the nodes that keep it. A place is passed after
+/// all from which more hops may be left, so that it is known by then whether the key comes there.
 pub fn walk(
     alloc: Global,
     plan: &Plan,

@@ -18,7 +18,8 @@ use Rattle.dr_check.specs.declared.verdict.Verdict.TheVariants.{No}
 use Rattle.dr_certify.specs.declared.certificate.Refusal.{Refusal}
 use Rattle.dr_certify.specs.declared.certificate.Refusal.TheVariants.{Unsound, TooLarge, Memory}
 
--- the text writes a sound plan, and this is the text of the plan's certificate, which can be read back
+-- the text writes a sound plan, and this is the text of the plan's certificate, which can be read
+-- back
 pub record IsCertified (text output : Text) : Type 0 where
   pub plan : Network
   pub certificate : Certificate
@@ -28,17 +29,22 @@ pub record IsCertified (text output : Text) : Type 0 where
   pub printable : IsPrintable certificate
   pub printed : output ≡ certificate_text certificate
 
--- what is found of a text that writes a plan: its certificate; the fault that is named first of those that show that it isn't sound; or that it would
--- have too many lines; want of memory may be found of any
+-- what is found of a text that writes a plan: its certificate; the fault that is named first of
+-- those that show that it isn't sound; or that it would have too many lines; want of memory may be
+-- found of any
 abbrev pub Certifies : Text → Result Text Refusal → Type 0
 Certifies text (Ok output) = IsCertified text output
-Certifies text (Err (Unsound fault)) = (plan : Network) × Reads text (Ok plan) × Judges plan (No fault)
+Certifies text (Err (Unsound fault)) =
+    (plan : Network) × Reads text (Ok plan) × Judges plan (No fault)
 Certifies text (Err TooLarge) = (plan : Network) × Reads text (Ok plan) × IsTooLarge plan
 Certifies text (Err Memory) = Unit {0}
 
--- the text has a fault other than want of memory, or it writes a plan with a fault that shows itself, or with too many lines
+-- the text has a fault other than want of memory, or it writes a plan with a fault that shows
+-- itself, or with too many lines
 abbrev pub HasNoCertificate : Text → Type 0
-HasNoCertificate text = ((fault : PlanFault) × (fault ≢ NoMemory) × Reads text (Err fault)) ⊎ ((refusal : Refusal) × (refusal ≢ Memory) × Certifies text (Err refusal))
+HasNoCertificate text =
+    ((fault : PlanFault) × (fault ≢ NoMemory) × Reads text (Err fault))
+    ⊎ ((refusal : Refusal) × (refusal ≢ Memory) × Certifies text (Err refusal))
 
 -- what a text comes to: its certificate, or that it has none
 abbrev pub Finds : Text → Option Text → Type 0

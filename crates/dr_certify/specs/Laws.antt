@@ -11,8 +11,14 @@ NoTextHasBoth = (text output : Text) → IsCertified text output → HasNoCertif
 
 -- of all faults of a text's plan, one is told
 abbrev pub OneFaultIsTold : Type 0
-OneFaultIsTold = (text : Text) (f g : Fault) → Certifies text (Err (Unsound f)) → Certifies text (Err (Unsound g)) → f ≡ g
+OneFaultIsTold =
+    (text : Text) (f g : Fault)
+    → Certifies text (Err (Unsound f))
+    → Certifies text (Err (Unsound g))
+    → f ≡ g
 
 -- texts for which the same is printed have the same certificate
 abbrev pub OneCertificateIsPrinted : Type 0
-OneCertificateIsPrinted = (a b output : Text) (one : IsCertified a output) (other : IsCertified b output) → one.certificate ≡ other.certificate
+OneCertificateIsPrinted =
+    (a b output : Text) (one : IsCertified a output) (other : IsCertified b output)
+    → one.certificate ≡ other.certificate

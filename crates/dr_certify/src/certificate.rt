@@ -64,7 +64,8 @@ fn found_of(certified: Result<Text, Refusal>) -> Result<Option<Text>, AllocError
     }
 }
 
-/// The text of the certificate of the plan that this text writes; None where it writes none, or one that has no certificate.
+/// The text of the certificate of the plan that this text writes; None where it writes none, or one
+/// that has no certificate.
 fn certificate_of(alloc: Global, text: &[u8]) -> Result<Option<Text>, AllocError>
     ensures { IfOk result (Finds text.now) }
 {
@@ -75,8 +76,8 @@ fn certificate_of(alloc: Global, text: &[u8]) -> Result<Option<Text>, AllocError
     }
 }
 
-/// Prints to the output the certificate of the plan on the input, and answers whether it has one: where the text writes no plan, or
-/// the plan isn't sound or too large, nothing is printed.
+/// Prints to the output the certificate of the plan on the input, and answers whether it has one:
+/// where the text writes no plan, or the plan isn't sound or too large, nothing is printed.
 ///
 /// Errors: those of the input and of the output, and `OutOfMemory`.
 pub fn print_certificate<R: Read, W: Write>(
@@ -84,7 +85,9 @@ pub fn print_certificate<R: Read, W: Write>(
     input: &mut R,
     output: &mut W,
 ) -> io::Result<bool>
-    ensures printed { result ≡ Ok true → IfSome (R.remaining input.old) (λ text. Prints text (W.contents output.old) (W.contents output.new)) }
+    ensures printed { result ≡ Ok true
+        → IfSome (R.remaining input.old) (λ text.
+        Prints text (W.contents output.old) (W.contents output.new)) }
     ensures unprinted { result ≡ Ok false → W.contents output.new ≡ W.contents output.old }
     ensures none { result ≡ Ok false → IfSome (R.remaining input.old) HasNoCertificate }
 {

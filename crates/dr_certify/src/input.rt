@@ -1,5 +1,6 @@
 //! The standard input.
-ghost use Rattle.std.specs.Prelude.{◌≡◌, ◌<◌, ℕ, List, IfOk, OnOk, IfSome, length, true, Ok, vec_len};
+ghost use Rattle.std.specs.Prelude.{◌≡◌, ◌<◌, ℕ, List, IfOk, OnOk, IfSome, length, true, Ok};
+ghost use Rattle.std.specs.Prelude.{vec_len};
 ghost use Rattle.std.specs.Io.KnownBytes.{IsAtEnd};
 ghost use Rattle.dr_certify.specs.Inputs.{TakesIn};
 
@@ -25,7 +26,8 @@ fn empty_piece(alloc: Global, count: usize) -> Result<Vec<u8>, AllocError>
 /// Reads a piece of the input onto the text, and says whether the input is at its end.
 fn read_piece<R: Read>(input: &mut R, piece: &mut [u8], text: &mut Vec<u8>) -> io::Result<bool>
     requires { 0 < length piece.old }
-    ensures taken { OnOk result (TakesIn (R.remaining input.old) (R.remaining input.new) text.old.items text.new.items) }
+    ensures taken { OnOk result
+        (TakesIn (R.remaining input.old) (R.remaining input.new) text.old.items text.new.items) }
     ensures end { result ≡ Ok true → IsAtEnd (R.remaining input.new) }
 {
     let count = match input.read(piece) {

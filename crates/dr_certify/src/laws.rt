@@ -4,7 +4,8 @@ ghost use Rattle.dr_certify.specs.Laws.{NoTextHasBoth, OneCertificateIsPrinted, 
 use dr_check::laws::{one_is_named_first, too_large_has_many_lines};
 use dr_plan::laws::the_plan_of_a_text_is_well_formed;
 
-/// No text has a certificate and none: so what `print_certificate` answers follows from the text, want of memory and faults of input and output aside.
+/// No text has a certificate and none: so what `print_certificate` answers follows from the text,
+/// want of memory and faults of input and output aside.
 pub fn no_text_has_both()
     ensures { NoTextHasBoth }
 {

@@ -1,4 +1,5 @@
-//! The certificate of a plan's text: what the program of the first certificate prints, and what `check` prints of a sound plan.
+//! The certificate of a plan's text: what the program of the first certificate prints, and what
+//! `check` prints of a sound plan.
 #![tactic(auto)]
 
 mod certificate;

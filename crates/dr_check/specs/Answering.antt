@@ -12,15 +12,20 @@ use Rattle.dr_check.specs.declared.verdict.CheckFault.TheVariants.{TooLarge, Mem
 use Rattle.dr_check.specs.Firsts.{IsNamedFirst, IsFirstOfPlan}
 use Rattle.dr_check.specs.Shown.{IsShown, IsTooLarge}
 
--- Yes: the plan is sound, and the certificate is its own and not too large, and, as the plan's digest is a SHA-256, it can be
--- read back from its text. No: the fault shows itself, its walk is the first one from its entry that shows one, and its entry is the first one of the
--- plan from which a walk does.
+-- Yes: the plan is sound, and the certificate is its own and not too large, and, as the plan's
+-- digest is a SHA-256, it can be read back from its text. No: the fault shows itself, its walk is
+-- the first one from its entry that shows one, and its entry is the first one of the plan from
+-- which a walk does.
 abbrev pub Judges : Network → Verdict → Type 0
-Judges plan (Yes certificate) = IsSound plan × IsCertificateOf plan certificate × (length certificate.lines ≤ 65536)
+Judges plan (Yes certificate) =
+    IsSound plan
+    × IsCertificateOf plan certificate
+    × (length certificate.lines ≤ 65536)
     × (IsDigest plan.digest → IsPrintable certificate)
 Judges plan (No fault) = IsShown plan fault × IsNamedFirst plan fault × IsFirstOfPlan plan fault
 
--- what the checker answers: a verdict, or that there are more lines than a certificate may have, or want of memory
+-- what the checker answers: a verdict, or that there are more lines than a certificate may have, or
+-- want of memory
 abbrev pub Answers : Network → Result Verdict CheckFault → Type 0
 Answers plan (Ok verdict) = Judges plan verdict
 Answers plan (Err TooLarge) = IsTooLarge plan

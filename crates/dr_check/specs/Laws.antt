@@ -19,13 +19,21 @@ ShownFaultsAreUnsound = (plan : Network) (fault : Fault) → IsShown plan fault 
 
 -- where a plan is too large, its certificate, if it has one, has more than 65,536 lines
 abbrev pub TooLargeHasManyLines : Type 0
-TooLargeHasManyLines = (plan : Network) → IsTooLarge plan → IsSound plan → (certificate : Certificate) → IsCertificateOf plan certificate → 65536 < length certificate.lines
+TooLargeHasManyLines =
+    (plan : Network) → IsTooLarge plan → IsSound plan
+    → (certificate : Certificate)
+    → IsCertificateOf plan certificate
+    → 65536 < length certificate.lines
 
 -- of the faults that show themselves on walks of one entry, one is named first
 abbrev pub OneIsNamedAtAnEntry : Type 0
-OneIsNamedAtAnEntry = (plan : Network) (site : Text) (cell : OwnedCell) (f g : Fault) → IsOnWalk site cell f → IsOnWalk site cell g →
-    IsShown plan f → IsNamedFirst plan f → IsShown plan g → IsNamedFirst plan g → f ≡ g
+OneIsNamedAtAnEntry =
+    (plan : Network) (site : Text) (cell : OwnedCell) (f g : Fault)
+    → IsOnWalk site cell f → IsOnWalk site cell g → IsShown plan f → IsNamedFirst plan f
+    → IsShown plan g → IsNamedFirst plan g → f ≡ g
 
 -- of all faults of a plan, one is named
 abbrev pub OneIsNamedFirst : Type 0
-OneIsNamedFirst = (plan : Network) → IsWellFormed plan → (f g : Fault) → Judges plan (No f) → Judges plan (No g) → f ≡ g
+OneIsNamedFirst =
+    (plan : Network) → IsWellFormed plan → (f g : Fault) → Judges plan (No f) → Judges plan (No g)
+    → f ≡ g

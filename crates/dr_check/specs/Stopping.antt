@@ -7,7 +7,9 @@ use Rattle.dr_check.specs.declared.checker.Stopped.TheVariants.{Fault, TooLarge}
 use Rattle.dr_check.specs.Firsts.{IsNamedFirst, IsOnWalk}
 use Rattle.dr_check.specs.Shown.{IsShown, IsTooLarge}
 
--- the fault shows itself on a walk from the site for the keys of the cell, the first one that shows one; or the plan has too many lines
+-- the fault shows itself on a walk from the site for the keys of the cell, the first one that shows
+-- one; or the plan has too many lines
 abbrev pub IsStoppedAt : Network → Stopped → Text → OwnedCell → Type 0
-IsStoppedAt plan (Fault fault) site cell = IsShown plan fault × IsNamedFirst plan fault × IsOnWalk site cell fault
+IsStoppedAt plan (Fault fault) site cell =
+    IsShown plan fault × IsNamedFirst plan fault × IsOnWalk site cell fault
 IsStoppedAt plan TooLarge site cell = IsTooLarge plan

@@ -75,7 +75,10 @@ fn copy_of(cell: &OwnedCell) -> Result<OwnedCell, AllocError>
 
 /// Why the checker stops where the search ended, at the end of this walk of the cell's keys.
 fn stopped_by(end: End, walk: Vec<Text>, cell: OwnedCell) -> Stopped
-    ensures { (plan : Network) (site : Words) (over : List Words) → walk.items ≡ site ∷ over → IsFirstEnd plan cell walk.items end → IsStoppedAt plan result site cell }
+    ensures { (plan : Network) (site : Words) (over : List Words)
+        → walk.items ≡ site ∷ over
+        → IsFirstEnd plan cell walk.items end
+        → IsStoppedAt plan result site cell }
 {
     let walk = Seq::from_vec(walk);
     match end {

@@ -1,12 +1,15 @@
-//! The depth-first search over the walks of a plan's cells, with a mark for each stop that was entered.
-ghost use Rattle.std.specs.Prelude.{◌≡◌, ◌≢◌, ◌↔◌, ◌⊎◌, ◌++◌, ◌∷◌, [], IsTrue, IfOk, OnOk, Contains, false};
+//! The depth-first search over the walks of a plan's cells, with a mark for each stop that was
+//! entered.
+ghost use Rattle.std.specs.Prelude.{◌≡◌, ◌≢◌, ◌↔◌, ◌⊎◌, ◌++◌, ◌∷◌, [], IsTrue, IfOk, OnOk};
+ghost use Rattle.std.specs.Prelude.{Contains, false};
 ghost use Rattle.dr_base.specs.Texts.{Text as Words};
 ghost use Rattle.dr_route.specs.Routes.{local};
 ghost use Rattle.dr_route.specs.Laws.{key_of};
 ghost use Rattle.dr_plan_model.specs.Plans.{IsWellFormed, LiesIn};
 ghost use Rattle.dr_plan_model.specs.Walks.{Accepts};
 ghost use Rattle.dr_plan_model.specs.Laws.{IsCellOf};
-ghost use Rattle.dr_check.specs.Searching.{IsSearching, IsTrail, Finds, AfterReach, stop_at, mark_at};
+ghost use Rattle.dr_check.specs.Searching.{IsSearching, IsTrail, Finds, AfterReach, stop_at};
+ghost use Rattle.dr_check.specs.Searching.{mark_at};
 ghost use Rattle.dr_check.specs.Stacks.{IsTop, Enters, Leaves, GoesOn, Steps};
 ghost use Rattle.dr_check.specs.declared.search.Frame.{Frame as FrameValue};
 
@@ -30,8 +33,8 @@ pub enum Mark {
     Finished(u32),
 }
 
-/// The state of the search: the nodes of the walk that it is on, the marks, and the lines of the stops that it
-/// has finished.
+/// The state of the search: the nodes of the walk that it is on, the marks, and the lines of the
+/// stops that it has finished.
 #[derive(Drop)]
 pub struct Search {
     pub alloc: Global,
@@ -85,8 +88,8 @@ pub enum Found {
     End(End),
 }
 
-/// A stop that the search stands on: the nodes that it sends to, how many of them have been searched, and the rank that
-/// these call for.
+/// A stop that the search stands on: the nodes that it sends to, how many of them have been
+/// searched, and the rank that these call for.
 #[derive(Drop)]
 pub struct Frame {
     caller: Text,
@@ -96,10 +99,12 @@ pub struct Frame {
     rank: u32,
 }
 
-/// Whether the caller's association would have a presentation context for the cell at the node; nobody asks
-/// where instances enter at the node itself.
+/// Whether the caller's association would have a presentation context for the cell at the node;
+/// nobody asks where instances enter at the node itself.
 fn is_accepted(plan: &Plan, caller: &Text, node: &Text, cell: &OwnedCell) -> bool
-    ensures { IsTrue result ↔ ((caller.now ≡ local) ⊎ Accepts plan.now node.now caller.now cell.now.class cell.now.syntax) }
+    ensures { IsTrue result
+        ↔ ((caller.now ≡ local)
+        ⊎ Accepts plan.now node.now caller.now cell.now.class cell.now.syntax) }
 {
     is_local(caller) || sending::accepts(plan, node, caller, &cell.class, cell.syntax)
 }
@@ -125,14 +130,15 @@ fn mark_of(search: &Search, stop: &Stop) -> Option<Mark>
 /// Whether the node does nothing: it sends to nobody and doesn't keep.
 fn is_dead_end(targets: &Targets) -> bool
     ensures dead { IsTrue result → (targets.now.to ≡ []) × (targets.now.keep ≡ false) }
-    ensures alive { result ≡ false → IsTrue targets.now.keep ⊎ ((name : Words) × Contains targets.now.to name) }
+    ensures alive { result ≡ false
+        → IsTrue targets.now.keep ⊎ ((name : Words) × Contains targets.now.to name) }
 {
     targets.to.is_empty() && !targets.keep
 }
 
-/// Looks at the node as the next of the walk, and tests there, in this order: the hop is accepted, the stop
-/// doesn't stand on the walk already, and the node keeps the instance or sends it on. A stop that was finished
-/// isn't entered again.
+/// Looks at the node as the next of the walk, and tests there, in this order: the hop is accepted,
+/// the stop doesn't stand on the walk already, and the node keeps the instance or sends it on. A
+/// stop that was finished isn't entered again.
 fn look(
     search: &Search,
     plan: &Plan,
@@ -145,7 +151,8 @@ fn look(
     requires cell { IsCellOf plan.now cell.now }
     requires key { key.now ≡ key_of cell.now }
     requires searching { IsSearching plan.now cell.now search.now }
-    requires trail { IsTrail plan.now key.now (search.now.path.items ++ node.now ∷ []) caller.now node.now }
+    requires trail { IsTrail plan.now key.now (search.now.path.items ++ node.now ∷ []) caller.now
+        node.now }
     ensures { IfOk result (Finds plan.now cell.now caller.now node.now search.now) }
 {
     if !is_accepted(plan, caller, node, cell) {
@@ -187,7 +194,8 @@ fn enter(
     stop: Stop,
     targets: Seq<Text>,
 ) -> Result<Frame, AllocError>
-    ensures frame { IfOk result (λ frame. frame ≡ record { caller = caller; node = node; targets = targets; searched = 0; rank = 0 }) }
+    ensures frame { IfOk result (λ frame. frame
+        ≡ record { caller = caller; node = node; targets = targets; searched = 0; rank = 0 }) }
     ensures search { OnOk result (Enters search.old search.new node stop) }
 {
     let frame = Frame {
@@ -222,7 +230,14 @@ fn begin(
     stop: Stop,
     targets: Seq<Text>,
 ) -> Result<Frame, AllocError>
-    ensures frame { IfOk result (λ frame. frame ≡ record { caller = caller.now; node = node.now; targets = targets; searched = 0; rank = 0 }) }
+    ensures frame { IfOk result (λ frame. frame
+        ≡ record {
+          caller = caller.now;
+          node = node.now;
+          targets = targets;
+          searched = 0;
+          rank = 0;
+        }) }
     ensures search { OnOk result (Enters search.old search.new node.now stop) }
 {
     match names_of(caller, node) {
@@ -235,9 +250,12 @@ fn begin(
     }
 }
 
-/// Finishes the stop that the search stands on, whose targets have all been searched: it has its line from here on.
+/// Finishes the stop that the search stands on, whose targets have all been searched: it has its
+/// line from here on.
 fn leave(search: &mut Search, cell: &OwnedCell, frame: &Frame) -> Result<(), AllocError>
-    ensures { OnOk result (Leaves search.old search.new (stop_at frame.now.caller frame.now.node cell.now) frame.now.rank) }
+    ensures { OnOk result
+        (Leaves search.old search.new (stop_at frame.now.caller frame.now.node cell.now)
+        frame.now.rank) }
 {
     search.marks.insert(
         stop_of(&frame.caller, &frame.node, cell)?,
@@ -251,8 +269,8 @@ fn leave(search: &mut Search, cell: &OwnedCell, frame: &Frame) -> Result<(), All
     Ok(())
 }
 
-/// Looks at the targets of the stop that the search stands on, from the first that hasn't been searched on: those that
-/// were finished before count for its rank.
+/// Looks at the targets of the stop that the search stands on, from the first that hasn't been
+/// searched on: those that were finished before count for its rank.
 fn go_on(
     search: &Search,
     plan: &Plan,
@@ -290,8 +308,8 @@ fn go_on(
     Ok(Next::Nothing)
 }
 
-/// One step of the search: it enters a stop behind the one that it stands on, or finishes that one. It is over where
-/// it finishes the stop that it began at, or ends on the way.
+/// One step of the search: it enters a stop behind the one that it stands on, or finishes that one.
+/// It is over where it finishes the stop that it began at, or ends on the way.
 fn step(
     search: &mut Search,
     plan: &Plan,
@@ -304,7 +322,9 @@ fn step(
     requires cell { IsCellOf plan.now cell.now }
     requires key { key.now ≡ key_of cell.now }
     requires top { IsTop plan.now cell.now top.old search.old }
-    ensures { IfOk result (Steps plan.now cell.now search.old top.old below.old.items search.new top.new below.new.items) }
+    ensures { IfOk result
+        (Steps plan.now cell.now search.old top.old below.old.items search.new top.new
+        below.new.items) }
 {
     match go_on(search, plan, cell, key, top)? {
         Next::End { node, end } => {
@@ -335,8 +355,8 @@ fn step(
     }
 }
 
-/// Searches all walks that begin at the node, for the keys of the cell, each stop once, in byte order of their nodes' names. It takes no
-/// stack: what it stands on is in a list of its own.
+/// Searches all walks that begin at the node, for the keys of the cell, each stop once, in byte
+/// order of their nodes' names. It takes no stack: what it stands on is in a list of its own.
 pub fn reach(
     search: &mut Search,
     plan: &Plan,
@@ -350,7 +370,8 @@ pub fn reach(
     requires key { key.now ≡ key_of cell.now }
     requires searching { IsSearching plan.now cell.now search.old }
     requires alone { search.old.path.items ≡ [] }
-    requires trail { IsTrail plan.now key.now (search.old.path.items ++ node.now ∷ []) caller.now node.now }
+    requires trail { IsTrail plan.now key.now (search.old.path.items ++ node.now ∷ []) caller.now
+        node.now }
     ensures { IfOk result (AfterReach plan.now cell.now caller.now node.now search.old search.new) }
 {
     let mut top = match look(search, plan, cell, key, caller, node)? {

@@ -70,7 +70,10 @@ fn judged(alloc: Global, plan: &Plan, lines: Vec<Line>) -> Result<Verdict, Alloc
 
 /// The answer where the checker stopped.
 fn answer_to(stopped: Stopped) -> Result<Verdict, CheckFault>
-    ensures { (plan : Network) (site : Words) (cell : CellValue) → IsStoppedAt plan stopped site cell → IsFirstEntry plan site cell → Answers plan result }
+    ensures { (plan : Network) (site : Words) (cell : CellValue)
+        → IsStoppedAt plan stopped site cell
+        → IsFirstEntry plan site cell
+        → Answers plan result }
 {
     match stopped {
         Stopped::Fault(fault) => Ok(Verdict::No(fault)),
@@ -78,8 +81,9 @@ fn answer_to(stopped: Stopped) -> Result<Verdict, CheckFault>
     }
 }
 
-/// Checks the plan: searches all walks from its entries, for all keys, cell by cell, and answers yes with the
-/// plan's certificate, or no with what is wrong: at the first entry from which a walk shows a fault, on the first such walk.
+/// Checks the plan: searches all walks from its entries, for all keys, cell by cell, and answers
+/// yes with the plan's certificate, or no with what is wrong: at the first entry from which a walk
+/// shows a fault, on the first such walk.
 pub fn check(alloc: Global, plan: &Plan) -> Result<Verdict, CheckFault>
     ensures { Answers plan.now result }
 {

@@ -9,10 +9,16 @@ use Rattle.dr_check_reasons.specs.Reasons.{TakesClass, TakesPair}
 
 -- a row that takes the class from the caller takes it in the transfer syntax that is added to it
 abbrev pub AddedSyntaxIsTaken : Type 0
-AddedSyntaxIsTaken = (row : AcceptRow) (caller class : Text) (syntax : Syntax) → TakesClass caller class row →
-    Takes (record row { syntaxes = row.syntaxes ++ syntax ∷ [] }) caller class syntax
+AddedSyntaxIsTaken =
+    (row : AcceptRow) (caller class : Text) (syntax : Syntax)
+    → TakesClass caller class row
+    → Takes (record row { syntaxes = row.syntaxes ++ syntax ∷ [] }) caller class syntax
 
--- a row that takes the class in the transfer syntax from these names takes it from the caller that is added to them
+-- a row that takes the class in the transfer syntax from these names takes it from the caller that
+-- is added to them
 abbrev pub AddedCallerIsTaken : Type 0
-AddedCallerIsTaken = (row : AcceptRow) (names : List Text) (caller class : Text) (syntax : Syntax) → row.from ≡ Listed names → TakesPair class syntax row →
-    Takes (record row { from = Listed (names ++ caller ∷ []) }) caller class syntax
+AddedCallerIsTaken =
+    (row : AcceptRow) (names : List Text) (caller class : Text) (syntax : Syntax)
+    → row.from ≡ Listed names
+    → TakesPair class syntax row
+    → Takes (record row { from = Listed (names ++ caller ∷ []) }) caller class syntax

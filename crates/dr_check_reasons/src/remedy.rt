@@ -104,7 +104,8 @@ impl<'a> Look for OfSyntax<'a> {
     }
 }
 
-/// What makes a node with these accept rows accept the class in that transfer syntax from the caller.
+/// What makes a node with these accept rows accept the class in that transfer syntax from the
+/// caller.
 pub fn remedy_of(rows: &[AcceptRow], caller: &Text, class: &Text, syntax: Syntax) -> Remedy
     ensures { IsRemedy rows.now caller.now class.now syntax result }
 {

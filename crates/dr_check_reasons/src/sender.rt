@@ -90,10 +90,11 @@ impl<'a> Look for Rules<'a> {
     }
 }
 
-/// By what the node sends the key, which it has from the caller, on to that node: the first flow where it entered there, else the
-/// first rule. None where it doesn't send it there.
+/// By what the node sends the key, which it has from the caller, on to that node: the first flow
+/// where it entered there, else the first rule. None where it doesn't send it there.
 pub fn sender_of(plan: &Plan, name: &Text, caller: &Text, key: &Key, to: &Text) -> Option<Sender>
-    ensures { MatchOption result (Sends plan.now name.now caller.now key.now to.now → ⊥) (IsSender plan.now name.now caller.now key.now to.now) }
+    ensures { MatchOption result (Sends plan.now name.now caller.now key.now to.now → ⊥)
+        (IsSender plan.now name.now caller.now key.now to.now) }
 {
     if is_local(caller) {
         let flows = Flows {
@@ -140,9 +141,11 @@ impl<'a> Look for Holding<'a> {
     }
 }
 
-/// The first of the rules that holds for the key that the node has from the caller, and None where none does.
+/// The first of the rules that holds for the key that the node has from the caller, and None where
+/// none does.
 pub fn holding_rule(rules: &[Rule], caller: &Text, key: &Key) -> Option<usize>
-    ensures { MatchOption result (All (λ rule. Holds rule caller.now key.now → ⊥) rules.now) (IsHolding rules.now caller.now key.now) }
+    ensures { MatchOption result (All (λ rule. Holds rule caller.now key.now → ⊥) rules.now)
+        (IsHolding rules.now caller.now key.now) }
 {
     match first(&Holding { caller, key }, rules) {
         Some((index, ())) => Some(index),

@@ -30,7 +30,8 @@ fn add_modality(out: &mut Vec<u8>, part: &OwnedField) -> Result<(), AllocError> 
     }
 }
 
-/// Adds the part of the stations: its literal, what its stations begin with, or that the plan doesn't name it.
+/// Adds the part of the stations: its literal, what its stations begin with, or that the plan
+/// doesn't name it.
 fn add_station(out: &mut Vec<u8>, part: &OwnedStation) -> Result<(), AllocError> {
     match part {
         OwnedStation::Literal(literal) => {
@@ -291,8 +292,8 @@ fn add_fault(
     }
 }
 
-/// Why the plan isn't sound, in sentences, a line each, indented by two blanks: what goes, each hop with the flow or the rule by which it goes, and what is wrong
-/// at the end.
+/// Why the plan isn't sound, in sentences, a line each, indented by two blanks: what goes, each hop
+/// with the flow or the rule by which it goes, and what is wrong at the end.
 ///
 /// Errors: want of memory.
 pub fn describe(alloc: Global, plan: &Plan, fault: &Fault) -> Result<Text, AllocError> {

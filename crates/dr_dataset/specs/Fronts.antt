@@ -9,8 +9,15 @@ use Rattle.dr_dataset.specs.DataSet.{Opens, FirstFault}
 
 -- a front of a text that is in order stays so, with the same elements, whatever bytes follow
 abbrev pub FrontsStay : Type 0
-FrontsStay = (s : Syntax) (fs : List Frame) (text : List ℕ) (es : List Element) (rest more : List ℕ) → Opens s fs text es rest → Opens s fs (text ++ more) es (rest ++ more)
+FrontsStay =
+    (s : Syntax) (fs : List Frame) (text : List ℕ) (es : List Element) (rest more : List ℕ)
+    → Opens s fs text es rest
+    → Opens s fs (text ++ more) es (rest ++ more)
 
--- a first fault stays the first whatever bytes follow, but for a text that was too short, and want of memory
+-- a first fault stays the first whatever bytes follow, but for a text that was too short, and want
+-- of memory
 abbrev pub FaultsStay : Type 0
-FaultsStay = (s : Syntax) (text more : List ℕ) (f : DataFault) → f ≢ Truncated → f ≢ Memory → FirstFault s text f → FirstFault s (text ++ more) f
+FaultsStay =
+    (s : Syntax) (text more : List ℕ) (f : DataFault)
+    → f ≢ Truncated → f ≢ Memory → FirstFault s text f
+    → FirstFault s (text ++ more) f

@@ -12,7 +12,11 @@ modality_text = 0x08 ∷ 0x00 ∷ 0x60 ∷ 0x00 ∷ 0x02 ∷ 0x00 ∷ 0x00 ∷ 0
 
 -- a text of the modality alone is a data set, with `MR` as its modality and no class
 abbrev pub ModalityIsRead : Type 0
-ModalityIsRead = (es : List Element) × IsDataSet Implicit modality_text es × (value_at 0x0008 0x0060 es ≡ codes "MR") × (value_at 0x0008 0x0016 es ≡ [])
+ModalityIsRead =
+    (es : List Element)
+    × IsDataSet Implicit modality_text es
+    × (value_at 0x0008 0x0060 es ≡ codes "MR")
+    × (value_at 0x0008 0x0016 es ≡ [])
 
 -- no bytes at all are a data set too, without elements
 abbrev pub NothingIsRead : Type 0

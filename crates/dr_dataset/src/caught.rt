@@ -1,5 +1,6 @@
 //! The four values of a data set while it is heard: copies, since what was heard isn't kept.
-ghost use Rattle.std.specs.Prelude.{true, ◌≡◌, ◌≤◌, ◌∷◌, ◌++◌, ℕ, [], List, length, option_map, unwrap_or, if◌then◌else◌};
+ghost use Rattle.std.specs.Prelude.{true, ◌≡◌, ◌≤◌, ◌∷◌, ◌++◌, ℕ, [], List, length, option_map};
+ghost use Rattle.std.specs.Prelude.{unwrap_or, if◌then◌else◌};
 ghost use Rattle.std.specs.Option.{option_copied, option_or};
 ghost use Rattle.dr_dataset.specs.Elements.{Element};
 ghost use Rattle.dr_dataset.specs.DataSet.{is_key};
@@ -14,7 +15,8 @@ use arrayvec::ArrayVec;
 /// A value of at most 1024 bytes.
 pub type Kept = ArrayVec<u8, 1024>;
 
-/// SOP class UID, SOP instance UID, modality and station name: the bytes of the first element with each tag.
+/// SOP class UID, SOP instance UID, modality and station name: the bytes of the first element with
+/// each tag.
 #[derive(Drop)]
 pub struct Caught {
     pub class: Option<Kept>,

@@ -1,5 +1,6 @@
 //! Part 10 files (PS3.10 section 7.1): where the data set starts, and its syntax.
-ghost use Rattle.std.specs.Prelude.{◌≡◌, ◌≢◌, ℕ, List, [], MatchOption, IfOk, IfErr, IfSome, unwrap_or, codes, length, ◌≤◌};
+ghost use Rattle.std.specs.Prelude.{◌≡◌, ◌≢◌, ℕ, List, [], MatchOption, IfOk, IfErr, IfSome};
+ghost use Rattle.std.specs.Prelude.{unwrap_or, codes, length, ◌≤◌};
 ghost use Rattle.std.specs.Bool.{MatchBool};
 ghost use Rattle.std.specs.Option.{option_copied};
 ghost use Rattle.dr_dataset.specs.declared.header.Tag.{Tag as TagName};

@@ -7,7 +7,8 @@ ghost use Rattle.dr_dataset.specs.Wholes.{AreFound, elements_of};
 use crate::header::Tag;
 use crate::whole::Whole;
 
-/// SOP class UID, SOP instance UID, modality and station name: the bytes of the first element with each tag.
+/// SOP class UID, SOP instance UID, modality and station name: the bytes of the first element with
+/// each tag.
 #[derive(Clone, Copy)]
 pub struct Found<'a> {
     pub class: Option<&'a [u8]>,
@@ -50,7 +51,8 @@ impl<'a> Found<'a> {
         }
     }
 
-    /// Behind one more element, or none: the first with each tag counts, one of undefined length too.
+    /// Behind one more element, or none: the first with each tag counts, one of undefined length
+    /// too.
     pub fn with(self, element: Option<Whole<'a>>) -> Found<'a>
         ensures { (es : List Element) → AreFound self.entry es
             → AreFound result (es ++ elements_of element.entry) }

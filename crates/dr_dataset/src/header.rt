@@ -31,8 +31,8 @@ pub struct Vr {
     pub second: u8,
 }
 
-/// What stands between a tag and a value: the value representation, which the implicit syntax leaves out, and
-/// the length in bytes.
+/// What stands between a tag and a value: the value representation, which the implicit syntax
+/// leaves out, and the length in bytes.
 #[derive(Clone, Copy, Debug, PartialEq, Eq)]
 pub struct Form {
     pub vr: Option<Vr>,
@@ -49,7 +49,8 @@ impl Vr {
         self.first.is_ascii_uppercase() && self.second.is_ascii_uppercase()
     }
 
-    /// Whether its length has two bytes (PS3.5 table 7.1-2); any other two capitals have the long form.
+    /// Whether its length has two bytes (PS3.5 table 7.1-2); any other two capitals have the long
+    /// form.
     fn is_short(self) -> bool
         ensures { result ≡ is_short self }
     {

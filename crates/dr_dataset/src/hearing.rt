@@ -1,12 +1,14 @@
 //! A data set that is read while it is heard, in constant memory.
-ghost use Rattle.std.specs.Prelude.{true, ◌≡◌, ◌≢◌, ◌<◌, ◌≤◌, ◌+◌, ◌∷◌, ◌++◌, ℕ, [], List, length, IfOk, MatchResult};
+ghost use Rattle.std.specs.Prelude.{true, ◌≡◌, ◌≢◌, ◌<◌, ◌≤◌, ◌+◌, ◌∷◌, ◌++◌, ℕ, [], List, length};
+ghost use Rattle.std.specs.Prelude.{IfOk, MatchResult};
 ghost use Rattle.std.specs.Bool.{MatchBool};
 ghost use Rattle.dr_base.specs.declared.syntax.Syntax.{Syntax as SyntaxName};
 ghost use Rattle.dr_dataset.specs.declared.fault.DataFault.{DataFault as FaultName};
 ghost use Rattle.dr_dataset.specs.declared.header.Tag.{Tag as TagName};
 ghost use Rattle.std.specs.Prelude.{Option as OptionName};
 ghost use Rattle.dr_dataset.specs.DataSet.{Scans, FirstFault};
-ghost use Rattle.dr_dataset.specs.Hearing.{Hears, HasFailed, Finishes, IsInOrderSoFar, GoesOn, Begun, is_kept, text_of_slot, AreSlots};
+ghost use Rattle.dr_dataset.specs.Hearing.{Hears, HasFailed, Finishes, IsInOrderSoFar, GoesOn};
+ghost use Rattle.dr_dataset.specs.Hearing.{Begun, is_kept, text_of_slot, AreSlots};
 
 use crate::caught::{Caught, Kept};
 use crate::fault::DataFault;
@@ -24,14 +26,15 @@ use std::alloc::{AllocError, Global};
 pub enum Place {
     /// Between tokens or inside a header.
     InHeader,
-    /// Behind the header of an element with that tag, or of an item; so many bytes of its value are missing.
+    /// Behind the header of an element with that tag, or of an item; so many bytes of its value are
+    /// missing.
     InValue(Option<Tag>, u32),
     /// A fault has shown.
     Failed(DataFault),
 }
 
-/// A scan of a data set that comes in pieces. It keeps the bytes of one header, what is open, and the four
-/// values.
+/// A scan of a data set that comes in pieces. It keeps the bytes of one header, what is open, and
+/// the four values.
 #[derive(Drop)]
 pub struct Scan {
     scanner: Scanner,
@@ -55,12 +58,14 @@ impl Scan {
         }
     }
 
-    /// Hears the next piece. The first fault is answered as soon as it shows, and by each later call too; it
-    /// takes no memory.
+    /// Hears the next piece. The first fault is answered as soon as it shows, and by each later
+    /// call too; it takes no memory.
     pub fn feed(&mut self, piece: &[u8]) -> Result<(), DataFault>
         ensures hears { GoesOn self.old piece.now self.new }
-        ensures first { (s : SyntaxName) (text : List ℕ) → Hears s text self.old
-            → MatchResult result (λ _. IsInOrderSoFar s (text ++ piece.now)) (FirstFault s (text ++ piece.now)) }
+        ensures first { (s : SyntaxName) (text : List ℕ)
+            → Hears s text self.old
+            → MatchResult result
+            (λ _. IsInOrderSoFar s (text ++ piece.now)) (FirstFault s (text ++ piece.now)) }
         ensures answer { MatchResult result (λ _. (f : FaultName) → ¬ HasFailed self.new f)
             (HasFailed self.new) }
         ensures again { (f : FaultName) → HasFailed self.old f → result ≡ Err f }
@@ -75,10 +80,12 @@ impl Scan {
         }
     }
 
-    /// The four attributes of what was heard, or its first fault. A fault but `Memory` stays: every later call
-    /// answers it again. After `Memory`, and after the attributes, the scan is as before.
+    /// The four attributes of what was heard, or its first fault. A fault but `Memory` stays: every
+    /// later call answers it again. After `Memory`, and after the attributes, the scan is as
+    /// before.
     pub fn finish(&mut self, alloc: Global) -> Result<Attributes, DataFault>
-        ensures scans { (s : SyntaxName) (text : List ℕ) → Hears s text self.old → Scans s text result }
+        ensures scans { (s : SyntaxName) (text : List ℕ)
+            → Hears s text self.old → Scans s text result }
         ensures behind { Finishes self.old result self.new }
         ensures again { (f : FaultName) → HasFailed self.old f → result ≡ Err f }
     {
@@ -113,7 +120,8 @@ impl Scan {
 
     /// Behind the last byte of a value its element is whole.
     fn settle(&mut self)
-        ensures hears { (s : SyntaxName) (text : List ℕ) → Hears s text self.old → Hears s text self.new }
+        ensures hears { (s : SyntaxName) (text : List ℕ)
+            → Hears s text self.old → Hears s text self.new }
         ensures settled { (t : OptionName TagName) → self.new.place ≢ Place.InValue t 0 }
         ensures failed { (f : FaultName) → HasFailed self.old f → HasFailed self.new f }
     {
@@ -219,7 +227,9 @@ impl Scan {
 
     /// Behind a header: its value comes, or it has none.
     fn begin(&mut self, token: Token)
-        ensures { (s : SyntaxName) (text : List ℕ) → Begun s text token self.old → Hears s text self.new }
+        ensures { (s : SyntaxName) (text : List ℕ)
+            → Begun s text token self.old
+            → Hears s text self.new }
     {
         match token {
             Token::Value(tag, len) => self.await_value(Some(tag), len),
@@ -233,7 +243,8 @@ impl Scan {
     }
 
     fn await_value(&mut self, tag: Option<Tag>, len: u32)
-        ensures { self.new ≡ record self.old { place = Place.InValue tag len; value = record { items = [] } } }
+        ensures { self.new
+            ≡ record self.old { place = Place.InValue tag len; value = record { items = [] } } }
     {
         self.value.clear();
         self.place = Place::InValue(tag, len);
@@ -242,8 +253,12 @@ impl Scan {
     /// Whether the data set may end here.
     fn is_at_end(&self) -> bool
         ensures { MatchBool result
-            ((self.now.place ≡ Place.InHeader) × (self.now.header.items ≡ []) × (self.now.scanner.stack ≡ []))
-            (self.now.place ≡ Place.InHeader → self.now.header.items ≡ [] → self.now.scanner.stack ≢ []) }
+            ((self.now.place ≡ Place.InHeader)
+            × (self.now.header.items ≡ [])
+            × (self.now.scanner.stack ≡ []))
+            (self.now.place ≡ Place.InHeader
+            → self.now.header.items ≡ []
+            → self.now.scanner.stack ≢ []) }
     {
         let Place::InHeader = self.place else {
             return false;

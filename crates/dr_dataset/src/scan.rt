@@ -15,8 +15,10 @@ use dr_base::{Syntax, Text};
 use std::alloc::{AllocError, Global};
 
 fn found_in(text: &[u8], syntax: Syntax) -> Result<Found<'_>, DataFault>
-    ensures ok { IfOk result (λ f. (es : List Element) × IsDataSet syntax text.now es × AreFound f es) }
-    ensures err { IfErr result (λ fault. (fault ≢ DataFault.Memory) × FirstFault syntax text.now fault) }
+    ensures ok { IfOk result (λ f.
+        (es : List Element) × IsDataSet syntax text.now es × AreFound f es) }
+    ensures err { IfErr result (λ fault.
+        (fault ≢ DataFault.Memory) × FirstFault syntax text.now fault) }
 {
     let mut scanner = Scanner::new(syntax);
     let mut found = Found::nothing();
@@ -46,8 +48,9 @@ fn values_of(alloc: Global, found: Found<'_>) -> Result<Attributes, AllocError>
     })
 }
 
-/// The four attributes of a data set, or its first fault (PS3.5 section 7). A value of defined length is
-/// skipped, and at most 32 sequences may be open. It takes memory for the four values alone, at the end.
+/// The four attributes of a data set, or its first fault (PS3.5 section 7). A value of defined
+/// length is skipped, and at most 32 sequences may be open. It takes memory for the four values
+/// alone, at the end.
 pub fn attributes(alloc: Global, text: &[u8], syntax: Syntax) -> Result<Attributes, DataFault>
     ensures { Scans syntax text.now result }
 {

@@ -1,12 +1,14 @@
 //! The scanner: it takes a data set token by token, and knows what is open.
-ghost use Rattle.std.specs.Prelude.{◌≡◌, ◌≢◌, ◌==◌, ◌<◌, ◌≤◌, ◌++◌, ℕ, List, [], length, IsTrue, MatchOption, IfOk, IfErr};
+ghost use Rattle.std.specs.Prelude.{◌≡◌, ◌≢◌, ◌==◌, ◌<◌, ◌≤◌, ◌++◌, ℕ, List, [], length, IsTrue};
+ghost use Rattle.std.specs.Prelude.{MatchOption, IfOk, IfErr};
 ghost use Rattle.std.specs.Bool.{MatchBool};
 ghost use Rattle.std.specs.Option.{option_copied};
 ghost use Rattle.dr_dataset.specs.Elements.{Element};
 ghost use Rattle.dr_dataset.specs.DataSet.{is_key, in_force, Opens, Shows, StartsTop};
 ghost use Rattle.dr_dataset.specs.Wholes.{whole, elements_of, element_of, FailsAtOnce};
 ghost use Rattle.dr_dataset.specs.Reading.{Gives, long_of};
-ghost use Rattle.dr_dataset.specs.Tokens.{is_nested, is_full, element_token, item_token, end_token, open_item_token, token_of, open_behind};
+ghost use Rattle.dr_dataset.specs.Tokens.{is_nested, is_full, element_token, item_token, end_token};
+ghost use Rattle.dr_dataset.specs.Tokens.{open_item_token, token_of, open_behind};
 
 use crate::fault::DataFault;
 use crate::frame::Frame;
@@ -138,15 +140,15 @@ impl Scanner {
         }
     }
 
-    /// Takes the header or end that the text begins with: what it is, and what follows. After a fault the
-    /// scanner is as before, and `Truncated` means that more bytes are needed to tell.
+    /// Takes the header or end that the text begins with: what it is, and what follows. After a
+    /// fault the scanner is as before, and `Truncated` means that more bytes are needed to tell.
     pub fn step<'a>(&mut self, text: &'a [u8]) -> Result<(Token, &'a [u8]), DataFault>
         ensures syntax { self.new.syntax ≡ self.old.syntax }
         ensures ok { IfOk result (λ r.
             (token_of self.old.syntax self.old.stack text.now ≡ Ok (r.0, r.1.now))
             × (self.new.stack ≡ open_behind self.old.syntax r.0 self.old.stack)) }
-        ensures err { IfErr result (λ f.
-            (token_of self.old.syntax self.old.stack text.now ≡ Err f) × (self.new.stack ≡ self.old.stack)) }
+        ensures err { IfErr result (λ f. (token_of self.old.syntax self.old.stack text.now ≡ Err f)
+            × (self.new.stack ≡ self.old.stack)) }
     {
         let (token, rest) = self.token_at(text)?;
         match token {
@@ -163,8 +165,8 @@ impl Scanner {
         Ok((token, rest))
     }
 
-    /// Takes one token with its value, and gives the element of the top level that ends there, if one does.
-    /// The front of the text that is in order grows by the token.
+    /// Takes one token with its value, and gives the element of the top level that ends there, if
+    /// one does. The front of the text that is in order grows by the token.
     pub fn advance<'a>(
         &mut self,
         text: &'a [u8],
@@ -173,7 +175,8 @@ impl Scanner {
         ensures ok { IfOk result (λ r. (front : List ℕ) (es : List Element)
             → Opens self.old.syntax self.old.stack front es text.now
             → Opens self.old.syntax self.new.stack front (es ++ elements_of r.0) r.1.now) }
-        ensures whole { IfOk result (λ r. MatchOption r.0 (self.new.stack ≢ []) (λ _. self.new.stack ≡ [])) }
+        ensures whole { IfOk result (λ r.
+            MatchOption r.0 (self.new.stack ≢ []) (λ _. self.new.stack ≡ [])) }
         ensures shorter { IfOk result (λ r. length r.1.now < length text.now) }
         ensures err { IfErr result (λ fault. (fault ≢ DataFault.Memory)
             × ((text.now ≡ [] → self.old.stack ≢ [])
@@ -236,7 +239,8 @@ impl Scanner {
 
     /// An element that ends here, if it is one of the top level.
     pub fn at_top<'a>(&self, tag: Tag, value: Option<&'a [u8]>) -> Option<Whole<'a>>
-        ensures element { elements_of result ≡ whole self.now.stack tag (option_copied value.entry) }
+        ensures element { elements_of result
+            ≡ whole self.now.stack tag (option_copied value.entry) }
         ensures is_top { MatchOption result (self.now.stack ≢ []) (λ _. self.now.stack ≡ []) }
     {
         if !self.stack.is_empty() {

@@ -1,8 +1,8 @@
 //! What is read of data sets and files.
 use dr_base::{Syntax, Text};
 
-/// Four values of a data set, without the spaces in front and the spaces and NULs behind; each is empty where
-/// the data set has none.
+/// Four values of a data set, without the spaces in front and the spaces and NULs behind; each is
+/// empty where the data set has none.
 #[derive(Debug, Drop)]
 pub struct Attributes {
     /// SOP class UID (0008,0016).

@@ -1,7 +1,10 @@
--- Command sets (PS3.7 section 9 and Annex E): a relation between texts and commands. A command set is in Implicit VR
--- Little Endian, and all its elements are of group 0000. They come in any order, unknown ones are skipped, and of a
--- repeated one the first counts, so all is said of the list of the elements.
-use Rattle.std.specs.Prelude.{◌≡◌, ◌≢◌, ◌⊎◌, ℕ, ◌^◌, ◌<◌, ◌≤◌, Bool, true, not, List, [], ◌∷◌, ◌++◌, length, map, filter, ◌==◌, Option, Some, None, IfSome, slice_get, Result, Ok, Err}
+-- Command sets (PS3.7 section 9 and Annex E): a relation between texts and commands. A command set
+-- is in Implicit VR Little Endian, and all its elements are of group 0000. They come in any order,
+-- unknown ones are skipped, and of a repeated one the first counts, so all is said of the list of
+-- the elements.
+use Rattle.std.specs.Prelude.{◌≡◌, ◌≢◌, ◌⊎◌, ℕ, ◌^◌, ◌<◌, ◌≤◌, Bool, true, not, List, [], ◌∷◌, ◌++◌}
+use Rattle.std.specs.Prelude.{length, map, filter, ◌==◌, Option, Some, None, IfSome, slice_get}
+use Rattle.std.specs.Prelude.{Result, Ok, Err}
 use Rattle.std.specs.Int.{w16, w32, to_le_bytes}
 use Rattle.std.specs.List.{AllByRecursion}
 use Rattle.dr_base.specs.Runs.{Run}
@@ -9,7 +12,8 @@ use Rattle.dr_base.specs.Padding.{unpadded}
 use Rattle.dr_dimse.specs.declared.fault.DimseFault.{DimseFault}
 use Rattle.dr_dimse.specs.declared.fault.DimseFault.TheVariants.{BadCommand, Memory}
 use Rattle.dr_dimse.specs.declared.command.Command.{Command}
-use Rattle.dr_dimse.specs.declared.command.Command.TheVariants.{StoreRq, StoreRsp, EchoRq, EchoRsp, Other}
+use Rattle.dr_dimse.specs.declared.command.Command.TheVariants.{StoreRq, StoreRsp, EchoRq, EchoRsp}
+use Rattle.dr_dimse.specs.declared.command.Command.TheVariants.{Other}
 
 -- ---- elements
 
@@ -18,13 +22,15 @@ pub record Element : Type 0 where
   pub number : ℕ
   pub value : List ℕ
 
--- an element as it is written, in the implicit syntax: tag (4), length (4), value (PS3.7 6.3.1, PS3.5 7.1.3)
+-- an element as it is written, in the implicit syntax: tag (4), length (4), value (PS3.7 6.3.1,
+-- PS3.5 7.1.3)
 abbrev pub element_text : Element → List ℕ
 element_text e = 0 ∷ 0 ∷ (to_le_bytes w16 e.number ++ (to_le_bytes w32 (length e.value) ++ e.value))
 
 -- the text begins with the element, whose length isn't the undefined one, FFFFFFFFH
 abbrev pub StartsElement : List ℕ → Element → List ℕ → Type 0
-StartsElement text e rest = (e.number < 2 ^ 16) × (length e.value < 0xFFFFFFFF) × (text ≡ element_text e ++ rest)
+StartsElement text e rest =
+    (e.number < 2 ^ 16) × (length e.value < 0xFFFFFFFF) × (text ≡ element_text e ++ rest)
 
 -- the values of the elements of one number, in order
 abbrev pub values : ℕ → List Element → List (List ℕ)
@@ -53,11 +59,15 @@ HasNumber es number n = (n < 2 ^ 16) × (first_value number es ≡ Some (to_le_b
 abbrev pub IsShort : List Element → ℕ → Type 0
 IsShort es number = IfSome (first_value number es) (λ value. length value ≡ 2)
 
--- each number of a command but the group length has two bytes; a later element of its tag counts for nothing
+-- each number of a command but the group length has two bytes; a later element of its tag counts
+-- for nothing
 abbrev pub AreNumbers : List Element → Type 0
-AreNumbers es = IsShort es 0x0100 × IsShort es 0x0110 × IsShort es 0x0120 × IsShort es 0x0700 × IsShort es 0x0800 × IsShort es 0x0900 × IsShort es 0x1031
+AreNumbers es =
+    IsShort es 0x0100 × IsShort es 0x0110 × IsShort es 0x0120 × IsShort es 0x0700
+    × IsShort es 0x0800 × IsShort es 0x0900 × IsShort es 0x1031
 
--- a UID as it is taken here: 1 to 64 bytes, each from 21H to 7EH; PS3.5 9.1 has digits and dots alone
+-- a UID as it is taken here: 1 to 64 bytes, each from 21H to 7EH; PS3.5 9.1 has digits and dots
+-- alone
 abbrev pub IsUid : List ℕ → Type 0
 IsUid uid = (1 ≤ length uid) × (length uid ≤ 64) × AllByRecursion (λ b. (0x21 ≤ b) × (b ≤ 0x7E)) uid
 
@@ -102,25 +112,35 @@ HasNoName field = (field ≢ 0x0001) × (field ≢ 0x8001) × (field ≢ 0x0030)
 abbrev pub Announces : List Element → Bool → Type 0
 Announces es has_data = (n : ℕ) × HasNumber es 0x0800 n × (has_data ≡ not (n == 0x0101))
 
--- A cancel needs neither id nor status. Any other request has the message id 0110, an answer the id 0120 of what it
--- answers, and the status 0900.
+-- A cancel needs neither id nor status. Any other request has the message id 0110, an answer the id
+-- 0120 of what it answers, and the status 0900.
 abbrev pub HasIds : List Element → ℕ → Option ℕ → Option ℕ → Type 0
 HasIds es field id status =
     (field ≡ 0x0FFF) × (id ≡ None) × (status ≡ None)
-    ⊎ ((field ≢ 0x0FFF) × (field < 0x8000) × ((n : ℕ) × (id ≡ Some n) × HasNumber es 0x0110 n) × (status ≡ None)
-    ⊎ (0x8000 ≤ field) × ((n : ℕ) × (id ≡ Some n) × HasNumber es 0x0120 n) × ((n : ℕ) × (status ≡ Some n) × HasNumber es 0x0900 n))
+    ⊎ ((field ≢ 0x0FFF) × (field < 0x8000)
+    × ((n : ℕ) × (id ≡ Some n) × HasNumber es 0x0110 n)
+    × (status ≡ None)
+    ⊎ (0x8000 ≤ field)
+    × ((n : ℕ) × (id ≡ Some n) × HasNumber es 0x0120 n)
+    × ((n : ℕ) × (status ≡ Some n) × HasNumber es 0x0900 n))
 
 -- the affected SOP class 0002 and SOP instance 1000, which must be UIDs in a C-STORE-RQ
 abbrev pub HasTexts : List Element → Command → Type 0
-HasTexts es (StoreRq id class instance) = (class ≡ text_at 0x0002 es) × (instance ≡ text_at 0x1000 es) × IsUid class × IsUid instance
-HasTexts es (StoreRsp to status class instance has_data) = (class ≡ text_at 0x0002 es) × (instance ≡ text_at 0x1000 es)
+HasTexts es (StoreRq id class instance) =
+    (class ≡ text_at 0x0002 es) × (instance ≡ text_at 0x1000 es) × IsUid class × IsUid instance
+HasTexts es (StoreRsp to status class instance has_data) =
+    (class ≡ text_at 0x0002 es) × (instance ≡ text_at 0x1000 es)
 HasTexts es (EchoRq id class has_data) = class ≡ text_at 0x0002 es
 HasTexts es (EchoRsp to status class has_data) = class ≡ text_at 0x0002 es
 HasTexts es (Other field id status has_data) = HasNoName field
 
 -- the elements say this command: its field, ids, status and texts, and whether a data set follows
 abbrev pub Says : List Element → Command → Type 0
-Says es c = HasNumber es 0x0100 (field_of c) × Announces es (announces c) × HasIds es (field_of c) (id_of c) (status_of c) × HasTexts es c
+Says es c =
+    HasNumber es 0x0100 (field_of c)
+    × Announces es (announces c)
+    × HasIds es (field_of c) (id_of c) (status_of c)
+    × HasTexts es c
 
 -- the text, all of it, is a spelling of the command
 abbrev pub IsCommand : List ℕ → Command → Type 0

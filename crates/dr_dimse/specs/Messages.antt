@@ -1,6 +1,7 @@
--- Messages out of presentation data values (PS3.7 section 6.3 and PS3.8 Annex E): a relation between lists of values
--- and messages. A value carries a fragment of a command or of a data set.
-use Rattle.std.specs.Prelude.{◌≡◌, ◌⊎◌, ℕ, ◌≤◌, ◌%◌, ◌/◌, Bool, true, false, List, [], ◌∷◌, ◌++◌, length, nat_lt, ◌==◌, if◌then◌else◌, Some, None}
+-- Messages out of presentation data values (PS3.7 section 6.3 and PS3.8 Annex E): a relation
+-- between lists of values and messages. A value carries a fragment of a command or of a data set.
+use Rattle.std.specs.Prelude.{◌≡◌, ◌⊎◌, ℕ, ◌≤◌, ◌%◌, ◌/◌, Bool, true, false, List, [], ◌∷◌, ◌++◌}
+use Rattle.std.specs.Prelude.{length, nat_lt, ◌==◌, if◌then◌else◌, Some, None}
 use Rattle.std.specs.List.{flat_map, AllByRecursion}
 use Rattle.dr_pdu.specs.declared.pdu.Pdv.{Pdv}
 use Rattle.dr_dimse.specs.declared.message.Body.{Body}
@@ -28,22 +29,31 @@ IsOfKind kind id p = (p.id ≡ id) × (is_command p ≡ kind)
 abbrev pub AreInner : Bool → ℕ → List Pdv → Type 0
 AreInner kind id ps = AllByRecursion (λ p. IsOfKind kind id p × (is_last p ≡ false)) ps
 
--- values of one kind in one context, the last bit on the last of them and on no other; the text is what they join to
+-- values of one kind in one context, the last bit on the last of them and on no other; the text is
+-- what they join to
 abbrev pub IsWhole : Bool → ℕ → List Pdv → List ℕ → Type 0
-IsWhole kind id ps text = (front : List Pdv) × (final : Pdv) × (ps ≡ front ++ final ∷ []) × AreInner kind id front
-    × IsOfKind kind id final × (is_last final ≡ true) × (text ≡ joined ps)
+IsWhole kind id ps text =
+    (front : List Pdv) × (final : Pdv)
+    × (ps ≡ front ++ final ∷ [])
+    × AreInner kind id front × IsOfKind kind id final × (is_last final ≡ true) × (text ≡ joined ps)
 
 -- a body of up to 64 MiB, or that it is larger
 abbrev pub body_of : List ℕ → Body
 body_of text = if nat_lt 67108864 (length text) then TooLarge else Whole text
 
--- the values are the message: a command of at most 16 KiB, and then a data set if the command announces one
+-- the values are the message: a command of at most 16 KiB, and then a data set if the command
+-- announces one
 abbrev pub IsMessage : List Pdv → Message → Type 0
-IsMessage ps m = (cs ds : List Pdv) × (text : List ℕ) × (ps ≡ cs ++ ds) × IsWhole true m.id cs text × (length text ≤ 16384) × IsCommand text m.command
+IsMessage ps m =
+    (cs ds : List Pdv) × (text : List ℕ) × (ps ≡ cs ++ ds)
+    × IsWhole true m.id cs text
+    × (length text ≤ 16384) × IsCommand text m.command
     × ((announces m.command ≡ false) × (ds ≡ []) × (m.body ≡ None)
-    ⊎ (announces m.command ≡ true) × ((body : List ℕ) × IsWhole false m.id ds body × (m.body ≡ Some (body_of body))))
+    ⊎ (announces m.command ≡ true)
+    × ((body : List ℕ) × IsWhole false m.id ds body × (m.body ≡ Some (body_of body))))
 
 -- the values are these messages, one after the other, and then the rest
 abbrev pub AreMessages : List Pdv → List Message → List Pdv → Type 0
 AreMessages ps [] rest = ps ≡ rest
-AreMessages ps (m ∷ ms) rest = (own more : List Pdv) × (ps ≡ own ++ more) × IsMessage own m × AreMessages more ms rest
+AreMessages ps (m ∷ ms) rest =
+    (own more : List Pdv) × (ps ≡ own ++ more) × IsMessage own m × AreMessages more ms rest

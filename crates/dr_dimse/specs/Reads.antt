@@ -4,7 +4,8 @@ use Rattle.dr_dimse.specs.declared.elements.Element.{Element as Found}
 use Rattle.dr_dimse.specs.declared.fault.DimseFault.{DimseFault}
 use Rattle.dr_dimse.specs.declared.fault.DimseFault.TheVariants.{BadCommand, Memory}
 use Rattle.dr_dimse.specs.declared.command.Command.{Command}
-use Rattle.dr_dimse.specs.Commands.{Element, field_of, announces, id_of, status_of, HasIds, HasTexts}
+use Rattle.dr_dimse.specs.Commands.{Element, field_of, announces, id_of, status_of, HasIds}
+use Rattle.dr_dimse.specs.Commands.{HasTexts}
 
 -- no value meets R, so the bytes are at fault (`BadCommand`); or memory ran out
 abbrev pub Refuses : {Y : Type 0} → DimseFault → (Y → Type 0) → Type 0
@@ -27,4 +28,7 @@ elements es = map element es
 
 -- the elements say this command, whose field and data set type are known
 abbrev pub IsOf : List Element → ℕ → Bool → Command → Type 0
-IsOf es field has_data c = (field_of c ≡ field) × (announces c ≡ has_data) × HasIds es (field_of c) (id_of c) (status_of c) × HasTexts es c
+IsOf es field has_data c =
+    (field_of c ≡ field) × (announces c ≡ has_data)
+    × HasIds es (field_of c) (id_of c) (status_of c)
+    × HasTexts es c

@@ -37,6 +37,7 @@ shown_of (Some x) = Some (x.0, x.1.now)
 abbrev pub ReadsAwaited : Awaited → List ℕ → Result Command DimseFault → Type 0
 ReadsAwaited awaited text (Ok c) = IsCommand text c × IsAwaited awaited c
 ReadsAwaited awaited text (Err BadCommand) = (c : Command) → IsCommand text c → ⊥
-ReadsAwaited awaited text (Err OutOfPlace) = (c : Command) × IsCommand text c × (IsAwaited awaited c → ⊥)
+ReadsAwaited awaited text (Err OutOfPlace) =
+    (c : Command) × IsCommand text c × (IsAwaited awaited c → ⊥)
 ReadsAwaited awaited text (Err Memory) = Unit {0}
 ReadsAwaited awaited text (Err fault) = ⊥

@@ -1,5 +1,6 @@
 -- What an assembly makes of one value after the other.
-use Rattle.std.specs.Prelude.{◌≡◌, ◌≢◌, ◌⊎◌, ℕ, ◌<◌, ◌≤◌, Bool, true, false, List, [], ◌∷◌, ◌++◌, length, Option, Some, None, IfSome, Result, Ok, Err}
+use Rattle.std.specs.Prelude.{◌≡◌, ◌≢◌, ◌⊎◌, ℕ, ◌<◌, ◌≤◌, Bool, true, false, List, [], ◌∷◌, ◌++◌}
+use Rattle.std.specs.Prelude.{length, Option, Some, None, IfSome, Result, Ok, Err}
 use Rattle.std.specs.List.{flat_map}
 use Rattle.dr_base.specs.Calls.{Calls}
 use Rattle.dr_pdu.specs.declared.pdu.Pdv.{Pdv}
@@ -10,11 +11,13 @@ use Rattle.dr_dimse.specs.declared.message.Awaited.{Awaited}
 use Rattle.dr_dimse.specs.declared.message.Awaited.TheVariants.{Requests, AnswerTo, Nothing}
 use Rattle.dr_dimse.specs.declared.command.Command.{Command}
 use Rattle.dr_dimse.specs.declared.fault.DimseFault.{DimseFault}
-use Rattle.dr_dimse.specs.declared.fault.DimseFault.TheVariants.{OutOfPlace, MixedContext, BadCommand, TooLong, Memory}
+use Rattle.dr_dimse.specs.declared.fault.DimseFault.TheVariants.{OutOfPlace, MixedContext}
+use Rattle.dr_dimse.specs.declared.fault.DimseFault.TheVariants.{BadCommand, TooLong, Memory}
 use Rattle.dr_dimse.specs.Commands.{IsCommand, field_of, id_of, announces}
 use Rattle.dr_dimse.specs.Messages.{is_command, is_last, joined, body_of, AreInner, IsWhole}
 
--- what is under way: nothing, a command of which this much is there, or the data set behind a command
+-- what is under way: nothing, a command of which this much is there, or the data set behind a
+-- command
 pub data Stage : Type 0 where
   Idle : Stage
   InCommand : ℕ → List ℕ → Stage
@@ -28,9 +31,12 @@ pub record Assembling : Type 0 where
 -- the values since the last message that leave this stage
 abbrev pub Leaves : List Pdv → Stage → Type 0
 Leaves ps Idle = ps ≡ []
-Leaves ps (InCommand id text) = (ps ≢ []) × AreInner true id ps × (text ≡ joined ps) × (length text ≤ 16384)
-Leaves ps (InData id c body) = (cs ds : List Pdv) × (text : List ℕ) × (ps ≡ cs ++ ds) × IsWhole true id cs text × (length text ≤ 16384) × IsCommand text c
-    × (announces c ≡ true) × AreInner false id ds × (body ≡ body_of (joined ds))
+Leaves ps (InCommand id text) =
+    (ps ≢ []) × AreInner true id ps × (text ≡ joined ps) × (length text ≤ 16384)
+Leaves ps (InData id c body) =
+    (cs ds : List Pdv) × (text : List ℕ) × (ps ≡ cs ++ ds) × IsWhole true id cs text
+    × (length text ≤ 16384) × IsCommand text c × (announces c ≡ true) × AreInner false id ds
+    × (body ≡ body_of (joined ds))
 
 -- the command whose data set is under way, and its context
 abbrev pub data_of : Stage → Option (ℕ × Command)
@@ -70,7 +76,8 @@ abbrev pub kept : Body → List ℕ → Body
 kept (Whole text) more = body_of (text ++ more)
 kept TooLarge more = TooLarge
 
--- an acceptor awaits requests; a requestor the answer to its message of that id, or nothing as it has asked nothing
+-- an acceptor awaits requests; a requestor the answer to its message of that id, or nothing as it
+-- has asked nothing
 abbrev pub IsAwaited : Awaited → Command → Type 0
 IsAwaited Requests c = field_of c < 0x8000
 IsAwaited (AnswerTo id) c = (0x8000 ≤ field_of c) × (id_of c ≡ Some id)
@@ -80,13 +87,15 @@ IsAwaited Nothing c = ⊥
 abbrev pub InContext : Stage → Pdv → Type 0
 InContext s p = IfSome (context_of s) (λ id. p.id ≡ id)
 
--- the value is in the context of what is under way, and of the kind that comes next: a command, or its data set
+-- the value is in the context of what is under way, and of the kind that comes next: a command, or
+-- its data set
 abbrev pub InPlace : Stage → Pdv → Type 0
 InPlace s p = InContext s p × (is_command p ≡ wants_command s)
 
 -- the value is in place, and with it the command has at most 16,384 bytes
 abbrev pub IsShortEnough : Stage → Pdv → Type 0
-IsShortEnough s p = InPlace s p × (wants_command s ≡ true) × (length (text_so_far s ++ p.fragment) ≤ 16384)
+IsShortEnough s p =
+    InPlace s p × (wants_command s ≡ true) × (length (text_so_far s ++ p.fragment) ≤ 16384)
 
 -- the fragment ends a command of this text
 abbrev pub EndsCommand : Stage → Pdv → List ℕ → Type 0
@@ -95,27 +104,40 @@ EndsCommand s p text = IsShortEnough s p × (is_last p ≡ true) × (text ≡ te
 -- a whole command makes a message, or waits for its data set
 abbrev pub Begins : ℕ → Command → Option Message → Stage → Type 0
 Begins id c None new = (announces c ≡ true) × (new ≡ InData id c (Whole []))
-Begins id c (Some m) new = (announces c ≡ false) × (m ≡ record { id = id; command = c; body = None }) × (new ≡ Idle)
+Begins id c (Some m) new =
+    (announces c ≡ false) × (m ≡ record { id = id; command = c; body = None }) × (new ≡ Idle)
 
 -- a fragment of a data set is there
 abbrev pub TakesData : Stage → Pdv → Option Message → Stage → Type 0
-TakesData (InData id c body) p None new = (is_last p ≡ false) × (new ≡ InData id c (kept body p.fragment))
-TakesData (InData id c body) p (Some m) new = (is_last p ≡ true) × (m ≡ record { id = id; command = c; body = Some (kept body p.fragment) }) × (new ≡ Idle)
+TakesData (InData id c body) p None new =
+    (is_last p ≡ false) × (new ≡ InData id c (kept body p.fragment))
+TakesData (InData id c body) p (Some m) new =
+    (is_last p ≡ true)
+    × (m ≡ record { id = id; command = c; body = Some (kept body p.fragment) })
+    × (new ≡ Idle)
 TakesData s p m new = ⊥
 
--- What one value does. A fault leaves what is under way. Of several faults the first counts: another context, out of
--- place by its kind, a command too long, one that can't be read, one that isn't awaited.
+-- What one value does. A fault leaves what is under way. Of several faults the first counts:
+-- another context, out of place by its kind, a command too long, one that can't be read, one that
+-- isn't awaited.
 abbrev pub Takes : Awaited → Stage → Pdv → Result (Option Message) DimseFault → Stage → Type 0
 Takes awaited s p (Ok m) new =
     InPlace s p × (wants_command s ≡ false) × TakesData s p m new
-    ⊎ (IsShortEnough s p × (is_last p ≡ false) × (m ≡ None) × (new ≡ InCommand p.id (text_so_far s ++ p.fragment))
-    ⊎ ((text : List ℕ) × (c : Command) × EndsCommand s p text × IsCommand text c × IsAwaited awaited c × Begins p.id c m new))
+    ⊎ (IsShortEnough s p × (is_last p ≡ false) × (m ≡ None)
+    × (new ≡ InCommand p.id (text_so_far s ++ p.fragment))
+    ⊎ ((text : List ℕ) × (c : Command) × EndsCommand s p text × IsCommand text c
+    × IsAwaited awaited c × Begins p.id c m new))
 Takes awaited s p (Err MixedContext) new = (new ≡ s) × (InContext s p → ⊥)
-Takes awaited s p (Err OutOfPlace) new = (new ≡ s)
+Takes awaited s p (Err OutOfPlace) new =
+    (new ≡ s)
     × (InContext s p × (is_command p ≢ wants_command s)
-    ⊎ ((text : List ℕ) × (c : Command) × EndsCommand s p text × IsCommand text c × (IsAwaited awaited c → ⊥)))
-Takes awaited s p (Err TooLong) new = (new ≡ s) × InPlace s p × (wants_command s ≡ true) × (16384 < length (text_so_far s ++ p.fragment))
-Takes awaited s p (Err BadCommand) new = (new ≡ s) × ((text : List ℕ) × EndsCommand s p text × ((c : Command) → IsCommand text c → ⊥))
+    ⊎ ((text : List ℕ) × (c : Command) × EndsCommand s p text × IsCommand text c
+    × (IsAwaited awaited c → ⊥)))
+Takes awaited s p (Err TooLong) new =
+    (new ≡ s) × InPlace s p × (wants_command s ≡ true)
+    × (16384 < length (text_so_far s ++ p.fragment))
+Takes awaited s p (Err BadCommand) new =
+    (new ≡ s) × ((text : List ℕ) × EndsCommand s p text × ((c : Command) → IsCommand text c → ⊥))
 Takes awaited s p (Err Memory) new = new ≡ s
 
 -- ---- many values
@@ -128,7 +150,8 @@ pub record Call : Type 0 where
 
 -- what the calls make of a stage, one after the other
 abbrev pub Took : Stage → List Call → Stage → Type 0
-Took old calls new = Calls (λ before call after. Takes call.awaited before call.value call.answer after) old calls new
+Took old calls new = Calls
+    (λ before call after. Takes call.awaited before call.value call.answer after) old calls new
 
 -- the value that a call took; a fault takes none
 abbrev pub taken_by : Pdv → Result (Option Message) DimseFault → List Pdv
@@ -151,11 +174,16 @@ given xs = flat_map (λ (x : Call). given_by x.answer) xs
 -- each of the values is taken, one after the other, and none ends a message
 abbrev pub Waits : Awaited → Stage → List Pdv → Stage → Type 0
 Waits awaited old [] new = old ≡ new
-Waits awaited old (p ∷ ps) new = (mid : Stage) × Takes awaited old p (Ok None) mid × Waits awaited mid ps new
+Waits awaited old (p ∷ ps) new =
+    (mid : Stage) × Takes awaited old p (Ok None) mid × Waits awaited mid ps new
 
 -- from a fresh assembly on, the last of the values ends the message, and none before it ends one
 abbrev pub Gives : Awaited → List Pdv → Message → Type 0
-Gives awaited ps m = (front : List Pdv) × (final : Pdv) × (mid : Stage) × (ps ≡ front ++ final ∷ []) × Waits awaited Idle front mid × Takes awaited mid final (Ok (Some m)) Idle
+Gives awaited ps m =
+    (front : List Pdv) × (final : Pdv) × (mid : Stage)
+    × (ps ≡ front ++ final ∷ [])
+    × Waits awaited Idle front mid
+    × Takes awaited mid final (Ok (Some m)) Idle
 
 -- the message, where no value of it is still to come
 abbrev pub ended_by : List Pdv → Message → Option Message

@@ -1,7 +1,8 @@
 -- Worked figures: an echo, a store and a cancel, byte by byte.
 use Rattle.std.specs.Prelude.{ℕ, None, false, List, [], ◌∷◌, ◌++◌, length, codes}
 use Rattle.dr_dimse.specs.declared.command.Command.{Command}
-use Rattle.dr_dimse.specs.declared.command.Command.TheVariants.{StoreRq, StoreRsp, EchoRq, EchoRsp, Other}
+use Rattle.dr_dimse.specs.declared.command.Command.TheVariants.{StoreRq, StoreRsp, EchoRq, EchoRsp}
+use Rattle.dr_dimse.specs.declared.command.Command.TheVariants.{Other}
 use Rattle.dr_dimse.specs.Written.{joined, elements_of}
 
 -- the Verification SOP class (PS3.4 annex A)
@@ -22,8 +23,11 @@ group_length_of_answer = length (joined (elements_of echo_answer))
 
 -- the C-ECHO-RQ byte by byte: group length 56, class, field 0030H, message id 1, no data set
 abbrev pub echo_text : List ℕ
-echo_text = 0 ∷ 0 ∷ 0 ∷ 0 ∷ 4 ∷ 0 ∷ 0 ∷ 0 ∷ 0x38 ∷ 0 ∷ 0 ∷ 0 ∷ 0 ∷ 0 ∷ 2 ∷ 0 ∷ 0x12 ∷ 0 ∷ 0 ∷ 0 ∷ (verification
-    ++ 0 ∷ 0 ∷ 0 ∷ 0 ∷ 1 ∷ 2 ∷ 0 ∷ 0 ∷ 0 ∷ 0x30 ∷ 0 ∷ 0 ∷ 0 ∷ 0x10 ∷ 1 ∷ 2 ∷ 0 ∷ 0 ∷ 0 ∷ 1 ∷ 0 ∷ 0 ∷ 0 ∷ 0 ∷ 8 ∷ 2 ∷ 0 ∷ 0 ∷ 0 ∷ 1 ∷ 1 ∷ [])
+echo_text =
+    0 ∷ 0 ∷ 0 ∷ 0 ∷ 4 ∷ 0 ∷ 0 ∷ 0 ∷ 0x38 ∷ 0 ∷ 0 ∷ 0 ∷ 0 ∷ 0 ∷ 2 ∷ 0 ∷ 0x12 ∷ 0 ∷ 0 ∷ 0
+    ∷ (verification
+    ++ 0 ∷ 0 ∷ 0 ∷ 0 ∷ 1 ∷ 2 ∷ 0 ∷ 0 ∷ 0 ∷ 0x30 ∷ 0 ∷ 0 ∷ 0 ∷ 0x10 ∷ 1 ∷ 2 ∷ 0 ∷ 0 ∷ 0 ∷ 1 ∷ 0 ∷ 0
+    ∷ 0 ∷ 0 ∷ 8 ∷ 2 ∷ 0 ∷ 0 ∷ 0 ∷ 1 ∷ 1 ∷ [])
 
 -- the CT Image Storage SOP class (PS3.4 B.5)
 abbrev pub ct : List ℕ
@@ -45,23 +49,34 @@ class_text = 0 ∷ 0 ∷ 2 ∷ 0 ∷ 26 ∷ 0 ∷ 0 ∷ 0 ∷ (ct ++ 0 ∷ [])
 abbrev pub instance_text : List ℕ
 instance_text = 0 ∷ 0 ∷ 0 ∷ 0x10 ∷ 6 ∷ 0 ∷ 0 ∷ 0 ∷ 0x31 ∷ 0x2E ∷ 0x32 ∷ 0x2E ∷ 0x33 ∷ 0 ∷ []
 
--- of the C-STORE-RQ: field (0000,0100), message id (0000,0110), priority (0000,0700), data set type (0000,0800)
+-- of the C-STORE-RQ: field (0000,0100), message id (0000,0110), priority (0000,0700), data set type
+-- (0000,0800)
 abbrev pub store_numbers : List ℕ
-store_numbers = 0 ∷ 0 ∷ 0 ∷ 1 ∷ 2 ∷ 0 ∷ 0 ∷ 0 ∷ 1 ∷ 0 ∷ 0 ∷ 0 ∷ 0x10 ∷ 1 ∷ 2 ∷ 0 ∷ 0 ∷ 0 ∷ 7 ∷ 0 ∷ 0 ∷ 0 ∷ 0 ∷ 7 ∷ 2 ∷ 0 ∷ 0 ∷ 0 ∷ 0 ∷ 0 ∷ 0 ∷ 0 ∷ 0 ∷ 8 ∷ 2 ∷ 0 ∷ 0 ∷ 0 ∷ 1 ∷ 0 ∷ []
+store_numbers =
+    0 ∷ 0 ∷ 0 ∷ 1 ∷ 2 ∷ 0 ∷ 0 ∷ 0 ∷ 1 ∷ 0 ∷ 0 ∷ 0 ∷ 0x10 ∷ 1 ∷ 2 ∷ 0 ∷ 0 ∷ 0 ∷ 7 ∷ 0 ∷ 0 ∷ 0 ∷ 0 ∷ 7
+    ∷ 2 ∷ 0 ∷ 0 ∷ 0 ∷ 0 ∷ 0 ∷ 0 ∷ 0 ∷ 0 ∷ 8 ∷ 2 ∷ 0 ∷ 0 ∷ 0 ∷ 1 ∷ 0 ∷ []
 
 -- the C-STORE-RQ byte by byte: group length 88, class, numbers, instance
 abbrev pub store_text : List ℕ
-store_text = 0 ∷ 0 ∷ 0 ∷ 0 ∷ 4 ∷ 0 ∷ 0 ∷ 0 ∷ 88 ∷ 0 ∷ 0 ∷ 0 ∷ (class_text ++ (store_numbers ++ instance_text))
+store_text =
+    0 ∷ 0 ∷ 0 ∷ 0 ∷ 4 ∷ 0 ∷ 0 ∷ 0 ∷ 88 ∷ 0 ∷ 0 ∷ 0
+    ∷ (class_text ++ (store_numbers ++ instance_text))
 
--- the C-STORE-RSP byte by byte: group length, class, field, message id that is answered (0000,0120), data set type,
--- status (0000,0900), instance
+-- the C-STORE-RSP byte by byte: group length, class, field, message id that is answered
+-- (0000,0120), data set type, status (0000,0900), instance
 abbrev pub store_answer_text : List ℕ
-store_answer_text = 0 ∷ 0 ∷ 0 ∷ 0 ∷ 4 ∷ 0 ∷ 0 ∷ 0 ∷ 88 ∷ 0 ∷ 0 ∷ 0 ∷ (class_text
-    ++ (0 ∷ 0 ∷ 0 ∷ 1 ∷ 2 ∷ 0 ∷ 0 ∷ 0 ∷ 1 ∷ 0x80 ∷ 0 ∷ 0 ∷ 0x20 ∷ 1 ∷ 2 ∷ 0 ∷ 0 ∷ 0 ∷ 7 ∷ 0 ∷ 0 ∷ 0 ∷ 0 ∷ 8 ∷ 2 ∷ 0 ∷ 0 ∷ 0 ∷ 1 ∷ 1 ∷ 0 ∷ 0 ∷ 0 ∷ 9 ∷ 2 ∷ 0 ∷ 0 ∷ 0 ∷ 0 ∷ 0xA7 ∷ instance_text))
+store_answer_text =
+    0 ∷ 0 ∷ 0 ∷ 0 ∷ 4 ∷ 0 ∷ 0 ∷ 0 ∷ 88 ∷ 0 ∷ 0 ∷ 0
+    ∷ (class_text
+    ++ (0 ∷ 0 ∷ 0 ∷ 1 ∷ 2 ∷ 0 ∷ 0 ∷ 0 ∷ 1 ∷ 0x80 ∷ 0 ∷ 0 ∷ 0x20 ∷ 1 ∷ 2 ∷ 0 ∷ 0 ∷ 0 ∷ 7 ∷ 0 ∷ 0 ∷ 0
+    ∷ 0 ∷ 8 ∷ 2 ∷ 0 ∷ 0 ∷ 0 ∷ 1 ∷ 1 ∷ 0 ∷ 0 ∷ 0 ∷ 9 ∷ 2 ∷ 0 ∷ 0 ∷ 0 ∷ 0 ∷ 0xA7 ∷ instance_text))
 
--- the move originator's title (0000,1030), of 16 bytes, and its message id (0000,1031), of that many bytes
+-- the move originator's title (0000,1030), of 16 bytes, and its message id (0000,1031), of that
+-- many bytes
 abbrev pub originator : List ℕ → List ℕ
-originator id = 0 ∷ 0 ∷ 0x30 ∷ 0x10 ∷ 16 ∷ 0 ∷ 0 ∷ 0 ∷ (codes "GATE            " ++ (0 ∷ 0 ∷ 0x31 ∷ 0x10 ∷ length id ∷ 0 ∷ 0 ∷ 0 ∷ id))
+originator id =
+    0 ∷ 0 ∷ 0x30 ∷ 0x10 ∷ 16 ∷ 0 ∷ 0 ∷ 0
+    ∷ (codes "GATE            " ++ (0 ∷ 0 ∷ 0x31 ∷ 0x10 ∷ length id ∷ 0 ∷ 0 ∷ 0 ∷ id))
 
 -- a C-STORE-RQ of a C-MOVE, without its group length
 abbrev pub moved_text : List ℕ → List ℕ
@@ -71,6 +86,9 @@ moved_text id = class_text ++ (store_numbers ++ (instance_text ++ originator id)
 abbrev pub cancel : Command
 cancel = Other 0x0FFF None None false
 
--- the C-CANCEL-RQ byte by byte, without a group length: field 0FFFH, message id that is cancelled, no data set
+-- the C-CANCEL-RQ byte by byte, without a group length: field 0FFFH, message id that is cancelled,
+-- no data set
 abbrev pub cancel_text : List ℕ
-cancel_text = 0 ∷ 0 ∷ 0 ∷ 1 ∷ 2 ∷ 0 ∷ 0 ∷ 0 ∷ 0xFF ∷ 0x0F ∷ 0 ∷ 0 ∷ 0x20 ∷ 1 ∷ 2 ∷ 0 ∷ 0 ∷ 0 ∷ 7 ∷ 0 ∷ 0 ∷ 0 ∷ 0 ∷ 8 ∷ 2 ∷ 0 ∷ 0 ∷ 0 ∷ 1 ∷ 1 ∷ []
+cancel_text =
+    0 ∷ 0 ∷ 0 ∷ 1 ∷ 2 ∷ 0 ∷ 0 ∷ 0 ∷ 0xFF ∷ 0x0F ∷ 0 ∷ 0 ∷ 0x20 ∷ 1 ∷ 2 ∷ 0 ∷ 0 ∷ 0 ∷ 7 ∷ 0 ∷ 0 ∷ 0
+    ∷ 0 ∷ 8 ∷ 2 ∷ 0 ∷ 0 ∷ 0 ∷ 1 ∷ 1 ∷ []

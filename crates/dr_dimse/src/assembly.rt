@@ -2,7 +2,8 @@
 ghost use Rattle.std.specs.Prelude.{◌≡◌, ◌%◌, ◌/◌, ◌==◌, true, false, IsTrue, ◌↔◌, OnOk, OnErr};
 ghost use Rattle.dr_dimse.specs.Messages.{is_command as starts_command, is_last as ends};
 ghost use Rattle.dr_dimse.specs.Stages.{so_far, text_held, shown_of, ReadsAwaited};
-ghost use Rattle.dr_dimse.specs.Taking.{Begins, Idle, data_of, data_so_far, IsAwaited, InPlace, Takes, kept, wants_command};
+ghost use Rattle.dr_dimse.specs.Taking.{Begins, Idle, data_of, data_so_far, IsAwaited, InPlace};
+ghost use Rattle.dr_dimse.specs.Taking.{Takes, kept, wants_command};
 
 use crate::command::Command;
 use crate::fault::DimseFault;
@@ -49,7 +50,10 @@ impl Model for Assembly {
 
     ghost Value = { Assembling };
 
-    ghost view = { λ a. record { awaited = a.awaited; stage = stage_of a.under_way a.text.items (so_far a.is_too_large a.body.items) } };
+    ghost view = { λ a. record {
+      awaited = a.awaited;
+      stage = stage_of a.under_way a.text.items (so_far a.is_too_large a.body.items);
+    } };
 }
 
 impl Assembly {
@@ -74,12 +78,12 @@ impl Assembly {
         self.awaited = awaited;
     }
 
-    /// Takes one more value, and gives the message that it ends. The bytes of a data set of more than 67,108,864 bytes
-    /// are dropped, and its message has `TooLarge`.
+    /// Takes one more value, and gives the message that it ends. The bytes of a data set of more
+    /// than 67,108,864 bytes are dropped, and its message has `TooLarge`.
     ///
-    /// Of several faults the first counts: `MixedContext`, `OutOfPlace` by its kind, `TooLong` (a command of more than
-    /// 16,384 bytes), `BadCommand`, `OutOfPlace` as the command isn't awaited. Where there is one, or `Memory`, the value
-    /// isn't taken, and the assembly is as before.
+    /// Of several faults the first counts: `MixedContext`, `OutOfPlace` by its kind, `TooLong` (a
+    /// command of more than 16,384 bytes), `BadCommand`, `OutOfPlace` as the command isn't awaited.
+    /// Where there is one, or `Memory`, the value isn't taken, and the assembly is as before.
     pub fn take(&mut self, pdv: Pdv) -> Result<Option<Message>, DimseFault>
         ensures awaited { self.new.awaited ≡ self.old.awaited }
         ensures takes { Takes self.old.awaited self.old.stage pdv result self.new.stage }
@@ -113,7 +117,8 @@ impl Assembly {
         self.take_data(pdv)
     }
 
-    /// The command whose data set is under way, and its presentation context: None between messages and within a command.
+    /// The command whose data set is under way, and its presentation context: None between messages
+    /// and within a command.
     pub fn data_of(&self) -> Option<(u8, &Command)>
         ensures { shown_of result ≡ data_of self.now.stage }
     {
@@ -123,8 +128,8 @@ impl Assembly {
         }
     }
 
-    /// The bytes of the data set that is under way, as far as they have come and are kept; none where there is no data
-    /// set, or where it is too large.
+    /// The bytes of the data set that is under way, as far as they have come and are kept; none
+    /// where there is no data set, or where it is too large.
     pub fn data_so_far(&self) -> &[u8]
         ensures { result.now ≡ data_so_far self.now.stage }
     {
@@ -240,8 +245,11 @@ fn keep(
     is_too_large: &mut bool,
     fragment: Octets,
 ) -> Result<(), AllocError>
-    ensures ok { OnOk result (so_far is_too_large.new body.new.items ≡ kept (so_far is_too_large.old body.old.items) fragment) }
-    ensures err { OnErr result (so_far is_too_large.new body.new.items ≡ so_far is_too_large.old body.old.items) }
+    ensures ok { OnOk result
+        (so_far is_too_large.new body.new.items
+        ≡ kept (so_far is_too_large.old body.old.items) fragment) }
+    ensures err { OnErr result
+        (so_far is_too_large.new body.new.items ≡ so_far is_too_large.old body.old.items) }
 {
     if *is_too_large {
         return Ok(());

@@ -1,8 +1,10 @@
-//! The elements of a command set: tag, length (4), value, in Implicit VR Little Endian (PS3.7 section 6.3.1).
+//! The elements of a command set: tag, length (4), value, in Implicit VR Little Endian (PS3.7
+//! section 6.3.1).
 ghost use Rattle.std.specs.Prelude.{◌≡◌, [], IsTrue, ◌↔◌, ℕ, List, MatchOption};
 ghost use Rattle.std.specs.Option.{option_copied};
 ghost use Rattle.dr_base.specs.Runs.{Run};
-ghost use Rattle.dr_dimse.specs.Commands.{Element as ElementText, StartsElement, first_value, HasNumber, IsShort, AreNumbers};
+ghost use Rattle.dr_dimse.specs.Commands.{Element as ElementText, StartsElement, first_value};
+ghost use Rattle.dr_dimse.specs.Commands.{HasNumber, IsShort, AreNumbers};
 ghost use Rattle.dr_dimse.specs.Reads.{Reads, element, elements};
 
 use crate::fault::DimseFault;
@@ -20,7 +22,9 @@ pub struct Element<'a> {
 
 /// The first element of a text that isn't empty, and what follows it.
 fn element_at(text: &[u8]) -> Result<(Element<'_>, &[u8]), DimseFault>
-    ensures { Reads {Y = ElementText × List ℕ} (λ x. (element x.0, x.1.now)) result (λ x. StartsElement text.now x.0 x.1) }
+    ensures { Reads {Y = ElementText × List ℕ}
+        (λ x. (element x.0, x.1.now)) result
+        (λ x. StartsElement text.now x.0 x.1) }
 {
     let [group_low, group_high, low, high, a, b, c, d, rest @ ..] = text else {
         return Err(DimseFault::BadCommand);
@@ -72,7 +76,8 @@ pub fn first<'a>(found: &[Element<'a>], number: u16) -> Option<&'a [u8]>
 
 /// The number of two bytes that the first element of that number is.
 pub fn number_of(found: &[Element<'_>], number: u16) -> Option<u16>
-    ensures { MatchOption result ((n : ℕ) → HasNumber (elements found.now) number n → ⊥) (λ n. HasNumber (elements found.now) number n) }
+    ensures { MatchOption result ((n : ℕ) → HasNumber (elements found.now) number n → ⊥)
+        (λ n. HasNumber (elements found.now) number n) }
 {
     let Some(value) = first(found, number) else {
         return None;
@@ -93,8 +98,8 @@ fn is_short(found: &[Element<'_>], number: u16) -> bool
     value.len() == 2
 }
 
-/// Whether the numbers of a command have two bytes: command field, message id, id that is answered, priority, data set
-/// type, status, and the move originator's message id.
+/// Whether the numbers of a command have two bytes: command field, message id, id that is answered,
+/// priority, data set type, status, and the move originator's message id.
 pub fn are_numbers(found: &[Element<'_>]) -> bool
     ensures { IsTrue result ↔ AreNumbers (elements found.now) }
 {

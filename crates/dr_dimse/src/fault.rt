@@ -8,8 +8,8 @@ use thiserror::Error;
 /// Why a command or a data value isn't taken. The codes are those that the program prints.
 #[derive(Clone, Copy, Debug, PartialEq, Eq, Error)]
 pub enum DimseFault {
-    /// A fragment of a data set before its command's end or of a command within a data set, or a command that isn't
-    /// awaited.
+    /// A fragment of a data set before its command's end or of a command within a data set, or a
+    /// command that isn't awaited.
     #[error("M1 OutOfPlace")]
     OutOfPlace,
     /// A fragment in another presentation context than the message that is under way.

@@ -1,15 +1,18 @@
 //! Laws of the definitions.
-ghost use Rattle.std.specs.Prelude.{◌≡◌, ◌≢◌, ◌<◌, ◌≤◌, ◌+◌, ◌^◌, ◌∷◌, ◌++◌, [], List, ℕ, Bool, Option, Some, Result, Ok, Err, length};
+ghost use Rattle.std.specs.Prelude.{◌≡◌, ◌≢◌, ◌<◌, ◌≤◌, ◌+◌, ◌^◌, ◌∷◌, ◌++◌, [], List, ℕ, Bool};
+ghost use Rattle.std.specs.Prelude.{Option, Some, Result, Ok, Err, length};
 ghost use Rattle.std.specs.List.{AllByRecursion};
 ghost use Rattle.dr_pdu.specs.declared.pdu.Pdv.{Pdv as Value};
 ghost use Rattle.dr_dimse.specs.Commands.{IsCommand};
 ghost use Rattle.dr_dimse.specs.Messages.{IsMessage, AreMessages};
-ghost use Rattle.dr_dimse.specs.Taking.{Stage, Idle, Leaves, IsAwaited, Takes, Call, Took, taken, given, Waits, Gives, ended_by, since};
+ghost use Rattle.dr_dimse.specs.Taking.{Stage, Idle, Leaves, IsAwaited, Takes, Call, Took, taken};
+ghost use Rattle.dr_dimse.specs.Taking.{given, Waits, Gives, ended_by, since};
 ghost use Rattle.dr_dimse.specs.declared.message.Awaited.{Awaited as Waiting};
 ghost use Rattle.dr_dimse.specs.declared.message.Message.{Message as MessageValue};
 ghost use Rattle.dr_dimse.specs.Written.{written, Fits};
 ghost use Rattle.dr_dimse.specs.declared.command.Command.{Command as CommandValue};
-ghost use Rattle.dr_dimse.specs.declared.command.Command.TheVariants.{StoreRq, StoreRsp, EchoRq, EchoRsp, Other};
+ghost use Rattle.dr_dimse.specs.declared.command.Command.TheVariants.{StoreRq, StoreRsp, EchoRq};
+ghost use Rattle.dr_dimse.specs.declared.command.Command.TheVariants.{EchoRsp, Other};
 ghost use Rattle.dr_dimse.specs.declared.fault.DimseFault.{DimseFault as Fault};
 ghost use Rattle.dr_dimse.specs.declared.fault.DimseFault.TheVariants.{Memory};
 
@@ -18,21 +21,33 @@ pub fn a_text_has_one_command()
     ensures { (text : List ℕ) (c d : CommandValue) → IsCommand text c → IsCommand text d → c ≡ d }
 {}
 
-/// A list of values gives a message at its last one, and none before, exactly where it is that message, and its command
-/// is awaited.
+/// A list of values gives a message at its last one, and none before, exactly where it is that
+/// message, and its command is awaited.
 pub fn a_message_is_given_at_its_last_value()
-    ensures given { (awaited : Waiting) (ps : List Value) (m : MessageValue) → Gives awaited ps m → IsMessage ps m × IsAwaited awaited m.command }
-    ensures whole { (awaited : Waiting) (ps : List Value) (m : MessageValue) → IsMessage ps m → IsAwaited awaited m.command → Gives awaited ps m }
+    ensures given { (awaited : Waiting) (ps : List Value) (m : MessageValue)
+        → Gives awaited ps m
+        → IsMessage ps m × IsAwaited awaited m.command }
+    ensures whole { (awaited : Waiting) (ps : List Value) (m : MessageValue)
+        → IsMessage ps m
+        → IsAwaited awaited m.command
+        → Gives awaited ps m }
 {}
 
-/// Whatever the calls, the messages that were given are those of the values that were taken, in order, and what is under
-/// way is made of the values behind them.
+/// Whatever the calls, the messages that were given are those of the values that were taken, in
+/// order, and what is under way is made of the values behind them.
 pub fn an_assembly_gives_the_messages()
-    ensures fresh { (calls : List Call) (new : Stage) → Took Idle calls new → (rest : List Value) × AreMessages (taken calls) (given calls) rest × Leaves rest new }
-    ensures awaited { (awaited : Waiting) (calls : List Call) (new : Stage) → AllByRecursion (λ (x : Call). x.awaited ≡ awaited) calls → Took Idle calls new
+    ensures fresh { (calls : List Call) (new : Stage)
+        → Took Idle calls new
+        → (rest : List Value) × AreMessages (taken calls) (given calls) rest × Leaves rest new }
+    ensures awaited { (awaited : Waiting) (calls : List Call) (new : Stage)
+        → AllByRecursion (λ (x : Call). x.awaited ≡ awaited) calls
+        → Took Idle calls new
         → AllByRecursion (λ (m : MessageValue). IsAwaited awaited m.command) (given calls) }
-    ensures later { (calls : List Call) (before : List Value) (old new : Stage) → Leaves before old → Took old calls new
-        → (rest : List Value) × AreMessages (before ++ taken calls) (given calls) rest × Leaves rest new }
+    ensures later { (calls : List Call) (before : List Value) (old new : Stage)
+        → Leaves before old → Took old calls new
+        → (rest : List Value)
+        × AreMessages (before ++ taken calls) (given calls) rest
+        × Leaves rest new }
 {}
 
 /// The values since the last message leave one stage at most: it is fixed by them.
@@ -40,31 +55,54 @@ pub fn a_stage_is_one()
     ensures { (ps : List Value) (s t : Stage) → Leaves ps s → Leaves ps t → s ≡ t }
 {}
 
-/// From any stage on: where the values since the last message, one more, and those that are still to come make a message
-/// that is awaited, the one is taken, and gives the message just where no more are to come.
+/// From any stage on: where the values since the last message, one more, and those that are still
+/// to come make a message that is awaited, the one is taken, and gives the message just where no
+/// more are to come.
 pub fn a_message_comes_value_by_value()
-    ensures { (awaited : Waiting) (before : List Value) (p : Value) (later : List Value) (m : MessageValue) (s : Stage)
-        → Leaves before s → IsMessage (before ++ p ∷ later) m → IsAwaited awaited m.command
-        → (new : Stage) × Takes awaited s p (Ok (ended_by later m)) new × Leaves (since (before ++ p ∷ []) later) new }
+    ensures { (awaited : Waiting) (before : List Value) (p : Value) (later : List Value)
+        (m : MessageValue) (s : Stage)
+        → Leaves before s
+        → IsMessage (before ++ p ∷ later) m
+        → IsAwaited awaited m.command
+        → (new : Stage)
+        × Takes awaited s p (Ok (ended_by later m)) new
+        × Leaves (since (before ++ p ∷ []) later) new }
 {}
 
 /// A value has one answer, but for want of memory.
 pub fn a_value_has_one_answer()
-    ensures { (awaited : Waiting) (old : Stage) (p : Value) (r s : Result (Option MessageValue) Fault) (new new' : Stage) → r ≢ Err Memory → s ≢ Err Memory
-        → Takes awaited old p r new → Takes awaited old p s new' → (r ≡ s) × (new ≡ new') }
+    ensures { (awaited : Waiting) (old : Stage) (p : Value)
+        (r s : Result (Option MessageValue) Fault) (new new' : Stage)
+        → r ≢ Err Memory → s ≢ Err Memory
+        → Takes awaited old p r new
+        → Takes awaited old p s new'
+        → (r ≡ s) × (new ≡ new') }
 {}
 
-/// No value is without an answer other than want of memory: that each of the answers is wrong of it is absurd. (That
-/// says that there is one without saying which, as long as nobody has tried to read the command.)
+/// No value is without an answer other than want of memory: that each of the answers is wrong of it
+/// is absurd. (That says that there is one without saying which, as long as nobody has tried to
+/// read the command.)
 pub fn a_value_has_an_answer()
-    ensures { (awaited : Waiting) (old : Stage) (p : Value) → ((r : Result (Option MessageValue) Fault) (new : Stage) → r ≢ Err Memory → Takes awaited old p r new → ⊥) → ⊥ }
+    ensures { (awaited : Waiting) (old : Stage) (p : Value)
+        → ((r : Result (Option MessageValue) Fault) (new : Stage)
+        → r ≢ Err Memory
+        → Takes awaited old p r new
+        → ⊥)
+        → ⊥ }
 {}
 
-/// No fault is told while a message can still come: after a fault, the values since the last message and the one that
-/// was refused begin no message that is awaited. (It may be told later than at the first value with which that is so.)
+/// No fault is told while a message can still come: after a fault, the values since the last
+/// message and the one that was refused begin no message that is awaited. (It may be told later
+/// than at the first value with which that is so.)
 pub fn after_a_fault_there_is_no_message()
-    ensures { (awaited : Waiting) (ps : List Value) (p : Value) (fault : Fault) (old new : Stage) → fault ≢ Memory → Waits awaited Idle ps old → Takes awaited old p (Err fault) new
-        → (more : List Value) (m : MessageValue) → IsMessage (ps ++ p ∷ more) m → IsAwaited awaited m.command → ⊥ }
+    ensures { (awaited : Waiting) (ps : List Value) (p : Value) (fault : Fault) (old new : Stage)
+        → fault ≢ Memory
+        → Waits awaited Idle ps old
+        → Takes awaited old p (Err fault) new
+        → (more : List Value) (m : MessageValue)
+        → IsMessage (ps ++ p ∷ more) m
+        → IsAwaited awaited m.command
+        → ⊥ }
 {}
 
 /// What is written is a spelling of its command.
@@ -79,8 +117,16 @@ pub fn what_is_read_can_be_written()
 
 /// The answer to a request that can be written can be written, with the same UIDs.
 pub fn a_request_can_be_answered()
-    ensures store { (id status : ℕ) (class instance : List ℕ) (has_data : Bool) → Fits (StoreRq id class instance) → status < 2 ^ 16 → Fits (StoreRsp id status class instance has_data) }
-    ensures echo { (id status : ℕ) (class : List ℕ) (had_data has_data : Bool) → Fits (EchoRq id class had_data) → status < 2 ^ 16 → Fits (EchoRsp id status class has_data) }
-    ensures other { (field id status : ℕ) (none : Option ℕ) (had_data has_data : Bool) → Fits (Other field (Some id) none had_data) → field < 0x8000 → status < 2 ^ 16
+    ensures store { (id status : ℕ) (class instance : List ℕ) (has_data : Bool)
+        → Fits (StoreRq id class instance)
+        → status < 2 ^ 16
+        → Fits (StoreRsp id status class instance has_data) }
+    ensures echo { (id status : ℕ) (class : List ℕ) (had_data has_data : Bool)
+        → Fits (EchoRq id class had_data)
+        → status < 2 ^ 16
+        → Fits (EchoRsp id status class has_data) }
+    ensures other { (field id status : ℕ) (none : Option ℕ) (had_data has_data : Bool)
+        → Fits (Other field (Some id) none had_data)
+        → field < 0x8000 → status < 2 ^ 16
         → Fits (Other (0x8000 + field) (Some id) (Some status) has_data) }
 {}

@@ -17,8 +17,8 @@ const CANCEL: u16 = 0x0FFF;
 /// The data set type that says that no data set follows.
 const NO_DATA_SET: u16 = 0x0101;
 
-/// The command that a text spells (PS3.7 sections 6.3.1 and 9.3, annex E): elements in any order, of which unknown ones
-/// are skipped and the first of a tag counts. The group length isn't tested.
+/// The command that a text spells (PS3.7 sections 6.3.1 and 9.3, annex E): elements in any order,
+/// of which unknown ones are skipped and the first of a tag counts. The group length isn't tested.
 ///
 /// `BadCommand` exactly where the text spells none; `Memory` last.
 pub fn read_command(alloc: Global, text: &[u8]) -> Result<Command, DimseFault>

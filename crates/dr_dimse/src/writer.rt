@@ -1,9 +1,12 @@
 //! The text of a command.
-ghost use Rattle.std.specs.Prelude.{◌≡◌, ◌∷◌, ◌++◌, ◌^◌, ◌<◌, ◌≤◌, length, nat_le, if◌then◌else◌, IsTrue, ◌↔◌, IfOk, OnOk};
+ghost use Rattle.std.specs.Prelude.{◌≡◌, ◌∷◌, ◌++◌, ◌^◌, ◌<◌, ◌≤◌, length, nat_le, if◌then◌else◌};
+ghost use Rattle.std.specs.Prelude.{IsTrue, ◌↔◌, IfOk, OnOk};
 ghost use Rattle.std.specs.Int.{w16, w32, to_le_bytes};
 ghost use Rattle.dr_dimse.specs.Commands.{element_text, HasNoName};
-ghost use Rattle.dr_dimse.specs.declared.command.Command.TheVariants.{StoreRq, StoreRsp, EchoRq, EchoRsp, Other};
-ghost use Rattle.dr_dimse.specs.Written.{number_element, text_element, data_element, if_some, elements_of, joined, written, Fits, FieldFits, IsText};
+ghost use Rattle.dr_dimse.specs.declared.command.Command.TheVariants.{StoreRq, StoreRsp, EchoRq};
+ghost use Rattle.dr_dimse.specs.declared.command.Command.TheVariants.{EchoRsp, Other};
+ghost use Rattle.dr_dimse.specs.Written.{number_element, text_element, data_element, if_some};
+ghost use Rattle.dr_dimse.specs.Written.{elements_of, joined, written, Fits, FieldFits, IsText};
 
 use crate::assembly::GREATEST_COMMAND;
 use crate::command::Command;
@@ -12,8 +15,8 @@ use dr_base::Text;
 use dr_base::padding::unpadded;
 use std::alloc::{AllocError, Global};
 
-/// The spelling of a command: the group length, and then its elements in the order of their tags, texts padded by one NUL
-/// to even length.
+/// The spelling of a command: the group length, and then its elements in the order of their tags,
+/// texts padded by one NUL to even length.
 pub fn write_command(alloc: Global, command: &Command) -> Result<Vec<u8>, AllocError>
     requires { Fits command.now }
     ensures { IfOk result (λ bytes. bytes.items ≡ written command.now) }
@@ -72,7 +75,8 @@ fn store_request(
 ) -> Result<Vec<u8>, AllocError>
     requires class { length class.now ≤ 16384 }
     requires instance { length instance.now ≤ 16384 }
-    ensures { IfOk result (λ bytes. bytes.items ≡ joined (elements_of (StoreRq id class.now instance.now))) }
+    ensures { IfOk result (λ bytes.
+        bytes.items ≡ joined (elements_of (StoreRq id class.now instance.now))) }
 {
     let mut out = Vec::new(alloc);
     put_text(&mut out, 0x0002, class)?;
@@ -95,7 +99,8 @@ fn store_answer(
 ) -> Result<Vec<u8>, AllocError>
     requires class { length class.now ≤ 16384 }
     requires instance { length instance.now ≤ 16384 }
-    ensures { IfOk result (λ bytes. bytes.items ≡ joined (elements_of (StoreRsp to status class.now instance.now has_data))) }
+    ensures { IfOk result (λ bytes.
+        bytes.items ≡ joined (elements_of (StoreRsp to status class.now instance.now has_data))) }
 {
     let mut out = Vec::new(alloc);
     put_text(&mut out, 0x0002, class)?;
@@ -110,7 +115,8 @@ fn store_answer(
 /// The elements of a C-ECHO-RQ.
 fn echo_request(alloc: Global, id: u16, class: &Text, has_data: bool) -> Result<Vec<u8>, AllocError>
     requires { length class.now ≤ 16384 }
-    ensures { IfOk result (λ bytes. bytes.items ≡ joined (elements_of (EchoRq id class.now has_data))) }
+    ensures { IfOk result (λ bytes.
+        bytes.items ≡ joined (elements_of (EchoRq id class.now has_data))) }
 {
     let mut out = Vec::new(alloc);
     put_text(&mut out, 0x0002, class)?;
@@ -129,7 +135,8 @@ fn echo_answer(
     has_data: bool,
 ) -> Result<Vec<u8>, AllocError>
     requires { length class.now ≤ 16384 }
-    ensures { IfOk result (λ bytes. bytes.items ≡ joined (elements_of (EchoRsp to status class.now has_data))) }
+    ensures { IfOk result (λ bytes.
+        bytes.items ≡ joined (elements_of (EchoRsp to status class.now has_data))) }
 {
     let mut out = Vec::new(alloc);
     put_text(&mut out, 0x0002, class)?;
@@ -148,7 +155,8 @@ fn other_elements(
     status: Option<u16>,
     has_data: bool,
 ) -> Result<Vec<u8>, AllocError>
-    ensures { IfOk result (λ bytes. bytes.items ≡ joined (elements_of (Other field id status has_data))) }
+    ensures { IfOk result (λ bytes.
+        bytes.items ≡ joined (elements_of (Other field id status has_data))) }
 {
     let mut out = Vec::new(alloc);
     put_number(&mut out, 0x0100, field)?;
@@ -181,7 +189,8 @@ fn put_data(out: &mut Vec<u8>, has_data: bool) -> Result<(), AllocError>
 }
 
 fn put_number(out: &mut Vec<u8>, number: u16, n: u16) -> Result<(), AllocError>
-    ensures { OnOk result (out.new.items ≡ out.old.items ++ element_text (number_element number n)) }
+    ensures { OnOk result
+        (out.new.items ≡ out.old.items ++ element_text (number_element number n)) }
 {
     put_element(out, number, &n.to_le_bytes())
 }
@@ -189,7 +198,8 @@ fn put_number(out: &mut Vec<u8>, number: u16, n: u16) -> Result<(), AllocError>
 /// A text, padded to even length.
 fn put_text(out: &mut Vec<u8>, number: u16, text: &Text) -> Result<(), AllocError>
     requires { length text.now ≤ 16384 }
-    ensures { OnOk result (out.new.items ≡ out.old.items ++ element_text (text_element number text.now)) }
+    ensures { OnOk result
+        (out.new.items ≡ out.old.items ++ element_text (text_element number text.now)) }
 {
     if text.len() % 2 == 0 {
         return put_element(out, number, text.as_bytes());
@@ -202,7 +212,9 @@ fn put_text(out: &mut Vec<u8>, number: u16, text: &Text) -> Result<(), AllocErro
 
 fn put_element(out: &mut Vec<u8>, number: u16, value: &[u8]) -> Result<(), AllocError>
     requires { length value.now < 2 ^ 32 }
-    ensures { OnOk result (out.new.items ≡ out.old.items ++ element_text (record { number = number; value = value.now })) }
+    ensures { OnOk result
+        (out.new.items
+        ≡ out.old.items ++ element_text (record { number = number; value = value.now })) }
 {
     put_header(out, number, value.len() as u32)?;
     out.extend_from_slice(value)?;
@@ -211,7 +223,8 @@ fn put_element(out: &mut Vec<u8>, number: u16, value: &[u8]) -> Result<(), Alloc
 
 /// The tag and the length in front of a value.
 fn put_header(out: &mut Vec<u8>, number: u16, len: u32) -> Result<(), AllocError>
-    ensures { OnOk result (out.new.items ≡ out.old.items ++ 0 ∷ 0 ∷ (to_le_bytes w16 number ++ to_le_bytes w32 len)) }
+    ensures { OnOk result
+        (out.new.items ≡ out.old.items ++ 0 ∷ 0 ∷ (to_le_bytes w16 number ++ to_le_bytes w32 len)) }
 {
     out.extend_from_slice(&[0, 0])?;
     out.extend_from_slice(&number.to_le_bytes())?;
@@ -219,9 +232,9 @@ fn put_header(out: &mut Vec<u8>, number: u16, len: u32) -> Result<(), AllocError
     Ok(())
 }
 
-/// Whether a command can be written so that it is read again: its texts are without the padding that reading drops, and
-/// have at most 16,384 bytes; those of a C-STORE-RQ are UIDs; another command has no field of a C-STORE or C-ECHO, and
-/// the id and the status that its field needs.
+/// Whether a command can be written so that it is read again: its texts are without the padding
+/// that reading drops, and have at most 16,384 bytes; those of a C-STORE-RQ are UIDs; another
+/// command has no field of a C-STORE or C-ECHO, and the id and the status that its field needs.
 pub fn fits(command: &Command) -> bool
     ensures { IsTrue result ↔ Fits command.now }
 {

@@ -29,8 +29,8 @@ HearsFirst n r (Some (Whole text)) = (n ≤ length text) × Hears r.syntax (take
 HearsFirst n r (Some TooLarge) = Unit {0}
 HearsFirst n r None = ⊥
 
--- a scan, if there is one, has heard what has come of the data set of a C-STORE-RQ; there is none between messages,
--- within commands, and for the data set of another command
+-- a scan, if there is one, has heard what has come of the data set of a C-STORE-RQ; there is none
+-- between messages, within commands, and for the data set of another command
 abbrev pub HasHeard : Option Reading → Stage → Type 0
 HasHeard None s = Unit {0}
 HasHeard (Some r) s = HearsAll r (store_of s)

@@ -1,5 +1,6 @@
 -- What the data set of a C-STORE-RQ is read as, whole (PS3.7 6.3 and 9.3.1.1, PS3.5 7).
-use Rattle.std.specs.Prelude.{◌≡◌, ℕ, Bool, true, false, List, Option, Some, None, IfSome, Result, Ok, Err}
+use Rattle.std.specs.Prelude.{◌≡◌, ℕ, Bool, true, false, List, Option, Some, None, IfSome, Result}
+use Rattle.std.specs.Prelude.{Ok, Err}
 use Rattle.dr_base.specs.declared.syntax.Syntax.{Syntax}
 use Rattle.dr_dimse.specs.declared.command.Command.{Command}
 use Rattle.dr_dimse.specs.declared.command.Command.TheVariants.{StoreRq}
@@ -37,9 +38,11 @@ store_text m = bytes_in (store_in m.command m.body)
 
 -- ---- what they are read as
 
--- What such bytes, all of them, are read as in that syntax: their four attributes, or their first fault. Nothing is read
--- where there are none, or where no syntax is named.
-abbrev pub ReadsStore : Option Syntax → Option (List ℕ) → Option (Result Attributes DataFault) → Type 0
+-- What such bytes, all of them, are read as in that syntax: their four attributes, or their first
+-- fault. Nothing is read where there are none, or where no syntax is named.
+abbrev pub ReadsStore : Option Syntax → Option (List ℕ)
+    → Option (Result Attributes DataFault)
+    → Type 0
 ReadsStore (Some s) (Some text) (Some found) = Scans s text found
 ReadsStore (Some s) (Some text) None = ⊥
 ReadsStore (Some s) None found = found ≡ None

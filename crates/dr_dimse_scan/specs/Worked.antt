@@ -8,7 +8,8 @@ use Rattle.dr_dimse.specs.Vectors.{ct, store_request, moved_text}
 use Rattle.dr_dataset.specs.declared.values.Attributes.{Attributes}
 use Rattle.dr_dataset.specs.Worked.{modality_text}
 
--- the command, and the data set cut behind the tag of its one element, the modality in the implicit syntax
+-- the command, and the data set cut behind the tag of its one element, the modality in the implicit
+-- syntax
 abbrev pub store_values : List Pdv
 store_values = record { id = 1; header = 3; fragment = moved_text (9 ∷ 0 ∷ []) }
     ∷ record { id = 1; header = 0; fragment = 0x08 ∷ 0x00 ∷ 0x60 ∷ 0x00 ∷ [] }
@@ -21,11 +22,16 @@ stored = record { id = 1; command = store_request; body = Some (Whole modality_t
 
 -- the same data set behind a C-STORE-RSP, which has none by the standard
 abbrev pub answered : Message
-answered = record { id = 1; command = StoreRsp 7 0 ct (codes "1.2.3") true; body = Some (Whole modality_text) }
+answered = record {
+  id = 1;
+  command = StoreRsp 7 0 ct (codes "1.2.3") true;
+  body = Some (Whole modality_text);
+}
 
 -- the same behind a C-FIND-RQ, whose identifier is a data set (PS3.7 9.3.2.1)
 abbrev pub asked : Message
-asked = record { id = 1; command = Other 0x0020 (Some 7) None true; body = Some (Whole modality_text) }
+asked =
+    record { id = 1; command = Other 0x0020 (Some 7) None true; body = Some (Whole modality_text) }
 
 -- a data set of more than 67,108,864 bytes
 abbrev pub stored_large : Message

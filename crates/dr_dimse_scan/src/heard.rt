@@ -17,18 +17,20 @@ use std::alloc::Global;
 pub struct Heard {
     /// The message.
     pub message: Message,
-    /// A scan that has heard the message's data set, all of it. It may be there only where the message is a C-STORE-RQ, its
-    /// data set was kept (at most 67,108,864 bytes), and its syntax was named. Where it isn't, the data set can be read at
-    /// once, by `dr_dataset::scan::attributes`, with the same answers.
+    /// A scan that has heard the message's data set, all of it. It may be there only where the
+    /// message is a C-STORE-RQ, its data set was kept (at most 67,108,864 bytes), and its syntax
+    /// was named. Where it isn't, the data set can be read at once, by
+    /// `dr_dataset::scan::attributes`, with the same answers.
     pub scan: Option<Box<Scan>>,
 }
 
 impl Heard {
-    /// The message, and what its data set is read as: the four attributes, or the first fault (PS3.5 section 7); None where
-    /// it isn't a C-STORE-RQ, its data set was too large to be kept, or no syntax is named. `syntax` is the one that was
-    /// named when the message ended.
+    /// The message, and what its data set is read as: the four attributes, or the first fault
+    /// (PS3.5 section 7); None where it isn't a C-STORE-RQ, its data set was too large to be kept,
+    /// or no syntax is named. `syntax` is the one that was named when the message ended.
     ///
-    /// Errors: `Memory` only where the data set is in order, and there is no memory for the four values.
+    /// Errors: `Memory` only where the data set is in order, and there is no memory for the four
+    /// values.
     pub fn read(
         self,
         alloc: Global,

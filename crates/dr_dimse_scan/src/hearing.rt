@@ -18,14 +18,14 @@ use std::alloc::Global;
 use std::marker::Model;
 use std::mem;
 
-/// Takes the data values of an association, and gives its messages. The data set of a C-STORE-RQ is scanned while it
-/// comes. Contracts see it as its assembly.
+/// Takes the data values of an association, and gives its messages. The data set of a C-STORE-RQ is
+/// scanned while it comes. Contracts see it as its assembly.
 #[derive(Drop)]
 pub struct Hearing {
     alloc: Global,
     assembly: Assembly,
-    /// The scan of the data set that is under way. There is none before its first byte, where its syntax wasn't named, or
-    /// where there was no memory for one.
+    /// The scan of the data set that is under way. There is none before its first byte, where its
+    /// syntax wasn't named, or where there was no memory for one.
     reading: Option<Reading>,
 }
 
@@ -67,15 +67,18 @@ impl Hearing {
         self.assembly.set_awaited(awaited);
     }
 
-    /// Takes one more value, as `Assembly::take` does, and gives the message that it ends, with a scan of its data set
-    /// where there is one. `syntax` is the transfer syntax of the value's presentation context, and None where it isn't one
-    /// that is read: then nothing is scanned. Of one data set that counts which is named with its last value.
+    /// Takes one more value, as `Assembly::take` does, and gives the message that it ends, with a
+    /// scan of its data set where there is one. `syntax` is the transfer syntax of the value's
+    /// presentation context, and None where it isn't one that is read: then nothing is scanned. Of
+    /// one data set that counts which is named with its last value.
     ///
-    /// Errors: those of `Assembly::take`, after which all is as before. A fault of a data set is no error: its message
-    /// comes whole, and its scan answers the fault. Nor is it one that there is no memory for a scan: then there is none.
+    /// Errors: those of `Assembly::take`, after which all is as before. A fault of a data set is no
+    /// error: its message comes whole, and its scan answers the fault. Nor is it one that there is
+    /// no memory for a scan: then there is none.
     pub fn take(&mut self, pdv: Pdv, syntax: Option<Syntax>) -> Result<Option<Heard>, DimseFault>
         ensures awaited { self.new.awaited ≡ self.old.awaited }
-        ensures takes { Takes self.old.awaited self.old.stage pdv (message_of result) self.new.stage }
+        ensures takes { Takes self.old.awaited self.old.stage pdv (message_of result)
+            self.new.stage }
         ensures scans { IfOk result (λ ended. IfSome ended (λ h. HasScan syntax h)) }
     {
         let before = self.assembly.data_so_far().len();
@@ -95,15 +98,16 @@ impl Hearing {
         }
     }
 
-    /// The command whose data set is under way, and its presentation context: None between messages and within a command.
+    /// The command whose data set is under way, and its presentation context: None between messages
+    /// and within a command.
     pub fn data_of(&self) -> Option<(u8, &Command)>
         ensures { shown_of result ≡ data_of self.now.stage }
     {
         self.assembly.data_of()
     }
 
-    /// The bytes of the data set that is under way, as far as they have come and are kept; none where there is no data
-    /// set, or where it is too large.
+    /// The bytes of the data set that is under way, as far as they have come and are kept; none
+    /// where there is no data set, or where it is too large.
     pub fn data_so_far(&self) -> &[u8]
         ensures { result.now ≡ data_so_far self.now.stage }
     {
@@ -111,7 +115,8 @@ impl Hearing {
     }
 }
 
-/// The scan behind one more value that ended no message. It had heard the first `before` bytes of the data set.
+/// The scan behind one more value that ended no message. It had heard the first `before` bytes of
+/// the data set.
 fn follow(
     alloc: Global,
     assembly: &Assembly,
@@ -142,7 +147,8 @@ fn is_storing(assembly: &Assembly) -> bool
     }
 }
 
-/// A scan that has heard these bytes, unless there are none, no syntax is named, or there is no memory.
+/// A scan that has heard these bytes, unless there are none, no syntax is named, or there is no
+/// memory.
 fn begin(alloc: Global, bytes: &[u8], syntax: Option<Syntax>) -> Option<Reading>
     ensures { IfSome result (λ r. Hears r.syntax bytes.now r.scan.value) }
 {
@@ -160,10 +166,13 @@ fn begin(alloc: Global, bytes: &[u8], syntax: Option<Syntax>) -> Option<Reading>
     Some(Reading { syntax, scan })
 }
 
-/// The scan hears what stands behind the bytes that it has heard. A fault isn't lost: the scan answers it at the end.
+/// The scan hears what stands behind the bytes that it has heard. A fault isn't lost: the scan
+/// answers it at the end.
 fn hear_behind(reading: Reading, bytes: &[u8], before: usize) -> Option<Reading>
     ensures hears { IfSome result (λ r. (r.syntax ≡ reading.syntax)
-        × ((s : SyntaxName) → Hears s (take before bytes.now) reading.scan.value → Hears s bytes.now r.scan.value)) }
+        × ((s : SyntaxName)
+        → Hears s (take before bytes.now) reading.scan.value
+        → Hears s bytes.now r.scan.value)) }
     ensures short { IfNone result (length bytes.now < before) }
 {
     if bytes.len() < before {

@@ -14,11 +14,13 @@ is_proposed_id contexts id = list_any (λ (c : ContextProposal). c.id == id) con
 
 -- some context was answered that wasn't proposed
 abbrev pub has_strange_id : List ContextProposal → List ContextAnswer → Bool
-has_strange_id contexts answers = list_any (λ (a : ContextAnswer). not (is_proposed_id contexts a.id)) answers
+has_strange_id contexts answers =
+    list_any (λ (a : ContextAnswer). not (is_proposed_id contexts a.id)) answers
 
 -- some context of that id was proposed with that syntax
 abbrev pub is_proposed_with : List ContextProposal → ContextAnswer → Bool
-is_proposed_with contexts a = list_any (λ (c : ContextProposal). (c.id == a.id) && member a.syntax c.syntaxes) contexts
+is_proposed_with contexts a =
+    list_any (λ (c : ContextProposal). (c.id == a.id) && member a.syntax c.syntaxes) contexts
 
 -- the context is accepted with a transfer syntax that wasn't proposed in it
 abbrev pub is_strange_syntax : List ContextProposal → ContextAnswer → Bool
@@ -28,6 +30,8 @@ is_strange_syntax contexts a = (a.result == 0) && not (is_proposed_with contexts
 abbrev pub has_strange_syntax : List ContextProposal → List ContextAnswer → Bool
 has_strange_syntax contexts answers = list_any (is_strange_syntax contexts) answers
 
--- the first syntax of the row that was proposed, where the row is for the caller and the context's class
+-- the first syntax of the row that was proposed, where the row is for the caller and the context's
+-- class
 abbrev pub offered_by : AcceptRow → Text → ContextProposal → Option Syntax
-offered_by row caller c = if is_row_for caller c.class row then first_proposed c row.syntaxes else None
+offered_by row caller c =
+    if is_row_for caller c.class row then first_proposed c row.syntaxes else None

@@ -2,7 +2,8 @@
 ghost use Rattle.std.specs.Prelude.{◌≡◌, ◌++◌, IfOk, OnOk, map};
 ghost use Rattle.dr_nego.specs.Agreeing.{pair_of};
 ghost use Rattle.dr_site.specs.Sites.{IsSite};
-ghost use Rattle.dr_nego.specs.Answering.{answer, answer_of, refusal, pairs_of, acceptance_of, agreed_by};
+ghost use Rattle.dr_nego.specs.Answering.{answer, answer_of, refusal, pairs_of, acceptance_of};
+ghost use Rattle.dr_nego.specs.Answering.{agreed_by};
 
 use crate::agreed::{Agreed, Pair};
 use crate::answering::{Answer, Policy};
@@ -73,7 +74,8 @@ fn answers_of(
     caller: &Text,
     proposals: &[ContextProposal],
 ) -> Result<(Seq<ContextAnswer>, Seq<Pair>), AllocError>
-    ensures answers { IfOk result (λ both. both.0 ≡ map (answer_of rows.now caller.now) proposals.now) }
+    ensures answers { IfOk result (λ both.
+        both.0 ≡ map (answer_of rows.now caller.now) proposals.now) }
     ensures pairs { IfOk result (λ both. both.1 ≡ pairs_of rows.now caller.now proposals.now) }
 {
     let mut answers = Seq::new(alloc);
@@ -86,9 +88,16 @@ fn answers_of(
     Ok((answers, pairs))
 }
 
-/// What stands in front of an acceptance: the request's titles and its reserved bytes, and version 1.
+/// What stands in front of an acceptance: the request's titles and its reserved bytes, and
+/// version 1.
 fn front_of(rq: &AssociateRq) -> Result<Front, AllocError>
-    ensures { IfOk result (λ f. f ≡ record { version = 1; called = rq.now.front.called; calling = rq.now.front.calling; reserved = rq.now.front.reserved }) }
+    ensures { IfOk result (λ f. f
+        ≡ record {
+          version = 1;
+          called = rq.now.front.called;
+          calling = rq.now.front.calling;
+          reserved = rq.now.front.reserved;
+        }) }
 {
     Ok(Front {
         version: 1,
@@ -127,14 +136,16 @@ fn acceptance(
     Ok((ac, agreed))
 }
 
-/// What a request is answered where so many other associations are open (PS3.8 7.1.1 and 9.3.4). The tests, in
-/// their order: the application context (rejected as 1, 1, 2), the protocol version (1, 2, 2), the called title
-/// (1, 1, 7), the calling title, of which some accept row must speak (1, 1, 3), fewer than 256 others (2, 3, 2), and
-/// a greatest length that a fragment fits (TooSmall).
+/// What a request is answered where so many other associations are open (PS3.8 7.1.1 and 9.3.4).
+/// The tests, in their order: the application context (rejected as 1, 1, 2), the protocol version
+/// (1, 2, 2), the called title (1, 1, 7), the calling title, of which some accept row must speak
+/// (1, 1, 3), fewer than 256 others (2, 3, 2), and a greatest length that a fragment fits
+/// (TooSmall).
 ///
-/// Of the contexts, Verification is accepted for everybody, in the implicit syntax or else the explicit one; another
-/// class by the accept rows for the caller and the class, in the plan's order, in the first of their syntaxes that
-/// was proposed. A class without such a row is refused by 3, one without such a syntax by 4.
+/// Of the contexts, Verification is accepted for everybody, in the implicit syntax or else the
+/// explicit one; another class by the accept rows for the caller and the class, in the plan's
+/// order, in the first of their syntaxes that was proposed. A class without such a row is refused
+/// by 3, one without such a syntax by 4.
 pub fn answer(
     alloc: Global,
     rq: &AssociateRq,

@@ -13,8 +13,8 @@ pub struct Pair {
     pub syntax: Text,
 }
 
-/// The accepted contexts in the order of the request, and the greatest length field, in bytes, of a P-DATA-TF that
-/// the other side takes; 0 is no limit.
+/// The accepted contexts in the order of the request, and the greatest length field, in bytes, of a
+/// P-DATA-TF that the other side takes; 0 is no limit.
 #[derive(Debug, Drop)]
 pub struct Agreed {
     pub pairs: Seq<Pair>,
@@ -31,7 +31,8 @@ fn is_for(pair: &Pair, class: &Text, syntax: Syntax) -> bool
 impl Agreed {
     /// The first accepted context of the class and the transfer syntax.
     fn pair_for(&self, class: &Text, syntax: Syntax) -> Option<&Pair>
-        ensures { option_copied result ≡ find (is_for class.now (syntax_uid syntax)) self.now.pairs }
+        ensures { option_copied result
+            ≡ find (is_for class.now (syntax_uid syntax)) self.now.pairs }
     {
         self.pairs
             .as_slice()
@@ -39,8 +40,8 @@ impl Agreed {
             .find(|pair| is_for(pair, class, syntax))
     }
 
-    /// The id of the first accepted context of the class and the transfer syntax, which is the least one where the
-    /// ids rise, as those of a proposal do. It takes no memory.
+    /// The id of the first accepted context of the class and the transfer syntax, which is the
+    /// least one where the ids rise, as those of a proposal do. It takes no memory.
     pub fn context_for(&self, class: &Text, syntax: Syntax) -> Option<u8>
         ensures { result ≡ context_for self.now class.now (syntax_uid syntax) }
     {

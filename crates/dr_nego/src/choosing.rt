@@ -2,7 +2,8 @@
 ghost use Rattle.std.specs.Prelude.{◌≡◌, IfOk, []};
 ghost use Rattle.std.specs.List.{list_any};
 ghost use Rattle.dr_base.specs.Syntaxes.{syntax_uid};
-ghost use Rattle.dr_nego.specs.Answering.{member, is_caller, is_row_for, is_stranger, is_proposed, first_proposed, syntaxes_for, answer_with, answer_of};
+ghost use Rattle.dr_nego.specs.Answering.{member, is_caller, is_row_for, is_stranger, is_proposed};
+ghost use Rattle.dr_nego.specs.Answering.{first_proposed, syntaxes_for, answer_with, answer_of};
 ghost use Rattle.dr_nego.specs.Tests.{offered_by};
 
 use dr_base::{Syntax, Text};
@@ -87,7 +88,8 @@ fn first_proposed(proposal: &ContextProposal, offered: &[Syntax]) -> Option<Synt
         .find(|syntax| is_proposed(proposal, *syntax))
 }
 
-/// The first syntax of the row that was proposed, where the row is for the caller and the context's class.
+/// The first syntax of the row that was proposed, where the row is for the caller and the context's
+/// class.
 fn offered_by(row: &AcceptRow, caller: &Text, proposal: &ContextProposal) -> Option<Syntax>
     ensures { result ≡ offered_by row.now caller.now proposal.now }
 {
@@ -97,9 +99,11 @@ fn offered_by(row: &AcceptRow, caller: &Text, proposal: &ContextProposal) -> Opt
     first_proposed(proposal, row.syntaxes.as_slice())
 }
 
-/// Of the rows for the caller and the context's class, in order, the first syntax that was proposed.
+/// Of the rows for the caller and the context's class, in order, the first syntax that was
+/// proposed.
 fn first_offered(rows: &[AcceptRow], caller: &Text, proposal: &ContextProposal) -> Option<Syntax>
-    ensures { result ≡ first_proposed proposal.now (syntaxes_for rows.now caller.now proposal.now.class) }
+    ensures { result
+        ≡ first_proposed proposal.now (syntaxes_for rows.now caller.now proposal.now.class) }
 {
     for row in rows {
         if let Some(syntax) = offered_by(row, caller, proposal) {

@@ -2,7 +2,8 @@
 ghost use Rattle.std.specs.Prelude.{◌≡◌, ◌&&◌, ◌++◌, IfOk, OnOk, nat_le, option_copied};
 ghost use Rattle.std.specs.List.{list_any, flat_map};
 ghost use Rattle.dr_nego.specs.Agreeing.{Concludes, answer_to, pair_if};
-ghost use Rattle.dr_nego.specs.Tests.{is_proposed_id, has_strange_id, is_proposed_with, is_strange_syntax, has_strange_syntax};
+ghost use Rattle.dr_nego.specs.Tests.{is_proposed_id, has_strange_id, is_proposed_with};
+ghost use Rattle.dr_nego.specs.Tests.{is_strange_syntax, has_strange_syntax};
 
 use crate::acceptor::add_pair;
 use crate::agreed::{Agreed, Pair};
@@ -79,7 +80,8 @@ fn add_agreed(
     context: &ContextProposal,
     answers: &[ContextAnswer],
 ) -> Result<(), AllocError>
-    ensures { OnOk result (pairs.new ≡ pairs.old ++ pair_if context.now (answer_to answers.now context.now)) }
+    ensures { OnOk result
+        (pairs.new ≡ pairs.old ++ pair_if context.now (answer_to answers.now context.now)) }
 {
     let Some(answer) = answer_to(answers, context) else {
         return Ok(());
@@ -94,7 +96,8 @@ fn agreed_pairs(
     contexts: &[ContextProposal],
     answers: &[ContextAnswer],
 ) -> Result<Seq<Pair>, AllocError>
-    ensures { IfOk result (λ s. s ≡ flat_map (λ c. pair_if c (answer_to answers.now c)) contexts.now) }
+    ensures { IfOk result (λ s.
+        s ≡ flat_map (λ c. pair_if c (answer_to answers.now c)) contexts.now) }
 {
     let mut pairs = Seq::new(alloc);
     for context in contexts {
@@ -103,12 +106,12 @@ fn agreed_pairs(
     Ok(pairs)
 }
 
-/// What the caller concludes from the answer to its request (PS3.8 7.1.1.14): the contexts that were accepted, in
-/// the order of the request, and the greatest length that the other side takes.
+/// What the caller concludes from the answer to its request (PS3.8 7.1.1.14): the contexts that
+/// were accepted, in the order of the request, and the greatest length that the other side takes.
 ///
-/// Errors, each over the whole acceptance before the next: StrangeId where a context is answered that wasn't
-/// proposed; StrangeSyntax where one is accepted with a transfer syntax that wasn't proposed in it; LimitTooSmall for a
-/// greatest length of 1 to 7; Memory.
+/// Errors, each over the whole acceptance before the next: StrangeId where a context is answered
+/// that wasn't proposed; StrangeSyntax where one is accepted with a transfer syntax that wasn't
+/// proposed in it; LimitTooSmall for a greatest length of 1 to 7; Memory.
 pub fn conclude(alloc: Global, rq: &AssociateRq, ac: &AssociateAc) -> Result<Agreed, NegoFault>
     ensures { Concludes rq.now ac.now result }
 {

@@ -1,7 +1,10 @@
 //! Worked figures of negotiation, by computation: a gateway that sends CT images to an archive.
-ghost use Rattle.dr_nego.specs.Figures.{ProposalIsLong, AcceptanceIsLong, EchoIsLong, EchoAnswerIsLong, RejectionsInOrder, LimitsAreTested, ContextsAreAnswered, ConclusionsAreDrawn, TextsAreCut};
+ghost use Rattle.dr_nego.specs.Figures.{ProposalIsLong, AcceptanceIsLong, EchoIsLong};
+ghost use Rattle.dr_nego.specs.Figures.{EchoAnswerIsLong, RejectionsInOrder, LimitsAreTested};
+ghost use Rattle.dr_nego.specs.Figures.{ContextsAreAnswered, ConclusionsAreDrawn, TextsAreCut};
 
-/// The length fields of the proposal (228) and of its acceptance (199), and of an echo's (218 and 197).
+/// The length fields of the proposal (228) and of its acceptance (199), and of an echo's (218 and
+/// 197).
 pub fn lengths()
     ensures proposal { ProposalIsLong }
     ensures acceptance { AcceptanceIsLong }
@@ -16,7 +19,8 @@ pub fn answers()
     ensures contexts { ContextsAreAnswered }
 {}
 
-/// What is concluded from an acceptance of a context or a syntax that wasn't proposed, or of a small limit.
+/// What is concluded from an acceptance of a context or a syntax that wasn't proposed, or of a
+/// small limit.
 pub fn conclusions()
     ensures { ConclusionsAreDrawn }
 {}

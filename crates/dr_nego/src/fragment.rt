@@ -4,12 +4,14 @@ ghost use Rattle.std.specs.Int.{w32, to_be_bytes};
 ghost use Rattle.dr_pdu.specs.Items.{pdv_text};
 ghost use Rattle.dr_pdu.specs.Written.{written};
 ghost use Rattle.dr_nego.specs.Agreeing.{IsTooSmall};
-ghost use Rattle.dr_nego.specs.Fragments.{piece_size, value_pdu, header_of, is_command, fragment_pdus, spellings};
+ghost use Rattle.dr_nego.specs.Fragments.{piece_size, value_pdu, header_of, is_command};
+ghost use Rattle.dr_nego.specs.Fragments.{fragment_pdus, spellings};
 
 use crate::agreed::Agreed;
 use std::alloc::AllocError;
 
-/// The greatest length, in bytes, of a P-DATA-TF that is written where there is no limit, or a greater one.
+/// The greatest length, in bytes, of a P-DATA-TF that is written where there is no limit, or a
+/// greater one.
 const GREATEST: u32 = 1_048_576;
 
 /// What a fragment is part of.
@@ -56,7 +58,10 @@ fn put_header(out: &mut Vec<u8>, len: u32) -> Result<(), AllocError>
 /// Writes a value (9.3.5.1).
 fn put_value(out: &mut Vec<u8>, id: u8, header: u8, fragment: &[u8]) -> Result<(), AllocError>
     requires { length fragment.now ≤ 1048570 }
-    ensures { OnOk result (out.new.items ≡ out.old.items ++ pdv_text (record { id = id; header = header; fragment = fragment.now })) }
+    ensures { OnOk result
+        (out.new.items
+        ≡ out.old.items
+        ++ pdv_text (record { id = id; header = header; fragment = fragment.now })) }
 {
     let len = fragment.len() as u32 + 2;
     out.extend_from_slice(&len.to_be_bytes())?;
@@ -75,7 +80,9 @@ fn put_fragment(
     fragment: &[u8],
 ) -> Result<(), AllocError>
     requires { length fragment.now ≤ 1048570 }
-    ensures { OnOk result (out.new.items ≡ out.old.items ++ written (value_pdu id (is_command kind) is_last fragment.now)) }
+    ensures { OnOk result
+        (out.new.items
+        ≡ out.old.items ++ written (value_pdu id (is_command kind) is_last fragment.now)) }
 {
     let len = fragment.len() as u32 + 6;
     put_header(out, len)?;
@@ -83,9 +90,9 @@ fn put_fragment(
     Ok(())
 }
 
-/// Writes a command or a data set in fragments behind what is there: each is the one value of a P-DATA-TF, in that
-/// context, and fits the length that was agreed on. The last alone is marked as the last; nothing is one empty
-/// fragment, and none follows a full one.
+/// Writes a command or a data set in fragments behind what is there: each is the one value of a
+/// P-DATA-TF, in that context, and fits the length that was agreed on. The last alone is marked as
+/// the last; nothing is one empty fragment, and none follows a full one.
 ///
 /// Errors: AllocError; some of the fragments may then be there.
 pub fn put_fragments(
@@ -96,7 +103,9 @@ pub fn put_fragments(
     bytes: &[u8],
 ) -> Result<(), AllocError>
     requires { IsTooSmall agreed.now.limit → ⊥ }
-    ensures { OnOk result (out.new.items ≡ out.old.items ++ spellings (fragment_pdus agreed.now.limit id kind bytes.now)) }
+    ensures { OnOk result
+        (out.new.items
+        ≡ out.old.items ++ spellings (fragment_pdus agreed.now.limit id kind bytes.now)) }
 {
     let size = piece_size(agreed.limit);
     let mut rest = bytes;

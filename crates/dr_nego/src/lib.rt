@@ -1,5 +1,6 @@
-//! Negotiation of an association (PS3.8 section 7.1 and annex B): what is proposed for a hop, what a request is
-//! answered, what a caller concludes from the answer, and fragments within the limit that was agreed on.
+//! Negotiation of an association (PS3.8 section 7.1 and annex B): what is proposed for a hop, what
+//! a request is answered, what a caller concludes from the answer, and fragments within the limit
+//! that was agreed on.
 #![tactic(auto)]
 
 pub mod acceptor;

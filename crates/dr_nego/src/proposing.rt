@@ -19,7 +19,13 @@ const ECHO_LIMIT: u32 = 16_384;
 
 /// What stands in front of a request: version 1, the titles, and reserved bytes of 0.
 fn front(alloc: Global, calling: &Text, called: &Text) -> Result<Front, AllocError>
-    ensures { IfOk result (λ f. f ≡ record { version = 1; called = called.now; calling = calling.now; reserved = replicate 32 0 }) }
+    ensures { IfOk result (λ f. f
+        ≡ record {
+          version = 1;
+          called = called.now;
+          calling = calling.now;
+          reserved = replicate 32 0;
+        }) }
 {
     Ok(Front {
         version: 1,
@@ -36,7 +42,8 @@ fn context(
     class: Text,
     syntax: Syntax,
 ) -> Result<ContextProposal, AllocError>
-    ensures { IfOk result (λ c. c ≡ record { id = id; class = class; syntaxes = syntax_uid syntax ∷ [] }) }
+    ensures { IfOk result (λ c.
+        c ≡ record { id = id; class = class; syntaxes = syntax_uid syntax ∷ [] }) }
 {
     let mut syntaxes = Seq::new(alloc);
     syntaxes.push(Text::copy_of(alloc, syntax.uid())?)?;
@@ -67,8 +74,8 @@ fn contexts_of(alloc: Global, hops: &[Hop]) -> Result<Seq<ContextProposal>, Allo
     Ok(contexts)
 }
 
-/// What the site's node proposes to that node: a context with one transfer syntax for each pair of the hop, by their
-/// ids 1, 3, 5 and so on. Its title is the calling one (PS3.8 9.3.2).
+/// What the site's node proposes to that node: a context with one transfer syntax for each pair of
+/// the hop, by their ids 1, 3, 5 and so on. Its title is the calling one (PS3.8 9.3.2).
 ///
 /// Errors: NoHop where the site has no hop to that node; Memory.
 pub fn propose(alloc: Global, site: &Site, dest: &Text) -> Result<AssociateRq, NegoFault>
@@ -88,8 +95,8 @@ pub fn propose(alloc: Global, site: &Site, dest: &Text) -> Result<AssociateRq, N
     })
 }
 
-/// What a caller of that title proposes for an echo: Verification in context 1, in the implicit syntax alone, with a
-/// greatest length of 16,384 bytes.
+/// What a caller of that title proposes for an echo: Verification in context 1, in the implicit
+/// syntax alone, with a greatest length of 16,384 bytes.
 pub fn propose_echo(alloc: Global, calling: &Text, called: &Text) -> Result<AssociateRq, AllocError>
     ensures { IfOk result (λ rq. rq ≡ echo_proposal calling.now called.now) }
 {

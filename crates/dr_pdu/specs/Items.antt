@@ -1,6 +1,7 @@
--- The parts that PDUs are made of (PS3.8 section 9.3). A text is a list of bytes; a number has its most significant
--- byte first.
-use Rattle.std.specs.Prelude.{◌≡◌, ℕ, ◌+◌, ◌<◌, ◌^◌, List, [], ◌∷◌, ◌++◌, length, map, filter, ◌==◌, Option, slice_get}
+-- The parts that PDUs are made of (PS3.8 section 9.3). A text is a list of bytes; a number has its
+-- most significant byte first.
+use Rattle.std.specs.Prelude.{◌≡◌, ℕ, ◌+◌, ◌<◌, ◌^◌, List, [], ◌∷◌, ◌++◌, length, map, filter, ◌==◌}
+use Rattle.std.specs.Prelude.{Option, slice_get}
 use Rattle.std.specs.Int.{w16, w32, to_be_bytes}
 use Rattle.dr_base.specs.Runs.{Run}
 use Rattle.dr_pdu.specs.declared.pdu.Pdv.{Pdv}
@@ -18,7 +19,8 @@ item_text reserved i = i.kind ∷ reserved ∷ (to_be_bytes w16 (length i.body) 
 
 -- the text begins with the item, whatever its reserved byte, and then the rest follows
 abbrev pub StartsItem : List ℕ → Item → List ℕ → Type 0
-StartsItem text i rest = (reserved : ℕ) × (length i.body < 2 ^ 16) × (text ≡ item_text reserved i ++ rest)
+StartsItem text i rest =
+    (reserved : ℕ) × (length i.body < 2 ^ 16) × (text ≡ item_text reserved i ++ rest)
 
 -- the text is these items, one after the other
 abbrev pub AreItems : List Item → List ℕ → Type 0
@@ -34,7 +36,8 @@ first_body kind is = slice_get (bodies kind is) 0
 
 -- ---- presentation data values (9.3.5.1)
 
--- a presentation data value as it is written: length (4, of what follows), context id, message control header, fragment
+-- a presentation data value as it is written: length (4, of what follows), context id, message
+-- control header, fragment
 abbrev pub pdv_text : Pdv → List ℕ
 pdv_text p = to_be_bytes w32 (2 + length p.fragment) ++ p.id ∷ p.header ∷ p.fragment
 

@@ -1,9 +1,12 @@
--- The one spelling that is written: items in the order 10H, 20H or 21H, 50H, titles padded by spaces, reserved bytes 0.
-use Rattle.std.specs.Prelude.{◌≡◌, ◌⊎◌, ◌≤◌, ℕ, ◌-◌, Bool, true, false, List, [], ◌∷◌, ◌++◌, length, replicate, ◌==◌, nat_lt, if◌then◌else◌, codes}
+-- The one spelling that is written: items in the order 10H, 20H or 21H, 50H, titles padded by
+-- spaces, reserved bytes 0.
+use Rattle.std.specs.Prelude.{◌≡◌, ◌⊎◌, ◌≤◌, ℕ, ◌-◌, Bool, true, false, List, [], ◌∷◌, ◌++◌, length}
+use Rattle.std.specs.Prelude.{replicate, ◌==◌, nat_lt, if◌then◌else◌, codes}
 use Rattle.std.specs.Int.{w16, w32, to_be_bytes}
 use Rattle.std.specs.List.{flat_map}
 use Rattle.dr_pdu.specs.declared.pdu.Pdu.{Pdu}
-use Rattle.dr_pdu.specs.declared.pdu.Pdu.TheVariants.{AssociateRq, AssociateAc, AssociateRj, Transfer, ReleaseRq, ReleaseRp, Abort}
+use Rattle.dr_pdu.specs.declared.pdu.Pdu.TheVariants.{AssociateRq, AssociateAc, AssociateRj}
+use Rattle.dr_pdu.specs.declared.pdu.Pdu.TheVariants.{Transfer, ReleaseRq, ReleaseRp, Abort}
 use Rattle.dr_pdu.specs.declared.pdu.Association.{Association}
 use Rattle.dr_pdu.specs.declared.pdu.ContextProposal.{ContextProposal}
 use Rattle.dr_pdu.specs.declared.pdu.ContextAnswer.{ContextAnswer}
@@ -34,26 +37,40 @@ item kind body = item_text 0 (record { kind = kind; body = body })
 abbrev pub padded : List ℕ → List ℕ
 padded name = name ++ replicate (16 - length name) 32
 
--- the body of a 20H item: id, 3 reserved, one 30H abstract syntax, and the 40H transfer syntaxes (PS3.8 9.3.2.2)
+-- the body of a 20H item: id, 3 reserved, one 30H abstract syntax, and the 40H transfer syntaxes
+-- (PS3.8 9.3.2.2)
 abbrev pub proposal_body : ContextProposal → List ℕ
 proposal_body c = c.id ∷ 0 ∷ 0 ∷ 0 ∷ (item 0x30 c.class ++ flat_map (item 0x40) c.syntaxes)
 
--- the body of a 21H item (PS3.8 9.3.3.2). A refused context names no syntax that counts: in full the implicit one.
+-- the body of a 21H item (PS3.8 9.3.3.2). A refused context names no syntax that counts: in full
+-- the implicit one.
 abbrev pub answer_body : Bool → ContextAnswer → List ℕ
-answer_body full c = c.id ∷ 0 ∷ c.result ∷ 0 ∷ (if c.result == 0 then item 0x40 c.syntax else if full then item 0x40 implicit else [])
+answer_body full c =
+    c.id ∷ 0 ∷ c.result ∷ 0
+    ∷ (if c.result == 0 then item 0x40 c.syntax else if full then item 0x40 implicit else [])
 
--- the user information (50H). Where there is no limit, it is there only in full, and names the product.
+-- the user information (50H). Where there is no limit, it is there only in full, and names the
+-- product.
 abbrev pub user_text : Bool → ℕ → List ℕ
-user_text true max_pdu = item 0x50 (item 0x51 (to_be_bytes w32 max_pdu) ++ (item 0x52 implementation ++ item 0x55 version_name))
-user_text false max_pdu = if max_pdu == 0 then [] else item 0x50 (item 0x51 (to_be_bytes w32 max_pdu))
+user_text true max_pdu = item 0x50
+    (item 0x51 (to_be_bytes w32 max_pdu) ++ (item 0x52 implementation ++ item 0x55 version_name))
+user_text false max_pdu =
+    if max_pdu == 0 then [] else item 0x50 (item 0x51 (to_be_bytes w32 max_pdu))
 
--- the body of an association PDU: version, titles, reserved bytes, application context, contexts, user information
+-- the body of an association PDU: version, titles, reserved bytes, application context, contexts,
+-- user information
 abbrev pub association_text : {C : Type 0} → ℕ → (C → List ℕ) → List ℕ → Association C → List ℕ
 association_text kind context_body user a =
-    to_be_bytes w16 a.front.version ++ 0 ∷ 0 ∷ (padded a.front.called ++ (padded a.front.calling ++ (a.front.reserved
-    ++ (item 0x10 a.application ++ (flat_map (λ c. item kind (context_body c)) a.contexts ++ user)))))
+    to_be_bytes w16 a.front.version
+    ++ 0 ∷ 0
+    ∷ (padded a.front.called
+    ++ (padded a.front.calling
+    ++ (a.front.reserved
+    ++ (item 0x10 a.application
+    ++ (flat_map (λ c. item kind (context_body c)) a.contexts ++ user)))))
 
--- the full text, or the bare one without what nobody needs, where the full one is longer than 262,144 bytes
+-- the full text, or the bare one without what nobody needs, where the full one is longer than
+-- 262,144 bytes
 abbrev pub unless_long : List ℕ → List ℕ → List ℕ
 unless_long full bare = if nat_lt 262144 (length full) then bare else full
 

@@ -3,7 +3,8 @@ ghost use Rattle.std.specs.Prelude.{◌≡◌, ◌^◌, ◌<◌, Bool, false, �
 ghost use Rattle.std.specs.Option.{SomeIff};
 ghost use Rattle.dr_pdu.specs.Fitting.{ProposalFits, AnswerFits};
 ghost use Rattle.dr_pdu.specs.Written.{proposal_body, answer_body};
-ghost use Rattle.dr_pdu.specs.Grammar.{Each, IsProposal, IsAnswer, IsGreatestLength, IsAssociation, IsFront};
+ghost use Rattle.dr_pdu.specs.Grammar.{Each, IsProposal, IsAnswer, IsGreatestLength, IsAssociation};
+ghost use Rattle.dr_pdu.specs.Grammar.{IsFront};
 ghost use Rattle.dr_pdu.specs.Items.{bodies, first_body};
 ghost use Rattle.dr_pdu.specs.Reads.{Reads, items};
 ghost use Rattle.dr_pdu.specs.declared.pdu.Front.{Front as FrontText};
@@ -43,7 +44,8 @@ pub trait Context: Drop {
     /// The body of its item, in full or without what nobody needs.
     fn body(&self, alloc: Global, full: bool) -> Result<Vec<u8>, AllocError>
         requires { context_fits self.now }
-        ensures { IfOk result (λ bytes. (bytes.items ≡ body_text full self.now) × (length bytes.items < 2 ^ 16)) };
+        ensures { IfOk result (λ bytes.
+            (bytes.items ≡ body_text full self.now) × (length bytes.items < 2 ^ 16)) };
 
     /// The length of the bare body, if an item can be this context.
     fn bare_len(&self) -> Option<usize>
@@ -182,7 +184,9 @@ fn greatest_length_of(alloc: Global, found: &[Item<'_>]) -> Result<u32, PduFault
 
 /// The version and the titles, and the text of the items.
 fn front_of(alloc: Global, body: &[u8]) -> Result<(Front, &[u8]), PduFault>
-    ensures { Reads {Y = FrontText × List ℕ} (λ x. (x.0, x.1.now)) result (λ x. IsFront body.now x.0 x.1) }
+    ensures { Reads {Y = FrontText × List ℕ}
+        (λ x. (x.0, x.1.now)) result
+        (λ x. IsFront body.now x.0 x.1) }
 {
     let [high, low, _, _, text @ ..] = body else {
         return Err(PduFault::BadItem);

@@ -17,7 +17,8 @@ const IMPLICIT: &[u8] = b"1.2.840.10008.1.2";
 /// The body of a 20H item.
 pub fn proposal_bytes(alloc: Global, context: &ContextProposal) -> Result<Vec<u8>, AllocError>
     requires { ProposalFits context.now }
-    ensures { IfOk result (λ bytes. (bytes.items ≡ proposal_body context.now) × (length bytes.items < 2 ^ 16)) }
+    ensures { IfOk result (λ bytes.
+        (bytes.items ≡ proposal_body context.now) × (length bytes.items < 2 ^ 16)) }
 {
     let mut out = Vec::new(alloc);
     out.extend_from_slice(&[context.id, 0, 0, 0])?;
@@ -66,7 +67,8 @@ pub fn answer_bytes(
     context: &ContextAnswer,
 ) -> Result<Vec<u8>, AllocError>
     requires { AnswerFits context.now }
-    ensures { IfOk result (λ bytes. (bytes.items ≡ answer_body full context.now) × (length bytes.items < 2 ^ 16)) }
+    ensures { IfOk result (λ bytes.
+        (bytes.items ≡ answer_body full context.now) × (length bytes.items < 2 ^ 16)) }
 {
     let mut out = Vec::new(alloc);
     out.extend_from_slice(&[context.id, 0, context.result, 0])?;

@@ -18,11 +18,12 @@ const LEAST_ASSOCIATION: u32 = 68;
 /// The greatest length field of a P-DATA-TF where the limit is 0, in bytes.
 pub const GREATEST_TRANSFER: u32 = 134_217_728;
 
-/// The PDU in front of a text, and the length of its spelling in bytes. `limit` bounds the length field of a P-DATA-TF;
-/// 0 stands for 134,217,728.
+/// The PDU in front of a text, and the length of its spelling in bytes. `limit` bounds the length
+/// field of a P-DATA-TF; 0 stands for 134,217,728.
 ///
-/// `More` where the text ends before the PDU does; `UnknownType`, `TooLong` and a length field of a wrong form as soon
-/// as the 6 bytes of the header are there; `BadItem` and then `BadContextId` once the body is whole; `Memory` last.
+/// `More` where the text ends before the PDU does; `UnknownType`, `TooLong` and a length field of a
+/// wrong form as soon as the 6 bytes of the header are there; `BadItem` and then `BadContextId`
+/// once the body is whole; `Memory` last.
 pub fn decode(alloc: Global, text: &[u8], limit: u32) -> Result<(Pdu, usize), PduFault>
     ensures { Decodes limit text.now result }
 {
@@ -101,7 +102,8 @@ fn has_context_ids(pdu: &Pdu) -> bool
     }
 }
 
-/// Whether the ids are odd, and no two are alike. There are 128 odd ids, so the loop has 129 rounds at most.
+/// Whether the ids are odd, and no two are alike. There are 128 odd ids, so the loop has 129 rounds
+/// at most.
 pub fn are_context_ids<C: Context>(contexts: &[C]) -> bool
     ensures { IsTrue result ↔ AreContextIds (map C.id_of contexts.now) }
 {

@@ -1,9 +1,11 @@
 //! The spelling of a PDU that is written.
-ghost use Rattle.std.specs.Prelude.{◌≡◌, ◌+◌, ◌^◌, ◌<◌, ◌≤◌, [], ◌∷◌, ◌++◌, true, false, length, OnOk, OnErr, IfOk};
+ghost use Rattle.std.specs.Prelude.{◌≡◌, ◌+◌, ◌^◌, ◌<◌, ◌≤◌, [], ◌∷◌, ◌++◌, true, false, length};
+ghost use Rattle.std.specs.Prelude.{OnOk, OnErr, IfOk};
 ghost use Rattle.std.specs.Int.{w32, to_be_bytes};
 ghost use Rattle.std.specs.List.{flat_map, AllByRecursion};
 ghost use Rattle.dr_pdu.specs.Items.{pdv_text};
-ghost use Rattle.dr_pdu.specs.Written.{item, padded, framed, user_text, association_text, unless_long, written, Fits};
+ghost use Rattle.dr_pdu.specs.Written.{item, padded, framed, user_text, association_text};
+ghost use Rattle.dr_pdu.specs.Written.{unless_long, written, Fits};
 ghost use Rattle.dr_pdu.specs.Fitting.{AssociationFits};
 ghost use Rattle.dr_pdu.specs.Reads.{GoesOn};
 ghost use Rattle.dr_pdu.specs.declared.pdu.Pdu.TheVariants.{Transfer};
@@ -21,9 +23,10 @@ const VERSION_NAME: &[u8] = b"DR_ROUTER_1";
 /// What titles are padded with.
 const SPACES: &[u8] = b"                ";
 
-/// The spelling of a PDU: items in the order 10H, 20H or 21H, 50H; titles padded by spaces; reserved bytes 0, but for
-/// the 32 of an association. What nobody needs (the user information where there is no limit, the product's name, the
-/// syntax of a refused context) is left out where it would make the length field greater than 262,144.
+/// The spelling of a PDU: items in the order 10H, 20H or 21H, 50H; titles padded by spaces;
+/// reserved bytes 0, but for the 32 of an association. What nobody needs (the user information
+/// where there is no limit, the product's name, the syntax of a refused context) is left out where
+/// it would make the length field greater than 262,144.
 pub fn encode(alloc: Global, pdu: &Pdu) -> Result<Vec<u8>, AllocError>
     requires { Fits pdu.now }
     ensures { IfOk result (λ bytes. bytes.items ≡ written pdu.now) }
@@ -33,7 +36,8 @@ pub fn encode(alloc: Global, pdu: &Pdu) -> Result<Vec<u8>, AllocError>
     Ok(out)
 }
 
-/// Puts the spelling of a PDU, as `encode` gives it, behind what `out` has. Without memory `out` has what it had.
+/// Puts the spelling of a PDU, as `encode` gives it, behind what `out` has. Without memory `out`
+/// has what it had.
 pub fn put(out: &mut Vec<u8>, pdu: &Pdu) -> Result<(), AllocError>
     requires { Fits pdu.now }
     ensures ok { OnOk result (out.new.items ≡ out.old.items ++ written pdu.now) }
@@ -57,8 +61,9 @@ pub fn put(out: &mut Vec<u8>, pdu: &Pdu) -> Result<(), AllocError>
     }
 }
 
-/// Puts a P-DATA-TF of one presentation data value, whose fragment is a slice, behind what `out` has: its context id, its
-/// message control header, and up to 134,217,722 bytes of a message. Without memory `out` has what it had.
+/// Puts a P-DATA-TF of one presentation data value, whose fragment is a slice, behind what `out`
+/// has: its context id, its message control header, and up to 134,217,722 bytes of a message.
+/// Without memory `out` has what it had.
 pub fn put_fragment(
     out: &mut Vec<u8>,
     id: u8,
@@ -66,8 +71,10 @@ pub fn put_fragment(
     fragment: &[u8],
 ) -> Result<(), AllocError>
     requires { length fragment.now ≤ 134217722 }
-    ensures ok { OnOk result (out.new.items
-        ≡ out.old.items ++ written (Transfer (record { id = id; header = header; fragment = fragment.now } ∷ []))) }
+    ensures ok { OnOk result
+        (out.new.items
+        ≡ out.old.items
+        ++ written (Transfer (record { id = id; header = header; fragment = fragment.now } ∷ []))) }
     ensures err { OnErr result (out.new.items ≡ out.old.items) }
 {
     let before = out.len();
@@ -105,7 +112,8 @@ fn put_framed(out: &mut Vec<u8>, kind: u8, body: &[u8]) -> Result<(), AllocError
 /// A P-DATA-TF of these values.
 fn put_transfer(out: &mut Vec<u8>, pdvs: &[Pdv]) -> Result<(), AllocError>
     requires { length (flat_map pdv_text pdvs.now) ≤ 134217728 }
-    ensures ok { OnOk result (out.new.items ≡ out.old.items ++ framed 4 (flat_map pdv_text pdvs.now)) }
+    ensures ok { OnOk result
+        (out.new.items ≡ out.old.items ++ framed 4 (flat_map pdv_text pdvs.now)) }
     ensures err { OnErr result (out.new.items ≡ out.old.items) }
 {
     let Some(len) = values_len(pdvs) else {
@@ -133,7 +141,10 @@ fn put_values(out: &mut Vec<u8>, pdvs: &[Pdv]) -> Result<(), AllocError>
 
 fn put_value(out: &mut Vec<u8>, id: u8, header: u8, fragment: &[u8]) -> Result<(), AllocError>
     requires { 2 + length fragment.now < 2 ^ 32 }
-    ensures ok { OnOk result (out.new.items ≡ out.old.items ++ pdv_text (record { id = id; header = header; fragment = fragment.now })) }
+    ensures ok { OnOk result
+        (out.new.items
+        ≡ out.old.items
+        ++ pdv_text (record { id = id; header = header; fragment = fragment.now })) }
     ensures err { OnErr result (GoesOn out.old.items out.new.items) }
 {
     let [a, b, c, d] = (fragment.len() as u32 + 2).to_be_bytes();
@@ -149,9 +160,12 @@ fn association_body<C: Context>(
     association: &Association<C>,
 ) -> Result<Vec<u8>, AllocError>
     requires { AssociationFits C.context_fits (C.body_text false) association.now }
-    ensures { IfOk result (λ bytes. bytes.items ≡ unless_long
-        (association_text kind (C.body_text true) (user_text true association.now.max_pdu) association.now)
-        (association_text kind (C.body_text false) (user_text false association.now.max_pdu) association.now)) }
+    ensures { IfOk result (λ bytes. bytes.items
+        ≡ unless_long
+        (association_text kind (C.body_text true) (user_text true association.now.max_pdu)
+        association.now)
+        (association_text kind (C.body_text false) (user_text false association.now.max_pdu)
+        association.now)) }
 {
     let full = association_with(alloc, true, kind, association)?;
     if full.len() <= LONGEST_ASSOCIATION {
@@ -167,7 +181,9 @@ fn association_with<C: Context>(
     association: &Association<C>,
 ) -> Result<Vec<u8>, AllocError>
     requires { AssociationFits C.context_fits (C.body_text false) association.now }
-    ensures { IfOk result (λ bytes. bytes.items ≡ association_text kind (C.body_text full) (user_text full association.now.max_pdu) association.now) }
+    ensures { IfOk result (λ bytes. bytes.items
+        ≡ association_text kind (C.body_text full) (user_text full association.now.max_pdu)
+        association.now) }
 {
     let front = &association.front;
     let mut out = Vec::new(alloc);
@@ -190,7 +206,9 @@ fn put_contexts<C: Context>(
     contexts: &[C],
 ) -> Result<(), AllocError>
     requires { AllByRecursion C.context_fits contexts.now }
-    ensures { OnOk result (out.new.items ≡ out.old.items ++ flat_map (λ c. item kind (C.body_text full c)) contexts.now) }
+    ensures { OnOk result
+        (out.new.items
+        ≡ out.old.items ++ flat_map (λ c. item kind (C.body_text full c)) contexts.now) }
 {
     for context in contexts {
         let body = context.body(alloc, full)?;

@@ -34,8 +34,8 @@ pub enum PduFault {
 }
 
 impl PduFault {
-    /// The reason of the A-ABORT that answers a PDU which shows the fault (PS3.8 9.3.8). `More`, `Memory` and `Failed`
-    /// are no faults of a PDU, and no reason is given for them.
+    /// The reason of the A-ABORT that answers a PDU which shows the fault (PS3.8 9.3.8). `More`,
+    /// `Memory` and `Failed` are no faults of a PDU, and no reason is given for them.
     pub fn abort_reason(self) -> AbortReason
         ensures { result ≡ reason_of self }
     {

@@ -10,7 +10,8 @@ use dr_base::Seq;
 use std::alloc::Global;
 use std::marker::Model;
 
-/// Takes a stream in pieces, however it is cut, and gives its PDUs. It keeps what stands behind the last whole one.
+/// Takes a stream in pieces, however it is cut, and gives its PDUs. It keeps what stands behind the
+/// last whole one.
 #[derive(Drop)]
 pub struct Feeder {
     alloc: Global,
@@ -28,8 +29,8 @@ impl Model for Feeder {
 }
 
 impl Feeder {
-    /// A feeder that has heard nothing; it takes no memory. `limit` bounds the length field of a P-DATA-TF, in bytes;
-    /// 0 stands for 134,217,728.
+    /// A feeder that has heard nothing; it takes no memory. `limit` bounds the length field of a
+    /// P-DATA-TF, in bytes; 0 stands for 134,217,728.
     pub fn new(alloc: Global, limit: u32) -> Feeder
         ensures { result ≡ fresh limit }
     {
@@ -50,8 +51,9 @@ impl Feeder {
 
     /// All whole PDUs that were not given yet, in order.
     ///
-    /// A fault in front is answered at once, and from then on every call answers `Failed`. A fault behind whole PDUs is
-    /// answered by the next call. On `Memory` the feeder is as before, and the piece isn't taken. `More` is no answer.
+    /// A fault in front is answered at once, and from then on every call answers `Failed`. A fault
+    /// behind whole PDUs is answered by the next call. On `Memory` the feeder is as before, and the
+    /// piece isn't taken. `More` is no answer.
     pub fn feed(&mut self, piece: &[u8]) -> Result<Seq<Pdu>, PduFault>
         ensures { Feeds self.old piece.now result self.new }
     {
@@ -64,7 +66,8 @@ impl Feeder {
         self.feed_behind(piece)
     }
 
-    /// A piece where nothing is kept: its PDUs are read where they stand, and what is behind them is kept.
+    /// A piece where nothing is kept: its PDUs are read where they stand, and what is behind them
+    /// is kept.
     fn feed_alone(&mut self, piece: &[u8]) -> Result<Seq<Pdu>, PduFault>
         requires works { self.old.failed ≡ false }
         requires nothing_kept { self.old.kept ≡ [] }
@@ -138,7 +141,8 @@ fn gather(alloc: Global, limit: u32, text: &[u8]) -> Result<(Seq<Pdu>, usize), P
     }
 }
 
-/// Drops the first bytes of a buffer. Nothing is moved; where all bytes go, all of its room is free again.
+/// Drops the first bytes of a buffer. Nothing is moved; where all bytes go, all of its room is free
+/// again.
 fn drop_front(kept: &mut BytesMut, used: usize)
     requires { used ≤ length kept.old.items }
     ensures { kept.new.items ≡ drop used kept.old.items }

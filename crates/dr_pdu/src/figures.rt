@@ -1,14 +1,20 @@
 //! Worked figures of the definitions, by computation.
 ghost use Rattle.std.specs.Prelude.{◌≡◌, ◌∷◌, [], Some, None, Ok, length};
-ghost use Rattle.dr_pdu.specs.Grammar.{header_fault, AreContextIds, HasContextIds, IsAnswer, IsBody, IsProposal, Decodes, Shows};
+ghost use Rattle.dr_pdu.specs.Grammar.{header_fault, AreContextIds, HasContextIds, IsAnswer};
+ghost use Rattle.dr_pdu.specs.Grammar.{IsBody, IsProposal, Decodes, Shows};
 ghost use Rattle.dr_pdu.specs.Items.{first_body};
-ghost use Rattle.dr_pdu.specs.Vectors.{explicit, implicit, ct, verification, proposal, proposal_text, acceptance, refusal, rejection, rejection_text, transient_rejection, abort, echo, echo_text, foreign_request, foreign_text, syntax_alone, class_alone, bare_proposal, bare_body, repeated};
+ghost use Rattle.dr_pdu.specs.Vectors.{explicit, implicit, ct, verification, proposal};
+ghost use Rattle.dr_pdu.specs.Vectors.{proposal_text, acceptance, refusal, rejection};
+ghost use Rattle.dr_pdu.specs.Vectors.{rejection_text, transient_rejection, abort, echo, echo_text};
+ghost use Rattle.dr_pdu.specs.Vectors.{foreign_request, foreign_text, syntax_alone, class_alone};
+ghost use Rattle.dr_pdu.specs.Vectors.{bare_proposal, bare_body, repeated};
 ghost use Rattle.dr_pdu.specs.Written.{body_text, written};
 ghost use Rattle.dr_pdu.specs.declared.pdu.ContextAnswer.{ContextAnswer as Answer};
 ghost use Rattle.dr_pdu.specs.declared.pdu.ContextProposal.{ContextProposal as Proposal};
 ghost use Rattle.dr_pdu.specs.declared.pdu.Pdu.{Pdu as PduValue};
 ghost use Rattle.dr_pdu.specs.declared.pdu.Pdu.TheVariants.{ReleaseRq};
-ghost use Rattle.dr_pdu.specs.declared.fault.PduFault.TheVariants.{More, UnknownType, TooLong, BadItem};
+ghost use Rattle.dr_pdu.specs.declared.fault.PduFault.TheVariants.{More, UnknownType, TooLong};
+ghost use Rattle.dr_pdu.specs.declared.fault.PduFault.TheVariants.{BadItem};
 
 /// The length fields of associations, and three PDUs byte by byte.
 pub fn what_is_written()
@@ -44,7 +50,10 @@ pub fn edges_of_lengths()
 
 /// Of a repeated item the first counts, and items of other types are skipped.
 pub fn repeated_items()
-    ensures first { first_body 0x51 (record { kind = 0x52; body = 7 ∷ [] } ∷ record { kind = 0x51; body = 8 ∷ [] } ∷ record { kind = 0x51; body = 9 ∷ [] } ∷ []) ≡ Some (8 ∷ []) }
+    ensures first { first_body 0x51
+        (record { kind = 0x52; body = 7 ∷ [] } ∷ record { kind = 0x51; body = 8 ∷ [] }
+        ∷ record { kind = 0x51; body = 9 ∷ [] } ∷ [])
+        ≡ Some (8 ∷ []) }
     ensures none { first_body 0x50 (record { kind = 0x52; body = 7 ∷ [] } ∷ []) ≡ None }
 {}
 
@@ -58,15 +67,16 @@ pub fn context_ids()
     ensures acceptance { HasContextIds repeated → ⊥ }
 {}
 
-/// A refused context needs no transfer syntax, an accepted one and a proposal do. A proposal needs an abstract syntax
-/// too, and a request an application context.
+/// A refused context needs no transfer syntax, an accepted one and a proposal do. A proposal needs
+/// an abstract syntax too, and a request an application context.
 pub fn contexts_without_items()
     ensures refused { IsAnswer (1 ∷ 9 ∷ 3 ∷ 9 ∷ []) (record { id = 1; result = 3; syntax = [] }) }
     ensures accepted { (c : Answer) → IsAnswer (1 ∷ 0 ∷ 0 ∷ 0 ∷ []) c → ⊥ }
     ensures proposed { (c : Proposal) → IsProposal (1 ∷ 0 ∷ 0 ∷ 0 ∷ []) c → ⊥ }
     ensures no_class { (c : Proposal) → IsProposal syntax_alone c → ⊥ }
     ensures no_syntax { (c : Proposal) → IsProposal class_alone c → ⊥ }
-    ensures both { IsProposal bare_proposal (record { id = 1; class = verification; syntaxes = implicit ∷ [] }) }
+    ensures both { IsProposal bare_proposal
+        (record { id = 1; class = verification; syntaxes = implicit ∷ [] }) }
     ensures no_application { (p : PduValue) → IsBody 1 bare_body p → ⊥ }
 {}
 
@@ -74,7 +84,8 @@ pub fn contexts_without_items()
 pub fn what_is_read()
     ensures echo { Decodes 16384 echo_text (Ok (echo, 80)) }
     ensures foreign { Decodes 0 foreign_text (Ok (foreign_request, 267)) }
-    ensures reserved_bytes { Decodes 16384 (5 ∷ 9 ∷ 0 ∷ 0 ∷ 0 ∷ 4 ∷ 1 ∷ 2 ∷ 3 ∷ 4 ∷ 5 ∷ []) (Ok (ReleaseRq, 10)) }
+    ensures reserved_bytes { Decodes 16384 (5 ∷ 9 ∷ 0 ∷ 0 ∷ 0 ∷ 4 ∷ 1 ∷ 2 ∷ 3 ∷ 4 ∷ 5 ∷ [])
+        (Ok (ReleaseRq, 10)) }
     ensures five_bytes { Shows 16384 (4 ∷ 0 ∷ 0 ∷ 0 ∷ 0 ∷ []) More }
     ensures header_alone { Shows 16384 (1 ∷ 0 ∷ 0 ∷ 4 ∷ 0 ∷ 0 ∷ []) More }
     ensures too_long { Shows 16384 (1 ∷ 0 ∷ 0 ∷ 4 ∷ 0 ∷ 1 ∷ []) TooLong }

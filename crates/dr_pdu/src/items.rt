@@ -19,7 +19,9 @@ pub struct Item<'a> {
 
 /// The first item of a text that isn't empty, and what follows it.
 fn item_at(text: &[u8]) -> Result<(Item<'_>, &[u8]), PduFault>
-    ensures { Reads {Y = ItemText × List ℕ} (λ x. (item x.0, x.1.now)) result (λ x. StartsItem text.now x.0 x.1) }
+    ensures { Reads {Y = ItemText × List ℕ}
+        (λ x. (item x.0, x.1.now)) result
+        (λ x. StartsItem text.now x.0 x.1) }
 {
     let [kind, _, high, low, rest @ ..] = text else {
         return Err(PduFault::BadItem);

@@ -19,8 +19,9 @@ pub const LONGEST_ASSOCIATION: usize = GREATEST_ASSOCIATION as usize;
 /// The greatest length field of a P-DATA-TF where there is no limit, as a length.
 const LONGEST_TRANSFER: usize = GREATEST_TRANSFER as usize;
 
-/// Whether a PDU has a spelling: its lengths are those that the format holds, names are without the padding that reading
-/// drops, context ids are odd and distinct, a proposal has a transfer syntax, and a refused context has none.
+/// Whether a PDU has a spelling: its lengths are those that the format holds, names are without the
+/// padding that reading drops, context ids are odd and distinct, a proposal has a transfer syntax,
+/// and a refused context has none.
 pub fn fits(pdu: &Pdu) -> bool
     ensures { IsTrue result ↔ Fits pdu.now }
 {
@@ -76,7 +77,8 @@ fn is_title(name: &Text) -> bool
 /// How many bytes the shortest items of the contexts take, if they fit.
 fn contexts_len<C: Context>(contexts: &[C]) -> Option<usize>
     ensures { SomeIff result
-        (AllByRecursion C.context_fits contexts.now × (weight (map (C.body_text false) contexts.now) ≤ 262144))
+        (AllByRecursion C.context_fits contexts.now
+        × (weight (map (C.body_text false) contexts.now) ≤ 262144))
         (weight (map (C.body_text false) contexts.now)) }
 {
     let mut len = 0;
@@ -97,7 +99,8 @@ fn contexts_len<C: Context>(contexts: &[C]) -> Option<usize>
 
 /// How many bytes the values take in a P-DATA-TF, if they fit.
 pub fn values_len(pdvs: &[Pdv]) -> Option<usize>
-    ensures { SomeIff result (length (flat_map pdv_text pdvs.now) ≤ 134217728) (length (flat_map pdv_text pdvs.now)) }
+    ensures { SomeIff result (length (flat_map pdv_text pdvs.now) ≤ 134217728)
+        (length (flat_map pdv_text pdvs.now)) }
 {
     let mut len = 0;
     for pdv in pdvs {
@@ -113,9 +116,11 @@ pub fn values_len(pdvs: &[Pdv]) -> Option<usize>
     Some(len)
 }
 
-/// How many bytes the names take as items, if each is read as it was written and they are below 65,536 bytes.
+/// How many bytes the names take as items, if each is read as it was written and they are below
+/// 65,536 bytes.
 pub fn names_len(names: &[Text]) -> Option<usize>
-    ensures { SomeIff result (AllByRecursion IsUnpadded names.now × (weight names.now < 2 ^ 16)) (weight names.now) }
+    ensures { SomeIff result (AllByRecursion IsUnpadded names.now × (weight names.now < 2 ^ 16))
+        (weight names.now) }
 {
     let mut len = 0;
     for name in names {

@@ -1,8 +1,9 @@
 //! The PDUs of the DICOM upper layer (PS3.8 section 9.3): as values, and as bytes.
 //!
-//! `specs/Grammar.antt` relates texts to the PDUs that they spell, and says which fault a text shows; `decode` answers
-//! just that. `specs/Written.antt` has the one spelling that `encode` writes. `specs/Feeding.antt` says what a `Feeder`
-//! makes of a stream in pieces. `laws` has what follows from the definitions, and `figures` worked figures of them.
+//! `specs/Grammar.antt` relates texts to the PDUs that they spell, and says which fault a text
+//! shows; `decode` answers just that. `specs/Written.antt` has the one spelling that `encode`
+//! writes. `specs/Feeding.antt` says what a `Feeder` makes of a stream in pieces. `laws` has what
+//! follows from the definitions, and `figures` worked figures of them.
 #![tactic(auto)]
 
 mod associate;

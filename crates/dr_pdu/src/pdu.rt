@@ -25,7 +25,8 @@ pub enum Pdu {
 pub struct Pdv {
     /// The presentation context.
     pub id: u8,
-    /// The message control header (Annex E.2): bit 0 is set for a command, bit 1 for the last fragment.
+    /// The message control header (Annex E.2): bit 0 is set for a command, bit 1 for the last
+    /// fragment.
     pub header: u8,
     /// The fragment's bytes.
     pub fragment: Octets,
@@ -46,7 +47,8 @@ pub struct Association<C> {
     pub application: Text,
     /// The presentation contexts, in the order of their items.
     pub contexts: Seq<C>,
-    /// The greatest length field, in bytes, of a P-DATA-TF that the sender of this PDU takes (Annex D.1); 0 is no limit.
+    /// The greatest length field, in bytes, of a P-DATA-TF that the sender of this PDU takes (Annex
+    /// D.1); 0 is no limit.
     pub max_pdu: u32,
 }
 

@@ -1,4 +1,5 @@
-//! The presentation data values of a P-DATA-TF: length (4), context id, message control header, fragment.
+//! The presentation data values of a P-DATA-TF: length (4), context id, message control header,
+//! fragment.
 ghost use Rattle.std.specs.Prelude.{[], ℕ, List};
 ghost use Rattle.dr_base.specs.Runs.{Run};
 ghost use Rattle.dr_pdu.specs.Items.{StartsPdv};
@@ -12,7 +13,9 @@ use std::alloc::Global;
 
 /// The first PDV of a text that isn't empty, and what follows it.
 fn pdv_at(alloc: Global, text: &[u8]) -> Result<(Pdv, &[u8]), PduFault>
-    ensures { Reads {Y = PdvText × List ℕ} (λ x. (x.0, x.1.now)) result (λ x. StartsPdv text.now x.0 x.1) }
+    ensures { Reads {Y = PdvText × List ℕ}
+        (λ x. (x.0, x.1.now)) result
+        (λ x. StartsPdv text.now x.0 x.1) }
 {
     let [a, b, c, d, rest @ ..] = text else {
         return Err(PduFault::BadItem);

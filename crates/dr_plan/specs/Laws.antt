@@ -9,8 +9,13 @@ use Rattle.dr_plan.specs.Reading.{Reads}
 
 -- want of memory aside, a text has one answer
 abbrev pub EachTextHasOneAnswer : Type 0
-EachTextHasOneAnswer = (text : Text) (r s : Result Network PlanFault) → r ≢ Err Memory → s ≢ Err Memory → Reads text r → Reads text s → r ≡ s
+EachTextHasOneAnswer =
+    (text : Text) (r s : Result Network PlanFault)
+    → r ≢ Err Memory → s ≢ Err Memory → Reads text r → Reads text s → r ≡ s
 
 -- each plan that is read of a text is well-formed
 abbrev pub PlansAreWellFormed : Type 0
-PlansAreWellFormed = (text : Text) (plan : Network) → Reads text (Ok plan) → AreWellFormed plan.format plan.nodes plan.flows
+PlansAreWellFormed =
+    (text : Text) (plan : Network)
+    → Reads text (Ok plan)
+    → AreWellFormed plan.format plan.nodes plan.flows

@@ -1,5 +1,6 @@
 -- What a plan's text has to keep beside its form, and what is read of a text.
-use Rattle.std.specs.Prelude.{◌≡◌, ◌≢◌, ℕ, pos, ◌+◌, ◌≤◌, List, [], All, AllPairs, Contains, length, map, sum_by, Result, Ok, Err}
+use Rattle.std.specs.Prelude.{◌≡◌, ◌≢◌, ℕ, pos, ◌+◌, ◌≤◌, List, [], All, AllPairs, Contains, length}
+use Rattle.std.specs.Prelude.{map, sum_by, Result, Ok, Err}
 use Rattle.sha2.specs.Sha256.{sha256}
 use Rattle.dr_base.specs.Texts.{Text}
 use Rattle.dr_base.specs.Syntaxes.{syntax_uid}
@@ -76,21 +77,30 @@ pub record SendsElsewhere (plan : PlanText) : Type 0 where
   pub rules : All (λ node. All (λ rule. All (λ to. to ≢ node.name) rule.to) node.rules) plan.nodes
   pub flows : All (λ flow. flow.at ≢ flow.to) plan.flows
 
--- what is tested of a plan that a text writes: it passes, or has this fault and none of those tested earlier; without nodes
--- no test needs memory
+-- what is tested of a plan that a text writes: it passes, or has this fault and none of those
+-- tested earlier; without nodes no test needs memory
 abbrev pub Passes : PlanText → Result (Unit {0}) PlanFault → Type 0
-Passes plan (Ok done) = KnowsSyntaxes plan × HasGoodNames plan × IsWithinLimits plan × KnowsNames plan × SendsElsewhere plan
+Passes plan (Ok done) =
+    KnowsSyntaxes plan × HasGoodNames plan × IsWithinLimits plan × KnowsNames plan
+    × SendsElsewhere plan
 Passes plan (Err fault.Syntax) = KnowsSyntaxes plan → ⊥
 Passes plan (Err fault.Name) = KnowsSyntaxes plan × (HasGoodNames plan → ⊥)
 Passes plan (Err fault.Limit) = KnowsSyntaxes plan × HasGoodNames plan × (IsWithinLimits plan → ⊥)
-Passes plan (Err fault.UnknownNode) = KnowsSyntaxes plan × HasGoodNames plan × IsWithinLimits plan × (KnowsNames plan → ⊥)
-Passes plan (Err fault.SelfRoute) = KnowsSyntaxes plan × HasGoodNames plan × IsWithinLimits plan × KnowsNames plan × (SendsElsewhere plan → ⊥)
+Passes plan (Err fault.UnknownNode) =
+    KnowsSyntaxes plan × HasGoodNames plan × IsWithinLimits plan × (KnowsNames plan → ⊥)
+Passes plan (Err fault.SelfRoute) =
+    KnowsSyntaxes plan × HasGoodNames plan × IsWithinLimits plan × KnowsNames plan
+    × (SendsElsewhere plan → ⊥)
 Passes plan (Err fault.Memory) = plan.nodes ≢ []
 Passes plan (Err other) = ⊥
 
--- what is read of a text: the plan that it writes, with the text's SHA-256, or the first fault; the empty text needs no memory
+-- what is read of a text: the plan that it writes, with the text's SHA-256, or the first fault; the
+-- empty text needs no memory
 abbrev pub Reads : Text → Result Network PlanFault → Type 0
-Reads text (Ok plan) = Writes text (written_plan plan) × Passes (written_plan plan) (Ok tt) × (plan.digest ≡ sha256 text)
+Reads text (Ok plan) =
+    Writes text (written_plan plan)
+    × Passes (written_plan plan) (Ok tt)
+    × (plan.digest ≡ sha256 text)
 Reads text (Err fault.NotToml) = IsToml text → ⊥
 Reads text (Err fault.Field) = IsToml text × ((plan : PlanText) → Writes text plan → ⊥)
 Reads text (Err fault.Memory) = text ≢ []

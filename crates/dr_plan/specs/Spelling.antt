@@ -12,17 +12,35 @@ use Rattle.dr_plan_text.specs.declared.words.PlanText.{PlanText}
 
 -- an accept row as it is written: its transfer syntaxes by their UIDs, all else as it stands
 abbrev pub written_row : AcceptRow → AcceptText
-written_row row = record { from = row.from; class = row.class; syntaxes = map syntax_uid row.syntaxes }
+written_row row =
+    record { from = row.from; class = row.class; syntaxes = map syntax_uid row.syntaxes }
 
 -- a node as it is written: its accept rows as these are written, all else as it stands
 abbrev pub written_node : Node → NodeText
-written_node node = record { name = node.name; address = node.address; max_pdu = pos node.max_pdu; accepts = map written_row node.accepts; rules = node.rules }
+written_node node = record {
+  name = node.name;
+  address = node.address;
+  max_pdu = pos node.max_pdu;
+  accepts = map written_row node.accepts;
+  rules = node.rules;
+}
 
 -- a flow as it is written: its transfer syntaxes by their UIDs, all else as it stands
 abbrev pub written_flow : Flow → FlowText
-written_flow flow =
-    record { at = flow.at; to = flow.to; classes = flow.classes; syntaxes = map syntax_uid flow.syntaxes; modalities = flow.modalities; stations = flow.stations }
+written_flow flow = record {
+  at = flow.at;
+  to = flow.to;
+  classes = flow.classes;
+  syntaxes = map syntax_uid flow.syntaxes;
+  modalities = flow.modalities;
+  stations = flow.stations;
+}
 
--- a plan as it is written: its format, and its nodes and flows in order; the digest of the text is no part of it
+-- a plan as it is written: its format, and its nodes and flows in order; the digest of the text is
+-- no part of it
 abbrev pub written_plan : Network → PlanText
-written_plan plan = record { format = plan.format; nodes = map written_node plan.nodes; flows = map written_flow plan.flows }
+written_plan plan = record {
+  format = plan.format;
+  nodes = map written_node plan.nodes;
+  flows = map written_flow plan.flows;
+}

@@ -5,8 +5,8 @@ use dr_plan_text::TextFault;
 use std::alloc::AllocError;
 use thiserror::Error;
 
-/// Why a text is no plan: its first fault, each looked for in the whole text before the next one, in this
-/// order.
+/// Why a text is no plan: its first fault, each looked for in the whole text before the next one,
+/// in this order.
 #[derive(Clone, Copy, Debug, PartialEq, Eq, Error)]
 pub enum PlanFault {
     /// The bytes aren't a text in TOML.
@@ -21,7 +21,8 @@ pub enum PlanFault {
     /// A name is ill-formed, or two nodes have one name.
     #[error("L3 Name")]
     Name,
-    /// There are more than 64 nodes, more than 1,024 rules and flows, or a `max_pdu` is out of its range.
+    /// There are more than 64 nodes, more than 1,024 rules and flows, or a `max_pdu` is out of its
+    /// range.
     #[error("L6 Limit")]
     Limit,
     /// A name is no node's.

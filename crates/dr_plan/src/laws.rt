@@ -6,8 +6,9 @@ pub fn a_text_has_one_answer()
     ensures { EachTextHasOneAnswer }
 {}
 
-/// The plan of a text is well-formed: its names, literals, classes and addresses have their forms, its names
-/// are names of its nodes, nothing goes to its own node, it keeps the limits, and in format 1 it names no prefix.
+/// The plan of a text is well-formed: its names, literals, classes and addresses have their forms,
+/// its names are names of its nodes, nothing goes to its own node, it keeps the limits, and in
+/// format 1 it names no prefix.
 pub fn the_plan_of_a_text_is_well_formed()
     ensures { PlansAreWellFormed }
 {}

@@ -1,4 +1,5 @@
-//! The plan of a network, read from its text: exactly the plan that the text writes, or its first fault.
+//! The plan of a network, read from its text: exactly the plan that the text writes, or its first
+//! fault.
 #![tactic(auto)]
 
 mod fault;

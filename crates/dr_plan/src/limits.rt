@@ -39,7 +39,8 @@ fn are_at_most(nodes: &[NodeText], most: usize) -> bool
     true
 }
 
-/// Whether the plan has no more nodes, rules and flows than it may, and each `max_pdu` is in its range.
+/// Whether the plan has no more nodes, rules and flows than it may, and each `max_pdu` is in its
+/// range.
 pub fn is_within_limits(plan: &PlanText) -> bool
     ensures { IsTrue result ↔ IsWithinLimits plan.now }
 {

@@ -1,5 +1,6 @@
 //! The names of a plan.
-ghost use Rattle.std.specs.Prelude.{◌≡◌, ◌≢◌, ◌≤◌, ◌<◌, ◌↔◌, IsTrue, All, AllPairs, Contains, MatchOption, IfOk, OnErr, [], map, codes, ◌⊎◌};
+ghost use Rattle.std.specs.Prelude.{◌≡◌, ◌≢◌, ◌≤◌, ◌<◌, ◌↔◌, IsTrue, All, AllPairs, Contains};
+ghost use Rattle.std.specs.Prelude.{MatchOption, IfOk, OnErr, [], map, codes, ◌⊎◌};
 ghost use Rattle.dr_base.specs.Texts.{Text as Words};
 ghost use Rattle.dr_route.specs.Names.{HasName};
 ghost use Rattle.dr_plan_model.specs.Formed.{IsName, HasForm};
@@ -39,8 +40,8 @@ fn is_star_or_dash(text: &[u8]) -> bool
     text == b"*".as_slice() || text == b"-".as_slice()
 }
 
-/// Whether it is a node's title: 1 to 16 printable bytes without a backslash, with no space at an end, and
-/// neither `*` nor `-`.
+/// Whether it is a node's title: 1 to 16 printable bytes without a backslash, with no space at an
+/// end, and neither `*` nor `-`.
 pub fn is_name(text: &[u8]) -> bool
     ensures { IsTrue result ↔ IsName text.now }
 {
@@ -90,7 +91,8 @@ fn each_row<T: NameTest>(test: &T, rows: &[AcceptText]) -> bool
 }
 
 fn is_rule_of<T: NameTest>(test: &T, rule: &Rule) -> bool
-    ensures { IsTrue result ↔ (HasForm (T.holds test.now) rule.now.from × All (T.holds test.now) rule.now.to) }
+    ensures { IsTrue result
+        ↔ (HasForm (T.holds test.now) rule.now.from × All (T.holds test.now) rule.now.to) }
 {
     let from = match &rule.from {
         Pattern::Any => true,
@@ -100,7 +102,9 @@ fn is_rule_of<T: NameTest>(test: &T, rule: &Rule) -> bool
 }
 
 fn each_rule<T: NameTest>(test: &T, rules: &[Rule]) -> bool
-    ensures { IsTrue result ↔ All (λ rule. HasForm (T.holds test.now) rule.from × All (T.holds test.now) rule.to) rules.now }
+    ensures { IsTrue result
+        ↔ All
+        (λ rule. HasForm (T.holds test.now) rule.from × All (T.holds test.now) rule.to) rules.now }
 {
     rules.iter().all(|rule| is_rule_of(test, rule))
 }
@@ -120,7 +124,8 @@ fn each_node<T: NameTest>(test: &T, nodes: &[NodeText]) -> bool
 }
 
 fn each_flow<T: NameTest>(test: &T, flows: &[FlowText]) -> bool
-    ensures { IsTrue result ↔ All (λ flow. T.holds test.now flow.at × T.holds test.now flow.to) flows.now }
+    ensures { IsTrue result
+        ↔ All (λ flow. T.holds test.now flow.at × T.holds test.now flow.to) flows.now }
 {
     flows
         .iter()
@@ -139,7 +144,9 @@ pub fn names_of(alloc: Global, nodes: &[NodeText]) -> Result<Option<BTreeSet<Tex
     ensures memory { OnErr result (nodes.now ≢ []) }
     ensures names { IfOk result (λ names. MatchOption names
         (AllPairs (λ a b. a ≢ b) (map (λ node. node.name) nodes.now) → ⊥)
-        (λ set. AllPairs (λ a b. a ≢ b) (map (λ node. node.name) nodes.now) × ((name : Words) → HasName set name ↔ Contains (map (λ node. node.name) nodes.now) name))) }
+        (λ set. AllPairs (λ a b. a ≢ b) (map (λ node. node.name) nodes.now)
+        × ((name : Words)
+        → HasName set name ↔ Contains (map (λ node. node.name) nodes.now) name))) }
 {
     let mut seen = BTreeSet::new(alloc);
     for node in nodes {

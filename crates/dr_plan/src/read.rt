@@ -38,8 +38,9 @@ fn pass(alloc: Global, plan: &PlanText) -> Result<(), PlanFault>
     Ok(())
 }
 
-/// The plan that the text writes, with the text's SHA-256, or the text's first fault in the order of
-/// `PlanFault`. Memory is answered only where a growth was refused, and never for the empty text.
+/// The plan that the text writes, with the text's SHA-256, or the text's first fault in the order
+/// of `PlanFault`. Memory is answered only where a growth was refused, and never for the empty
+/// text.
 pub fn read_plan(alloc: Global, text: &[u8]) -> Result<Plan, PlanFault>
     ensures { Reads text.now result }
 {

@@ -19,7 +19,8 @@ fn rules_leave(rules: &[Rule], name: &Text) -> bool
 }
 
 fn nodes_leave(nodes: &[NodeText]) -> bool
-    ensures { IsTrue result ↔ All (λ node. All (λ rule. All (λ to. to ≢ node.name) rule.to) node.rules) nodes.now }
+    ensures { IsTrue result
+        ↔ All (λ node. All (λ rule. All (λ to. to ≢ node.name) rule.to) node.rules) nodes.now }
 {
     nodes
         .iter()

@@ -26,7 +26,8 @@ fn rows_know(rows: &[AcceptText]) -> bool
 }
 
 fn nodes_know(nodes: &[NodeText]) -> bool
-    ensures { IsTrue result ↔ All (λ node. All (λ row. All IsSyntax row.syntaxes) node.accepts) nodes.now }
+    ensures { IsTrue result
+        ↔ All (λ node. All (λ row. All IsSyntax row.syntaxes) node.accepts) nodes.now }
 {
     nodes.iter().all(|node| rows_know(node.accepts.as_slice()))
 }

@@ -25,21 +25,25 @@ use Rattle.dr_plan_entries.specs.declared.stations.Shown.{Shown}
 use Rattle.dr_plan_entries.specs.declared.narrow.Part.{Part}
 use Rattle.dr_plan_entries.specs.declared.narrow.Part.TheVariants as part
 
--- the values of a flow take in the part of the field: all of them do where any value will, else only listed literals
+-- the values of a flow take in the part of the field: all of them do where any value will, else
+-- only listed literals
 abbrev pub Admits : Values → OwnedField → Type 0
 Admits values.Any field = Unit {0}
 Admits (values.Listed texts) (Literal literal) = Contains texts literal
 Admits (values.Listed texts) Rest = ⊥
 
--- the stations of a flow take in the part: all of them do where any value will; else a literal is listed or begins with a listed prefix, and a prefix
--- begins with a listed one, as all of its values then do
+-- the stations of a flow take in the part: all of them do where any value will; else a literal is
+-- listed or begins with a listed prefix, and a prefix begins with a listed one, as all of its
+-- values then do
 abbrev pub AdmitsStation : Stations → OwnedStation → Type 0
 AdmitsStation stations.Any part = Unit {0}
-AdmitsStation (stations.Listed values) (station.Literal literal) = Contains values.literals literal ⊎ BeginsOne values.prefixes literal
+AdmitsStation (stations.Listed values) (station.Literal literal) =
+    Contains values.literals literal ⊎ BeginsOne values.prefixes literal
 AdmitsStation (stations.Listed values) (station.Prefix prefix) = BeginsOne values.prefixes prefix
 AdmitsStation (stations.Listed values) station.Rest = ⊥
 
--- the flow speaks of the value: the site, a class, a transfer syntax, or a part of modality or station
+-- the flow speaks of the value: the site, a class, a transfer syntax, or a part of modality or
+-- station
 abbrev pub SpeaksOf : Flow → Part → Type 0
 SpeaksOf flow (part.Site site) = flow.at ≡ site.now
 SpeaksOf flow (part.Class class) = Contains flow.classes class.now
@@ -61,7 +65,10 @@ AllBelow among flows = All (λ k. k < length flows) among
 
 -- just the places among those at which a flow speaks of the value
 abbrev pub AreNarrowed : List Flow → List ℕ → Part → List ℕ → Type 0
-AreNarrowed flows among part found = (k : ℕ) → Contains found k ↔ (Contains among k × ((flow : Flow) × (slice_get flows k ≡ Some flow) × SpeaksOf flow part))
+AreNarrowed flows among part found =
+    (k : ℕ)
+    → Contains found k
+    ↔ (Contains among k × ((flow : Flow) × (slice_get flows k ≡ Some flow) × SpeaksOf flow part))
 
 -- the flow takes in the keys of the cell
 pub record TakesIn (flow : Flow) (cell : OwnedCell) : Type 0 where
@@ -72,15 +79,19 @@ pub record TakesIn (flow : Flow) (cell : OwnedCell) : Type 0 where
 
 -- a flow at one of the places takes in the keys of the cell
 abbrev pub SomeTakes : List Flow → List ℕ → OwnedCell → Type 0
-SomeTakes flows among cell = (k : ℕ) × Contains among k × ((flow : Flow) × (slice_get flows k ≡ Some flow) × TakesIn flow cell)
+SomeTakes flows among cell =
+    (k : ℕ) × Contains among k
+    × ((flow : Flow) × (slice_get flows k ≡ Some flow) × TakesIn flow cell)
 
 -- each flow at one of the places speaks of the value
 abbrev pub EachSpeaks : List Flow → List ℕ → Part → Type 0
-EachSpeaks flows among part = (k : ℕ) (flow : Flow) → Contains among k → slice_get flows k ≡ Some flow → SpeaksOf flow part
+EachSpeaks flows among part =
+    (k : ℕ) (flow : Flow) → Contains among k → slice_get flows k ≡ Some flow → SpeaksOf flow part
 
 -- an entry, as a site and a cell of the plan: some flow at the site takes the cell in
 abbrev pub WantsAny : Network → Text → OwnedCell → Type 0
-WantsAny plan s c = IsCellOf plan c × ((flow : Flow) × Contains plan.flows flow × (flow.at ≡ s) × TakesIn flow c)
+WantsAny plan s c =
+    IsCellOf plan c × ((flow : Flow) × Contains plan.flows flow × (flow.at ≡ s) × TakesIn flow c)
 
 -- the entries at one site, as far as the flows at these places take them in
 abbrev pub WantsSite : Network → Text → List ℕ → Text → OwnedCell → Type 0
@@ -92,15 +103,20 @@ WantsClass plan site class among s c = (c.class ≡ class) × WantsSite plan sit
 
 -- the entries at one site, of one class in one transfer syntax
 abbrev pub WantsSyntax : Network → Text → Text → Syntax → List ℕ → Text → OwnedCell → Type 0
-WantsSyntax plan site class syntax among s c = (c.syntax ≡ syntax) × WantsClass plan site class among s c
+WantsSyntax plan site class syntax among s c =
+    (c.syntax ≡ syntax) × WantsClass plan site class among s c
 
 -- the entries at one site, of one class in one transfer syntax and of one part of modality
-abbrev pub WantsModality : Network → Text → Text → Syntax → OwnedField → List ℕ → Text → OwnedCell → Type 0
-WantsModality plan site class syntax modality among s c = (c.modality ≡ modality) × WantsSyntax plan site class syntax among s c
+abbrev pub WantsModality : Network → Text → Text → Syntax → OwnedField → List ℕ → Text → OwnedCell
+    → Type 0
+WantsModality plan site class syntax modality among s c =
+    (c.modality ≡ modality) × WantsSyntax plan site class syntax among s c
 
 -- the entry at one site of one class, transfer syntax and parts of modality and station: one cell
-abbrev pub WantsStation : Network → Text → Text → Syntax → OwnedField → OwnedStation → List ℕ → Text → OwnedCell → Type 0
-WantsStation plan site class syntax modality station among s c = (c.station ≡ station) × WantsModality plan site class syntax modality among s c
+abbrev pub WantsStation : Network → Text → Text → Syntax → OwnedField → OwnedStation → List ℕ → Text
+    → OwnedCell → Type 0
+WantsStation plan site class syntax modality station among s c =
+    (c.station ≡ station) × WantsModality plan site class syntax modality among s c
 
 -- the part of the field is one of these literals
 abbrev pub IsLiteralOf : List Text → OwnedField → Type 0
@@ -113,7 +129,8 @@ AreParts values fields = (field : OwnedField) → Contains fields field ↔ IsPa
 
 -- the list has just the parts of the stations of the plan: its literals, its prefixes, and the rest
 abbrev pub AreStationParts : StationValues → List OwnedStation → Type 0
-AreStationParts values parts = (part : OwnedStation) → Contains parts part ↔ IsStationPart values part
+AreStationParts values parts =
+    (part : OwnedStation) → Contains parts part ↔ IsStationPart values part
 
 -- the part of the stations, without its text
 abbrev pub part_of : Shown → OwnedStation
@@ -123,14 +140,23 @@ part_of shown = shown.part
 abbrev pub HasItsText : Shown → Type 0
 HasItsText shown = shown.text ≡ printed_station shown.part
 
--- the two lists have just the parts of a plan's modality and of its station, in the order in which they are printed
+-- the two lists have just the parts of a plan's modality and of its station, in the order in which
+-- they are printed
 abbrev pub HasParts : Network → List OwnedField → List OwnedStation → Type 0
-HasParts plan modalities stations = AreParts (literals_of plan).modalities modalities × AreStationParts (literals_of plan).stations stations
-    × IsInPrintedOrder printed_field modalities × IsInPrintedOrder printed_station stations
+HasParts plan modalities stations =
+    AreParts (literals_of plan).modalities modalities
+    × AreStationParts (literals_of plan).stations stations
+    × IsInPrintedOrder printed_field modalities
+    × IsInPrintedOrder printed_station stations
 
 -- each class of a flow at one of the places is in the row
 abbrev pub HasClasses : List Flow → List ℕ → List Text → Type 0
-HasClasses flows among row = (k : ℕ) (flow : Flow) (class : Text) → Contains among k → slice_get flows k ≡ Some flow → Contains flow.classes class → Contains row class
+HasClasses flows among row =
+    (k : ℕ) (flow : Flow) (class : Text)
+    → Contains among k
+    → slice_get flows k ≡ Some flow
+    → Contains flow.classes class
+    → Contains row class
 
 -- the site of each flow is in the row
 abbrev pub HasSites : List Flow → List Text → Type 0
@@ -144,10 +170,14 @@ FitsClass flow site class = Contains flow.classes class × (flow.at ≡ site)
 abbrev pub FitsSyntax : Flow → Text → Text → Syntax → Type 0
 FitsSyntax flow site class syntax = Contains flow.syntaxes syntax × FitsClass flow site class
 
--- the flow is at the site, has the class and the transfer syntax, and takes in that part of modality
+-- the flow is at the site, has the class and the transfer syntax, and takes in that part of
+-- modality
 abbrev pub FitsModality : Flow → Text → Text → Syntax → OwnedField → Type 0
-FitsModality flow site class syntax modality = Admits flow.modalities modality × FitsSyntax flow site class syntax
+FitsModality flow site class syntax modality =
+    Admits flow.modalities modality × FitsSyntax flow site class syntax
 
--- the flow is at the site and takes in the class, the transfer syntax and the parts of modality and station
+-- the flow is at the site and takes in the class, the transfer syntax and the parts of modality and
+-- station
 abbrev pub FitsAll : Flow → Text → Text → Syntax → OwnedField → OwnedStation → Type 0
-FitsAll flow site class syntax modality station = AdmitsStation flow.stations station × FitsModality flow site class syntax modality
+FitsAll flow site class syntax modality station =
+    AdmitsStation flow.stations station × FitsModality flow site class syntax modality

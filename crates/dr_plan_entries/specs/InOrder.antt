@@ -10,8 +10,9 @@ use Rattle.dr_plan_sound.specs.Printed.{printed_field, printed_station}
 abbrev pub IsLess : Text → Text → Type 0
 IsLess a b = text_cmp a b ≡ Less
 
--- One entry, a site and a cell, comes before another one: by the site's name; behind the same name by the class; then by the UID of the
--- transfer syntax; then by the part of modality as it is printed; and then by the part of station as it is printed.
+-- One entry, a site and a cell, comes before another one: by the site's name; behind the same name
+-- by the class; then by the UID of the transfer syntax; then by the part of modality as it is
+-- printed; and then by the part of station as it is printed.
 abbrev pub ComesBefore : Text → OwnedCell → Text → OwnedCell → Type 0
 ComesBefore s c t d = IsLess s t ⊎ ((s ≡ t)
     × (IsLess c.class d.class ⊎ ((c.class ≡ d.class)
@@ -19,6 +20,7 @@ ComesBefore s c t d = IsLess s t ⊎ ((s ≡ t)
     × (IsLess (printed_field c.modality) (printed_field d.modality) ⊎ ((c.modality ≡ d.modality)
     × IsLess (printed_station c.station) (printed_station d.station))))))))
 
--- the items stand in the byte order of what they are printed as: none is less than one that stands before it
+-- the items stand in the byte order of what they are printed as: none is less than one that stands
+-- before it
 abbrev pub IsInPrintedOrder : {X : Type 0} → (X → Text) → List X → Type 0
 IsInPrintedOrder text items = AllPairs (λ a b. IsLess (text b) (text a) → ⊥) items

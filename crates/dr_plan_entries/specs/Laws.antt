@@ -18,26 +18,63 @@ NoneIsBeforeItself = (site : Text) (cell : OwnedCell) → ComesBefore site cell 
 
 -- what comes before an entry comes before all behind it
 abbrev pub BeforeGoesOn : Type 0
-BeforeGoesOn = (s t u : Text) (c d e : OwnedCell) → ComesBefore s c t d → ComesBefore t d u e → ComesBefore s c u e
+BeforeGoesOn =
+    (s t u : Text) (c d e : OwnedCell)
+    → ComesBefore s c t d → ComesBefore t d u e → ComesBefore s c u e
 
 -- of two entries of a plan one comes before the other, or they are the same
 abbrev pub OneIsBefore : Type 0
-OneIsBefore = (plan : Network) → IsWellFormed plan → (s t : Text) (c d : OwnedCell) → IsEntryCell plan s c → IsEntryCell plan t d →
-    ComesBefore s c t d ⊎ (((s ≡ t) × (c ≡ d)) ⊎ ComesBefore t d s c)
+OneIsBefore =
+    (plan : Network) → IsWellFormed plan
+    → (s t : Text) (c d : OwnedCell)
+    → IsEntryCell plan s c → IsEntryCell plan t d
+    → ComesBefore s c t d ⊎ (((s ≡ t) × (c ≡ d)) ⊎ ComesBefore t d s c)
 
 -- Implicit comes before Explicit, whatever the modalities and stations are
 abbrev pub ImplicitIsFirst : Type 0
-ImplicitIsFirst = (site class : Text) (m n : OwnedField) (p q : OwnedStation) →
-    ComesBefore site (record { class = class; syntax = Implicit; modality = m; station = p }) site (record { class = class; syntax = Explicit; modality = n; station = q })
+ImplicitIsFirst =
+    (site class : Text) (m n : OwnedField) (p q : OwnedStation)
+    → ComesBefore site (record { class = class; syntax = Implicit; modality = m; station = p }) site
+    (record { class = class; syntax = Explicit; modality = n; station = q })
 
--- the rest of the modalities, which is printed `*`, comes before the literal CT, and not before the literal !
+-- the rest of the modalities, which is printed `*`, comes before the literal CT, and not before the
+-- literal !
 abbrev pub RestIsAmongLiterals : Type 0
-RestIsAmongLiterals = (site class : Text) (p q : OwnedStation) →
-    ComesBefore site (record { class = class; syntax = Implicit; modality = Rest; station = p }) site (record { class = class; syntax = Implicit; modality = Literal (codes "CT"); station = q })
-    × (ComesBefore site (record { class = class; syntax = Implicit; modality = Rest; station = p }) site (record { class = class; syntax = Implicit; modality = Literal (codes "!"); station = q }) → ⊥)
+RestIsAmongLiterals =
+    (site class : Text) (p q : OwnedStation)
+    → ComesBefore site (record { class = class; syntax = Implicit; modality = Rest; station = p })
+    site (record { class = class; syntax = Implicit; modality = Literal (codes "CT"); station = q })
+    × (ComesBefore site (record { class = class; syntax = Implicit; modality = Rest; station = p })
+    site (record { class = class; syntax = Implicit; modality = Literal (codes "!"); station = q })
+    → ⊥)
 
 -- the prefix CT, which is printed `CT*`, comes behind the station CT and before the station CT1
 abbrev pub PrefixIsAmongLiterals : Type 0
-PrefixIsAmongLiterals = (site class : Text) (m : OwnedField) →
-    ComesBefore site (record { class = class; syntax = Implicit; modality = m; station = station.Literal (codes "CT") }) site (record { class = class; syntax = Implicit; modality = m; station = station.Prefix (codes "CT") })
-    × ComesBefore site (record { class = class; syntax = Implicit; modality = m; station = station.Prefix (codes "CT") }) site (record { class = class; syntax = Implicit; modality = m; station = station.Literal (codes "CT1") })
+PrefixIsAmongLiterals =
+    (site class : Text) (m : OwnedField)
+    → ComesBefore site
+    (record {
+      class = class;
+      syntax = Implicit;
+      modality = m;
+      station = station.Literal (codes "CT");
+    }) site
+    (record {
+      class = class;
+      syntax = Implicit;
+      modality = m;
+      station = station.Prefix (codes "CT");
+    })
+    × ComesBefore site
+    (record {
+      class = class;
+      syntax = Implicit;
+      modality = m;
+      station = station.Prefix (codes "CT");
+    }) site
+    (record {
+      class = class;
+      syntax = Implicit;
+      modality = m;
+      station = station.Literal (codes "CT1");
+    })

@@ -25,11 +25,13 @@ IsStationOf literals station.Rest = ⊥
 
 -- the values take in these literals at most
 abbrev pub TakesListed : Values → List Text → Type 0
-TakesListed values literals = (field : OwnedField) → Admits values field → IsLiteralOf literals field
+TakesListed values literals =
+    (field : OwnedField) → Admits values field → IsLiteralOf literals field
 
 -- the stations take in these literals at most
 abbrev pub TakesListedStations : Stations → List Text → Type 0
-TakesListedStations stations literals = (part : OwnedStation) → AdmitsStation stations part → IsStationOf literals part
+TakesListedStations stations literals =
+    (part : OwnedStation) → AdmitsStation stations part → IsStationOf literals part
 
 -- the flow takes in these literals at most, of the one attribute
 abbrev pub TakesAtMost : Side → Flow → List Text → Type 0
@@ -48,24 +50,40 @@ pub record TakesJust (side : Side) (flow : Flow) (literals : List Text) : Type 0
 
 -- a flow at one of the places lists the literal
 abbrev pub SomeLists : Side → List Flow → List ℕ → Text → Type 0
-SomeLists side flows among t = (k : ℕ) × Contains among k × ((flow : Flow) × (slice_get flows k ≡ Some flow) × Contains (listed_of side flow) t)
+SomeLists side flows among t =
+    (k : ℕ) × Contains among k
+    × ((flow : Flow) × (slice_get flows k ≡ Some flow) × Contains (listed_of side flow) t)
 
--- the flows at the places list these literals, which stand in byte order and each once, and take in no others
-pub record AreNamed (side : Side) (flows : List Flow) (among : List ℕ) (literals : List Text) : Type 0 where
+-- the flows at the places list these literals, which stand in byte order and each once, and take in
+-- no others
+pub record AreNamed (side : Side) (flows : List Flow) (among : List ℕ)
+    (literals : List Text) : Type 0 where
   pub named : (t : Text) → Contains literals t → SomeLists side flows among t
-  pub most : (k : ℕ) (flow : Flow) → Contains among k → slice_get flows k ≡ Some flow → TakesAtMost side flow literals
+  pub most : (k : ℕ) (flow : Flow) → Contains among k
+      → slice_get flows k ≡ Some flow
+      → TakesAtMost side flow literals
   pub ordered : IsInByteOrder literals
 
--- a row of parts of the plan's modalities, in the order in which they are printed, that has all those that the flows at the places take in
+-- a row of parts of the plan's modalities, in the order in which they are printed, that has all
+-- those that the flows at the places take in
 pub record IsFieldRow (plan : Network) (among : List ℕ) (row : List OwnedField) : Type 0 where
   pub parts : (field : OwnedField) → Contains row field → IsPart (literals_of plan).modalities field
-  pub whole : (k : ℕ) (flow : Flow) (field : OwnedField) → Contains among k → slice_get plan.flows k ≡ Some flow → Admits flow.modalities field →
-      IsPart (literals_of plan).modalities field → Contains row field
+  pub whole : (k : ℕ) (flow : Flow) (field : OwnedField)
+      → Contains among k
+      → slice_get plan.flows k ≡ Some flow
+      → Admits flow.modalities field
+      → IsPart (literals_of plan).modalities field
+      → Contains row field
   pub ordered : IsInPrintedOrder printed_field row
 
 -- the same of the stations
 pub record IsStationRow (plan : Network) (among : List ℕ) (row : List OwnedStation) : Type 0 where
-  pub parts : (part : OwnedStation) → Contains row part → IsStationPart (literals_of plan).stations part
-  pub whole : (k : ℕ) (flow : Flow) (part : OwnedStation) → Contains among k → slice_get plan.flows k ≡ Some flow → AdmitsStation flow.stations part →
-      IsStationPart (literals_of plan).stations part → Contains row part
+  pub parts : (part : OwnedStation) → Contains row part
+      → IsStationPart (literals_of plan).stations part
+  pub whole : (k : ℕ) (flow : Flow) (part : OwnedStation)
+      → Contains among k
+      → slice_get plan.flows k ≡ Some flow
+      → AdmitsStation flow.stations part
+      → IsStationPart (literals_of plan).stations part
+      → Contains row part
   pub ordered : IsInPrintedOrder printed_station row

@@ -12,7 +12,10 @@ use std::alloc::{AllocError, Global};
 
 /// Adds the parts of these literals.
 fn add_literals(fields: &mut Vec<OwnedField>, literals: &[Text]) -> Result<(), AllocError>
-    ensures { OnOk result ((field : FieldValue) → Contains fields.new.items field ↔ (Contains fields.old.items field ⊎ IsLiteralOf literals.now field)) }
+    ensures { OnOk result
+        ((field : FieldValue)
+        → Contains fields.new.items field
+        ↔ (Contains fields.old.items field ⊎ IsLiteralOf literals.now field)) }
 {
     for literal in literals {
         fields.push(OwnedField::Literal(literal.clone()?))?;
@@ -30,7 +33,8 @@ fn shown(field: &OwnedField) -> &[u8]
     }
 }
 
-/// The parts of the field in the byte order in which they are printed: its literals, and the rest as `*`.
+/// The parts of the field in the byte order in which they are printed: its literals, and the rest
+/// as `*`.
 pub fn parts_of(alloc: Global, values: &FieldValues) -> Result<Seq<OwnedField>, AllocError>
     ensures same { IfOk result (AreParts values.now) }
     ensures ordered { IfOk result (IsInPrintedOrder printed_field) }

@@ -1,5 +1,7 @@
 //! Laws of the order of entries.
-ghost use Rattle.dr_plan_entries.specs.Laws.{BeforeGoesOn, ImplicitIsFirst, NoneIsBeforeItself, OneIsBefore, PrefixIsAmongLiterals, RestIsAmongLiterals};
+ghost use Rattle.dr_plan_entries.specs.Laws.{BeforeGoesOn, ImplicitIsFirst, NoneIsBeforeItself};
+ghost use Rattle.dr_plan_entries.specs.Laws.{OneIsBefore, PrefixIsAmongLiterals};
+ghost use Rattle.dr_plan_entries.specs.Laws.{RestIsAmongLiterals};
 
 /// The entries of a plan stand in one order.
 pub fn entries_are_ordered()

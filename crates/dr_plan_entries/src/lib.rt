@@ -1,5 +1,5 @@
-//! The places where instances enter a plan, cell by cell, in the order in which the checker visits them: by
-//! node, class, transfer syntax, modality and station, each as it is printed.
+//! The places where instances enter a plan, cell by cell, in the order in which the checker visits
+//! them: by node, class, transfer syntax, modality and station, each as it is printed.
 #![tactic(auto)]
 
 pub mod fields;

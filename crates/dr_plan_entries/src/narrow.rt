@@ -1,5 +1,6 @@
 //! Flows, and those of them that speak of one value.
-ghost use Rattle.std.specs.Prelude.{◌≡◌, ◌↔◌, IsTrue, IfOk, MatchOption, Contains, Some, slice_get, ℕ, false};
+ghost use Rattle.std.specs.Prelude.{◌≡◌, ◌↔◌, IsTrue, IfOk, MatchOption, Contains, Some, slice_get};
+ghost use Rattle.std.specs.Prelude.{ℕ, false};
 ghost use Rattle.dr_route.specs.declared.cell.OwnedField.{OwnedField as FieldValue};
 ghost use Rattle.dr_route.specs.declared.cell.OwnedStation.{OwnedStation as StationValue};
 ghost use Rattle.dr_route.specs.declared.cell.OwnedCell.{OwnedCell as CellValue};
@@ -8,7 +9,8 @@ ghost use Rattle.dr_plan_model.specs.declared.plan.Flow.{Flow as FlowValue};
 ghost use Rattle.dr_plan_model.specs.Naming.{listed as listed_by, listed_stations};
 ghost use Rattle.dr_plan_model.specs.Listings.{IsListedBy, AreListedBy};
 ghost use Rattle.dr_route.specs.Cells.{owned_field};
-ghost use Rattle.dr_plan_entries.specs.Entering.{Admits, AdmitsStation, SpeaksOf, SpeaksAt, NoneSpeaks, TakesIn, AreNarrowed};
+ghost use Rattle.dr_plan_entries.specs.Entering.{Admits, AdmitsStation, SpeaksOf, SpeaksAt};
+ghost use Rattle.dr_plan_entries.specs.Entering.{NoneSpeaks, TakesIn, AreNarrowed};
 ghost use Rattle.dr_plan_entries.specs.Entering.{AllBelow};
 
 use dr_base::{Syntax, Text};
@@ -41,8 +43,8 @@ fn admits(values: &Values, set: &[Text], field: &OwnedField) -> bool
     }
 }
 
-/// Whether the flow's stations take in the part: a prefix is taken in where it begins with a listed one. The single
-/// stations that it lists are this set.
+/// Whether the flow's stations take in the part: a prefix is taken in where it begins with a listed
+/// one. The single stations that it lists are this set.
 fn admits_station(stations: &Stations, set: &[Text], part: &OwnedStation) -> bool
     requires same { (t : Words) → Contains set.now t ↔ Contains (listed_stations stations.now) t }
     requires ordered { IsInByteOrder set.now }
@@ -104,7 +106,8 @@ pub fn first_that_speaks(
 ) -> Option<usize>
     requires below { AllBelow among.now flows.now }
     requires listed { AreListedBy flows.now all.now }
-    ensures { MatchOption result (NoneSpeaks flows.now among.now part.now) (λ k. Contains among.now k × SpeaksAt flows.now k part.now) }
+    ensures { MatchOption result (NoneSpeaks flows.now among.now part.now)
+        (λ k. Contains among.now k × SpeaksAt flows.now k part.now) }
 {
     for place in among {
         if speaks_of(&flows[*place], &all[*place], part) {
@@ -144,7 +147,9 @@ fn has_no_station(stations: &Stations) -> bool
 /// The places of the flows that may bring something in.
 pub fn places_of(alloc: Global, flows: &[Flow]) -> Result<Vec<usize>, AllocError>
     ensures below { IfOk result (λ v. AllBelow v.items flows.now) }
-    ensures whole { IfOk result (λ v. (k : ℕ) (flow : FlowValue) (cell : CellValue) → slice_get flows.now k ≡ Some flow → TakesIn flow cell → Contains v.items k) }
+    ensures whole { IfOk result (λ v. (k : ℕ) (flow : FlowValue) (cell : CellValue)
+        → slice_get flows.now k ≡ Some flow
+        → TakesIn flow cell → Contains v.items k) }
 {
     let mut places = Vec::new(alloc);
     for place in 0..flows.len() {

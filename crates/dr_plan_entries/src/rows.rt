@@ -7,7 +7,8 @@ ghost use Rattle.dr_plan_model.specs.Naming.{listed as listed_by, listed_station
 ghost use Rattle.dr_plan_model.specs.Listings.{IsListedBy, AreListedBy};
 ghost use Rattle.dr_route.specs.Names.{HasName};
 ghost use Rattle.dr_plan_entries.specs.Entering.{AllBelow};
-ghost use Rattle.dr_plan_entries.specs.Listing.{TakesListed, TakesListedStations, TakesJust, AreNamed};
+ghost use Rattle.dr_plan_entries.specs.Listing.{TakesListed, TakesListedStations, TakesJust};
+ghost use Rattle.dr_plan_entries.specs.Listing.{AreNamed};
 
 use dr_base::{Seq, Text};
 use dr_plan_model::{Flow, Listed, Stations, Values};
@@ -78,7 +79,8 @@ fn add_unless_same(
     last: &[Text],
 ) -> Result<(), AllocError>
     requires { (t : Words) → Contains last.now t → HasName names.old t }
-    ensures { OnOk result ((t : Words) → HasName names.new t ↔ (HasName names.old t ⊎ Contains texts.now t)) }
+    ensures { OnOk result
+        ((t : Words) → HasName names.new t ↔ (HasName names.old t ⊎ Contains texts.now t)) }
 {
     if are_same(texts, last) {
         return Ok(());
@@ -87,8 +89,9 @@ fn add_unless_same(
     Ok(())
 }
 
-/// What the flows at the places list of it, in byte order and each once; None where one of them takes in something else
-/// too. Flows that stand behind each other and list the same are looked into once.
+/// What the flows at the places list of it, in byte order and each once; None where one of them
+/// takes in something else too. Flows that stand behind each other and list the same are looked
+/// into once.
 pub fn names_in(
     alloc: Global,
     flows: &[Flow],
@@ -98,7 +101,8 @@ pub fn names_in(
 ) -> Result<Option<Seq<Text>>, AllocError>
     requires below { AllBelow among.now flows.now }
     requires listed { AreListedBy flows.now all.now }
-    ensures { IfOk result (λ found. MatchOption found (Unit {0}) (AreNamed side flows.now among.now)) }
+    ensures { IfOk result (λ found.
+        MatchOption found (Unit {0}) (AreNamed side flows.now among.now)) }
 {
     let mut names = BTreeSet::new(alloc);
     let mut last: &[Text] = &[];

@@ -29,7 +29,9 @@ fn starred(alloc: Global, prefix: &Text) -> Result<Text, AllocError>
 
 /// Adds the parts of these literals.
 fn add_literals(shown: &mut Vec<Shown>, literals: &[Text]) -> Result<(), AllocError>
-    ensures parts { OnOk result (map part_of shown.new.items ≡ map part_of shown.old.items ++ map (λ l. station.Literal l) literals.now) }
+    ensures parts { OnOk result
+        (map part_of shown.new.items
+        ≡ map part_of shown.old.items ++ map (λ l. station.Literal l) literals.now) }
     ensures texts { OnOk result (All HasItsText shown.old.items → All HasItsText shown.new.items) }
 {
     for literal in literals {
@@ -42,7 +44,9 @@ fn add_literals(shown: &mut Vec<Shown>, literals: &[Text]) -> Result<(), AllocEr
 
 /// Adds the parts of these prefixes.
 fn add_prefixes(alloc: Global, shown: &mut Vec<Shown>, prefixes: &[Text]) -> Result<(), AllocError>
-    ensures parts { OnOk result (map part_of shown.new.items ≡ map part_of shown.old.items ++ map (λ p. station.Prefix p) prefixes.now) }
+    ensures parts { OnOk result
+        (map part_of shown.new.items
+        ≡ map part_of shown.old.items ++ map (λ p. station.Prefix p) prefixes.now) }
     ensures texts { OnOk result (All HasItsText shown.old.items → All HasItsText shown.new.items) }
 {
     for prefix in prefixes {
@@ -66,7 +70,9 @@ fn rest(alloc: Global) -> Result<Shown, AllocError>
 
 /// All parts, each with its text.
 fn shown_of(alloc: Global, values: &StationValues) -> Result<Vec<Shown>, AllocError>
-    ensures parts { IfOk result (λ v. map part_of v.items ≡ map (λ l. station.Literal l) values.now.literals ++ map (λ p. station.Prefix p) values.now.prefixes ++ station.Rest ∷ []) }
+    ensures parts { IfOk result (λ v. map part_of v.items
+        ≡ map (λ l. station.Literal l) values.now.literals
+        ++ map (λ p. station.Prefix p) values.now.prefixes ++ station.Rest ∷ []) }
     ensures texts { IfOk result (λ v. All HasItsText v.items) }
 {
     let mut shown = Vec::new(alloc);
@@ -76,8 +82,8 @@ fn shown_of(alloc: Global, values: &StationValues) -> Result<Vec<Shown>, AllocEr
     Ok(shown)
 }
 
-/// The parts of the stations in the byte order in which they are printed: its literals, its prefixes, each with `*`
-/// behind it, and the rest as `*`.
+/// The parts of the stations in the byte order in which they are printed: its literals, its
+/// prefixes, each with `*` behind it, and the rest as `*`.
 pub fn stations_of(alloc: Global, values: &StationValues) -> Result<Seq<OwnedStation>, AllocError>
     ensures same { IfOk result (AreStationParts values.now) }
     ensures ordered { IfOk result (IsInPrintedOrder printed_station) }

@@ -4,7 +4,10 @@ ghost use Rattle.dr_base.specs.Texts.{Text as Words, IsInByteOrder};
 ghost use Rattle.dr_plan_model.specs.Plans.{IsWellFormed, literals_of};
 ghost use Rattle.dr_route.specs.Laws.{IsPart, IsStationPart};
 ghost use Rattle.dr_plan_model.specs.declared.plan.Flow.{Flow as FlowValue};
-ghost use Rattle.dr_plan_entries.specs.Entering.{AllBelow, EachSpeaks, AreParts, HasParts, HasClasses, HasSites, FitsAll, FitsClass, FitsModality, FitsSyntax, WantsSite, WantsClass, WantsSyntax, WantsModality, WantsStation};
+ghost use Rattle.dr_plan_entries.specs.Entering.{AllBelow, EachSpeaks, AreParts, HasParts};
+ghost use Rattle.dr_plan_entries.specs.Entering.{HasClasses, HasSites, FitsAll, FitsClass};
+ghost use Rattle.dr_plan_entries.specs.Entering.{FitsModality, FitsSyntax, WantsSite, WantsClass};
+ghost use Rattle.dr_plan_entries.specs.Entering.{WantsSyntax, WantsModality, WantsStation};
 ghost use Rattle.dr_plan_entries.specs.Listing.{IsFieldRow, IsStationRow};
 ghost use Rattle.dr_plan_entries.specs.Visiting.{AfterVisits, IsEntryCell};
 
@@ -65,7 +68,13 @@ fn cell_from(
     modality: &OwnedField,
     station: &OwnedStation,
 ) -> Result<OwnedCell, AllocError>
-    ensures { IfOk result (λ c. c ≡ record { class = class.now; syntax = syntax; modality = modality.now; station = station.now }) }
+    ensures { IfOk result (λ c. c
+        ≡ record {
+          class = class.now;
+          syntax = syntax;
+          modality = modality.now;
+          station = station.now;
+        }) }
 {
     Ok(OwnedCell {
         class: class.clone()?,
@@ -83,7 +92,8 @@ fn copy_stations(stations: &Seq<OwnedStation>) -> Result<Seq<OwnedStation>, Allo
 }
 
 impl<'a> Sweep<'a> {
-    /// The stations that the flows at the places list, where they take in no others, and else all that the plan names.
+    /// The stations that the flows at the places list, where they take in no others, and else all
+    /// that the plan names.
     fn stations_for(&self, among: &[usize]) -> Result<Seq<OwnedStation>, AllocError>
         requires parts { HasParts self.now.plan.now self.now.modalities self.now.stations }
         requires below { AllBelow among.now self.now.plan.now.flows }
@@ -119,9 +129,14 @@ impl<'a> Sweep<'a> {
         requires ready { V.is_ready visitor.old }
         requires modality_part { IsPart (literals_of self.now.plan.now).modalities modality.now }
         requires station_part { IsStationPart (literals_of self.now.plan.now).stations station.now }
-        requires fit { (flow : FlowValue) → (k : ℕ) → Contains among.now k → slice_get self.now.plan.now.flows k ≡ Some flow → FitsModality flow site.now class.now syntax modality.now }
+        requires fit { (flow : FlowValue) → (k : ℕ) → Contains among.now k
+            → slice_get self.now.plan.now.flows k ≡ Some flow
+            → FitsModality flow site.now class.now syntax modality.now }
         requires below { AllBelow among.now self.now.plan.now.flows }
-        ensures { IfOk result (AfterVisits V.plan V.is_ready V.has_visited V.shows (WantsStation self.now.plan.now site.now class.now syntax modality.now station.now among.now) visitor.old visitor.new) }
+        ensures { IfOk result
+            (AfterVisits V.plan V.is_ready V.has_visited V.shows
+            (WantsStation self.now.plan.now site.now class.now syntax modality.now station.now
+            among.now) visitor.old visitor.new) }
     {
         let part = Part::Station(station);
         let Some(_) = first_that_speaks(self.plan.flows(), self.plan.listed(), among, &part) else {
@@ -147,9 +162,14 @@ impl<'a> Sweep<'a> {
         requires ready { V.is_ready visitor.old }
         requires modality_part { IsPart (literals_of self.now.plan.now).modalities modality.now }
         requires row { IsStationRow self.now.plan.now among.now row.now }
-        requires fit { (flow : FlowValue) → (k : ℕ) → Contains among.now k → slice_get self.now.plan.now.flows k ≡ Some flow → FitsModality flow site.now class.now syntax modality.now }
+        requires fit { (flow : FlowValue) → (k : ℕ) → Contains among.now k
+            → slice_get self.now.plan.now.flows k ≡ Some flow
+            → FitsModality flow site.now class.now syntax modality.now }
         requires below { AllBelow among.now self.now.plan.now.flows }
-        ensures { IfOk result (AfterVisits V.plan V.is_ready V.has_visited V.shows (WantsModality self.now.plan.now site.now class.now syntax modality.now among.now) visitor.old visitor.new) }
+        ensures { IfOk result
+            (AfterVisits V.plan V.is_ready V.has_visited V.shows
+            (WantsModality self.now.plan.now site.now class.now syntax modality.now among.now)
+            visitor.old visitor.new) }
     {
         for station in row {
             let found = self.visit_station(visitor, site, class, syntax, modality, station, among)?;
@@ -160,8 +180,8 @@ impl<'a> Sweep<'a> {
         Ok(None)
     }
 
-    /// Visits the entries of this modality: at the stations that the flows at the places list, where they take in no
-    /// others, and else at all that the plan names.
+    /// Visits the entries of this modality: at the stations that the flows at the places list,
+    /// where they take in no others, and else at all that the plan names.
     fn visit_modality<V: EntryVisitor>(
         &self,
         visitor: &mut V,
@@ -175,9 +195,14 @@ impl<'a> Sweep<'a> {
         requires ready { V.is_ready visitor.old }
         requires parts { HasParts self.now.plan.now self.now.modalities self.now.stations }
         requires modality_part { IsPart (literals_of self.now.plan.now).modalities modality.now }
-        requires fit { (flow : FlowValue) → (k : ℕ) → Contains among.now k → slice_get self.now.plan.now.flows k ≡ Some flow → FitsModality flow site.now class.now syntax modality.now }
+        requires fit { (flow : FlowValue) → (k : ℕ) → Contains among.now k
+            → slice_get self.now.plan.now.flows k ≡ Some flow
+            → FitsModality flow site.now class.now syntax modality.now }
         requires below { AllBelow among.now self.now.plan.now.flows }
-        ensures { IfOk result (AfterVisits V.plan V.is_ready V.has_visited V.shows (WantsModality self.now.plan.now site.now class.now syntax modality.now among.now) visitor.old visitor.new) }
+        ensures { IfOk result
+            (AfterVisits V.plan V.is_ready V.has_visited V.shows
+            (WantsModality self.now.plan.now site.now class.now syntax modality.now among.now)
+            visitor.old visitor.new) }
     {
         let named = names_in(
             self.alloc,
@@ -197,8 +222,8 @@ impl<'a> Sweep<'a> {
         Ok(found)
     }
 
-    /// Visits the entries of this modality: at the stations of the row where the places are those for which it was made, and
-    /// else at those that the flows at the places list.
+    /// Visits the entries of this modality: at the stations of the row where the places are those
+    /// for which it was made, and else at those that the flows at the places list.
     fn visit_left<V: EntryVisitor>(
         &self,
         visitor: &mut V,
@@ -215,9 +240,14 @@ impl<'a> Sweep<'a> {
         requires parts { HasParts self.now.plan.now self.now.modalities self.now.stations }
         requires modality_part { IsPart (literals_of self.now.plan.now).modalities modality.now }
         requires row { IsStationRow self.now.plan.now among.now row.now }
-        requires fit { (flow : FlowValue) → (k : ℕ) → Contains among.now k → slice_get self.now.plan.now.flows k ≡ Some flow → FitsModality flow site.now class.now syntax modality.now }
+        requires fit { (flow : FlowValue) → (k : ℕ) → Contains among.now k
+            → slice_get self.now.plan.now.flows k ≡ Some flow
+            → FitsModality flow site.now class.now syntax modality.now }
         requires below { AllBelow among.now self.now.plan.now.flows }
-        ensures { IfOk result (AfterVisits V.plan V.is_ready V.has_visited V.shows (WantsModality self.now.plan.now site.now class.now syntax modality.now among.now) visitor.old visitor.new) }
+        ensures { IfOk result
+            (AfterVisits V.plan V.is_ready V.has_visited V.shows
+            (WantsModality self.now.plan.now site.now class.now syntax modality.now among.now)
+            visitor.old visitor.new) }
     {
         if are_all {
             let found = self.visit_stations(visitor, site, class, syntax, modality, row, among)?;
@@ -227,7 +257,8 @@ impl<'a> Sweep<'a> {
         Ok(later)
     }
 
-    /// Visits the entries of this transfer syntax at the modalities of the row, modality by modality.
+    /// Visits the entries of this transfer syntax at the modalities of the row, modality by
+    /// modality.
     fn visit_modalities<V: EntryVisitor>(
         &self,
         visitor: &mut V,
@@ -243,9 +274,14 @@ impl<'a> Sweep<'a> {
         requires parts { HasParts self.now.plan.now self.now.modalities self.now.stations }
         requires row { IsFieldRow self.now.plan.now among.now row.now }
         requires stations { IsStationRow self.now.plan.now among.now stations.now }
-        requires fit { (flow : FlowValue) → (k : ℕ) → Contains among.now k → slice_get self.now.plan.now.flows k ≡ Some flow → FitsSyntax flow site.now class.now syntax }
+        requires fit { (flow : FlowValue) → (k : ℕ) → Contains among.now k
+            → slice_get self.now.plan.now.flows k ≡ Some flow
+            → FitsSyntax flow site.now class.now syntax }
         requires below { AllBelow among.now self.now.plan.now.flows }
-        ensures { IfOk result (AfterVisits V.plan V.is_ready V.has_visited V.shows (WantsSyntax self.now.plan.now site.now class.now syntax among.now) visitor.old visitor.new) }
+        ensures { IfOk result
+            (AfterVisits V.plan V.is_ready V.has_visited V.shows
+            (WantsSyntax self.now.plan.now site.now class.now syntax among.now) visitor.old
+            visitor.new) }
     {
         for modality in row {
             let part = Part::Modality(modality);
@@ -268,8 +304,8 @@ impl<'a> Sweep<'a> {
         Ok(None)
     }
 
-    /// Visits the entries of this transfer syntax: at the modalities that the flows at the places list, where they take
-    /// in no others, and else at all that the plan names.
+    /// Visits the entries of this transfer syntax: at the modalities that the flows at the places
+    /// list, where they take in no others, and else at all that the plan names.
     fn visit_syntax<V: EntryVisitor>(
         &self,
         visitor: &mut V,
@@ -281,9 +317,14 @@ impl<'a> Sweep<'a> {
         requires plan { V.plan visitor.old ≡ self.now.plan.now }
         requires ready { V.is_ready visitor.old }
         requires parts { HasParts self.now.plan.now self.now.modalities self.now.stations }
-        requires fit { (flow : FlowValue) → (k : ℕ) → Contains among.now k → slice_get self.now.plan.now.flows k ≡ Some flow → FitsSyntax flow site.now class.now syntax }
+        requires fit { (flow : FlowValue) → (k : ℕ) → Contains among.now k
+            → slice_get self.now.plan.now.flows k ≡ Some flow
+            → FitsSyntax flow site.now class.now syntax }
         requires below { AllBelow among.now self.now.plan.now.flows }
-        ensures { IfOk result (AfterVisits V.plan V.is_ready V.has_visited V.shows (WantsSyntax self.now.plan.now site.now class.now syntax among.now) visitor.old visitor.new) }
+        ensures { IfOk result
+            (AfterVisits V.plan V.is_ready V.has_visited V.shows
+            (WantsSyntax self.now.plan.now site.now class.now syntax among.now) visitor.old
+            visitor.new) }
     {
         let own = self.stations_for(among)?;
         let stations = own.as_slice();
@@ -317,9 +358,14 @@ impl<'a> Sweep<'a> {
         requires plan { V.plan visitor.old ≡ self.now.plan.now }
         requires ready { V.is_ready visitor.old }
         requires parts { HasParts self.now.plan.now self.now.modalities self.now.stations }
-        requires fit { (flow : FlowValue) → (k : ℕ) → Contains among.now k → slice_get self.now.plan.now.flows k ≡ Some flow → FitsClass flow site.now class.now }
+        requires fit { (flow : FlowValue) → (k : ℕ) → Contains among.now k
+            → slice_get self.now.plan.now.flows k ≡ Some flow
+            → FitsClass flow site.now class.now }
         requires below { AllBelow among.now self.now.plan.now.flows }
-        ensures { IfOk result (AfterVisits V.plan V.is_ready V.has_visited V.shows (WantsSyntax self.now.plan.now site.now class.now syntax among.now) visitor.old visitor.new) }
+        ensures { IfOk result
+            (AfterVisits V.plan V.is_ready V.has_visited V.shows
+            (WantsSyntax self.now.plan.now site.now class.now syntax among.now) visitor.old
+            visitor.new) }
     {
         let part = Part::Syntax(syntax);
         let here = narrowed(
@@ -344,9 +390,13 @@ impl<'a> Sweep<'a> {
         requires plan { V.plan visitor.old ≡ self.now.plan.now }
         requires ready { V.is_ready visitor.old }
         requires parts { HasParts self.now.plan.now self.now.modalities self.now.stations }
-        requires fit { (flow : FlowValue) → (k : ℕ) → Contains among.now k → slice_get self.now.plan.now.flows k ≡ Some flow → FitsClass flow site.now class.now }
+        requires fit { (flow : FlowValue) → (k : ℕ) → Contains among.now k
+            → slice_get self.now.plan.now.flows k ≡ Some flow
+            → FitsClass flow site.now class.now }
         requires below { AllBelow among.now self.now.plan.now.flows }
-        ensures { IfOk result (AfterVisits V.plan V.is_ready V.has_visited V.shows (WantsClass self.now.plan.now site.now class.now among.now) visitor.old visitor.new) }
+        ensures { IfOk result
+            (AfterVisits V.plan V.is_ready V.has_visited V.shows
+            (WantsClass self.now.plan.now site.now class.now among.now) visitor.old visitor.new) }
     {
         let found = self.visit_class_in(visitor, site, class, Syntax::Implicit, among)?;
         if found.is_some() {
@@ -366,9 +416,13 @@ impl<'a> Sweep<'a> {
         requires plan { V.plan visitor.old ≡ self.now.plan.now }
         requires ready { V.is_ready visitor.old }
         requires parts { HasParts self.now.plan.now self.now.modalities self.now.stations }
-        requires fit { (flow : FlowValue) → (k : ℕ) → Contains among.now k → slice_get self.now.plan.now.flows k ≡ Some flow → flow.at ≡ site.now }
+        requires fit { (flow : FlowValue) → (k : ℕ) → Contains among.now k
+            → slice_get self.now.plan.now.flows k ≡ Some flow
+            → flow.at ≡ site.now }
         requires below { AllBelow among.now self.now.plan.now.flows }
-        ensures { IfOk result (AfterVisits V.plan V.is_ready V.has_visited V.shows (WantsSite self.now.plan.now site.now among.now) visitor.old visitor.new) }
+        ensures { IfOk result
+            (AfterVisits V.plan V.is_ready V.has_visited V.shows
+            (WantsSite self.now.plan.now site.now among.now) visitor.old visitor.new) }
     {
         let classes = classes_of(self.alloc, self.plan.flows(), among)?;
         for class in classes.as_slice() {
@@ -393,7 +447,9 @@ impl<'a> Sweep<'a> {
         requires plan { V.plan visitor.old ≡ self.now.plan.now }
         requires ready { V.is_ready visitor.old }
         requires parts { HasParts self.now.plan.now self.now.modalities self.now.stations }
-        ensures { IfOk result (AfterVisits V.plan V.is_ready V.has_visited V.shows (IsEntryCell self.now.plan.now) visitor.old visitor.new) }
+        ensures { IfOk result
+            (AfterVisits V.plan V.is_ready V.has_visited V.shows (IsEntryCell self.now.plan.now)
+            visitor.old visitor.new) }
     {
         let all = places_of(self.alloc, self.plan.flows())?;
         let sites = sites_of(self.alloc, self.plan.flows())?;
@@ -415,8 +471,9 @@ impl<'a> Sweep<'a> {
     }
 }
 
-/// Visits all entries of the plan, in byte order of node, class, transfer syntax, modality and station as they
-/// are printed, until the visitor finds something: at the first of them at which it does.
+/// Visits all entries of the plan, in byte order of node, class, transfer syntax, modality and
+/// station as they are printed, until the visitor finds something: at the first of them at which it
+/// does.
 pub fn visit_entries<V: EntryVisitor>(
     alloc: Global,
     plan: &Plan,
@@ -424,7 +481,9 @@ pub fn visit_entries<V: EntryVisitor>(
 ) -> Result<Option<V::Finding>, AllocError>
     requires plan { V.plan visitor.old ≡ plan.now }
     requires ready { V.is_ready visitor.old }
-    ensures { IfOk result (AfterVisits V.plan V.is_ready V.has_visited V.shows (IsEntryCell plan.now) visitor.old visitor.new) }
+    ensures { IfOk result
+        (AfterVisits V.plan V.is_ready V.has_visited V.shows (IsEntryCell plan.now) visitor.old
+        visitor.new) }
 {
     let literals = literals(alloc, plan)?;
     let sweep = Sweep {

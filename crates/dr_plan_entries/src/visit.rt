@@ -34,5 +34,6 @@ pub trait EntryVisitor {
         requires ready { is_ready self.old }
         requires cell { IsCellOf (plan self.old) cell.now }
         requires entry { IsEntry (plan self.old) site.now (key_of cell.now) }
-        ensures { IfOk result (AfterVisit plan is_ready has_visited shows site.now cell.now self.old self.new) };
+        ensures { IfOk result
+            (AfterVisit plan is_ready has_visited shows site.now cell.now self.old self.new) };
 }

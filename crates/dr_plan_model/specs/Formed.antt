@@ -1,5 +1,7 @@
--- Well-formed plans: names, addresses, classes and literals, names that exist, and the limits of a plan.
-use Rattle.std.specs.Prelude.{◌≡◌, ◌≢◌, ℕ, ◌≤◌, ◌<◌, ◌+◌, ◌⊎◌, List, [], ◌∷◌, ◌++◌, length, codes, All, AllPairs, Contains, sum_by}
+-- Well-formed plans: names, addresses, classes and literals, names that exist, and the limits of a
+-- plan.
+use Rattle.std.specs.Prelude.{◌≡◌, ◌≢◌, ℕ, ◌≤◌, ◌<◌, ◌+◌, ◌⊎◌, List, [], ◌∷◌, ◌++◌, length, codes}
+use Rattle.std.specs.Prelude.{All, AllPairs, Contains, sum_by}
 use Rattle.std.specs.Str.Parse.{digits_value}
 use Rattle.dr_base.specs.Texts.{Text}
 use Rattle.dr_route.specs.declared.rule.Pattern.{Pattern}
@@ -105,7 +107,8 @@ pub record IsAcceptRow (nodes : List Node) (row : AcceptRow) : Type 0 where
   pub some : row.syntaxes ≢ []
   pub apart : AllPairs (λ a b. a ≢ b) row.syntaxes
 
--- a node of a plan: its title, address and greatest length, its accept rows and its rules are each of the right form
+-- a node of a plan: its title, address and greatest length, its accept rows and its rules are each
+-- of the right form
 pub record IsWellFormedNode (nodes : List Node) (node : Node) : Type 0 where
   pub name : IsName node.name
   pub address : IsAddress node.address
@@ -123,7 +126,8 @@ abbrev pub AreStations : Stations → Type 0
 AreStations stations.Any = Unit {0}
 AreStations (stations.Listed values) = All IsLiteral values.literals × All IsPrefix values.prefixes
 
--- a flow of a plan: from one node to another, with classes, transfer syntaxes, and values of the right form
+-- a flow of a plan: from one node to another, with classes, transfer syntaxes, and values of the
+-- right form
 pub record IsWellFormedFlow (nodes : List Node) (flow : Flow) : Type 0 where
   pub at : IsKnownName nodes flow.at
   pub to : IsKnownName nodes flow.to
@@ -135,10 +139,13 @@ pub record IsWellFormedFlow (nodes : List Node) (flow : Flow) : Type 0 where
 
 -- the format has what the nodes and flows name: in format 1 there is no prefix
 abbrev pub IsInFormat : Format → List Node → List Flow → Type 0
-IsInFormat One nodes flows = All (λ node. All (λ rule. prefix_of rule.station ≡ []) node.rules) nodes × All (λ flow. listed_prefixes flow.stations ≡ []) flows
+IsInFormat One nodes flows =
+    All (λ node. All (λ rule. prefix_of rule.station ≡ []) node.rules) nodes
+    × All (λ flow. listed_prefixes flow.stations ≡ []) flows
 IsInFormat Two nodes flows = Unit {0}
 
--- the nodes and flows of a plan of that format: at most 64 nodes, each name once, and at most 1,024 rules and flows together
+-- the nodes and flows of a plan of that format: at most 64 nodes, each name once, and at most 1,024
+-- rules and flows together
 pub record AreWellFormed (format : Format) (nodes : List Node) (flows : List Flow) : Type 0 where
   pub few_nodes : length nodes ≤ 64
   pub few_rules : sum_by (λ node. length node.rules) nodes + length flows ≤ 1024

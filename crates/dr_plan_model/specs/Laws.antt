@@ -19,48 +19,78 @@ LocalNeverKeeps = (plan : Network) (name : Text) (key : Key) → Keeps plan name
 
 -- no node is named as the local caller
 abbrev pub LocalIsNoNode : Type 0
-LocalIsNoNode = (plan : Network) → IsWellFormed plan → (name caller : Text) (key : Key) → Sends plan name caller key local → ⊥
+LocalIsNoNode =
+    (plan : Network) → IsWellFormed plan
+    → (name caller : Text) (key : Key)
+    → Sends plan name caller key local
+    → ⊥
 
 -- keys of one cell of the plan are sent alike
 abbrev pub SendAlike : Type 0
-SendAlike = (plan : Network) (cell : OwnedCell) (k l : Key) → LiesIn plan cell k → LiesIn plan cell l → (name caller to : Text) → Sends plan name caller k to → Sends plan name caller l to
+SendAlike =
+    (plan : Network) (cell : OwnedCell) (k l : Key)
+    → LiesIn plan cell k → LiesIn plan cell l → (name caller to : Text)
+    → Sends plan name caller k to
+    → Sends plan name caller l to
 
 -- keys of one cell of the plan are kept alike
 abbrev pub KeepAlike : Type 0
-KeepAlike = (plan : Network) (cell : OwnedCell) (k l : Key) → LiesIn plan cell k → LiesIn plan cell l → (name caller : Text) → Keeps plan name caller k → Keeps plan name caller l
+KeepAlike =
+    (plan : Network) (cell : OwnedCell) (k l : Key)
+    → LiesIn plan cell k → LiesIn plan cell l → (name caller : Text) → Keeps plan name caller k
+    → Keeps plan name caller l
 
 -- keys of one cell of the plan enter at the same sites
 abbrev pub EnterAlike : Type 0
-EnterAlike = (plan : Network) (cell : OwnedCell) (k l : Key) → LiesIn plan cell k → LiesIn plan cell l → (site : Text) → IsEntry plan site k → IsEntry plan site l
+EnterAlike =
+    (plan : Network) (cell : OwnedCell) (k l : Key)
+    → LiesIn plan cell k → LiesIn plan cell l → (site : Text) → IsEntry plan site k
+    → IsEntry plan site l
 
 -- keys of one cell of the plan walk alike
 abbrev pub WalkAlike : Type 0
-WalkAlike = (plan : Network) (cell : OwnedCell) (k l : Key) → LiesIn plan cell k → LiesIn plan cell l →
-    (caller name : Text) (over : List Text) → IsWalk plan k caller name over → IsWalk plan l caller name over
+WalkAlike =
+    (plan : Network) (cell : OwnedCell) (k l : Key)
+    → LiesIn plan cell k → LiesIn plan cell l
+    → (caller name : Text) (over : List Text)
+    → IsWalk plan k caller name over
+    → IsWalk plan l caller name over
 
 -- keys of one cell of the plan are brought to the same nodes by the same callers
 abbrev pub ReachAlike : Type 0
-ReachAlike = (plan : Network) (cell : OwnedCell) (k l : Key) → LiesIn plan cell k → LiesIn plan cell l → (caller name : Text) → IsReached plan k caller name → IsReached plan l caller name
+ReachAlike =
+    (plan : Network) (cell : OwnedCell) (k l : Key)
+    → LiesIn plan cell k → LiesIn plan cell l → (caller name : Text)
+    → IsReached plan k caller name
+    → IsReached plan l caller name
 
 -- a cell of the plan: its two parts are parts of the plan's fields
 abbrev pub IsCellOf : Network → OwnedCell → Type 0
-IsCellOf plan cell = IsPart (literals_of plan).modalities cell.modality × IsStationPart (literals_of plan).stations cell.station
+IsCellOf plan cell =
+    IsPart (literals_of plan).modalities cell.modality
+    × IsStationPart (literals_of plan).stations cell.station
 
 -- each cell of a plan has a key of bytes
 abbrev pub EachCellHasAKey : Type 0
-EachCellHasAKey = (plan : Network) → IsWellFormed plan → (cell : OwnedCell) → IsCellOf plan cell → LiesIn plan cell (key_of cell)
+EachCellHasAKey =
+    (plan : Network) → IsWellFormed plan → (cell : OwnedCell) → IsCellOf plan cell
+    → LiesIn plan cell (key_of cell)
 
 -- a plan of format 1 names no prefix
 abbrev pub FormatOneHasNoPrefix : Type 0
-FormatOneHasNoPrefix = (plan : Network) → IsWellFormed plan → plan.format ≡ One → prefixes_of plan ≡ []
+FormatOneHasNoPrefix =
+    (plan : Network) → IsWellFormed plan → plan.format ≡ One → prefixes_of plan ≡ []
 
 -- the parts of the stations where there are no prefixes: one of these literals, or none of them
 abbrev pub InPlainField : List Text → OwnedStation → Text → Type 0
-InPlainField literals (station.Literal literal) value = Contains literals literal × (literal ≡ value)
+InPlainField literals (station.Literal literal) value =
+    Contains literals literal × (literal ≡ value)
 InPlainField literals (station.Prefix prefix) value = ⊥
 InPlainField literals station.Rest value = Contains literals value → ⊥
 
 -- the stations of a plan of format 1 lie in the parts in which they lay before there were prefixes
 abbrev pub FormatOneKeepsItsCells : Type 0
-FormatOneKeepsItsCells = (plan : Network) → IsWellFormed plan → plan.format ≡ One →
-    (part : OwnedStation) (value : Text) → InStation (literals_of plan).stations part value ↔ InPlainField (stations_of plan) part value
+FormatOneKeepsItsCells =
+    (plan : Network) → IsWellFormed plan → plan.format ≡ One
+    → (part : OwnedStation) (value : Text)
+    → InStation (literals_of plan).stations part value ↔ InPlainField (stations_of plan) part value

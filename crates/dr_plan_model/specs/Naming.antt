@@ -12,7 +12,8 @@ use Rattle.dr_plan_model.specs.declared.plan.Values.TheVariants as values
 use Rattle.dr_plan_model.specs.declared.plan.Stations.{Stations}
 use Rattle.dr_plan_model.specs.declared.plan.Stations.TheVariants as stations
 use Rattle.dr_plan_model.specs.declared.literals.Attribute.{Attribute}
-use Rattle.dr_plan_model.specs.declared.literals.Attribute.TheVariants.{Modality, Station, StationPrefix}
+use Rattle.dr_plan_model.specs.declared.literals.Attribute.TheVariants.{Modality, Station}
+use Rattle.dr_plan_model.specs.declared.literals.Attribute.TheVariants.{StationPrefix}
 
 -- the literal of a pattern, if it has one
 abbrev pub literal_of : Pattern → List Text

@@ -7,7 +7,8 @@ use Rattle.dr_route.specs.declared.key.Key.{Key}
 use Rattle.dr_route.specs.Cells.{InCell}
 use Rattle.dr_plan_model.specs.declared.plan.Node.{Node}
 use Rattle.dr_plan_model.specs.declared.literals.Attribute.{Attribute}
-use Rattle.dr_plan_model.specs.declared.literals.Attribute.TheVariants.{Modality, Station, StationPrefix}
+use Rattle.dr_plan_model.specs.declared.literals.Attribute.TheVariants.{Modality, Station}
+use Rattle.dr_plan_model.specs.declared.literals.Attribute.TheVariants.{StationPrefix}
 use Rattle.dr_plan_model.specs.Networks.{Network}
 use Rattle.dr_plan_model.specs.Naming.{named_by_rules, named_by_flows}
 use Rattle.dr_plan_model.specs.Formed.{AreWellFormed}
@@ -22,7 +23,8 @@ IsNode plan name node = Contains plan.nodes node × (node.name ≡ name)
 
 -- the one node of the plan with that name
 abbrev pub IsTheNode : Network → Text → Node → Type 0
-IsTheNode plan name node = IsNode plan name node × ((other : Node) → IsNode plan name other → other ≡ node)
+IsTheNode plan name node =
+    IsNode plan name node × ((other : Node) → IsNode plan name other → other ≡ node)
 
 -- no node of the plan has that name
 abbrev pub NamesNoNode : Network → Text → Type 0
@@ -30,7 +32,9 @@ NamesNoNode plan name = (node : Node) → IsNode plan name node → ⊥
 
 -- the values that the plan names, in its rules and in its flows
 abbrev pub named_in : Attribute → Network → List Text
-named_in attribute plan = flat_map (λ (node : Node). named_by_rules attribute node.rules) plan.nodes ++ named_by_flows attribute plan.flows
+named_in attribute plan =
+    flat_map (λ (node : Node). named_by_rules attribute node.rules) plan.nodes
+    ++ named_by_flows attribute plan.flows
 
 -- the modalities that the plan names
 abbrev pub modalities_of : Network → List Text
@@ -46,7 +50,10 @@ prefixes_of plan = named_in StationPrefix plan
 
 -- the modalities and stations that the plan names, which part all keys into cells
 abbrev pub literals_of : Network → Literals
-literals_of plan = record { modalities = record { literals = modalities_of plan }; stations = record { literals = stations_of plan; prefixes = prefixes_of plan } }
+literals_of plan = record {
+  modalities = record { literals = modalities_of plan };
+  stations = record { literals = stations_of plan; prefixes = prefixes_of plan };
+}
 
 -- the key lies in that cell of the plan
 abbrev pub LiesIn : Network → OwnedCell → Key → Type 0

@@ -1,5 +1,5 @@
-//! Where what enters at a site goes first. Values are looked for in the sets that are made of the flows' lists, and not in
-//! the lists.
+//! Where what enters at a site goes first. Values are looked for in the sets that are made of the
+//! flows' lists, and not in the lists.
 ghost use Rattle.std.specs.Prelude.{◌≡◌, ◌↔◌, ◌⊎◌, IsTrue, IfOk, Contains, false};
 ghost use Rattle.dr_base.specs.Texts.{Text as Words, IsInByteOrder};
 ghost use Rattle.dr_route.specs.Names.{HasName};
@@ -68,13 +68,14 @@ fn brings_to_another(
 ) -> bool
     requires { IsListedBy flow.now listed.now }
     ensures another { IsTrue result → (flow.now.at ≡ site.now) × Fits flow.now key.now }
-    ensures none { result ≡ false → HasName names.now flow.now.to ⊎ ((flow.now.at ≡ site.now) × Fits flow.now key.now → ⊥) }
+    ensures none { result ≡ false
+        → HasName names.now flow.now.to ⊎ ((flow.now.at ≡ site.now) × Fits flow.now key.now → ⊥) }
 {
     !has_name(names, &flow.to) && flow.at == *site && fits_by(flow, listed, key)
 }
 
-/// The nodes that those of the flows that are at the site send the key to, in byte order and each once. A flow to a
-/// node that is among them already isn't looked into.
+/// The nodes that those of the flows that are at the site send the key to, in byte order and each
+/// once. A flow to a node that is among them already isn't looked into.
 fn targets_by(
     alloc: Global,
     flows: &[Flow],
@@ -83,7 +84,8 @@ fn targets_by(
     key: &Key,
 ) -> Result<Seq<Text>, AllocError>
     requires { AreListedBy flows.now all.now }
-    ensures to { IfOk result (λ seq. (name : Words) → Contains seq name ↔ FlowsAmong flows.now site.now key.now name) }
+    ensures to { IfOk result (λ seq.
+        (name : Words) → Contains seq name ↔ FlowsAmong flows.now site.now key.now name) }
     ensures ordered { IfOk result IsInByteOrder }
 {
     let mut names = BTreeSet::new(alloc);
@@ -97,14 +99,16 @@ fn targets_by(
     Ok(to)
 }
 
-/// The nodes that the plan's flows send the key to that enters at the site, in byte order and each once.
+/// The nodes that the plan's flows send the key to that enters at the site, in byte order and each
+/// once.
 pub fn first_targets(
     alloc: Global,
     plan: &Plan,
     site: &Text,
     key: &Key,
 ) -> Result<Seq<Text>, AllocError>
-    ensures to { IfOk result (λ seq. (name : Words) → Contains seq name ↔ Flows plan.now site.now key.now name) }
+    ensures to { IfOk result (λ seq.
+        (name : Words) → Contains seq name ↔ Flows plan.now site.now key.now name) }
     ensures ordered { IfOk result IsInByteOrder }
 {
     let to = targets_by(alloc, plan.flows(), plan.listed(), site, key)?;

@@ -1,5 +1,7 @@
 //! Laws of walks: what a reader may take from the definitions.
-ghost use Rattle.dr_plan_model.specs.Laws.{LocalNeverKeeps, LocalIsNoNode, SendAlike, KeepAlike, EnterAlike, WalkAlike, ReachAlike, EachCellHasAKey, FormatOneHasNoPrefix, FormatOneKeepsItsCells};
+ghost use Rattle.dr_plan_model.specs.Laws.{LocalNeverKeeps, LocalIsNoNode, SendAlike, KeepAlike};
+ghost use Rattle.dr_plan_model.specs.Laws.{EnterAlike, WalkAlike, ReachAlike, EachCellHasAKey};
+ghost use Rattle.dr_plan_model.specs.Laws.{FormatOneHasNoPrefix, FormatOneKeepsItsCells};
 
 /// Nothing is kept for the local caller, and nothing is sent to it.
 pub fn the_local_caller_is_no_node()
@@ -21,7 +23,8 @@ pub fn each_cell_has_a_key()
     ensures { EachCellHasAKey }
 {}
 
-/// A plan of format 1 names no prefix of stations, and its cells are those that there were before there were prefixes.
+/// A plan of format 1 names no prefix of stations, and its cells are those that there were before
+/// there were prefixes.
 pub fn format_1_has_no_prefix()
     ensures none { FormatOneHasNoPrefix }
     ensures cells { FormatOneKeepsItsCells }

@@ -1,5 +1,5 @@
-//! The plan of a network of nodes, as it is once it has been read: what each node sends, keeps and accepts,
-//! and the walks of instances through it.
+//! The plan of a network of nodes, as it is once it has been read: what each node sends, keeps and
+//! accepts, and the walks of instances through it.
 #![tactic(auto)]
 
 pub mod entering;

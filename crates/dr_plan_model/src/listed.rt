@@ -8,7 +8,8 @@ use dr_base::{Seq, Text};
 use dr_route::names::set_of;
 use std::alloc::{AllocError, Global};
 
-/// The modalities and the single stations that a flow lists, each as a set: in byte order and each once.
+/// The modalities and the single stations that a flow lists, each as a set: in byte order and each
+/// once.
 #[derive(Clone, Debug, Drop)]
 pub struct Listed {
     pub modalities: Seq<Text>,

@@ -3,7 +3,9 @@ ghost use Rattle.std.specs.Prelude.{◌≡◌, ◌↔◌, ◌⊎◌, IfOk, OnOk,
 ghost use Rattle.dr_base.specs.Texts.{Text as Words, IsInByteOrder};
 ghost use Rattle.dr_route.specs.Names.{HasName};
 ghost use Rattle.dr_route.specs.Cells.{AreInOrder};
-ghost use Rattle.dr_plan_model.specs.Naming.{literal_of, station_of, prefix_of, listed, listed_stations, listed_prefixes, named_by_rule, named_by_flow, named_by_rules, named_by_flows};
+ghost use Rattle.dr_plan_model.specs.Naming.{literal_of, station_of, prefix_of, listed};
+ghost use Rattle.dr_plan_model.specs.Naming.{listed_stations, listed_prefixes, named_by_rule};
+ghost use Rattle.dr_plan_model.specs.Naming.{named_by_flow, named_by_rules, named_by_flows};
 ghost use Rattle.dr_plan_model.specs.Plans.{modalities_of, stations_of, prefixes_of, named_in};
 
 use crate::plan::{Flow, Plan, Stations, Values};
@@ -117,7 +119,10 @@ fn add_rules(
     attribute: Attribute,
     rules: &[Rule],
 ) -> Result<(), AllocError>
-    ensures { OnOk result ((t : Words) → HasName names.new t ↔ (HasName names.old t ⊎ Contains (named_by_rules attribute rules.now) t)) }
+    ensures { OnOk result
+        ((t : Words)
+        → HasName names.new t
+        ↔ (HasName names.old t ⊎ Contains (named_by_rules attribute rules.now) t)) }
 {
     for rule in rules {
         add_names(names, attribute.in_rule(rule))?;
@@ -131,7 +136,10 @@ fn add_flows(
     attribute: Attribute,
     flows: &[Flow],
 ) -> Result<(), AllocError>
-    ensures { OnOk result ((t : Words) → HasName names.new t ↔ (HasName names.old t ⊎ Contains (named_by_flows attribute flows.now) t)) }
+    ensures { OnOk result
+        ((t : Words)
+        → HasName names.new t
+        ↔ (HasName names.old t ⊎ Contains (named_by_flows attribute flows.now) t)) }
 {
     for flow in flows {
         add_names(names, attribute.in_flow(flow))?;
@@ -141,7 +149,8 @@ fn add_flows(
 
 /// The values that the plan names of the attribute, in byte order and each once.
 fn named(alloc: Global, plan: &Plan, attribute: Attribute) -> Result<Seq<Text>, AllocError>
-    ensures same { IfOk result (λ v. (t : Words) → Contains v t ↔ Contains (named_in attribute plan.now) t) }
+    ensures same { IfOk result (λ v.
+        (t : Words) → Contains v t ↔ Contains (named_in attribute plan.now) t) }
     ensures ordered { IfOk result IsInByteOrder }
 {
     let mut names = BTreeSet::new(alloc);
@@ -153,12 +162,15 @@ fn named(alloc: Global, plan: &Plan, attribute: Attribute) -> Result<Seq<Text>, 
     Ok(literals)
 }
 
-/// What the plan names for modality and for station, in rules and in flows: modalities, single stations and
-/// prefixes of stations, each in byte order and each once.
+/// What the plan names for modality and for station, in rules and in flows: modalities, single
+/// stations and prefixes of stations, each in byte order and each once.
 pub fn literals(alloc: Global, plan: &Plan) -> Result<Literals, AllocError>
-    ensures modalities { IfOk result (λ l. (t : Words) → Contains l.modalities.literals t ↔ Contains (modalities_of plan.now) t) }
-    ensures stations { IfOk result (λ l. (t : Words) → Contains l.stations.literals t ↔ Contains (stations_of plan.now) t) }
-    ensures prefixes { IfOk result (λ l. (t : Words) → Contains l.stations.prefixes t ↔ Contains (prefixes_of plan.now) t) }
+    ensures modalities { IfOk result (λ l.
+        (t : Words) → Contains l.modalities.literals t ↔ Contains (modalities_of plan.now) t) }
+    ensures stations { IfOk result (λ l.
+        (t : Words) → Contains l.stations.literals t ↔ Contains (stations_of plan.now) t) }
+    ensures prefixes { IfOk result (λ l.
+        (t : Words) → Contains l.stations.prefixes t ↔ Contains (prefixes_of plan.now) t) }
     ensures ordered { IfOk result AreInOrder }
 {
     let modalities = FieldValues {

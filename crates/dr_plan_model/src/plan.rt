@@ -11,8 +11,8 @@ use dr_route::{AcceptRow, Rule, StationValues};
 use std::alloc::{AllocError, Global};
 use std::marker::Model;
 
-/// A node of the network: its title, where it listens, the greatest length of the P-DATA-TF PDUs that it
-/// takes (bytes; 0 is no limit), what it accepts, and its rules.
+/// A node of the network: its title, where it listens, the greatest length of the P-DATA-TF PDUs
+/// that it takes (bytes; 0 is no limit), what it accepts, and its rules.
 #[derive(Debug, Drop)]
 pub struct Node {
     pub name: Text,
@@ -52,8 +52,8 @@ impl Clone for Node {
     }
 }
 
-/// The format of a plan's text, which is also the version of its certificate's text. In format 2 a rule or a flow may
-/// name stations by what they begin with.
+/// The format of a plan's text, which is also the version of its certificate's text. In format 2 a
+/// rule or a flow may name stations by what they begin with.
 #[derive(Clone, Copy, PartialEq, Eq, Debug)]
 pub enum Format {
     One,
@@ -87,8 +87,9 @@ pub struct Flow {
     pub stations: Stations,
 }
 
-/// A plan. Its names are names of its nodes, its literals are printable, it keeps the limits of plans, and in format 1 it
-/// names no prefix. What its flows list is kept as sets too, in which a value is found sooner than in a list.
+/// A plan. Its names are names of its nodes, its literals are printable, it keeps the limits of
+/// plans, and in format 1 it names no prefix. What its flows list is kept as sets too, in which a
+/// value is found sooner than in a list.
 #[derive(Debug, Drop)]
 pub struct Plan {
     format: Format,
@@ -106,9 +107,11 @@ impl Model for Plan {
     ghost use Rattle.dr_plan_model.specs.Formed.{AreWellFormed};
     ghost use Rattle.dr_plan_model.specs.Listings.{AreListedBy};
 
-    ghost view = { λ p. record { format = p.format; nodes = p.nodes; flows = p.flows; digest = p.digest } };
+    ghost view = { λ p.
+        record { format = p.format; nodes = p.nodes; flows = p.flows; digest = p.digest } };
 
-    ghost invariant = { λ p. AreWellFormed p.format p.nodes p.flows × AreListedBy p.flows p.listed };
+    ghost invariant = { λ p.
+        AreWellFormed p.format p.nodes p.flows × AreListedBy p.flows p.listed };
 }
 
 fn copy_nodes(nodes: &Seq<Node>) -> Result<Seq<Node>, AllocError>
@@ -133,7 +136,8 @@ fn copy_listed(listed: &Seq<Listed>) -> Result<Seq<Listed>, AllocError>
 }
 
 impl Plan {
-    /// The plan of these nodes and flows, whose text is of this format and has this SHA-256. Without flows it takes no memory.
+    /// The plan of these nodes and flows, whose text is of this format and has this SHA-256.
+    /// Without flows it takes no memory.
     pub fn new(
         alloc: Global,
         format: Format,
@@ -142,7 +146,8 @@ impl Plan {
         digest: [u8; 32],
     ) -> Result<Plan, AllocError>
         requires { AreWellFormed format nodes flows }
-        ensures plan { IfOk result (λ plan. plan ≡ record { format = format; nodes = nodes; flows = flows; digest = digest }) }
+        ensures plan { IfOk result (λ plan.
+            plan ≡ record { format = format; nodes = nodes; flows = flows; digest = digest }) }
         ensures memory { OnErr result (flows ≢ []) }
     {
         let listed = all_listed(alloc, flows.as_slice())?;
@@ -210,7 +215,8 @@ impl Plan {
 
     /// The node of that name, and None for a stranger.
     pub fn node(&self, name: &Text) -> Option<&Node>
-        ensures { MatchOption result (NamesNoNode self.now name.now) (λ node. IsTheNode self.now name.now node.now) }
+        ensures { MatchOption result (NamesNoNode self.now name.now) (λ node.
+            IsTheNode self.now name.now node.now) }
     {
         for node in self.nodes.as_slice() {
             if node.name == *name {

@@ -2,7 +2,8 @@
 ghost use Rattle.std.specs.Prelude.{◌≡◌, ◌↔◌, ◌⊎◌, IsTrue, IfOk, OnOk, Contains, false};
 ghost use Rattle.dr_base.specs.Texts.{Text as Words, IsInByteOrder};
 ghost use Rattle.dr_route.specs.Names.{HasName};
-ghost use Rattle.dr_plan_model.specs.Walks.{Fits, IsListed, IsStationListed, BeginsOne, FlowsAmong, Sends, Keeps, Accepts};
+ghost use Rattle.dr_plan_model.specs.Walks.{Fits, IsListed, IsStationListed, BeginsOne, FlowsAmong};
+ghost use Rattle.dr_plan_model.specs.Walks.{Sends, Keeps, Accepts};
 
 use crate::entering::first_targets;
 use crate::plan::{Flow, Plan, Stations, Values};
@@ -49,8 +50,8 @@ fn is_station_listed(stations: &Stations, value: &Text) -> bool
     }
 }
 
-/// Whether the flow fits the key: its class and transfer syntax are in the flow's lists, and so are its
-/// modality and station where the flow has lists for them.
+/// Whether the flow fits the key: its class and transfer syntax are in the flow's lists, and so are
+/// its modality and station where the flow has lists for them.
 pub fn fits(flow: &Flow, key: &Key) -> bool
     ensures { IsTrue result ↔ Fits flow.now key.now }
 {
@@ -70,20 +71,22 @@ fn enters(flow: &Flow, site: &Text, key: &Key) -> bool
 /// Whether the flow brings the key in at the site, and to a node that isn't among the names.
 fn names_another(names: &BTreeSet<Text>, flow: &Flow, site: &Text, key: &Key) -> bool
     ensures another { IsTrue result → (flow.now.at ≡ site.now) × Fits flow.now key.now }
-    ensures none { result ≡ false → HasName names.now flow.now.to ⊎ ((flow.now.at ≡ site.now) × Fits flow.now key.now → ⊥) }
+    ensures none { result ≡ false
+        → HasName names.now flow.now.to ⊎ ((flow.now.at ≡ site.now) × Fits flow.now key.now → ⊥) }
 {
     !has_name(names, &flow.to) && enters(flow, site, key)
 }
 
-/// The nodes that those of the flows that are at the site send the key to, in byte order and each once. A flow to a
-/// node that is among them already isn't looked into.
+/// The nodes that those of the flows that are at the site send the key to, in byte order and each
+/// once. A flow to a node that is among them already isn't looked into.
 pub fn flow_targets(
     alloc: Global,
     flows: &[Flow],
     site: &Text,
     key: &Key,
 ) -> Result<Seq<Text>, AllocError>
-    ensures to { IfOk result (λ seq. (name : Words) → Contains seq name ↔ FlowsAmong flows.now site.now key.now name) }
+    ensures to { IfOk result (λ seq.
+        (name : Words) → Contains seq name ↔ FlowsAmong flows.now site.now key.now name) }
     ensures ordered { IfOk result IsInByteOrder }
 {
     let mut names = BTreeSet::new(alloc);
@@ -96,9 +99,9 @@ pub fn flow_targets(
     Ok(to)
 }
 
-/// What the node does with the key that it has from the caller: the nodes that it sends it to, in byte order
-/// and each once, and whether it keeps it. The local caller `-` has the node's flows, and nothing is kept for
-/// it.
+/// What the node does with the key that it has from the caller: the nodes that it sends it to, in
+/// byte order and each once, and whether it keeps it. The local caller `-` has the node's flows,
+/// and nothing is kept for it.
 pub fn sends(
     alloc: Global,
     plan: &Plan,
@@ -106,7 +109,8 @@ pub fn sends(
     caller: &Text,
     key: &Key,
 ) -> Result<Targets, AllocError>
-    ensures to { IfOk result (λ t. (to : Words) → Contains t.to to ↔ Sends plan.now name.now caller.now key.now to) }
+    ensures to { IfOk result (λ t.
+        (to : Words) → Contains t.to to ↔ Sends plan.now name.now caller.now key.now to) }
     ensures ordered { IfOk result (λ t. IsInByteOrder t.to) }
     ensures keep { IfOk result (λ t. IsTrue t.keep ↔ Keeps plan.now name.now caller.now key.now) }
 {

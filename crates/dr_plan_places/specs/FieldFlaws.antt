@@ -1,13 +1,15 @@
 -- What is wrong with the tables of a plan's text, field by field.
 use Rattle.std.specs.Prelude.{◌≡◌, ℕ, Option, None, Some, IsSome, codes}
-use Rattle.toml.specs.Data.{Data, Items, no_items, Members, as_array, as_table, get_item, get_member}
+use Rattle.toml.specs.Data.{Data, Items, no_items, Members, as_array, as_table, get_item}
+use Rattle.toml.specs.Data.{get_member}
 use Rattle.dr_base.specs.Texts.{Text}
 use Rattle.dr_route.specs.declared.rule.Rule.{Rule as RuleText}
 use Rattle.dr_plan_model.specs.declared.plan.Format.{Format}
 use Rattle.dr_plan_model.specs.declared.plan.Format.TheVariants.{One, Two}
 use Rattle.dr_plan_text.specs.declared.words.FlowText.{FlowText}
 use Rattle.dr_plan_text.specs.Fields.{PatternFits, StationsFit}
-use Rattle.dr_plan_text.specs.Tables.{IsAcceptTable, IsRuleTable, IsNodeTable, IsFlowTable, IsRoot, IsFormat}
+use Rattle.dr_plan_text.specs.Tables.{IsAcceptTable, IsRuleTable, IsNodeTable, IsFlowTable, IsRoot}
+use Rattle.dr_plan_text.specs.Tables.{IsFormat}
 use Rattle.dr_plan_places.specs.declared.flaw.Flaw.{Flaw}
 use Rattle.dr_plan_places.specs.declared.flaw.Wrong.{Wrong}
 use Rattle.dr_plan_places.specs.declared.flaw.Wrong.TheVariants.{Missing, Unknown, IllFormed}
@@ -16,19 +18,24 @@ use Rattle.dr_plan_places.specs.declared.field_place.FieldPlace.TheVariants.{Roo
 use Rattle.dr_plan_places.specs.declared.field_place.NodePart.{NodePart}
 use Rattle.dr_plan_places.specs.declared.field_place.NodePart.TheVariants.{Own, AcceptRow, Rule}
 
--- whatever else stands in a table: where at this key it has what these fields have, it isn't of the form
+-- whatever else stands in a table: where at this key it has what these fields have, it isn't of the
+-- form
 abbrev pub IsAtFault : {X : Type 0} → (Members → X → Type 0) → Members → Text → Type 0
-IsAtFault {X} IsTable fields key = (other : Members) (x : X) → get_member key other ≡ get_member key fields → IsTable other x → ⊥
+IsAtFault {X} IsTable fields key =
+    (other : Members) (x : X) → get_member key other ≡ get_member key fields → IsTable other x → ⊥
 
 -- a field stands at this key, at which no table of the form has one
 abbrev pub IsUnknown : {X : Type 0} → (Members → X → Type 0) → Members → Text → Type 0
-IsUnknown {X} IsTable fields key = IsSome (get_member key fields) × ((other : Members) (x : X) → IsTable other x → get_member key other ≡ None)
+IsUnknown {X} IsTable fields key =
+    IsSome (get_member key fields)
+    × ((other : Members) (x : X) → IsTable other x → get_member key other ≡ None)
 
 -- this is wrong with the fields, as those of a table of the form
 abbrev pub HasWrong : {X : Type 0} → (Members → X → Type 0) → Members → Text → Wrong → Type 0
 HasWrong IsTable fields key Missing = IsAtFault IsTable fields key × (get_member key fields ≡ None)
 HasWrong IsTable fields key Unknown = IsUnknown IsTable fields key
-HasWrong IsTable fields key IllFormed = IsAtFault IsTable fields key × IsSome (get_member key fields)
+HasWrong IsTable fields key IllFormed =
+    IsAtFault IsTable fields key × IsSome (get_member key fields)
 
 -- the fields have this flaw
 abbrev pub HasFlaw : {X : Type 0} → (Members → X → Type 0) → Members → Flaw → Type 0
@@ -65,7 +72,8 @@ IsRuleOf format fields rule = IsRuleTable fields rule × PatternFits format rule
 abbrev pub IsFlowOf : Format → Members → FlowText → Type 0
 IsFlowOf format fields flow = IsFlowTable fields flow × StationsFit format flow.stations
 
--- the format as which the tables of a text are looked at: 1 where the text's format is 1, and 2 where it is another one, be that no format at all
+-- the format as which the tables of a text are looked at: 1 where the text's format is 1, and 2
+-- where it is another one, be that no format at all
 abbrev pub IsReadAs : Option Data → Format → Type 0
 IsReadAs value One = IsFormat value One
 IsReadAs value Two = IsFormat value One → ⊥
@@ -73,15 +81,22 @@ IsReadAs value Two = IsFormat value One → ⊥
 -- the flaw stands in this part of the node's table, in a text of that format
 abbrev pub IsInNode : Format → Members → NodePart → Flaw → Type 0
 IsInNode format node Own flaw = HasFlaw IsNodeTable node flaw
-IsInNode format node (AcceptRow index) flaw = InRow (λ row. HasFlaw IsAcceptTable row flaw) (codes "accept") node index
-IsInNode format node (Rule index) flaw = InRow (λ row. HasFlaw (IsRuleOf format) row flaw) (codes "rule") node index
+IsInNode format node (AcceptRow index) flaw =
+    InRow (λ row. HasFlaw IsAcceptTable row flaw) (codes "accept") node index
+IsInNode format node (Rule index) flaw =
+    InRow (λ row. HasFlaw (IsRuleOf format) row flaw) (codes "rule") node index
 
 -- the flaw stands at this place of the tables of a text of that format
 abbrev pub IsAt : Format → Members → FieldPlace → Flaw → Type 0
 IsAt format root Root flaw = HasFlaw IsRoot root flaw
-IsAt format root (OfNode index part) flaw = InRow (λ node. IsInNode format node part flaw) (codes "node") root index
-IsAt format root (OfFlow index) flaw = InRow (λ flow. HasFlaw (IsFlowOf format) flow flaw) (codes "flow") root index
+IsAt format root (OfNode index part) flaw =
+    InRow (λ node. IsInNode format node part flaw) (codes "node") root index
+IsAt format root (OfFlow index) flaw =
+    InRow (λ flow. HasFlaw (IsFlowOf format) flow flaw) (codes "flow") root index
 
 -- the flaw stands at this place of the text's tables
 abbrev pub IsIn : Members → FieldPlace → Flaw → Type 0
-IsIn root place flaw = (format : Format) × IsReadAs (get_member (codes "format") root) format × IsAt format root place flaw
+IsIn root place flaw =
+    (format : Format)
+    × IsReadAs (get_member (codes "format") root) format
+    × IsAt format root place flaw

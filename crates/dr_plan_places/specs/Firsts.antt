@@ -2,8 +2,10 @@
 use Rattle.std.specs.Prelude.{◌≡◌, ℕ, List, Some, All, slice_get, take}
 use Rattle.dr_base.specs.Texts.{Text}
 
--- at this index of the list stands a value that has the fault at that place, and no value before it has one
-pub record IsFirstAt {X L : Type 0} (IsFree : X → Type 0) (IsAt : X → L → Type 0) (xs : List X) (index : ℕ) (place : L) : Type 0 where
+-- at this index of the list stands a value that has the fault at that place, and no value before it
+-- has one
+pub record IsFirstAt {X L : Type 0} (IsFree : X → Type 0) (IsAt : X → L → Type 0) (xs : List X)
+    (index : ℕ) (place : L) : Type 0 where
   pub value : X
   pub stands : slice_get xs index ≡ Some value
   pub at : IsAt value place

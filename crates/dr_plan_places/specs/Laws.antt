@@ -11,7 +11,9 @@ use Rattle.dr_plan_places.specs.declared.field_place.FieldPlace.{FieldPlace}
 
 -- tables with a flaw at any place write no plan
 abbrev pub PlacesRefute : Type 0
-PlacesRefute = (root : Members) (place : FieldPlace) (flaw : Flaw) (plan : PlanText) → IsIn root place flaw → IsRoot root plan → ⊥
+PlacesRefute =
+    (root : Members) (place : FieldPlace) (flaw : Flaw) (plan : PlanText)
+    → IsIn root place flaw → IsRoot root plan → ⊥
 
 -- the text's table `colour = 1`
 abbrev pub coloured : Members
@@ -31,7 +33,8 @@ third_format = member (codes "format") (integer (pos 3)) no_members
 
 -- its format is ill-formed
 abbrev pub ThirdFormatIsIllFormed : Type 0
-ThirdFormatIsIllFormed = HasFlaw IsRoot third_format (record { key = codes "format"; wrong = IllFormed })
+ThirdFormatIsIllFormed =
+    HasFlaw IsRoot third_format (record { key = codes "format"; wrong = IllFormed })
 
 -- a rule's table `station = "CT*"`
 abbrev pub prefixed : Members

@@ -1,5 +1,6 @@
--- Where in a plan, as it is written, stands the first name that hasn't a property. A node's own name is looked at first, then the callers of its
--- accept rows, then its rules; all nodes before the flows.
+-- Where in a plan, as it is written, stands the first name that hasn't a property. A node's own
+-- name is looked at first, then the callers of its accept rows, then its rules; all nodes before
+-- the flows.
 use Rattle.std.specs.Prelude.{ℕ, All}
 use Rattle.dr_base.specs.Texts.{Text}
 use Rattle.dr_route.specs.declared.rule.Rule.{Rule}
@@ -46,8 +47,12 @@ IsRuleNameAt P rule (To index) = HasForm P rule.from × IsFirstBad P rule.to ind
 -- the node's first name without the property
 abbrev pub IsNodeNameAt : (Text → Type 0) → NodeText → NodeName → Type 0
 IsNodeNameAt P node Own = P node.name → ⊥
-IsNodeNameAt P node (Caller row index) = P node.name × IsFirstAt (EachOfRow P) (IsRowNameAt P) node.accepts row index
-IsNodeNameAt P node (InRule rule name) = P node.name × All (EachOfRow P) node.accepts × IsFirstAt (EachOfRule P) (IsRuleNameAt P) node.rules rule name
+IsNodeNameAt P node (Caller row index) =
+    P node.name × IsFirstAt (EachOfRow P) (IsRowNameAt P) node.accepts row index
+IsNodeNameAt P node (InRule rule name) =
+    P node.name
+    × All (EachOfRow P) node.accepts
+    × IsFirstAt (EachOfRule P) (IsRuleNameAt P) node.rules rule name
 
 -- each name of the flow has the property
 abbrev pub EachOfFlow : (Text → Type 0) → FlowText → Type 0
@@ -60,5 +65,8 @@ IsFlowNameAt P flow of_flow.To = P flow.at × (P flow.to → ⊥)
 
 -- the plan's first name without the property
 abbrev pub IsNameAt : (Text → Type 0) → PlanText → NamePlace → Type 0
-IsNameAt P plan (place.Node node name) = IsFirstAt (EachNameOfNode P) (IsNodeNameAt P) plan.nodes node name
-IsNameAt P plan (place.Flow flow name) = All (EachNameOfNode P) plan.nodes × IsFirstAt (EachOfFlow P) (IsFlowNameAt P) plan.flows flow name
+IsNameAt P plan (place.Node node name) =
+    IsFirstAt (EachNameOfNode P) (IsNodeNameAt P) plan.nodes node name
+IsNameAt P plan (place.Flow flow name) =
+    All (EachNameOfNode P) plan.nodes
+    × IsFirstAt (EachOfFlow P) (IsFlowNameAt P) plan.flows flow name

@@ -47,8 +47,10 @@ IsFlowSyntaxAt flow index = IsFirstBad IsSyntax flow.syntaxes index
 
 -- the plan's, nodes first
 abbrev pub IsSyntaxAt : PlanText → SyntaxPlace → Type 0
-IsSyntaxAt plan (syntax.Row node row index) = IsFirstAt KnowsNode IsNodeSyntaxAt plan.nodes node (row, index)
-IsSyntaxAt plan (syntax.Flow flow index) = All KnowsNode plan.nodes × IsFirstAt KnowsFlow IsFlowSyntaxAt plan.flows flow index
+IsSyntaxAt plan (syntax.Row node row index) =
+    IsFirstAt KnowsNode IsNodeSyntaxAt plan.nodes node (row, index)
+IsSyntaxAt plan (syntax.Flow flow index) =
+    All KnowsNode plan.nodes × IsFirstAt KnowsFlow IsFlowSyntaxAt plan.flows flow index
 
 -- two nodes have one name, the first of them at the lesser index
 pub record AreTwins (nodes : List NodeText) (first second : ℕ) : Type 0 where
@@ -59,12 +61,14 @@ pub record AreTwins (nodes : List NodeText) (first second : ℕ) : Type 0 where
   pub before : first < second
   pub same : early.name ≡ late.name
 
--- the limit that the plan doesn't keep: how many nodes it has, then the `max_pdu` of its first node that has one out of range, then how many
--- rules and flows it has
+-- the limit that the plan doesn't keep: how many nodes it has, then the `max_pdu` of its first node
+-- that has one out of range, then how many rules and flows it has
 abbrev pub IsLimitAt : PlanText → LimitPlace → Type 0
 IsLimitAt plan limit.Nodes = length plan.nodes ≤ 64 → ⊥
-IsLimitAt plan (limit.MaxPdu node) = IsFirstAt HasMaxPdu (λ n _. HasMaxPdu n → ⊥) plan.nodes node (tt {0})
-IsLimitAt plan limit.Rules = (length plan.nodes ≤ 64) × All HasMaxPdu plan.nodes × (IsWithinLimits plan → ⊥)
+IsLimitAt plan (limit.MaxPdu node) =
+    IsFirstAt HasMaxPdu (λ n _. HasMaxPdu n → ⊥) plan.nodes node (tt {0})
+IsLimitAt plan limit.Rules =
+    (length plan.nodes ≤ 64) × All HasMaxPdu plan.nodes × (IsWithinLimits plan → ⊥)
 
 -- no target of the rule is this node
 abbrev pub LeavesRule : Text → Rule → Type 0
@@ -84,8 +88,13 @@ IsOwnInNode node at = IsFirstAt (LeavesRule node.name) (IsOwnTarget node.name) n
 
 -- what goes to its own node: a rule, or a flow
 abbrev pub IsOwnAt : PlanText → OwnPlace → Type 0
-IsOwnAt plan (own.Rule node rule index) = IsFirstAt LeavesNode IsOwnInNode plan.nodes node (rule, index)
-IsOwnAt plan (own.Flow flow) = All LeavesNode plan.nodes × IsFirstAt (λ (f : FlowText). f.at ≢ f.to) (λ (f : FlowText) _. f.at ≡ f.to) plan.flows flow (tt {0})
+IsOwnAt plan (own.Rule node rule index) =
+    IsFirstAt LeavesNode IsOwnInNode plan.nodes node (rule, index)
+IsOwnAt plan (own.Flow flow) =
+    All LeavesNode plan.nodes
+    × IsFirstAt
+    (λ (f : FlowText). f.at ≢ f.to)
+    (λ (f : FlowText) _. f.at ≡ f.to) plan.flows flow (tt {0})
 
 -- the place is one where a fault of the plan stands, and the first such one
 abbrev pub IsPlaceIn : PlanText → Place → Type 0

@@ -14,7 +14,8 @@ use dr_plan_text::read_text;
 use std::alloc::{AllocError, Global};
 use toml::de::Error;
 
-/// The line and the column, both from 1, of what stands behind these bytes. A column counts characters.
+/// The line and the column, both from 1, of what stands behind these bytes. A column counts
+/// characters.
 fn position_behind(before: &[u8]) -> (usize, usize) {
     let mut line: usize = 1;
     let mut column: usize = 1;
@@ -75,8 +76,8 @@ fn explain_plan(alloc: Global, text: &[u8], fault: PlanFault) -> Result<Text, Al
     }
 }
 
-/// What stands below the name of the text's fault: lines that are indented by two blanks, and tell where it stands. Nothing for a fault of which no place is
-/// known.
+/// What stands below the name of the text's fault: lines that are indented by two blanks, and tell
+/// where it stands. Nothing for a fault of which no place is known.
 ///
 /// Errors: want of memory.
 pub fn explain(alloc: Global, text: &[u8], fault: PlanFault) -> Result<Text, AllocError>

@@ -78,8 +78,8 @@ impl Search for FlawOfNode {
     }
 }
 
-/// The format as which the text's tables are looked at: that of the text, and 2 where the text says none that there is, so that a prefix is no fault beside
-/// that of the format.
+/// The format as which the text's tables are looked at: that of the text, and 2 where the text says
+/// none that there is, so that a prefix is no fault beside that of the format.
 fn format_of(alloc: Global, root: &Table) -> Result<Format, AllocError>
     ensures { IfOk result (IsReadAs (get_member (codes "format") (table_view root.now))) }
 {
@@ -90,7 +90,8 @@ fn format_of(alloc: Global, root: &Table) -> Result<Format, AllocError>
     }
 }
 
-/// A place at which the tables of a text of that format show that they write no plan, and what is wrong there.
+/// A place at which the tables of a text of that format show that they write no plan, and what is
+/// wrong there.
 fn field_as(
     alloc: Global,
     format: Format,
@@ -110,8 +111,8 @@ fn field_as(
     }
 }
 
-/// A place at which the text's tables show that they write no plan, and what is wrong there: the nodes are looked at first, then the flows, then the text's own
-/// fields.
+/// A place at which the text's tables show that they write no plan, and what is wrong there: the
+/// nodes are looked at first, then the flows, then the text's own fields.
 ///
 /// Errors: want of memory.
 pub fn field_in(alloc: Global, root: &Table) -> Result<Option<(FieldPlace, Flaw)>, AllocError>

@@ -147,7 +147,8 @@ fn add_flaw(out: &mut Vec<u8>, place: FieldPlace, flaw: &Flaw) -> Result<(), All
     out.extend_from_slice(wanted(place, str::from_utf8(key).unwrap_or("")))
 }
 
-/// The place of a field's fault in words, one line of them, indented by two blanks: the table, the key, and what it has to be. Nothing where no place shows it.
+/// The place of a field's fault in words, one line of them, indented by two blanks: the table, the
+/// key, and what it has to be. Nothing where no place shows it.
 ///
 /// Errors: want of memory.
 pub fn describe_field(alloc: Global, root: &Table) -> Result<Text, AllocError> {

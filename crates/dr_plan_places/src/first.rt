@@ -44,7 +44,8 @@ pub trait TextTest {
 
 /// Nothing where the text has the property, and that it hasn't.
 fn flaw_of<T: TextTest>(test: &T, text: &Text) -> Option<()>
-    ensures { MatchOption result (T.holds test.now text.now) (λ flaw. T.holds test.now text.now → ⊥) }
+    ensures { MatchOption result (T.holds test.now text.now) (λ flaw.
+        T.holds test.now text.now → ⊥) }
 {
     if test.test(text) {
         return None;
@@ -54,7 +55,8 @@ fn flaw_of<T: TextTest>(test: &T, text: &Text) -> Option<()>
 
 /// The first of the texts that hasn't the property, by its index.
 pub fn first_bad<T: TextTest>(test: &T, texts: &[Text]) -> Option<usize>
-    ensures { MatchOption result (All (T.holds test.now) texts.now) (IsFirstBad (T.holds test.now) texts.now) }
+    ensures { MatchOption result (All (T.holds test.now) texts.now)
+        (IsFirstBad (T.holds test.now) texts.now) }
 {
     for (index, text) in texts.iter().enumerate() {
         if let Some(()) = flaw_of(test, text) {

@@ -29,7 +29,8 @@ pub struct Flaw {
     pub wrong: Wrong,
 }
 
-/// A form of table whose fields are looked at one by one. What a table of the form is may rest on the format of the text.
+/// A form of table whose fields are looked at one by one. What a table of the form is may rest on
+/// the format of the text.
 pub trait Inspected {
     type Output;
 
@@ -37,7 +38,8 @@ pub trait Inspected {
 
     /// A key that no table of this form has, whatever the format.
     fn unknown_in<'a>(table: &'a Table) -> Option<&'a str>
-        ensures { (format : Form) → IfSome result (λ key. IsUnknown (is_table format) (table_view table.now) key.now) };
+        ensures { (format : Form)
+            → IfSome result (λ key. IsUnknown (is_table format) (table_view table.now) key.now) };
 
     /// The first of the form's keys at which the table shows that it isn't of this form.
     fn fault_in(
@@ -45,7 +47,8 @@ pub trait Inspected {
         format: Format,
         table: &Table,
     ) -> Result<Option<&'static str>, AllocError>
-        ensures { IfOk result (λ found. IfSome found (λ key. IsAtFault (is_table format) (table_view table.now) key.now)) };
+        ensures { IfOk result (λ found.
+            IfSome found (λ key. IsAtFault (is_table format) (table_view table.now) key.now)) };
 }
 
 /// The flaw at a key.
@@ -64,7 +67,8 @@ pub fn flaw_in<T: Inspected>(
     format: Format,
     table: &Table,
 ) -> Result<Option<Flaw>, AllocError>
-    ensures { IfOk result (λ found. IfSome found (HasFlaw (T.is_table format) (table_view table.now))) }
+    ensures { IfOk result (λ found.
+        IfSome found (HasFlaw (T.is_table format) (table_view table.now))) }
 {
     if let Some(key) = T::unknown_in(table) {
         return Ok(Some(flaw_at(alloc, key, Wrong::Unknown)?));

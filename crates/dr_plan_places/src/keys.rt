@@ -4,7 +4,8 @@ ghost use Rattle.toml.specs.Data.{get_member};
 ghost use Rattle.toml.specs.View.{table_view};
 ghost use Rattle.dr_route.specs.declared.rule.StationPattern.{StationPattern};
 ghost use Rattle.dr_plan_model.specs.declared.plan.Stations.{Stations};
-ghost use Rattle.dr_plan_text.specs.Fields.{Given, GivenOr, PatternFits, SaysStation, SaysStations, StationsFit};
+ghost use Rattle.dr_plan_text.specs.Fields.{Given, GivenOr, PatternFits, SaysStation, SaysStations};
+ghost use Rattle.dr_plan_text.specs.Fields.{StationsFit};
 
 use dr_plan_model::Format;
 use dr_plan_text::fault::ReadFault;
@@ -18,7 +19,9 @@ use toml::Table;
 ///
 /// Errors: want of memory.
 pub fn misses<F: Form>(alloc: Global, table: &Table, key: &str) -> Result<bool, AllocError>
-    ensures { IfOk result (λ b. IsTrue b → (x : F.Output) → Given F.says (get_member key.now (table_view table.now)) x → ⊥) }
+    ensures { IfOk result (λ b. IsTrue b → (x : F.Output)
+        → Given F.says (get_member key.now (table_view table.now)) x
+        → ⊥) }
 {
     match required::<F>(alloc, table, key) {
         Ok(_) => Ok(false),
@@ -31,7 +34,9 @@ pub fn misses<F: Form>(alloc: Global, table: &Table, key: &str) -> Result<bool, 
 ///
 /// Errors: want of memory.
 pub fn misreads<F: Form>(alloc: Global, table: &Table, key: &str) -> Result<bool, AllocError>
-    ensures { IfOk result (λ b. IsTrue b → (default x : F.Output) → GivenOr default F.says (get_member key.now (table_view table.now)) x → ⊥) }
+    ensures { IfOk result (λ b. IsTrue b → (default x : F.Output)
+        → GivenOr default F.says (get_member key.now (table_view table.now)) x
+        → ⊥) }
 {
     let Some(value) = value_at(table, key) else {
         return Ok(false);
@@ -47,7 +52,10 @@ pub fn misreads<F: Form>(alloc: Global, table: &Table, key: &str) -> Result<bool
 ///
 /// Errors: want of memory.
 pub fn misreads_station(alloc: Global, format: Format, table: &Table) -> Result<bool, AllocError>
-    ensures { IfOk result (λ b. IsTrue b → (default x : StationPattern) → GivenOr default SaysStation (get_member (codes "station") (table_view table.now)) x → PatternFits format x → ⊥) }
+    ensures { IfOk result (λ b. IsTrue b
+        → (default x : StationPattern)
+        → GivenOr default SaysStation (get_member (codes "station") (table_view table.now)) x
+        → PatternFits format x → ⊥) }
 {
     let Some(value) = value_at(table, "station") else {
         return Ok(false);
@@ -59,11 +67,14 @@ pub fn misreads_station(alloc: Global, format: Format, table: &Table) -> Result<
     }
 }
 
-/// Whether the stations of a flow are missing or ill-formed: also where one is a prefix, and the format has none.
+/// Whether the stations of a flow are missing or ill-formed: also where one is a prefix, and the
+/// format has none.
 ///
 /// Errors: want of memory.
 pub fn misses_stations(alloc: Global, format: Format, table: &Table) -> Result<bool, AllocError>
-    ensures { IfOk result (λ b. IsTrue b → (x : Stations) → Given SaysStations (get_member (codes "station") (table_view table.now)) x → StationsFit format x → ⊥) }
+    ensures { IfOk result (λ b. IsTrue b → (x : Stations)
+        → Given SaysStations (get_member (codes "station") (table_view table.now)) x
+        → StationsFit format x → ⊥) }
 {
     match required::<AnyStations>(alloc, table, "station") {
         Ok(stations) => Ok(!stations_fit(format, &stations)),
@@ -84,7 +95,8 @@ fn is_given(table: &Table, key: &str) -> bool
 
 /// The first key of the table that isn't known.
 pub fn unknown_key<'a>(table: &'a Table, known: &[&str]) -> Option<&'a str>
-    ensures { IfSome result (λ key. IsSome (get_member key.now (table_view table.now)) × (Contains (map (λ k. k.now) known.now) key.now → ⊥)) }
+    ensures { IfSome result (λ key. IsSome (get_member key.now (table_view table.now))
+        × (Contains (map (λ k. k.now) known.now) key.now → ⊥)) }
 {
     for key in table.keys() {
         let key = key.as_str();

@@ -1,7 +1,7 @@
 //! Where in a plan's text its fault is: in which table, at which key.
 //!
-//! - `field_in`: a place at which the text's tables show that a field is missing, unknown or ill-formed. The place is right;
-//!   that one is found in each text with the fault is tested.
+//! - `field_in`: a place at which the text's tables show that a field is missing, unknown or
+//!   ill-formed. The place is right; that one is found in each text with the fault is tested.
 #![tactic(auto)]
 
 mod explaining;

@@ -2,7 +2,9 @@
 ghost use Rattle.std.specs.Prelude.{◌≡◌, ◌↔◌, IsTrue, All, MatchOption};
 ghost use Rattle.dr_plan_model.specs.Formed.{HasForm};
 ghost use Rattle.dr_plan.specs.Reading.{EachCaller, EachNameOfNode, EachName};
-ghost use Rattle.dr_plan_places.specs.Named.{EachOfRow, EachOfRule, EachOfFlow, IsCallerAt, IsRowNameAt, IsRuleNameAt, IsNodeNameAt, IsFlowNameAt, IsNameAt};
+ghost use Rattle.dr_plan_places.specs.Named.{EachOfRow, EachOfRule, EachOfFlow, IsCallerAt};
+ghost use Rattle.dr_plan_places.specs.Named.{IsRowNameAt, IsRuleNameAt, IsNodeNameAt, IsFlowNameAt};
+ghost use Rattle.dr_plan_places.specs.Named.{IsNameAt};
 
 use crate::first::{Look, TextTest, first, first_bad};
 use dr_plan_text::{AcceptText, FlowText, NodeText, PlanText};
@@ -48,7 +50,8 @@ pub enum NamePlace {
 
 /// The first caller that hasn't the property.
 fn caller_in<T: TextTest>(test: &T, callers: &Callers) -> Option<usize>
-    ensures { MatchOption result (EachCaller (T.holds test.now) callers.now) (IsCallerAt (T.holds test.now) callers.now) }
+    ensures { MatchOption result (EachCaller (T.holds test.now) callers.now)
+        (IsCallerAt (T.holds test.now) callers.now) }
 {
     match callers {
         Callers::Any => None,
@@ -161,7 +164,8 @@ impl<'a, T: TextTest> Look for FlowNames<'a, T> {
 
 /// The first name of the plan that hasn't the property, and None where each has it.
 pub fn name_in<T: TextTest>(test: &T, plan: &PlanText) -> Option<NamePlace>
-    ensures { MatchOption result (EachName (T.holds test.now) plan.now) (IsNameAt (T.holds test.now) plan.now) }
+    ensures { MatchOption result (EachName (T.holds test.now) plan.now)
+        (IsNameAt (T.holds test.now) plan.now) }
 {
     if let Some((node, name)) = first(&NodeNames(test), plan.nodes.as_slice()) {
         return Some(NamePlace::Node(node, name));

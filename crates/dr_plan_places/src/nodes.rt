@@ -50,9 +50,11 @@ impl<'a> TextTest for Among<'a> {
     }
 }
 
-/// Two nodes of one name, and None where there are none: the first node whose name stands before it, and the first node that has it.
+/// Two nodes of one name, and None where there are none: the first node whose name stands before
+/// it, and the first node that has it.
 pub fn twins_in(nodes: &[NodeText]) -> Option<(usize, usize)>
-    ensures { MatchOption result (AllPairs (λ a b. a ≢ b) (map (λ node. node.name) nodes.now)) (λ twins. AreTwins nodes.now twins.0 twins.1) }
+    ensures { MatchOption result (AllPairs (λ a b. a ≢ b) (map (λ node. node.name) nodes.now))
+        (λ twins. AreTwins nodes.now twins.0 twins.1) }
 {
     for (late, node) in nodes.iter().enumerate() {
         if let Some((early, ())) = first(&OfName(&node.name), &nodes[..late]) {

@@ -51,7 +51,8 @@ impl TextTest for WellFormed {
 /// Where the plan has an ill-formed name, or two nodes of one name.
 fn name_place(plan: &PlanText) -> Option<Place>
     requires { Passes plan.now (Err PlanFault.Name) }
-    ensures { MatchOption result ⊥ (λ place. IsPlaceIn plan.now place × (fault_at place ≡ PlanFault.Name)) }
+    ensures { MatchOption result ⊥ (λ place.
+        IsPlaceIn plan.now place × (fault_at place ≡ PlanFault.Name)) }
 {
     if let Some(at) = name_in(&WellFormed, plan) {
         return Some(Place::Name(at));
@@ -65,7 +66,8 @@ fn name_place(plan: &PlanText) -> Option<Place>
 /// Where the plan has a name that is no node's.
 fn unknown_place(plan: &PlanText) -> Option<Place>
     requires { Passes plan.now (Err PlanFault.UnknownNode) }
-    ensures { MatchOption result ⊥ (λ place. IsPlaceIn plan.now place × (fault_at place ≡ PlanFault.UnknownNode)) }
+    ensures { MatchOption result ⊥ (λ place.
+        IsPlaceIn plan.now place × (fault_at place ≡ PlanFault.UnknownNode)) }
 {
     match name_in(&Among(plan), plan) {
         Some(at) => Some(Place::Unknown(at)),
@@ -76,7 +78,8 @@ fn unknown_place(plan: &PlanText) -> Option<Place>
 /// Where the plan has a transfer syntax that isn't routed.
 fn syntax_place(plan: &PlanText) -> Option<Place>
     requires { Passes plan.now (Err PlanFault.Syntax) }
-    ensures { MatchOption result ⊥ (λ place. IsPlaceIn plan.now place × (fault_at place ≡ PlanFault.Syntax)) }
+    ensures { MatchOption result ⊥ (λ place.
+        IsPlaceIn plan.now place × (fault_at place ≡ PlanFault.Syntax)) }
 {
     match syntax_in(plan) {
         Some(at) => Some(Place::Syntax(at)),
@@ -87,7 +90,8 @@ fn syntax_place(plan: &PlanText) -> Option<Place>
 /// Where the plan has a rule or a flow to its own node.
 fn own_place(plan: &PlanText) -> Option<Place>
     requires { Passes plan.now (Err PlanFault.SelfRoute) }
-    ensures { MatchOption result ⊥ (λ place. IsPlaceIn plan.now place × (fault_at place ≡ PlanFault.SelfRoute)) }
+    ensures { MatchOption result ⊥ (λ place.
+        IsPlaceIn plan.now place × (fault_at place ≡ PlanFault.SelfRoute)) }
 {
     match own_in(plan) {
         Some(at) => Some(Place::Own(at)),
@@ -98,7 +102,8 @@ fn own_place(plan: &PlanText) -> Option<Place>
 /// Where the plan's first fault stands: at the first place that shows it. Want of memory has none.
 pub fn place_of(plan: &PlanText, fault: PlanFault) -> Option<Place>
     requires { Passes plan.now (Err fault) }
-    ensures { MatchOption result (fault ≡ Memory) (λ place. IsPlaceIn plan.now place × (fault_at place ≡ fault)) }
+    ensures { MatchOption result (fault ≡ Memory) (λ place.
+        IsPlaceIn plan.now place × (fault_at place ≡ fault)) }
 {
     match fault {
         PlanFault::Syntax => syntax_place(plan),

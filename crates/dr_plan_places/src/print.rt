@@ -25,8 +25,8 @@ fn digit(nibble: u8) -> u8
     b'a' + (nibble - 10)
 }
 
-/// Adds a byte as it is shown between quotes: what isn't printable by its two hexadecimal digits, so that no text of a plan reaches a terminal as a
-/// command.
+/// Adds a byte as it is shown between quotes: what isn't printable by its two hexadecimal digits,
+/// so that no text of a plan reaches a terminal as a command.
 fn add_shown_byte(out: &mut Vec<u8>, byte: u8) -> Result<(), AllocError> {
     if byte == b'"' || byte == b'\\' {
         return out.extend_from_slice(&[b'\\', byte]);

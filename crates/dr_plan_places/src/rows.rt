@@ -34,13 +34,16 @@ fn items_of<'a>(table: &'a Table, key: &str) -> &'a [Value]
     }
 }
 
-/// The first of the values that is a table in which something is found, by its index, and what is found.
+/// The first of the values that is a table in which something is found, by its index, and what is
+/// found.
 fn first_among<S: Search>(
     alloc: Global,
     format: Format,
     items: &[Value],
 ) -> Result<Option<(usize, S::Found)>, AllocError>
-    ensures { IfOk result (λ first. IfSome first (λ f. (row : Members) × (table_in (get_item f.0 (items_view items.now)) ≡ Some row) × S.is_found format row f.1)) }
+    ensures { IfOk result (λ first. IfSome first (λ f. (row : Members)
+        × (table_in (get_item f.0 (items_view items.now)) ≡ Some row)
+        × S.is_found format row f.1)) }
 {
     for (index, value) in items.iter().enumerate() {
         let Some(row) = value.as_table() else {
@@ -53,7 +56,8 @@ fn first_among<S: Search>(
     Ok(None)
 }
 
-/// The first table of the array at a key in which something is found, by its index, and what is found.
+/// The first table of the array at a key in which something is found, by its index, and what is
+/// found.
 ///
 /// Errors: want of memory.
 pub fn first_row<S: Search>(
@@ -62,7 +66,8 @@ pub fn first_row<S: Search>(
     table: &Table,
     key: &str,
 ) -> Result<Option<(usize, S::Found)>, AllocError>
-    ensures { IfOk result (λ first. IfSome first (λ f. InRow (λ row. S.is_found format row f.1) key.now (table_view table.now) f.0)) }
+    ensures { IfOk result (λ first. IfSome first (λ f.
+        InRow (λ row. S.is_found format row f.1) key.now (table_view table.now) f.0)) }
 {
     first_among::<S>(alloc, format, items_of(table, key))
 }

@@ -1,7 +1,8 @@
 //! The first transfer syntax of a plan that isn't routed.
 ghost use Rattle.std.specs.Prelude.{◌≡◌, ◌↔◌, IsTrue, All, MatchOption};
 ghost use Rattle.dr_plan.specs.Reading.{IsSyntax, KnowsSyntaxes};
-ghost use Rattle.dr_plan_places.specs.Placed.{KnowsRow, KnowsNode, KnowsFlow, IsRowSyntaxAt, IsNodeSyntaxAt, IsFlowSyntaxAt, IsSyntaxAt};
+ghost use Rattle.dr_plan_places.specs.Placed.{KnowsRow, KnowsNode, KnowsFlow, IsRowSyntaxAt};
+ghost use Rattle.dr_plan_places.specs.Placed.{IsNodeSyntaxAt, IsFlowSyntaxAt, IsSyntaxAt};
 
 use crate::first::{Look, TextTest, first, first_bad};
 use dr_base::{Syntax, Text};

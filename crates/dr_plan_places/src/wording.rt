@@ -251,7 +251,8 @@ fn add_place(out: &mut Vec<u8>, plan: &PlanText, place: Place) -> Result<(), All
     }
 }
 
-/// The place in words, one line of them, indented by two blanks: the table, the key, the value, and what is wrong with it.
+/// The place in words, one line of them, indented by two blanks: the table, the key, the value, and
+/// what is wrong with it.
 pub fn describe(alloc: Global, plan: &PlanText, place: Place) -> Result<Text, AllocError> {
     let mut out = Vec::from_slice(alloc, b"  ")?;
     add_place(&mut out, plan, place)?;

@@ -18,7 +18,10 @@ use Rattle.dr_plan_sound.specs.Printed.{printed_line, printed_hop}
 
 -- some key of the cell comes to the node from the caller, and has this rank there
 abbrev pub HasLine : Network → Line → Type 0
-HasLine plan line = (key : Key) × LiesIn plan line.stop.cell key × IsReached plan key line.stop.caller line.stop.node
+HasLine plan line =
+    (key : Key)
+    × LiesIn plan line.stop.cell key
+    × IsReached plan key line.stop.caller line.stop.node
     × IsRank plan key line.stop.caller line.stop.node line.rank
 
 -- byte order of the class, then of the transfer syntax
@@ -32,14 +35,21 @@ pub record AreHopPairs (plan : Network) (from to : Text) (all : List (Text × Sy
 
 -- the pair has its number on the hop: 1, 3, 5 and so on
 abbrev pub HasHop : Network → Hop → Type 0
-HasHop plan hop = (all : List (Text × Syntax)) × (k : ℕ) × AreHopPairs plan hop.from hop.to all × (slice_get all k ≡ Some (hop.class, hop.syntax)) × (hop.id ≡ 2 * k + 1)
+HasHop plan hop =
+    (all : List (Text × Syntax))
+    × (k : ℕ)
+    × AreHopPairs plan hop.from hop.to all
+    × (slice_get all k ≡ Some (hop.class, hop.syntax))
+    × (hop.id ≡ 2 * k + 1)
 
--- The certificate of the plan: its format and digest, exactly its lines, and exactly the numbered pairs of its hops. Each kind stands
--- in the byte order of its printed lines, each line once.
+-- The certificate of the plan: its format and digest, exactly its lines, and exactly the numbered
+-- pairs of its hops. Each kind stands in the byte order of its printed lines, each line once.
 pub record IsCertificateOf (plan : Network) (certificate : Certificate) : Type 0 where
   pub format : certificate.format ≡ plan.format
   pub digest : certificate.digest ≡ plan.digest
   pub lines : (line : Line) → Contains certificate.lines line ↔ HasLine plan line
   pub hops : (hop : Hop) → Contains certificate.hops hop ↔ HasHop plan hop
-  pub lines_ordered : AllPairs (λ a b. text_cmp (printed_line a) (printed_line b) ≡ Less) certificate.lines
-  pub hops_ordered : AllPairs (λ a b. text_cmp (printed_hop a) (printed_hop b) ≡ Less) certificate.hops
+  pub lines_ordered :
+      AllPairs (λ a b. text_cmp (printed_line a) (printed_line b) ≡ Less) certificate.lines
+  pub hops_ordered :
+      AllPairs (λ a b. text_cmp (printed_hop a) (printed_hop b) ≡ Less) certificate.hops

@@ -8,8 +8,12 @@ use Rattle.dr_plan_sound.specs.declared.certificate.Certificate.{Certificate}
 use Rattle.dr_plan_sound.specs.Soundness.{IsSound}
 use Rattle.dr_plan_sound.specs.Certificates.{IsCertificateOf, AreHopPairs}
 
--- Of a sound plan with its certificate, the pairs that go over each hop make a list in byte order, so each of them has a
--- number there.
+-- Of a sound plan with its certificate, the pairs that go over each hop make a list in byte order,
+-- so each of them has a number there.
 abbrev pub HopsHaveLists : Type 0
-HopsHaveLists = (plan : Network) (certificate : Certificate) → IsWellFormed plan → IsSound plan → IsCertificateOf plan certificate →
-    (from to : Text) → (all : List (Text × Syntax)) × AreHopPairs plan from to all
+HopsHaveLists =
+    (plan : Network) (certificate : Certificate)
+    → IsWellFormed plan → IsSound plan
+    → IsCertificateOf plan certificate
+    → (from to : Text)
+    → (all : List (Text × Syntax)) × AreHopPairs plan from to all

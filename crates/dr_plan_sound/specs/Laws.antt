@@ -14,18 +14,30 @@ use Rattle.dr_plan_sound.specs.Ranked.{AreRanked}
 
 -- lines that are right one by one are exactly the plan's lines, so their ranks are the greatest
 abbrev pub RankedLinesAreTheLines : Type 0
-RankedLinesAreTheLines = (plan : Network) → IsWellFormed plan → (lines : List Line) → AreRanked plan lines → (line : Line) → Contains lines line ↔ HasLine plan line
+RankedLinesAreTheLines =
+    (plan : Network) → IsWellFormed plan → (lines : List Line) → AreRanked plan lines
+    → (line : Line)
+    → Contains lines line ↔ HasLine plan line
 
 -- the pairs that lines which are right one by one show for each hop are exactly the plan's hops
 abbrev pub ShownPairsAreTheHops : Type 0
-ShownPairsAreTheHops = (plan : Network) → IsWellFormed plan → (lines : List Line) → AreRanked plan lines → (from to : Text) (pairs : List (Text × Syntax)) →
-    AreOverHop lines from to pairs ↔ AreHopPairs plan from to pairs
+ShownPairsAreTheHops =
+    (plan : Network) → IsWellFormed plan → (lines : List Line) → AreRanked plan lines
+    → (from to : Text) (pairs : List (Text × Syntax))
+    → AreOverHop lines from to pairs ↔ AreHopPairs plan from to pairs
 
 -- where lines are right one by one and show at most 128 pairs over each hop, the plan is sound
 abbrev pub RankedLinesAreSound : Type 0
-RankedLinesAreSound = (plan : Network) → IsWellFormed plan → (lines : List Line) → AreRanked plan lines →
-    ((from to : Text) → (pairs : List (Text × Syntax)) × AreOverHop lines from to pairs × (length pairs ≤ 128)) → IsSound plan
+RankedLinesAreSound =
+    (plan : Network) → IsWellFormed plan → (lines : List Line) → AreRanked plan lines
+    → ((from to : Text)
+    → (pairs : List (Text × Syntax)) × AreOverHop lines from to pairs × (length pairs ≤ 128))
+    → IsSound plan
 
 -- each place that a key comes to in a sound plan has a rank
 abbrev pub SoundPlansHaveRanks : Type 0
-SoundPlansHaveRanks = (plan : Network) → IsSound plan → (key : Key) (caller name : Text) → IsReached plan key caller name → (rank : ℕ) × IsRank plan key caller name rank
+SoundPlansHaveRanks =
+    (plan : Network) → IsSound plan
+    → (key : Key) (caller name : Text)
+    → IsReached plan key caller name
+    → (rank : ℕ) × IsRank plan key caller name rank

@@ -1,4 +1,5 @@
--- The smallest plans that show something: two nodes, where instances enter at the first, which sends them to the second.
+-- The smallest plans that show something: two nodes, where instances enter at the first, which
+-- sends them to the second.
 use Rattle.std.specs.Prelude.{List, [], ◌∷◌, codes, true}
 use Rattle.dr_base.specs.Texts.{Text}
 use Rattle.dr_base.specs.declared.syntax.Syntax.TheVariants.{Explicit}
@@ -29,7 +30,14 @@ image = codes "1.2.840.10008.5.1.4.1.1.2"
 
 -- a rule that keeps whatever comes
 abbrev pub keep_all : Rule
-keep_all = record { «from» = Any; class = Any; modality = Any; station = station.Any; to = []; keep = true }
+keep_all = record {
+  «from» = Any;
+  class = Any;
+  modality = Any;
+  station = station.Any;
+  to = [];
+  keep = true;
+}
 
 -- an accept row that takes CT images in the explicit syntax from everybody
 abbrev pub images_from_all : AcceptRow
@@ -37,19 +45,38 @@ images_from_all = record { «from» = callers.Any; class = image; syntaxes = Exp
 
 -- the node of the scanner, which takes nothing and has no rule
 abbrev pub the_scanner : Node
-the_scanner = record { name = scanner; address = codes "ct1:104"; max_pdu = 0; accepts = []; rules = [] }
+the_scanner =
+    record { name = scanner; address = codes "ct1:104"; max_pdu = 0; accepts = []; rules = [] }
 
 -- the node of the archive, which takes CT images and has these rules
 abbrev pub the_archive : List Rule → Node
-the_archive rules = record { name = archive; address = codes "arch:104"; max_pdu = 0; accepts = images_from_all ∷ []; rules = rules }
+the_archive rules = record {
+  name = archive;
+  address = codes "arch:104";
+  max_pdu = 0;
+  accepts = images_from_all ∷ [];
+  rules = rules;
+}
 
 -- the flow of CT images in the explicit syntax that enter at the scanner and go to the archive
 abbrev pub the_flow : Flow
-the_flow = record { at = scanner; to = archive; classes = image ∷ []; syntaxes = Explicit ∷ []; modalities = values.Any; stations = stations.Any }
+the_flow = record {
+  at = scanner;
+  to = archive;
+  classes = image ∷ [];
+  syntaxes = Explicit ∷ [];
+  modalities = values.Any;
+  stations = stations.Any;
+}
 
 -- the plan of the two nodes and the flow, with these rules of the archive
 abbrev pub two_nodes : List Rule → Network
-two_nodes rules = record { format = One; nodes = the_scanner ∷ the_archive rules ∷ []; flows = the_flow ∷ []; digest = [] }
+two_nodes rules = record {
+  format = One;
+  nodes = the_scanner ∷ the_archive rules ∷ [];
+  flows = the_flow ∷ [];
+  digest = [];
+}
 
 -- the plan of two nodes is sound where the archive keeps what comes
 abbrev pub TwoNodesAreSound : Type 0

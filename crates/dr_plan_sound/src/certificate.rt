@@ -3,8 +3,8 @@ use dr_base::{Seq, Syntax, Text};
 use dr_plan_model::Format;
 use dr_route::OwnedCell;
 
-/// A node with the caller that brings it instances, for the keys of one cell. The caller of what enters at the
-/// node itself is `-`.
+/// A node with the caller that brings it instances, for the keys of one cell. The caller of what
+/// enters at the node itself is `-`.
 #[derive(Clone, PartialEq, Eq, PartialOrd, Ord, Debug, Drop)]
 pub struct Stop {
     pub caller: Text,
@@ -19,7 +19,8 @@ pub struct Line {
     pub rank: u32,
 }
 
-/// A presentation context of a hop: its id (odd, 1 to 255; PS3.8 7.1.1.13), SOP class and transfer syntax.
+/// A presentation context of a hop: its id (odd, 1 to 255; PS3.8 7.1.1.13), SOP class and transfer
+/// syntax.
 #[derive(Clone, PartialEq, Eq, Debug, Drop)]
 pub struct Hop {
     pub from: Text,
@@ -29,8 +30,8 @@ pub struct Hop {
     pub syntax: Syntax,
 }
 
-/// The certificate of a plan: the format of the plan's text and its SHA-256, the presentation contexts of its hops, and
-/// a line for each stop that an instance may come to.
+/// The certificate of a plan: the format of the plan's text and its SHA-256, the presentation
+/// contexts of its hops, and a line for each stop that an instance may come to.
 #[derive(Clone, Debug, Drop)]
 pub struct Certificate {
     pub format: Format,

@@ -1,6 +1,7 @@
 //! Laws of sound plans.
 ghost use Rattle.dr_plan_sound.specs.HopLists.{HopsHaveLists};
-ghost use Rattle.dr_plan_sound.specs.Laws.{RankedLinesAreTheLines, ShownPairsAreTheHops, RankedLinesAreSound, SoundPlansHaveRanks};
+ghost use Rattle.dr_plan_sound.specs.Laws.{RankedLinesAreTheLines, ShownPairsAreTheHops};
+ghost use Rattle.dr_plan_sound.specs.Laws.{RankedLinesAreSound, SoundPlansHaveRanks};
 ghost use Rattle.dr_plan_sound.specs.Samples.{TwoNodesAreSound, WithoutKeepTheyAreNot};
 
 /// Lines that are right one by one are exactly the plan's lines, and their ranks are the greatest.
@@ -8,8 +9,8 @@ pub fn ranked_lines_are_the_lines()
     ensures { RankedLinesAreTheLines }
 {}
 
-/// The pairs that such lines show for a hop are those that go over it, and with at most 128 of them over each
-/// hop the plan is sound.
+/// The pairs that such lines show for a hop are those that go over it, and with at most 128 of them
+/// over each hop the plan is sound.
 pub fn ranked_lines_make_a_sound_plan()
     ensures pairs { ShownPairsAreTheHops }
     ensures sound { RankedLinesAreSound }

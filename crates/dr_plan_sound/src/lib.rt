@@ -1,5 +1,5 @@
-//! Sound plans and their certificates, as values and as definitions: which plan is sound, how far a place of a
-//! walk may still go, and what a certificate of a plan holds.
+//! Sound plans and their certificates, as values and as definitions: which plan is sound, how far a
+//! place of a walk may still go, and what a certificate of a plan holds.
 #![tactic(auto)]
 
 pub mod certificate;

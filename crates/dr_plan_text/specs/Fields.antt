@@ -1,6 +1,8 @@
 -- What the values of a plan's text say.
-use Rattle.std.specs.Prelude.{◌≡◌, ◌≢◌, ℤ, pos, Bool, List, [], ◌∷◌, ◌++◌, Option, Some, None, codes, Contains, AllPairs, flat_map}
-use Rattle.toml.specs.Data.{Data, string, integer, boolean, array, table, Items, no_items, item, Members, no_members, member}
+use Rattle.std.specs.Prelude.{◌≡◌, ◌≢◌, ℤ, pos, Bool, List, [], ◌∷◌, ◌++◌, Option, Some, None}
+use Rattle.std.specs.Prelude.{codes, Contains, AllPairs, flat_map}
+use Rattle.toml.specs.Data.{Data, string, integer, boolean, array, table, Items, no_items, item}
+use Rattle.toml.specs.Data.{Members, no_members, member}
 use Rattle.dr_base.specs.Texts.{Text}
 use Rattle.dr_route.specs.declared.rule.Pattern.{Pattern}
 use Rattle.dr_route.specs.declared.rule.Pattern.TheVariants as pattern
@@ -82,11 +84,15 @@ SaysStation d station.Any = d ≡ star
 SaysStation d (station.Literal literal) = SaysNamed d (station.Literal literal)
 SaysStation d (station.Prefix prefix) = SaysNamed d (station.Prefix prefix)
 
--- the stations of a flow: `*`, or a list of named ones, of which the literals and the prefixes are kept apart, each in the list's order
+-- the stations of a flow: `*`, or a list of named ones, of which the literals and the prefixes are
+-- kept apart, each in the list's order
 abbrev pub SaysStations : Data → Stations → Type 0
 SaysStations d stations.Any = d ≡ star
-SaysStations d (stations.Listed values) = (patterns : List StationPattern) × IsListOf SaysNamed d patterns ×
-    (values.literals ≡ flat_map station_of patterns) × (values.prefixes ≡ flat_map prefix_of patterns)
+SaysStations d (stations.Listed values) =
+    (patterns : List StationPattern)
+    × IsListOf SaysNamed d patterns
+    × (values.literals ≡ flat_map station_of patterns)
+    × (values.prefixes ≡ flat_map prefix_of patterns)
 
 -- the format has the station of a rule: in format 1 there is no prefix
 abbrev pub PatternFits : Format → StationPattern → Type 0

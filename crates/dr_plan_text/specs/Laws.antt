@@ -27,13 +27,21 @@ EmptyTextWritesNothing = Writes [] (record { format = One; nodes = []; flows = [
 abbrev pub node_text : Text
 node_text = codes "[[node]]\nname = \"A\"\naddress = \"h:1\"\n"
 
--- node A at port 1 of host h as it is read: `max_pdu` is 16,384, as where it isn't given, and there are no rows
+-- node A at port 1 of host h as it is read: `max_pdu` is 16,384, as where it isn't given, and there
+-- are no rows
 abbrev pub written_node_text : NodeText
-written_node_text = record { name = codes "A"; address = codes "h:1"; max_pdu = pos 16384; accepts = []; rules = [] }
+written_node_text = record {
+  name = codes "A";
+  address = codes "h:1";
+  max_pdu = pos 16384;
+  accepts = [];
+  rules = [];
+}
 
 -- the text of one node writes the plan of that node alone
 abbrev pub NodeIsWritten : Type 0
-NodeIsWritten = Writes node_text (record { format = One; nodes = written_node_text ∷ []; flows = [] })
+NodeIsWritten =
+    Writes node_text (record { format = One; nodes = written_node_text ∷ []; flows = [] })
 
 -- the text writes no plan
 abbrev WritesNone : Text → Type 0
@@ -65,15 +73,29 @@ rule_text = codes "[[node]]\nname = \"A\"\naddress = \"h:1\"\n[[node.rule]]\nsta
 
 -- the rule as it is read: its prefix is what stands before the asterisk
 abbrev pub written_rule : Rule
-written_rule = record { from = Any; class = Any; modality = Any; station = station.Prefix (codes "CT"); to = []; keep = false }
+written_rule = record {
+  from = Any;
+  class = Any;
+  modality = Any;
+  station = station.Prefix (codes "CT");
+  to = [];
+  keep = false;
+}
 
 -- its node as it is read
 abbrev pub written_rule_node : NodeText
-written_rule_node = record { name = codes "A"; address = codes "h:1"; max_pdu = pos 16384; accepts = []; rules = written_rule ∷ [] }
+written_rule_node = record {
+  name = codes "A";
+  address = codes "h:1";
+  max_pdu = pos 16384;
+  accepts = [];
+  rules = written_rule ∷ [];
+}
 
 -- in format 2 the text with the rule writes it
 abbrev pub RulePrefixIsWritten : Type 0
-RulePrefixIsWritten = Writes (second_format ++ rule_text) (record { format = Two; nodes = written_rule_node ∷ []; flows = [] })
+RulePrefixIsWritten = Writes (second_format ++ rule_text)
+    (record { format = Two; nodes = written_rule_node ∷ []; flows = [] })
 
 -- in format 1 it writes no plan
 abbrev pub RulePrefixIsOfFormatTwo : Type 0
@@ -81,7 +103,8 @@ RulePrefixIsOfFormatTwo = WritesNone rule_text
 
 -- the text of a flow for the station MR, and for those that begin with CT
 abbrev pub flow_text : Text
-flow_text = codes "[[flow]]\nat = \"A\"\nto = \"B\"\nclass = [\"1\"]\nsyntax = [\"1\"]\nmodality = \"*\"\nstation = [\"MR\", \"CT*\"]\n"
+flow_text = codes
+    "[[flow]]\nat = \"A\"\nto = \"B\"\nclass = [\"1\"]\nsyntax = [\"1\"]\nmodality = \"*\"\nstation = [\"MR\", \"CT*\"]\n"
 
 -- the flow as it is read
 abbrev pub written_flow_text : FlowText
@@ -96,7 +119,8 @@ written_flow_text = record {
 
 -- in format 2 the text with the flow writes it
 abbrev pub FlowPrefixIsWritten : Type 0
-FlowPrefixIsWritten = Writes (second_format ++ flow_text) (record { format = Two; nodes = []; flows = written_flow_text ∷ [] })
+FlowPrefixIsWritten = Writes (second_format ++ flow_text)
+    (record { format = Two; nodes = []; flows = written_flow_text ∷ [] })
 
 -- in format 1 it writes no plan
 abbrev pub FlowPrefixIsOfFormatTwo : Type 0

@@ -1,5 +1,6 @@
 -- What the tables of a plan's text say, and what the text says as a whole.
-use Rattle.std.specs.Prelude.{◌≡◌, ◌≢◌, pos, false, List, [], ◌∷◌, Option, Some, codes, Result, Ok, Err, All}
+use Rattle.std.specs.Prelude.{◌≡◌, ◌≢◌, pos, false, List, [], ◌∷◌, Option, Some, codes, Result, Ok}
+use Rattle.std.specs.Prelude.{Err, All}
 use Rattle.std.specs.Str.{IsUtf8}
 use Rattle.toml.specs.Data.{Data, Members, get_member}
 use Rattle.toml.specs.Parse.{parse_document}
@@ -10,7 +11,10 @@ use Rattle.dr_route.specs.declared.rule.StationPattern.TheVariants as station
 use Rattle.dr_plan_model.specs.declared.plan.Format.{Format}
 use Rattle.dr_plan_model.specs.declared.plan.Format.TheVariants.{One}
 use Rattle.dr_plan_model.specs.Formed.{IsClass, IsLiteral, IsAddress}
-use Rattle.dr_plan_text.specs.Fields.{SaysText, SaysFormed, SaysNumber, SaysFlag, SaysFormat, SaysPattern, SaysStation, SaysValues, SaysStations, SaysCallers, SaysTable, SaysTextsOnce, IsListOf, IsSomeOf, Given, GivenOr, HasOnly, PatternFits, StationsFit}
+use Rattle.dr_plan_text.specs.Fields.{SaysText, SaysFormed, SaysNumber, SaysFlag, SaysFormat}
+use Rattle.dr_plan_text.specs.Fields.{SaysPattern, SaysStation, SaysValues, SaysStations}
+use Rattle.dr_plan_text.specs.Fields.{SaysCallers, SaysTable, SaysTextsOnce, IsListOf, IsSomeOf}
+use Rattle.dr_plan_text.specs.Fields.{Given, GivenOr, HasOnly, PatternFits, StationsFit}
 use Rattle.dr_plan_text.specs.declared.words.AcceptText.{AcceptText}
 use Rattle.dr_plan_text.specs.declared.words.NodeText.{NodeText}
 use Rattle.dr_plan_text.specs.declared.words.FlowText.{FlowText}
@@ -31,14 +35,18 @@ pub record IsAcceptTable (fields : Members) (row : AcceptText) : Type 0 where
 
 -- the keys of a rule, `[[node.rule]]`
 abbrev pub rule_keys : List Text
-rule_keys = codes "from" ∷ codes "class" ∷ codes "modality" ∷ codes "station" ∷ codes "to" ∷ codes "keep" ∷ []
+rule_keys =
+    codes "from" ∷ codes "class" ∷ codes "modality" ∷ codes "station" ∷ codes "to" ∷ codes "keep"
+    ∷ []
 
 -- the table says the rule: what isn't given is any value, no target, and not kept
 pub record IsRuleTable (fields : Members) (rule : Rule) : Type 0 where
   pub only : HasOnly rule_keys fields
   pub from : GivenOr Any (SaysPattern SaysText) (get_member (codes "from") fields) rule.from
-  pub class : GivenOr Any (SaysPattern (SaysFormed IsClass)) (get_member (codes "class") fields) rule.class
-  pub modality : GivenOr Any (SaysPattern (SaysFormed IsLiteral)) (get_member (codes "modality") fields) rule.modality
+  pub class :
+      GivenOr Any (SaysPattern (SaysFormed IsClass)) (get_member (codes "class") fields) rule.class
+  pub modality : GivenOr Any (SaysPattern (SaysFormed IsLiteral))
+      (get_member (codes "modality") fields) rule.modality
   pub station : GivenOr station.Any SaysStation (get_member (codes "station") fields) rule.station
   pub to : GivenOr [] (IsListOf SaysText) (get_member (codes "to") fields) rule.to
   pub keep : GivenOr false SaysFlag (get_member (codes "keep") fields) rule.keep
@@ -53,12 +61,16 @@ pub record IsNodeTable (fields : Members) (node : NodeText) : Type 0 where
   pub name : Given SaysText (get_member (codes "name") fields) node.name
   pub address : Given (SaysFormed IsAddress) (get_member (codes "address") fields) node.address
   pub max_pdu : GivenOr (pos 16384) SaysNumber (get_member (codes "max_pdu") fields) node.max_pdu
-  pub accept : GivenOr [] (IsListOf (SaysTable IsAcceptTable)) (get_member (codes "accept") fields) node.accepts
-  pub rule : GivenOr [] (IsListOf (SaysTable IsRuleTable)) (get_member (codes "rule") fields) node.rules
+  pub accept : GivenOr [] (IsListOf (SaysTable IsAcceptTable)) (get_member (codes "accept") fields)
+      node.accepts
+  pub rule :
+      GivenOr [] (IsListOf (SaysTable IsRuleTable)) (get_member (codes "rule") fields) node.rules
 
 -- the keys of a flow, `[[flow]]`
 abbrev pub flow_keys : List Text
-flow_keys = codes "at" ∷ codes "to" ∷ codes "class" ∷ codes "syntax" ∷ codes "modality" ∷ codes "station" ∷ []
+flow_keys =
+    codes "at" ∷ codes "to" ∷ codes "class" ∷ codes "syntax" ∷ codes "modality" ∷ codes "station"
+    ∷ []
 
 -- the table says the flow: each of its six values has to be given
 pub record IsFlowTable (fields : Members) (flow : FlowText) : Type 0 where
@@ -87,8 +99,10 @@ root_keys = codes "format" ∷ codes "node" ∷ codes "flow" ∷ []
 pub record IsRoot (fields : Members) (plan : PlanText) : Type 0 where
   pub only : HasOnly root_keys fields
   pub format : IsFormat (get_member (codes "format") fields) plan.format
-  pub node : GivenOr [] (IsListOf (SaysTable IsNodeTable)) (get_member (codes "node") fields) plan.nodes
-  pub flow : GivenOr [] (IsListOf (SaysTable IsFlowTable)) (get_member (codes "flow") fields) plan.flows
+  pub node :
+      GivenOr [] (IsListOf (SaysTable IsNodeTable)) (get_member (codes "node") fields) plan.nodes
+  pub flow :
+      GivenOr [] (IsListOf (SaysTable IsFlowTable)) (get_member (codes "flow") fields) plan.flows
   pub fits : FitsFormat plan
 
 -- the bytes are text in UTF-8, which TOML reads as this tree

@@ -4,7 +4,9 @@ ghost use Rattle.toml.specs.Data.{integer};
 ghost use Rattle.toml.specs.View.{view};
 ghost use Rattle.dr_base.specs.Texts.{Text as Words};
 ghost use Rattle.dr_plan_model.specs.Formed.{IsClass, IsLiteral, IsAddress};
-ghost use Rattle.dr_plan_text.specs.Fields.{SaysText, SaysFormed, SaysNumber, SaysFlag, SaysFormat, SaysPattern, SaysValues, SaysCallers, SaysTextsOnce, star};
+ghost use Rattle.dr_plan_text.specs.Fields.{SaysText, SaysFormed, SaysNumber, SaysFlag, SaysFormat};
+ghost use Rattle.dr_plan_text.specs.Fields.{SaysPattern, SaysValues, SaysCallers, SaysTextsOnce};
+ghost use Rattle.dr_plan_text.specs.Fields.{star};
 ghost use Rattle.dr_plan_text.specs.declared.fault.ReadFault.TheVariants.{Field};
 
 use crate::fault::ReadFault;

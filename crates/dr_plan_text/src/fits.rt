@@ -56,7 +56,8 @@ fn rules_fit(format: Format, rules: &[Rule]) -> bool
 }
 
 fn nodes_fit(format: Format, nodes: &[NodeText]) -> bool
-    ensures { IsTrue result ↔ All (λ node. All (λ rule. PatternFits format rule.station) node.rules) nodes.now }
+    ensures { IsTrue result
+        ↔ All (λ node. All (λ rule. PatternFits format rule.station) node.rules) nodes.now }
 {
     nodes
         .iter()

@@ -1,8 +1,10 @@
 //! Values and fields of a table, for any form of value.
-ghost use Rattle.std.specs.Prelude.{◌≡◌, option_map, IsSome, IfOk, IfErr, List, ◌↔◌, IsTrue, Contains, map};
+ghost use Rattle.std.specs.Prelude.{◌≡◌, option_map, IsSome, IfOk, IfErr, List, ◌↔◌, IsTrue};
+ghost use Rattle.std.specs.Prelude.{Contains, map};
 ghost use Rattle.toml.specs.Data.{Data, Members, get_member};
 ghost use Rattle.toml.specs.View.{view, items_view, table_view};
-ghost use Rattle.dr_plan_text.specs.Fields.{Lists, IsListOf, IsSomeOf, SaysTable, Given, GivenOr, HasOnly};
+ghost use Rattle.dr_plan_text.specs.Fields.{Lists, IsListOf, IsSomeOf, SaysTable, Given, GivenOr};
+ghost use Rattle.dr_plan_text.specs.Fields.{HasOnly};
 ghost use Rattle.dr_plan_text.specs.declared.fault.ReadFault.TheVariants.{Field, Memory};
 
 use crate::fault::ReadFault;
@@ -10,7 +12,8 @@ use dr_base::Seq;
 use std::alloc::Global;
 use toml::{Table, Value};
 
-/// A form of value: what a value in TOML says, if it has that form. Forms are types of which no value is made.
+/// A form of value: what a value in TOML says, if it has that form. Forms are types of which no
+/// value is made.
 pub trait Form {
     type Output: Drop;
 
@@ -19,13 +22,15 @@ pub trait Form {
     /// What the value says.
     fn read(alloc: Global, value: &Value) -> Result<Self::Output, ReadFault>
         ensures ok { IfOk result (says (view value.now)) }
-        ensures field { IfErr result (λ e. e ≡ Field → (x : Self.Output) → says (view value.now) x → ⊥) };
+        ensures field { IfErr result (λ e.
+            e ≡ Field → (x : Self.Output) → says (view value.now) x → ⊥) };
 }
 
 /// What the values of an array say, in order.
 fn read_items<F: Form>(alloc: Global, items: &[Value]) -> Result<Seq<F::Output>, ReadFault>
     ensures ok { IfOk result (Lists F.says (items_view items.now)) }
-    ensures field { IfErr result (λ e. e ≡ Field → (xs : List F.Output) → Lists F.says (items_view items.now) xs → ⊥) }
+    ensures field { IfErr result (λ e.
+        e ≡ Field → (xs : List F.Output) → Lists F.says (items_view items.now) xs → ⊥) }
 {
     let mut read = Vec::new(alloc);
     for item in items {
@@ -76,7 +81,8 @@ pub trait TableForm {
     /// What the table says.
     fn read_table(alloc: Global, table: &Table) -> Result<Self::Output, ReadFault>
         ensures ok { IfOk result (is_table (table_view table.now)) }
-        ensures field { IfErr result (λ e. e ≡ Field → (x : Self.Output) → is_table (table_view table.now) x → ⊥) };
+        ensures field { IfErr result (λ e.
+            e ≡ Field → (x : Self.Output) → is_table (table_view table.now) x → ⊥) };
 }
 
 /// A table of one form.
@@ -105,7 +111,9 @@ pub fn value_at<'a>(table: &'a Table, key: &str) -> Option<&'a Value>
 /// What the value at a key says, which must stand there.
 pub fn required<F: Form>(alloc: Global, table: &Table, key: &str) -> Result<F::Output, ReadFault>
     ensures ok { IfOk result (Given F.says (get_member key.now (table_view table.now))) }
-    ensures field { IfErr result (λ e. e ≡ Field → (x : F.Output) → Given F.says (get_member key.now (table_view table.now)) x → ⊥) }
+    ensures field { IfErr result (λ e. e ≡ Field → (x : F.Output)
+        → Given F.says (get_member key.now (table_view table.now)) x
+        → ⊥) }
 {
     match value_at(table, key) {
         Some(value) => F::read(alloc, value),
@@ -121,8 +129,11 @@ pub fn defaulted<F: Form>(
     default: F::Output,
 ) -> Result<F::Output, ReadFault>
     ensures ok { IfOk result (GivenOr default F.says (get_member key.now (table_view table.now))) }
-    ensures field { IfErr result (λ e. e ≡ Field → (x : F.Output) → GivenOr default F.says (get_member key.now (table_view table.now)) x → ⊥) }
-    ensures memory { IfErr result (λ e. e ≡ Memory → IsSome (get_member key.now (table_view table.now))) }
+    ensures field { IfErr result (λ e. e ≡ Field → (x : F.Output)
+        → GivenOr default F.says (get_member key.now (table_view table.now)) x
+        → ⊥) }
+    ensures memory { IfErr result (λ e.
+        e ≡ Memory → IsSome (get_member key.now (table_view table.now))) }
 {
     match value_at(table, key) {
         Some(value) => F::read(alloc, value),

@@ -1,5 +1,6 @@
 //! The forms of classes, literals, prefixes and addresses.
-ghost use Rattle.std.specs.Prelude.{◌≡◌, ◌↔◌, IsTrue, IfSome, IfNone, MatchOption, Contains, All, ◌≢◌, ◌≤◌, ◌<◌};
+ghost use Rattle.std.specs.Prelude.{◌≡◌, ◌↔◌, IsTrue, IfSome, IfNone, MatchOption, Contains, All};
+ghost use Rattle.std.specs.Prelude.{◌≢◌, ◌≤◌, ◌<◌};
 ghost use Rattle.std.specs.Str.Parse.{digits_value};
 ghost use Rattle.dr_plan_text.specs.Splits.{SplitsAtLast, IsPort};
 ghost use Rattle.dr_plan_model.specs.Formed.{IsTrimmed, IsClass, IsLiteral, IsPrefix, IsAddress};
@@ -65,7 +66,8 @@ fn split_at_last(text: &[u8], mark: u8) -> Option<(&[u8], &[u8])>
 
 /// The number that one to five digits write.
 fn port_of(digits: &[u8]) -> Option<u32>
-    ensures { MatchOption result (IsPort digits.now → ⊥) (λ port. IsPort digits.now × (port ≡ digits_value 10 digits.now)) }
+    ensures { MatchOption result (IsPort digits.now → ⊥) (λ port.
+        IsPort digits.now × (port ≡ digits_value 10 digits.now)) }
 {
     if digits.is_empty() || digits.len() > 5 {
         return None;
@@ -87,8 +89,8 @@ fn is_visible(text: &[u8]) -> bool
     text.iter().all(|b| *b >= 33 && *b < 127)
 }
 
-/// Whether it is a host and a port, `host:port`: up to 255 printable bytes without a blank, the port one to
-/// five digits and at most 65,535.
+/// Whether it is a host and a port, `host:port`: up to 255 printable bytes without a blank, the
+/// port one to five digits and at most 65,535.
 pub fn is_address(text: &[u8]) -> bool
     ensures { IsTrue result ↔ IsAddress text.now }
 {

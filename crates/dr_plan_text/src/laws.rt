@@ -1,20 +1,25 @@
 //! Laws of plans as they are written: what a reader may take from the definitions.
-ghost use Rattle.dr_plan_text.specs.Laws.{EachTextWritesOnePlan, EmptyTextWritesNothing, NodeIsWritten, KeyIsUnknown, FormatIsOther, AddressIsMissing, PortIsTooHigh, RulePrefixIsWritten, RulePrefixIsOfFormatTwo, FlowPrefixIsWritten, FlowPrefixIsOfFormatTwo, StarNamesNone, StarsInsideNameNone, SpacesNameNone};
+ghost use Rattle.dr_plan_text.specs.Laws.{EachTextWritesOnePlan, EmptyTextWritesNothing};
+ghost use Rattle.dr_plan_text.specs.Laws.{NodeIsWritten, KeyIsUnknown, FormatIsOther};
+ghost use Rattle.dr_plan_text.specs.Laws.{AddressIsMissing, PortIsTooHigh, RulePrefixIsWritten};
+ghost use Rattle.dr_plan_text.specs.Laws.{RulePrefixIsOfFormatTwo, FlowPrefixIsWritten};
+ghost use Rattle.dr_plan_text.specs.Laws.{FlowPrefixIsOfFormatTwo, StarNamesNone};
+ghost use Rattle.dr_plan_text.specs.Laws.{StarsInsideNameNone, SpacesNameNone};
 
 /// A text writes one plan at most.
 pub fn a_text_writes_one_plan()
     ensures { EachTextWritesOnePlan }
 {}
 
-/// The empty text writes the plan without nodes; a text with a node writes that node, with the defaults of
-/// what it leaves out.
+/// The empty text writes the plan without nodes; a text with a node writes that node, with the
+/// defaults of what it leaves out.
 pub fn small_texts_write_plans()
     ensures nothing { EmptyTextWritesNothing }
     ensures node { NodeIsWritten }
 {}
 
-/// A text writes no plan where a key is unknown, where the format is neither 1 nor 2, where a node has no address, and
-/// where the port of an address is above 65,535.
+/// A text writes no plan where a key is unknown, where the format is neither 1 nor 2, where a node
+/// has no address, and where the port of an address is above 65,535.
 pub fn ill_formed_texts_write_none()
     ensures key { KeyIsUnknown }
     ensures format { FormatIsOther }
@@ -22,7 +27,8 @@ pub fn ill_formed_texts_write_none()
     ensures port { PortIsTooHigh }
 {}
 
-/// In format 2 a rule and a flow may name stations by what they begin with, and the same texts of format 1 write no plan.
+/// In format 2 a rule and a flow may name stations by what they begin with, and the same texts of
+/// format 1 write no plan.
 pub fn prefixes_are_of_format_2()
     ensures rule { RulePrefixIsWritten }
     ensures rule_of_1 { RulePrefixIsOfFormatTwo }
@@ -30,7 +36,8 @@ pub fn prefixes_are_of_format_2()
     ensures flow_of_1 { FlowPrefixIsOfFormatTwo }
 {}
 
-/// What names no station in any format: `*` alone, an asterisk elsewhere than at the end, and a prefix with a space at one of its ends.
+/// What names no station in any format: `*` alone, an asterisk elsewhere than at the end, and a
+/// prefix with a space at one of its ends.
 pub fn ill_formed_prefixes_name_none()
     ensures star { StarNamesNone }
     ensures inside { StarsInsideNameNone }

@@ -1,5 +1,6 @@
-//! A plan as its text writes it: the tables and fields that TOML shows, each of its own form, while names,
-//! transfer syntaxes and lengths are still as they were written. In format 2 a station may be named by what it begins with.
+//! A plan as its text writes it: the tables and fields that TOML shows, each of its own form, while
+//! names, transfer syntaxes and lengths are still as they were written. In format 2 a station may
+//! be named by what it begins with.
 #![tactic(auto)]
 
 pub mod fault;

@@ -1,4 +1,5 @@
-//! The forms of stations. A prefix is read in each format; whether the format has prefixes is tested of the whole plan.
+//! The forms of stations. A prefix is read in each format; whether the format has prefixes is
+//! tested of the whole plan.
 ghost use Rattle.std.specs.Prelude.{◌≡◌, ◌++◌, ◌∷◌, [], IfOk, IfErr, OnOk, MatchOption, flat_map};
 ghost use Rattle.toml.specs.Data.{string};
 ghost use Rattle.dr_base.specs.Texts.{Text as Words};
@@ -20,14 +21,16 @@ use toml::Value;
 
 /// What stands before a `*` at the end of a text.
 fn before_star(text: &[u8]) -> Option<&[u8]>
-    ensures { MatchOption result ((front : Words) → text.now ≡ front ++ 42 ∷ [] → ⊥) (λ front. text.now ≡ front.now ++ 42 ∷ []) }
+    ensures { MatchOption result ((front : Words) → text.now ≡ front ++ 42 ∷ [] → ⊥)
+        (λ front. text.now ≡ front.now ++ 42 ∷ []) }
 {
     text.strip_suffix(b"*".as_slice())
 }
 
 /// The prefix that a text writes, with `*` behind it.
 fn prefix_in(text: &[u8]) -> Option<&[u8]>
-    ensures { MatchOption result ((prefix : Words) → text.now ≡ prefix ++ 42 ∷ [] → IsPrefix prefix → ⊥)
+    ensures { MatchOption result
+        ((prefix : Words) → text.now ≡ prefix ++ 42 ∷ [] → IsPrefix prefix → ⊥)
         (λ prefix. (text.now ≡ prefix.now ++ 42 ∷ []) × IsPrefix prefix.now) }
 {
     let Some(prefix) = before_star(text) else {
@@ -39,10 +42,12 @@ fn prefix_in(text: &[u8]) -> Option<&[u8]>
     None
 }
 
-/// The station that a text names: no literal has a `*`, so that a text is a literal or a prefix, and never both.
+/// The station that a text names: no literal has a `*`, so that a text is a literal or a prefix,
+/// and never both.
 fn named_in(alloc: Global, text: &[u8]) -> Result<StationPattern, ReadFault>
     ensures ok { IfOk result (SaysNamed (string text.now)) }
-    ensures field { IfErr result (λ e. e ≡ Field → (x : Named) → SaysNamed (string text.now) x → ⊥) }
+    ensures field { IfErr result (λ e.
+        e ≡ Field → (x : Named) → SaysNamed (string text.now) x → ⊥) }
 {
     if is_literal(text) {
         return Ok(StationPattern::Literal(Text::copy_of(alloc, text)?));
@@ -88,7 +93,9 @@ impl Form for AnyStation {
 
 /// Adds the literal or the prefix of a pattern to the others of its kind.
 fn add_named(values: &mut StationValues, pattern: &StationPattern) -> Result<(), AllocError>
-    ensures { OnOk result ((values.new.literals ≡ values.old.literals ++ station_of pattern.now) × (values.new.prefixes ≡ values.old.prefixes ++ prefix_of pattern.now)) }
+    ensures { OnOk result
+        ((values.new.literals ≡ values.old.literals ++ station_of pattern.now)
+        × (values.new.prefixes ≡ values.old.prefixes ++ prefix_of pattern.now)) }
 {
     match pattern {
         StationPattern::Any => Ok(()),
@@ -99,7 +106,8 @@ fn add_named(values: &mut StationValues, pattern: &StationPattern) -> Result<(),
 
 /// The literals of patterns and their prefixes, each in the order of the patterns.
 fn values_of(alloc: Global, patterns: &[StationPattern]) -> Result<StationValues, AllocError>
-    ensures { IfOk result (λ values. (values.literals ≡ flat_map station_of patterns.now) × (values.prefixes ≡ flat_map prefix_of patterns.now)) }
+    ensures { IfOk result (λ values. (values.literals ≡ flat_map station_of patterns.now)
+        × (values.prefixes ≡ flat_map prefix_of patterns.now)) }
 {
     let mut values = StationValues {
         literals: Seq::new(alloc),

@@ -2,7 +2,8 @@
 ghost use Rattle.std.specs.Prelude.{◌≡◌, ◌≢◌, IfOk, IfErr};
 ghost use Rattle.toml.specs.Data.{no_members};
 ghost use Rattle.toml.specs.View.{table_view};
-ghost use Rattle.dr_plan_text.specs.Tables.{IsAcceptTable, IsRuleTable, IsNodeTable, IsFlowTable, IsRoot};
+ghost use Rattle.dr_plan_text.specs.Tables.{IsAcceptTable, IsRuleTable, IsNodeTable, IsFlowTable};
+ghost use Rattle.dr_plan_text.specs.Tables.{IsRoot};
 ghost use Rattle.dr_plan_text.specs.declared.fault.ReadFault.TheVariants.{Field, Memory};
 ghost use Rattle.dr_plan_text.specs.declared.words.PlanText.{PlanText as Written};
 
@@ -120,10 +121,12 @@ impl TableForm for FlowTable {
     }
 }
 
-/// The format, nodes and flows of the root table. What its format doesn't have is a fault of a field too.
+/// The format, nodes and flows of the root table. What its format doesn't have is a fault of a
+/// field too.
 pub fn read_root(alloc: Global, root: &Table) -> Result<PlanText, ReadFault>
     ensures ok { IfOk result (IsRoot (table_view root.now)) }
-    ensures field { IfErr result (λ e. e ≡ Field → (plan : Written) → IsRoot (table_view root.now) plan → ⊥) }
+    ensures field { IfErr result (λ e.
+        e ≡ Field → (plan : Written) → IsRoot (table_view root.now) plan → ⊥) }
     ensures memory { IfErr result (λ e. e ≡ Memory → table_view root.now ≢ no_members) }
 {
     if !has_only(root, &["format", "node", "flow"]) {

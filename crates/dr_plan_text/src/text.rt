@@ -6,8 +6,8 @@ use crate::tables::read_root;
 use crate::words::PlanText;
 use std::alloc::Global;
 
-/// The plan as the text writes it, or the first fault: the bytes aren't TOML, then a field. Memory is answered
-/// only where a growth was refused.
+/// The plan as the text writes it, or the first fault: the bytes aren't TOML, then a field. Memory
+/// is answered only where a growth was refused.
 pub fn read_text(alloc: Global, text: &[u8]) -> Result<PlanText, TextFault>
     ensures { ReadsText text.now result }
 {

@@ -3,8 +3,8 @@ use dr_base::{Seq, Text};
 use dr_plan_model::{Format, Stations, Values};
 use dr_route::{Callers, Rule};
 
-/// A row of a node's accept list: `from` and the transfer syntaxes are any texts, `class` has its form. There
-/// is one syntax or more, and none twice.
+/// A row of a node's accept list: `from` and the transfer syntaxes are any texts, `class` has its
+/// form. There is one syntax or more, and none twice.
 #[derive(Debug, Drop)]
 pub struct AcceptText {
     pub from: Callers,
@@ -12,8 +12,8 @@ pub struct AcceptText {
     pub syntaxes: Seq<Text>,
 }
 
-/// A node: its address has its form, its name is any text, and `max_pdu` (bytes) any integer. In its rules
-/// the names are any texts, and class, modality and station have their forms.
+/// A node: its address has its form, its name is any text, and `max_pdu` (bytes) any integer. In
+/// its rules the names are any texts, and class, modality and station have their forms.
 #[derive(Debug, Drop)]
 pub struct NodeText {
     pub name: Text,
@@ -23,8 +23,8 @@ pub struct NodeText {
     pub rules: Seq<Rule>,
 }
 
-/// A flow: its names and transfer syntaxes are any texts, while classes, modalities and stations have their
-/// forms. There is one class or more, and one syntax or more.
+/// A flow: its names and transfer syntaxes are any texts, while classes, modalities and stations
+/// have their forms. There is one class or more, and one syntax or more.
 #[derive(Debug, Drop)]
 pub struct FlowText {
     pub at: Text,
@@ -35,7 +35,8 @@ pub struct FlowText {
     pub stations: Stations,
 }
 
-/// The format of a plan's text, and its nodes and flows in the order of the text. In format 1 they name no prefix.
+/// The format of a plan's text, and its nodes and flows in the order of the text. In format 1 they
+/// name no prefix.
 #[derive(Debug, Drop)]
 pub struct PlanText {
     pub format: Format,

@@ -1,5 +1,5 @@
--- Cells: the keys with one class, one transfer syntax, for modality one literal of the plan or none of them, and for station one literal, the values under
--- one prefix, or none of them.
+-- Cells: the keys with one class, one transfer syntax, for modality one literal of the plan or none
+-- of them, and for station one literal, the values under one prefix, or none of them.
 use Rattle.std.specs.Prelude.{◌≡◌, ◌≤◌, List, length, Contains}
 use Rattle.dr_base.specs.Texts.{Text, IsInByteOrder}
 use Rattle.dr_route.specs.Routes.{Begins}
@@ -37,17 +37,22 @@ owned_station borrowed_station.Rest = station.Rest
 pub record IsLongest (prefixes : List Text) (prefix value : Text) : Type 0 where
   pub among : Contains prefixes prefix
   pub begins : Begins prefix value
-  pub longest : (other : Text) → Contains prefixes other → Begins other value → length other ≤ length prefix
+  pub longest : (other : Text) → Contains prefixes other → Begins other value
+      → length other ≤ length prefix
 
 -- the value begins with no prefix of the list
 abbrev pub HasNoPrefix : List Text → Text → Type 0
 HasNoPrefix prefixes value = (prefix : Text) → Contains prefixes prefix → Begins prefix value → ⊥
 
--- the value lies in that part of the stations: it is the literal; or it is no literal, and the part is its longest prefix or, if it has none, the rest
+-- the value lies in that part of the stations: it is the literal; or it is no literal, and the part
+-- is its longest prefix or, if it has none, the rest
 abbrev pub InStation : StationValues → OwnedStation → Text → Type 0
-InStation values (station.Literal literal) value = Contains values.literals literal × (literal ≡ value)
-InStation values (station.Prefix prefix) value = (Contains values.literals value → ⊥) × IsLongest values.prefixes prefix value
-InStation values station.Rest value = (Contains values.literals value → ⊥) × HasNoPrefix values.prefixes value
+InStation values (station.Literal literal) value =
+    Contains values.literals literal × (literal ≡ value)
+InStation values (station.Prefix prefix) value =
+    (Contains values.literals value → ⊥) × IsLongest values.prefixes prefix value
+InStation values station.Rest value =
+    (Contains values.literals value → ⊥) × HasNoPrefix values.prefixes value
 
 -- the values that the plan names for each field stand in byte order, each once
 pub record AreInOrder (literals : Literals) : Type 0 where
@@ -55,7 +60,8 @@ pub record AreInOrder (literals : Literals) : Type 0 where
   pub stations : IsInByteOrder literals.stations.literals
   pub prefixes : IsInByteOrder literals.stations.prefixes
 
--- the key lies in the cell: same class and transfer syntax, and modality and station in the cell's parts
+-- the key lies in the cell: same class and transfer syntax, and modality and station in the cell's
+-- parts
 pub record InCell (literals : Literals) (cell : OwnedCell) (key : Key) : Type 0 where
   pub class : cell.class ≡ key.class
   pub syntax : cell.syntax ≡ key.syntax

@@ -35,17 +35,26 @@ IsKnownStation values (pattern.Prefix prefix) = Contains values.prefixes prefix
 
 -- what a rule asks of modality and station is among what the plan names
 abbrev pub IsKnownRule : Literals → Rule → Type 0
-IsKnownRule literals rule = IsKnown literals.modalities rule.modality × IsKnownStation literals.stations rule.station
+IsKnownRule literals rule =
+    IsKnown literals.modalities rule.modality × IsKnownStation literals.stations rule.station
 
 -- keys of one cell are sent to the same nodes by rules whose literals the plan names
 abbrev pub AgreeInSends : Type 0
-AgreeInSends = (literals : Literals) (cell : OwnedCell) (k l : Key) → InCell literals cell k → InCell literals cell l →
-    (rules : List Rule) → All (IsKnownRule literals) rules → (caller name : Text) → SendsBy rules caller k name → SendsBy rules caller l name
+AgreeInSends =
+    (literals : Literals) (cell : OwnedCell) (k l : Key)
+    → InCell literals cell k → InCell literals cell l → (rules : List Rule)
+    → All (IsKnownRule literals) rules
+    → (caller name : Text)
+    → SendsBy rules caller k name
+    → SendsBy rules caller l name
 
 -- keys of one cell are kept alike by rules whose literals the plan names
 abbrev pub AgreeInKeeps : Type 0
-AgreeInKeeps = (literals : Literals) (cell : OwnedCell) (k l : Key) → InCell literals cell k → InCell literals cell l →
-    (rules : List Rule) → All (IsKnownRule literals) rules → (caller : Text) → KeepsBy rules caller k → KeepsBy rules caller l
+AgreeInKeeps =
+    (literals : Literals) (cell : OwnedCell) (k l : Key)
+    → InCell literals cell k → InCell literals cell l → (rules : List Rule)
+    → All (IsKnownRule literals) rules
+    → (caller : Text) → KeepsBy rules caller k → KeepsBy rules caller l
 
 -- each key lies in some cell
 abbrev pub CellsCover : Type 0
@@ -53,11 +62,17 @@ CellsCover = (literals : Literals) (key : Key) → (cell : OwnedCell) × InCell 
 
 -- each key lies in no more than one cell
 abbrev pub CellsAreApart : Type 0
-CellsAreApart = (literals : Literals) (key : Key) (a b : OwnedCell) → InCell literals a key → InCell literals b key → a ≡ b
+CellsAreApart =
+    (literals : Literals) (key : Key) (a b : OwnedCell)
+    → InCell literals a key → InCell literals b key → a ≡ b
 
 -- no value has two longest prefixes
 abbrev pub LongestIsOne : Type 0
-LongestIsOne = (prefixes : List Text) (a b value : Text) → IsLongest prefixes a value → IsLongest prefixes b value → a ≡ b
+LongestIsOne =
+    (prefixes : List Text) (a b value : Text)
+    → IsLongest prefixes a value
+    → IsLongest prefixes b value
+    → a ≡ b
 
 -- each byte of each of the texts is below 127, as of printable ASCII
 abbrev pub ArePlain : List Text → Type 0
@@ -79,7 +94,8 @@ abbrev pub value_of : OwnedField → Text
 value_of (part.Literal literal) = literal
 value_of part.Rest = 128 ∷ []
 
--- a station of the part: the literal; the prefix and the byte 128, which no literal and no prefix has; or the text of this byte alone
+-- a station of the part: the literal; the prefix and the byte 128, which no literal and no prefix
+-- has; or the text of this byte alone
 abbrev pub station_value_of : OwnedStation → Text
 station_value_of (station.Literal literal) = literal
 station_value_of (station.Prefix prefix) = prefix ++ (128 ∷ [])
@@ -87,7 +103,12 @@ station_value_of station.Rest = 128 ∷ []
 
 -- one key of the cell, which stands for all of them
 abbrev pub key_of : OwnedCell → Key
-key_of cell = record { class = cell.class; syntax = cell.syntax; modality = value_of cell.modality; station = station_value_of cell.station }
+key_of cell = record {
+  class = cell.class;
+  syntax = cell.syntax;
+  modality = value_of cell.modality;
+  station = station_value_of cell.station;
+}
 
 -- the stations that a plan names are printable ASCII, and no prefix is empty
 pub record ArePlainStations (values : StationValues) : Type 0 where
@@ -97,5 +118,10 @@ pub record ArePlainStations (values : StationValues) : Type 0 where
 
 -- each cell has a key in it, where what the plan names is printable ASCII
 abbrev pub EachCellHasAKey : Type 0
-EachCellHasAKey = (literals : Literals) (cell : OwnedCell) → ArePlain literals.modalities.literals → ArePlainStations literals.stations →
-    IsPart literals.modalities cell.modality → IsStationPart literals.stations cell.station → InCell literals cell (key_of cell)
+EachCellHasAKey =
+    (literals : Literals) (cell : OwnedCell)
+    → ArePlain literals.modalities.literals
+    → ArePlainStations literals.stations
+    → IsPart literals.modalities cell.modality
+    → IsStationPart literals.stations cell.station
+    → InCell literals cell (key_of cell)

@@ -34,17 +34,22 @@ MatchesStation (station.Prefix prefix) value = Begins prefix value
 -- the rule holds for what the caller brings
 abbrev pub Holds : Rule → Text → Key → Type 0
 Holds rule caller key =
-    (caller ≢ local) × Matches rule.from caller × Matches rule.class key.class × Matches rule.modality key.modality × MatchesStation rule.station key.station
+    (caller ≢ local) × Matches rule.from caller
+    × Matches rule.class key.class
+    × Matches rule.modality key.modality
+    × MatchesStation rule.station key.station
 
 -- some rule that holds for what the caller brings names the node among its targets
 abbrev pub SendsBy : List Rule → Text → Key → Text → Type 0
 SendsBy [] caller key name = ⊥
-SendsBy (rule ∷ rules) caller key name = (Holds rule caller key × Contains rule.to name) ⊎ SendsBy rules caller key name
+SendsBy (rule ∷ rules) caller key name =
+    (Holds rule caller key × Contains rule.to name) ⊎ SendsBy rules caller key name
 
 -- some rule that holds for what the caller brings keeps it
 abbrev pub KeepsBy : List Rule → Text → Key → Type 0
 KeepsBy [] caller key = ⊥
-KeepsBy (rule ∷ rules) caller key = (Holds rule caller key × IsTrue rule.keep) ⊎ KeepsBy rules caller key
+KeepsBy (rule ∷ rules) caller key =
+    (Holds rule caller key × IsTrue rule.keep) ⊎ KeepsBy rules caller key
 
 -- the accept row speaks of the caller: of everybody, or by its name
 abbrev pub IsCaller : Callers → Text → Type 0
@@ -53,9 +58,11 @@ IsCaller (callers.Listed names) caller = Contains names caller
 
 -- the accept row takes the class in that transfer syntax from the caller
 abbrev pub Takes : AcceptRow → Text → Text → Syntax → Type 0
-Takes row caller class syntax = IsCaller row.from caller × (row.class ≡ class) × Contains row.syntaxes syntax
+Takes row caller class syntax =
+    IsCaller row.from caller × (row.class ≡ class) × Contains row.syntaxes syntax
 
 -- some accept row takes the class in that transfer syntax from the caller
 abbrev pub AcceptsBy : List AcceptRow → Text → Text → Syntax → Type 0
 AcceptsBy [] caller class syntax = ⊥
-AcceptsBy (row ∷ rows) caller class syntax = Takes row caller class syntax ⊎ AcceptsBy rows caller class syntax
+AcceptsBy (row ∷ rows) caller class syntax =
+    Takes row caller class syntax ⊎ AcceptsBy rows caller class syntax

@@ -12,8 +12,8 @@ pub enum Callers {
     Listed(Seq<Text>),
 }
 
-/// A row of a node's accept list: from these callers it takes this SOP class in these transfer syntaxes, of
-/// which it prefers the earlier ones.
+/// A row of a node's accept list: from these callers it takes this SOP class in these transfer
+/// syntaxes, of which it prefers the earlier ones.
 #[derive(Clone, Debug, Drop)]
 pub struct AcceptRow {
     pub from: Callers,

@@ -2,7 +2,8 @@
 ghost use Rattle.std.specs.Prelude.{◌≡◌, IfOk};
 ghost use Rattle.std.specs.Prelude.{◌++◌, ◌∷◌, []};
 ghost use Rattle.dr_base.specs.Texts.{IsInByteOrder};
-ghost use Rattle.dr_route.specs.Cells.{AreInOrder, InCell, InField, InStation, owned_field, owned_station};
+ghost use Rattle.dr_route.specs.Cells.{AreInOrder, InCell, InField, InStation, owned_field};
+ghost use Rattle.dr_route.specs.Cells.{owned_station};
 ghost use Rattle.dr_route.specs.Laws.{key_of, value_of, station_value_of};
 ghost use Rattle.dr_route.specs.contracts.cell.OwnedFieldOrd.TheImpl as fields;
 ghost use Rattle.dr_route.specs.contracts.cell.OwnedStationOrd.TheImpl as stations;
@@ -21,7 +22,8 @@ pub struct FieldValues {
     pub literals: Seq<Text>,
 }
 
-/// The values that a plan, or one of its flows, names for station: single values, and what values begin with.
+/// The values that a plan, or one of its flows, names for station: single values, and what values
+/// begin with.
 #[derive(Clone, Debug, Drop)]
 pub struct StationValues {
     pub literals: Seq<Text>,
@@ -35,16 +37,17 @@ pub struct Literals {
     pub stations: StationValues,
 }
 
-/// One part of the modalities: a literal of the plan, or all values that are none of its literals, which
-/// is written `*`.
+/// One part of the modalities: a literal of the plan, or all values that are none of its literals,
+/// which is written `*`.
 #[derive(Clone, PartialEq, Eq, PartialOrd, Ord, Debug, Drop)]
 pub enum OwnedField {
     Literal(Text),
     Rest,
 }
 
-/// One part of the stations: a literal of the plan; the values that are no literal, and of whose prefixes this one of
-/// the plan is the longest, which are written as the prefix and `*`; or all others, which are written `*`.
+/// One part of the stations: a literal of the plan; the values that are no literal, and of whose
+/// prefixes this one of the plan is the longest, which are written as the prefix and `*`; or all
+/// others, which are written `*`.
 #[derive(Clone, PartialEq, Eq, PartialOrd, Ord, Debug, Drop)]
 pub enum OwnedStation {
     Literal(Text),
@@ -52,7 +55,8 @@ pub enum OwnedStation {
     Rest,
 }
 
-/// The keys with one class, one transfer syntax, one part of the modalities and one of the stations.
+/// The keys with one class, one transfer syntax, one part of the modalities and one of the
+/// stations.
 #[derive(Clone, PartialEq, Eq, PartialOrd, Ord, Debug, Drop)]
 pub struct OwnedCell {
     pub class: Text,
@@ -91,10 +95,16 @@ impl<'a> Model for Cell<'a> {
 
     ghost Value = { OwnedCell };
 
-    ghost view = { λ c. record { class = c.class.now; syntax = c.syntax; modality = owned_field c.modality; station = owned_station c.station } };
+    ghost view = { λ c. record {
+      class = c.class.now;
+      syntax = c.syntax;
+      modality = owned_field c.modality;
+      station = owned_station c.station;
+    } };
 }
 
-/// The part of the modalities that the value lies in. It takes no memory: a binary search over the literals.
+/// The part of the modalities that the value lies in. It takes no memory: a binary search over the
+/// literals.
 pub fn field_of<'a>(values: &'a FieldValues, value: &Text) -> Field<'a>
     requires { IsInByteOrder values.now.literals }
     ensures { InField values.now (owned_field result) value.now }
@@ -105,8 +115,8 @@ pub fn field_of<'a>(values: &'a FieldValues, value: &Text) -> Field<'a>
     }
 }
 
-/// The part of the stations that the value lies in. It takes no memory: a binary search over the literals, and one
-/// over the prefixes for each beginning of the value.
+/// The part of the stations that the value lies in. It takes no memory: a binary search over the
+/// literals, and one over the prefixes for each beginning of the value.
 pub fn station_of<'a>(values: &'a StationValues, value: &Text) -> Station<'a>
     requires literals { IsInByteOrder values.now.literals }
     requires prefixes { IsInByteOrder values.now.prefixes }
@@ -249,7 +259,8 @@ impl OwnedCell {
     }
 }
 
-/// A value of the part of the field: its literal, or the text of the one byte 128, which no literal has.
+/// A value of the part of the field: its literal, or the text of the one byte 128, which no literal
+/// has.
 fn value_in(alloc: Global, field: &OwnedField) -> Result<Text, AllocError>
     ensures { IfOk result (λ t. t ≡ value_of field.now) }
 {
@@ -268,8 +279,8 @@ fn value_under(alloc: Global, prefix: &Text) -> Result<Text, AllocError>
     Ok(Text::from_vec(bytes))
 }
 
-/// A station of the part: its literal; or its prefix and the byte 128, which no literal and no prefix has; or the text
-/// of this byte.
+/// A station of the part: its literal; or its prefix and the byte 128, which no literal and no
+/// prefix has; or the text of this byte.
 fn station_value_in(alloc: Global, station: &OwnedStation) -> Result<Text, AllocError>
     ensures { IfOk result (λ t. t ≡ station_value_of station.now) }
 {

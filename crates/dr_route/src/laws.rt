@@ -1,14 +1,15 @@
 //! Laws of rules and cells: what a reader may take from the definitions.
-ghost use Rattle.dr_route.specs.Laws.{LocalIsNobody, AgreeInSends, AgreeInKeeps, CellsCover, CellsAreApart, LongestIsOne, EachCellHasAKey};
+ghost use Rattle.dr_route.specs.Laws.{LocalIsNobody, AgreeInSends, AgreeInKeeps, CellsCover};
+ghost use Rattle.dr_route.specs.Laws.{CellsAreApart, LongestIsOne, EachCellHasAKey};
 
-/// No rule speaks of what enters at a node itself: `*` doesn't match the local caller, and nothing is kept or
-/// sent by a rule for it.
+/// No rule speaks of what enters at a node itself: `*` doesn't match the local caller, and nothing
+/// is kept or sent by a rule for it.
 pub fn no_rule_holds_for_the_local_caller()
     ensures { LocalIsNobody }
 {}
 
-/// Keys of one cell are told apart by no rules whose literals are the plan's: they are sent to the same nodes,
-/// and kept alike.
+/// Keys of one cell are told apart by no rules whose literals are the plan's: they are sent to the
+/// same nodes, and kept alike.
 pub fn keys_of_one_cell_agree()
     ensures sends { AgreeInSends }
     ensures keeps { AgreeInKeeps }

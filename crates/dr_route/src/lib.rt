@@ -1,7 +1,8 @@
 //! Keys of instances, the rules of a node, and the cells of a plan.
 //!
-//! A rule reads four things: from whom an instance came, and its class, modality and station. What all rules
-//! of a node say of a key is `routing::targets`; the keys that no rule of a plan tells apart are a cell.
+//! A rule reads four things: from whom an instance came, and its class, modality and station. What
+//! all rules of a node say of a key is `routing::targets`; the keys that no rule of a plan tells
+//! apart are a cell.
 #![tactic(auto)]
 
 pub mod accept;

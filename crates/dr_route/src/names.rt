@@ -28,7 +28,9 @@ fn add_name(names: &mut BTreeSet<Text>, name: &Text) -> Result<(), AllocError>
 
 /// Adds copies of the names to the set.
 pub fn add_names(names: &mut BTreeSet<Text>, more: &[Text]) -> Result<(), AllocError>
-    ensures { OnOk result ((name : Words) → HasName names.new name ↔ (HasName names.old name ⊎ Contains more.now name)) }
+    ensures { OnOk result
+        ((name : Words)
+        → HasName names.new name ↔ (HasName names.old name ⊎ Contains more.now name)) }
 {
     for name in more {
         add_name(names, name)?;
@@ -47,7 +49,8 @@ pub fn names_in_order(alloc: Global, names: BTreeSet<Text>) -> Result<Seq<Text>,
 
 /// The names as a set: in byte order and each once.
 pub fn set_of(alloc: Global, names: &[Text]) -> Result<Seq<Text>, AllocError>
-    ensures same { IfOk result (λ seq. (name : Words) → Contains seq name ↔ Contains names.now name) }
+    ensures same { IfOk result (λ seq.
+        (name : Words) → Contains seq name ↔ Contains names.now name) }
     ensures ordered { IfOk result IsInByteOrder }
 {
     let mut set = BTreeSet::new(alloc);

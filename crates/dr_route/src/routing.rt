@@ -10,15 +10,16 @@ use dr_base::Text;
 use std::alloc::{AllocError, Global};
 use std::collections::BTreeSet;
 
-/// What all rules that hold say together: the nodes that they name, in byte order and each once, and whether
-/// any of them keeps.
+/// What all rules that hold say together: the nodes that they name, in byte order and each once,
+/// and whether any of them keeps.
 pub fn targets(
     alloc: Global,
     rules: &[Rule],
     caller: &Text,
     key: &Key,
 ) -> Result<Targets, AllocError>
-    ensures to { IfOk result (λ t. (name : Words) → Contains t.to name ↔ SendsBy rules.now caller.now key.now name) }
+    ensures to { IfOk result (λ t.
+        (name : Words) → Contains t.to name ↔ SendsBy rules.now caller.now key.now name) }
     ensures ordered { IfOk result (λ t. IsInByteOrder t.to) }
     ensures keep { IfOk result (λ t. IsTrue t.keep ↔ KeepsBy rules.now caller.now key.now) }
 {

@@ -22,12 +22,13 @@ pub enum StationPattern {
     Any,
     /// Just this value.
     Literal(Text),
-    /// Each value that begins with this text; it is written with `*` behind it, in plans of format 2.
+    /// Each value that begins with this text; it is written with `*` behind it, in plans of
+    /// format 2.
     Prefix(Text),
 }
 
-/// A rule of a node: which instances it speaks of, the nodes that they are sent to, and whether the node
-/// keeps them.
+/// A rule of a node: which instances it speaks of, the nodes that they are sent to, and whether the
+/// node keeps them.
 #[derive(Clone, Debug, Drop)]
 pub struct Rule {
     pub from: Pattern,
@@ -38,8 +39,8 @@ pub struct Rule {
     pub keep: bool,
 }
 
-/// What the rules that hold say together: the nodes to send to, in byte order and each once, and whether to
-/// keep.
+/// What the rules that hold say together: the nodes to send to, in byte order and each once, and
+/// whether to keep.
 #[derive(Debug, Drop)]
 pub struct Targets {
     pub to: Seq<Text>,
@@ -65,7 +66,8 @@ pub fn matches(pattern: &Pattern, value: &Text) -> bool
 
 /// What follows the prefix, where the value begins with it.
 fn after<'a>(prefix: &[u8], value: &'a [u8]) -> Option<&'a [u8]>
-    ensures { MatchOption result ((rest : Words) → value.now ≡ prefix.now ++ rest → ⊥) (λ rest. value.now ≡ prefix.now ++ rest.now) }
+    ensures { MatchOption result ((rest : Words) → value.now ≡ prefix.now ++ rest → ⊥)
+        (λ rest. value.now ≡ prefix.now ++ rest.now) }
 {
     value.strip_prefix(prefix)
 }
@@ -91,8 +93,8 @@ pub fn matches_station(pattern: &StationPattern, value: &Text) -> bool
     }
 }
 
-/// Whether the rule holds for what the caller brings: each of its four patterns admits its value. No rule
-/// holds for the local caller.
+/// Whether the rule holds for what the caller brings: each of its four patterns admits its value.
+/// No rule holds for the local caller.
 pub fn holds(rule: &Rule, caller: &Text, key: &Key) -> bool
     ensures { IsTrue result ↔ Holds rule.now caller.now key.now }
 {

@@ -8,7 +8,8 @@ use dr_base::Text;
 /// The text of these bytes among texts in byte order: a binary search.
 pub fn find<'a>(texts: &'a [Text], bytes: &[u8]) -> Option<&'a Text>
     requires { IsInByteOrder texts.now }
-    ensures { MatchOption result (Contains texts.now bytes.now → ⊥) (λ t. Contains texts.now t.now × (t.now ≡ bytes.now)) }
+    ensures { MatchOption result (Contains texts.now bytes.now → ⊥) (λ t.
+        Contains texts.now t.now × (t.now ≡ bytes.now)) }
 {
     match texts.binary_search_by(|text| text.as_bytes().cmp(bytes)) {
         Ok(place) => Some(&texts[place]),
@@ -16,11 +17,12 @@ pub fn find<'a>(texts: &'a [Text], bytes: &[u8]) -> Option<&'a Text>
     }
 }
 
-/// The longest of the prefixes with which the value begins. Each beginning of the value is looked for, the longest
-/// first.
+/// The longest of the prefixes with which the value begins. Each beginning of the value is looked
+/// for, the longest first.
 pub fn longest<'a>(prefixes: &'a [Text], value: &[u8]) -> Option<&'a Text>
     requires { IsInByteOrder prefixes.now }
-    ensures { MatchOption result (HasNoPrefix prefixes.now value.now) (λ p. IsLongest prefixes.now p.now value.now) }
+    ensures { MatchOption result (HasNoPrefix prefixes.now value.now) (λ p.
+        IsLongest prefixes.now p.now value.now) }
 {
     for fewer in 0..value.len() {
         if let Some(prefix) = find(prefixes, &value[..value.len() - fewer]) {

@@ -12,14 +12,22 @@ use Rattle.dr_site.specs.Sites.{IsCertified}
 
 -- the site has a context for the pair on its hop to that node
 abbrev pub HasContextTo : Part → Text → Text → Syntax → Type 0
-HasContextTo part dest class syntax = (hop : Hop) × Contains (hops_to part dest) hop × (hop.class ≡ class) × (hop.syntax ≡ syntax)
+HasContextTo part dest class syntax =
+    (hop : Hop) × Contains (hops_to part dest) hop × (hop.class ≡ class) × (hop.syntax ≡ syntax)
 
 -- the pairs of a site's hops to a node are just those that go over that hop of the plan
 abbrev pub PairsAreAsPlanned : Type 0
-PairsAreAsPlanned = (plan : Network) (certificate : Certificate) (part : Part) → IsCertified plan certificate → IsPartOf plan certificate part →
-    (dest class : Text) (syntax : Syntax) → HasContextTo part dest class syntax ↔ GoesOver plan part.name dest (class, syntax)
+PairsAreAsPlanned =
+    (plan : Network) (certificate : Certificate) (part : Part)
+    → IsCertified plan certificate
+    → IsPartOf plan certificate part
+    → (dest class : Text) (syntax : Syntax)
+    → HasContextTo part dest class syntax ↔ GoesOver plan part.name dest (class, syntax)
 
 -- a site's accept rows take just what its node accepts
 abbrev pub AcceptsAsPlanned : Type 0
-AcceptsAsPlanned = (plan : Network) (certificate : Certificate) (part : Part) → IsPartOf plan certificate part →
-    (caller class : Text) (syntax : Syntax) → AcceptsBy part.accepts caller class syntax ↔ Accepts plan part.name caller class syntax
+AcceptsAsPlanned =
+    (plan : Network) (certificate : Certificate) (part : Part)
+    → IsPartOf plan certificate part
+    → (caller class : Text) (syntax : Syntax)
+    → AcceptsBy part.accepts caller class syntax ↔ Accepts plan part.name caller class syntax

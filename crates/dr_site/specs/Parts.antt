@@ -49,10 +49,14 @@ pub record AreHopsFrom (name : Text) (all hops : List Hop) : Type 0 where
   pub same : IsPermutation (filter (begins_at name) all) hops
   pub by_id : IsNonDecreasingBy (λ (hop : Hop). hop.id) hops
 
--- The node's own rules, accept rows and flows in the order of the plan's text, its own lines in the order of their
--- stops, the hops that begin at it by their ids, and the plan's digest and literals.
+-- The node's own rules, accept rows and flows in the order of the plan's text, its own lines in the
+-- order of their stops, the hops that begin at it by their ids, and the plan's digest and literals.
 pub record IsPartOf (plan : Network) (certificate : Certificate) (part : Part) : Type 0 where
-  pub node : (node : Node) × IsTheNode plan part.name node × (part.max_pdu ≡ node.max_pdu) × (part.rules ≡ node.rules) × (part.accepts ≡ node.accepts)
+  pub node : (node : Node)
+      × IsTheNode plan part.name node
+      × (part.max_pdu ≡ node.max_pdu)
+      × (part.rules ≡ node.rules)
+      × (part.accepts ≡ node.accepts)
   pub digest : part.digest ≡ plan.digest
   pub flows : part.flows ≡ filter (is_at part.name) plan.flows
   pub lines : IsIndexOf (filter (is_of part.name) certificate.lines) part.lines

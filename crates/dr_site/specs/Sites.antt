@@ -19,7 +19,11 @@ pub record IsCertified (plan : Network) (certificate : Certificate) : Type 0 whe
 
 -- the part of a sound plan and its certificate
 abbrev pub IsPartOfSome : Part → Type 0
-IsPartOfSome part = (plan : Network) × (certificate : Certificate) × IsCertified plan certificate × IsPartOf plan certificate part
+IsPartOfSome part =
+    (plan : Network)
+    × (certificate : Certificate)
+    × IsCertified plan certificate
+    × IsPartOf plan certificate part
 
 -- what the type of sites keeps
 pub record IsSite (part : Part) : Type 0 where

@@ -59,10 +59,11 @@ struct Parts {
     literals: Literals,
 }
 
-/// What one node works by: its part of a sound plan and of the plan's certificate. It has the node's name, the
-/// greatest length of the P-DATA-TF PDUs that it takes (bytes; 0 is no limit), the plan's SHA-256, its own rules,
-/// accept rows and flows, its own lines and the hops that begin at it, and the literals of the whole plan, by
-/// which the cell of a key is found. It moves as a pointer.
+/// What one node works by: its part of a sound plan and of the plan's certificate. It has the
+/// node's name, the greatest length of the P-DATA-TF PDUs that it takes (bytes; 0 is no limit), the
+/// plan's SHA-256, its own rules, accept rows and flows, its own lines and the hops that begin at
+/// it, and the literals of the whole plan, by which the cell of a key is found. It moves as a
+/// pointer.
 #[derive(Drop)]
 pub struct Site {
     parts: Box<Parts>,
@@ -74,9 +75,30 @@ impl Model for Site {
 
     ghost Value = { Part };
 
-    ghost view = { λ s. record { name = s.parts.value.name; max_pdu = s.parts.value.max_pdu; digest = s.parts.value.digest; rules = s.parts.value.rules; accepts = s.parts.value.accepts; flows = s.parts.value.flows; lines = s.parts.value.lines.items; hops = s.parts.value.hops; literals = s.parts.value.literals } };
+    ghost view = { λ s. record {
+      name = s.parts.value.name;
+      max_pdu = s.parts.value.max_pdu;
+      digest = s.parts.value.digest;
+      rules = s.parts.value.rules;
+      accepts = s.parts.value.accepts;
+      flows = s.parts.value.flows;
+      lines = s.parts.value.lines.items;
+      hops = s.parts.value.hops;
+      literals = s.parts.value.literals;
+    } };
 
-    ghost invariant = { λ s. IsSite (record { name = s.parts.value.name; max_pdu = s.parts.value.max_pdu; digest = s.parts.value.digest; rules = s.parts.value.rules; accepts = s.parts.value.accepts; flows = s.parts.value.flows; lines = s.parts.value.lines.items; hops = s.parts.value.hops; literals = s.parts.value.literals }) };
+    ghost invariant = { λ s. IsSite
+        (record {
+          name = s.parts.value.name;
+          max_pdu = s.parts.value.max_pdu;
+          digest = s.parts.value.digest;
+          rules = s.parts.value.rules;
+          accepts = s.parts.value.accepts;
+          flows = s.parts.value.flows;
+          lines = s.parts.value.lines.items;
+          hops = s.parts.value.hops;
+          literals = s.parts.value.literals;
+        }) };
 }
 
 /// Puts the parts of a site on the heap.
@@ -134,8 +156,30 @@ impl Site {
 
     /// The site of these parts, on the heap.
     fn of_parts(alloc: Global, parts: Parts) -> Result<Site, AllocError>
-        requires { IsSite (record { name = parts.name; max_pdu = parts.max_pdu; digest = parts.digest; rules = parts.rules; accepts = parts.accepts; flows = parts.flows; lines = parts.lines.items; hops = parts.hops; literals = parts.literals }) }
-        ensures { IfOk result (λ s. s ≡ record { name = parts.name; max_pdu = parts.max_pdu; digest = parts.digest; rules = parts.rules; accepts = parts.accepts; flows = parts.flows; lines = parts.lines.items; hops = parts.hops; literals = parts.literals }) }
+        requires { IsSite
+            (record {
+              name = parts.name;
+              max_pdu = parts.max_pdu;
+              digest = parts.digest;
+              rules = parts.rules;
+              accepts = parts.accepts;
+              flows = parts.flows;
+              lines = parts.lines.items;
+              hops = parts.hops;
+              literals = parts.literals;
+            }) }
+        ensures { IfOk result (λ s. s
+            ≡ record {
+              name = parts.name;
+              max_pdu = parts.max_pdu;
+              digest = parts.digest;
+              rules = parts.rules;
+              accepts = parts.accepts;
+              flows = parts.flows;
+              lines = parts.lines.items;
+              hops = parts.hops;
+              literals = parts.literals;
+            }) }
     {
         let parts = boxed(alloc, parts)?;
         Ok(Site { parts })
@@ -199,8 +243,8 @@ impl Site {
         self.parts.as_ref().hops.as_slice()
     }
 
-    /// The presentation contexts of its node's hop to that node, by their ids (1, 3, 5 and so on); none where it
-    /// has no such hop.
+    /// The presentation contexts of its node's hop to that node, by their ids (1, 3, 5 and so on);
+    /// none where it has no such hop.
     pub fn hops_to(&self, alloc: Global, dest: &Text) -> Result<Seq<Hop>, AllocError>
         ensures hops { IfOk result (λ s. s ≡ hops_to self.now dest.now) }
         ensures site { IsSite self.now }
@@ -209,8 +253,8 @@ impl Site {
         Ok(hops)
     }
 
-    /// Whether the certificate has a line for what the caller brings to this node with that key. It takes no
-    /// memory.
+    /// Whether the certificate has a line for what the caller brings to this node with that key. It
+    /// takes no memory.
     pub fn has_line(&self, caller: &Text, key: &Key) -> bool
         ensures { IsTrue result ↔ HasLineFor self.now caller.now key.now }
     {
@@ -222,11 +266,12 @@ impl Site {
         true
     }
 
-    /// What the node does with the key that it has from the caller: the nodes that it sends it to, in byte order
-    /// and each once, and whether it keeps it. What enters at the node itself has the caller `-`; it goes by the
-    /// node's flows and isn't kept.
+    /// What the node does with the key that it has from the caller: the nodes that it sends it to,
+    /// in byte order and each once, and whether it keeps it. What enters at the node itself has the
+    /// caller `-`; it goes by the node's flows and isn't kept.
     pub fn targets(&self, alloc: Global, caller: &Text, key: &Key) -> Result<Targets, AllocError>
-        ensures to { IfOk result (λ t. (to : Words) → Contains t.to to ↔ SendsFrom self.now caller.now key.now to) }
+        ensures to { IfOk result (λ t.
+            (to : Words) → Contains t.to to ↔ SendsFrom self.now caller.now key.now to) }
         ensures ordered { IfOk result (λ t. IsInByteOrder t.to) }
         ensures keep { IfOk result (λ t. IsTrue t.keep ↔ KeepsAt self.now caller.now key.now) }
     {
