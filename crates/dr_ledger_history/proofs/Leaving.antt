@@ -88,7 +88,7 @@ module _ (uid : Text) (old : Rows) where
   one_is_open new last at row left own there undone = λ done.
       let h = stood new at row left there in
       let is : row ≡ Done =
-          done at.1 row (subst (λ (u : Text). map.get old (u, at.1) ≡ Some row) own h) in
+      done at.1 row (subst (λ (u : Text). map.get old (u, at.1) ≡ Some row) own h) in
       no_both _ undone (ap (λ (r : Progress). not (is_done (Some r))) is)
 
   -- none is left
@@ -111,9 +111,9 @@ module _ (uid : Text) (old : Rows) where
       same q = elim (same_or_not texts q.0 uid) [
         | inl own ↦
             let gone : map.get new q ≡ None =
-                subst (λ (u : Text). map.get new (u, q.1) ≡ None) (sym own) (none q.1) in
+            subst (λ (u : Text). map.get new (u, q.1) ≡ None) (sym own) (none q.1) in
             let other : is_other uid q.0 ≡ false =
-                ap (λ (u : Text). is_other uid u) own ∙ ap not (ties_itself texts uid) in
+            ap (λ (u : Text). is_other uid u) own ∙ ap not (ties_itself texts uid) in
             gone ∙ sym (left_is q ∙ ap (λ (b : Bool). cond b (map.get old q) None) other)
         | inr apart ↦
             let there = left_is q ∙ ap (λ (b : Bool). cond (not b) (map.get old q) None) apart in
@@ -223,7 +223,7 @@ module _ (rows : tree.BTreeMap Pair Progress) (start : Pair) (uid : Text) (s0 : 
         before : is_some (tree.get pair_cmp rows (uid, dest)) ≡ true → at.0 ≡ uid
         before some =
             let le = subst (λ (o : Option (Pair × Progress)). IfSome o (λ e. IsLeBy pair_cmp e.0 (uid, dest))) first
-                (h.2 (uid, dest) (start_in start (uid, dest) uid s0 s1 (itself_from uid)) some) in
+            (h.2 (uid, dest) (start_in start (uid, dest) uid s0 s1 (itself_from uid)) some) in
             one_text at.0 uid (later_first at (uid, dest) le) (from_start start at uid s0 s1 there.0)
 
         by_case : (o : Option Progress) → tree.get pair_cmp rows (uid, dest) ≡ o →
@@ -307,7 +307,7 @@ less_apart Greater s h = refl
 abbrev pub HavePassed : Text → Text → Set → Set → Type 0
 HavePassed uid from old new = (at : Pair) → sorted.contains pair_cmp new at
     ≡ cond (is_from from at.0) (sorted.contains pair_cmp old at)
-        (sorted.contains pair_cmp old at && is_other uid at.1)
+    (sorted.contains pair_cmp old at && is_other uid at.1)
 
 -- all that are left from a caller on
 abbrev pub left_from : Text → Set → ℕ
@@ -332,7 +332,7 @@ never false = refl
 module _ (uid from caller : Text) (old m n : Set) (passed : HavePassed uid from old m)
     (is : IsCallerFrom from m (Some caller))
     (gone : (q : Pair) → sorted.contains pair_cmp n q
-        ≡ cond (is_at (pair_cmp (caller, uid)) q) false (sorted.contains pair_cmp m q)) where
+    ≡ cond (is_at (pair_cmp (caller, uid)) q) false (sorted.contains pair_cmp m q)) where
   abbrev has : Set → Pair → Bool
   has s q = sorted.contains pair_cmp s q
 
@@ -372,8 +372,8 @@ module _ (uid from caller : Text) (old m n : Set) (passed : HavePassed uid from 
       by_case true t =
           let tie : text_cmp caller q.0 ≡ Equal = same_of (text_cmp caller q.0) (is.2 q t f) l in
           let one : taken q ≡ eq_by_cmp text_cmp q.1 uid =
-              ap (λ (r : Ordering). is_eq (ordering_then r (text_cmp uid q.1))) tie
-              ∙ (eq_by_cmp_equiv texts.total).symm uid q.1 in
+          ap (λ (r : Ordering). is_eq (ordering_then r (text_cmp uid q.1))) tie
+          ∙ (eq_by_cmp_equiv texts.total).symm uid q.1 in
           gone q ∙ (ap (λ (b : Bool). cond b false (has m q)) one
           ∙ (ap (cond (eq_by_cmp text_cmp q.1 uid) false) t
           ∙ (one_not (eq_by_cmp text_cmp q.1 uid) ∙ ap (λ (b : Bool). b && is_other uid q.1) (sym (old_is ∙ t)))))
@@ -417,8 +417,8 @@ all_have_passed uid from old new passed none = set.same_set text_pairs.total tex
     by_case q true f =
         let gone = was_none q f (sorted.contains pair_cmp new q) refl in
         let was : sorted.contains pair_cmp new q ≡ sorted.contains pair_cmp old q =
-            passed q ∙ ap (λ (b : Bool). cond b (sorted.contains pair_cmp old q)
-                (sorted.contains pair_cmp old q && is_other uid q.1)) f in
+        passed q ∙ ap (λ (b : Bool). cond b (sorted.contains pair_cmp old q)
+        (sorted.contains pair_cmp old q && is_other uid q.1)) f in
         gone ∙ ap (λ (b : Bool). b && is_other uid q.1) (sym gone ∙ was)
     by_case q false f = passed q ∙ ap (λ (b : Bool). cond b (sorted.contains pair_cmp old q)
         (sorted.contains pair_cmp old q && is_other uid q.1)) f
@@ -516,13 +516,13 @@ fewer_left from caller m n u is gone =
     let q : Pair → Bool = λ at. is_from from at.0 in
     let one : Pair = (caller, is.1.0) in
     let each : (k : Pair) → p k ≡ true → q k ≡ true =
-        λ k h. later_from from caller k.0 is.0 (sym (next_from caller k.0) ∙ h) in
+    λ k h. later_from from caller k.0 is.0 (sym (next_from caller k.0) ∙ h) in
     let this : (k : Pair) → is_at (pair_cmp one) k ≡ true → (q k ≡ true) × (p k ≡ false) = λ k t.
-        let same : one ≡ k = tells_apart text_pairs.exact one k t in
-        subst (λ (x : Pair). (is_from from x.0 ≡ true) × (is_from (caller ++ 0 ∷ []) x.0 ≡ false)) same (
-          is.0,
-          next_from caller caller ∙ not_less_itself (text_cmp caller caller) (ties_itself texts caller),
-        ) in
+    let same : one ≡ k = tells_apart text_pairs.exact one k t in
+    subst (λ (x : Pair). (is_from from x.0 ≡ true) × (is_from (caller ++ 0 ∷ []) x.0 ≡ false)) same (
+      is.0,
+      next_from caller caller ∙ not_less_itself (text_cmp caller caller) (ties_itself texts caller),
+    ) in
     let less = fewer p q (is_at (pair_cmp one)) each this m.keys is.1.1 in
     let few = removed p p u m.keys in
     let now = ap (λ (ks : List Pair). length (filter p ks)) gone in omega (arith, less, few, now)

@@ -39,4 +39,4 @@ IsCallerFrom from arrivals None =
 IsCallerFrom from arrivals (Some caller) = (is_from from caller ≡ true)
     × ((uid : Text) × (sorted.contains pair_cmp arrivals (caller, uid) ≡ true))
     × ((at : Pair) → sorted.contains pair_cmp arrivals at ≡ true → is_from from at.0 ≡ true →
-        is_from caller at.0 ≡ true)
+    is_from caller at.0 ≡ true)

@@ -48,10 +48,8 @@ pub fn let_rows_go(
     rows: &mut BTreeMap<(Text, Text), Progress>,
     uid: &Text,
 ) -> Result<bool, AllocError>
-    ensures {
-        IfOk result (λ all.
-            AreLetGo uid.now (as_map pair_cmp rows.old) all (as_map pair_cmp rows.new))
-    }
+    ensures { IfOk result (λ all.
+        AreLetGo uid.now (as_map pair_cmp rows.old) all (as_map pair_cmp rows.new)) }
 {
     'rows: loop {
         let Some((at, row)) = row_of(alloc, rows, uid)? else {
@@ -96,10 +94,8 @@ pub fn let_callers_go(
     arrivals: &mut BTreeSet<(Text, Text)>,
     uid: &Text,
 ) -> Result<(), AllocError>
-    ensures {
-        OnOk result (as_set pair_cmp arrivals.new
-            ≡ set.retain (as_set pair_cmp arrivals.old) (λ at. is_other uid.now at.1))
-    }
+    ensures { OnOk result (as_set pair_cmp arrivals.new
+        ≡ set.retain (as_set pair_cmp arrivals.old) (λ at. is_other uid.now at.1)) }
 {
     let mut from = Text::empty(alloc);
     'callers: loop {

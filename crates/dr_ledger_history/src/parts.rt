@@ -11,8 +11,8 @@ ghost use Rattle.dr_ledger_history.specs.Trees.{as_map};
 ghost use Rattle.dr_base.specs.Texts.{text_cmp};
 
 use crate::comparing::{are_arrivals, are_items, are_kept, are_rows};
-use crate::line::{HistoryFault, JournalLine};
 use crate::letting::{let_callers_go, let_rows_go, take_item};
+use crate::line::{HistoryFault, JournalLine};
 use crate::trees::{clear, fill, prune, put_arrival, put_item, put_kept, put_row};
 use dr_base::{Seq, Text};
 use dr_ledger::{Instance, Outcome, Progress, moved};
@@ -173,9 +173,7 @@ impl Parts {
     /// What is over is let go. Of the rows and the arrivals only those of the uid are looked for, so that a journal
     /// with many forgettings is read as fast as one with none.
     fn forget(&mut self, alloc: Global, uid: &Text) -> Result<(), HistoryFault>
-        ensures {
-            Takes (Forgetting uid.now) (content self.old) result (content self.new)
-        }
+        ensures { Takes (Forgetting uid.now) (content self.old) result (content self.new) }
     {
         if self.item(uid).is_none() {
             return Err(HistoryFault::NoCall);

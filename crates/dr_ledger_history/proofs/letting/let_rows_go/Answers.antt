@@ -12,7 +12,7 @@ pub returns-in_default : goal.returns-in_default
 returns-in_default c =
     let rows = as_map pair_cmp c.rows.rows in
     all_have_left c.args.uid.now (as_map pair_cmp c.args.rows.now) rows c.rows.invariant
-        (subst (IsRowOf c.args.uid.now rows) c.in_default.is c.in_ok-at.ensures)
+    (subst (IsRowOf c.args.uid.now rows) c.in_default.is c.in_ok-at.ensures)
 
 pub rows-smaller : goal.rows-smaller
 rows-smaller c =
@@ -27,4 +27,4 @@ rows-preserved c =
     let found = subst (IsRowOf c.args.uid.now (as_map pair_cmp m)) c.in-Some.is c.in_ok-at.ensures in
     let done = done_of c.in-Some.row (sym c.is_open.ensures ∙ c.if-is_open.false) in
     one_more_leaves c.args.uid.now (as_map pair_cmp c.args.rows.now) m c.remove.new.self c.in-Some.at
-        c.rows.invariant found.0 (found.1 ∙ ap Some done) c.remove.ensures.updates.0
+    c.rows.invariant found.0 (found.1 ∙ ap Some done) c.remove.ensures.updates.0
