@@ -1,3 +1,4 @@
+pub mod Leaving
 pub mod Mapped
 pub mod Planned
 pub mod Telling

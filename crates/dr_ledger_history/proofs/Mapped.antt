@@ -48,6 +48,15 @@ module _ {K : Type 0} {R : K → K → Ordering} (e : IsExact R) where
         get_at n q ∙ (u q ∙ ((λ j. cond ((eq_by_cmp_equiv e.total).symm k q j) (Some v) (sym (get_at m q) j))
         ∙ sym (map.get-insert e.total (as_map R m) k v q))))
 
+    -- a value is taken out
+    pub taken_out : (m n : tree.BTreeMap K X) (k : K) →
+        ((q : K) → tree.get R n q ≡ cond (is_at (R k) q) None (tree.get R m q)) →
+        as_map R n ≡ map.remove (as_map R m) k
+    taken_out m n k u = map.same_map e.total e.exact (as_map R n) (map.remove (as_map R m) k) (λ q.
+        get_at n q ∙ (u q
+        ∙ ((λ j. cond ((eq_by_cmp_equiv e.total).symm k q j) None (sym (get_at m q) j))
+        ∙ sym (map.get-remove e.total (as_map R m) k q))))
+
     -- it is put there where there was none
     pub filled : (m n : tree.BTreeMap K X) (k : K) (v : X) → is_some (tree.get R m k) ≡ false → ((q : K) → tree.get R n q ≡ cond (is_at (R k) q) (Some v) (tree.get R m q)) →
         as_map R n ≡ map.insert (as_map R m) k (unwrap_or (map.get (as_map R m) k) v)

@@ -9,7 +9,7 @@ use Rattle.dr_ledger.specs.declared.item.Instance.{Instance}
 use Rattle.dr_ledger.specs.declared.item.Outcome.{Outcome}
 use Rattle.dr_ledger.specs.declared.item.Progress.{Progress}
 use Rattle.dr_ledger.specs.declared.item.Progress.TheVariants.{Waiting, Held}
-use Rattle.dr_ledger.specs.Books.{Book, Line, Arrival, Repeat, Settling, Requeuing, Adoption, Fold, after, empty_book, folded, requeued_row, row_after, settled_row}
+use Rattle.dr_ledger.specs.Books.{Book, Line, Arrival, Repeat, Settling, Requeuing, Forgetting, Adoption, Fold, after, empty_book, folded, requeued_row, row_after, settled_row}
 use Rattle.dr_ledger.specs.Histories.{IsCall, IsHistory, IsPast, IsSomeCall}
 use Rattle.dr_ledger.specs.Routings.{Routing}
 use Rattle.dr_ledger.proofs.Folding.{folded_append, folded_push, folds_have_their_lines, history_push, some_call}
@@ -27,6 +27,7 @@ after_content (Arrival caller item to keep) b = refl
 after_content (Repeat caller item) b = refl
 after_content (Settling uid dest outcome now) b = refl
 after_content (Requeuing uid dest) b = refl
+after_content (Forgetting uid) b = refl
 after_content Adoption b = refl
 
 asked : (line : Line) (b : Book) → IsSomeCall line (book_of (content_of b)) → IsSomeCall line b
@@ -34,6 +35,7 @@ asked (Arrival caller item to keep) b h = h
 asked (Repeat caller item) b h = h
 asked (Settling uid dest outcome now) b h = h
 asked (Requeuing uid dest) b h = h
+asked (Forgetting uid) b h = record { there = h.there; unkept = h.unkept; done = h.done }
 asked Adoption b h = h
 
 asks : (line : Line) (b : Book) → IsSomeCall line b → IsSomeCall line (book_of (content_of b))
@@ -41,6 +43,7 @@ asks (Arrival caller item to keep) b h = h
 asks (Repeat caller item) b h = h
 asks (Settling uid dest outcome now) b h = h
 asks (Requeuing uid dest) b h = h
+asks (Forgetting uid) b h = record { there = h.there; unkept = h.unkept; done = h.done }
 asks Adoption b h = h
 
 -- ---- one line more
@@ -83,6 +86,7 @@ call_by routing (Arrival caller item to keep) b by call = (record { line = by.0;
 call_by routing (Repeat caller item) b by call = (record { line = by; same = call.0 }, call.1)
 call_by routing (Settling uid dest outcome now) b by call = call
 call_by routing (Requeuing uid dest) b by call = call
+call_by routing (Forgetting uid) b by call = call
 call_by routing Adoption b by call = absurd by
 
 by_call : (routing : Routing) (line : Line) (b : Book) → IsCall routing line b → IsBy routing line
@@ -90,6 +94,7 @@ by_call routing (Arrival caller item to keep) b call = (call.0.line, call.2, cal
 by_call routing (Repeat caller item) b call = call.0.line
 by_call routing (Settling uid dest outcome now) b call = tt
 by_call routing (Requeuing uid dest) b call = tt
+by_call routing (Forgetting uid) b call = tt
 by_call routing Adoption b call = absurd call
 
 module _ (routing : Routing) (past since : List Line) (line : Line) (old : Content) (told : IsToldSince routing past since old) where

@@ -1,6 +1,6 @@
 -- One line more.
 use Rattle.std.specs.Prelude.{◌≡◌, Result, Ok, Err}
-use Rattle.dr_ledger.specs.Books.{Line, Arrival, Repeat, Settling, Requeuing, Adoption, after}
+use Rattle.dr_ledger.specs.Books.{Line, Arrival, Repeat, Settling, Requeuing, Forgetting, Adoption, after}
 use Rattle.dr_ledger.specs.Histories.{IsSomeCall}
 use Rattle.dr_ledger.specs.Routings.{Routing}
 use Rattle.dr_ledger_history.specs.Contents.{Content, book_of, content_of}
@@ -13,6 +13,7 @@ IsBy routing (Arrival caller item to keep) = routing.HasLine caller item.key × 
 IsBy routing (Repeat caller item) = routing.HasLine caller item.key
 IsBy routing (Settling uid dest outcome now) = Unit {0}
 IsBy routing (Requeuing uid dest) = Unit {0}
+IsBy routing (Forgetting uid) = Unit {0}
 IsBy routing Adoption = ⊥
 
 -- what one line makes of what a node has, if it is a call that is accepted there

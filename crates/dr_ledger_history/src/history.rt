@@ -45,8 +45,9 @@ impl History {
     pub fn tell_past(self, line: JournalLine) -> Result<History, HistoryFault>
         ensures { (lines : List Line) → IsTold lines (content self.parts) → Tells lines (line_of line) result }
     {
+        let alloc = self.alloc;
         let mut history = self;
-        match history.parts.take(line) {
+        match history.parts.take(alloc, line) {
             Ok(()) => Ok(history),
             Err(fault) => Err(fault),
         }
@@ -62,8 +63,9 @@ impl History {
         if !by {
             return Err(HistoryFault::NoCall);
         }
+        let alloc = self.alloc;
         let mut history = self;
-        match history.parts.take(line) {
+        match history.parts.take(alloc, line) {
             Ok(()) => Ok(history),
             Err(fault) => Err(fault),
         }

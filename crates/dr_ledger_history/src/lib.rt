@@ -5,6 +5,7 @@
 mod comparing;
 pub mod history;
 pub mod laws;
+mod letting;
 mod line;
 mod parts;
 mod site;

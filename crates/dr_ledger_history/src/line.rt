@@ -29,6 +29,10 @@ pub enum JournalLine {
         uid: Text,
         dest: Text,
     },
+    /// The instance was let go, with its arrivals and its rows.
+    Forgetting {
+        uid: Text,
+    },
     Adoption,
 }
 

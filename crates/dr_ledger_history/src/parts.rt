@@ -2,7 +2,7 @@
 ghost use Rattle.std.specs.Prelude.{◌≡◌, ◌↔◌, ◌<◌, ◌≤◌, ◌^◌, IsTrue, OnOk, Some, option_copied};
 ghost use Rattle.std.specs.FinMap as map;
 ghost use Rattle.std.specs.FinSet as set;
-ghost use Rattle.dr_ledger.specs.Books.{Arrival, Adoption, Repeat, Requeuing, Settling, after, empty_book};
+ghost use Rattle.dr_ledger.specs.Books.{Arrival, Adoption, Forgetting, Repeat, Requeuing, Settling, after, empty_book};
 ghost use Rattle.dr_ledger.specs.Histories.{IsSame};
 ghost use Rattle.dr_ledger_history.specs.Contents.{all_of, book_of, content, content_of};
 ghost use Rattle.dr_ledger_history.specs.Lines.{line_of};
@@ -11,6 +11,7 @@ ghost use Rattle.dr_ledger_history.specs.Trees.{as_map};
 ghost use Rattle.dr_base.specs.Texts.{text_cmp};
 
 use crate::comparing::{are_arrivals, are_items, are_kept, are_rows};
+use crate::letting::{let_callers_go, let_rows_go, take_item};
 use crate::line::{HistoryFault, JournalLine};
 use crate::trees::{clear, fill, prune, put_arrival, put_item, put_kept, put_row};
 use dr_base::{Seq, Text};
@@ -44,7 +45,7 @@ impl Parts {
     }
 
     /// Takes a line, whose plan may be gone.
-    pub fn take(&mut self, line: JournalLine) -> Result<(), HistoryFault>
+    pub fn take(&mut self, alloc: Global, line: JournalLine) -> Result<(), HistoryFault>
         ensures { Takes (line_of line) (content self.old) result (content self.new) }
     {
         match line {
@@ -62,6 +63,7 @@ impl Parts {
                 now,
             } => self.settle((uid, dest), outcome, now),
             JournalLine::Requeuing { uid, dest } => self.requeue((uid, dest)),
+            JournalLine::Forgetting { uid } => self.forget(alloc, &uid),
             JournalLine::Adoption => {
                 self.adopt();
                 Ok(())
@@ -166,6 +168,25 @@ impl Parts {
             Some(Progress::Done) => Err(HistoryFault::NoCall),
             None => Err(HistoryFault::NoCall),
         }
+    }
+
+    /// What is over is let go. Of the rows and the arrivals only those of the uid are looked for, so that a journal
+    /// with many forgettings is read as fast as one with none.
+    fn forget(&mut self, alloc: Global, uid: &Text) -> Result<(), HistoryFault>
+        ensures { Takes (Forgetting uid.now) (content self.old) result (content self.new) }
+    {
+        if self.item(uid).is_none() {
+            return Err(HistoryFault::NoCall);
+        }
+        if self.is_kept(uid) {
+            return Err(HistoryFault::NoCall);
+        }
+        if !let_rows_go(alloc, &mut self.rows, uid)? {
+            return Err(HistoryFault::NoCall);
+        }
+        let_callers_go(alloc, &mut self.arrivals, uid)?;
+        take_item(&mut self.items, uid);
+        Ok(())
     }
 
     /// Arrivals and done rows leave.

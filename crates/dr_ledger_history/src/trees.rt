@@ -89,7 +89,7 @@ pub fn fill(
 }
 
 /// Whether the row isn't done.
-fn is_open(row: Progress) -> bool
+pub fn is_open(row: Progress) -> bool
     ensures { result ≡ not (is_done (Some row)) }
 {
     match row {
