@@ -16,7 +16,7 @@ from lib.message_plans import KEYS, LOCAL, grown, random_plan
 
 OTHERS = 2  # associations that a receiver takes; 256 in the definitions, few here so that rejections come
 WRONG = {
-    'rows_for_new_uids_only', 'kept_for_new_uids_only', 'second_caller_dropped', 'body_overwritten', 'out_of_resources_is_done',
+    'rows_for_new_uids_only', 'kept_for_new_uids_only', 'body_overwritten', 'out_of_resources_is_done',
     'restart_drops_waiting_rows', 'success_without_an_arrival', 'done_rows_stand', 'adoption_forgets_what_is_kept', 'half_the_pairs_accepted',
     'carried_rows_forgotten', 'kept_is_forgotten', 'queued_is_forgotten', 'arrivals_not_forgotten', 'rows_not_forgotten', 'pending_is_forgotten',
 }
@@ -76,8 +76,7 @@ class World:
             return 'Again'
         if not known or 'body_overwritten' in self.wrong:
             book.items[item.uid] = item
-        if not known or 'second_caller_dropped' not in self.wrong:
-            book.arrivals.add((caller, item.uid))
+        book.arrivals.add((caller, item.uid))
         if self.plan.keeps(name, caller, item.key) and not (known and 'kept_for_new_uids_only' in self.wrong):
             book.kept.add(item.uid)
         if not (known and 'rows_for_new_uids_only' in self.wrong):
