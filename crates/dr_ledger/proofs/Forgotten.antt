@@ -1,5 +1,5 @@
 -- What a forgetting leaves.
-use Rattle.std.proofs.Common.{◌≡◌, refl, sym, ap, ◌∙◌, ◌⊎◌, inl, inr, Bool, true, false, cond, not, ◌&&◌, Option, None, Some}
+use Rattle.std.proofs.Common.{◌≡◌, refl, sym, ap, ◌∙◌, inl, inr, Bool, true, false, cond, not, ◌&&◌, Option, None, Some}
 use Rattle.std.specs.Ordering.{eq_by_cmp}
 use Rattle.std.specs.FinMap as map
 use Rattle.std.specs.FinSet as set
@@ -7,7 +7,7 @@ use Rattle.dr_base.specs.Texts.{Text, text_cmp}
 use Rattle.dr_ledger.specs.declared.item.Instance.{Instance}
 use Rattle.dr_ledger.specs.declared.item.Progress.{Progress}
 use Rattle.dr_ledger.specs.Books.{Book, Forgetting, after, is_other}
-use Rattle.dr_ledger.specs.Pairs.{Pair, pair_cmp}
+use Rattle.dr_ledger.specs.Pairs.{Pair}
 use Rattle.dr_ledger.specs.Replies.{IsOver}
 use Rattle.dr_ledger.proofs.Maps.{texts, text_pairs, same_or_not}
 

@@ -1,24 +1,22 @@
 -- Forgettings: each has an answer, takes what is of its uid, and what comes again is new.
-use Rattle.std.proofs.Common.{◌≡◌, ◌≢◌, refl, sym, ap, subst, ◌∙◌, ◌⊎◌, inl, inr, ℕ, Bool, true, false, cond, not, ◌&&◌, List, [], ◌∷◌, Contains, Option, None, Some, Ok, Err}
+use Rattle.std.proofs.Common.{◌≡◌, ◌≢◌, refl, sym, ap, subst, ◌∙◌, ◌⊎◌, inl, inr, Bool, true, false, cond, not, ◌&&◌, List, [], ◌∷◌, Contains, Option, None, Some, Ok, Err}
 use Rattle.std.specs.FinMap as map
 use Rattle.std.specs.FinSet as set
 use Rattle.dr_base.specs.Texts.{Text}
 use Rattle.dr_plan_model.proofs.Gathered.{nothing_in_nil, Contains-cons_cases}
 use Rattle.dr_ledger.specs.declared.fault.LedgerFault.TheVariants as fault
-use Rattle.dr_ledger.specs.declared.item.Arrived.{Arrived}
 use Rattle.dr_ledger.specs.declared.item.Arrived.TheVariants.{New, Again}
 use Rattle.dr_ledger.specs.declared.item.Instance.{Instance}
 use Rattle.dr_ledger.specs.declared.item.Progress.{Progress}
 use Rattle.dr_ledger.specs.declared.item.Progress.TheVariants.{Waiting, Held, Done}
-use Rattle.dr_ledger.specs.Books.{Book, Forgetting, after, is_other}
+use Rattle.dr_ledger.specs.Books.{Book, Forgetting, after}
 use Rattle.dr_ledger.specs.Laws.{ForgettingsHaveAnswers, ForgettingsTakeTheirUid, ForgottenIsNew, HasAnswer, NothingOwedIsForgotten}
 use Rattle.dr_ledger.specs.Pairs.{Pair}
-use Rattle.dr_ledger.specs.Replies.{Arrives, Forgets, IsOver}
+use Rattle.dr_ledger.specs.Replies.{Forgets}
 use Rattle.dr_ledger.specs.Routings.{Routing}
 use Rattle.dr_ledger.proofs.Earliest.{among_keys}
 use Rattle.dr_ledger.proofs.Forgotten.{Apart, item_is, row_is, arrival_is, no_way}
 use Rattle.dr_ledger.proofs.Maps.{texts, cases_of, same_or_not, ties_itself}
-use Rattle.dr_ledger.proofs.Ones.{texts_or_not}
 
 -- ---- answers
 abbrev IsOwed : Book → Text → Type 0

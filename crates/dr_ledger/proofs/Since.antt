@@ -6,7 +6,7 @@ use Rattle.dr_base.specs.Texts.{Text}
 use Rattle.dr_plan_model.proofs.Gathered.{nothing_in_nil, Contains-here}
 use Rattle.dr_ledger.specs.declared.item.Instance.{Instance}
 use Rattle.dr_ledger.specs.Books.{Book, Line, Arrival, Repeat, Settling, Requeuing, Forgetting, Adoption, with_line, since_from, since_adoption, after}
-use Rattle.dr_ledger.specs.Histories.{IsBeforeAdoption, IsHistory, IsSince}
+use Rattle.dr_ledger.specs.Histories.{IsBeforeAdoption, IsHistory}
 use Rattle.dr_ledger.specs.OneNode.{IsAcknowledged, NothingWasTakenYet, SinceIsTheHistory, WasTaken}
 use Rattle.dr_ledger.specs.Routings.{Routing}
 

@@ -1,5 +1,5 @@
 -- Successes in a journal, and one line more.
-use Rattle.std.proofs.Common.{◌≡◌, refl, sym, ap, subst, ◌∙◌, ◌⊎◌, inl, inr, ℕ, true, List, [], ◌∷◌, ◌++◌, Contains, Some}
+use Rattle.std.proofs.Common.{◌≡◌, refl, sym, ap, subst, ◌⊎◌, inl, inr, ℕ, true, List, [], ◌∷◌, ◌++◌, Contains, Some}
 use Rattle.std.proofs.lemmas.List.Elements.{Contains-append_left, Contains-append_right}
 use Rattle.std.specs.FinMap as map
 use Rattle.dr_base.specs.Texts.{Text}
@@ -8,7 +8,7 @@ use Rattle.dr_ledger.specs.declared.item.Instance.{Instance}
 use Rattle.dr_ledger.specs.declared.item.Outcome.{Outcome}
 use Rattle.dr_ledger.specs.declared.item.Outcome.TheVariants.{Status}
 use Rattle.dr_ledger.specs.Books.{Line, Settling, Adoption, is_success, Fold}
-use Rattle.dr_ledger.specs.OneNode.{HasSucceeded, HasSucceededSince}
+use Rattle.dr_ledger.specs.OneNode.{HasSucceededSince}
 
 -- ---- where a line stands in a list with one more at its end
 record IsLast (before later lines : List Line) (line last : Line) : Type 0 where

@@ -29,7 +29,8 @@ use crate::waiting::first_due;
 use dr_base::{Seq, Text};
 use dr_cert::Sealed;
 use dr_ledger::{
-    Arrived, Cause, Entry, Instance, Item, Job, Ledger, LedgerFault, LetsGo, Outcome, Progress, moved,
+    Arrived, Cause, Entry, Instance, Item, Job, Ledger, LedgerFault, LetsGo, Outcome, Progress,
+    moved,
 };
 use dr_site::Site;
 use std::alloc::{AllocError, Global};
