@@ -101,9 +101,9 @@ module _ {L : Type 0} {l : Ghosts L} (old new : World L l) (note : StepNote) whe
       Calls (Drops uid) name old note new → StepsTo (Forget name uid) old note new
   forgot name uid none h = steps (Drops uid) (Forget name uid) name refl
       (λ plan certificate certified b s shown seat is t d.
-          let P : bytes.StepNote → Type 0 = λ n. Becomes plan certificate b (Forget name uid) n (with_seats (contents old) name (with_desk_of seat t)) in
-          let free = none_over (seats_of old.nodes) old.wires name uid none in
-          subst P (sym d.3) (forgets plan certificate (contents old) b s shown name seat is uid d.0 t free d.1 d.2)) h
+      let P : bytes.StepNote → Type 0 = λ n. Becomes plan certificate b (Forget name uid) n (with_seats (contents old) name (with_desk_of seat t)) in
+      let free = none_over (seats_of old.nodes) old.wires name uid none in
+      subst P (sym d.3) (forgets plan certificate (contents old) b s shown name seat is uid d.0 t free d.1 d.2)) h
 
   pub told_to_refuse : (name : Text) → Calls IsToldToRefuse name old note new → StepsTo (Refuse name) old note new
   told_to_refuse name h = steps IsToldToRefuse (Refuse name) name refl
