@@ -4,8 +4,6 @@ use Rattle.std.specs.Prelude.{min}
 use Rattle.std.specs.Option.{option_map}
 use Rattle.std.specs.BTreeMap as tree
 use Rattle.std.specs.BTreeMap.{BTreeMap}
-use Rattle.std.specs.List.{list_any}
-use Rattle.std.specs.Ordering.{nat_cmp}
 use Rattle.dr_base.specs.Texts.{Text, text_cmp}
 use Rattle.dr_plan_model.specs.Networks.{Network}
 use Rattle.dr_plan_sound.specs.declared.certificate.Certificate.{Certificate}
@@ -16,16 +14,18 @@ use Rattle.dr_ledger.proofs.Maps.{texts, same_or_not, ties_itself}
 use Rattle.dr_session.specs.Ledgers.{Desk}
 use Rattle.dr_node.specs.declared.node.Node.{Node}
 use Rattle.dr_world_model.specs.Worlds.{same_text}
-use Rattle.dr_world_tie.specs.ByteWorlds.{ByteWorld, WorldStep, Submit, Requeue, Forget, Refuse, Tick}
+use Rattle.dr_world_tie.specs.ByteWorlds.{ByteWorld, WorldStep}
+use Rattle.dr_world_tie.specs.ByteWorlds.{Submit, Requeue, Forget, Refuse, Tick}
 use Rattle.dr_world_tie.specs.ByteWorlds as bytes
 use Rattle.dr_world.specs.declared.steps.StepNote.{StepNote}
 use Rattle.dr_world.specs.declared.steps.StepNote.TheVariants.{Done, UnderWay}
 use Rattle.dr_world.specs.declared.world.World.{World}
 use Rattle.dr_world.specs.Shows.{Contents, Seat, Seats, ShowsBytes, IsSeated, Becomes, with_seat, with_desk_of}
 use Rattle.dr_world.specs.Laws.{IsAtNode, with_seats, with_time}
-use Rattle.dr_world.specs.Forgotten.{pends}
-use Rattle.dr_world.specs.Nodes.{seat_of, seats_of}
-use Rattle.dr_world.specs.Whole.{AllStand, Calls, CallsIn, Drops, HasTicked, IsToldToRefuse, Puts, StepsTo, Submits, contents, noted}
+use Rattle.dr_world.specs.Forgotten.{is_under_way}
+use Rattle.dr_world.specs.Nodes.{seat_of}
+use Rattle.dr_world.specs.Whole.{AllStand, Calls, CallsIn, Drops, HasTicked, IsToldToRefuse, Puts}
+use Rattle.dr_world.specs.Whole.{StepsTo, Submits, contents, noted}
 use Rattle.dr_world.proofs.AtNodes.{ticks, strangers, submits, requeues, refuses}
 use Rattle.dr_world.proofs.Forgetting.{forgets, none_over, some_over, under_way_stays}
 
@@ -97,13 +97,15 @@ module _ {L : Type 0} {l : Ghosts L} (old new : World L l) (note : StepNote) whe
       (λ plan certificate certified b s shown seat is t d. subst (λ (n : bytes.StepNote). Becomes plan certificate b (Requeue name uid dest) n (with_seats (contents old) name (with_desk_of seat t))) (sym d.3)
       (requeues plan certificate (contents old) b s shown name seat is uid dest d.0 t d.1 d.2)) h
 
-  pub forgot : (name uid : Text) → list_any (pends (seats_of old.nodes) (λ n. tree.get nat_cmp old.wires n) name uid) (tree.keys old.wires) ≡ false →
+  pub forgot : (name uid : Text) → is_under_way old.nodes old.wires name uid ≡ false →
       Calls (Drops uid) name old note new → StepsTo (Forget name uid) old note new
-  forgot name uid none h = steps (Drops uid) (Forget name uid) name refl
-      (λ plan certificate certified b s shown seat is t d.
-      let P : bytes.StepNote → Type 0 = λ n. Becomes plan certificate b (Forget name uid) n (with_seats (contents old) name (with_desk_of seat t)) in
-      let free = none_over (seats_of old.nodes) old.wires name uid none in
-      subst P (sym d.3) (forgets plan certificate (contents old) b s shown name seat is uid d.0 t free d.1 d.2)) h
+  forgot name uid none h = steps (Drops uid) (Forget name uid) name refl (
+      λ plan certificate certified b s shown seat is t d.
+      let then = with_seats (contents old) name (with_desk_of seat t) in
+      let P : bytes.StepNote → Type 0 = λ n. Becomes plan certificate b (Forget name uid) n then in
+      let free = none_over old.nodes old.wires name uid none in
+      let c = contents old in
+      subst P (sym d.3) (forgets plan certificate c b s shown name seat is uid d.0 t free d.1 d.2)) h
 
   pub told_to_refuse : (name : Text) → Calls IsToldToRefuse name old note new → StepsTo (Refuse name) old note new
   told_to_refuse name h = steps IsToldToRefuse (Refuse name) name refl
@@ -112,11 +114,11 @@ module _ {L : Type 0} {l : Ghosts L} (old new : World L l) (note : StepNote) whe
 
 -- what is under way stays
 pub stays : {L : Type 0} {l : Ghosts L} (w : World L l) (name uid : Text) →
-    list_any (pends (seats_of w.nodes) (λ n. tree.get nat_cmp w.wires n) name uid) (tree.keys w.wires) ≡ true →
-    StepsTo (Forget name uid) w UnderWay w
+    is_under_way w.nodes w.wires name uid ≡ true → StepsTo (Forget name uid) w UnderWay w
 stays w name uid some =
-    let at = some_over (seats_of w.nodes) w.wires name uid some in (
+    let at = some_over w.nodes w.wires name uid some in (
       (λ all. all),
       λ plan certificate certified b seated s all.
-          (seated, ∣ under_way_stays plan certificate (contents w) b seated s name uid at.0 at.1 ∣₁),
+          let same = under_way_stays plan certificate (contents w) b seated s name uid at.0 at.1 in
+          (seated, ∣ same ∣₁),
     )

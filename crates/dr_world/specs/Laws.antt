@@ -18,7 +18,9 @@ use Rattle.dr_ledger.specs.Refusals.{Arms}
 use Rattle.dr_ledger.specs.Replies.{Forgets, Requeues, IsHeld, IsOver}
 use Rattle.dr_node.specs.Sides.{others}
 use Rattle.dr_world_model.specs.Calls.{Reply, Answer}
-use Rattle.dr_world_tie.specs.ByteWorlds.{ByteWorld, beginning, WorldStep, Submit, Move, Restart, Requeue, Forget, Tick, Refuse, Side, Done, Skipped, UnderWay, AreOthers, IsMoved, note_of}
+use Rattle.dr_world_tie.specs.ByteWorlds.{ByteWorld, beginning, WorldStep, Side}
+use Rattle.dr_world_tie.specs.ByteWorlds.{Submit, Move, Restart, Requeue, Forget, Tick, Refuse}
+use Rattle.dr_world_tie.specs.ByteWorlds.{Done, Skipped, UnderWay, AreOthers, IsMoved, note_of}
 use Rattle.dr_session.specs.declared.ends.Heard.TheVariants as heard
 use Rattle.dr_session.specs.declared.ends.LinkAction.{LinkAction}
 use Rattle.dr_session.specs.Ends.{is_gone, state_in}
@@ -88,16 +90,20 @@ RequeueIsShown = (plan : Network) (certificate : Certificate) (c : Contents) (b 
 
 -- a node is told to forget what is under way from it over no link
 abbrev pub ForgetIsShown : Type 0
-ForgetIsShown = (plan : Network) (certificate : Certificate) (c : Contents) (b : ByteWorld) → IsSeated plan certificate c.seats →
-    ShowsBytes c b → (name : Text) (seat : Seat) → c.seats name ≡ Some seat → (uid : Text) (answer : Answer) (t : Desk) →
+ForgetIsShown = (plan : Network) (certificate : Certificate) (c : Contents) (b : ByteWorld) →
+    IsSeated plan certificate c.seats → ShowsBytes c b →
+    (name : Text) (seat : Seat) → c.seats name ≡ Some seat → (uid : Text) (answer : Answer) (t : Desk) →
     ((number : ℕ) → pends c.seats c.wires name uid number ≡ false) →
-    Forgets uid seat.desk.book answer t.book → Arms (IsOver seat.desk.book uid) seat.desk.armed answer t.armed →
-    Becomes plan certificate b (Forget name uid) (note_of answer) (with_seats c name (with_desk_of seat t))
+    Forgets uid seat.desk.book answer t.book →
+    Arms (IsOver seat.desk.book uid) seat.desk.armed answer t.armed →
+    Becomes plan certificate b (Forget name uid) (note_of answer)
+    (with_seats c name (with_desk_of seat t))
 
 -- what is under way from it stays
 abbrev pub UnderWayStays : Type 0
-UnderWayStays = (plan : Network) (certificate : Certificate) (c : Contents) (b : ByteWorld) → IsSeated plan certificate c.seats →
-    ShowsBytes c b → (name uid : Text) (number : ℕ) → pends c.seats c.wires name uid number ≡ true →
+UnderWayStays = (plan : Network) (certificate : Certificate) (c : Contents) (b : ByteWorld) →
+    IsSeated plan certificate c.seats → ShowsBytes c b →
+    (name uid : Text) (number : ℕ) → pends c.seats c.wires name uid number ≡ true →
     Becomes plan certificate b (Forget name uid) UnderWay c
 
 -- a node's next writing call is to be refused

@@ -76,7 +76,8 @@ Puts uid dest seat note t = (answer : Answer) × Requeues uid dest seat.desk.boo
 
 abbrev pub Drops : Text → Seat → StepNote → Desk → Type 0
 Drops uid seat note t = (answer : Answer) × Forgets uid seat.desk.book answer t.book
-    × Arms (IsOver seat.desk.book uid) seat.desk.armed answer t.armed × (noted note ≡ bytes.note_of answer)
+    × Arms (IsOver seat.desk.book uid) seat.desk.armed answer t.armed
+    × (noted note ≡ bytes.note_of answer)
 
 abbrev pub IsToldToRefuse : Seat → StepNote → Desk → Type 0
 IsToldToRefuse seat note t = (note ≡ Done) × (t ≡ desk seat.desk.book true)

@@ -1,9 +1,6 @@
 //! Whether an instance that a node is to forget is under way from there.
 ghost use Rattle.std.specs.Prelude.{◌≡◌, option_copied};
-ghost use Rattle.std.specs.List.{list_any};
-ghost use Rattle.std.specs.BTreeMap as tree;
-ghost use Rattle.std.specs.Ordering.{nat_cmp};
-ghost use Rattle.dr_world.specs.Forgotten.{is_uid, pending_at, pends, pends_over};
+ghost use Rattle.dr_world.specs.Forgotten.{is_uid, is_under_way, pending_at, pends_over};
 ghost use Rattle.dr_world.specs.Nodes.{seats_of};
 
 use crate::restarts::is_same;
@@ -40,9 +37,11 @@ fn pending_at<'a, L: Ledger>(
     side.end.pending()
 }
 
-/// Whether the node of that name asked for the link of these wires, and this, which it has pending there, is the uid.
+/// Whether the node of that name asked for the link of these wires, and this, which it has pending there, is the
+/// uid.
 fn pends_over(wires: Option<&Wires>, name: &Text, uid: &Text, pending: Option<&Text>) -> bool
-    ensures { result ≡ pends_over name.now uid.now (option_copied pending.entry) (option_copied wires.entry) }
+    ensures { result ≡
+        pends_over name.now uid.now (option_copied pending.entry) (option_copied wires.entry) }
 {
     match wires {
         Some(wires) => is_same(&wires.caller, name) && is_uid(pending, uid),
@@ -50,14 +49,15 @@ fn pends_over(wires: Option<&Wires>, name: &Text, uid: &Text, pending: Option<&T
     }
 }
 
-/// Whether an end that the node of that name asked over still awaits the response to a store of that uid.
+/// Whether an end that the node of that name asked over still awaits the response to a store of that
+/// uid.
 pub fn is_under_way<L: Ledger>(
     wires: &BTreeMap<u64, Wires>,
     nodes: &BTreeMap<Text, Node<L>>,
     name: &Text,
     uid: &Text,
 ) -> bool
-    ensures { result ≡ list_any (pends (seats_of nodes.now) (λ number. tree.get nat_cmp wires.now number) name.now uid.now) (tree.keys wires.now) }
+    ensures { result ≡ is_under_way nodes.now wires.now name.now uid.now }
 {
     for number in wires.keys() {
         let pending = pending_at(nodes, name, *number);

@@ -332,9 +332,9 @@ impl<L: LetsGo> World<L> {
         }
     }
 
-    /// A node forgets what it has of an instance that is over; skipped where no node has that name. While an end that it
-    /// asked over awaits the response to a store of that uid nothing is done: that response would settle a row of
-    /// another instance, if one came under that uid.
+    /// A node forgets what it has of an instance that is over; skipped where no node has that name. While an
+    /// end that it asked over awaits the response to a store of that uid nothing is done: that response would
+    /// settle a row of another instance, if one came under that uid.
     fn forget(&mut self, name: &Text, uid: &Text) -> StepNote
         ensures { StepsTo (Forget name.now uid.now) self.old result self.new }
     {

@@ -13,7 +13,8 @@ use Rattle.dr_world_model.specs.Calls.{store_outcome_of}
 use Rattle.dr_world_model.specs.Steps.{passed}
 use Rattle.dr_world_model.proofs.Safety.{book_here, book_there}
 use Rattle.dr_world_tie.specs.Desks.{ArmedBy}
-use Rattle.dr_world_tie.specs.Nodes.{SubmittingTakes, RequeueingIsRequeue, ForgettingIsForget, RefusingIsRefuse, TimePasses}
+use Rattle.dr_world_tie.specs.Nodes.{SubmittingTakes, RequeueingIsRequeue, ForgettingIsForget}
+use Rattle.dr_world_tie.specs.Nodes.{RefusingIsRefuse, TimePasses}
 use Rattle.dr_world_tie.proofs.CallerLeaving.{armed_after}
 use Rattle.dr_world_tie.proofs.Sites.{armed_by}
 

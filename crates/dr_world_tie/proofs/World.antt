@@ -37,7 +37,8 @@ use Rattle.dr_site.proofs.Assembled.{is_site}
 use Rattle.dr_world_tie.proofs.Restarted.{restarted}
 use Rattle.dr_world_tie.proofs.Restarting.{desks_after}
 use Rattle.dr_world_tie.proofs.Opening.{opens_are_asks}
-use Rattle.dr_world_tie.proofs.Nodes.{submitting_takes, requeueing_is_requeue, forgetting_is_forget, refusing_is_refuse}
+use Rattle.dr_world_tie.proofs.Nodes.{submitting_takes, requeueing_is_requeue}
+use Rattle.dr_world_tie.proofs.Nodes.{forgetting_is_forget, refusing_is_refuse}
 use Rattle.dr_world_tie.proofs.Pendings.{some_is_pending, none_is_pending}
 use Rattle.dr_world_tie.proofs.Closing.{closing_is_close}
 use Rattle.dr_world_tie.proofs.Shown.{Result_of, after, at_node, skips, moved, pushed, released, aborted, delayed}
@@ -141,7 +142,8 @@ module _ (plan : Network) (certificate : Certificate) (certified : IsCertified p
       ∣ (w, inl (refl, inr silent), shown) ∣₁
   each (Forget node uid) (inl (is_node, inr (none, (answer, t, call, noted, is)))) =
       let free = none_is_pending plan certificate b w s node uid none in
-      let h = forgetting_is_forget plan w node uid (b.desks node) t answer is_node free (s.desks node) call in
+      let old = b.desks node in
+      let h = forgetting_is_forget plan w node uid old t answer is_node free (s.desks node) call in
       let it : Event = event.Forget node uid answer in
       let shown = at_node plan certificate b w it node t s h in
       let now = subst (λ (z : ByteWorld). Shows plan certificate z h.after) (sym is) shown in

@@ -233,7 +233,8 @@ NodeStep plan name b note new What = (HasNode plan name × What) ⊎ ((HasNode p
 
 -- ---- forgetting
 
--- The node asked for the link, and its end there has the uid pending. An end that is off has nothing pending.
+-- The node asked for the link, and its end there has the uid pending. An end that is off has nothing
+-- pending.
 abbrev pub PendsAt : ByteWorld → Text → Text → ℕ → Type 0
 PendsAt b name uid number = (k : Channel) × (map.get b.links number ≡ Some k) × (caller_of k ≡ name)
     × (pending_of k.caller.core.pending ≡ Some uid)

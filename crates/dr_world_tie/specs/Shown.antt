@@ -79,10 +79,11 @@ HasNoneDue w link = (item : Instance) → IsNext (w.books link.caller) link.rece
 -- the caller of a link, connected, has the uid pending, which its node was to forget
 abbrev pub SomeIsPending : World → Text → Text → Type 0
 SomeIsPending w name uid = (number : ℕ) × (link : Link) × (item : Instance) × IsLink w number link
-    × (link.caller ≡ name) × (link.caller_connected ≡ true) × (pending link.stage ≡ Some item) × (item.uid ≡ uid)
+    × (link.caller ≡ name) × (link.caller_connected ≡ true) × (pending link.stage ≡ Some item)
+    × (item.uid ≡ uid)
 
--- Where a step that isn't skipped is no event: the end is off already, nothing was due, the bytes end no message, or what
--- is to be forgotten is pending.
+-- Where a step that isn't skipped is no event: the end is off already, nothing was due, the bytes end no
+-- message, or what is to be forgotten is pending.
 abbrev pub IsSilent : ByteWorld → World → WorldStep → Type 0
 IsSilent b w (Push number) = IsOffAt w number Requestor ⊎ ((link : Link) × IsLink w number link × HasNoneDue w link)
 IsSilent b w (Move number side n) = IsOffAt w number side ⊎ ((k : Channel) × (map.get b.links number ≡ Some k) × EndsNoneAt k side n)

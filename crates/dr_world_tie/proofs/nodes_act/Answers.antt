@@ -1,4 +1,5 @@
-use Rattle.dr_world_tie.proofs.Nodes.{submitting_takes, requeueing_is_requeue, forgetting_is_forget, refusing_is_refuse, time_passes}
+use Rattle.dr_world_tie.proofs.Nodes.{submitting_takes, requeueing_is_requeue, forgetting_is_forget}
+use Rattle.dr_world_tie.proofs.Nodes.{refusing_is_refuse, time_passes}
 use Rattle.dr_world_tie.proofs.nodes_act.Goals as goal
 
 pub returns-clause-submitting : goal.returns-clause-submitting

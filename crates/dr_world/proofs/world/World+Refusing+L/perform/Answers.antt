@@ -27,7 +27,8 @@ returns-in-Requeue g c =
 pub returns-in-Forget : goal.returns-in-Forget
 returns-in-Forget g c =
     let told = Forget c.in-Forget.node c.in-Forget.uid in
-    as_it c.args.self.now c.forget.new.self c.args.step.now told c.in-Forget.is c.forget.result c.forget.ensures
+    let new = c.forget.new.self in
+    as_it c.args.self.now new c.args.step.now told c.in-Forget.is c.forget.result c.forget.ensures
 
 pub returns-in-Tick : goal.returns-in-Tick
 returns-in-Tick g c = as_it c.args.self.now c.tick.new.self c.args.step.now (Tick c.in-Tick.milliseconds) c.in-Tick.is Done c.tick.ensures.step
