@@ -37,7 +37,6 @@ use Rattle.dr_session.specs.declared.ends.LinkAction.{LinkAction}
 use Rattle.dr_session.specs.declared.ends.Marks.{Marks}
 use Rattle.dr_session.specs.declared.ends.Moment.{Moment}
 use Rattle.dr_session.specs.declared.ends.Over.{Over}
-use Rattle.dr_session.specs.declared.ends.Pending.{Pending}
 use Rattle.dr_session.specs.declared.ends.Over.TheVariants as over
 use Rattle.dr_session.specs.Desks.{DeskCall, DeskAnswer}
 use Rattle.dr_session.specs.Plays.{At, Reacts, Stops, PlaysBytes, BreaksBytes, at_moment}
@@ -160,15 +159,6 @@ HearsOf step heard.Memory at old s result new t = (t ≡ s) × LosesIn old.core 
 abbrev pub is_free_in : Option Core → Bool
 is_free_in None = false
 is_free_in (Some c) = is_free c
-
--- the uid of the instance whose store awaits its response
-abbrev pub pending_of : Option Pending → Option Text
-pending_of None = None
-pending_of (Some p) = Some p.uid
-
-abbrev pub pending_in : Option Core → Option Text
-pending_in None = None
-pending_in (Some c) = pending_of c.pending
 
 -- a push found no row due
 abbrev pub is_dry_in : Option Core → Bool

@@ -5,7 +5,8 @@ ghost use Rattle.dr_plan_model.specs.Formed.{IsName};
 ghost use Rattle.dr_nego.specs.Proposing.{echo_proposal};
 ghost use Rattle.dr_pdu.specs.Written.{Fits};
 ghost use Rattle.dr_pdu.specs.declared.pdu.Pdu.TheVariants as pdus;
-ghost use Rattle.dr_session.specs.Ends.{accepting, requesting, requesting_echo, begins, unmarked as no_marks, OpensTo, Meets, HearsOf, HearsBytes, LosesIn, TakesCore, TakesFree, EchoesIn, is_free_in, is_dry_in, pending_in, state_in, over_of, ended_by};
+ghost use Rattle.dr_session.specs.Ends.{accepting, requesting, requesting_echo, begins, unmarked as no_marks, OpensTo, Meets, HearsOf, HearsBytes, LosesIn, TakesCore, TakesFree, EchoesIn, is_free_in, is_dry_in, state_in, over_of, ended_by};
+ghost use Rattle.dr_session.specs.Pendings.{pending_in};
 ghost use Rattle.dr_session.specs.Reactions.{write};
 
 use crate::boxed::BoxedCore;

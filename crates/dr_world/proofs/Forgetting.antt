@@ -13,7 +13,7 @@ use Rattle.dr_base.specs.Texts.{Text}
 use Rattle.dr_ledger.specs.declared.ledger.Ledger.{Ghosts}
 use Rattle.dr_ledger.proofs.Maps.{texts, ties_itself, cases_of}
 use Rattle.dr_node.specs.declared.node.Node.{Node}
-use Rattle.dr_session.specs.Ends.{pending_of}
+use Rattle.dr_session.specs.Pendings.{pending_of}
 use Rattle.dr_session.specs.Ledgers.{Desk}
 use Rattle.dr_world_model.specs.Worlds.{same_text}
 use Rattle.dr_world_model.proofs.Lookups.{numbers}

@@ -7,7 +7,7 @@ use Rattle.std.specs.BTreeMap as tree
 use Rattle.std.specs.BTreeMap.{BTreeMap}
 use Rattle.dr_base.specs.Texts.{Text}
 use Rattle.dr_ledger.specs.declared.ledger.Ledger.{Ghosts}
-use Rattle.dr_session.specs.Ends.{pending_in}
+use Rattle.dr_session.specs.Pendings.{pending_in}
 use Rattle.dr_node.specs.declared.links.Side.{Side}
 use Rattle.dr_node.specs.declared.node.Node.{Node}
 use Rattle.dr_world_model.specs.Worlds.{same_text}

@@ -7,7 +7,7 @@ use Rattle.dr_plan_sound.specs.declared.certificate.Certificate.{Certificate}
 use Rattle.dr_ledger.specs.declared.item.Instance.{Instance}
 use Rattle.dr_session.specs.declared.ends.Core.{Core}
 use Rattle.dr_session.specs.declared.ends.Pending.{Pending}
-use Rattle.dr_session.specs.Ends.{pending_of}
+use Rattle.dr_session.specs.Pendings.{pending_of}
 use Rattle.dr_world_model.specs.Worlds.{World, Stage, Asking, Answering, Rejecting, Open, Storing}
 use Rattle.dr_world_model.specs.Worlds.{Replying, Gone}
 use Rattle.dr_world_model.specs.Steps.{NoneIsPending, pending}

@@ -30,7 +30,8 @@ use Rattle.dr_session.specs.declared.ends.Input.{Input}
 use Rattle.dr_session.specs.declared.ends.Input.TheVariants.{Ended, Late as LateMark, AbortAsked, ReleaseAsked, PushAsked}
 use Rattle.dr_session.specs.declared.ends.Moment.{Moment}
 use Rattle.dr_session.specs.Desks.{Arrive, Arrival}
-use Rattle.dr_session.specs.Ends.{accepting, requesting, is_gone, pending_of}
+use Rattle.dr_session.specs.Ends.{accepting, requesting, is_gone}
+use Rattle.dr_session.specs.Pendings.{pending_of}
 use Rattle.dr_session.specs.Ledgers.{desk}
 use Rattle.dr_session.specs.Plays.{Reacts, PlaysBytes, at_moment}
 use Rattle.dr_session.specs.Reactions.{is_idle, is_free, is_impatient}
