@@ -94,6 +94,11 @@ GATE_WAITS = 'node GATE|arrival CT1 1.2.3.4|row 1.2.3.4 ARCH waiting 0 0|lines 1
 NOTHING = 'node ARCH|lines 0|node CT1|lines 0|node GATE|lines 0|'
 TRIED = 'node GATE|arrival CT1 1.2.3.4|row 1.2.3.4 ARCH waiting 1 1000|lines 2|'
 FIRST = [*submit('CT1', SHORT), *carried('CT1', 'GATE', 1)]
+UID = '1.2.3.4'
+BOTH_FORGOT = [*BOTH, ('forget', 'CT1', UID), ('forget', 'GATE', UID)]
+# one row is due over two links, and answered over the first
+TWICE = [*submit('CT1', SHORT), *opened('CT1', 'GATE', 1), *opened('CT1', 'GATE', 2), ('push', 1), ('push', 2), *moved(1, 'acceptor', 'acceptor', 'requestor')]
+HEARD_TWICE = 'node GATE|arrival CT1 1.2.3.4|row 1.2.3.4 ARCH waiting 0 0|lines 2|'
 HELD = [*submit('CT2', SHORT), *carried('CT2', 'ARCH', 1), *submit('CT1', LONGER), *carried('CT1', 'GATE', 2), *carried('GATE', 'ARCH', 3)]
 HELD_ROW = ('node ARCH|arrival CT2 1.2.3.4|kept 1.2.3.4 70|lines 1|node CT1|arrival - 1.2.3.4|row 1.2.3.4 GATE done|lines 2|'
             'node CT2|arrival - 1.2.3.4|row 1.2.3.4 ARCH done|lines 2|node GATE|arrival CT1 1.2.3.4|row 1.2.3.4 ARCH {}|lines {}|')
@@ -134,6 +139,23 @@ ROWS = [
     ('another body under the same UID', straight, HELD, HELD_ROW.format('held C0F1', 2)),
     ('.. is queued again', straight, [*HELD, ('requeue', 'GATE', '1.2.3.4', 'ARCH')], HELD_ROW.format('waiting 0 0', 3)),
     ('.. and a waiting row is not', straight, [*HELD, *2 * [('requeue', 'GATE', '1.2.3.4', 'ARCH')]], HELD_ROW.format('waiting 0 0', 3)),
+    ('what was sent on is forgotten', three_nodes, BOTH_FORGOT, ARCH_KEEPS + 'node CT1|lines 3|node GATE|lines 3|'),
+    ('.. once', three_nodes, [*BOTH_FORGOT, ('forget', 'GATE', UID)], ARCH_KEEPS + 'node CT1|lines 3|node GATE|lines 3|'),
+    ('.. and is new when it comes again', three_nodes, [*BOTH_FORGOT, *submit('CT1', SHORT), *carried('CT1', 'GATE', 3), *carried('GATE', 'ARCH', 4)],
+     'node ARCH|arrival GATE 1.2.3.4|kept 1.2.3.4 70|lines 2|node CT1|arrival - 1.2.3.4|row 1.2.3.4 GATE done|lines 5|'
+     'node GATE|arrival CT1 1.2.3.4|row 1.2.3.4 ARCH done|lines 5|'),
+    ('.. also with another body', three_nodes, [*BOTH_FORGOT, *submit('CT1', LONGER), *carried('CT1', 'GATE', 3), *carried('GATE', 'ARCH', 4)],
+     ARCH_KEEPS + 'node CT1|arrival - 1.2.3.4|row 1.2.3.4 GATE done|lines 5|node GATE|arrival CT1 1.2.3.4|row 1.2.3.4 ARCH held C0F1|lines 5|'),
+    ('what is kept is not forgotten', three_nodes, [*BOTH, ('forget', 'ARCH', UID)], ARCH_KEEPS + CT1_SENT + GATE_SENT),
+    ('nor what waits', three_nodes, [*FIRST, ('forget', 'GATE', UID)], 'node ARCH|lines 0|' + CT1_SENT + GATE_WAITS),
+    ('nor what is held', straight, [*HELD, ('forget', 'GATE', UID)], HELD_ROW.format('held C0F1', 2)),
+    ('nor what is under way over another link', three_nodes, [*TWICE, ('forget', 'CT1', UID), *moved(2, 'acceptor', 'acceptor')],
+     'node ARCH|lines 0|' + CT1_SENT + HEARD_TWICE),
+    ('.. until it is answered', three_nodes, [*TWICE, *moved(2, 'acceptor', 'acceptor', 'requestor'), ('forget', 'CT1', UID)],
+     'node ARCH|lines 0|node CT1|lines 3|' + HEARD_TWICE),
+    ('.. or its link is lost', three_nodes, [*TWICE, ('close', 2), ('forget', 'CT1', UID)], 'node ARCH|lines 0|node CT1|lines 3|' + GATE_WAITS),
+    ('a forgetting that is refused', three_nodes, [*BOTH, ('refuse', 'GATE'), ('forget', 'GATE', UID)], ARCH_KEEPS + CT1_SENT + GATE_SENT),
+    ('.. and told again', three_nodes, [*BOTH, ('refuse', 'GATE'), *2 * [('forget', 'GATE', UID)]], ARCH_KEEPS + CT1_SENT + 'node GATE|lines 3|'),
     ('a refused store', three_nodes,
      [*FIRST, *opened('GATE', 'ARCH', 2), ('refuse', 'ARCH'), ('push', 2), *moved(2, 'acceptor', 'acceptor', 'requestor')],
      'node ARCH|lines 0|' + CT1_SENT + TRIED),
@@ -168,7 +190,7 @@ EXACT = [
      'node ARCH|lines 0|' + CT1_SENT + TRIED),
 ]
 # what is no script: the line that is named
-WRONG = [(2, '# a comment\nmove\t1\tnobody\t1\n'), (1, 'push\n'), (1, 'push\t01\n'), (3, '\n\nfly\n'), (1, 'tick\t18446744073709551616\n'),
+WRONG = [(1, 'forget\tCT1\n'), (1, 'forget\tCT1\t1.2.3.4\tGATE\n'), (2, '# a comment\nmove\t1\tnobody\t1\n'), (1, 'push\n'), (1, 'push\t01\n'), (3, '\n\nfly\n'), (1, 'tick\t18446744073709551616\n'),
          (1, 'submit\tCT1\tE\t0800\n'), (2, 'tick\t1\nsubmit\tCT1\tE\tXY\n'), (1, ' \n')]
 
 

@@ -1,7 +1,7 @@
 #!/usr/bin/env python3
 """Plays random scripts on the built program, over random sound plans, and compares each report with that of a world written
 again from the documents (script_world.py), which counts the bytes of PDUs but writes none: requests, stores and releases in
-random cuts, with aborts, lost connections, late marks, restarts, refused stores and instances that come twice.
+random cuts, with aborts, lost connections, late marks, restarts, refused stores, instances that come twice and such as are forgotten.
 
     tests/simulate.py [RUNS] [SEED]        no report may differ, and each kind of step, of answer and of reason for which a
                                            step is skipped must have come (500 runs: about half a minute; at least 300)
@@ -22,7 +22,7 @@ from lib.script_world import Item, World
 
 TOP = os.path.dirname(os.path.dirname(os.path.abspath(__file__)))
 PROGRAM = f'{TOP}/crates/dr_router/out/dr_router'
-WRONG = ('refusals last', 'whole PDUs move', 'a restart forgets rows')
+WRONG = ('refusals last', 'whole PDUs move', 'a restart forgets rows', 'what is under way is forgotten', 'arrivals are not forgotten')
 REACHED = {
     'submit': {'New', 'Again', 'NoLine', 'Conflict', 'Store', 'no such node'}, 'open': {'done', 'no hop'}, 'tick': {'done'},
     'push': {'done', 'no such link', 'not established', 'a store is pending', 'nothing is due'},
@@ -30,6 +30,7 @@ REACHED = {
     'abort': {'done', 'no such link', 'no cell'}, 'release': {'done', 'no such link', 'a store is pending', 'no cell'},
     'close': {'done', 'no such link', 'both are over'}, 'late': {'no such link', 'ARTIM expired', 'no answer came', 'not late'},
     'restart': {'done', 'no such node'}, 'requeue': {'done', 'NotHeld', 'Store', 'no such node'}, 'refuse': {'done', 'no such node'},
+    'forget': {'done', 'NotOver', 'Store', 'under way', 'over, but under way', 'no such node'}, 'new after a forgetting': {'the same', 'another'},
     'heard': {'request', 'acceptance', 'rejection', 'command', 'data', 'response', 'release', 'released', 'abort'},
     'status': {0x0000, 0xA700, 0xC0F1},
 }
@@ -139,11 +140,20 @@ class Play:
             return 'tick', dice.choice([0, 1, 999, 1000, 2000, 30_000, 60_000, 300_000])
         if choice < 0.58:
             return 'refuse', dice.choice([*names, 'NOBODY'])
+        if choice < 0.62:
+            return 'forget', *self.random_uid()
         return 'move', self.random_link(), dice.choice(['requestor', 'acceptor']), dice.choice([0, 1, 7, 50, 100, 233, 1000, 10 ** 6, 10 ** 6, 10 ** 6])
 
     def random_row(self):
         rows = [(name, *at) for name, book in sorted(self.world.books.items()) for at, row in sorted(book.rows.items()) if row[0] == 'held' or self.dice.random() < 0.1]
         return self.dice.choice(rows) if rows else (self.dice.choice([*sorted(self.world.books), 'NOBODY']), '1.2.3', 'NOBODY')
+
+    def random_uid(self):
+        """One to forget: most are over, or under way."""
+        world, dice = self.world, self.dice
+        known = [(name, uid) for name, book in sorted(world.books.items()) for uid in sorted(book.items)]
+        apt = [at for at in known if world.is_over(*at) or world.is_under_way(*at) or dice.random() < 0.1]
+        return dice.choice(apt) if apt else (dice.choice([*sorted(world.books), 'NOBODY']), '1.2.3')
 
     def deliver(self):
         """A link from its request to a store, in random cuts; most that happens to it happens by steps between."""

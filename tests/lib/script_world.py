@@ -59,6 +59,7 @@ def data_pdus(limit, size, kind, said):
 class Book:
     def __init__(self):
         self.items, self.arrivals, self.kept, self.rows, self.lines, self.armed = {}, set(), set(), {}, 0, False
+        self.forgotten = {}    # what was last forgotten of each uid
 
     def report(self, name):
         def progress(row):
@@ -122,6 +123,8 @@ class World:
         book.lines += 1
         if (caller, item.uid) in book.arrivals:
             return 'Again'
+        if item.uid in book.forgotten and item.uid not in book.items:
+            self.note('new after a forgetting', 'the same' if book.forgotten[item.uid] == item else 'another')
         book.items[item.uid] = item
         book.arrivals.add((caller, item.uid))
         if self.model.keeps(stop):
@@ -363,6 +366,30 @@ class World:
             return 'Store'
         book.lines += 1
         book.rows[uid, dest] = ('waiting', 0, 0)
+        return 'done'
+
+    def is_over(self, name, uid):
+        book = self.books[name]
+        return uid in book.items and uid not in book.kept and all(row[0] == 'done' for (it, _), row in book.rows.items() if it == uid)
+
+    def is_under_way(self, name, uid):
+        return any(caller.node == name and caller.pending and caller.pending.uid == uid for caller, receiver in self.links.values())
+
+    def forget(self, name, uid):
+        if name not in self.books:
+            return 'no such node'
+        if self.is_under_way(name, uid) and 'what is under way is forgotten' not in self.wrong:
+            return 'over, but under way' if self.is_over(name, uid) else 'under way'
+        if not self.is_over(name, uid):
+            return 'NotOver'
+        book = self.books[name]
+        if self.store_fails(book):
+            return 'Store'
+        book.lines += 1
+        book.forgotten[uid] = book.items.pop(uid)
+        if 'arrivals are not forgotten' not in self.wrong:
+            book.arrivals = {at for at in book.arrivals if at[1] != uid}
+        book.rows = {at: row for at, row in book.rows.items() if at[0] != uid}
         return 'done'
 
     def tick(self, milliseconds):

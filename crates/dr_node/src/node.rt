@@ -6,7 +6,8 @@ ghost use Rattle.dr_ledger.specs.Bodies.{OnlyLetsGo, OnlyTakes};
 ghost use Rattle.dr_ledger.specs.Items.{instance_of};
 ghost use Rattle.dr_ledger.specs.Pairs.{pair_cmp};
 ghost use Rattle.dr_ledger.specs.Refusals.{Arms};
-ghost use Rattle.dr_ledger.specs.Replies.{AreKept, Arrives, Counts, IsAdmitted, IsHeld, Lasts, Lists, Reads, Requeues, entry_of};
+ghost use Rattle.dr_ledger.specs.Replies.{AreKept, Arrives, Counts, Forgets, IsAdmitted, IsHeld, IsOver};
+ghost use Rattle.dr_ledger.specs.Replies.{Lasts, Lists, Reads, Requeues, entry_of};
 ghost use Rattle.dr_ledger.specs.SiteRoutes.{site_routing};
 ghost use Rattle.std.proofs.Props.{props};
 ghost use Rattle.dr_route.specs.Routes.{local as local_caller};
@@ -17,7 +18,7 @@ use crate::event::LinkEvent;
 use crate::fault::NodeFault;
 use crate::links::{Links, Side};
 use dr_base::{Seq, Text};
-use dr_ledger::{Arrived, Entry, Item, Ledger, LedgerFault, Progress, Refusing};
+use dr_ledger::{Arrived, Entry, Item, Ledger, LedgerFault, LetsGo, Progress, Refusing};
 use dr_session::LinkAction;
 use dr_session::desk::LedgerDesk;
 use dr_site::Site;
@@ -262,6 +263,31 @@ impl<L: Ledger> Node<L> {
         ensures { result ≡ L.failed self.now.desk.ledger }
     {
         self.desk.ledger.failures()
+    }
+}
+
+impl<L: LetsGo> Node<L> {
+    /// What is over is forgotten: the instance of the uid, with its arrivals and its rows. A store of it that
+    /// still awaits its response would settle a row of a later instance of that uid: who calls this looks at the
+    /// sides first.
+    ///
+    /// Errors: as the ledger's `forget`.
+    pub fn forget(&mut self, uid: &Text) -> Result<(), LedgerFault>
+        ensures reply { L.stands self.new.desk.ledger →
+            Forgets uid.now (L.book self.old.desk.ledger) result (L.book self.new.desk.ledger) }
+        ensures bodies { L.stands self.new.desk.ledger →
+            OnlyLetsGo (L.bodies self.old.desk.ledger) (L.bodies self.new.desk.ledger) }
+        ensures counts { Counts result (L.failed self.old.desk.ledger) (L.failed self.new.desk.ledger) }
+        ensures armed { L.stands self.new.desk.ledger → Arms (IsOver (L.book self.old.desk.ledger) uid.now)
+            (L.armed self.old.desk.ledger) result (L.armed self.new.desk.ledger) }
+        ensures stood { L.stands self.new.desk.ledger → L.stands self.old.desk.ledger }
+        ensures lasts { Lasts result (L.trusts self.old.desk.ledger) (L.trusts self.new.desk.ledger)
+            (L.stands self.old.desk.ledger) (L.stands self.new.desk.ledger) }
+        ensures of { L.site self.new.desk.ledger ≡ L.site self.old.desk.ledger }
+        ensures links { self.new.links ≡ self.old.links }
+        ensures site { self.new.site ≡ self.old.site }
+    {
+        self.desk.ledger.forget(uid)
     }
 }
 

@@ -1,6 +1,7 @@
 pub mod Changes
 pub mod Desks
 pub mod Ends
+pub mod Pendings
 pub mod Figures
 pub mod Laws
 pub mod Ledgers

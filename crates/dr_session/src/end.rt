@@ -1,11 +1,12 @@
 //! One end of a link, whole.
-ghost use Rattle.std.specs.Prelude.{◌≡◌, ◌∷◌, [], ◌≤◌, ◌^◌, IfOk, Some, None};
+ghost use Rattle.std.specs.Prelude.{◌≡◌, ◌∷◌, [], ◌≤◌, ◌^◌, IfOk, Some, None, option_copied};
 ghost use Rattle.dr_session.specs.Fits.{InputFits};
 ghost use Rattle.dr_plan_model.specs.Formed.{IsName};
 ghost use Rattle.dr_nego.specs.Proposing.{echo_proposal};
 ghost use Rattle.dr_pdu.specs.Written.{Fits};
 ghost use Rattle.dr_pdu.specs.declared.pdu.Pdu.TheVariants as pdus;
 ghost use Rattle.dr_session.specs.Ends.{accepting, requesting, requesting_echo, begins, unmarked as no_marks, OpensTo, Meets, HearsOf, HearsBytes, LosesIn, TakesCore, TakesFree, EchoesIn, is_free_in, is_dry_in, state_in, over_of, ended_by};
+ghost use Rattle.dr_session.specs.Pendings.{pending_in};
 ghost use Rattle.dr_session.specs.Reactions.{write};
 
 use crate::boxed::BoxedCore;
@@ -160,6 +161,19 @@ impl End {
         match &self.core {
             Some(core) => core.as_core().dry,
             None => false,
+        }
+    }
+
+    /// The uid of the instance that it has sent and whose response it awaits. It takes no memory.
+    pub fn pending(&self) -> Option<&Text>
+        ensures { option_copied result ≡ pending_in self.now.core }
+    {
+        let Some(core) = &self.core else {
+            return None;
+        };
+        match &core.as_core().pending {
+            Some(pending) => Some(&pending.uid),
+            None => None,
         }
     }
 

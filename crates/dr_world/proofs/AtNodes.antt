@@ -16,7 +16,8 @@ use Rattle.dr_world_model.specs.Events.{HasNode}
 use Rattle.dr_world_tie.specs.Channels.{Channel}
 use Rattle.dr_world_tie.specs.Desks.{LedgerStep}
 use Rattle.dr_world_tie.specs.Nodes.{RequeuesAt}
-use Rattle.dr_world_tie.specs.ByteWorlds.{ByteWorld, Submit, Open, Push, Move, Abort, Release, Close, Late, Restart, Requeue, Tick, Refuse, with_call}
+use Rattle.dr_world_tie.specs.ByteWorlds.{ByteWorld, Submit, Open, Push, Move, Abort, Release, Close}
+use Rattle.dr_world_tie.specs.ByteWorlds.{Late, Restart, Requeue, Forget, Tick, Refuse, with_call}
 use Rattle.dr_world_tie.proofs.Sites.{site_steps}
 use Rattle.dr_world.specs.declared.wires.Wires.{Wires}
 use Rattle.dr_world.specs.Shows.{Contents, Seat, Seats, ShowsBytes, IsSeated, HasSide, LinkedAt, desk_at, with_seat, with_desk_of}
@@ -111,6 +112,10 @@ pub strangers : StrangerIsSkipped
 strangers plan certificate c b seated s name none (Submit node item) same = (b, inr (λ has. no_node plan certificate c seated name none (subst (λ (n : Text). HasNode plan n) same has), (refl, refl)), s)
 strangers plan certificate c b seated s name none (Restart node) same = (b, inr (λ has. no_node plan certificate c seated name none (subst (λ (n : Text). HasNode plan n) same has), (refl, refl)), s)
 strangers plan certificate c b seated s name none (Requeue node uid dest) same = (b, inr (λ has. no_node plan certificate c seated name none (subst (λ (n : Text). HasNode plan n) same has), (refl, refl)), s)
+strangers plan certificate c b seated s name none (Forget node uid) same =
+    let P : Text → Type 0 = λ n. HasNode plan n in
+    let no = no_node plan certificate c seated name none in
+    (b, inr (λ has. no (subst P same has), (refl, refl)), s)
 strangers plan certificate c b seated s name none (Refuse node) same = (b, inr (λ has. no_node plan certificate c seated name none (subst (λ (n : Text). HasNode plan n) same has), (refl, refl)), s)
 strangers plan certificate c b seated s name none (Open from to) h = absurd h
 strangers plan certificate c b seated s name none (Push link) h = absurd h

@@ -115,6 +115,7 @@ module _ {S : Type 0} (step : S → DeskCall → DeskAnswer → S → Type 0) (m
   settled acts d m (Settling (Err fault.Store)) h = ap (λ (y : Effect). y.acts) h.0
   settled acts d m (Settling (Err fault.NotWaiting)) h = ap (λ (y : Effect). y.acts) h.0
   settled acts d m (Settling (Err fault.NotHeld)) h = ap (λ (y : Effect). y.acts) h.0
+  settled acts d m (Settling (Err fault.NotOver)) h = ap (λ (y : Effect). y.acts) h.0
   settled acts d m (Settling (Err fault.Memory)) h = absurd h
   settled acts d m (Arrival reply) h = absurd h
   settled acts d m (Upcoming due) h = absurd h

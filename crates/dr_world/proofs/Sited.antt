@@ -66,6 +66,7 @@ settling_keeps site done lost h k (Settling (Err fault.Conflict)) = k
 settling_keeps site done lost h k (Settling (Err fault.Store)) = k
 settling_keeps site done lost h k (Settling (Err fault.NotWaiting)) = h
 settling_keeps site done lost h k (Settling (Err fault.NotHeld)) = k
+settling_keeps site done lost h k (Settling (Err fault.NotOver)) = k
 settling_keeps site done lost h k (Settling (Err fault.Memory)) = tt
 settling_keeps site done lost h k (Arrival reply) = tt
 settling_keeps site done lost h k (Upcoming due) = tt
@@ -143,6 +144,7 @@ due_keep at c (Err fault.Conflict) = refl
 due_keep at c (Err fault.Store) = refl
 due_keep at c (Err fault.NotWaiting) = refl
 due_keep at c (Err fault.NotHeld) = refl
+due_keep at c (Err fault.NotOver) = refl
 
 refused_keep : (at : Moment) (c : Core) (d : Result (Option Job) LedgerFault) → KeepsSite c.site (r.refused at c d)
 refused_keep at c (Ok (Some item)) = settling_keeps c.site _ _ refl refl
@@ -153,6 +155,7 @@ refused_keep at c (Err fault.Conflict) = refl
 refused_keep at c (Err fault.Store) = refl
 refused_keep at c (Err fault.NotWaiting) = refl
 refused_keep at c (Err fault.NotHeld) = refl
+refused_keep at c (Err fault.NotOver) = refl
 
 refuses_keep : (at : Moment) (c : Core) → KeepsSite c.site (r.refuses at c)
 refuses_keep at c = job_keeps c.site (r.refused at c) (refused_keep at c)

@@ -14,16 +14,20 @@ use Rattle.dr_ledger.proofs.Maps.{texts, same_or_not, ties_itself}
 use Rattle.dr_session.specs.Ledgers.{Desk}
 use Rattle.dr_node.specs.declared.node.Node.{Node}
 use Rattle.dr_world_model.specs.Worlds.{same_text}
-use Rattle.dr_world_tie.specs.ByteWorlds.{ByteWorld, WorldStep, Submit, Requeue, Refuse, Tick}
+use Rattle.dr_world_tie.specs.ByteWorlds.{ByteWorld, WorldStep}
+use Rattle.dr_world_tie.specs.ByteWorlds.{Submit, Requeue, Forget, Refuse, Tick}
 use Rattle.dr_world_tie.specs.ByteWorlds as bytes
 use Rattle.dr_world.specs.declared.steps.StepNote.{StepNote}
-use Rattle.dr_world.specs.declared.steps.StepNote.TheVariants.{Done}
+use Rattle.dr_world.specs.declared.steps.StepNote.TheVariants.{Done, UnderWay}
 use Rattle.dr_world.specs.declared.world.World.{World}
 use Rattle.dr_world.specs.Shows.{Contents, Seat, Seats, ShowsBytes, IsSeated, Becomes, with_seat, with_desk_of}
 use Rattle.dr_world.specs.Laws.{IsAtNode, with_seats, with_time}
+use Rattle.dr_world.specs.Forgotten.{is_under_way}
 use Rattle.dr_world.specs.Nodes.{seat_of}
-use Rattle.dr_world.specs.Whole.{AllStand, Calls, CallsIn, HasTicked, IsToldToRefuse, Puts, StepsTo, Submits, contents, noted}
+use Rattle.dr_world.specs.Whole.{AllStand, Calls, CallsIn, Drops, HasTicked, IsToldToRefuse, Puts}
+use Rattle.dr_world.specs.Whole.{StepsTo, Submits, contents, noted}
 use Rattle.dr_world.proofs.AtNodes.{ticks, strangers, submits, requeues, refuses}
+use Rattle.dr_world.proofs.Forgetting.{forgets, none_over, some_over, under_way_stays}
 
 -- a node whose ledger alone has changed is one of the plan still
 seated : (plan : Network) (certificate : Certificate) (seats : Seats) (name : Text) (seat : Seat) (t : Desk) → seats name ≡ Some seat → IsSeated plan certificate seats → IsSeated plan certificate (with_seat seats name (with_desk_of seat t))
@@ -93,7 +97,28 @@ module _ {L : Type 0} {l : Ghosts L} (old new : World L l) (note : StepNote) whe
       (λ plan certificate certified b s shown seat is t d. subst (λ (n : bytes.StepNote). Becomes plan certificate b (Requeue name uid dest) n (with_seats (contents old) name (with_desk_of seat t))) (sym d.3)
       (requeues plan certificate (contents old) b s shown name seat is uid dest d.0 t d.1 d.2)) h
 
+  pub forgot : (name uid : Text) → is_under_way old.nodes old.wires name uid ≡ false →
+      Calls (Drops uid) name old note new → StepsTo (Forget name uid) old note new
+  forgot name uid none h = steps (Drops uid) (Forget name uid) name refl (
+      λ plan certificate certified b s shown seat is t d.
+      let then = with_seats (contents old) name (with_desk_of seat t) in
+      let P : bytes.StepNote → Type 0 = λ n. Becomes plan certificate b (Forget name uid) n then in
+      let free = none_over old.nodes old.wires name uid none in
+      let c = contents old in
+      subst P (sym d.3) (forgets plan certificate c b s shown name seat is uid d.0 t free d.1 d.2)) h
+
   pub told_to_refuse : (name : Text) → Calls IsToldToRefuse name old note new → StepsTo (Refuse name) old note new
   told_to_refuse name h = steps IsToldToRefuse (Refuse name) name refl
       (λ plan certificate certified b s shown seat is t d. subst (λ (n : StepNote). Becomes plan certificate b (Refuse name) (noted n) (with_seats (contents old) name (with_desk_of seat t))) (sym d.0)
       (subst (λ (u : Desk). Becomes plan certificate b (Refuse name) bytes.Done (with_seats (contents old) name (with_desk_of seat u))) (sym d.1) (refuses plan certificate (contents old) b s shown name seat is))) h
+
+-- what is under way stays
+pub stays : {L : Type 0} {l : Ghosts L} (w : World L l) (name uid : Text) →
+    is_under_way w.nodes w.wires name uid ≡ true → StepsTo (Forget name uid) w UnderWay w
+stays w name uid some =
+    let at = some_over w.nodes w.wires name uid some in (
+      (λ all. all),
+      λ plan certificate certified b seated s all.
+          let same = under_way_stays plan certificate (contents w) b seated s name uid at.0 at.1 in
+          (seated, ∣ same ∣₁),
+    )

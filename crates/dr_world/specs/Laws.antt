@@ -15,16 +15,19 @@ use Rattle.dr_session.specs.Desks.{DeskCall, DeskAnswer, Arrive, Arrival}
 use Rattle.dr_session.specs.Plays.{At, Reacts}
 use Rattle.dr_session.specs.Ledgers.{Desk, RoutedStep, desk}
 use Rattle.dr_ledger.specs.Refusals.{Arms}
-use Rattle.dr_ledger.specs.Replies.{Requeues, IsHeld}
+use Rattle.dr_ledger.specs.Replies.{Forgets, Requeues, IsHeld, IsOver}
 use Rattle.dr_node.specs.Sides.{others}
 use Rattle.dr_world_model.specs.Calls.{Reply, Answer}
-use Rattle.dr_world_tie.specs.ByteWorlds.{ByteWorld, beginning, WorldStep, Submit, Move, Restart, Requeue, Tick, Refuse, Side, Done, Skipped, AreOthers, IsMoved, note_of}
+use Rattle.dr_world_tie.specs.ByteWorlds.{ByteWorld, beginning, WorldStep, Side}
+use Rattle.dr_world_tie.specs.ByteWorlds.{Submit, Move, Restart, Requeue, Forget, Tick, Refuse}
+use Rattle.dr_world_tie.specs.ByteWorlds.{Done, Skipped, UnderWay, AreOthers, IsMoved, note_of}
 use Rattle.dr_session.specs.declared.ends.Heard.TheVariants as heard
 use Rattle.dr_session.specs.declared.ends.LinkAction.{LinkAction}
 use Rattle.dr_session.specs.Ends.{is_gone, state_in}
 use Rattle.dr_node.specs.declared.event.LinkEvent.TheVariants as event
 use Rattle.dr_world_tie.specs.Channels.{Terminal}
 use Rattle.dr_world.specs.Ends.{IsDone, wire_at}
+use Rattle.dr_world.specs.Forgotten.{pends}
 use Rattle.dr_world.specs.Nodes.{event_at}
 use Rattle.dr_world.specs.Shows.{Contents, Seat, ShowsBytes, IsSeated, Becomes, with_seat, with_desk_of}
 
@@ -63,6 +66,7 @@ abbrev pub IsAtNode : WorldStep → Text → Type 0
 IsAtNode (Submit node item) name = node ≡ name
 IsAtNode (Restart node) name = node ≡ name
 IsAtNode (Requeue node uid dest) name = node ≡ name
+IsAtNode (Forget node uid) name = node ≡ name
 IsAtNode (Refuse node) name = node ≡ name
 IsAtNode step name = ⊥
 
@@ -83,6 +87,24 @@ RequeueIsShown = (plan : Network) (certificate : Certificate) (c : Contents) (b 
     (name : Text) (seat : Seat) → c.seats name ≡ Some seat → (uid dest : Text) (answer : Answer) (t : Desk) →
     Requeues uid dest seat.desk.book answer t.book → Arms (IsHeld seat.desk.book uid dest) seat.desk.armed answer t.armed →
     Becomes plan certificate b (Requeue name uid dest) (note_of answer) (with_seats c name (with_desk_of seat t))
+
+-- a node is told to forget what is under way from it over no link
+abbrev pub ForgetIsShown : Type 0
+ForgetIsShown = (plan : Network) (certificate : Certificate) (c : Contents) (b : ByteWorld) →
+    IsSeated plan certificate c.seats → ShowsBytes c b →
+    (name : Text) (seat : Seat) → c.seats name ≡ Some seat → (uid : Text) (answer : Answer) (t : Desk) →
+    ((number : ℕ) → pends c.seats c.wires name uid number ≡ false) →
+    Forgets uid seat.desk.book answer t.book →
+    Arms (IsOver seat.desk.book uid) seat.desk.armed answer t.armed →
+    Becomes plan certificate b (Forget name uid) (note_of answer)
+    (with_seats c name (with_desk_of seat t))
+
+-- what is under way from it stays
+abbrev pub UnderWayStays : Type 0
+UnderWayStays = (plan : Network) (certificate : Certificate) (c : Contents) (b : ByteWorld) →
+    IsSeated plan certificate c.seats → ShowsBytes c b →
+    (name uid : Text) (number : ℕ) → pends c.seats c.wires name uid number ≡ true →
+    Becomes plan certificate b (Forget name uid) UnderWay c
 
 -- a node's next writing call is to be refused
 abbrev pub RefuseIsShown : Type 0

@@ -1,4 +1,5 @@
 pub mod Shows
+pub mod Forgotten
 pub mod Laws
 pub mod Whole
 pub mod Ends

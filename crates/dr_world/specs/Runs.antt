@@ -13,7 +13,7 @@ use Rattle.dr_world_tie.specs.ByteWorlds as bytes
 use Rattle.dr_world_tie.specs.ByteWorlds.{ByteWorld, beginning}
 use Rattle.dr_world_tie.specs.Shown.{RunsOf}
 use Rattle.dr_world_script.specs.declared.step.Step.{Step}
-use Rattle.dr_world_script.specs.declared.step.Step.TheVariants.{Submit, Open, Push, Move, Abort, Release, Close, Late, Restart, Requeue, Tick, RefuseStore}
+use Rattle.dr_world_script.specs.declared.step.Step.TheVariants.{Submit, Open, Push, Move, Abort, Release, Close, Late, Restart, Requeue, Forget, Tick, RefuseStore}
 use Rattle.dr_world.specs.declared.world.World.{World}
 use Rattle.dr_world.specs.Shows.{ShowsBytes, IsSeated}
 use Rattle.dr_world.specs.Ends.{named}
@@ -31,6 +31,7 @@ step_of (Close link) = bytes.Close link
 step_of (Late link side) = bytes.Late link (named side)
 step_of (Restart node) = bytes.Restart node
 step_of (Requeue node uid dest) = bytes.Requeue node uid dest
+step_of (Forget node uid) = bytes.Forget node uid
 step_of (Tick ms) = bytes.Tick ms
 step_of (RefuseStore node) = bytes.Refuse node
 

@@ -11,7 +11,7 @@ use Rattle.dr_plan_sound.specs.declared.certificate.Certificate.{Certificate}
 use Rattle.dr_site.specs.Sites.{IsCertified}
 use Rattle.dr_ledger.specs.declared.content.Job.{Job}
 use Rattle.dr_ledger.specs.Refusals.{Arms}
-use Rattle.dr_ledger.specs.Replies.{Requeues, IsHeld}
+use Rattle.dr_ledger.specs.Replies.{Forgets, Requeues, IsHeld, IsOver}
 use Rattle.dr_ledger.specs.SiteRoutes.{site_routing}
 use Rattle.dr_site.specs.Parts.{Part}
 use Rattle.dr_node.specs.declared.node.Node.{Node}
@@ -22,7 +22,7 @@ use Rattle.dr_session.specs.Ledgers.{Desk, RoutedStep, desk}
 use Rattle.dr_world_model.specs.Calls.{Reply, Answer}
 use Rattle.dr_world_tie.specs.ByteWorlds as bytes
 use Rattle.dr_world.specs.declared.steps.StepNote.{StepNote}
-use Rattle.dr_world.specs.declared.steps.StepNote.TheVariants.{Done, Skipped, Refused}
+use Rattle.dr_world.specs.declared.steps.StepNote.TheVariants.{Done, Skipped, Refused, UnderWay}
 use Rattle.dr_world.specs.declared.wires.Wires.{Wires}
 use Rattle.dr_world.specs.declared.world.World.{World}
 use Rattle.dr_world.specs.Shows.{Contents, Seat, ShowsBytes, IsSeated, Becomes, with_desk_of}
@@ -35,6 +35,7 @@ abbrev pub noted : StepNote → bytes.StepNote
 noted Done = bytes.Done
 noted Skipped = bytes.Skipped
 noted (Refused fault) = bytes.Refused fault
+noted UnderWay = bytes.UnderWay
 
 abbrev pub contents : {L : Type 0} {l : Ghosts L} → World L l → Contents
 contents w = record {
@@ -72,6 +73,11 @@ Submits item seat note t = (reply : Reply) × RoutedStep (site_routing seat.site
 
 abbrev pub Puts : Text → Text → Seat → StepNote → Desk → Type 0
 Puts uid dest seat note t = (answer : Answer) × Requeues uid dest seat.desk.book answer t.book × Arms (IsHeld seat.desk.book uid dest) seat.desk.armed answer t.armed × (noted note ≡ bytes.note_of answer)
+
+abbrev pub Drops : Text → Seat → StepNote → Desk → Type 0
+Drops uid seat note t = (answer : Answer) × Forgets uid seat.desk.book answer t.book
+    × Arms (IsOver seat.desk.book uid) seat.desk.armed answer t.armed
+    × (noted note ≡ bytes.note_of answer)
 
 abbrev pub IsToldToRefuse : Seat → StepNote → Desk → Type 0
 IsToldToRefuse seat note t = (note ≡ Done) × (t ≡ desk seat.desk.book true)

@@ -1,6 +1,6 @@
 //! Laws: what is done to a world's contents is a step of the world of bytes beside it.
 ghost use Rattle.dr_world.specs.Ended.{MoveEndsPdu};
-ghost use Rattle.dr_world.specs.Laws.{EndStaysOfItsSite, MoveIsShown, NewIsBeginning, OthersAreCounted, RefuseIsShown, RequeueIsShown, StrangerIsSkipped, SubmitIsShown, TickIsShown};
+ghost use Rattle.dr_world.specs.Laws.{EndStaysOfItsSite, ForgetIsShown, MoveIsShown, NewIsBeginning, OthersAreCounted, RefuseIsShown, RequeueIsShown, StrangerIsSkipped, SubmitIsShown, TickIsShown, UnderWayStays};
 
 use dr_session::DeskPort;
 
@@ -24,6 +24,8 @@ pub fn acts_at_nodes()
     ensures stranger { StrangerIsSkipped }
     ensures submit { SubmitIsShown }
     ensures requeue { RequeueIsShown }
+    ensures forget { ForgetIsShown }
+    ensures under_way { UnderWayStays }
     ensures refuse { RefuseIsShown }
 {}
 

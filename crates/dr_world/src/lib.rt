@@ -9,6 +9,7 @@
 
 mod calls;
 pub mod fault;
+mod forgetting;
 pub mod founding;
 pub mod fronts;
 pub mod laws;

@@ -16,7 +16,7 @@ use std::cmp::Ordering;
 use std::collections::BTreeMap;
 
 /// Whether two names are the same.
-fn is_same(name: &Text, other: &Text) -> bool
+pub fn is_same(name: &Text, other: &Text) -> bool
     ensures { result ≡ same_text name.now other.now }
 {
     match name.cmp(other) {

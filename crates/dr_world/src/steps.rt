@@ -10,4 +10,6 @@ pub enum StepNote {
     Skipped,
     /// The ledger refused it, with this fault.
     Refused(LedgerFault),
+    /// What the node was to forget is under way from there, and nothing has changed.
+    UnderWay,
 }

@@ -4,7 +4,7 @@ ghost use Rattle.std.specs.BTreeMap as tree;
 ghost use Rattle.dr_base.specs.Texts.{text_cmp};
 ghost use Rattle.dr_session.specs.declared.ends.Heard.TheVariants as heard;
 ghost use Rattle.dr_node.specs.declared.event.LinkEvent.TheVariants as event_of;
-ghost use Rattle.dr_world_tie.specs.ByteWorlds.{Abort, Close as CloseStep, Late, Open, Push, Refuse, Release, Requestor, Requeue, Restart, Submit, Tick};
+ghost use Rattle.dr_world_tie.specs.ByteWorlds.{Abort, Close as CloseStep, Forget, Late, Open, Push, Refuse, Release, Requestor, Requeue, Restart, Submit, Tick};
 ghost use Rattle.dr_world.specs.declared.steps.StepNote.TheVariants.{Done as WasDone};
 ghost use Rattle.dr_world.specs.Ends.{named, note_by};
 ghost use Rattle.dr_world.specs.Nodes.{event_at, over_at, push_at as pushed_at};
@@ -12,19 +12,20 @@ ghost use Rattle.dr_world.specs.declared.fault.WorldFault.TheVariants.{Memory as
 ghost use Rattle.dr_world.specs.Runs.{GoesOn, HoldsAfter, HoldsAfterAll, Leads, step_of};
 ghost use Rattle.dr_world.specs.Reports.{IsReported, ListsBook, bodies_of, books_of, has_in};
 ghost use Rattle.dr_world.specs.Restarted.{AllFarHear, FarHears};
-ghost use Rattle.dr_world.specs.Whole.{AllStand, Calls, HasTicked, IsSameWorld, IsToldToRefuse, Meets, Puts, StepsTo, Submits, noted};
+ghost use Rattle.dr_world.specs.Whole.{AllStand, Calls, Drops, HasTicked, IsSameWorld, IsToldToRefuse, Meets, Puts, StepsTo, Submits, noted};
 
 mod reading;
 
 use crate::calls::{accept_at, input_at, is_over_at, open_at, push_at};
 use crate::fault::WorldFault;
+use crate::forgetting::is_under_way;
 use crate::listing::{Listing, has_body_at, list_at, names_in, report_each};
 use crate::restarts::{come_up, far_side, forget, links_of};
 use crate::steps::StepNote;
 use crate::time::Time;
 use crate::wires::Wires;
 use dr_base::Text;
-use dr_ledger::{Item, Ledger, Refusing};
+use dr_ledger::{Item, Ledger, LetsGo, Refusing};
 use dr_node::{LinkEvent, Node};
 use dr_session::{Heard, LinkAction};
 use dr_world_script::{Side, Step};
@@ -317,7 +318,34 @@ impl<L: Ledger> World<L> {
     }
 }
 
-impl<L: Ledger> World<Refusing<L>> {
+impl<L: LetsGo> World<L> {
+    /// A node's ledger is told to forget an instance; skipped where no node has that name.
+    fn let_go_of(&mut self, name: &Text, uid: &Text) -> StepNote
+        ensures { Calls (Drops uid.now) name.now self.old result self.new }
+    {
+        let Some(node) = self.nodes.get_mut(name) else {
+            return StepNote::Skipped;
+        };
+        match node.forget(uid) {
+            Ok(_) => StepNote::Done,
+            Err(fault) => StepNote::Refused(fault),
+        }
+    }
+
+    /// A node forgets what it has of an instance that is over; skipped where no node has that name. While an
+    /// end that it asked over awaits the response to a store of that uid nothing is done: that response would
+    /// settle a row of another instance, if one came under that uid.
+    fn forget(&mut self, name: &Text, uid: &Text) -> StepNote
+        ensures { StepsTo (Forget name.now uid.now) self.old result self.new }
+    {
+        if is_under_way(&self.wires, &self.nodes, name, uid) {
+            return StepNote::UnderWay;
+        }
+        self.let_go_of(name, uid)
+    }
+}
+
+impl<L: LetsGo> World<Refusing<L>> {
     /// One step. After want of memory each further step answers Memory.
     ///
     /// Errors: Memory.
@@ -367,6 +395,7 @@ impl<L: Ledger> World<Refusing<L>> {
             Step::Close { link } => self.close(*link),
             Step::Late { link, side } => self.late(*link, *side),
             Step::Requeue { node, uid, dest } => Ok(self.requeue(node, uid, dest)),
+            Step::Forget { node, uid } => Ok(self.forget(node, uid)),
             Step::Tick { milliseconds } => {
                 self.tick(*milliseconds);
                 Ok(StepNote::Done)

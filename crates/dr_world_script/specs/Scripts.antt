@@ -12,7 +12,7 @@ use Rattle.dr_ledger.specs.declared.content.Job.{Job}
 use Rattle.dr_world_script.specs.declared.step.Side.{Side}
 use Rattle.dr_world_script.specs.declared.step.Side.TheVariants.{Requestor, Acceptor}
 use Rattle.dr_world_script.specs.declared.step.Step.{Step}
-use Rattle.dr_world_script.specs.declared.step.Step.TheVariants.{Submit, Open, Push, Move, Abort, Release, Close, Late, Restart, Requeue, Tick, RefuseStore}
+use Rattle.dr_world_script.specs.declared.step.Step.TheVariants.{Submit, Open, Push, Move, Abort, Release, Close, Late, Restart, Requeue, Forget, Tick, RefuseStore}
 use Rattle.dr_world_script.specs.declared.step.Word.{Word}
 use Rattle.dr_world_script.specs.declared.step.Word.TheVariants as word
 use Rattle.dr_world_script.specs.declared.fault.LineFault.{LineFault}
@@ -32,6 +32,7 @@ spelled word.Close = codes "close"
 spelled word.Late = codes "late"
 spelled word.Restart = codes "restart"
 spelled word.Requeue = codes "requeue"
+spelled word.Forget = codes "forget"
 spelled word.Tick = codes "tick"
 spelled word.Refuse = codes "refuse"
 
@@ -75,6 +76,8 @@ Follows word.Close fields step = (link : ℕ) × (step ≡ Close link) × AreNum
 Follows word.Late fields step = (link : ℕ) × (side : Side) × (step ≡ Late link side) × AreEnd link side fields
 Follows word.Restart fields step = (node : Text) × (step ≡ Restart node) × (fields ≡ node ∷ [])
 Follows word.Requeue fields step = (node uid dest : Text) × (step ≡ Requeue node uid dest) × (fields ≡ node ∷ uid ∷ dest ∷ [])
+Follows word.Forget fields step =
+    (node uid : Text) × (step ≡ Forget node uid) × (fields ≡ node ∷ uid ∷ [])
 Follows word.Tick fields step = (milliseconds : ℕ) × (step ≡ Tick milliseconds) × AreNumber milliseconds fields
 Follows word.Refuse fields step = (node : Text) × (step ≡ RefuseStore node) × (fields ≡ node ∷ [])
 

@@ -52,6 +52,7 @@ pub fn read_word(field: &[u8]) -> Option<Word>
         b"late" => Some(Word::Late),
         b"restart" => Some(Word::Restart),
         b"requeue" => Some(Word::Requeue),
+        b"forget" => Some(Word::Forget),
         b"tick" => Some(Word::Tick),
         b"refuse" => Some(Word::Refuse),
         _ => None,

@@ -165,6 +165,17 @@ fn read_requeue(alloc: Global, fields: &[&[u8]]) -> Result<Step, LineFault>
     Ok(Step::Requeue { node, uid, dest })
 }
 
+fn read_forget(alloc: Global, fields: &[&[u8]]) -> Result<Step, LineFault>
+    ensures { ReadsFields words.Forget (map (λ f. f.now) fields.now) result }
+{
+    let [first, second] = fields else {
+        return Err(LineFault::NoStep);
+    };
+    let node = Text::copy_of(alloc, first)?;
+    let uid = Text::copy_of(alloc, second)?;
+    Ok(Step::Forget { node, uid })
+}
+
 /// The item of a data set.
 fn item_of(alloc: Global, syntax: Syntax, body: Octets) -> Result<Item, LineFault>
     ensures { TakesItem syntax body result }
@@ -216,6 +227,7 @@ fn read_fields(alloc: Global, word: Word, fields: &[&[u8]]) -> Result<Step, Line
         Word::Late => read_late(fields),
         Word::Restart => read_restart(alloc, fields),
         Word::Requeue => read_requeue(alloc, fields),
+        Word::Forget => read_forget(alloc, fields),
         Word::Tick => read_tick(fields),
         Word::Refuse => read_refuse(alloc, fields),
     }

@@ -34,6 +34,8 @@ pub enum Step {
     Restart { node: Text },
     /// A held row of the node's queue is queued again.
     Requeue { node: Text, uid: Text, dest: Text },
+    /// The node forgets what it has of an instance that is over.
+    Forget { node: Text, uid: Text },
     /// So many milliseconds pass.
     Tick { milliseconds: u64 },
     /// The node's ledger is to refuse the next call that would write.
@@ -53,6 +55,7 @@ pub enum Word {
     Late,
     Restart,
     Requeue,
+    Forget,
     Tick,
     Refuse,
 }

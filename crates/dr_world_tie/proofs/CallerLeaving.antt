@@ -93,6 +93,7 @@ by_answer plan name p now acts c s m t x (Settling (Err fault.Memory)) h k = abs
 by_answer plan name p now acts c s m t x (Settling (Err fault.NoLine)) h k = absurd h.0
 by_answer plan name p now acts c s m t x (Settling (Err fault.Conflict)) h k = absurd h.0
 by_answer plan name p now acts c s m t x (Settling (Err fault.NotHeld)) h k = absurd h.0
+by_answer plan name p now acts c s m t x (Settling (Err fault.NotOver)) h k = absurd h.0
 by_answer plan name p now acts c s m t x (Arrival r) h k = absurd h
 by_answer plan name p now acts c s m t x (Upcoming d) h k = absurd h
 
@@ -155,7 +156,7 @@ module _ (plan : Network) (certificate : Certificate) (w : World) (number : ℕ)
     books : (other : Text) → same_text other link.caller ≡ false → mid.books other ≡ w.books other
     armed : (other : Text) → same_text other link.caller ≡ false → set.contains mid.armed other ≡ set.contains w.armed other
     links : mid.links ≡ w.links
-    rest : (mid.time ≡ w.time) × (mid.carried_over ≡ w.carried_over) × (mid.opened ≡ w.opened)
+    rest : (mid.time ≡ w.time) × (mid.stood ≡ w.stood) × (mid.opened ≡ w.opened)
 
   middle : (item : Option Instance) (answer : Option Answer) → Does plan link.caller k.caller.core w.time item answer s t → Middle item answer
   middle None None h = record {

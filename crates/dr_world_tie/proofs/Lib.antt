@@ -15,6 +15,7 @@ pub mod Nodes
 pub mod Off
 pub mod Others
 pub mod Opening
+pub mod Pendings
 pub mod Pushing
 pub mod Rejections
 pub mod Requests

@@ -161,6 +161,7 @@ module _ (plan : Network) (certificate : Certificate) (w : World) (number : ℕ)
   by_answer uid m (Settling (Err fault.NoLine)) h q = absurd h.0
   by_answer uid m (Settling (Err fault.Conflict)) h q = absurd h.0
   by_answer uid m (Settling (Err fault.NotHeld)) h q = absurd h.0
+  by_answer uid m (Settling (Err fault.NotOver)) h q = absurd h.0
   by_answer uid m (Arrival r) h q = absurd h
   by_answer uid m (Upcoming d) h q = absurd h
 
@@ -219,6 +220,7 @@ module _ (plan : Network) (certificate : Certificate) (w : World) (number : ℕ)
   settles item first lacks (Err fault.NoLine) h g = absurd g
   settles item first lacks (Err fault.Conflict) h g = absurd g
   settles item first lacks (Err fault.NotHeld) h g = absurd g
+  settles item first lacks (Err fault.NotOver) h g = absurd g
 
   -- ---- what the desk answers
 
@@ -266,6 +268,7 @@ module _ (plan : Network) (certificate : Certificate) (w : World) (number : ℕ)
   by_next (Upcoming (Err fault.Conflict)) m one h = absurd one.0
   by_next (Upcoming (Err fault.NotWaiting)) m one h = absurd one.0
   by_next (Upcoming (Err fault.NotHeld)) m one h = absurd one.0
+  by_next (Upcoming (Err fault.NotOver)) m one h = absurd one.0
 
   pub pushed : Reacts cstep k.caller.core (at_moment moment PushAsked) s x t → Result_is
   pushed r =

@@ -101,6 +101,7 @@ module _ (plan : Network) (certificate : Certificate) (w : World) (number : ℕ)
     by_answer uid m (Settling (Err fault.NoLine)) h q = absurd h.0
     by_answer uid m (Settling (Err fault.Conflict)) h q = absurd h.0
     by_answer uid m (Settling (Err fault.NotHeld)) h q = absurd h.0
+    by_answer uid m (Settling (Err fault.NotOver)) h q = absurd h.0
     by_answer uid m (Arrival r) h q = absurd h
     by_answer uid m (Upcoming d) h q = absurd h
 
@@ -159,6 +160,7 @@ module _ (plan : Network) (certificate : Certificate) (w : World) (number : ℕ)
     by_next (Upcoming (Err fault.Conflict)) m one h = absurd one.0
     by_next (Upcoming (Err fault.NotWaiting)) m one h = absurd one.0
     by_next (Upcoming (Err fault.NotHeld)) m one h = absurd one.0
+    by_next (Upcoming (Err fault.NotOver)) m one h = absurd one.0
 
   pub rejected_here : Result_is
   rejected_here =

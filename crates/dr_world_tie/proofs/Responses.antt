@@ -72,7 +72,7 @@ pub record Settled (w : World) (link : Link) (uid : Text) (outcome : Outcome) (a
   pub books : (other : Text) → same_text other link.caller ≡ false → mid.books other ≡ w.books other
   pub armed : (other : Text) → same_text other link.caller ≡ false → set.contains mid.armed other ≡ set.contains w.armed other
   pub links : mid.links ≡ w.links
-  pub rest : (mid.time ≡ w.time) × (mid.carried_over ≡ w.carried_over) × (mid.opened ≡ w.opened)
+  pub rest : (mid.time ≡ w.time) × (mid.stood ≡ w.stood) × (mid.opened ≡ w.opened)
 
 pub settled : (plan : Network) (w : World) (link : Link) (peer uid : Text) (outcome : Outcome) (now : ℕ) (answer : Answer) (s t : Desk) → IsDeskOf w link.caller s → peer ≡ link.receiver → now ≡ w.time
     → LedgerStep plan link.caller s (Settle uid peer outcome now) (Settling answer) t → Settled w link uid outcome answer t
@@ -112,6 +112,7 @@ by_answer plan name p outcome moment core s m t x (Settling (Err fault.Memory)) 
 by_answer plan name p outcome moment core s m t x (Settling (Err fault.NoLine)) h k = absurd h.0
 by_answer plan name p outcome moment core s m t x (Settling (Err fault.Conflict)) h k = absurd h.0
 by_answer plan name p outcome moment core s m t x (Settling (Err fault.NotHeld)) h k = absurd h.0
+by_answer plan name p outcome moment core s m t x (Settling (Err fault.NotOver)) h k = absurd h.0
 by_answer plan name p outcome moment core s m t x (Arrival r) h k = absurd h
 by_answer plan name p outcome moment core s m t x (Upcoming d) h k = absurd h
 
@@ -295,6 +296,7 @@ module _ (plan : Network) (certificate : Certificate) (w : World) (number : ℕ)
     event none (Err fault.NoLine) h g = absurd g
     event none (Err fault.Conflict) h g = absurd g
     event none (Err fault.NotHeld) h g = absurd g
+    event none (Err fault.NotOver) h g = absurd g
 
   by_values : (id number_of : ℕ) (has_pending : c.pending ≡ Some (storing id number_of item.uid)) (m : IsMessageFor c (message number_of (StoreRsp id status item.key.class item.uid false) None) item.key.class item.key.syntax carries.coming) (vs : List Pdv) → m.values ≡ vs → Result_is
   by_values id number_of has_pending m [] e = absurd (subst (λ (l : List Pdv). Gets c.assembly.awaited c.assembly.stage l (message number_of (StoreRsp id status item.key.class item.uid false) None)) e m.gets)

@@ -53,7 +53,7 @@ module _ (plan : Network) (certificate : Certificate) (b : ByteWorld) (node : Te
     are : AreDesks mid desks
     others : (other : ℕ) → (Contains all other → ⊥) → map_of.get mid.links other ≡ map_of.get w.links other
     of : (other : ℕ) → is_of node (map_of.get mid.links other) ≡ is_of node (map_of.get w.links other)
-    rest : (mid.time ≡ w.time) × (mid.carried_over ≡ w.carried_over) × (mid.opened ≡ w.opened)
+    rest : (mid.time ≡ w.time) × (mid.stood ≡ w.stood) × (mid.opened ≡ w.opened)
 
   abbrev IsKept : World → List ℕ → Type 0
   IsKept w all = (number : ℕ) → Contains all number → map_of.get w.links number ≡ map_of.get start.links number
@@ -109,7 +109,7 @@ module _ (plan : Network) (certificate : Certificate) (b : ByteWorld) (node : Te
 
         by_left : (v : World) (answer : Option Answer) → model.LeavesIfOn w number link answer v → (r : Went v more new) → ((other : ℕ) → (Contains (number ∷ more) other → ⊥) → map_of.get r.mid.links other ≡ map_of.get w.links other)
             → ((other : ℕ) → other ≢ number → is_of node (map_of.get v.links other) ≡ is_of node (map_of.get w.links other))
-            → (r.mid.time ≡ w.time) × (r.mid.carried_over ≡ w.carried_over) × (r.mid.opened ≡ w.opened) → Went w (number ∷ more) new
+            → (r.mid.time ≡ w.time) × (r.mid.stood ≡ w.stood) × (r.mid.opened ≡ w.opened) → Went w (number ∷ more) new
         by_left v answer (inl leaves) r others f rest =
             let on : link.caller_connected ≡ true = ap (λ (z : Link). z.caller_connected) (sym (same_world_link w number leaves.link link leaves.at here)) ∙ leaves.on in
             let P : Bool → Type 0 = λ z. LeaveAll w (cond z (number ∷ filter is_called more) (filter is_called more)) (answer ∷ r.answers) r.mid in

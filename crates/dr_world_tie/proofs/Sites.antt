@@ -27,6 +27,7 @@ armed_by W V old new (Err fault.NoLine) f h = h
 armed_by W V old new (Err fault.Conflict) f h = h
 armed_by W V old new (Err fault.NotWaiting) f h = h
 armed_by W V old new (Err fault.NotHeld) f h = h
+armed_by W V old new (Err fault.NotOver) f h = h
 armed_by W V old new (Err fault.Memory) f h = h
 
 admitted : (site plan : Routing) → Agree site plan → (caller : Text) (item : Instance) (b : Book) → IsAdmitted site caller item b → IsAdmitted plan caller item b

@@ -73,6 +73,7 @@ status_small (Err fault.Store) = omega arith
 status_small (Err fault.Memory) = omega arith
 status_small (Err fault.NotWaiting) = omega arith
 status_small (Err fault.NotHeld) = omega arith
+status_small (Err fault.NotOver) = omega arith
 
 -- the status that is written is the message world's
 same_status : (reply : Reply) → status_of reply ≡ calls.status_of reply
@@ -83,6 +84,7 @@ same_status (Err fault.Store) = refl
 same_status (Err fault.Memory) = refl
 same_status (Err fault.NotWaiting) = refl
 same_status (Err fault.NotHeld) = refl
+same_status (Err fault.NotOver) = refl
 
 module _ (plan : Network) (certificate : Certificate) (w : World) (number : ℕ) (link : Link) (k : Channel) (s : Desk) (here : IsLink w number link) (desk : IsDeskOf w link.receiver s) (shows : ShowsLink plan certificate k link)
     (on : link.receiver_connected ≡ true) (accepted : Contexts) (item : Job) (storing : link.stage ≡ Storing accepted (instance_of item)) (carries : Carries k.receiver k.to_receiver (Brings item k.caller.core k.receiver.core) link.caller_connected) (certified : IsCertified plan certificate) (moment : Moment) (n : ℕ) (front : Pdu) (new : Feeding) (x : Effect) (t : Desk)

@@ -30,14 +30,16 @@ use Rattle.dr_world_tie.specs.Desks.{Desk, LedgerStep}
 use Rattle.dr_world_tie.specs.Channels.{Channel, ShowsLink}
 use Rattle.dr_world_tie.specs.Ties.{IsDeskOf, IsOpened, with_desk}
 use Rattle.dr_world_tie.specs.Closing.{IsEnded, closed}
-use Rattle.dr_world_tie.specs.ByteWorlds.{ByteWorld, beginning, WorldStep, Submit, Open, Push, Move, Abort, Release, Close, Late, Restart, Requeue, Tick, Refuse, StepNote, DoesIf, LinkStep, Steps, Opens, Closes, is_over, caller_of, receiver_of, with_done, with_call, opened_between}
+use Rattle.dr_world_tie.specs.ByteWorlds.{ByteWorld, beginning, WorldStep, Submit, Open, Push, Move, Abort, Release, Close, Late, Restart, Requeue, Forget, Tick, Refuse, StepNote, DoesIf, LinkStep, Steps, Opens, Closes, is_over, caller_of, receiver_of, with_done, with_call, opened_between}
 use Rattle.dr_world_tie.specs.Shown.{Shows, ShowsAt, Comes, WorldStepsAreEvents, RunsOf, RunsKeepTheHeadline, WhatIsKeptStaysKept}
 use Rattle.dr_world_tie.proofs.Others.{shown_link}
 use Rattle.dr_site.proofs.Assembled.{is_site}
 use Rattle.dr_world_tie.proofs.Restarted.{restarted}
 use Rattle.dr_world_tie.proofs.Restarting.{desks_after}
 use Rattle.dr_world_tie.proofs.Opening.{opens_are_asks}
-use Rattle.dr_world_tie.proofs.Nodes.{submitting_takes, requeueing_is_requeue, refusing_is_refuse}
+use Rattle.dr_world_tie.proofs.Nodes.{submitting_takes, requeueing_is_requeue}
+use Rattle.dr_world_tie.proofs.Nodes.{forgetting_is_forget, refusing_is_refuse}
+use Rattle.dr_world_tie.proofs.Pendings.{some_is_pending, none_is_pending}
 use Rattle.dr_world_tie.proofs.Closing.{closing_is_close}
 use Rattle.dr_world_tie.proofs.Shown.{Result_of, after, at_node, skips, moved, pushed, released, aborted, delayed}
 
@@ -133,6 +135,19 @@ module _ (plan : Network) (certificate : Certificate) (certified : IsCertified p
   each (Requeue node uid dest) (inl (is_node, (answer, t, call, noted, is))) =
       let h = requeueing_is_requeue plan w node uid dest (b.desks node) t answer is_node (s.desks node) call in
       ∣ (h.after, inr (event.Requeue node uid dest answer, (refl, refl, refl), h.step), subst (λ (z : ByteWorld). Shows plan certificate z h.after) (sym is) (at_node plan certificate b w (event.Requeue node uid dest answer) node t s h)) ∣₁
+  each (Forget node uid) (inr h) = ∣ skips plan certificate (Forget node uid) b new w note s h.1 ∣₁
+  each (Forget node uid) (inl (is_node, inl (under_way, noted, is))) =
+      let silent = some_is_pending plan certificate b w s node uid under_way in
+      let shown = subst (λ (z : ByteWorld). Shows plan certificate z w) (sym is) s in
+      ∣ (w, inl (refl, inr silent), shown) ∣₁
+  each (Forget node uid) (inl (is_node, inr (none, (answer, t, call, noted, is)))) =
+      let free = none_is_pending plan certificate b w s node uid none in
+      let old = b.desks node in
+      let h = forgetting_is_forget plan w node uid old t answer is_node free (s.desks node) call in
+      let it : Event = event.Forget node uid answer in
+      let shown = at_node plan certificate b w it node t s h in
+      let now = subst (λ (z : ByteWorld). Shows plan certificate z h.after) (sym is) shown in
+      ∣ (h.after, inr (it, (refl, refl), h.step), now) ∣₁
   each (Refuse node) (inr h) = ∣ skips plan certificate (Refuse node) b new w note s h.1 ∣₁
   each (Refuse node) (inl (is_node, (noted, is))) =
       let h = refusing_is_refuse plan w node (b.desks node) is_node (s.desks node) in

@@ -31,6 +31,7 @@ use Rattle.dr_session.specs.declared.ends.Input.TheVariants.{Ended, Late as Late
 use Rattle.dr_session.specs.declared.ends.Moment.{Moment}
 use Rattle.dr_session.specs.Desks.{Arrive, Arrival}
 use Rattle.dr_session.specs.Ends.{accepting, requesting, is_gone}
+use Rattle.dr_session.specs.Pendings.{pending_of}
 use Rattle.dr_session.specs.Ledgers.{desk}
 use Rattle.dr_session.specs.Plays.{Reacts, PlaysBytes, at_moment}
 use Rattle.dr_session.specs.Reactions.{is_idle, is_free, is_impatient}
@@ -41,7 +42,7 @@ use Rattle.dr_world_tie.specs.Desks.{Desk, LedgerStep}
 use Rattle.dr_world_tie.specs.Channels.{Terminal, Channel, site_of}
 use Rattle.dr_world_tie.specs.Ties.{with_desk, caller_did, receiver_did, caller_read, receiver_read}
 use Rattle.dr_world_tie.specs.Moves.{IsLeft}
-use Rattle.dr_world_tie.specs.Nodes.{RequeuesAt}
+use Rattle.dr_world_tie.specs.Nodes.{RequeuesAt, ForgetsAt}
 use Rattle.dr_world_tie.specs.Closing.{IsEnded, closed}
 
 pub record ByteWorld : Type 0 where
@@ -98,6 +99,7 @@ pub data WorldStep : Type 0 where
   Late : (link : ℕ) → (side : Side) → WorldStep
   Restart : (node : Text) → WorldStep
   Requeue : (node : Text) → (uid : Text) → (dest : Text) → WorldStep
+  Forget : (node : Text) → (uid : Text) → WorldStep
   Tick : (ms : ℕ) → WorldStep
   Refuse : (node : Text) → WorldStep
 
@@ -105,6 +107,7 @@ pub data StepNote : Type 0 where
   Done : StepNote
   Skipped : StepNote
   Refused : (fault : LedgerFault) → StepNote
+  UnderWay : StepNote  -- an instance that its node was to forget awaits a response
 
 -- nothing is done
 abbrev pub Skips : ByteWorld → StepNote → ByteWorld → Type 0
@@ -229,6 +232,23 @@ note_of (Err fault) = Refused fault
 abbrev pub NodeStep : Network → Text → ByteWorld → StepNote → ByteWorld → Type 0 → Type 0
 NodeStep plan name b note new What = (HasNode plan name × What) ⊎ ((HasNode plan name → ⊥) × Skips b note new)
 
+-- ---- forgetting
+
+-- The node asked for the link, and its end there has the uid pending. An end that is off has nothing
+-- pending.
+abbrev pub PendsAt : ByteWorld → Text → Text → ℕ → Type 0
+PendsAt b name uid number = (k : Channel) × (map.get b.links number ≡ Some k) × (caller_of k ≡ name)
+    × (pending_of k.caller.core.pending ≡ Some uid)
+
+abbrev pub IsUnderWay : ByteWorld → Text → Text → Type 0
+IsUnderWay b name uid = (number : ℕ) × PendsAt b name uid number
+
+-- While a uid is under way from a node it isn't forgotten there. Else its ledger is asked.
+abbrev pub ForgetsIn : ByteWorld → Text → Text → StepNote → ByteWorld → Type 0
+ForgetsIn b name uid note new = (IsUnderWay b name uid × (note ≡ UnderWay) × (new ≡ b))
+    ⊎ ((IsUnderWay b name uid → ⊥) × ((answer : Answer) × (t : Desk)
+    × ForgetsAt (b.desks name) uid answer t × (note ≡ note_of answer) × (new ≡ with_call b name t)))
+
 -- ---- a restart
 
 -- the node has an end of the link
@@ -277,5 +297,7 @@ Steps plan certificate b (Late link side) note new = LinkStep (map.get b.links l
 Steps plan certificate b (Restart node) note new = NodeStep plan node b note new ((note ≡ Done) × Restarts plan b node new)
 Steps plan certificate b (Requeue node uid dest) note new = NodeStep plan node b note new ((answer : Answer) × (t : Desk)
     × RequeuesAt (b.desks node) uid dest answer t × (note ≡ note_of answer) × (new ≡ with_call b node t))
+Steps plan certificate b (Forget node uid) note new =
+    NodeStep plan node b note new (ForgetsIn b node uid note new)
 Steps plan certificate b (Tick ms) note new = (note ≡ Done) × (new ≡ record { time = min (b.time + ms) (2 ^ 62); desks = b.desks; links = b.links; opened = b.opened })
 Steps plan certificate b (Refuse node) note new = NodeStep plan node b note new ((note ≡ Done) × (new ≡ with_call b node (desk (b.desks node).book true)))

@@ -7,12 +7,13 @@ use Rattle.dr_plan_model.specs.Networks.{Network}
 use Rattle.dr_ledger.specs.declared.content.Job.{Job}
 use Rattle.dr_ledger.specs.Items.{instance_of}
 use Rattle.dr_ledger.specs.Refusals.{Arms}
-use Rattle.dr_ledger.specs.Replies.{Requeues, IsHeld}
+use Rattle.dr_ledger.specs.Replies.{Forgets, Requeues, IsHeld, IsOver}
 use Rattle.dr_session.specs.Desks.{Arrive, Arrival}
 use Rattle.dr_session.specs.Ledgers.{desk}
 use Rattle.dr_world_model.specs.Worlds.{World, same_text}
 use Rattle.dr_world_model.specs.Calls.{Reply, Answer}
-use Rattle.dr_world_model.specs.Events.{Event, Step, HasNode, Take, Requeue, Refuse, Tick}
+use Rattle.dr_world_model.specs.Steps.{NoneIsPending}
+use Rattle.dr_world_model.specs.Events.{Event, Step, HasNode, Take, Requeue, Forget, Refuse, Tick}
 use Rattle.dr_world_tie.specs.Desks.{Desk, LedgerStep}
 use Rattle.dr_world_tie.specs.Ties.{IsDeskOf}
 
@@ -21,7 +22,7 @@ pub record OnlyAt (w v : World) (name : Text) : Type 0 where
   pub books : (other : Text) → same_text other name ≡ false → v.books other ≡ w.books other
   pub armed : (other : Text) → same_text other name ≡ false → set.contains v.armed other ≡ set.contains w.armed other
   pub links : v.links ≡ w.links
-  pub rest : (v.time ≡ w.time) × (v.carried_over ≡ w.carried_over) × (v.opened ≡ w.opened)
+  pub rest : (v.time ≡ w.time) × (v.stood ≡ w.stood) × (v.opened ≡ w.opened)
 
 -- the event happens at this node alone
 pub record HappensAt (plan : Network) (w : World) (event : Event) (name : Text) (t : Desk) : Type 0 where
@@ -44,6 +45,17 @@ abbrev pub RequeueingIsRequeue : Type 0
 RequeueingIsRequeue = (plan : Network) (w : World) (name uid dest : Text) (s t : Desk) (answer : Answer) → HasNode plan name → IsDeskOf w name s →
     RequeuesAt s uid dest answer t → HappensAt plan w (Requeue name uid dest answer) name t
 
+-- what a ledger's `forget` does
+abbrev pub ForgetsAt : Desk → Text → Answer → Desk → Type 0
+ForgetsAt old uid answer new =
+    Forgets uid old.book answer new.book × Arms (IsOver old.book uid) old.armed answer new.armed
+
+-- What a node forgets while it has nothing of that uid pending, whatever the ledger answers.
+abbrev pub ForgettingIsForget : Type 0
+ForgettingIsForget = (plan : Network) (w : World) (name uid : Text) (s t : Desk) (answer : Answer) →
+    HasNode plan name → NoneIsPending w name uid → IsDeskOf w name s → ForgetsAt s uid answer t →
+    HappensAt plan w (Forget name uid answer) name t
+
 -- A ledger that is told to refuse, whatever it was told before.
 abbrev pub RefusingIsRefuse : Type 0
 RefusingIsRefuse = (plan : Network) (w : World) (name : Text) (s : Desk) → HasNode plan name → IsDeskOf w name s → HappensAt plan w (Refuse name) name (desk s.book true)
@@ -51,4 +63,4 @@ RefusingIsRefuse = (plan : Network) (w : World) (name : Text) (s : Desk) → Has
 -- As time passes each node, each link and each number stays as it is, and the time is at most 2^62.
 abbrev pub TimePasses : Type 0
 TimePasses = (plan : Network) (w : World) (ms : ℕ) → (v : World) × Step plan w (Tick ms) v × (v.time ≡ min (w.time + ms) (2 ^ 62))
-    × ((name : Text) (s : Desk) → IsDeskOf w name s → IsDeskOf v name s) × (v.links ≡ w.links) × (v.carried_over ≡ w.carried_over) × (v.opened ≡ w.opened)
+    × ((name : Text) (s : Desk) → IsDeskOf w name s → IsDeskOf v name s) × (v.links ≡ w.links) × (v.stood ≡ w.stood) × (v.opened ≡ w.opened)

@@ -1,5 +1,5 @@
 -- Which message world stands beside a world of bytes, and what steps do to both.
-use Rattle.std.specs.Prelude.{◌≡◌, ◌⊎◌, ◌<◌, ℕ, Bool, false, List, [], ◌∷◌, length, Option, Some, None}
+use Rattle.std.specs.Prelude.{◌≡◌, ◌⊎◌, ◌<◌, ℕ, Bool, true, false, List, [], ◌∷◌, length, Option, Some, None}
 use Rattle.std.specs.FinMap as map
 use Rattle.dr_base.specs.Texts.{Text}
 use Rattle.dr_plan_model.specs.Networks.{Network}
@@ -10,7 +10,7 @@ use Rattle.dr_pdu.specs.declared.pdu.Pdu.{Pdu}
 use Rattle.dr_ledger.specs.declared.item.Instance.{Instance}
 use Rattle.dr_ledger.specs.Replies.{IsNext}
 use Rattle.dr_world_model.specs.Worlds.{World, Link}
-use Rattle.dr_world_model.specs.Steps.{IsLink}
+use Rattle.dr_world_model.specs.Steps.{IsLink, pending}
 use Rattle.dr_world_model.specs.Events.{Event, Step, Take, Ask, Give, BreakCaller, BreakReceiver}
 use Rattle.dr_world_model.specs.Events as event
 use Rattle.dr_world_model.specs.Claims.{Headline}
@@ -18,7 +18,7 @@ use Rattle.dr_world_model.specs.Theorem.{Lasts}
 use Rattle.dr_world_tie.specs.Channels.{Terminal, Channel, ShowsLink}
 use Rattle.dr_world_tie.specs.Ties.{IsDeskOf, IsData}
 use Rattle.dr_world_tie.specs.Moves.{IsLeft, IsOfReceiver, IsOfCaller}
-use Rattle.dr_world_tie.specs.ByteWorlds.{ByteWorld, beginning, WorldStep, Submit, Open, Push, Move, Abort, Release, Close, Late, Restart, Requeue, Tick, Refuse, Side, Requestor, Acceptor, StepNote, Skipped, Steps}
+use Rattle.dr_world_tie.specs.ByteWorlds.{ByteWorld, beginning, WorldStep, Submit, Open, Push, Move, Abort, Release, Close, Late, Restart, Requeue, Forget, Tick, Refuse, Side, Requestor, Acceptor, StepNote, Skipped, UnderWay, Steps}
 
 -- a number has a channel and the link that it is, or neither
 abbrev pub ShowsAt : Network → Certificate → Option Channel → Option Link → Type 0
@@ -50,6 +50,7 @@ IsNamed (Late link Requestor) (BreakCaller number answer) = number ≡ link
 IsNamed (Late link Acceptor) (BreakReceiver number) = number ≡ link
 IsNamed (Restart node) (event.Restart name answers) = name ≡ node
 IsNamed (Requeue node uid dest) (event.Requeue name row to answer) = (name ≡ node) × (row ≡ uid) × (to ≡ dest)
+IsNamed (Forget node uid) (event.Forget name item answer) = (name ≡ node) × (item ≡ uid)
 IsNamed (Tick ms) (event.Tick passed) = passed ≡ ms
 IsNamed (Refuse node) (event.Refuse name) = name ≡ node
 IsNamed step event = ⊥
@@ -75,12 +76,20 @@ EndsNoneAt k Acceptor n = EndsNone k.receiver k.to_receiver n
 abbrev pub HasNoneDue : World → Link → Type 0
 HasNoneDue w link = (item : Instance) → IsNext (w.books link.caller) link.receiver w.time item → ⊥
 
--- Where a step that isn't skipped is no event: the end is off already, nothing was due, or the bytes end no message.
+-- the caller of a link, connected, has the uid pending, which its node was to forget
+abbrev pub SomeIsPending : World → Text → Text → Type 0
+SomeIsPending w name uid = (number : ℕ) × (link : Link) × (item : Instance) × IsLink w number link
+    × (link.caller ≡ name) × (link.caller_connected ≡ true) × (pending link.stage ≡ Some item)
+    × (item.uid ≡ uid)
+
+-- Where a step that isn't skipped is no event: the end is off already, nothing was due, the bytes end no
+-- message, or what is to be forgotten is pending.
 abbrev pub IsSilent : ByteWorld → World → WorldStep → Type 0
 IsSilent b w (Push number) = IsOffAt w number Requestor ⊎ ((link : Link) × IsLink w number link × HasNoneDue w link)
 IsSilent b w (Move number side n) = IsOffAt w number side ⊎ ((k : Channel) × (map.get b.links number ≡ Some k) × EndsNoneAt k side n)
 IsSilent b w (Abort number side) = IsOffAt w number side
 IsSilent b w (Late number side) = IsOffAt w number side
+IsSilent b w (Forget name uid) = SomeIsPending w name uid
 IsSilent b w step = ⊥
 
 -- no event, where the step is skipped or silent, or one that the step may be

@@ -100,7 +100,7 @@ pub record OnlyHere (w v : World) (number : ℕ) (name : Text) : Type 0 where
   pub books : (other : Text) → same_text other name ≡ false → v.books other ≡ w.books other
   pub links : (other : ℕ) → other ≢ number → map.get v.links other ≡ map.get w.links other
   pub armed : (other : Text) → same_text other name ≡ false → set.contains v.armed other ≡ set.contains w.armed other
-  pub rest : (v.time ≡ w.time) × (v.carried_over ≡ w.carried_over) × (v.opened ≡ w.opened)
+  pub rest : (v.time ≡ w.time) × (v.stood ≡ w.stood) × (v.opened ≡ w.opened)
 
 -- the event happens at this link and this node, and the channel is the link again
 pub record Happens (plan : Network) (certificate : Certificate) (w : World) (number : ℕ) (event : Event) (name : Text) (t : Desk) (k : Channel) : Type 0 where

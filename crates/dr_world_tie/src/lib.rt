@@ -11,14 +11,16 @@
 ghost use Rattle.dr_world_tie.specs.Closing.{ClosingIsClose};
 ghost use Rattle.dr_world_tie.specs.Desks.{SiteStepsArePlanSteps};
 ghost use Rattle.dr_world_tie.specs.Moves.{CallerMoves, ReceiverMoves};
-ghost use Rattle.dr_world_tie.specs.Nodes.{RefusingIsRefuse, RequeueingIsRequeue, SubmittingTakes, TimePasses};
+ghost use Rattle.dr_world_tie.specs.Nodes.{ForgettingIsForget, RefusingIsRefuse, RequeueingIsRequeue};
+ghost use Rattle.dr_world_tie.specs.Nodes.{SubmittingTakes, TimePasses};
 ghost use Rattle.dr_world_tie.specs.Shown.{RunsKeepTheHeadline, WhatIsKeptStaysKept, WorldStepsAreEvents};
 ghost use Rattle.dr_world_tie.specs.Ties.{AgreesAtReceiver, CallerHearsControl, CallerHearsNothing, CallerLeaves, GivesStore, HearsAcceptance, HearsRejection, HearsReply, HearsStore, LateAtCaller, LateAtReceiver, OffCallerIsNoEvent, OffReceiverIsNoEvent, OffStaysOff, OpensAreAsks, PiecesMakeCommands, PiecesMakeStores, PushGives, ReceiverHearsControl, ReceiverHearsNothing, ReceiverLeaves, ReleaseLeaves, RestartLeaves};
 
 use dr_session::DeskPort;
 
-/// A step of a whole world of bytes is an event of the message world beside it, or none where it is skipped, where the
-/// end is off, where nothing was due, or where the bytes end no message.
+/// A step of a whole world of bytes is an event of the message world beside it, or none where it is
+/// skipped, where the end is off, where nothing was due, where the bytes end no message, or where what is to be
+/// forgotten is under way.
 pub fn world_steps_are_events()
     ensures { WorldStepsAreEvents }
 {}
@@ -117,6 +119,7 @@ pub fn restarts()
 pub fn nodes_act()
     ensures submitting { SubmittingTakes }
     ensures requeueing { RequeueingIsRequeue }
+    ensures forgetting { ForgettingIsForget }
     ensures refusing { RefusingIsRefuse }
     ensures time { TimePasses }
 {}

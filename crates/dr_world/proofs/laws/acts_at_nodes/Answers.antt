@@ -1,4 +1,5 @@
 use Rattle.dr_world.proofs.AtNodes.{strangers, submits, requeues, refuses}
+use Rattle.dr_world.proofs.Forgetting.{forgets, under_way_stays}
 use Rattle.dr_world.proofs.laws.acts_at_nodes.Goals as goal
 
 pub returns-clause-stranger : goal.returns-clause-stranger
@@ -9,6 +10,12 @@ returns-clause-submit c = submits
 
 pub returns-clause-requeue : goal.returns-clause-requeue
 returns-clause-requeue c = requeues
+
+pub returns-clause-forget : goal.returns-clause-forget
+returns-clause-forget c = forgets
+
+pub returns-clause-under_way : goal.returns-clause-under_way
+returns-clause-under_way c = under_way_stays
 
 pub returns-clause-refuse : goal.returns-clause-refuse
 returns-clause-refuse c = refuses

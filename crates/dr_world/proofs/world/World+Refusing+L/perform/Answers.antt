@@ -1,4 +1,4 @@
-use Rattle.dr_world_script.specs.declared.step.Step.TheVariants.{Submit, Open, Push, Move, Abort, Release, Close, Late, Restart, Requeue, Tick, RefuseStore}
+use Rattle.dr_world_script.specs.declared.step.Step.TheVariants.{Submit, Open, Push, Move, Abort, Release, Close, Late, Restart, Requeue, Forget, Tick, RefuseStore}
 use Rattle.dr_world.specs.declared.steps.StepNote.TheVariants.{Done}
 use Rattle.dr_world.proofs.Running.{as_if, as_it, copied}
 use Rattle.dr_world.proofs.world.World+Refusing+L.perform.Goals as goal
@@ -23,6 +23,12 @@ returns-in-Late g c = as_if c.args.self.now c.late.new.self c.args.step.now (Lat
 pub returns-in-Requeue : goal.returns-in-Requeue
 returns-in-Requeue g c =
     as_it c.args.self.now c.requeue.new.self c.args.step.now (Requeue c.in-Requeue.node c.in-Requeue.uid c.in-Requeue.dest) c.in-Requeue.is c.requeue.result c.requeue.ensures.step
+
+pub returns-in-Forget : goal.returns-in-Forget
+returns-in-Forget g c =
+    let told = Forget c.in-Forget.node c.in-Forget.uid in
+    let new = c.forget.new.self in
+    as_it c.args.self.now new c.args.step.now told c.in-Forget.is c.forget.result c.forget.ensures
 
 pub returns-in-Tick : goal.returns-in-Tick
 returns-in-Tick g c = as_it c.args.self.now c.tick.new.self c.args.step.now (Tick c.in-Tick.milliseconds) c.in-Tick.is Done c.tick.ensures.step

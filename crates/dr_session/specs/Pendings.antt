@@ -1,0 +1,15 @@
+-- What an end has sent and not yet heard of.
+use Rattle.std.specs.Prelude.{Option, Some, None}
+use Rattle.dr_base.specs.Texts.{Text}
+use Rattle.dr_session.specs.declared.ends.Core.{Core}
+use Rattle.dr_session.specs.declared.ends.Pending.{Pending}
+
+-- the uid of the instance whose store awaits its response
+abbrev pub pending_of : Option Pending → Option Text
+pending_of None = None
+pending_of (Some p) = Some p.uid
+
+-- of an end; one without memory has nothing
+abbrev pub pending_in : Option Core → Option Text
+pending_in None = None
+pending_in (Some c) = pending_of c.pending
