@@ -43,9 +43,9 @@ pends_there true (Answering accepted) receiver c uid h has = absurd (nothing c u
 pends_there true Rejecting receiver c uid h has = absurd (nothing c uid h.1 has)
 pends_there true (Open accepted) receiver c uid h has = absurd (nothing c uid h.1 has)
 pends_there true (Storing accepted item) receiver c uid h has =
-    (item, refl, refl, this_one c uid _ h.1.1 has)
+    (item, refl, refl, this_one c uid _ h.1.2 has)
 pends_there true (Replying accepted item status) receiver c uid h has =
-    (item, refl, refl, this_one c uid _ h.1.1 has)
+    (item, refl, refl, this_one c uid _ h.1.2 has)
 pends_there true Gone receiver c uid h has = absurd h
 
 -- and what its link has an end has
@@ -56,9 +56,9 @@ pends_here (Answering accepted) receiver c item h is = absurd (impossible item i
 pends_here Rejecting receiver c item h is = absurd (impossible item is)
 pends_here (Open accepted) receiver c item h is = absurd (impossible item is)
 pends_here (Storing accepted other) receiver c item h is =
-    ap pending_of h.1.1 ∙ ap (λ (i : Instance). Some i.uid) (one_of other item is)
+    ap pending_of h.1.2 ∙ ap (λ (i : Instance). Some i.uid) (one_of other item is)
 pends_here (Replying accepted other status) receiver c item h is =
-    ap pending_of h.1.1 ∙ ap (λ (i : Instance). Some i.uid) (one_of other item is)
+    ap pending_of h.1.2 ∙ ap (λ (i : Instance). Some i.uid) (one_of other item is)
 pends_here Gone receiver c item h is = absurd h
 
 module _ (plan : Network) (certificate : Certificate) (b : ByteWorld) (w : World)
