@@ -9,7 +9,7 @@ use Rattle.dr_world_model.specs.Events.{HasNode}
 use Rattle.dr_world_model.specs.Worlds as model
 use Rattle.dr_world_script.specs.declared.step.Step.{Step}
 use Rattle.dr_world_tie.specs.ByteWorlds.{ByteWorld, beginning}
-use Rattle.dr_world_tie.specs.Shown.{RunsOf}
+use Rattle.dr_world_tie.specs.Shown.{ComesAbout, RunsOf}
 use Rattle.dr_world.specs.Reports.{IsReportOfAll}
 use Rattle.dr_world.specs.Runs.{step_of}
 
@@ -25,9 +25,12 @@ pub record AreBooksAfter (plan : Network) (certificate : Certificate) (steps : L
   pub leads : RunsOf plan certificate beginning (mapped step_of steps) world
   pub shown : (name : Text) (book : Book) → books name ≡ Some book → (world.desks name).book ≡ book
 
--- the headline's four claims hold of the nodes' books
+-- the headline's four claims hold of the nodes' books: of a world of messages that has them, and to
+-- which events of the plan lead from the start
 abbrev pub HoldsOfBooks : Network → Books → Type 0
-HoldsOfBooks plan books = (world : model.World) × ((name : Text) (book : Book) → books name ≡ Some book → world.books name ≡ book) × Headline plan world
+HoldsOfBooks plan books = (world : model.World) 
+    × ((name : Text) (book : Book) → books name ≡ Some book → world.books name ≡ book)
+    × ComesAbout plan world × Headline plan world
 
 -- The text is the report of the nodes' books after the steps, in byte order of the nodes' names; the headline holds of them.
 pub record IsReportAfter (plan : Network) (certificate : Certificate) (steps : List Step) (report : Text) : Type 0 where

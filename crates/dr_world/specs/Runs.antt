@@ -11,7 +11,7 @@ use Rattle.dr_world_model.specs.Worlds as model
 use Rattle.dr_world_model.specs.Claims.{Headline}
 use Rattle.dr_world_tie.specs.ByteWorlds as bytes
 use Rattle.dr_world_tie.specs.ByteWorlds.{ByteWorld, beginning}
-use Rattle.dr_world_tie.specs.Shown.{RunsOf}
+use Rattle.dr_world_tie.specs.Shown.{ComesAbout, RunsOf}
 use Rattle.dr_world_script.specs.declared.step.Step.{Step}
 use Rattle.dr_world_script.specs.declared.step.Step.TheVariants.{Submit, Open, Push, Move, Abort, Release, Close, Late, Restart, Requeue, Forget, Tick, RefuseStore}
 use Rattle.dr_world.specs.declared.world.World.{World}
@@ -47,9 +47,11 @@ IsReached plan certificate steps w = AllStand w → WasReached plan certificate 
 abbrev pub GoesOn : {L : Type 0} {l : Ghosts L} → bytes.WorldStep → World L l → World L l → Type 0
 GoesOn step old new = (plan : Network) (certificate : Certificate) → IsCertified plan certificate → (steps : List bytes.WorldStep) → IsReached plan certificate steps old → IsReached plan certificate (steps ++ step ∷ []) new
 
--- the headline's four claims hold of the nodes' books: of a world of messages that has just these
+-- the headline's four claims hold of the nodes' books: of a world of messages that has just these,
+-- and to which events of the plan lead from the start
 abbrev pub HoldsOf : {L : Type 0} {l : Ghosts L} → Network → World L l → Type 0
-HoldsOf {L} {l} plan w = ∥ ((v : model.World) × ((name : Text) (n : Node L l) → tree.get text_cmp w.nodes name ≡ Some n → v.books name ≡ l.book n.desk.ledger) × Headline plan v) ∥₁
+HoldsOf {L} {l} plan w = ∥ ((v : model.World) × ((name : Text) (n : Node L l) → tree.get text_cmp w.nodes name ≡ Some n → v.books name ≡ l.book n.desk.ledger)
+    × ComesAbout plan v × Headline plan v) ∥₁
 
 -- They hold after the step, whatever steps have led to where it was taken, under the ledgers' own premise.
 abbrev pub HoldsAfter : {L : Type 0} {l : Ghosts L} → bytes.WorldStep → World L l → World L l → Type 0

@@ -1,4 +1,5 @@
 -- A whole world of bytes: each step of it, and runs of steps.
+use Rattle.std.proofs.Common.{map as mapped}
 use Rattle.std.proofs.Common.{◌≡◌, ℕ, ◌+◌, ◌^◌, Bool, true, false, List, [], ◌∷◌, ◌++◌, append_assoc, Option, Some, None, refl, sym, ap, subst, ◌∙◌, inl, inr, ◌⊎◌, arith}
 use Rattle.std.proofs.Math.Logic.{∥∥₁_map, ∥∥₁_elim, ∥∥₁_prop}
 use Rattle.std.specs.Prelude.{min, not, ◌&&◌}
@@ -23,6 +24,7 @@ use Rattle.dr_world_model.specs.Worlds.{World, Link, start}
 use Rattle.dr_world_model.specs.Steps.{IsLink, IsHop, asked, new_link, passed}
 use Rattle.dr_world_model.specs.Events.{Event, Step, Take, Ask}
 use Rattle.dr_world_model.specs.Events as event
+use Rattle.dr_world_model.specs.Runs.{Occurs, Runs}
 use Rattle.dr_world_model.specs.Theorem.{Lasts}
 use Rattle.dr_session.specs.Reactions.{is_free}
 use Rattle.dr_session.specs.Ledgers.{desk}
@@ -31,7 +33,7 @@ use Rattle.dr_world_tie.specs.Channels.{Channel, ShowsLink}
 use Rattle.dr_world_tie.specs.Ties.{IsDeskOf, IsOpened, with_desk}
 use Rattle.dr_world_tie.specs.Closing.{IsEnded, closed}
 use Rattle.dr_world_tie.specs.ByteWorlds.{ByteWorld, beginning, WorldStep, Submit, Open, Push, Move, Abort, Release, Close, Late, Restart, Requeue, Forget, Tick, Refuse, StepNote, DoesIf, LinkStep, Steps, Opens, Closes, is_over, caller_of, receiver_of, with_done, with_call, opened_between}
-use Rattle.dr_world_tie.specs.Shown.{Shows, ShowsAt, Comes, WorldStepsAreEvents, RunsOf, RunsKeepTheHeadline, WhatIsKeptStaysKept}
+use Rattle.dr_world_tie.specs.Shown.{ComesAbout, Shows, ShowsAt, Comes, WorldStepsAreEvents, RunsOf, RunsKeepTheHeadline, WhatIsKeptStaysKept}
 use Rattle.dr_world_tie.proofs.Others.{shown_link}
 use Rattle.dr_site.proofs.Assembled.{is_site}
 use Rattle.dr_world_tie.proofs.Restarted.{restarted}
@@ -167,9 +169,20 @@ world_steps plan certificate certified b new w step note s h = each plan certifi
 
 -- ---- runs
 
--- a world beside the bytes, of which the four claims hold
+-- a world beside the bytes, to which events lead, and of which the four claims hold
 abbrev IsGood : Network → Certificate → ByteWorld → Type 0
-IsGood plan certificate b = (w : World) × Shows plan certificate b w × IsSafe plan w
+IsGood plan certificate b = (w : World) × Shows plan certificate b w × IsSafe plan w × ComesAbout plan w
+
+-- one event behind others
+runs_more : (plan : Network) (events : List Event) (e : Event) (a w v : World) →
+    Runs plan a (mapped Occurs events) plan w → Step plan w e v → Runs plan a (mapped Occurs (events ++ e ∷ [])) plan v
+runs_more plan [] e a w v h s = (v, subst (λ (z : World). Step plan z e v) h.1 s, (refl, refl))
+runs_more plan (x ∷ xs) e a w v h s = (h.0, h.1, runs_more plan xs e h.0 w v h.2 s)
+
+comes_on : (plan : Network) (b : ByteWorld) (step : WorldStep) (note : StepNote) (w v : World) →
+    ComesAbout plan w → Comes plan b step note w v → ComesAbout plan v
+comes_on plan b step note w v by (inl same) = subst (λ (z : World). ComesAbout plan z) (sym same.0) by
+comes_on plan b step note w v by (inr (e, named, h)) = (by.0 ++ e ∷ [], runs_more plan by.0 e start w v by.1 h)
 
 come_safe : (plan : Network) (certificate : Certificate) → IsCertified plan certificate → (b : ByteWorld) (step : WorldStep) (note : StepNote) (w v : World) → IsSafe plan w → Comes plan b step note w v → IsSafe plan v
 come_safe plan certificate certified b step note w v safe (inl same) = subst (λ (z : World). IsSafe plan z) (sym same.0) safe
@@ -179,7 +192,12 @@ run_good : (plan : Network) (certificate : Certificate) → IsCertified plan cer
 run_good plan certificate certified [] b new good h = subst (λ (z : ByteWorld). ∥ IsGood plan certificate z ∥₁) (sym h) good
 run_good plan certificate certified (step ∷ steps) b new good (note, mid, h, rest) =
     run_good plan certificate certified steps mid new (∥∥₁_elim good ∥∥₁_prop (λ g.
-    ∥∥₁_map (world_steps plan certificate certified b mid g.0 step note g.1 h) (λ r. (r.0, r.2, come_safe plan certificate certified b step note g.0 r.0 g.2 r.1)))) rest
+    ∥∥₁_map (world_steps plan certificate certified b mid g.0 step note g.1 h) (λ r. (
+      r.0,
+      r.2,
+      come_safe plan certificate certified b step note g.0 r.0 g.2 r.1,
+      comes_on plan b step note g.0 r.0 g.3 r.1,
+    )))) rest
 
 -- ---- what lasts
 
@@ -224,11 +242,11 @@ first_good plan certificate =
     let none : (number : ℕ) → ShowsAt plan certificate (map_of.get beginning.links number) (map_of.get start.links number) = λ number.
     subst (λ (o : Option Channel). ShowsAt plan certificate o (map_of.get start.links number)) (sym (map_of.get-empty nat_cmp number))
     (subst (λ (o : Option Link). ShowsAt plan certificate None o) (sym (map_of.get-empty nat_cmp number)) tt) in
-    (start, record { time = refl; opened = refl; desks = λ name. (refl, sym (Rattle.std.specs.FinSet.contains-empty Rattle.dr_base.specs.Texts.text_cmp name)); links = none }, start_safe plan)
+    (start, record { time = refl; opened = refl; desks = λ name. (refl, sym (Rattle.std.specs.FinSet.contains-empty Rattle.dr_base.specs.Texts.text_cmp name)); links = none }, start_safe plan, ([], (refl, refl)))
 
 pub runs_keep : RunsKeepTheHeadline
 runs_keep plan certificate certified steps b h =
-    ∥∥₁_map (run_good plan certificate certified steps beginning b ∣ first_good plan certificate ∣₁ h) (λ g. (g.0, g.1, safe_headline plan g.0 certified.sound g.2))
+    ∥∥₁_map (run_good plan certificate certified steps beginning b ∣ first_good plan certificate ∣₁ h) (λ g. (g.0, g.1, g.3, safe_headline plan g.0 certified.sound g.2))
 
 pub kept_stays : WhatIsKeptStaysKept
 kept_stays plan certificate certified steps more b c h k =

@@ -1,5 +1,6 @@
 -- Which message world stands beside a world of bytes, and what steps do to both.
 use Rattle.std.specs.Prelude.{◌≡◌, ◌⊎◌, ◌<◌, ℕ, Bool, true, false, List, [], ◌∷◌, length, Option, Some, None}
+use Rattle.std.specs.Prelude.{map as mapped}
 use Rattle.std.specs.FinMap as map
 use Rattle.dr_base.specs.Texts.{Text}
 use Rattle.dr_plan_model.specs.Networks.{Network}
@@ -9,7 +10,8 @@ use Rattle.dr_ledger.specs.Items.{instance_of}
 use Rattle.dr_pdu.specs.declared.pdu.Pdu.{Pdu}
 use Rattle.dr_ledger.specs.declared.item.Instance.{Instance}
 use Rattle.dr_ledger.specs.Replies.{IsNext}
-use Rattle.dr_world_model.specs.Worlds.{World, Link}
+use Rattle.dr_world_model.specs.Worlds.{World, Link, start}
+use Rattle.dr_world_model.specs.Runs.{Occurs, Runs}
 use Rattle.dr_world_model.specs.Steps.{IsLink, pending}
 use Rattle.dr_world_model.specs.Events.{Event, Step, Take, Ask, Give, BreakCaller, BreakReceiver}
 use Rattle.dr_world_model.specs.Events as event
@@ -106,10 +108,15 @@ abbrev pub RunsOf : Network → Certificate → ByteWorld → List WorldStep →
 RunsOf plan certificate b [] new = new ≡ b
 RunsOf plan certificate b (step ∷ steps) new = (note : StepNote) × (mid : ByteWorld) × Steps plan certificate b step note mid × RunsOf plan certificate mid steps new
 
--- After any steps from the beginning the headline's four claims hold of the world that stands beside the bytes, with their books.
+-- events of the plan lead from the start to the world
+abbrev pub ComesAbout : Network → World → Type 0
+ComesAbout plan w = (events : List Event) × Runs plan start (mapped Occurs events) plan w
+
+-- After any steps from the beginning a world stands beside the bytes, with their books, to which events
+-- of the plan lead, and of which the headline's four claims hold.
 abbrev pub RunsKeepTheHeadline : Type 0
 RunsKeepTheHeadline = (plan : Network) (certificate : Certificate) → IsCertified plan certificate → (steps : List WorldStep) (b : ByteWorld) → RunsOf plan certificate beginning steps b →
-    ∥ ((w : World) × Shows plan certificate b w × Headline plan w) ∥₁
+    ∥ ((w : World) × Shows plan certificate b w × ComesAbout plan w × Headline plan w) ∥₁
 
 -- What a node has and keeps after some steps it has and keeps after any further ones, unchanged, and its journal has grown at its end.
 abbrev pub WhatIsKeptStaysKept : Type 0
