@@ -1,12 +1,13 @@
 //! The system's files as databases, and ledgers in databases.
 ghost use Rattle.std.specs.Prelude.{◌≡◌, IfOk, false};
 
+use dr_run_files::Files;
+use dr_run_open::{Ledgers, OpenFault};
 use dr_run_report::{FileId, Paths, Place, SystemPaths};
 use dr_site::Site;
 use dr_store::SqlLedger;
 use dr_store_open::{OpeningFault, ledger_on};
-use dr_word_check::{Disk, Files};
-use dr_word_list::{Ledgers, OpenFault};
+use dr_word_check::Disk;
 use sqlite::{Alter, Connection, Error, ErrorCode, File, FileStore};
 use std::alloc::Global;
 use std::io;

@@ -1,7 +1,7 @@
 -- Visits to several hops, one after the other.
 use Rattle.std.specs.Prelude.{◌≡◌, ◌⊎◌, List, [], ◌∷◌, Result, Ok, Err}
 use Rattle.dr_ledger.specs.declared.fault.LedgerFault.{LedgerFault}
-use Rattle.dr_word_list.specs.declared.hops.Hop.{Hop}
+use Rattle.dr_run_open.specs.declared.hops.Hop.{Hop}
 use Rattle.dr_run_serve.specs.declared.visit.Visit.{Visit}
 
 -- Each hop is visited once, in order, whatever came of the visits before; a fault of the desk ends that, and the hops behind it

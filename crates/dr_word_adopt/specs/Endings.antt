@@ -3,13 +3,13 @@ use Rattle.std.specs.Prelude.{◌≡◌, ◌∷◌, ◌++◌, [], codes, Result,
 use Rattle.std.specs.declared.option.Option.{Option}
 use Rattle.std.specs.Io.KnownBytes.{Appends}
 use Rattle.dr_base.specs.Texts.{Text}
-use Rattle.dr_word_check.specs.declared.status.Status.{Status}
-use Rattle.dr_word_check.specs.declared.status.Status.TheVariants as ends
+use Rattle.dr_run_open.specs.declared.status.Status.{Status}
+use Rattle.dr_run_open.specs.declared.status.Status.TheVariants as ends
 use Rattle.dr_word_line.specs.declared.words.PlanChange.{PlanChange}
 use Rattle.dr_ledger.specs.Books.{Book}
-use Rattle.dr_word_list.specs.Ends.{printed_by, status_by}
-use Rattle.dr_word_list.specs.declared.halt.Halt.{Halt}
-use Rattle.dr_world_script.specs.Reports.{line_of}
+use Rattle.dr_run_open.specs.Ends.{printed_by, status_by}
+use Rattle.dr_run_open.specs.declared.halt.Halt.{Halt}
+use Rattle.dr_ledger_report.specs.Reports.{line_of}
 use Rattle.dr_site.specs.Parts.{Part}
 use Rattle.dr_word_adopt.specs.Changes.{Changes}
 use Rattle.dr_word_adopt.specs.declared.change.Change.{Change}

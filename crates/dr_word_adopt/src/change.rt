@@ -2,7 +2,7 @@
 ghost use Rattle.std.specs.Prelude.{◌≡◌};
 
 use dr_base::Text;
-use dr_word_list::Halt;
+use dr_run_open::Halt;
 use std::alloc::AllocError;
 
 /// What a change of the plan at all nodes comes to.
@@ -34,7 +34,7 @@ impl<'a> From<Halt<'a>> for Stop<'a> {
 
 impl<'a> From<AllocError> for Stop<'a> {
     ghost use Rattle.std.specs.Prelude.{◌≡◌};
-    ghost use Rattle.dr_word_list.specs.declared.halt.Halt.TheVariants.{Memory};
+    ghost use Rattle.dr_run_open.specs.declared.halt.Halt.TheVariants.{Memory};
 
     ghost from_gives = { λ _ stop. stop.halt ≡ Memory };
 

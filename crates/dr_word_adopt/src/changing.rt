@@ -8,8 +8,8 @@ use crate::standing::Standing;
 use dr_base::Text;
 use dr_cert::Sealed;
 use dr_ledger::Ledger;
+use dr_run_open::Halt;
 use dr_site::Site;
-use dr_word_list::Halt;
 use std::alloc::AllocError;
 
 /// Has a ledger adopt the next plan, of which `own` is its node's part.

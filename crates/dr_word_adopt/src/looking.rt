@@ -1,7 +1,7 @@
 //! Looks into the nodes' ledgers, which change nothing.
 ghost use Rattle.std.specs.Prelude.{◌≡◌, ◌++◌, ◌∷◌, [], IfOk, MatchResult, OnOk};
 ghost use Rattle.std.specs.String.{string_bytes};
-ghost use Rattle.dr_word_list.specs.Openings.{IsUnopened, Sites};
+ghost use Rattle.dr_run_open.specs.Openings.{IsUnopened, Sites};
 ghost use Rattle.dr_word_adopt.specs.Changes.{AreNames, IsSiteAt, StopsAt, path_in};
 ghost use Rattle.dr_word_adopt.specs.Lookings.{AllLookAs, IsFound, IsLookBy, IsLookInto, IsUnseen, LooksAs};
 
@@ -10,8 +10,8 @@ use crate::standing::{Found, Look, Looked, Standing};
 use dr_base::Text;
 use dr_cert::Sealed;
 use dr_ledger::{Ledger, LedgerFault};
+use dr_run_open::{Halt, Ledgers, OpenFault, ledger_of};
 use dr_site::{Site, SiteFault};
-use dr_word_list::{Halt, Ledgers, OpenFault, ledger_of};
 use std::alloc::{AllocError, Global};
 
 /// The path of a node's ledger in the folder, as bytes: its name with `.db` behind it.

@@ -1,12 +1,11 @@
 //! What the program answers to a plan and the text of a certificate.
 ghost use Rattle.std.specs.Prelude.{◌≡◌, ◌≢◌};
-ghost use Rattle.dr_word_check.specs.Verdicts.{IsVerdictOn, SealsText, verdict_line, verdict_status, ReadsPlan};
-ghost use Rattle.dr_word_check.specs.declared.status.Status.TheVariants.{Usage};
+ghost use Rattle.dr_word_check.specs.Verdicts.{IsVerdictOn, verdict_line, verdict_status};
+ghost use Rattle.dr_run_open.specs.declared.status.Status.TheVariants.{Usage};
 
-use crate::answer::{Answer, answer_to_fault};
-use crate::status::Status;
-use dr_cert::{CertFault, Sealed, read_certificate};
-use dr_plan::{Plan, read_plan};
+use dr_cert::CertFault;
+use dr_plan::Plan;
+use dr_run_open::{Status, seal_text};
 use std::alloc::Global;
 
 /// What the program answers to a plan and the text of a certificate.
@@ -50,30 +49,6 @@ impl Verdict {
             Verdict::No(CertFault::Memory) | Verdict::Memory => b"",
         }
     }
-}
-
-/// The plan of a text, or the answer to a text that has none.
-pub fn plan_of(alloc: Global, text: &[u8]) -> Result<Plan, Answer>
-    ensures { ReadsPlan text.now result }
-{
-    match read_plan(alloc, text) {
-        Ok(plan) => Ok(plan),
-        Err(fault) => Err(answer_to_fault(alloc, text, fault)),
-    }
-}
-
-/// A plan sealed by the certificate of a text: the plan is sound, and the certificate is its own.
-///
-/// Errors: the first fault of the certificate.
-pub fn seal_text(alloc: Global, plan: Plan, text: &[u8]) -> Result<Sealed, CertFault>
-    ensures { SealsText plan text.now result }
-{
-    let certificate = match read_certificate(alloc, text) {
-        Ok(certificate) => certificate,
-        Err(CertFault::Text) => return Err(CertFault::Text),
-        Err(_) => return Err(CertFault::Memory),
-    };
-    Sealed::new(alloc, plan, certificate)
 }
 
 /// The verdict on a plan and the text of a certificate.

@@ -5,8 +5,8 @@ use Rattle.dr_base.specs.Texts.{Text}
 use Rattle.dr_plan_model.specs.Networks.{Network}
 use Rattle.dr_plan_model.specs.Plans.{IsTheNode, NamesNoNode}
 use Rattle.dr_plan_model.specs.declared.plan.Node.{Node}
-use Rattle.dr_word_check.specs.declared.status.Status.{Status}
-use Rattle.dr_word_check.specs.declared.status.Status.TheVariants.{Success, Refused, InputOutput, Memory as OutOfMemory}
+use Rattle.dr_run_open.specs.declared.status.Status.{Status}
+use Rattle.dr_run_open.specs.declared.status.Status.TheVariants.{Success, Refused, InputOutput, Memory as OutOfMemory}
 use Rattle.dr_session.specs.Links.{EchoesAs}
 use Rattle.dr_session.specs.declared.ends.Heard.{Heard}
 use Rattle.dr_session.specs.declared.echo_desk.Echoed.{Echoed}

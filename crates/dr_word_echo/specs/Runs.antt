@@ -5,8 +5,8 @@ use Rattle.std.specs.Io.KnownBytes.{Appends}
 use Rattle.dr_base.specs.Texts.{Text}
 use Rattle.dr_plan_model.specs.Networks.{Network}
 use Rattle.dr_plan.specs.Reading.{Reads}
-use Rattle.dr_word_check.specs.Runs.{Refuses}
-use Rattle.dr_word_check.specs.declared.status.Status.{Status}
+use Rattle.dr_run_open.specs.Answers.{Refuses}
+use Rattle.dr_run_open.specs.declared.status.Status.{Status}
 use Rattle.dr_session.specs.declared.ends.Heard.{Heard}
 use Rattle.dr_word_echo.specs.Outcomes.{IsOutcomeOf, printed_for, status_for}
 use Rattle.dr_word_echo.specs.declared.outcome.Outcome.{Outcome}

@@ -7,9 +7,10 @@ ghost use Rattle.dr_word_echo.specs.Runs.{Echoes};
 
 use crate::outcome::{Outcome, outcome_of};
 use crate::print::line_of;
+use dr_run_files::{Failure, Files, read_file};
 use dr_run_net::Network;
+use dr_run_open::{Status, plan_of, tell_answer};
 use dr_session::Clock;
-use dr_word_check::{Failure, Files, Status, plan_of, read_file, tell_answer};
 use std::alloc::Global;
 use std::io;
 use std::io::Write;

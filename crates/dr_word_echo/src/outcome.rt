@@ -8,8 +8,8 @@ ghost use Rattle.dr_word_echo.specs.Outcomes.{IsAskedAt, IsOutcomeOf, TellsOf, s
 use dr_base::Text;
 use dr_plan_model::{Node, Plan};
 use dr_run_net::Network;
+use dr_run_open::Status;
 use dr_session::{Clock, Echoed, Link, SessionFault, echo};
-use dr_word_check::Status;
 use std::alloc::{AllocError, Global};
 use std::io;
 

@@ -6,7 +6,7 @@ use Rattle.dr_word_line.specs.declared.words.Asked.TheVariants as asks
 use Rattle.dr_word_line.specs.declared.words.Duty.{Duty}
 use Rattle.dr_word_line.specs.declared.words.Duty.TheVariants as duties
 use Rattle.dr_word_line.specs.declared.words.KeyWords.{KeyWords}
-use Rattle.dr_word_line.specs.declared.words.NodeFiles.{NodeFiles}
+use Rattle.dr_run_files.specs.declared.node.NodeFiles.{NodeFiles}
 use Rattle.dr_word_line.specs.declared.words.PlanChange.{PlanChange}
 use Rattle.dr_word_line.specs.declared.words.Question.TheVariants as questions
 use Rattle.dr_word_line.specs.Words.{Asks, IsAdoptOf, IsCheckOf, IsDutyOf, IsEchoOf, IsFileRouteOf, IsGraphOf, IsKeyRouteOf, IsLintOf, IsListOf, IsPlainCheck, IsRequeueAllOf, IsRequeueOf, IsSendOf, IsServeOf, IsSimulateOf, IsSummaryOf, IsVerifyOf}

@@ -1,17 +1,18 @@
 //! What the words of the command line ask for.
 ghost use Rattle.std.specs.Prelude.{◌≡◌, ◌↔◌, ℕ, List, IfNone, IfOk, IfSome, IsTrue};
 ghost use Rattle.std.specs.Borrow.{Bor};
+ghost use Rattle.dr_run_files.specs.declared.node.NodeFiles.{NodeFiles as NodeFilesValue};
 ghost use Rattle.dr_word_line.specs.Words.{Asks, Reads, IsPlainCheck, IsCheckOf, IsVerifyOf, IsSimulateOf, IsEchoOf, IsNoOption, IsGraphOf, IsLintOf, IsFileRouteOf, IsKeyRouteOf, IsQuestionOf, IsListOf, IsSummaryOf, IsServeOf, IsSendOf, IsRequeueOf, IsRequeueAllOf, IsDutyOf, IsAdoptOf};
 ghost use Rattle.dr_word_line.specs.declared.words.Asked.{Asked as AskedValue};
 ghost use Rattle.dr_word_line.specs.declared.words.Asked.TheVariants as asks;
 ghost use Rattle.dr_word_line.specs.declared.words.Duty.{Duty as DutyValue};
 ghost use Rattle.dr_word_line.specs.declared.words.KeyWords.{KeyWords as KeyWordsValue};
-ghost use Rattle.dr_word_line.specs.declared.words.NodeFiles.{NodeFiles as NodeFilesValue};
 ghost use Rattle.dr_word_line.specs.declared.words.PlanChange.{PlanChange as PlanChangeValue};
 ghost use Rattle.dr_word_line.specs.declared.words.Question.{Question as QuestionValue};
 
 use crate::command_line::command_line;
 use clap::{ArgMatches, Error};
+use dr_run_files::NodeFiles;
 use std::alloc::{AllocError, Global};
 
 /// The four values of an instance by which it is routed, as words: the SOP class UID, the UID of the transfer syntax, the
@@ -35,15 +36,6 @@ pub enum Question<'a> {
     Graph,
     /// What is sound and still looks wrong.
     Lint,
-}
-
-/// What names a node and its ledger: the paths of the plan's text, of its certificate's and of the ledger, and the node's name.
-#[derive(Clone, Copy, Debug, Drop)]
-pub struct NodeFiles<'a> {
-    pub plan: &'a str,
-    pub certificate: &'a str,
-    pub node: &'a str,
-    pub ledger: &'a str,
 }
 
 /// What names two plans and where the nodes' ledgers are: the paths of the plan in force, of its certificate, of the next plan, of that one's

@@ -2,9 +2,9 @@
 use Rattle.std.proofs.Common.{◌≡◌, ◌∙◌, ◌<◌, ◌+◌, ◌++◌, ◌∷◌, [], ℕ, List, take, get_or, length, refl, sym, ap, subst, append_assoc}
 use Rattle.std.proofs.lemmas.List.{append-nil, take_more}
 use Rattle.dr_base.specs.Texts.{Text}
-use Rattle.dr_word_list.specs.Queues.{Row}
+use Rattle.dr_run_open.specs.Queues.{Row}
 use Rattle.dr_word_list.specs.Summaries.{AreQueueLines, IsQueueLine}
-use Rattle.dr_word_list.specs.declared.hops.Hop.{Hop}
+use Rattle.dr_run_open.specs.declared.hops.Hop.{Hop}
 
 module _ (rows : List Row) where
   line_push : (hops : List Hop) (hop : Hop) (done here : Text) → AreQueueLines rows hops done → IsQueueLine rows hop.dest here → AreQueueLines rows (hops ++ hop ∷ []) (done ++ here)

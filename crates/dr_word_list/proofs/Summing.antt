@@ -7,9 +7,9 @@ use Rattle.dr_ledger.specs.Books.{Book}
 use Rattle.dr_ledger.specs.Pairs.{Pair, pair_cmp}
 use Rattle.dr_ledger.specs.Replies.{AreKept, Lists, entry_of}
 use Rattle.dr_ledger.specs.declared.item.Entry.{Entry}
-use Rattle.dr_word_list.specs.Queues.{Row}
+use Rattle.dr_run_open.specs.Queues.{Row}
 use Rattle.dr_word_list.specs.Summaries.{IsSummary, IsSummaryOf}
-use Rattle.dr_word_list.specs.declared.hops.Hop.{Hop}
+use Rattle.dr_run_open.specs.declared.hops.Hop.{Hop}
 
 pub summed : (name text : Text) (hops : List Hop) (b0 b1 b2 b3 b4 : Book) (arrivals : List Pair) (kept : List (Text × ℕ)) (rows : List Row) (lines : List Entry) (a k n : ℕ)
     → b1 ≡ b0 → b2 ≡ b1 → b3 ≡ b2 → b4 ≡ b3 → Lists pair_cmp b0.arrivals arrivals → AreKept b1 kept → rows ≡ map.entries b2.rows → lines ≡ mapped entry_of b3.lines

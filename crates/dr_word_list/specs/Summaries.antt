@@ -5,16 +5,16 @@ use Rattle.dr_base.specs.Texts.{Text}
 use Rattle.dr_ledger.specs.Books.{Book}
 use Rattle.dr_ledger.specs.Pairs.{Pair, pair_cmp}
 use Rattle.dr_ledger.specs.Replies.{AreKept, Lists}
-use Rattle.dr_world_script.specs.Reports.{line_of, name_line}
+use Rattle.dr_ledger_report.specs.Reports.{line_of, name_line}
 use Rattle.dr_site.specs.Parts.{Part}
-use Rattle.dr_word_list.specs.Hops.{hops_from}
-use Rattle.dr_word_list.specs.Openings.{HaltsAs}
-use Rattle.dr_word_list.specs.Queues.{IsLeast, Row, dues, how_many}
+use Rattle.dr_run_open.specs.Hops.{hops_from}
+use Rattle.dr_run_open.specs.Openings.{HaltsAs}
+use Rattle.dr_run_open.specs.Queues.{IsLeast, Row, dues, how_many}
 use Rattle.dr_word_list.specs.Works.{AtNode, AtSite}
-use Rattle.dr_word_list.specs.declared.halt.Halt.{Halt}
-use Rattle.dr_word_list.specs.declared.halt.Halt.TheVariants.{Refused}
-use Rattle.dr_word_list.specs.declared.hops.Hop.{Hop}
-use Rattle.dr_word_list.specs.declared.queues.Stage.TheVariants as stages
+use Rattle.dr_run_open.specs.declared.halt.Halt.{Halt}
+use Rattle.dr_run_open.specs.declared.halt.Halt.TheVariants.{Refused}
+use Rattle.dr_run_open.specs.declared.hops.Hop.{Hop}
+use Rattle.dr_run_open.specs.declared.queues.Stage.TheVariants as stages
 
 -- the line of a kind, with how many there are
 abbrev pub count_line : Text → ℕ → Text

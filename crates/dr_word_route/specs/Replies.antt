@@ -1,8 +1,8 @@
 -- What may be answered to a question about a plan with its certificate.
 use Rattle.std.specs.Prelude.{◌≡◌, List, ℕ, [], ◌∷◌, ◌++◌, codes, Result, Ok, Err}
 use Rattle.dr_base.specs.Texts.{Text}
-use Rattle.dr_word_check.specs.declared.status.Status.{Status}
-use Rattle.dr_word_check.specs.declared.status.Status.TheVariants.{Success, Refused as No, Memory as OutOfMemory}
+use Rattle.dr_run_open.specs.declared.status.Status.{Status}
+use Rattle.dr_run_open.specs.declared.status.Status.TheVariants.{Success, Refused as No, Memory as OutOfMemory}
 use Rattle.dr_plan_model.specs.Networks.{Network}
 use Rattle.dr_plan_model.specs.Plans.{IsTheNode, NamesNoNode}
 use Rattle.dr_plan_model.specs.Walks.{IsEntry}

@@ -11,10 +11,10 @@ use Rattle.dr_plan_sound.specs.Soundness.{IsSound}
 use Rattle.dr_plan_sound.specs.declared.certificate.Certificate.{Certificate}
 use Rattle.dr_cert.specs.declared.fault.CertFault.{CertFault}
 use Rattle.dr_cert.specs.declared.fault.CertFault.TheVariants.{Memory as NoMemory}
-use Rattle.dr_word_check.specs.Runs.{Refuses}
-use Rattle.dr_word_check.specs.Verdicts.{IsFaultOf, IsTextOf}
-use Rattle.dr_word_check.specs.declared.status.Status.{Status}
-use Rattle.dr_word_check.specs.declared.status.Status.TheVariants.{Refused, Memory}
+use Rattle.dr_run_open.specs.Answers.{Refuses}
+use Rattle.dr_run_open.specs.Sealings.{IsFaultOf, IsTextOf}
+use Rattle.dr_run_open.specs.declared.status.Status.{Status}
+use Rattle.dr_run_open.specs.declared.status.Status.TheVariants.{Refused, Memory}
 use Rattle.dr_word_line.specs.declared.words.Question.{Question}
 use Rattle.dr_word_line.specs.declared.words.Question.TheVariants.{RouteOfKey, RouteOfFile, Graph, Lint}
 use Rattle.dr_cert_lint.specs.Graphs.{IsGraphText}

@@ -3,8 +3,8 @@ ghost use Rattle.std.specs.Prelude.{◌≡◌, ◌≢◌, ◌⊎◌, ℕ, List, 
 ghost use Rattle.std.specs.Io.KnownBytes.{Appends};
 ghost use Rattle.dr_base.specs.Texts.{Text};
 ghost use Rattle.dr_cert.specs.declared.fault.CertFault.TheVariants.{Memory as NoMemory};
-ghost use Rattle.dr_word_check.specs.Runs.{Refuses};
-ghost use Rattle.dr_word_check.specs.declared.status.Status.TheVariants.{Refused, Memory};
+ghost use Rattle.dr_run_open.specs.Answers.{Refuses};
+ghost use Rattle.dr_run_open.specs.declared.status.Status.TheVariants.{Refused, Memory};
 ghost use Rattle.dr_word_route.specs.Keys.{ReadsFileKey, ReadsWords};
 ghost use Rattle.dr_word_route.specs.Replies.{IsRouteReply, IsSiteReply, printed_for};
 ghost use Rattle.dr_word_route.specs.Runs.{Asks, IsTold, Judges, Replies, Responds, Seals, Unseals};
@@ -14,9 +14,9 @@ use crate::reply::Reply;
 use crate::replying::{graph_reply, lint_reply, reply_for};
 use dr_cert::{CertFault, Sealed};
 use dr_plan::Plan;
-use dr_word_check::{
-    Failure, Files, KeyWords, Question, Status, plan_of, read_file, seal_text, tell_answer,
-};
+use dr_run_files::{Failure, Files, read_file};
+use dr_run_open::{Status, plan_of, seal_text, tell_answer};
+use dr_word_line::{KeyWords, Question};
 use std::alloc::Global;
 use std::io;
 use std::io::Write;

@@ -10,7 +10,7 @@ use dr_dataset::file::part10;
 use dr_ledger::{Item, ItemFault};
 use dr_plan_model::{Node, Plan};
 use dr_route::Key;
-use dr_word_check::KeyWords;
+use dr_word_line::KeyWords;
 use std::alloc::{AllocError, Global};
 
 /// The node of that name, and None for a stranger.

@@ -5,7 +5,7 @@ ghost use Rattle.dr_word_route.specs.Replies.{status_for};
 use dr_base::Text;
 use dr_dataset::FileFault;
 use dr_ledger::ItemFault;
-use dr_word_check::Status;
+use dr_run_open::Status;
 use thiserror::Error;
 
 /// Why a question isn't answered.

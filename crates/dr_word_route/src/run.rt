@@ -6,11 +6,14 @@ ghost use Rattle.dr_word_check.specs.Runs.{Answers, Verifies};
 ghost use Rattle.dr_word_line.specs.Words.{IsPlainCheck, IsCheckOf, IsVerifyOf, IsQuestionOf};
 ghost use Rattle.dr_word_line.specs.declared.words.Asked.TheVariants as asks;
 ghost use Rattle.dr_word_line.specs.declared.words.Question.{Question as QuestionValue};
-ghost use Rattle.dr_word_check.specs.declared.status.Status.TheVariants.{Success, Refused, Usage};
+ghost use Rattle.dr_run_open.specs.declared.status.Status.TheVariants.{Success, Refused, Usage};
 ghost use Rattle.dr_word_route.specs.Runs.{Asks};
 
 use crate::asking::ask_files;
-use dr_word_check::{Asked, Failure, Files, Status, read_words, tell_failure};
+use dr_run_files::{Failure, Files};
+use dr_run_open::Status;
+use dr_word_check::tell_failure;
+use dr_word_line::{Asked, read_words};
 use std::alloc::{AllocError, Global};
 use std::io;
 use std::io::{Read, Write};

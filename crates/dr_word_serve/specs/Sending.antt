@@ -10,13 +10,13 @@ use Rattle.dr_ledger.specs.SiteRoutes.{site_routing}
 use Rattle.dr_ledger.specs.declared.content.Job.{Job}
 use Rattle.dr_ledger.specs.declared.item.Arrived.{Arrived}
 use Rattle.dr_ledger.specs.declared.item.Arrived.TheVariants.{New, Again}
-use Rattle.dr_word_list.specs.Hops.{hops_from}
-use Rattle.dr_word_list.specs.Instances.{ReadsInstance}
-use Rattle.dr_word_list.specs.Openings.{HaltsAs}
-use Rattle.dr_word_list.specs.declared.halt.Halt.{Halt}
-use Rattle.dr_word_list.specs.declared.halt.Halt.TheVariants.{NoInstance, Refused, Failed, Memory}
-use Rattle.dr_word_list.specs.declared.hops.Hop.{Hop}
-use Rattle.dr_world_script.specs.Reports.{IsReportOf}
+use Rattle.dr_run_open.specs.Hops.{hops_from}
+use Rattle.dr_run_open.specs.Instances.{ReadsInstance}
+use Rattle.dr_run_open.specs.Openings.{HaltsAs}
+use Rattle.dr_run_open.specs.declared.halt.Halt.{Halt}
+use Rattle.dr_run_open.specs.declared.halt.Halt.TheVariants.{NoInstance, Refused, Failed, Memory}
+use Rattle.dr_run_open.specs.declared.hops.Hop.{Hop}
+use Rattle.dr_ledger_report.specs.Reports.{IsReportOf}
 use Rattle.dr_run_serve.specs.Rounds.{VisitsEach}
 use Rattle.dr_run_serve.specs.Visits.{Visits}
 use Rattle.dr_run_serve.specs.declared.tallied.OwnPort.{OwnPort}

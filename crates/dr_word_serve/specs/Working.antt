@@ -2,17 +2,17 @@
 use Rattle.std.specs.Prelude.{ℕ, List, Result}
 use Rattle.std.specs.declared.option.Option.{Option}
 use Rattle.dr_base.specs.Texts.{Text}
-use Rattle.dr_word_check.specs.declared.status.Status.{Status}
+use Rattle.dr_run_open.specs.declared.status.Status.{Status}
 use Rattle.dr_word_line.specs.declared.words.Duty.{Duty}
 use Rattle.dr_word_line.specs.declared.words.Duty.TheVariants.{List as ToList, Summary, Requeue, RequeueAll, Send, Serve}
-use Rattle.dr_word_line.specs.declared.words.NodeFiles.{NodeFiles}
+use Rattle.dr_run_files.specs.declared.node.NodeFiles.{NodeFiles}
 use Rattle.dr_ledger.specs.Books.{Book}
-use Rattle.dr_word_list.specs.Ends.{Ends}
+use Rattle.dr_run_open.specs.Ends.{Ends}
 use Rattle.dr_word_list.specs.Requeuings.{RequeuedAll}
 use Rattle.dr_word_list.specs.Summaries.{Summarizes}
 use Rattle.dr_word_list.specs.Works.{Lists, Requeued}
-use Rattle.dr_word_list.specs.declared.halt.Halt.{Halt}
-use Rattle.dr_word_list.specs.declared.hops.Hop.{Hop}
+use Rattle.dr_run_open.specs.declared.halt.Halt.{Halt}
+use Rattle.dr_run_open.specs.declared.hops.Hop.{Hop}
 use Rattle.dr_run_serve.specs.declared.tallied.OwnPort.{OwnPort}
 use Rattle.dr_site.specs.Parts.{Part}
 use Rattle.dr_word_serve.specs.Sending.{Sends}

@@ -1,20 +1,22 @@
 //! The word `serve`.
 ghost use Rattle.std.specs.Prelude.{◌≡◌, IfErr, IfOk, MatchResult, Result};
 ghost use Rattle.dr_base.specs.Texts.{Text as Words};
-ghost use Rattle.dr_word_list.specs.Ends.{Ends};
-ghost use Rattle.dr_word_list.specs.declared.halt.Halt.{Halt as HaltValue};
+ghost use Rattle.dr_run_open.specs.Ends.{Ends};
+ghost use Rattle.dr_run_open.specs.declared.halt.Halt.{Halt as HaltValue};
 ghost use Rattle.dr_word_serve.specs.Serving.{Grew, IsUnheard, IsUnserved, Serves};
 
 use dr_base::Text;
 use dr_ledger::{Ledger, LedgerFault};
+use dr_ledger_report::report_of;
+use dr_run_files::{Failure, Files, NodeFiles};
 use dr_run_net::{Listening, Network};
+use dr_run_open::{Halt, Hop, Ledgers, Opened, Status, finish, hops_of, open_node};
 use dr_run_report::{OwnPaths, Paths, test_path};
 use dr_run_serve::{FileMonitor, Monitor, ServeFault, serve};
 use dr_run_shown::Shown;
 use dr_session::{Clock, Link};
 use dr_site::Site;
-use dr_word_check::{Failure, Files, NodeFiles, Serving, Status, Verbosity};
-use dr_word_list::{Halt, Hop, Ledgers, Opened, finish, hops_of, open_node, report_of};
+use dr_word_line::{Serving, Verbosity};
 use log::{LevelFilter, Log, Logged, info};
 use std::alloc::Global;
 use std::io::Write;

@@ -3,8 +3,8 @@ use Rattle.std.specs.Prelude.{List, [], Ok, Err}
 use Rattle.dr_base.specs.Texts.{Text}
 use Rattle.dr_plan_model.specs.Networks.{Network}
 use Rattle.dr_plan_sound.specs.declared.certificate.Certificate.{Certificate}
-use Rattle.dr_word_check.specs.declared.status.Status.{Status}
-use Rattle.dr_word_check.specs.declared.status.Status.TheVariants.{Success, Refused, InputOutput, Memory as OutOfMemory}
+use Rattle.dr_run_open.specs.declared.status.Status.{Status}
+use Rattle.dr_run_open.specs.declared.status.Status.TheVariants.{Success, Refused, InputOutput, Memory as OutOfMemory}
 use Rattle.dr_world_script.specs.Scripts.{IsFirstWrong, IsScriptOf}
 use Rattle.dr_world_script.specs.declared.step.Step.{Step}
 use Rattle.dr_word_simulate.specs.Reported.{IsReportAfter}

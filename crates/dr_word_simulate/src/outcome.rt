@@ -5,7 +5,7 @@ ghost use Rattle.dr_word_simulate.specs.Outcomes.{IsOutcomeOf, status_for};
 
 use dr_base::Text;
 use dr_cert::Sealed;
-use dr_word_check::Status;
+use dr_run_open::Status;
 use dr_world::{WorldFault, run};
 use dr_world_script::{ScriptFault, Step, read_script};
 use std::alloc::Global;

@@ -3,14 +3,16 @@ ghost use Rattle.std.specs.Prelude.{◌≡◌, ◌≢◌, ℕ, List, IfOk, IfSom
 ghost use Rattle.std.specs.Borrow.{Bor};
 ghost use Rattle.dr_base.specs.Texts.{Text};
 ghost use Rattle.dr_word_check.specs.Runs.{Answers, Verifies};
-ghost use Rattle.dr_word_check.specs.declared.status.Status.TheVariants.{Usage};
+ghost use Rattle.dr_run_open.specs.declared.status.Status.TheVariants.{Usage};
 ghost use Rattle.dr_word_line.specs.declared.words.Asked.TheVariants as asks;
 ghost use Rattle.dr_word_line.specs.declared.words.Question.{Question as QuestionValue};
 ghost use Rattle.dr_word_route.specs.Runs.{Asks};
 ghost use Rattle.dr_word_simulate.specs.Runs.{Simulates};
 
 use crate::simulate::simulate_files;
-use dr_word_check::{Asked, Failure, Files, Status};
+use dr_run_files::{Failure, Files};
+use dr_run_open::Status;
+use dr_word_line::Asked;
 use dr_word_route::run_asked;
 use std::alloc::Global;
 use std::io::{Read, Write};

@@ -3,14 +3,15 @@ ghost use Rattle.std.specs.Prelude.{◌≡◌, ◌≢◌, ◌⊎◌, IfOk, OnOk}
 ghost use Rattle.std.specs.Io.KnownBytes.{Appends};
 ghost use Rattle.dr_base.specs.Texts.{Text};
 ghost use Rattle.dr_cert.specs.declared.fault.CertFault.TheVariants.{Memory as NoMemory};
-ghost use Rattle.dr_word_check.specs.declared.status.Status.TheVariants.{Refused, Memory};
+ghost use Rattle.dr_run_open.specs.declared.status.Status.TheVariants.{Refused, Memory};
 ghost use Rattle.dr_word_simulate.specs.Outcomes.{printed_for};
 ghost use Rattle.dr_word_simulate.specs.Runs.{Plays, Seals, Simulates, Unseals};
 
 use crate::outcome::{Outcome, outcome_of};
 use dr_cert::{CertFault, Sealed};
 use dr_plan::Plan;
-use dr_word_check::{Failure, Files, Status, plan_of, read_file, seal_text, tell_answer};
+use dr_run_files::{Failure, Files, read_file};
+use dr_run_open::{Status, plan_of, seal_text, tell_answer};
 use dr_world_script::ScriptFault;
 use std::alloc::Global;
 use std::io;

@@ -1,6 +1,6 @@
 use Rattle.std.proofs.Common.{Result}
 use Rattle.dr_ledger.specs.declared.fault.LedgerFault.{LedgerFault}
-use Rattle.dr_word_list.specs.declared.hops.Hop.{Hop}
+use Rattle.dr_run_open.specs.declared.hops.Hop.{Hop}
 use Rattle.dr_run_serve.proofs.InTurn.{toward_next, toward_fault, toward_end}
 use Rattle.dr_run_serve.specs.Visits.{Visits}
 use Rattle.dr_run_serve.specs.declared.visit.Visit.{Visit}

@@ -1,7 +1,7 @@
 use Rattle.std.proofs.Common.{◌≡◌, sym, subst, suc, take, drop, rules}
 use Rattle.std.proofs.lemmas.List.Elements.{All-push}
 use Rattle.dr_base.specs.Texts.{Text}
-use Rattle.dr_word_list.specs.declared.halt.Halt.{Halt}
+use Rattle.dr_run_open.specs.declared.halt.Halt.{Halt}
 use Rattle.dr_word_adopt.specs.Changes.{StopsAt}
 use Rattle.dr_word_adopt.specs.Lookings.{AllLookAs, IsStanding, LooksAs, name_by}
 use Rattle.dr_word_adopt.specs.declared.standing.Look.{Look}

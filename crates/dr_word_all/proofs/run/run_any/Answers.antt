@@ -4,7 +4,7 @@ use Rattle.dr_word_adopt.specs.Endings.{Adopts}
 use Rattle.dr_word_line.specs.declared.words.Asked.{Asked}
 use Rattle.dr_word_line.specs.declared.words.Asked.TheVariants as asks
 use Rattle.dr_word_line.specs.declared.words.Duty.{Duty}
-use Rattle.dr_word_line.specs.declared.words.NodeFiles.{NodeFiles}
+use Rattle.dr_run_files.specs.declared.node.NodeFiles.{NodeFiles}
 use Rattle.dr_word_line.specs.declared.words.PlanChange.{PlanChange}
 use Rattle.dr_run_serve.specs.contracts.tallied.OwnPortDeskPort.TheImpl as own
 use Rattle.dr_word_serve.specs.Sending.{VisitsBy}

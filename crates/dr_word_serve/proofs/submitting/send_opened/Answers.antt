@@ -1,7 +1,7 @@
 use Rattle.std.proofs.Common.{◌∙◌, ap, subst, List}
 use Rattle.std.specs.Prelude.{MatchResult}
-use Rattle.dr_word_list.specs.Hops.{hops_from}
-use Rattle.dr_word_list.specs.declared.hops.Hop.{Hop}
+use Rattle.dr_run_open.specs.Hops.{hops_from}
+use Rattle.dr_run_open.specs.declared.hops.Hop.{Hop}
 use Rattle.dr_plan_model.specs.Networks.{Network}
 use Rattle.dr_run_serve.specs.contracts.tallied.OwnPortDeskPort.TheImpl as own
 use Rattle.dr_word_serve.specs.Sending.{IsUnsent, SentFrom, VisitsBy}
