@@ -25,4 +25,4 @@ pub mod sockets;
 pub use clock::SystemClock;
 pub use network::{Listening, Network};
 pub use socket::Socket;
-pub use sockets::{Listener, Sockets};
+pub use sockets::{Sockets, SystemListener};

@@ -5,15 +5,15 @@ use Rattle.dr_base.specs.Texts.{Text}
 use Rattle.dr_ledger.specs.Pairs.{Pair}
 use Rattle.dr_ledger.specs.declared.item.Progress.{Progress}
 use Rattle.dr_ledger.specs.declared.item.Progress.TheVariants.{Waiting, Held, Done}
-use Rattle.dr_run_open.specs.declared.queues.Stage.{Stage}
-use Rattle.dr_run_open.specs.declared.queues.Stage.TheVariants as stages
+use Rattle.dr_run_open.specs.declared.queues.RowStage.{RowStage}
+use Rattle.dr_run_open.specs.declared.queues.RowStage.TheVariants as stages
 
 -- a row, as a book lists it: which instance, where to, and how far it is
 abbrev pub Row : Type 0
 Row = Pair × Progress
 
 -- so far a row at this stage is
-abbrev pub is_so : Stage → Progress → Bool
+abbrev pub is_so : RowStage → Progress → Bool
 is_so stages.Waiting (Waiting tries due) = true
 is_so stages.Waiting (Held why) = false
 is_so stages.Waiting Done = false
@@ -25,11 +25,11 @@ is_so stages.Done (Held why) = false
 is_so stages.Done Done = true
 
 -- the row is for that node, and at this stage
-abbrev pub is_queued : Text → Stage → Row → Bool
+abbrev pub is_queued : Text → RowStage → Row → Bool
 is_queued dest stage row = bytes_eq row.0.1 dest && is_so stage row.1
 
 -- how many of the rows are for that node and at this stage
-abbrev pub how_many : List Row → Text → Stage → ℕ
+abbrev pub how_many : List Row → Text → RowStage → ℕ
 how_many rows dest stage = length (filter (is_queued dest stage) rows)
 
 -- the moment from which on a row that waits is due

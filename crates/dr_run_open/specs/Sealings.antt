@@ -14,10 +14,10 @@ use Rattle.dr_cert.specs.Sealing.{Certified}
 use Rattle.dr_cert.specs.declared.fault.CertFault.{CertFault}
 use Rattle.dr_cert.specs.declared.fault.CertFault.TheVariants as fault
 use Rattle.dr_run_open.specs.Answers.{IsNoPlan}
-use Rattle.dr_run_open.specs.declared.answer.Answer.{Answer}
+use Rattle.dr_run_open.specs.declared.answer.PlanAnswer.{PlanAnswer}
 
 -- what is read of a text: its plan, or the answer that it has none
-abbrev pub ReadsPlan : Text → Result Network Answer → Type 0
+abbrev pub ReadsPlan : Text → Result Network PlanAnswer → Type 0
 ReadsPlan text (Ok plan) = Reads text (Ok plan)
 ReadsPlan text (Err told) = IsNoPlan text told
 

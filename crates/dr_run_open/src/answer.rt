@@ -15,7 +15,7 @@ use std::io::Write;
 
 /// What the program answers to the text of a plan.
 #[derive(Debug, Drop)]
-pub enum Answer {
+pub enum PlanAnswer {
     /// The plan is sound, and this is its certificate's text.
     Sound(Text),
     /// The plan isn't sound: the line that shows it, and why, in sentences.
@@ -28,16 +28,17 @@ pub enum Answer {
     Memory,
 }
 
-impl Answer {
+impl PlanAnswer {
     /// The status with which the program ends, where the answer is told.
     pub fn status(&self) -> Status
         ensures told { result ≡ status_for self.now }
         ensures known { result ≢ Usage }
     {
         match self {
-            Answer::Sound(_) => Status::Success,
-            Answer::Unsound(_, _) | Answer::NoPlan(_, _) | Answer::TooLarge => Status::Refused,
-            Answer::Memory => Status::Memory,
+            PlanAnswer::Sound(_) => Status::Success,
+            PlanAnswer::Unsound(_, _) | PlanAnswer::NoPlan(_, _) | PlanAnswer::TooLarge =>
+                Status::Refused,
+            PlanAnswer::Memory => Status::Memory,
         }
     }
 }
@@ -51,37 +52,37 @@ pub fn words_or_none(alloc: Global, words: Result<Text, AllocError>) -> Text {
 }
 
 /// The answer to a text that has this fault.
-pub fn answer_to_fault(alloc: Global, text: &[u8], fault: PlanFault) -> Answer
+pub fn answer_to_fault(alloc: Global, text: &[u8], fault: PlanFault) -> PlanAnswer
     requires { Reads text.now (Err fault) }
     ensures { IsNoPlan text.now result }
 {
     if fault == PlanFault::Memory {
-        return Answer::Memory;
+        return PlanAnswer::Memory;
     }
     let place = explain(alloc, text, fault);
-    Answer::NoPlan(fault, words_or_none(alloc, place))
+    PlanAnswer::NoPlan(fault, words_or_none(alloc, place))
 }
 
 /// Writes the answer: a certificate or the line of a plan that isn't sound to the output; to the faults why there is neither, and what
 /// there is to say to people of what is wrong.
 pub fn tell_answer<W: Write, E: Write>(
-    answer: &Answer,
+    answer: &PlanAnswer,
     output: &mut W,
     faults: &mut E,
 ) -> io::Result<()>
     ensures { OnOk result (Appends (W.contents output.old) (W.contents output.new) (printed_for answer.now)) }
 {
     match answer {
-        Answer::Sound(text) => output.write_all(text.as_bytes()),
-        Answer::Unsound(line, why) => {
+        PlanAnswer::Sound(text) => output.write_all(text.as_bytes()),
+        PlanAnswer::Unsound(line, why) => {
             output.write_all(line.as_bytes())?;
             faults.write_all(why.as_bytes())
         }
-        Answer::NoPlan(fault, place) => {
+        PlanAnswer::NoPlan(fault, place) => {
             writeln!(faults, "dr_router: {fault}")?;
             faults.write_all(place.as_bytes())
         }
-        Answer::TooLarge => writeln!(faults, "dr_router: TooLarge"),
-        Answer::Memory => writeln!(faults, "dr_router: Memory"),
+        PlanAnswer::TooLarge => writeln!(faults, "dr_router: TooLarge"),
+        PlanAnswer::Memory => writeln!(faults, "dr_router: Memory"),
     }
 }

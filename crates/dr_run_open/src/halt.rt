@@ -4,7 +4,7 @@ ghost use Rattle.std.specs.Io.KnownBytes.{Appends};
 ghost use Rattle.dr_run_open.specs.Ends.{printed_by, status_by};
 ghost use Rattle.dr_run_open.specs.declared.halt.Halt.TheVariants as halts;
 
-use crate::answer::{Answer, tell_answer};
+use crate::answer::{PlanAnswer, tell_answer};
 use crate::instance::InstanceFault;
 use crate::ledgers::OpenFault;
 use crate::status::Status;
@@ -19,7 +19,7 @@ use std::io::Write;
 #[derive(Drop)]
 pub enum Halt<'a> {
     /// The first text is no plan.
-    NoPlan(Answer),
+    NoPlan(PlanAnswer),
     /// The second text isn't that of the plan's certificate.
     NoCertificate(CertFault),
     /// The plan has no node of the name.

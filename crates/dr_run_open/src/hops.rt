@@ -13,7 +13,7 @@ use std::alloc::{AllocError, Global};
 /// A node to which this one sends, where it listens, and from which moment on (milliseconds) a row for it is due, as far as the sender
 /// knows: 0 before it has looked, and 2^64 - 1 where none waits.
 #[derive(Debug, Drop)]
-pub struct Hop {
+pub struct NextHop {
     pub dest: Text,
     pub address: Text,
     pub due: u64,
@@ -27,12 +27,12 @@ fn leads_to(contexts: &[Context], dest: &Text) -> bool
 }
 
 /// The hop to that node, before anybody has looked for a row.
-fn hop_to(node: &Node) -> Result<Hop, AllocError>
+fn hop_to(node: &Node) -> Result<NextHop, AllocError>
     ensures { IfOk result (λ hop. hop ≡ first_look node.now) }
 {
     let dest = node.name.clone()?;
     let address = node.address.clone()?;
-    Ok(Hop {
+    Ok(NextHop {
         dest,
         address,
         due: 0,
@@ -40,7 +40,7 @@ fn hop_to(node: &Node) -> Result<Hop, AllocError>
 }
 
 /// The hops of a site: the nodes of the plan to which it sends, in the order of the plan's text, each with its address.
-pub fn hops_of(alloc: Global, site: &Site, plan: &Plan) -> Result<Vec<Hop>, AllocError>
+pub fn hops_of(alloc: Global, site: &Site, plan: &Plan) -> Result<Vec<NextHop>, AllocError>
     ensures { IfOk result (λ hops. hops.items ≡ hops_from site.now plan.now.nodes) }
 {
     let mut hops = Vec::new(alloc);

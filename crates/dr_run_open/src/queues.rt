@@ -10,32 +10,32 @@ pub type Row = ((Text, Text), Progress);
 
 /// How far a row is, without more about it.
 #[derive(Clone, Copy, Debug)]
-pub enum Stage {
+pub enum RowStage {
     Waiting,
     Held,
     Done,
 }
 
 /// Whether so far a row at this stage is.
-fn is_so(stage: Stage, progress: Progress) -> bool
+fn is_so(stage: RowStage, progress: Progress) -> bool
     ensures { result ≡ is_so stage progress }
 {
     match stage {
-        Stage::Waiting => matches!(progress, Progress::Waiting { .. }),
-        Stage::Held => matches!(progress, Progress::Held(_)),
-        Stage::Done => matches!(progress, Progress::Done),
+        RowStage::Waiting => matches!(progress, Progress::Waiting { .. }),
+        RowStage::Held => matches!(progress, Progress::Held(_)),
+        RowStage::Done => matches!(progress, Progress::Done),
     }
 }
 
 /// Whether the row is for that node, and at this stage.
-pub fn is_queued(row: &Row, dest: &Text, stage: Stage) -> bool
+pub fn is_queued(row: &Row, dest: &Text, stage: RowStage) -> bool
     ensures { result ≡ is_queued dest.now stage row.now }
 {
     row.0.1 == *dest && is_so(stage, row.1)
 }
 
 /// How many of the rows are for that node and at this stage.
-pub fn how_many(rows: &[Row], dest: &Text, stage: Stage) -> usize
+pub fn how_many(rows: &[Row], dest: &Text, stage: RowStage) -> usize
     ensures { result ≡ how_many rows.now dest.now stage }
 {
     let mut count = 0;

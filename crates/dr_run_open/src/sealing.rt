@@ -1,13 +1,13 @@
 //! The plan of a text, and a plan sealed with the certificate of one.
 ghost use Rattle.dr_run_open.specs.Sealings.{ReadsPlan, SealsText};
 
-use crate::answer::{Answer, answer_to_fault};
+use crate::answer::{PlanAnswer, answer_to_fault};
 use dr_cert::{CertFault, Sealed, read_certificate};
 use dr_plan::{Plan, read_plan};
 use std::alloc::Global;
 
 /// The plan of a text, or the answer to a text that has none.
-pub fn plan_of(alloc: Global, text: &[u8]) -> Result<Plan, Answer>
+pub fn plan_of(alloc: Global, text: &[u8]) -> Result<Plan, PlanAnswer>
     ensures { ReadsPlan text.now result }
 {
     match read_plan(alloc, text) {

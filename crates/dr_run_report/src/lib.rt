@@ -16,6 +16,6 @@ pub mod system;
 
 pub use asking::{OwnPaths, Paths, test_path};
 pub use head::begins_as_report;
-pub use judging::{FileId, Found, Place, ReportFault, Spot, judge};
+pub use judging::{FileId, PathTarget, ReportFault, ReportPlace, Spot, judge};
 pub use names::is_ledger_name;
 pub use system::SystemPaths;

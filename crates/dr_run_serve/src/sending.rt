@@ -6,7 +6,7 @@ use crate::tallied::Tallied;
 use crate::visit::visit_hop;
 use dr_ledger::LedgerFault;
 use dr_run_net::Network;
-use dr_run_open::Hop;
+use dr_run_open::NextHop;
 use dr_session::Clock;
 use dr_site::Site;
 use std::alloc::Global;
@@ -17,7 +17,7 @@ use std::alloc::Global;
 pub fn visit_each<N: Network, P: Tallied, C: Clock>(
     alloc: Global,
     site: &Site,
-    hops: &[Hop],
+    hops: &[NextHop],
     network: &N,
     port: &mut P,
     clock: &C,

@@ -14,4 +14,4 @@ pub mod names;
 pub mod standing;
 
 pub use adopting::adopt_files;
-pub use change::{Change, Stop};
+pub use change::{Changeover, Halted};

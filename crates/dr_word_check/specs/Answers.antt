@@ -10,8 +10,8 @@ use Rattle.dr_check.specs.Shown.{IsTooLarge}
 use Rattle.dr_check.specs.declared.verdict.Verdict.TheVariants.{No}
 use Rattle.dr_certify.specs.Certified.{IsCertified}
 use Rattle.dr_word_check.specs.Faults.{no_line}
-use Rattle.dr_run_open.specs.declared.answer.Answer.{Answer}
-use Rattle.dr_run_open.specs.declared.answer.Answer.TheVariants.{Sound, Unsound, NoPlan, TooLarge, Memory}
+use Rattle.dr_run_open.specs.declared.answer.PlanAnswer.{PlanAnswer}
+use Rattle.dr_run_open.specs.declared.answer.PlanAnswer.TheVariants.{Sound, Unsound, NoPlan, TooLarge, Memory}
 
 -- the text writes a plan of which this fault is named, the first of those that show themselves, and this is the fault's line
 pub record IsRefuted (text output : Text) : Type 0 where
@@ -22,7 +22,7 @@ pub record IsRefuted (text output : Text) : Type 0 where
   pub printed : output ≡ no_line fault
 
 -- the answer to a plan that has this fault: the fault's line, with words for people about it, or want of memory
-abbrev pub IsLineOf : Fault → Answer → Type 0
+abbrev pub IsLineOf : Fault → PlanAnswer → Type 0
 IsLineOf fault (Unsound printed why) = printed ≡ no_line fault
 IsLineOf fault Memory = Unit {0}
 IsLineOf fault (Sound printed) = ⊥
@@ -30,7 +30,7 @@ IsLineOf fault (NoPlan refused place) = ⊥
 IsLineOf fault TooLarge = ⊥
 
 -- what `check` may answer to a text; want of memory may be answered to any
-abbrev pub IsAnswerTo : Text → Answer → Type 0
+abbrev pub IsAnswerTo : Text → PlanAnswer → Type 0
 IsAnswerTo text (Sound printed) = IsCertified text printed
 IsAnswerTo text (Unsound printed why) = IsRefuted text printed
 IsAnswerTo text (NoPlan fault place) = Reads text (Err fault) × (fault ≢ NoMemory)

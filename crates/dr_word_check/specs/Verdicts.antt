@@ -8,13 +8,13 @@ use Rattle.dr_plan_sound.specs.Certificates.{IsCertificateOf}
 use Rattle.dr_cert.specs.declared.fault.CertFault.{CertFault}
 use Rattle.dr_cert.specs.declared.fault.CertFault.TheVariants as fault
 use Rattle.dr_run_open.specs.Sealings.{IsFaultOf, IsTextOf}
-use Rattle.dr_word_check.specs.declared.verify.Verdict.{Verdict}
-use Rattle.dr_word_check.specs.declared.verify.Verdict.TheVariants.{Yes, No, Memory}
+use Rattle.dr_word_check.specs.declared.verify.Verification.{Verification}
+use Rattle.dr_word_check.specs.declared.verify.Verification.TheVariants.{Yes, No, Memory}
 use Rattle.dr_run_open.specs.declared.status.Status.{Status}
 use Rattle.dr_run_open.specs.declared.status.Status.TheVariants.{Success, Refused, Memory as OutOfMemory}
 
 -- what `verify` may answer on a plan and a text; want of memory may be the answer to any
-abbrev pub IsVerdictOn : Network → Text → Verdict → Type 0
+abbrev pub IsVerdictOn : Network → Text → Verification → Type 0
 IsVerdictOn plan text Yes = (certificate : Certificate) × IsTextOf text certificate × IsSound plan × IsCertificateOf plan certificate
 IsVerdictOn plan text (No refused) = (refused ≢ fault.Memory) × IsFaultOf plan text refused
 IsVerdictOn plan text Memory = Unit {0}
@@ -32,13 +32,13 @@ fault_line fault.Order = codes "no" ++ (9 ∷ codes "C8 Order") ++ (10 ∷ [])
 fault_line fault.Memory = []
 
 -- the line of a verdict: yes, or no with its fault
-abbrev pub verdict_line : Verdict → Text
+abbrev pub verdict_line : Verification → Text
 verdict_line Yes = codes "yes" ++ (10 ∷ [])
 verdict_line (No refused) = fault_line refused
 verdict_line Memory = []
 
 -- the status with which the program ends for a verdict
-abbrev pub verdict_status : Verdict → Status
+abbrev pub verdict_status : Verification → Status
 verdict_status Yes = Success
 verdict_status (No refused) = Refused
 verdict_status Memory = OutOfMemory

@@ -9,38 +9,38 @@ use dr_certify::{Refusal, certify};
 use dr_check::Fault;
 use dr_check_reasons::describe;
 use dr_plan::{Plan, read_plan};
-use dr_run_open::{Answer, answer_to_fault, words_or_none};
+use dr_run_open::{PlanAnswer, answer_to_fault, words_or_none};
 use std::alloc::{AllocError, Global};
 
 /// The answer to a plan with a fault that a walk or a hop shows.
-fn answer_to_unsound(alloc: Global, plan: &Plan, fault: &Fault) -> Answer
+fn answer_to_unsound(alloc: Global, plan: &Plan, fault: &Fault) -> PlanAnswer
     ensures { IsLineOf fault.now result }
 {
     let why = describe(alloc, plan, fault);
     match line_of(alloc, fault) {
-        Ok(line) => Answer::Unsound(line, words_or_none(alloc, why)),
-        Err(AllocError) => Answer::Memory,
+        Ok(line) => PlanAnswer::Unsound(line, words_or_none(alloc, why)),
+        Err(AllocError) => PlanAnswer::Memory,
     }
 }
 
 /// The answer to a plan that was read of a text.
-fn answer_to_plan(alloc: Global, plan: &Plan) -> Answer
+fn answer_to_plan(alloc: Global, plan: &Plan) -> PlanAnswer
     ensures { (text : OfText) → Reads text (Ok plan.now) → IsAnswerTo text result }
 {
     match certify(alloc, plan) {
-        Ok(certificate) => Answer::Sound(certificate),
+        Ok(certificate) => PlanAnswer::Sound(certificate),
         Err(Refusal::Unsound(fault)) => {
             let answer = answer_to_unsound(alloc, plan, &fault);
             drop(fault);
             answer
         }
-        Err(Refusal::TooLarge) => Answer::TooLarge,
-        Err(Refusal::Memory) => Answer::Memory,
+        Err(Refusal::TooLarge) => PlanAnswer::TooLarge,
+        Err(Refusal::Memory) => PlanAnswer::Memory,
     }
 }
 
 /// The answer to the text of a plan.
-pub fn answer_to(alloc: Global, text: &[u8]) -> Answer
+pub fn answer_to(alloc: Global, text: &[u8]) -> PlanAnswer
     ensures { IsAnswerTo text.now result }
 {
     match read_plan(alloc, text) {

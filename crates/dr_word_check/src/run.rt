@@ -6,17 +6,17 @@ ghost use Rattle.std.specs.Io.KnownBytes.{Appends};
 ghost use Rattle.dr_word_check.specs.Verdicts.{verdict_line};
 ghost use Rattle.dr_word_check.specs.Runs.{Answers, Verifies};
 ghost use Rattle.dr_word_line.specs.Words.{IsPlainCheck, IsCheckOf, IsVerifyOf};
-ghost use Rattle.dr_word_line.specs.declared.words.Asked.TheVariants as asks;
+ghost use Rattle.dr_word_line.specs.declared.words.Task.TheVariants as asks;
 ghost use Rattle.dr_run_open.specs.declared.status.Status.TheVariants.{Success, Refused, Usage, InputOutput, Memory};
 
 use crate::answer::answer_to;
-use crate::verify::{Verdict, verdict_on};
+use crate::verify::{Verification, verdict_on};
 use clap::Error;
 use clap::error::ErrorKind;
 use dr_certify::read_input;
 use dr_run_files::{Failure, Files, read_file};
 use dr_run_open::{Status, plan_of, tell_answer};
-use dr_word_line::{Asked, read_words};
+use dr_word_line::{Task, read_words};
 use std::alloc::{AllocError, Global};
 use std::io;
 use std::io::{Read, Write};
@@ -67,14 +67,14 @@ fn answer_file<'a, F: Files, W: Write, E: Write>(
 
 /// Writes the verdict to the output, and want of memory to the faults.
 fn tell_verdict<W: Write, E: Write>(
-    verdict: Verdict,
+    verdict: Verification,
     output: &mut W,
     faults: &mut E,
 ) -> io::Result<()>
     ensures { OnOk result (Appends (W.contents output.old) (W.contents output.new) (verdict_line verdict)) }
 {
     match verdict {
-        Verdict::Memory => writeln!(faults, "dr_router: Memory"),
+        Verification::Memory => writeln!(faults, "dr_router: Memory"),
         _ => output.write_all(verdict.line()),
     }
 }
@@ -183,7 +183,7 @@ fn tell_other_word<E: Write>(faults: &mut E) -> io::Result<Status>
 /// Errors: Stream, File.
 pub fn run_asked<'a, R: Read, W: Write, E: Write, F: Files>(
     alloc: Global,
-    asked: Asked<'a>,
+    asked: Task<'a>,
     input: &mut R,
     output: &mut W,
     faults: &mut E,
@@ -197,17 +197,17 @@ pub fn run_asked<'a, R: Read, W: Write, E: Write, F: Files>(
         → IfOk result (λ status. (text : Text) × F.holds files.now plan.now text × Verifies (F.holds files.now certificate.now) text (W.contents output.old) (W.contents output.new) status) }
 {
     match asked {
-        Asked::CheckInput => Ok(answer_input(alloc, input, output, faults)?),
-        Asked::CheckFile(path) => answer_file(alloc, files, path, output, faults),
-        Asked::Verify(plan, certificate) => {
+        Task::CheckInput => Ok(answer_input(alloc, input, output, faults)?),
+        Task::CheckFile(path) => answer_file(alloc, files, path, output, faults),
+        Task::Verify(plan, certificate) => {
             verify_files(alloc, files, plan, certificate, output, faults)
         }
-        Asked::Simulate(_, _, _)
-        | Asked::Echo(_, _, _)
-        | Asked::Question(_, _, _)
-        | Asked::AtNode(_, _)
-        | Asked::Adopt(_) => { Ok(tell_other_word(faults)?) }
-        Asked::Told(error) => Ok(tell_words(&error, output, faults)?),
+        Task::Simulate(_, _, _)
+        | Task::Echo(_, _, _)
+        | Task::Question(_, _, _)
+        | Task::AtNode(_, _)
+        | Task::Adopt(_) => { Ok(tell_other_word(faults)?) }
+        Task::Told(error) => Ok(tell_words(&error, output, faults)?),
     }
 }
 

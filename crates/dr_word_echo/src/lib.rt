@@ -7,4 +7,4 @@ mod outcome;
 mod print;
 
 pub use echoing::echo_files;
-pub use outcome::{Outcome, outcome_of};
+pub use outcome::{EchoOutcome, outcome_of};

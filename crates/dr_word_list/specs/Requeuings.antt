@@ -11,7 +11,7 @@ use Rattle.dr_run_open.specs.Queues.{Row, is_queued}
 use Rattle.dr_word_list.specs.Works.{AtNode}
 use Rattle.dr_run_open.specs.declared.halt.Halt.{Halt}
 use Rattle.dr_run_open.specs.declared.halt.Halt.TheVariants.{Refused}
-use Rattle.dr_run_open.specs.declared.queues.Stage.TheVariants as stages
+use Rattle.dr_run_open.specs.declared.queues.RowStage.TheVariants as stages
 
 -- which instance the row is about
 abbrev pub uid_of : Row → Text

@@ -8,7 +8,7 @@ ghost use Rattle.dr_run_open.specs.declared.halt.Halt.{Halt as HaltValue};
 use dr_base::Text;
 use dr_ledger::{Ledger, LedgerFault};
 use dr_run_files::{Failure, Files, NodeFiles};
-use dr_run_open::{Halt, Ledgers, Row, Stage, Status, finish, is_queued, open_node};
+use dr_run_open::{Halt, Ledgers, Row, RowStage, Status, finish, is_queued, open_node};
 use std::alloc::{AllocError, Global};
 use std::io::Write;
 
@@ -22,7 +22,7 @@ fn held_in(alloc: Global, rows: &[Row], dest: &Text) -> Result<Vec<Text>, AllocE
 {
     let mut uids = Vec::new(alloc);
     for row in rows {
-        if is_queued(row, dest, Stage::Held) {
+        if is_queued(row, dest, RowStage::Held) {
             uids.push(row.0.0.clone()?)?;
         }
     }

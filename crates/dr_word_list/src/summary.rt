@@ -13,7 +13,8 @@ use dr_ledger::{Ledger, LedgerFault};
 use dr_ledger_report::{put_field, put_name, put_number};
 use dr_run_files::{Failure, Files, NodeFiles};
 use dr_run_open::{
-    Halt, Hop, Ledgers, Opened, Row, Stage, Status, finish, hops_of, how_many, oldest, open_node,
+    Halt, Ledgers, NextHop, Opened, Row, RowStage, Status, finish, hops_of, how_many, oldest,
+    open_node,
 };
 use std::alloc::{AllocError, Global};
 use std::io::Write;
@@ -36,7 +37,7 @@ fn put_stage(
     word: &[u8],
     rows: &[Row],
     dest: &Text,
-    stage: Stage,
+    stage: RowStage,
 ) -> Result<(), AllocError>
     ensures { OnOk result (out.new.items ≡ out.old.items ++ (next_field word.now ++ next_field (decimal (number_of rows.now dest.now stage)))) }
 {
@@ -65,9 +66,9 @@ fn put_queue_line(
 {
     out.extend_from_slice(b"queue")?;
     put_field(out, dest.as_bytes())?;
-    put_stage(out, b"waiting", rows, dest, Stage::Waiting)?;
-    put_stage(out, b"held", rows, dest, Stage::Held)?;
-    put_stage(out, b"done", rows, dest, Stage::Done)?;
+    put_stage(out, b"waiting", rows, dest, RowStage::Waiting)?;
+    put_stage(out, b"held", rows, dest, RowStage::Held)?;
+    put_stage(out, b"done", rows, dest, RowStage::Done)?;
     put_field(out, b"oldest")?;
     put_moment(out, oldest)?;
     out.push(LF)?;
@@ -84,7 +85,7 @@ fn put_queue(out: &mut Vec<u8>, rows: &[Row], dest: &Text) -> Result<(), AllocEr
 }
 
 /// Adds the lines of the nodes to which these hops lead.
-fn put_queues(out: &mut Vec<u8>, rows: &[Row], hops: &[Hop]) -> Result<(), AllocError>
+fn put_queues(out: &mut Vec<u8>, rows: &[Row], hops: &[NextHop]) -> Result<(), AllocError>
     ensures { OnOk result ((lines : Words) × AreQueueLines rows.now hops.now lines × (out.new.items ≡ out.old.items ++ lines)) }
 {
     for hop in hops {
@@ -97,7 +98,7 @@ fn put_queues(out: &mut Vec<u8>, rows: &[Row], hops: &[Hop]) -> Result<(), Alloc
 fn summary_text(
     alloc: Global,
     name: &Text,
-    hops: &[Hop],
+    hops: &[NextHop],
     arrivals: usize,
     kept: usize,
     rows: &[Row],
@@ -120,7 +121,7 @@ fn summary_text(
 fn summary_of<L: Ledger>(
     alloc: Global,
     name: &Text,
-    hops: &[Hop],
+    hops: &[NextHop],
     ledger: &mut L,
 ) -> Result<Text, LedgerFault>
     ensures summary { IfOk result (λ text. L.stands ledger.new → IsSummaryOf name.now hops.now (L.book ledger.new) text) }

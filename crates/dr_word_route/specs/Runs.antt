@@ -21,16 +21,16 @@ use Rattle.dr_cert_lint.specs.Graphs.{IsGraphText}
 use Rattle.dr_cert_lint.specs.Findings.{IsLintText}
 use Rattle.dr_word_route.specs.Keys.{ReadsFileKey, ReadsWords}
 use Rattle.dr_word_route.specs.Replies.{IsRouteReply, IsSiteReply, IsTextReply, printed_for, status_for}
-use Rattle.dr_word_route.specs.declared.reply.Reply.{Reply}
+use Rattle.dr_word_route.specs.declared.reply.Response.{Response}
 
 -- the reply is printed after what the output held, and the program ends with its status
-pub record IsTold (reply : Reply) (old new : Option (List ℕ)) (status : Status) : Type 0 where
+pub record IsTold (reply : Response) (old new : Option (List ℕ)) (status : Status) : Type 0 where
   pub printed : Appends old new (printed_for reply)
   pub ends : status ≡ status_for reply
 
 -- a reply of which `May` says that it may be given is told
-abbrev pub Replies : (Reply → Type 0) → Option (List ℕ) → Option (List ℕ) → Status → Type 0
-Replies May old new status = (reply : Reply) × May reply × IsTold reply old new status
+abbrev pub Replies : (Response → Type 0) → Option (List ℕ) → Option (List ℕ) → Status → Type 0
+Replies May old new status = (reply : Response) × May reply × IsTold reply old new status
 
 -- A run on a question about a sealed plan; a file of the path, of which `Holds` says what bytes it holds, is read only where the node at
 -- which its instance would enter is one of the plan.

@@ -17,7 +17,7 @@ use dr_ledger::{Arrived, Item, Ledger, LedgerFault};
 use dr_ledger_report::report_of;
 use dr_run_files::{Failure, Files, NodeFiles, read_file};
 use dr_run_net::Network;
-use dr_run_open::{Halt, Hop, Ledgers, Opened, Status, finish, hops_of, item_of, open_node};
+use dr_run_open::{Halt, Ledgers, NextHop, Opened, Status, finish, hops_of, item_of, open_node};
 use dr_run_serve::{OwnPort, visit_each};
 use dr_session::{Clock, DeskPort};
 use dr_site::Site;
@@ -85,7 +85,7 @@ fn take_in<'a, L: Ledger, W: Write>(
 fn send_due<L: Ledger, N: Network, C: Clock>(
     alloc: Global,
     site: &Site,
-    hops: &[Hop],
+    hops: &[NextHop],
     network: &N,
     port: &mut OwnPort<L>,
     clock: &C,
@@ -104,7 +104,7 @@ fn send_due<L: Ledger, N: Network, C: Clock>(
 fn send_ledger<'a, L: Ledger + Drop, N: Network, C: Clock, W: Write>(
     alloc: Global,
     site: &Site,
-    hops: &[Hop],
+    hops: &[NextHop],
     ledger: L,
     item: Item,
     network: &N,

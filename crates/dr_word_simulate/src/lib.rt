@@ -6,5 +6,5 @@ mod outcome;
 mod run;
 mod simulate;
 
-pub use outcome::{Outcome, outcome_of};
+pub use outcome::{PlayOutcome, outcome_of};
 pub use run::run_offline;

@@ -7,7 +7,7 @@ ghost use Rattle.dr_run_open.specs.declared.status.Status.TheVariants.{Refused, 
 ghost use Rattle.dr_word_simulate.specs.Outcomes.{printed_for};
 ghost use Rattle.dr_word_simulate.specs.Runs.{Plays, Seals, Simulates, Unseals};
 
-use crate::outcome::{Outcome, outcome_of};
+use crate::outcome::{PlayOutcome, outcome_of};
 use dr_cert::{CertFault, Sealed};
 use dr_plan::Plan;
 use dr_run_files::{Failure, Files, read_file};
@@ -19,17 +19,17 @@ use std::io::Write;
 
 /// Writes the outcome: the report to the output, and why there is none to the faults.
 fn tell_outcome<W: Write, E: Write>(
-    outcome: &Outcome,
+    outcome: &PlayOutcome,
     output: &mut W,
     faults: &mut E,
 ) -> io::Result<()>
     ensures { OnOk result (Appends (W.contents output.old) (W.contents output.new) (printed_for outcome.now)) }
 {
     match outcome {
-        Outcome::Report(report) => output.write_all(report.as_bytes()),
-        Outcome::NoScript(line) => writeln!(faults, "dr_router: {}", ScriptFault::Line(*line)),
-        Outcome::Store => writeln!(faults, "dr_router: Store"),
-        Outcome::Memory => writeln!(faults, "dr_router: Memory"),
+        PlayOutcome::Report(report) => output.write_all(report.as_bytes()),
+        PlayOutcome::NoScript(line) => writeln!(faults, "dr_router: {}", ScriptFault::Line(*line)),
+        PlayOutcome::Store => writeln!(faults, "dr_router: Store"),
+        PlayOutcome::Memory => writeln!(faults, "dr_router: Memory"),
     }
 }
 
