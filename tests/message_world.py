@@ -16,15 +16,15 @@ from lib.message_plans import KEYS, LOCAL, grown, random_plan
 
 OTHERS = 2  # associations that a receiver takes; 256 in the definitions, few here so that rejections come
 WRONG = {
-    'rows_for_new_uids_only', 'kept_for_new_uids_only', 'second_caller_dropped', 'body_overwritten', 'out_of_resources_is_done',
+    'rows_for_new_uids_only', 'kept_for_new_uids_only', 'body_overwritten', 'out_of_resources_is_done',
     'restart_drops_waiting_rows', 'success_without_an_arrival', 'done_rows_stand', 'adoption_forgets_what_is_kept', 'half_the_pairs_accepted',
-    'carried_rows_forgotten',
+    'carried_rows_forgotten', 'kept_is_forgotten', 'queued_is_forgotten', 'arrivals_not_forgotten', 'rows_not_forgotten', 'pending_is_forgotten',
 }
 # what runs must reach: each event with each reply of its call that a sound plan allows
 REACHED = {
     'take': {'New', 'Again', 'NoLine', 'Conflict', 'Store', 'Memory'}, 'receive': {'New', 'Again', 'Conflict', 'Store', 'Memory'},
     'answered': {'Ok', 'NotWaiting', 'Store', 'Memory'}, 'agree_caller': {'opened', 'Ok', 'Store', 'idle'}, 'agree_receiver': {'accepted', 'rejected'},
-    'break_caller': {'Ok', 'Store', 'idle'}, 'close': {'Ok', 'Store', 'idle'}, 'restart': {'Ok', 'Store', 'idle'}, 'requeue': {'Ok', 'NotHeld', 'Store'},
+    'break_caller': {'Ok', 'Store', 'idle'}, 'close': {'Ok', 'Store', 'idle'}, 'restart': {'Ok', 'Store', 'idle'}, 'requeue': {'Ok', 'NotHeld', 'Store'}, 'forget': {'Ok', 'NotOver', 'Store'},
     'adopt': {'refused', 'the same', 'another', 'another with a row'}, 'ask': {'-'}, 'give': {'-'}, 'break_receiver': {'-'}, 'refuse': {'-'}, 'tick': {'-'},
 }
 Item = collections.namedtuple('Item', 'uid key body')
@@ -72,18 +72,17 @@ class World:
         if self.store_fails(name):
             return 'Store'
         if (caller, item.uid) in book.arrivals:
-            book.journal.append(('repeat', caller, item.uid))
+            book.journal.append(('repeat', caller, item))
             return 'Again'
         if not known or 'body_overwritten' in self.wrong:
             book.items[item.uid] = item
-        if not known or 'second_caller_dropped' not in self.wrong:
-            book.arrivals.add((caller, item.uid))
+        book.arrivals.add((caller, item.uid))
         if self.plan.keeps(name, caller, item.key) and not (known and 'kept_for_new_uids_only' in self.wrong):
             book.kept.add(item.uid)
         if not (known and 'rows_for_new_uids_only' in self.wrong):
             for to in self.plan.sends(name, caller, item.key):
                 book.rows.setdefault((item.uid, to), ('waiting', 0, 0))
-        book.journal.append(('arrival', caller, item.uid))
+        book.journal.append(('arrival', caller, item))
         return 'New'
 
     def settle(self, name, uid, dest, outcome):
@@ -187,6 +186,29 @@ class World:
         self.books[name].journal.append(('requeuing', uid, dest))
         return 'Ok'
 
+    def is_over(self, name, uid):
+        book = self.books[name]
+        rows = [r for (u, _), r in book.rows.items() if u == uid]
+        return (uid in book.items and (uid not in book.kept or 'kept_is_forgotten' in self.wrong)
+                and (all(r[0] == 'done' for r in rows) or ('queued_is_forgotten' in self.wrong and any(r[0] == 'done' for r in rows))))
+
+    def is_pending(self, name, uid):
+        return any(l.caller == name and l.caller_connected and l.item and l.item.uid == uid for l in self.links.values())
+
+    def forget(self, name, uid):
+        if not self.is_over(name, uid):
+            return 'NotOver'
+        if self.store_fails(name):
+            return 'Store'
+        book = self.books[name]
+        del book.items[uid]
+        if 'arrivals_not_forgotten' not in self.wrong:
+            book.arrivals = {(c, u) for c, u in book.arrivals if u != uid}
+        if 'rows_not_forgotten' not in self.wrong:
+            book.rows = {at: r for at, r in book.rows.items() if at[0] != uid}
+        book.journal.append(('forgetting', uid))
+        return 'Ok'
+
     def refuse(self, name):
         self.armed.add(name)
 
@@ -211,7 +233,7 @@ class World:
             book.arrivals, book.rows = set(), {at: r for at, r in book.rows.items() if queued(r)}
             if 'adoption_forgets_what_is_kept' in self.wrong:
                 book.kept = set()
-            self.carried_over[name] = {} if 'carried_rows_forgotten' in self.wrong else dict(book.rows)
+            self.carried_over[name] = {} if 'carried_rows_forgotten' in self.wrong else {at: book.items[at[0]] for at in book.rows}
             book.journal.append(('adoption',))
         return 'another with a row' if reply == 'another' and any(b.rows for b in self.books.values()) else reply
 
@@ -261,6 +283,10 @@ def random_event(w, dice):
     held = [(n, u, d) for n in names for (u, d), r in sorted(w.books[n].rows.items()) if r[0] == 'held' or dice.random() < 0.02]
     if 0.88 <= choice < 0.92 and held:
         return w.requeue, dice.choice(held)
+    known = [(n, u) for n in names for u in sorted(w.books[n].items) if w.is_over(n, u) or dice.random() < 0.1]
+    known = [(n, u) for n, u in known if not w.is_pending(n, u) or 'pending_is_forgotten' in w.wrong]
+    if 0.96 <= choice and known:
+        return w.forget, dice.choice(known)
     if 0.92 <= choice < 0.94:
         return w.refuse, (dice.choice(names),)
     return w.tick, (dice.choice([1, 1000, 5000, 300000]),)

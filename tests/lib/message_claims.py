@@ -13,8 +13,16 @@ def claim(holds, *what):
         raise Claim(*what)
 
 
+def had(book):
+    """What was acknowledged since the last adoption: callers with items, forgotten or not."""
+    since = []
+    for line in book.journal:
+        since = [] if line[0] == 'adoption' else since + [(line[1], line[2])] if line[0] in ('arrival', 'repeat') else since
+    return set(since)
+
+
 def has_arrival(w, name, caller, item):
-    return (caller, item.uid) in w.books[name].arrivals and w.books[name].items.get(item.uid) == item
+    return (caller, item) in had(w.books[name])
 
 
 def none_refused(w):
@@ -28,7 +36,7 @@ def none_refused(w):
 
 def has_source(w, caller, name, item):
     sites = [(LOCAL, s) for s in w.books if has_arrival(w, s, LOCAL, item)]
-    sites += [(n, to) for n in w.books for (uid, to) in w.carried_over[n] if uid == item.uid and w.books[n].items.get(uid) == item]
+    sites += [(n, to) for n in w.books for (uid, to), stood in w.carried_over[n].items() if stood == item]
     return any(walk[-1] == (caller, name) and len(walk) - 1 <= w.plan.ranks[first, site, item.key]
                for first, site in sites if (first, site, item.key) in w.plan.ranks for walk in w.plan.walks(first, site, item.key))
 
@@ -41,8 +49,8 @@ def is_honest(w):
             item = book.items.get(uid)
             claim(item is not None and item.uid == uid, 'IsHonest', 'row without item', name, uid)
             claim(row[0] != 'done' or has_arrival(w, to, name, item), 'IsHonest', 'done', name, uid, to)
-            brought = any(to in w.plan.sends(name, c, item.key) for c, u in book.arrivals if u == uid)
-            claim(brought or (uid, to) in w.carried_over[name], 'IsHonest', 'row', name, uid, to)
+            brought = any(to in w.plan.sends(name, c, item.key) for c, i in had(book) if i == item)
+            claim(brought or w.carried_over[name].get((uid, to)) == item, 'IsHonest', 'row', name, uid, to)
 
 
 def is_covered(w, caller, name, item, dest):
@@ -59,14 +67,16 @@ def nothing_lost(w):
     for name, book in w.books.items():
         for caller, uid in book.arrivals:
             claim(uid in book.items, 'HasItems', name, uid)
-            item = book.items[uid]
+            claim((caller, book.items[uid]) in had(book), 'HasItems', 'not acknowledged', name, uid)
+        for caller, item in sorted(had(book)):
+            uid = item.uid
             claim(has_source(w, caller, name, item), 'WithinRank', caller, name, uid)
             dests = w.plan.destinations(caller, name, item.key)
             claim(dests, 'NothingLost', 'no destination', caller, name, uid)
             for dest in dests:
                 claim(is_covered(w, caller, name, item, dest), 'NothingLost', caller, name, uid, dest)
-        for uid, to in w.carried_over[name]:
-            item, row = book.items[uid], book.rows.get((uid, to))
+        for (uid, to), item in w.carried_over[name].items():
+            row = book.rows.get((uid, to)) if book.items.get(uid) == item else None
             dests = w.plan.destinations(name, to, item.key)
             claim(dests, 'NothingLost', 'no destination of a row that stood', name, uid, to)
             for dest in dests:
@@ -81,4 +91,4 @@ def seen(w):
 def lasts(before, w):
     for name, (items, kept, lines) in before.items():
         book = w.books[name]
-        claim(all(book.items.get(u) == i for u, i in items.items()) and kept <= book.kept and lines <= len(book.journal), 'Lasts', name)
+        claim(all(book.items.get(u) == i for u, i in items.items() if u in kept) and kept <= book.kept and lines <= len(book.journal), 'Lasts', name)

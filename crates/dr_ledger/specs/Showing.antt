@@ -9,7 +9,7 @@ use Rattle.dr_ledger.specs.declared.fault.LedgerFault.TheVariants as fault
 use Rattle.dr_ledger.specs.declared.item.Entry.TheVariants as entry
 use Rattle.dr_ledger.specs.declared.item.Instance.{Instance}
 use Rattle.dr_ledger.specs.declared.item.Outcome.TheVariants.{Status}
-use Rattle.dr_ledger.specs.Books.{Book, Arrival, Repeat, Settling, Requeuing, Adoption}
+use Rattle.dr_ledger.specs.Books.{Book, Arrival, Repeat, Settling, Requeuing, Forgetting, Adoption}
 use Rattle.dr_ledger.specs.Replies.{AreKept, Counts, HasRisen, entry_of}
 
 -- the key of a CT image in the explicit syntax, of station S1
@@ -28,6 +28,7 @@ pub record LinesAreShown : Type 0 where
   pub settling : entry_of (Settling (codes "1.2.3.4") (codes "ARCH") (Status 0xA700) 5)
       ≡ entry.Settling (codes "1.2.3.4") (codes "ARCH") (Status 0xA700) 5
   pub requeuing : entry_of (Requeuing (codes "1.2.3.4") (codes "ARCH")) ≡ entry.Requeuing (codes "1.2.3.4") (codes "ARCH")
+  pub forgetting : entry_of (Forgetting (codes "1.2.3.4")) ≡ entry.Forgetting (codes "1.2.3.4")
   pub adoption : entry_of Adoption ≡ entry.Adoption
 
 -- The kept uids are shown, each with the length of its instance's data set, and nothing else is.

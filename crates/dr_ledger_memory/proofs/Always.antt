@@ -20,6 +20,7 @@ arms Would (Err fault.NoLine) n = refl
 arms Would (Err fault.Conflict) n = refl
 arms Would (Err fault.NotWaiting) n = refl
 arms Would (Err fault.NotHeld) n = refl
+arms Would (Err fault.NotOver) n = refl
 arms Would (Err fault.Memory) n = refl
 
 after : {A : Type 0} (r : Result A LedgerFault) → LastsAfter r (Unit {0} → Unit {0} → Unit {0})
@@ -29,6 +30,7 @@ after (Err fault.NoLine) = λ t s. tt
 after (Err fault.Conflict) = λ t s. tt
 after (Err fault.NotWaiting) = λ t s. tt
 after (Err fault.NotHeld) = λ t s. tt
+after (Err fault.NotOver) = λ t s. tt
 after (Err fault.Memory) = tt
 
 pub lasts : {A : Type 0} (r : Result A LedgerFault) → Lasts r (Unit {0}) (Unit {0}) (Unit {0}) (Unit {0})
@@ -42,6 +44,7 @@ reads (Err fault.NoLine) Is h = absurd h
 reads (Err fault.Conflict) Is h = absurd h
 reads (Err fault.NotWaiting) Is h = absurd h
 reads (Err fault.NotHeld) Is h = absurd h
+reads (Err fault.NotOver) Is h = absurd h
 
 pub shown_never : {A : Type 0} (r : Result A LedgerFault) (Is : A → Type 0) → Shows r Is → NeverFails r
 shown_never (Ok value) Is h = tt
@@ -51,6 +54,7 @@ shown_never (Err fault.NoLine) Is h = absurd h
 shown_never (Err fault.Conflict) Is h = absurd h
 shown_never (Err fault.NotWaiting) Is h = absurd h
 shown_never (Err fault.NotHeld) Is h = absurd h
+shown_never (Err fault.NotOver) Is h = absurd h
 
 -- what `test` refuses is refused
 pub refused : (routing : Routing) (caller : Text) (item : Instance) (b : Book) (why : LedgerFault) → Admits routing caller item b (Err why) → Arrives routing caller item b (Err why) b
@@ -60,3 +64,4 @@ refused routing caller item b fault.Store h = (h, refl)
 refused routing caller item b fault.Memory h = (h, refl)
 refused routing caller item b fault.NotWaiting h = absurd h
 refused routing caller item b fault.NotHeld h = absurd h
+refused routing caller item b fault.NotOver h = absurd h

@@ -15,16 +15,18 @@ use Rattle.dr_ledger.specs.declared.item.Instance.{Instance}
 use Rattle.dr_ledger.specs.declared.item.Outcome.{Outcome}
 use Rattle.dr_ledger.specs.declared.item.Progress.{Progress}
 use Rattle.dr_ledger.specs.declared.item.Progress.TheVariants.{Waiting, Held, Done}
-use Rattle.dr_ledger.specs.Books.{Line, Arrival, Repeat, Settling, Requeuing, Adoption, after, not_done, row_after, with_rows}
+use Rattle.dr_ledger.specs.Books.{Line, Arrival, Repeat, Settling, Requeuing, Forgetting, Adoption, after, not_done, row_after, with_rows}
 use Rattle.dr_ledger.specs.Books.{is_done as is_done_at}
 use Rattle.dr_ledger.specs.Pairs.{Pair, pair_cmp}
+use Rattle.dr_ledger.proofs.Forgotten.{arrival_is, item_is, row_is}
+use Rattle.std.specs.Cmp.{eq_by_cmp_equiv}
 use Rattle.dr_ledger.proofs.Growing.{not_done_is, requeued_is, settled_is}
 use Rattle.dr_ledger.proofs.Maps.{texts, text_pairs, ties_itself}
 use Rattle.dr_ledger_memory.specs.declared.held.Held.{Held as Entry}
 use Rattle.dr_ledger_memory.specs.declared.note.Note.{Note}
 use Rattle.dr_ledger_memory.specs.declared.note.Note.TheVariants as note
 use Rattle.dr_ledger_memory.specs.declared.parts.Parts.{Parts}
-use Rattle.dr_ledger_memory.specs.Changes.{IsAdopted, IsMoved, IsNoted, IsPrunedIn, IsPutAt, IsSame, at}
+use Rattle.dr_ledger_memory.specs.Changes.{IsAdopted, IsForgotten, IsMoved, IsNoted, IsPrunedIn, IsPutAt, IsSame, at}
 use Rattle.dr_ledger_memory.specs.Contents.{all_rows, collected, content, data_sets, kept_mark, keys}
 use Rattle.dr_ledger_memory.specs.Entries.{Row, filled, filled_at, instance_in, is_done, is_kept_in, is_open, row_in, rows_in}
 use Rattle.dr_ledger_memory.specs.Notes.{line_of, lines_of}
@@ -301,3 +303,40 @@ adopted_is p q sp sq a = λ j. record {
       row_at q sq k.0 k.1 ∙ (pruned_row (at p.held k.0) (at q.held k.0) k.1 (a.held k.0) ∙ (ap opened (sym (row_at p sp k.0 k.1)) ∙ (opened_is (map.get (content p).rows k) ∙ sym (not_done_is (content p).rows k))))) j;
   lines = lines_with p q note.Adoption Adoption a.notes refl j;
 }
+
+-- ---- a forgetting
+none_instance : (b : Bool) (o : Option Entry) → instance_in (cond b None o) ≡ cond b None (instance_in o)
+none_instance true o = refl
+none_instance false o = refl
+
+none_kept : (b : Bool) (o : Option Entry) → is_kept_in (cond b None o) ≡ cond b false (is_kept_in o)
+none_kept true o = refl
+none_kept false o = refl
+
+none_row : (b : Bool) (o : Option Entry) (dest : Text) → row_in (cond b None o) dest ≡ cond (not b) (row_in o dest) None
+none_row true o dest = refl
+none_row false o dest = refl
+
+no_mark : (b m : Bool) → (b ≡ true → m ≡ false) → cond b false m ≡ m
+no_mark true m h = sym (h refl)
+no_mark false m h = refl
+
+module _ (p q : Parts) (sp : tree.IsOrdered text_cmp p.held) (sq : tree.IsOrdered text_cmp q.held) (uid : Text) (note : Note) (f : IsForgotten p uid note q) where
+  pub left_at : (u : Text) → at q.held u ≡ cond (eq_by_cmp text_cmp u uid) None (at p.held u)
+  left_at u = f.held u ∙ ap (λ b. cond b None (at p.held u)) ((eq_by_cmp_equiv texts.total).symm uid u)
+
+  pub forgotten_is : set.contains (content p).kept uid ≡ false → line_of note ≡ Forgetting uid → content q ≡ after (Forgetting uid) (content p)
+  forgotten_is unkept line = λ j. record {
+    items = map.same_map texts.total texts.exact (content q).items (map.remove (content p).items uid) (λ u.
+        item_at q sq u ∙ (ap instance_in (left_at u) ∙ (none_instance (eq_by_cmp text_cmp u uid) (at p.held u)
+        ∙ (ap (cond (eq_by_cmp text_cmp u uid) None) (sym (item_at p sp u)) ∙ sym (item_is (content p) uid u))))) j;
+    arrivals = set.same_set text_pairs.total text_pairs.exact (content q).arrivals (after (Forgetting uid) (content p)).arrivals (λ k.
+        arrival_at q k ∙ (f.arrivals k ∙ (ap (λ b. b && not (eq_by_cmp text_cmp k.1 uid)) (sym (arrival_at p k)) ∙ sym (arrival_is (content p) uid k)))) j;
+    kept = set.same_set texts.total texts.exact (content q).kept (content p).kept (λ u.
+        kept_at q sq u ∙ (ap is_kept_in (left_at u) ∙ (none_kept (eq_by_cmp text_cmp u uid) (at p.held u)
+        ∙ (no_mark (eq_by_cmp text_cmp u uid) (is_kept_in (at p.held u)) (λ t. ap (λ x. is_kept_in (at p.held x)) (tells_apart texts.exact u uid t) ∙ (sym (kept_at p sp uid) ∙ unkept)) ∙ sym (kept_at p sp u))))) j;
+    rows = map.same_map text_pairs.total text_pairs.exact (content q).rows (after (Forgetting uid) (content p)).rows (λ k.
+        row_at q sq k.0 k.1 ∙ (ap (λ o. row_in o k.1) (left_at k.0) ∙ (none_row (eq_by_cmp text_cmp k.0 uid) (at p.held k.0) k.1
+        ∙ (ap (λ r. cond (not (eq_by_cmp text_cmp k.0 uid)) r None) (sym (row_at p sp k.0 k.1)) ∙ sym (row_is (content p) uid k))))) j;
+    lines = lines_with p q note (Forgetting uid) f.notes line j;
+  }

@@ -1,6 +1,6 @@
 -- What a ledger in memory keeps.
 use Rattle.std.specs.Prelude.{◌↔◌, IsSome, IsTrue}
-use Rattle.std.proofs.Common.{◌≡◌, ◌≢◌, ◌⊎◌, ℕ, ◌≤◌, ◌^◌, Bool, true, false, cond, ◌||◌, List, [], ◌∷◌, ◌++◌, Contains, Option, None, Some, Ok, unwrap_or, refl, sym, ap, subst, ◌∙◌, inl, inr}
+use Rattle.std.proofs.Common.{◌≡◌, ◌≢◌, ◌⊎◌, ℕ, ◌≤◌, ◌^◌, Bool, true, false, cond, not, ◌||◌, List, [], ◌∷◌, ◌++◌, Contains, Option, None, Some, Ok, unwrap_or, refl, sym, ap, subst, ◌∙◌, inl, inr}
 use mathlib.Core.Logic.{∥∥₁_map}
 use Rattle.std.specs.Ordering.{eq_by_cmp}
 use Rattle.std.specs.Cmp.{both_ways}
@@ -25,15 +25,15 @@ use Rattle.dr_ledger.specs.declared.item.Outcome.{Outcome}
 use Rattle.dr_ledger.specs.declared.item.Progress.{Progress}
 use Rattle.dr_ledger.specs.declared.item.Progress.TheVariants.{Waiting, Held, Done}
 use Rattle.dr_ledger.specs.Bodies.{Bodies, OnlyLetsGo, OnlyTakes}
-use Rattle.dr_ledger.specs.Books.{Book, Line, Adoption, Arrival, Repeat, Settling, Requeuing, after, empty_book, row_after}
+use Rattle.dr_ledger.specs.Books.{Book, Line, Adoption, Arrival, Repeat, Settling, Requeuing, Forgetting, after, empty_book, row_after}
 use Rattle.dr_ledger.specs.Histories.{IsJournalled, IsSince}
 use Rattle.dr_ledger.specs.Items.{instance_of}
 use Rattle.dr_ledger.specs.Pairs.{pair_cmp}
 use Rattle.dr_ledger.specs.PlanRoutes.{keeps_by, targets_by}
-use Rattle.dr_ledger.specs.Replies.{Arrives, HasConflict, IsAdmitted, arrival_line}
+use Rattle.dr_ledger.specs.Replies.{Arrives, HasConflict, IsAdmitted, IsOver, arrival_line}
 use Rattle.dr_ledger.specs.Routings.{Routing}
 use Rattle.dr_ledger.specs.SiteRoutes.{site_routing}
-use Rattle.dr_ledger.proofs.Folding.{adoptions_are_journalled, arrivals_are_journalled, empty_is_journalled, requeuings_are_journalled, settlings_are_journalled}
+use Rattle.dr_ledger.proofs.Folding.{adoptions_are_journalled, arrivals_are_journalled, empty_is_journalled, forgettings_are_journalled, requeuings_are_journalled, settlings_are_journalled}
 use Rattle.dr_ledger.proofs.Growing.{inside}
 use Rattle.dr_ledger.proofs.Maps.{texts, cases_of}
 use Rattle.dr_ledger.proofs.PlanRouting.{keeps_by_where_kept, one_list, targets_by_are_in_order, targets_by_are_sent_to}
@@ -42,15 +42,15 @@ use Rattle.dr_ledger_memory.specs.declared.note.Note.{Note}
 use Rattle.dr_ledger_memory.specs.declared.parts.Bringing.{Bringing}
 use Rattle.dr_ledger_memory.specs.declared.parts.Parts.{Parts}
 use Rattle.dr_ledger_memory.specs.Bringings.{IsFor}
-use Rattle.dr_ledger_memory.specs.Changes.{IsAdopted, IsBrought, IsMoved, IsNoted, IsPrunedIn, IsPutAt, IsSame, PrunesAll, Tree, at}
+use Rattle.dr_ledger_memory.specs.Changes.{IsAdopted, IsBrought, IsForgotten, IsMoved, IsNoted, IsPrunedIn, IsPutAt, IsSame, PrunesAll, Tree, at}
 use Rattle.dr_ledger_memory.specs.Contents.{all_rows, collected, content, data_sets, kept_mark, keys}
 use Rattle.dr_ledger_memory.specs.Dues.{Covers, Due, due_cmp}
 use Rattle.dr_ledger_memory.specs.Entries.{IsTaken, body_in, instance_in, is_kept_in, needs, let_go, row_in, rows_in}
 use Rattle.dr_ledger_memory.specs.Notes.{line_of, lines_of}
 use Rattle.dr_ledger_memory.specs.Sound.{AreWhole, IsSound}
-use Rattle.dr_ledger_memory.proofs.Content.{adopted_is, brought_is, opened_some, pruned_row, repeated_is, requeued_so, same_content, same_data_sets, settled_so}
+use Rattle.dr_ledger_memory.proofs.Content.{adopted_is, forgotten_is, left_at, brought_is, opened_some, pruned_row, repeated_is, requeued_so, same_content, same_data_sets, settled_so}
 use Rattle.dr_ledger_memory.proofs.Lookups.{body_at, item_at, row_at}
-use Rattle.dr_ledger_memory.proofs.Whole.{all_pruned_whole, moved_whole, nothing_found, put_whole, taken_whole}
+use Rattle.dr_ledger_memory.proofs.Whole.{all_pruned_whole, moved_whole, needed_so, needs_in, nothing_found, of_book, put_whole, so_needed, taken_whole, to_book}
 
 journal_on : (routing : Routing) (old new : Book) → ((past : List Line) → IsSince routing past old → IsSince routing past new) → IsJournalled routing old → IsJournalled routing new
 journal_on routing old new f j = (j.0, f j.0 j.1)
@@ -296,3 +296,77 @@ adopt_either part p q sp sq change waiting h = elim change [
   | inl a ↦ adopt_kept part part p q sp sq a waiting h
   | inr s ↦ unadopted_kept part p q s waiting h
 ]
+
+-- ---- a forgetting
+module _ (p q : Parts) (sp : tree.IsOrdered text_cmp p.held) (sq : tree.IsOrdered text_cmp q.held) (uid : Text) (note : Note) (f : IsForgotten p uid note q) where
+  was_there : {X : Type 0} (b : Bool) (o : Option X) (x : X) → cond b None o ≡ Some x → o ≡ Some x
+  was_there true o x h = absurd (nothing_found x h)
+  was_there false o x h = h
+
+  was_row : (b : Bool) (o : Option Entry) (dest : Text) (row : Progress) → row_in (cond b None o) dest ≡ Some row → row_in o dest ≡ Some row
+  was_row true o dest row h = absurd (nothing_found row h)
+  was_row false o dest row h = h
+
+  was_body : (b : Bool) (o : Option Entry) (body : List ℕ) → body_in (cond b None o) ≡ Some body → body_in o ≡ Some body
+  was_body true o body h = absurd (nothing_found body h)
+  was_body false o body h = h
+
+  pub forgotten_lets_go : OnlyLetsGo (data_sets p) (data_sets q)
+  forgotten_lets_go u body h =
+      body_at p sp u ∙ was_body (eq_by_cmp text_cmp u uid) (at p.held u) body (sym (ap body_in (left_at p q sp sq uid note f u)) ∙ (sym (body_at q sq u) ∙ h))
+
+  pub forgotten_sound : (part : Part) → IsOver (content p) uid → line_of note ≡ Forgetting uid → q.waiting ≡ p.waiting → IsSound part p → IsSound part q
+  forgotten_sound part over line waiting h = record {
+    journalled = journal_on (site_routing part) (content p) (content q) (λ past j. forgettings_are_journalled (site_routing part) past uid (content p) (content q) (Ok tt) j
+        (over, forgotten_is p q sp sq uid note f over.unkept line)) h.journalled;
+    whole = λ u entry is. h.whole u entry (was_there (eq_by_cmp text_cmp u uid) (at p.held u) entry (sym (left_at p q sp sq uid note f u) ∙ is));
+    covered = λ u dest tries due r. subst (λ w. sorted.contains due_cmp w (dest, (due, u)) ≡ true) (sym waiting)
+        (h.covered u dest tries due (was_row (eq_by_cmp text_cmp u uid) (at p.held u) dest (Waiting tries due) (sym (ap (λ o. row_in o dest) (left_at p q sp sq uid note f u)) ∙ r)));
+  }
+
+pub forget_kept : (part : Part) (p q : Parts) (sp : tree.IsOrdered text_cmp p.held) (sq : tree.IsOrdered text_cmp q.held) (uid : Text) (note : Note) → IsOver (content p) uid → line_of note ≡ Forgetting uid →
+    IsForgotten p uid note q ⊎ IsSame p q → q.waiting ≡ p.waiting → ∥ IsSound part p ∥₁ → ∥ IsSound part q ∥₁
+forget_kept part p q sp sq uid note over line change waiting h = elim change [
+  | inl f ↦ ∥∥₁_map h (forgotten_sound p q sp sq uid note f part over line waiting)
+  | inr s ↦ unadopted_kept part p q s waiting h
+]
+
+-- ---- whether all is over with a uid
+found_none : (b : Bool) (P : Type 0) → b ≡ false → b ≡ true → P
+found_none b P f t = absurd (let e : ⊥ = cc in e)
+
+pub not_false : (b : Bool) → IsTrue (not b) → b ≡ false
+not_false true h = absurd (let e : ⊥ = cc in e)
+not_false false h = refl
+
+pub so_not : (b : Bool) → (b ≡ true → ⊥) → IsTrue (not b)
+so_not true h = absurd (h refl)
+so_not false h = refl
+
+done_or : (row : Progress) → (row ≡ Done) ⊎ (row ≢ Done)
+done_or Done = inl refl
+done_or (Held why) = inr (λ e. cc)
+done_or (Waiting tries due) = inr (λ e. cc)
+
+module _ (p : Parts) (sp : tree.IsOrdered text_cmp p.held) (uid : Text) where
+  pub over_there : (entry : Entry) → at p.held uid ≡ Some entry → needs entry.is_kept entry.rows.items ≡ false → IsOver (content p) uid
+  over_there entry there unneeded = record {
+    there = (entry.instance, item_at p sp uid ∙ ap instance_in there);
+    unkept = elim (cases_of (set.contains (content p).kept uid)) [
+      | inr none ↦ none
+      | inl kept ↦ found_none _ _ unneeded (sym (ap needs_in there) ∙ needed_so p sp (at p.held uid) (of_book p sp uid (inl kept)))
+    ];
+    done = λ dest row h. elim (done_or row) [
+      | inl done ↦ done
+      | inr owed ↦ found_none _ _ unneeded (sym (ap needs_in there) ∙ needed_so p sp (at p.held uid) (of_book p sp uid (inr (dest, row, h, owed))))
+    ];
+  }
+
+  pub needed_not_over : (entry : Entry) → at p.held uid ≡ Some entry → IsOver (content p) uid → needs entry.is_kept entry.rows.items ≡ true → ⊥
+  needed_not_over entry there over needed = elim (to_book p sp uid (so_needed p sp (at p.held uid) (ap needs_in there ∙ needed))) [
+    | inl kept ↦ found_none (set.contains (content p).kept uid) ⊥ over.unkept kept
+    | inr row ↦ row.3 (over.done row.0 row.1 row.2)
+  ]
+
+  pub none_not_over : at p.held uid ≡ None → IsOver (content p) uid → ⊥
+  none_not_over none over = nothing_found over.there.0 (sym (ap instance_in none) ∙ (sym (item_at p sp uid) ∙ over.there.1))

@@ -1,11 +1,11 @@
 -- What stands at each uid after a change of one.
-use Rattle.std.proofs.Common.{◌≡◌, ◌⊎◌, inl, inr, ℕ, Result, Ok, Err, Bool, true, false, cond, ◌||◌, List, [], ◌∷◌, Option, None, Some, refl, sym, ap, subst, ◌∙◌}
+use Rattle.std.proofs.Common.{◌≡◌, ◌⊎◌, inl, inr, ℕ, Result, Ok, Err, Bool, true, false, cond, not, ◌&&◌, ◌||◌, List, [], ◌∷◌, Option, None, Some, refl, sym, ap, subst, ◌∙◌}
 use Rattle.std.specs.declared.cmp.Ordering.{Ordering}
 use Rattle.std.specs.Prelude.{IsSome, OnOk, OnErr, Contains}
 use Rattle.std.specs.Ordering.{eq_by_cmp}
 use Rattle.std.specs.FinMap.{find, put}
 use Rattle.std.specs.FinMap.Entries.{find-put}
-use Rattle.std.specs.List.{list_any}
+use Rattle.std.specs.List.{filter, list_any}
 use Rattle.std.specs.Map.{lookup}
 use Rattle.std.specs.Map.Calls.{RetainsPairs}
 use Rattle.std.specs.BTreeMap as tree
@@ -21,7 +21,7 @@ use Rattle.dr_ledger.specs.Pairs.{Pair, pair_cmp}
 use Rattle.dr_ledger.specs.declared.item.Progress.{Progress}
 use Rattle.dr_ledger.specs.declared.item.Progress.TheVariants.{Waiting}
 use Rattle.dr_ledger.proofs.Growing.{inside}
-use Rattle.dr_ledger.proofs.Maps.{texts, cases_of}
+use Rattle.dr_ledger.proofs.Maps.{texts, text_pairs, cases_of}
 use Rattle.dr_ledger_memory.specs.declared.held.Held.{Held as Entry}
 use Rattle.dr_ledger_memory.specs.Changes.{IsPrunedIn, IsPutAt, Tree, at}
 use Rattle.dr_ledger_memory.specs.Dues.{Covers, Due, Grows, due_cmp}
@@ -138,3 +138,30 @@ brought_covers w v p q uid rows after grows put is there = covers_put w v p q ui
 pub still_in : (b c : Bool) → c ≡ true → cond b true c ≡ true
 still_in true c h = refl
 still_in false c h = h
+
+-- ---- keys that leave
+any_of : {X : Type 0} (t : X → Bool) (b : Bool) (x : X) (xs : List X) → list_any t (cond b (x ∷ xs) xs) ≡ ((b && t x) || list_any t xs)
+any_of t true x xs = refl
+any_of t false x xs = refl
+
+and_none : (b : Bool) → (b && false) ≡ false
+and_none true = refl
+and_none false = refl
+
+left_one : (t p w a b : Bool) → (t ≡ true → p ≡ w) → a ≡ (b && w) → ((p && t) || a) ≡ ((t || b) && w)
+left_one true p true a b same is = ap (λ q. (q && true) || a) (same refl)
+left_one true p false a b same is = ap (λ q. (q && true) || a) (same refl) ∙ (is ∙ and_none b)
+left_one false true w a b same is = is
+left_one false false w a b same is = is
+
+any_left : {X : Type 0} (t p : X → Bool) (w : Bool) → ((x : X) → t x ≡ true → p x ≡ w) → (xs : List X) → list_any t (filter p xs) ≡ (list_any t xs && w)
+any_left t p w same [] = refl
+any_left t p w same (x ∷ xs) = any_of t (p x) x (filter p xs) ∙ left_one (t x) (p x) w (list_any t (filter p xs)) (list_any t xs) (same x) (any_left t p w same xs)
+
+-- of the arrivals those of other uids are left
+pub others_left : (uid : Text) (s n : sorted.BTreeSet Pair) → n.keys ≡ filter (λ x. not (eq_by_cmp text_cmp x.1 uid)) s.keys →
+    (key : Pair) → sorted.contains pair_cmp n key ≡ (sorted.contains pair_cmp s key && not (eq_by_cmp text_cmp key.1 uid))
+others_left uid s n h key =
+    let test : Pair → Bool = λ x. not (eq_by_cmp text_cmp x.1 uid) in
+    ap (list_any (is_at (pair_cmp key))) h
+    ∙ any_left (is_at (pair_cmp key)) test (test key) (λ x t. ap test (sym (tells_apart text_pairs.exact key x t))) s.keys

@@ -96,35 +96,36 @@ row_some dest row (e ∷ es) f n = elim (cases_of (eq_by_cmp text_cmp dest e.0))
 ]
 
 -- ---- where each entry is whole, the book has its data sets
-abbrev needs_in : Option Entry → Bool
+abbrev pub needs_in : Option Entry → Bool
 needs_in None = false
 needs_in (Some entry) = needs entry.is_kept entry.rows.items
 
-module _ (p : Parts) (order : tree.IsOrdered text_cmp p.held) (whole : AreWhole p.held) where
-  abbrev IsNeededIn : Option Entry → Type 0
+module _ (p : Parts) (order : tree.IsOrdered text_cmp p.held) where
+  abbrev pub IsNeededIn : Option Entry → Type 0
   IsNeededIn o = (is_kept_in o ≡ true) ⊎ ((dest : Text) × (row : Progress) × (row_in o dest ≡ Some row) × (row ≢ Done))
 
-  so_needed : (o : Option Entry) → needs_in o ≡ true → IsNeededIn o
+  pub so_needed : (o : Option Entry) → needs_in o ≡ true → IsNeededIn o
   so_needed None h = absurd (let e : ⊥ = cc in e)
   so_needed (Some entry) h = elim (one_of entry.is_kept (list_any is_open entry.rows.items) h) [
     | inl kept ↦ inl kept
     | inr row ↦ inr (some_row entry.rows.items entry.ordered row)
   ]
 
-  needed_so : (o : Option Entry) → IsNeededIn o → needs_in o ≡ true
+  pub needed_so : (o : Option Entry) → IsNeededIn o → needs_in o ≡ true
   needed_so None (inl h) = absurd (let e : ⊥ = cc in e)
   needed_so None (inr h) = absurd (nothing_found h.1 h.2)
   needed_so (Some entry) (inl h) = or_now entry.is_kept _ h
   needed_so (Some entry) (inr h) = or_later entry.is_kept _ (row_some h.0 h.1 entry.rows.items h.2 h.3)
 
-  to_book : (uid : Text) → IsNeededIn (at p.held uid) → IsNeeded (content p) uid
+  pub to_book : (uid : Text) → IsNeededIn (at p.held uid) → IsNeeded (content p) uid
   to_book uid (inl h) = inl (kept_at p order uid ∙ h)
   to_book uid (inr h) = inr (h.0, h.1, row_at p order uid h.0 ∙ h.2, h.3)
 
-  of_book : (uid : Text) → IsNeeded (content p) uid → IsNeededIn (at p.held uid)
+  pub of_book : (uid : Text) → IsNeeded (content p) uid → IsNeededIn (at p.held uid)
   of_book uid (inl h) = inl (sym (kept_at p order uid) ∙ h)
   of_book uid (inr h) = inr (h.0, h.1, sym (row_at p order uid h.0) ∙ h.2, h.3)
 
+module _ (p : Parts) (order : tree.IsOrdered text_cmp p.held) (whole : AreWhole p.held) where
   has_some : (o : Option (List ℕ)) → is_some o ≡ true → (body : List ℕ) × (o ≡ Some body)
   has_some None h = absurd (let e : ⊥ = cc in e)
   has_some (Some body) h = (body, refl)
@@ -145,8 +146,8 @@ module _ (p : Parts) (order : tree.IsOrdered text_cmp p.held) (whole : AreWhole 
   pub has_bodies : HasBodies (content p) (data_sets p)
   has_bodies = record {
     there = λ uid. (
-      λ h. to_book uid (so_needed (at p.held uid) (body_needed uid h.0 (at p.held uid) refl (sym (body_at p order uid) ∙ h.1))),
-      λ n. (let b = needed_body uid (at p.held uid) refl (needed_so (at p.held uid) (of_book uid n)) in (b.0, body_at p order uid ∙ b.1)),
+      λ h. to_book p order uid (so_needed p order (at p.held uid) (body_needed uid h.0 (at p.held uid) refl (sym (body_at p order uid) ∙ h.1))),
+      λ n. (let b = needed_body uid (at p.held uid) refl (needed_so p order (at p.held uid) (of_book p order uid n)) in (b.0, body_at p order uid ∙ b.1)),
     );
     own = λ uid body h. (let i = own_item uid body (at p.held uid) refl (sym (body_at p order uid) ∙ h) in (i.0, i.1, i.2, item_at p order uid ∙ i.3));
   }

@@ -1,5 +1,5 @@
 -- What the calls make of the parts, by what is found at each uid.
-use Rattle.std.specs.Prelude.{◌≡◌, ℕ, Bool, ◌||◌, cond, List, [], ◌∷◌, ◌++◌, Option, None, Some}
+use Rattle.std.specs.Prelude.{◌≡◌, ℕ, Bool, ◌||◌, ◌&&◌, not, cond, List, [], ◌∷◌, ◌++◌, Option, None, Some}
 use Rattle.std.specs.Ordering.{eq_by_cmp}
 use Rattle.std.specs.BTreeMap.{is_at}
 use Rattle.std.specs.BTreeMap as tree
@@ -105,3 +105,9 @@ pub record IsAdopted (p q : Parts) : Type 0 where
   pub held : PrunesAll p.held q.held
   pub arrivals : q.arrivals.keys ≡ []
   pub notes : q.notes.items ≡ p.notes.items ++ note.Adoption ∷ []
+
+-- what stood at the uid has left with those who brought it, and there is a line more
+pub record IsForgotten (p : Parts) (uid : Text) (note : Note) (q : Parts) : Type 0 where
+  pub held : IsSetAt p.held uid None q.held
+  pub arrivals : (key : Pair) → sorted.contains pair_cmp q.arrivals key ≡ (sorted.contains pair_cmp p.arrivals key && not (eq_by_cmp text_cmp key.1 uid))
+  pub notes : q.notes.items ≡ p.notes.items ++ note ∷ []

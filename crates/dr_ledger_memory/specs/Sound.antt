@@ -38,6 +38,7 @@ NeverFails (Err fault.NoLine) = Unit {0}
 NeverFails (Err fault.Conflict) = Unit {0}
 NeverFails (Err fault.NotWaiting) = Unit {0}
 NeverFails (Err fault.NotHeld) = Unit {0}
+NeverFails (Err fault.NotOver) = Unit {0}
 NeverFails (Err fault.Memory) = Unit {0}
 
 -- a reading call: what it shows, or that there is no memory for it
@@ -49,3 +50,4 @@ Shows (Err fault.NoLine) Is = ⊥
 Shows (Err fault.Conflict) Is = ⊥
 Shows (Err fault.NotWaiting) Is = ⊥
 Shows (Err fault.NotHeld) Is = ⊥
+Shows (Err fault.NotOver) Is = ⊥

@@ -20,7 +20,7 @@ impl Held {
     }
 
     /// Whether its data set is needed.
-    fn needs_body(&self) -> bool
+    pub fn needs_body(&self) -> bool
         ensures { result ≡ needs self.now.is_kept self.now.rows.items }
     {
         if self.is_kept {

@@ -10,7 +10,7 @@ ghost use Rattle.dr_ledger.specs.Bodies.{HasBodies, NextsWith, OnlyLetsGo, OnlyT
 ghost use Rattle.dr_ledger.specs.Adopting.{Adopting, Unfits, site_after};
 ghost use Rattle.dr_ledger.specs.Histories.{IsJournalled};
 ghost use Rattle.dr_ledger.specs.Items.{instance_of};
-ghost use Rattle.dr_ledger.specs.Replies.{Admits, AreKept, Arrives, IsAdmitted, Lists, Requeues, Settles, entry_of};
+ghost use Rattle.dr_ledger.specs.Replies.{Admits, AreKept, Arrives, Forgets, IsAdmitted, IsOver, Lists, Requeues, Settles, entry_of};
 ghost use Rattle.dr_ledger.specs.Pairs.{pair_cmp};
 ghost use Rattle.dr_ledger.specs.SiteRoutes.{site_routing};
 ghost use Rattle.dr_ledger_memory.specs.Changes.{at};
@@ -29,7 +29,8 @@ use crate::waiting::first_due;
 use dr_base::{Seq, Text};
 use dr_cert::Sealed;
 use dr_ledger::{
-    Arrived, Cause, Entry, Instance, Item, Job, Ledger, LedgerFault, Outcome, Progress, moved,
+    Arrived, Cause, Entry, Instance, Item, Job, Ledger, LedgerFault, LetsGo, Outcome, Progress,
+    moved,
 };
 use dr_site::Site;
 use std::alloc::{AllocError, Global};
@@ -250,6 +251,44 @@ impl MemoryLedger {
         }
     }
 
+    /// Whether all is over with the uid.
+    fn is_over_with(&self, uid: &Text) -> bool
+        ensures { IsTrue result ↔ IsOver (content self.now.parts) uid.now }
+    {
+        match self.parts.held.get(uid) {
+            Some(entry) => !entry.needs_body(),
+            None => false,
+        }
+    }
+
+    /// Lets go what all is over with.
+    fn let_go(&mut self, uid: &Text) -> Result<(), LedgerFault>
+        requires { IsOver (content self.old.parts) uid.now }
+        ensures reply { Forgets uid.now (content self.old.parts) result (content self.new.parts) }
+        ensures bodies { OnlyLetsGo (data_sets self.old.parts) (data_sets self.new.parts) }
+        ensures site { self.new.site ≡ self.old.site }
+        ensures never { NeverFails result }
+    {
+        let note = forgetting(uid)?;
+        match self.parts.try_forget(uid, note) {
+            Ok(()) => Ok(()),
+            Err(_) => Err(LedgerFault::Memory),
+        }
+    }
+
+    /// Forgets the uid, if all is over with it.
+    fn forget_at(&mut self, uid: &Text) -> Result<(), LedgerFault>
+        ensures reply { Forgets uid.now (content self.old.parts) result (content self.new.parts) }
+        ensures bodies { OnlyLetsGo (data_sets self.old.parts) (data_sets self.new.parts) }
+        ensures site { self.new.site ≡ self.old.site }
+        ensures never { NeverFails result }
+    {
+        if self.is_over_with(uid) {
+            return self.let_go(uid);
+        }
+        Err(LedgerFault::NotOver)
+    }
+
     /// Whether there is an item with the uid.
     fn has_item(&self, uid: &Text) -> bool
         ensures { result ≡ map.contains_key (content self.now.parts).items uid.now }
@@ -444,6 +483,13 @@ fn requeuing(uid: &Text, dest: &Text) -> Result<Note, AllocError>
     Ok(Note::Requeuing { uid, dest })
 }
 
+fn forgetting(uid: &Text) -> Result<Note, AllocError>
+    ensures { IfOk result (λ note. note ≡ Note.Forgetting uid.now) }
+{
+    let uid = uid.clone()?;
+    Ok(Note::Forgetting { uid })
+}
+
 /// Whether what is known is this item.
 fn is_item(held: &Instance, item: &Item) -> bool
     ensures { IsTrue result ↔ (held.now ≡ instance_of item.now) }
@@ -544,5 +590,15 @@ impl Ledger for MemoryLedger {
 
     fn failures(&self) -> u64 {
         0
+    }
+}
+
+impl LetsGo for MemoryLedger {
+    fn forget(&mut self, uid: &Text) -> Result<(), LedgerFault> {
+        self.forget_at(uid)
+    }
+
+    fn is_over(&mut self, uid: &Text) -> Result<bool, LedgerFault> {
+        Ok(self.is_over_with(uid))
     }
 }

@@ -31,6 +31,9 @@ pub enum Note {
         uid: Text,
         dest: Text,
     },
+    Forgetting {
+        uid: Text,
+    },
     Adoption,
 }
 
@@ -64,6 +67,10 @@ impl Note {
             }
             Note::Requeuing { uid, dest } => {
                 let entry = requeuing_entry(uid, dest)?;
+                Ok(entry)
+            }
+            Note::Forgetting { uid } => {
+                let entry = forgetting_entry(uid)?;
                 Ok(entry)
             }
             Note::Adoption => Ok(Entry::Adoption),
@@ -122,6 +129,13 @@ fn requeuing_entry(uid: &Text, dest: &Text) -> Result<Entry, AllocError>
         dest: dest.clone()?,
     };
     Ok(entry)
+}
+
+fn forgetting_entry(uid: &Text) -> Result<Entry, AllocError>
+    ensures { IfOk result (λ e. e ≡ entry_of (line_of (Note.Forgetting uid.now))) }
+{
+    let uid = uid.clone()?;
+    Ok(Entry::Forgetting { uid })
 }
 
 pub fn key_of(instance: &Instance) -> Result<Key, AllocError>

@@ -1,11 +1,14 @@
 //! A book with its data sets, in B-trees.
-ghost use Rattle.std.specs.Prelude.{◌≡◌, ◌<◌, ◌++◌, ◌∷◌, [], T, IsSome, None, Some, cond, OnErr, OnOk, vec_len, vec_capacity};
+ghost use Rattle.std.specs.Prelude.{◌≡◌, ◌<◌, ◌++◌, ◌∷◌, ◌&&◌, not, [], T, IsSome, None, Some, cond, OnErr, OnOk, vec_len, vec_capacity};
 ghost use Rattle.std.specs.FinMap.{is_sorted};
 ghost use Rattle.std.specs.BTreeMap as tree;
+ghost use Rattle.std.specs.BTreeSet as sorted;
+ghost use Rattle.std.specs.Ordering.{eq_by_cmp};
+ghost use Rattle.dr_ledger.specs.Pairs.{Pair, pair_cmp};
 ghost use Rattle.dr_base.specs.Texts.{Text as Words, text_cmp};
 ghost use Rattle.dr_ledger_memory.specs.Dues.{AreExpected, Covers, Grows, IsExpected};
 ghost use Rattle.dr_ledger_memory.specs.Entries.{IsTaken, row_in};
-ghost use Rattle.dr_ledger_memory.specs.Changes.{AreAlike, IsOneMore, IsRest, MovesAt, PrunesAll, TakesAt};
+ghost use Rattle.dr_ledger_memory.specs.Changes.{AreAlike, IsSetAt, IsOneMore, IsRest, MovesAt, PrunesAll, TakesAt};
 
 use crate::held::Held;
 use crate::holding::first;
@@ -49,7 +52,7 @@ struct Rest {
 }
 
 impl Parts {
-    ghost use Rattle.dr_ledger_memory.specs.Changes.{HasArrived, IsAdopted, IsBrought, IsMoved, IsNoted, IsSame, IsTakenOut};
+    ghost use Rattle.dr_ledger_memory.specs.Changes.{HasArrived, IsAdopted, IsBrought, IsForgotten, IsMoved, IsNoted, IsSame, IsTakenOut};
 
     /// An empty book.
     pub fn new(alloc: Global) -> Parts
@@ -261,6 +264,20 @@ impl Parts {
         write(&mut self.notes, note);
     }
 
+    /// Lets all that a uid has go, with a line; without memory nothing changes.
+    pub fn try_forget(&mut self, uid: &Text, note: Note) -> Result<(), AllocError>
+        ensures ok { OnOk result (IsForgotten self.old uid.now note self.new) }
+        ensures err { OnErr result (IsSame self.old self.new) }
+        ensures ordered { tree.IsOrdered text_cmp self.old.held → tree.IsOrdered text_cmp self.new.held }
+        ensures waiting { self.new.waiting ≡ self.old.waiting }
+    {
+        self.notes.reserve(1)?;
+        take_out(&mut self.held, uid);
+        let_callers_go(&mut self.arrivals, uid);
+        write(&mut self.notes, note);
+        Ok(())
+    }
+
     /// Lets arrivals and done rows go, with a line; without memory nothing changes.
     pub fn try_adopt(&mut self) -> Result<(), AllocError>
         ensures ok { OnOk result (IsAdopted self.old self.new) }
@@ -384,4 +401,26 @@ fn prune_all(held: &mut BTreeMap<Text, Held>)
         entry.prune();
         true
     });
+}
+
+/// What the uid has leaves.
+fn take_out(held: &mut BTreeMap<Text, Held>, uid: &Text)
+    ensures out { IsSetAt held.old uid.now None held.new }
+    ensures ordered { tree.IsOrdered text_cmp held.new }
+{
+    held.remove(uid);
+}
+
+/// Whether it is an arrival of the uid.
+fn is_of(arrival: &(Text, Text), uid: &Text) -> bool
+    ensures { result ≡ eq_by_cmp text_cmp arrival.now.1 uid.now }
+{
+    arrival.1.cmp(uid).is_eq()
+}
+
+/// Those who brought the uid leave.
+fn let_callers_go(arrivals: &mut BTreeSet<(Text, Text)>, uid: &Text)
+    ensures { (key : Pair) → sorted.contains pair_cmp arrivals.new key ≡ (sorted.contains pair_cmp arrivals.old key && not (eq_by_cmp text_cmp key.1 uid.now)) }
+{
+    arrivals.retain(|arrival| !is_of(arrival, uid));
 }

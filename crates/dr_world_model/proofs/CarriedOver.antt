@@ -23,8 +23,9 @@ use Rattle.dr_ledger.proofs.Growing.{inside, rows_made, rows_from, not_done_is}
 use Rattle.dr_world_model.specs.Worlds.{World, start, same_text, with_book, with_armed}
 use Rattle.dr_world_model.specs.Events.{HasNode}
 use Rattle.dr_world_model.specs.Runs.{MayAdopt}
+use Rattle.dr_world_model.specs.Claims.{IsToSend}
 use Rattle.dr_world_model.specs.Happening.{AnAdoptionRuns}
-use Rattle.dr_world_model.proofs.Keeping.{arrived_new}
+use Rattle.dr_world_model.proofs.Keeping.{arrived_has}
 use Rattle.dr_world_model.proofs.Safety.{book_here, book_there}
 use Rattle.dr_world_model.proofs.AdoptionsKept.{empty_right, no_row}
 use Rattle.dr_world_model.proofs.Possible.{flow_of}
@@ -51,7 +52,7 @@ module _ (plan next : Network) (stay : (name : Text) → HasNode plan name → H
   elsewhere name other = book_there start.books node brought name other
 
   has_item : map.get brought.items item.uid ≡ Some item
-  has_item = (arrived_new plan node local item map.empty empty_book (empty_right plan node map.empty (λ at. map.get-empty pair_cmp at)) admitted).item_is
+  has_item = arrived_has plan node local item empty_book empty_book (empty_right plan node empty_book) admitted
 
   new_row : (uid dest : Text) (row : Progress) → map.get brought.rows (uid, dest) ≡ Some row → (uid ≡ item.uid) × Goes next item.key node dest × (row ≡ Waiting 0 0)
   new_row uid dest row h = elim (rows_from (targets plan node local item.key) map.empty item.uid (uid, dest) row h) [
@@ -112,6 +113,11 @@ an_adoption_runs plan next adoptable stay node to item here sends goes_on =
         (adoptable, (a.0, a.1, (refl, refl))),
       )
           ),
-      (Waiting 0 0, ap (λ m. map.get m (item.uid, to)) (a.1.carried_over node) ∙ row),
+      (
+          let P : (Text → Book) → Type 0 = λ stood. IsToSend (stood node) item to in
+          let Q : Book → Type 0 = λ b. IsToSend b item to in
+          let has : map.get (w.books node).items item.uid ≡ Some item = ap (λ (b : Book). map.get b.items item.uid) (at_node plan next stay node to item here sends goes_on) ∙ has_item plan next stay node to item here sends goes_on in
+          subst P (sym a.1.stood) (subst Q (sym (a.1.books node here)) (record { row = Waiting 0 0; at = row; has = has }))
+          ),
       ap (λ (b : Book). map.get b.rows (item.uid, to)) (a.1.books node here) ∙ row,
     )

@@ -18,25 +18,29 @@ use Rattle.dr_ledger.specs.declared.item.Progress.TheVariants.{Waiting, Held, Do
 use Rattle.dr_ledger.specs.Pairs.{pair_cmp}
 use Rattle.dr_world_model.specs.Worlds.{World, Contexts, Stage, Asking, Answering, Rejecting, Open, Storing, Replying, Gone, start}
 use Rattle.dr_world_model.specs.Runs.{Action, Occurs, Adopt, Runs}
-use Rattle.dr_world_model.specs.Claims.{Has, HasArrival, HasRow, CoversHop, IsOpen, IsOrigin, IsQueued, IsKept, IsCovered, Headline}
+use Rattle.dr_world_model.specs.Claims.{Has, HadArrival, HasRow, CoversHop, IsOpen, IsOrigin, IsKept, IsCovered, IsToGo, Headline}
 use Rattle.dr_world_model.specs.Theorem.{HeadlineHolds}
 use Rattle.dr_world_model.proofs.Walking.{goes_reached, reached_on, destination_before}
-use Rattle.dr_world_model.proofs.Safety.{IsSafe, IsFairStage}
-use Rattle.dr_world_model.proofs.CallsKept.{one_item}
+use Rattle.dr_ledger.specs.Books.{empty_book}
+use Rattle.dr_ledger.proofs.Since.{nothing_taken}
+use Rattle.dr_ledger.proofs.Succeeded.{none_yet}
+use Rattle.dr_plan_model.proofs.Gathered.{nothing_in_nil}
+use Rattle.dr_world_model.proofs.Keeping.{Noted}
+use Rattle.dr_world_model.proofs.Safety.{IsPassedOn, IsSafe, IsFairStage}
 use Rattle.dr_world_model.proofs.EventsKept.{step_kept}
 use Rattle.dr_world_model.proofs.AdoptionsKept.{adoption_kept, empty_right, no_row}
 
 not_both : (b : Bool) → b ≡ true → b ≡ false → ⊥
 not_both b t f = cc
 
-covers_open : (plan : Network) (w : World) (caller receiver : Text) (stage : Stage) (accepted : Contexts) → IsFairStage plan w caller receiver stage → IsOpen stage accepted → CoversHop plan caller receiver accepted
-covers_open plan w caller receiver Asking accepted fair opened = absurd opened
-covers_open plan w caller receiver (Answering pairs) accepted fair opened = absurd opened
-covers_open plan w caller receiver Rejecting accepted fair opened = absurd opened
-covers_open plan w caller receiver Gone accepted fair opened = absurd opened
-covers_open plan w caller receiver (Open pairs) accepted fair opened = subst (CoversHop plan caller receiver) opened fair
-covers_open plan w caller receiver (Storing pairs item) accepted fair opened = subst (CoversHop plan caller receiver) opened fair.0
-covers_open plan w caller receiver (Replying pairs item status) accepted fair opened = subst (CoversHop plan caller receiver) opened fair.0
+covers_open : (plan : Network) (w : World) (caller receiver : Text) (connected : Bool) (stage : Stage) (accepted : Contexts) → IsFairStage plan w caller receiver connected stage → IsOpen stage accepted → CoversHop plan caller receiver accepted
+covers_open plan w caller receiver connected Asking accepted fair opened = absurd opened
+covers_open plan w caller receiver connected (Answering pairs) accepted fair opened = absurd opened
+covers_open plan w caller receiver connected Rejecting accepted fair opened = absurd opened
+covers_open plan w caller receiver connected Gone accepted fair opened = absurd opened
+covers_open plan w caller receiver connected (Open pairs) accepted fair opened = subst (CoversHop plan caller receiver) opened fair
+covers_open plan w caller receiver connected (Storing pairs item) accepted fair opened = subst (CoversHop plan caller receiver) opened fair.0
+covers_open plan w caller receiver connected (Replying pairs item status) accepted fair opened = subst (CoversHop plan caller receiver) opened fair.0
 
 no_length : (x : Text) → length (x ∷ []) ≤ 0 → ⊥
 no_length x h = omega arith
@@ -45,7 +49,7 @@ one_shorter : (x : Text) (over : List Text) (most : ℕ) → length (x ∷ over)
 one_shorter x over most h = omega arith
 
 -- a walk that ends goes to a node that keeps
-reaches_keeper : (most : ℕ) (plan : Network) → IsSound plan → (key : Key) (caller name : Text) → IsReached plan key caller name →
+pub reaches_keeper : (most : ℕ) (plan : Network) → IsSound plan → (key : Key) (caller name : Text) → IsReached plan key caller name →
     ((over : List Text) → IsWalk plan key caller name over → length over ≤ most) → (dest : Text) × IsDestination plan caller name key dest
 reaches_keeper zero plan sound key caller name reached bound = elim (sound.goes_on key caller name reached) [
   | inl k ↦ (name, ([], tt, refl, k))
@@ -73,40 +77,26 @@ covered_before plan w caller name to item dest sends (inr u) = inr (record {
   goes = u.goes;
 })
 
--- by a row's state: it is queued, or what is done is covered further on
-by_row : (plan : Network) (w : World) (caller name to : Text) (item : Instance) (dest : Text) → Sends plan name caller item.key to → IsDestination plan name to item.key dest → Has w name item →
-    (row : Progress) → map.get (w.books name).rows (item.uid, to) ≡ Some row → (row ≡ Done → IsCovered plan w name to item dest) → IsCovered plan w caller name item dest
-by_row plan w caller name to item dest sends goes has (Waiting tries due) at further = inr (record { over = []; walk = tt; to = to; row = Waiting tries due; queued = tt; at = at; has = has; goes = goes })
-by_row plan w caller name to item dest sends goes has (Held cause) at further = inr (record { over = []; walk = tt; to = to; row = Held cause; queued = tt; at = at; has = has; goes = goes })
-by_row plan w caller name to item dest sends goes has Done at further = covered_before plan w caller name to item dest sends (further refl)
-
--- by the walk to the destination: a queued row covers it, or the next node has the arrival
-covered : (over : List Text) (plan : Network) (w : World) → IsSafe plan w → (caller name : Text) (item : Instance) (dest : Text) → HasArrival w name caller item →
+-- by the walk to the destination: a queued row covers it, or the next node had the arrival
+covered : (over : List Text) (plan : Network) (w : World) → IsSafe plan w → (caller name : Text) (item : Instance) (dest : Text) → HadArrival w name caller item →
     IsWalk plan item.key caller name over → (last_place caller name over).1 ≡ dest → Keeps plan dest (last_place caller name over).0 item.key → IsCovered plan w caller name item dest
-covered [] plan w safe caller name item dest a walk here keeps = inl (subst (IsKept w item) here (record {
-  kept = (safe.books name).kept caller item a (subst (λ (d : Text). Keeps plan d caller item.key) (sym here) keeps);
-  has = a.item_is;
-}))
-covered (to ∷ over) plan w safe caller name item dest a walk last keeps =
-    let row = (safe.books name).rows caller to item a walk.0 in
-    by_row plan w caller name to item dest walk.0 (over, walk.1, last, keeps) a.item_is row.0 row.1
-    (λ done. covered over plan w safe name to item dest (safe.done name to item (row.1 ∙ ap Some done) a.item_is) walk.1 last keeps)
+covered [] plan w safe caller name item dest a walk here keeps =
+    let k = (safe.books name).kept caller item a (subst (λ (d : Text). Keeps plan d caller item.key) (sym here) keeps) in
+    inl (subst (IsKept w item) here (record { kept = k.0; has = k.1 }))
+covered (to ∷ over) plan w safe caller name item dest a walk last keeps = elim (safe.sent name caller to item a walk.0) [
+  | inl g ↦ inr (record { over = []; walk = tt; to = to; row = g.row; queued = g.queued; at = g.at; has = g.has; goes = (over, walk.1, last, keeps) })
+  | inr had ↦ covered_before plan w caller name to item dest walk.0 (covered over plan w safe name to item dest had walk.1 last keeps)
+]
 
 origin_reached : (plan : Network) (w : World) → IsSafe plan w → (caller name : Text) (item : Instance) → IsOrigin w caller name item → IsReached plan item.key caller name
 origin_reached plan w safe caller name item (inl a) = subst (λ c. IsReached plan item.key c name) (sym a.0) ((safe.books name).reached local item a.1)
-origin_reached plan w safe caller name item (inr r) =
-    let s = (safe.books caller).stands item.uid name r.0.0 r.0.1 in
-    goes_reached plan item.key caller name (subst (λ (i : Instance). Goes plan i.key caller name) (one_item w caller s.item item s.named s.has r.1) s.goes)
+origin_reached plan w safe caller name item (inr r) = goes_reached plan item.key caller name (safe.carried caller name item r).0
 
--- a row that stood is queued, or its node has the arrival
-stood_covered : (plan : Network) (w : World) → IsSafe plan w → (name to : Text) (item : Instance) (dest : Text) → Has w name item → IsDestination plan name to item.key dest →
-    (row : Progress) → HasRow w name item.uid to row →
-    ((row : Progress) × HasRow w name item.uid to row × IsQueued row) ⊎ (HasArrival w to name item × IsCovered plan w name to item dest)
-stood_covered plan w safe name to item dest has d (Waiting tries due) at = inl (Waiting tries due, at, tt)
-stood_covered plan w safe name to item dest has d (Held cause) at = inl (Held cause, at, tt)
-stood_covered plan w safe name to item dest has d Done at =
-    let a = safe.done name to item at has in
-    inr (a, covered d.0 plan w safe name to item dest a d.1 d.2 d.3)
+-- a row that stood is queued, or its node had the arrival
+stood_covered : (plan : Network) (w : World) → IsSafe plan w → (name to : Text) (item : Instance) (dest : Text) → IsDestination plan name to item.key dest → IsPassedOn w name item to →
+    IsToGo w name item to ⊎ (HadArrival w to name item × IsCovered plan w name to item dest)
+stood_covered plan w safe name to item dest d (inl g) = inl (g.has, (g.row, g.at, g.queued))
+stood_covered plan w safe name to item dest d (inr had) = inr (had, covered d.0 plan w safe name to item dest had d.1 d.2 d.3)
 
 pub safe_headline : (plan : Network) (w : World) → IsSound plan → IsSafe plan w → Headline plan w
 safe_headline plan w sound safe = record {
@@ -114,20 +104,22 @@ safe_headline plan w sound safe = record {
     arrived = λ name caller uid h.
         let k = (safe.books name).known caller uid h in
         let u = (safe.books name).named uid k.0 k.1 in
-        (k.0, u, record { arrival = ap (λ x. set.contains (w.books name).arrivals (caller, x)) u ∙ h; item_is = ap (map.get (w.books name).items) u ∙ k.1 });
+        let noted : Noted (w.books name) caller k.0 = record { arrival = ap (λ x. set.contains (w.books name).arrivals (caller, x)) u ∙ h; item_is = ap (map.get (w.books name).items) u ∙ k.1 } in
+        (k.0, u, noted.item_is, (safe.books name).noted caller k.0 noted);
     named = λ name. (safe.books name).named;
   };
   none_refused = record {
-    lines = λ name. (safe.books name).lines;
-    agreed = λ number link accepted h opened. covers_open plan w link.caller link.receiver link.stage accepted (safe.links number link h) opened;
+    lines = safe.lines;
+    agreed = λ number link accepted h opened. covers_open plan w link.caller link.receiver link.caller_connected link.stage accepted (safe.links number link h) opened;
   };
   within_rank = λ caller name item a.
       let source = safe.sources name caller item a in
       let ranked = sound_has_rank plan sound item.key source.first source.site (origin_reached plan w safe source.first source.site item source.origin) in
       (source, (ranked.0, ranked.1, ranked.1.greatest source.over source.walk));
   honest = record {
-    replies = λ number link accepted item h stage. (subst (IsFairStage plan w link.caller link.receiver) stage (safe.links number link h)).3 refl;
+    replies = λ number link accepted item h stage. (subst (IsFairStage plan w link.caller link.receiver link.caller_connected) stage (safe.links number link h)).4 refl;
     done = λ name to item row has. safe.done name to item row has;
+    answered = safe.answered;
     rows = λ name uid to row h. let f = (safe.books name).from uid to row h in (f.item, f.named, f.has, f.why);
   };
   nothing_lost = record {
@@ -136,21 +128,24 @@ safe_headline plan w sound safe = record {
         let ranked = sound_has_rank plan sound item.key caller name reached in
         reaches_keeper ranked.0 plan sound item.key caller name reached ranked.1.greatest;
     each = λ caller name item a dest d. covered d.0 plan w safe caller name item dest a d.1 d.2 d.3;
-    carried_some = λ name to item stood has.
-        let reached = origin_reached plan w safe name to item (inr (stood, has)) in
+    carried_some = λ name to item stood.
+        let reached = origin_reached plan w safe name to item (inr stood) in
         let ranked = sound_has_rank plan sound item.key name to reached in
         reaches_keeper ranked.0 plan sound item.key name to reached ranked.1.greatest;
-    carried_each = λ name to item stood has dest d.
-        let s = (safe.books name).stands item.uid to stood.0 stood.1 in
-        stood_covered plan w safe name to item dest has d s.row.0 s.row.1;
+    carried_each = λ name to item stood dest d. stood_covered plan w safe name to item dest d (safe.carried name to item stood).1;
   };
 }
 
 -- ---- runs
 pub start_safe : (plan : Network) → IsSafe plan start
 start_safe plan = record {
-  books = λ name. empty_right plan name map.empty (λ at. map.get-empty pair_cmp at);
-  sources = λ name caller item h. absurd (not_both _ h.arrival (set.contains-empty pair_cmp (caller, item.uid)));
+  books = λ name. empty_right plan name empty_book;
+  lines = λ name line h. absurd (nothing_in_nil line h);
+  folds = λ name. refl;
+  answered = λ name to item h. absurd (none_yet item to h);
+  sources = λ name caller item h. absurd (nothing_taken caller item h);
+  sent = λ name caller to item h s. absurd (nothing_taken caller item h);
+  carried = λ name to item s. absurd (no_row s.row (sym (map.get-empty pair_cmp (item.uid, to)) ∙ s.at));
   done = λ name to item h i. absurd (no_row Done (sym (map.get-empty pair_cmp (item.uid, to)) ∙ h));
   links = λ number link h. absurd (no_row link (sym (map.get-empty nat_cmp number) ∙ h));
 }

@@ -1,4 +1,8 @@
 pub mod AdoptionsKept
+pub mod AmongActs
+pub mod AmongAll
+pub mod AmongCalls
+pub mod AmongSafe
 pub mod CallsKept
 pub mod Counted
 pub mod Ended

@@ -1,6 +1,6 @@
 -- What holds in every run beside the claims: fresh numbers, armed nodes, journals that are histories.
 use Rattle.std.specs.Prelude.{◌≡◌, ℕ, ◌+◌, ◌≤◌, ◌^◌, ◌⊎◌, Bool, true, false, not, ◌&&◌, List, [], ◌∷◌, ◌++◌, min, None, Some}
-use Rattle.std.proofs.Common.{sym, ap, subst, ◌∙◌, arith}
+use Rattle.std.proofs.Common.{refl, sym, ap, subst, ◌∙◌, arith}
 use mathlib.Core.Logic.{inl, inr}
 use Rattle.std.specs.Ordering.{nat_cmp, eq_by_cmp}
 use Rattle.std.specs.FinMap as map
@@ -14,7 +14,7 @@ use Rattle.dr_ledger.specs.Books.{Book, Line, Adoption, empty_book, after, Fold}
 use Rattle.dr_ledger.specs.Histories.{IsSince}
 use Rattle.dr_ledger.specs.Pairs.{Pair, pair_cmp}
 use Rattle.dr_ledger.specs.PlanRoutes.{plan_routing}
-use Rattle.dr_ledger.proofs.Folding.{folded_push, empty_is_journalled, arrivals_are_journalled, settlings_are_journalled, requeuings_are_journalled, adoptions_are_journalled}
+use Rattle.dr_ledger.proofs.Folding.{folded_push, empty_is_journalled, arrivals_are_journalled, settlings_are_journalled, requeuings_are_journalled, forgettings_are_journalled, adoptions_are_journalled}
 use Rattle.dr_world_model.specs.Worlds.{World, Link, start, with_book}
 use Rattle.dr_world_model.specs.Calls.{StoreOutcome, Written, Untried, Failed, ArmedAfter, Called}
 use Rattle.dr_world_model.specs.Steps.{IsHop, IsLink}
@@ -26,13 +26,13 @@ use Rattle.dr_ledger.proofs.Maps.{texts, contained, got, cases_of}
 use Rattle.dr_world_model.proofs.Lookups.{numbers}
 use Rattle.dr_world_model.proofs.Safety.{each_book}
 use Rattle.dr_world_model.proofs.EventsKept.{was_link}
-use Rattle.dr_world_model.proofs.AdoptionsKept.{no_row, none_queued, node_or_not}
+use Rattle.dr_world_model.proofs.AdoptionsKept.{no_row, node_or_not}
 use Rattle.dr_world_model.proofs.Stepwise.{Closed, step_keeps}
 
 -- ---- a call
 module _ (Would : Type 0) (w v : World) (name : Text) (came : StoreOutcome) (book : Book) (c : Called Would w name came book v) where
   -- what doesn't look at books or at armed nodes stays
-  stays : (P : World → Type 0) → ((armed : FinSet text_cmp) → P (record { time = w.time; books = (with_book w name book).books; carried_over = w.carried_over; armed = armed; links = w.links; opened = w.opened })) → P v
+  stays : (P : World → Type 0) → ((armed : FinSet text_cmp) → P (record { time = w.time; books = (with_book w name book).books; stood = w.stood; armed = armed; links = w.links; opened = w.opened })) → P v
   stays P h = subst P (sym c.is) (h c.armed)
 
 no_way : (b : Bool) → b ≡ true → b ≡ false → ⊥
@@ -60,6 +60,7 @@ numbered_closed plan = record {
   arriving = λ w v name caller item reply a p. stays _ w v name _ a.book a.called Numbered (λ armed. p);
   settling = λ w v name uid dest outcome answer s p. stays _ w v name _ s.book s.called Numbered (λ armed. p);
   requeueing = λ w v name uid dest answer r p. stays _ w v name _ r.book r.called Numbered (λ armed. p);
+  dropping = λ w v name uid answer r p. stays _ w v name _ r.book r.called Numbered (λ armed. p);
   linked = λ w number was is at ends p n l h. elim (got numbers w.links number is n l h) [
     | inl e ↦ subst (λ k. k ≤ w.opened) (sym e.0) (p number was at)
     | inr f ↦ p n l f.1
@@ -93,6 +94,7 @@ hops_closed plan = record {
   arriving = λ w v name caller item reply a p. stays _ w v name _ a.book a.called (AreHops plan) (λ armed. p);
   settling = λ w v name uid dest outcome answer s p. stays _ w v name _ s.book s.called (AreHops plan) (λ armed. p);
   requeueing = λ w v name uid dest answer r p. stays _ w v name _ r.book r.called (AreHops plan) (λ armed. p);
+  dropping = λ w v name uid answer r p. stays _ w v name _ r.book r.called (AreHops plan) (λ armed. p);
   linked = λ w number was is at ends p n l h. elim (got numbers w.links number is n l h) [
     | inl e ↦
         (let H : Link → Type 0 = λ x. IsHop plan x.caller x.receiver in
@@ -132,6 +134,7 @@ later_closed plan count moment = record {
   arriving = λ w v name caller item reply a p. stays _ w v name _ a.book a.called (IsLater count moment) (λ armed. p);
   settling = λ w v name uid dest outcome answer s p. stays _ w v name _ s.book s.called (IsLater count moment) (λ armed. p);
   requeueing = λ w v name uid dest answer r p. stays _ w v name _ r.book r.called (IsLater count moment) (λ armed. p);
+  dropping = λ w v name uid answer r p. stays _ w v name _ r.book r.called (IsLater count moment) (λ armed. p);
   linked = λ w number was is at ends p. p;
   opened = λ w caller receiver hop p. (one_more count w.opened p.0, p.1);
   forgot = λ w name p. p;
@@ -165,6 +168,7 @@ armed_closed plan = record {
   arriving = λ w v name caller item reply a p. called_armed plan _ w v name _ a.book a.called p;
   settling = λ w v name uid dest outcome answer s p. called_armed plan _ w v name _ s.book s.called p;
   requeueing = λ w v name uid dest answer r p. called_armed plan _ w v name _ r.book r.called p;
+  dropping = λ w v name uid answer r p. called_armed plan _ w v name _ r.book r.called p;
   linked = λ w number was is at ends p. p;
   opened = λ w caller receiver hop p. p;
   forgot = λ w name p. p;
@@ -194,16 +198,16 @@ pub none_is_armed_after_adoption : NoneIsArmedAfterAdoption
 none_is_armed_after_adoption plan actions last w r next new a name = none_armed last next w new a (armed_are_nodes plan actions last w r) name
 
 -- ---- journals
-abbrev Known : Network → Text → Book → FinMap pair_cmp Progress → Type 0
-Known plan name b carried_over = (past : List Line) × IsSince (plan_routing plan name) past b × ((at : Pair) → map.get carried_over at ≡ map.get (Fold past).rows at)
+abbrev Known : Network → Text → Book → Book → Type 0
+Known plan name b stood = (past : List Line) × IsSince (plan_routing plan name) past b × (stood ≡ Fold past)
 
 abbrev Journalled : Network → World → Type 0
-Journalled plan w = (w.time ≤ 2 ^ 62) × ((name : Text) → Known plan name (w.books name) (w.carried_over name))
+Journalled plan w = (w.time ≤ 2 ^ 62) × ((name : Text) → Known plan name (w.books name) (w.stood name))
 
 called_journalled : (plan : Network) (Would : Type 0) (w v : World) (name : Text) (came : StoreOutcome) (book : Book) → Called Would w name came book v →
-    Known plan name book (w.carried_over name) → Journalled plan w → Journalled plan v
+    Known plan name book (w.stood name) → Journalled plan w → Journalled plan v
 called_journalled plan Would w v name came book c is p =
-    stays Would w v name came book c (Journalled plan) (λ armed. (p.0, each_book w name book (λ n b. Known plan n b (w.carried_over n)) is p.1))
+    stays Would w v name came book c (Journalled plan) (λ armed. (p.0, each_book w name book (λ n b. Known plan n b (w.stood n)) is p.1))
 
 early : (now : ℕ) → min now (2 ^ 62) ≤ 2 ^ 62
 early now = omega arith
@@ -219,6 +223,9 @@ journalled_closed plan = record {
   requeueing = λ w v name uid dest answer r p.
       let was = p.1 name in
       called_journalled plan _ w v name _ r.book r.called (was.0, requeuings_are_journalled (plan_routing plan name) was.0 uid dest (w.books name) r.book answer was.1 r.call, was.2) p;
+  dropping = λ w v name uid answer r p.
+      let was = p.1 name in
+      called_journalled plan _ w v name _ r.book r.called (was.0, forgettings_are_journalled (plan_routing plan name) was.0 uid (w.books name) r.book answer was.1 r.call, was.2) p;
   linked = λ w number was is at ends p. p;
   opened = λ w caller receiver hop p. p;
   forgot = λ w name p. p;
@@ -227,27 +234,27 @@ journalled_closed plan = record {
 }
 
 -- ---- an adoption
-nothing_known : (plan : Network) (name : Text) (carried_over : FinMap pair_cmp Progress) → ((at : Pair) → map.get carried_over at ≡ None) → Known plan name empty_book carried_over
-nothing_known plan name carried_over none = ([], empty_is_journalled (plan_routing plan name), λ at. none at ∙ sym (map.get-empty pair_cmp at))
+nothing_known : (plan : Network) (name : Text) → Known plan name empty_book empty_book
+nothing_known plan name = ([], empty_is_journalled (plan_routing plan name), refl)
 
 module _ (plan next : Network) (w v : World) (a : Adopts plan w next v) (p : Journalled plan w) where
-  adopted_node : (name : Text) → HasNode plan name → Known next name (v.books name) (v.carried_over name)
+  -- what stands is what is there
+  stands : (name : Text) → Known next name (v.books name) (v.books name) → Known next name (v.books name) (v.stood name)
+  stands name k = (let P : (Text → Book) → Type 0 = λ stood. Known next name (v.books name) (stood name) in subst P (sym a.stood) k)
+
+  adopted_node : (name : Text) → HasNode plan name → Known next name (v.books name) (v.stood name)
   adopted_node name is =
       let was = p.1 name in
       let book = w.books name in
       let past : List Line = book.lines ++ Adoption ∷ [] in
       let made : after Adoption book ≡ Fold past = ap (after Adoption) was.1.fold ∙ sym (folded_push book.lines Adoption empty_book) in
-      let P : Book → Type 0 = λ b. IsSince (plan_routing next name) past b in (
-        past,
-        subst P (sym (a.books name is)) (adoptions_are_journalled (plan_routing plan name) (plan_routing next name) was.0 book was.1),
-        λ at. ap (λ (rows : FinMap pair_cmp Progress). map.get rows at) (a.carried_over name ∙ ap (λ (b : Book). b.rows) made),
-      )
+      let P : Book → Type 0 = λ b. Known next name b b in
+      stands name (subst P (sym (a.books name is)) (past, adoptions_are_journalled (plan_routing plan name) (plan_routing next name) was.0 book was.1, made))
 
-  adopted_stranger : (name : Text) → (HasNode plan name → ⊥) → Known next name (v.books name) (v.carried_over name)
+  adopted_stranger : (name : Text) → (HasNode plan name → ⊥) → Known next name (v.books name) (v.stood name)
   adopted_stranger name stranger =
-      let P : Book → Type 0 = λ b. Known next name b (v.carried_over name) in
-      subst P (sym (a.joined name stranger)) (nothing_known next name (v.carried_over name) (λ at.
-      ap (λ (rows : FinMap pair_cmp Progress). map.get rows at) (a.carried_over name) ∙ none_queued at (ap (λ (b : Book). b.rows) (a.may.strangers name stranger))))
+      let P : Book → Type 0 = λ b. Known next name b b in
+      stands name (subst P (sym (a.joined name stranger)) (nothing_known next name))
 
   adopted_journalled : Journalled next v
   adopted_journalled = (
@@ -262,11 +269,11 @@ journalled_run (Adopt next ∷ actions) plan last w v r p = journalled_run actio
 
 pub journals_are_histories : JournalsAreHistories
 journals_are_histories plan actions last w r name =
-    (journalled_run actions plan last start w r (omega arith, λ n. nothing_known plan n map.empty (λ at. map.get-empty pair_cmp at))).1 name
+    (journalled_run actions plan last start w r (omega arith, λ n. nothing_known plan n)).1 name
 
 pub time_is_bounded : TimeIsBounded
 time_is_bounded plan actions last w r =
-    (journalled_run actions plan last start w r (omega arith, λ n. nothing_known plan n map.empty (λ at. map.get-empty pair_cmp at))).0
+    (journalled_run actions plan last start w r (omega arith, λ n. nothing_known plan n)).0
 
 pub nothing_goes_back : NothingGoesBack
 nothing_goes_back plan actions mid v r more last w t =

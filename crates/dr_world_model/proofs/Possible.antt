@@ -1,11 +1,13 @@
 -- One store over one hop can happen.
-use Rattle.std.specs.Prelude.{◌≡◌, ◌≢◌, ℕ, ◌<◌, true, false, List, [], ◌∷◌, length, Contains, Some}
+use Rattle.std.specs.Prelude.{◌≡◌, ◌≢◌, ℕ, ◌<◌, Bool, true, false, cond, List, [], ◌∷◌, ◌++◌, length, Contains, None, Some}
 use Rattle.std.proofs.Common.{refl, sym, ap, subst, ◌∙◌, arith}
 use mathlib.Core.Logic.{inl, inr}
 use Rattle.std.specs.declared.cmp.Ordering.TheVariants.{Greater}
 use Rattle.std.specs.Ordering.{nat_cmp, eq_by_cmp}
 use Rattle.std.specs.FinMap as map
+use Rattle.std.specs.FinMap.{FinMap}
 use Rattle.std.specs.FinSet as set
+use Rattle.std.specs.FinSet.{FinSet}
 use Rattle.dr_base.specs.Texts.{Text, text_cmp}
 use Rattle.dr_route.specs.Routes.{local}
 use Rattle.dr_plan_model.specs.Networks.{Network}
@@ -17,22 +19,23 @@ use Rattle.dr_ledger.specs.declared.item.Instance.{Instance}
 use Rattle.dr_ledger.specs.declared.item.Outcome.TheVariants.{Status}
 use Rattle.dr_ledger.specs.declared.item.Progress.TheVariants.{Waiting, Done}
 use Rattle.dr_ledger.specs.Pairs.{pair_cmp}
-use Rattle.dr_ledger.specs.Books.{Book, Settling, empty_book, after, row_after}
-use Rattle.dr_ledger.specs.PlanRoutes.{plan_routing, targets}
-use Rattle.dr_ledger.specs.Replies.{IsAdmitted, IsNext, IsNoLater, arrival_line}
-use Rattle.dr_ledger.proofs.PlanRouting.{targets_are_sent_to}
+use Rattle.dr_ledger.specs.Books.{Book, Settling, Forgetting, empty_book, after, row_after}
+use Rattle.dr_ledger.specs.PlanRoutes.{plan_routing, targets, keeps}
+use Rattle.dr_ledger.specs.Replies.{IsAdmitted, IsNext, IsNoLater, IsOver, arrival_line}
+use Rattle.dr_ledger.proofs.PlanRouting.{nothing_kept_for_local, targets_are_sent_to}
 use Rattle.dr_world_model.specs.Worlds.{World, Link, Contexts, Stage, Asking, Answering, Open, Storing, Replying, start, same_text, with_book, with_armed, with_link}
-use Rattle.dr_world_model.specs.Steps.{AcceptsOffered, IsLink, others, others_of, asked}
+use Rattle.dr_world_model.specs.Steps.{AcceptsOffered, IsLink, NoneIsPending, others, others_of, asked, pending}
 use Rattle.dr_world_model.specs.Events.{HasNode}
-use Rattle.dr_world_model.specs.Runs.{Runs}
-use Rattle.dr_world_model.specs.Claims.{Brought}
-use Rattle.dr_world_model.specs.Laws.{one_store, IsStored, OneHopRuns}
-use Rattle.dr_ledger.proofs.Maps.{texts, text_pairs, same_or_not, get_new, got, ties_itself}
+use Rattle.dr_world_model.specs.Runs.{Action, Occurs, Adopt, Runs}
+use Rattle.dr_world_model.specs.Laws.{AForgettingRuns, IsBack, forgotten_and_back, one_store, IsStored, OneHopRuns}
+use Rattle.dr_ledger.proofs.Maps.{texts, text_pairs, same_or_not, get_new, got, ties_itself, filled_is}
 use Rattle.dr_world_model.proofs.Lookups.{numbers}
 use Rattle.dr_world_model.proofs.Counted.{others_are_counted}
 use Rattle.dr_world_model.proofs.Walking.{reached_on}
-use Rattle.dr_ledger.proofs.Growing.{rows_made, rows_from, settled_is}
-use Rattle.dr_world_model.proofs.Keeping.{arrived_new}
+use Rattle.dr_ledger.proofs.Growing.{inside, rows_made, rows_from, settled_is}
+use Rattle.dr_ledger.proofs.Overs.{forgettings_take_their_uid}
+use Rattle.dr_ledger.proofs.Since.{taken_now, taken_still}
+use Rattle.dr_world_model.proofs.Keeping.{Took, arrived_has, arrived_took}
 use Rattle.dr_world_model.proofs.Safety.{book_here, book_there}
 use Rattle.dr_world_model.proofs.AdoptionsKept.{empty_right, no_row}
 
@@ -51,6 +54,12 @@ is_done_after tries now = refl
 pub flow_of : (plan : Network) (site to : Text) (item : Instance) → Sends plan site local item.key to → IsEntry plan site item.key
 flow_of plan site to item (inl entered) = (to, entered.1)
 flow_of plan site to item (inr ruled) = absurd (no_rule_sends ruled.0.rules item.key to ruled.2)
+
+-- one run after another
+runs_on : (actions more : List Action) (plan mid last : Network) (w v u : World) → Runs plan w actions mid v → Runs mid v more last u → Runs plan w (actions ++ more) last u
+runs_on [] more plan mid last w v u r t = subst (λ (p : Network × World). Runs p.0 p.1 more last u) (λ j. (r.0 j, r.1 j)) t
+runs_on (Occurs event ∷ actions) more plan mid last w v u r t = (r.0, r.1, runs_on actions more plan mid last r.0 v u r.2 t)
+runs_on (Adopt next ∷ actions) more plan mid last w v u r t = (r.0, (r.1.0, r.1.1, runs_on actions more next mid last r.1.0 v u r.1.2 t))
 
 module _ (plan : Network) (s m : Text) (item : Instance) (accepted : Contexts) (here : HasNode plan s) (differ : s ≢ m) (sends : Sends plan s local item.key m)
     (offered : AcceptsOffered plan s m accepted) (taken : Accepts plan m s item.key.class item.key.syntax) where
@@ -123,7 +132,7 @@ module _ (plan : Network) (s m : Text) (item : Instance) (accepted : Contexts) (
   next = record {
     due = 0;
     row = ((0, row_there), omega arith);
-    has = (arrived_new plan s local item map.empty empty_book (empty_right plan s map.empty (λ at. map.get-empty pair_cmp at)) (admitted local s reached_s)).item_is;
+    has = arrived_has plan s local item empty_book empty_book (empty_right plan s empty_book) (admitted local s reached_s);
     least = λ uid d h. elim (rows_from (targets plan s local item.key) map.empty item.uid (uid, m) (Waiting h.0.0 d) h.0.1) [
       | inl was ↦ absurd (no_row (Waiting h.0.0 d) (sym (map.get-empty pair_cmp (uid, m)) ∙ was))
       | inr is ↦
@@ -159,9 +168,8 @@ module _ (plan : Network) (s m : Text) (item : Instance) (accepted : Contexts) (
   at : (w : World) (x : Link) → IsLink (with_link w 1 x) 1 x
   at w x = get_new numbers w.links 1 x
 
-  pub one_hop : (w : World) × Runs plan start (one_store s m item accepted) plan w × IsStored w s m item
-  one_hop = (
-    w7,
+  stored_run : Runs plan start (one_store s m item accepted) plan w7 × IsStored w7 s m item
+  stored_run = (
     ((
       w1,
       (
@@ -242,10 +250,134 @@ module _ (plan : Network) (s m : Text) (item : Instance) (accepted : Contexts) (
     (
       ap (λ (b : Book). map.get b.rows (item.uid, m)) (book_here w6.books s b3 ∙ settled_is item.uid m (Status 0) 0 0 0 (w6.books s) (ap (λ (b : Book). map.get b.rows (item.uid, m)) here_6 ∙ row_there))
           ∙ (get_new text_pairs (w6.books s).rows (item.uid, m) (row_after 0 (Status 0) 0) ∙ ap Some (is_done_after 0 0)),
-      subst (λ (b : Book). Brought b s item) (sym (book_there w6.books s b3 m (apart m s (λ e. differ (sym e))) ∙ book_here w5.books m (brought s m)))
-          (arrived_new plan m s item map.empty empty_book (empty_right plan m map.empty (λ at. map.get-empty pair_cmp at)) (admitted s m reached_m)),
+      subst (λ (b : Book). Took b s item) (sym (book_there w6.books s b3 m (apart m s (λ e. differ (sym e))) ∙ book_here w5.books m (brought s m)))
+          (arrived_took plan m s item empty_book empty_book (empty_right plan m empty_book) (admitted s m reached_m)),
     ),
   )
 
+  pub one_hop : (w : World) × Runs plan start (one_store s m item accepted) plan w × IsStored w s m item
+  one_hop = (w7, stored_run.0, stored_run.1)
+
+  -- ---- it is forgotten, and comes again
+  module _ (other : Instance) (uid : other.uid ≡ item.uid) (entered : IsReached plan other.key local s) (alone_target : (dest : Text) → Sends plan s local item.key dest → dest ≡ m) where
+    abbrev stored : Book
+    stored = after (Settling item.uid m (Status 0) 0) (brought local s)
+
+    abbrev f8 : Book
+    f8 = after (Forgetting item.uid) (w7.books s)
+
+    abbrev w8 : World
+    w8 = with_armed (with_book w7 s f8) set.empty
+
+    abbrev g9 : Book
+    g9 = after (arrival_line (plan_routing plan s) local other) (w8.books s)
+
+    abbrev w9 : World
+    w9 = with_armed (with_book w8 s g9) set.empty
+
+    here_7 : w7.books s ≡ stored
+    here_7 = book_here w6.books s b3 ∙ ap (after (Settling item.uid m (Status 0) 0)) here_6
+
+    here_8 : w8.books s ≡ f8
+    here_8 = book_here w7.books s f8
+
+    abbrev noted : IsAdmitted (plan_routing plan s) local item empty_book
+    noted = admitted local s reached_s
+
+    stored_over : IsOver stored item.uid
+    stored_over = record {
+      there = (item, arrived_has plan s local item empty_book empty_book (empty_right plan s empty_book) noted);
+      unkept = (let kept : Bool → FinSet text_cmp = λ k. cond k (set.insert set.empty item.uid) set.empty in ap (λ (k : Bool). set.contains (kept k) item.uid) (nothing_kept_for_local plan s item.key) ∙ set.contains-empty text_cmp item.uid);
+      done = λ dest row h.
+          let P : Book → Type 0 = λ b. map.get b.rows (item.uid, dest) ≡ Some row in
+          elim (got text_pairs (brought local s).rows (item.uid, m) (row_after 0 (Status 0) 0) (item.uid, dest) row (subst P (settled_is item.uid m (Status 0) 0 0 0 (brought local s) row_there) h)) [
+            | inl e ↦ e.1 ∙ is_done_after 0 0
+            | inr n ↦ elim (rows_from (targets plan s local item.key) map.empty item.uid (item.uid, dest) row n.1) [
+              | inl was ↦ absurd (no_row row (sym (map.get-empty pair_cmp (item.uid, dest)) ∙ was))
+              | inr made ↦ (
+                  let same : dest ≡ m = alone_target dest ((targets_are_sent_to plan s local item.key dest).0 made.1) in
+                  let Q : Text → Type 0 = λ d. eq_by_cmp pair_cmp (item.uid, d) (item.uid, m) ≡ false in
+                  absurd (let e : true ≡ false = sym (ties_itself text_pairs (item.uid, m)) ∙ subst Q same n.0 in cc e)
+                  )
+            ]
+          ];
+    }
+
+    over_7 : IsOver (w7.books s) item.uid
+    over_7 = subst (λ b. IsOver b item.uid) (sym here_7) stored_over
+
+    -- link 1 is the only one
+    abbrev Only : FinMap nat_cmp Link → Type 0
+    Only links = (number : ℕ) (link : Link) → map.get links number ≡ Some link → number ≡ 1
+
+    only_with : (links : FinMap nat_cmp Link) (x : Link) → Only links → Only (map.insert links 1 x)
+    only_with links x only number link h = elim (got numbers links 1 x number link h) [ inl e ↦ e.0 | inr n ↦ only number link n.1 ]
+
+    only_7 : Only w7.links
+    only_7 =
+        let none : Only w1.links = λ number link h. absurd (no_row link (sym (map.get-empty nat_cmp number) ∙ h)) in
+        only_with w6.links _ (only_with w5.links _ (only_with w4.links _ (only_with w3.links _ (only_with w2.links _ (only_with w1.links _ none)))))
+
+    none_pending : NoneIsPending w7 s item.uid
+    none_pending number link i is_link caller on p same =
+        let one = only_7 number link is_link in
+        let P : ℕ → Type 0 = λ n. map.get w7.links n ≡ Some link in
+        let link_is : l (Open accepted) ≡ link = inside (l (Open accepted)) link (sym (at v7 (l (Open accepted))) ∙ subst P one is_link) in
+        let e : None ≡ Some i = ap (λ (x : Link). pending x.stage) link_is ∙ p in
+        let none : ⊥ = cc in none
+
+    admitted_8 : IsAdmitted (plan_routing plan s) local other (w8.books s)
+    admitted_8 = record {
+      line = entered;
+      same = λ held h. absurd (no_row held (sym (forgettings_take_their_uid item.uid (w7.books s)).gone ∙ (ap (λ u. map.get f8.items u) (sym uid) ∙ (ap (λ (b : Book). map.get b.items other.uid) (sym here_8) ∙ h))));
+    }
+
+    first_8 : set.contains (w8.books s).arrivals (local, other.uid) ≡ false
+    first_8 = ap (λ (b : Book). set.contains b.arrivals (local, other.uid)) here_8
+        ∙ (ap (λ u. set.contains f8.arrivals (local, u)) uid ∙ (forgettings_take_their_uid item.uid (w7.books s)).no_arrival local)
+
+    forgotten_and_taken : Runs plan w7 (forgotten_and_back s item other) plan w9
+    forgotten_and_taken = (
+      w8,
+      (here, none_pending, record { book = f8; call = (over_7, refl); called = record { armed = set.empty; store = (set.contains-empty text_cmp s, refl); is = refl } }),
+      (
+        w9,
+        (here, record { book = g9; call = (admitted_8, first_8, refl); called = record { armed = set.empty; store = (set.contains-empty text_cmp s, refl); is = refl } }),
+        (refl, refl),
+      ),
+    )
+
+    here_9 : w9.books s ≡ g9
+    here_9 = book_here w8.books s g9
+
+    took_item : Took g9 local item
+    took_item =
+        let P : Book → Type 0 = λ b. Took b local item in
+        let t7 : Took (w7.books s) local item = subst P (sym here_7)
+        (taken_still (brought local s).lines (Settling item.uid m (Status 0) 0) local item (λ since. refl) (arrived_took plan s local item empty_book empty_book (empty_right plan s empty_book) noted)) in
+        let t8 : Took (w8.books s) local item = subst P (sym here_8) (taken_still (w7.books s).lines (Forgetting item.uid) local item (λ since. refl) t7) in
+        taken_still (w8.books s).lines (arrival_line (plan_routing plan s) local other) local item (λ since. refl) t8
+
+    took_other : Took g9 local other
+    took_other = taken_now (w8.books s).lines (arrival_line (plan_routing plan s) local other) local other (λ since. refl) (inl (targets plan s local other.key, keeps plan s local other.key, refl))
+
+    there_9 : w9.books m ≡ w7.books m
+    there_9 = book_there w8.books s g9 m (apart m s (λ e. differ (sym e))) ∙ book_there w7.books s f8 m (apart m s (λ e. differ (sym e)))
+
+    pub again : (w : World) × Runs plan start (one_store s m item accepted ++ forgotten_and_back s item other) plan w × IsBack w s m item other
+    again = (
+      w9,
+      runs_on (one_store s m item accepted) (forgotten_and_back s item other) plan plan plan start w7 w9 stored_run.0 forgotten_and_taken,
+      record {
+        had = subst (λ (b : Book). Took b local item) (sym here_9) took_item;
+        has_other = subst (λ (b : Book). map.get b.items other.uid ≡ Some other) (sym here_9) (filled_is texts (w8.books s).items other.uid other admitted_8.same);
+        had_other = subst (λ (b : Book). Took b local other) (sym here_9) took_other;
+        passed_on = subst (λ (b : Book). Took b s item) (sym there_9) stored_run.1.1;
+      },
+    )
+
 pub one_hop_runs : OneHopRuns
 one_hop_runs plan from to item accepted here differ sends offered taken = one_hop plan from to item accepted here differ sends offered taken
+
+pub a_forgetting_runs : AForgettingRuns
+a_forgetting_runs plan from to item other accepted here differ sends only offered taken uid entered = again plan from to item accepted here differ sends offered taken other uid entered only

@@ -15,17 +15,16 @@ use Rattle.dr_ledger.specs.declared.item.Instance.{Instance}
 use Rattle.dr_ledger.specs.declared.item.Outcome.{Outcome}
 use Rattle.dr_ledger.specs.declared.item.Outcome.TheVariants.{Status, Broken, NoContext}
 use Rattle.dr_ledger.specs.declared.item.Arrived.TheVariants.{Again}
-use Rattle.dr_ledger.specs.Books.{Book, Repeat, Settling, Requeuing, after, empty_book}
+use Rattle.dr_ledger.specs.Books.{Book, Repeat, Settling, Requeuing, Forgetting, after, empty_book}
 use Rattle.dr_ledger.specs.PlanRoutes.{plan_routing}
 use Rattle.dr_ledger.specs.Replies.{IsAdmitted, IsWaiting, arrival_line}
 use Rattle.dr_world_model.specs.Worlds.{World, Link, Contexts, Storing, Replying, start, with_book, with_armed, with_link, without_caller, at_stage}
 use Rattle.dr_world_model.specs.Calls.{Reply, Arriving, Settlement, status_of}
 use Rattle.dr_world_model.specs.Steps.{Leaves, pending, SettlesPending, after_settling}
 use Rattle.dr_world_model.specs.Events.{Receive}
-use Rattle.dr_world_model.specs.Claims.{Brought}
 use Rattle.dr_world_model.specs.Happening.{TakesHappen, OpeningsHappen, StoresHappen, RefusalsHappen, EndingsHappen, EventsHappen, ARefusalIsSpent, CanHappen, Writes, IsCallers, IsReceivers}
 use Rattle.dr_ledger.proofs.Maps.{texts, contains_new, ties_itself}
-use Rattle.dr_world_model.proofs.Keeping.{IsRight, arrived_new}
+use Rattle.dr_world_model.proofs.Keeping.{IsRight, Took, arrived_took}
 use Rattle.dr_ledger.specs.Pairs.{pair_cmp}
 use Rattle.dr_world_model.proofs.Safety.{book_here}
 use Rattle.dr_world_model.proofs.AdoptionsKept.{empty_right, no_row}
@@ -219,6 +218,8 @@ module _ (plan : Network) (w : World) where
     );
     requeue = λ node uid dest is.
         (unwritten node, (is, record { book = w.books node; call = refl; called = record { armed = w.armed; store = inl refl; is = refl } }));
+    forget = λ node uid is none.
+        (unwritten node, (is, none, record { book = w.books node; call = refl; called = record { armed = w.armed; store = inl refl; is = refl } }));
   }
 
   -- an idle caller leaves
@@ -257,6 +258,11 @@ module _ (plan : Network) (w : World) where
         (with_armed (with_book w node book) w.armed, (is, record { book = book; call = (held, refl); called = record { armed = w.armed; store = (writes, refl); is = refl } }));
     requeue_not_held = λ node uid dest is held_not.
         (unwritten node, (is, record { book = w.books node; call = (held_not, refl); called = record { armed = w.armed; store = refl; is = refl } }));
+    forget = λ node uid is writes none over.
+        let book = after (Forgetting uid) (w.books node) in
+        (with_armed (with_book w node book) w.armed, (is, none, record { book = book; call = (over, refl); called = record { armed = w.armed; store = (writes, refl); is = refl } }));
+    forget_not_over = λ node uid is none over_not.
+        (unwritten node, (is, none, record { book = w.books node; call = (over_not, refl); called = record { armed = w.armed; store = refl; is = refl } }));
     refuse = λ node is. (_, (is, refl));
     tick = λ ms. (_, refl);
   }
@@ -280,7 +286,7 @@ a_refusal_is_spent plan node to item here sends =
     let admits : (b : Book) → b ≡ empty_book → IsAdmitted (plan_routing plan node) local item b = λ b e.
     record { line = reached; same = λ held h. absurd (no_row held (sym (map.get-empty text_cmp item.uid) ∙ (ap (λ (c : Book). map.get c.items item.uid) (sym e) ∙ h))) } in
     let admitted = admits (w2.books node) same in
-    let right = subst (λ b. IsRight plan node map.empty b) (sym same) (empty_right plan node map.empty (λ at. map.get-empty pair_cmp at)) in (
+    let right = subst (λ b. IsRight plan node empty_book b) (sym same) (empty_right plan node empty_book) in (
       w3,
       ((
         w1,
@@ -310,5 +316,5 @@ a_refusal_is_spent plan node to item here sends =
         ),
       )
           ),
-      subst (λ (b : Book). Brought b local item) (sym (book_here w2.books node book)) (arrived_new plan node local item map.empty (w2.books node) right admitted),
+      subst (λ (b : Book). Took b local item) (sym (book_here w2.books node book)) (arrived_took plan node local item empty_book (w2.books node) right admitted),
     )

@@ -241,7 +241,7 @@ adoptions_happen plan w next may = (
   record {
     time = w.time;
     books = λ name. adopted_book plan name (node_or_not plan name) (w.books name);
-    carried_over = λ name. not_done (w.books name).rows;
+    stood = λ name. adopted_book plan name (node_or_not plan name) (w.books name);
     armed = w.armed;
     links = map.empty;
     opened = w.opened;
@@ -250,7 +250,7 @@ adoptions_happen plan w next may = (
     may = may;
     books = λ name is. of_node plan name (node_or_not plan name) (w.books name) is;
     joined = λ name stranger. of_stranger plan name (node_or_not plan name) (w.books name) stranger;
-    carried_over = λ name. refl;
+    stood = refl;
     links = refl;
     time = refl;
     armed = refl;

@@ -1,64 +1,82 @@
 -- What holds of each world that events reach, and how one changed book or link keeps it.
-use Rattle.std.specs.Prelude.{◌≡◌, ℕ, ◌⊎◌, Bool, false, cond, Some}
+use Rattle.std.specs.Prelude.{◌≡◌, ℕ, ◌⊎◌, Bool, true, false, cond, Contains, Option, None, Some}
 use Rattle.std.proofs.Common.{refl, sym, ap, subst, ◌∙◌}
 use mathlib.Core.Logic.{inl, inr}
 use Rattle.std.specs.FinMap as map
-use Rattle.std.specs.FinMap.{FinMap}
 use Rattle.dr_base.specs.Texts.{Text}
 use Rattle.dr_route.specs.Routes.{local}
 use Rattle.dr_plan_model.specs.Networks.{Network}
+use Rattle.dr_plan_model.specs.Walks.{Goes, Sends}
 use Rattle.dr_ledger.specs.declared.item.Instance.{Instance}
 use Rattle.dr_ledger.specs.declared.item.Progress.{Progress}
 use Rattle.dr_ledger.specs.declared.item.Progress.TheVariants.{Done}
-use Rattle.dr_ledger.specs.Pairs.{pair_cmp}
-use Rattle.dr_ledger.specs.Books.{Book}
+use Rattle.dr_ledger.specs.Books.{Book, Line, Fold}
+use Rattle.dr_ledger.specs.OneNode.{HasSucceededSince}
 use Rattle.dr_world_model.specs.Worlds.{World, Link, Stage, Asking, Answering, Rejecting, Open, Storing, Replying, Gone, same_text, books_with, with_book, with_link}
-use Rattle.dr_world_model.specs.Claims.{Brought, Has, HasArrival, WasCarriedOver, HasSource, IsFairStatus, CoversHop}
-use Rattle.dr_world_model.specs.Steps.{IsLink}
+use Rattle.dr_world_model.specs.Claims.{Has, HadArrival, IsToSend, WasCarriedOver, HasSource, IsFairLine, IsFairStatus, CoversHop}
+use Rattle.dr_world_model.specs.Steps.{IsLink, pending}
 use Rattle.dr_ledger.proofs.Maps.{texts, same_or_not, ties_itself, got}
 use Rattle.dr_world_model.proofs.Lookups.{numbers}
-use Rattle.dr_world_model.proofs.Keeping.{IsRight, Grows, grows_same, grows_on, brought_still}
+use Rattle.dr_world_model.proofs.Keeping.{IsRight, Grows, GoesOn, Took, grows_same, grows_on}
 
--- a node has the item and a row for it, in whatever state
-pub record IsSent (w : World) (name to : Text) (item : Instance) : Type 0 where
-  pub has : Has w name item
-  pub row : (row : Progress) × (map.get (w.books name).rows (item.uid, to) ≡ Some row)
+-- the key goes on from the node to the next, and the item came by a walk that ends there
+pub record IsSent (plan : Network) (w : World) (name to : Text) (item : Instance) : Type 0 where
+  pub goes : Goes plan item.key name to
+  pub source : HasSource plan w name to item
 
-abbrev pub IsFairStage : Network → World → Text → Text → Stage → Type 0
-IsFairStage plan w caller receiver Asking = Unit {0}
-IsFairStage plan w caller receiver Rejecting = Unit {0}
-IsFairStage plan w caller receiver Gone = Unit {0}
-IsFairStage plan w caller receiver (Answering accepted) = CoversHop plan caller receiver accepted
-IsFairStage plan w caller receiver (Open accepted) = CoversHop plan caller receiver accepted
-IsFairStage plan w caller receiver (Storing accepted item) = CoversHop plan caller receiver accepted × IsSent w caller receiver item
-IsFairStage plan w caller receiver (Replying accepted item status) =
-    CoversHop plan caller receiver accepted × IsSent w caller receiver item × IsFairStatus status × (status ≡ 0 → HasArrival w receiver caller item)
+-- a caller that is connected still has what it has pending
+abbrev pub HasStill : World → Text → Bool → Instance → Type 0
+HasStill w caller connected item = connected ≡ true → Has w caller item
+
+abbrev pub IsFairStage : Network → World → Text → Text → Bool → Stage → Type 0
+IsFairStage plan w caller receiver connected Asking = Unit {0}
+IsFairStage plan w caller receiver connected Rejecting = Unit {0}
+IsFairStage plan w caller receiver connected Gone = Unit {0}
+IsFairStage plan w caller receiver connected (Answering accepted) = CoversHop plan caller receiver accepted
+IsFairStage plan w caller receiver connected (Open accepted) = CoversHop plan caller receiver accepted
+IsFairStage plan w caller receiver connected (Storing accepted item) = CoversHop plan caller receiver accepted × IsSent plan w caller receiver item × HasStill w caller connected item
+IsFairStage plan w caller receiver connected (Replying accepted item status) =
+    CoversHop plan caller receiver accepted × IsSent plan w caller receiver item × HasStill w caller connected item × IsFairStatus status × (status ≡ 0 → HadArrival w receiver caller item)
 
 abbrev pub IsFairLink : Network → World → Link → Type 0
-IsFairLink plan w link = IsFairStage plan w link.caller link.receiver link.stage
+IsFairLink plan w link = IsFairStage plan w link.caller link.receiver link.caller_connected link.stage
+
+-- the item is still queued at the node for the next one, or that one had it
+abbrev pub IsPassedOn : World → Text → Instance → Text → Type 0
+IsPassedOn w name item to = GoesOn (w.books name) item to ⊎ HadArrival w to name item
 
 -- what each event keeps
 pub record IsSafe (plan : Network) (w : World) : Type 0 where
-  pub books : (name : Text) → IsRight plan name (w.carried_over name) (w.books name)
-  pub sources : (name caller : Text) (item : Instance) → HasArrival w name caller item → HasSource plan w caller name item
-  pub done : (name to : Text) (item : Instance) → map.get (w.books name).rows (item.uid, to) ≡ Some Done → Has w name item → HasArrival w to name item
+  pub books : (name : Text) → IsRight plan name (w.stood name) (w.books name)
+  pub lines : (name : Text) (line : Line) → Contains (w.books name).lines line → IsFairLine line
+  pub sources : (name caller : Text) (item : Instance) → HadArrival w name caller item → HasSource plan w caller name item
+  pub sent : (name caller to : Text) (item : Instance) → HadArrival w name caller item → Sends plan name caller item.key to → IsPassedOn w name item to
+  pub carried : (name to : Text) (item : Instance) → WasCarriedOver w name item to → Goes plan item.key name to × IsPassedOn w name item to
+  pub done : (name to : Text) (item : Instance) → map.get (w.books name).rows (item.uid, to) ≡ Some Done → Has w name item → HadArrival w to name item
+  pub folds : (name : Text) → w.books name ≡ Fold (w.books name).lines
+  pub answered : (name to : Text) (item : Instance) → HasSucceededSince (w.books name).lines item to → HadArrival w to name item
   pub links : (number : ℕ) (link : Link) → map.get w.links number ≡ Some link → IsFairLink plan w link
 
--- nothing that was there is lost
+-- what is kept and what was acknowledged stays so
 pub record WorldGrows (old new : World) : Type 0 where
   pub books : (name : Text) → Grows (old.books name) (new.books name)
-  pub carried_over : new.carried_over ≡ old.carried_over
+  pub stood : new.stood ≡ old.stood
 
 pub world_same : (w : World) → WorldGrows w w
-world_same w = record { books = λ name. grows_same (w.books name); carried_over = refl }
+world_same w = record { books = λ name. grows_same (w.books name); stood = refl }
 
 pub world_on : (a b c : World) → WorldGrows a b → WorldGrows b c → WorldGrows a c
-world_on a b c f g = record { books = λ name. grows_on (a.books name) (b.books name) (c.books name) (f.books name) (g.books name); carried_over = g.carried_over ∙ f.carried_over }
+world_on a b c f g = record { books = λ name. grows_on (a.books name) (b.books name) (c.books name) (f.books name) (g.books name); stood = g.stood ∙ f.stood }
 
-stood_still : (old new : World) (name uid to : Text) → WorldGrows old new → WasCarriedOver old name uid to → WasCarriedOver new name uid to
-stood_still old new name uid to g h =
-    let P : (Text → FinMap pair_cmp Progress) → Type 0 = λ carried_over. (row : Progress) × (map.get (carried_over name) (uid, to) ≡ Some row) in
-    subst P (sym g.carried_over) h
+stood_still : (old new : World) (name to : Text) (item : Instance) → WorldGrows old new → WasCarriedOver old name item to → WasCarriedOver new name item to
+stood_still old new name to item g h =
+    let P : (Text → Book) → Type 0 = λ stood. IsToSend (stood name) item to in
+    subst P (sym g.stood) h
+
+stood_before : (old new : World) (name to : Text) (item : Instance) → WorldGrows old new → WasCarriedOver new name item to → WasCarriedOver old name item to
+stood_before old new name to item g h =
+    let P : (Text → Book) → Type 0 = λ stood. IsToSend (stood name) item to in
+    subst P g.stood h
 
 pub source_still : (plan : Network) (old new : World) (caller name : Text) (item : Instance) → WorldGrows old new → HasSource plan old caller name item → HasSource plan new caller name item
 source_still plan old new caller name item g s = record {
@@ -68,23 +86,30 @@ source_still plan old new caller name item g s = record {
   walk = s.walk;
   last_is = s.last_is;
   origin = elim s.origin [
-    | inl a ↦ inl (a.0, brought_still _ _ local item (g.books s.site) a.1)
-    | inr r ↦ inr (stood_still old new s.first item.uid s.site g r.0, (g.books s.first).items item.uid item r.1)
+    | inl a ↦ inl (a.0, (g.books s.site).took local item a.1)
+    | inr r ↦ inr (stood_still old new s.first s.site item g r)
   ];
 }
 
-sent_still : (old new : World) (name to : Text) (item : Instance) → WorldGrows old new → IsSent old name to item → IsSent new name to item
-sent_still old new name to item g s = record { has = (g.books name).items item.uid item s.has; row = (g.books name).rows (item.uid, to) s.row.0 s.row.1 }
+pub sent_still : (plan : Network) (old new : World) (name to : Text) (item : Instance) → WorldGrows old new → IsSent plan old name to item → IsSent plan new name to item
+sent_still plan old new name to item g s = record { goes = s.goes; source = source_still plan old new name to item g s.source }
 
-pub stage_still : (plan : Network) (old new : World) (caller receiver : Text) (stage : Stage) → WorldGrows old new → IsFairStage plan old caller receiver stage → IsFairStage plan new caller receiver stage
-stage_still plan old new caller receiver Asking g h = tt
-stage_still plan old new caller receiver Rejecting g h = tt
-stage_still plan old new caller receiver Gone g h = tt
-stage_still plan old new caller receiver (Answering accepted) g h = h
-stage_still plan old new caller receiver (Open accepted) g h = h
-stage_still plan old new caller receiver (Storing accepted item) g h = (h.0, sent_still old new caller receiver item g h.1)
-stage_still plan old new caller receiver (Replying accepted item status) g h =
-    (h.0, sent_still old new caller receiver item g h.1, h.2, λ z. brought_still _ _ caller item (g.books receiver) (h.3 z))
+-- a stage stays fair, where a connected caller still has what it has pending
+pub stage_still : (plan : Network) (old new : World) (caller receiver : Text) (connected : Bool) (stage : Stage) → WorldGrows old new →
+    ((item : Instance) → connected ≡ true → pending stage ≡ Some item → Has old caller item → Has new caller item) →
+    IsFairStage plan old caller receiver connected stage → IsFairStage plan new caller receiver connected stage
+stage_still plan old new caller receiver connected Asking g has h = tt
+stage_still plan old new caller receiver connected Rejecting g has h = tt
+stage_still plan old new caller receiver connected Gone g has h = tt
+stage_still plan old new caller receiver connected (Answering accepted) g has h = h
+stage_still plan old new caller receiver connected (Open accepted) g has h = h
+stage_still plan old new caller receiver connected (Storing accepted item) g has h = (h.0, sent_still plan old new caller receiver item g h.1, λ on. has item on refl (h.2 on))
+stage_still plan old new caller receiver connected (Replying accepted item status) g has h =
+    (h.0, sent_still plan old new caller receiver item g h.1, (λ on. has item on refl (h.2 on)), h.3, λ z. (g.books receiver).took caller item (h.4 z))
+
+-- every node still has what it has pending
+abbrev pub KeepsPending : World → World → Type 0
+KeepsPending old new = (number : ℕ) (link : Link) (item : Instance) → IsLink old number link → link.caller_connected ≡ true → pending link.stage ≡ Some item → Has old link.caller item → Has new link.caller item
 
 -- ---- one book changes
 pub book_here : (books : Text → Book) (name : Text) (b : Book) → books_with books name b name ≡ b
@@ -102,51 +127,113 @@ module _ (w : World) (name : Text) (b : Book) where
     | inr f ↦ subst (P n) (sym (book_there w.books name b n f)) (there n)
   ]
 
-  module _ (plan : Network) (safe : IsSafe plan w) (grows : Grows (w.books name) b) (right : IsRight plan name (w.carried_over name) b) where
+  module _ (plan : Network) (safe : IsSafe plan w) (grows : Grows (w.books name) b) (right : IsRight plan name (w.stood name) b) where
+    abbrev put : World
+    put = with_book w name b
+
     pub put_grows : WorldGrows w (with_book w name b)
-    put_grows = record { books = each_book (λ n x. Grows (w.books n) x) grows (λ n. grows_same (w.books n)); carried_over = refl }
+    put_grows = record { books = each_book (λ n x. Grows (w.books n) x) grows (λ n. grows_same (w.books n)); stood = refl }
+
+    -- what was passed on is so still
+    abbrev PassesOn : Type 0
+    PassesOn = (item : Instance) (to : Text) → GoesOn (w.books name) item to → GoesOn b item to ⊎ HadArrival w to name item
+
+    passed_here : PassesOn → (item : Instance) (to : Text) → IsPassedOn w name item to → GoesOn b item to ⊎ HadArrival put to name item
+    passed_here on item to h = elim h [
+      | inl g ↦ elim (on item to g) [ inl still ↦ inl still | inr had ↦ inr ((put_grows.books to).took name item had) ]
+      | inr had ↦ inr ((put_grows.books to).took name item had)
+    ]
+
+    passed_there : (n : Text) (item : Instance) (to : Text) → IsPassedOn w n item to → GoesOn (w.books n) item to ⊎ HadArrival put to n item
+    passed_there n item to h = elim h [ inl g ↦ inl g | inr had ↦ inr ((put_grows.books to).took n item had) ]
 
     pub put_book :
-        ((caller : Text) (item : Instance) → Brought b caller item → Brought (w.books name) caller item ⊎ HasSource plan (with_book w name b) caller name item) →
+        ((caller : Text) (item : Instance) → Took b caller item → Took (w.books name) caller item
+        ⊎ (HasSource plan put caller name item × ((to : Text) → Sends plan name caller item.key to → GoesOn b item to ⊎ HadArrival w to name item))) →
+        PassesOn →
         ((to : Text) (item : Instance) → map.get b.rows (item.uid, to) ≡ Some Done → map.get b.items item.uid ≡ Some item →
-        ((map.get (w.books name).rows (item.uid, to) ≡ Some Done) × Has w name item) ⊎ HasArrival w to name item) →
-        IsSafe plan (with_book w name b)
-    put_book arrivals dones = record {
-      books = each_book (λ n x. IsRight plan n (w.carried_over n) x) right safe.books;
-      sources = each_book (λ n x. (caller : Text) (item : Instance) → Brought x caller item → HasSource plan (with_book w name b) caller n item)
-          (λ caller item h. elim (arrivals caller item h) [
+        ((map.get (w.books name).rows (item.uid, to) ≡ Some Done) × Has w name item) ⊎ HadArrival w to name item) →
+        KeepsPending w put →
+        ((line : Line) → Contains b.lines line → Contains (w.books name).lines line ⊎ IsFairLine line) →
+        b ≡ Fold b.lines → ((to : Text) (item : Instance) → HasSucceededSince b.lines item to → HasSucceededSince (w.books name).lines item to ⊎ HadArrival w to name item) →
+        IsSafe plan put
+    put_book news on dones pends fair fold successes = record {
+      folds = each_book (λ n x. x ≡ Fold x.lines) fold safe.folds;
+      answered = each_book (λ n x. (to : Text) (item : Instance) → HasSucceededSince x.lines item to → HadArrival put to n item)
+          (λ to item h. elim (successes to item h) [
+            | inl was ↦ (put_grows.books to).took name item (safe.answered name to item was)
+            | inr had ↦ (put_grows.books to).took name item had
+          ])
+          (λ n to item h. (put_grows.books to).took n item (safe.answered n to item h));
+      lines = each_book (λ n x. (line : Line) → Contains x.lines line → IsFairLine line) (λ line h. elim (fair line h) [ inl was ↦ safe.lines name line was | inr is ↦ is ]) safe.lines;
+      books = each_book (λ n x. IsRight plan n (w.stood n) x) right safe.books;
+      sources = each_book (λ n x. (caller : Text) (item : Instance) → Took x caller item → HasSource plan put caller n item)
+          (λ caller item h. elim (news caller item h) [
             | inl was ↦ source_still plan w _ caller name item put_grows (safe.sources name caller item was)
-            | inr s ↦ s
+            | inr s ↦ s.0
           ])
           (λ n caller item h. source_still plan w _ caller n item put_grows (safe.sources n caller item h));
-      done = each_book (λ n x. (to : Text) (item : Instance) → map.get x.rows (item.uid, to) ≡ Some Done → map.get x.items item.uid ≡ Some item → HasArrival (with_book w name b) to n item)
-          (λ to item h i. elim (dones to item h i) [
-            | inl was ↦ brought_still _ _ name item (put_grows.books to) (safe.done name to item was.0 was.1)
-            | inr a ↦ brought_still _ _ name item (put_grows.books to) a
+      sent = each_book (λ n x. (caller to : Text) (item : Instance) → Took x caller item → Sends plan n caller item.key to → GoesOn x item to ⊎ HadArrival put to n item)
+          (λ caller to item h s. elim (news caller item h) [
+            | inl was ↦ passed_here on item to (safe.sent name caller to item was s)
+            | inr new ↦ elim (new.1 to s) [ inl g ↦ inl g | inr had ↦ inr ((put_grows.books to).took name item had) ]
           ])
-          (λ n to item h i. brought_still _ _ n item (put_grows.books to) (safe.done n to item h i));
-      links = λ number link h. stage_still plan w _ link.caller link.receiver link.stage put_grows (safe.links number link h);
+          (λ n caller to item h s. passed_there n item to (safe.sent n caller to item h s));
+      carried = each_book (λ n x. (to : Text) (item : Instance) → WasCarriedOver w n item to → Goes plan item.key n to × (GoesOn x item to ⊎ HadArrival put to n item))
+          (λ to item h. (let c = safe.carried name to item h in (c.0, passed_here on item to c.1)))
+          (λ n to item h. (let c = safe.carried n to item h in (c.0, passed_there n item to c.1)));
+      done = each_book (λ n x. (to : Text) (item : Instance) → map.get x.rows (item.uid, to) ≡ Some Done → map.get x.items item.uid ≡ Some item → HadArrival put to n item)
+          (λ to item h i. elim (dones to item h i) [
+            | inl was ↦ (put_grows.books to).took name item (safe.done name to item was.0 was.1)
+            | inr a ↦ (put_grows.books to).took name item a
+          ])
+          (λ n to item h i. (put_grows.books to).took n item (safe.done n to item h i));
+      links = λ number link h. stage_still plan w put link.caller link.receiver link.caller_connected link.stage put_grows
+          (λ item c p had. pends number link item h c p had) (safe.links number link h);
     }
 
+    -- where the node has all that it had, it has what it has pending
+    pub pends_by : ((item : Instance) → map.get (w.books name).items item.uid ≡ Some item → map.get b.items item.uid ≡ Some item) → KeepsPending w put
+    pends_by holds number link item at c p had = elim (same_or_not texts link.caller name) [
+      | inr f ↦ (let P : Book → Type 0 = λ x. map.get x.items item.uid ≡ Some item in subst P (sym (book_there w.books name b link.caller f)) had)
+      | inl e ↦ (
+          let P : Book → Type 0 = λ x. map.get x.items item.uid ≡ Some item in
+          let Q : Text → Type 0 = λ n. map.get (w.books n).items item.uid ≡ Some item in
+          let R : Text → Type 0 = λ n. Has put n item in
+          subst R (sym e) (subst P (sym (book_here w.books name b)) (holds item (subst Q e had)))
+          )
+    ]
+
 -- ---- a world with the same books and fair links
-pub same_grows : (old new : World) → new.books ≡ old.books → new.carried_over ≡ old.carried_over → WorldGrows old new
+pub same_grows : (old new : World) → new.books ≡ old.books → new.stood ≡ old.stood → WorldGrows old new
 same_grows old new same stood =
     let P : (Text → Book) → Type 0 = λ books. (name : Text) → Grows (old.books name) (books name) in
-    record { books = subst P (sym same) (λ name. grows_same (old.books name)); carried_over = stood }
+    record { books = subst P (sym same) (λ name. grows_same (old.books name)); stood = stood }
 
-pub same_books : (plan : Network) (old new : World) → IsSafe plan old → new.books ≡ old.books → new.carried_over ≡ old.carried_over →
+-- the links of the new world are fair in the old one
+pub same_books : (plan : Network) (old new : World) → IsSafe plan old → new.books ≡ old.books → new.stood ≡ old.stood →
     ((number : ℕ) (link : Link) → IsLink new number link → IsFairLink plan old link) → IsSafe plan new
 same_books plan old new safe same stood links =
     let g = same_grows old new same stood in
-    let P : (Text → Book) → Type 0 = λ books. (name : Text) → IsRight plan name (new.carried_over name) (books name) in
-    let Q : (Text → FinMap pair_cmp Progress) → Type 0 = λ carried_over. (name : Text) → IsRight plan name (carried_over name) (old.books name) in
+    let P : (Text → Book) → (Text → Book) → Type 0 = λ stood books. (name : Text) → IsRight plan name (stood name) (books name) in
+    let S : (Text → Book) → Type 0 = λ books. (name caller to : Text) (item : Instance) → Took (books name) caller item → Sends plan name caller item.key to → GoesOn (books name) item to ⊎ Took (books to) name item in
+    let C : (Text → Book) → (Text → Book) → Type 0 = λ stood books. (name to : Text) (item : Instance) → IsToSend (stood name) item to → Goes plan item.key name to × (GoesOn (books name) item to ⊎ Took (books to) name item) in
+    let D : (Text → Book) → Type 0 = λ books. (name to : Text) (item : Instance) → map.get (books name).rows (item.uid, to) ≡ Some Done → map.get (books name).items item.uid ≡ Some item → Took (books to) name item in
+    let F : (Text → Book) → Type 0 = λ books. (name : Text) → books name ≡ Fold (books name).lines in
+    let A : (Text → Book) → Type 0 = λ books. (name to : Text) (item : Instance) → HasSucceededSince (books name).lines item to → Took (books to) name item in
+    let L : (Text → Book) → Type 0 = λ books. (name : Text) (line : Line) → Contains (books name).lines line → IsFairLine line in
+    let H : (Text → Book) → Text → Instance → Type 0 = λ books caller item. map.get (books caller).items item.uid ≡ Some item in
     record {
-      books = subst P (sym same) (subst Q (sym stood) safe.books);
-      sources = λ name caller item h. source_still plan old new caller name item g (safe.sources name caller item (subst (λ (books : Text → Book). Brought (books name) caller item) same h));
-      done = λ name to item h i. brought_still _ _ name item (g.books to) (safe.done name to item
-          (subst (λ (books : Text → Book). map.get (books name).rows (item.uid, to) ≡ Some Done) same h)
-          (subst (λ (books : Text → Book). map.get (books name).items item.uid ≡ Some item) same i));
-      links = λ number link h. stage_still plan old new link.caller link.receiver link.stage g (links number link h);
+      books = subst (λ s. P s new.books) (sym stood) (subst (P old.stood) (sym same) safe.books);
+      sources = λ name caller item h. source_still plan old new caller name item g (safe.sources name caller item (subst (λ (books : Text → Book). Took (books name) caller item) same h));
+      folds = subst F (sym same) safe.folds;
+      answered = subst A (sym same) safe.answered;
+      lines = subst L (sym same) safe.lines;
+      sent = subst S (sym same) safe.sent;
+      carried = subst (λ s. C s new.books) (sym stood) (subst (C old.stood) (sym same) safe.carried);
+      done = subst D (sym same) safe.done;
+      links = λ number link h. stage_still plan old new link.caller link.receiver link.caller_connected link.stage g
+          (λ item c p had. subst (λ books. H books link.caller item) (sym same) had) (links number link h);
     }
 
 pub put_link : (plan : Network) (w : World) (number : ℕ) (link : Link) → IsSafe plan w → IsFairLink plan w link → IsSafe plan (with_link w number link)

@@ -8,7 +8,7 @@ use Rattle.dr_ledger.specs.declared.fault.LedgerFault.TheVariants as fault
 use Rattle.dr_ledger.specs.Books.{Book}
 use Rattle.dr_world_model.specs.Worlds.{World}
 use Rattle.dr_world_model.specs.Calls.{Called, store_outcome_of}
-use Rattle.dr_world_model.specs.Spending.{IsSpentWell, ArrivalsSpendWell, SettlingsSpendWell, RequeuingsSpendWell}
+use Rattle.dr_world_model.specs.Spending.{IsSpentWell, ArrivalsSpendWell, SettlingsSpendWell, RequeuingsSpendWell, ForgettingsSpendWell}
 
 module _ {A : Type 0} (Would : Type 0) (old new : World) (name : Text) (book : Book) where
   unspent : (reply : Result A LedgerFault) → ((value : A) → reply ≡ Ok value → set.contains old.armed name ≡ false) → new.armed ≡ old.armed →
@@ -26,6 +26,7 @@ module _ {A : Type 0} (Would : Type 0) (old new : World) (name : Text) (book : B
   spent_well (Err fault.Conflict) c = unspent (Err fault.Conflict) (λ value e. absurd (let f : ⊥ = cc in f)) (ap (λ (w : World). w.armed) c.is ∙ c.store)
   spent_well (Err fault.NotWaiting) c = unspent (Err fault.NotWaiting) (λ value e. absurd (let f : ⊥ = cc in f)) (ap (λ (w : World). w.armed) c.is ∙ c.store)
   spent_well (Err fault.NotHeld) c = unspent (Err fault.NotHeld) (λ value e. absurd (let f : ⊥ = cc in f)) (ap (λ (w : World). w.armed) c.is ∙ c.store)
+  spent_well (Err fault.NotOver) c = unspent (Err fault.NotOver) (λ value e. absurd (let f : ⊥ = cc in f)) (ap (λ (w : World). w.armed) c.is ∙ c.store)
   spent_well (Err fault.Memory) c = unspent (Err fault.Memory) (λ value e. absurd (let f : ⊥ = cc in f)) (ap (λ (w : World). w.armed) c.is ∙ c.store)
   spent_well (Err fault.Store) c = failed c.armed (ap (λ (w : World). w.armed) c.is) c.store
 
@@ -37,3 +38,6 @@ settlings_spend_well old new name uid dest outcome answer s = spent_well _ old n
 
 pub requeuings_spend_well : RequeuingsSpendWell
 requeuings_spend_well old new name uid dest answer r = spent_well _ old new name r.book answer r.called
+
+pub forgettings_spend_well : ForgettingsSpendWell
+forgettings_spend_well old new name uid answer d = spent_well _ old new name d.book answer d.called

@@ -16,16 +16,17 @@ use Rattle.dr_ledger.specs.declared.item.Outcome.{Outcome}
 use Rattle.dr_ledger.specs.declared.item.Outcome.TheVariants.{Status, Broken, NoContext}
 use Rattle.dr_ledger.specs.Books.{Book}
 use Rattle.dr_ledger.specs.Items.{instance_of}
-use Rattle.dr_ledger.specs.Replies.{Arrives, Requeues, Settles}
+use Rattle.dr_ledger.specs.Replies.{Arrives, Requeues, Forgets, Settles}
 use Rattle.dr_ledger.specs.Routings.{Routing}
 use Rattle.dr_ledger.proofs.Maps.{texts, got, filled_got}
 use Rattle.dr_ledger.proofs.Needs.{one_instance_is_one_item}
 use Rattle.dr_world_model.specs.Worlds.{World, Link, start, with_link}
 use Rattle.dr_world_model.specs.Calls.{Reply, Answer, StoreOutcome, Called, Arriving, Settlement}
 use Rattle.dr_world_model.specs.Steps.{IsLink, SettlesFirst, OpensLink, pending, SettlesPending, Leaves, LeavesIfOn, LeaveAll, callers_of, Gives}
-use Rattle.dr_world_model.specs.Events.{Event, Take, Ask, AgreeReceiver, AgreeCaller, Give, Receive, Answered, BreakCaller, BreakReceiver, Close, Restart, Requeue, Refuse, Tick, Step}
+use Rattle.dr_world_model.specs.Events.{Event, Take, Ask, AgreeReceiver, AgreeCaller, Give, Receive, Answered, BreakCaller, BreakReceiver, Close, Restart, Requeue, Forget, Refuse, Tick, Step}
 use Rattle.dr_world_model.specs.Runs.{Adopts, Action, Occurs, Adopt, Runs}
 use Rattle.dr_world_model.specs.Unchanged.{IsSubmitted, NothingIsMadeUp, WasSubmitted, WhatIsThereIsUnchanged}
+use Rattle.dr_ledger.proofs.Forgotten.{item_left}
 use Rattle.dr_world_model.proofs.AdoptionsKept.{no_row, node_or_not}
 use Rattle.dr_world_model.proofs.EventsKept.{was_link}
 use Rattle.dr_world_model.proofs.Lookups.{numbers}
@@ -43,6 +44,7 @@ arrived_items routing caller item old new (Err fault.Store) a uid i h = inl (ap 
 arrived_items routing caller item old new (Err fault.Memory) a uid i h = inl (ap (λ (b : Book). map.get b.items uid) (sym a.1) ∙ h)
 arrived_items routing caller item old new (Err fault.NotWaiting) a uid i h = absurd a
 arrived_items routing caller item old new (Err fault.NotHeld) a uid i h = absurd a
+arrived_items routing caller item old new (Err fault.NotOver) a uid i h = absurd a
 
 settled_items : (uid dest : Text) (outcome : Outcome) (now : ℕ) (old new : Book) (answer : Answer) → Settles uid dest outcome now old answer new → new.items ≡ old.items
 settled_items uid dest outcome now old new (Ok done) s = ap (λ (b : Book). b.items) s.1
@@ -52,6 +54,7 @@ settled_items uid dest outcome now old new (Err fault.Memory) s = ap (λ (b : Bo
 settled_items uid dest outcome now old new (Err fault.NoLine) s = absurd s
 settled_items uid dest outcome now old new (Err fault.Conflict) s = absurd s
 settled_items uid dest outcome now old new (Err fault.NotHeld) s = absurd s
+settled_items uid dest outcome now old new (Err fault.NotOver) s = absurd s
 
 requeued_items : (uid dest : Text) (old new : Book) (answer : Answer) → Requeues uid dest old answer new → new.items ≡ old.items
 requeued_items uid dest old new (Ok done) r = ap (λ (b : Book). b.items) r.1
@@ -61,6 +64,17 @@ requeued_items uid dest old new (Err fault.Memory) r = ap (λ (b : Book). b.item
 requeued_items uid dest old new (Err fault.NoLine) r = absurd r
 requeued_items uid dest old new (Err fault.Conflict) r = absurd r
 requeued_items uid dest old new (Err fault.NotWaiting) r = absurd r
+requeued_items uid dest old new (Err fault.NotOver) r = absurd r
+
+forgotten_items : (uid : Text) (old new : Book) (answer : Answer) → Forgets uid old answer new → (u : Text) (i : Instance) → map.get new.items u ≡ Some i → map.get old.items u ≡ Some i
+forgotten_items uid old new (Ok done) f u i h = (item_left old uid u i (ap (λ (b : Book). map.get b.items u) (sym f.1) ∙ h)).1
+forgotten_items uid old new (Err fault.NotOver) f u i h = ap (λ (b : Book). map.get b.items u) (sym f.1) ∙ h
+forgotten_items uid old new (Err fault.Store) f u i h = ap (λ (b : Book). map.get b.items u) (sym f) ∙ h
+forgotten_items uid old new (Err fault.Memory) f u i h = ap (λ (b : Book). map.get b.items u) (sym f) ∙ h
+forgotten_items uid old new (Err fault.NoLine) f u i h = absurd f
+forgotten_items uid old new (Err fault.Conflict) f u i h = absurd f
+forgotten_items uid old new (Err fault.NotWaiting) f u i h = absurd f
+forgotten_items uid old new (Err fault.NotHeld) f u i h = absurd f
 
 nothing_pending : (item : Instance) → None ≡ Some item → ⊥
 nothing_pending item e = cc
@@ -188,6 +202,8 @@ module _ (T : Instance → Type 0) where
       subst Known (sym s.2) (left.0, λ n l h. left.1 n l (was_link s.0.links node n l h))
   step_known plan w (Requeue node uid dest answer) v s t k =
       called _ w v node _ s.1.book s.1.called (λ u i h. k.0 node u i (ap (λ (items : FinMap text_cmp Instance). map.get items u) (sym (requeued_items uid dest (w.books node) s.1.book answer s.1.call)) ∙ h)) k
+  step_known plan w (Forget node uid answer) v s t k =
+      called _ w v node _ s.2.book s.2.called (λ u i h. k.0 node u i (forgotten_items uid (w.books node) s.2.book answer s.2.call u i h)) k
   step_known plan w (Refuse node) v s t k = subst Known (sym s.1) k
   step_known plan w (Tick ms) v s t k = subst Known (sym s) k
 

@@ -2,7 +2,7 @@
 use Rattle.std.specs.Prelude.{◌≡◌, ℕ, List, [], ◌∷◌, Ok, Err}
 use Rattle.std.proofs.Common.{refl, sym, ap, subst, ◌∙◌}
 use Rattle.std.specs.FinMap as map
-use Rattle.dr_base.specs.Texts.{Text}
+use Rattle.dr_base.specs.Texts.{Text, text_cmp}
 use Rattle.dr_plan_model.specs.Networks.{Network}
 use Rattle.dr_plan_model.specs.Plans.{IsWellFormed}
 use Rattle.dr_plan_model.specs.Walks.{IsReached}
@@ -15,7 +15,7 @@ use Rattle.dr_ledger.specs.declared.item.Progress.TheVariants.{Waiting, Held}
 use Rattle.dr_ledger.specs.Books.{Book, empty_book}
 use Rattle.dr_ledger.specs.Pairs.{pair_cmp}
 use Rattle.dr_ledger.specs.PlanRoutes.{plan_routing}
-use Rattle.dr_ledger.specs.Replies.{Arrives, IsHeld, IsWaiting, Requeues, Settles}
+use Rattle.dr_ledger.specs.Replies.{Arrives, Forgets, IsHeld, IsOver, IsWaiting, Requeues, Settles}
 use Rattle.dr_world_model.specs.Worlds.{World, start}
 use Rattle.dr_world_model.specs.Calls.{Answer, Called, StoreOutcome, Reply}
 use Rattle.dr_world_model.specs.Events.{HasNode}
@@ -48,6 +48,7 @@ module _ (plan : Network) (formed : IsWellFormed plan) where
   arrived_empty name caller item old new (Err fault.Memory) stranger e a = a.1 ∙ e
   arrived_empty name caller item old new (Err fault.NotWaiting) stranger e a = absurd a
   arrived_empty name caller item old new (Err fault.NotHeld) stranger e a = absurd a
+  arrived_empty name caller item old new (Err fault.NotOver) stranger e a = absurd a
 
   settled_empty : (uid dest : Text) (outcome : Outcome) (now : ℕ) (old new : Book) (answer : Answer) → old ≡ empty_book → Settles uid dest outcome now old answer new → new ≡ empty_book
   settled_empty uid dest outcome now old new (Ok done) e s = absurd (none_waits uid dest old e s.0)
@@ -57,6 +58,7 @@ module _ (plan : Network) (formed : IsWellFormed plan) where
   settled_empty uid dest outcome now old new (Err fault.NoLine) e s = absurd s
   settled_empty uid dest outcome now old new (Err fault.Conflict) e s = absurd s
   settled_empty uid dest outcome now old new (Err fault.NotHeld) e s = absurd s
+  settled_empty uid dest outcome now old new (Err fault.NotOver) e s = absurd s
 
   requeued_empty : (uid dest : Text) (old new : Book) (answer : Answer) → old ≡ empty_book → Requeues uid dest old answer new → new ≡ empty_book
   requeued_empty uid dest old new (Ok done) e r = absurd (none_held uid dest old e r.0)
@@ -66,6 +68,20 @@ module _ (plan : Network) (formed : IsWellFormed plan) where
   requeued_empty uid dest old new (Err fault.NoLine) e r = absurd r
   requeued_empty uid dest old new (Err fault.Conflict) e r = absurd r
   requeued_empty uid dest old new (Err fault.NotWaiting) e r = absurd r
+  requeued_empty uid dest old new (Err fault.NotOver) e r = absurd r
+
+  none_there : (uid : Text) (b : Book) → b ≡ empty_book → IsOver b uid → ⊥
+  none_there uid b e over = no_row over.there.0 (sym (map.get-empty text_cmp uid) ∙ (ap (λ (x : Book). map.get x.items uid) (sym e) ∙ over.there.1))
+
+  forgotten_empty : (uid : Text) (old new : Book) (answer : Answer) → old ≡ empty_book → Forgets uid old answer new → new ≡ empty_book
+  forgotten_empty uid old new (Ok done) e f = absurd (none_there uid old e f.0)
+  forgotten_empty uid old new (Err fault.NotOver) e f = f.1 ∙ e
+  forgotten_empty uid old new (Err fault.Store) e f = f ∙ e
+  forgotten_empty uid old new (Err fault.Memory) e f = f ∙ e
+  forgotten_empty uid old new (Err fault.NoLine) e f = absurd f
+  forgotten_empty uid old new (Err fault.Conflict) e f = absurd f
+  forgotten_empty uid old new (Err fault.NotWaiting) e f = absurd f
+  forgotten_empty uid old new (Err fault.NotHeld) e f = absurd f
 
   called_empty : (Would : Type 0) (w v : World) (name : Text) (came : StoreOutcome) (book : Book) → Called Would w name came book v → ((HasNode plan name → ⊥) → book ≡ empty_book) → Empty plan w → Empty plan v
   called_empty Would w v name came book c here p =
@@ -79,6 +95,8 @@ module _ (plan : Network) (formed : IsWellFormed plan) where
         called_empty _ w v name _ s.book s.called (λ stranger. settled_empty uid dest outcome w.time (w.books name) s.book answer (p name stranger) s.call) p;
     requeueing = λ w v name uid dest answer r p.
         called_empty _ w v name _ r.book r.called (λ stranger. requeued_empty uid dest (w.books name) r.book answer (p name stranger) r.call) p;
+    dropping = λ w v name uid answer d p.
+        called_empty _ w v name _ d.book d.called (λ stranger. forgotten_empty uid (w.books name) d.book answer (p name stranger) d.call) p;
     linked = λ w number was is at ends p. p;
     opened = λ w caller receiver hop p. p;
     forgot = λ w name p. p;

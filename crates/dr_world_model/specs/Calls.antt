@@ -11,14 +11,14 @@ use Rattle.dr_ledger.specs.declared.fault.LedgerFault.TheVariants as fault
 use Rattle.dr_ledger.specs.declared.item.Outcome.{Outcome}
 use Rattle.dr_ledger.specs.Books.{Book}
 use Rattle.dr_ledger.specs.PlanRoutes.{plan_routing}
-use Rattle.dr_ledger.specs.Replies.{IsAdmitted, IsWaiting, IsHeld, Arrives, Settles, Requeues}
+use Rattle.dr_ledger.specs.Replies.{IsAdmitted, IsWaiting, IsHeld, IsOver, Arrives, Settles, Requeues, Forgets}
 use Rattle.dr_world_model.specs.Worlds.{World, with_book, with_armed}
 
 -- what `arrive` answers to a C-STORE request in the message world
 abbrev pub Reply : Type 0
 Reply = Result Arrived LedgerFault
 
--- what `settle` and `requeue` answer in the message world
+-- what `settle`, `requeue` and `forget` answer in the message world
 abbrev pub Answer : Type 0
 Answer = Result (Unit {0}) LedgerFault
 
@@ -35,6 +35,7 @@ store_outcome_of (Err fault.NoLine) = Untried
 store_outcome_of (Err fault.Conflict) = Untried
 store_outcome_of (Err fault.NotWaiting) = Untried
 store_outcome_of (Err fault.NotHeld) = Untried
+store_outcome_of (Err fault.NotOver) = Untried
 store_outcome_of (Err fault.Memory) = Untried
 store_outcome_of (Err fault.Store) = Failed
 
@@ -69,6 +70,12 @@ pub record Requeueing (old : World) (name uid dest : Text) (answer : Answer) (ne
   pub call : Requeues uid dest (old.books name) answer book
   pub called : Called (IsHeld (old.books name) uid dest) old name (store_outcome_of answer) book new
 
+-- the node forgets the instance of the uid
+pub record Dropping (old : World) (name uid : Text) (answer : Answer) (new : World) : Type 0 where
+  pub book : Book
+  pub call : Forgets uid (old.books name) answer book
+  pub called : Called (IsOver (old.books name) uid) old name (store_outcome_of answer) book new
+
 -- the status of the C-STORE response for a reply (PS3.4 B.2.3): success, no line, other data under this uid, out of resources
 abbrev pub status_of : Reply → ℕ
 status_of (Ok value) = 0
@@ -78,3 +85,4 @@ status_of (Err fault.Store) = 0xA700
 status_of (Err fault.Memory) = 0xA700
 status_of (Err fault.NotWaiting) = 0xA700
 status_of (Err fault.NotHeld) = 0xA700
+status_of (Err fault.NotOver) = 0xA700

@@ -14,7 +14,8 @@ use Rattle.dr_ledger.specs.declared.item.Outcome.{Outcome}
 use Rattle.dr_ledger.specs.declared.item.Outcome.TheVariants.{Status, Broken, NoContext}
 use Rattle.dr_ledger.specs.declared.item.Progress.{Progress}
 use Rattle.dr_ledger.specs.declared.item.Progress.TheVariants.{Waiting, Held, Done}
-use Rattle.dr_ledger.specs.Books.{Book, Line, Arrival, Repeat, Settling, Requeuing, Adoption}
+use Rattle.dr_ledger.specs.Books.{Book, Line, Arrival, Repeat, Settling, Requeuing, Forgetting, Adoption}
+use Rattle.dr_ledger.specs.OneNode.{HasSucceededSince, WasTaken}
 use Rattle.dr_world_model.specs.Worlds.{World, Link, Contexts, Stage, Asking, Answering, Rejecting, Open, Storing, Replying, Gone}
 use Rattle.dr_world_model.specs.Steps.{IsLink}
 
@@ -24,26 +25,28 @@ use Rattle.dr_world_model.specs.Steps.{IsLink}
 abbrev pub Has : World → Text → Instance → Type 0
 Has w name item = map.get (w.books name).items item.uid ≡ Some item
 
--- the caller has brought this very item
-pub record Brought (book : Book) (caller : Text) (item : Instance) : Type 0 where
-  pub arrival : set.contains book.arrivals (caller, item.uid) ≡ true
-  pub item_is : map.get book.items item.uid ≡ Some item
-
--- the caller has brought this very item to the node
-abbrev pub HasArrival : World → Text → Text → Instance → Type 0
-HasArrival w name caller item = Brought (w.books name) caller item
+-- the node acknowledged this very item to the caller, under the plan in force; it may have forgotten it since
+abbrev pub HadArrival : World → Text → Text → Instance → Type 0
+HadArrival w name caller item = WasTaken (w.books name).lines caller item
 
 -- how far the node is with the uid on its way to the next node
 abbrev pub HasRow : World → Text → Text → Text → Progress → Type 0
 HasRow w name uid to row = map.get (w.books name).rows (uid, to) ≡ Some row
 
--- a row for the uid and the destination stood in the node's book when the plan was adopted
-abbrev pub WasCarriedOver : World → Text → Text → Text → Type 0
-WasCarriedOver w name uid to = (row : Progress) × (map.get (w.carried_over name) (uid, to) ≡ Some row)
+-- a book has the item, and a row for it and the next node
+pub record IsToSend (b : Book) (item : Instance) (to : Text) : Type 0 where
+  pub row : Progress
+  pub at : map.get b.rows (item.uid, to) ≡ Some row
+  pub has : map.get b.items item.uid ≡ Some item
 
--- Each arrival in a book is of an item there, and each item stands under its own uid.
+-- a row for the item and the next node stood in the node's book when the plan was adopted
+abbrev pub WasCarriedOver : World → Text → Instance → Text → Type 0
+WasCarriedOver w name item to = IsToSend (w.stood name) item to
+
+-- Each arrival in a book is of an item there, which was acknowledged to that caller, and each item stands under its own uid.
 pub record HasItems (w : World) : Type 0 where
-  pub arrived : (name caller uid : Text) → set.contains (w.books name).arrivals (caller, uid) ≡ true → (item : Instance) × (item.uid ≡ uid) × HasArrival w name caller item
+  pub arrived : (name caller uid : Text) → set.contains (w.books name).arrivals (caller, uid) ≡ true →
+      (item : Instance) × (item.uid ≡ uid) × Has w name item × HadArrival w name caller item
   pub named : (name uid : Text) (item : Instance) → map.get (w.books name).items uid ≡ Some item → item.uid ≡ uid
 
 -- ---- 1. nothing is refused for want of a presentation context
@@ -64,6 +67,7 @@ IsFairLine (Arrival caller item to keep) = Unit {0}
 IsFairLine (Repeat caller item) = Unit {0}
 IsFairLine (Settling uid dest outcome now) = IsFairOutcome outcome
 IsFairLine (Requeuing uid dest) = Unit {0}
+IsFairLine (Forgetting uid) = Unit {0}
 IsFairLine Adoption = Unit {0}
 
 -- each pair that goes over the hop was accepted
@@ -89,7 +93,7 @@ pub record NoneRefused (plan : Network) (w : World) : Type 0 where
 
 -- the item entered at the node, or stood at the caller for the node when the plan was adopted
 abbrev pub IsOrigin : World → Text → Text → Instance → Type 0
-IsOrigin w caller name item = ((caller ≡ local) × HasArrival w name local item) ⊎ (WasCarriedOver w caller item.uid name × Has w caller item)
+IsOrigin w caller name item = ((caller ≡ local) × HadArrival w name local item) ⊎ WasCarriedOver w caller item name
 
 -- where the item began, and a walk by which it came
 pub record HasSource (plan : Network) (w : World) (caller name : Text) (item : Instance) : Type 0 where
@@ -102,18 +106,20 @@ pub record HasSource (plan : Network) (w : World) (caller name : Text) (item : I
 
 -- Each arrival has a source, by a walk no longer than the rank there.
 abbrev pub WithinRank : Network → World → Type 0
-WithinRank plan w = (caller name : Text) (item : Instance) → HasArrival w name caller item →
+WithinRank plan w = (caller name : Text) (item : Instance) → HadArrival w name caller item →
     (source : HasSource plan w caller name item) × ((rank : ℕ) × IsRank plan item.key source.first source.site rank × (length source.over ≤ rank))
 
 -- ---- 3. what was answered with success is there
 
--- Where success is under way the receiver has the arrival, where a row is done the next node has it, and each row has a reason.
+-- Where success is under way the receiver had the arrival, where a row is done the next node had it, the same of each success that a journal notes under the
+-- plan in force, whether or not its row is still there; and each row has a reason.
 pub record IsHonest (plan : Network) (w : World) : Type 0 where
   pub replies : (number : ℕ) (link : Link) (accepted : Contexts) (item : Instance) → IsLink w number link → link.stage ≡ Replying accepted item 0 →
-      HasArrival w link.receiver link.caller item
-  pub done : (name to : Text) (item : Instance) → HasRow w name item.uid to Done → Has w name item → HasArrival w to name item
+      HadArrival w link.receiver link.caller item
+  pub done : (name to : Text) (item : Instance) → HasRow w name item.uid to Done → Has w name item → HadArrival w to name item
+  pub answered : (name to : Text) (item : Instance) → HasSucceededSince (w.books name).lines item to → HadArrival w to name item
   pub rows : (name uid to : Text) (row : Progress) → HasRow w name uid to row → (item : Instance) × (item.uid ≡ uid) × Has w name item
-      × (((caller : Text) × HasArrival w name caller item × Sends plan name caller item.key to) ⊎ WasCarriedOver w name uid to)
+      × (((caller : Text) × HadArrival w name caller item × Sends plan name caller item.key to) ⊎ WasCarriedOver w name item to)
 
 -- ---- 4. nothing acknowledged is lost
 
@@ -143,15 +149,19 @@ pub record IsKept (w : World) (item : Instance) (dest : Text) : Type 0 where
 abbrev pub IsCovered : Network → World → Text → Text → Instance → Text → Type 0
 IsCovered plan w caller name item dest = IsKept w item dest ⊎ IsUnderway plan w caller name item dest
 
--- Each arrival has a destination and is covered for each. So is each row that stood when the plan was adopted: by itself
--- while it is queued, else by the arrival at its node.
+-- the node still has the item, and its row for the next node is queued
+abbrev pub IsToGo : World → Text → Instance → Text → Type 0
+IsToGo w name item to = Has w name item × ((row : Progress) × HasRow w name item.uid to row × IsQueued row)
+
+-- Whatever was acknowledged has a destination and is covered for each. So is each row that stood when the plan was adopted: by
+-- itself while it is queued, else by the arrival at its node.
 pub record NothingLost (plan : Network) (w : World) : Type 0 where
-  pub some : (caller name : Text) (item : Instance) → HasArrival w name caller item → (dest : Text) × IsDestination plan caller name item.key dest
-  pub each : (caller name : Text) (item : Instance) → HasArrival w name caller item → (dest : Text) → IsDestination plan caller name item.key dest →
+  pub some : (caller name : Text) (item : Instance) → HadArrival w name caller item → (dest : Text) × IsDestination plan caller name item.key dest
+  pub each : (caller name : Text) (item : Instance) → HadArrival w name caller item → (dest : Text) → IsDestination plan caller name item.key dest →
       IsCovered plan w caller name item dest
-  pub carried_some : (name to : Text) (item : Instance) → WasCarriedOver w name item.uid to → Has w name item → (dest : Text) × IsDestination plan name to item.key dest
-  pub carried_each : (name to : Text) (item : Instance) → WasCarriedOver w name item.uid to → Has w name item → (dest : Text) → IsDestination plan name to item.key dest →
-      ((row : Progress) × HasRow w name item.uid to row × IsQueued row) ⊎ (HasArrival w to name item × IsCovered plan w name to item dest)
+  pub carried_some : (name to : Text) (item : Instance) → WasCarriedOver w name item to → (dest : Text) × IsDestination plan name to item.key dest
+  pub carried_each : (name to : Text) (item : Instance) → WasCarriedOver w name item to → (dest : Text) → IsDestination plan name to item.key dest →
+      IsToGo w name item to ⊎ (HadArrival w to name item × IsCovered plan w name to item dest)
 
 -- ---- all of it
 

@@ -9,8 +9,8 @@ use Rattle.dr_plan_model.specs.Plans.{IsNode}
 use Rattle.dr_plan_model.specs.declared.plan.Node.{Node}
 use Rattle.dr_ledger.specs.declared.item.Instance.{Instance}
 use Rattle.dr_world_model.specs.Worlds.{World, Contexts, with_armed}
-use Rattle.dr_world_model.specs.Calls.{Reply, Answer, Arriving, Requeueing}
-use Rattle.dr_world_model.specs.Steps.{IsHop, asked, AnswersRequest, ReadsAnswer, Gives, Receives, ReadsReply, Leaves, Drops, Closes, Restarts, passed}
+use Rattle.dr_world_model.specs.Calls.{Reply, Answer, Arriving, Requeueing, Dropping}
+use Rattle.dr_world_model.specs.Steps.{IsHop, asked, AnswersRequest, ReadsAnswer, Gives, Receives, ReadsReply, Leaves, Drops, Closes, Restarts, NoneIsPending, passed}
 
 -- `None` in place of an answer: nothing was settled.
 pub data Event : Type 0 where
@@ -26,6 +26,7 @@ pub data Event : Type 0 where
   Close : (link : ℕ) → (answer : Option Answer) → Event  -- both ends disconnect, and what was under way is lost
   Restart : (node : Text) → (answers : List (Option Answer)) → Event  -- a node forgets its links; one answer for each that called it
   Requeue : (node : Text) → (uid : Text) → (dest : Text) → (answer : Answer) → Event  -- a held row is put back
+  Forget : (node : Text) → (uid : Text) → (answer : Answer) → Event  -- a node forgets what it has sent on everywhere and doesn't keep
   Refuse : (node : Text) → Event  -- a node's store is to refuse the next line
   Tick : (ms : ℕ) → Event  -- time passes
 
@@ -47,5 +48,6 @@ Step plan old (BreakReceiver link) new = Drops old link new
 Step plan old (Close link answer) new = Closes old link answer new
 Step plan old (Restart node answers) new = Restarts old node answers new
 Step plan old (Requeue node uid dest answer) new = HasNode plan node × Requeueing old node uid dest answer new
+Step plan old (Forget node uid answer) new = HasNode plan node × NoneIsPending old node uid × Dropping old node uid answer new
 Step plan old (Refuse node) new = HasNode plan node × (new ≡ with_armed old (set.insert old.armed node))
 Step plan old (Tick ms) new = new ≡ passed old ms

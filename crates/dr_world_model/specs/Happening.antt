@@ -10,13 +10,13 @@ use Rattle.dr_ledger.specs.declared.item.Arrived.TheVariants.{New, Again}
 use Rattle.dr_ledger.specs.declared.item.Instance.{Instance}
 use Rattle.dr_ledger.specs.declared.item.Progress.TheVariants.{Waiting}
 use Rattle.dr_ledger.specs.PlanRoutes.{plan_routing}
-use Rattle.dr_ledger.specs.Replies.{HasConflict, IsAdmitted, IsWaiting, IsHeld, IsNext}
+use Rattle.dr_ledger.specs.Replies.{HasConflict, IsAdmitted, IsWaiting, IsHeld, IsNext, IsOver}
 use Rattle.dr_world_model.specs.Worlds.{World, Link, Contexts, Asking, Answering, Rejecting, Open, Storing, Replying, start}
 use Rattle.dr_world_model.specs.Calls.{Answer}
-use Rattle.dr_world_model.specs.Steps.{IsHop, IsLink, AcceptsOffered, others, pending}
-use Rattle.dr_world_model.specs.Events.{Event, Take, Ask, AgreeReceiver, AgreeCaller, Give, Receive, Answered, BreakCaller, BreakReceiver, Close, Restart, Requeue, Refuse, Tick, HasNode, Step}
+use Rattle.dr_world_model.specs.Steps.{IsHop, IsLink, AcceptsOffered, NoneIsPending, others, pending}
+use Rattle.dr_world_model.specs.Events.{Event, Take, Ask, AgreeReceiver, AgreeCaller, Give, Receive, Answered, BreakCaller, BreakReceiver, Close, Restart, Requeue, Forget, Refuse, Tick, HasNode, Step}
 use Rattle.dr_world_model.specs.Runs.{IsAdoptable, MayAdopt, Adopts, Occurs, Adopt, Runs}
-use Rattle.dr_world_model.specs.Claims.{HasArrival, HasRow, WasCarriedOver}
+use Rattle.dr_world_model.specs.Claims.{HadArrival, HasRow, WasCarriedOver}
 
 -- the event leads to some world
 abbrev pub CanHappen : Network → World → Event → Type 0
@@ -88,6 +88,7 @@ pub record RefusalsHappen (plan : Network) (w : World) : Type 0 where
       CanHappen plan w (Answered number (Err fault.Store))
   pub caller : (number : ℕ) (link : Link) (item : Instance) → IsCallers w number link → pending link.stage ≡ Some item → CanHappen plan w (BreakCaller number (Some (Err fault.Store)))
   pub requeue : (node uid dest : Text) → HasNode plan node → CanHappen plan w (Requeue node uid dest (Err fault.Store))
+  pub forget : (node uid : Text) → HasNode plan node → NoneIsPending w node uid → CanHappen plan w (Forget node uid (Err fault.Store))
 
 -- links end, nodes restart, held rows are put back, stores are told to refuse, and time passes
 pub record EndingsHappen (plan : Network) (w : World) : Type 0 where
@@ -101,6 +102,8 @@ pub record EndingsHappen (plan : Network) (w : World) : Type 0 where
       Writes w link.caller → IsWaiting (w.books link.caller) item.uid link.receiver → CanHappen plan w (Close number (Some (Ok tt)))
   pub requeue : (node uid dest : Text) → HasNode plan node → Writes w node → IsHeld (w.books node) uid dest → CanHappen plan w (Requeue node uid dest (Ok tt))
   pub requeue_not_held : (node uid dest : Text) → HasNode plan node → (IsHeld (w.books node) uid dest → ⊥) → CanHappen plan w (Requeue node uid dest (Err fault.NotHeld))
+  pub forget : (node uid : Text) → HasNode plan node → Writes w node → NoneIsPending w node uid → IsOver (w.books node) uid → CanHappen plan w (Forget node uid (Ok tt))
+  pub forget_not_over : (node uid : Text) → HasNode plan node → NoneIsPending w node uid → (IsOver (w.books node) uid → ⊥) → CanHappen plan w (Forget node uid (Err fault.NotOver))
   pub refuse : (node : Text) → HasNode plan node → CanHappen plan w (Refuse node)
   pub tick : (ms : ℕ) → CanHappen plan w (Tick ms)
 
@@ -111,7 +114,7 @@ EventsHappen = (plan : Network) (w : World) → TakesHappen plan w × OpeningsHa
 -- A store that is told to refuse does so once: the same instance is then taken.
 abbrev pub ARefusalIsSpent : Type 0
 ARefusalIsSpent = (plan : Network) (node to : Text) (item : Instance) → HasNode plan node → Sends plan node local item.key to →
-    (w : World) × Runs plan start (Occurs (Refuse node) ∷ Occurs (Take node item (Err fault.Store)) ∷ Occurs (Take node item (Ok New)) ∷ []) plan w × HasArrival w node local item
+    (w : World) × Runs plan start (Occurs (Refuse node) ∷ Occurs (Take node item (Err fault.Store)) ∷ Occurs (Take node item (Ok New)) ∷ []) plan w × HadArrival w node local item
 
 -- A node can restart in every world: those that call it find an answer.
 abbrev pub RestartsHappen : Type 0
@@ -128,4 +131,4 @@ AnAdoptionRuns = (plan next : Network) → IsAdoptable next → ((name : Text) �
     (node to : Text) (item : Instance) → HasNode plan node → Sends plan node local item.key to →
     ((dest : Text) → Sends plan node local item.key dest → Goes next item.key node dest) →
     (w : World) × Runs plan start (Occurs (Take node item (Ok New)) ∷ Adopt next ∷ []) next w
-    × WasCarriedOver w node item.uid to × HasRow w node item.uid to (Waiting 0 0)
+    × WasCarriedOver w node item to × HasRow w node item.uid to (Waiting 0 0)

@@ -1,12 +1,12 @@
 -- Laws of the message world.
-use Rattle.std.specs.Prelude.{◌≡◌, ◌≢◌, ◌↔◌, ℕ, ◌≤◌, List, [], ◌∷◌, None, Some, Ok, true, false}
+use Rattle.std.specs.Prelude.{◌≡◌, ◌≢◌, ◌↔◌, ℕ, ◌≤◌, List, [], ◌∷◌, ◌++◌, None, Some, Ok, true, false}
 use Rattle.std.specs.FinMap as map
 use Rattle.std.specs.FinSet as set
 use Rattle.dr_base.specs.Texts.{Text}
 use Rattle.dr_base.specs.declared.syntax.Syntax.{Syntax}
 use Rattle.dr_base.specs.declared.syntax.Syntax.TheVariants.{Explicit}
 use Rattle.dr_route.specs.Routes.{local}
-use Rattle.dr_plan_model.specs.Walks.{Sends, Accepts, GoesOver}
+use Rattle.dr_plan_model.specs.Walks.{Sends, Accepts, GoesOver, IsReached}
 use Rattle.dr_plan_sound.specs.Soundness.{IsSound}
 use Rattle.dr_plan_sound.specs.Samples.{scanner, archive, image, keep_all, two_nodes}
 use Rattle.dr_ledger.specs.declared.item.Arrived.TheVariants.{New}
@@ -15,13 +15,12 @@ use Rattle.dr_ledger.specs.declared.item.Progress.TheVariants.{Done}
 use Rattle.dr_plan_model.specs.Networks.{Network}
 use Rattle.dr_ledger.specs.Books.{Line, Fold}
 use Rattle.dr_ledger.specs.Histories.{IsSince}
-use Rattle.dr_ledger.specs.Pairs.{Pair}
 use Rattle.dr_ledger.specs.PlanRoutes.{plan_routing}
 use Rattle.dr_world_model.specs.Worlds.{World, Link, Contexts, start}
 use Rattle.dr_world_model.specs.Steps.{IsHop, IsLink, AcceptsOffered}
-use Rattle.dr_world_model.specs.Events.{Event, Take, Ask, AgreeReceiver, AgreeCaller, Give, Receive, Answered, HasNode, Step}
+use Rattle.dr_world_model.specs.Events.{Event, Take, Ask, AgreeReceiver, AgreeCaller, Give, Receive, Answered, Forget, HasNode, Step}
 use Rattle.dr_world_model.specs.Runs.{Adopts, Action, Occurs, Runs}
-use Rattle.dr_world_model.specs.Claims.{HasArrival, HasRow}
+use Rattle.dr_world_model.specs.Claims.{HadArrival, HasRow}
 
 -- A step is a function of the plan, the world, the event and its replies; but where a store failed, whether it spent a
 -- refusal isn't said by them.
@@ -41,13 +40,31 @@ one_store from to item accepted = Occurs (Take from item (Ok New)) ∷ Occurs (A
 
 -- one store has come about: the row is done, and the receiver has the very instance
 abbrev pub IsStored : World → Text → Text → Instance → Type 0
-IsStored w from to item = HasRow w from item.uid to Done × HasArrival w to from item
+IsStored w from to item = HasRow w from item.uid to Done × HadArrival w to from item
 
 -- One store over one hop can happen, from the start to the done row.
 abbrev pub OneHopRuns : Type 0
 OneHopRuns = (plan : Network) (from to : Text) (item : Instance) (accepted : Contexts) → HasNode plan from → from ≢ to → Sends plan from local item.key to →
     AcceptsOffered plan from to accepted → Accepts plan to from item.key.class item.key.syntax →
     (w : World) × Runs plan start (one_store from to item accepted) plan w × IsStored w from to item
+
+-- the instance is forgotten at the node that sent it, and its uid enters there again, maybe with another data set
+abbrev pub forgotten_and_back : Text → Instance → Instance → List Action
+forgotten_and_back from item other = Occurs (Forget from item.uid (Ok tt)) ∷ Occurs (Take from other (Ok New)) ∷ []
+
+-- the node has the other instance now, had both, and the next node had the first
+pub record IsBack (w : World) (from to : Text) (item other : Instance) : Type 0 where
+  pub had : HadArrival w from local item
+  pub has_other : map.get (w.books from).items other.uid ≡ Some other
+  pub had_other : HadArrival w from local other
+  pub passed_on : HadArrival w to from item
+
+-- Where an instance goes to one node alone, it can be forgotten once this has it, and its uid comes again, with the same data set or another: it is new.
+abbrev pub AForgettingRuns : Type 0
+AForgettingRuns = (plan : Network) (from to : Text) (item other : Instance) (accepted : Contexts) → HasNode plan from → from ≢ to → Sends plan from local item.key to →
+    ((dest : Text) → Sends plan from local item.key dest → dest ≡ to) → AcceptsOffered plan from to accepted → Accepts plan to from item.key.class item.key.syntax →
+    other.uid ≡ item.uid → IsReached plan other.key local from →
+    (w : World) × Runs plan start (one_store from to item accepted ++ forgotten_and_back from item other) plan w × IsBack w from to item other
 
 -- In the plan of two nodes, which is sound, each image that enters at the scanner comes to the archive.
 abbrev pub TwoNodesRun : Type 0
@@ -85,12 +102,12 @@ abbrev pub NoneIsArmedAfterAdoption : Type 0
 NoneIsArmedAfterAdoption = (plan : Network) (actions : List Action) (last : Network) (w : World) → Runs plan start actions last w →
     (next : Network) (new : World) → Adopts last w next new → (name : Text) → set.contains new.armed name ≡ false
 
--- the rows that stand are those of the book of that past
+-- the book that stood is that of that past
 abbrev pub AreCarriedOver : World → Text → List Line → Type 0
-AreCarriedOver w name past = (at : Pair) → map.get (w.carried_over name) at ≡ map.get (Fold past).rows at
+AreCarriedOver w name past = w.stood name ≡ Fold past
 
 -- Each book is what its journal makes of the empty one. The journal is what there was up to the last adoption, and since then a
--- history under the plan in force: each line is of a call that the book before it accepts. The rows that stand are those of that past.
+-- history under the plan in force: each line is of a call that the book before it accepts. What stood then is the book of that past.
 abbrev pub JournalsAreHistories : Type 0
 JournalsAreHistories = (plan : Network) (actions : List Action) (last : Network) (w : World) → Runs plan start actions last w →
     (name : Text) → (past : List Line) × IsSince (plan_routing last name) past (w.books name) × AreCarriedOver w name past

@@ -1,3 +1,4 @@
+pub mod Among
 pub mod Calls
 pub mod Claims
 pub mod Endings

@@ -14,7 +14,7 @@ use Rattle.dr_ledger.specs.Replies.{IsNext}
 use Rattle.dr_world_model.specs.Worlds.{World, Link, Contexts, Stage, Answering, Rejecting, Open, Storing, Replying}
 use Rattle.dr_world_model.specs.Calls.{Answer, Reply, status_of}
 use Rattle.dr_world_model.specs.Steps.{IsLink, AnswersRequest, ReadsAnswer, Receives, ReadsReply, Drops, Closes, Restarts, others, others_of, callers_of}
-use Rattle.dr_world_model.specs.Events.{Event, Take, Ask, AgreeReceiver, AgreeCaller, Give, Receive, Answered, BreakCaller, BreakReceiver, Close, Restart, Requeue, Refuse, Tick, Step}
+use Rattle.dr_world_model.specs.Events.{Event, Take, Ask, AgreeReceiver, AgreeCaller, Give, Receive, Answered, BreakCaller, BreakReceiver, Close, Restart, Requeue, Forget, Refuse, Tick, Step}
 use Rattle.dr_world_model.specs.Claims.{HasRow}
 use Rattle.dr_world_model.specs.Endings.{IsUnderWay}
 
@@ -42,6 +42,7 @@ WritesAt w (BreakReceiver link) name = ⊥
 WritesAt w (Close link answer) name = IsCallerOf w link name
 WritesAt w (Restart node answers) name = (number : ℕ) × (link : Link) × IsLink w number link × (link.receiver ≡ node) × (link.caller ≡ name)
 WritesAt w (Requeue node uid dest answer) name = name ≡ node
+WritesAt w (Forget node uid answer) name = name ≡ node
 WritesAt w (Refuse node) name = ⊥
 WritesAt w (Tick ms) name = ⊥
 
@@ -59,6 +60,7 @@ Touches w (BreakReceiver link) number = number ≡ link
 Touches w (Close link answer) number = number ≡ link
 Touches w (Restart node answers) number = (link : Link) × IsLink w number link × ((link.caller ≡ node) ⊎ (link.receiver ≡ node))
 Touches w (Requeue node uid dest answer) number = ⊥
+Touches w (Forget node uid answer) number = ⊥
 Touches w (Refuse node) number = ⊥
 Touches w (Tick ms) number = ⊥
 

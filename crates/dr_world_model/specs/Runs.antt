@@ -10,7 +10,7 @@ use Rattle.dr_plan_sound.specs.Soundness.{IsSound}
 use Rattle.dr_ledger.specs.declared.item.Instance.{Instance}
 use Rattle.dr_ledger.specs.declared.item.Progress.{Progress}
 use Rattle.dr_ledger.specs.declared.item.Progress.TheVariants.{Done}
-use Rattle.dr_ledger.specs.Books.{Adoption, after, empty_book, not_done}
+use Rattle.dr_ledger.specs.Books.{Adoption, after, empty_book}
 use Rattle.dr_world_model.specs.Worlds.{World, Link}
 use Rattle.dr_world_model.specs.Events.{Event, HasNode, Step}
 use Rattle.dr_world_model.specs.Steps.{IsLink}
@@ -26,12 +26,12 @@ pub record MayAdopt (plan : Network) (old : World) (next : Network) : Type 0 whe
   pub strangers : (name : Text) → (HasNode plan name → ⊥) → old.books name ≡ empty_book
 
 -- All nodes take the next plan at once: arrivals and done rows leave the books, a node that joins has an empty one, and
--- links are gone. The rows that aren't done stand.
+-- links are gone. What is in the books then, stands.
 pub record Adopts (plan : Network) (old : World) (next : Network) (new : World) : Type 0 where
   pub may : MayAdopt plan old next
   pub books : (name : Text) → HasNode plan name → new.books name ≡ after Adoption (old.books name)
   pub joined : (name : Text) → (HasNode plan name → ⊥) → new.books name ≡ empty_book
-  pub carried_over : (name : Text) → new.carried_over name ≡ not_done (old.books name).rows
+  pub stood : new.stood ≡ new.books
   pub links : new.links ≡ map.empty
   pub time : new.time ≡ old.time
   pub armed : new.armed ≡ old.armed

@@ -8,9 +8,9 @@ use Rattle.dr_ledger.specs.declared.fault.LedgerFault.TheVariants as fault
 use Rattle.dr_ledger.specs.declared.item.Instance.{Instance}
 use Rattle.dr_ledger.specs.declared.item.Outcome.{Outcome}
 use Rattle.dr_ledger.specs.PlanRoutes.{plan_routing}
-use Rattle.dr_ledger.specs.Replies.{IsAdmitted, IsWaiting, IsHeld}
+use Rattle.dr_ledger.specs.Replies.{IsAdmitted, IsWaiting, IsHeld, IsOver}
 use Rattle.dr_world_model.specs.Worlds.{World}
-use Rattle.dr_world_model.specs.Calls.{Answer, Reply, Arriving, Settlement, Requeueing}
+use Rattle.dr_world_model.specs.Calls.{Answer, Reply, Arriving, Settlement, Requeueing, Dropping}
 
 -- An armed node adds no line. Only a store that fails spends a refusal, and only where the call would have added a line.
 pub record IsSpentWell {A : Type 0} (Would : Type 0) (old : World) (name : Text) (reply : Result A LedgerFault) (new : World) : Type 0 where
@@ -32,3 +32,8 @@ SettlingsSpendWell = (old new : World) (name uid dest : Text) (outcome : Outcome
 abbrev pub RequeuingsSpendWell : Type 0
 RequeuingsSpendWell = (old new : World) (name uid dest : Text) (answer : Answer) →
     Requeueing old name uid dest answer new → IsSpentWell (IsHeld (old.books name) uid dest) old name answer new
+
+-- a forgetting spends a refusal only where the store fails and the forgetting would have added a line
+abbrev pub ForgettingsSpendWell : Type 0
+ForgettingsSpendWell = (old new : World) (name uid : Text) (answer : Answer) →
+    Dropping old name uid answer new → IsSpentWell (IsOver (old.books name) uid) old name answer new

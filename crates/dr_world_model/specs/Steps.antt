@@ -1,5 +1,5 @@
 -- What each event does to the message world, as relations.
-use Rattle.std.specs.Prelude.{◌≡◌, ℕ, ◌+◌, ◌^◌, ◌<◌, ◌≤◌, ◌&&◌, ◌⊎◌, ◌↔◌, Bool, true, false, not, cond, length, min, List, [], ◌∷◌, Option, None, Some, Ok, Err}
+use Rattle.std.specs.Prelude.{◌≡◌, ◌≢◌, ℕ, ◌+◌, ◌^◌, ◌<◌, ◌≤◌, ◌&&◌, ◌⊎◌, ◌↔◌, Bool, true, false, not, cond, length, min, List, [], ◌∷◌, Option, None, Some, Ok, Err}
 use Rattle.std.specs.FinMap as map
 use Rattle.std.specs.FinMap.{FinMap}
 use Rattle.std.specs.FinSet as set
@@ -32,7 +32,7 @@ new_link from to = record { caller = from; receiver = to; caller_connected = tru
 
 -- the world with a new link between two nodes, under the next number
 abbrev pub asked : World → Text → Text → World
-asked w from to = record { time = w.time; books = w.books; carried_over = w.carried_over; armed = w.armed; opened = w.opened + 1; links = map.insert w.links (w.opened + 1) (new_link from to) }
+asked w from to = record { time = w.time; books = w.books; stood = w.stood; armed = w.armed; opened = w.opened + 1; links = map.insert w.links (w.opened + 1) (new_link from to) }
 
 -- The caller proposes the pairs of the hop. Of them the receiver accepts those that its accept rows take, and no other.
 abbrev pub AcceptsOffered : Network → Text → Text → Contexts → Type 0
@@ -108,6 +108,7 @@ stays_connected (Err fault.Memory) = false
 stays_connected (Err fault.NoLine) = false
 stays_connected (Err fault.Conflict) = false
 stays_connected (Err fault.NotHeld) = false
+stays_connected (Err fault.NotOver) = false
 
 -- the link after its caller settled: open, the caller on or off
 abbrev pub after_settling : Link → Answer → Contexts → Link
@@ -236,8 +237,14 @@ links_without links name = map.retain_keys links (λ number. not (is_of name (ma
 abbrev pub Restarts : World → Text → List (Option Answer) → World → Type 0
 Restarts old name replies new = (mid : World) × LeaveAll old (callers_of old name) replies mid × (new ≡ with_links mid (links_without mid.links name))
 
+-- ---- forgetting
+
+-- over no link has the caller, still connected, an instance of the uid pending: whatever is answered yet is of another uid
+abbrev pub NoneIsPending : World → Text → Text → Type 0
+NoneIsPending w name uid = (number : ℕ) (link : Link) (item : Instance) → IsLink w number link → link.caller ≡ name → link.caller_connected ≡ true → pending link.stage ≡ Some item → item.uid ≢ uid
+
 -- ---- time
 
 -- the world so many milliseconds later, up to 2^62
 abbrev pub passed : World → ℕ → World
-passed w ms = record { time = min (w.time + ms) (2 ^ 62); books = w.books; carried_over = w.carried_over; armed = w.armed; links = w.links; opened = w.opened }
+passed w ms = record { time = min (w.time + ms) (2 ^ 62); books = w.books; stood = w.stood; armed = w.armed; links = w.links; opened = w.opened }

@@ -19,9 +19,9 @@ HeadlineHolds = (plan : Network) → IsSound plan → (actions : List Action) (l
 abbrev pub HeadlineHoldsOf : Network → Type 0
 HeadlineHoldsOf plan = (actions : List Action) (last : Network) (w : World) → Runs plan start actions last w → Headline last w
 
--- What a node has and keeps in the one world, it has and keeps in the other, unchanged; and its journal has grown at its end.
+-- What a node keeps in the one world, it keeps in the other, unchanged; and its journal has grown at its end.
 pub record Lasts (old new : World) : Type 0 where
-  pub items : (name uid : Text) (item : Instance) → map.get (old.books name).items uid ≡ Some item → map.get (new.books name).items uid ≡ Some item
+  pub items : (name uid : Text) (item : Instance) → set.contains (old.books name).kept uid ≡ true → map.get (old.books name).items uid ≡ Some item → map.get (new.books name).items uid ≡ Some item
   pub kept : (name uid : Text) → set.contains (old.books name).kept uid ≡ true → set.contains (new.books name).kept uid ≡ true
   pub journal : (name : Text) → (more : List Line) × ((new.books name).lines ≡ (old.books name).lines ++ more)
 

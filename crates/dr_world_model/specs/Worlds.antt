@@ -8,8 +8,6 @@ use Rattle.std.specs.FinSet.{FinSet}
 use Rattle.dr_base.specs.Texts.{Text, text_cmp}
 use Rattle.dr_plan_sound.specs.Certificates.{pair_cmp as context_cmp}
 use Rattle.dr_ledger.specs.declared.item.Instance.{Instance}
-use Rattle.dr_ledger.specs.declared.item.Progress.{Progress}
-use Rattle.dr_ledger.specs.Pairs.{pair_cmp}
 use Rattle.dr_ledger.specs.Books.{Book, empty_book}
 
 -- the pairs of a class and a transfer syntax that a receiver accepted
@@ -38,14 +36,14 @@ pub record Link : Type 0 where
 pub record World : Type 0 where
   pub time : ℕ  -- milliseconds
   pub books : Text → Book  -- the book of each node, and the empty one for other names
-  pub carried_over : Text → FinMap pair_cmp Progress  -- the rows of each that stood when the plan was adopted, none before an adoption
+  pub stood : Text → Book  -- the book of each as it stood when the plan was adopted, the empty one before an adoption
   pub armed : FinSet text_cmp  -- nodes whose next line the store is to refuse
   pub links : FinMap nat_cmp Link  -- by number
   pub opened : ℕ  -- how many links were ever opened
 
 -- the world before anything happens
 abbrev pub start : World
-start = record { time = 0; books = λ name. empty_book; carried_over = λ name. map.empty; armed = set.empty; links = map.empty; opened = 0 }
+start = record { time = 0; books = λ name. empty_book; stood = λ name. empty_book; armed = set.empty; links = map.empty; opened = 0 }
 
 -- the texts are equal
 abbrev pub same_text : Text → Text → Bool
@@ -57,15 +55,15 @@ books_with books name book other = cond (same_text other name) book (books other
 
 -- the world with this book at the node
 abbrev pub with_book : World → Text → Book → World
-with_book w name book = record { time = w.time; books = books_with w.books name book; carried_over = w.carried_over; armed = w.armed; links = w.links; opened = w.opened }
+with_book w name book = record { time = w.time; books = books_with w.books name book; stood = w.stood; armed = w.armed; links = w.links; opened = w.opened }
 
 -- the world with these nodes armed
 abbrev pub with_armed : World → FinSet text_cmp → World
-with_armed w armed = record { time = w.time; books = w.books; carried_over = w.carried_over; armed = armed; links = w.links; opened = w.opened }
+with_armed w armed = record { time = w.time; books = w.books; stood = w.stood; armed = armed; links = w.links; opened = w.opened }
 
 -- the world with these links
 abbrev pub with_links : World → FinMap nat_cmp Link → World
-with_links w links = record { time = w.time; books = w.books; carried_over = w.carried_over; armed = w.armed; links = links; opened = w.opened }
+with_links w links = record { time = w.time; books = w.books; stood = w.stood; armed = w.armed; links = links; opened = w.opened }
 
 -- the world with this link under its number, new or in place of the one that was there
 abbrev pub with_link : World → ℕ → Link → World

@@ -1,13 +1,14 @@
 //! Laws of the message world: what a reader may take from its definitions.
+ghost use Rattle.dr_world_model.specs.Among.{AllOursIsTheHeadline, OthersCanDo};
 ghost use Rattle.dr_world_model.specs.Endings.{LeavingTriesAgain, LeavingSettles, LeftIsOff, DroppedIsOff, RefusedCallersLeave, SettledBeforeStays, ClosedIsGone, RestartedHasNoLink, CallersAreThoseWhoCall};
 ghost use Rattle.dr_world_model.specs.Failing.{ClaimsCanFail};
 ghost use Rattle.dr_world_model.specs.Fitting.{ArmedNodesForbid, FirstUnfitIsOne, FitBooksMayTurn, LedgersFindTheFirst, OpenLinksForbid, UnfitRowsForbid};
 ghost use Rattle.dr_world_model.specs.Happening.{EventsHappen, ARefusalIsSpent, RestartsHappen, AdoptionsHappen, AnAdoptionRuns};
 ghost use Rattle.dr_world_model.specs.Pinning.{AgreeingIsByCount, AnsweredIsOpen, AreStatuses, ClosingSettles, ClosingTriesAgain, DropsLeaveTheCaller, EventsAreLocal, OthersAreCounted, ReceivedIsReplied, RejectedSettles, RejectedTriesAgain, RestartsAskAll, RestartsInOrder};
-ghost use Rattle.dr_world_model.specs.Spending.{ArrivalsSpendWell, RequeuingsSpendWell, SettlingsSpendWell};
+ghost use Rattle.dr_world_model.specs.Spending.{ArrivalsSpendWell, ForgettingsSpendWell, RequeuingsSpendWell, SettlingsSpendWell};
 ghost use Rattle.dr_world_model.specs.Strangers.{StrangersHaveNothing, TimeIsBounded};
 ghost use Rattle.dr_world_model.specs.Unchanged.{NothingIsMadeUp, WhatIsThereIsUnchanged};
-ghost use Rattle.dr_world_model.specs.Laws.{StepIsAFunction, AdoptionIsAFunction, OneHopRuns, TwoNodesRun, AcceptedAreTheHops, NumbersAreFresh, LinksAreHops, NothingGoesBack, ArmedAreNodes, NoneIsArmedAfterAdoption, JournalsAreHistories};
+ghost use Rattle.dr_world_model.specs.Laws.{AForgettingRuns, StepIsAFunction, AdoptionIsAFunction, OneHopRuns, TwoNodesRun, AcceptedAreTheHops, NumbersAreFresh, LinksAreHops, NothingGoesBack, ArmedAreNodes, NoneIsArmedAfterAdoption, JournalsAreHistories};
 
 /// A step is a function of the plan, the world, the event and its replies, but for whether a failing store spent a
 /// refusal; an adoption is a function of the two plans and the world.
@@ -19,6 +20,11 @@ pub fn a_step_is_a_function()
 /// One store over one hop can happen, from the start to the done row, over each plan that accepts it.
 pub fn one_hop_runs()
     ensures { OneHopRuns }
+{}
+
+/// What was sent on can be forgotten, and its uid comes again, with the same data set or another.
+pub fn a_forgetting_runs()
+    ensures { AForgettingRuns }
 {}
 
 /// In the plan of two nodes each image that enters at the scanner comes to the archive, which keeps it.
@@ -46,6 +52,7 @@ pub fn a_refusal_is_spent()
     ensures arrivals { ArrivalsSpendWell }
     ensures settlings { SettlingsSpendWell }
     ensures requeuings { RequeuingsSpendWell }
+    ensures forgettings { ForgettingsSpendWell }
 {}
 
 /// For each claim of the headline there are worlds of which it is false.
@@ -151,4 +158,11 @@ pub fn unfit_rows_forbid_adoptions()
 pub fn strangers_have_nothing()
     ensures nothing { StrangersHaveNothing }
     ensures time { TimeIsBounded }
+{}
+
+/// Where all nodes are ours, nobody else does anything, the runs among other makers' products are those of the message
+/// world, and the claims are its headline. Where some aren't, these do what they want.
+pub fn all_ours_is_the_headline()
+    ensures all { AllOursIsTheHeadline }
+    ensures others { OthersCanDo }
 {}

@@ -8,6 +8,7 @@
 
 pub mod laws;
 
+ghost use Rattle.dr_world_model.specs.Among.{HeadlineHoldsAmong};
 ghost use Rattle.dr_world_model.specs.Theorem.{HeadlineHolds, HeadlineHoldsOf, KeptStaysKept};
 
 use dr_cert::Sealed;
@@ -30,4 +31,13 @@ pub fn headline_of(sealed: &Sealed)
 /// What a node has and keeps lasts, unchanged, through further events and adoptions; journals only grow at their end.
 pub fn kept_stays_kept()
     ensures { KeptStaysKept }
+{}
+
+/// The headline of our nodes, whichever those are, among other makers' products that do whatever they want: nothing was
+/// refused for want of a presentation context between two of ours, each arrival at one of ours lies within its rank of
+/// where it entered our nodes, what one of ours answered with success it had, and each instance that one of ours
+/// acknowledged is kept, unchanged, at each of its destinations, or queued at one of ours on the way to it, or another
+/// product on the way answered with success.
+pub fn headline_among()
+    ensures { HeadlineHoldsAmong }
 {}
