@@ -48,6 +48,7 @@ status_by (Refused ledger.Conflict) = ends.Refused
 status_by (Refused ledger.Store) = ends.InputOutput
 status_by (Refused ledger.NotWaiting) = ends.Refused
 status_by (Refused ledger.NotHeld) = ends.Refused
+status_by (Refused ledger.NotOver) = ends.Refused
 status_by (Refused ledger.Memory) = ends.Memory
 status_by Receipt = ends.Refused
 status_by (Failed failure) = ends.InputOutput

@@ -79,6 +79,7 @@ pub fn code_of(fault: LedgerFault) -> &'static str {
         LedgerFault::Store => "G3 Store",
         LedgerFault::NotWaiting => "G4 NotWaiting",
         LedgerFault::NotHeld => "G5 NotHeld",
+        LedgerFault::NotOver => "G7 NotOver",
         LedgerFault::Memory => "Memory",
     }
 }
@@ -114,7 +115,8 @@ fn status_of_refusal(fault: LedgerFault) -> Status
         LedgerFault::NoLine
         | LedgerFault::Conflict
         | LedgerFault::NotWaiting
-        | LedgerFault::NotHeld => Status::Refused,
+        | LedgerFault::NotHeld
+        | LedgerFault::NotOver => Status::Refused,
     }
 }
 

@@ -19,6 +19,7 @@ fn is_store(fault: LedgerFault) -> bool
         | LedgerFault::Conflict
         | LedgerFault::NotWaiting
         | LedgerFault::NotHeld
+        | LedgerFault::NotOver
         | LedgerFault::Memory => false,
     }
 }
