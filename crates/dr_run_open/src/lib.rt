@@ -24,7 +24,7 @@ pub use answer::{PlanAnswer, answer_to_fault, tell_answer, words_or_none};
 pub use ending::finish;
 pub use halt::{Halt, code_of, tell_halt};
 pub use hops::{NextHop, hops_of};
-pub use instance::{InstanceFault, item_of};
+pub use instance::item_of;
 pub use ledgers::{Ledgers, OpenFault};
 pub use opening::{Opened, ledger_of, open_node, seal_files};
 pub use queues::{Row, RowStage, how_many, is_queued, oldest};

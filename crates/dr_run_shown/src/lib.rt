@@ -7,6 +7,6 @@
 #![tactic(auto)]
 
 pub mod laws;
-pub mod shown;
+mod shown;
 
 pub use shown::Escaped;

@@ -6,5 +6,4 @@ mod outcome;
 mod run;
 mod simulate;
 
-pub use outcome::{PlayOutcome, outcome_of};
 pub use run::run_offline;
