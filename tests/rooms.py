@@ -1,8 +1,8 @@
 #!/usr/bin/env python3
 """Looks at the rooms of crates.txt: `tests/rooms.py`.
 
-Each crate is in the section of its room, behind those of the room that it stands on; no arrow goes up to a later room, but for those that
-are named here; each folder of crates/ has its line; and the picture in docs/ is that of crates.txt.
+Each crate is in the section of its room, behind those of the room that it stands on; no arrow goes up to a later room; each folder of
+crates/ has its line; and the picture in docs/ is that of crates.txt.
 """
 import os
 import sys
@@ -20,8 +20,6 @@ OTHER_NAMES = {
     "dr_nego": "run", "dr_session": "run", "dr_desk": "run", "dr_desk_workers": "run", "dr_node": "world",
     "dr_certifier": "program", "dr_checker": "program", "dr_router": "program",
 }
-# Arrows that go up, which are to go: a running node takes files, hops, counts of rows and the text of a report from the words.
-UP = {("dr_run_serve", "dr_word_check"), ("dr_run_serve", "dr_word_list")}
 
 
 def faults():
@@ -33,13 +31,10 @@ def faults():
         if names[places[crate]] != own and not (own is None and f"{crate}_".startswith(f"dr_{names[places[crate]]}_")):
             yield f"{crate} is in the room {names[places[crate]]}"
         for library in listed()[crate][0]:
-            if places[library] > places[crate] and (crate, library) not in UP:
+            if places[library] > places[crate]:
                 yield f"{crate} stands on {library}, of a later room"
             if places[library] == places[crate] and order.index(library) > order.index(crate):
                 yield f"{crate} has its line before {library}, on which it stands"
-    for crate, library in UP:
-        if library not in listed()[crate][0]:
-            yield f"{crate} doesn't stand on {library} any more: take it from this test's list"
     for folder in sorted(os.listdir(f"{TOP}/crates")):
         if folder not in listed():
             yield f"crates/{folder} has no line"

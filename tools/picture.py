@@ -3,7 +3,7 @@
 
 The rooms are the sections of crates.txt, lowest first: a line '# ROOM: what it has', and the lines of its crates. Each is a box with its
 crates; an arrow goes from a room to one that it stands on, but where other arrows lead there too. An arrow to a later room is dashed:
-there should be none (tests/rooms.py names those that there are).
+tests/rooms.py lets none pass.
 """
 import os
 import sys

@@ -2,7 +2,8 @@
 //! `graph` and `lint`, and stands on no node and no link, so it is built long before the whole one.
 #![tactic(auto)]
 
-use dr_word_check::{Disk, Status, given_words, tell_unread_words};
+use dr_run_open::Status;
+use dr_word_check::{Disk, given_words, tell_unread_words};
 use dr_word_route::run_words;
 use std::io;
 use std::process::ExitCode;

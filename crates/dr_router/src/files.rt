@@ -1,12 +1,13 @@
 //! The system's files as databases, and ledgers in databases.
 ghost use Rattle.std.specs.Prelude.{◌≡◌, IfOk, false};
 
-use dr_run_report::{FileId, Paths, Place, SystemPaths};
+use dr_run_files::Files;
+use dr_run_open::{Ledgers, OpenFault};
+use dr_run_report::{FileId, Paths, ReportPlace, SystemPaths};
 use dr_site::Site;
 use dr_store::SqlLedger;
 use dr_store_open::{OpeningFault, ledger_on};
-use dr_word_check::{Disk, Files};
-use dr_word_list::{Ledgers, OpenFault};
+use dr_word_check::Disk;
 use sqlite::{Alter, Connection, Error, ErrorCode, File, FileStore};
 use std::alloc::Global;
 use std::io;
@@ -63,7 +64,7 @@ impl<'a> Files for SystemDisk<'a> {
 }
 
 impl<'a> Paths for SystemDisk<'a> {
-    fn place(&self, alloc: Global, path: &str) -> io::Result<Place> {
+    fn place(&self, alloc: Global, path: &str) -> io::Result<ReportPlace> {
         self.paths.place(alloc, path)
     }
 

@@ -1,11 +1,11 @@
 //! The program over anything that it can run on.
 use crate::files::{Databases, StoredLedgers};
+use dr_run_files::Files;
 use dr_run_net::Network;
+use dr_run_open::{Ledgers, Status};
 use dr_run_report::Paths;
 use dr_session::Clock;
 use dr_word_all::run_words;
-use dr_word_check::{Files, Status};
-use dr_word_list::Ledgers;
 use log::Log;
 use std::alloc::Global;
 use std::io::{Read, Write};

@@ -17,12 +17,11 @@
 //! `SystemClock` tells moments since 1970, and never goes back while the program runs.
 #![tactic(auto)]
 
-pub mod clock;
-pub mod network;
-pub mod socket;
-pub mod sockets;
+mod clock;
+mod network;
+mod socket;
+mod sockets;
 
 pub use clock::SystemClock;
 pub use network::{Listening, Network};
-pub use socket::Socket;
-pub use sockets::{Listener, Sockets};
+pub use sockets::Sockets;

@@ -58,7 +58,7 @@ impl<'a, R: Net<Stream = TcpStream, Listener = TcpListener>, C: Clock> Network
     for Sockets<'a, R, C> {
     type Socket = Socket<'a, TcpStream, C>;
 
-    type Listener = Listener<'a, C>;
+    type SystemListener = SystemListener<'a, C>;
 
     ghost reaches = { λ sockets address socket. Unit {0} };
 
@@ -68,24 +68,24 @@ impl<'a, R: Net<Stream = TcpStream, Listener = TcpListener>, C: Clock> Network
         Socket::new(alloc, stream, self.clock)
     }
 
-    fn listen(&self, alloc: Global, address: &Text) -> io::Result<Listener<'a, C>> {
+    fn listen(&self, alloc: Global, address: &Text) -> io::Result<SystemListener<'a, C>> {
         let listener = TcpListener::bind(self.rt, words_of(address)?)?;
-        Ok(Listener::new(alloc, listener, self.clock))
+        Ok(SystemListener::new(alloc, listener, self.clock))
     }
 }
 
 /// A listening socket of the system.
 #[derive(Drop)]
-pub struct Listener<'a, C: Clock> {
+pub struct SystemListener<'a, C: Clock> {
     alloc: Global,
     listener: TcpListener,
     clock: &'a C,
 }
 
-impl<'a, C: Clock> Listener<'a, C> {
+impl<'a, C: Clock> SystemListener<'a, C> {
     /// What is bound already.
-    pub fn new(alloc: Global, listener: TcpListener, clock: &'a C) -> Listener<'a, C> {
-        Listener {
+    pub fn new(alloc: Global, listener: TcpListener, clock: &'a C) -> SystemListener<'a, C> {
+        SystemListener {
             alloc,
             listener,
             clock,
@@ -93,7 +93,7 @@ impl<'a, C: Clock> Listener<'a, C> {
     }
 }
 
-impl<'a, C: Clock> Listening for Listener<'a, C> {
+impl<'a, C: Clock> Listening for SystemListener<'a, C> {
     type Socket = Socket<'a, TcpStream, C>;
 
     fn accept(&self) -> io::Result<Socket<'a, TcpStream, C>> {

@@ -2,9 +2,9 @@
 use Rattle.std.specs.Prelude.{◌≡◌, ◌⊎◌, List, Contains, Result, Ok, Err}
 use Rattle.dr_run_report.specs.Names.{IsLedgerName}
 use Rattle.dr_run_report.specs.declared.judging.FileId.{FileId}
-use Rattle.dr_run_report.specs.declared.judging.Found.{Found}
-use Rattle.dr_run_report.specs.declared.judging.Found.TheVariants.{Nothing, Report, Other}
-use Rattle.dr_run_report.specs.declared.judging.Place.{Place}
+use Rattle.dr_run_report.specs.declared.judging.PathTarget.{PathTarget}
+use Rattle.dr_run_report.specs.declared.judging.PathTarget.TheVariants.{Nothing, Report, Other}
+use Rattle.dr_run_report.specs.declared.judging.ReportPlace.{ReportPlace}
 use Rattle.dr_run_report.specs.declared.judging.ReportFault.{ReportFault}
 use Rattle.dr_run_report.specs.declared.judging.ReportFault.TheVariants.{OwnFile, NoReport}
 use Rattle.dr_run_report.specs.declared.judging.Spot.{Spot}
@@ -14,7 +14,7 @@ abbrev pub IsFileOf : List FileId → FileId → Type 0
 IsFileOf files id = (file : FileId) × Contains files file × (file ≡ id)
 
 -- what was found is one of the files, whatever it is called
-abbrev pub IsAmong : List FileId → Found → Type 0
+abbrev pub IsAmong : List FileId → PathTarget → Type 0
 IsAmong files Nothing = ⊥
 IsAmong files (Report id) = IsFileOf files id
 IsAmong files (Other id) = IsFileOf files id
@@ -29,11 +29,11 @@ IsTakenBy ledgers spot = (ledger : Spot) × Contains ledgers ledger × Takes spo
 
 -- the ledger takes the name, whether a file is there or not, or what is there is one of the node's
 -- own files
-abbrev pub IsOwn : List Spot → List FileId → Place → Type 0
+abbrev pub IsOwn : List Spot → List FileId → ReportPlace → Type 0
 IsOwn ledgers files place = IsTakenBy ledgers place.spot ⊎ IsAmong files place.found
 
 -- no file is there, or one that begins as a report does
-abbrev pub HasRoom : Found → Type 0
+abbrev pub HasRoom : PathTarget → Type 0
 HasRoom Nothing = Unit {0}
 HasRoom (Report id) = Unit {0}
 HasRoom (Other id) = ⊥
@@ -41,7 +41,7 @@ HasRoom (Other id) = ⊥
 -- What is answered of a place: a report may be written there just where it isn't the node's own and
 -- has room. That it is the node's own
 -- comes first.
-abbrev pub Judges : List Spot → List FileId → Place → Result (Unit {0}) ReportFault → Type 0
+abbrev pub Judges : List Spot → List FileId → ReportPlace → Result (Unit {0}) ReportFault → Type 0
 Judges ledgers files place (Ok done) = (IsOwn ledgers files place → ⊥) × HasRoom place.found
 Judges ledgers files place (Err OwnFile) = IsOwn ledgers files place
 Judges ledgers files place (Err NoReport) =

@@ -1,5 +1,5 @@
 //! What is asked of a file system before a report is written.
-use crate::judging::{FileId, Place, ReportFault, Spot, judge};
+use crate::judging::{FileId, ReportFault, ReportPlace, Spot, judge};
 use std::alloc::{AllocError, Global};
 use std::io;
 use std::io::ErrorKind;
@@ -7,7 +7,7 @@ use std::io::ErrorKind;
 /// A file system, as far as it is asked. What it answers is claimed by no contract.
 pub trait Paths {
     /// Where the path stands, and what it leads to.
-    fn place(&self, alloc: Global, path: &str) -> io::Result<Place>;
+    fn place(&self, alloc: Global, path: &str) -> io::Result<ReportPlace>;
 
     /// The path of the file to which the path leads over all links; None where no file is.
     fn real_path(&self, alloc: Global, path: &str) -> io::Result<Option<String>>;
@@ -74,7 +74,7 @@ fn spots_of<P: Paths>(alloc: Global, paths: &P, all: &[String]) -> io::Result<Ve
     let mut spots = Vec::new(alloc);
     for path in all {
         match paths.place(alloc, path.as_str()) {
-            Ok(Place { spot, .. }) => spots.push(spot)?,
+            Ok(ReportPlace { spot, .. }) => spots.push(spot)?,
             Err(error) if error.kind() == ErrorKind::NotFound => {}
             Err(error) => return Err(error),
         }

@@ -17,7 +17,7 @@ pub struct FileId {
 
 /// What a path leads to.
 #[derive(PartialEq, Eq, Debug, Drop)]
-pub enum Found {
+pub enum PathTarget {
     /// No file.
     Nothing,
     /// A plain file that begins as a report does.
@@ -35,9 +35,9 @@ pub struct Spot {
 
 /// Where a path stands, and what it leads to.
 #[derive(Debug, Drop)]
-pub struct Place {
+pub struct ReportPlace {
     pub spot: Spot,
-    pub found: Found,
+    pub found: PathTarget,
 }
 
 /// Why a report can't be written to a path.
@@ -69,13 +69,13 @@ fn is_listed(id: &FileId, files: &[FileId]) -> bool
 }
 
 /// Whether what was found is one of the files.
-fn is_among(found: &Found, files: &[FileId]) -> bool
+fn is_among(found: &PathTarget, files: &[FileId]) -> bool
     ensures { IsTrue result ↔ IsAmong files.now found.now }
 {
     match found {
-        Found::Nothing => false,
-        Found::Report(id) => is_listed(id, files),
-        Found::Other(id) => is_listed(id, files),
+        PathTarget::Nothing => false,
+        PathTarget::Report(id) => is_listed(id, files),
+        PathTarget::Other(id) => is_listed(id, files),
     }
 }
 
@@ -106,7 +106,7 @@ fn is_taken(ledgers: &[Spot], spot: &Spot) -> bool
 }
 
 /// Whether the place is one of the node's own.
-fn is_own(ledgers: &[Spot], files: &[FileId], place: &Place) -> bool
+fn is_own(ledgers: &[Spot], files: &[FileId], place: &ReportPlace) -> bool
     ensures { IsTrue result ↔ IsOwn ledgers.now files.now place.now }
 {
     if is_taken(ledgers, &place.spot) {
@@ -116,12 +116,12 @@ fn is_own(ledgers: &[Spot], files: &[FileId], place: &Place) -> bool
 }
 
 /// Whether nothing is lost where a report takes the place of what was found.
-fn has_room(found: &Found) -> bool
+fn has_room(found: &PathTarget) -> bool
     ensures { IsTrue result ↔ HasRoom found.now }
 {
     match found {
-        Found::Nothing | Found::Report(_) => true,
-        Found::Other(_) => false,
+        PathTarget::Nothing | PathTarget::Report(_) => true,
+        PathTarget::Other(_) => false,
     }
 }
 
@@ -130,7 +130,7 @@ fn has_room(found: &Found) -> bool
 /// node's own files that are there.
 ///
 /// Errors: OwnFile, NoReport.
-pub fn judge(ledgers: &[Spot], files: &[FileId], place: &Place) -> Result<(), ReportFault>
+pub fn judge(ledgers: &[Spot], files: &[FileId], place: &ReportPlace) -> Result<(), ReportFault>
     ensures { Judges ledgers.now files.now place.now result }
 {
     if is_own(ledgers, files, place) {

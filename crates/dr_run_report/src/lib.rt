@@ -8,14 +8,12 @@
 //! `SystemPaths` is the system's.
 #![tactic(auto)]
 
-pub mod asking;
-pub mod head;
-pub mod judging;
-pub mod names;
-pub mod system;
+mod asking;
+mod head;
+mod judging;
+mod names;
+mod system;
 
 pub use asking::{OwnPaths, Paths, test_path};
-pub use head::begins_as_report;
-pub use judging::{FileId, Found, Place, ReportFault, Spot, judge};
-pub use names::is_ledger_name;
+pub use judging::{FileId, ReportPlace};
 pub use system::SystemPaths;

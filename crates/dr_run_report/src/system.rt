@@ -1,7 +1,7 @@
 //! The system's files, as they are asked before a report is written.
 use crate::asking::Paths;
 use crate::head::begins_as_report;
-use crate::judging::{FileId, Found, Place, Spot};
+use crate::judging::{FileId, PathTarget, ReportPlace, Spot};
 use dr_base::Text;
 use std::alloc::Global;
 use std::fs::Metadata;
@@ -45,16 +45,16 @@ impl<'a> SystemPaths<'a> {
     }
 
     /// What a path leads to where no file is: nothing, or a link to nothing.
-    fn unfound(&self, path: &str) -> io::Result<Found> {
+    fn unfound(&self, path: &str) -> io::Result<PathTarget> {
         match fs::symlink_metadata(self.0, path) {
-            Ok(link) => Ok(Found::Other(id_of(&link))),
-            Err(error) if is_absent(&error) => Ok(Found::Nothing),
+            Ok(link) => Ok(PathTarget::Other(id_of(&link))),
+            Err(error) if is_absent(&error) => Ok(PathTarget::Nothing),
             Err(error) => Err(error),
         }
     }
 
     /// What the path leads to.
-    fn find(&self, path: &str) -> io::Result<Found> {
+    fn find(&self, path: &str) -> io::Result<PathTarget> {
         let metadata = match fs::metadata(self.0, path) {
             Ok(metadata) => metadata,
             Err(error) if is_absent(&error) => return self.unfound(path),
@@ -62,9 +62,9 @@ impl<'a> SystemPaths<'a> {
         };
         let id = id_of(&metadata);
         if metadata.is_file() && self.is_report(path)? {
-            return Ok(Found::Report(id));
+            return Ok(PathTarget::Report(id));
         }
-        Ok(Found::Other(id))
+        Ok(PathTarget::Other(id))
     }
 
     /// Where the path stands.
@@ -86,10 +86,10 @@ impl<'a> SystemPaths<'a> {
 }
 
 impl<'a> Paths for SystemPaths<'a> {
-    fn place(&self, alloc: Global, path: &str) -> io::Result<Place> {
+    fn place(&self, alloc: Global, path: &str) -> io::Result<ReportPlace> {
         let spot = self.spot(alloc, path)?;
         let found = self.find(path)?;
-        Ok(Place { spot, found })
+        Ok(ReportPlace { spot, found })
     }
 
     fn real_path(&self, alloc: Global, path: &str) -> io::Result<Option<String>> {

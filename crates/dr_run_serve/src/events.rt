@@ -3,14 +3,14 @@
 //! A line says what it is about (`node`, `association`, `instance`, `row`, `visit`, `queue`,
 //! `report`, `listener`) and what happened, with its parts as
 //! `key=value`. Of an instance only the UID is told. What a peer sent, as a title or a UID, goes
-//! through `Shown`, so that it can't begin a line or end a quote.
+//! through `Escaped`, so that it can't begin a line or end a quote.
 use crate::visit::Visit;
 use dr_base::Text;
 use dr_desk_workers::Tally;
 use dr_ledger::{Arrived, LedgerFault, Outcome, Progress};
-use dr_run_shown::Shown;
+use dr_run_open::code_of;
+use dr_run_shown::Escaped;
 use dr_session::{Ended, SessionFault};
-use dr_word_list::code_of;
 use log::{Log, debug, error, info, warn};
 use std::fmt::{Display, Formatter};
 use std::{fmt, io};
@@ -73,7 +73,7 @@ pub fn tell_arrival<G: Log>(
     uid: &Text,
     answer: Result<Arrived, LedgerFault>,
 ) {
-    let (caller, uid) = (Shown(caller.as_bytes()), Shown(uid.as_bytes()));
+    let (caller, uid) = (Escaped(caller.as_bytes()), Escaped(uid.as_bytes()));
     match answer {
         Ok(Arrived::New) => {
             debug!(log; target: "instance", "new session={session} caller=\"{caller}\" uid={uid}");
@@ -105,8 +105,8 @@ impl Display for Answer {
 /// Tells of a row that is held.
 fn tell_held<G: Log>(log: &G, uid: &Text, dest: &Text, outcome: Outcome) {
     let (uid, dest, answer) = (
-        Shown(uid.as_bytes()),
-        Shown(dest.as_bytes()),
+        Escaped(uid.as_bytes()),
+        Escaped(dest.as_bytes()),
         Answer(outcome),
     );
     warn!(log; target: "row", "held dest=\"{dest}\" uid={uid} status=\"{answer}\"");
@@ -115,8 +115,8 @@ fn tell_held<G: Log>(log: &G, uid: &Text, dest: &Text, outcome: Outcome) {
 /// Tells of a row that waits again: how often it was tried, and from when on it is due.
 fn tell_waiting<G: Log>(log: &G, uid: &Text, dest: &Text, outcome: Outcome, tries: u32, due: u64) {
     let (uid, dest, answer) = (
-        Shown(uid.as_bytes()),
-        Shown(dest.as_bytes()),
+        Escaped(uid.as_bytes()),
+        Escaped(dest.as_bytes()),
         Answer(outcome),
     );
     info!(log; target: "row", "waits dest=\"{dest}\" uid={uid} status=\"{answer}\" tries={tries} due={due}");
@@ -125,8 +125,8 @@ fn tell_waiting<G: Log>(log: &G, uid: &Text, dest: &Text, outcome: Outcome, trie
 /// Tells of a row that needs nobody's eye, with what happened to it in a word.
 fn tell_settled<G: Log>(log: &G, word: &str, uid: &Text, dest: &Text, outcome: Outcome) {
     let (uid, dest, answer) = (
-        Shown(uid.as_bytes()),
-        Shown(dest.as_bytes()),
+        Escaped(uid.as_bytes()),
+        Escaped(dest.as_bytes()),
         Answer(outcome),
     );
     debug!(log; target: "row", "{word} dest=\"{dest}\" uid={uid} status=\"{answer}\"");
@@ -157,7 +157,7 @@ pub fn tell_visit<G: Log>(
     visited: &Result<Visit, LedgerFault>,
     settled: u64,
 ) {
-    let dest = Shown(dest.as_bytes());
+    let dest = Escaped(dest.as_bytes());
     match visited {
         Ok(Visit::Idle) => {}
         Ok(Visit::Unreached(error)) => {
@@ -201,7 +201,7 @@ pub fn tell_holdings<G: Log>(log: &G, arrivals: usize, kept: usize, lines: u64) 
 /// Tells how many rows wait for a node, are held and are done, and from when on the first of those that wait is due.
 pub fn tell_queue<G: Log>(log: &G, dest: &Text, stages: [usize; 3], oldest: Option<u64>) {
     let [waiting, held, done] = stages;
-    let (dest, oldest) = (Shown(dest.as_bytes()), Moment(oldest));
+    let (dest, oldest) = (Escaped(dest.as_bytes()), Moment(oldest));
     info!(log; target: "queue", "has dest=\"{dest}\" waiting={waiting} held={held} done={done} oldest={oldest}");
 }
 

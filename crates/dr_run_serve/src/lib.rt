@@ -14,20 +14,19 @@
 //! That a thread runs, sleeps or is woken in time is claimed by no contract; a node that runs on loopback shows it.
 #![tactic(auto)]
 
-pub mod events;
-pub mod monitor;
-pub mod reporting;
-pub mod rounds;
-pub mod sending;
-pub mod serving;
-pub mod shutting;
-pub mod signal;
-pub mod tallied;
-pub mod visit;
-pub mod watch;
+mod events;
+mod monitor;
+mod reporting;
+mod rounds;
+mod sending;
+mod serving;
+mod shutting;
+mod signal;
+mod tallied;
+mod visit;
+mod watch;
 
 pub use monitor::{FileMonitor, Monitor};
 pub use sending::visit_each;
 pub use serving::{ServeFault, serve};
-pub use tallied::{OwnPort, SharedPort, Tallied};
-pub use visit::{Visit, visit_hop};
+pub use tallied::OwnPort;

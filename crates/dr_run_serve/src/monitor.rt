@@ -1,6 +1,6 @@
 //! What a running node is seen by: its log, and a file with what it has.
 use dr_base::Text;
-use dr_word_check::Files;
+use dr_run_files::Files;
 use log::kv::Source;
 use log::span::Spans;
 use log::{Log, Metadata, Record};

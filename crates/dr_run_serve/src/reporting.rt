@@ -4,7 +4,8 @@ use crate::monitor::Monitor;
 use dr_base::Text;
 use dr_desk::{Holdings, SharedDesk, Sharing};
 use dr_ledger::Ledger;
-use dr_word_list::{Hop, Stage, how_many, oldest, report_text};
+use dr_ledger_report::report_text;
+use dr_run_open::{NextHop, RowStage, how_many, oldest};
 use log::{Level, Log, log_enabled};
 use std::alloc::Global;
 use std::io;
@@ -32,19 +33,19 @@ impl Telling {
 
 /// When the node was told of last, by reports and by summaries.
 #[derive(Clone, Copy, PartialEq, Eq, Debug)]
-pub struct Told {
+pub struct LastTold {
     report: Telling,
     summary: Telling,
 }
 
-impl Told {
+impl LastTold {
     /// Nothing was told yet.
-    pub fn new() -> Told {
+    pub fn new() -> LastTold {
         let never = Telling {
             lines: None,
             next: 0,
         };
-        Told {
+        LastTold {
             report: never,
             summary: never,
         }
@@ -52,7 +53,7 @@ impl Told {
 }
 
 /// Logs how much the node has, and for each node to which it sends how many rows are at which stage.
-fn summarize<G: Log>(holdings: &Holdings, hops: &[Hop], log: &G) {
+fn summarize<G: Log>(holdings: &Holdings, hops: &[NextHop], log: &G) {
     tell_holdings(
         log,
         holdings.arrivals.len(),
@@ -62,9 +63,9 @@ fn summarize<G: Log>(holdings: &Holdings, hops: &[Hop], log: &G) {
     let rows = holdings.rows.as_slice();
     for hop in hops {
         let dest = &hop.dest;
-        let waiting = how_many(rows, dest, Stage::Waiting);
-        let held = how_many(rows, dest, Stage::Held);
-        let done = how_many(rows, dest, Stage::Done);
+        let waiting = how_many(rows, dest, RowStage::Waiting);
+        let held = how_many(rows, dest, RowStage::Held);
+        let done = how_many(rows, dest, RowStage::Done);
         tell_queue(log, dest, [waiting, held, done], oldest(rows, dest));
     }
 }
@@ -94,12 +95,12 @@ pub fn report_changes<R: Wait, L: Ledger, B: Sharing, G: Monitor>(
     rt: &R,
     alloc: Global,
     desk: &SharedDesk<L, B>,
-    hops: &[Hop],
-    told: Told,
+    hops: &[NextHop],
+    told: LastTold,
     now: u64,
     is_over: bool,
     monitor: &G,
-) -> Told {
+) -> LastTold {
     let mut told = told;
     let lines = desk.line_count(rt);
     let reports = monitor.wants_reports() && told.report.is_due(lines, now, is_over);

@@ -3,7 +3,7 @@ ghost use Rattle.std.specs.Prelude.{◌≡◌, ◌≤◌, ◌^◌, IfErr, false}
 
 use crate::events::tell_visit;
 use crate::monitor::Monitor;
-use crate::reporting::{PERIOD, Told, report_changes};
+use crate::reporting::{LastTold, PERIOD, report_changes};
 use crate::shutting::{Wake, is_shut};
 use crate::signal::{BEGIN, News};
 use crate::tallied::{SharedPort, Tallied};
@@ -12,8 +12,8 @@ use dr_base::Text;
 use dr_desk::{Pass, SharedDesk, Sharing};
 use dr_ledger::{Ledger, LedgerFault, Progress};
 use dr_run_net::{Listening, Network};
+use dr_run_open::NextHop;
 use dr_session::{Clock, Ended};
-use dr_word_list::Hop;
 use log::Log;
 use std::alloc::Global;
 use std::sync::Wait;
@@ -70,7 +70,7 @@ fn look<R: Wait, L: Ledger, B: Sharing, N: Network, C: Clock, G: Log>(
     alloc: Global,
     desk: &SharedDesk<L, B>,
     pass: &mut Pass<B>,
-    hop: &mut Hop,
+    hop: &mut NextHop,
     news: bool,
     network: &N,
     clock: &C,
@@ -120,7 +120,7 @@ fn round<R: Wait, L: Ledger, B: Sharing, N: Network, C: Clock, G: Log>(
     alloc: Global,
     desk: &SharedDesk<L, B>,
     pass: &mut Pass<B>,
-    hops: &mut [Hop],
+    hops: &mut [NextHop],
     news: bool,
     network: &N,
     clock: &C,
@@ -135,7 +135,7 @@ fn round<R: Wait, L: Ledger, B: Sharing, N: Network, C: Clock, G: Log>(
 }
 
 /// How long the one who sends may sleep, in milliseconds.
-fn sleep_for(hops: &[Hop], now: u64, all_well: bool) -> u64
+fn sleep_for(hops: &[NextHop], now: u64, all_well: bool) -> u64
     ensures longest { result ≤ 60000 }
     ensures rests { all_well ≡ false → result ≡ 1000 }
 {
@@ -161,7 +161,7 @@ fn send_rounds<
     alloc: Global,
     desk: &SharedDesk<L, B>,
     pass: &mut Pass<B>,
-    hops: &mut [Hop],
+    hops: &mut [NextHop],
     wake: &Wake<'_, D>,
     network: &N,
     clock: &C,
@@ -176,7 +176,7 @@ fn send_rounds<
         over: false,
         doubts: false,
     };
-    let mut told = Told::new();
+    let mut told = LastTold::new();
     for _ in rt.forever() {
         if news.doubts && wake.ends(rt, desk, log) {
             return;
@@ -210,7 +210,7 @@ pub fn send_all<
     alloc: Global,
     desk: &SharedDesk<L, B>,
     pass: Pass<B>,
-    hops: Vec<Hop>,
+    hops: Vec<NextHop>,
     wake: &Wake<'_, D>,
     network: &N,
     clock: &C,

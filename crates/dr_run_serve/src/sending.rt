@@ -6,9 +6,9 @@ use crate::tallied::Tallied;
 use crate::visit::visit_hop;
 use dr_ledger::LedgerFault;
 use dr_run_net::Network;
+use dr_run_open::NextHop;
 use dr_session::Clock;
 use dr_site::Site;
-use dr_word_list::Hop;
 use std::alloc::Global;
 
 /// Visits each hop of the site once, in order.
@@ -17,7 +17,7 @@ use std::alloc::Global;
 pub fn visit_each<N: Network, P: Tallied, C: Clock>(
     alloc: Global,
     site: &Site,
-    hops: &[Hop],
+    hops: &[NextHop],
     network: &N,
     port: &mut P,
     clock: &C,

@@ -15,9 +15,9 @@ use dr_desk::{CloseFault, Desk, Pass, SharedDesk, Sharing};
 use dr_desk_workers::{Connection, WorkersFault, workers};
 use dr_ledger::{Ledger, LedgerFault};
 use dr_run_net::{Listening, Network};
+use dr_run_open::NextHop;
 use dr_session::{Clock, Link};
 use dr_site::Site;
-use dr_word_list::Hop;
 use log::Log;
 use std::alloc::{AllocError, AllocFailed, Global};
 use std::marker::Brand;
@@ -205,7 +205,7 @@ fn serve_all<
     alloc: Global,
     desk: &SharedDesk<L, B>,
     own: Pass<B>,
-    hops: Vec<Hop>,
+    hops: Vec<NextHop>,
     listener: &D,
     links: u64,
     signal: &Signal,
@@ -262,7 +262,7 @@ fn serve_by<
     alloc: Global,
     desk: SharedDesk<L, B>,
     own: Pass<B>,
-    hops: Vec<Hop>,
+    hops: Vec<NextHop>,
     listener: &D,
     links: u64,
     network: &N,
@@ -301,7 +301,7 @@ fn serve_shared<
     rt: &R,
     alloc: Global,
     desk: SharedDesk<L, B>,
-    hops: Vec<Hop>,
+    hops: Vec<NextHop>,
     listener: &D,
     links: u64,
     network: &N,
@@ -367,7 +367,7 @@ fn share<
     ledger: L,
     site: Site,
     blank: Blank,
-    hops: Vec<Hop>,
+    hops: Vec<NextHop>,
     listener: &D,
     links: u64,
     network: &N,
@@ -411,7 +411,7 @@ pub fn serve<
     alloc: Global,
     ledger: L,
     site: Site,
-    hops: Vec<Hop>,
+    hops: Vec<NextHop>,
     listener: &D,
     links: u64,
     network: &N,

@@ -1,4 +1,4 @@
-//! What others sent, as a line of a log or of standard error shows it (`Shown`).
+//! What others sent, as a line of a log or of standard error shows it (`Escaped`).
 //!
 //! A title or a UID that a peer sent may hold any bytes. Shown as they are, a line feed would begin
 //! a line of its own, which anyone could forge, and an
@@ -7,6 +7,6 @@
 #![tactic(auto)]
 
 pub mod laws;
-pub mod shown;
+mod shown;
 
-pub use shown::Shown;
+pub use shown::Escaped;

@@ -16,7 +16,7 @@ const MOST: usize = 128;
 
 /// Bytes that another node sent, or that a person gave, as a line shows them, also between quotes.
 #[derive(Clone, Copy, Debug, Drop)]
-pub struct Shown<'a>(pub &'a [u8]);
+pub struct Escaped<'a>(pub &'a [u8]);
 
 /// Whether a byte is shown as it stands.
 fn is_plain(byte: u8) -> bool
@@ -121,7 +121,7 @@ fn write_bounded<W: fmt::Write>(f: &mut Formatter<W>, bytes: &[u8]) -> fmt::Resu
     write_cut(f, bytes)
 }
 
-impl<'a> Display for Shown<'a> {
+impl<'a> Display for Escaped<'a> {
     ghost use Rattle.std.specs.Prelude.{Some};
     ghost use Rattle.dr_run_shown.specs.Showing.{shown};
 

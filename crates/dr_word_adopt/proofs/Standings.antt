@@ -9,9 +9,9 @@ use Rattle.dr_base.specs.Texts.{Text}
 use Rattle.dr_cert.specs.Sealing.{Certified}
 use Rattle.dr_ledger.specs.Adopting.{IsFit, Unfits}
 use Rattle.dr_ledger.specs.Books.{Book, Adoption, after}
-use Rattle.dr_word_list.specs.Openings.{IsUnopened, Sites}
-use Rattle.dr_word_list.specs.declared.halt.Halt.{Halt}
-use Rattle.dr_word_list.specs.declared.halt.Halt.TheVariants.{NoPlan, NoCertificate, NoNode, NotOpened, NoInstance, Refused, Receipt, Failed, Memory}
+use Rattle.dr_run_open.specs.Openings.{IsUnopened, Sites}
+use Rattle.dr_run_open.specs.declared.halt.Halt.{Halt}
+use Rattle.dr_run_open.specs.declared.halt.Halt.TheVariants.{NoPlan, NoCertificate, NoNode, NotOpened, NoInstance, Refused, Receipt, Failed, Memory}
 use Rattle.dr_plan_model.proofs.Gathered.{Contains-cons_cases, Contains-here, Contains-there, nothing_in_nil}
 use Rattle.dr_plan_model.specs.Networks.{Network}
 use Rattle.dr_plan_model.specs.Plans.{NamesNoNode}
@@ -19,14 +19,14 @@ use Rattle.dr_site.specs.Parts.{Part, IsPartOf}
 use Rattle.dr_word_adopt.specs.Changes.{AreNames, ChangesBetween, IsOver, IsReady, IsSiteAt, StopsAt, came_of, name_of, path_in}
 use Rattle.dr_word_adopt.specs.Changings.{IsChanged, MayChange, OnlyFirstAreChanged}
 use Rattle.dr_word_adopt.specs.Lookings.{IsFound, IsLookBy, IsLookInto, IsStanding, IsUnseen, LooksAs, name_by}
-use Rattle.dr_word_adopt.specs.declared.change.Change.{Change}
-use Rattle.dr_word_adopt.specs.declared.change.Stop.{Stop}
+use Rattle.dr_word_adopt.specs.declared.change.Changeover.{Changeover}
+use Rattle.dr_word_adopt.specs.declared.change.Halted.{Halted}
 use Rattle.dr_word_adopt.specs.declared.standing.Standing.{Standing}
 use Rattle.dr_word_adopt.specs.declared.standing.Standing.TheVariants.{Ready, Over}
-use Rattle.dr_word_adopt.specs.declared.standing.Found.{Found}
-use Rattle.dr_word_adopt.specs.declared.standing.Found.TheVariants.{InForce, Next}
-use Rattle.dr_word_adopt.specs.declared.standing.Look.{Look}
-use Rattle.dr_word_adopt.specs.declared.standing.Look.TheVariants.{Stands, Unfit}
+use Rattle.dr_word_adopt.specs.declared.standing.FoundLedger.{FoundLedger}
+use Rattle.dr_word_adopt.specs.declared.standing.FoundLedger.TheVariants.{InForce, Next}
+use Rattle.dr_word_adopt.specs.declared.standing.LookedAt.{LookedAt}
+use Rattle.dr_word_adopt.specs.declared.standing.LookedAt.TheVariants.{Stands, Unfit}
 
 -- what is shown of an element shows one of them
 unmapped : {X Y : Type 0} (f : X → Y) (xs : List X) (y : Y) → Contains (map f xs) y → (x : X) × Contains xs x × (f x ≡ y)
@@ -120,7 +120,7 @@ module _ {L : Type 0} (opens : Text → L → Type 0) (site_of : L → Part) (bo
   stops_unseen names name (Failed failure) are among h = absurd h
 
   -- what comes of the change says what comes of it but for the node
-  pub between : (result : Result Change Stop) → MatchResult result (λ change. ChangesBetween opens site_of book stands folder old next (Ok change)) (λ stop. StopsAt opens site_of book stands folder old next stop.halt)
+  pub between : (result : Result Changeover Halted) → MatchResult result (λ change. ChangesBetween opens site_of book stands folder old next (Ok change)) (λ stop. StopsAt opens site_of book stands folder old next stop.halt)
       → ChangesBetween opens site_of book stands folder old next (came_of result)
   between (Ok change) h = h
   between (Err stop) h = h
@@ -138,7 +138,7 @@ module _ {L : Type 0} (opens : Text → L → Type 0) (site_of : L → Part) (bo
         )
 
     -- what a look into a ledger of the plan in force shows is what a look at the node shows
-    pub found_in_force : (l : L) → IsFound opens site_of path site own (InForce l) → (look : Look L) → IsLookInto site_of book stands next own l look → LooksAs opens site_of book stands folder old next name look
+    pub found_in_force : (l : L) → IsFound opens site_of path site own (InForce l) → (look : LookedAt L) → IsLookInto site_of book stands next own l look → LooksAs opens site_of book stands folder old next name look
     found_in_force l f (Stands (Ready last s)) h =
         let here : (site_of l).name ≡ name = ap (λ (p : Part). p.name) f.1 ∙ at_old.named in
         let there : (site_of l).name ≡ own.name = here ∙ sym at_next.named in
@@ -166,10 +166,10 @@ module _ {L : Type 0} (opens : Text → L → Type 0) (site_of : L → Part) (bo
         )
 
   -- what a look by the ledger that was found shows is what a look at the node shows
-  pub seen_by : (name : Text) (site own : Part) → IsSiteAt old name site → IsSiteAt next name own → (found : Found L) → IsFound opens site_of (path_in folder name) site own found
-      → (look : Look L) → IsLookBy site_of book stands next own found look → LooksAs opens site_of book stands folder old next name look
+  pub seen_by : (name : Text) (site own : Part) → IsSiteAt old name site → IsSiteAt next name own → (found : FoundLedger L) → IsFound opens site_of (path_in folder name) site own found
+      → (look : LookedAt L) → IsLookBy site_of book stands next own found look → LooksAs opens site_of book stands folder old next name look
   seen_by name site own at_old at_next (InForce l) f look h = found_in_force name (path_in folder name) refl site own at_old at_next l f look h
-  seen_by name site own at_old at_next (Next l) f look h = subst (λ (seen : Look L). LooksAs opens site_of book stands folder old next name seen) (sym h)
+  seen_by name site own at_old at_next (Next l) f look h = subst (λ (seen : LookedAt L). LooksAs opens site_of book stands folder old next name seen) (sym h)
       (found_over name (path_in folder name) refl site own at_old at_next l f)
 
 -- the site of a node that is found

@@ -4,17 +4,17 @@ use Rattle.dr_base.specs.Texts.{Text, text_cmp}
 use Rattle.dr_cert.specs.Sealing.{Certified}
 use Rattle.dr_ledger.specs.Adopting.{IsFit, Unfits}
 use Rattle.dr_ledger.specs.Books.{Book, Adoption, after}
-use Rattle.dr_word_list.specs.Openings.{IsSealedBy, SealsFiles}
-use Rattle.dr_word_list.specs.declared.halt.Halt.{Halt}
-use Rattle.dr_word_list.specs.declared.halt.Halt.TheVariants.{NoPlan, NoCertificate, NoNode, NotOpened, NoInstance, Refused, Receipt, Failed, Memory}
+use Rattle.dr_run_open.specs.Openings.{IsSealedBy, SealsFiles}
+use Rattle.dr_run_open.specs.declared.halt.Halt.{Halt}
+use Rattle.dr_run_open.specs.declared.halt.Halt.TheVariants.{NoPlan, NoCertificate, NoNode, NotOpened, NoInstance, Refused, Receipt, Failed, Memory}
 use Rattle.dr_word_line.specs.declared.words.PlanChange.{PlanChange}
 use Rattle.dr_plan_model.specs.Networks.{Network}
 use Rattle.dr_plan_model.specs.Plans.{NamesNoNode}
 use Rattle.dr_plan_model.specs.declared.plan.Node.{Node}
 use Rattle.dr_site.specs.Parts.{Part, IsPartOf}
-use Rattle.dr_word_adopt.specs.declared.change.Change.{Change}
-use Rattle.dr_word_adopt.specs.declared.change.Change.TheVariants.{Made, Unfit}
-use Rattle.dr_word_adopt.specs.declared.change.Stop.{Stop}
+use Rattle.dr_word_adopt.specs.declared.change.Changeover.{Changeover}
+use Rattle.dr_word_adopt.specs.declared.change.Changeover.TheVariants.{Made, Unfit}
+use Rattle.dr_word_adopt.specs.declared.change.Halted.{Halted}
 
 -- the name of a node
 abbrev pub name_of : Node → Text
@@ -74,7 +74,7 @@ module _ {L : Type 0} (opens : Text → L → Type 0) (site_of : L → Part) (bo
 
     -- What comes of the change. All nodes are over; or the first node, by the bytes of its name, that isn't ready is named with its first row that
     -- isn't fit, and those before it were found ready; or why it doesn't come to that.
-    abbrev pub ChangesBetween : Result Change Halt → Type 0
+    abbrev pub ChangesBetween : Result Changeover Halt → Type 0
     ChangesBetween (Ok Made) = (names : List Text) × AreNames old.plan names × All IsOver names
     ChangesBetween (Ok (Unfit name uid dest)) = (names before later : List Text) × AreNames old.plan names × (names ≡ before ++ name ∷ later) × All IsReady before × IsUnfitAt name uid dest
     ChangesBetween (Err halt) = StopsAt halt
@@ -91,11 +91,11 @@ module _ (holds : Text → Text → Type 0) (files : PlanChange) where
 
 -- what comes of the change from the plan in the first file to that in the third, each with its certificate, of the ledgers in the folder
 abbrev pub Changes : {L : Type 0} (holds : Text → Text → Type 0) (opens : Text → L → Type 0) (site_of : L → Part) (book : L → Book) (stands : L → Type 0) → PlanChange
-    → Result Change Halt → Type 0
+    → Result Changeover Halt → Type 0
 Changes holds opens site_of book stands files came = ((old next : Certified) × AreSealed holds files old next × ChangesBetween opens site_of book stands files.folder.now old next came)
     ⊎ ((halt : Halt) × (came ≡ Err halt) × AreUnsealed holds files halt)
 
 -- what is said of a change that stops: its halt
-abbrev pub came_of : Result Change Stop → Result Change Halt
+abbrev pub came_of : Result Changeover Halted → Result Changeover Halt
 came_of (Ok change) = Ok change
 came_of (Err stop) = Err stop.halt

@@ -3,17 +3,17 @@ use Rattle.std.specs.Prelude.{◌≡◌, ◌∷◌, ◌++◌, [], codes, Result,
 use Rattle.std.specs.declared.option.Option.{Option}
 use Rattle.std.specs.Io.KnownBytes.{Appends}
 use Rattle.dr_base.specs.Texts.{Text}
-use Rattle.dr_word_check.specs.declared.status.Status.{Status}
-use Rattle.dr_word_check.specs.declared.status.Status.TheVariants as ends
+use Rattle.dr_run_open.specs.declared.status.Status.{Status}
+use Rattle.dr_run_open.specs.declared.status.Status.TheVariants as ends
 use Rattle.dr_word_line.specs.declared.words.PlanChange.{PlanChange}
 use Rattle.dr_ledger.specs.Books.{Book}
-use Rattle.dr_word_list.specs.Ends.{printed_by, status_by}
-use Rattle.dr_word_list.specs.declared.halt.Halt.{Halt}
-use Rattle.dr_world_script.specs.Reports.{line_of}
+use Rattle.dr_run_open.specs.Ends.{printed_by, status_by}
+use Rattle.dr_run_open.specs.declared.halt.Halt.{Halt}
+use Rattle.dr_ledger_report.specs.Reports.{line_of}
 use Rattle.dr_site.specs.Parts.{Part}
 use Rattle.dr_word_adopt.specs.Changes.{Changes}
-use Rattle.dr_word_adopt.specs.declared.change.Change.{Change}
-use Rattle.dr_word_adopt.specs.declared.change.Change.TheVariants.{Made, Unfit}
+use Rattle.dr_word_adopt.specs.declared.change.Changeover.{Changeover}
+use Rattle.dr_word_adopt.specs.declared.change.Changeover.TheVariants.{Made, Unfit}
 
 -- what is printed where all nodes went over
 abbrev pub adopted_line : Text
@@ -24,7 +24,7 @@ abbrev pub unfit_line : Text → Text → Text → Text
 unfit_line node uid dest = line_of (codes "no") (codes "U1 Unfit" ∷ node ∷ uid ∷ dest ∷ [])
 
 -- what the word comes to is printed after what the output held, and the program ends with its status
-abbrev pub EndsChange : Result Change Halt → Option Text → Option Text → Status → Type 0
+abbrev pub EndsChange : Result Changeover Halt → Option Text → Option Text → Status → Type 0
 EndsChange (Ok Made) old new status = Appends old new adopted_line × (status ≡ ends.Success)
 EndsChange (Ok (Unfit node uid dest)) old new status = Appends old new (unfit_line node uid dest) × (status ≡ ends.Refused)
 EndsChange (Err halt) old new status = Appends old new (printed_by halt) × (status ≡ status_by halt)
@@ -33,4 +33,4 @@ EndsChange (Err halt) old new status = Appends old new (printed_by halt) × (sta
 -- it, and the exit status.
 abbrev pub Adopts : {L : Type 0} (holds : Text → Text → Type 0) (opens : Text → L → Type 0) (site_of : L → Part) (book : L → Book) (stands : L → Type 0) → PlanChange
     → Option Text → Option Text → Status → Type 0
-Adopts holds opens site_of book stands files old new status = (came : Result Change Halt) × Changes holds opens site_of book stands files came × EndsChange came old new status
+Adopts holds opens site_of book stands files old new status = (came : Result Changeover Halt) × Changes holds opens site_of book stands files came × EndsChange came old new status

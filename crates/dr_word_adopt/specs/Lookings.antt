@@ -4,17 +4,17 @@ use Rattle.dr_base.specs.Texts.{Text}
 use Rattle.dr_cert.specs.Sealing.{Certified}
 use Rattle.dr_ledger.specs.Adopting.{IsFit, Unfits}
 use Rattle.dr_ledger.specs.Books.{Book}
-use Rattle.dr_word_list.specs.declared.halt.Halt.{Halt}
-use Rattle.dr_word_list.specs.declared.halt.Halt.TheVariants.{NoPlan, NoCertificate, NoNode, NotOpened, NoInstance, Refused, Receipt, Failed, Memory}
+use Rattle.dr_run_open.specs.declared.halt.Halt.{Halt}
+use Rattle.dr_run_open.specs.declared.halt.Halt.TheVariants.{NoPlan, NoCertificate, NoNode, NotOpened, NoInstance, Refused, Receipt, Failed, Memory}
 use Rattle.dr_plan_model.specs.Plans.{NamesNoNode}
 use Rattle.dr_site.specs.Parts.{Part, IsPartOf}
 use Rattle.dr_word_adopt.specs.Changes.{IsOpenedFor, IsReady, IsUnfitAt}
 use Rattle.dr_word_adopt.specs.declared.standing.Standing.{Standing}
 use Rattle.dr_word_adopt.specs.declared.standing.Standing.TheVariants.{Ready, Over}
-use Rattle.dr_word_adopt.specs.declared.standing.Found.{Found}
-use Rattle.dr_word_adopt.specs.declared.standing.Found.TheVariants.{InForce, Next}
-use Rattle.dr_word_adopt.specs.declared.standing.Look.{Look}
-use Rattle.dr_word_adopt.specs.declared.standing.Look.TheVariants.{Stands, Unfit}
+use Rattle.dr_word_adopt.specs.declared.standing.FoundLedger.{FoundLedger}
+use Rattle.dr_word_adopt.specs.declared.standing.FoundLedger.TheVariants.{InForce, Next}
+use Rattle.dr_word_adopt.specs.declared.standing.LookedAt.{LookedAt}
+use Rattle.dr_word_adopt.specs.declared.standing.LookedAt.TheVariants.{Stands, Unfit}
 use Rattle.dr_word_adopt.specs.declared.standing.Looked.{Looked}
 use Rattle.dr_word_adopt.specs.declared.standing.Looked.TheVariants.{All as LookedAll, Unfit as UnfitAt}
 
@@ -31,7 +31,7 @@ IsUnseen old next name Receipt = ⊥
 IsUnseen old next name (Failed failure) = ⊥
 
 -- a ledger that was opened by the path: it is of the one site or of the other
-abbrev pub IsFound : {L : Type 0} (opens : Text → L → Type 0) (site_of : L → Part) → Text → Part → Part → Found L → Type 0
+abbrev pub IsFound : {L : Type 0} (opens : Text → L → Type 0) (site_of : L → Part) → Text → Part → Part → FoundLedger L → Type 0
 IsFound opens site_of path site own (InForce ledger) = opens path ledger × (site_of ledger ≡ site)
 IsFound opens site_of path site own (Next ledger) = opens path ledger × (site_of ledger ≡ own)
 
@@ -41,7 +41,7 @@ name_by site_of (Ready ledger own) = own.name
 name_by site_of (Over ledger) = (site_of ledger).name
 
 -- what a look into the ledger shows: its book stays as it is, and the next plan goes on with it, or not with its first unfit row
-abbrev pub IsLookInto : {L : Type 0} (site_of : L → Part) (book : L → Book) (stands : L → Type 0) → Certified → Part → L → Look L → Type 0
+abbrev pub IsLookInto : {L : Type 0} (site_of : L → Part) (book : L → Book) (stands : L → Type 0) → Certified → Part → L → LookedAt L → Type 0
 IsLookInto site_of book stands next own first (Stands (Ready last site)) = (site ≡ own) × (site_of last ≡ site_of first)
     × (stands last → (book last ≡ book first) × IsFit next.plan (site_of first).name (book first))
 IsLookInto site_of book stands next own first (Stands (Over last)) = ⊥
@@ -49,7 +49,7 @@ IsLookInto {L} site_of book stands next own first (Unfit uid dest) = (last : L) 
     × (stands last → (book last ≡ book first) × Unfits next.plan (site_of first).name (book first) (Some (uid, dest)))
 
 -- what a look into the ledger that was found shows: one of the next plan may stay as it is
-abbrev pub IsLookBy : {L : Type 0} (site_of : L → Part) (book : L → Book) (stands : L → Type 0) → Certified → Part → Found L → Look L → Type 0
+abbrev pub IsLookBy : {L : Type 0} (site_of : L → Part) (book : L → Book) (stands : L → Type 0) → Certified → Part → FoundLedger L → LookedAt L → Type 0
 IsLookBy site_of book stands next own (InForce ledger) look = IsLookInto site_of book stands next own ledger look
 IsLookBy site_of book stands next own (Next ledger) look = look ≡ Stands (Over ledger)
 
@@ -63,7 +63,7 @@ module _ {L : Type 0} (opens : Text → L → Type 0) (site_of : L → Part) (bo
     IsStanding (Over ledger) = IsOpenedFor opens site_of book stands folder next (site_of ledger).name ledger
 
     -- what a look at the node's ledger shows
-    abbrev pub LooksAs : Text → Look L → Type 0
+    abbrev pub LooksAs : Text → LookedAt L → Type 0
     LooksAs name (Stands standing) = (name_by site_of standing ≡ name) × IsStanding standing
     LooksAs name (Unfit uid dest) = IsUnfitAt opens site_of book stands folder old next name uid dest
 

@@ -3,15 +3,16 @@ ghost use Rattle.std.specs.Prelude.{◌≡◌, IfOk, MatchResult, Ok, Err};
 ghost use Rattle.dr_word_adopt.specs.Changes.{AreSealed, AreUnsealed, Changes, ChangesBetween, StopsAt, came_of};
 ghost use Rattle.dr_word_adopt.specs.Endings.{Adopts, EndsChange, unfit_line};
 
-use crate::change::{Change, Stop};
+use crate::change::{Changeover, Halted};
 use crate::changing::change_all;
 use crate::looking::look_at_all;
 use crate::names::{missing_in, names_of};
 use crate::standing::Looked;
 use dr_base::Text;
 use dr_cert::Sealed;
-use dr_word_check::{Failure, Files, PlanChange, Status};
-use dr_word_list::{Halt, Ledgers, seal_files, tell_halt};
+use dr_run_files::{Failure, Files};
+use dr_run_open::{Halt, Ledgers, Status, seal_files, tell_halt};
+use dr_word_line::PlanChange;
 use std::alloc::{AllocError, Global};
 use std::io;
 use std::io::Write;
@@ -52,19 +53,19 @@ fn change_between<'a, O: Ledgers>(
     folder: &str,
     old: &Sealed,
     next: &Sealed,
-) -> Result<Change, Stop<'a>>
+) -> Result<Changeover, Halted<'a>>
     ensures { MatchResult result (λ change. ChangesBetween (O.opens ledgers.now) O.Ledger.site O.Ledger.book O.Ledger.stands folder.now old.now next.now (Ok change)) (λ stop. StopsAt (O.opens ledgers.now) O.Ledger.site O.Ledger.book O.Ledger.stands folder.now old.now next.now stop.halt) }
 {
     let names = names_of(alloc, old.plan())?;
     if let Some(name) = missing_in(next.plan(), names.as_slice()) {
-        return Err(Stop::at(name, Halt::NoNode));
+        return Err(Halted::at(name, Halt::NoNode));
     }
     match look_at_all(alloc, ledgers, folder, old, next, names.as_slice()) {
         Ok(Looked::All(all)) => match change_all(all, next) {
-            Ok(()) => Ok(Change::Made),
+            Ok(()) => Ok(Changeover::Made),
             Err(stop) => Err(stop),
         },
-        Ok(Looked::Unfit(name, uid, dest)) => Ok(Change::Unfit(name, uid, dest)),
+        Ok(Looked::Unfit(name, uid, dest)) => Ok(Changeover::Unfit(name, uid, dest)),
         Err(stop) => Err(stop),
     }
 }
@@ -77,7 +78,7 @@ fn change_files<'a, F: Files, O: Ledgers>(
     files: &F,
     ledgers: &O,
     given: PlanChange<'a>,
-) -> Result<Change, Stop<'a>>
+) -> Result<Changeover, Halted<'a>>
     ensures { Changes (F.holds files.now) (O.opens ledgers.now) O.Ledger.site O.Ledger.book O.Ledger.stands given.entry (came_of result) }
 {
     match seal_both(alloc, files, given) {
@@ -87,7 +88,7 @@ fn change_files<'a, F: Files, O: Ledgers>(
             drop(old);
             came
         }
-        Err(halt) => Err(Stop { halt, node: None }),
+        Err(halt) => Err(Halted { halt, node: None }),
     }
 }
 
@@ -112,17 +113,17 @@ fn unfit_text(alloc: Global, node: &Text, uid: &Text, dest: &Text) -> Result<Tex
 /// Writes that all ledgers were changed, or which row isn't fit.
 fn tell_change<'a, W: Write>(
     alloc: Global,
-    change: &Change,
+    change: &Changeover,
     output: &mut W,
 ) -> Result<Status, Failure<'a>>
     ensures { IfOk result (EndsChange (Ok change.now) (W.contents output.old) (W.contents output.new)) }
 {
     match change {
-        Change::Made => {
+        Changeover::Made => {
             output.write_all(b"adopted\n")?;
             Ok(Status::Success)
         }
-        Change::Unfit(node, uid, dest) => {
+        Changeover::Unfit(node, uid, dest) => {
             let line = match unfit_text(alloc, node, uid, dest) {
                 Ok(line) => line,
                 Err(AllocError) => return Err(Failure::Stream(io::Error::from(AllocError))),
@@ -135,13 +136,13 @@ fn tell_change<'a, W: Write>(
 
 /// Writes why nothing was changed, or not all, and at which node, where it is at one.
 fn tell_stop<'a, W: Write, E: Write>(
-    stop: Stop<'a>,
+    stop: Halted<'a>,
     output: &mut W,
     faults: &mut E,
 ) -> Result<Status, Failure<'a>>
     ensures { IfOk result (EndsChange (Err stop.entry.halt) (W.contents output.old) (W.contents output.new)) }
 {
-    let Stop { halt, node } = stop;
+    let Halted { halt, node } = stop;
     let halt = match halt {
         Halt::Failed(failure) => return Err(failure),
         halt => halt,

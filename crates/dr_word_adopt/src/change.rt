@@ -2,12 +2,12 @@
 ghost use Rattle.std.specs.Prelude.{◌≡◌};
 
 use dr_base::Text;
-use dr_word_list::Halt;
+use dr_run_open::Halt;
 use std::alloc::AllocError;
 
 /// What a change of the plan at all nodes comes to.
 #[derive(Debug, Drop)]
-pub enum Change {
+pub enum Changeover {
     /// All ledgers are of the next plan.
     Made,
     /// No ledger has changed: at the first node, its first row with which the next plan doesn't go on is that of the instance of
@@ -17,41 +17,41 @@ pub enum Change {
 
 /// Why a change comes to nothing, or only to its beginning, and at which node that is, where it is at one.
 #[derive(Drop)]
-pub struct Stop<'a> {
+pub struct Halted<'a> {
     pub halt: Halt<'a>,
     pub node: Option<Text>,
 }
 
-impl<'a> From<Halt<'a>> for Stop<'a> {
+impl<'a> From<Halt<'a>> for Halted<'a> {
     ghost use Rattle.std.specs.Prelude.{◌≡◌};
 
     ghost from_gives = { λ halt stop. stop.halt ≡ halt };
 
-    fn from(halt: Halt<'a>) -> Stop<'a> {
-        Stop { halt, node: None }
+    fn from(halt: Halt<'a>) -> Halted<'a> {
+        Halted { halt, node: None }
     }
 }
 
-impl<'a> From<AllocError> for Stop<'a> {
+impl<'a> From<AllocError> for Halted<'a> {
     ghost use Rattle.std.specs.Prelude.{◌≡◌};
-    ghost use Rattle.dr_word_list.specs.declared.halt.Halt.TheVariants.{Memory};
+    ghost use Rattle.dr_run_open.specs.declared.halt.Halt.TheVariants.{Memory};
 
     ghost from_gives = { λ _ stop. stop.halt ≡ Memory };
 
-    fn from(_: AllocError) -> Stop<'a> {
-        Stop {
+    fn from(_: AllocError) -> Halted<'a> {
+        Halted {
             halt: Halt::Memory,
             node: None,
         }
     }
 }
 
-impl<'a> Stop<'a> {
+impl<'a> Halted<'a> {
     /// The halt, at the node of that name; where there is no memory for the name the halt is told without it.
-    pub fn at(name: &Text, halt: Halt<'a>) -> Stop<'a>
+    pub fn at(name: &Text, halt: Halt<'a>) -> Halted<'a>
         ensures { result.halt ≡ halt.entry }
     {
         let node = name.clone().ok();
-        Stop { halt, node }
+        Halted { halt, node }
     }
 }

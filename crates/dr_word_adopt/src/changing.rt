@@ -3,19 +3,19 @@ ghost use Rattle.std.specs.Prelude.{◌≡◌, All, MatchResult};
 ghost use Rattle.dr_word_adopt.specs.Changings.{IsChanged, IsUnchanged, MayChange, OnlyFirstAreChanged};
 ghost use Rattle.dr_word_adopt.specs.declared.standing.Standing.TheVariants.{Ready};
 
-use crate::change::Stop;
+use crate::change::Halted;
 use crate::standing::Standing;
 use dr_base::Text;
 use dr_cert::Sealed;
 use dr_ledger::Ledger;
+use dr_run_open::Halt;
 use dr_site::Site;
-use dr_word_list::Halt;
 use std::alloc::AllocError;
 
 /// Has a ledger adopt the next plan, of which `own` is its node's part.
 ///
 /// Errors: Refused with Store or Memory, at the node; Memory.
-fn adopt<'a, L: Ledger + Drop>(ledger: L, own: Site, next: &Sealed) -> Result<(), Stop<'a>>
+fn adopt<'a, L: Ledger + Drop>(ledger: L, own: Site, next: &Sealed) -> Result<(), Halted<'a>>
     requires { MayChange L.site L.book L.stands next.now (Ready ledger own) }
     ensures { MatchResult result (λ _. IsChanged L.site L.book L.stands next.now (Ready ledger own)) (λ stop. IsUnchanged stop.halt) }
 {
@@ -23,7 +23,7 @@ fn adopt<'a, L: Ledger + Drop>(ledger: L, own: Site, next: &Sealed) -> Result<()
     let node: Result<Text, AllocError> = own.name().clone();
     match ledger.adopt(next, own) {
         Ok(()) => Ok(()),
-        Err(fault) => Err(Stop {
+        Err(fault) => Err(Halted {
             halt: Halt::Refused(fault),
             node: node.ok(),
         }),
@@ -33,7 +33,7 @@ fn adopt<'a, L: Ledger + Drop>(ledger: L, own: Site, next: &Sealed) -> Result<()
 /// Has a ledger that may be changed adopt the next plan; one that is of it already stays as it is.
 ///
 /// Errors: those of `adopt`.
-fn change<'a, L: Ledger + Drop>(standing: Standing<L>, next: &Sealed) -> Result<(), Stop<'a>>
+fn change<'a, L: Ledger + Drop>(standing: Standing<L>, next: &Sealed) -> Result<(), Halted<'a>>
     requires { MayChange L.site L.book L.stands next.now standing }
     ensures { MatchResult result (λ _. IsChanged L.site L.book L.stands next.now standing) (λ stop. IsUnchanged stop.halt) }
 {
@@ -49,7 +49,7 @@ fn change<'a, L: Ledger + Drop>(standing: Standing<L>, next: &Sealed) -> Result<
 pub fn change_all<'a, L: Ledger + Drop>(
     all: Vec<Standing<L>>,
     next: &Sealed,
-) -> Result<(), Stop<'a>>
+) -> Result<(), Halted<'a>>
     requires { All (MayChange L.site L.book L.stands next.now) all.items }
     ensures { MatchResult result (λ _. All (IsChanged L.site L.book L.stands next.now) all.items) (λ stop. OnlyFirstAreChanged L.site L.book L.stands next.now all.items stop.halt) }
 {

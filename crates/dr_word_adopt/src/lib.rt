@@ -6,12 +6,11 @@
 //! All ledgers stay open from the first look to the last change, so that no node can begin to run in between.
 #![tactic(auto)]
 
-pub mod adopting;
-pub mod change;
-pub mod changing;
-pub mod looking;
-pub mod names;
-pub mod standing;
+mod adopting;
+mod change;
+mod changing;
+mod looking;
+mod names;
+mod standing;
 
 pub use adopting::adopt_files;
-pub use change::{Change, Stop};

@@ -1,17 +1,17 @@
 //! Looks into the nodes' ledgers, which change nothing.
 ghost use Rattle.std.specs.Prelude.{◌≡◌, ◌++◌, ◌∷◌, [], IfOk, MatchResult, OnOk};
 ghost use Rattle.std.specs.String.{string_bytes};
-ghost use Rattle.dr_word_list.specs.Openings.{IsUnopened, Sites};
+ghost use Rattle.dr_run_open.specs.Openings.{IsUnopened, Sites};
 ghost use Rattle.dr_word_adopt.specs.Changes.{AreNames, IsSiteAt, StopsAt, path_in};
 ghost use Rattle.dr_word_adopt.specs.Lookings.{AllLookAs, IsFound, IsLookBy, IsLookInto, IsUnseen, LooksAs};
 
-use crate::change::Stop;
-use crate::standing::{Found, Look, Looked, Standing};
+use crate::change::Halted;
+use crate::standing::{FoundLedger, Looked, LookedAt, Standing};
 use dr_base::Text;
 use dr_cert::Sealed;
 use dr_ledger::{Ledger, LedgerFault};
+use dr_run_open::{Halt, Ledgers, OpenFault, ledger_of};
 use dr_site::{Site, SiteFault};
-use dr_word_list::{Halt, Ledgers, OpenFault, ledger_of};
 use std::alloc::{AllocError, Global};
 
 /// The path of a node's ledger in the folder, as bytes: its name with `.db` behind it.
@@ -59,22 +59,26 @@ fn find<'a, O: Ledgers>(
     path: &str,
     site: &Site,
     own: &Site,
-) -> Result<Found<O::Ledger>, Halt<'a>>
+) -> Result<FoundLedger<O::Ledger>, Halt<'a>>
     ensures { MatchResult result (IsFound (O.opens ledgers.now) O.Ledger.site path.now site.now own.now) IsUnopened }
 {
     match ledger_of(alloc, ledgers, path, site) {
-        Ok(ledger) => return Ok(Found::InForce(ledger)),
+        Ok(ledger) => return Ok(FoundLedger::InForce(ledger)),
         Err(Halt::NotOpened(OpenFault::OtherSite)) => {}
         Err(halt) => return Err(halt),
     }
     let ledger = ledger_of(alloc, ledgers, path, own)?;
-    Ok(Found::Next(ledger))
+    Ok(FoundLedger::Next(ledger))
 }
 
 /// Looks whether the next plan goes on with all that a ledger of the plan in force has still to send. `own` is the node's part of the next plan.
 ///
 /// Errors: Store, Memory.
-fn look_into<L: Ledger + Drop>(ledger: L, own: Site, next: &Sealed) -> Result<Look<L>, LedgerFault>
+fn look_into<L: Ledger + Drop>(
+    ledger: L,
+    own: Site,
+    next: &Sealed,
+) -> Result<LookedAt<L>, LedgerFault>
     ensures { IfOk result (IsLookInto L.site L.book L.stands next.now own ledger) }
 {
     let mut ledger = ledger;
@@ -87,11 +91,11 @@ fn look_into<L: Ledger + Drop>(ledger: L, own: Site, next: &Sealed) -> Result<Lo
         }
     };
     match unfit {
-        None => Ok(Look::Stands(Standing::Ready(ledger, own))),
+        None => Ok(LookedAt::Stands(Standing::Ready(ledger, own))),
         Some((uid, dest)) => {
             drop(ledger);
             drop(own);
-            Ok(Look::Unfit(uid, dest))
+            Ok(LookedAt::Unfit(uid, dest))
         }
     }
 }
@@ -100,15 +104,15 @@ fn look_into<L: Ledger + Drop>(ledger: L, own: Site, next: &Sealed) -> Result<Lo
 ///
 /// Errors: Store, Memory.
 fn look_by<L: Ledger + Drop>(
-    found: Found<L>,
+    found: FoundLedger<L>,
     own: Site,
     next: &Sealed,
-) -> Result<Look<L>, LedgerFault>
+) -> Result<LookedAt<L>, LedgerFault>
     ensures { IfOk result (IsLookBy L.site L.book L.stands next.now own found) }
 {
     match found {
-        Found::Next(ledger) => Ok(Look::Stands(Standing::Over(ledger))),
-        Found::InForce(ledger) => look_into(ledger, own, next),
+        FoundLedger::Next(ledger) => Ok(LookedAt::Stands(Standing::Over(ledger))),
+        FoundLedger::InForce(ledger) => look_into(ledger, own, next),
     }
 }
 
@@ -146,7 +150,7 @@ fn find_in<'a, O: Ledgers>(
     name: &Text,
     site: &Site,
     own: &Site,
-) -> Result<Found<O::Ledger>, Halt<'a>>
+) -> Result<FoundLedger<O::Ledger>, Halt<'a>>
     ensures { MatchResult result (IsFound (O.opens ledgers.now) O.Ledger.site (path_in folder.now name.now) site.now own.now) IsUnopened }
 {
     match path_of(alloc, folder, name) {
@@ -165,7 +169,7 @@ fn look_at<'a, O: Ledgers>(
     old: &Sealed,
     next: &Sealed,
     name: &Text,
-) -> Result<Look<O::Ledger>, Halt<'a>>
+) -> Result<LookedAt<O::Ledger>, Halt<'a>>
     ensures { MatchResult result (LooksAs (O.opens ledgers.now) O.Ledger.site O.Ledger.book O.Ledger.stands folder.now old.now next.now name.now) (IsUnseen old.now next.now name.now) }
 {
     let (site, own) = match parts_of(alloc, old, next, name) {
@@ -208,16 +212,16 @@ pub fn look_at_all<'a, O: Ledgers>(
     old: &Sealed,
     next: &Sealed,
     names: &[Text],
-) -> Result<Looked<O::Ledger>, Stop<'a>>
+) -> Result<Looked<O::Ledger>, Halted<'a>>
     requires { AreNames old.now.plan names.now }
     ensures { MatchResult result (AllLookAs (O.opens ledgers.now) O.Ledger.site O.Ledger.book O.Ledger.stands folder.now old.now next.now names.now) (λ stop. StopsAt (O.opens ledgers.now) O.Ledger.site O.Ledger.book O.Ledger.stands folder.now old.now next.now stop.halt) }
 {
     let mut all = Vec::new(alloc);
     for name in names {
         match look_at(alloc, ledgers, folder, old, next, name) {
-            Ok(Look::Stands(standing)) => add(&mut all, standing)?,
-            Ok(Look::Unfit(uid, dest)) => return Ok(Looked::Unfit(name.clone()?, uid, dest)),
-            Err(halt) => return Err(Stop::at(name, halt)),
+            Ok(LookedAt::Stands(standing)) => add(&mut all, standing)?,
+            Ok(LookedAt::Unfit(uid, dest)) => return Ok(Looked::Unfit(name.clone()?, uid, dest)),
+            Err(halt) => return Err(Halted::at(name, halt)),
         }
     }
     Ok(Looked::All(all))

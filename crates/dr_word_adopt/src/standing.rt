@@ -5,7 +5,7 @@ use dr_site::Site;
 
 /// A node's ledger, as it was opened.
 #[derive(Drop)]
-pub enum Found<L: Ledger + Drop> {
+pub enum FoundLedger<L: Ledger + Drop> {
     /// It is of the plan in force.
     InForce(L),
     /// It is of the next plan already.
@@ -23,7 +23,7 @@ pub enum Standing<L: Ledger + Drop> {
 
 /// What a look into a node's ledger shows.
 #[derive(Drop)]
-pub enum Look<L: Ledger + Drop> {
+pub enum LookedAt<L: Ledger + Drop> {
     /// It may be changed.
     Stands(Standing<L>),
     /// The next plan doesn't go on with the row of the instance of this UID to that node.

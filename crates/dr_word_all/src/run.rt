@@ -5,10 +5,10 @@ ghost use Rattle.dr_base.specs.Texts.{Text};
 ghost use Rattle.dr_word_adopt.specs.Endings.{Adopts};
 ghost use Rattle.dr_word_check.specs.Runs.{Answers, Verifies};
 ghost use Rattle.dr_word_line.specs.Words.{IsPlainCheck, IsCheckOf, IsVerifyOf, IsQuestionOf, IsSimulateOf, IsEchoOf, IsDutyOf, IsAdoptOf};
-ghost use Rattle.dr_word_check.specs.declared.status.Status.TheVariants.{Success, Refused, Usage};
-ghost use Rattle.dr_word_line.specs.declared.words.Asked.TheVariants as asks;
+ghost use Rattle.dr_run_open.specs.declared.status.Status.TheVariants.{Success, Refused, Usage};
+ghost use Rattle.dr_word_line.specs.declared.words.Task.TheVariants as asks;
 ghost use Rattle.dr_word_line.specs.declared.words.Duty.{Duty as DutyValue};
-ghost use Rattle.dr_word_line.specs.declared.words.NodeFiles.{NodeFiles as NodeFilesValue};
+ghost use Rattle.dr_run_files.specs.declared.node.NodeFiles.{NodeFiles as NodeFilesValue};
 ghost use Rattle.dr_word_line.specs.declared.words.PlanChange.{PlanChange as PlanChangeValue};
 ghost use Rattle.dr_word_line.specs.declared.words.Question.{Question as QuestionValue};
 ghost use Rattle.dr_word_echo.specs.Runs.{Echoes};
@@ -17,14 +17,16 @@ ghost use Rattle.dr_word_serve.specs.Sending.{VisitsBy};
 ghost use Rattle.dr_word_serve.specs.Working.{Works};
 ghost use Rattle.dr_word_simulate.specs.Runs.{Simulates};
 
+use dr_run_files::{Failure, Files};
 use dr_run_net::Network;
+use dr_run_open::{Ledgers, Status};
 use dr_run_report::Paths;
 use dr_run_serve::OwnPort;
 use dr_session::{Clock, DeskPort};
 use dr_word_adopt::adopt_files;
-use dr_word_check::{Asked, Failure, Files, Status, read_words, tell_failure};
+use dr_word_check::tell_failure;
 use dr_word_echo::echo_files;
-use dr_word_list::Ledgers;
+use dr_word_line::{Task, read_words};
 use dr_word_serve::work_files;
 use dr_word_simulate::run_offline;
 use log::Log;
@@ -51,7 +53,7 @@ fn run_any<
 >(
     rt: &T,
     alloc: Global,
-    asked: Asked<'a>,
+    asked: Task<'a>,
     input: &mut R,
     output: &mut W,
     faults: &mut E,
@@ -82,15 +84,15 @@ where
     ensures adopted { (change : PlanChangeValue) → asked.entry ≡ asks.Adopt change → IfOk result (Adopts (F.holds files.now) (O.opens ledgers.now) O.Ledger.site O.Ledger.book O.Ledger.stands change (W.contents output.old) (W.contents output.new)) }
 {
     match asked {
-        Asked::Echo(plan, caller, called) => {
+        Task::Echo(plan, caller, called) => {
             echo_files(
                 alloc, files, plan, caller, called, network, clock, output, faults,
             )
         }
-        Asked::AtNode(given, duty) => work_files(
+        Task::AtNode(given, duty) => work_files(
             rt, alloc, files, ledgers, given, duty, network, clock, log, output, faults,
         ),
-        Asked::Adopt(change) => adopt_files(alloc, files, ledgers, change, output, faults),
+        Task::Adopt(change) => adopt_files(alloc, files, ledgers, change, output, faults),
         other => run_offline(alloc, other, input, output, faults, files),
     }
 }

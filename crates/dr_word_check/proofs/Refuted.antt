@@ -7,11 +7,11 @@ use Rattle.dr_check.specs.declared.fault.Fault.{Fault}
 use Rattle.dr_check.specs.Answering.{Judges}
 use Rattle.dr_check.specs.declared.verdict.Verdict.TheVariants.{No}
 use Rattle.dr_word_check.specs.Answers.{IsAnswerTo, IsLineOf}
-use Rattle.dr_word_check.specs.declared.answer.Answer.{Answer}
-use Rattle.dr_word_check.specs.declared.answer.Answer.TheVariants.{Sound, Unsound, NoPlan, TooLarge, Memory}
+use Rattle.dr_run_open.specs.declared.answer.PlanAnswer.{PlanAnswer}
+use Rattle.dr_run_open.specs.declared.answer.PlanAnswer.TheVariants.{Sound, Unsound, NoPlan, TooLarge, Memory}
 
 -- what is told of a shown fault is an answer to the text
-pub refuted : (text : Text) (plan : Network) (fault : Fault) (answer : Answer) → Reads text (Ok plan) → Judges plan (No fault) → IsLineOf fault answer → IsAnswerTo text answer
+pub refuted : (text : Text) (plan : Network) (fault : Fault) (answer : PlanAnswer) → Reads text (Ok plan) → Judges plan (No fault) → IsLineOf fault answer → IsAnswerTo text answer
 refuted text plan fault (Unsound printed why) reads judged is = record { plan = plan; fault = fault; reads = reads; judged = judged; printed = is }
 refuted text plan fault Memory reads judged is = tt
 refuted text plan fault (Sound printed) reads judged is = absurd is

@@ -1,5 +1,5 @@
 -- What the program answers to the text of a plan.
-use Rattle.std.specs.Prelude.{◌≡◌, ◌≢◌, [], Ok, Err}
+use Rattle.std.specs.Prelude.{◌≡◌, ◌≢◌, Ok, Err}
 use Rattle.dr_base.specs.Texts.{Text}
 use Rattle.dr_plan_model.specs.Networks.{Network}
 use Rattle.dr_plan.specs.Reading.{Reads}
@@ -10,10 +10,8 @@ use Rattle.dr_check.specs.Shown.{IsTooLarge}
 use Rattle.dr_check.specs.declared.verdict.Verdict.TheVariants.{No}
 use Rattle.dr_certify.specs.Certified.{IsCertified}
 use Rattle.dr_word_check.specs.Faults.{no_line}
-use Rattle.dr_word_check.specs.declared.answer.Answer.{Answer}
-use Rattle.dr_word_check.specs.declared.answer.Answer.TheVariants.{Sound, Unsound, NoPlan, TooLarge, Memory}
-use Rattle.dr_word_check.specs.declared.status.Status.{Status}
-use Rattle.dr_word_check.specs.declared.status.Status.TheVariants.{Success, Refused, Memory as OutOfMemory}
+use Rattle.dr_run_open.specs.declared.answer.PlanAnswer.{PlanAnswer}
+use Rattle.dr_run_open.specs.declared.answer.PlanAnswer.TheVariants.{Sound, Unsound, NoPlan, TooLarge, Memory}
 
 -- the text writes a plan of which this fault is named, the first of those that show themselves, and this is the fault's line
 pub record IsRefuted (text output : Text) : Type 0 where
@@ -23,16 +21,8 @@ pub record IsRefuted (text output : Text) : Type 0 where
   pub judged : Judges plan (No fault)
   pub printed : output ≡ no_line fault
 
--- the answer to a text that has no plan: its fault, with words for people about it, or want of memory
-abbrev pub IsNoPlan : Text → Answer → Type 0
-IsNoPlan text (NoPlan fault place) = Reads text (Err fault) × (fault ≢ NoMemory)
-IsNoPlan text Memory = Unit {0}
-IsNoPlan text (Sound printed) = ⊥
-IsNoPlan text (Unsound printed why) = ⊥
-IsNoPlan text TooLarge = ⊥
-
 -- the answer to a plan that has this fault: the fault's line, with words for people about it, or want of memory
-abbrev pub IsLineOf : Fault → Answer → Type 0
+abbrev pub IsLineOf : Fault → PlanAnswer → Type 0
 IsLineOf fault (Unsound printed why) = printed ≡ no_line fault
 IsLineOf fault Memory = Unit {0}
 IsLineOf fault (Sound printed) = ⊥
@@ -40,25 +30,9 @@ IsLineOf fault (NoPlan refused place) = ⊥
 IsLineOf fault TooLarge = ⊥
 
 -- what `check` may answer to a text; want of memory may be answered to any
-abbrev pub IsAnswerTo : Text → Answer → Type 0
+abbrev pub IsAnswerTo : Text → PlanAnswer → Type 0
 IsAnswerTo text (Sound printed) = IsCertified text printed
 IsAnswerTo text (Unsound printed why) = IsRefuted text printed
 IsAnswerTo text (NoPlan fault place) = Reads text (Err fault) × (fault ≢ NoMemory)
 IsAnswerTo text TooLarge = (plan : Network) × Reads text (Ok plan) × IsTooLarge plan
 IsAnswerTo text Memory = Unit {0}
-
--- what is printed for an answer to standard output: the certificate, or the line of a plan that isn't sound; else nothing
-abbrev pub printed_for : Answer → Text
-printed_for (Sound printed) = printed
-printed_for (Unsound printed why) = printed
-printed_for (NoPlan fault place) = []
-printed_for TooLarge = []
-printed_for Memory = []
-
--- the status with which the program ends for an answer: success for a sound plan, else refused, or out of memory
-abbrev pub status_for : Answer → Status
-status_for (Sound printed) = Success
-status_for (Unsound printed why) = Refused
-status_for (NoPlan fault place) = Refused
-status_for TooLarge = Refused
-status_for Memory = OutOfMemory

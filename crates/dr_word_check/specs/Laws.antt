@@ -5,10 +5,10 @@ use Rattle.dr_plan_model.specs.Networks.{Network}
 use Rattle.dr_plan.specs.Reading.{Reads}
 use Rattle.dr_certify.specs.Certified.{IsCertified}
 use Rattle.dr_word_check.specs.Verdicts.{IsVerdictOn}
-use Rattle.dr_word_check.specs.declared.verify.Verdict.{Verdict}
-use Rattle.dr_word_check.specs.declared.verify.Verdict.TheVariants.{Yes, Memory}
+use Rattle.dr_word_check.specs.declared.verify.Verification.{Verification}
+use Rattle.dr_word_check.specs.declared.verify.Verification.TheVariants.{Yes, Memory}
 
 -- to what `check` prints for a sound plan, `verify` answers yes, want of memory aside
 abbrev pub WhatCheckPrintsIsVerified : Type 0
 WhatCheckPrintsIsVerified = (text output : Text) → IsCertified text output → (plan : Network) → Reads text (Ok plan) →
-    (verdict : Verdict) → IsVerdictOn plan output verdict → (verdict ≡ Yes) ⊎ (verdict ≡ Memory)
+    (verdict : Verification) → IsVerdictOn plan output verdict → (verdict ≡ Yes) ⊎ (verdict ≡ Memory)

@@ -2,5 +2,4 @@ pub mod Answers
 pub mod Faults
 pub mod Laws
 pub mod Runs
-pub mod Statuses
 pub mod Verdicts

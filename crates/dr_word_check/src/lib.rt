@@ -6,18 +6,8 @@ mod answer;
 pub mod laws;
 mod print;
 mod run;
-mod status;
 mod system;
 mod verify;
 
-pub use answer::Answer;
-pub use dr_cert_text::add_field;
-pub use dr_word_line::{
-    Asked, Duty, KeyWords, NodeFiles, PlanChange, Question, Serving, Verbosity, read_words,
-};
-pub use run::{
-    Failure, Files, read_file, run_asked, run_words, tell_answer, tell_failure, tell_unread_words,
-};
-pub use status::Status;
+pub use run::{run_asked, run_words, tell_failure, tell_unread_words};
 pub use system::{Disk, given_words};
-pub use verify::{plan_of, seal_text};

@@ -3,93 +3,23 @@ ghost use Rattle.std.specs.Prelude.{◌≡◌, ◌≢◌, ◌⊎◌, ℕ, List, 
 ghost use Rattle.std.specs.Borrow.{Bor};
 ghost use Rattle.dr_base.specs.Texts.{Text};
 ghost use Rattle.std.specs.Io.KnownBytes.{Appends};
-ghost use Rattle.dr_word_check.specs.Answers.{printed_for};
 ghost use Rattle.dr_word_check.specs.Verdicts.{verdict_line};
 ghost use Rattle.dr_word_check.specs.Runs.{Answers, Verifies};
 ghost use Rattle.dr_word_line.specs.Words.{IsPlainCheck, IsCheckOf, IsVerifyOf};
-ghost use Rattle.dr_word_line.specs.declared.words.Asked.TheVariants as asks;
-ghost use Rattle.dr_word_check.specs.declared.status.Status.TheVariants.{Success, Refused, Usage, InputOutput, Memory};
+ghost use Rattle.dr_word_line.specs.declared.words.Task.TheVariants as asks;
+ghost use Rattle.dr_run_open.specs.declared.status.Status.TheVariants.{Success, Refused, Usage, InputOutput, Memory};
 
-use crate::answer::{Answer, answer_to};
-use crate::status::Status;
-use crate::verify::{Verdict, plan_of, verdict_on};
+use crate::answer::answer_to;
+use crate::verify::{Verification, verdict_on};
 use clap::Error;
 use clap::error::ErrorKind;
 use dr_certify::read_input;
-use dr_word_line::{Asked, read_words};
+use dr_run_files::{Failure, Files, read_file};
+use dr_run_open::{Status, plan_of, tell_answer};
+use dr_word_line::{Task, read_words};
 use std::alloc::{AllocError, Global};
 use std::io;
 use std::io::{Read, Write};
-
-/// What reads a named file.
-pub trait Files {
-    ghost use Rattle.std.specs.Prelude.{ℕ, List, IfOk};
-
-    /// A file of this path holds these bytes.
-    ghost holds: { Self → List ℕ → List ℕ → Type 0 };
-
-    /// The bytes of the file.
-    fn read(&self, alloc: Global, path: &str) -> io::Result<Vec<u8>>
-        ensures { IfOk result (λ bytes. holds self.now path.now bytes.items) };
-
-    /// Puts this text in the place of what the file held, if there is one: who opens it finds the one or the other, whole.
-    fn replace(&self, alloc: Global, path: &str, text: &[u8]) -> io::Result<()>;
-}
-
-/// Why a run couldn't be brought to its end.
-#[derive(Drop)]
-pub enum Failure<'a> {
-    /// The standard input or an output failed.
-    Stream(io::Error),
-    /// The file of this path wasn't read.
-    File(&'a str, io::Error),
-}
-
-impl<'a> From<io::Error> for Failure<'a> {
-    fn from(error: io::Error) -> Failure<'a> {
-        Failure::Stream(error)
-    }
-}
-
-/// The bytes of the file.
-///
-/// Errors: File.
-pub fn read_file<'a, F: Files>(
-    alloc: Global,
-    files: &F,
-    path: &'a str,
-) -> Result<Vec<u8>, Failure<'a>>
-    ensures { IfOk result (λ bytes. F.holds files.now path.now bytes.items) }
-{
-    match files.read(alloc, path) {
-        Ok(bytes) => Ok(bytes),
-        Err(error) => Err(Failure::File(path, error)),
-    }
-}
-
-/// Writes the answer: a certificate or the line of a plan that isn't sound to the output; to the faults why there is neither, and what
-/// there is to say to people of what is wrong.
-pub fn tell_answer<W: Write, E: Write>(
-    answer: &Answer,
-    output: &mut W,
-    faults: &mut E,
-) -> io::Result<()>
-    ensures { OnOk result (Appends (W.contents output.old) (W.contents output.new) (printed_for answer.now)) }
-{
-    match answer {
-        Answer::Sound(text) => output.write_all(text.as_bytes()),
-        Answer::Unsound(line, why) => {
-            output.write_all(line.as_bytes())?;
-            faults.write_all(why.as_bytes())
-        }
-        Answer::NoPlan(fault, place) => {
-            writeln!(faults, "dr_router: {fault}")?;
-            faults.write_all(place.as_bytes())
-        }
-        Answer::TooLarge => writeln!(faults, "dr_router: TooLarge"),
-        Answer::Memory => writeln!(faults, "dr_router: Memory"),
-    }
-}
 
 /// Answers to the text of a plan.
 fn answer_text<W: Write, E: Write>(
@@ -137,14 +67,14 @@ fn answer_file<'a, F: Files, W: Write, E: Write>(
 
 /// Writes the verdict to the output, and want of memory to the faults.
 fn tell_verdict<W: Write, E: Write>(
-    verdict: Verdict,
+    verdict: Verification,
     output: &mut W,
     faults: &mut E,
 ) -> io::Result<()>
     ensures { OnOk result (Appends (W.contents output.old) (W.contents output.new) (verdict_line verdict)) }
 {
     match verdict {
-        Verdict::Memory => writeln!(faults, "dr_router: Memory"),
+        Verification::Memory => writeln!(faults, "dr_router: Memory"),
         _ => output.write_all(verdict.line()),
     }
 }
@@ -253,7 +183,7 @@ fn tell_other_word<E: Write>(faults: &mut E) -> io::Result<Status>
 /// Errors: Stream, File.
 pub fn run_asked<'a, R: Read, W: Write, E: Write, F: Files>(
     alloc: Global,
-    asked: Asked<'a>,
+    asked: Task<'a>,
     input: &mut R,
     output: &mut W,
     faults: &mut E,
@@ -267,17 +197,17 @@ pub fn run_asked<'a, R: Read, W: Write, E: Write, F: Files>(
         → IfOk result (λ status. (text : Text) × F.holds files.now plan.now text × Verifies (F.holds files.now certificate.now) text (W.contents output.old) (W.contents output.new) status) }
 {
     match asked {
-        Asked::CheckInput => Ok(answer_input(alloc, input, output, faults)?),
-        Asked::CheckFile(path) => answer_file(alloc, files, path, output, faults),
-        Asked::Verify(plan, certificate) => {
+        Task::CheckInput => Ok(answer_input(alloc, input, output, faults)?),
+        Task::CheckFile(path) => answer_file(alloc, files, path, output, faults),
+        Task::Verify(plan, certificate) => {
             verify_files(alloc, files, plan, certificate, output, faults)
         }
-        Asked::Simulate(_, _, _)
-        | Asked::Echo(_, _, _)
-        | Asked::Question(_, _, _)
-        | Asked::AtNode(_, _)
-        | Asked::Adopt(_) => { Ok(tell_other_word(faults)?) }
-        Asked::Told(error) => Ok(tell_words(&error, output, faults)?),
+        Task::Simulate(_, _, _)
+        | Task::Echo(_, _, _)
+        | Task::Question(_, _, _)
+        | Task::AtNode(_, _)
+        | Task::Adopt(_) => { Ok(tell_other_word(faults)?) }
+        Task::Told(error) => Ok(tell_words(&error, output, faults)?),
     }
 }
 

@@ -1,5 +1,5 @@
 //! The words and the files of the system.
-use crate::run::Files;
+use dr_run_files::Files;
 use std::alloc::Global;
 use std::{env, fs, io};
 

@@ -1,17 +1,16 @@
 //! What the program answers to a plan and the text of a certificate.
 ghost use Rattle.std.specs.Prelude.{◌≡◌, ◌≢◌};
-ghost use Rattle.dr_word_check.specs.Verdicts.{IsVerdictOn, SealsText, verdict_line, verdict_status, ReadsPlan};
-ghost use Rattle.dr_word_check.specs.declared.status.Status.TheVariants.{Usage};
+ghost use Rattle.dr_word_check.specs.Verdicts.{IsVerdictOn, verdict_line, verdict_status};
+ghost use Rattle.dr_run_open.specs.declared.status.Status.TheVariants.{Usage};
 
-use crate::answer::{Answer, answer_to_fault};
-use crate::status::Status;
-use dr_cert::{CertFault, Sealed, read_certificate};
-use dr_plan::{Plan, read_plan};
+use dr_cert::CertFault;
+use dr_plan::Plan;
+use dr_run_open::{Status, seal_text};
 use std::alloc::Global;
 
 /// What the program answers to a plan and the text of a certificate.
 #[derive(Clone, Copy, PartialEq, Eq, Debug, Drop)]
-pub enum Verdict {
+pub enum Verification {
     /// The plan is sound, and the text is that of its certificate.
     Yes,
     /// The first fault of the certificate.
@@ -20,16 +19,16 @@ pub enum Verdict {
     Memory,
 }
 
-impl Verdict {
+impl Verification {
     /// The status with which the program ends, where the verdict is told.
     pub fn status(self) -> Status
         ensures told { result ≡ verdict_status self }
         ensures known { result ≢ Usage }
     {
         match self {
-            Verdict::Yes => Status::Success,
-            Verdict::No(_) => Status::Refused,
-            Verdict::Memory => Status::Memory,
+            Verification::Yes => Status::Success,
+            Verification::No(_) => Status::Refused,
+            Verification::Memory => Status::Memory,
         }
     }
 
@@ -38,51 +37,27 @@ impl Verdict {
         ensures { result.now ≡ verdict_line self }
     {
         match self {
-            Verdict::Yes => b"yes\n",
-            Verdict::No(CertFault::Text) => b"no\tC1 Text\n",
-            Verdict::No(CertFault::OtherPlan) => b"no\tC2 OtherPlan\n",
-            Verdict::No(CertFault::MissingLine) => b"no\tC3 MissingLine\n",
-            Verdict::No(CertFault::WrongRank) => b"no\tC4 WrongRank\n",
-            Verdict::No(CertFault::NoContext) => b"no\tC5 NoContext\n",
-            Verdict::No(CertFault::DeadEnd) => b"no\tC6 DeadEnd\n",
-            Verdict::No(CertFault::HopList) => b"no\tC7 HopList\n",
-            Verdict::No(CertFault::Order) => b"no\tC8 Order\n",
-            Verdict::No(CertFault::Memory) | Verdict::Memory => b"",
+            Verification::Yes => b"yes\n",
+            Verification::No(CertFault::Text) => b"no\tC1 Text\n",
+            Verification::No(CertFault::OtherPlan) => b"no\tC2 OtherPlan\n",
+            Verification::No(CertFault::MissingLine) => b"no\tC3 MissingLine\n",
+            Verification::No(CertFault::WrongRank) => b"no\tC4 WrongRank\n",
+            Verification::No(CertFault::NoContext) => b"no\tC5 NoContext\n",
+            Verification::No(CertFault::DeadEnd) => b"no\tC6 DeadEnd\n",
+            Verification::No(CertFault::HopList) => b"no\tC7 HopList\n",
+            Verification::No(CertFault::Order) => b"no\tC8 Order\n",
+            Verification::No(CertFault::Memory) | Verification::Memory => b"",
         }
     }
 }
 
-/// The plan of a text, or the answer to a text that has none.
-pub fn plan_of(alloc: Global, text: &[u8]) -> Result<Plan, Answer>
-    ensures { ReadsPlan text.now result }
-{
-    match read_plan(alloc, text) {
-        Ok(plan) => Ok(plan),
-        Err(fault) => Err(answer_to_fault(alloc, text, fault)),
-    }
-}
-
-/// A plan sealed by the certificate of a text: the plan is sound, and the certificate is its own.
-///
-/// Errors: the first fault of the certificate.
-pub fn seal_text(alloc: Global, plan: Plan, text: &[u8]) -> Result<Sealed, CertFault>
-    ensures { SealsText plan text.now result }
-{
-    let certificate = match read_certificate(alloc, text) {
-        Ok(certificate) => certificate,
-        Err(CertFault::Text) => return Err(CertFault::Text),
-        Err(_) => return Err(CertFault::Memory),
-    };
-    Sealed::new(alloc, plan, certificate)
-}
-
 /// The verdict on a plan and the text of a certificate.
-pub fn verdict_on(alloc: Global, plan: Plan, text: &[u8]) -> Verdict
+pub fn verdict_on(alloc: Global, plan: Plan, text: &[u8]) -> Verification
     ensures { IsVerdictOn plan text.now result }
 {
     match seal_text(alloc, plan, text) {
-        Ok(_) => Verdict::Yes,
-        Err(CertFault::Memory) => Verdict::Memory,
-        Err(fault) => Verdict::No(fault),
+        Ok(_) => Verification::Yes,
+        Err(CertFault::Memory) => Verification::Memory,
+        Err(fault) => Verification::No(fault),
     }
 }

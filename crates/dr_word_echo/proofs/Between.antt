@@ -6,11 +6,11 @@ use Rattle.dr_plan_model.specs.Plans.{IsTheNode}
 use Rattle.dr_plan_model.specs.declared.plan.Node.{Node}
 use Rattle.dr_session.specs.declared.ends.Heard.{Heard}
 use Rattle.dr_word_echo.specs.Outcomes.{IsAskedAt, IsOutcomeOf}
-use Rattle.dr_word_echo.specs.declared.outcome.Outcome.{Outcome}
-use Rattle.dr_word_echo.specs.declared.outcome.Outcome.TheVariants.{Answered, NoNode, Unreached, Failed, Memory}
+use Rattle.dr_word_echo.specs.declared.outcome.EchoOutcome.{EchoOutcome}
+use Rattle.dr_word_echo.specs.declared.outcome.EchoOutcome.TheVariants.{Answered, NoNode, Unreached, Failed, Memory}
 
 pub between : {L : Type 0} (reaches : Text → L → Type 0) (hears : L → Heard → L → Type 0) (sends : L → List ℕ → Bool → L → Type 0) (closes : L → L → Type 0) (tells : ℕ → Type 0)
-    (plan : Network) (caller called : Text) (x y : Node) → IsTheNode plan caller x → IsTheNode plan called y → (outcome : Outcome)
+    (plan : Network) (caller called : Text) (x y : Node) → IsTheNode plan caller x → IsTheNode plan called y → (outcome : EchoOutcome)
     → IsAskedAt reaches hears sends closes tells caller called y.address outcome → IsOutcomeOf reaches hears sends closes tells plan caller called outcome
 between reaches hears sends closes tells plan caller called x y is_x is_y (Answered echoed) asked = (x, y, is_x, is_y, asked)
 between reaches hears sends closes tells plan caller called x y is_x is_y (Failed why) asked = (x, y, is_x, is_y, asked)

@@ -5,18 +5,18 @@ use Rattle.dr_base.specs.Texts.{Text}
 use Rattle.dr_plan_model.specs.Networks.{Network}
 use Rattle.dr_plan_model.specs.Plans.{IsTheNode, NamesNoNode}
 use Rattle.dr_plan_model.specs.declared.plan.Node.{Node}
-use Rattle.dr_word_check.specs.declared.status.Status.{Status}
-use Rattle.dr_word_check.specs.declared.status.Status.TheVariants.{Success, Refused, InputOutput, Memory as OutOfMemory}
+use Rattle.dr_run_open.specs.declared.status.Status.{Status}
+use Rattle.dr_run_open.specs.declared.status.Status.TheVariants.{Success, Refused, InputOutput, Memory as OutOfMemory}
 use Rattle.dr_session.specs.Links.{EchoesAs}
 use Rattle.dr_session.specs.declared.ends.Heard.{Heard}
 use Rattle.dr_session.specs.declared.echo_desk.Echoed.{Echoed}
 use Rattle.dr_session.specs.declared.sessions.SessionFault.{SessionFault}
 use Rattle.dr_word_echo.specs.Lines.{echo_line}
-use Rattle.dr_word_echo.specs.declared.outcome.Outcome.{Outcome}
-use Rattle.dr_word_echo.specs.declared.outcome.Outcome.TheVariants.{Answered, NoNode, Unreached, Failed, Memory}
+use Rattle.dr_word_echo.specs.declared.outcome.EchoOutcome.{EchoOutcome}
+use Rattle.dr_word_echo.specs.declared.outcome.EchoOutcome.TheVariants.{Answered, NoNode, Unreached, Failed, Memory}
 
 -- the outcome tells of a session of which `Came` says what it came to; want of memory may end any
-abbrev pub TellsOf : (Result Echoed SessionFault → Type 0) → Outcome → Type 0
+abbrev pub TellsOf : (Result Echoed SessionFault → Type 0) → EchoOutcome → Type 0
 TellsOf Came (Answered echoed) = Came (Ok echoed)
 TellsOf Came (Failed why) = Came (Err why)
 TellsOf Came Memory = Unit {0}
@@ -29,7 +29,7 @@ module _ {L : Type 0} (reaches : Text → L → Type 0) (hears : L → Heard →
   ComesTo caller called address came = (link after : L) × reaches address link × EchoesAs hears sends closes tells caller called came link after
 
   -- the same as an outcome; nothing may answer at the address
-  abbrev pub IsAskedAt : Text → Text → Text → Outcome → Type 0
+  abbrev pub IsAskedAt : Text → Text → Text → EchoOutcome → Type 0
   IsAskedAt caller called address (Unreached error) = Unit {0}
   IsAskedAt caller called address outcome = TellsOf (ComesTo caller called address) outcome
 
@@ -39,13 +39,13 @@ module _ {L : Type 0} (reaches : Text → L → Type 0) (hears : L → Heard →
 
   -- What may come of an echo from one name to another, for a plan: one of the two is no node, or an echo comes to it; that nothing
   -- answers at the address, and want of memory, may come of any.
-  abbrev pub IsOutcomeOf : Network → Text → Text → Outcome → Type 0
+  abbrev pub IsOutcomeOf : Network → Text → Text → EchoOutcome → Type 0
   IsOutcomeOf plan caller called NoNode = NamesNoNode plan caller ⊎ NamesNoNode plan called
   IsOutcomeOf plan caller called (Unreached error) = Unit {0}
   IsOutcomeOf plan caller called outcome = TellsOf (ComesBetween plan caller called) outcome
 
 -- what is printed: the line of an echo, else nothing
-abbrev pub printed_for : Outcome → Text
+abbrev pub printed_for : EchoOutcome → Text
 printed_for (Answered echoed) = echo_line echoed
 printed_for NoNode = []
 printed_for (Unreached error) = []
@@ -58,7 +58,7 @@ status_by (Some status) = if status == 0 then Success else Refused
 status_by None = Refused
 
 -- the status with which the program ends for an outcome
-abbrev pub status_for : Outcome → Status
+abbrev pub status_for : EchoOutcome → Status
 status_for (Answered echoed) = status_by echoed.status
 status_for NoNode = Refused
 status_for (Unreached error) = InputOutput

@@ -5,18 +5,18 @@ use Rattle.std.specs.Io.KnownBytes.{Appends}
 use Rattle.dr_base.specs.Texts.{Text}
 use Rattle.dr_plan_model.specs.Networks.{Network}
 use Rattle.dr_plan.specs.Reading.{Reads}
-use Rattle.dr_word_check.specs.Runs.{Refuses}
-use Rattle.dr_word_check.specs.declared.status.Status.{Status}
+use Rattle.dr_run_open.specs.Answers.{Refuses}
+use Rattle.dr_run_open.specs.declared.status.Status.{Status}
 use Rattle.dr_session.specs.declared.ends.Heard.{Heard}
 use Rattle.dr_word_echo.specs.Outcomes.{IsOutcomeOf, printed_for, status_for}
-use Rattle.dr_word_echo.specs.declared.outcome.Outcome.{Outcome}
+use Rattle.dr_word_echo.specs.declared.outcome.EchoOutcome.{EchoOutcome}
 
 -- a run for a text that has a plan: an outcome, of which `MayCome` says that it may come of the plan, is printed after what the output
 -- held, and the program ends with its status
-pub record Asks (MayCome : Network → Outcome → Type 0) (text : Text) (old new : Option (List ℕ)) (status : Status) : Type 0 where
+pub record Asks (MayCome : Network → EchoOutcome → Type 0) (text : Text) (old new : Option (List ℕ)) (status : Status) : Type 0 where
   pub plan : Network
   pub reads : Reads text (Ok plan)
-  pub outcome : Outcome
+  pub outcome : EchoOutcome
   pub right : MayCome plan outcome
   pub printed : Appends old new (printed_for outcome)
   pub ends : status ≡ status_for outcome

@@ -5,11 +5,12 @@ ghost use Rattle.dr_base.specs.Texts.{Text};
 ghost use Rattle.dr_word_echo.specs.Outcomes.{printed_for};
 ghost use Rattle.dr_word_echo.specs.Runs.{Echoes};
 
-use crate::outcome::{Outcome, outcome_of};
+use crate::outcome::{EchoOutcome, outcome_of};
 use crate::print::line_of;
+use dr_run_files::{Failure, Files, read_file};
 use dr_run_net::Network;
+use dr_run_open::{Status, plan_of, tell_answer};
 use dr_session::Clock;
-use dr_word_check::{Failure, Files, Status, plan_of, read_file, tell_answer};
 use std::alloc::Global;
 use std::io;
 use std::io::Write;
@@ -17,7 +18,7 @@ use std::io::Write;
 /// Writes the outcome: the line of an echo to the output, and why there is none to the faults.
 fn tell_outcome<W: Write, E: Write>(
     alloc: Global,
-    outcome: &Outcome,
+    outcome: &EchoOutcome,
     called: &str,
     output: &mut W,
     faults: &mut E,
@@ -25,14 +26,14 @@ fn tell_outcome<W: Write, E: Write>(
     ensures { OnOk result (Appends (W.contents output.old) (W.contents output.new) (printed_for outcome.now)) }
 {
     match outcome {
-        Outcome::Answered(echoed) => {
+        EchoOutcome::Answered(echoed) => {
             let line = line_of(alloc, *echoed)?;
             output.write_all(line.as_bytes())
         }
-        Outcome::NoNode => writeln!(faults, "dr_router: NoNode"),
-        Outcome::Unreached(error) => writeln!(faults, "dr_router: {called}: {error}"),
-        Outcome::Failed(fault) => writeln!(faults, "dr_router: {fault}"),
-        Outcome::Memory => writeln!(faults, "dr_router: Memory"),
+        EchoOutcome::NoNode => writeln!(faults, "dr_router: NoNode"),
+        EchoOutcome::Unreached(error) => writeln!(faults, "dr_router: {called}: {error}"),
+        EchoOutcome::Failed(fault) => writeln!(faults, "dr_router: {fault}"),
+        EchoOutcome::Memory => writeln!(faults, "dr_router: Memory"),
     }
 }
 

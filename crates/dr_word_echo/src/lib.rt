@@ -7,4 +7,3 @@ mod outcome;
 mod print;
 
 pub use echoing::echo_files;
-pub use outcome::{Outcome, outcome_of};

@@ -8,14 +8,14 @@ ghost use Rattle.dr_word_echo.specs.Outcomes.{IsAskedAt, IsOutcomeOf, TellsOf, s
 use dr_base::Text;
 use dr_plan_model::{Node, Plan};
 use dr_run_net::Network;
+use dr_run_open::Status;
 use dr_session::{Clock, Echoed, Link, SessionFault, echo};
-use dr_word_check::Status;
 use std::alloc::{AllocError, Global};
 use std::io;
 
 /// What comes of an echo from one node of a plan to another.
 #[derive(Debug, Drop)]
-pub enum Outcome {
+pub enum EchoOutcome {
     /// How the association ended, with the status of the response, if one came.
     Answered(Echoed),
     /// One of the two is no node of the plan.
@@ -28,20 +28,20 @@ pub enum Outcome {
     Memory,
 }
 
-impl Outcome {
+impl EchoOutcome {
     /// The status with which the program ends, where the outcome is told: success for an echo whose status is 0000H alone.
     pub fn status(&self) -> Status
         ensures { result ≡ status_for self.now }
     {
         match self {
-            Outcome::Answered(echoed) => match echoed.status {
+            EchoOutcome::Answered(echoed) => match echoed.status {
                 Some(0) => Status::Success,
                 _ => Status::Refused,
             },
-            Outcome::NoNode => Status::Refused,
-            Outcome::Unreached(_) => Status::InputOutput,
-            Outcome::Failed(_) => Status::InputOutput,
-            Outcome::Memory => Status::Memory,
+            EchoOutcome::NoNode => Status::Refused,
+            EchoOutcome::Unreached(_) => Status::InputOutput,
+            EchoOutcome::Failed(_) => Status::InputOutput,
+            EchoOutcome::Memory => Status::Memory,
         }
     }
 }
@@ -62,15 +62,15 @@ fn answer<L: Link, C: Clock>(
     caller: &Text,
     called: &Text,
     clock: &C,
-) -> Outcome
+) -> EchoOutcome
     requires caller { IsName caller.now }
     requires called { IsName called.now }
     ensures { TellsOf (λ came. EchoesAs L.hears L.sends L.closes (C.tells clock.now) caller.now called.now came link.old link.new) result }
 {
     match echo(alloc, link, caller, called, clock) {
-        Ok(echoed) => Outcome::Answered(echoed),
-        Err(SessionFault::Memory) => Outcome::Memory,
-        Err(fault) => Outcome::Failed(fault),
+        Ok(echoed) => EchoOutcome::Answered(echoed),
+        Err(SessionFault::Memory) => EchoOutcome::Memory,
+        Err(fault) => EchoOutcome::Failed(fault),
     }
 }
 
@@ -82,7 +82,7 @@ fn ask<N: Network, C: Clock>(
     address: &Text,
     network: &N,
     clock: &C,
-) -> Outcome
+) -> EchoOutcome
     requires caller { IsName caller.now }
     requires called { IsName called.now }
     ensures { IsAskedAt (N.reaches network.now) N.Socket.hears N.Socket.sends N.Socket.closes (C.tells clock.now) caller.now called.now address.now result }
@@ -91,9 +91,9 @@ fn ask<N: Network, C: Clock>(
         Ok(link) => link,
         Err(error) => {
             if error.kind() == io::ErrorKind::OutOfMemory {
-                return Outcome::Memory;
+                return EchoOutcome::Memory;
             }
-            return Outcome::Unreached(error);
+            return EchoOutcome::Unreached(error);
         }
     };
     answer(alloc, &mut link, caller, called, clock)
@@ -107,14 +107,14 @@ fn outcome_between<N: Network, C: Clock>(
     called: &Text,
     network: &N,
     clock: &C,
-) -> Outcome
+) -> EchoOutcome
     ensures { IsOutcomeOf (N.reaches network.now) N.Socket.hears N.Socket.sends N.Socket.closes (C.tells clock.now) plan.now caller.now called.now result }
 {
     let Some(_known) = known_node(plan, caller) else {
-        return Outcome::NoNode;
+        return EchoOutcome::NoNode;
     };
     let Some(node) = known_node(plan, called) else {
-        return Outcome::NoNode;
+        return EchoOutcome::NoNode;
     };
     ask(alloc, caller, called, &node.address, network, clock)
 }
@@ -127,14 +127,14 @@ pub fn outcome_of<N: Network, C: Clock>(
     called: &str,
     network: &N,
     clock: &C,
-) -> Outcome
+) -> EchoOutcome
     ensures { IsOutcomeOf (N.reaches network.now) N.Socket.hears N.Socket.sends N.Socket.closes (C.tells clock.now) plan.now caller.now called.now result }
 {
     let Ok(caller) = Text::copy_of(alloc, caller.as_bytes()) else {
-        return Outcome::Memory;
+        return EchoOutcome::Memory;
     };
     let Ok(called) = Text::copy_of(alloc, called.as_bytes()) else {
-        return Outcome::Memory;
+        return EchoOutcome::Memory;
     };
     outcome_between(alloc, plan, &caller, &called, network, clock)
 }

@@ -3,8 +3,8 @@ ghost use Rattle.std.specs.Prelude.{◌≡◌, ◌++◌, ◌∷◌, IfOk, OnOk, 
 ghost use Rattle.dr_word_echo.specs.Lines.{echo_fields, echo_line, ended_fields, status_digits};
 
 use dr_base::Text;
+use dr_cert_text::add_field;
 use dr_session::{Echoed, Ended};
-use dr_word_check::add_field;
 use std::alloc::{AllocError, Global};
 
 const LF: u8 = 10;

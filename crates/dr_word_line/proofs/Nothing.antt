@@ -1,12 +1,12 @@
 -- Words of no plain form ask for nothing.
 use Rattle.std.specs.Prelude.{ℕ, List}
 use Rattle.std.specs.Borrow.{Bor}
-use Rattle.dr_word_line.specs.declared.words.Asked.{Asked}
-use Rattle.dr_word_line.specs.declared.words.Asked.TheVariants as asks
+use Rattle.dr_word_line.specs.declared.words.Task.{Task}
+use Rattle.dr_word_line.specs.declared.words.Task.TheVariants as asks
 use Rattle.dr_word_line.specs.declared.words.Duty.{Duty}
 use Rattle.dr_word_line.specs.declared.words.Duty.TheVariants as duties
 use Rattle.dr_word_line.specs.declared.words.KeyWords.{KeyWords}
-use Rattle.dr_word_line.specs.declared.words.NodeFiles.{NodeFiles}
+use Rattle.dr_run_files.specs.declared.node.NodeFiles.{NodeFiles}
 use Rattle.dr_word_line.specs.declared.words.PlanChange.{PlanChange}
 use Rattle.dr_word_line.specs.declared.words.Question.TheVariants as questions
 use Rattle.dr_word_line.specs.Words.{Asks, IsAdoptOf, IsCheckOf, IsDutyOf, IsEchoOf, IsFileRouteOf, IsGraphOf, IsKeyRouteOf, IsLintOf, IsListOf, IsPlainCheck, IsRequeueAllOf, IsRequeueOf, IsSendOf, IsServeOf, IsSimulateOf, IsSummaryOf, IsVerifyOf}
@@ -40,7 +40,7 @@ module _ (words : List (Bor (List ℕ)))
     (route_of_key : (plan certificate at : Bor (List ℕ)) (key : KeyWords) → IsKeyRouteOf words plan certificate at key → ⊥)
     (duty : (given : NodeFiles) (duty : Duty) → IsDutyOf words given duty → ⊥)
     (adopt : (change : PlanChange) → IsAdoptOf words change → ⊥) where
-  pub nothing_asked : (asked : Asked) → Asks words asked → ⊥
+  pub nothing_asked : (asked : Task) → Asks words asked → ⊥
   nothing_asked asks.CheckInput h = input h
   nothing_asked (asks.CheckFile plan) h = file plan h
   nothing_asked (asks.Verify plan certificate) h = verify plan certificate h

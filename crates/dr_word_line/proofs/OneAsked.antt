@@ -1,12 +1,12 @@
 -- Words of a plain form ask for one thing.
 use Rattle.std.proofs.Common.{◌≡◌, ◌∙◌, ap, cond, false, get_or, ne_eqb, refl, subst, sym, ℕ, List, [], ◌∷◌, ◌==◌, codes, inl, inr, None}
 use Rattle.std.specs.Borrow.{Bor}
-use Rattle.dr_word_line.specs.declared.words.Asked.{Asked}
-use Rattle.dr_word_line.specs.declared.words.Asked.TheVariants as asks
+use Rattle.dr_word_line.specs.declared.words.Task.{Task}
+use Rattle.dr_word_line.specs.declared.words.Task.TheVariants as asks
 use Rattle.dr_word_line.specs.declared.words.Duty.{Duty}
 use Rattle.dr_word_line.specs.declared.words.Duty.TheVariants as duties
 use Rattle.dr_word_line.specs.declared.words.KeyWords.{KeyWords}
-use Rattle.dr_word_line.specs.declared.words.NodeFiles.{NodeFiles}
+use Rattle.dr_run_files.specs.declared.node.NodeFiles.{NodeFiles}
 use Rattle.dr_word_line.specs.declared.words.PlanChange.{PlanChange}
 use Rattle.dr_word_line.specs.declared.words.Question.{Question}
 use Rattle.dr_word_line.specs.declared.words.Question.TheVariants as questions
@@ -23,7 +23,7 @@ abbrev files : Word → Word → Word → Word → NodeFiles
 files plan certificate node ledger = record { plan = plan; certificate = certificate; node = node; ledger = ledger }
 
 -- what words of a plain form ask for: their number says nearly all, and then the first byte of the first word or of the option
-abbrev meant : List Word → Asked
+abbrev meant : List Word → Task
 meant [] = asks.CheckInput
 meant (word ∷ []) = asks.CheckInput
 meant (word ∷ a ∷ []) = asks.CheckFile a
@@ -47,10 +47,10 @@ no_hyphen [] h = refl
 no_hyphen (x ∷ rest) h = ne_eqb x 45 (λ e. h rest (ap (λ n. n ∷ rest) e))
 
 module _ (words : List Word) where
-  abbrev Means : Asked → List Word → Type 0
+  abbrev Means : Task → List Word → Type 0
   Means asked ws = meant ws ≡ asked
 
-  is_meant : (asked : Asked) → Asks words asked → meant words ≡ asked
+  is_meant : (asked : Task) → Asks words asked → meant words ≡ asked
   is_meant asks.CheckInput (inl none) = subst (Means asks.CheckInput) (sym none) refl
   is_meant asks.CheckInput (inr h) = subst (Means asks.CheckInput) (sym h.1) refl
   is_meant (asks.CheckFile a) h = subst (Means (asks.CheckFile a)) (sym h.1) refl
@@ -108,5 +108,5 @@ module _ (words : List Word) where
   is_meant (asks.Told error) h = absurd h
 
   -- words of a plain form ask for one thing
-  pub one_asked : (a b : Asked) → Asks words a → Asks words b → a ≡ b
+  pub one_asked : (a b : Task) → Asks words a → Asks words b → a ≡ b
   one_asked a b h k = sym (is_meant a h) ∙ is_meant b k

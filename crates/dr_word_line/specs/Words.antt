@@ -1,12 +1,12 @@
 -- The words of the command line.
 use Rattle.std.specs.Prelude.{◌≡◌, ◌≢◌, ℕ, List, [], ◌∷◌, ◌++◌, ◌⊎◌, codes, Option, None, MatchOption}
 use Rattle.std.specs.Borrow.{Bor}
-use Rattle.dr_word_line.specs.declared.words.Asked.{Asked}
-use Rattle.dr_word_line.specs.declared.words.Asked.TheVariants.{CheckInput, CheckFile, Verify, Simulate, Echo, Question as AsksQuestion, AtNode, Adopt, Told}
+use Rattle.dr_word_line.specs.declared.words.Task.{Task}
+use Rattle.dr_word_line.specs.declared.words.Task.TheVariants.{CheckInput, CheckFile, Verify, Simulate, Echo, Question as AsksQuestion, AtNode, Adopt, Told}
 use Rattle.dr_word_line.specs.declared.words.Duty.{Duty}
 use Rattle.dr_word_line.specs.declared.words.Duty.TheVariants.{List as ToList, Summary, Requeue, RequeueAll, Send, Serve}
 use Rattle.dr_word_line.specs.declared.words.KeyWords.{KeyWords}
-use Rattle.dr_word_line.specs.declared.words.NodeFiles.{NodeFiles}
+use Rattle.dr_run_files.specs.declared.node.NodeFiles.{NodeFiles}
 use Rattle.dr_word_line.specs.declared.words.PlanChange.{PlanChange}
 use Rattle.dr_word_line.specs.declared.words.Question.{Question}
 use Rattle.dr_word_line.specs.declared.words.Question.TheVariants.{RouteOfKey, RouteOfFile, Graph, Lint}
@@ -124,7 +124,7 @@ IsAdoptOf words change =
     × IsNoOption change.next_plan.now × IsNoOption change.next_certificate.now × IsNoOption change.folder.now
 
 -- the words are of a plain form, which asks for this
-abbrev pub Asks : List (Bor (List ℕ)) → Asked → Type 0
+abbrev pub Asks : List (Bor (List ℕ)) → Task → Type 0
 Asks words CheckInput = IsPlainCheck words
 Asks words (CheckFile plan) = IsCheckOf words plan
 Asks words (Verify plan certificate) = IsVerifyOf words plan certificate
@@ -136,5 +136,5 @@ Asks words (Adopt change) = IsAdoptOf words change
 Asks words (Told error) = ⊥
 
 -- what the words of a plain form ask for, and nothing where they are of none
-abbrev pub Reads : List (Bor (List ℕ)) → Option Asked → Type 0
-Reads words found = MatchOption found ((asked : Asked) → Asks words asked → ⊥) (Asks words)
+abbrev pub Reads : List (Bor (List ℕ)) → Option Task → Type 0
+Reads words found = MatchOption found ((asked : Task) → Asks words asked → ⊥) (Asks words)

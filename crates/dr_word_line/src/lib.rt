@@ -7,6 +7,4 @@
 mod command_line;
 mod words;
 
-pub use words::{
-    Asked, Duty, KeyWords, NodeFiles, PlanChange, Question, Serving, Verbosity, read_words,
-};
+pub use words::{Duty, KeyWords, PlanChange, Question, Serving, Task, Verbosity, read_words};

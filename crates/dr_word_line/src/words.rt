@@ -1,17 +1,18 @@
 //! What the words of the command line ask for.
 ghost use Rattle.std.specs.Prelude.{◌≡◌, ◌↔◌, ℕ, List, IfNone, IfOk, IfSome, IsTrue};
 ghost use Rattle.std.specs.Borrow.{Bor};
+ghost use Rattle.dr_run_files.specs.declared.node.NodeFiles.{NodeFiles as NodeFilesValue};
 ghost use Rattle.dr_word_line.specs.Words.{Asks, Reads, IsPlainCheck, IsCheckOf, IsVerifyOf, IsSimulateOf, IsEchoOf, IsNoOption, IsGraphOf, IsLintOf, IsFileRouteOf, IsKeyRouteOf, IsQuestionOf, IsListOf, IsSummaryOf, IsServeOf, IsSendOf, IsRequeueOf, IsRequeueAllOf, IsDutyOf, IsAdoptOf};
-ghost use Rattle.dr_word_line.specs.declared.words.Asked.{Asked as AskedValue};
-ghost use Rattle.dr_word_line.specs.declared.words.Asked.TheVariants as asks;
+ghost use Rattle.dr_word_line.specs.declared.words.Task.{Task as TaskValue};
+ghost use Rattle.dr_word_line.specs.declared.words.Task.TheVariants as asks;
 ghost use Rattle.dr_word_line.specs.declared.words.Duty.{Duty as DutyValue};
 ghost use Rattle.dr_word_line.specs.declared.words.KeyWords.{KeyWords as KeyWordsValue};
-ghost use Rattle.dr_word_line.specs.declared.words.NodeFiles.{NodeFiles as NodeFilesValue};
 ghost use Rattle.dr_word_line.specs.declared.words.PlanChange.{PlanChange as PlanChangeValue};
 ghost use Rattle.dr_word_line.specs.declared.words.Question.{Question as QuestionValue};
 
 use crate::command_line::command_line;
 use clap::{ArgMatches, Error};
+use dr_run_files::NodeFiles;
 use std::alloc::{AllocError, Global};
 
 /// The four values of an instance by which it is routed, as words: the SOP class UID, the UID of the transfer syntax, the
@@ -35,15 +36,6 @@ pub enum Question<'a> {
     Graph,
     /// What is sound and still looks wrong.
     Lint,
-}
-
-/// What names a node and its ledger: the paths of the plan's text, of its certificate's and of the ledger, and the node's name.
-#[derive(Clone, Copy, Debug, Drop)]
-pub struct NodeFiles<'a> {
-    pub plan: &'a str,
-    pub certificate: &'a str,
-    pub node: &'a str,
-    pub ledger: &'a str,
 }
 
 /// What names two plans and where the nodes' ledgers are: the paths of the plan in force, of its certificate, of the next plan, of that one's
@@ -98,7 +90,7 @@ pub enum Duty<'a> {
 
 /// What the words ask for.
 #[derive(Drop)]
-pub enum Asked<'a> {
+pub enum Task<'a> {
     /// To check the plan whose text is on the standard input.
     CheckInput,
     /// To check the plan whose text is in this file.
@@ -130,7 +122,7 @@ fn is_no_option(word: &str) -> bool
 }
 
 /// What words ask to be done with the ledgers of all nodes, if they are of that form.
-fn read_change<'a>(words: &'a [&'a str]) -> Option<Asked<'a>>
+fn read_change<'a>(words: &'a [&'a str]) -> Option<Task<'a>>
     ensures asked { IfSome result (λ asked. Asks words.now asked) }
     ensures adopt { IfNone result ((change : PlanChangeValue) → IsAdoptOf words.now change → ⊥) }
 {
@@ -149,14 +141,14 @@ fn read_change<'a>(words: &'a [&'a str]) -> Option<Asked<'a>>
                 next_certificate,
                 folder,
             };
-            Some(Asked::Adopt(change))
+            Some(Task::Adopt(change))
         }
         _ => None,
     }
 }
 
 /// What words with an option ask a node to do with all of its ledger, if they are of such a form.
-fn read_all<'a>(words: &'a [&'a str]) -> Option<Asked<'a>>
+fn read_all<'a>(words: &'a [&'a str]) -> Option<Task<'a>>
     ensures asked { IfSome result (λ asked. Asks words.now asked) }
     ensures summary { IfNone result ((given : NodeFilesValue) → IsSummaryOf words.now given → ⊥) }
     ensures requeue_all { IfNone result ((given : NodeFilesValue) (dest : Bor (List ℕ)) → IsRequeueAllOf words.now given dest → ⊥) }
@@ -175,7 +167,7 @@ fn read_all<'a>(words: &'a [&'a str]) -> Option<Asked<'a>>
                 node,
                 ledger,
             };
-            Some(Asked::AtNode(given, Duty::Summary))
+            Some(Task::AtNode(given, Duty::Summary))
         }
         [word, plan, certificate, node, ledger, option, dest]
             if *word == "requeue"
@@ -191,14 +183,14 @@ fn read_all<'a>(words: &'a [&'a str]) -> Option<Asked<'a>>
                 node,
                 ledger,
             };
-            Some(Asked::AtNode(given, Duty::RequeueAll(dest)))
+            Some(Task::AtNode(given, Duty::RequeueAll(dest)))
         }
         _ => None,
     }
 }
 
 /// What words ask a node to do with one of its instances, if they are of such a form.
-fn read_work<'a>(words: &'a [&'a str]) -> Option<Asked<'a>>
+fn read_work<'a>(words: &'a [&'a str]) -> Option<Task<'a>>
     ensures asked { IfSome result (λ asked. Asks words.now asked) }
     ensures requeue { IfNone result ((given : NodeFilesValue) (uid dest : Bor (List ℕ)) → IsRequeueOf words.now given uid dest → ⊥) }
     ensures send { IfNone result ((given : NodeFilesValue) (file : Bor (List ℕ)) → IsSendOf words.now given file → ⊥) }
@@ -217,7 +209,7 @@ fn read_work<'a>(words: &'a [&'a str]) -> Option<Asked<'a>>
                 node,
                 ledger,
             };
-            Some(Asked::AtNode(given, Duty::Send(file)))
+            Some(Task::AtNode(given, Duty::Send(file)))
         }
         [word, plan, certificate, node, ledger, uid, dest]
             if *word == "requeue"
@@ -233,14 +225,14 @@ fn read_work<'a>(words: &'a [&'a str]) -> Option<Asked<'a>>
                 node,
                 ledger,
             };
-            Some(Asked::AtNode(given, Duty::Requeue(uid, dest)))
+            Some(Task::AtNode(given, Duty::Requeue(uid, dest)))
         }
         _ => None,
     }
 }
 
 /// What words ask a node to do with its ledger, if they have no more than what names them.
-fn read_duty<'a>(words: &'a [&'a str]) -> Option<Asked<'a>>
+fn read_duty<'a>(words: &'a [&'a str]) -> Option<Task<'a>>
     ensures asked { IfSome result (λ asked. Asks words.now asked) }
     ensures list { IfNone result ((given : NodeFilesValue) → IsListOf words.now given → ⊥) }
     ensures serve { IfNone result ((given : NodeFilesValue) → IsServeOf words.now given → ⊥) }
@@ -258,7 +250,7 @@ fn read_duty<'a>(words: &'a [&'a str]) -> Option<Asked<'a>>
                 node,
                 ledger,
             };
-            Some(Asked::AtNode(given, Duty::List))
+            Some(Task::AtNode(given, Duty::List))
         }
         [word, plan, certificate, node, ledger]
             if *word == "serve"
@@ -277,14 +269,14 @@ fn read_duty<'a>(words: &'a [&'a str]) -> Option<Asked<'a>>
                 verbosity: Verbosity::Events,
                 report: None,
             };
-            Some(Asked::AtNode(given, Duty::Serve(serving)))
+            Some(Task::AtNode(given, Duty::Serve(serving)))
         }
         _ => None,
     }
 }
 
 /// What words ask about where an instance goes, if they are of such a form.
-fn read_route<'a>(words: &'a [&'a str]) -> Option<Asked<'a>>
+fn read_route<'a>(words: &'a [&'a str]) -> Option<Task<'a>>
     ensures asked { IfSome result (λ asked. Asks words.now asked) }
     ensures route_of_file { IfNone result ((plan certificate at path : Bor (List ℕ)) → IsFileRouteOf words.now plan certificate at path → ⊥) }
     ensures route_of_key { IfNone result ((plan certificate at : Bor (List ℕ)) (key : KeyWordsValue) → IsKeyRouteOf words.now plan certificate at key → ⊥) }
@@ -296,7 +288,7 @@ fn read_route<'a>(words: &'a [&'a str]) -> Option<Asked<'a>>
                 && is_no_option(certificate)
                 && is_no_option(at)
                 && is_no_option(path) => {
-            Some(Asked::Question(plan, certificate, Question::RouteOfFile(at, path)))
+            Some(Task::Question(plan, certificate, Question::RouteOfFile(at, path)))
         }
         [
             word,
@@ -321,14 +313,14 @@ fn read_route<'a>(words: &'a [&'a str]) -> Option<Asked<'a>>
                 modality,
                 station,
             };
-            Some(Asked::Question(plan, certificate, Question::RouteOfKey(at, key)))
+            Some(Task::Question(plan, certificate, Question::RouteOfKey(at, key)))
         }
         _ => None,
     }
 }
 
 /// What words ask about a plan and its certificate, if they have no more than what names them.
-fn read_question<'a>(words: &'a [&'a str]) -> Option<Asked<'a>>
+fn read_question<'a>(words: &'a [&'a str]) -> Option<Task<'a>>
     ensures asked { IfSome result (λ asked. Asks words.now asked) }
     ensures graph { IfNone result ((plan certificate : Bor (List ℕ)) → IsGraphOf words.now plan certificate → ⊥) }
     ensures lint { IfNone result ((plan certificate : Bor (List ℕ)) → IsLintOf words.now plan certificate → ⊥) }
@@ -336,32 +328,32 @@ fn read_question<'a>(words: &'a [&'a str]) -> Option<Asked<'a>>
     match words {
         [word, plan, certificate]
             if *word == "graph" && is_no_option(plan) && is_no_option(certificate) => {
-            Some(Asked::Question(plan, certificate, Question::Graph))
+            Some(Task::Question(plan, certificate, Question::Graph))
         }
         [word, plan, certificate]
             if *word == "lint" && is_no_option(plan) && is_no_option(certificate) => {
-            Some(Asked::Question(plan, certificate, Question::Lint))
+            Some(Task::Question(plan, certificate, Question::Lint))
         }
         _ => None,
     }
 }
 
 /// What words ask of a plan's text alone, if they are of such a form.
-fn read_check<'a>(words: &'a [&'a str]) -> Option<Asked<'a>>
+fn read_check<'a>(words: &'a [&'a str]) -> Option<Task<'a>>
     ensures asked { IfSome result (λ asked. Asks words.now asked) }
     ensures input { IfNone result (IsPlainCheck words.now → ⊥) }
     ensures file { IfNone result ((plan : Bor (List ℕ)) → IsCheckOf words.now plan → ⊥) }
 {
     match words {
-        [] => Some(Asked::CheckInput),
-        [word] if *word == "check" => Some(Asked::CheckInput),
-        [word, plan] if *word == "check" && is_no_option(plan) => Some(Asked::CheckFile(plan)),
+        [] => Some(Task::CheckInput),
+        [word] if *word == "check" => Some(Task::CheckInput),
+        [word, plan] if *word == "check" && is_no_option(plan) => Some(Task::CheckFile(plan)),
         _ => None,
     }
 }
 
 /// What words ask of a plan and something else, if they are of such a form.
-fn read_pair<'a>(words: &'a [&'a str]) -> Option<Asked<'a>>
+fn read_pair<'a>(words: &'a [&'a str]) -> Option<Task<'a>>
     ensures asked { IfSome result (λ asked. Asks words.now asked) }
     ensures verify { IfNone result ((plan certificate : Bor (List ℕ)) → IsVerifyOf words.now plan certificate → ⊥) }
     ensures simulate { IfNone result ((plan certificate script : Bor (List ℕ)) → IsSimulateOf words.now plan certificate script → ⊥) }
@@ -370,24 +362,24 @@ fn read_pair<'a>(words: &'a [&'a str]) -> Option<Asked<'a>>
     match words {
         [word, plan, certificate]
             if *word == "verify" && is_no_option(plan) && is_no_option(certificate) => {
-            Some(Asked::Verify(plan, certificate))
+            Some(Task::Verify(plan, certificate))
         }
         [word, plan, certificate, script]
             if *word == "simulate"
                 && is_no_option(plan)
                 && is_no_option(certificate)
-                && is_no_option(script) => { Some(Asked::Simulate(plan, certificate, script)) }
+                && is_no_option(script) => { Some(Task::Simulate(plan, certificate, script)) }
         [word, plan, caller, called]
             if *word == "echo"
                 && is_no_option(plan)
                 && is_no_option(caller)
-                && is_no_option(called) => { Some(Asked::Echo(plan, caller, called)) }
+                && is_no_option(called) => { Some(Task::Echo(plan, caller, called)) }
         _ => None,
     }
 }
 
 /// What plain words ask a node to do with its ledger, or of the ledgers of all nodes: those of a known form.
-fn read_ledger<'a>(words: &'a [&'a str]) -> Option<Asked<'a>>
+fn read_ledger<'a>(words: &'a [&'a str]) -> Option<Task<'a>>
     ensures asked { IfSome result (λ asked. Asks words.now asked) }
     ensures duty { IfNone result ((given : NodeFilesValue) (duty : DutyValue) → IsDutyOf words.now given duty → ⊥) }
     ensures adopt { IfNone result ((change : PlanChangeValue) → IsAdoptOf words.now change → ⊥) }
@@ -408,7 +400,7 @@ fn read_ledger<'a>(words: &'a [&'a str]) -> Option<Asked<'a>>
 }
 
 /// What plain words ask for: those of a known form, without options.
-fn read_plain<'a>(words: &'a [&'a str]) -> Option<Asked<'a>>
+fn read_plain<'a>(words: &'a [&'a str]) -> Option<Task<'a>>
     ensures { Reads words.now result }
 {
     if let Some(asked) = read_check(words) {
@@ -496,9 +488,9 @@ fn read_certified<'a>(
     given: &ArgMatches<'a>,
     plan: &'a str,
     certificate: &'a str,
-) -> Asked<'a> {
+) -> Task<'a> {
     if let Some(question) = question_of(name, given) {
-        return Asked::Question(plan, certificate, question);
+        return Task::Question(plan, certificate, question);
     }
     if let Some(duty) = duty_of(name, given) {
         let node = given.get_str("NODE").unwrap_or("");
@@ -509,12 +501,12 @@ fn read_certified<'a>(
             node,
             ledger,
         };
-        return Asked::AtNode(files, duty);
+        return Task::AtNode(files, duty);
     }
     if name == "verify" {
-        return Asked::Verify(plan, certificate);
+        return Task::Verify(plan, certificate);
     }
-    Asked::Simulate(plan, certificate, given.get_str("SCRIPT").unwrap_or(""))
+    Task::Simulate(plan, certificate, given.get_str("SCRIPT").unwrap_or(""))
 }
 
 /// Which plans and which folder are named, as clap has read it.
@@ -529,35 +521,35 @@ fn change_of<'a>(given: &ArgMatches<'a>) -> PlanChange<'a> {
 }
 
 /// What clap makes of the words: options, help, and what the program doesn't know.
-fn read_others<'a>(alloc: Global, words: &'a [&'a str]) -> Result<Asked<'a>, AllocError> {
+fn read_others<'a>(alloc: Global, words: &'a [&'a str]) -> Result<Task<'a>, AllocError> {
     let line = command_line(alloc)?;
     let matches = match line.try_get_matches_from(words) {
         Ok(matches) => matches,
-        Err(error) => return Ok(Asked::Told(error)),
+        Err(error) => return Ok(Task::Told(error)),
     };
     let Some((name, given)) = matches.subcommand() else {
-        return Ok(Asked::CheckInput);
+        return Ok(Task::CheckInput);
     };
     let Some(plan) = given.get_str("PLAN") else {
-        return Ok(Asked::CheckInput);
+        return Ok(Task::CheckInput);
     };
     if name == "check" {
-        return Ok(Asked::CheckFile(plan));
+        return Ok(Task::CheckFile(plan));
     }
     if name == "echo" {
         let caller = given.get_str("FROM").unwrap_or("");
         let called = given.get_str("TO").unwrap_or("");
-        return Ok(Asked::Echo(plan, caller, called));
+        return Ok(Task::Echo(plan, caller, called));
     }
     if name == "adopt" {
-        return Ok(Asked::Adopt(change_of(given)));
+        return Ok(Task::Adopt(change_of(given)));
     }
     let certificate = given.get_str("CERT").unwrap_or("");
     Ok(read_certified(name, given, plan, certificate))
 }
 
 /// What the words ask for.
-pub fn read_words<'a>(alloc: Global, words: &'a [&'a str]) -> Result<Asked<'a>, AllocError>
+pub fn read_words<'a>(alloc: Global, words: &'a [&'a str]) -> Result<Task<'a>, AllocError>
     ensures input { IfOk result (λ a. IsPlainCheck words.now → a ≡ asks.CheckInput) }
     ensures file { IfOk result (λ a. (plan : Bor (List ℕ)) → IsCheckOf words.now plan → a ≡ asks.CheckFile plan) }
     ensures verify { IfOk result (λ a. (plan certificate : Bor (List ℕ)) → IsVerifyOf words.now plan certificate → a ≡ asks.Verify plan certificate) }

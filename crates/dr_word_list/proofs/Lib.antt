@@ -1,6 +1,4 @@
 mod Chain
-mod Least
 mod Pieces
 mod Queueing
-mod Reporting
 mod Summing

@@ -7,11 +7,11 @@ use Rattle.dr_ledger.specs.Books.{Book}
 use Rattle.dr_ledger.specs.Pairs.{Pair, pair_cmp}
 use Rattle.dr_ledger.specs.Replies.{AreKept, Lists, entry_of}
 use Rattle.dr_ledger.specs.declared.item.Entry.{Entry}
-use Rattle.dr_word_list.specs.Queues.{Row}
+use Rattle.dr_run_open.specs.Queues.{Row}
 use Rattle.dr_word_list.specs.Summaries.{IsSummary, IsSummaryOf}
-use Rattle.dr_word_list.specs.declared.hops.Hop.{Hop}
+use Rattle.dr_run_open.specs.declared.hops.NextHop.{NextHop}
 
-pub summed : (name text : Text) (hops : List Hop) (b0 b1 b2 b3 b4 : Book) (arrivals : List Pair) (kept : List (Text × ℕ)) (rows : List Row) (lines : List Entry) (a k n : ℕ)
+pub summed : (name text : Text) (hops : List NextHop) (b0 b1 b2 b3 b4 : Book) (arrivals : List Pair) (kept : List (Text × ℕ)) (rows : List Row) (lines : List Entry) (a k n : ℕ)
     → b1 ≡ b0 → b2 ≡ b1 → b3 ≡ b2 → b4 ≡ b3 → Lists pair_cmp b0.arrivals arrivals → AreKept b1 kept → rows ≡ map.entries b2.rows → lines ≡ mapped entry_of b3.lines
     → a ≡ length arrivals → k ≡ length kept → n ≡ length lines → IsSummary name hops a k rows n text → IsSummaryOf name hops b4 text
 summed name text hops b0 b1 b2 b3 b4 arrivals kept rows lines a k n e1 e2 e3 e4 of_arrivals of_kept of_rows of_lines is_a is_k is_n is =

@@ -4,14 +4,14 @@ use Rattle.std.specs.FinMap as map
 use Rattle.dr_base.specs.Texts.{Text}
 use Rattle.dr_ledger.specs.Books.{Book}
 use Rattle.dr_ledger.specs.Replies.{Requeues}
-use Rattle.dr_world_script.specs.Reports.{line_of}
+use Rattle.dr_ledger_report.specs.Reports.{line_of}
 use Rattle.dr_site.specs.Parts.{Part}
-use Rattle.dr_word_list.specs.Openings.{HaltsAs}
-use Rattle.dr_word_list.specs.Queues.{Row, is_queued}
+use Rattle.dr_run_open.specs.Openings.{HaltsAs}
+use Rattle.dr_run_open.specs.Queues.{Row, is_queued}
 use Rattle.dr_word_list.specs.Works.{AtNode}
-use Rattle.dr_word_list.specs.declared.halt.Halt.{Halt}
-use Rattle.dr_word_list.specs.declared.halt.Halt.TheVariants.{Refused}
-use Rattle.dr_word_list.specs.declared.queues.Stage.TheVariants as stages
+use Rattle.dr_run_open.specs.declared.halt.Halt.{Halt}
+use Rattle.dr_run_open.specs.declared.halt.Halt.TheVariants.{Refused}
+use Rattle.dr_run_open.specs.declared.queues.RowStage.TheVariants as stages
 
 -- which instance the row is about
 abbrev pub uid_of : Row → Text

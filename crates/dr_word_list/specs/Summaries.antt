@@ -5,16 +5,16 @@ use Rattle.dr_base.specs.Texts.{Text}
 use Rattle.dr_ledger.specs.Books.{Book}
 use Rattle.dr_ledger.specs.Pairs.{Pair, pair_cmp}
 use Rattle.dr_ledger.specs.Replies.{AreKept, Lists}
-use Rattle.dr_world_script.specs.Reports.{line_of, name_line}
+use Rattle.dr_ledger_report.specs.Reports.{line_of, name_line}
 use Rattle.dr_site.specs.Parts.{Part}
-use Rattle.dr_word_list.specs.Hops.{hops_from}
-use Rattle.dr_word_list.specs.Openings.{HaltsAs}
-use Rattle.dr_word_list.specs.Queues.{IsLeast, Row, dues, how_many}
+use Rattle.dr_run_open.specs.Hops.{hops_from}
+use Rattle.dr_run_open.specs.Openings.{HaltsAs}
+use Rattle.dr_run_open.specs.Queues.{IsLeast, Row, dues, how_many}
 use Rattle.dr_word_list.specs.Works.{AtNode, AtSite}
-use Rattle.dr_word_list.specs.declared.halt.Halt.{Halt}
-use Rattle.dr_word_list.specs.declared.halt.Halt.TheVariants.{Refused}
-use Rattle.dr_word_list.specs.declared.hops.Hop.{Hop}
-use Rattle.dr_word_list.specs.declared.queues.Stage.TheVariants as stages
+use Rattle.dr_run_open.specs.declared.halt.Halt.{Halt}
+use Rattle.dr_run_open.specs.declared.halt.Halt.TheVariants.{Refused}
+use Rattle.dr_run_open.specs.declared.hops.NextHop.{NextHop}
+use Rattle.dr_run_open.specs.declared.queues.RowStage.TheVariants as stages
 
 -- the line of a kind, with how many there are
 abbrev pub count_line : Text → ℕ → Text
@@ -38,17 +38,17 @@ abbrev pub IsQueueLine : List Row → Text → Text → Type 0
 IsQueueLine rows dest line = (oldest : Option ℕ) × IsLeast (dues rows dest) oldest × (line ≡ queue_line rows dest oldest)
 
 -- the lines of the nodes to which the hops lead, in the order of the hops
-abbrev pub AreQueueLines : List Row → List Hop → Text → Type 0
+abbrev pub AreQueueLines : List Row → List NextHop → Text → Type 0
 AreQueueLines rows [] text = text ≡ []
 AreQueueLines rows (hop ∷ hops) text = (here : Text) × (rest : Text) × IsQueueLine rows hop.dest here × AreQueueLines rows hops rest × (text ≡ here ++ rest)
 
 -- the lines of a node of this name with so many arrivals and kept instances, these rows, and so many lines in its journal
-abbrev pub IsSummary : Text → List Hop → ℕ → ℕ → List Row → ℕ → Text → Type 0
+abbrev pub IsSummary : Text → List NextHop → ℕ → ℕ → List Row → ℕ → Text → Type 0
 IsSummary name hops arrivals kept rows lines text = (queues : Text) × AreQueueLines rows hops queues
     × (text ≡ name_line name ++ count_line (codes "arrivals") arrivals ++ count_line (codes "kept") kept ++ queues ++ count_line (codes "lines") lines)
 
 -- the text says how much the node of this name has, whose hops these are, and whose book this is
-abbrev pub IsSummaryOf : Text → List Hop → Book → Text → Type 0
+abbrev pub IsSummaryOf : Text → List NextHop → Book → Text → Type 0
 IsSummaryOf name hops book text = (arrivals : List Pair) × (kept : List (Text × ℕ))
     × Lists pair_cmp book.arrivals arrivals × AreKept book kept
     × IsSummary name hops (length arrivals) (length kept) (map.entries book.rows) (length book.lines) text

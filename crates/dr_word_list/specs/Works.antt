@@ -4,11 +4,11 @@ use Rattle.dr_base.specs.Texts.{Text}
 use Rattle.dr_cert.specs.Sealing.{Certified}
 use Rattle.dr_ledger.specs.Books.{Book}
 use Rattle.dr_ledger.specs.Replies.{Requeues}
-use Rattle.dr_world_script.specs.Reports.{IsReportOf}
+use Rattle.dr_ledger_report.specs.Reports.{IsReportOf}
 use Rattle.dr_site.specs.Parts.{Part}
-use Rattle.dr_word_list.specs.Openings.{HaltsAs, IsAt}
-use Rattle.dr_word_list.specs.declared.halt.Halt.{Halt}
-use Rattle.dr_word_list.specs.declared.halt.Halt.TheVariants.{NoPlan, NoCertificate, NoNode, NotOpened, Refused, Failed, Memory}
+use Rattle.dr_run_open.specs.Openings.{HaltsAs, IsAt}
+use Rattle.dr_run_open.specs.declared.halt.Halt.{Halt}
+use Rattle.dr_run_open.specs.declared.halt.Halt.TheVariants.{NoPlan, NoCertificate, NoNode, NotOpened, Refused, Failed, Memory}
 
 -- the line that is printed where a row is queued again
 abbrev pub requeued_line : Text

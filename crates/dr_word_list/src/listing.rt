@@ -1,19 +1,16 @@
 //! The word `list`.
 ghost use Rattle.std.specs.Prelude.{◌≡◌, IfOk, Result};
 ghost use Rattle.dr_base.specs.Texts.{Text as Words};
-ghost use Rattle.dr_world_script.specs.Reports.{IsReportOf};
-ghost use Rattle.dr_word_list.specs.Ends.{Ends};
+ghost use Rattle.dr_ledger_report.specs.Reports.{IsReportOf};
+ghost use Rattle.dr_run_open.specs.Ends.{Ends};
 ghost use Rattle.dr_word_list.specs.Works.{Lists};
-ghost use Rattle.dr_word_list.specs.declared.halt.Halt.{Halt as HaltValue};
+ghost use Rattle.dr_run_open.specs.declared.halt.Halt.{Halt as HaltValue};
 
-use crate::ending::finish;
-use crate::halt::Halt;
-use crate::ledgers::Ledgers;
-use crate::opening::{Opened, open_node};
-use crate::report::report_of;
 use dr_base::Text;
 use dr_ledger::{Ledger, LedgerFault};
-use dr_word_check::{Failure, Files, NodeFiles, Status};
+use dr_ledger_report::report_of;
+use dr_run_files::{Failure, Files, NodeFiles};
+use dr_run_open::{Halt, Ledgers, Opened, Status, finish, open_node};
 use std::alloc::Global;
 use std::io::Write;
 

@@ -1,18 +1,15 @@
 //! The word `requeue`.
 ghost use Rattle.std.specs.Prelude.{◌≡◌, IfOk, MatchResult, Result, Ok, Err};
 ghost use Rattle.dr_base.specs.Texts.{Text as Words};
-ghost use Rattle.dr_word_list.specs.Ends.{Ends};
+ghost use Rattle.dr_run_open.specs.Ends.{Ends};
 ghost use Rattle.dr_ledger.specs.Replies.{Requeues};
 ghost use Rattle.dr_word_list.specs.Works.{Requeued, requeued_line};
-ghost use Rattle.dr_word_list.specs.declared.halt.Halt.{Halt as HaltValue};
+ghost use Rattle.dr_run_open.specs.declared.halt.Halt.{Halt as HaltValue};
 
-use crate::ending::finish;
-use crate::halt::Halt;
-use crate::ledgers::Ledgers;
-use crate::opening::open_node;
 use dr_base::Text;
 use dr_ledger::{Ledger, LedgerFault};
-use dr_word_check::{Failure, Files, NodeFiles, Status};
+use dr_run_files::{Failure, Files, NodeFiles};
+use dr_run_open::{Halt, Ledgers, Status, finish, open_node};
 use std::alloc::Global;
 use std::io::Write;
 

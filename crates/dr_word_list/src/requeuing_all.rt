@@ -1,18 +1,14 @@
 //! The option `--all-held` of the word `requeue`.
 ghost use Rattle.std.specs.Prelude.{◌≡◌, ◌++◌, IfOk, MatchResult, OnOk, Result, flat_map};
 ghost use Rattle.dr_base.specs.Texts.{Text as Words};
-ghost use Rattle.dr_word_list.specs.Ends.{Ends};
+ghost use Rattle.dr_run_open.specs.Ends.{Ends};
 ghost use Rattle.dr_word_list.specs.Requeuings.{RequeuedAll, RequeuesAll, RequeuesEach, RequeuesFirst, RequeuesFirstOf, held_in, uid_line};
-ghost use Rattle.dr_word_list.specs.declared.halt.Halt.{Halt as HaltValue};
+ghost use Rattle.dr_run_open.specs.declared.halt.Halt.{Halt as HaltValue};
 
-use crate::ending::finish;
-use crate::halt::Halt;
-use crate::ledgers::Ledgers;
-use crate::opening::open_node;
-use crate::queues::{Row, Stage, is_queued};
 use dr_base::Text;
 use dr_ledger::{Ledger, LedgerFault};
-use dr_word_check::{Failure, Files, NodeFiles, Status};
+use dr_run_files::{Failure, Files, NodeFiles};
+use dr_run_open::{Halt, Ledgers, Row, RowStage, Status, finish, is_queued, open_node};
 use std::alloc::{AllocError, Global};
 use std::io::Write;
 
@@ -26,7 +22,7 @@ fn held_in(alloc: Global, rows: &[Row], dest: &Text) -> Result<Vec<Text>, AllocE
 {
     let mut uids = Vec::new(alloc);
     for row in rows {
-        if is_queued(row, dest, Stage::Held) {
+        if is_queued(row, dest, RowStage::Held) {
             uids.push(row.0.0.clone()?)?;
         }
     }

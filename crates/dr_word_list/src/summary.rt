@@ -1,45 +1,25 @@
 //! The option `--summary` of the word `list`.
 ghost use Rattle.std.specs.Prelude.{◌≡◌, ◌++◌, IfOk, OnOk, Result, decimal};
 ghost use Rattle.dr_base.specs.Texts.{Text as Words};
-ghost use Rattle.dr_world_script.specs.Reports.{next_field};
-ghost use Rattle.dr_word_list.specs.Ends.{Ends};
-ghost use Rattle.dr_word_list.specs.Hops.{hops_from};
-ghost use Rattle.dr_word_list.specs.Queues.{how_many as number_of};
+ghost use Rattle.dr_ledger_report.specs.Reports.{next_field};
+ghost use Rattle.dr_run_open.specs.Ends.{Ends};
+ghost use Rattle.dr_run_open.specs.Hops.{hops_from};
+ghost use Rattle.dr_run_open.specs.Queues.{how_many as number_of};
 ghost use Rattle.dr_word_list.specs.Summaries.{AreQueueLines, IsQueueLine, IsSummary, IsSummaryOf, Summarizes, count_line, moment_field, queue_line};
-ghost use Rattle.dr_word_list.specs.declared.halt.Halt.{Halt as HaltValue};
+ghost use Rattle.dr_run_open.specs.declared.halt.Halt.{Halt as HaltValue};
 
-use crate::ending::finish;
-use crate::halt::Halt;
-use crate::hops::{Hop, hops_of};
-use crate::ledgers::Ledgers;
-use crate::opening::{Opened, open_node};
-use crate::queues::{Row, Stage, how_many, oldest};
 use dr_base::Text;
 use dr_ledger::{Ledger, LedgerFault};
-use dr_word_check::{Failure, Files, NodeFiles, Status};
-use dr_world_script::put_name;
+use dr_ledger_report::{put_field, put_name, put_number};
+use dr_run_files::{Failure, Files, NodeFiles};
+use dr_run_open::{
+    Halt, Ledgers, NextHop, Opened, Row, RowStage, Status, finish, hops_of, how_many, oldest,
+    open_node,
+};
 use std::alloc::{AllocError, Global};
 use std::io::Write;
 
-const TAB: u8 = 9;
-
 const LF: u8 = 10;
-
-/// Adds a field behind the one before it.
-fn put_field(out: &mut Vec<u8>, field: &[u8]) -> Result<(), AllocError>
-    ensures { OnOk result (out.new.items ≡ out.old.items ++ next_field field.now) }
-{
-    out.push(TAB)?;
-    out.extend_from_slice(field)
-}
-
-/// Adds a number as a field.
-fn put_number(out: &mut Vec<u8>, number: u64) -> Result<(), AllocError>
-    ensures { OnOk result (out.new.items ≡ out.old.items ++ next_field (decimal number)) }
-{
-    let mut digits = itoa::Buffer::new();
-    put_field(out, digits.format(number).as_bytes())
-}
 
 /// Adds the line of a kind, with how many there are.
 fn put_count(out: &mut Vec<u8>, word: &[u8], count: usize) -> Result<(), AllocError>
@@ -57,7 +37,7 @@ fn put_stage(
     word: &[u8],
     rows: &[Row],
     dest: &Text,
-    stage: Stage,
+    stage: RowStage,
 ) -> Result<(), AllocError>
     ensures { OnOk result (out.new.items ≡ out.old.items ++ (next_field word.now ++ next_field (decimal (number_of rows.now dest.now stage)))) }
 {
@@ -86,9 +66,9 @@ fn put_queue_line(
 {
     out.extend_from_slice(b"queue")?;
     put_field(out, dest.as_bytes())?;
-    put_stage(out, b"waiting", rows, dest, Stage::Waiting)?;
-    put_stage(out, b"held", rows, dest, Stage::Held)?;
-    put_stage(out, b"done", rows, dest, Stage::Done)?;
+    put_stage(out, b"waiting", rows, dest, RowStage::Waiting)?;
+    put_stage(out, b"held", rows, dest, RowStage::Held)?;
+    put_stage(out, b"done", rows, dest, RowStage::Done)?;
     put_field(out, b"oldest")?;
     put_moment(out, oldest)?;
     out.push(LF)?;
@@ -105,7 +85,7 @@ fn put_queue(out: &mut Vec<u8>, rows: &[Row], dest: &Text) -> Result<(), AllocEr
 }
 
 /// Adds the lines of the nodes to which these hops lead.
-fn put_queues(out: &mut Vec<u8>, rows: &[Row], hops: &[Hop]) -> Result<(), AllocError>
+fn put_queues(out: &mut Vec<u8>, rows: &[Row], hops: &[NextHop]) -> Result<(), AllocError>
     ensures { OnOk result ((lines : Words) × AreQueueLines rows.now hops.now lines × (out.new.items ≡ out.old.items ++ lines)) }
 {
     for hop in hops {
@@ -118,7 +98,7 @@ fn put_queues(out: &mut Vec<u8>, rows: &[Row], hops: &[Hop]) -> Result<(), Alloc
 fn summary_text(
     alloc: Global,
     name: &Text,
-    hops: &[Hop],
+    hops: &[NextHop],
     arrivals: usize,
     kept: usize,
     rows: &[Row],
@@ -141,7 +121,7 @@ fn summary_text(
 fn summary_of<L: Ledger>(
     alloc: Global,
     name: &Text,
-    hops: &[Hop],
+    hops: &[NextHop],
     ledger: &mut L,
 ) -> Result<Text, LedgerFault>
     ensures summary { IfOk result (λ text. L.stands ledger.new → IsSummaryOf name.now hops.now (L.book ledger.new) text) }

@@ -11,26 +11,26 @@ use Rattle.dr_plan_sound.specs.Soundness.{IsSound}
 use Rattle.dr_plan_sound.specs.declared.certificate.Certificate.{Certificate}
 use Rattle.dr_cert.specs.declared.fault.CertFault.{CertFault}
 use Rattle.dr_cert.specs.declared.fault.CertFault.TheVariants.{Memory as NoMemory}
-use Rattle.dr_word_check.specs.Runs.{Refuses}
-use Rattle.dr_word_check.specs.Verdicts.{IsFaultOf, IsTextOf}
-use Rattle.dr_word_check.specs.declared.status.Status.{Status}
-use Rattle.dr_word_check.specs.declared.status.Status.TheVariants.{Refused, Memory}
+use Rattle.dr_run_open.specs.Answers.{Refuses}
+use Rattle.dr_run_open.specs.Sealings.{IsFaultOf, IsTextOf}
+use Rattle.dr_run_open.specs.declared.status.Status.{Status}
+use Rattle.dr_run_open.specs.declared.status.Status.TheVariants.{Refused, Memory}
 use Rattle.dr_word_line.specs.declared.words.Question.{Question}
 use Rattle.dr_word_line.specs.declared.words.Question.TheVariants.{RouteOfKey, RouteOfFile, Graph, Lint}
 use Rattle.dr_cert_lint.specs.Graphs.{IsGraphText}
 use Rattle.dr_cert_lint.specs.Findings.{IsLintText}
 use Rattle.dr_word_route.specs.Keys.{ReadsFileKey, ReadsWords}
 use Rattle.dr_word_route.specs.Replies.{IsRouteReply, IsSiteReply, IsTextReply, printed_for, status_for}
-use Rattle.dr_word_route.specs.declared.reply.Reply.{Reply}
+use Rattle.dr_word_route.specs.declared.reply.Response.{Response}
 
 -- the reply is printed after what the output held, and the program ends with its status
-pub record IsTold (reply : Reply) (old new : Option (List ℕ)) (status : Status) : Type 0 where
+pub record IsTold (reply : Response) (old new : Option (List ℕ)) (status : Status) : Type 0 where
   pub printed : Appends old new (printed_for reply)
   pub ends : status ≡ status_for reply
 
 -- a reply of which `May` says that it may be given is told
-abbrev pub Replies : (Reply → Type 0) → Option (List ℕ) → Option (List ℕ) → Status → Type 0
-Replies May old new status = (reply : Reply) × May reply × IsTold reply old new status
+abbrev pub Replies : (Response → Type 0) → Option (List ℕ) → Option (List ℕ) → Status → Type 0
+Replies May old new status = (reply : Response) × May reply × IsTold reply old new status
 
 -- A run on a question about a sealed plan; a file of the path, of which `Holds` says what bytes it holds, is read only where the node at
 -- which its instance would enter is one of the plan.

@@ -3,37 +3,41 @@ ghost use Rattle.std.specs.Prelude.{◌≡◌, ◌≢◌, ◌⊎◌, ℕ, List, 
 ghost use Rattle.std.specs.Io.KnownBytes.{Appends};
 ghost use Rattle.dr_base.specs.Texts.{Text};
 ghost use Rattle.dr_cert.specs.declared.fault.CertFault.TheVariants.{Memory as NoMemory};
-ghost use Rattle.dr_word_check.specs.Runs.{Refuses};
-ghost use Rattle.dr_word_check.specs.declared.status.Status.TheVariants.{Refused, Memory};
+ghost use Rattle.dr_run_open.specs.Answers.{Refuses};
+ghost use Rattle.dr_run_open.specs.declared.status.Status.TheVariants.{Refused, Memory};
 ghost use Rattle.dr_word_route.specs.Keys.{ReadsFileKey, ReadsWords};
 ghost use Rattle.dr_word_route.specs.Replies.{IsRouteReply, IsSiteReply, printed_for};
 ghost use Rattle.dr_word_route.specs.Runs.{Asks, IsTold, Judges, Replies, Responds, Seals, Unseals};
 
 use crate::keys::{key_of_file, key_of_words, site_of};
-use crate::reply::Reply;
+use crate::reply::Response;
 use crate::replying::{graph_reply, lint_reply, reply_for};
 use dr_cert::{CertFault, Sealed};
 use dr_plan::Plan;
-use dr_word_check::{
-    Failure, Files, KeyWords, Question, Status, plan_of, read_file, seal_text, tell_answer,
-};
+use dr_run_files::{Failure, Files, read_file};
+use dr_run_open::{Status, plan_of, seal_text, tell_answer};
+use dr_word_line::{KeyWords, Question};
 use std::alloc::Global;
 use std::io;
 use std::io::Write;
 
 /// Writes a reply: what is answered to the output, and why there is no answer to the faults.
-fn write_reply<W: Write, E: Write>(reply: &Reply, output: &mut W, faults: &mut E) -> io::Result<()>
+fn write_reply<W: Write, E: Write>(
+    reply: &Response,
+    output: &mut W,
+    faults: &mut E,
+) -> io::Result<()>
     ensures { OnOk result (Appends (W.contents output.old) (W.contents output.new) (printed_for reply.now)) }
 {
     match reply {
-        Reply::Printed(text) => output.write_all(text.as_bytes()),
-        Reply::NoLine => output.write_all(b"no\tG1 NoLine\n"),
-        Reply::Refused(refusal) => writeln!(faults, "dr_router: {refusal}"),
+        Response::Printed(text) => output.write_all(text.as_bytes()),
+        Response::NoLine => output.write_all(b"no\tG1 NoLine\n"),
+        Response::Refused(refusal) => writeln!(faults, "dr_router: {refusal}"),
     }
 }
 
 /// Tells a reply, and ends as it says.
-fn tell<W: Write, E: Write>(reply: &Reply, output: &mut W, faults: &mut E) -> io::Result<Status>
+fn tell<W: Write, E: Write>(reply: &Response, output: &mut W, faults: &mut E) -> io::Result<Status>
     ensures { IfOk result (IsTold reply.now (W.contents output.old) (W.contents output.new)) }
 {
     write_reply(reply, output, faults)?;
@@ -54,7 +58,7 @@ fn ask_key<W: Write, E: Write>(
     let site = match site_of(alloc, sealed.plan(), at) {
         Ok(site) => site,
         Err(refusal) => {
-            let status = tell(&Reply::Refused(refusal), output, faults)?;
+            let status = tell(&Response::Refused(refusal), output, faults)?;
             return Ok(status);
         }
     };
@@ -81,7 +85,7 @@ fn ask_file<'a, F: Files, W: Write, E: Write>(
     let site = match site_of(alloc, sealed.plan(), at) {
         Ok(site) => site,
         Err(refusal) => {
-            let status = tell(&Reply::Refused(refusal), output, faults)?;
+            let status = tell(&Response::Refused(refusal), output, faults)?;
             return Ok(status);
         }
     };

@@ -3,14 +3,14 @@ ghost use Rattle.std.specs.Prelude.{◌≡◌, ◌≢◌, IfOk, MatchOption};
 ghost use Rattle.dr_plan_model.specs.Plans.{IsTheNode, NamesNoNode};
 ghost use Rattle.dr_word_route.specs.Keys.{ReadsDataSet, ReadsFileKey, ReadsItemKey, ReadsSite, ReadsWords};
 
-use crate::reply::Refusal;
+use crate::reply::Unanswered;
 use dr_base::{Syntax, Text};
 use dr_dataset::FileFault;
 use dr_dataset::file::part10;
 use dr_ledger::{Item, ItemFault};
 use dr_plan_model::{Node, Plan};
 use dr_route::Key;
-use dr_word_check::KeyWords;
+use dr_word_line::KeyWords;
 use std::alloc::{AllocError, Global};
 
 /// The node of that name, and None for a stranger.
@@ -23,14 +23,14 @@ fn known_node<'a>(plan: &'a Plan, name: &Text) -> Option<&'a Node>
 /// The title of the node of that name.
 ///
 /// Errors: NoNode, Memory.
-pub fn site_of(alloc: Global, plan: &Plan, at: &str) -> Result<Text, Refusal>
+pub fn site_of(alloc: Global, plan: &Plan, at: &str) -> Result<Text, Unanswered>
     ensures { ReadsSite plan.now at.now result }
 {
     let Ok(site) = Text::copy_of(alloc, at.as_bytes()) else {
-        return Err(Refusal::Memory);
+        return Err(Unanswered::Memory);
     };
     let Some(_known) = known_node(plan, &site) else {
-        return Err(Refusal::NoNode);
+        return Err(Unanswered::NoNode);
     };
     Ok(site)
 }
@@ -50,14 +50,14 @@ fn key_in(alloc: Global, words: &KeyWords<'_>, syntax: Syntax) -> Result<Key, Al
 /// The key that has these words.
 ///
 /// Errors: File (OtherSyntax); Memory.
-pub fn key_of_words(alloc: Global, words: &KeyWords<'_>) -> Result<Key, Refusal>
+pub fn key_of_words(alloc: Global, words: &KeyWords<'_>) -> Result<Key, Unanswered>
     ensures { ReadsWords words.now result }
 {
     let Some(syntax) = Syntax::of_uid(words.syntax.as_bytes()) else {
-        return Err(Refusal::File(FileFault::OtherSyntax));
+        return Err(Unanswered::File(FileFault::OtherSyntax));
     };
     let Ok(key) = key_in(alloc, words, syntax) else {
-        return Err(Refusal::Memory);
+        return Err(Unanswered::Memory);
     };
     Ok(key)
 }
@@ -65,15 +65,15 @@ pub fn key_of_words(alloc: Global, words: &KeyWords<'_>) -> Result<Key, Refusal>
 /// The data set of a file, and its transfer syntax.
 ///
 /// Errors: File, Memory.
-fn data_set_of(alloc: Global, bytes: &[u8]) -> Result<(Syntax, Text), Refusal>
+fn data_set_of(alloc: Global, bytes: &[u8]) -> Result<(Syntax, Text), Unanswered>
     ensures { ReadsDataSet bytes.now result }
 {
     let part = match part10(bytes) {
         Ok(part) => part,
-        Err(fault) => return Err(Refusal::File(fault)),
+        Err(fault) => return Err(Unanswered::File(fault)),
     };
     let Ok(body) = Text::copy_of(alloc, &bytes[part.start..]) else {
-        return Err(Refusal::Memory);
+        return Err(Unanswered::Memory);
     };
     Ok((part.syntax, body))
 }
@@ -89,16 +89,16 @@ fn copy_key(key: &Key) -> Result<Key, AllocError>
 /// The key of a data set's item.
 ///
 /// Errors: Item, Memory.
-fn key_of_data_set(alloc: Global, syntax: Syntax, body: Text) -> Result<Key, Refusal>
+fn key_of_data_set(alloc: Global, syntax: Syntax, body: Text) -> Result<Key, Unanswered>
     ensures { ReadsItemKey syntax body result }
 {
     let item = match Item::read(alloc, syntax, body) {
         Ok(item) => item,
-        Err(ItemFault::Memory) => return Err(Refusal::Memory),
-        Err(fault) => return Err(Refusal::Item(fault)),
+        Err(ItemFault::Memory) => return Err(Unanswered::Memory),
+        Err(fault) => return Err(Unanswered::Item(fault)),
     };
     let Ok(key) = copy_key(item.key()) else {
-        return Err(Refusal::Memory);
+        return Err(Unanswered::Memory);
     };
     Ok(key)
 }
@@ -106,7 +106,7 @@ fn key_of_data_set(alloc: Global, syntax: Syntax, body: Text) -> Result<Key, Ref
 /// The key of the instance in a Part 10 file (PS3.10 7.1).
 ///
 /// Errors: File, Item, Memory.
-pub fn key_of_file(alloc: Global, bytes: &[u8]) -> Result<Key, Refusal>
+pub fn key_of_file(alloc: Global, bytes: &[u8]) -> Result<Key, Unanswered>
     ensures { ReadsFileKey bytes.now result }
 {
     let (syntax, body) = match data_set_of(alloc, bytes) {

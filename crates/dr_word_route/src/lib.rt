@@ -8,5 +8,4 @@ mod reply;
 mod replying;
 mod run;
 
-pub use reply::{Refusal, Reply};
 pub use run::{run_asked, run_words};

@@ -5,12 +5,12 @@ ghost use Rattle.dr_word_route.specs.Replies.{status_for};
 use dr_base::Text;
 use dr_dataset::FileFault;
 use dr_ledger::ItemFault;
-use dr_word_check::Status;
+use dr_run_open::Status;
 use thiserror::Error;
 
 /// Why a question isn't answered.
 #[derive(Clone, Copy, Debug, Error)]
-pub enum Refusal {
+pub enum Unanswered {
     /// The plan has no node of that name.
     #[error("NoNode")]
     NoNode,
@@ -27,25 +27,25 @@ pub enum Refusal {
 
 /// What is answered to a question.
 #[derive(Debug, Drop)]
-pub enum Reply {
+pub enum Response {
     /// What was asked for.
     Printed(Text),
     /// No flow at the node fits the instance.
     NoLine,
     /// Why there is no answer.
-    Refused(Refusal),
+    Refused(Unanswered),
 }
 
-impl Reply {
+impl Response {
     /// The status with which the program ends, where the reply is told.
     pub fn status(&self) -> Status
         ensures { result ≡ status_for self.now }
     {
         match self {
-            Reply::Printed(_) => Status::Success,
-            Reply::NoLine => Status::Refused,
-            Reply::Refused(Refusal::Memory) => Status::Memory,
-            Reply::Refused(_) => Status::Refused,
+            Response::Printed(_) => Status::Success,
+            Response::NoLine => Status::Refused,
+            Response::Refused(Unanswered::Memory) => Status::Memory,
+            Response::Refused(_) => Status::Refused,
         }
     }
 }

@@ -4,13 +4,16 @@ ghost use Rattle.std.specs.Borrow.{Bor};
 ghost use Rattle.dr_base.specs.Texts.{Text};
 ghost use Rattle.dr_word_check.specs.Runs.{Answers, Verifies};
 ghost use Rattle.dr_word_line.specs.Words.{IsPlainCheck, IsCheckOf, IsVerifyOf, IsQuestionOf};
-ghost use Rattle.dr_word_line.specs.declared.words.Asked.TheVariants as asks;
+ghost use Rattle.dr_word_line.specs.declared.words.Task.TheVariants as asks;
 ghost use Rattle.dr_word_line.specs.declared.words.Question.{Question as QuestionValue};
-ghost use Rattle.dr_word_check.specs.declared.status.Status.TheVariants.{Success, Refused, Usage};
+ghost use Rattle.dr_run_open.specs.declared.status.Status.TheVariants.{Success, Refused, Usage};
 ghost use Rattle.dr_word_route.specs.Runs.{Asks};
 
 use crate::asking::ask_files;
-use dr_word_check::{Asked, Failure, Files, Status, read_words, tell_failure};
+use dr_run_files::{Failure, Files};
+use dr_run_open::Status;
+use dr_word_check::tell_failure;
+use dr_word_line::{Task, read_words};
 use std::alloc::{AllocError, Global};
 use std::io;
 use std::io::{Read, Write};
@@ -20,7 +23,7 @@ use std::io::{Read, Write};
 /// Errors: Stream, File.
 pub fn run_asked<'a, R: Read, W: Write, E: Write, F: Files>(
     alloc: Global,
-    asked: Asked<'a>,
+    asked: Task<'a>,
     input: &mut R,
     output: &mut W,
     faults: &mut E,
@@ -36,7 +39,7 @@ pub fn run_asked<'a, R: Read, W: Write, E: Write, F: Files>(
         → IfOk result (Asks (F.holds files.now) plan certificate question (W.contents output.old) (W.contents output.new)) }
 {
     match asked {
-        Asked::Question(plan, certificate, question) => {
+        Task::Question(plan, certificate, question) => {
             ask_files(alloc, plan, certificate, question, files, output, faults)
         }
         other => dr_word_check::run_asked(alloc, other, input, output, faults, files),

@@ -8,11 +8,11 @@ use Rattle.dr_base.specs.Texts.{Text}
 use Rattle.dr_cert.specs.Sealing.{Certified}
 use Rattle.dr_ledger.specs.Books.{Book}
 use Rattle.dr_ledger.specs.declared.content.Job.{Job}
-use Rattle.dr_word_list.specs.Hops.{hops_from}
-use Rattle.dr_word_list.specs.Openings.{HaltsAs, IsAt}
-use Rattle.dr_word_list.specs.declared.halt.Halt.{Halt}
-use Rattle.dr_word_list.specs.declared.halt.Halt.TheVariants.{NoPlan, NoCertificate, NoNode, NotOpened, NoInstance, Refused, Receipt, Failed, Memory}
-use Rattle.dr_word_list.specs.declared.hops.Hop.{Hop}
+use Rattle.dr_run_open.specs.Hops.{hops_from}
+use Rattle.dr_run_open.specs.Openings.{HaltsAs, IsAt}
+use Rattle.dr_run_open.specs.declared.halt.Halt.{Halt}
+use Rattle.dr_run_open.specs.declared.halt.Halt.TheVariants.{NoPlan, NoCertificate, NoNode, NotOpened, NoInstance, Refused, Receipt, Failed, Memory}
+use Rattle.dr_run_open.specs.declared.hops.NextHop.{NextHop}
 use Rattle.dr_plan_model.specs.Plans.{NamesNoNode}
 use Rattle.dr_run_serve.specs.declared.tallied.OwnPort.{OwnPort}
 use Rattle.dr_site.specs.Parts.{Part}
@@ -67,7 +67,7 @@ module _ {L : Type 0} (HoldsPlan HoldsCertificate : Text → Type 0) (MayOpen : 
     opened_serves (Err (NoInstance fault)) h = absurd h
     opened_serves (Err (Failed failure)) h = absurd h
 
-  module _ (HoldsFile : Text → Type 0) (VisitsAll : Part → List Hop → OwnPort L → OwnPort L → Type 0) (before after : Option Text) where
+  module _ (HoldsFile : Text → Type 0) (VisitsAll : Part → List NextHop → OwnPort L → OwnPort L → Type 0) (before after : Option Text) where
     -- a word that doesn't come to the node doesn't send
     pub unopened_sends : (halt : Halt) → HaltsAs HoldsPlan HoldsCertificate name halt → Sends HoldsPlan HoldsCertificate HoldsFile MayOpen site_of book stands VisitsAll name (Err halt) before after
     unopened_sends (NoPlan told) h = h

@@ -10,13 +10,13 @@ use Rattle.dr_ledger.specs.SiteRoutes.{site_routing}
 use Rattle.dr_ledger.specs.declared.content.Job.{Job}
 use Rattle.dr_ledger.specs.declared.item.Arrived.{Arrived}
 use Rattle.dr_ledger.specs.declared.item.Arrived.TheVariants.{New, Again}
-use Rattle.dr_word_list.specs.Hops.{hops_from}
-use Rattle.dr_word_list.specs.Instances.{ReadsInstance}
-use Rattle.dr_word_list.specs.Openings.{HaltsAs}
-use Rattle.dr_word_list.specs.declared.halt.Halt.{Halt}
-use Rattle.dr_word_list.specs.declared.halt.Halt.TheVariants.{NoInstance, Refused, Failed, Memory}
-use Rattle.dr_word_list.specs.declared.hops.Hop.{Hop}
-use Rattle.dr_world_script.specs.Reports.{IsReportOf}
+use Rattle.dr_run_open.specs.Hops.{hops_from}
+use Rattle.dr_run_open.specs.Instances.{ReadsInstance}
+use Rattle.dr_run_open.specs.Openings.{HaltsAs}
+use Rattle.dr_run_open.specs.declared.halt.Halt.{Halt}
+use Rattle.dr_run_open.specs.declared.halt.Halt.TheVariants.{NoInstance, Refused, Failed, Memory}
+use Rattle.dr_run_open.specs.declared.hops.NextHop.{NextHop}
+use Rattle.dr_ledger_report.specs.Reports.{IsReportOf}
 use Rattle.dr_run_serve.specs.Rounds.{VisitsEach}
 use Rattle.dr_run_serve.specs.Visits.{Visits}
 use Rattle.dr_run_serve.specs.declared.tallied.OwnPort.{OwnPort}
@@ -50,24 +50,24 @@ IsUnsent halt = ⊥
 
 -- each hop of the site is visited once, in order, up to the last, over links that lead to its address
 abbrev pub VisitsBy : {K S : Type 0} (reaches : Text → K → Type 0) (hears : K → Heard → K → Type 0) (sends : K → List ℕ → Bool → K → Type 0) (closes : K → K → Type 0)
-    (step : S → DeskCall → DeskAnswer → S → Type 0) (tells : ℕ → Type 0) → Part → List Hop → S → S → Type 0
+    (step : S → DeskCall → DeskAnswer → S → Type 0) (tells : ℕ → Type 0) → Part → List NextHop → S → S → Type 0
 VisitsBy reaches hears sends closes step tells site hops s t =
     VisitsEach (λ hop a came b. Visits reaches hears sends closes step tells site hop.dest hop.address a came b) hops s (Ok tt) t
 
-module _ {L : Type 0} (book : L → Book) (stands : L → Type 0) (VisitsAll : Part → List Hop → OwnPort L → OwnPort L → Type 0) where
+module _ {L : Type 0} (book : L → Book) (stands : L → Type 0) (VisitsAll : Part → List NextHop → OwnPort L → OwnPort L → Type 0) where
   -- all hops are visited, and the text is the report of what the ledger then has
-  abbrev pub ReportsVisited : Part → List Hop → OwnPort L → Text → Type 0
+  abbrev pub ReportsVisited : Part → List NextHop → OwnPort L → Text → Type 0
   ReportsVisited site hops first report = (visited : OwnPort L) × (last : L) × VisitsAll site hops first visited
       × (stands last → stands visited.desk.ledger × (book last ≡ book visited.desk.ledger) × IsReportOf site.name (book last) report)
 
   -- an instance that enters at the node arrives at its ledger, that is printed, and then all hops are visited
-  abbrev pub SentFrom : Part → List Hop → Job → L → Text → Option Text → Option Text → Type 0
+  abbrev pub SentFrom : Part → List NextHop → Job → L → Text → Option Text → Option Text → Type 0
   SentFrom site hops item old report before after = (arrived : Arrived) × (first : OwnPort L)
       × (stands first.desk.ledger → Arrives (site_routing site) local_caller (instance_of item) (book old) (Ok arrived) (book first.desk.ledger))
       × Appends before after (arrived_line arrived) × ReportsVisited site hops first report
 
 module _ {L : Type 0} (HoldsPlan HoldsCertificate HoldsFile : Text → Type 0) (MayOpen : L → Type 0) (site_of : L → Part) (book : L → Book) (stands : L → Type 0)
-    (VisitsAll : Part → List Hop → OwnPort L → OwnPort L → Type 0) (name : Text) where
+    (VisitsAll : Part → List NextHop → OwnPort L → OwnPort L → Type 0) (name : Text) where
   -- `send`: the instance in the file arrives, each hop of the site to a node of the plan is visited, and the report is what the node then
   -- has; or the file has no instance, or the ledger refuses, or why it doesn't come to that. What is printed on the way stands between
   -- what the output had before and after.

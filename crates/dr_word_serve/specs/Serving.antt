@@ -6,12 +6,12 @@ use Rattle.dr_desk.specs.Growing.{BeginWith}
 use Rattle.dr_ledger.specs.Books.{Book}
 use Rattle.dr_ledger.specs.Histories.{IsJournalled}
 use Rattle.dr_ledger.specs.SiteRoutes.{site_routing}
-use Rattle.dr_word_list.specs.Openings.{HaltsAs, IsAt}
-use Rattle.dr_word_list.specs.declared.halt.Halt.{Halt}
-use Rattle.dr_word_list.specs.declared.halt.Halt.TheVariants.{NoNode, Refused, Receipt, Failed, Memory}
+use Rattle.dr_run_open.specs.Openings.{HaltsAs, IsAt}
+use Rattle.dr_run_open.specs.declared.halt.Halt.{Halt}
+use Rattle.dr_run_open.specs.declared.halt.Halt.TheVariants.{NoNode, Refused, Receipt, Failed, Memory}
 use Rattle.dr_plan_model.specs.Networks.{Network}
 use Rattle.dr_plan_model.specs.Plans.{NamesNoNode}
-use Rattle.dr_world_script.specs.Reports.{IsReportOf}
+use Rattle.dr_ledger_report.specs.Reports.{IsReportOf}
 use Rattle.dr_site.specs.Parts.{Part}
 
 -- What a node has that served: its journal begins with the lines that it had, and is a history of its site; the text is its report.

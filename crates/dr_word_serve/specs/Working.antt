@@ -2,24 +2,24 @@
 use Rattle.std.specs.Prelude.{ℕ, List, Result}
 use Rattle.std.specs.declared.option.Option.{Option}
 use Rattle.dr_base.specs.Texts.{Text}
-use Rattle.dr_word_check.specs.declared.status.Status.{Status}
+use Rattle.dr_run_open.specs.declared.status.Status.{Status}
 use Rattle.dr_word_line.specs.declared.words.Duty.{Duty}
 use Rattle.dr_word_line.specs.declared.words.Duty.TheVariants.{List as ToList, Summary, Requeue, RequeueAll, Send, Serve}
-use Rattle.dr_word_line.specs.declared.words.NodeFiles.{NodeFiles}
+use Rattle.dr_run_files.specs.declared.node.NodeFiles.{NodeFiles}
 use Rattle.dr_ledger.specs.Books.{Book}
-use Rattle.dr_word_list.specs.Ends.{Ends}
+use Rattle.dr_run_open.specs.Ends.{Ends}
 use Rattle.dr_word_list.specs.Requeuings.{RequeuedAll}
 use Rattle.dr_word_list.specs.Summaries.{Summarizes}
 use Rattle.dr_word_list.specs.Works.{Lists, Requeued}
-use Rattle.dr_word_list.specs.declared.halt.Halt.{Halt}
-use Rattle.dr_word_list.specs.declared.hops.Hop.{Hop}
+use Rattle.dr_run_open.specs.declared.halt.Halt.{Halt}
+use Rattle.dr_run_open.specs.declared.hops.NextHop.{NextHop}
 use Rattle.dr_run_serve.specs.declared.tallied.OwnPort.{OwnPort}
 use Rattle.dr_site.specs.Parts.{Part}
 use Rattle.dr_word_serve.specs.Sending.{Sends}
 use Rattle.dr_word_serve.specs.Serving.{Serves}
 
 module _ {L : Type 0} (holds : List ℕ → Text → Type 0) (opens : List ℕ → L → Type 0) (site_of : L → Part) (book : L → Book) (stands : L → Type 0)
-    (VisitsAll : Part → List Hop → OwnPort L → OwnPort L → Type 0) (given : NodeFiles) where
+    (VisitsAll : Part → List NextHop → OwnPort L → OwnPort L → Type 0) (given : NodeFiles) where
   -- The duty is done at the node, whose plan, certificate and ledger these files hold: what the output had before and after, and the exit
   -- status.
   abbrev pub Works : Duty → Option Text → Option Text → Status → Type 0

@@ -5,10 +5,8 @@
 //! - `serve_files`: a node serves associations at its address and sends what is due; after so many connections its report is printed.
 #![tactic(auto)]
 
-pub mod running;
-pub mod submitting;
-pub mod working;
+mod running;
+mod submitting;
+mod working;
 
-pub use running::serve_files;
-pub use submitting::send_files;
 pub use working::work_files;

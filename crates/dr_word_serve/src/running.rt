@@ -1,20 +1,22 @@
 //! The word `serve`.
 ghost use Rattle.std.specs.Prelude.{◌≡◌, IfErr, IfOk, MatchResult, Result};
 ghost use Rattle.dr_base.specs.Texts.{Text as Words};
-ghost use Rattle.dr_word_list.specs.Ends.{Ends};
-ghost use Rattle.dr_word_list.specs.declared.halt.Halt.{Halt as HaltValue};
+ghost use Rattle.dr_run_open.specs.Ends.{Ends};
+ghost use Rattle.dr_run_open.specs.declared.halt.Halt.{Halt as HaltValue};
 ghost use Rattle.dr_word_serve.specs.Serving.{Grew, IsUnheard, IsUnserved, Serves};
 
 use dr_base::Text;
 use dr_ledger::{Ledger, LedgerFault};
+use dr_ledger_report::report_of;
+use dr_run_files::{Failure, Files, NodeFiles};
 use dr_run_net::{Listening, Network};
+use dr_run_open::{Halt, Ledgers, NextHop, Opened, Status, finish, hops_of, open_node};
 use dr_run_report::{OwnPaths, Paths, test_path};
 use dr_run_serve::{FileMonitor, Monitor, ServeFault, serve};
-use dr_run_shown::Shown;
+use dr_run_shown::Escaped;
 use dr_session::{Clock, Link};
 use dr_site::Site;
-use dr_word_check::{Failure, Files, NodeFiles, Serving, Status, Verbosity};
-use dr_word_list::{Halt, Hop, Ledgers, Opened, finish, hops_of, open_node, report_of};
+use dr_word_line::{Serving, Verbosity};
 use log::{LevelFilter, Log, Logged, info};
 use std::alloc::Global;
 use std::io::Write;
@@ -80,7 +82,7 @@ fn serve_ledger<
     name: &Text,
     ledger: L,
     site: Site,
-    hops: Vec<Hop>,
+    hops: Vec<NextHop>,
     listener: &D,
     links: u64,
     network: &N,
@@ -149,7 +151,10 @@ fn serve_opened<
 
 /// Tells that a node serves so many associations.
 fn tell_serving<G: Monitor>(log: &G, given: NodeFiles<'_>, links: u64) {
-    let (node, ledger) = (Shown(given.node.as_bytes()), Shown(given.ledger.as_bytes()));
+    let (node, ledger) = (
+        Escaped(given.node.as_bytes()),
+        Escaped(given.ledger.as_bytes()),
+    );
     info!(log; target: "node", "serves node=\"{node}\" ledger=\"{ledger}\" associations={links}");
 }
 

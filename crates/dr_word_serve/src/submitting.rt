@@ -7,19 +7,20 @@ ghost use Rattle.dr_ledger.specs.Items.{instance_of};
 ghost use Rattle.dr_ledger.specs.Replies.{Arrives};
 ghost use Rattle.dr_ledger.specs.SiteRoutes.{site_routing};
 ghost use Rattle.dr_ledger.specs.declared.item.Arrived.{Arrived as ArrivedValue};
-ghost use Rattle.dr_word_list.specs.Ends.{Ends};
-ghost use Rattle.dr_word_list.specs.Hops.{hops_from};
-ghost use Rattle.dr_word_list.specs.declared.halt.Halt.{Halt as HaltValue};
+ghost use Rattle.dr_run_open.specs.Ends.{Ends};
+ghost use Rattle.dr_run_open.specs.Hops.{hops_from};
+ghost use Rattle.dr_run_open.specs.declared.halt.Halt.{Halt as HaltValue};
 ghost use Rattle.dr_word_serve.specs.Sending.{IsUnsent, ReadsFrom, ReportsVisited, Sends, SentFrom, VisitsBy, arrived_line, local_caller};
 
 use dr_base::Text;
 use dr_ledger::{Arrived, Item, Ledger, LedgerFault};
+use dr_ledger_report::report_of;
+use dr_run_files::{Failure, Files, NodeFiles, read_file};
 use dr_run_net::Network;
+use dr_run_open::{Halt, Ledgers, NextHop, Opened, Status, finish, hops_of, item_of, open_node};
 use dr_run_serve::{OwnPort, visit_each};
 use dr_session::{Clock, DeskPort};
 use dr_site::Site;
-use dr_word_check::{Failure, Files, NodeFiles, Status, read_file};
-use dr_word_list::{Halt, Hop, Ledgers, Opened, finish, hops_of, item_of, open_node, report_of};
 use std::alloc::Global;
 use std::io::Write;
 
@@ -84,7 +85,7 @@ fn take_in<'a, L: Ledger, W: Write>(
 fn send_due<L: Ledger, N: Network, C: Clock>(
     alloc: Global,
     site: &Site,
-    hops: &[Hop],
+    hops: &[NextHop],
     network: &N,
     port: &mut OwnPort<L>,
     clock: &C,
@@ -103,7 +104,7 @@ fn send_due<L: Ledger, N: Network, C: Clock>(
 fn send_ledger<'a, L: Ledger + Drop, N: Network, C: Clock, W: Write>(
     alloc: Global,
     site: &Site,
-    hops: &[Hop],
+    hops: &[NextHop],
     ledger: L,
     item: Item,
     network: &N,

@@ -5,12 +5,14 @@ ghost use Rattle.dr_word_serve.specs.Working.{Works};
 
 use crate::running::serve_files;
 use crate::submitting::send_files;
+use dr_run_files::{Failure, Files, NodeFiles};
 use dr_run_net::Network;
+use dr_run_open::{Ledgers, Status};
 use dr_run_report::Paths;
 use dr_run_serve::OwnPort;
 use dr_session::{Clock, DeskPort};
-use dr_word_check::{Duty, Failure, Files, NodeFiles, Status};
-use dr_word_list::{Ledgers, list_files, requeue_all_files, requeue_files, summarize_files};
+use dr_word_line::Duty;
+use dr_word_list::{list_files, requeue_all_files, requeue_files, summarize_files};
 use log::Log;
 use std::alloc::Global;
 use std::io::Write;

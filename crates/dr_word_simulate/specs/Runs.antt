@@ -10,16 +10,17 @@ use Rattle.dr_plan_sound.specs.Soundness.{IsSound}
 use Rattle.dr_plan_sound.specs.declared.certificate.Certificate.{Certificate}
 use Rattle.dr_cert.specs.declared.fault.CertFault.{CertFault}
 use Rattle.dr_cert.specs.declared.fault.CertFault.TheVariants.{Memory as NoMemory}
-use Rattle.dr_word_check.specs.Runs.{Refuses}
-use Rattle.dr_word_check.specs.Verdicts.{IsFaultOf, IsTextOf, verdict_status}
-use Rattle.dr_word_check.specs.declared.status.Status.{Status}
-use Rattle.dr_word_check.specs.declared.status.Status.TheVariants.{Refused, Memory}
+use Rattle.dr_run_open.specs.Answers.{Refuses}
+use Rattle.dr_run_open.specs.Sealings.{IsFaultOf, IsTextOf}
+use Rattle.dr_word_check.specs.Verdicts.{verdict_status}
+use Rattle.dr_run_open.specs.declared.status.Status.{Status}
+use Rattle.dr_run_open.specs.declared.status.Status.TheVariants.{Refused, Memory}
 use Rattle.dr_word_simulate.specs.Outcomes.{IsOutcomeOf, printed_for, status_for}
-use Rattle.dr_word_simulate.specs.declared.outcome.Outcome.{Outcome}
+use Rattle.dr_word_simulate.specs.declared.outcome.PlayOutcome.{PlayOutcome}
 
 -- a run for a sealed plan: the outcome of the script is printed after what the output held, and the program ends with its status
 pub record Plays (plan : Network) (certificate : Certificate) (script : Text) (old new : Option (List ℕ)) (status : Status) : Type 0 where
-  pub outcome : Outcome
+  pub outcome : PlayOutcome
   pub right : IsOutcomeOf plan certificate script outcome
   pub printed : Appends old new (printed_for outcome)
   pub ends : status ≡ status_for outcome

@@ -6,5 +6,4 @@ mod outcome;
 mod run;
 mod simulate;
 
-pub use outcome::{Outcome, outcome_of};
 pub use run::run_offline;

@@ -3,14 +3,16 @@ ghost use Rattle.std.specs.Prelude.{◌≡◌, ◌≢◌, ℕ, List, IfOk, IfSom
 ghost use Rattle.std.specs.Borrow.{Bor};
 ghost use Rattle.dr_base.specs.Texts.{Text};
 ghost use Rattle.dr_word_check.specs.Runs.{Answers, Verifies};
-ghost use Rattle.dr_word_check.specs.declared.status.Status.TheVariants.{Usage};
-ghost use Rattle.dr_word_line.specs.declared.words.Asked.TheVariants as asks;
+ghost use Rattle.dr_run_open.specs.declared.status.Status.TheVariants.{Usage};
+ghost use Rattle.dr_word_line.specs.declared.words.Task.TheVariants as asks;
 ghost use Rattle.dr_word_line.specs.declared.words.Question.{Question as QuestionValue};
 ghost use Rattle.dr_word_route.specs.Runs.{Asks};
 ghost use Rattle.dr_word_simulate.specs.Runs.{Simulates};
 
 use crate::simulate::simulate_files;
-use dr_word_check::{Asked, Failure, Files, Status};
+use dr_run_files::{Failure, Files};
+use dr_run_open::Status;
+use dr_word_line::Task;
 use dr_word_route::run_asked;
 use std::alloc::Global;
 use std::io::{Read, Write};
@@ -20,7 +22,7 @@ use std::io::{Read, Write};
 /// Errors: Stream, File.
 pub fn run_offline<'a, R: Read, W: Write, E: Write, F: Files>(
     alloc: Global,
-    asked: Asked<'a>,
+    asked: Task<'a>,
     input: &mut R,
     output: &mut W,
     faults: &mut E,
@@ -38,7 +40,7 @@ pub fn run_offline<'a, R: Read, W: Write, E: Write, F: Files>(
         → IfOk result (λ status. (text : Text) × F.holds files.now plan.now text × Simulates (F.holds files.now certificate.now) (F.holds files.now script.now) text (W.contents output.old) (W.contents output.new) status) }
 {
     match asked {
-        Asked::Simulate(plan, certificate, script) => {
+        Task::Simulate(plan, certificate, script) => {
             simulate_files(alloc, files, plan, certificate, script, output, faults)
         }
         other => run_asked(alloc, other, input, output, faults, files),

@@ -3,14 +3,15 @@ ghost use Rattle.std.specs.Prelude.{◌≡◌, ◌≢◌, ◌⊎◌, IfOk, OnOk}
 ghost use Rattle.std.specs.Io.KnownBytes.{Appends};
 ghost use Rattle.dr_base.specs.Texts.{Text};
 ghost use Rattle.dr_cert.specs.declared.fault.CertFault.TheVariants.{Memory as NoMemory};
-ghost use Rattle.dr_word_check.specs.declared.status.Status.TheVariants.{Refused, Memory};
+ghost use Rattle.dr_run_open.specs.declared.status.Status.TheVariants.{Refused, Memory};
 ghost use Rattle.dr_word_simulate.specs.Outcomes.{printed_for};
 ghost use Rattle.dr_word_simulate.specs.Runs.{Plays, Seals, Simulates, Unseals};
 
-use crate::outcome::{Outcome, outcome_of};
+use crate::outcome::{PlayOutcome, outcome_of};
 use dr_cert::{CertFault, Sealed};
 use dr_plan::Plan;
-use dr_word_check::{Failure, Files, Status, plan_of, read_file, seal_text, tell_answer};
+use dr_run_files::{Failure, Files, read_file};
+use dr_run_open::{Status, plan_of, seal_text, tell_answer};
 use dr_world_script::ScriptFault;
 use std::alloc::Global;
 use std::io;
@@ -18,17 +19,17 @@ use std::io::Write;
 
 /// Writes the outcome: the report to the output, and why there is none to the faults.
 fn tell_outcome<W: Write, E: Write>(
-    outcome: &Outcome,
+    outcome: &PlayOutcome,
     output: &mut W,
     faults: &mut E,
 ) -> io::Result<()>
     ensures { OnOk result (Appends (W.contents output.old) (W.contents output.new) (printed_for outcome.now)) }
 {
     match outcome {
-        Outcome::Report(report) => output.write_all(report.as_bytes()),
-        Outcome::NoScript(line) => writeln!(faults, "dr_router: {}", ScriptFault::Line(*line)),
-        Outcome::Store => writeln!(faults, "dr_router: Store"),
-        Outcome::Memory => writeln!(faults, "dr_router: Memory"),
+        PlayOutcome::Report(report) => output.write_all(report.as_bytes()),
+        PlayOutcome::NoScript(line) => writeln!(faults, "dr_router: {}", ScriptFault::Line(*line)),
+        PlayOutcome::Store => writeln!(faults, "dr_router: Store"),
+        PlayOutcome::Memory => writeln!(faults, "dr_router: Memory"),
     }
 }
 

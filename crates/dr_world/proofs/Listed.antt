@@ -19,7 +19,7 @@ use Rattle.dr_ledger.proofs.Maps.{texts, same_or_not, ties_itself}
 use Rattle.dr_session.specs.Ledgers.{desk}
 use Rattle.dr_node.specs.declared.node.Node.{Node}
 use Rattle.dr_world_model.specs.Worlds.{same_text}
-use Rattle.dr_world_script.specs.Reports.{IsReportOf, name_line, report_of}
+use Rattle.dr_ledger_report.specs.Reports.{IsReportOf, name_line, report_of}
 use Rattle.dr_world.specs.declared.listing.Listing.{Listing}
 use Rattle.dr_world.specs.declared.world.World.{World}
 use Rattle.dr_world.specs.Nodes.{AllStandIn, seat_of, seats_of}

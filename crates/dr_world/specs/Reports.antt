@@ -12,7 +12,7 @@ use Rattle.dr_ledger.specs.Books.{Book}
 use Rattle.dr_ledger.specs.Pairs.{pair_cmp}
 use Rattle.dr_ledger.specs.Replies.{AreKept, Lists, entry_of}
 use Rattle.dr_node.specs.declared.node.Node.{Node}
-use Rattle.dr_world_script.specs.Reports.{IsReportOf}
+use Rattle.dr_ledger_report.specs.Reports.{IsReportOf}
 use Rattle.dr_world.specs.declared.listing.Listing.{Listing}
 use Rattle.dr_world.specs.Nodes.{AllStandIn, seats_of}
 

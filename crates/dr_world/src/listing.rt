@@ -1,14 +1,14 @@
 //! What is read of one of several nodes, by its name.
 ghost use Rattle.std.specs.Prelude.{◌≡◌, ◌++◌, IfOk, OnOk, length};
-ghost use Rattle.dr_world_script.specs.Reports.{name_line, report_of};
+ghost use Rattle.dr_ledger_report.specs.Reports.{name_line, report_of};
 ghost use Rattle.dr_world.specs.Reports.{AreNamesOf, AreSameNodes, AreWritten, HasReport, IsListingOf, IsSameNode, ListsBook, bodies_of, books_of, has_in};
 ghost use Rattle.dr_world.specs.Nodes.{AllStandIn};
 
 use crate::fault::WorldFault;
 use dr_base::{Seq, Text};
 use dr_ledger::{Entry, Ledger, LedgerFault, Progress};
+use dr_ledger_report::{put_name, put_report};
 use dr_node::Node;
-use dr_world_script::{put_name, put_report};
 use std::alloc::{AllocError, Global};
 use std::collections::BTreeMap;
 

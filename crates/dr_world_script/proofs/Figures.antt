@@ -1,10 +1,9 @@
--- Lines that tell steps, lines that tell none, and the report of a node.
+-- Lines that tell steps, and lines that tell none.
 use Rattle.std.proofs.Common.{◌≡◌, ℕ, ◌<◌, ◌^◌, List, [], ◌∷◌, refl, ap, sym, subst, ◌∙◌, arith}
 use mathlib.Core.Bool.{true≢false}
 use Rattle.std.specs.Prelude.{codes}
 use Rattle.std.specs.Str.{bytes_eq}
 use Rattle.std.specs.Fmt.{digits}
-use Rattle.hex.proofs.OnLiterals.{hex_on_literals}
 use Rattle.dr_base.specs.Texts.{Text}
 use Rattle.dr_cert_text.specs.Cuts.{cuts, grown}
 use Rattle.dr_world_script.specs.declared.step.Side.{Side}
@@ -13,7 +12,7 @@ use Rattle.dr_world_script.specs.declared.step.Step.{Step}
 use Rattle.dr_world_script.specs.declared.step.Step.TheVariants.{Open, Move}
 use Rattle.dr_world_script.specs.declared.step.Word.{Word}
 use Rattle.dr_world_script.specs.declared.step.Word.TheVariants as word
-use Rattle.dr_world_script.specs.Laws.{LinesTellSteps, LinesTellNone, ReportOfANode, open_line, move_line}
+use Rattle.dr_world_script.specs.Laws.{LinesTellSteps, LinesTellNone, open_line, move_line}
 use Rattle.dr_world_script.specs.Scripts.{Follows, Tells, told_lines, is_skipped, side_word, spelled}
 use Rattle.dr_world_script.proofs.Spelling.{spelled_one}
 
@@ -68,7 +67,3 @@ one_too_many step tells = none (behind (codes "open\tCT1\tGATE\t") word.Open (co
 
 pub told_none : LinesTellNone
 told_none step = (no_end step, word_alone step, one_too_many step)
-
-pub reported : ReportOfANode
-unfolding digits hex_on_literals
-reported = (refl, refl, refl)

@@ -1,15 +1,10 @@
--- Laws and figures of scripts and reports.
+-- Laws and figures of scripts.
 use Rattle.std.specs.Prelude.{◌≡◌, ℕ, List, [], ◌∷◌, ◌++◌, codes, true, false}
 use Rattle.dr_base.specs.Texts.{Text}
-use Rattle.dr_ledger.specs.Pairs.{Pair}
-use Rattle.dr_ledger.specs.declared.item.Cause.TheVariants as cause
-use Rattle.dr_ledger.specs.declared.item.Progress.{Progress}
-use Rattle.dr_ledger.specs.declared.item.Progress.TheVariants.{Waiting, Held, Done}
 use Rattle.dr_world_script.specs.declared.step.Side.TheVariants.{Requestor, Acceptor}
 use Rattle.dr_world_script.specs.declared.step.Step.{Step}
 use Rattle.dr_world_script.specs.declared.step.Step.TheVariants.{Open, Move, Tick, Abort}
 use Rattle.dr_world_script.specs.Scripts.{IsScriptOf, Tells, is_skipped}
-use Rattle.dr_world_script.specs.Reports.{name_line, report_of}
 
 -- a line tells one step
 abbrev pub OneStepForALine : Type 0
@@ -36,12 +31,3 @@ LinesTellSteps = Tells open_line (Open (codes "CT1") (codes "GATE")) × Tells mo
 -- an end that isn't one, a word alone, and a field too many
 abbrev pub LinesTellNone : Type 0
 LinesTellNone = (step : Step) → (Tells (codes "move\t1\tnobody\t1") step → ⊥) × (Tells (codes "push") step → ⊥) × (Tells (codes "open\tCT1\tGATE\t") step → ⊥)
-
--- the report of a node to which one instance came, which went on, and of the rows that may be
-abbrev pub ReportOfANode : Type 0
-ReportOfANode =
-    (name_line (codes "GATE") ++ report_of ((codes "CT1", codes "1.2.3.4") ∷ []) [] (((codes "1.2.3.4", codes "ARCH"), Done) ∷ []) 2
-    ≡ codes "node\tGATE\narrival\tCT1\t1.2.3.4\nrow\t1.2.3.4\tARCH\tdone\nlines\t2\n")
-    × (report_of [] ((codes "1.2.3.4", 70) ∷ []) [] 1 ≡ codes "kept\t1.2.3.4\t70\nlines\t1\n")
-    × (report_of [] [] (((codes "9", codes "A"), Waiting 1 1000) ∷ ((codes "9", codes "B"), Held (cause.Status 0xC0F1)) ∷ ((codes "9", codes "C"), Held cause.NoContext) ∷ []) 0
-    ≡ codes "row\t9\tA\twaiting\t1\t1000\nrow\t9\tB\theld\tC0F1\nrow\t9\tC\theld\tno-context\nlines\t0\n")

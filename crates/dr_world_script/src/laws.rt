@@ -1,5 +1,5 @@
-//! Laws of scripts and reports.
-ghost use Rattle.dr_world_script.specs.Laws.{LinesTellNone, LinesTellSteps, OneScriptForAText, OneStepForALine, ReportOfANode};
+//! Laws of scripts.
+ghost use Rattle.dr_world_script.specs.Laws.{LinesTellNone, LinesTellSteps, OneScriptForAText, OneStepForALine};
 
 /// A line tells one step, and a text is the script of one list of steps.
 pub fn a_script_has_one_reading()
@@ -11,9 +11,4 @@ pub fn a_script_has_one_reading()
 pub fn lines_tell_steps()
     ensures steps { LinesTellSteps }
     ensures none { LinesTellNone }
-{}
-
-/// The report of a node.
-pub fn a_report_is_printed_so()
-    ensures { ReportOfANode }
 {}

@@ -1,7 +1,7 @@
 use Rattle.std.proofs.Common.{◌∙◌, sym, subst, List}
 use Rattle.std.specs.Prelude.{Contains}
 use Rattle.dr_base.specs.Texts.{Text}
-use Rattle.dr_word_list.specs.declared.halt.Halt.{Halt}
+use Rattle.dr_run_open.specs.declared.halt.Halt.{Halt}
 use Rattle.dr_plan_model.specs.Networks.{Network}
 use Rattle.dr_plan_model.specs.Plans.{NamesNoNode}
 use Rattle.dr_word_adopt.specs.Changes.{AreNames, StopsAt}

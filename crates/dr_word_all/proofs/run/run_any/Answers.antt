@@ -1,10 +1,10 @@
 use Rattle.std.proofs.Common.{◌≡◌, ap, subst, sym, ◌∙◌}
 use Rattle.std.specs.Prelude.{IfOk}
 use Rattle.dr_word_adopt.specs.Endings.{Adopts}
-use Rattle.dr_word_line.specs.declared.words.Asked.{Asked}
-use Rattle.dr_word_line.specs.declared.words.Asked.TheVariants as asks
+use Rattle.dr_word_line.specs.declared.words.Task.{Task}
+use Rattle.dr_word_line.specs.declared.words.Task.TheVariants as asks
 use Rattle.dr_word_line.specs.declared.words.Duty.{Duty}
-use Rattle.dr_word_line.specs.declared.words.NodeFiles.{NodeFiles}
+use Rattle.dr_run_files.specs.declared.node.NodeFiles.{NodeFiles}
 use Rattle.dr_word_line.specs.declared.words.PlanChange.{PlanChange}
 use Rattle.dr_run_serve.specs.contracts.tallied.OwnPortDeskPort.TheImpl as own
 use Rattle.dr_word_serve.specs.Sending.{VisitsBy}
@@ -12,12 +12,12 @@ use Rattle.dr_word_serve.specs.Working.{Works}
 use Rattle.dr_word_all.proofs.run.run_any.Goals as goal
 
 -- the files that a word at a node gives, else these ones
-given_of : NodeFiles → Asked → NodeFiles
+given_of : NodeFiles → Task → NodeFiles
 given_of other (asks.AtNode given duty) = given
 given_of other asked = other
 
 -- what a word at a node asks of it, else this
-duty_of : Duty → Asked → Duty
+duty_of : Duty → Task → Duty
 duty_of other (asks.AtNode given duty) = duty
 duty_of other asked = other
 
@@ -32,7 +32,7 @@ returns-in-AtNode-clause-worked g c = λ given duty asked.
     (subst (λ (what : Duty). P c.in-AtNode.given what) (ap (duty_of duty) same) c.work_files.ensures)
 
 -- the change that the word `adopt` asks for, else this
-change_of : PlanChange → Asked → PlanChange
+change_of : PlanChange → Task → PlanChange
 change_of other (asks.Adopt change) = change
 change_of other asked = other
 

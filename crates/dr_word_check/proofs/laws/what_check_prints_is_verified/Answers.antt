@@ -11,11 +11,11 @@ use Rattle.dr_cert.proofs.Faultless.{own_is_taken}
 use Rattle.dr_certify.specs.Certified.{IsCertified}
 use Rattle.dr_certify.proofs.Read.{read_once}
 use Rattle.dr_word_check.specs.Verdicts.{IsVerdictOn}
-use Rattle.dr_word_check.specs.declared.verify.Verdict.{Verdict}
-use Rattle.dr_word_check.specs.declared.verify.Verdict.TheVariants.{Yes, No, Memory}
+use Rattle.dr_word_check.specs.declared.verify.Verification.{Verification}
+use Rattle.dr_word_check.specs.declared.verify.Verification.TheVariants.{Yes, No, Memory}
 use Rattle.dr_word_check.proofs.laws.what_check_prints_is_verified.Goals as goal
 
-verdicts : (text output : Text) → IsCertified text output → (plan : Network) → Reads text (Ok plan) → (verdict : Verdict) → IsVerdictOn plan output verdict →
+verdicts : (text output : Text) → IsCertified text output → (plan : Network) → Reads text (Ok plan) → (verdict : Verification) → IsVerdictOn plan output verdict →
     (verdict ≡ Yes) ⊎ (verdict ≡ Memory)
 verdicts text output proved plan reads Yes right = inl refl
 verdicts text output proved plan reads Memory right = inr refl

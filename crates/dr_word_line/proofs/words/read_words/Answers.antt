@@ -1,4 +1,4 @@
-use Rattle.dr_word_line.specs.declared.words.Asked.TheVariants as asks
+use Rattle.dr_word_line.specs.declared.words.Task.TheVariants as asks
 use Rattle.dr_word_line.proofs.OneAsked.{one_asked}
 use Rattle.dr_word_line.proofs.words.read_words.Goals as goal
 

@@ -1,10 +1,10 @@
 use Rattle.std.proofs.Common.{◌∙◌, ◌++◌, ◌∷◌, [], ℕ, List, ap}
 use Rattle.std.specs.Prelude.{codes, decimal}
 use Rattle.dr_base.specs.Texts.{Text}
-use Rattle.dr_world_script.specs.Reports.{next_field}
-use Rattle.dr_word_list.specs.Queues.{how_many}
+use Rattle.dr_ledger_report.specs.Reports.{next_field}
+use Rattle.dr_run_open.specs.Queues.{how_many}
 use Rattle.dr_word_list.specs.Summaries.{moment_field}
-use Rattle.dr_word_list.specs.declared.queues.Stage.TheVariants as stages
+use Rattle.dr_run_open.specs.declared.queues.RowStage.TheVariants as stages
 use Rattle.dr_word_list.proofs.Pieces.{as_fields, chained}
 use Rattle.dr_word_list.proofs.summary.put_queue_line.Goals as goal
 

@@ -1,7 +1,7 @@
 use Rattle.std.proofs.Common.{◌∙◌, ◌++◌, []}
 use Rattle.std.specs.Prelude.{codes}
 use Rattle.dr_base.specs.Texts.{Text}
-use Rattle.dr_world_script.specs.Reports.{name_line}
+use Rattle.dr_ledger_report.specs.Reports.{name_line}
 use Rattle.dr_word_list.specs.Summaries.{count_line}
 use Rattle.dr_word_list.proofs.Pieces.{behind}
 use Rattle.dr_word_list.proofs.summary.summary_text.Goals as goal

@@ -1,7 +1,7 @@
 use Rattle.std.proofs.Common.{subst, Ok, Err}
 use Rattle.dr_plan_model.specs.Networks.{Network}
 use Rattle.dr_word_route.specs.Keys.{ReadsSite, ReadsWords}
-use Rattle.dr_word_route.specs.declared.reply.Reply.TheVariants.{Refused}
+use Rattle.dr_word_route.specs.declared.reply.Response.TheVariants.{Refused}
 use Rattle.dr_word_route.proofs.Told.{route_reply, stranger_reply}
 use Rattle.dr_word_route.proofs.asking.ask_key.Goals as goal
 

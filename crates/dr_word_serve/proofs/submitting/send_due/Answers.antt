@@ -1,6 +1,6 @@
 use Rattle.std.proofs.Common.{subst}
 use Rattle.dr_base.specs.Texts.{Text}
-use Rattle.dr_world_script.specs.Reports.{IsReportOf}
+use Rattle.dr_ledger_report.specs.Reports.{IsReportOf}
 use Rattle.dr_word_serve.proofs.submitting.send_due.Goals as goal
 
 pub returns : goal.returns

@@ -1,6 +1,6 @@
 use Rattle.std.proofs.Common.{Result}
 use Rattle.dr_base.specs.Texts.{Text}
-use Rattle.dr_word_list.specs.declared.halt.Halt.{Halt}
+use Rattle.dr_run_open.specs.declared.halt.Halt.{Halt}
 use Rattle.dr_run_serve.specs.contracts.tallied.OwnPortDeskPort.TheImpl as own
 use Rattle.dr_word_serve.proofs.Coming.{err_as, opened_sends, unopened_sends, unread_sends}
 use Rattle.dr_word_serve.specs.Sending.{Sends, VisitsBy}

@@ -1,0 +1,2 @@
+mod Figures
+mod Reporting

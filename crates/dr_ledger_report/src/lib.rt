@@ -1,0 +1,9 @@
+//! The report of a node: what the book of its ledger has, as lines of text, which words, a running node and the simulator print.
+#![tactic(auto)]
+
+pub mod laws;
+mod lines;
+mod report;
+
+pub use lines::{put_field, put_name, put_number, put_report};
+pub use report::{report_of, report_text};

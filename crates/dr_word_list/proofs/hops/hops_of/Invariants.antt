@@ -1,6 +1,0 @@
-use Rattle.std.proofs.Common.{◌≡◌, take}
-use Rattle.dr_word_list.specs.Hops.{hops_from}
-use Rattle.dr_word_list.proofs.hops.hops_of.Given as goal
-
-abbrev pub invariant-loop-node : goal.invariant-loop-node
-invariant-loop-node l = l.hops.items ≡ hops_from l.site (take l.node-index l.plan.nodes)

@@ -1,9 +1,0 @@
-use Rattle.std.proofs.Common.{subst}
-use Rattle.dr_base.specs.Texts.{Text}
-use Rattle.dr_word_check.specs.Verdicts.{IsFaultOf}
-use Rattle.dr_word_list.proofs.opening.seal_plan.Goals as goal
-
-pub returns : goal.returns
-returns g c =
-    let P : Text → Type 0 = λ text. IsFaultOf c.args.plan text c.in-Err-seal_text.fault in
-    (c.in-Ok.second.items, c.in-Ok.ensures, λ other. subst P c.as_slice.ensures.value (c.in-Err-seal_text.ensures other))
