@@ -1,5 +1,7 @@
--- What the calls that read show, and when a failure counts: figures and laws that pin those definitions.
-use Rattle.std.specs.Prelude.{◌≡◌, ◌↔◌, ℕ, ◌<◌, ◌-◌, ◌^◌, true, List, [], ◌∷◌, Contains, codes, Some, Err}
+-- What the calls that read show, and when a failure counts: figures and laws that pin those
+-- definitions.
+use Rattle.std.specs.Prelude.{◌≡◌, ◌↔◌, ℕ, ◌<◌, ◌-◌, ◌^◌, true, List, [], ◌∷◌, Contains, codes}
+use Rattle.std.specs.Prelude.{Some, Err}
 use Rattle.std.specs.FinMap as map
 use Rattle.std.specs.FinSet as set
 use Rattle.dr_base.specs.Texts.{Text}
@@ -14,32 +16,47 @@ use Rattle.dr_ledger.specs.Replies.{AreKept, Counts, HasRisen, entry_of}
 
 -- the key of a CT image in the explicit syntax, of station S1
 abbrev pub a_key : Key
-a_key = record { class = codes "1.2.840.10008.5.1.4.1.1.2"; syntax = Explicit; modality = codes "CT"; station = codes "S1" }
+a_key = record {
+  class = codes "1.2.840.10008.5.1.4.1.1.2";
+  syntax = Explicit;
+  modality = codes "CT";
+  station = codes "S1";
+}
 
 -- a CT image of 70 bytes with the uid 1.2.3.4; no figure looks at its digest
 abbrev pub an_image : Instance
 an_image = record { uid = codes "1.2.3.4"; key = a_key; size = 70; digest = [] }
 
--- what is shown of a line of each kind: an arrival shows the length of the data set and not its bytes
+-- what is shown of a line of each kind: an arrival shows the length of the data set and not its
+-- bytes
 pub record LinesAreShown : Type 0 where
   pub arrival : entry_of (Arrival (codes "CT1") an_image (codes "ARCH" ∷ []) true)
       ≡ entry.Arrival (codes "CT1") (codes "1.2.3.4") a_key 70 (codes "ARCH" ∷ []) true
-  pub repeat : entry_of (Repeat (codes "CT1") an_image) ≡ entry.Repeat (codes "CT1") (codes "1.2.3.4") a_key 70
+  pub repeat : entry_of (Repeat (codes "CT1") an_image)
+      ≡ entry.Repeat (codes "CT1") (codes "1.2.3.4") a_key 70
   pub settling : entry_of (Settling (codes "1.2.3.4") (codes "ARCH") (Status 0xA700) 5)
       ≡ entry.Settling (codes "1.2.3.4") (codes "ARCH") (Status 0xA700) 5
-  pub requeuing : entry_of (Requeuing (codes "1.2.3.4") (codes "ARCH")) ≡ entry.Requeuing (codes "1.2.3.4") (codes "ARCH")
+  pub requeuing : entry_of (Requeuing (codes "1.2.3.4") (codes "ARCH"))
+      ≡ entry.Requeuing (codes "1.2.3.4") (codes "ARCH")
   pub forgetting : entry_of (Forgetting (codes "1.2.3.4")) ≡ entry.Forgetting (codes "1.2.3.4")
   pub adoption : entry_of Adoption ≡ entry.Adoption
 
 -- The kept uids are shown, each with the length of its instance's data set, and nothing else is.
 abbrev pub KeptAreMeasured : Type 0
-KeptAreMeasured = (b : Book) (all : List (Text × ℕ)) → AreKept b all → (uid : Text) (size : ℕ) →
-    Contains all (uid, size)
-    ↔ ((set.contains b.kept uid ≡ true) × ((item : Instance) × (map.get b.items uid ≡ Some item) × (item.size ≡ size)))
+KeptAreMeasured =
+    (b : Book) (all : List (Text × ℕ))
+    → AreKept b all → (uid : Text) (size : ℕ)
+    → Contains all (uid, size)
+    ↔ ((set.contains b.kept uid ≡ true)
+    × ((item : Instance) × (map.get b.items uid ≡ Some item) × (item.size ≡ size)))
 
--- Where the store is the fault, the count of failures has risen, if it wasn't at its greatest value.
+-- Where the store is the fault, the count of failures has risen, if it wasn't at its greatest
+-- value.
 abbrev pub FailuresAreCounted : Type 0
-FailuresAreCounted = (before now : ℕ) → Counts {A = Unit {0}} (Err fault.Store) before now → now < 2 ^ 64 - 1 → before < now
+FailuresAreCounted =
+    (before now : ℕ)
+    → Counts {A = Unit {0}} (Err fault.Store) before now
+    → now < 2 ^ 64 - 1 → before < now
 
 -- 3 failures aren't more than 3, 4 are; at the greatest value the count stays
 pub record FiguresRise : Type 0 where

@@ -17,7 +17,8 @@ abbrev pub note_for : Text → Job → Targets → Note
 note_for caller item targets = note.Arrival caller (instance_of item) targets.to targets.keep
 
 -- all that the item's first arrival from the caller puts in, where the uid has these rows
-pub record IsFor (caller : Text) (item : Job) (targets : Targets) (rows : List Row) (new : Bringing) : Type 0 where
+pub record IsFor (caller : Text) (item : Job) (targets : Targets) (rows : List Row)
+    (new : Bringing) : Type 0 where
   pub is_item : IsItem item
   pub arrival : new.arrival ≡ (caller, item.uid)
   pub uid : new.uid ≡ item.uid
@@ -34,7 +35,8 @@ pub record IsLine (caller : Text) (item : Job) (line : Line) : Type 0 where
   pub instance : line.instance ≡ instance_of item
 
 -- what is copied for it, where the uid has these rows
-pub record AreCopies (caller : Text) (item : Job) (to : List Text) (rows : List Row) (copies : Copies) : Type 0 where
+pub record AreCopies (caller : Text) (item : Job) (to : List Text) (rows : List Row)
+    (copies : Copies) : Type 0 where
   pub arrival : copies.arrival ≡ (caller, item.uid)
   pub instance : copies.instance ≡ instance_of item
   pub rows_are : copies.rows.items ≡ filled rows to
@@ -42,7 +44,8 @@ pub record AreCopies (caller : Text) (item : Job) (to : List Text) (rows : List 
   pub line : IsLine caller item copies.line
 
 -- the copies with what the item and the targets have
-pub record IsJoined (item : Job) (targets : Targets) (copies : Copies) (new : Bringing) : Type 0 where
+pub record IsJoined (item : Job) (targets : Targets) (copies : Copies)
+    (new : Bringing) : Type 0 where
   pub is_item : IsItem item
   pub arrival : new.arrival ≡ copies.arrival
   pub uid : new.uid ≡ item.uid

@@ -1,5 +1,6 @@
 -- What the calls make of the parts, by what is found at each uid.
-use Rattle.std.specs.Prelude.{◌≡◌, ℕ, Bool, ◌||◌, ◌&&◌, not, cond, List, [], ◌∷◌, ◌++◌, Option, None, Some}
+use Rattle.std.specs.Prelude.{◌≡◌, ℕ, Bool, ◌||◌, ◌&&◌, not, cond, List, [], ◌∷◌, ◌++◌, Option}
+use Rattle.std.specs.Prelude.{None, Some}
 use Rattle.std.specs.Ordering.{eq_by_cmp}
 use Rattle.std.specs.BTreeMap.{is_at}
 use Rattle.std.specs.BTreeMap as tree
@@ -24,19 +25,29 @@ at held uid = tree.get text_cmp held uid
 
 -- at one uid there is this entry, and elsewhere what was there
 abbrev pub IsPutAt : Tree → Text → Entry → Tree → Type 0
-IsPutAt old uid entry new = (other : Text) → at new other ≡ cond (eq_by_cmp text_cmp other uid) (Some entry) (at old other)
+IsPutAt old uid entry new =
+    (other : Text) → at new other ≡ cond (eq_by_cmp text_cmp other uid) (Some entry) (at old other)
 
 -- the same of what is there or isn't, as trees put it
 abbrev pub IsSetAt : Tree → Text → Option Entry → Tree → Type 0
-IsSetAt old uid found new = (other : Text) → at new other ≡ cond (is_at (text_cmp uid) other) found (at old other)
+IsSetAt old uid found new =
+    (other : Text) → at new other ≡ cond (is_at (text_cmp uid) other) found (at old other)
 
 -- another arrival of the uid
 abbrev pub TakesAt : Tree → Text → List Row → Bool → List ℕ → Tree → Type 0
-TakesAt old uid rows keep body new = (before : Entry) × (after : Entry) × (at old uid ≡ Some before) × IsTaken (Some before) before.instance rows keep body after × IsPutAt old uid after new
+TakesAt old uid rows keep body new =
+    (before : Entry) × (after : Entry)
+    × (at old uid ≡ Some before)
+    × IsTaken (Some before) before.instance rows keep body after
+    × IsPutAt old uid after new
 
 -- a row of it moves on
 abbrev pub MovesAt : Tree → Text → Text → Progress → Tree → Type 0
-MovesAt old uid dest progress new = (before : Entry) × (after : Entry) × (at old uid ≡ Some before) × IsMovedOn before dest progress after × IsPutAt old uid after new
+MovesAt old uid dest progress new =
+    (before : Entry) × (after : Entry)
+    × (at old uid ≡ Some before)
+    × IsMovedOn before dest progress after
+    × IsPutAt old uid after new
 
 -- done rows leave
 abbrev pub IsPrunedIn : Option Entry → Option Entry → Type 0
@@ -48,11 +59,15 @@ PrunesAll old new = (uid : Text) → IsPrunedIn (at old uid) (at new uid)
 
 -- the same arrivals
 abbrev pub AreAlike : sorted.BTreeSet Pair → sorted.BTreeSet Pair → Type 0
-AreAlike old new = (key : Pair) → sorted.contains pair_cmp new key ≡ sorted.contains pair_cmp old key
+AreAlike old new =
+    (key : Pair) → sorted.contains pair_cmp new key ≡ sorted.contains pair_cmp old key
 
 -- one more of them
 abbrev pub IsOneMore : sorted.BTreeSet Pair → Pair → sorted.BTreeSet Pair → Type 0
-IsOneMore old arrival new = (key : Pair) → sorted.contains pair_cmp new key ≡ (eq_by_cmp pair_cmp key arrival || sorted.contains pair_cmp old key)
+IsOneMore old arrival new =
+    (key : Pair)
+    → sorted.contains pair_cmp new key
+    ≡ (eq_by_cmp pair_cmp key arrival || sorted.contains pair_cmp old key)
 
 -- what an arrival brings, but for who brought it
 pub record IsRest (new : Bringing) (rest : Rest) : Type 0 where
@@ -79,7 +94,9 @@ pub record IsBrought (p : Parts) (new : Bringing) (q : Parts) : Type 0 where
   pub after : Entry
   pub taken : IsTaken (at p.held new.uid) new.instance new.rows.items new.keep new.body after
   pub held : IsPutAt p.held new.uid after q.held
-  pub arrivals : (key : Pair) → sorted.contains pair_cmp q.arrivals key ≡ (eq_by_cmp pair_cmp key new.arrival || sorted.contains pair_cmp p.arrivals key)
+  pub arrivals : (key : Pair)
+      → sorted.contains pair_cmp q.arrivals key
+      ≡ (eq_by_cmp pair_cmp key new.arrival || sorted.contains pair_cmp p.arrivals key)
   pub notes : q.notes.items ≡ p.notes.items ++ new.note ∷ []
 
 -- an arrival is noted, and what stands at each uid stays
@@ -95,7 +112,8 @@ pub record IsTakenOut (p : Parts) (uid : Text) (q : Parts) : Type 0 where
   pub notes : q.notes.items ≡ p.notes.items
 
 -- one row moves on
-pub record IsMoved (p : Parts) (uid dest : Text) (progress : Progress) (note : Note) (q : Parts) : Type 0 where
+pub record IsMoved (p : Parts) (uid dest : Text) (progress : Progress) (note : Note)
+    (q : Parts) : Type 0 where
   pub held : MovesAt p.held uid dest progress q.held
   pub arrivals : AreAlike p.arrivals q.arrivals
   pub notes : q.notes.items ≡ p.notes.items ++ note ∷ []
@@ -109,5 +127,7 @@ pub record IsAdopted (p q : Parts) : Type 0 where
 -- what stood at the uid has left with those who brought it, and there is a line more
 pub record IsForgotten (p : Parts) (uid : Text) (note : Note) (q : Parts) : Type 0 where
   pub held : IsSetAt p.held uid None q.held
-  pub arrivals : (key : Pair) → sorted.contains pair_cmp q.arrivals key ≡ (sorted.contains pair_cmp p.arrivals key && not (eq_by_cmp text_cmp key.1 uid))
+  pub arrivals : (key : Pair)
+      → sorted.contains pair_cmp q.arrivals key
+      ≡ (sorted.contains pair_cmp p.arrivals key && not (eq_by_cmp text_cmp key.1 uid))
   pub notes : q.notes.items ≡ p.notes.items ++ note ∷ []

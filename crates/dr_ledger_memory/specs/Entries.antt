@@ -1,5 +1,6 @@
 -- What a uid has, and how that changes.
-use Rattle.std.specs.Prelude.{◌≡◌, ℕ, Bool, true, false, not, cond, ◌||◌, List, [], ◌∷◌, Option, None, Some, unwrap_or}
+use Rattle.std.specs.Prelude.{◌≡◌, ℕ, Bool, true, false, not, cond, ◌||◌, List, [], ◌∷◌, Option}
+use Rattle.std.specs.Prelude.{None, Some, unwrap_or}
 use Rattle.std.specs.List.{filter, list_any}
 use Rattle.std.specs.FinMap.{find, put}
 use Rattle.dr_base.specs.Texts.{Text, text_cmp}
@@ -66,11 +67,13 @@ abbrev pub let_go : Bool → Option (List ℕ) → Option (List ℕ)
 let_go needed body = cond needed body None
 
 -- another arrival, or the first: these are the rows now, and the uid is kept if it was or is to be
-pub record IsTaken (old : Option Entry) (instance : Instance) (rows : List Row) (keep : Bool) (body : List ℕ) (new : Entry) : Type 0 where
+pub record IsTaken (old : Option Entry) (instance : Instance) (rows : List Row) (keep : Bool)
+    (body : List ℕ) (new : Entry) : Type 0 where
   pub instance_is : new.instance ≡ unwrap_or (instance_in old) instance
   pub kept : new.is_kept ≡ (is_kept_in old || keep)
   pub rows_are : new.rows.items ≡ rows
-  pub body_is : new.body ≡ let_go (needs new.is_kept new.rows.items) (Some (unwrap_or (body_in old) body))
+  pub body_is : new.body
+      ≡ let_go (needs new.is_kept new.rows.items) (Some (unwrap_or (body_in old) body))
 
 -- one row moves on
 pub record IsMovedOn (old : Entry) (dest : Text) (progress : Progress) (new : Entry) : Type 0 where

@@ -15,15 +15,18 @@ use Rattle.dr_ledger_memory.specs.Contents.{content}
 use Rattle.dr_ledger_memory.specs.Dues.{Covers}
 use Rattle.dr_ledger_memory.specs.Entries.{needs}
 
--- The data set is there exactly where it is needed, and it is that of an item, which is this instance.
+-- The data set is there exactly where it is needed, and it is that of an item, which is this
+-- instance.
 pub record IsWhole (entry : Entry) : Type 0 where
   pub there : is_some entry.body ≡ needs entry.is_kept entry.rows.items
-  pub own : (body : List ℕ) → entry.body ≡ Some body → (item : Job) × IsItem item × (item.body ≡ body) × (entry.instance ≡ instance_of item)
+  pub own : (body : List ℕ) → entry.body ≡ Some body
+      → (item : Job) × IsItem item × (item.body ≡ body) × (entry.instance ≡ instance_of item)
 
 abbrev pub AreWhole : Tree → Type 0
 AreWhole held = (uid : Text) (entry : Entry) → at held uid ≡ Some entry → IsWhole entry
 
--- the journal is a history of which the book is made, each entry is whole, and each waiting row has its key
+-- the journal is a history of which the book is made, each entry is whole, and each waiting row has
+-- its key
 pub record IsSound (part : Part) (p : Parts) : Type 0 where
   pub journalled : IsJournalled (site_routing part) (content p)
   pub whole : AreWhole p.held

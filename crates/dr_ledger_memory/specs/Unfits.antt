@@ -15,14 +15,24 @@ Fits next name entry dest row = row ≢ Done → IsReached next entry.instance.k
 
 -- the row isn't done, and the plan doesn't go on with it
 abbrev pub IsUnfitRow : Network → Text → Entry → Text → Progress → Type 0
-IsUnfitRow next name entry dest row = (row ≢ Done) × (IsReached next entry.instance.key name dest → ⊥)
+IsUnfitRow next name entry dest row =
+    (row ≢ Done) × (IsReached next entry.instance.key name dest → ⊥)
 
 -- all rows fit
 abbrev pub AllFit : Network → Text → Entry → Type 0
-AllFit next name entry = (dest : Text) (row : Progress) → find text_cmp dest entry.rows.items ≡ Some row → Fits next name entry dest row
+AllFit next name entry =
+    (dest : Text) (row : Progress)
+    → find text_cmp dest entry.rows.items ≡ Some row
+    → Fits next name entry dest row
 
 -- the first destination of a row that doesn't, or none
 abbrev pub UnfitsIn : Network → Text → Entry → Option Text → Type 0
 UnfitsIn next name entry None = AllFit next name entry
-UnfitsIn next name entry (Some dest) = ((row : Progress) × (find text_cmp dest entry.rows.items ≡ Some row) × IsUnfitRow next name entry dest row)
-    × ((other : Text) (its : Progress) → find text_cmp other entry.rows.items ≡ Some its → IsUnfitRow next name entry other its → text_cmp dest other ≢ Greater)
+UnfitsIn next name entry (Some dest) =
+    ((row : Progress)
+    × (find text_cmp dest entry.rows.items ≡ Some row)
+    × IsUnfitRow next name entry dest row)
+    × ((other : Text) (its : Progress)
+    → find text_cmp other entry.rows.items ≡ Some its
+    → IsUnfitRow next name entry other its
+    → text_cmp dest other ≢ Greater)

@@ -12,7 +12,8 @@ use dr_ledger::{Instance, Item, Progress};
 use dr_route::Targets;
 use std::alloc::{AllocError, Global};
 
-/// All that the item's first arrival from the caller puts in, for these targets, where its uid has these rows.
+/// All that the item's first arrival from the caller puts in, for these targets, where its uid has
+/// these rows.
 pub fn bringing(
     alloc: Global,
     caller: &Text,
@@ -75,7 +76,8 @@ fn line_of(caller: &Text, item: &Item) -> Result<Line, AllocError>
     Ok(Line { caller, instance })
 }
 
-/// The copies with what the item and the targets have. Nothing fails here, so that nothing is let go by halves.
+/// The copies with what the item and the targets have. Nothing fails here, so that nothing is let
+/// go by halves.
 fn joined(item: Item, targets: Targets, copies: Copies) -> Bringing
     ensures { IsJoined item targets copies result }
 {

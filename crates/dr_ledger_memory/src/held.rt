@@ -6,8 +6,8 @@ ghost use Rattle.dr_base.specs.Texts.{text_cmp};
 use dr_base::{Octets, Text};
 use dr_ledger::{Instance, Progress};
 
-/// What a uid has: its instance, its data set where that is needed, whether it is kept, and how far it is on its way to
-/// each destination, in byte order of the destinations.
+/// What a uid has: its instance, its data set where that is needed, whether it is kept, and how far
+/// it is on its way to each destination, in byte order of the destinations.
 #[derive(Drop)]
 pub struct Held {
     pub instance: Instance,

@@ -3,7 +3,10 @@ ghost use Rattle.std.specs.Prelude.{◌≡◌, IfOk, OnOk, IsSome, None, Some, T
 ghost use Rattle.std.specs.List.{list_any};
 ghost use Rattle.std.specs.FinMap.{find, is_sorted};
 ghost use Rattle.dr_base.specs.Texts.{text_cmp};
-ghost use Rattle.dr_ledger_memory.specs.Entries.{IsMovedOn, IsPruned, IsTaken, let_go, filled as filled_rows, filled_at, is_done as is_done_row, is_open as is_open_row, needs, row_in};
+ghost use Rattle.dr_ledger_memory.specs.Entries.{IsMovedOn, IsPruned, IsTaken, let_go};
+ghost use Rattle.dr_ledger_memory.specs.Entries.{filled as filled_rows, filled_at};
+ghost use Rattle.dr_ledger_memory.specs.Entries.{is_done as is_done_row, is_open as is_open_row};
+ghost use Rattle.dr_ledger_memory.specs.Entries.{needs, row_in};
 
 use crate::held::Held;
 use crate::table::{get, put, set};
@@ -44,7 +47,9 @@ impl Held {
         ensures instance { self.new.instance ≡ self.old.instance }
         ensures kept { self.new.is_kept ≡ self.old.is_kept }
         ensures rows { self.new.rows.items ≡ self.old.rows.items }
-        ensures body { self.new.body ≡ let_go (needs self.old.is_kept self.old.rows.items) (Some (unwrap_or self.old.body body)) }
+        ensures body { self.new.body
+            ≡ let_go (needs self.old.is_kept self.old.rows.items)
+            (Some (unwrap_or self.old.body body)) }
     {
         if !self.needs_body() {
             self.body = None;
@@ -55,7 +60,8 @@ impl Held {
         }
     }
 
-    /// Moves the row to that destination on, and lets the data set go where it isn't needed any more.
+    /// Moves the row to that destination on, and lets the data set go where it isn't needed any
+    /// more.
     pub fn move_on(&mut self, dest: &Text, progress: Progress)
         requires { IsSome (row_in (Some self.old) dest.now) }
         ensures { IsMovedOn self.old dest.now progress self.new }
@@ -121,7 +127,8 @@ fn copies(alloc: Global, rows: &[(Text, Progress)]) -> Result<Vec<(Text, Progres
 /// A waiting row, where the destination has none.
 fn fill_one(rows: &mut Vec<(Text, Progress)>, to: &Text) -> Result<(), AllocError>
     requires { T (is_sorted text_cmp rows.old.items) }
-    ensures items { OnOk result (rows.new.items ≡ filled_at rows.old.items to.now (find text_cmp to.now rows.old.items)) }
+    ensures items { OnOk result
+        (rows.new.items ≡ filled_at rows.old.items to.now (find text_cmp to.now rows.old.items)) }
     ensures sorted { OnOk result (T (is_sorted text_cmp rows.new.items)) }
 {
     if get(rows.as_slice(), to).is_some() {

@@ -1,5 +1,6 @@
 //! The ledger of one node in memory.
-ghost use Rattle.std.specs.Prelude.{◌≡◌, ◌↔◌, ◌≤◌, ◌^◌, IsTrue, IfOk, OnOk, ◌++◌, None, Ok, Some, T, false, map as mapped, option_copied, true};
+ghost use Rattle.std.specs.Prelude.{◌≡◌, ◌↔◌, ◌≤◌, ◌^◌, IsTrue, IfOk, OnOk, ◌++◌, None, Ok, Some};
+ghost use Rattle.std.specs.Prelude.{T, false, map as mapped, option_copied, true};
 ghost use Rattle.std.specs.BTreeMap.{IsOrdered};
 ghost use Rattle.std.specs.FinMap as map;
 ghost use Rattle.std.specs.FinMap.{is_sorted};
@@ -10,7 +11,8 @@ ghost use Rattle.dr_ledger.specs.Bodies.{HasBodies, NextsWith, OnlyLetsGo, OnlyT
 ghost use Rattle.dr_ledger.specs.Adopting.{Adopting, Unfits, site_after};
 ghost use Rattle.dr_ledger.specs.Histories.{IsJournalled};
 ghost use Rattle.dr_ledger.specs.Items.{instance_of};
-ghost use Rattle.dr_ledger.specs.Replies.{Admits, AreKept, Arrives, Forgets, IsAdmitted, IsOver, Lists, Requeues, Settles, entry_of};
+ghost use Rattle.dr_ledger.specs.Replies.{Admits, AreKept, Arrives, Forgets, IsAdmitted, IsOver};
+ghost use Rattle.dr_ledger.specs.Replies.{Lists, Requeues, Settles, entry_of};
 ghost use Rattle.dr_ledger.specs.Pairs.{pair_cmp};
 ghost use Rattle.dr_ledger.specs.SiteRoutes.{site_routing};
 ghost use Rattle.dr_ledger_memory.specs.Changes.{at};
@@ -35,8 +37,8 @@ use dr_ledger::{
 use dr_site::Site;
 use std::alloc::{AllocError, Global};
 
-/// The ledger of one node, in memory. Its premise is none: each clause of `Ledger` holds always. It never answers
-/// Store, and counts no failure.
+/// The ledger of one node, in memory. Its premise is none: each clause of `Ledger` holds always. It
+/// never answers Store, and counts no failure.
 #[derive(Drop)]
 pub struct MemoryLedger {
     alloc: Global,
@@ -62,7 +64,8 @@ impl MemoryLedger {
 
     /// Whether the item may arrive from the caller. It takes no memory.
     fn test(&self, caller: &Text, item: &Item) -> Result<(), LedgerFault>
-        ensures reply { Admits (site_routing self.now.site) caller.now (instance_of item.now) (content self.now.parts) result }
+        ensures reply { Admits (site_routing self.now.site) caller.now (instance_of item.now)
+            (content self.now.parts) result }
         ensures never { NeverFails result }
     {
         if !self.site.has_line(caller, item.key()) {
@@ -79,9 +82,12 @@ impl MemoryLedger {
 
     /// Notes another arrival from a caller that brought the item before.
     fn repeat(&mut self, caller: &Text, item: &Item) -> Result<Arrived, LedgerFault>
-        requires admitted { IsAdmitted (site_routing self.old.site) caller.now (instance_of item.now) (content self.old.parts) }
-        requires again { set.contains (content self.old.parts).arrivals (caller.now, item.now.uid) ≡ true }
-        ensures reply { Arrives (site_routing self.old.site) caller.now (instance_of item.now) (content self.old.parts) result (content self.new.parts) }
+        requires admitted { IsAdmitted (site_routing self.old.site) caller.now
+            (instance_of item.now) (content self.old.parts) }
+        requires again { set.contains (content self.old.parts).arrivals (caller.now, item.now.uid)
+            ≡ true }
+        ensures reply { Arrives (site_routing self.old.site) caller.now (instance_of item.now)
+            (content self.old.parts) result (content self.new.parts) }
         ensures bodies { OnlyTakes item.now (data_sets self.old.parts) (data_sets self.new.parts) }
         ensures site { self.new.site ≡ self.old.site }
         ensures never { NeverFails result }
@@ -98,9 +104,12 @@ impl MemoryLedger {
 
     /// Takes a first arrival.
     fn bring(&mut self, caller: &Text, item: Item) -> Result<Arrived, LedgerFault>
-        requires admitted { IsAdmitted (site_routing self.old.site) caller.now (instance_of item) (content self.old.parts) }
-        requires first { set.contains (content self.old.parts).arrivals (caller.now, item.uid) ≡ false }
-        ensures reply { Arrives (site_routing self.old.site) caller.now (instance_of item) (content self.old.parts) result (content self.new.parts) }
+        requires admitted { IsAdmitted (site_routing self.old.site) caller.now (instance_of item)
+            (content self.old.parts) }
+        requires first { set.contains (content self.old.parts).arrivals (caller.now, item.uid)
+            ≡ false }
+        ensures reply { Arrives (site_routing self.old.site) caller.now (instance_of item)
+            (content self.old.parts) result (content self.new.parts) }
         ensures bodies { OnlyTakes item (data_sets self.old.parts) (data_sets self.new.parts) }
         ensures site { self.new.site ≡ self.old.site }
         ensures never { NeverFails result }
@@ -127,8 +136,10 @@ impl MemoryLedger {
 
     /// Takes an arrival that may be.
     fn take(&mut self, caller: &Text, item: Item) -> Result<Arrived, LedgerFault>
-        requires { IsAdmitted (site_routing self.old.site) caller.now (instance_of item) (content self.old.parts) }
-        ensures reply { Arrives (site_routing self.old.site) caller.now (instance_of item) (content self.old.parts) result (content self.new.parts) }
+        requires { IsAdmitted (site_routing self.old.site) caller.now (instance_of item)
+            (content self.old.parts) }
+        ensures reply { Arrives (site_routing self.old.site) caller.now (instance_of item)
+            (content self.old.parts) result (content self.new.parts) }
         ensures bodies { OnlyTakes item (data_sets self.old.parts) (data_sets self.new.parts) }
         ensures site { self.new.site ≡ self.old.site }
         ensures never { NeverFails result }
@@ -142,7 +153,8 @@ impl MemoryLedger {
 
     /// Whether the caller brought the uid before.
     fn has_brought(&self, caller: &Text, uid: &Text) -> Result<bool, AllocError>
-        ensures { IfOk result (λ has. has ≡ set.contains (content self.now.parts).arrivals (caller.now, uid.now)) }
+        ensures { IfOk result (λ has.
+            has ≡ set.contains (content self.now.parts).arrivals (caller.now, uid.now)) }
     {
         let arrival = arrival_of(caller, uid)?;
         let has = self.parts.arrivals.contains(&arrival);
@@ -151,7 +163,8 @@ impl MemoryLedger {
 
     /// Takes the item from the caller, if it may arrive.
     fn arrive_at(&mut self, caller: &Text, item: Item) -> Result<Arrived, LedgerFault>
-        ensures reply { Arrives (site_routing self.old.site) caller.now (instance_of item) (content self.old.parts) result (content self.new.parts) }
+        ensures reply { Arrives (site_routing self.old.site) caller.now (instance_of item)
+            (content self.old.parts) result (content self.new.parts) }
         ensures bodies { OnlyTakes item (data_sets self.old.parts) (data_sets self.new.parts) }
         ensures site { self.new.site ≡ self.old.site }
         ensures never { NeverFails result }
@@ -181,9 +194,11 @@ impl MemoryLedger {
         now: u64,
         was: (u32, u64),
     ) -> Result<(), LedgerFault>
-        requires waits { map.get (content self.old.parts).rows (uid.now, dest.now) ≡ Some (Progress.Waiting was.0 was.1) }
+        requires waits { map.get (content self.old.parts).rows (uid.now, dest.now)
+            ≡ Some (Progress.Waiting was.0 was.1) }
         requires early { now ≤ 2 ^ 62 }
-        ensures reply { Settles uid.now dest.now outcome now (content self.old.parts) result (content self.new.parts) }
+        ensures reply { Settles uid.now dest.now outcome now (content self.old.parts) result
+            (content self.new.parts) }
         ensures bodies { OnlyLetsGo (data_sets self.old.parts) (data_sets self.new.parts) }
         ensures site { self.new.site ≡ self.old.site }
         ensures never { NeverFails result }
@@ -198,8 +213,10 @@ impl MemoryLedger {
 
     /// Puts a held row back.
     fn requeue_row(&mut self, uid: &Text, dest: &Text, why: Cause) -> Result<(), LedgerFault>
-        requires { map.get (content self.old.parts).rows (uid.now, dest.now) ≡ Some (Progress.Held why) }
-        ensures reply { Requeues uid.now dest.now (content self.old.parts) result (content self.new.parts) }
+        requires { map.get (content self.old.parts).rows (uid.now, dest.now)
+            ≡ Some (Progress.Held why) }
+        ensures reply { Requeues uid.now dest.now (content self.old.parts) result
+            (content self.new.parts) }
         ensures bodies { OnlyLetsGo (data_sets self.old.parts) (data_sets self.new.parts) }
         ensures site { self.new.site ≡ self.old.site }
         ensures never { NeverFails result }
@@ -221,7 +238,8 @@ impl MemoryLedger {
         now: u64,
     ) -> Result<(), LedgerFault>
         requires { now ≤ 2 ^ 62 }
-        ensures reply { Settles uid.now dest.now outcome now (content self.old.parts) result (content self.new.parts) }
+        ensures reply { Settles uid.now dest.now outcome now (content self.old.parts) result
+            (content self.new.parts) }
         ensures bodies { OnlyLetsGo (data_sets self.old.parts) (data_sets self.new.parts) }
         ensures site { self.new.site ≡ self.old.site }
         ensures never { NeverFails result }
@@ -238,7 +256,8 @@ impl MemoryLedger {
 
     /// Queues the row again, if it is held.
     fn requeue_at(&mut self, uid: &Text, dest: &Text) -> Result<(), LedgerFault>
-        ensures reply { Requeues uid.now dest.now (content self.old.parts) result (content self.new.parts) }
+        ensures reply { Requeues uid.now dest.now (content self.old.parts) result
+            (content self.new.parts) }
         ensures bodies { OnlyLetsGo (data_sets self.old.parts) (data_sets self.new.parts) }
         ensures site { self.new.site ≡ self.old.site }
         ensures never { NeverFails result }
@@ -311,7 +330,8 @@ impl MemoryLedger {
 
     /// What the first row that is due is about, with its data set.
     fn next_job(&self, dest: &Text, now: u64) -> Result<Option<Job>, LedgerFault>
-        ensures { Shows result (NextsWith (content self.now.parts) (data_sets self.now.parts) dest.now now) }
+        ensures { Shows result
+            (NextsWith (content self.now.parts) (data_sets self.now.parts) dest.now now) }
     {
         let Some(uid) = first_due(self.alloc, &self.parts.held, &self.parts.waiting, dest, now)?
         else {
@@ -436,7 +456,8 @@ fn push_rows(
     Ok(())
 }
 
-/// The destination of the uid's first row that isn't done and that the next plan doesn't go on with.
+/// The destination of the uid's first row that isn't done and that the next plan doesn't go on
+/// with.
 fn unfit_row<'a>(next: &Sealed, name: &Text, entry: &'a Held) -> Option<&'a Text>
     ensures { UnfitsIn next.now.plan name.now entry.now (option_copied result) }
 {
@@ -450,7 +471,8 @@ fn unfit_row<'a>(next: &Sealed, name: &Text, entry: &'a Held) -> Option<&'a Text
 
 /// Whether the row isn't done and the next plan doesn't go on with it.
 fn is_unfit(next: &Sealed, name: &Text, entry: &Held, row: &(Text, Progress)) -> bool
-    ensures unfit { IsTrue result → IsUnfitRow next.now.plan name.now entry.now row.now.0 row.now.1 }
+    ensures unfit { IsTrue result
+        → IsUnfitRow next.now.plan name.now entry.now row.now.0 row.now.1 }
     ensures fit { result ≡ false → Fits next.now.plan name.now entry.now row.now.0 row.now.1 }
 {
     if !is_open(row) {

@@ -84,7 +84,8 @@ fn arrival_entry(
     to: &Seq<Text>,
     keep: bool,
 ) -> Result<Entry, AllocError>
-    ensures { IfOk result (λ e. e ≡ entry_of (line_of (Note.Arrival caller.now instance.now to.now keep))) }
+    ensures { IfOk result (λ e.
+        e ≡ entry_of (line_of (Note.Arrival caller.now instance.now to.now keep))) }
 {
     let entry = Entry::Arrival {
         caller: caller.clone()?,
@@ -110,7 +111,8 @@ fn repeat_entry(caller: &Text, instance: &Instance) -> Result<Entry, AllocError>
 }
 
 fn settling_entry(uid: &Text, dest: &Text, outcome: Outcome, now: u64) -> Result<Entry, AllocError>
-    ensures { IfOk result (λ e. e ≡ entry_of (line_of (Note.Settling uid.now dest.now outcome now))) }
+    ensures { IfOk result (λ e.
+        e ≡ entry_of (line_of (Note.Settling uid.now dest.now outcome now))) }
 {
     let entry = Entry::Settling {
         uid: uid.clone()?,

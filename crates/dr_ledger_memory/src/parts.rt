@@ -1,5 +1,6 @@
 //! A book with its data sets, in B-trees.
-ghost use Rattle.std.specs.Prelude.{◌≡◌, ◌<◌, ◌++◌, ◌∷◌, ◌&&◌, not, [], T, IsSome, None, Some, cond, OnErr, OnOk, vec_len, vec_capacity};
+ghost use Rattle.std.specs.Prelude.{◌≡◌, ◌<◌, ◌++◌, ◌∷◌, ◌&&◌, not, [], T, IsSome, None, Some};
+ghost use Rattle.std.specs.Prelude.{cond, OnErr, OnOk, vec_len, vec_capacity};
 ghost use Rattle.std.specs.FinMap.{is_sorted};
 ghost use Rattle.std.specs.BTreeMap as tree;
 ghost use Rattle.std.specs.BTreeSet as sorted;
@@ -8,7 +9,8 @@ ghost use Rattle.dr_ledger.specs.Pairs.{Pair, pair_cmp};
 ghost use Rattle.dr_base.specs.Texts.{Text as Words, text_cmp};
 ghost use Rattle.dr_ledger_memory.specs.Dues.{AreExpected, Covers, Grows, IsExpected};
 ghost use Rattle.dr_ledger_memory.specs.Entries.{IsTaken, row_in};
-ghost use Rattle.dr_ledger_memory.specs.Changes.{AreAlike, IsSetAt, IsOneMore, IsRest, MovesAt, PrunesAll, TakesAt};
+ghost use Rattle.dr_ledger_memory.specs.Changes.{AreAlike, IsSetAt, IsOneMore, IsRest, MovesAt};
+ghost use Rattle.dr_ledger_memory.specs.Changes.{PrunesAll, TakesAt};
 
 use crate::held::Held;
 use crate::holding::first;
@@ -19,8 +21,8 @@ use dr_ledger::{Instance, Progress};
 use std::alloc::{AllocError, Global};
 use std::collections::{BTreeMap, BTreeSet};
 
-/// What is had of each uid, the callers with what they brought, the keys of the waiting rows, and the journal. There may be
-/// keys of rows that don't wait; they cost a look at the row.
+/// What is had of each uid, the callers with what they brought, the keys of the waiting rows, and
+/// the journal. There may be keys of rows that don't wait; they cost a look at the row.
 #[derive(Drop)]
 pub struct Parts {
     pub held: BTreeMap<Text, Held>,
@@ -52,7 +54,8 @@ struct Rest {
 }
 
 impl Parts {
-    ghost use Rattle.dr_ledger_memory.specs.Changes.{HasArrived, IsAdopted, IsBrought, IsForgotten, IsMoved, IsNoted, IsSame, IsTakenOut};
+    ghost use Rattle.dr_ledger_memory.specs.Changes.{HasArrived, IsAdopted, IsBrought, IsForgotten};
+    ghost use Rattle.dr_ledger_memory.specs.Changes.{IsMoved, IsNoted, IsSame, IsTakenOut};
 
     /// An empty book.
     pub fn new(alloc: Global) -> Parts
@@ -85,8 +88,10 @@ impl Parts {
         requires own { new.arrival.1 ≡ new.uid }
         ensures ok { OnOk result (IsBrought self.old new self.new) }
         ensures err { OnErr result (IsSame self.old self.new) }
-        ensures ordered { tree.IsOrdered text_cmp self.old.held → tree.IsOrdered text_cmp self.new.held }
-        ensures covers { Covers self.old.waiting self.old.held → Covers self.new.waiting self.new.held }
+        ensures ordered { tree.IsOrdered text_cmp self.old.held
+            → tree.IsOrdered text_cmp self.new.held }
+        ensures covers { Covers self.old.waiting self.old.held
+            → Covers self.new.waiting self.new.held }
     {
         match self.expect_rows(&new) {
             Ok(()) => self.bring(new),
@@ -115,7 +120,8 @@ impl Parts {
         requires own { new.arrival.1 ≡ new.uid }
         ensures ok { OnOk result (IsBrought self.old new self.new) }
         ensures err { OnErr result (IsSame self.old self.new) }
-        ensures ordered { tree.IsOrdered text_cmp self.old.held → tree.IsOrdered text_cmp self.new.held }
+        ensures ordered { tree.IsOrdered text_cmp self.old.held
+            → tree.IsOrdered text_cmp self.new.held }
         ensures waiting { self.new.waiting ≡ self.old.waiting }
     {
         if self.held.contains_key(&new.uid) {
@@ -131,7 +137,8 @@ impl Parts {
         requires known { IsSome (tree.get text_cmp self.old.held new.uid) }
         ensures ok { OnOk result (IsBrought self.old new self.new) }
         ensures err { OnErr result (IsSame self.old self.new) }
-        ensures ordered { tree.IsOrdered text_cmp self.old.held → tree.IsOrdered text_cmp self.new.held }
+        ensures ordered { tree.IsOrdered text_cmp self.old.held
+            → tree.IsOrdered text_cmp self.new.held }
         ensures waiting { self.new.waiting ≡ self.old.waiting }
     {
         let (arrival, rest) = parted(new);
@@ -149,7 +156,8 @@ impl Parts {
         requires rows { T (is_sorted text_cmp rest.rows.items) }
         requires room { vec_len self.old.notes < vec_capacity self.old.notes }
         requires known { IsSome (tree.get text_cmp self.old.held rest.uid) }
-        ensures taken { TakesAt self.old.held rest.uid rest.rows.items rest.keep rest.body self.new.held }
+        ensures taken { TakesAt self.old.held rest.uid rest.rows.items rest.keep rest.body
+            self.new.held }
         ensures notes { self.new.notes.items ≡ self.old.notes.items ++ rest.note ∷ [] }
         ensures arrivals { self.new.arrivals ≡ self.old.arrivals }
         ensures waiting { self.new.waiting ≡ self.old.waiting }
@@ -174,7 +182,8 @@ impl Parts {
         requires own { new.arrival.1 ≡ new.uid }
         ensures ok { OnOk result (IsBrought self.old new self.new) }
         ensures err { OnErr result (IsSame self.old self.new) }
-        ensures ordered { tree.IsOrdered text_cmp self.old.held → tree.IsOrdered text_cmp self.new.held }
+        ensures ordered { tree.IsOrdered text_cmp self.old.held
+            → tree.IsOrdered text_cmp self.new.held }
         ensures waiting { self.new.waiting ≡ self.old.waiting }
     {
         let (arrival, uid, entry, note) = first_of(new);
@@ -184,12 +193,14 @@ impl Parts {
         }
     }
 
-    /// The arrival of an entry that was just put in, which is taken out again where the arrival has no room.
+    /// The arrival of an entry that was just put in, which is taken out again where the arrival has
+    /// no room.
     fn arrive(&mut self, arrival: (Text, Text), note: Note) -> Result<(), AllocError>
         requires room { vec_len self.old.notes < vec_capacity self.old.notes }
         ensures ok { OnOk result (HasArrived self.old arrival note self.new) }
         ensures err { OnErr result (IsTakenOut self.old arrival.1 self.new) }
-        ensures ordered { tree.IsOrdered text_cmp self.old.held → tree.IsOrdered text_cmp self.new.held }
+        ensures ordered { tree.IsOrdered text_cmp self.old.held
+            → tree.IsOrdered text_cmp self.new.held }
         ensures waiting { self.new.waiting ≡ self.old.waiting }
     {
         match self.arrivals.insert(arrival) {
@@ -204,8 +215,8 @@ impl Parts {
         }
     }
 
-    /// Moves a row on that was due since that moment, with a line; without memory nothing changes, but for keys that
-    /// nobody misses.
+    /// Moves a row on that was due since that moment, with a line; without memory nothing changes,
+    /// but for keys that nobody misses.
     pub fn try_move(
         &mut self,
         uid: &Text,
@@ -217,8 +228,10 @@ impl Parts {
         requires there { IsSome (row_in (tree.get text_cmp self.old.held uid.now) dest.now) }
         ensures ok { OnOk result (IsMoved self.old uid.now dest.now progress note self.new) }
         ensures err { OnErr result (IsSame self.old self.new) }
-        ensures ordered { tree.IsOrdered text_cmp self.old.held → tree.IsOrdered text_cmp self.new.held }
-        ensures covers { Covers self.old.waiting self.old.held → Covers self.new.waiting self.new.held }
+        ensures ordered { tree.IsOrdered text_cmp self.old.held
+            → tree.IsOrdered text_cmp self.new.held }
+        ensures covers { Covers self.old.waiting self.old.held
+            → Covers self.new.waiting self.new.held }
     {
         match self.expect_row(uid, dest, due, progress) {
             Ok(gone) => {
@@ -229,7 +242,8 @@ impl Parts {
         }
     }
 
-    /// Adds the key of the row as it will be, and room for a line. The answer is the key of the row as it was.
+    /// Adds the key of the row as it will be, and room for a line. The answer is the key of the row
+    /// as it was.
     fn expect_row(
         &mut self,
         uid: &Text,
@@ -257,7 +271,8 @@ impl Parts {
         requires expected { IsExpected uid.now dest.now progress self.old.waiting }
         ensures moved { IsMoved self.old uid.now dest.now progress note self.new }
         ensures ordered { tree.IsOrdered text_cmp self.new.held }
-        ensures covers { Covers self.old.waiting self.old.held → Covers self.new.waiting self.new.held }
+        ensures covers { Covers self.old.waiting self.old.held
+            → Covers self.new.waiting self.new.held }
     {
         move_row(&mut self.held, uid, dest, progress);
         forget(&mut self.waiting, &self.held, gone);
@@ -268,7 +283,8 @@ impl Parts {
     pub fn try_forget(&mut self, uid: &Text, note: Note) -> Result<(), AllocError>
         ensures ok { OnOk result (IsForgotten self.old uid.now note self.new) }
         ensures err { OnErr result (IsSame self.old self.new) }
-        ensures ordered { tree.IsOrdered text_cmp self.old.held → tree.IsOrdered text_cmp self.new.held }
+        ensures ordered { tree.IsOrdered text_cmp self.old.held
+            → tree.IsOrdered text_cmp self.new.held }
         ensures waiting { self.new.waiting ≡ self.old.waiting }
     {
         self.notes.reserve(1)?;
@@ -282,7 +298,8 @@ impl Parts {
     pub fn try_adopt(&mut self) -> Result<(), AllocError>
         ensures ok { OnOk result (IsAdopted self.old self.new) }
         ensures err { OnErr result (IsSame self.old self.new) }
-        ensures ordered { tree.IsOrdered text_cmp self.old.held → tree.IsOrdered text_cmp self.new.held }
+        ensures ordered { tree.IsOrdered text_cmp self.old.held
+            → tree.IsOrdered text_cmp self.new.held }
         ensures waiting { self.new.waiting ≡ self.old.waiting }
     {
         self.notes.reserve(1)?;
@@ -352,7 +369,10 @@ fn put_arrival(
 
 /// Puts the entry of a new uid in; without memory nothing changes.
 fn put_entry<V: Drop>(held: &mut BTreeMap<Text, V>, uid: Text, entry: V) -> Result<(), AllocError>
-    ensures ok { OnOk result ((other : Words) → tree.get text_cmp held.new other ≡ cond (tree.is_at (text_cmp uid) other) (Some entry) (tree.get text_cmp held.old other)) }
+    ensures ok { OnOk result
+        ((other : Words)
+        → tree.get text_cmp held.new other
+        ≡ cond (tree.is_at (text_cmp uid) other) (Some entry) (tree.get text_cmp held.old other)) }
     ensures err { OnErr result (held.new.entries ≡ held.old.entries) }
     ensures was_ordered { tree.IsOrdered text_cmp held.old }
     ensures ordered { tree.IsOrdered text_cmp held.new }
@@ -420,7 +440,9 @@ fn is_of(arrival: &(Text, Text), uid: &Text) -> bool
 
 /// Those who brought the uid leave.
 fn let_callers_go(arrivals: &mut BTreeSet<(Text, Text)>, uid: &Text)
-    ensures { (key : Pair) → sorted.contains pair_cmp arrivals.new key ≡ (sorted.contains pair_cmp arrivals.old key && not (eq_by_cmp text_cmp key.1 uid.now)) }
+    ensures { (key : Pair)
+        → sorted.contains pair_cmp arrivals.new key
+        ≡ (sorted.contains pair_cmp arrivals.old key && not (eq_by_cmp text_cmp key.1 uid.now)) }
 {
     arrivals.retain(|arrival| !is_of(arrival, uid));
 }

@@ -1,5 +1,6 @@
 //! Entries in the order of their keys, in a vector: the few rows of one uid.
-ghost use Rattle.std.specs.Prelude.{◌≡◌, ◌<◌, ◌≤◌, ◌+◌, T, IsSome, option_copied, vec_len, vec_capacity};
+ghost use Rattle.std.specs.Prelude.{◌≡◌, ◌<◌, ◌≤◌, ◌+◌, T, IsSome, option_copied, vec_len};
+ghost use Rattle.std.specs.Prelude.{vec_capacity};
 ghost use Rattle.std.specs.FinMap.{is_sorted, find, put as put_entry};
 ghost use Rattle.dr_ledger_memory.specs.Tables.{IsPlace};
 

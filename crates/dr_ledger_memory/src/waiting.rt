@@ -2,7 +2,9 @@
 ghost use Rattle.std.specs.Prelude.{◌≡◌, OnOk, IfOk, None, Some, option_map, []};
 ghost use Rattle.std.specs.BTreeSet as sorted;
 ghost use Rattle.std.specs.declared.ops.Bound.TheVariants.{Included, Unbounded};
-ghost use Rattle.dr_ledger_memory.specs.Dues.{AreExpected, Covers, Grows, IsExpected, due_cmp, first_waiting, is_waiting as is_waiting_row, waits_since};
+ghost use Rattle.dr_ledger_memory.specs.Dues.{AreExpected, Covers, Grows, IsExpected, due_cmp};
+ghost use Rattle.dr_ledger_memory.specs.Dues.{first_waiting, is_waiting as is_waiting_row};
+ghost use Rattle.dr_ledger_memory.specs.Dues.{waits_since};
 
 use crate::held::Held;
 use dr_base::Text;
@@ -84,8 +86,8 @@ pub fn forget(keys: &mut BTreeSet<Due>, held: &BTreeMap<Text, Held>, key: &Due)
     }
 }
 
-/// The uid of the first row for the destination, by (due, uid), that waits and is due at the moment `now`
-/// (milliseconds).
+/// The uid of the first row for the destination, by (due, uid), that waits and is due at the moment
+/// `now` (milliseconds).
 pub fn first_due(
     alloc: Global,
     held: &BTreeMap<Text, Held>,
@@ -94,7 +96,11 @@ pub fn first_due(
     now: u64,
 ) -> Result<Option<Text>, AllocError>
     ensures ordered { OnOk result (sorted.IsOrdered due_cmp keys.now) }
-    ensures first { IfOk result (λ uid. uid ≡ option_map (λ key. key.1.1) (first_waiting held.now dest.now now (sorted.keys_between due_cmp (Included (dest.now, (0, []))) Unbounded keys.now))) }
+    ensures first { IfOk result (λ uid. uid
+        ≡ option_map
+        (λ key. key.1.1)
+        (first_waiting held.now dest.now now
+        (sorted.keys_between due_cmp (Included (dest.now, (0, []))) Unbounded keys.now))) }
 {
     let start = (dest.clone()?, (0, Text::empty(alloc)));
     for key in keys.range(start..) {

@@ -1,5 +1,6 @@
 -- One end over its life: how it begins, what each call does, and how it ended.
-use Rattle.std.specs.Prelude.{◌≡◌, ◌⊎◌, ℕ, Bool, true, false, List, [], ◌∷◌, if◌then◌else◌, Option, Some, None, Result, Ok, Err}
+use Rattle.std.specs.Prelude.{◌≡◌, ◌⊎◌, ℕ, Bool, true, false, List, [], ◌∷◌, if◌then◌else◌, Option}
+use Rattle.std.specs.Prelude.{Some, None, Result, Ok, Err}
 use Rattle.std.specs.declared.alloc.AllocError.{AllocError}
 use Rattle.dr_base.specs.Texts.{Text}
 use Rattle.dr_ulstate.specs.declared.table.State.{State}
@@ -106,51 +107,93 @@ IsOver (Some c) = is_gone (state_of c.phase) ≡ true
 -- an end's core is taken out of it, unless the end is over
 abbrev pub TakesCore : Terminal → Option Core → Terminal → Type 0
 TakesCore old None new = IsOver old.core × (new ≡ old)
-TakesCore old (Some c) new = (old.core ≡ Some c) × (is_gone (state_of c.phase) ≡ false) × (new ≡ record { ear = old.ear; core = None })
+TakesCore old (Some c) new =
+    (old.core ≡ Some c)
+    × (is_gone (state_of c.phase) ≡ false)
+    × (new ≡ record { ear = old.ear; core = None })
 
 -- ---- calls
 
 -- an input other than bytes
-abbrev pub MeetsBy : {S : Type 0} → (S → DeskCall → DeskAnswer → S → Type 0) → Bool → Moment → Input → Core → Terminal → S → Result (List LinkAction) AllocError → Terminal → S → Type 0
+abbrev pub MeetsBy : {S : Type 0}
+    → (S → DeskCall → DeskAnswer → S → Type 0)
+    → Bool → Moment → Input → Core → Terminal → S
+    → Result (List LinkAction) AllocError
+    → Terminal → S → Type 0
 MeetsBy step true at i c old s result new t = (result ≡ Ok []) × (new ≡ old) × (t ≡ s)
-MeetsBy step false at i c old s (Ok acts) new t = (x : Effect) × Reacts step c (at_moment at i) s x t × (acts ≡ x.acts) × (new ≡ record { ear = old.ear; core = Some x.core })
-MeetsBy step false at i c old s (Err e) new t = Stops step c (at_moment at i) s t × (new ≡ record { ear = old.ear; core = None })
+MeetsBy step false at i c old s (Ok acts) new t =
+    (x : Effect)
+    × Reacts step c (at_moment at i) s x t
+    × (acts ≡ x.acts)
+    × (new ≡ record { ear = old.ear; core = Some x.core })
+MeetsBy step false at i c old s (Err e) new t =
+    Stops step c (at_moment at i) s t × (new ≡ record { ear = old.ear; core = None })
 
 -- an end that is over does nothing and calls nothing
-abbrev pub MeetsIn : {S : Type 0} → (S → DeskCall → DeskAnswer → S → Type 0) → Option Core → Moment → Input → Terminal → S → Result (List LinkAction) AllocError → Terminal → S → Type 0
+abbrev pub MeetsIn : {S : Type 0}
+    → (S → DeskCall → DeskAnswer → S → Type 0)
+    → Option Core → Moment → Input → Terminal → S
+    → Result (List LinkAction) AllocError
+    → Terminal → S → Type 0
 MeetsIn step None at i old s result new t = (result ≡ Ok []) × (new ≡ old) × (t ≡ s)
-MeetsIn step (Some c) at i old s result new t = MeetsBy step (is_gone (state_of c.phase)) at i c old s result new t
+MeetsIn step (Some c) at i old s result new t =
+    MeetsBy step (is_gone (state_of c.phase)) at i c old s result new t
 
-abbrev pub Meets : {S : Type 0} → (S → DeskCall → DeskAnswer → S → Type 0) → Moment → Input → Terminal → S → Result (List LinkAction) AllocError → Terminal → S → Type 0
+abbrev pub Meets : {S : Type 0}
+    → (S → DeskCall → DeskAnswer → S → Type 0)
+    → Moment → Input → Terminal → S
+    → Result (List LinkAction) AllocError
+    → Terminal → S → Type 0
 Meets step at i old s result new t = MeetsIn step old.core at i old s result new t
 
 -- a piece of the bytes
-abbrev pub HearsPiece : {S : Type 0} → (S → DeskCall → DeskAnswer → S → Type 0) → Bool → Moment → List ℕ → Core → Terminal → S → Result (List LinkAction) AllocError → Terminal → S → Type 0
+abbrev pub HearsPiece : {S : Type 0}
+    → (S → DeskCall → DeskAnswer → S → Type 0)
+    → Bool → Moment → List ℕ → Core → Terminal → S
+    → Result (List LinkAction) AllocError
+    → Terminal → S → Type 0
 HearsPiece step true at piece c old s result new t = (result ≡ Ok []) × (new ≡ old) × (t ≡ s)
-HearsPiece step false at piece c old s (Ok acts) new t = (x : Effect) × PlaysBytes step at old.ear c piece s new.ear x t × (acts ≡ x.acts) × (new.core ≡ Some x.core)
-HearsPiece step false at piece c old s (Err e) new t = BreaksBytes step at old.ear c piece s t × (new.core ≡ None)
+HearsPiece step false at piece c old s (Ok acts) new t =
+    (x : Effect)
+    × PlaysBytes step at old.ear c piece s new.ear x t
+    × (acts ≡ x.acts) × (new.core ≡ Some x.core)
+HearsPiece step false at piece c old s (Err e) new t =
+    BreaksBytes step at old.ear c piece s t × (new.core ≡ None)
 
-abbrev pub HearsBytes : {S : Type 0} → (S → DeskCall → DeskAnswer → S → Type 0) → Option Core → Moment → List ℕ → Terminal → S → Result (List LinkAction) AllocError → Terminal → S → Type 0
+abbrev pub HearsBytes : {S : Type 0}
+    → (S → DeskCall → DeskAnswer → S → Type 0)
+    → Option Core → Moment → List ℕ → Terminal → S
+    → Result (List LinkAction) AllocError
+    → Terminal → S → Type 0
 HearsBytes step None at piece old s result new t = (result ≡ Ok []) × (new ≡ old) × (t ≡ s)
-HearsBytes step (Some c) at piece old s result new t = HearsPiece step (is_gone (state_of c.phase)) at piece c old s result new t
+HearsBytes step (Some c) at piece old s result new t =
+    HearsPiece step (is_gone (state_of c.phase)) at piece c old s result new t
 
 abbrev pub IsMemory : Result (List LinkAction) AllocError → Type 0
 IsMemory (Ok acts) = ⊥
 IsMemory (Err e) = Unit {0}
 
--- The link has no memory for what came: the end is over, for want of memory. One that is over already stays as it is.
+-- The link has no memory for what came: the end is over, for want of memory. One that is over
+-- already stays as it is.
 abbrev pub LosesBy : Bool → Terminal → Result (List LinkAction) AllocError → Terminal → Type 0
 LosesBy true old result new = (result ≡ Ok []) × (new ≡ old)
 LosesBy false old result new = IsMemory result × (new ≡ record { ear = old.ear; core = None })
 
-abbrev pub LosesIn : Option Core → Terminal → Result (List LinkAction) AllocError → Terminal → Type 0
+abbrev pub LosesIn : Option Core → Terminal
+    → Result (List LinkAction) AllocError
+    → Terminal → Type 0
 LosesIn None old result new = (result ≡ Ok []) × (new ≡ old)
 LosesIn (Some c) old result new = LosesBy (is_gone (state_of c.phase)) old result new
 
--- What comes over the link: bytes, its end, a late mark, or that the link had no memory for it. A fault of the link is
--- heard as its end.
-abbrev pub HearsOf : {S : Type 0} → (S → DeskCall → DeskAnswer → S → Type 0) → Heard → Moment → Terminal → S → Result (List LinkAction) AllocError → Terminal → S → Type 0
-HearsOf step (heard.Bytes piece) at old s result new t = HearsBytes step old.core at piece old s result new t
+-- What comes over the link: bytes, its end, a late mark, or that the link had no memory for it. A
+-- fault of the link is heard as its end.
+abbrev pub HearsOf : {S : Type 0}
+    → (S → DeskCall → DeskAnswer → S → Type 0)
+    → Heard → Moment → Terminal → S
+    → Result (List LinkAction) AllocError
+    → Terminal → S → Type 0
+HearsOf step (heard.Bytes piece) at old s result new t =
+    HearsBytes step old.core at piece old s result new t
 HearsOf step heard.End at old s result new t = Meets step at input.Ended old s result new t
 HearsOf step heard.Fault at old s result new t = Meets step at input.Ended old s result new t
 HearsOf step heard.Late at old s result new t = Meets step at input.Late old s result new t
@@ -171,44 +214,58 @@ is_dry_in (Some c) = c.dry
 abbrev pub echoing : ℕ → ℕ → Pending
 echoing id context = record { id = id; context = context; asked = Echo; uid = [] }
 
--- a C-ECHO-RQ (PS3.7 9.1.5) in a context of Verification, whose response is awaited; nothing where none was accepted
+-- a C-ECHO-RQ (PS3.7 9.1.5) in a context of Verification, whose response is awaited; nothing where
+-- none was accepted
 abbrev pub echoes_in : Option ℕ → Agreed → ℕ → Core → Effect
-echoes_in (Some context) agreed now c =
-    effect (write (command_pdus agreed.limit context (EchoRq (id_after c.last) verification false)) ∷ []) (awaiting (echoing (id_after c.last) context) now c)
+echoes_in (Some context) agreed now c = effect
+    (write (command_pdus agreed.limit context (EchoRq (id_after c.last) verification false)) ∷ [])
+    (awaiting (echoing (id_after c.last) context) now c)
 echoes_in None agreed now c = effect [] c
 
 abbrev pub echoes_by : Option Agreed → ℕ → Core → Effect
-echoes_by (Some agreed) now c = echoes_in (context_for agreed verification (syntax_uid Implicit)) agreed now c
+echoes_by (Some agreed) now c =
+    echoes_in (context_for agreed verification (syntax_uid Implicit)) agreed now c
 echoes_by None now c = effect [] c
 
 -- an echo is asked of an end that may send; another does nothing
-abbrev pub EchoesBy : Bool → ℕ → Core → Terminal → Result (List LinkAction) AllocError → Terminal → Type 0
+abbrev pub EchoesBy : Bool → ℕ → Core → Terminal
+    → Result (List LinkAction) AllocError
+    → Terminal → Type 0
 EchoesBy false now c old result new = (result ≡ Ok []) × (new ≡ old)
-EchoesBy true now c old (Ok acts) new = (acts ≡ (echoes_by c.agreed now c).acts) × (new ≡ record { ear = old.ear; core = Some (echoes_by c.agreed now c).core })
+EchoesBy true now c old (Ok acts) new =
+    (acts ≡ (echoes_by c.agreed now c).acts)
+    × (new ≡ record { ear = old.ear; core = Some (echoes_by c.agreed now c).core })
 EchoesBy true now c old (Err e) new = new ≡ record { ear = old.ear; core = None }
 
-abbrev pub EchoesIn : Option Core → ℕ → Terminal → Result (List LinkAction) AllocError → Terminal → Type 0
+abbrev pub EchoesIn : Option Core → ℕ → Terminal
+    → Result (List LinkAction) AllocError
+    → Terminal → Type 0
 EchoesIn None now old result new = (result ≡ Ok []) × (new ≡ old)
 EchoesIn (Some c) now old result new = EchoesBy (is_free c) now c old result new
 
 -- an end's core is taken out of it, where it may send
 abbrev pub TakesFree : Terminal → Option Core → Terminal → Type 0
 TakesFree old None new = (is_free_in old.core ≡ false) × (new ≡ old)
-TakesFree old (Some c) new = (old.core ≡ Some c) × (is_free c ≡ true) × (new ≡ record { ear = old.ear; core = None })
+TakesFree old (Some c) new =
+    (old.core ≡ Some c) × (is_free c ≡ true) × (new ≡ record { ear = old.ear; core = None })
 
 -- ---- how it begins
 
 -- a requestor's end for a hop of the site, which asks for the association at once; or there is none
 abbrev pub OpensTo : Part → Text → ℕ → Result (Terminal × List LinkAction) NegoFault → Type 0
-OpensTo site dest now (Ok x) = (rq : AssociateRq) × IsProposal site dest rq × (x.0 ≡ begins site.max_pdu (requesting (Some site) dest rq now))
+OpensTo site dest now (Ok x) =
+    (rq : AssociateRq) × IsProposal site dest rq
+    × (x.0 ≡ begins site.max_pdu (requesting (Some site) dest rq now))
     × (x.1 ≡ write (pdu.AssociateRq rq ∷ []) ∷ [])
 OpensTo site dest now (Err NoHop) = (hop : Hop) → IsHopTo site dest hop → ⊥
 OpensTo site dest now (Err Memory) = Unit {0}
 OpensTo site dest now (Err why) = ⊥
 
--- a requestor's end for an echo between nodes of those names, which takes PDUs of at most 16,384 bytes
+-- a requestor's end for an echo between nodes of those names, which takes PDUs of at most 16,384
+-- bytes
 abbrev pub requesting_echo : Text → Text → ℕ → Terminal
-requesting_echo caller called now = begins 16384 (requesting None called (echo_proposal caller called) now)
+requesting_echo caller called now =
+    begins 16384 (requesting None called (echo_proposal caller called) now)
 
 -- ---- how it ended
 

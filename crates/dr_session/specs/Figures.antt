@@ -1,5 +1,7 @@
--- Worked figures of turns: each row of the state table (PS3.8 section 9.2.3) that a session can meet, whatever the end is like.
-use Rattle.std.specs.Prelude.{◌≡◌, ℕ, Bool, true, false, List, [], ◌∷◌, map, Option, Some, None, Ok, Err}
+-- Worked figures of turns: each row of the state table (PS3.8 section 9.2.3) that a session can
+-- meet, whatever the end is like.
+use Rattle.std.specs.Prelude.{◌≡◌, ℕ, Bool, true, false, List, [], ◌∷◌, map, Option, Some, None, Ok}
+use Rattle.std.specs.Prelude.{Err}
 use Rattle.dr_ulstate.specs.declared.table.State.{State}
 use Rattle.dr_ulstate.specs.declared.table.State.TheVariants.{Sta2, Sta5, Sta6, Sta7, Sta11, Sta13}
 use Rattle.dr_ulstate.specs.Table.{state_number}
@@ -39,7 +41,8 @@ use Rattle.dr_session.specs.Turns.{Ends, Asks, Fails}
 
 -- ---- where an end stands
 
--- the acceptor's or the requestor's end in a state, entered at moment 0; nothing pends, and nothing was marked
+-- the acceptor's or the requestor's end in a state, entered at moment 0; nothing pends, and nothing
+-- was marked
 pub record Place : Type 0 where
   pub requestor : Bool
   pub state : State
@@ -51,7 +54,12 @@ abbrev pub requestor : State → Place
 requestor state = record { requestor = true; state = state }
 
 abbrev pub placed : Place → Core → Core
-placed p c = record c { phase = phase_of p.state (standing p.state p.requestor 0); pending = None; awaits = None; marks = unmarked }
+placed p c = record c {
+  phase = phase_of p.state (standing p.state p.requestor 0);
+  pending = None;
+  awaits = None;
+  marks = unmarked;
+}
 
 -- where data goes both ways, or the requestor's release is under way
 abbrev pub established : List Place
@@ -69,14 +77,20 @@ closing = acceptor Sta13 ∷ requestor Sta13 ∷ []
 
 -- ---- what a turn shows
 
--- without a call: the number of the state that follows, what is done on the link, and how the association ended so far
+-- without a call: the number of the state that follows, what is done on the link, and how the
+-- association ended so far
 pub record Shown : Type 0 where
   pub state : ℕ
   pub acts : List LinkAction
   pub ended : Ended
 
 abbrev pub shows : Reaction → Option Shown
-shows (Ends x) = Some (record { state = state_number (state_of x.core.phase); acts = x.acts; ended = ended_by x.core.marks })
+shows (Ends x) = Some
+    (record {
+      state = state_number (state_of x.core.phase);
+      acts = x.acts;
+      ended = ended_by x.core.marks;
+    })
 shows (Asks call follow) = None
 shows Fails = None
 
@@ -88,7 +102,8 @@ calls turn = None
 -- at each of these places
 abbrev pub Does : Core → Moment → List Place → Told → ℕ → List LinkAction → Ended → Type 0
 Does c at places told state acts ended =
-    map (λ p. shows (turn at (placed p c) told)) places ≡ map (λ p. Some (record { state = state; acts = acts; ended = ended })) places
+    map (λ p. shows (turn at (placed p c) told)) places
+    ≡ map (λ p. Some (record { state = state; acts = acts; ended = ended })) places
 
 abbrev pub sends : List ℕ → List LinkAction
 sends bytes = Write bytes ∷ []
@@ -115,17 +130,21 @@ moment now others = record { now = now; others = others }
 -- ---- event 3: an A-ASSOCIATE-AC
 
 pub record Acceptances (c : Core) (at : Moment) (ac : AssociateAc) (agreed : Agreed) : Type 0 where
-  pub before : Does c at (acceptor Sta2 ∷ []) (told.Plain (input.Acceptance ac)) 13 (abort 0 0) Aborted
+  pub before :
+      Does c at (acceptor Sta2 ∷ []) (told.Plain (input.Acceptance ac)) 13 (abort 0 0) Aborted
   pub taken : Does c at (requestor Sta5 ∷ []) (told.Agreement (Ok agreed)) 6 [] Closed
-  pub strange : Does c at (requestor Sta5 ∷ []) (told.Agreement (Err StrangeId)) 13 (abort 0 0) Aborted
+  pub strange :
+      Does c at (requestor Sta5 ∷ []) (told.Agreement (Err StrangeId)) 13 (abort 0 0) Aborted
   pub again : Does c at associated (told.Plain (input.Acceptance ac)) 13 (abort 2 2) Aborted
   pub late : Does c at closing (told.Plain (input.Acceptance ac)) 13 [] Closed
 
 -- ---- event 4: an A-ASSOCIATE-RJ
 
 pub record Rejections (c : Core) (at : Moment) (rj : AssociateRj) : Type 0 where
-  pub before : Does c at (acceptor Sta2 ∷ []) (told.Plain (input.Rejection rj)) 13 (abort 0 0) Aborted
-  pub taken : calls (turn at (placed (requestor Sta5) c) (told.Plain (input.Rejection rj))) ≡ Some (Next c.peer at.now)
+  pub before :
+      Does c at (acceptor Sta2 ∷ []) (told.Plain (input.Rejection rj)) 13 (abort 0 0) Aborted
+  pub taken : calls (turn at (placed (requestor Sta5) c) (told.Plain (input.Rejection rj)))
+      ≡ Some (Next c.peer at.now)
   pub again : Does c at associated (told.Plain (input.Rejection rj)) 13 (abort 2 2) Aborted
   pub late : Does c at closing (told.Plain (input.Rejection rj)) 13 [] Closed
 
@@ -135,23 +154,33 @@ abbrev pub at_archive : Core → Core
 at_archive c = record c { site = Some archive }
 
 pub record Requests (c : Core) (now : ℕ) (rq : AssociateRq) : Type 0 where
-  pub accepted : Does (at_archive c) (moment now 0) (acceptor Sta2 ∷ []) (told.Plain (input.Request proposal)) 6
+  pub accepted : Does (at_archive c) (moment now 0) (acceptor Sta2 ∷ [])
+      (told.Plain (input.Request proposal)) 6
       (write (pdu.AssociateAc (acceptance_of proposal archive) ∷ []) ∷ []) Closed
   -- the 256 associations of a node are open: the service provider rejects
-  pub full : Does (at_archive c) (moment now 256) (acceptor Sta2 ∷ []) (told.Plain (input.Request proposal)) 13 (rejection 2 3 2) (Rejected (rj 2 3 2))
+  pub full : Does (at_archive c) (moment now 256) (acceptor Sta2 ∷ [])
+      (told.Plain (input.Request proposal)) 13 (rejection 2 3 2) (Rejected (rj 2 3 2))
   -- another title was called: the user rejects
-  pub misdirected : Does (at_archive c) (moment now 0) (acceptor Sta2 ∷ []) (told.Plain (input.Request (request gate gate application_context 1 (context 1 image (Explicit ∷ []) ∷ []) 16384)))
-      13 (rejection 1 1 7) (Rejected (rj 1 1 7))
-  pub too_small : Does (at_archive c) (moment now 0) (acceptor Sta2 ∷ []) (told.Plain (input.Request (request arch gate application_context 1 (context 1 image (Explicit ∷ []) ∷ []) 7)))
-      13 (abort 0 0) Aborted
-  pub again : Does c (moment now 0) (requestor Sta5 ∷ associated) (told.Plain (input.Request rq)) 13 (abort 2 2) Aborted
+  pub misdirected : Does (at_archive c) (moment now 0) (acceptor Sta2 ∷ [])
+      (told.Plain
+      (input.Request
+      (request gate gate application_context 1 (context 1 image (Explicit ∷ []) ∷ []) 16384))) 13
+      (rejection 1 1 7) (Rejected (rj 1 1 7))
+  pub too_small : Does (at_archive c) (moment now 0) (acceptor Sta2 ∷ [])
+      (told.Plain
+      (input.Request
+      (request arch gate application_context 1 (context 1 image (Explicit ∷ []) ∷ []) 7))) 13
+      (abort 0 0) Aborted
+  pub again : Does c (moment now 0) (requestor Sta5 ∷ associated) (told.Plain (input.Request rq)) 13
+      (abort 2 2) Aborted
   pub late : Does c (moment now 0) closing (told.Plain (input.Request rq)) 13 (abort 2 0) Aborted
 
 -- ---- events 9 and 10: data
 
 pub record Values (c : Core) (at : Moment) (p : Pdv) : Type 0 where
   pub before : Does c at (acceptor Sta2 ∷ []) (told.Plain (input.Value p)) 13 (abort 0 0) Aborted
-  pub early : Does c at (requestor Sta5 ∷ requestor Sta11 ∷ []) (told.Plain (input.Value p)) 13 (abort 2 2) Aborted
+  pub early : Does c at (requestor Sta5 ∷ requestor Sta11 ∷ []) (told.Plain (input.Value p)) 13
+      (abort 2 2) Aborted
   pub inner : Does c at established told.Quiet 6 [] Closed
   pub none : Does c at established (told.Plain input.NoValue) 6 [] Closed
   pub strange : Does c at (requestor Sta7 ∷ established) told.Strange 13 (abort 2 6) Aborted
@@ -160,7 +189,8 @@ pub record Values (c : Core) (at : Moment) (p : Pdv) : Type 0 where
   pub late : Does c at closing (told.Plain (input.Value p)) 13 [] Closed
 
 pub record Pushes (c : Core) (at : Moment) : Type 0 where
-  pub due : calls (turn at (placed (requestor Sta6) c) (told.Plain input.PushAsked)) ≡ Some (Next c.peer at.now)
+  pub due : calls (turn at (placed (requestor Sta6) c) (told.Plain input.PushAsked))
+      ≡ Some (Next c.peer at.now)
   pub accepting : Does c at (acceptor Sta6 ∷ []) (told.Plain input.PushAsked) 6 [] Closed
   pub leaving : Does c at (requestor Sta7 ∷ []) (told.Plain input.PushAsked) 7 [] Closed
   pub late : Does c at closing (told.Plain input.PushAsked) 13 [] Closed
@@ -168,17 +198,21 @@ pub record Pushes (c : Core) (at : Moment) : Type 0 where
 -- ---- events 11 to 14: the release
 
 pub record Releases (c : Core) (at : Moment) : Type 0 where
-  pub asks : Does c at (requestor Sta6 ∷ []) (told.Plain input.ReleaseAsked) 7 release_request Closed
+  pub asks :
+      Does c at (requestor Sta6 ∷ []) (told.Plain input.ReleaseAsked) 7 release_request Closed
   pub only : Does c at (acceptor Sta6 ∷ []) (told.Plain input.ReleaseAsked) 6 [] Closed
   pub before : Does c at (acceptor Sta2 ∷ []) (told.Plain input.ReleaseRq) 13 (abort 0 0) Aborted
-  pub early : Does c at (requestor Sta5 ∷ requestor Sta11 ∷ []) (told.Plain input.ReleaseRq) 13 (abort 2 2) Aborted
+  pub early : Does c at (requestor Sta5 ∷ requestor Sta11 ∷ []) (told.Plain input.ReleaseRq) 13
+      (abort 2 2) Aborted
   pub answers : Does c at established (told.Plain input.ReleaseRq) 13 release_answer Released
-  pub collides : Does c at (requestor Sta7 ∷ []) (told.Plain input.ReleaseRq) 11 release_answer Released
+  pub collides :
+      Does c at (requestor Sta7 ∷ []) (told.Plain input.ReleaseRq) 11 release_answer Released
   pub late : Does c at closing (told.Plain input.ReleaseRq) 13 [] Closed
 
 pub record ReleaseAnswers (c : Core) (at : Moment) : Type 0 where
   pub before : Does c at (acceptor Sta2 ∷ []) (told.Plain input.ReleaseRp) 13 (abort 0 0) Aborted
-  pub early : Does c at (requestor Sta5 ∷ established) (told.Plain input.ReleaseRp) 13 (abort 2 2) Aborted
+  pub early :
+      Does c at (requestor Sta5 ∷ established) (told.Plain input.ReleaseRp) 13 (abort 2 2) Aborted
   pub closes : Does c at releasing (told.Plain input.ReleaseRp) 1 closes Released
   pub late : Does c at closing (told.Plain input.ReleaseRp) 13 [] Closed
 
@@ -188,13 +222,17 @@ abbrev pub pended : Pending → Place → Core → Core
 pended p place c = record (placed place c) { pending = Some p }
 
 pub record Aborts (c : Core) (at : Moment) (a : Abort) (p : Pending) : Type 0 where
-  pub asked : Does c at (requestor Sta5 ∷ associated) (told.Plain input.AbortAsked) 13 (abort 0 0) Aborted
+  pub asked :
+      Does c at (requestor Sta5 ∷ associated) (told.Plain input.AbortAsked) 13 (abort 0 0) Aborted
   -- nothing is there to be aborted
   pub fresh : Does c at (acceptor Sta2 ∷ []) (told.Plain input.AbortAsked) 2 [] Closed
   pub late : Does c at closing (told.Plain input.AbortAsked) 13 [] Closed
-  pub heard : Does c at (acceptor Sta2 ∷ requestor Sta5 ∷ acceptor Sta13 ∷ requestor Sta13 ∷ associated) (told.Plain (input.Abort a)) 1 closes Aborted
+  pub heard : Does c at
+      (acceptor Sta2 ∷ requestor Sta5 ∷ acceptor Sta13 ∷ requestor Sta13 ∷ associated)
+      (told.Plain (input.Abort a)) 1 closes Aborted
   -- what pends is settled as broken
-  pub breaks : calls (turn at (pended p (requestor Sta6) c) (told.Plain (input.Abort a))) ≡ Some (Settle p.uid c.peer Broken at.now)
+  pub breaks : calls (turn at (pended p (requestor Sta6) c) (told.Plain (input.Abort a)))
+      ≡ Some (Settle p.uid c.peer Broken at.now)
 
 -- ---- event 10: a response, at a requestor
 
@@ -204,10 +242,11 @@ asked_for of uid = record { id = 7; context = 3; asked = of; uid = uid }
 
 -- what the end asks its desk for where this is pending and it hears that message
 abbrev pub hears_then : Core → Moment → Pending → ℕ → Command → Option DeskCall
-hears_then c at p context command = calls (turn at (pended p (requestor Sta6) c) (told.Whole context [] command))
+hears_then c at p context command =
+    calls (turn at (pended p (requestor Sta6) c) (told.Whole context [] command))
 
--- The response of a store settles its row by the status. One in another context, that of an echo and any other are out of place:
--- the end aborts, and the row is to be tried again.
+-- The response of a store settles its row by the status. One in another context, that of an echo
+-- and any other are out of place: the end aborts, and the row is to be tried again.
 pub record Responses (c : Core) (at : Moment) (class uid : Text) : Type 0 where
   pub stored : hears_then c at (asked_for Store uid) 3 (StoreRsp 7 0xA700 class uid false)
       ≡ Some (Settle uid c.peer (Status 0xA700) at.now)
@@ -217,14 +256,19 @@ pub record Responses (c : Core) (at : Moment) (class uid : Text) : Type 0 where
       ≡ Some (Settle uid c.peer Broken at.now)
   pub another : hears_then c at (asked_for Store uid) 3 (Other 0x8020 7 (Some 0) false)
       ≡ Some (Settle uid c.peer Broken at.now)
-  pub echoed : hears_then c at (asked_for Echo []) 3 (EchoRsp 7 0 class false) ≡ Some (Settle [] c.peer (Status 0) at.now)
-  pub no_echo : hears_then c at (asked_for Echo []) 3 (StoreRsp 7 0 class uid false) ≡ Some (Settle [] c.peer Broken at.now)
+  pub echoed : hears_then c at (asked_for Echo []) 3 (EchoRsp 7 0 class false)
+      ≡ Some (Settle [] c.peer (Status 0) at.now)
+  pub no_echo : hears_then c at (asked_for Echo []) 3 (StoreRsp 7 0 class uid false)
+      ≡ Some (Settle [] c.peer Broken at.now)
 
 -- ---- events 17 and 18: the end of the connection, and of the timer
 
 pub record Endings (c : Core) (at : Moment) (p : Pending) : Type 0 where
-  pub gone : Does c at (acceptor Sta2 ∷ requestor Sta5 ∷ acceptor Sta13 ∷ requestor Sta13 ∷ associated) (told.Plain input.Ended) 1 [] Closed
-  pub breaks : calls (turn at (pended p (requestor Sta6) c) (told.Plain input.Ended)) ≡ Some (Settle p.uid c.peer Broken at.now)
+  pub gone : Does c at
+      (acceptor Sta2 ∷ requestor Sta5 ∷ acceptor Sta13 ∷ requestor Sta13 ∷ associated)
+      (told.Plain input.Ended) 1 [] Closed
+  pub breaks : calls (turn at (pended p (requestor Sta6) c) (told.Plain input.Ended))
+      ≡ Some (Settle p.uid c.peer Broken at.now)
 
 -- a requestor that has awaited an answer since moment 0
 abbrev pub awaited : Place → Core → Core
@@ -232,16 +276,20 @@ awaited p c = record (placed p c) { awaits = Some 0 }
 
 abbrev pub Waits : Core → ℕ → List Place → ℕ → List LinkAction → Ended → Type 0
 Waits c now places state acts ended =
-    map (λ p. shows (turn (moment now 0) (awaited p c) (told.Plain input.Late))) places ≡ map (λ p. Some (record { state = state; acts = acts; ended = ended })) places
+    map (λ p. shows (turn (moment now 0) (awaited p c) (told.Plain input.Late))) places
+    ≡ map (λ p. Some (record { state = state; acts = acts; ended = ended })) places
 
 pub record LateMarks (c : Core) : Type 0 where
   pub fresh : Does c (moment 29999 0) (acceptor Sta2 ∷ []) (told.Plain input.Late) 2 [] Closed
   pub waiting : Does c (moment 29999 0) closing (told.Plain input.Late) 13 [] Closed
-  pub expired : Does c (moment 30000 0) (acceptor Sta2 ∷ closing) (told.Plain input.Late) 1 closes Closed
+  pub expired :
+      Does c (moment 30000 0) (acceptor Sta2 ∷ closing) (told.Plain input.Late) 1 closes Closed
   -- an end that awaits nothing stays
   pub idle : Does c (moment 60000 0) established (told.Plain input.Late) 6 [] Closed
   pub patient : Waits c 59999 (requestor Sta5 ∷ []) 5 [] Closed
-  pub impatient : Waits c 60000 (requestor Sta5 ∷ requestor Sta6 ∷ requestor Sta7 ∷ requestor Sta11 ∷ []) 13 (abort 0 0) Aborted
+  pub impatient : Waits c 60000
+      (requestor Sta5 ∷ requestor Sta6 ∷ requestor Sta7 ∷ requestor Sta11 ∷ []) 13 (abort 0 0)
+      Aborted
   -- an acceptor awaits no answer
   pub accepting : Waits c 60000 (acceptor Sta6 ∷ []) 6 [] Closed
 
@@ -249,6 +297,8 @@ pub record LateMarks (c : Core) : Type 0 where
 
 pub record NoPdus (c : Core) (at : Moment) : Type 0 where
   pub before : Does c at (acceptor Sta2 ∷ []) (told.Plain input.Unknown) 13 (abort 0 0) Aborted
-  pub unknown : Does c at (requestor Sta5 ∷ associated) (told.Plain input.Unknown) 13 (abort 2 1) Aborted
-  pub invalid : Does c at (requestor Sta5 ∷ associated) (told.Plain input.Invalid) 13 (abort 2 6) Aborted
+  pub unknown :
+      Does c at (requestor Sta5 ∷ associated) (told.Plain input.Unknown) 13 (abort 2 1) Aborted
+  pub invalid :
+      Does c at (requestor Sta5 ∷ associated) (told.Plain input.Invalid) 13 (abort 2 6) Aborted
   pub late : Does c at closing (told.Plain input.Unknown) 13 (abort 2 0) Aborted

@@ -6,9 +6,16 @@ use Rattle.dr_dimse.specs.Taking.{Stage, Idle, InCommand, InData}
 use Rattle.dr_dimse.specs.Written.{Fits}
 use Rattle.dr_dimse.specs.declared.command.Command.TheVariants.{StoreRq}
 use Rattle.dr_ulstate.specs.declared.step.Incoming.{Incoming}
-use Rattle.dr_ulstate.specs.declared.step.Incoming.TheVariants.{AssociateAc, AssociateRj, DataTf, ReleaseRq as ReleaseAskedFor, ReleaseRp as ReleaseAnswered, Aborted, Unrecognized, ConnectionClosed}
+use Rattle.dr_ulstate.specs.declared.step.Incoming.TheVariants.{AssociateAc, AssociateRj, DataTf}
+use Rattle.dr_ulstate.specs.declared.step.Incoming.TheVariants.{ReleaseRq as ReleaseAskedFor}
+use Rattle.dr_ulstate.specs.declared.step.Incoming.TheVariants.{ReleaseRp as ReleaseAnswered}
+use Rattle.dr_ulstate.specs.declared.step.Incoming.TheVariants.{Aborted, Unrecognized}
+use Rattle.dr_ulstate.specs.declared.step.Incoming.TheVariants.{ConnectionClosed}
 use Rattle.dr_session.specs.declared.ends.Input.{Input}
-use Rattle.dr_session.specs.declared.ends.Input.TheVariants.{Request, Acceptance, Rejection, Value, NoValue, ReleaseRq, ReleaseRp, Abort, Unknown, Invalid, Late, AbortAsked, ReleaseAsked, PushAsked}
+use Rattle.dr_session.specs.declared.ends.Input.TheVariants.{Request, Acceptance, Rejection, Value}
+use Rattle.dr_session.specs.declared.ends.Input.TheVariants.{NoValue, ReleaseRq, ReleaseRp, Abort}
+use Rattle.dr_session.specs.declared.ends.Input.TheVariants.{Unknown, Invalid, Late, AbortAsked}
+use Rattle.dr_session.specs.declared.ends.Input.TheVariants.{ReleaseAsked, PushAsked}
 use Rattle.dr_session.specs.declared.ends.Told.{Told}
 use Rattle.dr_session.specs.declared.ends.Told.TheVariants.{Plain, Strange, Store, Whole, Agreement}
 
@@ -61,7 +68,8 @@ abbrev pub IsLooked : Told → Type 0
 IsLooked (Plain i) = ⊥
 IsLooked told = Unit {0}
 
--- what was looked into, as the association sees it: a value in a context that wasn't accepted is no valid PDU
+-- what was looked into, as the association sees it: a value in a context that wasn't accepted is no
+-- valid PDU
 abbrev pub told_as : Told → Incoming
 told_as Strange = Unrecognized
 told_as (Agreement answer) = AssociateAc

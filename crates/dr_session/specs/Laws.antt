@@ -1,5 +1,6 @@
 -- The laws of an end.
-use Rattle.std.specs.Prelude.{◌≡◌, ℕ, false, List, [], ◌∷◌, ◌++◌, map, ◌↔◌, Some, Result, Ok, ◌⊎◌, Option, None}
+use Rattle.std.specs.Prelude.{◌≡◌, ℕ, false, List, [], ◌∷◌, ◌++◌, map, ◌↔◌, Some, Result, Ok, ◌⊎◌}
+use Rattle.std.specs.Prelude.{Option, None}
 use Rattle.dr_base.specs.Texts.{Text}
 use Rattle.dr_pdu.specs.Feeding.{Feeding}
 use Rattle.dr_dimse.specs.declared.command.Command.TheVariants.{StoreRsp}
@@ -31,42 +32,65 @@ answers made = map (λ x. x.1) made
 
 -- a piece, then another at the same moment, do what the joined bytes do
 abbrev pub Joins : {S : Type 0} → (S → DeskCall → DeskAnswer → S → Type 0) → Type 0
-Joins {S} step = (moment : Moment) (old mid new : Feeding) (c : Core) (x y : Effect) (a b : List ℕ) (s m t : S)
-    → PlaysBytes step moment old c a s mid x m → PlaysBytes step moment mid x.core b m new y t
-    → PlaysBytes step moment old c (a ++ b) s new (record { acts = x.acts ++ y.acts; core = y.core }) t
+Joins {S} step =
+    (moment : Moment) (old mid new : Feeding) (c : Core) (x y : Effect) (a b : List ℕ) (s m t : S)
+    → PlaysBytes step moment old c a s mid x m
+    → PlaysBytes step moment mid x.core b m new y t
+    → PlaysBytes step moment old c (a ++ b) s new
+    (record { acts = x.acts ++ y.acts; core = y.core }) t
 
 -- pieces at one moment, each heard by what the one before left, and all that is written
-abbrev pub PlaysPieces : {S : Type 0} → (S → DeskCall → DeskAnswer → S → Type 0) → Moment → Feeding → Core → List (List ℕ) → S → Feeding → Effect → S → Type 0
+abbrev pub PlaysPieces : {S : Type 0}
+    → (S → DeskCall → DeskAnswer → S → Type 0)
+    → Moment → Feeding → Core → List (List ℕ) → S → Feeding → Effect → S → Type 0
 PlaysPieces step moment ear c [] s new x t = (new ≡ ear) × (x ≡ effect [] c) × (t ≡ s)
-PlaysPieces step moment ear c (piece ∷ pieces) s new x t = (mid : Feeding) × (first : Effect) × (later : Effect) × (m : _)
-    × PlaysBytes step moment ear c piece s mid first m × PlaysPieces step moment mid first.core pieces m new later t
+PlaysPieces step moment ear c (piece ∷ pieces) s new x t =
+    (mid : Feeding) × (first : Effect) × (later : Effect) × (m : _)
+    × PlaysBytes step moment ear c piece s mid first m
+    × PlaysPieces step moment mid first.core pieces m new later t
     × (x ≡ record { acts = first.acts ++ later.acts; core = later.core })
 
 -- pieces, however many, do what the joined bytes do
 abbrev pub JoinsAll : {S : Type 0} → (S → DeskCall → DeskAnswer → S → Type 0) → Type 0
-JoinsAll {S} step = (moment : Moment) (old new : Feeding) (c : Core) (x : Effect) (first : List ℕ) (others : List (List ℕ)) (s t : S)
-    → PlaysPieces step moment old c (first ∷ others) s new x t → PlaysBytes step moment old c (flat_map (λ (piece : List ℕ). piece) (first ∷ others)) s new x t
+JoinsAll {S} step =
+    (moment : Moment) (old new : Feeding) (c : Core) (x : Effect) (first : List ℕ)
+    (others : List (List ℕ)) (s t : S)
+    → PlaysPieces step moment old c (first ∷ others) s new x t
+    → PlaysBytes step moment old c (flat_map (λ (piece : List ℕ). piece) (first ∷ others)) s new x t
 
 -- at a port: some calls with their answers lead from s to t, and the turn makes just these
 abbrev pub TellsAll : {S : Type 0} → (S → DeskCall → DeskAnswer → S → Type 0) → Type 0
-TellsAll {S} step = (turn : Reaction) (s t : S) (x : Effect) → Turns step turn s x t ↔ ((made : List (DeskCall × DeskAnswer)) × Run step s made t × Makes turn made x)
+TellsAll {S} step =
+    (turn : Reaction) (s t : S) (x : Effect)
+    → Turns step turn s x t
+    ↔ ((made : List (DeskCall × DeskAnswer)) × Run step s made t × Makes turn made x)
 
 -- two ways that a turn may go have the same calls and effect where the answers are the same
 abbrev pub IsByReplies : Type 0
-IsByReplies = (turn : Reaction) (made made' : List (DeskCall × DeskAnswer)) (x x' : Effect)
-    → Makes turn made x → Makes turn made' x' → answers made ≡ answers made' → (made ≡ made') × (x ≡ x')
+IsByReplies =
+    (turn : Reaction) (made made' : List (DeskCall × DeskAnswer)) (x x' : Effect)
+    → Makes turn made x → Makes turn made' x'
+    → answers made ≡ answers made'
+    → (made ≡ made') × (x ≡ x')
 
--- What is written for a C-STORE-RQ: one response, and it is a success (0000H) only where its instance was brought to the port,
--- which answered New or Again.
-pub record AnswersStore {S : Type 0} (step : S → DeskCall → DeskAnswer → S → Type 0) (c : Core) (context id : ℕ) (class instance : Text) (found : Found) (s : S) (x : Effect) (t : S) : Type 0 where
+-- What is written for a C-STORE-RQ: one response, and it is a success (0000H) only where its
+-- instance was brought to the port, which answered New or Again.
+pub record AnswersStore {S : Type 0} (step : S → DeskCall → DeskAnswer → S → Type 0) (c : Core)
+    (context id : ℕ) (class instance : Text) (found : Found) (s : S) (x : Effect)
+    (t : S) : Type 0 where
   pub status : ℕ
   pub written : x.acts ≡ says c context (StoreRsp id status class instance false) ∷ []
-  pub brought : status ≡ 0 → (item : Job) × (value : Arrived) × (found ≡ Read item) × step s (Arrive c.peer item) (Arrival (Ok value)) t
+  pub brought : status ≡ 0
+      → (item : Job) × (value : Arrived) × (found ≡ Read item)
+      × step s (Arrive c.peer item) (Arrival (Ok value)) t
 
 -- a C-STORE-RQ is answered so
 abbrev pub SuccessIsOfArrivals : {S : Type 0} → (S → DeskCall → DeskAnswer → S → Type 0) → Type 0
-SuccessIsOfArrivals {S} step = (c : Core) (context : ℕ) (class_of : Text) (id : ℕ) (class instance : Text) (found : Found) (s t : S) (x : Effect)
-    → Turns step (stores c context class_of id class instance found) s x t → AnswersStore step c context id class instance found s x t
+SuccessIsOfArrivals {S} step =
+    (c : Core) (context : ℕ) (class_of : Text) (id : ℕ) (class instance : Text) (found : Found)
+    (s t : S) (x : Effect)
+    → Turns step (stores c context class_of id class instance found) s x t
+    → AnswersStore step c context id class instance found s x t
 
 -- what is written is the spellings of PDUs, joined
 abbrev pub IsSpelled : LinkAction → Type 0
@@ -75,28 +99,49 @@ IsSpelled Close = Unit {0}
 
 -- each turn writes PDUs, whatever the port answers
 abbrev pub WritesPdus : {S : Type 0} → (S → DeskCall → DeskAnswer → S → Type 0) → Type 0
-WritesPdus {S} step = (at : Moment) (c : Core) (told : Told) (s t : S) (x : Effect) → Turns step (turn at c told) s x t → AllByRecursion IsSpelled x.acts
+WritesPdus {S} step =
+    (at : Moment) (c : Core) (told : Told) (s t : S) (x : Effect)
+    → Turns step (turn at c told) s x t
+    → AllByRecursion IsSpelled x.acts
 
 -- so does each call of an end: what comes over the link, and what is asked
 abbrev pub GivesPdus : {S : Type 0} → (S → DeskCall → DeskAnswer → S → Type 0) → Type 0
-GivesPdus {S} step = (came : Heard) (at : Moment) (old new : Terminal) (s t : S) (acts : List LinkAction) → HearsOf step came at old s (Ok acts) new t → AllByRecursion IsSpelled acts
+GivesPdus {S} step =
+    (came : Heard) (at : Moment) (old new : Terminal) (s t : S) (acts : List LinkAction)
+    → HearsOf step came at old s (Ok acts) new t
+    → AllByRecursion IsSpelled acts
 
 abbrev pub AsksPdus : {S : Type 0} → (S → DeskCall → DeskAnswer → S → Type 0) → Type 0
-AsksPdus {S} step = (input : Input) (at : Moment) (old new : Terminal) (s t : S) (acts : List LinkAction) → Meets step at input old s (Ok acts) new t → AllByRecursion IsSpelled acts
+AsksPdus {S} step =
+    (input : Input) (at : Moment) (old new : Terminal) (s t : S) (acts : List LinkAction)
+    → Meets step at input old s (Ok acts) new t
+    → AllByRecursion IsSpelled acts
 
 -- an end that is over writes nothing and calls nothing, whatever it is told
 abbrev pub RestsWhenOver : Type 0
 RestsWhenOver = (at : Moment) (c : Core) (told : Told) → IsOver (Some c) → turn at c told ≡ quiet c
 
 -- a call of it answers an empty list; the end and the port stay as they were
-abbrev pub IsStill : {S : Type 0} → Terminal → S → Result (List LinkAction) AllocError → Terminal → S → Type 0
+abbrev pub IsStill : {S : Type 0} → Terminal → S
+    → Result (List LinkAction) AllocError
+    → Terminal → S → Type 0
 IsStill old s result new t = (result ≡ Ok []) × (new ≡ old) × (t ≡ s)
 
 abbrev pub StaysOver : {S : Type 0} → (S → DeskCall → DeskAnswer → S → Type 0) → Type 0
-StaysOver {S} step = (input : Input) (at : Moment) (old new : Terminal) (s t : S) (result : Result (List LinkAction) AllocError) → IsOver old.core → Meets step at input old s result new t → IsStill old s result new t
+StaysOver {S} step =
+    (input : Input) (at : Moment) (old new : Terminal) (s t : S)
+    (result : Result (List LinkAction) AllocError)
+    → IsOver old.core
+    → Meets step at input old s result new t
+    → IsStill old s result new t
 
 abbrev pub HearsNothing : {S : Type 0} → (S → DeskCall → DeskAnswer → S → Type 0) → Type 0
-HearsNothing {S} step = (came : Heard) (at : Moment) (old new : Terminal) (s t : S) (result : Result (List LinkAction) AllocError) → IsOver old.core → HearsOf step came at old s result new t → IsStill old s result new t
+HearsNothing {S} step =
+    (came : Heard) (at : Moment) (old new : Terminal) (s t : S)
+    (result : Result (List LinkAction) AllocError)
+    → IsOver old.core
+    → HearsOf step came at old s result new t
+    → IsStill old s result new t
 
 -- ---- what is settled
 
@@ -109,15 +154,21 @@ abbrev pub Pends : Option Pending → Text → Type 0
 Pends None uid = ⊥
 Pends (Some p) uid = uid ≡ p.uid
 
--- Whatever the desk answers, each settling is of such an instance or of one that the desk has just handed out, for that peer
--- and at that moment.
+-- Whatever the desk answers, each settling is of such an instance or of one that the desk has just
+-- handed out, for that peer and at that moment.
 abbrev pub SettlesOwn : Reaction → Text → ℕ → (Text → Type 0) → Type 0
 SettlesOwn (Ends x) peer now Own = Unit {0}
-SettlesOwn (Asks (Settle uid dest outcome moment) follow) peer now Own = Own uid × (dest ≡ peer) × (moment ≡ now) × ((reply : DeskAnswer) → SettlesOwn (follow reply) peer now Own)
-SettlesOwn (Asks (Next dest moment) follow) peer now Own = (reply : DeskAnswer) → SettlesOwn (follow reply) peer now (λ uid. Own uid ⊎ Given reply uid)
-SettlesOwn (Asks (Arrive caller item) follow) peer now Own = (reply : DeskAnswer) → SettlesOwn (follow reply) peer now (λ uid. Own uid ⊎ Given reply uid)
+SettlesOwn (Asks (Settle uid dest outcome moment) follow) peer now Own =
+    Own uid × (dest ≡ peer) × (moment ≡ now)
+    × ((reply : DeskAnswer) → SettlesOwn (follow reply) peer now Own)
+SettlesOwn (Asks (Next dest moment) follow) peer now Own =
+    (reply : DeskAnswer) → SettlesOwn (follow reply) peer now (λ uid. Own uid ⊎ Given reply uid)
+SettlesOwn (Asks (Arrive caller item) follow) peer now Own =
+    (reply : DeskAnswer) → SettlesOwn (follow reply) peer now (λ uid. Own uid ⊎ Given reply uid)
 SettlesOwn Fails peer now Own = Unit {0}
 
 -- a turn settles what pends, or what it was handed out
 abbrev pub SettlesOwnAlone : Type 0
-SettlesOwnAlone = (at : Moment) (c : Core) (told : Told) → SettlesOwn (turn at c told) c.peer at.now (λ uid. Pends c.pending uid)
+SettlesOwnAlone =
+    (at : Moment) (c : Core) (told : Told)
+    → SettlesOwn (turn at c told) c.peer at.now (λ uid. Pends c.pending uid)

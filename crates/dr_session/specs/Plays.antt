@@ -6,12 +6,15 @@ use Rattle.dr_pdu.specs.declared.pdu.Pdu.{Pdu}
 use Rattle.dr_pdu.specs.declared.pdu.Pdu.TheVariants as pdu
 use Rattle.dr_pdu.specs.declared.pdu.Pdv.{Pdv}
 use Rattle.dr_pdu.specs.declared.fault.PduFault.{PduFault}
-use Rattle.dr_pdu.specs.declared.fault.PduFault.TheVariants.{More, UnknownType, TooLong, BadItem, BadContextId, Memory, Failed}
+use Rattle.dr_pdu.specs.declared.fault.PduFault.TheVariants.{More, UnknownType, TooLong, BadItem}
+use Rattle.dr_pdu.specs.declared.fault.PduFault.TheVariants.{BadContextId, Memory, Failed}
 use Rattle.dr_pdu.specs.Grammar.{Shows}
 use Rattle.dr_pdu.specs.Feeding.{StartsPdu, Feeding}
 use Rattle.dr_dimse.specs.Taking.{Stage, Assembling}
 use Rattle.dr_session.specs.declared.ends.Input.{Input}
-use Rattle.dr_session.specs.declared.ends.Input.TheVariants.{Request, Acceptance, Rejection, Value, NoValue, ReleaseRq, ReleaseRp, Abort, Unknown, Invalid}
+use Rattle.dr_session.specs.declared.ends.Input.TheVariants.{Request, Acceptance, Rejection, Value}
+use Rattle.dr_session.specs.declared.ends.Input.TheVariants.{NoValue, ReleaseRq, ReleaseRp, Abort}
+use Rattle.dr_session.specs.declared.ends.Input.TheVariants.{Unknown, Invalid}
 use Rattle.dr_session.specs.declared.ends.Told.{Told}
 use Rattle.dr_session.specs.declared.ends.LinkAction.{LinkAction}
 use Rattle.dr_session.specs.declared.ends.Core.{Core}
@@ -35,33 +38,55 @@ abbrev pub TellsTo : Core → Input → Told → Core → Type 0
 TellsTo c i told after = (stage : Stage) × Tells c i told stage × (after ≡ with_stage stage c)
 
 abbrev pub TellsValueTo : Core → Pdv → Told → Core → Type 0
-TellsValueTo c p told after = (stage : Stage) × TellsValue c.agreed c p told stage × (after ≡ with_stage stage c)
+TellsValueTo c p told after =
+    (stage : Stage) × TellsValue c.agreed c p told stage × (after ≡ with_stage stage c)
 
 -- one input: what it comes to, and what is done
-pub record Reacts {S : Type 0} (step : S → DeskCall → DeskAnswer → S → Type 0) (c : Core) (i : At) (s : S) (x : Effect) (t : S) : Type 0 where
+pub record Reacts {S : Type 0} (step : S → DeskCall → DeskAnswer → S → Type 0) (c : Core) (i : At)
+    (s : S) (x : Effect) (t : S) : Type 0 where
   pub told : Told
   pub stage : Stage
   pub tells : Tells c i.input told stage
   pub turns : Turns step (turn i.moment (with_stage stage c) told) s x t
 
 -- one input that was left on the way, as memory ended
-pub record Stops {S : Type 0} (step : S → DeskCall → DeskAnswer → S → Type 0) (c : Core) (i : At) (s t : S) : Type 0 where
-  pub by : (t ≡ s) ⊎ ((told : Told) × (stage : Stage) × Tells c i.input told stage × Broke step (turn i.moment (with_stage stage c) told) s t)
+pub record Stops {S : Type 0} (step : S → DeskCall → DeskAnswer → S → Type 0) (c : Core) (i : At)
+    (s t : S) : Type 0 where
+  pub by : (t ≡ s)
+      ⊎ ((told : Told) × (stage : Stage)
+      × Tells c i.input told stage
+      × Broke step (turn i.moment (with_stage stage c) told) s t)
 
 -- the inputs one after the other, and all that is written
-abbrev pub Plays : {S : Type 0} → (S → DeskCall → DeskAnswer → S → Type 0) → Core → List At → S → List LinkAction → Core → S → Type 0
+abbrev pub Plays : {S : Type 0}
+    → (S → DeskCall → DeskAnswer → S → Type 0)
+    → Core → List At → S → List LinkAction → Core → S → Type 0
 Plays step c [] s acts d t = (acts ≡ []) × (d ≡ c) × (t ≡ s)
 Plays step c (i ∷ is) s acts d t =
-    (x : Effect) × (m : _) × (later : List LinkAction) × Reacts step c i s x m × Plays step x.core is m later d t × (acts ≡ x.acts ++ later)
+    (x : Effect) × (m : _)
+    × (later : List LinkAction)
+    × Reacts step c i s x m
+    × Plays step x.core is m later d t
+    × (acts ≡ x.acts ++ later)
 
 -- one more input behind what was done, and all that is written
-abbrev pub PlaysMore : {S : Type 0} → (S → DeskCall → DeskAnswer → S → Type 0) → Effect → At → S → Effect → S → Type 0
-PlaysMore step first i s x t = (more : List LinkAction) × Plays step first.core (i ∷ []) s more x.core t × (x.acts ≡ first.acts ++ more)
+abbrev pub PlaysMore : {S : Type 0}
+    → (S → DeskCall → DeskAnswer → S → Type 0)
+    → Effect → At → S → Effect → S → Type 0
+PlaysMore step first i s x t =
+    (more : List LinkAction)
+    × Plays step first.core (i ∷ []) s more x.core t
+    × (x.acts ≡ first.acts ++ more)
 
--- the inputs were left on the way, as memory ended: some first ones were done, and the next one was left on the way
-abbrev pub BreaksOff : {S : Type 0} → (S → DeskCall → DeskAnswer → S → Type 0) → Core → List At → S → S → Type 0
+-- the inputs were left on the way, as memory ended: some first ones were done, and the next one was
+-- left on the way
+abbrev pub BreaksOff : {S : Type 0}
+    → (S → DeskCall → DeskAnswer → S → Type 0)
+    → Core → List At → S → S → Type 0
 BreaksOff step c [] s t = t ≡ s
-BreaksOff step c (i ∷ is) s t = Stops step c i s t ⊎ ((x : Effect) × (m : _) × Reacts step c i s x m × BreaksOff step x.core is m t)
+BreaksOff step c (i ∷ is) s t =
+    Stops step c i s t
+    ⊎ ((x : Effect) × (m : _) × Reacts step c i s x m × BreaksOff step x.core is m t)
 
 -- ---- bytes
 
@@ -69,7 +94,8 @@ abbrev pub values_of : List Pdv → List Input
 values_of [] = NoValue ∷ []
 values_of (p ∷ ps) = map Value (p ∷ ps)
 
--- a P-DATA-TF counts as its values, one after the other: those behind a fault come in Sta13, where the table ignores them
+-- a P-DATA-TF counts as its values, one after the other: those behind a fault come in Sta13, where
+-- the table ignores them
 abbrev pub inputs_of : Pdu → List Input
 inputs_of (pdu.AssociateRq rq) = Request rq ∷ []
 inputs_of (pdu.AssociateAc ac) = Acceptance ac ∷ []
@@ -93,10 +119,14 @@ IsFault fault = Unit {0}
 -- behind all PDUs: more is to come, or there is a fault, which is the last that is heard
 abbrev pub HearsLast : Bool → ℕ → List ℕ → List Input → List ℕ → Type 0
 HearsLast false limit rest last kept = Shows limit rest More × (last ≡ []) × (kept ≡ rest)
-HearsLast true limit rest last kept = (fault : PduFault) × IsFault fault × Shows limit rest fault × (last ≡ input_of fault ∷ []) × (kept ≡ [])
+HearsLast true limit rest last kept =
+    (fault : PduFault) × IsFault fault × Shows limit rest fault
+    × (last ≡ input_of fault ∷ [])
+    × (kept ≡ [])
 
 -- the inputs that a piece makes, behind what is kept
-pub record HearsOn (limit : ℕ) (kept piece : List ℕ) (inputs : List Input) (new : Feeding) : Type 0 where
+pub record HearsOn (limit : ℕ) (kept piece : List ℕ) (inputs : List Input)
+    (new : Feeding) : Type 0 where
   pub pdus : List Pdu
   pub rest : List ℕ
   pub last : List Input
@@ -116,29 +146,51 @@ abbrev pub at_moment : Moment → Input → At
 at_moment moment input = record { moment = moment; input = input }
 
 -- a piece: its inputs, and what they do
-abbrev pub PlaysBytes : {S : Type 0} → (S → DeskCall → DeskAnswer → S → Type 0) → Moment → Feeding → Core → List ℕ → S → Feeding → Effect → S → Type 0
+abbrev pub PlaysBytes : {S : Type 0}
+    → (S → DeskCall → DeskAnswer → S → Type 0)
+    → Moment → Feeding → Core → List ℕ → S → Feeding → Effect → S → Type 0
 PlaysBytes step moment ear core piece s new x t =
-    (inputs : List Input) × Hears ear piece inputs new × Plays step core (map (at_moment moment) inputs) s x.acts x.core t
+    (inputs : List Input)
+    × Hears ear piece inputs new
+    × Plays step core (map (at_moment moment) inputs) s x.acts x.core t
 
 -- no whole PDU stands in front of what is kept
 abbrev pub EndsThere : Feeding → Type 0
-EndsThere ear = (ear.failed ≡ false) × ((p : Pdu) (after : List ℕ) → StartsPdu ear.limit ear.kept p after → ⊥)
+EndsThere ear =
+    (ear.failed ≡ false) × ((p : Pdu) (after : List ℕ) → StartsPdu ear.limit ear.kept p after → ⊥)
 
 -- PDUs that came out, and what stands behind them
-abbrev pub PlaysOn : {S : Type 0} → (S → DeskCall → DeskAnswer → S → Type 0) → Moment → Feeding → List Pdu → Core → S → Feeding → Effect → S → Type 0
-PlaysOn step moment ear pdus core s new x t = (last : List Input) × HearsLast new.failed ear.limit ear.kept last new.kept × (new.limit ≡ ear.limit)
+abbrev pub PlaysOn : {S : Type 0}
+    → (S → DeskCall → DeskAnswer → S → Type 0)
+    → Moment → Feeding → List Pdu → Core → S → Feeding → Effect → S → Type 0
+PlaysOn step moment ear pdus core s new x t =
+    (last : List Input)
+    × HearsLast new.failed ear.limit ear.kept last new.kept
+    × (new.limit ≡ ear.limit)
     × Plays step core (map (at_moment moment) (flat_map inputs_of pdus ++ last)) s x.acts x.core t
 
 -- what may be heard behind all PDUs: nothing, or the fault that shows there
 abbrev pub IsLast : ℕ → List ℕ → List Input → Type 0
-IsLast limit rest last = (last ≡ []) ⊎ ((fault : PduFault) × IsFault fault × Shows limit rest fault × (last ≡ input_of fault ∷ []))
+IsLast limit rest last =
+    (last ≡ [])
+    ⊎ ((fault : PduFault) × IsFault fault × Shows limit rest fault × (last ≡ input_of fault ∷ []))
 
-abbrev pub BreaksOn : {S : Type 0} → (S → DeskCall → DeskAnswer → S → Type 0) → Moment → Feeding → List Pdu → Core → S → S → Type 0
+abbrev pub BreaksOn : {S : Type 0}
+    → (S → DeskCall → DeskAnswer → S → Type 0)
+    → Moment → Feeding → List Pdu → Core → S → S → Type 0
 BreaksOn step moment ear pdus core s t =
-    (last : List Input) × IsLast ear.limit ear.kept last × BreaksOff step core (map (at_moment moment) (flat_map inputs_of pdus ++ last)) s t
+    (last : List Input)
+    × IsLast ear.limit ear.kept last
+    × BreaksOff step core (map (at_moment moment) (flat_map inputs_of pdus ++ last)) s t
 
--- a piece that was left on the way, as memory ended: nothing was done, or some first inputs of the PDUs that it ends
-abbrev pub BreaksBytes : {S : Type 0} → (S → DeskCall → DeskAnswer → S → Type 0) → Moment → Feeding → Core → List ℕ → S → S → Type 0
-BreaksBytes step moment ear core piece s t = (t ≡ s)
-    ⊎ ((pdus : List Pdu) × (rest : List ℕ) × (last : List Input) × Run (StartsPdu ear.limit) pdus (ear.kept ++ piece) rest × IsLast ear.limit rest last
+-- a piece that was left on the way, as memory ended: nothing was done, or some first inputs of the
+-- PDUs that it ends
+abbrev pub BreaksBytes : {S : Type 0}
+    → (S → DeskCall → DeskAnswer → S → Type 0)
+    → Moment → Feeding → Core → List ℕ → S → S → Type 0
+BreaksBytes step moment ear core piece s t =
+    (t ≡ s)
+    ⊎ ((pdus : List Pdu) × (rest : List ℕ) × (last : List Input)
+    × Run (StartsPdu ear.limit) pdus (ear.kept ++ piece) rest
+    × IsLast ear.limit rest last
     × BreaksOff step core (map (at_moment moment) (flat_map inputs_of pdus ++ last)) s t)

@@ -1,14 +1,26 @@
--- What one end does at each event: the table's action (PS3.8 section 9.2), the services behind it, and the calls on the desk.
-use Rattle.std.specs.Prelude.{ℕ, ◌+◌, ◌==◌, length, ◌&&◌, ◌||◌, nat_le, not, Bool, true, false, List, [], ◌∷◌, ◌++◌, if◌then◌else◌, Option, Some, None, is_some, Result, Ok, Err}
+-- What one end does at each event: the table's action (PS3.8 section 9.2), the services behind it,
+-- and the calls on the desk.
+use Rattle.std.specs.Prelude.{ℕ, ◌+◌, ◌==◌, length, ◌&&◌, ◌||◌, nat_le, not, Bool, true, false}
+use Rattle.std.specs.Prelude.{List, [], ◌∷◌, ◌++◌, if◌then◌else◌, Option, Some, None, is_some}
+use Rattle.std.specs.Prelude.{Result, Ok, Err}
 use Rattle.std.specs.List.{list_all}
 use Rattle.std.specs.Option.{option_map_or}
 use Rattle.std.specs.Str.{bytes_eq}
 use Rattle.dr_base.specs.Texts.{Text}
 use Rattle.dr_base.specs.Syntaxes.{syntax_uid}
 use Rattle.dr_ulstate.specs.declared.table.Event.{Event}
-use Rattle.dr_ulstate.specs.declared.table.Event.TheVariants.{AssociateAcPdu, AssociateRjPdu, AssociateRqPdu, AcceptResponse, RejectResponse, DataRequest, DataPdu, ReleaseRequest, ReleaseRqPdu, ReleaseRpPdu, ReleaseResponse, AbortRequest, AbortPdu, TransportClosed, ArtimExpired, InvalidPdu}
+use Rattle.dr_ulstate.specs.declared.table.Event.TheVariants.{AssociateAcPdu, AssociateRjPdu}
+use Rattle.dr_ulstate.specs.declared.table.Event.TheVariants.{AssociateRqPdu, AcceptResponse}
+use Rattle.dr_ulstate.specs.declared.table.Event.TheVariants.{RejectResponse, DataRequest, DataPdu}
+use Rattle.dr_ulstate.specs.declared.table.Event.TheVariants.{ReleaseRequest, ReleaseRqPdu}
+use Rattle.dr_ulstate.specs.declared.table.Event.TheVariants.{ReleaseRpPdu, ReleaseResponse}
+use Rattle.dr_ulstate.specs.declared.table.Event.TheVariants.{AbortRequest, AbortPdu}
+use Rattle.dr_ulstate.specs.declared.table.Event.TheVariants.{TransportClosed, ArtimExpired}
+use Rattle.dr_ulstate.specs.declared.table.Event.TheVariants.{InvalidPdu}
 use Rattle.dr_ulstate.specs.declared.table.Action.{Action}
-use Rattle.dr_ulstate.specs.declared.table.Action.TheVariants.{Ae3, Ae4, Ae6, Dt1, Dt2, Ar1, Ar2, Ar3, Ar6, Ar8, Ar10, Aa1, Aa2, Aa3, Aa4, Aa5, Aa7, Aa8}
+use Rattle.dr_ulstate.specs.declared.table.Action.TheVariants.{Ae3, Ae4, Ae6, Dt1, Dt2, Ar1, Ar2}
+use Rattle.dr_ulstate.specs.declared.table.Action.TheVariants.{Ar3, Ar6, Ar8, Ar10, Aa1, Aa2, Aa3}
+use Rattle.dr_ulstate.specs.declared.table.Action.TheVariants.{Aa4, Aa5, Aa7, Aa8}
 use Rattle.dr_ulstate.specs.declared.phase.Next.{Next}
 use Rattle.dr_ulstate.specs.Table.{cell}
 use Rattle.dr_ulstate.specs.Phases.{side_of, next_stepped, next_expired, may_send}
@@ -16,7 +28,8 @@ use Rattle.dr_pdu.specs.declared.pdu.Pdu.{Pdu}
 use Rattle.dr_pdu.specs.declared.pdu.Pdu.TheVariants as pdu
 use Rattle.dr_pdu.specs.declared.pdu.AssociateRj.{AssociateRj}
 use Rattle.dr_dimse.specs.declared.command.Command.{Command}
-use Rattle.dr_dimse.specs.declared.command.Command.TheVariants.{StoreRq, StoreRsp, EchoRq, EchoRsp, Other}
+use Rattle.dr_dimse.specs.declared.command.Command.TheVariants.{StoreRq, StoreRsp, EchoRq, EchoRsp}
+use Rattle.dr_dimse.specs.declared.command.Command.TheVariants.{Other}
 use Rattle.dr_dimse.specs.declared.message.Awaited.{Awaited}
 use Rattle.dr_dimse.specs.declared.message.Awaited.TheVariants.{AnswerTo, Nothing}
 use Rattle.dr_dimse.specs.Taking.{Stage, Assembling}
@@ -34,11 +47,15 @@ use Rattle.dr_nego.specs.Agreeing.{AssociateRq, context_for}
 use Rattle.dr_nego.specs.Answering.{answer}
 use Rattle.dr_site.specs.Parts.{Part}
 use Rattle.dr_session.specs.declared.ends.Input.{Input}
-use Rattle.dr_session.specs.declared.ends.Input.TheVariants.{Request, Acceptance, Rejection, Value, NoValue, ReleaseRq, ReleaseRp, Abort, Unknown, Invalid, Ended, Late, AbortAsked, ReleaseAsked, PushAsked}
+use Rattle.dr_session.specs.declared.ends.Input.TheVariants.{Request, Acceptance, Rejection, Value}
+use Rattle.dr_session.specs.declared.ends.Input.TheVariants.{NoValue, ReleaseRq, ReleaseRp, Abort}
+use Rattle.dr_session.specs.declared.ends.Input.TheVariants.{Unknown, Invalid, Ended, Late}
+use Rattle.dr_session.specs.declared.ends.Input.TheVariants.{AbortAsked, ReleaseAsked, PushAsked}
 use Rattle.dr_session.specs.declared.ends.Found.{Found}
 use Rattle.dr_session.specs.declared.ends.Found.TheVariants.{Read, Unreadable, TooLarge}
 use Rattle.dr_session.specs.declared.ends.Told.{Told}
-use Rattle.dr_session.specs.declared.ends.Told.TheVariants.{Plain, Fault, Strange, Store, Whole, Agreement}
+use Rattle.dr_session.specs.declared.ends.Told.TheVariants.{Plain, Fault, Strange, Store, Whole}
+use Rattle.dr_session.specs.declared.ends.Told.TheVariants.{Agreement}
 use Rattle.dr_session.specs.declared.ends.LinkAction.{LinkAction}
 use Rattle.dr_session.specs.declared.ends.LinkAction.TheVariants.{Write, Close}
 use Rattle.dr_session.specs.declared.ends.Asked.{Asked}
@@ -48,7 +65,8 @@ use Rattle.dr_session.specs.declared.ends.Marks.{Marks}
 use Rattle.dr_session.specs.declared.ends.Core.{Core}
 use Rattle.dr_session.specs.declared.ends.Moment.{Moment}
 use Rattle.dr_session.specs.declared.ends.Effect.{Effect}
-use Rattle.dr_session.specs.Desks.{DeskCall, DeskAnswer, Arrive, Next as NextFor, Settle, Arrival, Upcoming, Settling}
+use Rattle.dr_session.specs.Desks.{DeskCall, DeskAnswer, Arrive, Next as NextFor, Settle, Arrival}
+use Rattle.dr_session.specs.Desks.{Upcoming, Settling}
 use Rattle.dr_nego.specs.Fragments.{spellings}
 use Rattle.dr_session.specs.Messages.{command_pdus, data_pdus}
 use Rattle.dr_session.specs.Turns.{Turn, Ends, Asks, Fails}
@@ -80,10 +98,16 @@ assembling awaited stage = record { awaited = awaited; stage = stage }
 
 -- a requestor awaits the response to this store, or nothing
 abbrev pub awaiting : Pending → ℕ → Core → Core
-awaiting p now c = record c { pending = Some p; last = p.id; awaits = Some now; assembly = assembling (AnswerTo p.id) c.assembly.stage }
+awaiting p now c = record c {
+  pending = Some p;
+  last = p.id;
+  awaits = Some now;
+  assembly = assembling (AnswerTo p.id) c.assembly.stage;
+}
 
 abbrev pub settled_with : Core → Core
-settled_with c = record c { pending = None; awaits = None; assembly = assembling Nothing c.assembly.stage }
+settled_with c =
+    record c { pending = None; awaits = None; assembly = assembling Nothing c.assembly.stage }
 
 -- nothing is pending any more
 abbrev pub left : Core → Core
@@ -105,16 +129,40 @@ abbrev pub with_marks : Marks → Core → Core
 with_marks marks c = record c { marks = marks }
 
 abbrev pub aborted : Core → Core
-aborted c = with_marks (record { rejection = c.marks.rejection; aborted = true; released = c.marks.released; desk_failed = c.marks.desk_failed }) c
+aborted c = with_marks
+    (record {
+      rejection = c.marks.rejection;
+      aborted = true;
+      released = c.marks.released;
+      desk_failed = c.marks.desk_failed;
+    }) c
 
 abbrev pub released : Core → Core
-released c = with_marks (record { rejection = c.marks.rejection; aborted = c.marks.aborted; released = true; desk_failed = c.marks.desk_failed }) c
+released c = with_marks
+    (record {
+      rejection = c.marks.rejection;
+      aborted = c.marks.aborted;
+      released = true;
+      desk_failed = c.marks.desk_failed;
+    }) c
 
 abbrev pub desk_failed : Core → Core
-desk_failed c = with_marks (record { rejection = c.marks.rejection; aborted = c.marks.aborted; released = c.marks.released; desk_failed = true }) c
+desk_failed c = with_marks
+    (record {
+      rejection = c.marks.rejection;
+      aborted = c.marks.aborted;
+      released = c.marks.released;
+      desk_failed = true;
+    }) c
 
 abbrev pub rejected : AssociateRj → Core → Core
-rejected rj c = with_marks (record { rejection = Some rj; aborted = c.marks.aborted; released = c.marks.released; desk_failed = c.marks.desk_failed }) c
+rejected rj c = with_marks
+    (record {
+      rejection = Some rj;
+      aborted = c.marks.aborted;
+      released = c.marks.released;
+      desk_failed = c.marks.desk_failed;
+    }) c
 
 -- ---- answers of a desk; another kind of answer can't come
 
@@ -142,18 +190,22 @@ settling done lost (Upcoming d) = Fails
 -- what is pending is settled as broken; where the store fails the end is one of a failed desk
 abbrev pub leaves_by : Option Pending → ℕ → List LinkAction → Core → Reaction
 leaves_by None now acts c = Ends (effect acts (left c))
-leaves_by (Some p) now acts c = Asks (Settle p.uid c.peer Broken now) (settling (Ends (effect acts (left c))) (Ends (effect acts (desk_failed (left c)))))
+leaves_by (Some p) now acts c = Asks (Settle p.uid c.peer Broken now)
+    (settling (Ends (effect acts (left c))) (Ends (effect acts (desk_failed (left c)))))
 
 abbrev pub leaves : Moment → List LinkAction → Core → Reaction
 leaves at acts c = leaves_by c.pending at.now acts c
 
 -- the end aborts by itself (AA-1)
 abbrev pub aborts : Moment → Core → Reaction
-aborts at c = leaves at (write (abort_pdu 0 0 ∷ []) ∷ []) (aborted (stepped_by AbortRequest at.now c))
+aborts at c =
+    leaves at (write (abort_pdu 0 0 ∷ []) ∷ []) (aborted (stepped_by AbortRequest at.now c))
 
 -- it does so as a store failed: what was pending is left as it is
 abbrev pub aborts_desk : Moment → Core → Reaction
-aborts_desk at c = Ends (effect (write (abort_pdu 0 0 ∷ []) ∷ []) (desk_failed (aborted (left (stepped_by AbortRequest at.now c)))))
+aborts_desk at c = Ends
+    (effect (write (abort_pdu 0 0 ∷ []) ∷ [])
+    (desk_failed (aborted (left (stepped_by AbortRequest at.now c)))))
 
 -- ---- a request for an association, at an acceptor
 
@@ -161,10 +213,12 @@ abbrev pub rj : ℕ → ℕ → ℕ → AssociateRj
 rj result source reason = record { result = result; source = source; reason = reason }
 
 abbrev pub decides : Answer → Moment → AssociateRq → Core → Reaction
-decides (Accept ac agreed) at rq c =
-    Ends (effect (write (pdu.AssociateAc ac ∷ []) ∷ []) (record (stepped_by AcceptResponse at.now c) { peer = rq.front.calling; agreed = Some agreed }))
-decides (Reject result source reason) at rq c =
-    Ends (effect (write (pdu.AssociateRj (rj result source reason) ∷ []) ∷ []) (rejected (rj result source reason) (stepped_by RejectResponse at.now c)))
+decides (Accept ac agreed) at rq c = Ends
+    (effect (write (pdu.AssociateAc ac ∷ []) ∷ [])
+    (record (stepped_by AcceptResponse at.now c) { peer = rq.front.calling; agreed = Some agreed }))
+decides (Reject result source reason) at rq c = Ends
+    (effect (write (pdu.AssociateRj (rj result source reason) ∷ []) ∷ [])
+    (rejected (rj result source reason) (stepped_by RejectResponse at.now c)))
 decides TooSmall at rq c = aborts at c
 
 -- an end without a site answers none (every acceptor has one)
@@ -181,7 +235,8 @@ is_acceptable a = true
 
 -- the responses (PS3.7 9.3)
 abbrev pub says : Core → ℕ → Command → LinkAction
-says c id command = write (command_pdus (option_map_or (λ (a : Agreed). a.limit) c.agreed 0) id command)
+says c id command =
+    write (command_pdus (option_map_or (λ (a : Agreed). a.limit) c.agreed 0) id command)
 
 abbrev pub status_of : Result Arrived LedgerFault → ℕ
 status_of (Ok value) = 0
@@ -190,7 +245,8 @@ status_of (Err fault.Conflict) = 0xC0F1
 status_of (Err why) = 0xA700
 
 abbrev pub stored : Core → ℕ → ℕ → Text → Text → ℕ → Effect
-stored c context id class instance status = effect (says c context (StoreRsp id status class instance false) ∷ []) c
+stored c context id class instance status =
+    effect (says c context (StoreRsp id status class instance false) ∷ []) c
 
 -- the instance is the one that the command names
 abbrev pub is_named : Job → Text → Text → Bool
@@ -199,7 +255,8 @@ is_named item class instance = bytes_eq item.uid instance && bytes_eq item.key.c
 abbrev pub brings : Core → ℕ → ℕ → Text → Text → Job → Reaction
 brings c context id class instance item =
     if is_named item class instance
-    then Asks (Arrive c.peer item) (arrival (λ r. Ends (stored c context id class instance (status_of r))))
+    then Asks (Arrive c.peer item)
+    (arrival (λ r. Ends (stored c context id class instance (status_of r))))
     else Ends (stored c context id class instance 0xA900)
 
 abbrev pub arrives : Core → ℕ → ℕ → Text → Text → Found → Reaction
@@ -209,20 +266,25 @@ arrives c context id class instance (Read item) = brings c context id class inst
 
 abbrev pub stores : Core → ℕ → Text → ℕ → Text → Text → Found → Reaction
 stores c context of id class instance found =
-    if bytes_eq class of then arrives c context id class instance found else Ends (stored c context id class instance 0x0122)
+    if bytes_eq class of
+    then arrives c context id class instance found
+    else Ends (stored c context id class instance 0x0122)
 
 -- a C-ECHO-RQ names its context's class, or none (PS3.7 9.1.5)
 abbrev pub echo_status : Text → Text → ℕ
 echo_status class of = if (length class == 0) || bytes_eq class of then 0 else 0x0122
 
--- A request that isn't known is answered by its field or 8000H and the status 0211H (unrecognized operation, PS3.7 annex C.5.12);
--- one without an id, a C-CANCEL-RQ, isn't answered, and no answer is.
+-- A request that isn't known is answered by its field or 8000H and the status 0211H (unrecognized
+-- operation, PS3.7 annex C.5.12); one without an id, a C-CANCEL-RQ, isn't answered, and no answer
+-- is.
 abbrev pub requested_other : Core → ℕ → ℕ → Option ℕ → Option ℕ → Reaction
-requested_other c context field (Some id) None = Ends (effect (says c context (Other (0x8000 + field) (Some id) (Some 0x0211) false) ∷ []) c)
+requested_other c context field (Some id) None =
+    Ends (effect (says c context (Other (0x8000 + field) (Some id) (Some 0x0211) false) ∷ []) c)
 requested_other c context field id status = quiet c
 
 abbrev pub requested : Core → ℕ → Text → Command → Reaction
-requested c context of (EchoRq id class has_data) = Ends (effect (says c context (EchoRsp id (echo_status class of) class false) ∷ []) c)
+requested c context of (EchoRq id class has_data) =
+    Ends (effect (says c context (EchoRsp id (echo_status class of) class false) ∷ []) c)
 requested c context of (Other field id status has_data) = requested_other c context field id status
 requested c context of command = quiet c
 
@@ -242,7 +304,7 @@ status_for p context command = if p.context == context then answers p.asked comm
 abbrev pub settles_by : Pending → Option ℕ → Moment → Core → Reaction
 settles_by p (Some status) at c =
     Asks (Settle p.uid c.peer (Status status) at.now)
-        (settling (Ends (effect [] (settled_with c))) (aborts_desk at c))
+    (settling (Ends (effect [] (settled_with c))) (aborts_desk at c))
 settles_by p None at c = aborts at c
 
 abbrev pub replied : Option Pending → ℕ → Command → Moment → Core → Reaction
@@ -254,7 +316,9 @@ replied None context command at c = aborts at c
 abbrev pub hears : Told → Moment → Core → Reaction
 hears (Store context of id class instance found) at c = stores c context of id class instance found
 hears (Whole context of command) at c =
-    if is_requestor c then replied c.pending context command at c else requested c context of command
+    if is_requestor c
+    then replied c.pending context command at c
+    else requested c context of command
 hears Fault at c = aborts at c
 hears told at c = quiet c
 
@@ -265,22 +329,27 @@ abbrev pub id_after : ℕ → ℕ
 id_after last = if last == 65535 then 1 else last + 1
 
 abbrev pub store_pdus : Agreed → ℕ → ℕ → Job → List Pdu
-store_pdus agreed context id item = command_pdus agreed.limit context (StoreRq id item.key.class item.uid) ++ data_pdus agreed.limit context item.body
+store_pdus agreed context id item =
+    command_pdus agreed.limit context (StoreRq id item.key.class item.uid)
+    ++ data_pdus agreed.limit context item.body
 
 -- a store that awaits its response
 abbrev pub storing : ℕ → ℕ → Text → Pending
 storing id context uid = record { id = id; context = context; asked = asked.Store; uid = uid }
 
 abbrev pub gives_nothing : Moment → Text → Core → Reaction
-gives_nothing at uid c = Asks (Settle uid c.peer NoContext at.now) (settling (quiet c) (aborts_desk at c))
+gives_nothing at uid c =
+    Asks (Settle uid c.peer NoContext at.now) (settling (quiet c) (aborts_desk at c))
 
 abbrev pub gives_in : Option ℕ → Agreed → Moment → Job → Core → Reaction
-gives_in (Some context) agreed at item c =
-    Ends (effect (write (store_pdus agreed context (id_after c.last) item) ∷ []) (awaiting (storing (id_after c.last) context item.uid) at.now c))
+gives_in (Some context) agreed at item c = Ends
+    (effect (write (store_pdus agreed context (id_after c.last) item) ∷ [])
+    (awaiting (storing (id_after c.last) context item.uid) at.now c))
 gives_in None agreed at item c = gives_nothing at item.uid c
 
 abbrev pub gives : Option Agreed → Moment → Job → Core → Reaction
-gives (Some agreed) at item c = gives_in (context_for agreed item.key.class (syntax_uid item.key.syntax)) agreed at item c
+gives (Some agreed) at item c =
+    gives_in (context_for agreed item.key.class (syntax_uid item.key.syntax)) agreed at item c
 gives None at item c = quiet c
 
 -- a UID is 1 to 64 bytes, each from 21H to 7EH
@@ -310,7 +379,8 @@ pushes at c = Asks (NextFor c.peer at.now) (job (due at c))
 -- ---- a rejection, at a requestor: the first due row is settled as broken
 
 abbrev pub settles_refused : Moment → Text → Core → Reaction
-settles_refused at uid c = Asks (Settle uid c.peer Broken at.now) (settling (Ends (effect (Close ∷ []) c)) (Ends (effect (Close ∷ []) (desk_failed c))))
+settles_refused at uid c = Asks (Settle uid c.peer Broken at.now)
+    (settling (Ends (effect (Close ∷ []) c)) (Ends (effect (Close ∷ []) (desk_failed c))))
 
 abbrev pub refused : Moment → Core → Result (Option Job) LedgerFault → Reaction
 refused at c (Ok (Some item)) = settles_refused at item.uid c
@@ -339,7 +409,11 @@ reason_of told = 2
 
 -- in a collision of releases the requestor answers at once, and the acceptor waits (AR-8)
 abbrev pub collides : ℕ → Core → Reaction
-collides now c = if is_requestor c then Ends (effect (write (pdu.ReleaseRp ∷ []) ∷ []) (released (stepped_by ReleaseResponse now c))) else quiet c
+collides now c =
+    if is_requestor c
+    then
+    Ends (effect (write (pdu.ReleaseRp ∷ []) ∷ []) (released (stepped_by ReleaseResponse now c)))
+    else quiet c
 
 -- an A-ABORT that was read is noted, also where the table has nothing to tell the user (AA-2)
 abbrev pub noted : Told → Core → Core
@@ -353,11 +427,14 @@ acts Ae6 at (Plain (Request rq)) c = decides_at c.site at rq c
 acts Dt1 at told c = pushes at c
 acts Dt2 at told c = hears told at c
 acts Ar6 at told c = hears told at c
-acts Ar1 at told c = Ends (effect (write (pdu.ReleaseRq ∷ []) ∷ []) (record c { awaits = Some at.now }))
-acts Ar2 at told c = leaves at (write (pdu.ReleaseRp ∷ []) ∷ []) (released (stepped_by ReleaseResponse at.now c))
+acts Ar1 at told c =
+    Ends (effect (write (pdu.ReleaseRq ∷ []) ∷ []) (record c { awaits = Some at.now }))
+acts Ar2 at told c =
+    leaves at (write (pdu.ReleaseRp ∷ []) ∷ []) (released (stepped_by ReleaseResponse at.now c))
 acts Ar3 at told c = Ends (effect (Close ∷ []) (released c))
 acts Ar8 at told c = collides at.now c
-acts Ar10 at told c = Ends (effect (write (pdu.ReleaseRp ∷ []) ∷ []) (released (stepped_by ReleaseResponse at.now c)))
+acts Ar10 at told c =
+    Ends (effect (write (pdu.ReleaseRp ∷ []) ∷ []) (released (stepped_by ReleaseResponse at.now c)))
 acts Aa1 at told c = leaves at (write (abort_pdu 0 0 ∷ []) ∷ []) (aborted c)
 acts Aa2 at told c = leaves at (Close ∷ []) (noted told c)
 acts Aa3 at told c = leaves at (Close ∷ []) (aborted c)
@@ -399,7 +476,9 @@ event_of_plain Unknown at c = Some InvalidPdu
 event_of_plain Invalid at c = Some InvalidPdu
 event_of_plain Ended at c = Some TransportClosed
 event_of_plain Late at c =
-    if next_expired c.phase at.now then Some ArtimExpired else if is_impatient c at.now then Some AbortRequest else None
+    if next_expired c.phase at.now
+    then Some ArtimExpired
+    else if is_impatient c at.now then Some AbortRequest else None
 event_of_plain AbortAsked at c = Some AbortRequest
 event_of_plain ReleaseAsked at c = if is_idle c then Some ReleaseRequest else None
 event_of_plain PushAsked at c = if is_free c then Some DataRequest else None

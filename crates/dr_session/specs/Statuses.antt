@@ -1,4 +1,5 @@
--- Worked figures of the statuses that a C-STORE-RQ is answered, in a context for CT images: of two causes the first counts.
+-- Worked figures of the statuses that a C-STORE-RQ is answered, in a context for CT images: of two
+-- causes the first counts.
 use Rattle.std.specs.Prelude.{◌≡◌, ℕ, List, [], ◌∷◌, codes, Ok, Err}
 use Rattle.dr_base.specs.Texts.{Text}
 use Rattle.dr_base.specs.declared.syntax.Syntax.TheVariants.{Explicit}
@@ -25,7 +26,11 @@ uid = codes "1.2.3.4"
 
 -- an image of that class and instance
 abbrev pub an_image : Text → Text → Job
-an_image class instance = record { uid = instance; key = record { class = class; syntax = Explicit; modality = codes "CT"; station = [] }; body = [] }
+an_image class instance = record {
+  uid = instance;
+  key = record { class = class; syntax = Explicit; modality = codes "CT"; station = [] };
+  body = [];
+}
 
 abbrev pub answered : Core → Text → Text → Found → Reaction
 answered c class instance found = stores c 1 image 7 class instance found
@@ -40,7 +45,9 @@ ClassIsFirst = (c : Core)
 
 -- a data set that is too large isn't read, whatever the transfer syntax: here it is no known one
 abbrev pub SizeIsBeforeReading : Type 0
-SizeIsBeforeReading = FindsIn other body.TooLarge TooLarge × ((found : Found) → FindsIn other body.TooLarge found → found ≡ TooLarge)
+SizeIsBeforeReading =
+    FindsIn other body.TooLarge TooLarge
+    × ((found : Found) → FindsIn other body.TooLarge found → found ≡ TooLarge)
     × ((c : Core) → answered c image uid TooLarge ≡ Ends (stored c 1 7 image uid 0xA700))
 
 -- a data set that can't be read, or that names no instance, has no UIDs that could differ
@@ -48,7 +55,8 @@ abbrev pub ReadingIsBeforeUids : Type 0
 ReadingIsBeforeUids = Finds (Err items.Data) Unreadable × Finds (Err items.NoUid) Unreadable
     × ((c : Core) → answered c image uid Unreadable ≡ Ends (stored c 1 7 image uid 0xC000))
 
--- another instance or another class than the command's isn't brought: so it doesn't matter that the desk has no line for it
+-- another instance or another class than the command's isn't brought: so it doesn't matter that the
+-- desk has no line for it
 abbrev pub UidsAreBeforeArrival : Type 0
 UidsAreBeforeArrival = (c : Core)
     → (answered c image uid (Read (an_image image other)) ≡ Ends (stored c 1 7 image uid 0xA900))
@@ -59,10 +67,15 @@ abbrev pub brought_with : Core → DeskAnswer → List (DeskCall × DeskAnswer)
 brought_with c answer = (Arrive c.peer (an_image image uid), answer) ∷ []
 
 abbrev pub by_reply : Core → DeskAnswer → ℕ → Type 0
-by_reply c answer status = Makes (answered c image uid (Read (an_image image uid))) (brought_with c answer) (stored c 1 7 image uid status)
+by_reply c answer status = Makes (answered c image uid (Read (an_image image uid)))
+    (brought_with c answer) (stored c 1 7 image uid status)
 
 abbrev pub RepliesDecide : Type 0
-RepliesDecide = (c : Core)
-    → by_reply c (Arrival (Ok New)) 0x0000 × by_reply c (Arrival (Ok Again)) 0x0000
-    × by_reply c (Arrival (Err fault.NoLine)) 0xC0F0 × by_reply c (Arrival (Err fault.Conflict)) 0xC0F1
-    × by_reply c (Arrival (Err fault.Store)) 0xA700 × by_reply c (Arrival (Err fault.Memory)) 0xA700
+RepliesDecide =
+    (c : Core)
+    → by_reply c (Arrival (Ok New)) 0x0000
+    × by_reply c (Arrival (Ok Again)) 0x0000
+    × by_reply c (Arrival (Err fault.NoLine)) 0xC0F0
+    × by_reply c (Arrival (Err fault.Conflict)) 0xC0F1
+    × by_reply c (Arrival (Err fault.Store)) 0xA700
+    × by_reply c (Arrival (Err fault.Memory)) 0xA700

@@ -33,7 +33,8 @@ use Rattle.dr_session.specs.declared.ends.Input.TheVariants.{Acceptance, Value}
 use Rattle.dr_session.specs.declared.ends.Found.{Found}
 use Rattle.dr_session.specs.declared.ends.Found.TheVariants.{Read, Unreadable, TooLarge}
 use Rattle.dr_session.specs.declared.ends.Told.{Told}
-use Rattle.dr_session.specs.declared.ends.Told.TheVariants.{Plain, Quiet, Fault, Strange, Store, Whole, Agreement}
+use Rattle.dr_session.specs.declared.ends.Told.TheVariants.{Plain, Quiet, Fault, Strange, Store}
+use Rattle.dr_session.specs.declared.ends.Told.TheVariants.{Whole, Agreement}
 use Rattle.dr_session.specs.declared.ends.Core.{Core}
 
 abbrev pub state_at : Core → State
@@ -51,7 +52,10 @@ Finds (Err items.Memory) found = ⊥
 
 -- it is read by the transfer syntax of its context; by another than the two it can't be
 abbrev pub FindsIn : Text → Body → Found → Type 0
-FindsIn syntax (body.Whole text) found = ((s : Syntax) × (read : Result Job ItemFault) × (syntax ≡ syntax_uid s) × ReadsItem s text read × Finds read found)
+FindsIn syntax (body.Whole text) found =
+    ((s : Syntax)
+    × (read : Result Job ItemFault)
+    × (syntax ≡ syntax_uid s) × ReadsItem s text read × Finds read found)
     ⊎ (((s : Syntax) → syntax ≢ syntax_uid s) × (found ≡ Unreadable))
 FindsIn syntax body.TooLarge found = found ≡ TooLarge
 
@@ -61,7 +65,8 @@ NamesSyntax uid syntax = MatchOption syntax (NamesNoSyntax uid) (λ s. uid ≡ s
 
 -- by the syntax that the context's transfer syntax names
 abbrev pub FindsAs : Option Syntax → Body → Found → Type 0
-FindsAs (Some s) (body.Whole text) found = (read : Result Job ItemFault) × ReadsItem s text read × Finds read found
+FindsAs (Some s) (body.Whole text) found =
+    (read : Result Job ItemFault) × ReadsItem s text read × Finds read found
 FindsAs None (body.Whole text) found = found ≡ Unreadable
 FindsAs s body.TooLarge found = found ≡ TooLarge
 
@@ -83,7 +88,9 @@ Says x (Err fault) told = told ≡ Fault
 abbrev pub TellsIn : Option Pair → Core → Pdv → Told → Stage → Type 0
 TellsIn None c p told stage = (told ≡ Strange) × (stage ≡ c.assembly.stage)
 TellsIn (Some x) c p told stage =
-    (answer : Result (Option Message) DimseFault) × Takes c.assembly.awaited c.assembly.stage p answer stage × Says x answer told
+    (answer : Result (Option Message) DimseFault)
+    × Takes c.assembly.awaited c.assembly.stage p answer stage
+    × Says x answer told
 
 abbrev pub TellsValue : Option Agreed → Core → Pdv → Told → Stage → Type 0
 TellsValue None c p told stage = (told ≡ Strange) × (stage ≡ c.assembly.stage)
@@ -95,10 +102,12 @@ TakesData s = (s ≡ Sta6) ⊎ (s ≡ Sta7)
 
 -- ---- an acceptance
 
--- what it agrees on with the request that was proposed; an end that awaits an answer has proposed one
+-- what it agrees on with the request that was proposed; an end that awaits an answer has proposed
+-- one
 abbrev pub TellsAcceptance : Option AssociateRq → AssociateAc → Told → Type 0
 TellsAcceptance None ac told = told ≡ Plain (Acceptance ac)
-TellsAcceptance (Some rq) ac told = (answer : Result Agreed NegoFault) × Concludes rq ac answer × (told ≡ Agreement answer)
+TellsAcceptance (Some rq) ac told =
+    (answer : Result Agreed NegoFault) × Concludes rq ac answer × (told ≡ Agreement answer)
 
 -- ---- any input
 
@@ -106,7 +115,8 @@ TellsAcceptance (Some rq) ac told = (answer : Result Agreed NegoFault) × Conclu
 abbrev pub Looks : Option Action → Core → Input → Told → Stage → Type 0
 Looks (Some Dt2) c (Value p) told stage = TellsValue c.agreed c p told stage
 Looks (Some Ar6) c (Value p) told stage = TellsValue c.agreed c p told stage
-Looks (Some Ae3) c (Acceptance ac) told stage = TellsAcceptance c.proposed ac told × (stage ≡ c.assembly.stage)
+Looks (Some Ae3) c (Acceptance ac) told stage =
+    TellsAcceptance c.proposed ac told × (stage ≡ c.assembly.stage)
 Looks a c i told stage = (told ≡ Plain i) × (stage ≡ c.assembly.stage)
 
 abbrev pub event_of_input : Input → Option Event

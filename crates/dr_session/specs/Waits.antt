@@ -12,9 +12,13 @@ use Rattle.dr_session.specs.Ends.{accepting}
 use Rattle.dr_session.specs.Plays.{Reacts, at_moment}
 use Rattle.dr_session.specs.Reactions.{effect}
 
--- At a late mark 30,000 ms or more behind the moment when the connection came, however long it had waited for somebody
--- to serve it, the end closes it and is gone. Before, nothing
--- is done. Nothing is called.
+-- At a late mark 30,000 ms or more behind the moment when the connection came, however long it had
+-- waited for somebody to serve it, the end closes it and is gone. Before, nothing is done. Nothing
+-- is called.
 abbrev pub ClosesAfterWaiting : {S : Type 0} → (S → DeskCall → DeskAnswer → S → Type 0) → Type 0
-ClosesAfterWaiting {S} step = (site : Part) (opened : ℕ) (at : Moment) (s t : S) (x : Effect) → Reacts step (accepting site opened) (at_moment at Late) s x t
-    → (t ≡ s) × (opened + 30000 ≤ at.now → (x.acts ≡ Close ∷ []) × (state_of x.core.phase ≡ Sta1)) × (at.now < opened + 30000 → x ≡ effect [] (accepting site opened))
+ClosesAfterWaiting {S} step =
+    (site : Part) (opened : ℕ) (at : Moment) (s t : S) (x : Effect)
+    → Reacts step (accepting site opened) (at_moment at Late) s x t
+    → (t ≡ s)
+    × (opened + 30000 ≤ at.now → (x.acts ≡ Close ∷ []) × (state_of x.core.phase ≡ Sta1))
+    × (at.now < opened + 30000 → x ≡ effect [] (accepting site opened))

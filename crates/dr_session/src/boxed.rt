@@ -10,8 +10,8 @@ use dr_base::Text;
 use std::alloc::{AllocError, Global};
 use std::marker::Model;
 
-/// One end without the bytes that it keeps, on the heap: at each input a core goes through a dozen calls, and so it moves as
-/// a pointer. Contracts see the core.
+/// One end without the bytes that it keeps, on the heap: at each input a core goes through a dozen
+/// calls, and so it moves as a pointer. Contracts see the core.
 #[derive(Drop)]
 pub struct BoxedCore {
     core: Box<Core>,

@@ -6,13 +6,15 @@ use crate::port::DeskPort;
 use dr_base::Text;
 use dr_ledger::{Arrived, Item, Job, LedgerFault, Outcome};
 
-/// It keeps the status of the response that settles the echo. Nothing is due there, and nothing arrives.
+/// It keeps the status of the response that settles the echo. Nothing is due there, and nothing
+/// arrives.
 #[derive(Drop)]
 pub struct EchoDesk {
     pub status: Option<u16>,
 }
 
-/// How an echo ended, and the status of the response; none where no response came or the context wasn't accepted.
+/// How an echo ended, and the status of the response; none where no response came or the context
+/// wasn't accepted.
 #[derive(Clone, Copy, PartialEq, Eq, Debug)]
 pub struct Echoed {
     pub ended: Ended,

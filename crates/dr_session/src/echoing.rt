@@ -47,11 +47,7 @@ pub fn ask_echo(alloc: Global, core: BoxedCore, now: u64) -> Result<Effect, Allo
         asked: Asked::Echo,
         uid: Text::empty(alloc),
     };
-    act_once(
-        alloc,
-        action,
-        core.await_response(pending, now),
-    )
+    act_once(alloc, action, core.await_response(pending, now))
 }
 
 /// A C-ECHO-RQ.
@@ -63,7 +59,8 @@ fn write_echo(
     class: Text,
 ) -> Result<LinkAction, AllocError>
     requires { class ≡ verification }
-    ensures { IfOk result (λ a. a ≡ write (command_pdus agreed.now.limit context (EchoRq id verification false))) }
+    ensures { IfOk result (λ a.
+        a ≡ write (command_pdus agreed.now.limit context (EchoRq id verification false))) }
 {
     let command = Command::EchoRq {
         id,

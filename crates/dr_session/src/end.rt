@@ -5,7 +5,10 @@ ghost use Rattle.dr_plan_model.specs.Formed.{IsName};
 ghost use Rattle.dr_nego.specs.Proposing.{echo_proposal};
 ghost use Rattle.dr_pdu.specs.Written.{Fits};
 ghost use Rattle.dr_pdu.specs.declared.pdu.Pdu.TheVariants as pdus;
-ghost use Rattle.dr_session.specs.Ends.{accepting, requesting, requesting_echo, begins, unmarked as no_marks, OpensTo, Meets, HearsOf, HearsBytes, LosesIn, TakesCore, TakesFree, EchoesIn, is_free_in, is_dry_in, state_in, over_of, ended_by};
+ghost use Rattle.dr_session.specs.Ends.{accepting, requesting, requesting_echo, begins};
+ghost use Rattle.dr_session.specs.Ends.{unmarked as no_marks, OpensTo, Meets, HearsOf, HearsBytes};
+ghost use Rattle.dr_session.specs.Ends.{LosesIn, TakesCore, TakesFree, EchoesIn, is_free_in};
+ghost use Rattle.dr_session.specs.Ends.{is_dry_in, state_in, over_of, ended_by};
 ghost use Rattle.dr_session.specs.Pendings.{pending_in};
 ghost use Rattle.dr_session.specs.Reactions.{write};
 
@@ -26,8 +29,8 @@ use dr_ulstate::{Assoc, Next, Opening, State};
 use std::alloc::{AllocError, Global};
 use std::marker::Model;
 
-/// One end of a link: it keeps the bytes that end no PDU, and what it agreed on and is about. Calls give what the link's
-/// owner is to do, in order. After want of memory it is over.
+/// One end of a link: it keeps the bytes that end no PDU, and what it agreed on and is about. Calls
+/// give what the link's owner is to do, in order. After want of memory it is over.
 #[derive(Drop)]
 pub struct End {
     alloc: Global,
@@ -74,8 +77,8 @@ impl End {
         })
     }
 
-    /// The requestor of an association for a hop of the site, whose transport connection is open at this moment, in
-    /// milliseconds. Its request goes out at once.
+    /// The requestor of an association for a hop of the site, whose transport connection is open at
+    /// this moment, in milliseconds. Its request goes out at once.
     ///
     /// Errors: NoHop where the site has no hop to that node; Memory.
     pub fn request(
@@ -92,8 +95,8 @@ impl End {
         Ok(opened)
     }
 
-    /// The requestor of an echo between nodes of those names. It proposes Verification in context 1, in the implicit syntax
-    /// alone, and takes P-DATA-TF PDUs of at most 16,384 bytes.
+    /// The requestor of an echo between nodes of those names. It proposes Verification in context
+    /// 1, in the implicit syntax alone, and takes P-DATA-TF PDUs of at most 16,384 bytes.
     pub fn request_echo(
         alloc: Global,
         caller: &Text,
@@ -103,7 +106,8 @@ impl End {
         requires caller { IsName caller.now }
         requires called { IsName called.now }
         ensures end { IfOk result (λ r. r.0 ≡ requesting_echo caller.now called.now now) }
-        ensures actions { IfOk result (λ r. r.1 ≡ write (pdus.AssociateRq (echo_proposal caller.now called.now) ∷ []) ∷ []) }
+        ensures actions { IfOk result (λ r.
+            r.1 ≡ write (pdus.AssociateRq (echo_proposal caller.now called.now) ∷ []) ∷ []) }
     {
         let proposal = propose_echo(alloc, caller, called)?;
         let opened = open(alloc, ECHO_LIMIT, None, called, proposal, now)?;
@@ -144,7 +148,8 @@ impl End {
         Some(Over::Ended(ended(marks)))
     }
 
-    /// Whether it is a requestor's end that may send: established, with nothing pending. It takes no memory.
+    /// Whether it is a requestor's end that may send: established, with nothing pending. It takes
+    /// no memory.
     pub fn is_free(&self) -> bool
         ensures { result ≡ is_free_in self.now.core }
     {
@@ -177,7 +182,8 @@ impl End {
         }
     }
 
-    /// A C-ECHO-RQ is sent, where it is a requestor's end that may send and has a context of Verification.
+    /// A C-ECHO-RQ is sent, where it is a requestor's end that may send and has a context of
+    /// Verification.
     pub fn echo(&mut self, now: u64) -> Result<Seq<LinkAction>, AllocError>
         ensures { EchoesIn self.old.core now self.old result self.new }
     {
@@ -190,8 +196,8 @@ impl End {
         Ok(acts)
     }
 
-    /// What comes over the link at a moment (of at most 2^62 milliseconds), while the node has so many other associations
-    /// open.
+    /// What comes over the link at a moment (of at most 2^62 milliseconds), while the node has so
+    /// many other associations open.
     ///
     /// Errors: AllocError, after which it is over; some of the first calls may have been made.
     pub fn hear<P: DeskPort>(
@@ -212,7 +218,8 @@ impl End {
         }
     }
 
-    /// The first row that is due is sent, where it is a requestor's end that is established with nothing pending.
+    /// The first row that is due is sent, where it is a requestor's end that is established with
+    /// nothing pending.
     pub fn push<P: DeskPort>(
         &mut self,
         port: &mut P,
@@ -236,7 +243,8 @@ impl End {
         self.meet(Input::AbortAsked, port, at)
     }
 
-    /// The release is asked for, where it is a requestor's end that is established with nothing pending.
+    /// The release is asked for, where it is a requestor's end that is established with nothing
+    /// pending.
     pub fn release<P: DeskPort>(
         &mut self,
         port: &mut P,
@@ -276,7 +284,8 @@ impl End {
         at: Moment,
     ) -> Result<Seq<LinkAction>, AllocError>
         requires { at.now ≤ 2 ^ 62 }
-        ensures { HearsBytes P.step self.old.core at piece.now self.old port.old result self.new port.new }
+        ensures { HearsBytes P.step self.old.core at piece.now self.old port.old result self.new
+            port.new }
     {
         let Some(core) = self.take_core() else {
             return Ok(Seq::new(self.alloc));

@@ -9,15 +9,16 @@ use dr_pdu::{Abort, AssociateAc, AssociateRj, AssociateRq, Pdv};
 use dr_site::Site;
 use dr_ulstate::Next;
 
-/// When something happens, in milliseconds, and how many other associations the node has accepted and not left.
+/// When something happens, in milliseconds, and how many other associations the node has accepted
+/// and not left.
 #[derive(Clone, Copy, PartialEq, Eq, Debug)]
 pub struct Moment {
     pub now: u64,
     pub others: usize,
 }
 
-/// What happens at an end: a PDU is heard (a P-DATA-TF counts as its values, one after the other), the bytes are no
-/// PDU, the link ends, time has passed, or something is asked of it.
+/// What happens at an end: a PDU is heard (a P-DATA-TF counts as its values, one after the other),
+/// the bytes are no PDU, the link ends, time has passed, or something is asked of it.
 #[derive(Drop)]
 pub enum Input {
     Request(AssociateRq),
@@ -128,7 +129,8 @@ pub enum Asked {
     Echo,
 }
 
-/// A request that awaits its response: that of the same service, with this message id, in this presentation context.
+/// A request that awaits its response: that of the same service, with this message id, in this
+/// presentation context.
 #[derive(Drop)]
 pub struct Pending {
     pub id: u16,

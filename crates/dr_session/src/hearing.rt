@@ -2,7 +2,9 @@
 ghost use Rattle.std.specs.Prelude.{◌≡◌, ◌∷◌, [], ◌≤◌, ◌^◌, IfOk, OnErr, map};
 ghost use Rattle.std.specs.List.{AllByRecursion, flat_map};
 ghost use Rattle.dr_session.specs.Fits.{InputFits, PduFits};
-ghost use Rattle.dr_session.specs.Plays.{Reacts, Stops, Plays, PlaysMore, BreaksOff, PlaysBytes, BreaksBytes, PlaysOn, BreaksOn, EndsThere, at_moment, inputs_of, input_of};
+ghost use Rattle.dr_session.specs.Plays.{Reacts, Stops, Plays, PlaysMore, BreaksOff, PlaysBytes};
+ghost use Rattle.dr_session.specs.Plays.{BreaksBytes, PlaysOn, BreaksOn, EndsThere, at_moment};
+ghost use Rattle.dr_session.specs.Plays.{inputs_of, input_of};
 
 use crate::boxed::BoxedCore;
 use crate::ends::{Effect, Input, Moment};
@@ -40,8 +42,10 @@ fn hear_one<P: DeskPort>(
 ) -> Result<Effect, AllocError>
     requires now { at.now ≤ 2 ^ 62 }
     requires fits { InputFits input }
-    ensures done { IfOk result (λ e. Plays P.step core (at_moment at input ∷ []) port.old e.acts e.core port.new) }
-    ensures broke { OnErr result (BreaksOff P.step core (at_moment at input ∷ []) port.old port.new) }
+    ensures done { IfOk result (λ e.
+        Plays P.step core (at_moment at input ∷ []) port.old e.acts e.core port.new) }
+    ensures broke { OnErr result
+        (BreaksOff P.step core (at_moment at input ∷ []) port.old port.new) }
 {
     let done = react(alloc, input, core, port, at)?;
     Ok(done)
@@ -56,8 +60,11 @@ fn hear_values<P: DeskPort>(
     at: Moment,
 ) -> Result<Effect, AllocError>
     requires { at.now ≤ 2 ^ 62 }
-    ensures done { IfOk result (λ e. Plays P.step core (map (at_moment at) (map Input.Value pdvs.items)) port.old e.acts e.core port.new) }
-    ensures broke { OnErr result (BreaksOff P.step core (map (at_moment at) (map Input.Value pdvs.items)) port.old port.new) }
+    ensures done { IfOk result (λ e. Plays P.step core
+        (map (at_moment at) (map Input.Value pdvs.items)) port.old e.acts e.core port.new) }
+    ensures broke { OnErr result
+        (BreaksOff P.step core (map (at_moment at) (map Input.Value pdvs.items)) port.old
+        port.new) }
 {
     let mut core = core;
     let mut acts = Vec::new(alloc);
@@ -82,8 +89,10 @@ fn hear_pdu<P: DeskPort>(
 ) -> Result<Effect, AllocError>
     requires now { at.now ≤ 2 ^ 62 }
     requires fits { PduFits pdu }
-    ensures done { IfOk result (λ e. Plays P.step core (map (at_moment at) (inputs_of pdu)) port.old e.acts e.core port.new) }
-    ensures broke { OnErr result (BreaksOff P.step core (map (at_moment at) (inputs_of pdu)) port.old port.new) }
+    ensures done { IfOk result (λ e.
+        Plays P.step core (map (at_moment at) (inputs_of pdu)) port.old e.acts e.core port.new) }
+    ensures broke { OnErr result
+        (BreaksOff P.step core (map (at_moment at) (inputs_of pdu)) port.old port.new) }
 {
     match pdu {
         Pdu::AssociateRq(rq) => hear_one(alloc, Input::Request(rq), core, port, at),
@@ -111,8 +120,11 @@ fn hear_pdus<P: DeskPort>(
 ) -> Result<Effect, AllocError>
     requires now { at.now ≤ 2 ^ 62 }
     requires fits { AllByRecursion PduFits pdus.items }
-    ensures done { IfOk result (λ e. Plays P.step core (map (at_moment at) (flat_map inputs_of pdus.items)) port.old e.acts e.core port.new) }
-    ensures broke { OnErr result (BreaksOff P.step core (map (at_moment at) (flat_map inputs_of pdus.items)) port.old port.new) }
+    ensures done { IfOk result (λ e. Plays P.step core
+        (map (at_moment at) (flat_map inputs_of pdus.items)) port.old e.acts e.core port.new) }
+    ensures broke { OnErr result
+        (BreaksOff P.step core (map (at_moment at) (flat_map inputs_of pdus.items)) port.old
+        port.new) }
 {
     let mut core = core;
     let mut acts = Vec::new(alloc);
@@ -137,7 +149,8 @@ fn fault_input(fault: PduFault) -> Input
     }
 }
 
-/// A piece of the bytes. A fault behind whole PDUs is met here too, so that cuts make no difference.
+/// A piece of the bytes. A fault behind whole PDUs is met here too, so that cuts make no
+/// difference.
 pub fn hear<P: DeskPort>(
     alloc: Global,
     ear: &mut Feeder,
@@ -147,7 +160,8 @@ pub fn hear<P: DeskPort>(
     at: Moment,
 ) -> Result<Effect, AllocError>
     requires { at.now ≤ 2 ^ 62 }
-    ensures done { IfOk result (λ e. PlaysBytes P.step at ear.old core piece.now port.old ear.new e port.new) }
+    ensures done { IfOk result (λ e.
+        PlaysBytes P.step at ear.old core piece.now port.old ear.new e port.new) }
     ensures broke { OnErr result (BreaksBytes P.step at ear.old core piece.now port.old port.new) }
 {
     match ear.feed(piece) {
@@ -178,7 +192,8 @@ fn hear_on<P: DeskPort>(
     requires now { at.now ≤ 2 ^ 62 }
     requires fits { AllByRecursion PduFits pdus }
     requires longest { EndsThere ear.old }
-    ensures done { IfOk result (λ e. PlaysOn P.step at ear.old pdus core port.old ear.new e port.new) }
+    ensures done { IfOk result (λ e.
+        PlaysOn P.step at ear.old pdus core port.old ear.new e port.new) }
     ensures broke { OnErr result (BreaksOn P.step at ear.old pdus core port.old port.new) }
 {
     let first = hear_pdus(alloc, pdus.into_vec(), core, port, at)?;
@@ -203,8 +218,10 @@ fn hear_more<P: DeskPort>(
 ) -> Result<Effect, AllocError>
     requires now { at.now ≤ 2 ^ 62 }
     requires fits { InputFits input }
-    ensures done { IfOk result (λ e. PlaysMore P.step first (at_moment at input) port.old e port.new) }
-    ensures broke { OnErr result (BreaksOff P.step first.core (at_moment at input ∷ []) port.old port.new) }
+    ensures done { IfOk result (λ e.
+        PlaysMore P.step first (at_moment at input) port.old e port.new) }
+    ensures broke { OnErr result
+        (BreaksOff P.step first.core (at_moment at input ∷ []) port.old port.new) }
 {
     let Effect { acts, core } = first;
     let last = hear_one(alloc, input, core, port, at)?;

@@ -1,4 +1,5 @@
-//! One end of a link: what it does with what it hears and is asked, and the calls that it makes on a desk.
+//! One end of a link: what it does with what it hears and is asked, and the calls that it makes on
+//! a desk.
 #![tactic(auto)]
 
 pub mod boxed;

@@ -5,8 +5,8 @@ ghost use Rattle.dr_session.specs.Links.{Counts, IsLinkFault};
 
 use crate::ends::Heard;
 
-/// One end of a transport connection. Its relations say what a call did; a socket's claim nothing. It counts its
-/// failures, and the count never falls.
+/// One end of a transport connection. Its relations say what a call did; a socket's claim nothing.
+/// It counts its failures, and the count never falls.
 pub trait Link {
     ghost hears: { Self → Heard → Self → Type 0 };
 

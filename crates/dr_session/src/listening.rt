@@ -11,8 +11,9 @@ use dr_pdu::Pdv;
 use std::alloc::Global;
 use std::marker::Model;
 
-/// An assembly in which the command whose data set is under way is one that was read, so that it can be answered. The data
-/// set of a C-STORE-RQ is scanned while it comes. Contracts see it as the assembly.
+/// An assembly in which the command whose data set is under way is one that was read, so that it
+/// can be answered. The data set of a C-STORE-RQ is scanned while it comes. Contracts see it as the
+/// assembly.
 #[derive(Drop)]
 pub struct Listener {
     hearing: Hearing,
@@ -46,11 +47,13 @@ impl Listener {
         self.hearing.set_awaited(awaited);
     }
 
-    /// One more value, as the assembly takes it, of a context with that transfer syntax. The command of a message that it
-    /// ends can be written, and the scan that comes with it has heard its data set.
+    /// One more value, as the assembly takes it, of a context with that transfer syntax. The
+    /// command of a message that it ends can be written, and the scan that comes with it has heard
+    /// its data set.
     pub fn take(&mut self, pdv: Pdv, syntax: Option<Syntax>) -> Result<Option<Heard>, DimseFault>
         ensures awaited { self.new.awaited ≡ self.old.awaited }
-        ensures takes { Takes self.old.awaited self.old.stage pdv (message_of result) self.new.stage }
+        ensures takes { Takes self.old.awaited self.old.stage pdv (message_of result)
+            self.new.stage }
         ensures fits { IfOk result (λ ended. IfSome ended (λ h. Fits h.message.command)) }
         ensures scans { IfOk result (λ ended. IfSome ended (λ h. HasScan syntax h)) }
     {

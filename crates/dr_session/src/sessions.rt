@@ -1,7 +1,10 @@
 //! Sessions over any link.
 ghost use Rattle.std.specs.Prelude.{◌≡◌, ◌≤◌, ◌<◌, ◌^◌, ◌+◌, false};
 ghost use Rattle.dr_session.specs.Ends.{accepting, begins};
-ghost use Rattle.dr_session.specs.Links.{Counts, PerformsOne, PerformsOr, CarriesOut, GoesOn, EndsAs, DeliversAs, EchoesAs, StartsAs, Finishes, IsFaultBy, IsLinkFailure, IsMoment, IsWished, asked_by, place, reads_by, refusal_of};
+ghost use Rattle.dr_session.specs.Links.{Counts, PerformsOne, PerformsOr, CarriesOut, GoesOn};
+ghost use Rattle.dr_session.specs.Links.{EndsAs, DeliversAs, EchoesAs, StartsAs, Finishes};
+ghost use Rattle.dr_session.specs.Links.{IsFaultBy, IsLinkFailure, IsMoment, IsWished, asked_by};
+ghost use Rattle.dr_session.specs.Links.{place, reads_by, refusal_of};
 ghost use Rattle.dr_plan_model.specs.Formed.{IsName};
 ghost use Rattle.dr_session.specs.declared.wishes.Kind.TheVariants as kinds;
 ghost use Rattle.dr_session.specs.declared.wishes.Wish.TheVariants as wishes;
@@ -104,7 +107,8 @@ fn carry_out<L: Link, P: DeskPort>(
     at: Moment,
 ) -> Result<(), SessionFault>
     requires { at.now ≤ 2 ^ 62 }
-    ensures does { CarriesOut L.sends L.closes P.step at actions (place link.old port.old end.old) result (place link.new port.new end.new) }
+    ensures does { CarriesOut L.sends L.closes P.step at actions (place link.old port.old end.old)
+        result (place link.new port.new end.new) }
     ensures counts { Counts (IsLinkFailure result) (L.failed link.old) (L.failed link.new) }
 {
     if perform(actions.as_slice(), link) {
@@ -129,7 +133,9 @@ fn hear_next<L: Link, P: DeskPort, C: Clock>(
     clock: &C,
     others: usize,
 ) -> Result<(), SessionFault>
-    ensures does { GoesOn L.hears L.sends L.closes P.step (C.tells clock.now) others (IsWished wishes.Listen) result (place link.old port.old end.old) (place link.new port.new end.new) }
+    ensures does { GoesOn L.hears L.sends L.closes P.step (C.tells clock.now) others
+        (IsWished wishes.Listen) result (place link.old port.old end.old)
+        (place link.new port.new end.new) }
     ensures counts { Counts (IsLinkFailure result) (L.failed link.old) (L.failed link.new) }
 {
     let heard = link.recv();
@@ -150,7 +156,9 @@ fn push_next<L: Link, P: DeskPort, C: Clock>(
     clock: &C,
     others: usize,
 ) -> Result<(), SessionFault>
-    ensures does { GoesOn L.hears L.sends L.closes P.step (C.tells clock.now) others (IsWished wishes.Push) result (place link.old port.old end.old) (place link.new port.new end.new) }
+    ensures does { GoesOn L.hears L.sends L.closes P.step (C.tells clock.now) others
+        (IsWished wishes.Push) result (place link.old port.old end.old)
+        (place link.new port.new end.new) }
     ensures counts { Counts (IsLinkFailure result) (L.failed link.old) (L.failed link.new) }
 {
     let at = moment(clock, others);
@@ -166,7 +174,9 @@ fn ask_release<L: Link, P: DeskPort, C: Clock>(
     clock: &C,
     others: usize,
 ) -> Result<(), SessionFault>
-    ensures does { GoesOn L.hears L.sends L.closes P.step (C.tells clock.now) others (IsWished wishes.Release) result (place link.old port.old end.old) (place link.new port.new end.new) }
+    ensures does { GoesOn L.hears L.sends L.closes P.step (C.tells clock.now) others
+        (IsWished wishes.Release) result (place link.old port.old end.old)
+        (place link.new port.new end.new) }
     ensures counts { Counts (IsLinkFailure result) (L.failed link.old) (L.failed link.new) }
 {
     let at = moment(clock, others);
@@ -182,7 +192,9 @@ fn ask_echo<L: Link, P: DeskPort, C: Clock>(
     clock: &C,
     others: usize,
 ) -> Result<(), SessionFault>
-    ensures does { GoesOn L.hears L.sends L.closes P.step (C.tells clock.now) others (IsWished wishes.Echo) result (place link.old port.old end.old) (place link.new port.new end.new) }
+    ensures does { GoesOn L.hears L.sends L.closes P.step (C.tells clock.now) others
+        (IsWished wishes.Echo) result (place link.old port.old end.old)
+        (place link.new port.new end.new) }
     ensures counts { Counts (IsLinkFailure result) (L.failed link.old) (L.failed link.new) }
 {
     let at = moment(clock, others);
@@ -199,7 +211,8 @@ fn go_on<L: Link, P: DeskPort, C: Clock>(
     clock: &C,
     others: usize,
 ) -> Result<(), SessionFault>
-    ensures does { GoesOn L.hears L.sends L.closes P.step (C.tells clock.now) others (IsWished wish) result (place link.old port.old end.old) (place link.new port.new end.new) }
+    ensures does { GoesOn L.hears L.sends L.closes P.step (C.tells clock.now) others (IsWished wish)
+        result (place link.old port.old end.old) (place link.new port.new end.new) }
     ensures counts { Counts (IsLinkFailure result) (L.failed link.old) (L.failed link.new) }
 {
     match wish {
@@ -252,7 +265,8 @@ fn run<L: Link, P: DeskPort, C: Clock>(
     clock: &C,
     others: usize,
 ) -> Result<Ended, SessionFault>
-    ensures ends { EndsAs L.hears L.sends L.closes P.step (C.tells clock.now) others kind result (place link.old port.old end.old) link.new port.new }
+    ensures ends { EndsAs L.hears L.sends L.closes P.step (C.tells clock.now) others kind result
+        (place link.old port.old end.old) link.new port.new }
     ensures counts { Counts (IsLinkFailure result) (L.failed link.old) (L.failed link.new) }
 {
     let mut reads = 0;
@@ -272,11 +286,12 @@ fn run<L: Link, P: DeskPort, C: Clock>(
     Err(SessionFault::TooManyReads)
 }
 
-/// Serves an association that the other side asks for, to its end, while the node has accepted so many others: each message
-/// that is heard is brought to the desk once, in order, and just what the end writes is sent, up to a write that fails.
+/// Serves an association that the other side asks for, to its end, while the node has accepted so
+/// many others: each message that is heard is brought to the desk once, in order, and just what the
+/// end writes is sent, up to a write that fails.
 ///
-/// Errors: `Read` and `Write` where the link's failures rose, after what was pending has been settled; `Desk`;
-/// `TooManyReads`; `Memory`.
+/// Errors: `Read` and `Write` where the link's failures rose, after what was pending has been
+/// settled; `Desk`; `TooManyReads`; `Memory`.
 pub fn receive<L: Link, P: DeskPort, C: Clock>(
     alloc: Global,
     link: &mut L,
@@ -285,7 +300,10 @@ pub fn receive<L: Link, P: DeskPort, C: Clock>(
     clock: &C,
     others: usize,
 ) -> Result<Ended, SessionFault>
-    ensures ends { EndsAs L.hears L.sends L.closes P.step (C.tells clock.now) others kinds.Receive result (place link.old port.old (begins site.now.max_pdu (accepting site.now (L.opened_at link.old)))) link.new port.new }
+    ensures ends { EndsAs L.hears L.sends L.closes P.step (C.tells clock.now) others kinds.Receive
+        result
+        (place link.old port.old
+        (begins site.now.max_pdu (accepting site.now (L.opened_at link.old)))) link.new port.new }
     ensures counts { Counts (IsLinkFailure result) (L.failed link.old) (L.failed link.new) }
 {
     let site = site.copy()?;
@@ -305,7 +323,8 @@ fn start<L: Link, P: DeskPort, C: Clock>(
 ) -> Result<Ended, SessionFault>
     requires is { IsMoment (C.tells clock.now) 0 at }
     requires early { at.now ≤ 2 ^ 62 }
-    ensures starts { StartsAs L.hears L.sends L.closes P.step (C.tells clock.now) 0 kind result link.old actions port.old end link.new port.new }
+    ensures starts { StartsAs L.hears L.sends L.closes P.step (C.tells clock.now) 0 kind result
+        link.old actions port.old end link.new port.new }
     ensures counts { Counts (IsLinkFailure result) (L.failed link.old) (L.failed link.new) }
 {
     let mut end = end;
@@ -323,7 +342,8 @@ fn refusal(fault: NegoFault) -> SessionFault
     }
 }
 
-/// Asks for an association for a hop of the site, sends each row that is due (at most 65,535), and releases it.
+/// Asks for an association for a hop of the site, sends each row that is due (at most 65,535), and
+/// releases it.
 ///
 /// Errors: `NoHop` before any call; else those of `receive`.
 pub fn deliver<L: Link, P: DeskPort, C: Clock>(
@@ -334,7 +354,8 @@ pub fn deliver<L: Link, P: DeskPort, C: Clock>(
     clock: &C,
     dest: &Text,
 ) -> Result<Ended, SessionFault>
-    ensures ends { DeliversAs L.hears L.sends L.closes P.step (C.tells clock.now) 0 site.now dest.now result link.old port.old link.new port.new }
+    ensures ends { DeliversAs L.hears L.sends L.closes P.step (C.tells clock.now) 0 site.now
+        dest.now result link.old port.old link.new port.new }
     ensures counts { Counts (IsLinkFailure result) (L.failed link.old) (L.failed link.new) }
 {
     let site = site.copy()?;
@@ -345,8 +366,8 @@ pub fn deliver<L: Link, P: DeskPort, C: Clock>(
     }
 }
 
-/// Asks the node of the second name for an association as the node of the first one, for one echo (PS3.7 9.1.5), and
-/// releases it.
+/// Asks the node of the second name for an association as the node of the first one, for one echo
+/// (PS3.7 9.1.5), and releases it.
 ///
 /// Errors: those of `receive`, but for `Desk`.
 pub fn echo<L: Link, C: Clock>(
@@ -358,7 +379,8 @@ pub fn echo<L: Link, C: Clock>(
 ) -> Result<Echoed, SessionFault>
     requires caller { IsName caller.now }
     requires called { IsName called.now }
-    ensures echoes { EchoesAs L.hears L.sends L.closes (C.tells clock.now) caller.now called.now result link.old link.new }
+    ensures echoes { EchoesAs L.hears L.sends L.closes (C.tells clock.now) caller.now called.now
+        result link.old link.new }
     ensures counts { Counts (IsLinkFailure result) (L.failed link.old) (L.failed link.new) }
 {
     let at = moment(clock, 0);

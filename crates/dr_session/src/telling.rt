@@ -84,7 +84,8 @@ pub fn tell_value(alloc: Global, pdv: Pdv, core: &mut Core) -> Result<Told, Allo
     }
 }
 
-/// A whole message in a context: a store with what its data set was read as in the context's syntax, or another command.
+/// A whole message in a context: a store with what its data set was read as in the context's
+/// syntax, or another command.
 fn tell_message(
     alloc: Global,
     pair: &Pair,
@@ -94,7 +95,8 @@ fn tell_message(
     requires fits { Fits heard.message.command }
     requires names { NamesSyntax pair.now.syntax syntax }
     requires scan { HasScan syntax heard }
-    ensures tells { IfOk result (λ told. SaysOf pair.now heard.message.id heard.message.body heard.message.command told) }
+    ensures tells { IfOk result (λ told.
+        SaysOf pair.now heard.message.id heard.message.body heard.message.command told) }
     ensures fits { IfOk result ToldFits }
 {
     let Heard { message, scan } = heard;

@@ -62,7 +62,8 @@ pub fn write_release_answer(alloc: Global) -> Result<LinkAction, AllocError>
 
 /// A command in a context, in fragments within the other side's limit.
 ///
-/// Errors: AllocError; also where the limit is 1 to 7, which no association is agreed on with (PS3.8 annex D.1).
+/// Errors: AllocError; also where the limit is 1 to 7, which no association is agreed on with
+/// (PS3.8 annex D.1).
 pub fn write_response(
     alloc: Global,
     agreed: &Agreed,
@@ -83,7 +84,8 @@ pub fn write_response(
 
 /// A C-STORE-RQ with its data set.
 ///
-/// Errors: AllocError; also where the limit is 1 to 7, which no association is agreed on with (PS3.8 annex D.1).
+/// Errors: AllocError; also where the limit is 1 to 7, which no association is agreed on with
+/// (PS3.8 annex D.1).
 pub fn write_store(
     alloc: Global,
     agreed: &Agreed,

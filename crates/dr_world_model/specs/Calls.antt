@@ -1,4 +1,5 @@
--- The calls of a node's book in the message world, their replies, and stores that are told to refuse.
+-- The calls of a node's book in the message world, their replies, and stores that are told to
+-- refuse.
 use Rattle.std.specs.Prelude.{◌≡◌, ℕ, ◌⊎◌, true, false, Result, Ok, Err}
 use Rattle.std.specs.FinSet as set
 use Rattle.std.specs.FinSet.{FinSet}
@@ -11,7 +12,8 @@ use Rattle.dr_ledger.specs.declared.fault.LedgerFault.TheVariants as fault
 use Rattle.dr_ledger.specs.declared.item.Outcome.{Outcome}
 use Rattle.dr_ledger.specs.Books.{Book}
 use Rattle.dr_ledger.specs.PlanRoutes.{plan_routing}
-use Rattle.dr_ledger.specs.Replies.{IsAdmitted, IsWaiting, IsHeld, IsOver, Arrives, Settles, Requeues, Forgets}
+use Rattle.dr_ledger.specs.Replies.{IsAdmitted, IsWaiting, IsHeld, IsOver, Arrives, Settles}
+use Rattle.dr_ledger.specs.Replies.{Requeues, Forgets}
 use Rattle.dr_world_model.specs.Worlds.{World, with_book, with_armed}
 
 -- what `arrive` answers to a C-STORE request in the message world
@@ -28,7 +30,8 @@ pub data StoreOutcome : Type 0 where
   Untried : StoreOutcome  -- refused before the store was asked
   Failed : StoreOutcome  -- the store refused
 
--- what each reply came to for the store: want of memory counts as refused before the store was asked
+-- what each reply came to for the store: want of memory counts as refused before the store was
+-- asked
 abbrev pub store_outcome_of : {A : Type 0} → Result A LedgerFault → StoreOutcome
 store_outcome_of (Ok value) = Written
 store_outcome_of (Err fault.NoLine) = Untried
@@ -39,33 +42,41 @@ store_outcome_of (Err fault.NotOver) = Untried
 store_outcome_of (Err fault.Memory) = Untried
 store_outcome_of (Err fault.Store) = Failed
 
--- The nodes that are armed after a call. A line is added only where the node isn't armed. A call whose store fails spends the
--- refusal, if it would have added a line; or the store failed by itself, and then the refusal stands.
+-- The nodes that are armed after a call. A line is added only where the node isn't armed. A call
+-- whose store fails spends the refusal, if it would have added a line; or the store failed by
+-- itself, and then the refusal stands.
 abbrev pub ArmedAfter : Type 0 → FinSet text_cmp → Text → StoreOutcome → FinSet text_cmp → Type 0
 ArmedAfter Would old name Written new = (set.contains old name ≡ false) × (new ≡ old)
 ArmedAfter Would old name Untried new = new ≡ old
-ArmedAfter Would old name Failed new = (new ≡ old) ⊎ (Would × (set.contains old name ≡ true) × (new ≡ set.remove old name))
+ArmedAfter Would old name Failed new =
+    (new ≡ old) ⊎ (Would × (set.contains old name ≡ true) × (new ≡ set.remove old name))
 
 -- the world after a call that left this book at the node
-pub record Called (Would : Type 0) (old : World) (name : Text) (came : StoreOutcome) (book : Book) (new : World) : Type 0 where
+pub record Called (Would : Type 0) (old : World) (name : Text) (came : StoreOutcome) (book : Book)
+    (new : World) : Type 0 where
   pub armed : FinSet text_cmp
   pub store : ArmedAfter Would old.armed name came armed
   pub is : new ≡ with_armed (with_book old name book) armed
 
 -- the caller brings the instance to the node
-pub record Arriving (plan : Network) (old : World) (name caller : Text) (item : Instance) (reply : Reply) (new : World) : Type 0 where
+pub record Arriving (plan : Network) (old : World) (name caller : Text) (item : Instance)
+    (reply : Reply) (new : World) : Type 0 where
   pub book : Book
   pub call : Arrives (plan_routing plan name) caller item (old.books name) reply book
-  pub called : Called (IsAdmitted (plan_routing plan name) caller item (old.books name)) old name (store_outcome_of reply) book new
+  pub called : Called (IsAdmitted (plan_routing plan name) caller item (old.books name)) old name
+      (store_outcome_of reply) book new
 
 -- the node settles the row of the instance and the destination
-pub record Settlement (old : World) (name uid dest : Text) (outcome : Outcome) (answer : Answer) (new : World) : Type 0 where
+pub record Settlement (old : World) (name uid dest : Text) (outcome : Outcome) (answer : Answer)
+    (new : World) : Type 0 where
   pub book : Book
   pub call : Settles uid dest outcome old.time (old.books name) answer book
-  pub called : Called (IsWaiting (old.books name) uid dest) old name (store_outcome_of answer) book new
+  pub called :
+      Called (IsWaiting (old.books name) uid dest) old name (store_outcome_of answer) book new
 
 -- the node puts the held row back
-pub record Requeueing (old : World) (name uid dest : Text) (answer : Answer) (new : World) : Type 0 where
+pub record Requeueing (old : World) (name uid dest : Text) (answer : Answer)
+    (new : World) : Type 0 where
   pub book : Book
   pub call : Requeues uid dest (old.books name) answer book
   pub called : Called (IsHeld (old.books name) uid dest) old name (store_outcome_of answer) book new
@@ -76,7 +87,8 @@ pub record Dropping (old : World) (name uid : Text) (answer : Answer) (new : Wor
   pub call : Forgets uid (old.books name) answer book
   pub called : Called (IsOver (old.books name) uid) old name (store_outcome_of answer) book new
 
--- the status of the C-STORE response for a reply (PS3.4 B.2.3): success, no line, other data under this uid, out of resources
+-- the status of the C-STORE response for a reply (PS3.4 B.2.3): success, no line, other data under
+-- this uid, out of resources
 abbrev pub status_of : Reply → ℕ
 status_of (Ok value) = 0
 status_of (Err fault.NoLine) = 0xC0F0

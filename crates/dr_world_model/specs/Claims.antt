@@ -1,5 +1,6 @@
--- What holds of the message world over a sound plan, after any events: nothing is refused for want of a presentation context, each
--- arrival lies within its rank of its source, what was answered with success is there, and nothing acknowledged is lost.
+-- What holds of the message world over a sound plan, after any events: nothing is refused for want
+-- of a presentation context, each arrival lies within its rank of its source, what was answered
+-- with success is there, and nothing acknowledged is lost.
 use Rattle.std.specs.Prelude.{◌≡◌, ℕ, ◌≤◌, ◌⊎◌, true, List, length, Contains, Some}
 use Rattle.std.specs.FinMap as map
 use Rattle.std.specs.FinSet as set
@@ -14,9 +15,11 @@ use Rattle.dr_ledger.specs.declared.item.Outcome.{Outcome}
 use Rattle.dr_ledger.specs.declared.item.Outcome.TheVariants.{Status, Broken, NoContext}
 use Rattle.dr_ledger.specs.declared.item.Progress.{Progress}
 use Rattle.dr_ledger.specs.declared.item.Progress.TheVariants.{Waiting, Held, Done}
-use Rattle.dr_ledger.specs.Books.{Book, Line, Arrival, Repeat, Settling, Requeuing, Forgetting, Adoption}
+use Rattle.dr_ledger.specs.Books.{Book, Line, Arrival, Repeat, Settling, Requeuing, Forgetting}
+use Rattle.dr_ledger.specs.Books.{Adoption}
 use Rattle.dr_ledger.specs.OneNode.{HasSucceededSince, WasTaken}
-use Rattle.dr_world_model.specs.Worlds.{World, Link, Contexts, Stage, Asking, Answering, Rejecting, Open, Storing, Replying, Gone}
+use Rattle.dr_world_model.specs.Worlds.{World, Link, Contexts, Stage, Asking, Answering, Rejecting}
+use Rattle.dr_world_model.specs.Worlds.{Open, Storing, Replying, Gone}
 use Rattle.dr_world_model.specs.Steps.{IsLink}
 
 -- ---- what a node has
@@ -25,7 +28,8 @@ use Rattle.dr_world_model.specs.Steps.{IsLink}
 abbrev pub Has : World → Text → Instance → Type 0
 Has w name item = map.get (w.books name).items item.uid ≡ Some item
 
--- the node acknowledged this very item to the caller, under the plan in force; it may have forgotten it since
+-- the node acknowledged this very item to the caller, under the plan in force; it may have
+-- forgotten it since
 abbrev pub HadArrival : World → Text → Text → Instance → Type 0
 HadArrival w name caller item = WasTaken (w.books name).lines caller item
 
@@ -43,15 +47,20 @@ pub record IsToSend (b : Book) (item : Instance) (to : Text) : Type 0 where
 abbrev pub WasCarriedOver : World → Text → Instance → Text → Type 0
 WasCarriedOver w name item to = IsToSend (w.stood name) item to
 
--- Each arrival in a book is of an item there, which was acknowledged to that caller, and each item stands under its own uid.
+-- Each arrival in a book is of an item there, which was acknowledged to that caller, and each item
+-- stands under its own uid.
 pub record HasItems (w : World) : Type 0 where
-  pub arrived : (name caller uid : Text) → set.contains (w.books name).arrivals (caller, uid) ≡ true →
-      (item : Instance) × (item.uid ≡ uid) × Has w name item × HadArrival w name caller item
-  pub named : (name uid : Text) (item : Instance) → map.get (w.books name).items uid ≡ Some item → item.uid ≡ uid
+  pub arrived : (name caller uid : Text)
+      → set.contains (w.books name).arrivals (caller, uid) ≡ true
+      → (item : Instance) × (item.uid ≡ uid) × Has w name item × HadArrival w name caller item
+  pub named : (name uid : Text) (item : Instance)
+      → map.get (w.books name).items uid ≡ Some item
+      → item.uid ≡ uid
 
 -- ---- 1. nothing is refused for want of a presentation context
 
--- a status that a sound plan leaves room for: success, out of resources, or other data under this uid
+-- a status that a sound plan leaves room for: success, out of resources, or other data under this
+-- uid
 abbrev pub IsFairStatus : ℕ → Type 0
 IsFairStatus status = (status ≡ 0) ⊎ ((status ≡ 0xA700) ⊎ (status ≡ 0xC0F1))
 
@@ -72,7 +81,8 @@ IsFairLine Adoption = Unit {0}
 
 -- each pair that goes over the hop was accepted
 abbrev pub CoversHop : Network → Text → Text → Contexts → Type 0
-CoversHop plan caller receiver accepted = (pair : Text × Syntax) → GoesOver plan caller receiver pair → set.contains accepted pair ≡ true
+CoversHop plan caller receiver accepted =
+    (pair : Text × Syntax) → GoesOver plan caller receiver pair → set.contains accepted pair ≡ true
 
 -- the link is open, with these pairs
 abbrev pub IsOpen : Stage → Contexts → Type 0
@@ -84,19 +94,25 @@ IsOpen (Open accepted) pairs = accepted ≡ pairs
 IsOpen (Storing accepted item) pairs = accepted ≡ pairs
 IsOpen (Replying accepted item status) pairs = accepted ≡ pairs
 
--- No line settles for want of a context, and over each open link all that goes over its hop was accepted.
+-- No line settles for want of a context, and over each open link all that goes over its hop was
+-- accepted.
 pub record NoneRefused (plan : Network) (w : World) : Type 0 where
   pub lines : (name : Text) (line : Line) → Contains (w.books name).lines line → IsFairLine line
-  pub agreed : (number : ℕ) (link : Link) (accepted : Contexts) → IsLink w number link → IsOpen link.stage accepted → CoversHop plan link.caller link.receiver accepted
+  pub agreed : (number : ℕ) (link : Link) (accepted : Contexts)
+      → IsLink w number link
+      → IsOpen link.stage accepted
+      → CoversHop plan link.caller link.receiver accepted
 
 -- ---- 2. each arrival lies within its rank of its source
 
 -- the item entered at the node, or stood at the caller for the node when the plan was adopted
 abbrev pub IsOrigin : World → Text → Text → Instance → Type 0
-IsOrigin w caller name item = ((caller ≡ local) × HadArrival w name local item) ⊎ WasCarriedOver w caller item name
+IsOrigin w caller name item =
+    ((caller ≡ local) × HadArrival w name local item) ⊎ WasCarriedOver w caller item name
 
 -- where the item began, and a walk by which it came
-pub record HasSource (plan : Network) (w : World) (caller name : Text) (item : Instance) : Type 0 where
+pub record HasSource (plan : Network) (w : World) (caller name : Text)
+    (item : Instance) : Type 0 where
   pub first : Text
   pub site : Text
   pub origin : IsOrigin w first site item
@@ -106,20 +122,36 @@ pub record HasSource (plan : Network) (w : World) (caller name : Text) (item : I
 
 -- Each arrival has a source, by a walk no longer than the rank there.
 abbrev pub WithinRank : Network → World → Type 0
-WithinRank plan w = (caller name : Text) (item : Instance) → HadArrival w name caller item →
-    (source : HasSource plan w caller name item) × ((rank : ℕ) × IsRank plan item.key source.first source.site rank × (length source.over ≤ rank))
+WithinRank plan w =
+    (caller name : Text) (item : Instance)
+    → HadArrival w name caller item
+    → (source : HasSource plan w caller name item)
+    × ((rank : ℕ)
+    × IsRank plan item.key source.first source.site rank
+    × (length source.over ≤ rank))
 
 -- ---- 3. what was answered with success is there
 
--- Where success is under way the receiver had the arrival, where a row is done the next node had it, the same of each success that a journal notes under the
--- plan in force, whether or not its row is still there; and each row has a reason.
+-- Where success is under way the receiver had the arrival, where a row is done the next node had
+-- it, the same of each success that a journal notes under the plan in force, whether or not its row
+-- is still there; and each row has a reason.
 pub record IsHonest (plan : Network) (w : World) : Type 0 where
-  pub replies : (number : ℕ) (link : Link) (accepted : Contexts) (item : Instance) → IsLink w number link → link.stage ≡ Replying accepted item 0 →
-      HadArrival w link.receiver link.caller item
-  pub done : (name to : Text) (item : Instance) → HasRow w name item.uid to Done → Has w name item → HadArrival w to name item
-  pub answered : (name to : Text) (item : Instance) → HasSucceededSince (w.books name).lines item to → HadArrival w to name item
-  pub rows : (name uid to : Text) (row : Progress) → HasRow w name uid to row → (item : Instance) × (item.uid ≡ uid) × Has w name item
-      × (((caller : Text) × HadArrival w name caller item × Sends plan name caller item.key to) ⊎ WasCarriedOver w name item to)
+  pub replies : (number : ℕ) (link : Link) (accepted : Contexts) (item : Instance)
+      → IsLink w number link
+      → link.stage ≡ Replying accepted item 0
+      → HadArrival w link.receiver link.caller item
+  pub done : (name to : Text) (item : Instance)
+      → HasRow w name item.uid to Done
+      → Has w name item
+      → HadArrival w to name item
+  pub answered : (name to : Text) (item : Instance)
+      → HasSucceededSince (w.books name).lines item to
+      → HadArrival w to name item
+  pub rows : (name uid to : Text) (row : Progress)
+      → HasRow w name uid to row
+      → (item : Instance) × (item.uid ≡ uid) × Has w name item
+      × (((caller : Text) × HadArrival w name caller item × Sends plan name caller item.key to)
+      ⊎ WasCarriedOver w name item to)
 
 -- ---- 4. nothing acknowledged is lost
 
@@ -130,7 +162,8 @@ IsQueued (Held cause) = Unit {0}
 IsQueued Done = ⊥
 
 -- some node on a walk has the item queued, on its way to the destination
-pub record IsUnderway (plan : Network) (w : World) (caller name : Text) (item : Instance) (dest : Text) : Type 0 where
+pub record IsUnderway (plan : Network) (w : World) (caller name : Text) (item : Instance)
+    (dest : Text) : Type 0 where
   pub over : List Text
   pub walk : IsWalk plan item.key caller name over
   pub to : Text
@@ -147,21 +180,33 @@ pub record IsKept (w : World) (item : Instance) (dest : Text) : Type 0 where
 
 -- the destination keeps the item, or some node has it under way to there
 abbrev pub IsCovered : Network → World → Text → Text → Instance → Text → Type 0
-IsCovered plan w caller name item dest = IsKept w item dest ⊎ IsUnderway plan w caller name item dest
+IsCovered plan w caller name item dest =
+    IsKept w item dest ⊎ IsUnderway plan w caller name item dest
 
 -- the node still has the item, and its row for the next node is queued
 abbrev pub IsToGo : World → Text → Instance → Text → Type 0
-IsToGo w name item to = Has w name item × ((row : Progress) × HasRow w name item.uid to row × IsQueued row)
+IsToGo w name item to =
+    Has w name item × ((row : Progress) × HasRow w name item.uid to row × IsQueued row)
 
--- Whatever was acknowledged has a destination and is covered for each. So is each row that stood when the plan was adopted: by
--- itself while it is queued, else by the arrival at its node.
+-- Whatever was acknowledged has a destination and is covered for each. So is each row that stood
+-- when the plan was adopted: by itself while it is queued, else by the arrival at its node.
 pub record NothingLost (plan : Network) (w : World) : Type 0 where
-  pub some : (caller name : Text) (item : Instance) → HadArrival w name caller item → (dest : Text) × IsDestination plan caller name item.key dest
-  pub each : (caller name : Text) (item : Instance) → HadArrival w name caller item → (dest : Text) → IsDestination plan caller name item.key dest →
-      IsCovered plan w caller name item dest
-  pub carried_some : (name to : Text) (item : Instance) → WasCarriedOver w name item to → (dest : Text) × IsDestination plan name to item.key dest
-  pub carried_each : (name to : Text) (item : Instance) → WasCarriedOver w name item to → (dest : Text) → IsDestination plan name to item.key dest →
-      IsToGo w name item to ⊎ (HadArrival w to name item × IsCovered plan w name to item dest)
+  pub some : (caller name : Text) (item : Instance)
+      → HadArrival w name caller item
+      → (dest : Text) × IsDestination plan caller name item.key dest
+  pub each : (caller name : Text) (item : Instance)
+      → HadArrival w name caller item
+      → (dest : Text)
+      → IsDestination plan caller name item.key dest
+      → IsCovered plan w caller name item dest
+  pub carried_some : (name to : Text) (item : Instance)
+      → WasCarriedOver w name item to
+      → (dest : Text) × IsDestination plan name to item.key dest
+  pub carried_each : (name to : Text) (item : Instance)
+      → WasCarriedOver w name item to
+      → (dest : Text)
+      → IsDestination plan name to item.key dest
+      → IsToGo w name item to ⊎ (HadArrival w to name item × IsCovered plan w name to item dest)
 
 -- ---- all of it
 

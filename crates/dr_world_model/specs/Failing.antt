@@ -1,4 +1,5 @@
--- For each claim of the headline a world of which it is false, so that none of them is said of every world.
+-- For each claim of the headline a world of which it is false, so that none of them is said of
+-- every world.
 use Rattle.std.specs.Prelude.{◌≢◌, ℕ, true, false, [], ◌∷◌, cond}
 use Rattle.std.specs.FinMap as map
 use Rattle.std.specs.FinMap.{FinMap}
@@ -15,7 +16,8 @@ use Rattle.dr_ledger.specs.declared.item.Progress.{Progress}
 use Rattle.dr_ledger.specs.declared.item.Progress.TheVariants.{Waiting, Done}
 use Rattle.dr_ledger.specs.Books.{Book, Arrival, Forgetting, Settling, empty_book}
 use Rattle.dr_ledger.specs.Pairs.{pair_cmp}
-use Rattle.dr_world_model.specs.Worlds.{World, Link, Stage, Open, Replying, same_text, start, with_book, with_link}
+use Rattle.dr_world_model.specs.Worlds.{World, Link, Stage, Open, Replying, same_text, start}
+use Rattle.dr_world_model.specs.Worlds.{with_book, with_link}
 use Rattle.dr_world_model.specs.Claims.{HasItems, NoneRefused, WithinRank, IsHonest, NothingLost}
 
 -- a book with just that item, brought by that caller, and with these rows and kept uids
@@ -34,12 +36,24 @@ only name book = with_book start name book
 
 -- a link that is connected at both ends
 abbrev pub link_at : Text → Text → Stage → Link
-link_at caller receiver stage = record { caller = caller; receiver = receiver; caller_connected = true; receiver_connected = true; stage = stage }
+link_at caller receiver stage = record {
+  caller = caller;
+  receiver = receiver;
+  caller_connected = true;
+  receiver_connected = true;
+  stage = stage;
+}
 
 -- against claim 1: a row was settled for want of a presentation context
 abbrev pub settled_without_context : Text → Text → Text → World
-settled_without_context name uid dest =
-    only name (record { items = map.empty; arrivals = set.empty; kept = set.empty; rows = map.empty; lines = Settling uid dest NoContext 0 ∷ [] })
+settled_without_context name uid dest = only name
+    (record {
+      items = map.empty;
+      arrivals = set.empty;
+      kept = set.empty;
+      rows = map.empty;
+      lines = Settling uid dest NoContext 0 ∷ [];
+    })
 
 -- a status of the class "cannot understand" that no node of a sound plan answers
 abbrev pub strange_status : ℕ
@@ -65,9 +79,11 @@ come_from_nowhere caller name item = only name (brought_by caller item map.empty
 
 -- against claim 3: a row is done, and the node that it was for has no arrival
 abbrev pub done_for_nothing : Text → Text → Instance → World
-done_for_nothing name to item = only name (brought_by name item (map.insert map.empty (item.uid, to) Done) set.empty)
+done_for_nothing name to item =
+    only name (brought_by name item (map.insert map.empty (item.uid, to) Done) set.empty)
 
--- against claim 3: a journal notes a success, its row is forgotten, and the node that it was for had no arrival
+-- against claim 3: a journal notes a success, its row is forgotten, and the node that it was for
+-- had no arrival
 abbrev pub answered_for_nothing : Text → Text → Instance → World
 answered_for_nothing name to item = only name (record {
   items = map.empty;
@@ -79,7 +95,8 @@ answered_for_nothing name to item = only name (record {
 
 -- against claim 3: success is under way on a link, and its receiver has no arrival
 abbrev pub success_for_nothing : Text → Text → Instance → World
-success_for_nothing caller receiver item = with_link start 1 (link_at caller receiver (Replying set.empty item 0))
+success_for_nothing caller receiver item =
+    with_link start 1 (link_at caller receiver (Replying set.empty item 0))
 
 -- a book that has an item under a uid, a row for it that waits, and no line
 abbrev pub queued_unsaid : Text → Text → Instance → Book
@@ -123,7 +140,8 @@ under_another_uid name uid item = only name (queued_unsaid uid name item)
 abbrev pub acknowledged : Text → Text → Instance → World
 acknowledged caller name item = only name (brought_by caller item map.empty set.empty)
 
--- against claim 4, where the next node leads to no destination: the one row of an instance waits for that node
+-- against claim 4, where the next node leads to no destination: the one row of an instance waits
+-- for that node
 abbrev pub queued_astray : Text → Text → Text → Instance → World
 queued_astray caller name to item =
     only name (brought_by caller item (map.insert map.empty (item.uid, to) (Waiting 0 0)) set.empty)
@@ -141,27 +159,41 @@ carried_and_lost name to item = record {
 
 -- no node that has the item's key from the caller leads to a destination
 abbrev pub LeadsNowhere : Network → Text → Text → Instance → Type 0
-LeadsNowhere plan caller name item = (dest : Text) → IsDestination plan caller name item.key dest → ⊥
+LeadsNowhere plan caller name item =
+    (dest : Text) → IsDestination plan caller name item.key dest → ⊥
 
 -- against claim 4: the one row of an arrival is done, and no other node has anything
 abbrev pub done_and_gone : Text → Text → Text → Instance → World
-done_and_gone caller name to item = only name (brought_by caller item (map.insert map.empty (item.uid, to) Done) set.empty)
+done_and_gone caller name to item =
+    only name (brought_by caller item (map.insert map.empty (item.uid, to) Done) set.empty)
 
 -- against claim 4: what was acknowledged was forgotten, and no other node has anything
 abbrev pub forgotten_too_early : Text → Text → Instance → World
-forgotten_too_early caller name item =
-    only name (record { items = map.empty; arrivals = set.empty; kept = set.empty; rows = map.empty; lines = Arrival caller item [] false ∷ Forgetting item.uid ∷ [] })
+forgotten_too_early caller name item = only name
+    (record {
+      items = map.empty;
+      arrivals = set.empty;
+      kept = set.empty;
+      rows = map.empty;
+      lines = Arrival caller item [] false ∷ Forgetting item.uid ∷ [];
+    })
 
 -- a book that keeps another item under the uid
 abbrev pub keeps_instead : Text → Instance → Book
-keeps_instead uid other =
-    record { items = map.insert map.empty uid other; arrivals = set.empty; kept = set.insert set.empty uid; rows = map.empty; lines = [] }
+keeps_instead uid other = record {
+  items = map.insert map.empty uid other;
+  arrivals = set.empty;
+  kept = set.insert set.empty uid;
+  rows = map.empty;
+  lines = [];
+}
 
 -- against claim 4: an arrival has no row, and every other node keeps another item under its uid
 abbrev pub kept_as_another : Text → Text → Instance → Instance → World
 kept_as_another caller name item other = record {
   time = 0;
-  books = λ at. cond (same_text at name) (brought_by caller item map.empty set.empty) (keeps_instead item.uid other);
+  books = λ at. cond (same_text at name) (brought_by caller item map.empty set.empty)
+      (keeps_instead item.uid other);
   stood = λ at. empty_book;
   armed = set.empty;
   links = map.empty;
@@ -169,10 +201,14 @@ kept_as_another caller name item other = record {
 }
 
 -- Each claim is false of its worlds, over every plan; of two of them where the plan leads nowhere.
-pub record ClaimsFail (plan : Network) (caller name to : Text) (item other : Instance) : Type 0 where
+pub record ClaimsFail (plan : Network) (caller name to : Text)
+    (item other : Instance) : Type 0 where
   pub without_context : NoneRefused plan (settled_without_context name item.uid to) → ⊥
   pub strangely : NoneRefused plan (settled_strangely name item.uid to) → ⊥
-  pub without_pairs : (pair : Text × Syntax) → GoesOver plan caller name pair → NoneRefused plan (opened_without_pairs caller name) → ⊥
+  pub without_pairs : (pair : Text × Syntax)
+      → GoesOver plan caller name pair
+      → NoneRefused plan (opened_without_pairs caller name)
+      → ⊥
   pub from_nowhere : WithinRank plan (come_from_nowhere caller name item) → ⊥
   pub done : IsHonest plan (done_for_nothing name to item) → ⊥
   pub answered : IsHonest plan (answered_for_nothing name to item) → ⊥
@@ -183,12 +219,19 @@ pub record ClaimsFail (plan : Network) (caller name to : Text) (item other : Ins
   pub success : IsHonest plan (success_for_nothing caller name item) → ⊥
   pub gone : NothingLost plan (done_and_gone caller name to item) → ⊥
   pub forgotten : NothingLost plan (forgotten_too_early caller name item) → ⊥
-  pub no_destination : LeadsNowhere plan caller name item → NothingLost plan (acknowledged caller name item) → ⊥
-  pub astray : LeadsNowhere plan name to item → NothingLost plan (queued_astray caller name to item) → ⊥
+  pub no_destination : LeadsNowhere plan caller name item
+      → NothingLost plan (acknowledged caller name item)
+      → ⊥
+  pub astray : LeadsNowhere plan name to item
+      → NothingLost plan (queued_astray caller name to item)
+      → ⊥
   pub carried : NothingLost plan (carried_and_lost name to item) → ⊥
   pub kept : NothingLost plan (kept_as_another caller name item other) → ⊥
 
--- each claim is false of some world, over every plan, where the caller is no local one and nodes and items differ
+-- each claim is false of some world, over every plan, where the caller is no local one and nodes
+-- and items differ
 abbrev pub ClaimsCanFail : Type 0
-ClaimsCanFail = (plan : Network) (caller name to : Text) (item other : Instance) → caller ≢ local → name ≢ to → other ≢ item →
-    ClaimsFail plan caller name to item other
+ClaimsCanFail =
+    (plan : Network) (caller name to : Text) (item other : Instance)
+    → caller ≢ local → name ≢ to → other ≢ item
+    → ClaimsFail plan caller name to item other

@@ -22,12 +22,20 @@ use Rattle.dr_world_model.specs.Runs.{MayAdopt}
 
 -- each row that isn't done is of a hop of the next plan
 abbrev pub RowsAreOfHops : World → Network → Type 0
-RowsAreOfHops w next = (name uid to : Text) (row : Progress) (item : Instance) → map.get (w.books name).rows (uid, to) ≡ Some row → row ≢ Done →
-    map.get (w.books name).items uid ≡ Some item → Goes next item.key name to
+RowsAreOfHops w next =
+    (name uid to : Text) (row : Progress) (item : Instance)
+    → map.get (w.books name).rows (uid, to) ≡ Some row
+    → row ≢ Done
+    → map.get (w.books name).items uid ≡ Some item
+    → Goes next item.key name to
 
 -- Where no ledger finds an unfit row, each row is of a hop of the next plan.
 abbrev pub FitBooksMayTurn : Type 0
-FitBooksMayTurn = (next : Network) (w : World) → w.books local ≡ empty_book → ((name : Text) → IsFit next name (w.books name)) → RowsAreOfHops w next
+FitBooksMayTurn =
+    (next : Network) (w : World)
+    → w.books local ≡ empty_book
+    → ((name : Text) → IsFit next name (w.books name))
+    → RowsAreOfHops w next
 
 -- a row of some node, by the node's name, then by the uid and the destination
 abbrev pub Spot : Type 0
@@ -40,28 +48,47 @@ spot_cmp a b = ordering_then (text_cmp a.0 b.0) (pair_cmp a.1 b.1)
 -- the first row of all nodes that the next plan doesn't go on with, or none
 abbrev pub FindsUnfit : Network → World → Option Spot → Type 0
 FindsUnfit next w None = (name : Text) → IsFit next name (w.books name)
-FindsUnfit next w (Some at) = IsUnfit next at.0 (w.books at.0) at.1
-    × ((other : Spot) → IsUnfit next other.0 (w.books other.0) other.1 → spot_cmp at other ≢ Greater)
+FindsUnfit next w (Some at) =
+    IsUnfit next at.0 (w.books at.0) at.1
+    × ((other : Spot)
+    → IsUnfit next other.0 (w.books other.0) other.1
+    → spot_cmp at other ≢ Greater)
 
--- two answers to which row of all nodes is the first that the next plan doesn't go on with are the same
+-- two answers to which row of all nodes is the first that the next plan doesn't go on with are the
+-- same
 abbrev pub FirstUnfitIsOne : Type 0
-FirstUnfitIsOne = (next : Network) (w : World) (one other : Option Spot) → FindsUnfit next w one → FindsUnfit next w other → one ≡ other
+FirstUnfitIsOne =
+    (next : Network) (w : World) (one other : Option Spot)
+    → FindsUnfit next w one → FindsUnfit next w other → one ≡ other
 
--- What the ledgers find, asked in the order of their nodes' names, is the first unfit row of all nodes.
+-- What the ledgers find, asked in the order of their nodes' names, is the first unfit row of all
+-- nodes.
 abbrev pub LedgersFindTheFirst : Type 0
-LedgersFindTheFirst = (next : Network) (w : World) (name : Text) (at : Pair) → Unfits next name (w.books name) (Some at) →
-    ((other : Text) → text_cmp other name ≡ Less → Unfits next other (w.books other) None) → FindsUnfit next w (Some (name, at))
+LedgersFindTheFirst =
+    (next : Network) (w : World) (name : Text) (at : Pair)
+    → Unfits next name (w.books name) (Some at)
+    → ((other : Text) → text_cmp other name ≡ Less → Unfits next other (w.books other) None)
+    → FindsUnfit next w (Some (name, at))
 
 -- Where a node has an unfit row, the next plan may not be adopted.
 abbrev pub UnfitRowsForbid : Type 0
-UnfitRowsForbid = (plan : Network) (w : World) (next : Network) (name : Text) (at : Pair) → IsUnfit next name (w.books name) at → MayAdopt plan w next → ⊥
+UnfitRowsForbid =
+    (plan : Network) (w : World) (next : Network) (name : Text) (at : Pair)
+    → IsUnfit next name (w.books name) at
+    → MayAdopt plan w next → ⊥
 
 -- Where a link is connected at an end, no next plan may be adopted.
 abbrev pub OpenLinksForbid : Type 0
-OpenLinksForbid = (plan : Network) (w : World) (next : Network) (number : ℕ) (link : Link) → IsLink w number link →
-    (link.caller_connected ≡ true) ⊎ (link.receiver_connected ≡ true) → MayAdopt plan w next → ⊥
+OpenLinksForbid =
+    (plan : Network) (w : World) (next : Network) (number : ℕ) (link : Link)
+    → IsLink w number link
+    → (link.caller_connected ≡ true) ⊎ (link.receiver_connected ≡ true)
+    → MayAdopt plan w next → ⊥
 
 -- Where a node is armed, so that its store is to refuse the next line, no next plan may be adopted.
 abbrev pub ArmedNodesForbid : Type 0
-ArmedNodesForbid = (plan : Network) (w : World) (next : Network) (name : Text) → HasNode plan name → set.contains w.armed name ≡ true →
-    MayAdopt plan w next → ⊥
+ArmedNodesForbid =
+    (plan : Network) (w : World) (next : Network) (name : Text)
+    → HasNode plan name
+    → set.contains w.armed name ≡ true
+    → MayAdopt plan w next → ⊥

@@ -15,18 +15,24 @@ use Rattle.dr_world_model.specs.Worlds.{World, Link}
 use Rattle.dr_world_model.specs.Events.{Event, HasNode, Step}
 use Rattle.dr_world_model.specs.Steps.{IsLink}
 
--- All nodes may take the next plan: no link is connected at either end, no node is armed, each node stays one, each row that isn't done is of a
--- hop of the next plan, and what names no node has an empty book.
+-- All nodes may take the next plan: no link is connected at either end, no node is armed, each node
+-- stays one, each row that isn't done is of a hop of the next plan, and what names no node has an
+-- empty book.
 pub record MayAdopt (plan : Network) (old : World) (next : Network) : Type 0 where
-  pub off : (number : ℕ) (link : Link) → IsLink old number link → (link.caller_connected ≡ false) × (link.receiver_connected ≡ false)
+  pub off : (number : ℕ) (link : Link)
+      → IsLink old number link
+      → (link.caller_connected ≡ false) × (link.receiver_connected ≡ false)
   pub unarmed : (name : Text) → HasNode plan name → set.contains old.armed name ≡ false
   pub stay : (name : Text) → HasNode plan name → HasNode next name
-  pub fit : (name uid to : Text) (row : Progress) (item : Instance) → map.get (old.books name).rows (uid, to) ≡ Some row → row ≢ Done →
-      map.get (old.books name).items uid ≡ Some item → Goes next item.key name to
+  pub fit : (name uid to : Text) (row : Progress) (item : Instance)
+      → map.get (old.books name).rows (uid, to) ≡ Some row
+      → row ≢ Done
+      → map.get (old.books name).items uid ≡ Some item
+      → Goes next item.key name to
   pub strangers : (name : Text) → (HasNode plan name → ⊥) → old.books name ≡ empty_book
 
--- All nodes take the next plan at once: arrivals and done rows leave the books, a node that joins has an empty one, and
--- links are gone. What is in the books then, stands.
+-- All nodes take the next plan at once: arrivals and done rows leave the books, a node that joins
+-- has an empty one, and links are gone. What is in the books then, stands.
 pub record Adopts (plan : Network) (old : World) (next : Network) (new : World) : Type 0 where
   pub may : MayAdopt plan old next
   pub books : (name : Text) → HasNode plan name → new.books name ≡ after Adoption (old.books name)
@@ -46,8 +52,11 @@ pub data Action : Type 0 where
 abbrev pub IsAdoptable : Network → Type 0
 IsAdoptable next = IsWellFormed next × IsSound next
 
--- Events and adoptions, one after another, from one plan and world to another. Only well-formed, sound plans are adopted.
+-- Events and adoptions, one after another, from one plan and world to another. Only well-formed,
+-- sound plans are adopted.
 abbrev pub Runs : Network → World → List Action → Network → World → Type 0
 Runs plan old [] last new = (last ≡ plan) × (new ≡ old)
-Runs plan old (Occurs event ∷ actions) last new = (mid : World) × Step plan old event mid × Runs plan mid actions last new
-Runs plan old (Adopt next ∷ actions) last new = IsAdoptable next × ((mid : World) × Adopts plan old next mid × Runs next mid actions last new)
+Runs plan old (Occurs event ∷ actions) last new =
+    (mid : World) × Step plan old event mid × Runs plan mid actions last new
+Runs plan old (Adopt next ∷ actions) last new =
+    IsAdoptable next × ((mid : World) × Adopts plan old next mid × Runs next mid actions last new)

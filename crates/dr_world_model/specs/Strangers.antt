@@ -10,9 +10,16 @@ use Rattle.dr_world_model.specs.Runs.{Action, Runs}
 
 -- A name that is no node's has an empty book, so that an adoption finds it so.
 abbrev pub StrangersHaveNothing : Type 0
-StrangersHaveNothing = (plan : Network) → IsWellFormed plan → (actions : List Action) (last : Network) (w : World) →
-    Runs plan start actions last w → (name : Text) → (HasNode last name → ⊥) → w.books name ≡ empty_book
+StrangersHaveNothing =
+    (plan : Network) → IsWellFormed plan
+    → (actions : List Action) (last : Network) (w : World)
+    → Runs plan start actions last w
+    → (name : Text) → (HasNode last name → ⊥)
+    → w.books name ≡ empty_book
 
 -- Moments go up to 2^62.
 abbrev pub TimeIsBounded : Type 0
-TimeIsBounded = (plan : Network) (actions : List Action) (last : Network) (w : World) → Runs plan start actions last w → w.time ≤ 2 ^ 62
+TimeIsBounded =
+    (plan : Network) (actions : List Action) (last : Network) (w : World)
+    → Runs plan start actions last w
+    → w.time ≤ 2 ^ 62

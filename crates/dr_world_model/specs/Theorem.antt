@@ -11,21 +11,40 @@ use Rattle.dr_world_model.specs.Worlds.{World, start}
 use Rattle.dr_world_model.specs.Runs.{Action, Runs}
 use Rattle.dr_world_model.specs.Claims.{Headline}
 
--- For every sound plan and every list of events and adoptions from the start: the four claims hold of the plan in force.
+-- For every sound plan and every list of events and adoptions from the start: the four claims hold
+-- of the plan in force.
 abbrev pub HeadlineHolds : Type 0
-HeadlineHolds = (plan : Network) → IsSound plan → (actions : List Action) (last : Network) (w : World) → Runs plan start actions last w → Headline last w
+HeadlineHolds =
+    (plan : Network) → IsSound plan
+    → (actions : List Action) (last : Network) (w : World)
+    → Runs plan start actions last w
+    → Headline last w
 
 -- the headline of one plan at hand
 abbrev pub HeadlineHoldsOf : Network → Type 0
-HeadlineHoldsOf plan = (actions : List Action) (last : Network) (w : World) → Runs plan start actions last w → Headline last w
+HeadlineHoldsOf plan =
+    (actions : List Action) (last : Network) (w : World)
+    → Runs plan start actions last w
+    → Headline last w
 
--- What a node keeps in the one world, it keeps in the other, unchanged; and its journal has grown at its end.
+-- What a node keeps in the one world, it keeps in the other, unchanged; and its journal has grown
+-- at its end.
 pub record Lasts (old new : World) : Type 0 where
-  pub items : (name uid : Text) (item : Instance) → set.contains (old.books name).kept uid ≡ true → map.get (old.books name).items uid ≡ Some item → map.get (new.books name).items uid ≡ Some item
-  pub kept : (name uid : Text) → set.contains (old.books name).kept uid ≡ true → set.contains (new.books name).kept uid ≡ true
-  pub journal : (name : Text) → (more : List Line) × ((new.books name).lines ≡ (old.books name).lines ++ more)
+  pub items : (name uid : Text) (item : Instance)
+      → set.contains (old.books name).kept uid ≡ true
+      → map.get (old.books name).items uid ≡ Some item
+      → map.get (new.books name).items uid ≡ Some item
+  pub kept : (name uid : Text)
+      → set.contains (old.books name).kept uid ≡ true
+      → set.contains (new.books name).kept uid ≡ true
+  pub journal : (name : Text)
+      → (more : List Line) × ((new.books name).lines ≡ (old.books name).lines ++ more)
 
 -- What was kept stays kept: after any actions, through any further ones.
 abbrev pub KeptStaysKept : Type 0
-KeptStaysKept = (plan : Network) → IsSound plan → (actions : List Action) (mid : Network) (v : World) → Runs plan start actions mid v →
-    (more : List Action) (last : Network) (w : World) → Runs mid v more last w → Lasts v w
+KeptStaysKept =
+    (plan : Network) → IsSound plan
+    → (actions : List Action) (mid : Network) (v : World)
+    → Runs plan start actions mid v
+    → (more : List Action) (last : Network) (w : World)
+    → Runs mid v more last w → Lasts v w

@@ -20,7 +20,8 @@ pub data Stage : Type 0 where
   Answering : (accepted : Contexts) → Stage  -- an acceptance
   Rejecting : Stage  -- a rejection
   Open : (accepted : Contexts) → Stage  -- nothing
-  Storing : (accepted : Contexts) → (item : Instance) → Stage  -- a C-STORE request, for which the caller has a row pending
+  -- a C-STORE request, for which the caller has a row pending
+  Storing : (accepted : Contexts) → (item : Instance) → Stage
   Replying : (accepted : Contexts) → (item : Instance) → (status : ℕ) → Stage  -- its response
   Gone : Stage  -- nothing, and nothing will be
 
@@ -36,14 +37,22 @@ pub record Link : Type 0 where
 pub record World : Type 0 where
   pub time : ℕ  -- milliseconds
   pub books : Text → Book  -- the book of each node, and the empty one for other names
-  pub stood : Text → Book  -- the book of each as it stood when the plan was adopted, the empty one before an adoption
+  -- the book of each as it stood when the plan was adopted, the empty one before an adoption
+  pub stood : Text → Book
   pub armed : FinSet text_cmp  -- nodes whose next line the store is to refuse
   pub links : FinMap nat_cmp Link  -- by number
   pub opened : ℕ  -- how many links were ever opened
 
 -- the world before anything happens
 abbrev pub start : World
-start = record { time = 0; books = λ name. empty_book; stood = λ name. empty_book; armed = set.empty; links = map.empty; opened = 0 }
+start = record {
+  time = 0;
+  books = λ name. empty_book;
+  stood = λ name. empty_book;
+  armed = set.empty;
+  links = map.empty;
+  opened = 0;
+}
 
 -- the texts are equal
 abbrev pub same_text : Text → Text → Bool
@@ -55,15 +64,36 @@ books_with books name book other = cond (same_text other name) book (books other
 
 -- the world with this book at the node
 abbrev pub with_book : World → Text → Book → World
-with_book w name book = record { time = w.time; books = books_with w.books name book; stood = w.stood; armed = w.armed; links = w.links; opened = w.opened }
+with_book w name book = record {
+  time = w.time;
+  books = books_with w.books name book;
+  stood = w.stood;
+  armed = w.armed;
+  links = w.links;
+  opened = w.opened;
+}
 
 -- the world with these nodes armed
 abbrev pub with_armed : World → FinSet text_cmp → World
-with_armed w armed = record { time = w.time; books = w.books; stood = w.stood; armed = armed; links = w.links; opened = w.opened }
+with_armed w armed = record {
+  time = w.time;
+  books = w.books;
+  stood = w.stood;
+  armed = armed;
+  links = w.links;
+  opened = w.opened;
+}
 
 -- the world with these links
 abbrev pub with_links : World → FinMap nat_cmp Link → World
-with_links w links = record { time = w.time; books = w.books; stood = w.stood; armed = w.armed; links = links; opened = w.opened }
+with_links w links = record {
+  time = w.time;
+  books = w.books;
+  stood = w.stood;
+  armed = w.armed;
+  links = links;
+  opened = w.opened;
+}
 
 -- the world with this link under its number, new or in place of the one that was there
 abbrev pub with_link : World → ℕ → Link → World
@@ -71,12 +101,30 @@ with_link w number link = with_links w (map.insert w.links number link)
 
 -- the link with its caller disconnected
 abbrev pub without_caller : Link → Link
-without_caller link = record { caller = link.caller; receiver = link.receiver; caller_connected = false; receiver_connected = link.receiver_connected; stage = link.stage }
+without_caller link = record {
+  caller = link.caller;
+  receiver = link.receiver;
+  caller_connected = false;
+  receiver_connected = link.receiver_connected;
+  stage = link.stage;
+}
 
 -- the link with its receiver disconnected
 abbrev pub without_receiver : Link → Link
-without_receiver link = record { caller = link.caller; receiver = link.receiver; caller_connected = link.caller_connected; receiver_connected = false; stage = link.stage }
+without_receiver link = record {
+  caller = link.caller;
+  receiver = link.receiver;
+  caller_connected = link.caller_connected;
+  receiver_connected = false;
+  stage = link.stage;
+}
 
 -- the link at another stage
 abbrev pub at_stage : Link → Stage → Link
-at_stage link stage = record { caller = link.caller; receiver = link.receiver; caller_connected = link.caller_connected; receiver_connected = link.receiver_connected; stage = stage }
+at_stage link stage = record {
+  caller = link.caller;
+  receiver = link.receiver;
+  caller_connected = link.caller_connected;
+  receiver_connected = link.receiver_connected;
+  stage = stage;
+}

@@ -1,6 +1,7 @@
 //! What changes of a core but for its phase.
 ghost use Rattle.std.specs.Prelude.{◌≡◌, Some, None};
-ghost use Rattle.dr_session.specs.Reactions.{aborted, awaiting, desk_failed, dried, left, rejected as rejected_with, released, settled_with};
+ghost use Rattle.dr_session.specs.Reactions.{aborted, awaiting, desk_failed, dried, left};
+ghost use Rattle.dr_session.specs.Reactions.{rejected as rejected_with, released, settled_with};
 
 use super::BoxedCore;
 use crate::ends::{Core, Marks, Pending};
@@ -138,7 +139,8 @@ fn clear_pending(core: &mut Core)
 }
 
 fn set_pending(core: &mut Core, asked: Pending, now: u64)
-    ensures { core.new ≡ record core.old { pending = Some asked; last = asked.id; awaits = Some now } }
+    ensures { core.new
+        ≡ record core.old { pending = Some asked; last = asked.id; awaits = Some now } }
 {
     core.last = asked.id;
     core.pending = Some(asked);
@@ -146,7 +148,10 @@ fn set_pending(core: &mut Core, asked: Pending, now: u64)
 }
 
 fn await_other(core: &mut Core, awaited: Awaited)
-    ensures { core.new ≡ record core.old { assembly = record { awaited = awaited; stage = core.old.assembly.stage } } }
+    ensures { core.new
+        ≡ record core.old {
+          assembly = record { awaited = awaited; stage = core.old.assembly.stage };
+        } }
 {
     core.assembly.await_other(awaited);
 }

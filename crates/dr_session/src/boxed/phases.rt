@@ -3,9 +3,12 @@ ghost use Rattle.std.specs.Prelude.{◌≡◌, true};
 ghost use Rattle.dr_session.specs.Changes.{after_step, phased};
 ghost use Rattle.dr_session.specs.Reactions.{is_requestor, phase_after, stepped_by};
 ghost use Rattle.dr_session.specs.Telling.{state_at};
-ghost use Rattle.dr_ulstate.specs.Phases.{event_of, is_acceptable, next_late, next_sent, next_stepped};
+ghost use Rattle.dr_ulstate.specs.Phases.{event_of, is_acceptable, next_late, next_sent};
+ghost use Rattle.dr_ulstate.specs.Phases.{next_stepped};
 ghost use Rattle.dr_ulstate.specs.declared.phase.Next.TheVariants.{Idle};
-ghost use Rattle.dr_ulstate.specs.declared.table.Event.TheVariants.{AbortRequest, AcceptResponse, RejectResponse, ReleaseRequest, ReleaseResponse};
+ghost use Rattle.dr_ulstate.specs.declared.table.Event.TheVariants.{AbortRequest, AcceptResponse};
+ghost use Rattle.dr_ulstate.specs.declared.table.Event.TheVariants.{RejectResponse, ReleaseRequest};
+ghost use Rattle.dr_ulstate.specs.declared.table.Event.TheVariants.{ReleaseResponse};
 
 use super::BoxedCore;
 use crate::ends::Core;
@@ -27,10 +30,12 @@ impl BoxedCore {
         self.core.as_ref().phase.is_requestor()
     }
 
-    /// What comes from outside is an event of the table: its action and the end in the phase that follows; where it has no
-    /// cell the end as it was.
+    /// What comes from outside is an event of the table: its action and the end in the phase that
+    /// follows; where it has no cell the end as it was.
     pub fn step(self, incoming: Incoming, now: u64) -> Result<(Action, BoxedCore), BoxedCore>
-        ensures { result ≡ after_step self (next_stepped (event_of incoming) (is_acceptable incoming) self.phase now) }
+        ensures { result
+            ≡ after_step self
+            (next_stepped (event_of incoming) (is_acceptable incoming) self.phase now) }
     {
         let (phase, core) = self.take_phase();
         core.put_step(phase.step(incoming, now))

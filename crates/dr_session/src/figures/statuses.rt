@@ -1,7 +1,9 @@
 //! The statuses of the response to a C-STORE-RQ, in their order.
-ghost use Rattle.dr_session.specs.Statuses.{ClassIsFirst, SizeIsBeforeReading, ReadingIsBeforeUids, UidsAreBeforeArrival, RepliesDecide};
+ghost use Rattle.dr_session.specs.Statuses.{ClassIsFirst, SizeIsBeforeReading, ReadingIsBeforeUids};
+ghost use Rattle.dr_session.specs.Statuses.{UidsAreBeforeArrival, RepliesDecide};
 
-/// Of two causes that stand at once the first counts: the class, the size, what can't be read, the UIDs, the desk's reply.
+/// Of two causes that stand at once the first counts: the class, the size, what can't be read, the
+/// UIDs, the desk's reply.
 pub fn statuses_in_order()
     ensures class { ClassIsFirst }
     ensures size { SizeIsBeforeReading }

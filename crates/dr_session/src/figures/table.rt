@@ -1,5 +1,5 @@
-//! Each row of the state table (PS3.8 section 9.2.3) that a session can meet: the state that follows, what is written, and
-//! the first call on the desk.
+//! Each row of the state table (PS3.8 section 9.2.3) that a session can meet: the state that
+//! follows, what is written, and the first call on the desk.
 ghost use Rattle.std.specs.Prelude.{ℕ};
 ghost use Rattle.dr_base.specs.Texts.{Text};
 ghost use Rattle.dr_nego.specs.Agreeing.{AssociateRq, AssociateAc};
@@ -10,11 +10,14 @@ ghost use Rattle.dr_pdu.specs.declared.pdu.Pdv.{Pdv};
 ghost use Rattle.dr_session.specs.declared.ends.Core.{Core};
 ghost use Rattle.dr_session.specs.declared.ends.Moment.{Moment};
 ghost use Rattle.dr_session.specs.declared.ends.Pending.{Pending};
-ghost use Rattle.dr_session.specs.Figures.{Acceptances, Rejections, Requests, Values, Pushes, Responses, Releases, ReleaseAnswers, Aborts, Endings, LateMarks, NoPdus};
+ghost use Rattle.dr_session.specs.Figures.{Acceptances, Rejections, Requests, Values, Pushes};
+ghost use Rattle.dr_session.specs.Figures.{Responses, Releases, ReleaseAnswers, Aborts, Endings};
+ghost use Rattle.dr_session.specs.Figures.{LateMarks, NoPdus};
 
 /// An A-ASSOCIATE-AC and an A-ASSOCIATE-RJ (events 3 and 4).
 pub fn answers()
-    ensures acceptances { (c : Core) (at : Moment) (ac : AssociateAc) (agreed : Agreed) → Acceptances c at ac agreed }
+    ensures acceptances { (c : Core) (at : Moment) (ac : AssociateAc) (agreed : Agreed)
+        → Acceptances c at ac agreed }
     ensures rejections { (c : Core) (at : Moment) (rj : AssociateRj) → Rejections c at rj }
 {}
 

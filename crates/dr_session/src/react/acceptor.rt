@@ -1,15 +1,22 @@
-//! What an acceptor does: its answer to a request for an association, and to the messages that it hears.
-ghost use Rattle.std.specs.Prelude.{◌≡◌, ◌∷◌, [], ◌<◌, ◌≤◌, ◌^◌, ◌+◌, IfOk, OnErr, Some, None, false};
+//! What an acceptor does: its answer to a request for an association, and to the messages that it
+//! hears.
+ghost use Rattle.std.specs.Prelude.{◌≡◌, ◌∷◌, [], ◌<◌, ◌≤◌, ◌^◌, ◌+◌, IfOk, OnErr, Some, None};
+ghost use Rattle.std.specs.Prelude.{false};
 ghost use Rattle.std.specs.Option.{option_map_or};
 ghost use Rattle.dr_dimse.specs.Written.{Fits};
-ghost use Rattle.dr_dimse.specs.declared.command.Command.TheVariants.{StoreRq, StoreRsp, EchoRq, EchoRsp, Other};
+ghost use Rattle.dr_dimse.specs.declared.command.Command.TheVariants.{StoreRq, StoreRsp, EchoRq};
+ghost use Rattle.dr_dimse.specs.declared.command.Command.TheVariants.{EchoRsp, Other};
 ghost use Rattle.dr_nego.specs.declared.agreed.Agreed.{Agreed as AgreedOn};
 ghost use Rattle.dr_nego.specs.declared.answering.Answer.TheVariants as answers;
 ghost use Rattle.dr_nego.specs.Answering.{answer as answered};
 ghost use Rattle.dr_pdu.specs.Written.{Fits as PduFits};
 ghost use Rattle.dr_pdu.specs.declared.pdu.Pdu.TheVariants as pdu;
 ghost use Rattle.dr_session.specs.Laws.{AnswersStore};
-ghost use Rattle.dr_session.specs.Reactions.{arrives, stores, stored, status_of, echo_status as status_of_echo, effect, is_named, brings, says, requested, requested_other, decides, decides_at, stepped_by, write, rejected as rejected_with};
+ghost use Rattle.dr_session.specs.Reactions.{arrives, stores, stored, status_of};
+ghost use Rattle.dr_session.specs.Reactions.{echo_status as status_of_echo, effect, is_named};
+ghost use Rattle.dr_session.specs.Reactions.{brings, says, requested, requested_other, decides};
+ghost use Rattle.dr_session.specs.Reactions.{decides_at, stepped_by, write};
+ghost use Rattle.dr_session.specs.Reactions.{rejected as rejected_with};
 ghost use Rattle.dr_session.specs.Turns.{Turns, Broke, Ends};
 ghost use Rattle.dr_ulstate.specs.declared.table.Event.TheVariants.{AcceptResponse, RejectResponse};
 
@@ -117,8 +124,10 @@ fn bring<P: DeskPort>(
     port: &mut P,
 ) -> Result<Effect, AllocError>
     requires { Fits (StoreRq id class instance) }
-    ensures done { IfOk result (λ e. Turns P.step (brings core context id class instance item) port.old e port.new) }
-    ensures broke { OnErr result (Broke P.step (brings core context id class instance item) port.old port.new) }
+    ensures done { IfOk result (λ e.
+        Turns P.step (brings core context id class instance item) port.old e port.new) }
+    ensures broke { OnErr result
+        (Broke P.step (brings core context id class instance item) port.old port.new) }
 {
     if names(&item, &class, &instance) {
         let reply = port.arrive(core.peer(), item);
@@ -129,7 +138,8 @@ fn bring<P: DeskPort>(
     respond(alloc, context, id, class, instance, 0xA900, core)
 }
 
-/// An instance in a C-STORE-RQ of its own UIDs is brought to the desk; the response is written only then.
+/// An instance in a C-STORE-RQ of its own UIDs is brought to the desk; the response is written only
+/// then.
 fn store_found<P: DeskPort>(
     alloc: Global,
     context: u8,
@@ -141,8 +151,10 @@ fn store_found<P: DeskPort>(
     port: &mut P,
 ) -> Result<Effect, AllocError>
     requires { Fits (StoreRq id class instance) }
-    ensures done { IfOk result (λ e. Turns P.step (arrives core context id class instance found) port.old e port.new) }
-    ensures broke { OnErr result (Broke P.step (arrives core context id class instance found) port.old port.new) }
+    ensures done { IfOk result (λ e.
+        Turns P.step (arrives core context id class instance found) port.old e port.new) }
+    ensures broke { OnErr result
+        (Broke P.step (arrives core context id class instance found) port.old port.new) }
 {
     match found {
         Found::TooLarge => respond(alloc, context, id, class, instance, 0xA700, core),
@@ -164,8 +176,10 @@ fn store_in<P: DeskPort>(
     port: &mut P,
 ) -> Result<Effect, AllocError>
     requires { Fits (StoreRq id class instance) }
-    ensures done { IfOk result (λ e. Turns P.step (stores core context of id class instance found) port.old e port.new) }
-    ensures broke { OnErr result (Broke P.step (stores core context of id class instance found) port.old port.new) }
+    ensures done { IfOk result (λ e.
+        Turns P.step (stores core context of id class instance found) port.old e port.new) }
+    ensures broke { OnErr result
+        (Broke P.step (stores core context of id class instance found) port.old port.new) }
 {
     if class != of {
         return respond(alloc, context, id, class, instance, 0x0122, core);
@@ -173,8 +187,8 @@ fn store_in<P: DeskPort>(
     store_found(alloc, context, id, class, instance, found, core, port)
 }
 
-/// A C-STORE-RQ with its data set, in a context of that class. A success is written only behind an arrival that the port
-/// answered New or Again.
+/// A C-STORE-RQ with its data set, in a context of that class. A success is written only behind an
+/// arrival that the port answered New or Again.
 pub fn store<P: DeskPort>(
     alloc: Global,
     context: u8,
@@ -187,15 +201,19 @@ pub fn store<P: DeskPort>(
     port: &mut P,
 ) -> Result<Effect, AllocError>
     requires { Fits (StoreRq id class instance) }
-    ensures done { IfOk result (λ e. Turns P.step (stores core context of id class instance found) port.old e port.new) }
-    ensures broke { OnErr result (Broke P.step (stores core context of id class instance found) port.old port.new) }
-    ensures answered { IfOk result (λ e. AnswersStore P.step core context id class instance found port.old e port.new) }
+    ensures done { IfOk result (λ e.
+        Turns P.step (stores core context of id class instance found) port.old e port.new) }
+    ensures broke { OnErr result
+        (Broke P.step (stores core context of id class instance found) port.old port.new) }
+    ensures answered { IfOk result (λ e.
+        AnswersStore P.step core context id class instance found port.old e port.new) }
 {
     let done = store_in(alloc, context, of, id, class, instance, found, core, port)?;
     Ok(done)
 }
 
-/// The status of the response to a C-ECHO-RQ (PS3.7 9.1.5): its class, where it names one, is the context's.
+/// The status of the response to a C-ECHO-RQ (PS3.7 9.1.5): its class, where it names one, is the
+/// context's.
 fn echo_status(class: &Text, of: &Text) -> u16
     ensures { result ≡ status_of_echo class.now of.now }
 {
@@ -206,8 +224,8 @@ fn echo_status(class: &Text, of: &Text) -> u16
     }
 }
 
-/// Any other request in a context of that class: a C-ECHO-RQ is answered, a C-CANCEL-RQ isn't, and what isn't known is
-/// answered as unrecognized (0211H).
+/// Any other request in a context of that class: a C-ECHO-RQ is answered, a C-CANCEL-RQ isn't, and
+/// what isn't known is answered as unrecognized (0211H).
 pub fn answer_request(
     alloc: Global,
     context: u8,
@@ -248,7 +266,8 @@ fn answer_echo(
     core: BoxedCore,
 ) -> Result<Effect, AllocError>
     requires { Fits (EchoRq id class false) }
-    ensures { IfOk result (λ e. e ≡ effect (says core context (EchoRsp id (status_of_echo class of) class false) ∷ []) core) }
+    ensures { IfOk result (λ e. e
+        ≡ effect (says core context (EchoRsp id (status_of_echo class of) class false) ∷ []) core) }
 {
     let response = Command::EchoRsp {
         to: id,
@@ -292,7 +311,9 @@ fn answer_unknown(
     core: BoxedCore,
 ) -> Result<Effect, AllocError>
     requires { Fits (Other field (Some id) None false) }
-    ensures { IfOk result (λ e. e ≡ effect (says core context (Other (0x8000 + field) (Some id) (Some 0x0211) false) ∷ []) core) }
+    ensures { IfOk result (λ e. e
+        ≡ effect (says core context (Other (0x8000 + field) (Some id) (Some 0x0211) false) ∷ [])
+        core) }
 {
     let response = Command::Other {
         field: answer_field(field),
@@ -311,8 +332,8 @@ fn answer_field(field: u16) -> u16
     0x8000 + field
 }
 
-/// A request for an association is answered: accepted, rejected, or, where the other side's greatest length is too small
-/// for any fragment, aborted.
+/// A request for an association is answered: accepted, rejected, or, where the other side's
+/// greatest length is too small for any fragment, aborted.
 pub fn decide<P: DeskPort>(
     alloc: Global,
     rq: AssociateRq,
@@ -322,8 +343,10 @@ pub fn decide<P: DeskPort>(
 ) -> Result<Effect, AllocError>
     requires now { at.now ≤ 2 ^ 62 }
     requires fits { PduFits (pdu.AssociateRq rq) }
-    ensures done { IfOk result (λ e. Turns P.step (decides_at core.site at rq core) port.old e port.new) }
-    ensures broke { OnErr result (Broke P.step (decides_at core.site at rq core) port.old port.new) }
+    ensures done { IfOk result (λ e.
+        Turns P.step (decides_at core.site at rq core) port.old e port.new) }
+    ensures broke { OnErr result
+        (Broke P.step (decides_at core.site at rq core) port.old port.new) }
 {
     let Some(site) = &core.as_core().site else {
         return Ok(quiet(alloc, core));
@@ -360,7 +383,11 @@ fn accept(
 
 /// The local user accepts the request: the phase, the peer, and what is agreed on.
 fn establish(agreed: Agreed, rq: AssociateRq, core: BoxedCore, now: u64) -> BoxedCore
-    ensures { result ≡ record (stepped_by AcceptResponse now core) { peer = rq.front.calling; agreed = Some agreed } }
+    ensures { result
+        ≡ record (stepped_by AcceptResponse now core) {
+          peer = rq.front.calling;
+          agreed = Some agreed;
+        } }
 {
     let front = rq.front;
     core.accept(now).agree_with(front.calling, agreed)
@@ -373,7 +400,9 @@ fn reject(
     core: BoxedCore,
     at: Moment,
 ) -> Result<Effect, AllocError>
-    ensures { IfOk result (λ e. e ≡ effect (write (pdu.AssociateRj rejection ∷ []) ∷ []) (rejected_with rejection (stepped_by RejectResponse at.now core))) }
+    ensures { IfOk result (λ e. e
+        ≡ effect (write (pdu.AssociateRj rejection ∷ []) ∷ [])
+        (rejected_with rejection (stepped_by RejectResponse at.now core))) }
 {
     let action = write_rejection(alloc, rejection)?;
     act_once(alloc, action, core.reject(at.now).mark_rejected(rejection))

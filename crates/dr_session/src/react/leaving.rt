@@ -84,7 +84,8 @@ pub fn leave_with<P: DeskPort>(
     at: Moment,
 ) -> Result<Effect, AllocError>
     requires { at.now ≤ 2 ^ 62 }
-    ensures done { IfOk result (λ e. Turns P.step (leaves at (action ∷ []) core) port.old e port.new) }
+    ensures done { IfOk result (λ e.
+        Turns P.step (leaves at (action ∷ []) core) port.old e port.new) }
     ensures broke { OnErr result (Broke P.step (leaves at (action ∷ []) core) port.old port.new) }
 {
     let acts = one(alloc, action)?;

@@ -1,12 +1,18 @@
-//! What a requestor does: what it concludes from an answer, what it sends, and the responses that it hears.
-ghost use Rattle.std.specs.Prelude.{◌≡◌, ◌∷◌, [], ◌≤◌, ◌^◌, IfOk, OnErr, Option, Some, None, Ok, Err, true};
+//! What a requestor does: what it concludes from an answer, what it sends, and the responses that
+//! it hears.
+ghost use Rattle.std.specs.Prelude.{◌≡◌, ◌∷◌, [], ◌≤◌, ◌^◌, IfOk, OnErr, Option, Some, None, Ok};
+ghost use Rattle.std.specs.Prelude.{Err, true};
 ghost use Rattle.std.specs.List.{list_all};
 ghost use Rattle.dr_base.specs.Syntaxes.{syntax_uid};
 ghost use Rattle.dr_nego.specs.Agreeing.{context_for};
 ghost use Rattle.dr_nego.specs.declared.agreed.Agreed.{Agreed as AgreedOn};
 ghost use Rattle.dr_nego.specs.declared.fault.NegoFault.TheVariants as negofault;
 ghost use Rattle.dr_session.specs.declared.ends.LinkAction.TheVariants.{Close};
-ghost use Rattle.dr_session.specs.Reactions.{agrees, refuses, settles_refused, answers, replied, status_for, effect, gives, gives_in, hands, can_be_named, is_uid, is_graphic, id_after, due, pushes, gives_nothing, write, store_pdus, awaiting, settled_with, desk_failed, dried};
+ghost use Rattle.dr_session.specs.Reactions.{agrees, refuses, settles_refused, answers, replied};
+ghost use Rattle.dr_session.specs.Reactions.{status_for, effect, gives, gives_in, hands};
+ghost use Rattle.dr_session.specs.Reactions.{can_be_named, is_uid, is_graphic, id_after, due};
+ghost use Rattle.dr_session.specs.Reactions.{pushes, gives_nothing, write, store_pdus, awaiting};
+ghost use Rattle.dr_session.specs.Reactions.{settled_with, desk_failed, dried};
 ghost use Rattle.dr_session.specs.Turns.{Turns, Broke, Ends};
 
 use crate::boxed::BoxedCore;
@@ -77,7 +83,8 @@ fn settle_refused<P: DeskPort>(
     at: Moment,
 ) -> Result<Effect, AllocError>
     requires { at.now ≤ 2 ^ 62 }
-    ensures done { IfOk result (λ e. Turns P.step (settles_refused at uid core) port.old e port.new) }
+    ensures done { IfOk result (λ e.
+        Turns P.step (settles_refused at uid core) port.old e port.new) }
     ensures broke { OnErr result (Broke P.step (settles_refused at uid core) port.old port.new) }
 {
     match port.settle(&uid, core.peer(), Outcome::Broken, at.now) {
@@ -113,7 +120,8 @@ fn status_for(pending: &Pending, context: u8, command: &Command) -> Option<u16>
     None
 }
 
-/// A response: where what is pending awaits it, its row is settled by its status; else the end aborts.
+/// A response: where what is pending awaits it, its row is settled by its status; else the end
+/// aborts.
 pub fn hear_response<P: DeskPort>(
     alloc: Global,
     context: u8,
@@ -123,8 +131,10 @@ pub fn hear_response<P: DeskPort>(
     at: Moment,
 ) -> Result<Effect, AllocError>
     requires { at.now ≤ 2 ^ 62 }
-    ensures done { IfOk result (λ e. Turns P.step (replied core.pending context command.now at core) port.old e port.new) }
-    ensures broke { OnErr result (Broke P.step (replied core.pending context command.now at core) port.old port.new) }
+    ensures done { IfOk result (λ e.
+        Turns P.step (replied core.pending context command.now at core) port.old e port.new) }
+    ensures broke { OnErr result
+        (Broke P.step (replied core.pending context command.now at core) port.old port.new) }
 {
     let Some(pending) = &core.as_core().pending else {
         return abort(alloc, core, port, at);
@@ -216,7 +226,8 @@ fn hand<P: DeskPort>(
     abort_desk(alloc, core, at)
 }
 
-/// An instance goes over in a context of its class and transfer syntax; where there is none the row is settled so.
+/// An instance goes over in a context of its class and transfer syntax; where there is none the row
+/// is settled so.
 fn give<P: DeskPort>(
     alloc: Global,
     job: Job,
@@ -226,7 +237,8 @@ fn give<P: DeskPort>(
 ) -> Result<Effect, AllocError>
     requires now { at.now ≤ 2 ^ 62 }
     requires named { can_be_named job ≡ true }
-    ensures done { IfOk result (λ e. Turns P.step (gives core.agreed at job core) port.old e port.new) }
+    ensures done { IfOk result (λ e.
+        Turns P.step (gives core.agreed at job core) port.old e port.new) }
     ensures broke { OnErr result (Broke P.step (gives core.agreed at job core) port.old port.new) }
 {
     let Some(agreed) = &core.as_core().agreed else {
@@ -247,7 +259,9 @@ fn give_in(
     at: Moment,
 ) -> Result<Effect, AllocError>
     requires { can_be_named job ≡ true }
-    ensures { IfOk result (λ e. (agreed : AgreedOn) → core.agreed ≡ Some agreed → gives_in (Some context) agreed at job core ≡ Ends e) }
+    ensures { IfOk result (λ e. (agreed : AgreedOn)
+        → core.agreed ≡ Some agreed
+        → gives_in (Some context) agreed at job core ≡ Ends e) }
 {
     let id = next_id(core.as_core().last);
     let action = write_in(alloc, context, id, &job, core.as_core())?;
@@ -269,7 +283,9 @@ fn write_in(
     core: &Core,
 ) -> Result<LinkAction, AllocError>
     requires { can_be_named job.now ≡ true }
-    ensures { IfOk result (λ a. (agreed : AgreedOn) → core.now.agreed ≡ Some agreed → a ≡ write (store_pdus agreed context id job.now)) }
+    ensures { IfOk result (λ a. (agreed : AgreedOn)
+        → core.now.agreed ≡ Some agreed
+        → a ≡ write (store_pdus agreed context id job.now)) }
 {
     match &core.agreed {
         Some(agreed) => write_store(alloc, agreed, context, id, job),

@@ -3,9 +3,13 @@ ghost use Rattle.std.specs.Prelude.{◌≡◌, ◌∷◌, [], ◌≤◌, ◌^◌
 ghost use Rattle.dr_pdu.specs.declared.pdu.Pdu.TheVariants as pdu;
 ghost use Rattle.dr_session.specs.declared.ends.LinkAction.TheVariants.{Close};
 ghost use Rattle.dr_session.specs.Fits.{ToldFits, IsHeard, heard_as, IsLooked, told_as};
-ghost use Rattle.dr_session.specs.Reactions.{acts, hears, turn, event_of, is_taken, is_taken_at, effect, write, abort_pdu, aborted, leaves, reason_of, has_waited, is_impatient as is_impatient_since, is_idle, stepped_by, released, collides, noted};
+ghost use Rattle.dr_session.specs.Reactions.{acts, hears, turn, event_of, is_taken, is_taken_at};
+ghost use Rattle.dr_session.specs.Reactions.{effect, write, abort_pdu, aborted, leaves, reason_of};
+ghost use Rattle.dr_session.specs.Reactions.{has_waited, is_impatient as is_impatient_since};
+ghost use Rattle.dr_session.specs.Reactions.{is_idle, stepped_by, released, collides, noted};
 ghost use Rattle.dr_session.specs.Turns.{Turns, Broke, Ends};
-ghost use Rattle.dr_ulstate.specs.Phases.{event_of as event_of_incoming, is_acceptable as is_acceptable_incoming};
+ghost use Rattle.dr_ulstate.specs.Phases.{event_of as event_of_incoming};
+ghost use Rattle.dr_ulstate.specs.Phases.{is_acceptable as is_acceptable_incoming};
 ghost use Rattle.dr_ulstate.specs.declared.table.Action.TheVariants.{Ae3, Ae4, Ae6};
 ghost use Rattle.dr_ulstate.specs.declared.table.Event.TheVariants.{ReleaseResponse, AbortRequest};
 
@@ -75,8 +79,10 @@ fn hear_whole<P: DeskPort>(
 ) -> Result<Effect, AllocError>
     requires now { at.now ≤ 2 ^ 62 }
     requires fits { ToldFits (Told.Whole context of command) }
-    ensures done { IfOk result (λ e. Turns P.step (hears (Told.Whole context of command) at core) port.old e port.new) }
-    ensures broke { OnErr result (Broke P.step (hears (Told.Whole context of command) at core) port.old port.new) }
+    ensures done { IfOk result (λ e.
+        Turns P.step (hears (Told.Whole context of command) at core) port.old e port.new) }
+    ensures broke { OnErr result
+        (Broke P.step (hears (Told.Whole context of command) at core) port.old port.new) }
 {
     if core.is_requestor() {
         return hear_response(alloc, context, &command, core, port, at);
@@ -84,7 +90,8 @@ fn hear_whole<P: DeskPort>(
     answer_request(alloc, context, of, command, core)
 }
 
-/// Why the service provider aborts (PS3.8 9.3.8): an unknown type, a PDU out of place, or an invalid one.
+/// Why the service provider aborts (PS3.8 9.3.8): an unknown type, a PDU out of place, or an
+/// invalid one.
 fn reason(told: &Told) -> u8
     ensures { result ≡ reason_of told.now }
 {
@@ -98,7 +105,9 @@ fn reason(told: &Told) -> u8
 
 /// The release is answered.
 fn answer_release(alloc: Global, core: BoxedCore, now: u64) -> Result<Effect, AllocError>
-    ensures { IfOk result (λ e. e ≡ effect (write (pdu.ReleaseRp ∷ []) ∷ []) (released (stepped_by ReleaseResponse now core))) }
+    ensures { IfOk result (λ e. e
+        ≡ effect (write (pdu.ReleaseRp ∷ []) ∷ [])
+        (released (stepped_by ReleaseResponse now core))) }
 {
     let action = write_release_answer(alloc)?;
     act_once(alloc, action, core.respond(now).mark_released())
@@ -106,7 +115,8 @@ fn answer_release(alloc: Global, core: BoxedCore, now: u64) -> Result<Effect, Al
 
 /// The release is asked for, and its answer awaited.
 fn ask_release(alloc: Global, core: BoxedCore, now: u64) -> Result<Effect, AllocError>
-    ensures { IfOk result (λ e. e ≡ effect (write (pdu.ReleaseRq ∷ []) ∷ []) (record core { awaits = Some now })) }
+    ensures { IfOk result (λ e.
+        e ≡ effect (write (pdu.ReleaseRq ∷ []) ∷ []) (record core { awaits = Some now })) }
 {
     let action = write_release_request(alloc)?;
     act_once(alloc, action, core.await_since(now))
@@ -195,8 +205,12 @@ fn leave_aborting<P: DeskPort>(
     at: Moment,
 ) -> Result<Effect, AllocError>
     requires { at.now ≤ 2 ^ 62 }
-    ensures done { IfOk result (λ e. Turns P.step (leaves at (write (abort_pdu source reason ∷ []) ∷ []) (aborted core)) port.old e port.new) }
-    ensures broke { OnErr result (Broke P.step (leaves at (write (abort_pdu source reason ∷ []) ∷ []) (aborted core)) port.old port.new) }
+    ensures done { IfOk result (λ e. Turns P.step
+        (leaves at (write (abort_pdu source reason ∷ []) ∷ []) (aborted core)) port.old e
+        port.new) }
+    ensures broke { OnErr result
+        (Broke P.step (leaves at (write (abort_pdu source reason ∷ []) ∷ []) (aborted core))
+        port.old port.new) }
 {
     let action = write_abort(alloc, source, reason)?;
     leave_with(alloc, action, core.mark_aborted(), port, at)
@@ -210,7 +224,8 @@ fn leave_closing<P: DeskPort>(
     at: Moment,
 ) -> Result<Effect, AllocError>
     requires { at.now ≤ 2 ^ 62 }
-    ensures done { IfOk result (λ e. Turns P.step (leaves at (Close ∷ []) core) port.old e port.new) }
+    ensures done { IfOk result (λ e.
+        Turns P.step (leaves at (Close ∷ []) core) port.old e port.new) }
     ensures broke { OnErr result (Broke P.step (leaves at (Close ∷ []) core) port.old port.new) }
 {
     leave_with(alloc, LinkAction::Close, core, port, at)
@@ -224,8 +239,13 @@ fn leave_released<P: DeskPort>(
     at: Moment,
 ) -> Result<Effect, AllocError>
     requires { at.now ≤ 2 ^ 62 }
-    ensures done { IfOk result (λ e. Turns P.step (leaves at (write (pdu.ReleaseRp ∷ []) ∷ []) (released (stepped_by ReleaseResponse at.now core))) port.old e port.new) }
-    ensures broke { OnErr result (Broke P.step (leaves at (write (pdu.ReleaseRp ∷ []) ∷ []) (released (stepped_by ReleaseResponse at.now core))) port.old port.new) }
+    ensures done { IfOk result (λ e. Turns P.step
+        (leaves at (write (pdu.ReleaseRp ∷ []) ∷ [])
+        (released (stepped_by ReleaseResponse at.now core))) port.old e port.new) }
+    ensures broke { OnErr result
+        (Broke P.step
+        (leaves at (write (pdu.ReleaseRp ∷ []) ∷ [])
+        (released (stepped_by ReleaseResponse at.now core))) port.old port.new) }
 {
     let action = write_release_answer(alloc)?;
     let core = core.respond(at.now).mark_released();
@@ -349,8 +369,10 @@ fn meet_release<P: DeskPort>(
     at: Moment,
 ) -> Result<Effect, AllocError>
     requires { at.now ≤ 2 ^ 62 }
-    ensures done { IfOk result (λ e. Turns P.step (turn at core (Told.Plain Input.ReleaseAsked)) port.old e port.new) }
-    ensures broke { OnErr result (Broke P.step (turn at core (Told.Plain Input.ReleaseAsked)) port.old port.new) }
+    ensures done { IfOk result (λ e.
+        Turns P.step (turn at core (Told.Plain Input.ReleaseAsked)) port.old e port.new) }
+    ensures broke { OnErr result
+        (Broke P.step (turn at core (Told.Plain Input.ReleaseAsked)) port.old port.new) }
 {
     if !is_idle_requestor(core.as_core()) {
         return Ok(quiet(alloc, core));
@@ -376,8 +398,10 @@ fn meet_push<P: DeskPort>(
     at: Moment,
 ) -> Result<Effect, AllocError>
     requires { at.now ≤ 2 ^ 62 }
-    ensures done { IfOk result (λ e. Turns P.step (turn at core (Told.Plain Input.PushAsked)) port.old e port.new) }
-    ensures broke { OnErr result (Broke P.step (turn at core (Told.Plain Input.PushAsked)) port.old port.new) }
+    ensures done { IfOk result (λ e.
+        Turns P.step (turn at core (Told.Plain Input.PushAsked)) port.old e port.new) }
+    ensures broke { OnErr result
+        (Broke P.step (turn at core (Told.Plain Input.PushAsked)) port.old port.new) }
 {
     if !is_free(core.as_core()) {
         return Ok(quiet(alloc, core));
@@ -395,7 +419,8 @@ fn is_idle_requestor(core: &Core) -> bool
     core.phase.is_requestor() && core.pending.is_none()
 }
 
-/// Time has passed: the table's timer ends, or a requestor that has awaited an answer for too long aborts.
+/// Time has passed: the table's timer ends, or a requestor that has awaited an answer for too long
+/// aborts.
 fn meet_late<P: DeskPort>(
     alloc: Global,
     core: BoxedCore,
@@ -403,8 +428,10 @@ fn meet_late<P: DeskPort>(
     at: Moment,
 ) -> Result<Effect, AllocError>
     requires { at.now ≤ 2 ^ 62 }
-    ensures done { IfOk result (λ e. Turns P.step (turn at core (Told.Plain Input.Late)) port.old e port.new) }
-    ensures broke { OnErr result (Broke P.step (turn at core (Told.Plain Input.Late)) port.old port.new) }
+    ensures done { IfOk result (λ e.
+        Turns P.step (turn at core (Told.Plain Input.Late)) port.old e port.new) }
+    ensures broke { OnErr result
+        (Broke P.step (turn at core (Told.Plain Input.Late)) port.old port.new) }
 {
     if core.as_core().phase.artim_has_expired(at.now) {
         return match core.step_late(at.now) {
@@ -445,8 +472,10 @@ fn meet_request<P: DeskPort>(
 ) -> Result<Effect, AllocError>
     requires now { at.now ≤ 2 ^ 62 }
     requires fits { ToldFits (Told.Plain (Input.Request rq)) }
-    ensures done { IfOk result (λ e. Turns P.step (turn at core (Told.Plain (Input.Request rq))) port.old e port.new) }
-    ensures broke { OnErr result (Broke P.step (turn at core (Told.Plain (Input.Request rq))) port.old port.new) }
+    ensures done { IfOk result (λ e.
+        Turns P.step (turn at core (Told.Plain (Input.Request rq))) port.old e port.new) }
+    ensures broke { OnErr result
+        (Broke P.step (turn at core (Told.Plain (Input.Request rq))) port.old port.new) }
 {
     let acceptable = is_acceptable(alloc, &rq, core.as_core(), at)?;
     let incoming = Incoming::AssociateRq { acceptable };
@@ -483,8 +512,10 @@ fn turn_plain<P: DeskPort>(
 ) -> Result<Effect, AllocError>
     requires now { at.now ≤ 2 ^ 62 }
     requires fits { ToldFits (Told.Plain input) }
-    ensures done { IfOk result (λ e. Turns P.step (turn at core (Told.Plain input)) port.old e port.new) }
-    ensures broke { OnErr result (Broke P.step (turn at core (Told.Plain input)) port.old port.new) }
+    ensures done { IfOk result (λ e.
+        Turns P.step (turn at core (Told.Plain input)) port.old e port.new) }
+    ensures broke { OnErr result
+        (Broke P.step (turn at core (Told.Plain input)) port.old port.new) }
 {
     match input {
         Input::Request(rq) => meet_request(alloc, rq, core, port, at),
@@ -517,8 +548,10 @@ fn turn_heard<P: DeskPort>(
 ) -> Result<Effect, AllocError>
     requires now { at.now ≤ 2 ^ 62 }
     requires heard { IsHeard input }
-    ensures done { IfOk result (λ e. Turns P.step (turn at core (Told.Plain input)) port.old e port.new) }
-    ensures broke { OnErr result (Broke P.step (turn at core (Told.Plain input)) port.old port.new) }
+    ensures done { IfOk result (λ e.
+        Turns P.step (turn at core (Told.Plain input)) port.old e port.new) }
+    ensures broke { OnErr result
+        (Broke P.step (turn at core (Told.Plain input)) port.old port.new) }
 {
     let incoming = incoming_of(&input);
     meet(alloc, incoming, Told::Plain(input), core, port, at)
