@@ -254,7 +254,7 @@ pub record Responses (c : Core) (at : Moment) (class uid : Text) : Type 0 where
       ≡ Some (Settle uid c.peer Broken at.now)
   pub an_echo : hears_then c at (asked_for Store uid) 3 (EchoRsp 7 0 class false)
       ≡ Some (Settle uid c.peer Broken at.now)
-  pub another : hears_then c at (asked_for Store uid) 3 (Other 0x8020 7 (Some 0) false)
+  pub another : hears_then c at (asked_for Store uid) 3 (Other 0x8020 (Some 7) (Some 0) false)
       ≡ Some (Settle uid c.peer Broken at.now)
   pub echoed : hears_then c at (asked_for Echo []) 3 (EchoRsp 7 0 class false)
       ≡ Some (Settle [] c.peer (Status 0) at.now)
