@@ -20,7 +20,6 @@ LOGIC = range(-1, 5)
 # The operators that end a line.
 TRAILING = (";", ",", "=", ":", "↦")
 OPEN = {"(": ")", "[": "]", "{": "}", "∥": "∥₁"}
-ENDS = {*OPEN.values(), "in", "then", "else"}
 # Parts as short as this share a line.
 SHORT = 24
 
@@ -47,10 +46,10 @@ class Node:
 
 
 class Parser:
-    """Reads words as a tree."""
+    """Reads words as a tree. What it awaits is the words that end a part of a let or of an if."""
 
     def __init__(self, words):
-        self.words, self.at = words, 0
+        self.words, self.at, self.awaited = words, 0, ()
 
     def text(self):
         """The word that is next, or none."""
@@ -70,7 +69,8 @@ class Parser:
     def app(self):
         """What stands side by side, up to an operator or the end of what is in brackets."""
         first, parts = self.at, []
-        while self.text() and self.text() not in LEVELS and self.text() not in ENDS:
+        ends = {"", *LEVELS, *OPEN.values()}
+        while self.text() not in ends and self.text() not in self.awaited:
             parts.append(self.item())
         return parts[0] if len(parts) == 1 else Node("app", first, self.at, parts)
 
@@ -83,13 +83,19 @@ class Parser:
         self.at += 1
         if text not in OPEN:
             return Node("word", first, self.at)
-        inner = self.chain()
+        inner = self.up_to((), TOP)
         while self.text() and self.text() not in OPEN.values():
             self.at += 1
         self.at += self.text() == OPEN[text]
         while self.text().startswith(".") and not self.words[self.at].blank:
             self.at += 1
         return Node("group", first, self.at, [inner])
+
+    def up_to(self, awaited, level):
+        """What stands before one of these words, or in brackets."""
+        before, self.awaited = self.awaited, awaited
+        found, self.awaited = self.chain(level), before
+        return found
 
     def head(self):
         """A λ up to its point, and what follows as far as it goes."""
@@ -104,7 +110,7 @@ class Parser:
         """A let: what it binds, and what stands behind its in."""
         first = self.at
         self.at += 1
-        bound = self.chain(LEVELS["="])
+        bound = self.up_to(("in",), LEVELS["="])
         self.at += self.text() == "in"
         body = self.chain(LEVELS["→"])
         return Node("let", first, self.at, [bound, body])
@@ -112,10 +118,13 @@ class Parser:
     def choice(self):
         """An if, with its three parts."""
         first, parts = self.at, []
-        for word, level in (("if", LEVELS["→"]), ("then", LEVELS["→"]), ("else", ELSE)):
+        for word, end in (("if", "then"), ("then", "else")):
             if self.text() == word:
                 self.at += 1
-                parts.append(self.chain(level))
+                parts.append(self.up_to((end,), LEVELS["→"]))
+        if self.text() == "else":
+            self.at += 1
+            parts.append(self.chain(ELSE))
         return Node("choice", first, self.at, parts)
 
 
@@ -165,9 +174,9 @@ class Layout:
 
     def is_block(self, node):
         """Whether it is a record's fields or an elim's cases, which have a line each."""
-        if node.kind != "group":
-            return False
         words = [it.text for it in self.words[node.first:node.end]]
+        if node.kind != "group" or OPEN[words[0]] not in words:
+            return False
         is_record = words[0] == "{" and words[2:3] == ["="] and self.blank(node.first + 1)
         return is_record or words[0] == "[" and "↦" in words
 

@@ -3,12 +3,13 @@
 checkout where no folder is named. With `--check` it changes nothing, lists the lines over 100
 columns, and ends with status 1 where there are some.
 
-It takes the `.rt` files of each src/, and the `.antt` files of each specs/. A clause or a
-definition of which a line is too long is laid out anew (tools/clauses.py); an import of many names
-becomes several of the same module, since the kit's formatter would give each name a line; a comment
-flows on at words. Then the formatter lays out the file. The kit reads the file before and after:
-where it finds another token, the file stays as it was. What has no long line stays as it is. A line
-that can't be broken is listed, but for a text that is alone on its line.
+It takes the `.rt` files of each src/ and the `.antt` files of each specs/, or with `--proofs` those
+of each proofs/. A clause or a definition of which a line is too long is laid out anew
+(tools/clauses.py); an import of many names becomes several of the same module, since the kit's
+formatter would give each name a line; a comment flows on at words. Then the formatter lays out the
+file. The kit reads the file before and after: where it finds another token, the file stays as it
+was. What has no long line stays as it is. A line that can't be broken is listed, but for a text
+that is alone on its line.
 """
 import json
 import os
@@ -24,18 +25,22 @@ COMMENT = re.compile(r"(\s*(?://[/!]?|--))( |$)(.*)$")
 # A comment behind a definition, and a text that is alone on its line.
 BEHIND = re.compile(r"(\s*)(?!--)(\S.*?)\s+-- (.*)$")
 ALONE = re.compile(r'\s*b?"(?:[^"\\]|\\.)*"[,;)]*$')
+# A line that none goes on with: it begins a block, has nothing, or is a comment.
+ENDS = re.compile(r"(^|\s)(where|do)$|^\s*(--|$)")
 # What a list's item begins with; and what begins a line of comment that no line before flows into.
 MARK = re.compile(r" *(?:[-*+] +|\d+[.)] +)?")
 OWN_LINE = re.compile(r"([-*+>] |\d+[.)] |#|\||```| |$)")
+# The folders of a crate that are looked into, and what their files end in.
+PARTS, PROOFS = {"src": ".rt", "specs": ".antt"}, {"proofs": ".antt"}
 # After so many rounds nothing has been found to change.
 ROUNDS = 6
 
 
-def sources(top):
+def sources(top, parts=PARTS):
     """The files that this is about."""
     found = []
     for crate in sorted(os.listdir(f"{top}/crates")):
-        for part, ending in (("src", ".rt"), ("specs", ".antt")):
+        for part, ending in parts.items():
             for at, _, files in os.walk(f"{top}/crates/{crate}/{part}"):
                 found += [f"{at}/{it}" for it in files if it.endswith(ending)]
     return sorted(found)
@@ -264,11 +269,12 @@ def clauses(data, tokens):
 
 def units(lines):
     """The lines of a `.antt` file that belong together: a line, and those behind it that go on with
-    it, which are set in by four more."""
+    it, which are set in by four more. What begins a block ends them, and nothing goes on with a
+    blank line or a comment."""
     at = 0
     while at < len(lines):
-        end, goes_on = at + 1, " " * (depth(lines[at]) + 4)
-        while end < len(lines) and re.match(rf"{goes_on}(?! |--)", lines[end]):
+        end, goes_on = at + 1, re.compile(" " * (depth(lines[at]) + 4) + "(?! |--)")
+        while end < len(lines) and goes_on.match(lines[end]) and not ENDS.search(lines[end - 1]):
             end += 1
         yield at, end
         at = end
@@ -332,9 +338,9 @@ def too_long(paths):
 
 
 def main(words):
-    folders = [it for it in words if it != "--check"]
+    folders = [it for it in words if not it.startswith("--")]
     top = os.path.abspath(folders[0]) if folders else TOP
-    paths = sources(top)
+    paths = sources(top, PROOFS if "--proofs" in words else PARTS)
     for path in [] if "--check" in words else wrap(paths):
         print(f"{os.path.relpath(path, top)}: left, since the kit reads it otherwise when wrapped")
     found = list(too_long(paths))
