@@ -2,7 +2,7 @@ pub mod Beginning
 pub mod Calling
 pub mod Counted
 pub mod AtNodes
-pub mod Forgetting
+pub mod LettingGo
 pub mod Stepping
 pub mod Sited
 pub mod Noted

@@ -27,7 +27,7 @@ use Rattle.dr_world.specs.Nodes.{seat_of}
 use Rattle.dr_world.specs.Whole.{AllStand, Calls, CallsIn, Drops, HasTicked, IsToldToRefuse, Puts}
 use Rattle.dr_world.specs.Whole.{StepsTo, Submits, contents, noted}
 use Rattle.dr_world.proofs.AtNodes.{ticks, strangers, submits, requeues, refuses}
-use Rattle.dr_world.proofs.Forgetting.{forgets, none_over, some_over, under_way_stays}
+use Rattle.dr_world.proofs.LettingGo.{forgets, none_over, some_over, under_way_stays}
 
 -- a node whose ledger alone has changed is one of the plan still
 seated : (plan : Network) (certificate : Certificate) (seats : Seats) (name : Text) (seat : Seat) (t : Desk) → seats name ≡ Some seat → IsSeated plan certificate seats → IsSeated plan certificate (with_seat seats name (with_desk_of seat t))

@@ -205,11 +205,11 @@ lasts_grown : (old new : World) → WorldGrows old new → Lasts old new
 lasts_grown old new g = record { items = λ name. (g.books name).items; kept = λ name. (g.books name).kept; journal = λ name. (g.books name).lines }
 
 lasts_same : (w : World) → Lasts w w
-lasts_same w = record { items = λ name uid item h. h; kept = λ name uid h. h; journal = λ name. ([], sym (append-nil (w.books name).lines)) }
+lasts_same w = record { items = λ name uid item k h. h; kept = λ name uid h. h; journal = λ name. ([], sym (append-nil (w.books name).lines)) }
 
 lasts_on : (a b c : World) → Lasts a b → Lasts b c → Lasts a c
 lasts_on a b c f g = record {
-  items = λ name uid item h. g.items name uid item (f.items name uid item h);
+  items = λ name uid item k h. g.items name uid item (f.kept name uid k) (f.items name uid item k h);
   kept = λ name uid h. g.kept name uid (f.kept name uid h);
   journal = λ name.
       let x = f.journal name in

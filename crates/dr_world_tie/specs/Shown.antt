@@ -20,7 +20,7 @@ use Rattle.dr_world_model.specs.Theorem.{Lasts}
 use Rattle.dr_world_tie.specs.Channels.{Terminal, Channel, ShowsLink}
 use Rattle.dr_world_tie.specs.Ties.{IsDeskOf, IsData}
 use Rattle.dr_world_tie.specs.Moves.{IsLeft, IsOfReceiver, IsOfCaller}
-use Rattle.dr_world_tie.specs.ByteWorlds.{ByteWorld, beginning, WorldStep, Submit, Open, Push, Move, Abort, Release, Close, Late, Restart, Requeue, Forget, Tick, Refuse, Side, Requestor, Acceptor, StepNote, Skipped, UnderWay, Steps}
+use Rattle.dr_world_tie.specs.ByteWorlds.{ByteWorld, beginning, WorldStep, Submit, Open, Push, Move, Abort, Release, Close, Late, Restart, Requeue, Forget, Tick, Refuse, Side, Requestor, Acceptor, StepNote, Skipped, Steps}
 
 -- a number has a channel and the link that it is, or neither
 abbrev pub ShowsAt : Network → Certificate → Option Channel → Option Link → Type 0

@@ -1,5 +1,5 @@
 use Rattle.dr_world.proofs.AtNodes.{strangers, submits, requeues, refuses}
-use Rattle.dr_world.proofs.Forgetting.{forgets, under_way_stays}
+use Rattle.dr_world.proofs.LettingGo.{forgets, under_way_stays}
 use Rattle.dr_world.proofs.laws.acts_at_nodes.Goals as goal
 
 pub returns-clause-stranger : goal.returns-clause-stranger
