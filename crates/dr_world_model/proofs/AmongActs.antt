@@ -1,5 +1,5 @@
 -- Among other makers' products: what each act keeps, and that what is safe has the headline of our nodes.
-use Rattle.std.specs.Prelude.{◌≡◌, ◌≢◌, ℕ, ◌≤◌, ◌⊎◌, Bool, true, false, List, [], ◌∷◌, Contains, length, Option, None, Some, Ok, Err}
+use Rattle.std.specs.Prelude.{◌≡◌, ◌≢◌, ℕ, ◌⊎◌, Bool, true, false, List, [], ◌∷◌, Contains, Option, None, Some}
 use Rattle.std.proofs.Common.{refl, sym, ap, subst, ◌∙◌}
 use mathlib.Core.Logic.{inl, inr}
 use Rattle.std.specs.Ordering.{nat_cmp}
@@ -7,42 +7,38 @@ use Rattle.std.specs.FinMap as map
 use Rattle.std.specs.FinMap.{FinMap}
 use Rattle.std.specs.FinSet as set
 use Rattle.dr_base.specs.Texts.{Text}
-use Rattle.dr_base.specs.declared.syntax.Syntax.{Syntax}
 use Rattle.dr_route.specs.Routes.{local}
 use Rattle.dr_plan_model.specs.Networks.{Network}
-use Rattle.dr_plan_model.specs.Walks.{Accepts, Goes, GoesOver, IsDestination, IsReached, IsWalk, Keeps, Sends, last_place}
+use Rattle.dr_plan_model.specs.Walks.{Goes, IsDestination, IsReached, IsWalk, Keeps, Sends, last_place}
 use Rattle.dr_plan_model.proofs.Gathered.{nothing_in_nil}
 use Rattle.dr_plan_sound.specs.Soundness.{IsSound}
 use Rattle.dr_plan_sound.proofs.Ranks.{sound_has_rank}
-use Rattle.dr_ledger.specs.declared.fault.LedgerFault.TheVariants as fault
 use Rattle.dr_ledger.specs.declared.item.Instance.{Instance}
 use Rattle.dr_ledger.specs.declared.item.Outcome.TheVariants.{Status, Broken, NoContext}
-use Rattle.dr_ledger.specs.declared.item.Progress.{Progress}
 use Rattle.dr_ledger.specs.declared.item.Progress.TheVariants.{Waiting, Done}
 use Rattle.dr_ledger.specs.Books.{Book, Line, Settling, Adoption, after, empty_book, Fold}
 use Rattle.dr_ledger.specs.Pairs.{pair_cmp}
-use Rattle.dr_ledger.specs.Replies.{IsNext}
 use Rattle.dr_ledger.proofs.Folding.{fold_after}
 use Rattle.dr_ledger.proofs.Growing.{inside as some_inside}
 use Rattle.dr_ledger.proofs.Maps.{cases_of, got}
 use Rattle.dr_ledger.proofs.Succeeded.{none_since, none_yet}
 use Rattle.dr_ledger.proofs.Since.{none_taken, nothing_taken}
 use Rattle.dr_ledger.specs.OneNode.{HasSucceededSince}
-use Rattle.dr_world_model.specs.Among.{Ours, ArrivesAtOurs, Doing, Calls, Takes, Agrees, Stores, Replies, Each, answered_link, TakesOther, OtherAgrees, OtherStores, OtherReplies, Does, MayTurn, Turns, Act, Own, Other, Turn, RunsAmong, Entered, HasEntry, AreOurs, IsHandedOver, IsCoveredAmong, HeadlineAmong, HeadlineHoldsAmong}
-use Rattle.dr_world_model.specs.Worlds.{World, Link, Contexts, Stage, Asking, Answering, Rejecting, Open, Storing, Replying, Gone, start, with_link, with_links, without_caller, without_receiver, at_stage}
-use Rattle.dr_world_model.specs.Calls.{Reply, Answer, Arriving, Settlement, status_of}
+use Rattle.dr_world_model.specs.Among.{Ours, ArrivesAtOurs, Doing, Calls, Takes, Agrees, Stores, Replies, answered_link, Does, Turns, Act, Own, Other, Turn, RunsAmong, Entered, HasEntry, IsCoveredAmong, HeadlineAmong, HeadlineHoldsAmong}
+use Rattle.dr_world_model.specs.Worlds.{World, Link, Contexts, Stage, Asking, Answering, Rejecting, Open, Storing, Replying, Gone, start, with_link, with_links, without_caller, at_stage}
+use Rattle.dr_world_model.specs.Calls.{Reply, Answer, Settlement, status_of}
 use Rattle.dr_world_model.specs.Steps.{IsLink, SettlesFirst, OpensLink, pending, SettlesPending, Leaves, LeavesIfOn, LeaveAll, callers_of, links_without, ReadsAnswer, Gives, Receives, ReadsReply}
 use Rattle.dr_world_model.specs.Events.{Event, Take, Ask, AgreeReceiver, AgreeCaller, Give, Receive, Answered, BreakCaller, BreakReceiver, Close, Restart, Requeue, Forget, Refuse, Tick, HasNode, Step}
-use Rattle.dr_world_model.specs.Claims.{CoversHop, Has, HadArrival, HasRow, IsFairOutcome, IsFairStatus, IsKept, IsOpen, IsToGo, IsToSend, WasCarriedOver}
+use Rattle.dr_world_model.specs.Claims.{CoversHop, HadArrival, IsKept, IsOpen, IsToGo, IsToSend}
 use Rattle.dr_world_model.proofs.AdoptionsKept.{adopted_right, empty_right, no_row, node_or_not, was_queued}
-use Rattle.dr_world_model.proofs.CallsKept.{IsSuccess, one_item, broken_not_done}
+use Rattle.dr_world_model.proofs.CallsKept.{one_item, broken_not_done}
 use Rattle.dr_world_model.proofs.EventsKept.{covers_of, fair_status_of, not_refused, status_inside, success_of, was_link}
 use Rattle.dr_world_model.proofs.FromSafety.{reaches_keeper}
-use Rattle.dr_world_model.proofs.Keeping.{IsRight, GoesOn, Noted, Took, done_or_queued}
+use Rattle.dr_world_model.proofs.Keeping.{IsRight, Noted, Took, done_or_queued}
 use Rattle.dr_world_model.proofs.Lookups.{numbers}
 use Rattle.dr_world_model.proofs.Safety.{WorldGrows, world_same, world_on, same_grows}
-use Rattle.dr_world_model.proofs.Walking.{destination_before, goes_reached}
-use Rattle.dr_world_model.proofs.AmongSafe.{IsSafeAmong, IsFairFor, IsFairLinkAmong, IsFairAmong, IsSentAmong, PassedBy, among_still, entry_still, fair_among, put_link_among, same_among}
+use Rattle.dr_world_model.proofs.Walking.{goes_reached}
+use Rattle.dr_world_model.proofs.AmongSafe.{IsSafeAmong, IsFairFor, IsFairLinkAmong, IsFairAmong, PassedBy, among_still, entry_still, fair_among, put_link_among, same_among}
 use Rattle.dr_world_model.proofs.AmongCalls.{KeptAmong, arriving_among, forgetting_among, not_both, requeue_among, sent_among, settlement_among, unchanged_among}
 
 -- the new world is safe, and what is kept and was acknowledged stays so

@@ -1,17 +1,16 @@
 -- Where all nodes are ours, the claims among other makers' products are the headline; and the others can do what they want.
-use Rattle.std.specs.Prelude.{◌≡◌, ◌↔◌, ℕ, ◌⊎◌, Bool, true, false, List, [], ◌∷◌, Contains, Option, None, Some}
-use Rattle.std.proofs.Common.{refl, sym, ap, subst, ◌∙◌}
+use Rattle.std.specs.Prelude.{◌≡◌, true, false, List, [], ◌∷◌, Contains}
+use Rattle.std.proofs.Common.{refl}
 use mathlib.Core.Logic.{inl, inr}
 use Rattle.dr_base.specs.Texts.{Text}
 use Rattle.dr_plan_model.specs.Networks.{Network}
 use Rattle.dr_ledger.specs.declared.item.Instance.{Instance}
-use Rattle.dr_ledger.specs.declared.item.Outcome.{Outcome}
 use Rattle.dr_ledger.specs.Books.{Line, Arrival, Repeat, Settling, Requeuing, Forgetting, Adoption}
 use Rattle.dr_world_model.specs.Among.{all_ours, acts_of, AllOursIsTheHeadline, OthersCanDo, ArrivesAtOurs, Doing, Calls, Takes, Agrees, Stores, Replies, Does, Turns, RunsAmong, HasEntry, IsCoveredAmong, HeadlineAmong}
 use Rattle.dr_world_model.specs.Worlds.{World}
 use Rattle.dr_world_model.specs.Events.{Event, Take, Ask, AgreeReceiver, AgreeCaller, Give, Receive, Answered, BreakCaller, BreakReceiver, Close, Restart, Requeue, Forget, Refuse, Tick}
 use Rattle.dr_world_model.specs.Runs.{Action, Occurs, Adopt, Adopts, Runs}
-use Rattle.dr_world_model.specs.Claims.{HasSource, Headline, IsCovered, IsFairLine, NoneRefused}
+use Rattle.dr_world_model.specs.Claims.{HasSource, Headline, IsCovered, IsFairLine}
 
 no_other : {P : Type 0} → true ≡ false → P
 no_other e = absurd (let f : ⊥ = cc in f)

@@ -26,7 +26,7 @@ use Rattle.dr_ledger.proofs.Succeeded.{NotesSuccess, succeeded_before, succeeded
 use Rattle.dr_ledger.proofs.Growing.{inside as some_inside, row_put, settled_is, requeued_is}
 use Rattle.dr_ledger.proofs.Maps.{texts, same_or_not}
 use Rattle.dr_ledger.proofs.Since.{Acknowledges, IsPlain}
-use Rattle.dr_world_model.specs.Worlds.{World, Link, with_book, with_armed}
+use Rattle.dr_world_model.specs.Worlds.{World, with_book, with_armed}
 use Rattle.dr_world_model.specs.Calls.{Reply, Answer, Arriving, Settlement, Requeueing, Dropping}
 use Rattle.dr_world_model.specs.Steps.{NoneIsPending}
 use Rattle.dr_world_model.specs.Claims.{Has, HadArrival, HasSource, IsFairLine, IsFairOutcome, IsFairStatus, WasCarriedOver}

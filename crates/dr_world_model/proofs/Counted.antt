@@ -1,13 +1,12 @@
 -- Who is counted as another association.
-use Rattle.std.specs.Prelude.{◌≡◌, ℕ, Bool, true, false, not, cond, ◌&&◌, Contains, Option, None, Some, is_some}
+use Rattle.std.specs.Prelude.{◌≡◌, ℕ, Bool, true, false, not, cond, ◌&&◌, Option, None, Some, is_some}
 use Rattle.std.proofs.Common.{refl, sym, ap, ◌∙◌}
-use mathlib.Core.Logic.{inl, inr}
 use Rattle.std.specs.Ordering.{nat_cmp, eq_by_cmp}
 use Rattle.std.specs.FinMap as map
 use Rattle.std.proofs.lemmas.Map.Views.{tells_apart}
 use Rattle.dr_base.specs.Texts.{Text}
-use Rattle.dr_ledger.proofs.Maps.{texts, cases_of, ties_itself}
-use Rattle.dr_world_model.specs.Worlds.{World, Link, Stage, Asking, Answering, Rejecting, Open, Storing, Replying, Gone, same_text}
+use Rattle.dr_ledger.proofs.Maps.{texts, ties_itself}
+use Rattle.dr_world_model.specs.Worlds.{Link, Stage, Asking, Answering, Rejecting, Open, Storing, Replying, Gone, same_text}
 use Rattle.dr_world_model.specs.Steps.{has_accepted, is_accepted, others_of}
 use Rattle.dr_world_model.specs.Pinning.{IsAccepted, answering, opened, storing, replying, OthersAreCounted}
 use Rattle.dr_world_model.proofs.Lookups.{numbers}

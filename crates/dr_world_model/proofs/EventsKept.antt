@@ -15,13 +15,12 @@ use Rattle.dr_ledger.specs.declared.fault.LedgerFault.TheVariants as fault
 use Rattle.dr_ledger.specs.declared.item.Instance.{Instance}
 use Rattle.dr_ledger.specs.declared.item.Outcome.TheVariants.{Status, Broken}
 use Rattle.dr_ledger.specs.declared.item.Progress.TheVariants.{Waiting}
-use Rattle.dr_ledger.specs.Books.{Book}
 use Rattle.dr_ledger.specs.Replies.{IsNext}
 use Rattle.dr_world_model.specs.Worlds.{World, Link, Contexts, Stage, Asking, Answering, Rejecting, Open, Storing, Replying, Gone, with_link, with_links, without_caller, at_stage}
 use Rattle.dr_world_model.specs.Calls.{Reply, Answer, Arriving, Settlement, status_of}
 use Rattle.dr_world_model.specs.Steps.{IsLink, AcceptsOffered, SettlesFirst, OpensLink, pending, SettlesPending, Leaves, LeavesIfOn, LeaveAll, callers_of, links_without, is_of, ReadsAnswer, Gives, Receives, ReadsReply}
 use Rattle.dr_world_model.specs.Events.{Event, Take, Ask, AgreeReceiver, AgreeCaller, Give, Receive, Answered, BreakCaller, BreakReceiver, Close, Restart, Requeue, Forget, Refuse, Tick, Step}
-use Rattle.dr_world_model.specs.Claims.{Has, HadArrival, IsFairStatus, CoversHop}
+use Rattle.dr_world_model.specs.Claims.{HadArrival, IsFairStatus, CoversHop}
 use Rattle.dr_ledger.proofs.Maps.{got}
 use Rattle.dr_world_model.proofs.Lookups.{numbers}
 use Rattle.dr_world_model.proofs.Walking.{goes_reached}

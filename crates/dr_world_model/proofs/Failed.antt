@@ -1,7 +1,6 @@
 -- Worlds of which a claim of the headline is false.
 use Rattle.std.proofs.Common.{◌≡◌, ◌≢◌, refl, sym, ap, subst, ◌∙◌, inl, inr, ℕ, zero, suc, ◌-◌, Bool, true, false, cond, List, [], ◌∷◌, Contains, Some}
 use Rattle.std.specs.declared.cmp.Ordering.{Ordering}
-use Rattle.std.specs.Ordering.{nat_cmp}
 use Rattle.std.specs.FinMap as map
 use Rattle.std.specs.FinMap.{FinMap}
 use Rattle.std.specs.FinSet as set
@@ -21,8 +20,8 @@ use Rattle.dr_ledger.specs.Books.{Book, Line, Arrival, Repeat, Forgetting, Settl
 use Rattle.dr_ledger.specs.OneNode.{HasSucceededSince}
 use Rattle.dr_ledger.specs.Pairs.{Pair, pair_cmp}
 use Rattle.dr_ledger.proofs.Growing.{inside}
-use Rattle.dr_ledger.proofs.Maps.{texts, text_pairs, cases_of, same_or_not, ties_itself, contains_new, contained, get_new, got, filled_is}
-use Rattle.dr_world_model.specs.Worlds.{World, Link, Open, Replying, start, same_text}
+use Rattle.dr_ledger.proofs.Maps.{texts, text_pairs, cases_of, same_or_not, ties_itself, contains_new, get_new, got, filled_is}
+use Rattle.dr_world_model.specs.Worlds.{World, Open, Replying, start, same_text}
 use Rattle.dr_world_model.specs.Claims.{Has, HadArrival, HasItems, HasRow, IsQueued, IsHonest, IsToSend, NoneRefused, NothingLost, WasCarriedOver, WithinRank}
 use Rattle.dr_world_model.specs.Failing.{ClaimsCanFail, LeadsNowhere, acknowledged, answered_for_nothing, brought_by, carried_and_lost, come_from_nowhere, done_and_gone, done_for_nothing, forgotten_too_early, keeps_instead, kept_as_another, link_at, noted_without_item, noted_without_line, only, opened_without_pairs, queued_astray, queued_for_nothing, queued_unsaid, settled_strangely, settled_without_context, strange_status, success_for_nothing, under_another_uid}
 use Rattle.dr_ledger.proofs.Since.{nothing_taken}
@@ -89,7 +88,7 @@ module _ (caller name : Text) (item : Instance) (rows : FinMap pair_cmp Progress
   from_caller at other h = (let a = taken_of name (brought_by caller item rows kept) at other item h in (a.0, caller_is other a.1))
 
 -- numbers that a number less is told apart by
-is_nothing : ℕ → Bool
+abbrev is_nothing : ℕ → Bool
 is_nothing zero = true
 is_nothing (suc n) = false
 
@@ -118,7 +117,7 @@ module _ (plan : Network) (caller name to : Text) (item other : Instance) where
       let b = queued_unsaid item.uid to item in
       let is = at_name name b in
       let row : HasRow (queued_for_nothing name to item) name item.uid to (Waiting 0 0) =
-          ap (λ (x : Book). map.get x.rows (item.uid, to)) is ∙ get_new text_pairs map.empty (item.uid, to) (Waiting 0 0) in
+      ap (λ (x : Book). map.get x.rows (item.uid, to)) is ∙ get_new text_pairs map.empty (item.uid, to) (Waiting 0 0) in
       let why = h.rows name item.uid to (Waiting 0 0) row in
       elim why.3 [
         | inl taken ↦ nothing_taken taken.0 why.0 (taken_of name b name taken.0 why.0 taken.1).1
@@ -168,9 +167,10 @@ module _ (plan : Network) (caller name to : Text) (item other : Instance) where
         | inr under ↦ elim (same_or_not texts (last_place caller name under.over).1 name) [
           | inl here ↦ elim (got text_pairs map.empty (item.uid, to) (Waiting 0 0) (item.uid, under.to) under.row
               (rows_of name b (last_place caller name under.over).1 (item.uid, under.to) under.row under.at)) [
-                | inl is ↦ (let e : (item.uid, under.to) ≡ (item.uid, to) = is.0 in
-                    nowhere s.0 (subst (λ (at : Text × Text). IsDestination plan at.0 at.1 item.key s.0)
-                      (let e2 : under.to ≡ to = cc in let e3 : ((last_place caller name under.over).1, under.to) ≡ (name, to) = cc in e3) under.goes))
+                | inl is ↦ (let next : under.to ≡ to = ap (λ (q : Pair). q.1) is.0 in
+                    let from : IsDestination plan name under.to item.key s.0 =
+                    subst (λ (at : Text). IsDestination plan at under.to item.key s.0) here under.goes in
+                    nowhere s.0 (subst (λ (at : Text). IsDestination plan name at item.key s.0) next from))
                 | inr was ↦ no_row under.row (sym (map.get-empty pair_cmp (item.uid, under.to)) ∙ was.1)
               ]
           | inr away ↦ no_row under.row (sym (map.get-empty pair_cmp (item.uid, under.to))

@@ -1,5 +1,5 @@
 -- What is safe has the headline.
-use Rattle.std.specs.Prelude.{◌≡◌, ℕ, ◌≤◌, ◌⊎◌, Bool, true, false, List, [], ◌∷◌, length, zero, suc, Some}
+use Rattle.std.specs.Prelude.{◌≡◌, ℕ, ◌≤◌, ◌⊎◌, Bool, true, false, List, [], ◌∷◌, length, zero, suc}
 use Rattle.std.proofs.Common.{refl, sym, ap, subst, ◌∙◌, arith}
 use mathlib.Core.Logic.{inl, inr}
 use Rattle.std.specs.Ordering.{nat_cmp}
@@ -9,16 +9,15 @@ use Rattle.dr_base.specs.Texts.{Text}
 use Rattle.dr_route.specs.Routes.{local}
 use Rattle.dr_route.specs.declared.key.Key.{Key}
 use Rattle.dr_plan_model.specs.Networks.{Network}
-use Rattle.dr_plan_model.specs.Walks.{Sends, Keeps, IsReached, IsWalk, last_place, IsDestination, Goes}
+use Rattle.dr_plan_model.specs.Walks.{Sends, Keeps, IsReached, IsWalk, last_place, IsDestination}
 use Rattle.dr_plan_sound.specs.Soundness.{IsSound}
 use Rattle.dr_plan_sound.proofs.Ranks.{sound_has_rank}
 use Rattle.dr_ledger.specs.declared.item.Instance.{Instance}
-use Rattle.dr_ledger.specs.declared.item.Progress.{Progress}
-use Rattle.dr_ledger.specs.declared.item.Progress.TheVariants.{Waiting, Held, Done}
+use Rattle.dr_ledger.specs.declared.item.Progress.TheVariants.{Done}
 use Rattle.dr_ledger.specs.Pairs.{pair_cmp}
 use Rattle.dr_world_model.specs.Worlds.{World, Contexts, Stage, Asking, Answering, Rejecting, Open, Storing, Replying, Gone, start}
 use Rattle.dr_world_model.specs.Runs.{Action, Occurs, Adopt, Runs}
-use Rattle.dr_world_model.specs.Claims.{Has, HadArrival, HasRow, CoversHop, IsOpen, IsOrigin, IsKept, IsCovered, IsToGo, Headline}
+use Rattle.dr_world_model.specs.Claims.{HadArrival, CoversHop, IsOpen, IsOrigin, IsKept, IsCovered, IsToGo, Headline}
 use Rattle.dr_world_model.specs.Theorem.{HeadlineHolds}
 use Rattle.dr_world_model.proofs.Walking.{goes_reached, reached_on, destination_before}
 use Rattle.dr_ledger.specs.Books.{empty_book}

@@ -18,7 +18,7 @@ use Rattle.dr_ledger.specs.OneNode.{WasTaken}
 use Rattle.dr_ledger.specs.PlanRoutes.{plan_routing, targets, keeps}
 use Rattle.dr_ledger.specs.Replies.{IsAdmitted, IsOver, arrival_line}
 use Rattle.dr_ledger.specs.Routings.{Routing}
-use Rattle.dr_ledger.proofs.Forgotten.{Apart, item_left, row_left, arrival_left, item_stays, row_stays, arrival_stays}
+use Rattle.dr_ledger.proofs.Forgotten.{Apart, item_left, row_left, arrival_left, item_stays, row_stays}
 use Rattle.dr_ledger.proofs.Growing.{rows_stay, rows_made, rows_from, row_put}
 use Rattle.dr_ledger.proofs.Since.{Acknowledges, IsPlain, taken_still, taken_now, taken_from}
 use Rattle.dr_world_model.specs.Claims.{IsFairLine, IsQueued, IsToSend}

@@ -11,11 +11,11 @@ use Rattle.dr_ledger.specs.declared.item.Outcome.TheVariants.{Status, Broken, No
 use Rattle.dr_ledger.specs.Replies.{IsNext}
 use Rattle.dr_world_model.specs.Worlds.{World, Link, Contexts, Answering, Rejecting, Open, Storing, Replying, Gone, with_armed, with_link, with_links, without_caller, without_receiver, at_stage}
 use Rattle.dr_world_model.specs.Calls.{Reply, Answer, Arriving, Settlement, status_of}
-use Rattle.dr_world_model.specs.Steps.{IsLink, AcceptsOffered, AnswersRequest, others, SettlesFirst, OpensLink, ReadsAnswer, after_settling, GivesItem, Gives, Receives, ReadsReply, pending, SettlesPending, Leaves, LeavesIfOn, LeaveAll, Closes, Restarts, callers_of, links_without}
+use Rattle.dr_world_model.specs.Steps.{IsLink, AnswersRequest, SettlesFirst, OpensLink, ReadsAnswer, after_settling, GivesItem, Gives, Receives, ReadsReply, pending, SettlesPending, Leaves, LeavesIfOn, LeaveAll, Closes, Restarts, callers_of, links_without}
 use Rattle.dr_world_model.specs.Events.{Event, Take, Ask, AgreeReceiver, AgreeCaller, Give, Receive, Answered, BreakCaller, BreakReceiver, Close, Restart, Requeue, Forget, Refuse, Tick, Step}
 use Rattle.dr_world_model.specs.Laws.{StepIsAFunction, AdoptionIsAFunction}
 use Rattle.dr_world_model.proofs.AdoptionsKept.{node_or_not}
-use Rattle.dr_world_model.proofs.OneReply.{next_same, accepted_same, Alike, same_alike, link_alike, alike_same, same_link, arriving_alike, settlement_alike, requeueing_alike, dropping_alike}
+use Rattle.dr_world_model.proofs.OneReply.{next_same, Alike, same_alike, link_alike, alike_same, same_link, arriving_alike, settlement_alike, requeueing_alike, dropping_alike}
 
 -- ---- stages
 answering_inside : (a b : Contexts) → Answering a ≡ Answering b → a ≡ b

@@ -1,15 +1,8 @@
 -- What is answered and settled.
-use Rattle.std.specs.Prelude.{◌≡◌, ℕ, ◌<◌, ◌≤◌, ◌⊎◌, true, false, suc, List, [], ◌∷◌, length, Option, None, Some, Ok, Bool, ◌&&◌, map as mapped}
-use Rattle.std.proofs.Common.{refl, sym, ap, subst, ◌∙◌, T}
+use Rattle.std.specs.Prelude.{◌≡◌, ℕ, ◌<◌, ◌≤◌, true, false, suc, List, [], ◌∷◌, length, Option, None, Some, Ok}
+use Rattle.std.proofs.Common.{refl, sym, ap, subst, ◌∙◌}
 use mathlib.Core.Logic.{inl, inr}
 use Rattle.std.specs.FinMap as map
-use Rattle.std.specs.FinMap.{is_sorted}
-use Rattle.std.specs.FinMap.Entries.{below_all}
-use Rattle.std.specs.List.{AllByRecursion}
-use Rattle.std.specs.List.Sorted.{IsStrictlySortedBy}
-use Rattle.std.specs.Ordering.{nat_cmp, is_lt}
-use Rattle.std.specs.declared.cmp.Ordering.{Ordering}
-use Rattle.std.specs.declared.cmp.Ordering.TheVariants.{Less, Equal, Greater}
 use Rattle.dr_ledger.specs.declared.item.Instance.{Instance}
 use Rattle.dr_ledger.specs.declared.item.Outcome.TheVariants.{Broken}
 use Rattle.dr_ledger.specs.Books.{Book, row_after}
@@ -17,9 +10,9 @@ use Rattle.dr_ledger.specs.Replies.{IsNext}
 use Rattle.dr_ledger.proofs.Maps.{text_pairs, get_new}
 use Rattle.dr_ledger.proofs.Growing.{settled_is}
 use Rattle.dr_ledger.proofs.Ones.{next_is_one}
-use Rattle.dr_world_model.specs.Worlds.{World, Link, Rejecting, with_link}
+use Rattle.dr_world_model.specs.Worlds.{World, Link, with_link}
 use Rattle.dr_world_model.specs.Calls.{Answer, Settlement}
-use Rattle.dr_world_model.specs.Steps.{IsLink, LeaveAll, SettlesFirst, callers_of, calls, others}
+use Rattle.dr_world_model.specs.Steps.{LeaveAll, SettlesFirst, callers_of, calls, others}
 use Rattle.dr_world_model.specs.Pinning.{AgreeingIsByCount, AnsweredIsOpen, AreStatuses, ClosingSettles, ClosingTriesAgain, DropsLeaveTheCaller, ReceivedIsReplied, RejectedSettles, RejectedTriesAgain, RestartsAskAll, RestartsInOrder, TriesAgain}
 use Rattle.dr_world_model.proofs.CallsKept.{broken_retried}
 use Rattle.dr_world_model.proofs.Ended.{leaving_settles, leaving_tries_again, put_there}

@@ -1,25 +1,24 @@
 -- A restart can happen in every world, and an adoption where all nodes may take the plan.
-use Rattle.std.specs.Prelude.{◌≡◌, ℕ, ◌⊎◌, Bool, true, false, cond, T, ◌&&◌, ◌||◌, List, [], ◌∷◌, map as mapped, Contains, Option, None, Some, is_some, Ok, Err}
+use Rattle.std.specs.Prelude.{◌≡◌, ℕ, ◌⊎◌, Bool, true, false, cond, T, ◌&&◌, List, [], ◌∷◌, map as mapped, Contains, Option, None, Some, is_some, Ok, Err}
 use Rattle.std.proofs.Common.{refl, sym, ap, subst, ◌∙◌}
 use mathlib.Core.Logic.{inl, inr}
 use Rattle.std.specs.declared.cmp.Ordering.{Ordering}
 use Rattle.std.specs.declared.cmp.Ordering.TheVariants.{Less, Equal, Greater}
 use Rattle.std.specs.Ordering.{nat_cmp, eq_by_cmp, is_lt}
-use Rattle.std.specs.List.{list_any}
 use Rattle.std.specs.FinMap as map
 use Rattle.std.specs.FinMap.{FinMap}
 use Rattle.std.specs.FinMap.Entries.{is_sorted, below_all}
 use Rattle.std.specs.FinSet as set
 use Rattle.dr_base.specs.Texts.{Text}
 use Rattle.dr_plan_model.specs.Networks.{Network}
-use Rattle.dr_plan_model.proofs.Gathered.{Contains-cons_cases, Contains-here, Contains-there, nothing_in_nil}
+use Rattle.dr_plan_model.proofs.Gathered.{Contains-here, Contains-there}
 use Rattle.dr_ledger.specs.declared.fault.LedgerFault.TheVariants as fault
 use Rattle.dr_ledger.specs.declared.item.Instance.{Instance}
 use Rattle.dr_ledger.specs.declared.item.Outcome.{Outcome}
 use Rattle.dr_ledger.specs.declared.item.Outcome.TheVariants.{Broken}
 use Rattle.dr_ledger.specs.declared.item.Progress.{Progress}
 use Rattle.dr_ledger.specs.declared.item.Progress.TheVariants.{Waiting, Held, Done}
-use Rattle.dr_ledger.specs.Books.{Book, Adoption, after, empty_book, not_done}
+use Rattle.dr_ledger.specs.Books.{Book, Adoption, after, empty_book}
 use Rattle.dr_ledger.specs.Replies.{IsWaiting}
 use Rattle.dr_world_model.specs.Worlds.{World, Link, same_text, with_book, with_armed, with_link, without_caller}
 use Rattle.dr_world_model.specs.Calls.{Answer, Settlement}

@@ -1,5 +1,5 @@
 -- Networks in which some nodes are other makers' products: those do what they want, and own no book of which anything is claimed.
-use Rattle.std.specs.Prelude.{◌≡◌, ◌≢◌, ◌↔◌, ℕ, ◌<◌, ◌≤◌, ◌⊎◌, Bool, true, false, List, [], ◌∷◌, length, Contains, Option, None, Some}
+use Rattle.std.specs.Prelude.{◌≡◌, ◌≢◌, ◌↔◌, ℕ, ◌≤◌, ◌⊎◌, Bool, true, false, List, [], ◌∷◌, length, Contains, Option, None, Some}
 use Rattle.std.specs.FinMap as map
 use Rattle.std.specs.FinSet as set
 use Rattle.dr_base.specs.Texts.{Text}
@@ -12,10 +12,10 @@ use Rattle.dr_ledger.specs.declared.item.Instance.{Instance}
 use Rattle.dr_ledger.specs.declared.item.Outcome.{Outcome}
 use Rattle.dr_ledger.specs.declared.item.Progress.{Progress}
 use Rattle.dr_ledger.specs.declared.item.Progress.TheVariants.{Done}
-use Rattle.dr_ledger.specs.Books.{Line, Settling, Adoption, after, empty_book}
+use Rattle.dr_ledger.specs.Books.{Settling, Adoption, after, empty_book}
 use Rattle.dr_ledger.specs.OneNode.{HasSucceededSince}
 use Rattle.dr_world_model.specs.Worlds.{World, Link, Contexts, Stage, Asking, Answering, Rejecting, Open, Storing, Replying, start, with_link, without_receiver, at_stage}
-use Rattle.dr_world_model.specs.Steps.{IsLink, asked, others}
+use Rattle.dr_world_model.specs.Steps.{IsLink, asked}
 use Rattle.dr_world_model.specs.Events.{Event, Take, Ask, AgreeReceiver, AgreeCaller, Give, Receive, Answered, BreakCaller, BreakReceiver, Close, Restart, Requeue, Forget, Refuse, Tick, HasNode, Step}
 use Rattle.dr_world_model.specs.Runs.{IsAdoptable, Action, Occurs, Adopt, Runs}
 use Rattle.dr_world_model.specs.Claims.{CoversHop, Has, HadArrival, Headline, HasItems, HasRow, IsFairOutcome, IsKept, IsOpen, IsToGo, IsUnderway, WasCarriedOver}

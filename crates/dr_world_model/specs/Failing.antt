@@ -1,5 +1,5 @@
 -- For each claim of the headline a world of which it is false, so that none of them is said of every world.
-use Rattle.std.specs.Prelude.{◌≡◌, ◌≢◌, ℕ, true, false, List, [], ◌∷◌, cond}
+use Rattle.std.specs.Prelude.{◌≢◌, ℕ, true, false, [], ◌∷◌, cond}
 use Rattle.std.specs.FinMap as map
 use Rattle.std.specs.FinMap.{FinMap}
 use Rattle.std.specs.FinSet as set
