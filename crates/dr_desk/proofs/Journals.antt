@@ -35,6 +35,7 @@ unread_shows ledger.NoLine A B C D = tt
 unread_shows ledger.Conflict A B C D = tt
 unread_shows ledger.NotWaiting A B C D = tt
 unread_shows ledger.NotHeld A B C D = tt
+unread_shows ledger.NotOver A B C D = tt
 
 pub unread_fails : (why : LedgerFault) (is : CloseFault) (A B C D : Type 0) → is ≡ unread_by why → Fails is A B C D
 unread_fails why is A B C D e = let P : CloseFault → Type 0 = λ f. Fails f A B C D in subst P (sym e) (unread_shows why A B C D)

@@ -45,3 +45,4 @@ unread_by ledger.NoLine = fault.Store
 unread_by ledger.Conflict = fault.Store
 unread_by ledger.NotWaiting = fault.Store
 unread_by ledger.NotHeld = fault.Store
+unread_by ledger.NotOver = fault.Store

@@ -10,10 +10,10 @@ use Rattle.dr_ledger.specs.declared.item.Entry.TheVariants as entry
 use Rattle.dr_ledger.specs.declared.item.Outcome.{Outcome}
 use Rattle.dr_ledger.specs.Books.{Book, Line}
 use Rattle.dr_ledger.specs.Items.{instance_of}
-use Rattle.dr_ledger.specs.Replies.{Arrives, Requeues, Settles, entry_of}
+use Rattle.dr_ledger.specs.Replies.{Arrives, Forgets, Requeues, Settles, entry_of}
 use Rattle.dr_ledger.specs.Routings.{Routing}
 use Rattle.dr_desk.specs.declared.receipt.Call.{Call}
-use Rattle.dr_desk.specs.declared.receipt.Call.TheVariants.{Arrival, Settling, Requeuing}
+use Rattle.dr_desk.specs.declared.receipt.Call.TheVariants.{Arrival, Settling, Requeuing, Forgetting}
 use Rattle.dr_desk.specs.declared.receipt.Reply.{Reply}
 use Rattle.dr_desk.specs.declared.receipt.Reply.TheVariants as reply
 use Rattle.dr_desk.specs.declared.receipt.Receipt.{Receipt}
@@ -35,6 +35,10 @@ SettlingsAreRecorded = (uid dest : Text) (outcome : Outcome) (now : ℕ) (old ne
 
 abbrev pub RequeuingsAreRecorded : Type 0
 RequeuingsAreRecorded = (uid dest : Text) (old new : Book) → Requeues uid dest old (Ok tt) new → AddsALineOf (Requeuing uid dest) reply.Done old new
+
+abbrev pub ForgettingsAreRecorded : Type 0
+ForgettingsAreRecorded = (uid : Text) (old new : Book) → Forgets uid old (Ok tt) new →
+    AddsALineOf (Forgetting uid) reply.Done old new
 
 -- a line is of one call, and says one reply
 abbrev pub LinesAreOfOneCall : Type 0

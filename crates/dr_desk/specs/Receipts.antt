@@ -6,7 +6,7 @@ use Rattle.dr_ledger.specs.declared.item.Arrived.TheVariants.{New, Again}
 use Rattle.dr_ledger.specs.declared.item.Entry.{Entry}
 use Rattle.dr_ledger.specs.declared.item.Entry.TheVariants as entry
 use Rattle.dr_desk.specs.declared.receipt.Call.{Call}
-use Rattle.dr_desk.specs.declared.receipt.Call.TheVariants.{Arrival, Settling, Requeuing}
+use Rattle.dr_desk.specs.declared.receipt.Call.TheVariants.{Arrival, Settling, Requeuing, Forgetting}
 use Rattle.dr_desk.specs.declared.receipt.Reply.{Reply}
 use Rattle.dr_desk.specs.declared.receipt.Reply.TheVariants.{Arrived, Done}
 use Rattle.dr_desk.specs.declared.receipt.Receipt.{Receipt}
@@ -21,6 +21,7 @@ Records (entry.Arrival caller uid key length to keep) call reply = (call ≡ Arr
 Records (entry.Repeat caller uid key length) call reply = (call ≡ Arrival caller uid key length) × (reply ≡ Arrived Again)
 Records (entry.Settling uid dest outcome now) call reply = (call ≡ Settling uid dest outcome now) × (reply ≡ Done)
 Records (entry.Requeuing uid dest) call reply = (call ≡ Requeuing uid dest) × (reply ≡ Done)
+Records (entry.Forgetting uid) call reply = (call ≡ Forgetting uid) × (reply ≡ Done)
 Records entry.Adoption call reply = ⊥
 
 abbrev pub receipt : ℕ → Call → Reply → Receipt

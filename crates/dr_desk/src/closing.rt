@@ -76,7 +76,8 @@ pub(crate) fn unread(why: LedgerFault) -> CloseFault
         | LedgerFault::Conflict
         | LedgerFault::Store
         | LedgerFault::NotWaiting
-        | LedgerFault::NotHeld => CloseFault::Store,
+        | LedgerFault::NotHeld
+        | LedgerFault::NotOver => CloseFault::Store,
     }
 }
 

@@ -5,7 +5,7 @@ ghost use Rattle.dr_ledger.specs.SiteRoutes.{site_routing};
 
 use dr_base::{Seq, Text};
 use dr_cert::Sealed;
-use dr_ledger::{Arrived, Entry, Item, Job, Ledger, LedgerFault, Outcome, Progress};
+use dr_ledger::{Arrived, Entry, Item, Job, Ledger, LedgerFault, LetsGo, Outcome, Progress};
 use dr_site::Site;
 
 /// A node's ledger, as the one who owns it calls it. It is a ledger itself: each call gives the reply of the book's
@@ -124,5 +124,15 @@ impl<L: Ledger> Ledger for Desk<L> {
 
     fn failures(&self) -> u64 {
         self.ledger.failures()
+    }
+}
+
+impl<L: LetsGo> LetsGo for Desk<L> {
+    fn forget(&mut self, uid: &Text) -> Result<(), LedgerFault> {
+        self.ledger.forget(uid)
+    }
+
+    fn is_over(&mut self, uid: &Text) -> Result<bool, LedgerFault> {
+        self.ledger.is_over(uid)
     }
 }

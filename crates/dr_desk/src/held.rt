@@ -4,7 +4,7 @@ ghost use Rattle.std.specs.List.{AllByRecursion, flat_map};
 ghost use Rattle.std.proofs.Props.{props};
 ghost use Rattle.dr_ledger.specs.Items.{instance_of};
 ghost use Rattle.dr_ledger.specs.Histories.{IsJournalled};
-ghost use Rattle.dr_ledger.specs.Replies.{Arrives, Requeues, Settles, entry_of};
+ghost use Rattle.dr_ledger.specs.Replies.{Arrives, Forgets, Requeues, Settles, entry_of};
 ghost use Rattle.dr_ledger.specs.SiteRoutes.{site_routing};
 ghost use Rattle.dr_desk.specs.Agreeing.{AreApart, Fails, IsOfLine, Rises, numbers};
 ghost use Rattle.dr_desk.specs.Growing.{BeginWith, Grows};
@@ -16,7 +16,7 @@ use crate::pass::{Made, Pass, TooManyPasses};
 use crate::sharing::Sharing;
 use dr_base::{Seq, Text};
 use dr_cert::Sealed;
-use dr_ledger::{Arrived, Entry, Item, Job, Ledger, LedgerFault, Outcome, Progress};
+use dr_ledger::{Arrived, Entry, Item, Job, Ledger, LedgerFault, LetsGo, Outcome, Progress};
 use std::alloc::Global;
 use std::sync::ledger::{Book, Share};
 
@@ -253,5 +253,40 @@ impl<L: Ledger, B: Sharing> Held<L, B> {
             sum,
             passes: made,
         })
+    }
+}
+
+impl<L: LetsGo, B: Sharing> Held<L, B> {
+    /// The ledger's `forget`, with the number of the line.
+    pub(crate) fn forget(&mut self, made: &mut Made<B>, uid: &Text) -> Result<u64, LedgerFault>
+        ensures count {
+            MatchResult result (λ n. made.new.count ≡ made.old.count + 1)
+                (λ why. made.new.count ≡ made.old.count)
+        }
+        ensures reply {
+            IfOk result (λ n. L.stands self.new.desk.ledger →
+                Forgets uid.now (L.book self.old.desk.ledger) (Ok tt)
+                    (L.book self.new.desk.ledger))
+        }
+        ensures number {
+            IfOk result (λ n. L.stands self.new.desk.ledger →
+                n ≡ length (L.book self.new.desk.ledger).lines)
+        }
+    {
+        if self.number == u64::MAX {
+            return Err(self.refuse());
+        }
+        let Held {
+            desk,
+            number,
+            tally,
+            ..
+        } = self;
+        desk.forget(uid)?;
+        Ok(made.count_line(tally, number))
+    }
+
+    pub(crate) fn is_over(&mut self, uid: &Text) -> Result<bool, LedgerFault> {
+        self.desk.is_over(uid)
     }
 }

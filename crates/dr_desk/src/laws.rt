@@ -1,5 +1,5 @@
 //! Laws of receipts.
-ghost use Rattle.dr_desk.specs.Laws.{ArrivalsAreRecorded, FewAreHeld, FiguresAreRight, LinesAreOfOneCall, NoMoreAreHeld, ReceiptsAreOne, RequeuingsAreRecorded, SettlingsAreRecorded};
+ghost use Rattle.dr_desk.specs.Laws.{ArrivalsAreRecorded, FewAreHeld, FiguresAreRight, ForgettingsAreRecorded, LinesAreOfOneCall, NoMoreAreHeld, ReceiptsAreOne, RequeuingsAreRecorded, SettlingsAreRecorded};
 
 use dr_ledger::laws::Routed;
 
@@ -8,6 +8,7 @@ pub fn accepted_calls_are_recorded<R: Routed>()
     ensures arrive { ArrivalsAreRecorded R.routing }
     ensures settle { SettlingsAreRecorded }
     ensures requeue { RequeuingsAreRecorded }
+    ensures forget { ForgettingsAreRecorded }
 {}
 
 /// A line is of one call and one reply, and a number has one receipt.

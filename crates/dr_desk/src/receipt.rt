@@ -27,13 +27,16 @@ pub enum Call {
         uid: Text,
         dest: Text,
     },
+    Forgetting {
+        uid: Text,
+    },
 }
 
 /// What an accepted call answered.
 #[derive(Clone, Copy, PartialEq, Eq, Debug)]
 pub enum Reply {
     Arrived(Arrived),
-    /// The row was settled, or queued again.
+    /// The row was settled, or queued again, or the instance is forgotten.
     Done,
 }
 
@@ -90,6 +93,14 @@ pub(crate) fn requeuing(uid: &Text, dest: &Text) -> Result<Call, AllocError>
     Ok(Call::Requeuing { uid, dest })
 }
 
+/// A forgetting.
+pub(crate) fn forgetting(uid: &Text) -> Result<Call, AllocError>
+    ensures { IfOk result (λ call. call ≡ Call.Forgetting uid.now) }
+{
+    let uid = uid.clone()?;
+    Ok(Call::Forgetting { uid })
+}
+
 fn copy_key(key: &Key) -> Result<Key, AllocError>
     ensures { IfOk result (λ copy. copy ≡ key.now) }
 {
@@ -122,6 +133,7 @@ pub(crate) fn records(line: &Entry, receipt: &Receipt) -> bool
             now,
         } => is_settling(uid, dest, *outcome, *now, receipt),
         Entry::Requeuing { uid, dest } => is_requeuing(uid, dest, receipt),
+        Entry::Forgetting { uid } => is_forgetting(uid, receipt),
         Entry::Adoption => false,
     }
 }
@@ -174,4 +186,16 @@ fn is_requeuing(uid: &Text, dest: &Text, receipt: &Receipt) -> bool
         return false;
     };
     of == uid && to == dest && receipt.reply == Reply::Done
+}
+
+fn is_forgetting(uid: &Text, receipt: &Receipt) -> bool
+    ensures {
+        IsTrue result
+            ↔ ((receipt.now.call ≡ Call.Forgetting uid.now) × (receipt.now.reply ≡ Reply.Done))
+    }
+{
+    let Call::Forgetting { uid: of } = &receipt.call else {
+        return false;
+    };
+    of == uid && receipt.reply == Reply::Done
 }

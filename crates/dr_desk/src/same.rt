@@ -109,6 +109,16 @@ fn is_requeuing(line: &Entry, uid: &Text, dest: &Text) -> bool
     }
 }
 
+/// Whether the line is this forgetting.
+fn is_forgetting(line: &Entry, uid: &Text) -> bool
+    ensures { IsTrue result ↔ (line.now ≡ entry.Forgetting uid.now) }
+{
+    match line {
+        Entry::Forgetting { uid: of } => of == uid,
+        _ => false,
+    }
+}
+
 impl Same for Entry {
     fn is_same(&self, other: &Entry) -> bool {
         match self {
@@ -133,6 +143,7 @@ impl Same for Entry {
                 now,
             } => is_settling(other, uid, dest, *outcome, *now),
             Entry::Requeuing { uid, dest } => is_requeuing(other, uid, dest),
+            Entry::Forgetting { uid } => is_forgetting(other, uid),
             Entry::Adoption => matches!(other, Entry::Adoption),
         }
     }

@@ -13,11 +13,11 @@ use crate::desk::Desk;
 use crate::held::Held;
 use crate::holdings::Holdings;
 use crate::pass::{Pass, TooManyPasses};
-use crate::receipt::{Call, Receipt, Reply, arrival, requeuing, settling};
+use crate::receipt::{Call, Receipt, Reply, arrival, forgetting, requeuing, settling};
 use crate::sharing::Sharing;
 use dr_base::{Seq, Text};
 use dr_cert::Sealed;
-use dr_ledger::{Arrived, Entry, Item, Job, Ledger, LedgerFault, Outcome, Progress};
+use dr_ledger::{Arrived, Entry, Item, Job, Ledger, LedgerFault, LetsGo, Outcome, Progress};
 use dr_site::Site;
 use std::alloc::Global;
 use std::sync::ledger::Blank;
@@ -296,5 +296,49 @@ impl<L: Ledger, B: Sharing> SharedDesk<L, B> {
     fn into_held(self) -> Held<L, B> {
         let SharedDesk { site: _, held } = self;
         held.into_inner()
+    }
+}
+
+impl<L: LetsGo, B: Sharing> SharedDesk<L, B> {
+    /// Forgets an instance.
+    ///
+    /// Errors: as the ledger's `forget`; Memory may come before NotOver.
+    pub fn forget<R: Wait>(
+        &self,
+        rt: &R,
+        pass: &mut Pass<B>,
+        uid: &Text,
+    ) -> Result<(), LedgerFault>
+        ensures {
+            MatchResult result
+                (λ r. Notes (Call.Forgetting uid.now) Reply.Done
+                    pass.old.made.count pass.old.receipts.items
+                    pass.new.made.count pass.new.receipts.items)
+                (λ why. Leaves pass.old.made.count pass.old.receipts.items
+                    pass.new.made.count pass.new.receipts.items)
+        }
+    {
+        pass.make_room()?;
+        let call = forgetting(uid)?;
+        let came = self.held.lock(rt).forget(&mut pass.made, uid);
+        match came {
+            Ok(number) => {
+                pass.note(Receipt {
+                    number,
+                    call,
+                    reply: Reply::Done,
+                });
+                Ok(())
+            }
+            Err(fault) => {
+                drop(call);
+                Err(fault)
+            }
+        }
+    }
+
+    /// The ledger's `is_over`.
+    pub fn is_over<R: Wait>(&self, rt: &R, uid: &Text) -> Result<bool, LedgerFault> {
+        self.held.lock(rt).is_over(uid)
     }
 }

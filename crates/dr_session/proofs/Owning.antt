@@ -56,6 +56,7 @@ module _ (peer : Text) (now : ℕ) where
   settled done lost Own h k (Settling (Err fault.Conflict)) = k
   settled done lost Own h k (Settling (Err fault.Store)) = k
   settled done lost Own h k (Settling (Err fault.NotHeld)) = k
+  settled done lost Own h k (Settling (Err fault.NotOver)) = k
   settled done lost Own h k (Arrival r) = tt
   settled done lost Own h k (Upcoming d) = tt
 
@@ -154,6 +155,7 @@ pushing at c Own (Err fault.Conflict) = tt
 pushing at c Own (Err fault.Store) = tt
 pushing at c Own (Err fault.NotWaiting) = tt
 pushing at c Own (Err fault.NotHeld) = tt
+pushing at c Own (Err fault.NotOver) = tt
 
 refusing : (at : Moment) (c : Core) (Own : Text → Type 0) (d : Result (Option Job) LedgerFault) → SettlesOwn (refused at c d) c.peer at.now (λ uid. Own uid ⊎ Given (Upcoming d) uid)
 refusing at c Own (Ok (Some item)) =
@@ -165,6 +167,7 @@ refusing at c Own (Err fault.Conflict) = tt
 refusing at c Own (Err fault.Store) = tt
 refusing at c Own (Err fault.NotWaiting) = tt
 refusing at c Own (Err fault.NotHeld) = tt
+refusing at c Own (Err fault.NotOver) = tt
 
 agreeing : (a : Result Agreed NegoFault) (at : Moment) (c : Core) → SettlesOwn (agrees a at c) c.peer at.now (λ uid. Pends c.pending uid)
 agreeing (Ok agreed) at c = tt

@@ -84,6 +84,7 @@ settled done lost h k (Settling (Err fault.NoLine)) = k
 settled done lost h k (Settling (Err fault.Conflict)) = k
 settled done lost h k (Settling (Err fault.Store)) = k
 settled done lost h k (Settling (Err fault.NotHeld)) = k
+settled done lost h k (Settling (Err fault.NotOver)) = k
 settled done lost h k (Arrival r) = tt
 settled done lost h k (Upcoming d) = tt
 
@@ -176,6 +177,7 @@ pushing at c (Err fault.Conflict) = wrote (abort_pdu 0 0 ∷ [])
 pushing at c (Err fault.Store) = wrote (abort_pdu 0 0 ∷ [])
 pushing at c (Err fault.NotWaiting) = wrote (abort_pdu 0 0 ∷ [])
 pushing at c (Err fault.NotHeld) = wrote (abort_pdu 0 0 ∷ [])
+pushing at c (Err fault.NotOver) = wrote (abort_pdu 0 0 ∷ [])
 
 refusing : (at : Moment) (c : Core) (d : Result (Option Job) LedgerFault) → Spells (refused at c d)
 refusing at c (Ok (Some item)) = λ reply. settled (Ends (effect (Close ∷ []) c)) (Ends (effect (Close ∷ []) (desk_failed c))) (tt, tt) (tt, tt) reply
@@ -186,6 +188,7 @@ refusing at c (Err fault.Conflict) = (tt, tt)
 refusing at c (Err fault.Store) = (tt, tt)
 refusing at c (Err fault.NotWaiting) = (tt, tt)
 refusing at c (Err fault.NotHeld) = (tt, tt)
+refusing at c (Err fault.NotOver) = (tt, tt)
 
 agreeing : (a : Result Agreed NegoFault) (at : Moment) (c : Core) → Spells (agrees a at c)
 agreeing (Ok agreed) at c = tt

@@ -24,6 +24,7 @@ taken (Err fault.Conflict) e = absurd (omega (arith, e))
 taken (Err fault.Store) e = absurd (omega (arith, e))
 taken (Err fault.NotWaiting) e = absurd (omega (arith, e))
 taken (Err fault.NotHeld) e = absurd (omega (arith, e))
+taken (Err fault.NotOver) e = absurd (omega (arith, e))
 taken (Err fault.Memory) e = absurd (omega (arith, e))
 
 module _ {S : Type 0} (step : S → DeskCall → DeskAnswer → S → Type 0) (c : Core) (context id : ℕ) (class instance : Text) (s t : S) (x : Effect) where

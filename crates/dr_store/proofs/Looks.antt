@@ -33,6 +33,7 @@ lasts_any (Err fault.NoLine) P p = p
 lasts_any (Err fault.Conflict) P p = p
 lasts_any (Err fault.NotWaiting) P p = p
 lasts_any (Err fault.NotHeld) P p = p
+lasts_any (Err fault.NotOver) P p = p
 
 -- a query that failed
 own_reads : {B : Type 0} (e : LedgerFault) (Q : B → Type 0) → IsOwnFault e → Reads (Err e) Q

@@ -165,6 +165,7 @@ module _ (part : Part) (caller : Text) (item : Instance) where
   arrives old (Err fault.Memory) new = both (has_line part caller item.key) (same_book _ _)
   arrives old (Err fault.NotWaiting) new = impossible
   arrives old (Err fault.NotHeld) new = impossible
+  arrives old (Err fault.NotOver) new = impossible
 
   pub admits : (b : Book) (r : Result (Unit {0}) LedgerFault) → Stable (Admits (site_routing part) caller item b r)
   admits b (Ok done) = admitted b
@@ -174,6 +175,7 @@ module _ (part : Part) (caller : Text) (item : Instance) where
   admits b (Err fault.Memory) = has_line part caller item.key
   admits b (Err fault.NotWaiting) = impossible
   admits b (Err fault.NotHeld) = impossible
+  admits b (Err fault.NotOver) = impossible
 
   -- which of the two an accepted arrival is, is known by the arrivals
   pub accepted : (old new : Book) → Stable (IsAccepted part caller item old new)
@@ -220,10 +222,12 @@ settles uid dest outcome now old (Err fault.Memory) new = same_book _ _
 settles uid dest outcome now old (Err fault.NoLine) new = impossible
 settles uid dest outcome now old (Err fault.Conflict) new = impossible
 settles uid dest outcome now old (Err fault.NotHeld) new = impossible
+settles uid dest outcome now old (Err fault.NotOver) new = impossible
 
 pub requeues : (uid dest : Text) (old : Book) (r : Result (Unit {0}) LedgerFault) (new : Book) → Stable (Requeues uid dest old r new)
 requeues uid dest old (Ok done) new = both (is_held old uid dest) (same_book _ _)
 requeues uid dest old (Err fault.NotHeld) new = both never (same_book _ _)
+requeues uid dest old (Err fault.NotOver) new = impossible
 requeues uid dest old (Err fault.Store) new = same_book _ _
 requeues uid dest old (Err fault.Memory) new = same_book _ _
 requeues uid dest old (Err fault.NoLine) new = impossible
@@ -238,6 +242,7 @@ adopting old (Err fault.NoLine) new = impossible
 adopting old (Err fault.Conflict) new = impossible
 adopting old (Err fault.NotWaiting) new = impossible
 adopting old (Err fault.NotHeld) new = impossible
+adopting old (Err fault.NotOver) new = impossible
 
 -- ---- data sets
 

@@ -35,6 +35,7 @@ counts (Err fault.NoLine) before now is low = record { never_falls = omega (arit
 counts (Err fault.Conflict) before now is low = record { never_falls = omega (arith, is); has_cause = λ e. absurd (let f : ⊥ = cc in f) }
 counts (Err fault.NotWaiting) before now is low = record { never_falls = omega (arith, is); has_cause = λ e. absurd (let f : ⊥ = cc in f) }
 counts (Err fault.NotHeld) before now is low = record { never_falls = omega (arith, is); has_cause = λ e. absurd (let f : ⊥ = cc in f) }
+counts (Err fault.NotOver) before now is low = record { never_falls = omega (arith, is); has_cause = λ e. absurd (let f : ⊥ = cc in f) }
 counts (Err fault.Memory) before now is low = record { never_falls = omega (arith, is); has_cause = λ e. absurd (let f : ⊥ = cc in f) }
 
 -- no call is told to be refused
@@ -45,6 +46,7 @@ arms Would (Err fault.NoLine) = refl
 arms Would (Err fault.Conflict) = refl
 arms Would (Err fault.NotWaiting) = refl
 arms Would (Err fault.NotHeld) = refl
+arms Would (Err fault.NotOver) = refl
 arms Would (Err fault.Memory) = refl
 
 -- what is read is stable where what it shows is
@@ -56,6 +58,7 @@ reads_stable (Err fault.NoLine) Shows f h = ∥∥₁_elim h (λ x y. absurd x) 
 reads_stable (Err fault.Conflict) Shows f h = ∥∥₁_elim h (λ x y. absurd x) (λ x. x)
 reads_stable (Err fault.NotWaiting) Shows f h = ∥∥₁_elim h (λ x y. absurd x) (λ x. x)
 reads_stable (Err fault.NotHeld) Shows f h = ∥∥₁_elim h (λ x y. absurd x) (λ x. x)
+reads_stable (Err fault.NotOver) Shows f h = ∥∥₁_elim h (λ x y. absurd x) (λ x. x)
 
 -- ---- a call on a ledger that keeps its tables
 
@@ -103,6 +106,7 @@ module _ {A : Type 0} (n m : ℕ) (part next : Part) (r : Result A LedgerFault) 
       go (Err fault.Conflict) f = λ clean safe. (clean, is_open new (f clean safe))
       go (Err fault.NotWaiting) f = λ clean safe. (clean, is_open new (f clean safe))
       go (Err fault.NotHeld) f = λ clean safe. (clean, is_open new (f clean safe))
+      go (Err fault.NotOver) f = λ clean safe. (clean, is_open new (f clean safe))
 
 -- ---- a call that writes
 

@@ -10,6 +10,7 @@ failures_with fault.NoLine n = n
 failures_with fault.Conflict n = n
 failures_with fault.NotWaiting n = n
 failures_with fault.NotHeld n = n
+failures_with fault.NotOver n = n
 failures_with fault.Memory n = n
 
 -- the count after a call

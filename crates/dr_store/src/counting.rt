@@ -32,6 +32,7 @@ fn with_fault(fault: LedgerFault, failures: u64) -> u64
         LedgerFault::Conflict => failures,
         LedgerFault::NotWaiting => failures,
         LedgerFault::NotHeld => failures,
+        LedgerFault::NotOver => failures,
         LedgerFault::Memory => failures,
     }
 }

@@ -42,6 +42,7 @@ own_fault_lasts fault.NoLine Shows P h = absurd h
 own_fault_lasts fault.Conflict Shows P h = absurd h
 own_fault_lasts fault.NotWaiting Shows P h = absurd h
 own_fault_lasts fault.NotHeld Shows P h = absurd h
+own_fault_lasts fault.NotOver Shows P h = absurd h
 
 -- a query reads
 pub asked_looked : {A : Type 0} (n : ℕ) (part : Part) (r : Result A LedgerFault) (old new : State) (Shows : Trees → A → Type 0) → Asked IsLedger r old new (Shows old.now.trees) → Looked n part r old new Shows
@@ -133,6 +134,7 @@ module _ {A B : Type 0} (n : ℕ) (part : Part) (old new : State) (Shows : Trees
       own fault.Conflict h = absurd h
       own fault.NotWaiting h = absurd h
       own fault.NotHeld h = absurd h
+      own fault.NotOver h = absurd h
 
 -- ---- what is written
 

@@ -191,6 +191,7 @@ own_of fault.NoLine Shows h = absurd h
 own_of fault.Conflict Shows h = absurd h
 own_of fault.NotWaiting Shows h = absurd h
 own_of fault.NotHeld Shows h = absurd h
+own_of fault.NotOver Shows h = absurd h
 
 -- the owner couldn't be read
 pub looked_none : {A : Type 0} (n : ℕ) (part next : Part) (old new : State) (Shows : Trees → A → Type 0) (e : LedgerFault) → Looked n part (Err e) old new Shows → Adopted n part next (Err e) old new Nothing

@@ -13,6 +13,7 @@ reads_as (Err fault.NoLine) P Q f h = absurd h
 reads_as (Err fault.Conflict) P Q f h = absurd h
 reads_as (Err fault.NotWaiting) P Q f h = absurd h
 reads_as (Err fault.NotHeld) P Q f h = absurd h
+reads_as (Err fault.NotOver) P Q f h = absurd h
 
 -- a row that is done needs nothing itself
 pub still_as : (elsewhere needed : Bool) (Open Elsewhere Kept : Type 0) → (Open → ⊥) → (IsTrue elsewhere ↔ Elsewhere) → (IsTrue needed ↔ ((elsewhere ≡ true) ⊎ Kept))
@@ -30,3 +31,4 @@ same_fault fault.NoLine P Q h = absurd h
 same_fault fault.Conflict P Q h = absurd h
 same_fault fault.NotWaiting P Q h = absurd h
 same_fault fault.NotHeld P Q h = absurd h
+same_fault fault.NotOver P Q h = absurd h

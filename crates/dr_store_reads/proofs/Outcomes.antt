@@ -17,6 +17,7 @@ reads_map (Err fault.NoLine) f h = h
 reads_map (Err fault.Conflict) f h = h
 reads_map (Err fault.NotWaiting) f h = h
 reads_map (Err fault.NotHeld) f h = h
+reads_map (Err fault.NotOver) f h = h
 
 -- a fault says nothing of a value
 pub reads_fault : {A B : Type 0} (P : A → Type 0) (Q : B → Type 0) (why : LedgerFault) → Reads {A = A} (Err why) P → Reads {A = B} (Err why) Q
@@ -26,6 +27,7 @@ reads_fault P Q fault.NoLine h = h
 reads_fault P Q fault.Conflict h = h
 reads_fault P Q fault.NotWaiting h = h
 reads_fault P Q fault.NotHeld h = h
+reads_fault P Q fault.NotOver h = h
 
 if_done : {A E B : Type 0} (r : Result A E) → B → OnOk r B
 if_done (Ok x) h = h
