@@ -259,13 +259,19 @@ impl<L: Ledger, B: Sharing> Held<L, B> {
 impl<L: LetsGo, B: Sharing> Held<L, B> {
     /// The ledger's `forget`, with the number of the line.
     pub(crate) fn forget(&mut self, made: &mut Made<B>, uid: &Text) -> Result<u64, LedgerFault>
-        ensures count { MatchResult result (λ n. made.new.count ≡ made.old.count + 1)
-            (λ why. made.new.count ≡ made.old.count) }
-        ensures reply { IfOk result (λ n. L.stands self.new.desk.ledger →
-            Forgets uid.now (L.book self.old.desk.ledger) (Ok tt)
-            (L.book self.new.desk.ledger)) }
-        ensures number { IfOk result (λ n. L.stands self.new.desk.ledger →
-            n ≡ length (L.book self.new.desk.ledger).lines) }
+        ensures count {
+            MatchResult result (λ n. made.new.count ≡ made.old.count + 1)
+                (λ why. made.new.count ≡ made.old.count)
+        }
+        ensures reply {
+            IfOk result (λ n. L.stands self.new.desk.ledger →
+                Forgets uid.now (L.book self.old.desk.ledger) (Ok tt)
+                    (L.book self.new.desk.ledger))
+        }
+        ensures number {
+            IfOk result (λ n. L.stands self.new.desk.ledger →
+                n ≡ length (L.book self.new.desk.ledger).lines)
+        }
     {
         if self.number == u64::MAX {
             return Err(self.refuse());

@@ -189,8 +189,10 @@ fn is_requeuing(uid: &Text, dest: &Text, receipt: &Receipt) -> bool
 }
 
 fn is_forgetting(uid: &Text, receipt: &Receipt) -> bool
-    ensures { IsTrue result
-        ↔ ((receipt.now.call ≡ Call.Forgetting uid.now) × (receipt.now.reply ≡ Reply.Done)) }
+    ensures {
+        IsTrue result
+            ↔ ((receipt.now.call ≡ Call.Forgetting uid.now) × (receipt.now.reply ≡ Reply.Done))
+    }
 {
     let Call::Forgetting { uid: of } = &receipt.call else {
         return false;

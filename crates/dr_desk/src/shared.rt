@@ -303,13 +303,20 @@ impl<L: LetsGo, B: Sharing> SharedDesk<L, B> {
     /// Forgets an instance.
     ///
     /// Errors: as the ledger's `forget`; Memory may come before NotOver.
-    pub fn forget<R: Wait>(&self, rt: &R, pass: &mut Pass<B>, uid: &Text) -> Result<(), LedgerFault>
-        ensures { MatchResult result
-            (λ r. Notes (Call.Forgetting uid.now) Reply.Done
-            pass.old.made.count pass.old.receipts.items
-            pass.new.made.count pass.new.receipts.items)
-            (λ why. Leaves pass.old.made.count pass.old.receipts.items
-            pass.new.made.count pass.new.receipts.items) }
+    pub fn forget<R: Wait>(
+        &self,
+        rt: &R,
+        pass: &mut Pass<B>,
+        uid: &Text,
+    ) -> Result<(), LedgerFault>
+        ensures {
+            MatchResult result
+                (λ r. Notes (Call.Forgetting uid.now) Reply.Done
+                    pass.old.made.count pass.old.receipts.items
+                    pass.new.made.count pass.new.receipts.items)
+                (λ why. Leaves pass.old.made.count pass.old.receipts.items
+                    pass.new.made.count pass.new.receipts.items)
+        }
     {
         pass.make_room()?;
         let call = forgetting(uid)?;

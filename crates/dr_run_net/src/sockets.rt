@@ -58,7 +58,7 @@ impl<'a, R: Net<Stream = TcpStream, Listener = TcpListener>, C: Clock> Network
     for Sockets<'a, R, C> {
     type Socket = Socket<'a, TcpStream, C>;
 
-    type SystemListener = SystemListener<'a, C>;
+    type Listener = SystemListener<'a, C>;
 
     ghost reaches = { λ sockets address socket. Unit {0} };
 

@@ -1,5 +1,5 @@
 -- The instance in a Part 10 file.
-use Rattle.std.specs.Prelude.{◌≢◌, ℕ, List, drop, Result, Ok, Err}
+use Rattle.std.specs.Prelude.{◌≢◌, drop, Result, Ok, Err}
 use Rattle.dr_base.specs.Texts.{Text}
 use Rattle.dr_run_open.specs.declared.status.Status.{Status}
 use Rattle.dr_run_open.specs.declared.status.Status.TheVariants as ends

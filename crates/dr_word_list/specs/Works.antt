@@ -8,7 +8,7 @@ use Rattle.dr_ledger_report.specs.Reports.{IsReportOf}
 use Rattle.dr_site.specs.Parts.{Part}
 use Rattle.dr_run_open.specs.Openings.{HaltsAs, IsAt}
 use Rattle.dr_run_open.specs.declared.halt.Halt.{Halt}
-use Rattle.dr_run_open.specs.declared.halt.Halt.TheVariants.{NoPlan, NoCertificate, NoNode, NotOpened, Refused, Failed, Memory}
+use Rattle.dr_run_open.specs.declared.halt.Halt.TheVariants.{Refused}
 
 -- the line that is printed where a row is queued again
 abbrev pub requeued_line : Text

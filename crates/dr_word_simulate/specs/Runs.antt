@@ -12,7 +12,6 @@ use Rattle.dr_cert.specs.declared.fault.CertFault.{CertFault}
 use Rattle.dr_cert.specs.declared.fault.CertFault.TheVariants.{Memory as NoMemory}
 use Rattle.dr_run_open.specs.Answers.{Refuses}
 use Rattle.dr_run_open.specs.Sealings.{IsFaultOf, IsTextOf}
-use Rattle.dr_word_check.specs.Verdicts.{verdict_status}
 use Rattle.dr_run_open.specs.declared.status.Status.{Status}
 use Rattle.dr_run_open.specs.declared.status.Status.TheVariants.{Refused, Memory}
 use Rattle.dr_word_simulate.specs.Outcomes.{IsOutcomeOf, printed_for, status_for}

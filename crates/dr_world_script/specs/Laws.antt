@@ -1,9 +1,9 @@
 -- Laws and figures of scripts.
-use Rattle.std.specs.Prelude.{◌≡◌, ℕ, List, [], ◌∷◌, ◌++◌, codes, true, false}
+use Rattle.std.specs.Prelude.{◌≡◌, List, [], ◌∷◌, ◌++◌, codes, false}
 use Rattle.dr_base.specs.Texts.{Text}
-use Rattle.dr_world_script.specs.declared.step.Side.TheVariants.{Requestor, Acceptor}
+use Rattle.dr_world_script.specs.declared.step.Side.TheVariants.{Acceptor}
 use Rattle.dr_world_script.specs.declared.step.Step.{Step}
-use Rattle.dr_world_script.specs.declared.step.Step.TheVariants.{Open, Move, Tick, Abort}
+use Rattle.dr_world_script.specs.declared.step.Step.TheVariants.{Open, Move}
 use Rattle.dr_world_script.specs.Scripts.{IsScriptOf, Tells, is_skipped}
 
 -- a line tells one step

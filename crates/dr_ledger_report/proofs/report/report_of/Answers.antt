@@ -1,5 +1,4 @@
-use Rattle.std.proofs.Common.{◌≡◌, ◌++◌, ◌∙◌, ap}
-use Rattle.dr_base.specs.Texts.{Text}
+use Rattle.std.proofs.Common.{◌++◌, ◌∙◌, ap}
 use Rattle.dr_ledger_report.specs.Reports.{name_line, report_of}
 use Rattle.dr_ledger_report.proofs.Reporting.{reported}
 use Rattle.dr_ledger_report.proofs.report.report_of.Goals as goal
