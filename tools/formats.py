@@ -1,14 +1,16 @@
 #!/usr/bin/env python3
 """Looks at the form of what is committed, which needs no proof: `tools/formats.py`.
 
-Each source is in the kit's layout; each wrong body and wrong definition can be applied to the sources as they are; and each that
-wrong/gate names is there. What isn't so is printed, and the exit status is 1.
+Each source is in the kit's layout; no line of src/ or specs/ is over 100 columns, but for a text that is alone on it; each wrong body
+and wrong definition can be applied to the sources as they are; and each that wrong/gate names is there. What isn't so is printed, and
+the exit status is 1.
 """
 import os
 import subprocess
 import sys
 
 from crates import TOP, listed, prover, sources_of
+from wrap import sources, too_long
 from wrong import Bad, chosen, read_edit
 
 
@@ -22,6 +24,12 @@ def out_of_layout():
         if ran.returncode != 0:
             said += ran.stdout.strip().split("\n")
     return said
+
+
+def over_long():
+    """The lines that are too long, which tools/wrap.py breaks."""
+    return [f"{os.path.relpath(path, TOP)}:{line}: {columns} columns, which tools/wrap.py breaks"
+            for path, line, columns in too_long(sources(TOP))]
 
 
 def unapplied():
@@ -40,7 +48,7 @@ def unapplied():
 
 
 def main():
-    said = out_of_layout() + unapplied()
+    said = out_of_layout() + over_long() + unapplied()
     print("\n".join(said), end="\n" * bool(said))
     print(f"formats: {len(said)} faults")
     return 1 if said else 0

@@ -1,8 +1,10 @@
-//! The program of the first certificate: it prints the certificate of the plan on its standard input, and is soon proved and built, since it stands on
-//! no words, no places of faults and no reasons. Where there is none to print it prints nothing, and whoever has all words for plans (`dr_checker`,
-//! `dr_router`) tells why.
+//! The program of the first certificate: it prints the certificate of the plan on its standard
+//! input, and is soon proved and built, since it stands on no words, no places of faults and no
+//! reasons. Where there is none to print it prints nothing, and whoever has all words for plans
+//! (`dr_checker`, `dr_router`) tells why.
 //!
-//! Exit statuses: 0, the certificate is printed; 1, there is none; 3, the input or the output failed; 4, there was no memory.
+//! Exit statuses: 0, the certificate is printed; 1, there is none; 3, the input or the output
+//! failed; 4, there was no memory.
 #![tactic(auto)]
 
 use dr_certify::print_certificate;

@@ -8,7 +8,8 @@ use Rattle.dr_ledger.specs.Replies.{entry_of}
 abbrev pub BeginWith : List Line → List Line → Type 0
 BeginWith first lines = take (length first) lines ≡ first
 
--- The journal of a desk that is shared: it begins with the lines that it had, of which a copy was kept, and the last one has that
--- number.
+-- The journal of a desk that is shared: it begins with the lines that it had, of which a copy was
+-- kept, and the last one has that number.
 abbrev pub Grows : List Line → List Entry → List Line → ℕ → Type 0
-Grows first kept lines number = BeginWith first lines × (kept ≡ mapped entry_of first) × (length lines ≡ number)
+Grows first kept lines number =
+    BeginWith first lines × (kept ≡ mapped entry_of first) × (length lines ≡ number)

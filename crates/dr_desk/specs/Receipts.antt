@@ -6,7 +6,8 @@ use Rattle.dr_ledger.specs.declared.item.Arrived.TheVariants.{New, Again}
 use Rattle.dr_ledger.specs.declared.item.Entry.{Entry}
 use Rattle.dr_ledger.specs.declared.item.Entry.TheVariants as entry
 use Rattle.dr_desk.specs.declared.receipt.Call.{Call}
-use Rattle.dr_desk.specs.declared.receipt.Call.TheVariants.{Arrival, Settling, Requeuing, Forgetting}
+use Rattle.dr_desk.specs.declared.receipt.Call.TheVariants.{Arrival, Settling, Requeuing}
+use Rattle.dr_desk.specs.declared.receipt.Call.TheVariants.{Forgetting}
 use Rattle.dr_desk.specs.declared.receipt.Reply.{Reply}
 use Rattle.dr_desk.specs.declared.receipt.Reply.TheVariants.{Arrived, Done}
 use Rattle.dr_desk.specs.declared.receipt.Receipt.{Receipt}
@@ -15,11 +16,15 @@ use Rattle.dr_desk.specs.declared.receipt.Receipt.{Receipt}
 abbrev pub arrival_of : Text → Job → Call
 arrival_of caller item = Arrival caller item.uid item.key (length item.body)
 
--- The line of a journal is of that call, and says that it was answered so. An adoption is no call on a desk that is shared.
+-- The line of a journal is of that call, and says that it was answered so. An adoption is no call
+-- on a desk that is shared.
 abbrev pub Records : Entry → Call → Reply → Type 0
-Records (entry.Arrival caller uid key length to keep) call reply = (call ≡ Arrival caller uid key length) × (reply ≡ Arrived New)
-Records (entry.Repeat caller uid key length) call reply = (call ≡ Arrival caller uid key length) × (reply ≡ Arrived Again)
-Records (entry.Settling uid dest outcome now) call reply = (call ≡ Settling uid dest outcome now) × (reply ≡ Done)
+Records (entry.Arrival caller uid key length to keep) call reply =
+    (call ≡ Arrival caller uid key length) × (reply ≡ Arrived New)
+Records (entry.Repeat caller uid key length) call reply =
+    (call ≡ Arrival caller uid key length) × (reply ≡ Arrived Again)
+Records (entry.Settling uid dest outcome now) call reply =
+    (call ≡ Settling uid dest outcome now) × (reply ≡ Done)
 Records (entry.Requeuing uid dest) call reply = (call ≡ Requeuing uid dest) × (reply ≡ Done)
 Records (entry.Forgetting uid) call reply = (call ≡ Forgetting uid) × (reply ≡ Done)
 Records entry.Adoption call reply = ⊥
@@ -31,10 +36,13 @@ receipt number call reply = record { number = number; call = call; reply = reply
 abbrev pub newest : List Receipt → List Receipt
 newest receipts = drop (length receipts - 1024) receipts
 
--- A pass after an accepted call: its count has risen by one, and its newest receipt is of just that call and reply. At which
--- number the line stands is compared with the journal when the sharing ends.
+-- A pass after an accepted call: its count has risen by one, and its newest receipt is of just that
+-- call and reply. At which number the line stands is compared with the journal when the sharing
+-- ends.
 abbrev pub Notes : Call → Reply → ℕ → List Receipt → ℕ → List Receipt → Type 0
-Notes call reply count receipts now kept = (now ≡ count + 1) × ((number : ℕ) × (kept ≡ newest (receipts ++ receipt number call reply ∷ [])))
+Notes call reply count receipts now kept =
+    (now ≡ count + 1)
+    × ((number : ℕ) × (kept ≡ newest (receipts ++ receipt number call reply ∷ [])))
 
 -- a pass after a call that was refused: its count and its receipts are as they were
 abbrev pub Leaves : ℕ → List Receipt → ℕ → List Receipt → Type 0

@@ -13,5 +13,8 @@ nobody = record {
   flows = [];
   lines = [];
   hops = [];
-  literals = record { modalities = record { literals = [] }; stations = record { literals = []; prefixes = [] } };
+  literals = record {
+    modalities = record { literals = [] };
+    stations = record { literals = []; prefixes = [] };
+  };
 }

@@ -1,5 +1,6 @@
 //! The end of a sharing: whether the passes agree with the journal, and what they count.
-ghost use Rattle.std.specs.Prelude.{◌≡◌, ◌<◌, ◌≤◌, ◌+◌, ◌^◌, ◌↔◌, ◌++◌, All, IfErr, IfOk, IsTrue, OnOk, length, sum_by, take};
+ghost use Rattle.std.specs.Prelude.{◌≡◌, ◌<◌, ◌≤◌, ◌+◌, ◌^◌, ◌↔◌, ◌++◌, All, IfErr, IfOk, IsTrue};
+ghost use Rattle.std.specs.Prelude.{OnOk, length, sum_by, take};
 ghost use Rattle.std.specs.List.{AllByRecursion, flat_map};
 ghost use Rattle.dr_desk.specs.Agreeing.{AreApart, Fails, IsOfLine, Rises, numbers, unread_by};
 
@@ -49,8 +50,8 @@ impl From<AllocError> for CloseFault {
     }
 }
 
-/// A desk that is no longer shared, the sum of the lines that the passes count which came back, and how many passes were
-/// made.
+/// A desk that is no longer shared, the sum of the lines that the passes count which came back, and
+/// how many passes were made.
 #[derive(Drop)]
 pub struct Closed<L> {
     pub desk: Desk<L>,
@@ -89,10 +90,14 @@ pub(crate) fn agree<B: Sharing>(
     passes: &[Pass<B>],
 ) -> Result<(), CloseFault>
     ensures begins { OnOk result (take (length kept.now) lines.now ≡ kept.now) }
-    ensures of_lines { OnOk result (AllByRecursion (λ p. All (IsOfLine lines.now) p.receipts.items) passes.now) }
+    ensures of_lines { OnOk result
+        (AllByRecursion (λ p. All (IsOfLine lines.now) p.receipts.items) passes.now) }
     ensures rise { OnOk result (AllByRecursion (λ p. Rises p.receipts.items) passes.now) }
     ensures apart { OnOk result (AreApart (flat_map (λ p. numbers p.receipts.items) passes.now)) }
-    ensures fault { IfErr result (λ why. Fails why (take (length kept.now) lines.now ≡ kept.now) (AllByRecursion (λ p. All (IsOfLine lines.now) p.receipts.items) passes.now) (AllByRecursion (λ p. Rises p.receipts.items) passes.now) (AreApart (flat_map (λ p. numbers p.receipts.items) passes.now))) }
+    ensures fault { IfErr result (λ why. Fails why (take (length kept.now) lines.now ≡ kept.now)
+        (AllByRecursion (λ p. All (IsOfLine lines.now) p.receipts.items) passes.now)
+        (AllByRecursion (λ p. Rises p.receipts.items) passes.now)
+        (AreApart (flat_map (λ p. numbers p.receipts.items) passes.now))) }
 {
     if !begin_with(lines, kept) {
         return Err(CloseFault::Receipt(Mismatch::Beginning));
@@ -145,7 +150,8 @@ fn each_is_of_line(lines: &[Entry], receipts: &VecDeque<Receipt>) -> bool
 }
 
 fn are_of_lines<B: Sharing>(lines: &[Entry], passes: &[Pass<B>]) -> bool
-    ensures { IsTrue result ↔ AllByRecursion (λ p. All (IsOfLine lines.now) p.receipts.items) passes.now }
+    ensures { IsTrue result
+        ↔ AllByRecursion (λ p. All (IsOfLine lines.now) p.receipts.items) passes.now }
 {
     for pass in passes {
         if !each_is_of_line(lines, &pass.receipts) {
@@ -210,7 +216,8 @@ fn are_apart(alloc: Global, all: &[u64]) -> Result<bool, AllocError>
     Ok(true)
 }
 
-/// What the passes count. With no pass missing it is the sum of all lines that were counted, and else at most that.
+/// What the passes count. With no pass missing it is the sum of all lines that were counted, and
+/// else at most that.
 pub(crate) fn joined<B: Sharing>(tally: Book<B>, rest: Share<B>, passes: Vec<Pass<B>>) -> u64
     requires total { tally.total < 2 ^ 64 }
     requires idle { rest.amount ≡ 0 }

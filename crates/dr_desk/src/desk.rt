@@ -8,8 +8,8 @@ use dr_cert::Sealed;
 use dr_ledger::{Arrived, Entry, Item, Job, Ledger, LedgerFault, LetsGo, Outcome, Progress};
 use dr_site::Site;
 
-/// A node's ledger, as the one who owns it calls it. It is a ledger itself: each call gives the reply of the book's
-/// definition, and adds the line of the call if it was accepted, and else none.
+/// A node's ledger, as the one who owns it calls it. It is a ledger itself: each call gives the
+/// reply of the book's definition, and adds the line of the call if it was accepted, and else none.
 #[derive(Drop)]
 pub struct Desk<L> {
     ledger: L,
@@ -30,10 +30,12 @@ impl<L: Ledger> Desk<L> {
         self.ledger
     }
 
-    /// Whenever it can be seen, its journal is a history that one thread can have made, each line of a call that the book
-    /// before it accepts, and its book is what the journal makes of the empty one. It does nothing.
+    /// Whenever it can be seen, its journal is a history that one thread can have made, each line
+    /// of a call that the book before it accepts, and its book is what the journal makes of the
+    /// empty one. It does nothing.
     pub fn has_a_history(&self)
-        ensures { L.stands self.now.ledger → ∥ IsJournalled (site_routing (L.site self.now.ledger)) (L.book self.now.ledger) ∥₁ }
+        ensures { L.stands self.now.ledger
+            → ∥ IsJournalled (site_routing (L.site self.now.ledger)) (L.book self.now.ledger) ∥₁ }
     {}
 }
 

@@ -1,5 +1,6 @@
 //! What lies under the lock of a shared desk.
-ghost use Rattle.std.specs.Prelude.{◌≡◌, ◌≤◌, ◌+◌, ◌^◌, [], All, IfErr, IfOk, MatchResult, Ok, OnOk, length, map as mapped, sum_by};
+ghost use Rattle.std.specs.Prelude.{◌≡◌, ◌≤◌, ◌+◌, ◌^◌, [], All, IfErr, IfOk, MatchResult, Ok};
+ghost use Rattle.std.specs.Prelude.{OnOk, length, map as mapped, sum_by};
 ghost use Rattle.std.specs.List.{AllByRecursion, flat_map};
 ghost use Rattle.std.proofs.Props.{props};
 ghost use Rattle.dr_ledger.specs.Items.{instance_of};
@@ -23,9 +24,10 @@ use std::sync::ledger::{Book, Share};
 /// How many passes can be made.
 const MOST_PASSES: u64 = 65_535;
 
-/// The desk, with a copy of the lines that it had when it was shared, the number of its last line, how many passes were made, and
-/// the sum of the lines that they count. What is done under the lock is one call of the ledger, and the counting of its line; no item
-/// is read or hashed there, no receipt is made or dropped.
+/// The desk, with a copy of the lines that it had when it was shared, the number of its last line,
+/// how many passes were made, and the sum of the lines that they count. What is done under the lock
+/// is one call of the ledger, and the counting of its line; no item is read or hashed there, no
+/// receipt is made or dropped.
 #[derive(Drop)]
 pub(crate) struct Held<L: Ledger, B: Sharing> {
     pub(crate) desk: Desk<L>,
@@ -40,8 +42,13 @@ pub(crate) struct Held<L: Ledger, B: Sharing> {
     pub ghost all_is: { B.all ≡ 65536 },
     pub ghost total: { length kept + tally.total ≡ number },
     pub ghost of: { L.site desk.ledger ≡ B.site } by { Prim.hlevel props },
-    pub ghost history: { L.stands desk.ledger → ∥ IsJournalled (site_routing (L.site desk.ledger)) (L.book desk.ledger) ∥₁ } by { Prim.hlevel props },
-    pub ghost grows: { L.stands desk.ledger → Grows B.first kept (L.book desk.ledger).lines number } by { Prim.hlevel props },
+    pub ghost history: { L.stands desk.ledger
+        → ∥ IsJournalled (site_routing (L.site desk.ledger))
+        (L.book desk.ledger) ∥₁ } by { Prim.hlevel
+            props },
+    pub ghost grows: { L.stands desk.ledger
+        → Grows B.first kept (L.book desk.ledger).lines number } by { Prim.hlevel
+            props },
 }
 
 impl<L: Ledger, B: Sharing> Held<L, B> {
@@ -60,9 +67,14 @@ impl<L: Ledger, B: Sharing> Held<L, B> {
         caller: &Text,
         item: Item,
     ) -> Result<(u64, Arrived), LedgerFault>
-        ensures count { MatchResult result (λ r. made.new.count ≡ made.old.count + 1) (λ why. made.new.count ≡ made.old.count) }
-        ensures reply { IfOk result (λ r. L.stands self.new.desk.ledger → Arrives (site_routing (L.site self.old.desk.ledger)) caller.now (instance_of item) (L.book self.old.desk.ledger) (Ok r.1) (L.book self.new.desk.ledger)) }
-        ensures number { IfOk result (λ r. L.stands self.new.desk.ledger → r.0 ≡ length (L.book self.new.desk.ledger).lines) }
+        ensures count { MatchResult result
+            (λ r. made.new.count ≡ made.old.count + 1)
+            (λ why. made.new.count ≡ made.old.count) }
+        ensures reply { IfOk result (λ r. L.stands self.new.desk.ledger
+            → Arrives (site_routing (L.site self.old.desk.ledger)) caller.now (instance_of item)
+            (L.book self.old.desk.ledger) (Ok r.1) (L.book self.new.desk.ledger)) }
+        ensures number { IfOk result (λ r.
+            L.stands self.new.desk.ledger → r.0 ≡ length (L.book self.new.desk.ledger).lines) }
     {
         if self.number == u64::MAX {
             return Err(self.refuse());
@@ -87,9 +99,14 @@ impl<L: Ledger, B: Sharing> Held<L, B> {
         now: u64,
     ) -> Result<u64, LedgerFault>
         requires { now ≤ 2 ^ 62 }
-        ensures count { MatchResult result (λ n. made.new.count ≡ made.old.count + 1) (λ why. made.new.count ≡ made.old.count) }
-        ensures reply { IfOk result (λ n. L.stands self.new.desk.ledger → Settles uid.now dest.now outcome now (L.book self.old.desk.ledger) (Ok tt) (L.book self.new.desk.ledger)) }
-        ensures number { IfOk result (λ n. L.stands self.new.desk.ledger → n ≡ length (L.book self.new.desk.ledger).lines) }
+        ensures count { MatchResult result
+            (λ n. made.new.count ≡ made.old.count + 1)
+            (λ why. made.new.count ≡ made.old.count) }
+        ensures reply { IfOk result (λ n. L.stands self.new.desk.ledger
+            → Settles uid.now dest.now outcome now (L.book self.old.desk.ledger) (Ok tt)
+            (L.book self.new.desk.ledger)) }
+        ensures number { IfOk result (λ n.
+            L.stands self.new.desk.ledger → n ≡ length (L.book self.new.desk.ledger).lines) }
     {
         if self.number == u64::MAX {
             return Err(self.refuse());
@@ -111,9 +128,14 @@ impl<L: Ledger, B: Sharing> Held<L, B> {
         uid: &Text,
         dest: &Text,
     ) -> Result<u64, LedgerFault>
-        ensures count { MatchResult result (λ n. made.new.count ≡ made.old.count + 1) (λ why. made.new.count ≡ made.old.count) }
-        ensures reply { IfOk result (λ n. L.stands self.new.desk.ledger → Requeues uid.now dest.now (L.book self.old.desk.ledger) (Ok tt) (L.book self.new.desk.ledger)) }
-        ensures number { IfOk result (λ n. L.stands self.new.desk.ledger → n ≡ length (L.book self.new.desk.ledger).lines) }
+        ensures count { MatchResult result
+            (λ n. made.new.count ≡ made.old.count + 1)
+            (λ why. made.new.count ≡ made.old.count) }
+        ensures reply { IfOk result (λ n. L.stands self.new.desk.ledger
+            → Requeues uid.now dest.now (L.book self.old.desk.ledger) (Ok tt)
+            (L.book self.new.desk.ledger)) }
+        ensures number { IfOk result (λ n.
+            L.stands self.new.desk.ledger → n ≡ length (L.book self.new.desk.ledger).lines) }
     {
         if self.number == u64::MAX {
             return Err(self.refuse());
@@ -208,17 +230,33 @@ impl<L: Ledger, B: Sharing> Held<L, B> {
         passes: Vec<Pass<B>>,
     ) -> Result<Closed<L>, NotClosed<L, B>>
         requires { B.all ≡ B.parts }
-        ensures begins { IfOk result (λ c. L.stands c.desk.ledger → BeginWith B.first (L.book c.desk.ledger).lines) }
-        ensures history { IfOk result (λ c. L.stands c.desk.ledger → ∥ IsJournalled (site_routing B.site) (L.book c.desk.ledger) ∥₁) }
-        ensures of_lines { IfOk result (λ c. L.stands c.desk.ledger → AllByRecursion (λ p. All (IsOfLine (mapped entry_of (L.book c.desk.ledger).lines)) p.receipts.items) passes.items) }
+        ensures begins { IfOk result (λ c.
+            L.stands c.desk.ledger → BeginWith B.first (L.book c.desk.ledger).lines) }
+        ensures history { IfOk result (λ c. L.stands c.desk.ledger
+            → ∥ IsJournalled (site_routing B.site) (L.book c.desk.ledger) ∥₁) }
+        ensures of_lines { IfOk result (λ c. L.stands c.desk.ledger
+            → AllByRecursion
+            (λ p. All (IsOfLine (mapped entry_of (L.book c.desk.ledger).lines)) p.receipts.items)
+            passes.items) }
         ensures rise { OnOk result (AllByRecursion (λ p. Rises p.receipts.items) passes.items) }
-        ensures apart { OnOk result (AreApart (flat_map (λ p. numbers p.receipts.items) passes.items)) }
+        ensures apart { OnOk result
+            (AreApart (flat_map (λ p. numbers p.receipts.items) passes.items)) }
         ensures sum { IfOk result (λ c. c.sum ≡ sum_by (λ p. p.made.count) passes.items) }
-        ensures some { IfOk result (λ c. L.stands c.desk.ledger → length B.first + c.sum ≤ length (L.book c.desk.ledger).lines) }
-        ensures all { IfOk result (λ c. L.stands c.desk.ledger → length passes.items ≡ c.passes → length B.first + c.sum ≡ length (L.book c.desk.ledger).lines) }
-        ensures of { MatchResult result (λ c. L.site c.desk.ledger ≡ B.site) (λ e. L.site e.desk.ledger ≡ B.site) }
+        ensures some { IfOk result (λ c.
+            L.stands c.desk.ledger → length B.first + c.sum ≤ length (L.book c.desk.ledger).lines) }
+        ensures all { IfOk result (λ c. L.stands c.desk.ledger
+            → length passes.items ≡ c.passes
+            → length B.first + c.sum ≡ length (L.book c.desk.ledger).lines) }
+        ensures of { MatchResult result
+            (λ c. L.site c.desk.ledger ≡ B.site)
+            (λ e. L.site e.desk.ledger ≡ B.site) }
         ensures back { IfErr result (λ e. e.passes ≡ passes) }
-        ensures fault { IfErr result (λ e. L.stands e.desk.ledger → Fails e.fault (BeginWith B.first (L.book e.desk.ledger).lines) (AllByRecursion (λ p. All (IsOfLine (mapped entry_of (L.book e.desk.ledger).lines)) p.receipts.items) passes.items) (AllByRecursion (λ p. Rises p.receipts.items) passes.items) (AreApart (flat_map (λ p. numbers p.receipts.items) passes.items))) }
+        ensures fault { IfErr result (λ e. L.stands e.desk.ledger
+            → Fails e.fault (BeginWith B.first (L.book e.desk.ledger).lines)
+            (AllByRecursion
+            (λ p. All (IsOfLine (mapped entry_of (L.book e.desk.ledger).lines)) p.receipts.items)
+            passes.items) (AllByRecursion (λ p. Rises p.receipts.items) passes.items)
+            (AreApart (flat_map (λ p. numbers p.receipts.items) passes.items))) }
     {
         let Held {
             desk,
@@ -259,19 +297,13 @@ impl<L: Ledger, B: Sharing> Held<L, B> {
 impl<L: LetsGo, B: Sharing> Held<L, B> {
     /// The ledger's `forget`, with the number of the line.
     pub(crate) fn forget(&mut self, made: &mut Made<B>, uid: &Text) -> Result<u64, LedgerFault>
-        ensures count {
-            MatchResult result (λ n. made.new.count ≡ made.old.count + 1)
-                (λ why. made.new.count ≡ made.old.count)
-        }
-        ensures reply {
-            IfOk result (λ n. L.stands self.new.desk.ledger →
-                Forgets uid.now (L.book self.old.desk.ledger) (Ok tt)
-                    (L.book self.new.desk.ledger))
-        }
-        ensures number {
-            IfOk result (λ n. L.stands self.new.desk.ledger →
-                n ≡ length (L.book self.new.desk.ledger).lines)
-        }
+        ensures count { MatchResult result (λ n. made.new.count ≡ made.old.count + 1)
+            (λ why. made.new.count ≡ made.old.count) }
+        ensures reply { IfOk result (λ n. L.stands self.new.desk.ledger →
+            Forgets uid.now (L.book self.old.desk.ledger) (Ok tt)
+            (L.book self.new.desk.ledger)) }
+        ensures number { IfOk result (λ n. L.stands self.new.desk.ledger →
+            n ≡ length (L.book self.new.desk.ledger).lines) }
     {
         if self.number == u64::MAX {
             return Err(self.refuse());

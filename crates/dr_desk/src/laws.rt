@@ -1,5 +1,7 @@
 //! Laws of receipts.
-ghost use Rattle.dr_desk.specs.Laws.{ArrivalsAreRecorded, FewAreHeld, FiguresAreRight, ForgettingsAreRecorded, LinesAreOfOneCall, NoMoreAreHeld, ReceiptsAreOne, RequeuingsAreRecorded, SettlingsAreRecorded};
+ghost use Rattle.dr_desk.specs.Laws.{ArrivalsAreRecorded, FewAreHeld, FiguresAreRight};
+ghost use Rattle.dr_desk.specs.Laws.{ForgettingsAreRecorded, LinesAreOfOneCall, NoMoreAreHeld};
+ghost use Rattle.dr_desk.specs.Laws.{ReceiptsAreOne, RequeuingsAreRecorded, SettlingsAreRecorded};
 
 use dr_ledger::laws::Routed;
 

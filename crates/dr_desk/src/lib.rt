@@ -1,8 +1,9 @@
 //! The desk of a node: its ledger with one owner, or shared by threads.
 //!
-//! A `Desk` is called by its owner alone. `SharedDesk` puts it under one lock, which is held for one call of the ledger
-//! and never longer; each thread has a `Pass`, which counts the lines that its calls made and holds receipts for the
-//! last of them. `close` ends the sharing and compares the receipts with the journal.
+//! A `Desk` is called by its owner alone. `SharedDesk` puts it under one lock, which is held for
+//! one call of the ledger and never longer; each thread has a `Pass`, which counts the lines that
+//! its calls made and holds receipts for the last of them. `close` ends the sharing and compares
+//! the receipts with the journal.
 #![tactic(auto)]
 
 pub mod closing;

@@ -84,7 +84,9 @@ impl<B: Sharing> Pass<B> {
 
     /// Room for one receipt more, so that none is wanting once a line is made.
     pub(crate) fn make_room(&mut self) -> Result<(), AllocError>
-        ensures room { IfOk result (λ done. (length self.new.receipts.items < 1024 → deque_len self.new.receipts < deque_capacity self.new.receipts)) }
+        ensures room { IfOk result (λ done.
+            (length self.new.receipts.items < 1024
+            → deque_len self.new.receipts < deque_capacity self.new.receipts)) }
         ensures count { self.new.made.count ≡ self.old.made.count }
         ensures receipts { self.new.receipts.items ≡ self.old.receipts.items }
     {
@@ -96,9 +98,11 @@ impl<B: Sharing> Pass<B> {
 
     /// One receipt more; of 1,024 the oldest goes.
     pub(crate) fn note(&mut self, receipt: Receipt)
-        requires { length self.old.receipts.items < 1024 → deque_len self.old.receipts < deque_capacity self.old.receipts }
+        requires { length self.old.receipts.items < 1024
+            → deque_len self.old.receipts < deque_capacity self.old.receipts }
         ensures count { self.new.made.count ≡ self.old.made.count }
-        ensures receipts { self.new.receipts.items ≡ newest (self.old.receipts.items ++ receipt ∷ []) }
+        ensures receipts { self.new.receipts.items
+            ≡ newest (self.old.receipts.items ++ receipt ∷ []) }
     {
         if self.receipts.len() == KEPT {
             let _ = self.receipts.pop_front();

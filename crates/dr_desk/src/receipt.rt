@@ -7,8 +7,8 @@ use dr_ledger::{Arrived, Entry, Item, Outcome};
 use dr_route::Key;
 use std::alloc::AllocError;
 
-/// A call that adds a line where it is accepted; of an arrival it has the length of the data set (bytes) in place of
-/// the data set.
+/// A call that adds a line where it is accepted; of an arrival it has the length of the data set
+/// (bytes) in place of the data set.
 #[derive(PartialEq, Eq, Debug, Drop)]
 pub enum Call {
     Arrival {
@@ -146,7 +146,9 @@ fn is_arrival(
     arrived: Arrived,
     receipt: &Receipt,
 ) -> bool
-    ensures { IsTrue result ↔ ((receipt.now.call ≡ Call.Arrival caller.now uid.now key.now length) × (receipt.now.reply ≡ Reply.Arrived arrived)) }
+    ensures { IsTrue result
+        ↔ ((receipt.now.call ≡ Call.Arrival caller.now uid.now key.now length)
+        × (receipt.now.reply ≡ Reply.Arrived arrived)) }
 {
     let Call::Arrival {
         caller: from,
@@ -165,7 +167,9 @@ fn is_arrival(
 }
 
 fn is_settling(uid: &Text, dest: &Text, outcome: Outcome, now: u64, receipt: &Receipt) -> bool
-    ensures { IsTrue result ↔ ((receipt.now.call ≡ Call.Settling uid.now dest.now outcome now) × (receipt.now.reply ≡ Reply.Done)) }
+    ensures { IsTrue result
+        ↔ ((receipt.now.call ≡ Call.Settling uid.now dest.now outcome now)
+        × (receipt.now.reply ≡ Reply.Done)) }
 {
     let Call::Settling {
         uid: of,
@@ -180,7 +184,9 @@ fn is_settling(uid: &Text, dest: &Text, outcome: Outcome, now: u64, receipt: &Re
 }
 
 fn is_requeuing(uid: &Text, dest: &Text, receipt: &Receipt) -> bool
-    ensures { IsTrue result ↔ ((receipt.now.call ≡ Call.Requeuing uid.now dest.now) × (receipt.now.reply ≡ Reply.Done)) }
+    ensures { IsTrue result
+        ↔ ((receipt.now.call ≡ Call.Requeuing uid.now dest.now)
+        × (receipt.now.reply ≡ Reply.Done)) }
 {
     let Call::Requeuing { uid: of, dest: to } = &receipt.call else {
         return false;
@@ -189,10 +195,8 @@ fn is_requeuing(uid: &Text, dest: &Text, receipt: &Receipt) -> bool
 }
 
 fn is_forgetting(uid: &Text, receipt: &Receipt) -> bool
-    ensures {
-        IsTrue result
-            ↔ ((receipt.now.call ≡ Call.Forgetting uid.now) × (receipt.now.reply ≡ Reply.Done))
-    }
+    ensures { IsTrue result
+        ↔ ((receipt.now.call ≡ Call.Forgetting uid.now) × (receipt.now.reply ≡ Reply.Done)) }
 {
     let Call::Forgetting { uid: of } = &receipt.call else {
         return false;

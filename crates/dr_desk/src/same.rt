@@ -44,7 +44,8 @@ fn is_arrival(
     to: &Seq<Text>,
     keep: bool,
 ) -> bool
-    ensures { IsTrue result ↔ (line.now ≡ entry.Arrival caller.now uid.now key.now length to.now keep) }
+    ensures { IsTrue result
+        ↔ (line.now ≡ entry.Arrival caller.now uid.now key.now length to.now keep) }
 {
     match line {
         Entry::Arrival {

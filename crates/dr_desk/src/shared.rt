@@ -1,5 +1,6 @@
 //! A desk that threads share.
-ghost use Rattle.std.specs.Prelude.{◌≡◌, ◌<◌, ◌≤◌, ◌+◌, ◌^◌, [], All, IfErr, IfOk, MatchResult, OnOk, length, map as mapped, sum_by};
+ghost use Rattle.std.specs.Prelude.{◌≡◌, ◌<◌, ◌≤◌, ◌+◌, ◌^◌, [], All, IfErr, IfOk, MatchResult};
+ghost use Rattle.std.specs.Prelude.{OnOk, length, map as mapped, sum_by};
 ghost use Rattle.std.specs.List.{AllByRecursion, flat_map};
 ghost use Rattle.dr_ledger.specs.Histories.{IsJournalled};
 ghost use Rattle.dr_ledger.specs.Replies.{entry_of};
@@ -23,9 +24,10 @@ use std::alloc::Global;
 use std::sync::ledger::Blank;
 use std::sync::{Mutex, Wait};
 
-/// A desk that threads share, with the site of its ledger. Each call waits for the one lock, which is held for one call of
-/// the ledger alone, but by `holdings`. Of what a call shows nothing can be said here, since another thread may have called in between; that it is what
-/// the ledger answers, the receipts say, and tests.
+/// A desk that threads share, with the site of its ledger. Each call waits for the one lock, which
+/// is held for one call of the ledger alone, but by `holdings`. Of what a call shows nothing can be
+/// said here, since another thread may have called in between; that it is what the ledger answers,
+/// the receipts say, and tests.
 #[derive(Drop)]
 pub struct SharedDesk<L: Ledger, B: Sharing> {
     site: Site,
@@ -33,8 +35,8 @@ pub struct SharedDesk<L: Ledger, B: Sharing> {
 }
 
 impl<L: Ledger, B: Sharing> SharedDesk<L, B> {
-    /// Shares a desk, whose ledger is of that site. A copy is kept of the lines that it has. Where they can't be read, the desk is
-    /// handed back.
+    /// Shares a desk, whose ledger is of that site. A copy is kept of the lines that it has. Where
+    /// they can't be read, the desk is handed back.
     ///
     /// Errors: Store, Memory.
     pub fn new(
@@ -42,11 +44,15 @@ impl<L: Ledger, B: Sharing> SharedDesk<L, B> {
         site: Site,
         blank: Blank,
     ) -> Result<SharedDesk<L, B>, (LedgerFault, Desk<L>)>
-        requires blank { (blank.name ≡ B.name) × (blank.parts ≡ B.parts) × (B.all ≡ B.parts) × (B.all ≡ 65536) }
+        requires blank { (blank.name ≡ B.name) × (blank.parts ≡ B.parts) × (B.all ≡ B.parts)
+            × (B.all ≡ 65536) }
         requires first { B.first ≡ (L.book desk.ledger).lines }
         requires site { (L.site desk.ledger ≡ site) × (B.site ≡ site) }
         ensures site { IfOk result (λ s. s.site ≡ site) }
-        ensures same { IfErr result (λ e. L.stands e.1.ledger → L.stands desk.ledger × (L.book e.1.ledger ≡ L.book desk.ledger) × (L.bodies e.1.ledger ≡ L.bodies desk.ledger)) }
+        ensures same { IfErr result (λ e. L.stands e.1.ledger
+            → L.stands desk.ledger
+            × (L.book e.1.ledger ≡ L.book desk.ledger)
+            × (L.bodies e.1.ledger ≡ L.bodies desk.ledger)) }
         ensures of { IfErr result (λ e. L.site e.1.ledger ≡ site) }
     {
         let mut desk = desk;
@@ -100,7 +106,11 @@ impl<L: Ledger, B: Sharing> SharedDesk<L, B> {
         caller: &Text,
         item: Item,
     ) -> Result<Arrived, LedgerFault>
-        ensures { MatchResult result (λ r. Notes (arrival_of caller.now item) (Reply.Arrived r) pass.old.made.count pass.old.receipts.items pass.new.made.count pass.new.receipts.items) (λ why. Leaves pass.old.made.count pass.old.receipts.items pass.new.made.count pass.new.receipts.items) }
+        ensures { MatchResult result
+            (λ r. Notes (arrival_of caller.now item) (Reply.Arrived r) pass.old.made.count
+            pass.old.receipts.items pass.new.made.count pass.new.receipts.items)
+            (λ why. Leaves pass.old.made.count pass.old.receipts.items pass.new.made.count
+            pass.new.receipts.items) }
     {
         if pass.make_room().is_err() {
             drop(item);
@@ -141,7 +151,11 @@ impl<L: Ledger, B: Sharing> SharedDesk<L, B> {
         now: u64,
     ) -> Result<(), LedgerFault>
         requires { now ≤ 2 ^ 62 }
-        ensures { MatchResult result (λ r. Notes (Call.Settling uid.now dest.now outcome now) Reply.Done pass.old.made.count pass.old.receipts.items pass.new.made.count pass.new.receipts.items) (λ why. Leaves pass.old.made.count pass.old.receipts.items pass.new.made.count pass.new.receipts.items) }
+        ensures { MatchResult result
+            (λ r. Notes (Call.Settling uid.now dest.now outcome now) Reply.Done pass.old.made.count
+            pass.old.receipts.items pass.new.made.count pass.new.receipts.items)
+            (λ why. Leaves pass.old.made.count pass.old.receipts.items pass.new.made.count
+            pass.new.receipts.items) }
     {
         pass.make_room()?;
         let call = settling(uid, dest, outcome, now)?;
@@ -175,7 +189,11 @@ impl<L: Ledger, B: Sharing> SharedDesk<L, B> {
         uid: &Text,
         dest: &Text,
     ) -> Result<(), LedgerFault>
-        ensures { MatchResult result (λ r. Notes (Call.Requeuing uid.now dest.now) Reply.Done pass.old.made.count pass.old.receipts.items pass.new.made.count pass.new.receipts.items) (λ why. Leaves pass.old.made.count pass.old.receipts.items pass.new.made.count pass.new.receipts.items) }
+        ensures { MatchResult result
+            (λ r. Notes (Call.Requeuing uid.now dest.now) Reply.Done pass.old.made.count
+            pass.old.receipts.items pass.new.made.count pass.new.receipts.items)
+            (λ why. Leaves pass.old.made.count pass.old.receipts.items pass.new.made.count
+            pass.new.receipts.items) }
     {
         pass.make_room()?;
         let call = requeuing(uid, dest)?;
@@ -272,23 +290,39 @@ impl<L: Ledger, B: Sharing> SharedDesk<L, B> {
         self.held.lock(rt).failures()
     }
 
-    /// Ends the sharing, where each receipt of the passes agrees with the journal. The desk, and where it doesn't end so
-    /// the passes too, are handed back.
+    /// Ends the sharing, where each receipt of the passes agrees with the journal. The desk, and
+    /// where it doesn't end so the passes too, are handed back.
     ///
     /// Errors: Receipt, Store, Memory.
     pub fn close(self, alloc: Global, passes: Vec<Pass<B>>) -> Result<Closed<L>, NotClosed<L, B>>
         requires { B.all ≡ B.parts }
-        ensures begins { IfOk result (λ c. L.stands c.desk.ledger → BeginWith B.first (L.book c.desk.ledger).lines) }
-        ensures history { IfOk result (λ c. L.stands c.desk.ledger → ∥ IsJournalled (site_routing B.site) (L.book c.desk.ledger) ∥₁) }
-        ensures of_lines { IfOk result (λ c. L.stands c.desk.ledger → AllByRecursion (λ p. All (IsOfLine (mapped entry_of (L.book c.desk.ledger).lines)) p.receipts.items) passes.items) }
+        ensures begins { IfOk result (λ c.
+            L.stands c.desk.ledger → BeginWith B.first (L.book c.desk.ledger).lines) }
+        ensures history { IfOk result (λ c. L.stands c.desk.ledger
+            → ∥ IsJournalled (site_routing B.site) (L.book c.desk.ledger) ∥₁) }
+        ensures of_lines { IfOk result (λ c. L.stands c.desk.ledger
+            → AllByRecursion
+            (λ p. All (IsOfLine (mapped entry_of (L.book c.desk.ledger).lines)) p.receipts.items)
+            passes.items) }
         ensures rise { OnOk result (AllByRecursion (λ p. Rises p.receipts.items) passes.items) }
-        ensures apart { OnOk result (AreApart (flat_map (λ p. numbers p.receipts.items) passes.items)) }
+        ensures apart { OnOk result
+            (AreApart (flat_map (λ p. numbers p.receipts.items) passes.items)) }
         ensures sum { IfOk result (λ c. c.sum ≡ sum_by (λ p. p.made.count) passes.items) }
-        ensures some { IfOk result (λ c. L.stands c.desk.ledger → length B.first + c.sum ≤ length (L.book c.desk.ledger).lines) }
-        ensures all { IfOk result (λ c. L.stands c.desk.ledger → length passes.items ≡ c.passes → length B.first + c.sum ≡ length (L.book c.desk.ledger).lines) }
-        ensures of { MatchResult result (λ c. L.site c.desk.ledger ≡ B.site) (λ e. L.site e.desk.ledger ≡ B.site) }
+        ensures some { IfOk result (λ c.
+            L.stands c.desk.ledger → length B.first + c.sum ≤ length (L.book c.desk.ledger).lines) }
+        ensures all { IfOk result (λ c. L.stands c.desk.ledger
+            → length passes.items ≡ c.passes
+            → length B.first + c.sum ≡ length (L.book c.desk.ledger).lines) }
+        ensures of { MatchResult result
+            (λ c. L.site c.desk.ledger ≡ B.site)
+            (λ e. L.site e.desk.ledger ≡ B.site) }
         ensures back { IfErr result (λ e. e.passes ≡ passes) }
-        ensures fault { IfErr result (λ e. L.stands e.desk.ledger → Fails e.fault (BeginWith B.first (L.book e.desk.ledger).lines) (AllByRecursion (λ p. All (IsOfLine (mapped entry_of (L.book e.desk.ledger).lines)) p.receipts.items) passes.items) (AllByRecursion (λ p. Rises p.receipts.items) passes.items) (AreApart (flat_map (λ p. numbers p.receipts.items) passes.items))) }
+        ensures fault { IfErr result (λ e. L.stands e.desk.ledger
+            → Fails e.fault (BeginWith B.first (L.book e.desk.ledger).lines)
+            (AllByRecursion
+            (λ p. All (IsOfLine (mapped entry_of (L.book e.desk.ledger).lines)) p.receipts.items)
+            passes.items) (AllByRecursion (λ p. Rises p.receipts.items) passes.items)
+            (AreApart (flat_map (λ p. numbers p.receipts.items) passes.items))) }
     {
         self.into_held().close(alloc, passes)
     }
@@ -303,20 +337,13 @@ impl<L: LetsGo, B: Sharing> SharedDesk<L, B> {
     /// Forgets an instance.
     ///
     /// Errors: as the ledger's `forget`; Memory may come before NotOver.
-    pub fn forget<R: Wait>(
-        &self,
-        rt: &R,
-        pass: &mut Pass<B>,
-        uid: &Text,
-    ) -> Result<(), LedgerFault>
-        ensures {
-            MatchResult result
-                (λ r. Notes (Call.Forgetting uid.now) Reply.Done
-                    pass.old.made.count pass.old.receipts.items
-                    pass.new.made.count pass.new.receipts.items)
-                (λ why. Leaves pass.old.made.count pass.old.receipts.items
-                    pass.new.made.count pass.new.receipts.items)
-        }
+    pub fn forget<R: Wait>(&self, rt: &R, pass: &mut Pass<B>, uid: &Text) -> Result<(), LedgerFault>
+        ensures { MatchResult result
+            (λ r. Notes (Call.Forgetting uid.now) Reply.Done
+            pass.old.made.count pass.old.receipts.items
+            pass.new.made.count pass.new.receipts.items)
+            (λ why. Leaves pass.old.made.count pass.old.receipts.items
+            pass.new.made.count pass.new.receipts.items) }
     {
         pass.make_room()?;
         let call = forgetting(uid)?;

@@ -7,9 +7,9 @@ ghost use Rattle.dr_site.specs.Parts.{Part};
 use std::marker::Brand;
 use std::sync::ledger;
 
-/// One sharing of a desk. The type of a shared desk and of its passes names it, so that no pass of another desk can be
-/// handed in. A sharing is cut into parts, of which each pass has one (`std::sync::ledger`). It is called at `Brand`,
-/// and each call picks what these are.
+/// One sharing of a desk. The type of a shared desk and of its passes names it, so that no pass of
+/// another desk can be handed in. A sharing is cut into parts, of which each pass has one
+/// (`std::sync::ledger`). It is called at `Brand`, and each call picks what these are.
 pub trait Sharing: ledger::Ledger {
     // Its parts: one for each pass, and one that stays.
     ghost all: { ℕ };

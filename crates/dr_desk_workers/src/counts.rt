@@ -2,7 +2,8 @@
 use crate::gate::Tally;
 use std::cell::Cell;
 
-/// The arrivals that the desk answered, taken or refused, and those of them whose reply isn't sent yet.
+/// The arrivals that the desk answered, taken or refused, and those of them whose reply isn't sent
+/// yet.
 #[derive(Drop)]
 pub struct SessionCounts {
     unanswered: Cell<u64>,

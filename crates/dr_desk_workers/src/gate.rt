@@ -14,7 +14,8 @@ pub enum Point {
     Answered,
 }
 
-/// What came of a session: how many instances the desk took, as new or again, and refused, and how long it was, in milliseconds since its connection came.
+/// What came of a session: how many instances the desk took, as new or again, and refused, and how
+/// long it was, in milliseconds since its connection came.
 #[derive(Clone, Copy, PartialEq, Eq, Debug)]
 pub struct Tally {
     pub accepted: u64,

@@ -6,9 +6,9 @@ use crate::counts::SessionCounts;
 use crate::gate::{Gate, Point};
 use dr_session::{Heard, Link};
 
-/// A connection's link. After a write that was done the gate is passed once for each arrival that was answered and whose
-/// reply wasn't sent before. It counts as open from the moment at which a worker took it, however
-/// long it waited for one. Where the gate is over, a fault is heard.
+/// A connection's link. After a write that was done the gate is passed once for each arrival that
+/// was answered and whose reply wasn't sent before. It counts as open from the moment at which a
+/// worker took it, however long it waited for one. Where the gate is over, a fault is heard.
 #[derive(Drop)]
 pub struct GatedLink<'a, K: Link + Drop, G: Gate> {
     pub link: K,

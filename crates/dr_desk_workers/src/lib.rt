@@ -1,7 +1,8 @@
 //! Workers that serve connections on a shared desk.
 //!
-//! `workers` starts threads that take connections from a channel until it is closed and empty, serve each with a session
-//! (`dr_session::receive`) over the shared desk, and give back their passes.
+//! `workers` starts threads that take connections from a channel until it is closed and empty,
+//! serve each with a session (`dr_session::receive`) over the shared desk, and give back their
+//! passes.
 #![tactic(auto)]
 
 pub mod connection;

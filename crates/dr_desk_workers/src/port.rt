@@ -10,8 +10,8 @@ use dr_session::DeskPort;
 use std::alloc::AllocError;
 use std::sync::Wait;
 
-/// The shared desk with the pass of the worker that serves the session. After an arrival that the desk answered, and without its
-/// lock, the gate is passed.
+/// The shared desk with the pass of the worker that serves the session. After an arrival that the
+/// desk answered, and without its lock, the gate is passed.
 #[derive(Drop)]
 pub struct SessionPort<'a, R: Wait, L: Ledger, B: Sharing, G: Gate> {
     pub rt: &'a R,
@@ -39,7 +39,8 @@ impl<'a, R: Wait, L: Ledger, B: Sharing, G: Gate> SessionPort<'a, R, L, B, G> {
 impl<'a, R: Wait, L: Ledger, B: Sharing, G: Gate> DeskPort for SessionPort<'a, R, L, B, G> {
     ghost use Rattle.dr_desk_workers.specs.Passes.{PassStep};
 
-    ghost step = { λ s call answer t. PassStep call answer s.pass.now.made.count s.pass.now.receipts.items t.pass.now.made.count t.pass.now.receipts.items };
+    ghost step = { λ s call answer t. PassStep call answer s.pass.now.made.count
+        s.pass.now.receipts.items t.pass.now.made.count t.pass.now.receipts.items };
 
     fn arrive(&mut self, caller: &Text, item: Item) -> Result<Arrived, LedgerFault> {
         let uid: Result<Text, AllocError> = item.uid().clone();

@@ -37,9 +37,10 @@ impl From<TooManyPasses> for WorkersFault {
     }
 }
 
-/// Runs n workers, 1 to 64, on the connections of a channel until it is closed and empty, and gives back their passes. All
-/// passes are made before any connection is taken. Each connection is served with one session, of which no fault ends another; where
-/// a thread can't be started, its part is served in a running one.
+/// Runs n workers, 1 to 64, on the connections of a channel until it is closed and empty, and gives
+/// back their passes. All passes are made before any connection is taken. Each connection is served
+/// with one session, of which no fault ends another; where a thread can't be started, its part is
+/// served in a running one.
 ///
 /// Errors: TooManyPasses, Memory; then no connection was taken.
 pub fn workers<
@@ -74,8 +75,8 @@ pub fn workers<
     Ok(passes)
 }
 
-/// Serves until the channel is closed and empty; so many other workers may be serving, fewer than the 256 associations
-/// at which one more is refused.
+/// Serves until the channel is closed and empty; so many other workers may be serving, fewer than
+/// the 256 associations at which one more is refused.
 fn work<R: Wait, L: Ledger, B: Sharing, K: Link + Drop, C: Clock + Drop, G: Gate>(
     rt: &R,
     alloc: Global,

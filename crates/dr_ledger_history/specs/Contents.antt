@@ -12,7 +12,8 @@ use Rattle.dr_ledger.specs.Pairs.{Pair, pair_cmp}
 use Rattle.dr_ledger_history.specs.declared.parts.Parts.{Parts}
 use Rattle.dr_ledger_history.specs.Trees.{as_map, as_set}
 
--- what a node has: items by uid, arrivals (caller, uid), kept uids, how far each (uid, destination) is
+-- what a node has: items by uid, arrivals (caller, uid), kept uids, how far each (uid, destination)
+-- is
 pub record Content : Type 0 where
   pub items : FinMap text_cmp Instance
   pub arrivals : FinSet pair_cmp
@@ -25,12 +26,24 @@ content_of b = record { items = b.items; arrivals = b.arrivals; kept = b.kept; r
 
 -- a book that has it, and no lines
 abbrev pub book_of : Content → Book
-book_of c = record { items = c.items; arrivals = c.arrivals; kept = c.kept; rows = c.rows; lines = [] }
+book_of c =
+    record { items = c.items; arrivals = c.arrivals; kept = c.kept; rows = c.rows; lines = [] }
 
 -- what the parts hold
 abbrev pub content : Parts → Content
-content p = record { items = as_map text_cmp p.items; arrivals = as_set pair_cmp p.arrivals; kept = as_set text_cmp p.kept; rows = as_map pair_cmp p.rows }
+content p = record {
+  items = as_map text_cmp p.items;
+  arrivals = as_set pair_cmp p.arrivals;
+  kept = as_set text_cmp p.kept;
+  rows = as_map pair_cmp p.rows;
+}
 
 -- what these lists of all arrivals, kept uids and rows make, with these items
-abbrev pub all_of : FinMap text_cmp Instance → List Pair → List Text → List (Pair × Progress) → Content
-all_of items arrivals kept rows = record { items = items; arrivals = set.from_list arrivals; kept = set.from_list kept; rows = map.from_entries rows }
+abbrev pub all_of : FinMap text_cmp Instance → List Pair → List Text → List (Pair × Progress)
+    → Content
+all_of items arrivals kept rows = record {
+  items = items;
+  arrivals = set.from_list arrivals;
+  kept = set.from_list kept;
+  rows = map.from_entries rows;
+}

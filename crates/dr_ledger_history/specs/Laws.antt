@@ -8,18 +8,26 @@ use Rattle.dr_ledger_history.specs.Told.{IsTold, IsToldSince}
 
 -- what was told as past is over where it ends with an adoption, or is nothing
 abbrev pub PastIsOver : Routing → Type 0
-PastIsOver routing = (past : List Line) (c : Content) → IsTold past c → IsBeforeAdoption past → IsToldSince routing past [] c
+PastIsOver routing =
+    (past : List Line) (c : Content)
+    → IsTold past c → IsBeforeAdoption past
+    → IsToldSince routing past [] c
 
 -- the book that the lines told make is journalled, and all that was told is what it has
 abbrev pub ToldIsJournalled : Routing → Type 0
-ToldIsJournalled routing = (past since : List Line) (c : Content) → IsToldSince routing past since c →
-    IsJournalled routing (Fold (past ++ since)) × (c ≡ content_of (Fold (past ++ since)))
+ToldIsJournalled routing =
+    (past since : List Line) (c : Content)
+    → IsToldSince routing past since c
+    → IsJournalled routing (Fold (past ++ since)) × (c ≡ content_of (Fold (past ++ since)))
 
 -- a book with these lines that is journalled has just this
 abbrev pub ToldHasOneContent : Routing → Type 0
-ToldHasOneContent routing = (past since : List Line) (c : Content) → IsToldSince routing past since c →
-    (b : Book) → IsJournalled routing b → b.lines ≡ past ++ since → content_of b ≡ c
+ToldHasOneContent routing =
+    (past since : List Line) (c : Content)
+    → IsToldSince routing past since c
+    → (b : Book) → IsJournalled routing b → b.lines ≡ past ++ since → content_of b ≡ c
 
 -- two books that have the same and have the same lines are the same
 abbrev pub AllButTheLines : Type 0
-AllButTheLines = (b other : Book) → content_of b ≡ content_of other → b.lines ≡ other.lines → b ≡ other
+AllButTheLines =
+    (b other : Book) → content_of b ≡ content_of other → b.lines ≡ other.lines → b ≡ other

@@ -22,7 +22,8 @@ IsRowOf uid rows (Some found) = (found.0.0 ≡ uid) × (map.get rows found.0 ≡
 abbrev pub AreDone : Text → Rows → Type 0
 AreDone uid rows = (dest : Text) (row : Progress) → map.get rows (uid, dest) ≡ Some row → row ≡ Done
 
--- the rows of the uid have left, and all were done; or one isn't, and nothing is said of what is left
+-- the rows of the uid have left, and all were done; or one isn't, and nothing is said of what is
+-- left
 abbrev pub AreLetGo : Text → Rows → Bool → Rows → Type 0
 AreLetGo uid old true new =
     AreDone uid old × (new ≡ map.retain_keys old (λ at. is_other uid at.0))

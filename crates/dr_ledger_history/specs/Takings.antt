@@ -1,6 +1,7 @@
 -- One line more.
 use Rattle.std.specs.Prelude.{◌≡◌, Result, Ok, Err}
-use Rattle.dr_ledger.specs.Books.{Line, Arrival, Repeat, Settling, Requeuing, Forgetting, Adoption, after}
+use Rattle.dr_ledger.specs.Books.{Line, Arrival, Repeat, Settling, Requeuing, Forgetting, Adoption}
+use Rattle.dr_ledger.specs.Books.{after}
 use Rattle.dr_ledger.specs.Histories.{IsSomeCall}
 use Rattle.dr_ledger.specs.Routings.{Routing}
 use Rattle.dr_ledger_history.specs.Contents.{Content, book_of, content_of}
@@ -9,7 +10,10 @@ use Rattle.dr_ledger_history.specs.declared.line.HistoryFault.TheVariants as fau
 
 -- what a plan says of the line of a call at its node
 abbrev pub IsBy : Routing → Line → Type 0
-IsBy routing (Arrival caller item to keep) = routing.HasLine caller item.key × (to ≡ routing.targets caller item.key) × (keep ≡ routing.keeps caller item.key)
+IsBy routing (Arrival caller item to keep) =
+    routing.HasLine caller item.key
+    × (to ≡ routing.targets caller item.key)
+    × (keep ≡ routing.keeps caller item.key)
 IsBy routing (Repeat caller item) = routing.HasLine caller item.key
 IsBy routing (Settling uid dest outcome now) = Unit {0}
 IsBy routing (Requeuing uid dest) = Unit {0}
@@ -18,6 +22,7 @@ IsBy routing Adoption = ⊥
 
 -- what one line makes of what a node has, if it is a call that is accepted there
 abbrev pub Takes : Line → Content → Result (Unit {0}) HistoryFault → Content → Type 0
-Takes line old (Ok done) new = IsSomeCall line (book_of old) × (new ≡ content_of (after line (book_of old)))
+Takes line old (Ok done) new =
+    IsSomeCall line (book_of old) × (new ≡ content_of (after line (book_of old)))
 Takes line old (Err fault.NoCall) new = IsSomeCall line (book_of old) → ⊥
 Takes line old (Err fault.Memory) new = Unit {0}

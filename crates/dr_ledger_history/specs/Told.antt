@@ -13,8 +13,8 @@ pub record IsTold (lines : List Line) (c : Content) : Type 0 where
   pub past : IsPast lines empty_book
   pub fold : c ≡ content_of (Fold lines)
 
--- The lines up to the last adoption are a history under whatever plans, those since then are one under the plan in force, and this is what all
--- of them make.
+-- The lines up to the last adoption are a history under whatever plans, those since then are one
+-- under the plan in force, and this is what all of them make.
 pub record IsToldSince (routing : Routing) (past since : List Line) (c : Content) : Type 0 where
   pub before : IsBeforeAdoption past
   pub accepted : IsPast past empty_book
@@ -28,7 +28,11 @@ Tells lines line (Err fault.NoCall) = IsPast (lines ++ line ∷ []) empty_book �
 Tells lines line (Err fault.Memory) = Unit {0}
 
 -- the same since the last adoption
-abbrev pub TellsSince : Routing → List Line → List Line → Line → Result History HistoryFault → Type 0
-TellsSince routing past since line (Ok h) = IsToldSince routing past (since ++ line ∷ []) (content h.parts)
-TellsSince routing past since line (Err fault.NoCall) = IsHistory routing (since ++ line ∷ []) (Fold past) → ⊥
+abbrev pub TellsSince : Routing → List Line → List Line → Line
+    → Result History HistoryFault
+    → Type 0
+TellsSince routing past since line (Ok h) =
+    IsToldSince routing past (since ++ line ∷ []) (content h.parts)
+TellsSince routing past since line (Err fault.NoCall) =
+    IsHistory routing (since ++ line ∷ []) (Fold past) → ⊥
 TellsSince routing past since line (Err fault.Memory) = Unit {0}

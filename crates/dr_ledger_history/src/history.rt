@@ -19,8 +19,9 @@ use dr_site::Site;
 use std::alloc::Global;
 use std::collections::BTreeMap;
 
-/// What a node has by the lines that were told: its instances, who brought which uid, the kept uids, and how far each (uid, destination)
-/// is. It is the book of these lines but for the lines themselves, which it doesn't hold. A line that isn't taken ends it.
+/// What a node has by the lines that were told: its instances, who brought which uid, the kept
+/// uids, and how far each (uid, destination) is. It is the book of these lines but for the lines
+/// themselves, which it doesn't hold. A line that isn't taken ends it.
 #[derive(Drop)]
 pub struct History {
     alloc: Global,
@@ -38,12 +39,14 @@ impl History {
         }
     }
 
-    /// Takes the next line of those up to the last adoption, whose plans are gone: the book before it accepts its call, but for what a
-    /// plan says of it.
+    /// Takes the next line of those up to the last adoption, whose plans are gone: the book before
+    /// it accepts its call, but for what a plan says of it.
     ///
     /// Errors: NoCall; Memory, which may come before it.
     pub fn tell_past(self, line: JournalLine) -> Result<History, HistoryFault>
-        ensures { (lines : List Line) → IsTold lines (content self.parts) → Tells lines (line_of line) result }
+        ensures { (lines : List Line)
+            → IsTold lines (content self.parts)
+            → Tells lines (line_of line) result }
     {
         let alloc = self.alloc;
         let mut history = self;
@@ -53,11 +56,14 @@ impl History {
         }
     }
 
-    /// Takes the next line of those since the last adoption, which are calls at the node of this site.
+    /// Takes the next line of those since the last adoption, which are calls at the node of this
+    /// site.
     ///
     /// Errors: NoCall; Memory, which may come before it.
     pub fn tell(self, site: &Site, line: JournalLine) -> Result<History, HistoryFault>
-        ensures { (past since : List Line) → IsToldSince (site_routing site.now) past since (content self.parts) → TellsSince (site_routing site.now) past since (line_of line) result }
+        ensures { (past since : List Line)
+            → IsToldSince (site_routing site.now) past since (content self.parts)
+            → TellsSince (site_routing site.now) past since (line_of line) result }
     {
         let by = is_by(self.alloc, site, &line)?;
         if !by {
@@ -99,7 +105,8 @@ impl History {
         self.parts.row(at)
     }
 
-    /// Whether these are all of it: the instances by uid, and the lists of arrivals, of kept uids and of rows in the order of their keys.
+    /// Whether these are all of it: the instances by uid, and the lists of arrivals, of kept uids
+    /// and of rows in the order of their keys.
     pub fn has_just(
         &self,
         items: &BTreeMap<Text, Instance>,
@@ -107,7 +114,9 @@ impl History {
         kept: &[Text],
         rows: &[((Text, Text), Progress)],
     ) -> bool
-        ensures { IsTrue result → content self.now.parts ≡ all_of (as_map text_cmp items.now) arrivals.now kept.now rows.now }
+        ensures { IsTrue result
+            → content self.now.parts
+            ≡ all_of (as_map text_cmp items.now) arrivals.now kept.now rows.now }
     {
         self.parts.has_just(items, arrivals, kept, rows)
     }

@@ -1,4 +1,5 @@
-//! Letting go of what is of one uid: its rows, its arrivals and its instance. What is of others is passed over.
+//! Letting go of what is of one uid: its rows, its arrivals and its instance. What is of others is
+//! passed over.
 ghost use Rattle.std.specs.Prelude.{◌≡◌, ◌↔◌, ◌++◌, ◌∷◌, [], IfOk, IsTrue, OnOk};
 ghost use Rattle.std.specs.FinMap as map;
 ghost use Rattle.std.specs.FinSet as set;
@@ -88,7 +89,8 @@ fn next_text(text: Text) -> Result<Text, AllocError>
     Ok(Text::from_vec(bytes))
 }
 
-/// Takes the arrivals of the uid out. Each caller who brought anything is asked for once, and there are few of them.
+/// Takes the arrivals of the uid out. Each caller who brought anything is asked for once, and there
+/// are few of them.
 pub fn let_callers_go(
     alloc: Global,
     arrivals: &mut BTreeSet<(Text, Text)>,

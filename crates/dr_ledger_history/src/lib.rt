@@ -1,5 +1,5 @@
-//! What a journal's lines make of a node, without data sets: it is told lines one by one, and goes on only while they are a history. An
-//! opened store is compared with it.
+//! What a journal's lines make of a node, without data sets: it is told lines one by one, and goes
+//! on only while they are a history. An opened store is compared with it.
 #![tactic(auto)]
 
 mod comparing;

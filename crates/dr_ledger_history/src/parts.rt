@@ -2,7 +2,8 @@
 ghost use Rattle.std.specs.Prelude.{◌≡◌, ◌↔◌, ◌<◌, ◌≤◌, ◌^◌, IsTrue, OnOk, Some, option_copied};
 ghost use Rattle.std.specs.FinMap as map;
 ghost use Rattle.std.specs.FinSet as set;
-ghost use Rattle.dr_ledger.specs.Books.{Arrival, Adoption, Forgetting, Repeat, Requeuing, Settling, after, empty_book};
+ghost use Rattle.dr_ledger.specs.Books.{Arrival, Adoption, Forgetting, Repeat, Requeuing, Settling};
+ghost use Rattle.dr_ledger.specs.Books.{after, empty_book};
 ghost use Rattle.dr_ledger.specs.Histories.{IsSame};
 ghost use Rattle.dr_ledger_history.specs.Contents.{all_of, book_of, content, content_of};
 ghost use Rattle.dr_ledger_history.specs.Lines.{line_of};
@@ -79,7 +80,8 @@ impl Parts {
         to: Seq<Text>,
         keep: bool,
     ) -> Result<(), HistoryFault>
-        ensures { Takes (Arrival caller instance to keep) (content self.old) result (content self.new) }
+        ensures { Takes (Arrival caller instance to keep) (content self.old) result
+            (content self.new) }
     {
         if !self.is_same(&instance) {
             return Err(HistoryFault::NoCall);
@@ -101,7 +103,10 @@ impl Parts {
         keep: bool,
     ) -> Result<(), AllocError>
         requires { arrival.1 ≡ instance.uid }
-        ensures { OnOk result (content self.new ≡ content_of (after (Arrival arrival.0 instance to keep) (book_of (content self.old)))) }
+        ensures { OnOk result
+            (content self.new
+            ≡ content_of
+            (after (Arrival arrival.0 instance to keep) (book_of (content self.old)))) }
     {
         fill(&mut self.rows, &instance.uid, to.as_slice())?;
         if keep {
@@ -127,7 +132,8 @@ impl Parts {
 
     /// What came of a try.
     fn settle(&mut self, at: (Text, Text), outcome: Outcome, now: u64) -> Result<(), HistoryFault>
-        ensures { Takes (Settling at.0 at.1 outcome now) (content self.old) result (content self.new) }
+        ensures { Takes (Settling at.0 at.1 outcome now) (content self.old) result
+            (content self.new) }
     {
         match self.row(&at) {
             Some(Progress::Waiting { tries, due }) => self.move_on(at, (tries, due), outcome, now),
@@ -146,7 +152,8 @@ impl Parts {
         now: u64,
     ) -> Result<(), HistoryFault>
         requires { map.get (content self.old).rows at ≡ Some (Progress.Waiting was.0 was.1) }
-        ensures { Takes (Settling at.0 at.1 outcome now) (content self.old) result (content self.new) }
+        ensures { Takes (Settling at.0 at.1 outcome now) (content self.old) result
+            (content self.new) }
     {
         if now > LAST_MOMENT {
             return Err(HistoryFault::NoCall);
@@ -170,8 +177,8 @@ impl Parts {
         }
     }
 
-    /// What is over is let go. Of the rows and the arrivals only those of the uid are looked for, so that a journal
-    /// with many forgettings is read as fast as one with none.
+    /// What is over is let go. Of the rows and the arrivals only those of the uid are looked for,
+    /// so that a journal with many forgettings is read as fast as one with none.
     fn forget(&mut self, alloc: Global, uid: &Text) -> Result<(), HistoryFault>
         ensures { Takes (Forgetting uid.now) (content self.old) result (content self.new) }
     {
@@ -243,7 +250,8 @@ impl Parts {
         kept: &[Text],
         rows: &[((Text, Text), Progress)],
     ) -> bool
-        ensures { IsTrue result → content self.now ≡ all_of (as_map text_cmp items.now) arrivals.now kept.now rows.now }
+        ensures { IsTrue result
+            → content self.now ≡ all_of (as_map text_cmp items.now) arrivals.now kept.now rows.now }
     {
         if !are_items(&self.items, items) || !are_arrivals(&self.arrivals, arrivals) {
             return false;

@@ -11,8 +11,8 @@ use dr_route::Key;
 use dr_site::Site;
 use std::alloc::{AllocError, Global};
 
-/// Whether the node of the site adds the line, whatever its book: an arrival has the targets that the site gives, and an
-/// adoption ends the site.
+/// Whether the node of the site adds the line, whatever its book: an arrival has the targets that
+/// the site gives, and an adoption ends the site.
 pub fn is_by(alloc: Global, site: &Site, line: &JournalLine) -> Result<bool, AllocError>
     ensures { IfOk result (λ by. IsTrue by ↔ IsBy (site_routing site.now) (line_of line.now)) }
 {
@@ -40,7 +40,10 @@ fn is_arrival_by(
     to: &[Text],
     keep: bool,
 ) -> Result<bool, AllocError>
-    ensures { IfOk result (λ by. IsTrue by ↔ (HasLineFor site.now caller.now key.now × (to.now ≡ (site_routing site.now).targets caller.now key.now) × (keep ≡ (site_routing site.now).keeps caller.now key.now))) }
+    ensures { IfOk result (λ by. IsTrue by
+        ↔ (HasLineFor site.now caller.now key.now
+        × (to.now ≡ (site_routing site.now).targets caller.now key.now)
+        × (keep ≡ (site_routing site.now).keeps caller.now key.now))) }
 {
     if !site.has_line(caller, key) {
         return Ok(false);

@@ -17,7 +17,10 @@ fn let_go<T: Drop>(_value: T) {}
 
 /// Puts an instance in, where its uid has none.
 pub fn put_item(items: &mut BTreeMap<Text, Instance>, instance: Instance) -> Result<(), AllocError>
-    ensures { OnOk result (as_map text_cmp items.new ≡ map.insert (as_map text_cmp items.old) instance.uid (unwrap_or (map.get (as_map text_cmp items.old) instance.uid) instance)) }
+    ensures { OnOk result
+        (as_map text_cmp items.new
+        ≡ map.insert (as_map text_cmp items.old) instance.uid
+        (unwrap_or (map.get (as_map text_cmp items.old) instance.uid) instance)) }
 {
     if items.contains_key(&instance.uid) {
         return Ok(());
@@ -32,7 +35,8 @@ pub fn put_arrival(
     arrivals: &mut BTreeSet<(Text, Text)>,
     arrival: (Text, Text),
 ) -> Result<(), AllocError>
-    ensures { OnOk result (as_set pair_cmp arrivals.new ≡ set.insert (as_set pair_cmp arrivals.old) arrival) }
+    ensures { OnOk result
+        (as_set pair_cmp arrivals.new ≡ set.insert (as_set pair_cmp arrivals.old) arrival) }
 {
     arrivals.insert(arrival)?;
     Ok(())
@@ -40,7 +44,8 @@ pub fn put_arrival(
 
 /// Notes that the uid is kept.
 pub fn put_kept(kept: &mut BTreeSet<Text>, uid: &Text) -> Result<(), AllocError>
-    ensures { OnOk result (as_set text_cmp kept.new ≡ set.insert (as_set text_cmp kept.old) uid.now) }
+    ensures { OnOk result
+        (as_set text_cmp kept.new ≡ set.insert (as_set text_cmp kept.old) uid.now) }
 {
     kept.insert(uid.clone()?)?;
     Ok(())
@@ -52,7 +57,8 @@ pub fn put_row(
     at: (Text, Text),
     row: Progress,
 ) -> Result<(), AllocError>
-    ensures { OnOk result (as_map pair_cmp rows.new ≡ map.insert (as_map pair_cmp rows.old) at row) }
+    ensures { OnOk result
+        (as_map pair_cmp rows.new ≡ map.insert (as_map pair_cmp rows.old) at row) }
 {
     rows.insert(at, row)?;
     Ok(())
@@ -64,7 +70,11 @@ fn fill_one(
     uid: &Text,
     dest: &Text,
 ) -> Result<(), AllocError>
-    ensures { OnOk result (as_map pair_cmp rows.new ≡ map.insert (as_map pair_cmp rows.old) (uid.now, dest.now) (unwrap_or (map.get (as_map pair_cmp rows.old) (uid.now, dest.now)) (Progress.Waiting 0 0))) }
+    ensures { OnOk result
+        (as_map pair_cmp rows.new
+        ≡ map.insert (as_map pair_cmp rows.old) (uid.now, dest.now)
+        (unwrap_or (map.get (as_map pair_cmp rows.old) (uid.now, dest.now))
+        (Progress.Waiting 0 0))) }
 {
     let at = (uid.clone()?, dest.clone()?);
     if rows.contains_key(&at) {
@@ -80,7 +90,8 @@ pub fn fill(
     uid: &Text,
     to: &[Text],
 ) -> Result<(), AllocError>
-    ensures { OnOk result (as_map pair_cmp rows.new ≡ with_rows (as_map pair_cmp rows.old) uid.now to.now) }
+    ensures { OnOk result
+        (as_map pair_cmp rows.new ≡ with_rows (as_map pair_cmp rows.old) uid.now to.now) }
 {
     for dest in to {
         fill_one(rows, uid, dest)?;

@@ -1,5 +1,6 @@
 -- The report of a node: what its book has, a line each, its fields joined by tabs.
-use Rattle.std.specs.Prelude.{◌≡◌, ℕ, ◌/◌, ◌%◌, List, [], ◌∷◌, ◌++◌, flat_map, length, codes, decimal}
+use Rattle.std.specs.Prelude.{◌≡◌, ℕ, ◌/◌, ◌%◌, List, [], ◌∷◌, ◌++◌, flat_map, length, codes}
+use Rattle.std.specs.Prelude.{decimal}
 use Rattle.std.specs.FinMap as map
 use Rattle.hex.specs.Hex.{encode_upper}
 use Rattle.dr_base.specs.Texts.{Text}
@@ -19,12 +20,14 @@ next_field field = 9 ∷ field
 abbrev pub line_of : Text → List Text → Text
 line_of word fields = word ++ flat_map next_field fields ++ (10 ∷ [])
 
--- why a row is held: the status of the response in four hex digits, or that the association had no presentation context
+-- why a row is held: the status of the response in four hex digits, or that the association had no
+-- presentation context
 abbrev pub cause_field : Cause → Text
 cause_field (cause.Status status) = encode_upper (status / 256 ∷ status % 256 ∷ [])
 cause_field cause.NoContext = codes "no-context"
 
--- how far a row is: done; waiting, how often it was tried, and the moment from which on it is due; or held, and why
+-- how far a row is: done; waiting, how often it was tried, and the moment from which on it is due;
+-- or held, and why
 abbrev pub progress_fields : Progress → List Text
 progress_fields (Waiting tries due) = codes "waiting" ∷ decimal tries ∷ decimal due ∷ []
 progress_fields (Held why) = codes "held" ∷ cause_field why ∷ []
@@ -49,10 +52,11 @@ name_line name = line_of (codes "node") (name ∷ [])
 -- the lines of a node: arrivals, kept instances, rows, and how many lines its journal has
 abbrev pub report_of : List Pair → List (Text × ℕ) → List (Pair × Progress) → ℕ → Text
 report_of arrivals kept rows lines =
-    flat_map arrival_line arrivals ++ flat_map kept_line kept ++ flat_map row_line rows ++ line_of (codes "lines") (decimal lines ∷ [])
+    flat_map arrival_line arrivals ++ flat_map kept_line kept ++ flat_map row_line rows
+    ++ line_of (codes "lines") (decimal lines ∷ [])
 
--- The text is the report of the node of this name with this book: arrivals by caller, then uid; kept instances by uid; rows by
--- uid, then destination.
+-- The text is the report of the node of this name with this book: arrivals by caller, then uid;
+-- kept instances by uid; rows by uid, then destination.
 abbrev pub IsReportOf : Text → Book → Text → Type 0
 IsReportOf name book text = (arrivals : List Pair) × (kept : List (Text × ℕ))
     × Lists pair_cmp book.arrivals arrivals × AreKept book kept

@@ -1,4 +1,5 @@
-//! The report of a node: what the book of its ledger has, as lines of text, which words, a running node and the simulator print.
+//! The report of a node: what the book of its ledger has, as lines of text, which words, a running
+//! node and the simulator print.
 #![tactic(auto)]
 
 pub mod laws;

@@ -1,6 +1,7 @@
 //! The lines of a report.
 ghost use Rattle.std.specs.Prelude.{◌≡◌, ◌++◌, ◌∷◌, [], OnOk, flat_map, decimal};
-ghost use Rattle.dr_ledger_report.specs.Reports.{arrival_line, cause_field, kept_line, name_line, next_field, progress_fields, report_of, row_line};
+ghost use Rattle.dr_ledger_report.specs.Reports.{arrival_line, cause_field, kept_line, name_line};
+ghost use Rattle.dr_ledger_report.specs.Reports.{next_field, progress_fields, report_of, row_line};
 
 use dr_base::Text;
 use dr_ledger::{Cause, Progress};
@@ -43,7 +44,8 @@ fn put_cause(out: &mut Vec<u8>, cause: Cause) -> Result<(), AllocError>
 
 /// Adds how far a row is.
 fn put_progress(out: &mut Vec<u8>, progress: Progress) -> Result<(), AllocError>
-    ensures { OnOk result (out.new.items ≡ out.old.items ++ flat_map next_field (progress_fields progress)) }
+    ensures { OnOk result
+        (out.new.items ≡ out.old.items ++ flat_map next_field (progress_fields progress)) }
 {
     match progress {
         Progress::Waiting { tries, due } => {
@@ -83,7 +85,8 @@ fn put_kept(out: &mut Vec<u8>, uid: &Text, bytes: u64) -> Result<(), AllocError>
 
 /// Adds the line of a row.
 fn put_row(out: &mut Vec<u8>, uid: &Text, dest: &Text, progress: Progress) -> Result<(), AllocError>
-    ensures { OnOk result (out.new.items ≡ out.old.items ++ row_line ((uid.now, dest.now), progress)) }
+    ensures { OnOk result
+        (out.new.items ≡ out.old.items ++ row_line ((uid.now, dest.now), progress)) }
 {
     out.extend_from_slice(b"row")?;
     put_field(out, uid.as_bytes())?;
@@ -133,8 +136,9 @@ pub fn put_name(out: &mut Vec<u8>, name: &Text) -> Result<(), AllocError>
     Ok(())
 }
 
-/// Adds what a book has, as a ledger lists it: its arrivals (caller, uid), its kept uids with the lengths of their data
-/// sets (bytes), its rows ((uid, destination), progress), and how many lines its journal has.
+/// Adds what a book has, as a ledger lists it: its arrivals (caller, uid), its kept uids with the
+/// lengths of their data sets (bytes), its rows ((uid, destination), progress), and how many lines
+/// its journal has.
 pub fn put_report(
     out: &mut Vec<u8>,
     arrivals: &[(Text, Text)],
@@ -142,7 +146,8 @@ pub fn put_report(
     rows: &[((Text, Text), Progress)],
     lines: u64,
 ) -> Result<(), AllocError>
-    ensures { OnOk result (out.new.items ≡ out.old.items ++ report_of arrivals.now kept.now rows.now lines) }
+    ensures { OnOk result
+        (out.new.items ≡ out.old.items ++ report_of arrivals.now kept.now rows.now lines) }
 {
     put_arrivals(out, arrivals)?;
     put_all_kept(out, kept)?;

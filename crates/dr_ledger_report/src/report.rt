@@ -16,7 +16,8 @@ pub fn report_text(
     rows: &Seq<((Text, Text), Progress)>,
     lines: u64,
 ) -> Result<Text, AllocError>
-    ensures { IfOk result (λ text. text ≡ name_line name.now ++ report arrivals.now kept.now rows.now lines) }
+    ensures { IfOk result (λ text.
+        text ≡ name_line name.now ++ report arrivals.now kept.now rows.now lines) }
 {
     let mut out = Vec::new(alloc);
     put_name(&mut out, name)?;
@@ -34,7 +35,8 @@ pub fn report_text(
 ///
 /// Errors: Store, Memory.
 pub fn report_of<L: Ledger>(alloc: Global, name: &Text, ledger: &mut L) -> Result<Text, LedgerFault>
-    ensures report { IfOk result (λ text. L.stands ledger.new → IsReportOf name.now (L.book ledger.new) text) }
+    ensures report { IfOk result (λ text.
+        L.stands ledger.new → IsReportOf name.now (L.book ledger.new) text) }
     ensures same { L.stands ledger.new → L.book ledger.new ≡ L.book ledger.old }
     ensures stood { L.stands ledger.new → L.stands ledger.old }
 {

@@ -1,5 +1,6 @@
 -- The laws of a node's calls.
-use Rattle.std.specs.Prelude.{◌≡◌, ◌≢◌, ℕ, Bool, false, List, [], Option, Some, None, Result, Ok, Err}
+use Rattle.std.specs.Prelude.{◌≡◌, ◌≢◌, ℕ, Bool, false, List, [], Option, Some, None, Result, Ok}
+use Rattle.std.specs.Prelude.{Err}
 use Rattle.std.specs.FinMap as map
 use Rattle.dr_base.specs.Texts.{Text}
 use Rattle.dr_ledger.specs.Bodies.{Bodies}
@@ -16,7 +17,8 @@ use Rattle.dr_node.specs.declared.fault.NodeFault.{NodeFault}
 use Rattle.dr_node.specs.declared.fault.NodeFault.TheVariants.{LinkKnown, LinkUnknown}
 use Rattle.dr_node.specs.declared.links.Side.{Side}
 use Rattle.dr_node.specs.Desks.{LedgerStep}
-use Rattle.dr_node.specs.Sides.{Sides, Accepts, Deed, Does, MeetsEvent, Opens, Pushes, accepts_at, is_taken, others}
+use Rattle.dr_node.specs.Sides.{Sides, Accepts, Deed, Does, MeetsEvent, Opens, Pushes, accepts_at}
+use Rattle.dr_node.specs.Sides.{is_taken, others}
 
 -- all other links are as they were
 abbrev pub OnlyAt : ℕ → Sides → Sides → Type 0
@@ -24,33 +26,59 @@ OnlyAt link old new = (other : ℕ) → other ≢ link → map.get new other ≡
 
 -- What happens at a link changes that link alone.
 abbrev pub ChangesOneLink : {S : Type 0} → (S → DeskCall → DeskAnswer → S → Type 0) → Type 0
-ChangesOneLink {S} step = (what : LinkEvent) (now link : ℕ) (old new : Sides) (s t : S) (result : Result (List LinkAction) NodeFault) →
-    Does (MeetsEvent step what) now link old s result new t → OnlyAt link old new
+ChangesOneLink {S} step =
+    (what : LinkEvent) (now link : ℕ) (old new : Sides) (s t : S)
+    (result : Result (List LinkAction) NodeFault)
+    → Does (MeetsEvent step what) now link old s result new t
+    → OnlyAt link old new
 
 abbrev pub PushesChangeOneLink : {S : Type 0} → (S → DeskCall → DeskAnswer → S → Type 0) → Type 0
-PushesChangeOneLink {S} step = (now link : ℕ) (old new : Sides) (s t : S) (result : Result (List LinkAction) NodeFault) → Does (Pushes step) now link old s result new t → OnlyAt link old new
+PushesChangeOneLink {S} step =
+    (now link : ℕ) (old new : Sides) (s t : S) (result : Result (List LinkAction) NodeFault)
+    → Does (Pushes step) now link old s result new t
+    → OnlyAt link old new
 
--- A link can be accepted exactly where its number is free. Then it is there, and all others are as they were.
+-- A link can be accepted exactly where its number is free. Then it is there, and all others are as
+-- they were.
 abbrev pub IsAcceptedWhereFree : Type 0
-IsAcceptedWhereFree = (site : Part) (link now : ℕ) (old : Sides) → map.get old link ≡ None →
-    (new : Sides) × Accepts site link now old (Ok tt) new × (map.get new link ≡ Some (accepts_at site now)) × OnlyAt link old new
+IsAcceptedWhereFree =
+    (site : Part) (link now : ℕ) (old : Sides)
+    → map.get old link ≡ None
+    → (new : Sides)
+    × Accepts site link now old (Ok tt) new
+    × (map.get new link ≡ Some (accepts_at site now))
+    × OnlyAt link old new
 
 abbrev pub KnownIsRefused : Type 0
-KnownIsRefused = (site : Part) (link now : ℕ) (old new : Sides) (side : Side) (result : Result (Unit {0}) NodeFault) → map.get old link ≡ Some side →
-    Accepts site link now old result new → (result ≡ Err LinkKnown) × (new ≡ old)
+KnownIsRefused =
+    (site : Part) (link now : ℕ) (old new : Sides) (side : Side)
+    (result : Result (Unit {0}) NodeFault)
+    → map.get old link ≡ Some side
+    → Accepts site link now old result new
+    → (result ≡ Err LinkKnown) × (new ≡ old)
 
 -- a link that is unknown can be met, and its answer is one
 abbrev pub UnknownIsRefused : {S : Type 0} → (S → DeskCall → DeskAnswer → S → Type 0) → Type 0
-UnknownIsRefused {S} step = (what : LinkEvent) (now link : ℕ) (old : Sides) (s : S) → map.get old link ≡ None → Does (MeetsEvent step what) now link old s (Err LinkUnknown) old s
+UnknownIsRefused {S} step =
+    (what : LinkEvent) (now link : ℕ) (old : Sides) (s : S)
+    → map.get old link ≡ None
+    → Does (MeetsEvent step what) now link old s (Err LinkUnknown) old s
 
 -- An end that is over answers an empty list, whatever is asked of it, calls nothing, and stays.
 abbrev pub OverDoesNothing : {S : Type 0} → (S → DeskCall → DeskAnswer → S → Type 0) → Type 0
-OverDoesNothing {S} step = (what : LinkEvent) (now link : ℕ) (old new : Sides) (s t : S) (side : Side) (result : Result (List LinkAction) NodeFault) →
-    map.get old link ≡ Some side → IsOver side.end.core → Does (MeetsEvent step what) now link old s result new t → (result ≡ Ok []) × (t ≡ s) × (map.get new link ≡ Some side)
+OverDoesNothing {S} step =
+    (what : LinkEvent) (now link : ℕ) (old new : Sides) (s t : S) (side : Side)
+    (result : Result (List LinkAction) NodeFault)
+    → map.get old link ≡ Some side
+    → IsOver side.end.core
+    → Does (MeetsEvent step what) now link old s result new t
+    → (result ≡ Ok []) × (t ≡ s) × (map.get new link ≡ Some side)
 
 -- What becomes of a link's own side makes no difference to how many others there are.
 abbrev pub CountsOthersAlone : Type 0
-CountsOthersAlone = (link : ℕ) (old : Sides) (side : Side) → others link (map.insert old link side) ≡ others link old
+CountsOthersAlone =
+    (link : ℕ) (old : Sides) (side : Side)
+    → others link (map.insert old link side) ≡ others link old
 
 -- A connection that was opened to the node counts only once its association is accepted.
 abbrev pub NewLinksAreNotCounted : Type 0
@@ -63,17 +91,34 @@ abbrev pub desk_of : {L : Type 0} → (L → Book) → (L → Bool) → LedgerDe
 desk_of book armed d = desk (book d.ledger) (armed d.ledger)
 
 -- A ledger stays of its site, and its premise goes back from the end of a call to its start.
-abbrev pub StaysOfItsSite : {L : Type 0} → (L → Part) → (L → Book) → (L → Bodies) → (L → Bool) → (L → Type 0) → (L → Type 0) → Type 0
-StaysOfItsSite {L} site book bodies armed trusts stands = (what : LinkEvent) (now link : ℕ) (old new : Sides) (s t : LedgerDesk L) (result : Result (List LinkAction) NodeFault) →
-    Does (MeetsEvent (LedgerStep site book bodies armed trusts stands) what) now link old s result new t → (site t.ledger ≡ site s.ledger) × (stands t.ledger → stands s.ledger)
+abbrev pub StaysOfItsSite : {L : Type 0} → (L → Part) → (L → Book) → (L → Bodies) → (L → Bool)
+    → (L → Type 0) → (L → Type 0) → Type 0
+StaysOfItsSite {L} site book bodies armed trusts stands =
+    (what : LinkEvent) (now link : ℕ) (old new : Sides) (s t : LedgerDesk L)
+    (result : Result (List LinkAction) NodeFault)
+    → Does (MeetsEvent (LedgerStep site book bodies armed trusts stands) what) now link old s result
+    new t
+    → (site t.ledger ≡ site s.ledger) × (stands t.ledger → stands s.ledger)
 
--- Where its premise stands at the end, what is done at a ledger is done at its book, by the routes of its site.
-abbrev pub IsDoneAtBooks : {L : Type 0} → (L → Part) → (L → Book) → (L → Bodies) → (L → Bool) → (L → Type 0) → (L → Type 0) → Type 0
-IsDoneAtBooks {L} site book bodies armed trusts stands = (what : LinkEvent) (now link : ℕ) (old new : Sides) (s t : LedgerDesk L) (result : Result (List LinkAction) NodeFault) →
-    Does (MeetsEvent (LedgerStep site book bodies armed trusts stands) what) now link old s result new t → stands t.ledger →
-    Does (MeetsEvent (RoutedStep (site_routing (site s.ledger))) what) now link old (desk_of book armed s) result new (desk_of book armed t)
+-- Where its premise stands at the end, what is done at a ledger is done at its book, by the routes
+-- of its site.
+abbrev pub IsDoneAtBooks : {L : Type 0} → (L → Part) → (L → Book) → (L → Bodies) → (L → Bool)
+    → (L → Type 0) → (L → Type 0) → Type 0
+IsDoneAtBooks {L} site book bodies armed trusts stands =
+    (what : LinkEvent) (now link : ℕ) (old new : Sides) (s t : LedgerDesk L)
+    (result : Result (List LinkAction) NodeFault)
+    → Does (MeetsEvent (LedgerStep site book bodies armed trusts stands) what) now link old s result
+    new t
+    → stands t.ledger
+    → Does (MeetsEvent (RoutedStep (site_routing (site s.ledger))) what) now link old
+    (desk_of book armed s) result new (desk_of book armed t)
 
-abbrev pub PushIsDoneAtBooks : {L : Type 0} → (L → Part) → (L → Book) → (L → Bodies) → (L → Bool) → (L → Type 0) → (L → Type 0) → Type 0
-PushIsDoneAtBooks {L} site book bodies armed trusts stands = (now link : ℕ) (old new : Sides) (s t : LedgerDesk L) (result : Result (List LinkAction) NodeFault) →
-    Does (Pushes (LedgerStep site book bodies armed trusts stands)) now link old s result new t → stands t.ledger →
-    Does (Pushes (RoutedStep (site_routing (site s.ledger)))) now link old (desk_of book armed s) result new (desk_of book armed t)
+abbrev pub PushIsDoneAtBooks : {L : Type 0} → (L → Part) → (L → Book) → (L → Bodies) → (L → Bool)
+    → (L → Type 0) → (L → Type 0) → Type 0
+PushIsDoneAtBooks {L} site book bodies armed trusts stands =
+    (now link : ℕ) (old new : Sides) (s t : LedgerDesk L)
+    (result : Result (List LinkAction) NodeFault)
+    → Does (Pushes (LedgerStep site book bodies armed trusts stands)) now link old s result new t
+    → stands t.ledger
+    → Does (Pushes (RoutedStep (site_routing (site s.ledger)))) now link old (desk_of book armed s)
+    result new (desk_of book armed t)

@@ -1,12 +1,14 @@
 -- A node's links, and what happens at one of them.
-use Rattle.std.specs.Prelude.{◌≡◌, ℕ, ◌==◌, ◌&&◌, not, Bool, true, false, List, [], length, filter, Option, Some, None, Result, Ok, Err}
+use Rattle.std.specs.Prelude.{◌≡◌, ℕ, ◌==◌, ◌&&◌, not, Bool, true, false, List, [], length, filter}
+use Rattle.std.specs.Prelude.{Option, Some, None, Result, Ok, Err}
 use Rattle.std.specs.Ordering.{nat_cmp}
 use Rattle.std.specs.FinMap as map
 use Rattle.std.specs.FinMap.{FinMap}
 use Rattle.std.specs.declared.alloc.AllocError.{AllocError}
 use Rattle.dr_base.specs.Texts.{Text}
 use Rattle.dr_ulstate.specs.declared.table.State.{State}
-use Rattle.dr_ulstate.specs.declared.table.State.TheVariants.{Sta6, Sta7, Sta8, Sta9, Sta10, Sta11, Sta12}
+use Rattle.dr_ulstate.specs.declared.table.State.TheVariants.{Sta6, Sta7, Sta8, Sta9, Sta10, Sta11}
+use Rattle.dr_ulstate.specs.declared.table.State.TheVariants.{Sta12}
 use Rattle.dr_plan_sound.specs.declared.certificate.Hop.{Hop}
 use Rattle.dr_site.specs.Parts.{Part}
 use Rattle.dr_nego.specs.Proposing.{IsHopTo}
@@ -19,7 +21,8 @@ use Rattle.dr_session.specs.Ends.{Terminal, HearsOf, Meets, OpensTo, accepting, 
 use Rattle.dr_node.specs.declared.event.LinkEvent.{LinkEvent}
 use Rattle.dr_node.specs.declared.event.LinkEvent.TheVariants as event
 use Rattle.dr_node.specs.declared.fault.NodeFault.{NodeFault}
-use Rattle.dr_node.specs.declared.fault.NodeFault.TheVariants.{LinkKnown, LinkUnknown, NoHop, Memory}
+use Rattle.dr_node.specs.declared.fault.NodeFault.TheVariants.{LinkKnown, LinkUnknown, NoHop}
+use Rattle.dr_node.specs.declared.fault.NodeFault.TheVariants.{Memory}
 use Rattle.dr_node.specs.declared.links.Side.{Side}
 
 -- the sides of a node's links, by the links' numbers
@@ -75,23 +78,43 @@ abbrev pub Pushes : {S : Type 0} → (S → DeskCall → DeskAnswer → S → Ty
 Pushes step at old s result new t = Meets step at PushAsked old s result new t
 
 -- The same at one link: its end alone is another. A link that isn't there does nothing.
-abbrev pub MeetsAt : {S : Type 0} → (Terminal → S → Result (List LinkAction) AllocError → Terminal → S → Type 0) → ℕ → Option Side → Sides → S → Option (Result (List LinkAction) AllocError) → Sides → S → Type 0
+abbrev pub MeetsAt : {S : Type 0}
+    → (Terminal → S → Result (List LinkAction) AllocError → Terminal → S → Type 0)
+    → ℕ → Option Side → Sides → S
+    → Option (Result (List LinkAction) AllocError)
+    → Sides → S → Type 0
 MeetsAt does link None old s None new t = (new ≡ old) × (t ≡ s)
-MeetsAt does link (Some side) old s (Some answer) new t = (end : Terminal) × does side.end s answer end t × (new ≡ map.insert old link (with_end side end))
+MeetsAt does link (Some side) old s (Some answer) new t =
+    (end : Terminal)
+    × does side.end s answer end t
+    × (new ≡ map.insert old link (with_end side end))
 MeetsAt does link known old s other new t = ⊥
 
--- The deed is done at the link's end alone, with that many others counted. Where memory ended the link is dropped.
-abbrev pub DoesAt : {S : Type 0} → Deed S → ℕ → ℕ → Side → Sides → S → Result (List LinkAction) NodeFault → Sides → S → Type 0
-DoesAt does now link side old s (Ok acts) new t = (end : Terminal) × does (moment_at link old now) side.end s (Ok acts) end t × (new ≡ map.insert old link (with_end side end))
-DoesAt does now link side old s (Err Memory) new t = (end : Terminal) × (why : AllocError) × does (moment_at link old now) side.end s (Err why) end t × (new ≡ map.remove old link)
+-- The deed is done at the link's end alone, with that many others counted. Where memory ended the
+-- link is dropped.
+abbrev pub DoesAt : {S : Type 0} → Deed S → ℕ → ℕ → Side → Sides → S
+    → Result (List LinkAction) NodeFault
+    → Sides → S → Type 0
+DoesAt does now link side old s (Ok acts) new t =
+    (end : Terminal)
+    × does (moment_at link old now) side.end s (Ok acts) end t
+    × (new ≡ map.insert old link (with_end side end))
+DoesAt does now link side old s (Err Memory) new t =
+    (end : Terminal) × (why : AllocError)
+    × does (moment_at link old now) side.end s (Err why) end t
+    × (new ≡ map.remove old link)
 DoesAt does now link side old s (Err other) new t = ⊥
 
 -- An unknown link is refused, and nothing is done.
-abbrev pub DoesIn : {S : Type 0} → Deed S → ℕ → ℕ → Option Side → Sides → S → Result (List LinkAction) NodeFault → Sides → S → Type 0
+abbrev pub DoesIn : {S : Type 0} → Deed S → ℕ → ℕ → Option Side → Sides → S
+    → Result (List LinkAction) NodeFault
+    → Sides → S → Type 0
 DoesIn does now link None old s result new t = (result ≡ Err LinkUnknown) × (new ≡ old) × (t ≡ s)
 DoesIn does now link (Some side) old s result new t = DoesAt does now link side old s result new t
 
-abbrev pub Does : {S : Type 0} → Deed S → ℕ → ℕ → Sides → S → Result (List LinkAction) NodeFault → Sides → S → Type 0
+abbrev pub Does : {S : Type 0} → Deed S → ℕ → ℕ → Sides → S
+    → Result (List LinkAction) NodeFault
+    → Sides → S → Type 0
 Does does now link old s result new t = DoesIn does now link (map.get old link) old s result new t
 
 -- ---- how a link begins
@@ -101,7 +124,9 @@ abbrev pub accepts_at : Part → ℕ → Side
 accepts_at site now = record { end = begins site.max_pdu (accepting site now); accepted = true }
 
 -- A link is accepted where there is none of its number.
-abbrev pub AcceptsIn : Option Side → Part → ℕ → ℕ → Sides → Result (Unit {0}) NodeFault → Sides → Type 0
+abbrev pub AcceptsIn : Option Side → Part → ℕ → ℕ → Sides
+    → Result (Unit {0}) NodeFault
+    → Sides → Type 0
 AcceptsIn None site link now old (Ok done) new = new ≡ map.insert old link (accepts_at site now)
 AcceptsIn None site link now old (Err Memory) new = new ≡ old
 AcceptsIn (Some side) site link now old (Err LinkKnown) new = new ≡ old
@@ -110,16 +135,25 @@ AcceptsIn known site link now old result new = ⊥
 abbrev pub Accepts : Part → ℕ → ℕ → Sides → Result (Unit {0}) NodeFault → Sides → Type 0
 Accepts site link now old result new = AcceptsIn (map.get old link) site link now old result new
 
--- A link is opened where there is none of its number, for a hop of the site. The request goes out at once.
-abbrev pub OpensIn : Option Side → Part → Text → ℕ → ℕ → Sides → Result (List LinkAction) NodeFault → Sides → Type 0
-OpensIn None site dest link now old (Ok acts) new = (end : Terminal) × OpensTo site dest now (Ok (end, acts)) × (new ≡ map.insert old link (record { end = end; accepted = false }))
-OpensIn None site dest link now old (Err NoHop) new = ((hop : Hop) → IsHopTo site dest hop → ⊥) × (new ≡ old)
-OpensIn None site dest link now old (Err Memory) new = ((hop : Hop) × IsHopTo site dest hop) × (new ≡ old)
+-- A link is opened where there is none of its number, for a hop of the site. The request goes out
+-- at once.
+abbrev pub OpensIn : Option Side → Part → Text → ℕ → ℕ → Sides
+    → Result (List LinkAction) NodeFault
+    → Sides → Type 0
+OpensIn None site dest link now old (Ok acts) new =
+    (end : Terminal)
+    × OpensTo site dest now (Ok (end, acts))
+    × (new ≡ map.insert old link (record { end = end; accepted = false }))
+OpensIn None site dest link now old (Err NoHop) new =
+    ((hop : Hop) → IsHopTo site dest hop → ⊥) × (new ≡ old)
+OpensIn None site dest link now old (Err Memory) new =
+    ((hop : Hop) × IsHopTo site dest hop) × (new ≡ old)
 OpensIn (Some side) site dest link now old (Err LinkKnown) new = new ≡ old
 OpensIn known site dest link now old result new = ⊥
 
 abbrev pub Opens : Part → Text → ℕ → ℕ → Sides → Result (List LinkAction) NodeFault → Sides → Type 0
-Opens site dest link now old result new = OpensIn (map.get old link) site dest link now old result new
+Opens site dest link now old result new =
+    OpensIn (map.get old link) site dest link now old result new
 
 -- ---- states
 

@@ -1,5 +1,8 @@
 //! Laws of a node's calls.
-ghost use Rattle.dr_node.specs.Laws.{ChangesOneLink, CountsOthersAlone, IsAcceptedWhereFree, IsDoneAtBooks, KnownIsRefused, NewLinksAreNotCounted, OverDoesNothing, PushIsDoneAtBooks, PushesChangeOneLink, StaysOfItsSite, UnknownIsRefused};
+ghost use Rattle.dr_node.specs.Laws.{ChangesOneLink, CountsOthersAlone, IsAcceptedWhereFree};
+ghost use Rattle.dr_node.specs.Laws.{IsDoneAtBooks, KnownIsRefused, NewLinksAreNotCounted};
+ghost use Rattle.dr_node.specs.Laws.{OverDoesNothing, PushIsDoneAtBooks, PushesChangeOneLink};
+ghost use Rattle.dr_node.specs.Laws.{StaysOfItsSite, UnknownIsRefused};
 
 use dr_ledger::Ledger;
 use dr_session::DeskPort;
@@ -22,7 +25,8 @@ pub fn rests<P: DeskPort>()
     ensures over { OverDoesNothing P.step }
 {}
 
-/// The others of a link are counted without its own side; a link that was opened to the node isn't counted yet.
+/// The others of a link are counted without its own side; a link that was opened to the node isn't
+/// counted yet.
 pub fn counts_others()
     ensures alone { CountsOthersAlone }
     ensures new { NewLinksAreNotCounted }

@@ -1,5 +1,6 @@
-//! One node: the ends of its links over its one ledger. Each call is what one end does at the ledger, or a call on the
-//! ledger; the ledger itself is never handed out, so that it stays of its site.
+//! One node: the ends of its links over its one ledger. Each call is what one end does at the
+//! ledger, or a call on the ledger; the ledger itself is never handed out, so that it stays of its
+//! site.
 #![tactic(auto)]
 
 pub mod event;

@@ -6,7 +6,9 @@ ghost use Rattle.dr_nego.specs.Proposing.{IsHopTo};
 ghost use Rattle.dr_session.specs.Ends.{OpensTo, accepting, begins};
 ghost use Rattle.dr_site.specs.Parts.{ends_at};
 ghost use Rattle.dr_plan_sound.specs.declared.certificate.Hop.{Hop as HopValue};
-ghost use Rattle.dr_node.specs.Sides.{Accepts, Does, MeetsAt, MeetsEvent, Opens, Pushes, is_other as other_of, is_taken as taken_of, others, state_of_side};
+ghost use Rattle.dr_node.specs.Sides.{Accepts, Does, MeetsAt, MeetsEvent, Opens, Pushes};
+ghost use Rattle.dr_node.specs.Sides.{is_other as other_of, is_taken as taken_of, others};
+ghost use Rattle.dr_node.specs.Sides.{state_of_side};
 
 use crate::event::LinkEvent;
 use crate::fault::NodeFault;
@@ -28,7 +30,8 @@ pub struct Side {
 }
 
 impl Side {
-    /// Whether this node accepted the association and hasn't left it: it is in Sta6 to Sta12 (PS3.8 9.2.1).
+    /// Whether this node accepted the association and hasn't left it: it is in Sta6 to Sta12 (PS3.8
+    /// 9.2.1).
     pub fn is_taken(&self) -> bool
         ensures { result ≡ taken_of self.now }
     {
@@ -53,7 +56,8 @@ impl Side {
         at: Moment,
     ) -> Result<Seq<LinkAction>, AllocError>
         requires { at.now ≤ 2 ^ 62 }
-        ensures does { MeetsEvent P.step event at self.old.end port.old result self.new.end port.new }
+        ensures does { MeetsEvent P.step event at self.old.end port.old result self.new.end
+            port.new }
         ensures same { self.new.accepted ≡ self.old.accepted }
     {
         match event {
@@ -156,7 +160,8 @@ impl Links {
         Ok(())
     }
 
-    /// A connection to that node is open, at a moment in milliseconds: the association is asked for at once.
+    /// A connection to that node is open, at a moment in milliseconds: the association is asked for
+    /// at once.
     ///
     /// Errors: LinkKnown, NoHop, Memory; after them nothing has changed.
     pub fn open(
@@ -206,7 +211,8 @@ impl Links {
         at: Moment,
     ) -> Option<Result<Seq<LinkAction>, AllocError>>
         requires { at.now ≤ 2 ^ 62 }
-        ensures { MeetsAt (MeetsEvent P.step event at) link (map.get self.old link) self.old port.old result self.new port.new }
+        ensures { MeetsAt (MeetsEvent P.step event at) link (map.get self.old link) self.old
+            port.old result self.new port.new }
     {
         let Some(side) = self.sides.get_mut(&link) else {
             return None;
@@ -222,7 +228,8 @@ impl Links {
         at: Moment,
     ) -> Option<Result<Seq<LinkAction>, AllocError>>
         requires { at.now ≤ 2 ^ 62 }
-        ensures { MeetsAt (Pushes P.step at) link (map.get self.old link) self.old port.old result self.new port.new }
+        ensures { MeetsAt (Pushes P.step at) link (map.get self.old link) self.old port.old result
+            self.new port.new }
     {
         let Some(side) = self.sides.get_mut(&link) else {
             return None;
@@ -230,7 +237,8 @@ impl Links {
         Some(side.end.push(port, at))
     }
 
-    /// An event at a link, at a moment of at most 2^62 milliseconds. Without memory the link is dropped.
+    /// An event at a link, at a moment of at most 2^62 milliseconds. Without memory the link is
+    /// dropped.
     ///
     /// Errors: LinkUnknown, Memory.
     pub fn input<P: DeskPort>(
@@ -241,7 +249,8 @@ impl Links {
         now: u64,
     ) -> Result<Seq<LinkAction>, NodeFault>
         requires { now ≤ 2 ^ 62 }
-        ensures { Does (MeetsEvent P.step event) now link self.old port.old result self.new port.new }
+        ensures { Does (MeetsEvent P.step event) now link self.old port.old result self.new
+            port.new }
     {
         let others = self.others(link);
         let Some(answer) = self.meet(link, event, port, Moment { now, others }) else {
@@ -254,7 +263,8 @@ impl Links {
         Ok(actions)
     }
 
-    /// A push at a link, at a moment of at most 2^62 milliseconds. Without memory the link is dropped.
+    /// A push at a link, at a moment of at most 2^62 milliseconds. Without memory the link is
+    /// dropped.
     ///
     /// Errors: LinkUnknown, Memory.
     pub fn push<P: DeskPort>(

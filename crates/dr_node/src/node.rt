@@ -1,12 +1,14 @@
 //! One node: its links over its ledger.
-ghost use Rattle.std.specs.Prelude.{◌≡◌, ◌≤◌, ◌^◌, IfErr, IfOk, List, Result, map as mapped, option_copied, true};
+ghost use Rattle.std.specs.Prelude.{◌≡◌, ◌≤◌, ◌^◌, IfErr, IfOk, List, Result, map as mapped};
+ghost use Rattle.std.specs.Prelude.{option_copied, true};
 ghost use Rattle.std.specs.declared.alloc.AllocError.{AllocError as NoMemory};
 ghost use Rattle.std.specs.FinMap as map;
 ghost use Rattle.dr_ledger.specs.Bodies.{OnlyLetsGo, OnlyTakes};
 ghost use Rattle.dr_ledger.specs.Items.{instance_of};
 ghost use Rattle.dr_ledger.specs.Pairs.{pair_cmp};
 ghost use Rattle.dr_ledger.specs.Refusals.{Arms};
-ghost use Rattle.dr_ledger.specs.Replies.{AreKept, Arrives, Counts, Forgets, IsAdmitted, IsHeld, IsOver};
+ghost use Rattle.dr_ledger.specs.Replies.{AreKept, Arrives, Counts, Forgets, IsAdmitted, IsHeld};
+ghost use Rattle.dr_ledger.specs.Replies.{IsOver};
 ghost use Rattle.dr_ledger.specs.Replies.{Lasts, Lists, Reads, Requeues, entry_of};
 ghost use Rattle.dr_ledger.specs.SiteRoutes.{site_routing};
 ghost use Rattle.std.proofs.Props.{props};
@@ -25,8 +27,9 @@ use dr_site::Site;
 use dr_ulstate::State;
 use std::alloc::{AllocFailed, Global};
 
-/// One node: its site, its links and its ledger, which is that site's. Links have numbers, which are the caller's. A link
-/// whose association has ended stays, in Sta1; one for which memory ended is dropped.
+/// One node: its site, its links and its ledger, which is that site's. Links have numbers, which
+/// are the caller's. A link whose association has ended stays, in Sta1; one for which memory ended
+/// is dropped.
 #[derive(Drop)]
 pub struct Node<L: Ledger> {
     alloc: Global,
@@ -43,7 +46,8 @@ impl<L: Ledger> Node<L> {
     /// The node of a site over its ledger, without a link. Without memory the ledger is given back.
     pub fn new(alloc: Global, site: Site, ledger: L) -> Result<Node<L>, AllocFailed<L>>
         requires { L.site ledger ≡ site }
-        ensures made { IfOk result (λ n. (n.site ≡ site) × (n.desk.ledger ≡ ledger) × (n.links ≡ map.empty)) }
+        ensures made { IfOk result (λ n.
+            (n.site ≡ site) × (n.desk.ledger ≡ ledger) × (n.links ≡ map.empty)) }
         ensures back { IfErr result (λ e. e.value ≡ ledger) }
     {
         let Ok(local) = Text::copy_of(alloc, b"-") else {
@@ -65,7 +69,8 @@ impl<L: Ledger> Node<L> {
         &self.site
     }
 
-    /// The state of a link's end here (PS3.8 9.2.1); None where there is no link of that number. It takes no memory.
+    /// The state of a link's end here (PS3.8 9.2.1); None where there is no link of that number. It
+    /// takes no memory.
     pub fn state(&self, link: u64) -> Option<State>
         ensures { result ≡ state_of_side (map.get self.now.links link) }
     {
@@ -79,9 +84,9 @@ impl<L: Ledger> Node<L> {
         self.links.side(link)
     }
 
-    /// Something happens at a link, at a moment of at most 2^62 milliseconds; the answer is what the link's owner is to do,
-    /// in order. Where the association is over nothing is done. After Memory the link is gone; some of the first calls on
-    /// the ledger may have been made.
+    /// Something happens at a link, at a moment of at most 2^62 milliseconds; the answer is what
+    /// the link's owner is to do, in order. Where the association is over nothing is done. After
+    /// Memory the link is gone; some of the first calls on the ledger may have been made.
     ///
     /// Errors: LinkUnknown, Memory.
     pub fn input(
@@ -91,19 +96,23 @@ impl<L: Ledger> Node<L> {
         now: u64,
     ) -> Result<Seq<LinkAction>, NodeFault>
         requires { now ≤ 2 ^ 62 }
-        ensures does { Does (MeetsEvent (LedgerStep L.site L.book L.bodies L.armed L.trusts L.stands) event) now link self.old.links self.old.desk result self.new.links self.new.desk }
+        ensures does { Does
+            (MeetsEvent (LedgerStep L.site L.book L.bodies L.armed L.trusts L.stands) event) now
+            link self.old.links self.old.desk result self.new.links self.new.desk }
         ensures site { self.new.site ≡ self.old.site }
     {
         self.links.input(link, event, &mut self.desk, now)
     }
 
-    /// The first row that is due for the other end's node is sent, at a moment of at most 2^62 milliseconds, where this node
-    /// asked for the association, it is established and nothing is pending. Memory is as in `input`.
+    /// The first row that is due for the other end's node is sent, at a moment of at most 2^62
+    /// milliseconds, where this node asked for the association, it is established and nothing is
+    /// pending. Memory is as in `input`.
     ///
     /// Errors: LinkUnknown, Memory.
     pub fn push(&mut self, link: u64, now: u64) -> Result<Seq<LinkAction>, NodeFault>
         requires { now ≤ 2 ^ 62 }
-        ensures does { Does (Pushes (LedgerStep L.site L.book L.bodies L.armed L.trusts L.stands)) now link self.old.links self.old.desk result self.new.links self.new.desk }
+        ensures does { Does (Pushes (LedgerStep L.site L.book L.bodies L.armed L.trusts L.stands))
+            now link self.old.links self.old.desk result self.new.links self.new.desk }
         ensures site { self.new.site ≡ self.old.site }
     {
         self.links.push(link, &mut self.desk, now)
@@ -120,9 +129,11 @@ impl<L: Ledger> Node<L> {
         self.links.accept(self.alloc, &self.site, link, now)
     }
 
-    /// A transport connection to that node is open, at a moment in milliseconds: the association is asked for at once.
+    /// A transport connection to that node is open, at a moment in milliseconds: the association is
+    /// asked for at once.
     ///
-    /// Errors: LinkKnown, NoHop where the site has no hop to that node, Memory; after them nothing has changed.
+    /// Errors: LinkKnown, NoHop where the site has no hop to that node, Memory; after them nothing
+    /// has changed.
     pub fn open(&mut self, link: u64, dest: &Text, now: u64) -> Result<Seq<LinkAction>, NodeFault>
         ensures opens { Opens self.old.site dest.now link now self.old.links result self.new.links }
         ensures desk { self.new.desk ≡ self.old.desk }
@@ -135,12 +146,21 @@ impl<L: Ledger> Node<L> {
     ///
     /// Errors: as the ledger's `arrive`.
     pub fn submit(&mut self, item: Item) -> Result<Arrived, LedgerFault>
-        ensures reply { L.stands self.new.desk.ledger → Arrives (site_routing (L.site self.old.desk.ledger)) local_caller (instance_of item) (L.book self.old.desk.ledger) result (L.book self.new.desk.ledger) }
-        ensures bodies { L.stands self.new.desk.ledger → OnlyTakes item (L.bodies self.old.desk.ledger) (L.bodies self.new.desk.ledger) }
-        ensures counts { Counts result (L.failed self.old.desk.ledger) (L.failed self.new.desk.ledger) }
-        ensures armed { L.stands self.new.desk.ledger → Arms (IsAdmitted (site_routing (L.site self.old.desk.ledger)) local_caller (instance_of item) (L.book self.old.desk.ledger)) (L.armed self.old.desk.ledger) result (L.armed self.new.desk.ledger) }
+        ensures reply { L.stands self.new.desk.ledger
+            → Arrives (site_routing (L.site self.old.desk.ledger)) local_caller (instance_of item)
+            (L.book self.old.desk.ledger) result (L.book self.new.desk.ledger) }
+        ensures bodies { L.stands self.new.desk.ledger
+            → OnlyTakes item (L.bodies self.old.desk.ledger) (L.bodies self.new.desk.ledger) }
+        ensures counts { Counts result (L.failed self.old.desk.ledger)
+            (L.failed self.new.desk.ledger) }
+        ensures armed { L.stands self.new.desk.ledger
+            → Arms
+            (IsAdmitted (site_routing (L.site self.old.desk.ledger)) local_caller (instance_of item)
+            (L.book self.old.desk.ledger)) (L.armed self.old.desk.ledger) result
+            (L.armed self.new.desk.ledger) }
         ensures stood { L.stands self.new.desk.ledger → L.stands self.old.desk.ledger }
-        ensures lasts { Lasts result (L.trusts self.old.desk.ledger) (L.trusts self.new.desk.ledger) (L.stands self.old.desk.ledger) (L.stands self.new.desk.ledger) }
+        ensures lasts { Lasts result (L.trusts self.old.desk.ledger) (L.trusts self.new.desk.ledger)
+            (L.stands self.old.desk.ledger) (L.stands self.new.desk.ledger) }
         ensures of { L.site self.new.desk.ledger ≡ L.site self.old.desk.ledger }
         ensures links { self.new.links ≡ self.old.links }
         ensures site { self.new.site ≡ self.old.site }
@@ -152,12 +172,19 @@ impl<L: Ledger> Node<L> {
     ///
     /// Errors: as the ledger's `requeue`.
     pub fn requeue(&mut self, uid: &Text, dest: &Text) -> Result<(), LedgerFault>
-        ensures reply { L.stands self.new.desk.ledger → Requeues uid.now dest.now (L.book self.old.desk.ledger) result (L.book self.new.desk.ledger) }
-        ensures bodies { L.stands self.new.desk.ledger → OnlyLetsGo (L.bodies self.old.desk.ledger) (L.bodies self.new.desk.ledger) }
-        ensures counts { Counts result (L.failed self.old.desk.ledger) (L.failed self.new.desk.ledger) }
-        ensures armed { L.stands self.new.desk.ledger → Arms (IsHeld (L.book self.old.desk.ledger) uid.now dest.now) (L.armed self.old.desk.ledger) result (L.armed self.new.desk.ledger) }
+        ensures reply { L.stands self.new.desk.ledger
+            → Requeues uid.now dest.now (L.book self.old.desk.ledger) result
+            (L.book self.new.desk.ledger) }
+        ensures bodies { L.stands self.new.desk.ledger
+            → OnlyLetsGo (L.bodies self.old.desk.ledger) (L.bodies self.new.desk.ledger) }
+        ensures counts { Counts result (L.failed self.old.desk.ledger)
+            (L.failed self.new.desk.ledger) }
+        ensures armed { L.stands self.new.desk.ledger
+            → Arms (IsHeld (L.book self.old.desk.ledger) uid.now dest.now)
+            (L.armed self.old.desk.ledger) result (L.armed self.new.desk.ledger) }
         ensures stood { L.stands self.new.desk.ledger → L.stands self.old.desk.ledger }
-        ensures lasts { Lasts result (L.trusts self.old.desk.ledger) (L.trusts self.new.desk.ledger) (L.stands self.old.desk.ledger) (L.stands self.new.desk.ledger) }
+        ensures lasts { Lasts result (L.trusts self.old.desk.ledger) (L.trusts self.new.desk.ledger)
+            (L.stands self.old.desk.ledger) (L.stands self.new.desk.ledger) }
         ensures of { L.site self.new.desk.ledger ≡ L.site self.old.desk.ledger }
         ensures links { self.new.links ≡ self.old.links }
         ensures site { self.new.site ≡ self.old.site }
@@ -165,7 +192,8 @@ impl<L: Ledger> Node<L> {
         self.desk.ledger.requeue(uid, dest)
     }
 
-    /// The node has come up again: its links are lost, and the ledger is as it was. It takes no memory.
+    /// The node has come up again: its links are lost, and the ledger is as it was. It takes no
+    /// memory.
     pub fn restart(&mut self)
         ensures links { self.new.links ≡ map.empty }
         ensures desk { self.new.desk ≡ self.old.desk }
@@ -174,16 +202,23 @@ impl<L: Ledger> Node<L> {
         self.links = Links::new(self.alloc);
     }
 
-    /// Whether the data set of that uid is there: it is while the uid is kept or a row of it isn't done.
+    /// Whether the data set of that uid is there: it is while the uid is kept or a row of it isn't
+    /// done.
     ///
     /// Errors: Store, Memory.
     pub fn has_body(&mut self, uid: &Text) -> Result<bool, LedgerFault>
-        ensures reply { L.stands self.new.desk.ledger → Reads result (λ there. there ≡ map.contains_key (L.bodies self.old.desk.ledger) uid.now) }
-        ensures same { L.stands self.new.desk.ledger → (L.book self.new.desk.ledger ≡ L.book self.old.desk.ledger) × (L.bodies self.new.desk.ledger ≡ L.bodies self.old.desk.ledger) }
-        ensures counts { Counts result (L.failed self.old.desk.ledger) (L.failed self.new.desk.ledger) }
+        ensures reply { L.stands self.new.desk.ledger
+            → Reads result (λ there.
+            there ≡ map.contains_key (L.bodies self.old.desk.ledger) uid.now) }
+        ensures same { L.stands self.new.desk.ledger
+            → (L.book self.new.desk.ledger ≡ L.book self.old.desk.ledger)
+            × (L.bodies self.new.desk.ledger ≡ L.bodies self.old.desk.ledger) }
+        ensures counts { Counts result (L.failed self.old.desk.ledger)
+            (L.failed self.new.desk.ledger) }
         ensures armed { L.armed self.new.desk.ledger ≡ L.armed self.old.desk.ledger }
         ensures stood { L.stands self.new.desk.ledger → L.stands self.old.desk.ledger }
-        ensures lasts { Lasts result (L.trusts self.old.desk.ledger) (L.trusts self.new.desk.ledger) (L.stands self.old.desk.ledger) (L.stands self.new.desk.ledger) }
+        ensures lasts { Lasts result (L.trusts self.old.desk.ledger) (L.trusts self.new.desk.ledger)
+            (L.stands self.old.desk.ledger) (L.stands self.new.desk.ledger) }
         ensures of { L.site self.new.desk.ledger ≡ L.site self.old.desk.ledger }
         ensures links { self.new.links ≡ self.old.links }
         ensures site { self.new.site ≡ self.old.site }
@@ -195,12 +230,17 @@ impl<L: Ledger> Node<L> {
     ///
     /// Errors: Store, Memory.
     pub fn arrivals(&mut self) -> Result<Seq<(Text, Text)>, LedgerFault>
-        ensures reply { L.stands self.new.desk.ledger → Reads result (Lists pair_cmp (L.book self.old.desk.ledger).arrivals) }
-        ensures same { L.stands self.new.desk.ledger → (L.book self.new.desk.ledger ≡ L.book self.old.desk.ledger) × (L.bodies self.new.desk.ledger ≡ L.bodies self.old.desk.ledger) }
-        ensures counts { Counts result (L.failed self.old.desk.ledger) (L.failed self.new.desk.ledger) }
+        ensures reply { L.stands self.new.desk.ledger
+            → Reads result (Lists pair_cmp (L.book self.old.desk.ledger).arrivals) }
+        ensures same { L.stands self.new.desk.ledger
+            → (L.book self.new.desk.ledger ≡ L.book self.old.desk.ledger)
+            × (L.bodies self.new.desk.ledger ≡ L.bodies self.old.desk.ledger) }
+        ensures counts { Counts result (L.failed self.old.desk.ledger)
+            (L.failed self.new.desk.ledger) }
         ensures armed { L.armed self.new.desk.ledger ≡ L.armed self.old.desk.ledger }
         ensures stood { L.stands self.new.desk.ledger → L.stands self.old.desk.ledger }
-        ensures lasts { Lasts result (L.trusts self.old.desk.ledger) (L.trusts self.new.desk.ledger) (L.stands self.old.desk.ledger) (L.stands self.new.desk.ledger) }
+        ensures lasts { Lasts result (L.trusts self.old.desk.ledger) (L.trusts self.new.desk.ledger)
+            (L.stands self.old.desk.ledger) (L.stands self.new.desk.ledger) }
         ensures of { L.site self.new.desk.ledger ≡ L.site self.old.desk.ledger }
         ensures links { self.new.links ≡ self.old.links }
         ensures site { self.new.site ≡ self.old.site }
@@ -212,12 +252,17 @@ impl<L: Ledger> Node<L> {
     ///
     /// Errors: Store, Memory.
     pub fn kept(&mut self) -> Result<Seq<(Text, u64)>, LedgerFault>
-        ensures reply { L.stands self.new.desk.ledger → Reads result (AreKept (L.book self.old.desk.ledger)) }
-        ensures same { L.stands self.new.desk.ledger → (L.book self.new.desk.ledger ≡ L.book self.old.desk.ledger) × (L.bodies self.new.desk.ledger ≡ L.bodies self.old.desk.ledger) }
-        ensures counts { Counts result (L.failed self.old.desk.ledger) (L.failed self.new.desk.ledger) }
+        ensures reply { L.stands self.new.desk.ledger
+            → Reads result (AreKept (L.book self.old.desk.ledger)) }
+        ensures same { L.stands self.new.desk.ledger
+            → (L.book self.new.desk.ledger ≡ L.book self.old.desk.ledger)
+            × (L.bodies self.new.desk.ledger ≡ L.bodies self.old.desk.ledger) }
+        ensures counts { Counts result (L.failed self.old.desk.ledger)
+            (L.failed self.new.desk.ledger) }
         ensures armed { L.armed self.new.desk.ledger ≡ L.armed self.old.desk.ledger }
         ensures stood { L.stands self.new.desk.ledger → L.stands self.old.desk.ledger }
-        ensures lasts { Lasts result (L.trusts self.old.desk.ledger) (L.trusts self.new.desk.ledger) (L.stands self.old.desk.ledger) (L.stands self.new.desk.ledger) }
+        ensures lasts { Lasts result (L.trusts self.old.desk.ledger) (L.trusts self.new.desk.ledger)
+            (L.stands self.old.desk.ledger) (L.stands self.new.desk.ledger) }
         ensures of { L.site self.new.desk.ledger ≡ L.site self.old.desk.ledger }
         ensures links { self.new.links ≡ self.old.links }
         ensures site { self.new.site ≡ self.old.site }
@@ -225,16 +270,22 @@ impl<L: Ledger> Node<L> {
         self.desk.ledger.kept()
     }
 
-    /// How far each uid is on its way to each destination, in byte order of the uid, then of the destination.
+    /// How far each uid is on its way to each destination, in byte order of the uid, then of the
+    /// destination.
     ///
     /// Errors: Store, Memory.
     pub fn rows(&mut self) -> Result<Seq<((Text, Text), Progress)>, LedgerFault>
-        ensures reply { L.stands self.new.desk.ledger → Reads result (λ all. all ≡ map.entries (L.book self.old.desk.ledger).rows) }
-        ensures same { L.stands self.new.desk.ledger → (L.book self.new.desk.ledger ≡ L.book self.old.desk.ledger) × (L.bodies self.new.desk.ledger ≡ L.bodies self.old.desk.ledger) }
-        ensures counts { Counts result (L.failed self.old.desk.ledger) (L.failed self.new.desk.ledger) }
+        ensures reply { L.stands self.new.desk.ledger
+            → Reads result (λ all. all ≡ map.entries (L.book self.old.desk.ledger).rows) }
+        ensures same { L.stands self.new.desk.ledger
+            → (L.book self.new.desk.ledger ≡ L.book self.old.desk.ledger)
+            × (L.bodies self.new.desk.ledger ≡ L.bodies self.old.desk.ledger) }
+        ensures counts { Counts result (L.failed self.old.desk.ledger)
+            (L.failed self.new.desk.ledger) }
         ensures armed { L.armed self.new.desk.ledger ≡ L.armed self.old.desk.ledger }
         ensures stood { L.stands self.new.desk.ledger → L.stands self.old.desk.ledger }
-        ensures lasts { Lasts result (L.trusts self.old.desk.ledger) (L.trusts self.new.desk.ledger) (L.stands self.old.desk.ledger) (L.stands self.new.desk.ledger) }
+        ensures lasts { Lasts result (L.trusts self.old.desk.ledger) (L.trusts self.new.desk.ledger)
+            (L.stands self.old.desk.ledger) (L.stands self.new.desk.ledger) }
         ensures of { L.site self.new.desk.ledger ≡ L.site self.old.desk.ledger }
         ensures links { self.new.links ≡ self.old.links }
         ensures site { self.new.site ≡ self.old.site }
@@ -246,12 +297,17 @@ impl<L: Ledger> Node<L> {
     ///
     /// Errors: Store, Memory.
     pub fn lines(&mut self) -> Result<Seq<Entry>, LedgerFault>
-        ensures reply { L.stands self.new.desk.ledger → Reads result (λ all. all ≡ mapped entry_of (L.book self.old.desk.ledger).lines) }
-        ensures same { L.stands self.new.desk.ledger → (L.book self.new.desk.ledger ≡ L.book self.old.desk.ledger) × (L.bodies self.new.desk.ledger ≡ L.bodies self.old.desk.ledger) }
-        ensures counts { Counts result (L.failed self.old.desk.ledger) (L.failed self.new.desk.ledger) }
+        ensures reply { L.stands self.new.desk.ledger
+            → Reads result (λ all. all ≡ mapped entry_of (L.book self.old.desk.ledger).lines) }
+        ensures same { L.stands self.new.desk.ledger
+            → (L.book self.new.desk.ledger ≡ L.book self.old.desk.ledger)
+            × (L.bodies self.new.desk.ledger ≡ L.bodies self.old.desk.ledger) }
+        ensures counts { Counts result (L.failed self.old.desk.ledger)
+            (L.failed self.new.desk.ledger) }
         ensures armed { L.armed self.new.desk.ledger ≡ L.armed self.old.desk.ledger }
         ensures stood { L.stands self.new.desk.ledger → L.stands self.old.desk.ledger }
-        ensures lasts { Lasts result (L.trusts self.old.desk.ledger) (L.trusts self.new.desk.ledger) (L.stands self.old.desk.ledger) (L.stands self.new.desk.ledger) }
+        ensures lasts { Lasts result (L.trusts self.old.desk.ledger) (L.trusts self.new.desk.ledger)
+            (L.stands self.old.desk.ledger) (L.stands self.new.desk.ledger) }
         ensures of { L.site self.new.desk.ledger ≡ L.site self.old.desk.ledger }
         ensures links { self.new.links ≡ self.old.links }
         ensures site { self.new.site ≡ self.old.site }
@@ -267,9 +323,9 @@ impl<L: Ledger> Node<L> {
 }
 
 impl<L: LetsGo> Node<L> {
-    /// What is over is forgotten: the instance of the uid, with its arrivals and its rows. A store of it that
-    /// still awaits its response would settle a row of a later instance of that uid: who calls this looks at the
-    /// sides first.
+    /// What is over is forgotten: the instance of the uid, with its arrivals and its rows. A store
+    /// of it that still awaits its response would settle a row of a later instance of that uid: who
+    /// calls this looks at the sides first.
     ///
     /// Errors: as the ledger's `forget`.
     pub fn forget(&mut self, uid: &Text) -> Result<(), LedgerFault>
@@ -277,9 +333,11 @@ impl<L: LetsGo> Node<L> {
             Forgets uid.now (L.book self.old.desk.ledger) result (L.book self.new.desk.ledger) }
         ensures bodies { L.stands self.new.desk.ledger →
             OnlyLetsGo (L.bodies self.old.desk.ledger) (L.bodies self.new.desk.ledger) }
-        ensures counts { Counts result (L.failed self.old.desk.ledger) (L.failed self.new.desk.ledger) }
-        ensures armed { L.stands self.new.desk.ledger → Arms (IsOver (L.book self.old.desk.ledger) uid.now)
-            (L.armed self.old.desk.ledger) result (L.armed self.new.desk.ledger) }
+        ensures counts { Counts result (L.failed self.old.desk.ledger)
+            (L.failed self.new.desk.ledger) }
+        ensures armed { L.stands self.new.desk.ledger
+            → Arms (IsOver (L.book self.old.desk.ledger) uid.now) (L.armed self.old.desk.ledger)
+            result (L.armed self.new.desk.ledger) }
         ensures stood { L.stands self.new.desk.ledger → L.stands self.old.desk.ledger }
         ensures lasts { Lasts result (L.trusts self.old.desk.ledger) (L.trusts self.new.desk.ledger)
             (L.stands self.old.desk.ledger) (L.stands self.new.desk.ledger) }
@@ -294,7 +352,11 @@ impl<L: LetsGo> Node<L> {
 impl<L: Ledger> Node<Refusing<L>> {
     /// The ledger's next call that would add a line is refused.
     pub fn refuse_next(&mut self)
-        ensures armed { self.new.desk.ledger ≡ record { ledger = self.old.desk.ledger.ledger; refusals = record { is_due = true; made = self.old.desk.ledger.refusals.made } } }
+        ensures armed { self.new.desk.ledger
+            ≡ record {
+              ledger = self.old.desk.ledger.ledger;
+              refusals = record { is_due = true; made = self.old.desk.ledger.refusals.made };
+            } }
         ensures links { self.new.links ≡ self.old.links }
         ensures site { self.new.site ≡ self.old.site }
     {

@@ -1,4 +1,5 @@
-//! The program `dr_router`: `run_words` of `dr_word_all` on the system's words, files, ledgers, input, outputs, network, clock and log.
+//! The program `dr_router`: `run_words` of `dr_word_all` on the system's words, files, ledgers,
+//! input, outputs, network, clock and log.
 #![tactic(auto)]
 
 mod events;
@@ -16,7 +17,8 @@ use std::sync::Wait;
 use std::thread::Threads;
 use std::{io, time};
 
-/// Runs the program on its words, which fails only where they can't be read. `threads` is the runtime too, by which nodes run.
+/// Runs the program on its words, which fails only where they can't be read. `threads` is the
+/// runtime too, by which nodes run.
 fn run<T: Threads + Wait + Sync + time::Clock>(
     rt: &HostRuntime,
     threads: &T,

@@ -13,8 +13,8 @@ use std::sync::Wait;
 use std::thread::Threads;
 use std::time;
 
-/// `run_words`, without what it promises: said of the system's own files, ledgers and sockets, on which nothing is known, that is long, and no more than
-/// what it says of any.
+/// `run_words`, without what it promises: said of the system's own files, ledgers and sockets, on
+/// which nothing is known, that is long, and no more than what it says of any.
 pub fn run_over<
     T: Threads + Wait + Sync + time::Clock,
     R: Read,

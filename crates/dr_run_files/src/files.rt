@@ -15,7 +15,8 @@ pub trait Files {
     fn read(&self, alloc: Global, path: &str) -> io::Result<Vec<u8>>
         ensures { IfOk result (λ bytes. holds self.now path.now bytes.items) };
 
-    /// Puts this text in the place of what the file held, if there is one: who opens it finds the one or the other, whole.
+    /// Puts this text in the place of what the file held, if there is one: who opens it finds the
+    /// one or the other, whole.
     fn replace(&self, alloc: Global, path: &str, text: &[u8]) -> io::Result<()>;
 }
 

@@ -8,8 +8,9 @@ use std::{io, time};
 /// The last moment that a clock tells, in milliseconds.
 const LAST: u64 = 1 << 62;
 
-/// Moments in milliseconds since 1970. The system is asked once what time it is; from then on the clock goes by the time that
-/// has passed, so that a moment is never told before an earlier one, whatever the system's time is set to.
+/// Moments in milliseconds since 1970. The system is asked once what time it is; from then on the
+/// clock goes by the time that has passed, so that a moment is never told before an earlier one,
+/// whatever the system's time is set to.
 #[derive(Drop)]
 pub struct SystemClock<'a, R: time::Clock> {
     rt: &'a R,

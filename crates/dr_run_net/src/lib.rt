@@ -1,17 +1,20 @@
 //! Associations over TCP: a network, as the program is lent one, and the system's sockets as one.
 //!
-//! A `Network` connects to an address and listens at one; what it gives are links (`dr_session::Link`), so that tests can hand in
-//! links and listeners of their own. `Sockets` is the network of the system, and `Socket` one end of a connection:
+//! A `Network` connects to an address and listens at one; what it gives are links
+//! (`dr_session::Link`), so that tests can hand in links and listeners of their own. `Sockets` is
+//! the network of the system, and `Socket` one end of a connection:
 //!
-//! - What is sent is sent at once (TCP_NODELAY), each write of an association's end in one call of the system where that takes all of
-//!   it. One that makes no headway for 60 s is given up.
+//! - What is sent is sent at once (TCP_NODELAY), each write of an association's end in one call of
+//!   the system where that takes all of it. One that makes no headway for 60 s is given up.
 //! - A connect is given up after 10 s.
-//! - A late mark comes once a second, also while bytes come, so that a peer that sends a byte now and then is late all the same. The
-//!   end itself decides what is late (30 s for the first request, 60 s for an answer). The moment
+//! - A late mark comes once a second, also while bytes come, so that a peer that sends a byte now
+//!   and then is late all the same. The end itself decides what is late (30 s for the first
+//!   request, 60 s for an answer). The moment
 //! at which a socket
 //!   counts a connection as open is the one at which it was accepted; a worker that takes it later
 //! counts from then (`dr_desk_workers`).
-//! - Where nothing comes for 600 s the link has failed, so that idle associations don't hold a node's workers for ever.
+//! - Where nothing comes for 600 s the link has failed, so that idle associations don't hold a
+//!   node's workers for ever.
 //! - Each failure of a read or a write is counted, and only then a fault is answered.
 //!
 //! `SystemClock` tells moments since 1970, and never goes back while the program runs.

@@ -6,8 +6,8 @@ use dr_session::Link;
 use std::alloc::Global;
 use std::io;
 
-/// Where a program connects and listens, each address as a plan writes it (`host:port`). Its relation says which links may lead
-/// to an address; a system's sockets claim nothing.
+/// Where a program connects and listens, each address as a plan writes it (`host:port`). Its
+/// relation says which links may lead to an address; a system's sockets claim nothing.
 pub trait Network {
     type Socket: Link + Drop;
 

@@ -25,8 +25,9 @@ const BLOCKED: u64 = 60_000;
 /// The most bytes that one read takes.
 const PIECE: usize = 65_536;
 
-/// One end of a connection, with the clock by which it counts. `marked` is the moment of its last late mark, `heard` that at
-/// which something came last; both begin with the moment at which it was opened.
+/// One end of a connection, with the clock by which it counts. `marked` is the moment of its last
+/// late mark, `heard` that at which something came last; both begin with the moment at which it was
+/// opened.
 #[derive(Drop)]
 pub struct Socket<'a, S: Read + Write + OpenStream + Drop, C: Clock> {
     pub(crate) alloc: Global,
@@ -58,12 +59,14 @@ fn is_quiet(error: &io::Error) -> bool {
 }
 
 impl<'a, S: Read + Write + OpenStream + Drop, C: Clock> Socket<'a, S, C> {
-    /// The end of a connection that is open from now on. What it writes goes out at once; its reads and writes don't wait for ever.
+    /// The end of a connection that is open from now on. What it writes goes out at once; its reads
+    /// and writes don't wait for ever.
     ///
     /// Errors: the system refuses one of these settings; want of memory.
     pub fn new(alloc: Global, stream: S, clock: &'a C) -> io::Result<Socket<'a, S, C>>
         ensures stream { IfOk result (λ s. s.stream ≡ stream) }
-        ensures opened { IfOk result (λ s. C.tells clock.now s.opened × (s.marked ≡ s.opened) × (s.heard ≡ s.opened)) }
+        ensures opened { IfOk result (λ s.
+            C.tells clock.now s.opened × (s.marked ≡ s.opened) × (s.heard ≡ s.opened)) }
         ensures faultless { IfOk result (λ s. s.failures ≡ 0) }
     {
         stream.set_nodelay(true)?;
@@ -106,7 +109,9 @@ impl<'a, S: Read + Write + OpenStream + Drop, C: Clock> Socket<'a, S, C> {
 
     /// Nothing came in time: a late mark, or a fault where nothing came for too long.
     fn wait_on(&mut self) -> Heard
-        ensures hears { Hears (C.tells self.old.clock.now) (ear (S.remaining self.old.stream) self.old.marked self.old.heard) result (ear (S.remaining self.new.stream) self.new.marked self.new.heard) }
+        ensures hears { Hears (C.tells self.old.clock.now)
+            (ear (S.remaining self.old.stream) self.old.marked self.old.heard) result
+            (ear (S.remaining self.new.stream) self.new.marked self.new.heard) }
         ensures counts { Counts (IsLinkFault result) self.old.failures self.new.failures }
     {
         let now = self.clock.now();
@@ -120,8 +125,12 @@ impl<'a, S: Read + Write + OpenStream + Drop, C: Clock> Socket<'a, S, C> {
     /// One read into the room.
     fn read(&mut self) -> io::Result<usize>
         ensures within { IfOk result (λ count. count ≤ length self.new.piece.items) }
-        ensures consumed { ReadConsumes (S.remaining self.old.stream) (S.remaining self.new.stream) result self.new.piece.items }
-        ensures same { (self.new.marked ≡ self.old.marked) × (self.new.heard ≡ self.old.heard) × (self.new.failures ≡ self.old.failures) × (self.new.clock ≡ self.old.clock) }
+        ensures consumed { ReadConsumes (S.remaining self.old.stream) (S.remaining self.new.stream)
+            result self.new.piece.items }
+        ensures same { (self.new.marked ≡ self.old.marked)
+            × (self.new.heard ≡ self.old.heard)
+            × (self.new.failures ≡ self.old.failures)
+            × (self.new.clock ≡ self.old.clock) }
     {
         let Socket { stream, piece, .. } = self;
         stream.read(piece.as_mut_slice())
@@ -130,9 +139,12 @@ impl<'a, S: Read + Write + OpenStream + Drop, C: Clock> Socket<'a, S, C> {
     /// So many bytes, which were read into the room at that moment.
     fn hear(&mut self, count: usize, now: u64) -> Heard
         requires { count ≤ length self.old.piece.items }
-        ensures heard { (result ≡ came.Bytes (take count self.old.piece.items)) ⊎ (result ≡ came.Memory) }
+        ensures heard { (result ≡ came.Bytes (take count self.old.piece.items))
+            ⊎ (result ≡ came.Memory) }
         ensures at { self.new.heard ≡ now }
-        ensures same { (self.new.stream ≡ self.old.stream) × (self.new.marked ≡ self.old.marked) × (self.new.failures ≡ self.old.failures) }
+        ensures same { (self.new.stream ≡ self.old.stream)
+            × (self.new.marked ≡ self.old.marked)
+            × (self.new.failures ≡ self.old.failures) }
     {
         self.heard = now;
         match Text::copy_of(self.alloc, &self.piece.as_slice()[..count]) {
@@ -145,7 +157,9 @@ impl<'a, S: Read + Write + OpenStream + Drop, C: Clock> Socket<'a, S, C> {
     fn hear_next(&mut self, now: u64) -> Heard
         requires told { C.tells self.old.clock.now now }
         requires soon { now < self.old.marked + 1000 }
-        ensures hears { Hears (C.tells self.old.clock.now) (ear (S.remaining self.old.stream) self.old.marked self.old.heard) result (ear (S.remaining self.new.stream) self.new.marked self.new.heard) }
+        ensures hears { Hears (C.tells self.old.clock.now)
+            (ear (S.remaining self.old.stream) self.old.marked self.old.heard) result
+            (ear (S.remaining self.new.stream) self.new.marked self.new.heard) }
         ensures counts { Counts (IsLinkFault result) self.old.failures self.new.failures }
     {
         match self.read() {
@@ -157,7 +171,9 @@ impl<'a, S: Read + Write + OpenStream + Drop, C: Clock> Socket<'a, S, C> {
 
     /// A read that failed: since nothing came in time, or else a fault.
     fn miss(&mut self, error: &io::Error) -> Heard
-        ensures hears { Hears (C.tells self.old.clock.now) (ear (S.remaining self.old.stream) self.old.marked self.old.heard) result (ear (S.remaining self.new.stream) self.new.marked self.new.heard) }
+        ensures hears { Hears (C.tells self.old.clock.now)
+            (ear (S.remaining self.old.stream) self.old.marked self.old.heard) result
+            (ear (S.remaining self.new.stream) self.new.marked self.new.heard) }
         ensures counts { Counts (IsLinkFault result) self.old.failures self.new.failures }
     {
         if is_quiet(error) {
@@ -173,9 +189,12 @@ impl<'a, S: Read + Write + OpenStream + Drop, C: Clock> Link for Socket<'a, S, C
     ghost use Rattle.std.specs.Io.KnownBytes.{Appends, Keeps};
     ghost use Rattle.dr_run_net.specs.Hearing.{Hears, ear};
 
-    ghost hears = { λ s heard t. Hears (C.tells s.clock.now) (ear (S.remaining s.stream) s.marked s.heard) heard (ear (S.remaining t.stream) t.marked t.heard) };
+    ghost hears = { λ s heard t. Hears (C.tells s.clock.now)
+        (ear (S.remaining s.stream) s.marked s.heard) heard
+        (ear (S.remaining t.stream) t.marked t.heard) };
 
-    ghost sends = { λ s bytes sent t. sent ≡ true → Appends (S.contents s.stream) (S.contents t.stream) bytes };
+    ghost sends = { λ s bytes sent t.
+        sent ≡ true → Appends (S.contents s.stream) (S.contents t.stream) bytes };
 
     ghost closes = { λ s t. t.stream ≡ s.stream };
 

@@ -25,11 +25,13 @@ impl<'a, R: Net<Stream = TcpStream, Listener = TcpListener>, C: Clock> Sockets<'
         Sockets { rt, clock }
     }
 
-    /// Connects to one of a name's addresses, each in its turn, until one answers or the time is over.
+    /// Connects to one of a name's addresses, each in its turn, until one answers or the time is
+    /// over.
     fn connect_by(&self, address: &str) -> io::Result<TcpStream> {
         let mut last = io::Error::from(ErrorKind::NotFound);
         let addresses = address.to_socket_addrs(self.rt)?;
-        // The look-up of the name, which has a limit of its own, takes nothing of the connect's time.
+        // The look-up of the name, which has a limit of its own, takes nothing of the connect's
+        // time.
         let begun = self.clock.now();
         for one in addresses {
             let left = CONNECT.saturating_sub(self.clock.now().saturating_sub(begun));

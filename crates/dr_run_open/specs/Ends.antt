@@ -10,10 +10,13 @@ use Rattle.dr_run_open.specs.declared.status.Status.TheVariants as ends
 use Rattle.dr_ledger.specs.declared.fault.LedgerFault.TheVariants as ledger
 use Rattle.dr_run_open.specs.Instances.{instance_status}
 use Rattle.dr_run_open.specs.declared.halt.Halt.{Halt}
-use Rattle.dr_run_open.specs.declared.halt.Halt.TheVariants.{NoPlan, NoCertificate, NoNode, NotOpened, NoInstance, Refused, Receipt, Failed, Memory}
+use Rattle.dr_run_open.specs.declared.halt.Halt.TheVariants.{NoPlan, NoCertificate, NoNode}
+use Rattle.dr_run_open.specs.declared.halt.Halt.TheVariants.{NotOpened, NoInstance, Refused}
+use Rattle.dr_run_open.specs.declared.halt.Halt.TheVariants.{Receipt, Failed, Memory}
 use Rattle.dr_run_open.specs.declared.ledgers.OpenFault.TheVariants as opening
 
--- what is printed where a word comes to nothing: what is printed for a text that is no plan, and else nothing
+-- what is printed where a word comes to nothing: what is printed for a text that is no plan, and
+-- else nothing
 abbrev pub printed_by : Halt → Text
 printed_by (NoPlan answer) = printed_for answer
 printed_by (NoCertificate fault) = []
@@ -25,7 +28,8 @@ printed_by Receipt = []
 printed_by (Failed failure) = []
 printed_by Memory = []
 
--- the exit status where a word comes to nothing: refused, but for a store or a stream that failed, and want of memory
+-- the exit status where a word comes to nothing: refused, but for a store or a stream that failed,
+-- and want of memory
 abbrev pub status_by : Halt → Status
 status_by (NoPlan answer) = status_for answer
 status_by (NoCertificate certificate.Text) = ends.Refused

@@ -13,10 +13,13 @@ use Rattle.dr_site.specs.Parts.{Part, IsPartOf}
 use Rattle.dr_plan_sound.specs.Certificates.{IsCertificateOf}
 use Rattle.dr_plan_sound.specs.Soundness.{IsSound}
 use Rattle.dr_run_open.specs.declared.halt.Halt.{Halt}
-use Rattle.dr_run_open.specs.declared.halt.Halt.TheVariants.{NoPlan, NoCertificate, NoNode, NotOpened, NoInstance, Refused, Receipt, Failed, Memory}
+use Rattle.dr_run_open.specs.declared.halt.Halt.TheVariants.{NoPlan, NoCertificate, NoNode}
+use Rattle.dr_run_open.specs.declared.halt.Halt.TheVariants.{NotOpened, NoInstance, Refused}
+use Rattle.dr_run_open.specs.declared.halt.Halt.TheVariants.{Receipt, Failed, Memory}
 
 -- a sound plan with its certificate, written by two texts of which these hold
-pub record IsSealedBy (HoldsPlan HoldsCertificate : Text → Type 0) (sealed : Certified) : Type 0 where
+pub record IsSealedBy (HoldsPlan HoldsCertificate : Text → Type 0)
+    (sealed : Certified) : Type 0 where
   pub text : Text
   pub held : HoldsPlan text
   pub reads : Reads text (Ok sealed.plan)
@@ -26,23 +29,33 @@ pub record IsSealedBy (HoldsPlan HoldsCertificate : Text → Type 0) (sealed : C
   pub sound : IsSound sealed.plan
   pub own : IsCertificateOf sealed.plan sealed.certificate
 
--- the text is refused as the plan's certificate by this fault; want of memory may be answered to any
+-- the text is refused as the plan's certificate by this fault; want of memory may be answered to
+-- any
 abbrev pub Unseals : Network → Text → CertFault → Type 0
 Unseals plan second fault = fault ≢ NoMemory → IsFaultOf plan second fault
 
--- what comes of a plan and a second text, of which this holds: the plan is sealed, or the text isn't its certificate's
+-- what comes of a plan and a second text, of which this holds: the plan is sealed, or the text
+-- isn't its certificate's
 abbrev pub Seals : (Text → Type 0) → Network → Result Certified Halt → Type 0
-Seals HoldsCertificate plan (Ok sealed) = (second : Text) × HoldsCertificate second × (sealed.plan ≡ plan) × IsTextOf second sealed.certificate × IsSound plan × IsCertificateOf plan sealed.certificate
-Seals HoldsCertificate plan (Err (NoCertificate fault)) = (second : Text) × HoldsCertificate second × Unseals plan second fault
+Seals HoldsCertificate plan (Ok sealed) =
+    (second : Text) × HoldsCertificate second × (sealed.plan ≡ plan)
+    × IsTextOf second sealed.certificate
+    × IsSound plan
+    × IsCertificateOf plan sealed.certificate
+Seals HoldsCertificate plan (Err (NoCertificate fault)) =
+    (second : Text) × HoldsCertificate second × Unseals plan second fault
 Seals HoldsCertificate plan (Err (Failed failure)) = Unit {0}
 Seals HoldsCertificate plan (Err halt) = ⊥
 
 -- what comes of two files: a sealed plan, or why there is none
 abbrev pub SealsFiles : (Text → Type 0) → (Text → Type 0) → Result Certified Halt → Type 0
 SealsFiles HoldsPlan HoldsCertificate (Ok sealed) = IsSealedBy HoldsPlan HoldsCertificate sealed
-SealsFiles HoldsPlan HoldsCertificate (Err (NoPlan told)) = (text : Text) × HoldsPlan text × IsNoPlan text told
+SealsFiles HoldsPlan HoldsCertificate (Err (NoPlan told)) =
+    (text : Text) × HoldsPlan text × IsNoPlan text told
 SealsFiles HoldsPlan HoldsCertificate (Err (NoCertificate fault)) =
-    (text second : Text) × (plan : Network) × HoldsPlan text × Reads text (Ok plan) × HoldsCertificate second × Unseals plan second fault
+    (text second : Text) × (plan : Network) × HoldsPlan text × Reads text (Ok plan)
+    × HoldsCertificate second
+    × Unseals plan second fault
 SealsFiles HoldsPlan HoldsCertificate (Err (Failed failure)) = Unit {0}
 SealsFiles HoldsPlan HoldsCertificate (Err halt) = ⊥
 
@@ -62,29 +75,40 @@ IsUnopened halt = ⊥
 -- why a word doesn't come to the node of that name in the sealed plan
 abbrev pub IsNotThere : Certified → Text → Halt → Type 0
 IsNotThere sealed name NoNode = NamesNoNode sealed.plan name
-IsNotThere sealed name (NotOpened fault) = (site : Part) × IsPartOf sealed.plan sealed.certificate site × (site.name ≡ name)
+IsNotThere sealed name (NotOpened fault) =
+    (site : Part) × IsPartOf sealed.plan sealed.certificate site × (site.name ≡ name)
 IsNotThere sealed name Memory = Unit {0}
 IsNotThere sealed name halt = ⊥
 
 -- the node's site, by a plan that is sealed so
-pub record IsSiteBy (HoldsPlan HoldsCertificate : Text → Type 0) (name : Text) (sealed : Certified) (site : Part) : Type 0 where
+pub record IsSiteBy (HoldsPlan HoldsCertificate : Text → Type 0) (name : Text) (sealed : Certified)
+    (site : Part) : Type 0 where
   pub by : IsSealedBy HoldsPlan HoldsCertificate sealed
   pub part : IsPartOf sealed.plan sealed.certificate site
   pub named : site.name ≡ name
 
 -- the node's site by such a plan, and a ledger that may be opened for it and is of that site
-pub record IsAt {L : Type 0} (HoldsPlan HoldsCertificate : Text → Type 0) (MayOpen : L → Type 0) (site_of : L → Part) (name : Text) (sealed : Certified) (site : Part) (ledger : L) : Type 0 where
+pub record IsAt {L : Type 0} (HoldsPlan HoldsCertificate : Text → Type 0) (MayOpen : L → Type 0)
+    (site_of : L → Part) (name : Text) (sealed : Certified) (site : Part)
+    (ledger : L) : Type 0 where
   pub at : IsSiteBy HoldsPlan HoldsCertificate name sealed site
   pub opened : MayOpen ledger
   pub of : site_of ledger ≡ site
 
 -- why a word doesn't come to the node of that name
 abbrev pub HaltsAs : (Text → Type 0) → (Text → Type 0) → Text → Halt → Type 0
-HaltsAs HoldsPlan HoldsCertificate name (NoPlan told) = (text : Text) × HoldsPlan text × IsNoPlan text told
+HaltsAs HoldsPlan HoldsCertificate name (NoPlan told) =
+    (text : Text) × HoldsPlan text × IsNoPlan text told
 HaltsAs HoldsPlan HoldsCertificate name (NoCertificate fault) =
-    (text second : Text) × (plan : Network) × HoldsPlan text × Reads text (Ok plan) × HoldsCertificate second × Unseals plan second fault
-HaltsAs HoldsPlan HoldsCertificate name NoNode = (sealed : Certified) × IsSealedBy HoldsPlan HoldsCertificate sealed × NamesNoNode sealed.plan name
-HaltsAs HoldsPlan HoldsCertificate name (NotOpened fault) = (sealed : Certified) × (site : Part) × IsSiteBy HoldsPlan HoldsCertificate name sealed site
+    (text second : Text) × (plan : Network) × HoldsPlan text × Reads text (Ok plan)
+    × HoldsCertificate second
+    × Unseals plan second fault
+HaltsAs HoldsPlan HoldsCertificate name NoNode =
+    (sealed : Certified)
+    × IsSealedBy HoldsPlan HoldsCertificate sealed
+    × NamesNoNode sealed.plan name
+HaltsAs HoldsPlan HoldsCertificate name (NotOpened fault) =
+    (sealed : Certified) × (site : Part) × IsSiteBy HoldsPlan HoldsCertificate name sealed site
 HaltsAs HoldsPlan HoldsCertificate name (NoInstance fault) = ⊥
 HaltsAs HoldsPlan HoldsCertificate name (Refused fault) = ⊥
 HaltsAs HoldsPlan HoldsCertificate name Receipt = ⊥

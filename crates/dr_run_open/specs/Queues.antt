@@ -1,5 +1,6 @@
 -- The rows for a node, counted.
-use Rattle.std.specs.Prelude.{Bool, true, false, ◌≡◌, ◌≤◌, ◌&&◌, ℕ, List, [], All, Contains, cond, filter, filter_map, length, min, Option, None, Some}
+use Rattle.std.specs.Prelude.{Bool, true, false, ◌≡◌, ◌≤◌, ◌&&◌, ℕ, List, [], All, Contains, cond}
+use Rattle.std.specs.Prelude.{filter, filter_map, length, min, Option, None, Some}
 use Rattle.std.specs.Str.{bytes_eq}
 use Rattle.dr_base.specs.Texts.{Text}
 use Rattle.dr_ledger.specs.Pairs.{Pair}

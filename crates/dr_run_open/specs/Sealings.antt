@@ -31,9 +31,16 @@ IsTextOfNone text = HasNone certificate_text IsPrintable text
 
 -- the text is written for no certificate, or the certificate that it is written for has this fault
 abbrev pub IsFaultOf : Network → Text → CertFault → Type 0
-IsFaultOf plan text refused = ((refused ≡ fault.Text) × IsTextOfNone text) ⊎ ((certificate : Certificate) × IsTextOf text certificate × IsRefused plan certificate refused)
+IsFaultOf plan text refused =
+    ((refused ≡ fault.Text) × IsTextOfNone text)
+    ⊎ ((certificate : Certificate) × IsTextOf text certificate × IsRefused plan certificate refused)
 
--- what sealing a plan by a text answers: the plan with the certificate that the text is written for, or a fault of the text
+-- what sealing a plan by a text answers: the plan with the certificate that the text is written
+-- for, or a fault of the text
 abbrev pub SealsText : Network → Text → Result Certified CertFault → Type 0
-SealsText plan text (Ok sealed) = (sealed.plan ≡ plan) × IsTextOf text sealed.certificate × IsSound plan × IsCertificateOf plan sealed.certificate
+SealsText plan text (Ok sealed) =
+    (sealed.plan ≡ plan)
+    × IsTextOf text sealed.certificate
+    × IsSound plan
+    × IsCertificateOf plan sealed.certificate
 SealsText plan text (Err refused) = (refused ≢ fault.Memory) → IsFaultOf plan text refused

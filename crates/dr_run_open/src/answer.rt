@@ -43,7 +43,8 @@ impl PlanAnswer {
     }
 }
 
-/// The words about a fault, or none where there is no memory for them: they are no reason not to name the fault.
+/// The words about a fault, or none where there is no memory for them: they are no reason not to
+/// name the fault.
 pub fn words_or_none(alloc: Global, words: Result<Text, AllocError>) -> Text {
     match words {
         Ok(words) => words,
@@ -63,14 +64,15 @@ pub fn answer_to_fault(alloc: Global, text: &[u8], fault: PlanFault) -> PlanAnsw
     PlanAnswer::NoPlan(fault, words_or_none(alloc, place))
 }
 
-/// Writes the answer: a certificate or the line of a plan that isn't sound to the output; to the faults why there is neither, and what
-/// there is to say to people of what is wrong.
+/// Writes the answer: a certificate or the line of a plan that isn't sound to the output; to the
+/// faults why there is neither, and what there is to say to people of what is wrong.
 pub fn tell_answer<W: Write, E: Write>(
     answer: &PlanAnswer,
     output: &mut W,
     faults: &mut E,
 ) -> io::Result<()>
-    ensures { OnOk result (Appends (W.contents output.old) (W.contents output.new) (printed_for answer.now)) }
+    ensures { OnOk result
+        (Appends (W.contents output.old) (W.contents output.new) (printed_for answer.now)) }
 {
     match answer {
         PlanAnswer::Sound(text) => output.write_all(text.as_bytes()),

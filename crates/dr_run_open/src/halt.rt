@@ -145,7 +145,8 @@ pub fn tell_halt<W: Write, E: Write>(
     output: &mut W,
     faults: &mut E,
 ) -> io::Result<()>
-    ensures { OnOk result (Appends (W.contents output.old) (W.contents output.new) (printed_by halt.now)) }
+    ensures { OnOk result
+        (Appends (W.contents output.old) (W.contents output.new) (printed_by halt.now)) }
 {
     match halt {
         Halt::NoPlan(answer) => tell_answer(answer, output, faults),

@@ -10,8 +10,9 @@ use dr_plan_sound::Hop as Context;
 use dr_site::Site;
 use std::alloc::{AllocError, Global};
 
-/// A node to which this one sends, where it listens, and from which moment on (milliseconds) a row for it is due, as far as the sender
-/// knows: 0 before it has looked, and 2^64 - 1 where none waits.
+/// A node to which this one sends, where it listens, and from which moment on (milliseconds) a row
+/// for it is due, as far as the sender knows: 0 before it has looked, and 2^64 - 1 where none
+/// waits.
 #[derive(Debug, Drop)]
 pub struct NextHop {
     pub dest: Text,
@@ -39,7 +40,8 @@ fn hop_to(node: &Node) -> Result<NextHop, AllocError>
     })
 }
 
-/// The hops of a site: the nodes of the plan to which it sends, in the order of the plan's text, each with its address.
+/// The hops of a site: the nodes of the plan to which it sends, in the order of the plan's text,
+/// each with its address.
 pub fn hops_of(alloc: Global, site: &Site, plan: &Plan) -> Result<Vec<NextHop>, AllocError>
     ensures { IfOk result (λ hops. hops.items ≡ hops_from site.now plan.now.nodes) }
 {

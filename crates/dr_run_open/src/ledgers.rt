@@ -20,7 +20,8 @@ pub enum OpenFault {
     Memory,
 }
 
-/// What opens a node's ledger by a path, or makes an empty one there. Its relation says which ledgers may be opened by a path.
+/// What opens a node's ledger by a path, or makes an empty one there. Its relation says which
+/// ledgers may be opened by a path.
 pub trait Ledgers {
     ghost use Rattle.std.specs.Prelude.{ℕ, List, ◌≡◌, IfOk};
 

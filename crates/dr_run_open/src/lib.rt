@@ -1,12 +1,16 @@
-//! What a running node and the words need to open a node's files and its ledger, and to say what they found.
+//! What a running node and the words need to open a node's files and its ledger, and to say what
+//! they found.
 //!
-//! - `open_node`: a plan, sealed with its certificate, the site of one of its nodes, and the ledger of that node, opened by a `Ledgers`. A
-//!   `Halt` says why a word doesn't come to its work, or was refused there, and `finish` how it ends.
-//! - `plan_of`, `seal_text`: the plan of a text, or the `PlanAnswer` to a text that is none; a plan sealed by the text of its certificate.
+//! - `open_node`: a plan, sealed with its certificate, the site of one of its nodes, and the ledger
+//!   of that node, opened by a `Ledgers`. A `Halt` says why a word doesn't come to its work, or was
+//!   refused there, and `finish` how it ends.
+//! - `plan_of`, `seal_text`: the plan of a text, or the `PlanAnswer` to a text that is none; a plan
+//!   sealed by the text of its certificate.
 //! - `hops_of`, `item_of`: where a node sends; the instance in a Part 10 file.
 //! - `how_many`, `oldest`: of the rows for a node.
 //!
-//! Ledgers are opened by a `Ledgers`, as files are read by a `Files`: what is proved here holds for any of them.
+//! Ledgers are opened by a `Ledgers`, as files are read by a `Files`: what is proved here holds for
+//! any of them.
 #![tactic(auto)]
 
 mod answer;

@@ -1,7 +1,8 @@
 //! A node's plan, certificate, site and ledger, opened one after the other.
 ghost use Rattle.std.specs.Prelude.{◌≡◌, MatchResult};
 ghost use Rattle.dr_site.specs.Parts.{IsPartOf};
-ghost use Rattle.dr_run_open.specs.Openings.{HaltsAs, IsAt, IsNotThere, IsUnopened, Seals, SealsFiles, Sites};
+ghost use Rattle.dr_run_open.specs.Openings.{HaltsAs, IsAt, IsNotThere, IsUnopened, Seals};
+ghost use Rattle.dr_run_open.specs.Openings.{SealsFiles, Sites};
 
 use crate::halt::Halt;
 use crate::ledgers::Ledgers;
@@ -22,7 +23,8 @@ pub struct Opened<L: Ledger + Drop> {
     pub ledger: L,
 }
 
-/// The plan of a text, sealed with the certificate whose text is in a file, which is read only where the first text has a plan.
+/// The plan of a text, sealed with the certificate whose text is in a file, which is read only
+/// where the first text has a plan.
 fn seal_plan<'a, F: Files>(
     alloc: Global,
     files: &F,
@@ -84,7 +86,8 @@ pub fn ledger_of<'a, O: Ledgers>(
     path: &str,
     site: &Site,
 ) -> Result<O::Ledger, Halt<'a>>
-    ensures { MatchResult result (λ l. O.opens ledgers.now path.now l × (O.Ledger.site l ≡ site.now)) IsUnopened }
+    ensures { MatchResult result
+        (λ l. O.opens ledgers.now path.now l × (O.Ledger.site l ≡ site.now)) IsUnopened }
 {
     let own = site.copy()?;
     match ledgers.open(alloc, path, own) {
@@ -100,7 +103,11 @@ fn open_site<'a, O: Ledgers>(
     sealed: &Sealed,
     given: NodeFiles<'a>,
 ) -> Result<(Site, O::Ledger), Halt<'a>>
-    ensures { MatchResult result (λ o. IsPartOf sealed.now.plan sealed.now.certificate o.0 × (o.0.name ≡ given.entry.node.now) × O.opens ledgers.now given.entry.ledger.now o.1 × (O.Ledger.site o.1 ≡ o.0)) (IsNotThere sealed.now given.entry.node.now) }
+    ensures { MatchResult result
+        (λ o. IsPartOf sealed.now.plan sealed.now.certificate o.0
+        × (o.0.name ≡ given.entry.node.now)
+        × O.opens ledgers.now given.entry.ledger.now o.1
+        × (O.Ledger.site o.1 ≡ o.0)) (IsNotThere sealed.now given.entry.node.now) }
 {
     let site = site_of(alloc, sealed, given.node)?;
     match ledger_of(alloc, ledgers, given.ledger, &site) {
@@ -119,7 +126,12 @@ fn open_sealed<'a, O: Ledgers>(
     sealed: Sealed,
     given: NodeFiles<'a>,
 ) -> Result<Opened<O::Ledger>, Halt<'a>>
-    ensures { MatchResult result (λ o. (o.sealed ≡ sealed) × IsPartOf sealed.plan sealed.certificate o.site × (o.site.name ≡ given.entry.node.now) × O.opens ledgers.now given.entry.ledger.now o.ledger × (O.Ledger.site o.ledger ≡ o.site)) (IsNotThere sealed given.entry.node.now) }
+    ensures { MatchResult result
+        (λ o. (o.sealed ≡ sealed)
+        × IsPartOf sealed.plan sealed.certificate o.site
+        × (o.site.name ≡ given.entry.node.now)
+        × O.opens ledgers.now given.entry.ledger.now o.ledger
+        × (O.Ledger.site o.ledger ≡ o.site)) (IsNotThere sealed given.entry.node.now) }
 {
     match open_site(alloc, ledgers, &sealed, given) {
         Ok((site, ledger)) => Ok(Opened {
@@ -134,8 +146,8 @@ fn open_sealed<'a, O: Ledgers>(
     }
 }
 
-/// Opens a node: its plan and certificate are read and tested, then its site is taken, and then its ledger is opened. The first
-/// fault is the answer.
+/// Opens a node: its plan and certificate are read and tested, then its site is taken, and then its
+/// ledger is opened. The first fault is the answer.
 ///
 /// Errors: all but Refused.
 pub fn open_node<'a, F: Files, O: Ledgers>(
@@ -144,7 +156,12 @@ pub fn open_node<'a, F: Files, O: Ledgers>(
     ledgers: &O,
     given: NodeFiles<'a>,
 ) -> Result<Opened<O::Ledger>, Halt<'a>>
-    ensures { MatchResult result (λ o. IsAt (F.holds files.now given.entry.plan.now) (F.holds files.now given.entry.certificate.now) (O.opens ledgers.now given.entry.ledger.now) O.Ledger.site given.entry.node.now o.sealed o.site o.ledger) (HaltsAs (F.holds files.now given.entry.plan.now) (F.holds files.now given.entry.certificate.now) given.entry.node.now) }
+    ensures { MatchResult result
+        (λ o. IsAt (F.holds files.now given.entry.plan.now)
+        (F.holds files.now given.entry.certificate.now) (O.opens ledgers.now given.entry.ledger.now)
+        O.Ledger.site given.entry.node.now o.sealed o.site o.ledger)
+        (HaltsAs (F.holds files.now given.entry.plan.now)
+        (F.holds files.now given.entry.certificate.now) given.entry.node.now) }
 {
     let sealed = seal_files(alloc, files, given.plan, given.certificate)?;
     open_sealed(alloc, ledgers, sealed, given)

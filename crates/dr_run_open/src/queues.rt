@@ -1,6 +1,7 @@
 //! The rows for a node, counted.
 ghost use Rattle.std.specs.Prelude.{◌≡◌};
-ghost use Rattle.dr_run_open.specs.Queues.{IsLeast, due_for, due_of, dues, earlier, how_many, is_queued, is_so};
+ghost use Rattle.dr_run_open.specs.Queues.{IsLeast, due_for, due_of, dues, earlier, how_many};
+ghost use Rattle.dr_run_open.specs.Queues.{is_queued, is_so};
 
 use dr_base::Text;
 use dr_ledger::Progress;

@@ -14,37 +14,56 @@ use Rattle.dr_session.specs.declared.ends.Heard.{Heard}
 use Rattle.dr_session.specs.declared.sessions.SessionFault.{SessionFault}
 use Rattle.dr_session.specs.declared.sessions.SessionFault.TheVariants as fault
 use Rattle.dr_run_serve.specs.declared.visit.Visit.{Visit}
-use Rattle.dr_run_serve.specs.declared.visit.Visit.TheVariants.{Idle, Unreached, Ended as Over, Failed}
+use Rattle.dr_run_serve.specs.declared.visit.Visit.TheVariants.{Idle, Unreached, Ended as Over}
+use Rattle.dr_run_serve.specs.declared.visit.Visit.TheVariants.{Failed}
 
 -- ---- on the desk
 
 module _ {S : Type 0} (step : S → DeskCall → DeskAnswer → S → Type 0) (tells : ℕ → Type 0) where
-  -- the first row that is due for the destination was asked for at some moment that the clock may tell: its uid, if there is one
-  abbrev pub FindsAs : Text → S → Result (Option Text) LedgerFault → S → Result (Option Job) LedgerFault → Type 0
+  -- the first row that is due for the destination was asked for at some moment that the clock may
+  -- tell: its uid, if there is one
+  abbrev pub FindsAs : Text → S
+      → Result (Option Text) LedgerFault
+      → S
+      → Result (Option Job) LedgerFault
+      → Type 0
   FindsAs dest s (Ok None) t due = due ≡ Ok None
   FindsAs dest s (Ok (Some uid)) t due = (job : Job) × (due ≡ Ok (Some job)) × (uid ≡ job.uid)
   FindsAs dest s (Err why) t due = due ≡ Err why
 
   abbrev pub Finds : Text → S → Result (Option Text) LedgerFault → S → Type 0
-  Finds dest s result t = (now : ℕ) × (due : Result (Option Job) LedgerFault) × tells now × step s (Next dest now) (Upcoming due) t × FindsAs dest s result t due
+  Finds dest s result t =
+      (now : ℕ)
+      × (due : Result (Option Job) LedgerFault)
+      × tells now
+      × step s (Next dest now) (Upcoming due) t
+      × FindsAs dest s result t due
 
   -- the row was settled as broken at such a moment; that it isn't waiting any more is no fault
   abbrev pub GivesUp : Text → Text → S → Result (Unit {0}) LedgerFault → S → Type 0
-  GivesUp uid dest s (Ok done) t = (now : ℕ) × (answer : Result (Unit {0}) LedgerFault) × tells now × step s (Settle uid dest Broken now) (Settling answer) t
+  GivesUp uid dest s (Ok done) t =
+      (now : ℕ)
+      × (answer : Result (Unit {0}) LedgerFault)
+      × tells now
+      × step s (Settle uid dest Broken now) (Settling answer) t
       × ((answer ≡ Ok tt) ⊎ (answer ≡ Err refused.NotWaiting))
-  GivesUp uid dest s (Err why) t = (now : ℕ) × tells now × step s (Settle uid dest Broken now) (Settling (Err why)) t
+  GivesUp uid dest s (Err why) t =
+      (now : ℕ) × tells now × step s (Settle uid dest Broken now) (Settling (Err why)) t
 
 -- ---- over a link
 
--- what a session comes to, as a visit tells it; a store that failed and want of memory are faults of the visit
+-- what a session comes to, as a visit tells it; a store that failed and want of memory are faults
+-- of the visit
 abbrev pub IsToldAs : Result Ended SessionFault → Result Visit LedgerFault → Type 0
 IsToldAs (Ok ended) result = result ≡ Ok (Over ended)
 IsToldAs (Err fault.Desk) result = result ≡ Err refused.Store
 IsToldAs (Err fault.Memory) result = result ≡ Err refused.Memory
 IsToldAs (Err why) result = result ≡ Ok (Failed why)
 
-module _ {L S : Type 0} (reaches : Text → L → Type 0) (hears : L → Heard → L → Type 0) (sends : L → List ℕ → Bool → L → Type 0) (closes : L → L → Type 0)
-    (step : S → DeskCall → DeskAnswer → S → Type 0) (tells : ℕ → Type 0) (site : Part) (dest address : Text) where
+module _ {L S : Type 0} (reaches : Text → L → Type 0) (hears : L → Heard → L → Type 0)
+    (sends : L → List ℕ → Bool → L → Type 0) (closes : L → L → Type 0)
+    (step : S → DeskCall → DeskAnswer → S → Type 0) (tells : ℕ → Type 0) (site : Part)
+    (dest address : Text) where
   -- There was no link: the row is given up.
   abbrev pub StaysAway : Text → S → Result Visit LedgerFault → S → Type 0
   StaysAway uid s (Ok (Unreached error)) t = GivesUp step tells uid dest s (Ok tt) t
@@ -53,8 +72,14 @@ module _ {L S : Type 0} (reaches : Text → L → Type 0) (hears : L → Heard �
 
   -- A session over a link to the address, after which nothing is done, or the row is given up.
   abbrev pub Delivers : Text → S → Result Visit LedgerFault → S → Type 0
-  Delivers uid s result t = (link after : L) × (mid : S) × (came : Result Ended SessionFault) × reaches address link × DeliversAs hears sends closes step tells 0 site dest came link s after mid
-      × (((mid ≡ t) × IsToldAs came result) ⊎ (GivesUp step tells uid dest mid (Ok tt) t × IsToldAs came result) ⊎ ((why : LedgerFault) × (result ≡ Err why) × GivesUp step tells uid dest mid (Err why) t))
+  Delivers uid s result t =
+      (link after : L) × (mid : S)
+      × (came : Result Ended SessionFault)
+      × reaches address link
+      × DeliversAs hears sends closes step tells 0 site dest came link s after mid
+      × (((mid ≡ t) × IsToldAs came result)
+      ⊎ (GivesUp step tells uid dest mid (Ok tt) t × IsToldAs came result)
+      ⊎ ((why : LedgerFault) × (result ≡ Err why) × GivesUp step tells uid dest mid (Err why) t))
 
   -- the row, which is due, is sent with all others that are
   abbrev pub SendsDue : Text → S → Result Visit LedgerFault → S → Type 0
@@ -62,6 +87,9 @@ module _ {L S : Type 0} (reaches : Text → L → Type 0) (hears : L → Heard �
 
   -- A visit: nothing is due, or the desk can't tell, or what is due is sent.
   abbrev pub Visits : S → Result Visit LedgerFault → S → Type 0
-  Visits s result t = (Finds step tells dest s (Ok None) t × (result ≡ Ok Idle))
+  Visits s result t =
+      (Finds step tells dest s (Ok None) t × (result ≡ Ok Idle))
       ⊎ ((why : LedgerFault) × Finds step tells dest s (Err why) t × (result ≡ Err why))
-      ⊎ ((uid : Text) × (mid : S) × Finds step tells dest s (Ok (Some uid)) mid × SendsDue uid mid result t)
+      ⊎ ((uid : Text) × (mid : S)
+      × Finds step tells dest s (Ok (Some uid)) mid
+      × SendsDue uid mid result t)

@@ -1,17 +1,21 @@
 //! A node that runs: it serves associations and sends what is due, over any ledger and any network.
 //!
-//! - `serve`: workers serve the associations that others ask for, on a desk that threads share; one thread sends. It visits each
-//!   hop with a due row once a round, and then sleeps until the next row is due or until a worker has made one.
+//! - `serve`: workers serve the associations that others ask for, on a desk that threads share; one
+//!   thread sends. It visits each hop with a due row once a round, and then sleeps until the next
+//!   row is due or until a worker has made one.
 //! - `visit_each`: each hop with a due row is visited once, in order.
-//! - `events`: what is logged of associations, instances and visits. `Monitor`: a log that may want reports of what the node has too.
+//! - `events`: what is logged of associations, instances and visits. `Monitor`: a log that may want
+//!   reports of what the node has too.
 //!
 //! A node whose store is shut (`shutting`) ends: its log says so once, no more connections are
 //! accepted, and those that are served end.
 //!
-//! A visit is one association for each hop (`dr_session::deliver`). Where there is no connection, or the association came to
-//! nothing, the first due row is settled as broken, so that it is due later, and each visit gets on.
+//! A visit is one association for each hop (`dr_session::deliver`). Where there is no connection,
+//! or the association came to nothing, the first due row is settled as broken, so that it is due
+//! later, and each visit gets on.
 //!
-//! That a thread runs, sleeps or is woken in time is claimed by no contract; a node that runs on loopback shows it.
+//! That a thread runs, sleeps or is woken in time is claimed by no contract; a node that runs on
+//! loopback shows it.
 #![tactic(auto)]
 
 mod events;

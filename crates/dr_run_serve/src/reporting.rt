@@ -17,7 +17,8 @@ pub const PERIOD: u64 = 10_000;
 /// And between two summaries in the log.
 const MINUTE: u64 = 60_000;
 
-/// How many lines the journal had when the node was told of last, if it was; and from which moment on it may be told of again.
+/// How many lines the journal had when the node was told of last, if it was; and from which moment
+/// on it may be told of again.
 #[derive(Clone, Copy, PartialEq, Eq, Debug)]
 struct Telling {
     lines: Option<u64>,
@@ -52,7 +53,8 @@ impl LastTold {
     }
 }
 
-/// Logs how much the node has, and for each node to which it sends how many rows are at which stage.
+/// Logs how much the node has, and for each node to which it sends how many rows are at which
+/// stage.
 fn summarize<G: Log>(holdings: &Holdings, hops: &[NextHop], log: &G) {
     tell_holdings(
         log,
@@ -90,7 +92,8 @@ fn report<G: Monitor>(
     monitor.report(alloc, &text)
 }
 
-/// Tells of the node if its journal has grown since it was told of last, and it is time to. A report that couldn't be written is tried again as late as the next.
+/// Tells of the node if its journal has grown since it was told of last, and it is time to. A
+/// report that couldn't be written is tried again as late as the next.
 pub fn report_changes<R: Wait, L: Ledger, B: Sharing, G: Monitor>(
     rt: &R,
     alloc: Global,

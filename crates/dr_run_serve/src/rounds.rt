@@ -28,8 +28,8 @@ const LAST: u64 = 1 << 62;
 /// No sleep is longer, in milliseconds; reports cut it to their period.
 const LONGEST: u64 = 60_000;
 
-/// After a fault of the store, or want of memory, it waits for so many milliseconds; and a hop where not all could be sent is visited again so
-/// many milliseconds later.
+/// After a fault of the store, or want of memory, it waits for so many milliseconds; and a hop
+/// where not all could be sent is visited again so many milliseconds later.
 const PAUSE: u64 = 1_000;
 
 /// From which moment on the first of the rows that wait for the destination is due.
@@ -49,8 +49,9 @@ fn next_due<R: Wait, L: Ledger, B: Sharing>(
     }
 }
 
-/// When a hop, whose first row that waits is due at a moment, is visited again after a visit. Where that didn't end well it isn't at once: it puts one
-/// row off alone, and each of the others would cost a connection.
+/// When a hop, whose first row that waits is due at a moment, is visited again after a visit. Where
+/// that didn't end well it isn't at once: it puts one row off alone, and each of the others would
+/// cost a connection.
 fn again_at(visit: &Visit, due: u64, now: u64) -> u64
     ensures { due ≤ result }
 {
@@ -60,9 +61,9 @@ fn again_at(visit: &Visit, due: u64, now: u64) -> u64
     }
 }
 
-/// Visits a hop, if one of its rows is due; where a worker may have made one, that is looked up. After a
-/// fault it is looked at in the next round, since it isn't known what is due. That the store is
-/// shut is told by who ends the node.
+/// Visits a hop, if one of its rows is due; where a worker may have made one, that is looked up.
+/// After a fault it is looked at in the next round, since it isn't known what is due. That the
+/// store is shut is told by who ends the node.
 ///
 /// Errors: those of a visit.
 fn look<R: Wait, L: Ledger, B: Sharing, N: Network, C: Clock, G: Log>(
@@ -146,8 +147,9 @@ fn sleep_for(hops: &[NextHop], now: u64, all_well: bool) -> u64
     if all_well { sleep } else { PAUSE }
 }
 
-/// Sends what is due, round after round, until no worker is left; then there is one last round. After each it is told what has changed. Where no worker
-/// ever begins, nothing is sent; where the store is shut, nothing more.
+/// Sends what is due, round after round, until no worker is left; then there is one last round.
+/// After each it is told what has changed. Where no worker ever begins, nothing is sent; where the
+/// store is shut, nothing more.
 fn send_rounds<
     R: Wait + time::Clock,
     L: Ledger,

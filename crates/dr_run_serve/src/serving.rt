@@ -35,7 +35,8 @@ const WORKERS: usize = 32;
 /// How many connections wait for one of them; others wait to be accepted.
 const QUEUE: usize = 256;
 
-/// After an accept that failed (no descriptor is free, say) it is tried again so many milliseconds later.
+/// After an accept that failed (no descriptor is free, say) it is tried again so many milliseconds
+/// later.
 const AGAIN: u64 = 100;
 
 /// Why serving ended otherwise than well.
@@ -131,7 +132,8 @@ fn accept_links<
     true
 }
 
-/// Works until the channel is closed and empty. Where the workers can't begin, nobody receives any more.
+/// Works until the channel is closed and empty. Where the workers can't begin, nobody receives any
+/// more.
 fn work<
     R: Threads + Wait + Sync,
     L: Ledger + Drop + Send,
@@ -271,7 +273,8 @@ fn serve_by<
 ) -> Result<L, ServeFault>
     requires { B.all ≡ B.parts }
     ensures begins { IfOk result (λ l. L.stands l → BeginWith B.first (L.book l).lines) }
-    ensures history { IfOk result (λ l. L.stands l → ∥ IsJournalled (site_routing B.site) (L.book l) ∥₁) }
+    ensures history { IfOk result (λ l.
+        L.stands l → ∥ IsJournalled (site_routing B.site) (L.book l) ∥₁) }
     ensures of { IfOk result (λ l. L.site l ≡ B.site) }
 {
     let signal = Signal::new();
@@ -310,7 +313,8 @@ fn serve_shared<
 ) -> Result<L, ServeFault>
     requires { B.all ≡ B.parts }
     ensures begins { IfOk result (λ l. L.stands l → BeginWith B.first (L.book l).lines) }
-    ensures history { IfOk result (λ l. L.stands l → ∥ IsJournalled (site_routing B.site) (L.book l) ∥₁) }
+    ensures history { IfOk result (λ l.
+        L.stands l → ∥ IsJournalled (site_routing B.site) (L.book l) ∥₁) }
     ensures of { IfOk result (λ l. L.site l ≡ B.site) }
 {
     match desk.pass(rt, alloc) {
@@ -333,7 +337,8 @@ fn closed<L: Ledger + Drop, B: Sharing>(
 ) -> Result<L, ServeFault>
     requires { B.all ≡ B.parts }
     ensures begins { IfOk result (λ l. L.stands l → BeginWith B.first (L.book l).lines) }
-    ensures history { IfOk result (λ l. L.stands l → ∥ IsJournalled (site_routing B.site) (L.book l) ∥₁) }
+    ensures history { IfOk result (λ l.
+        L.stands l → ∥ IsJournalled (site_routing B.site) (L.book l) ∥₁) }
     ensures of { IfOk result (λ l. L.site l ≡ B.site) }
 {
     match desk.close(alloc, passes) {
@@ -374,11 +379,13 @@ fn share<
     clock: &C,
     log: &G,
 ) -> Result<L, ServeFault>
-    requires blank { (blank.name ≡ B.name) × (blank.parts ≡ B.parts) × (B.all ≡ B.parts) × (B.all ≡ 65536) }
+    requires blank { (blank.name ≡ B.name) × (blank.parts ≡ B.parts) × (B.all ≡ B.parts)
+        × (B.all ≡ 65536) }
     requires first { B.first ≡ (L.book ledger).lines }
     requires site { (L.site ledger ≡ site) × (B.site ≡ site) }
     ensures begins { IfOk result (λ l. L.stands l → BeginWith B.first (L.book l).lines) }
-    ensures history { IfOk result (λ l. L.stands l → ∥ IsJournalled (site_routing B.site) (L.book l) ∥₁) }
+    ensures history { IfOk result (λ l.
+        L.stands l → ∥ IsJournalled (site_routing B.site) (L.book l) ∥₁) }
     ensures of { IfOk result (λ l. L.site l ≡ B.site) }
 {
     let desk: SharedDesk<L, B> = match SharedDesk::new(Desk::new(ledger), site, blank) {
@@ -391,11 +398,12 @@ fn share<
 
 /// Serves the associations that are asked for at a listener, by 32 workers, and sends what is due,
 /// by one thread: each hop with a due
-/// row is visited once a round. It ends after so many connections (for 0 never), when these are served and one last round is
-/// made, and gives the ledger back: its journal begins with the lines that it had, and is a history of the node's site. Events are
-/// logged as they happen; where reports are wanted, the one who sends writes one at the start, every ten seconds if something has changed, and at the end.
-/// Where the store of the ledger is shut, that is logged once, and serving ends as soon as the
-/// sessions do.
+/// row is visited once a round. It ends after so many connections (for 0 never), when these are
+/// served and one last round is made, and gives the ledger back: its journal begins with the lines
+/// that it had, and is a history of the node's site. Events are logged as they happen; where
+/// reports are wanted, the one who sends writes one at the start, every ten seconds if something
+/// has changed, and at the end. Where the store of the ledger is shut, that is logged once, and
+/// serving ends as soon as the sessions do.
 ///
 /// Errors: Receipt, Store, Memory.
 pub fn serve<
@@ -419,8 +427,10 @@ pub fn serve<
     log: &G,
 ) -> Result<L, ServeFault>
     requires { L.site ledger ≡ site }
-    ensures begins { IfOk result (λ l. L.stands l → BeginWith (L.book ledger).lines (L.book l).lines) }
-    ensures history { IfOk result (λ l. L.stands l → ∥ IsJournalled (site_routing site) (L.book l) ∥₁) }
+    ensures begins { IfOk result (λ l.
+        L.stands l → BeginWith (L.book ledger).lines (L.book l).lines) }
+    ensures history { IfOk result (λ l.
+        L.stands l → ∥ IsJournalled (site_routing site) (L.book l) ∥₁) }
     ensures of { IfOk result (λ l. L.site l ≡ site) }
 {
     share::<R, L, Brand, K, D, N, C, G>(

@@ -48,7 +48,8 @@ impl Signal {
         self.changed.notify_all();
     }
 
-    /// Whether the workers' thread runs; where it doesn't, it waits for so many milliseconds. Where the system gives no thread, it never runs.
+    /// Whether the workers' thread runs; where it doesn't, it waits for so many milliseconds. Where
+    /// the system gives no thread, it never runs.
     pub fn has_begun<R: Wait + Clock>(&self, rt: &R, milliseconds: u64) -> bool {
         let held = self.news.lock(rt);
         let (held, _) = self.changed.wait_timeout_while(
@@ -88,7 +89,8 @@ impl Signal {
         self.changed.notify_all();
     }
 
-    /// What has happened since it was asked last; where nothing has, it waits for so many milliseconds.
+    /// What has happened since it was asked last; where nothing has, it waits for so many
+    /// milliseconds.
     pub fn wait<R: Wait + Clock>(&self, rt: &R, milliseconds: u64) -> News {
         let held = self.news.lock(rt);
         let (mut held, _) = self.changed.wait_timeout_while(

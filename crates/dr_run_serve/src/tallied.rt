@@ -16,7 +16,8 @@ pub trait Tallied: DeskPort {
     fn tally(&self) -> u64;
 }
 
-/// How far a row is after an outcome; None where that can't be read. That a row is done after a success is known.
+/// How far a row is after an outcome; None where that can't be read. That a row is done after a
+/// success is known.
 fn came_of<R: Wait, L: Ledger, B: Sharing>(
     rt: &R,
     desk: &SharedDesk<L, B>,
@@ -50,7 +51,8 @@ impl<L: Ledger> OwnPort<L> {
 }
 
 impl<L: Ledger> DeskPort for OwnPort<L> {
-    ghost step = { λ old call answer new. ⟦<LedgerDesk<L> as DeskPort>⟧.step old.desk call answer new.desk };
+    ghost step = { λ old call answer new.
+        ⟦<LedgerDesk<L> as DeskPort>⟧.step old.desk call answer new.desk };
 
     fn arrive(&mut self, caller: &Text, item: Item) -> Result<Arrived, LedgerFault> {
         let answer = self.desk.arrive(caller, item);
@@ -81,7 +83,8 @@ impl<L: Ledger> Tallied for OwnPort<L> {
     }
 }
 
-/// A shared desk, with the pass of the one who sends. What comes of each row that was sent is logged.
+/// A shared desk, with the pass of the one who sends. What comes of each row that was sent is
+/// logged.
 #[derive(Drop)]
 pub struct SharedPort<'a, R: Wait, L: Ledger, B: Sharing, G: Log> {
     pub rt: &'a R,
@@ -93,7 +96,8 @@ pub struct SharedPort<'a, R: Wait, L: Ledger, B: Sharing, G: Log> {
 impl<'a, R: Wait, L: Ledger, B: Sharing, G: Log> DeskPort for SharedPort<'a, R, L, B, G> {
     ghost use Rattle.dr_desk_workers.specs.Passes.{PassStep};
 
-    ghost step = { λ s call answer t. PassStep call answer s.pass.now.made.count s.pass.now.receipts.items t.pass.now.made.count t.pass.now.receipts.items };
+    ghost step = { λ s call answer t. PassStep call answer s.pass.now.made.count
+        s.pass.now.receipts.items t.pass.now.made.count t.pass.now.receipts.items };
 
     fn arrive(&mut self, caller: &Text, item: Item) -> Result<Arrived, LedgerFault> {
         self.desk.arrive(self.rt, self.pass, caller, item)

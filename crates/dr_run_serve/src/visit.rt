@@ -73,8 +73,9 @@ fn told(came: Result<Ended, SessionFault>) -> Result<Visit, LedgerFault>
     }
 }
 
-/// A visit to a hop of the site, which has a row that is due: all due rows go over one association (at most 65,535). Where there
-/// is no connection, or no row was settled, the first due row is settled as broken.
+/// A visit to a hop of the site, which has a row that is due: all due rows go over one association
+/// (at most 65,535). Where there is no connection, or no row was settled, the first due row is
+/// settled as broken.
 ///
 /// Errors: those of the desk; Store and Memory also where a session ended so.
 fn send_due<N: Network, P: Tallied, C: Clock>(
@@ -87,7 +88,8 @@ fn send_due<N: Network, P: Tallied, C: Clock>(
     port: &mut P,
     clock: &C,
 ) -> Result<Visit, LedgerFault>
-    ensures { SendsDue (N.reaches network.now) N.Socket.hears N.Socket.sends N.Socket.closes P.step (C.tells clock.now) site.now dest.now address.now uid.now port.old result port.new }
+    ensures { SendsDue (N.reaches network.now) N.Socket.hears N.Socket.sends N.Socket.closes P.step
+        (C.tells clock.now) site.now dest.now address.now uid.now port.old result port.new }
 {
     let mut link = match network.connect(alloc, address) {
         Ok(link) => link,
@@ -116,7 +118,8 @@ pub fn visit_hop<N: Network, P: Tallied, C: Clock>(
     port: &mut P,
     clock: &C,
 ) -> Result<Visit, LedgerFault>
-    ensures { Visits (N.reaches network.now) N.Socket.hears N.Socket.sends N.Socket.closes P.step (C.tells clock.now) site.now dest.now address.now port.old result port.new }
+    ensures { Visits (N.reaches network.now) N.Socket.hears N.Socket.sends N.Socket.closes P.step
+        (C.tells clock.now) site.now dest.now address.now port.old result port.new }
 {
     let Some(uid) = first_due(dest, port, clock)? else {
         return Ok(Visit::Idle);

@@ -3,7 +3,8 @@ use Rattle.std.specs.Prelude.{ℕ, ◌+◌, ◌-◌, ◌^◌, min, Result, Ok, E
 use Rattle.dr_ledger.specs.declared.fault.LedgerFault.{LedgerFault}
 use Rattle.dr_ledger.specs.declared.fault.LedgerFault.TheVariants as fault
 
--- The count after a fault: a store that failed counts, whatever its cause, and want of memory doesn't. It stays at its greatest value.
+-- The count after a fault: a store that failed counts, whatever its cause, and want of memory
+-- doesn't. It stays at its greatest value.
 abbrev pub failures_with : LedgerFault → ℕ → ℕ
 failures_with fault.Store n = min (2 ^ 64 - 1) (n + 1)
 failures_with fault.NoLine n = n

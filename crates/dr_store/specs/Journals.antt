@@ -25,9 +25,13 @@ AreByLine goals = IsNonDecreasingBy (λ (goal : Goal). goal.0) goals
 
 -- those goals that are this line's
 abbrev pub AreGoalsOf : List Goal → ℕ → List Goal → Type 0
-AreGoalsOf goals n own = AreByLine goals → ((name : Text) → Contains goals (n, name) → Contains own (n, name)) × ((goal : Goal) → Contains own goal → (goal.0 ≡ n) × Contains goals goal)
+AreGoalsOf goals n own =
+    AreByLine goals
+    → ((name : Text) → Contains goals (n, name) → Contains own (n, name))
+    × ((goal : Goal) → Contains own goal → (goal.0 ≡ n) × Contains goals goal)
 
--- The names of the line's goals in byte order, each once, but for the one that stands for keeping; and whether that is among them.
+-- The names of the line's goals in byte order, each once, but for the one that stands for keeping;
+-- and whether that is among them.
 pub record AreNames (goals : List Goal) (n : ℕ) (to : List Text) (keep : Bool) : Type 0 where
   pub ordered : IsStrictlySortedBy text_cmp to
   pub each : (name : Text) → Contains to name ↔ (Contains goals (n, name) × (is_mark name ≡ false))
@@ -38,17 +42,30 @@ AreTargets goals n to keep = AreByLine goals → AreNames goals n to keep
 
 -- the instance of that uid has this key, and its print this length
 abbrev pub IsKnownBy : List (Text × Key) → List (Text × Print) → Text → Key → ℕ → Type 0
-IsKnownBy keys prints uid key length = IsOfKey keys uid key × ((print : Print) × (T (is_sorted text_cmp prints) → find text_cmp uid prints ≡ Some print) × (print.size ≡ length))
+IsKnownBy keys prints uid key length =
+    IsOfKey keys uid key
+    × ((print : Print)
+    × (T (is_sorted text_cmp prints) → find text_cmp uid prints ≡ Some print)
+    × (print.size ≡ length))
 
 -- the line of a note
 abbrev pub IsEntry : List (Text × Key) → List (Text × Print) → List Goal → ℕ → Note → Entry → Type 0
 IsEntry keys prints goals n (note.Arrival caller uid) line =
-    (key : Key) × (length : ℕ) × (to : List Text) × (keep : Bool) × IsKnownBy keys prints uid key length × AreTargets goals n to keep × (line ≡ entry.Arrival caller uid key length to keep)
-IsEntry keys prints goals n (note.Repeat caller uid) line = (key : Key) × (length : ℕ) × IsKnownBy keys prints uid key length × (line ≡ entry.Repeat caller uid key length)
-IsEntry keys prints goals n (note.Settling uid dest outcome now) line = line ≡ entry.Settling uid dest outcome now
+    (key : Key) × (length : ℕ) × (to : List Text) × (keep : Bool)
+    × IsKnownBy keys prints uid key length
+    × AreTargets goals n to keep
+    × (line ≡ entry.Arrival caller uid key length to keep)
+IsEntry keys prints goals n (note.Repeat caller uid) line =
+    (key : Key) × (length : ℕ)
+    × IsKnownBy keys prints uid key length
+    × (line ≡ entry.Repeat caller uid key length)
+IsEntry keys prints goals n (note.Settling uid dest outcome now) line =
+    line ≡ entry.Settling uid dest outcome now
 IsEntry keys prints goals n (note.Requeuing uid dest) line = line ≡ entry.Requeuing uid dest
 IsEntry keys prints goals n note.Adoption line = line ≡ entry.Adoption
 
 -- the lines of all notes
-abbrev pub AreEntries : List (Text × Key) → List (Text × Print) → List Goal → List (ℕ × Note) → List Entry → Type 0
-AreEntries keys prints goals notes all = AllZip (λ (n : ℕ × Note) line. IsEntry keys prints goals n.0 n.1 line) notes all
+abbrev pub AreEntries : List (Text × Key) → List (Text × Print) → List Goal → List (ℕ × Note)
+    → List Entry → Type 0
+AreEntries keys prints goals notes all =
+    AllZip (λ (n : ℕ × Note) line. IsEntry keys prints goals n.0 n.1 line) notes all

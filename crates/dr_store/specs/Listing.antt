@@ -1,5 +1,6 @@
 -- What is made of whole lists.
-use Rattle.std.specs.Prelude.{◌≡◌, ◌<◌, ◌⊎◌, ℕ, Bool, true, false, T, List, All, length, take, Option, Some, None, Result, Ok, Err}
+use Rattle.std.specs.Prelude.{◌≡◌, ◌<◌, ◌⊎◌, ℕ, Bool, true, false, T, List, All, length, take}
+use Rattle.std.specs.Prelude.{Option, Some, None, Result, Ok, Err}
 use Rattle.std.specs.List.{AllZip, HoldsAt}
 use Rattle.std.specs.declared.cmp.Ordering.{Ordering}
 use Rattle.std.specs.FinMap.{find, is_sorted}
@@ -49,22 +50,37 @@ IsOfKey keys uid key = T (is_sorted text_cmp keys) → find text_cmp uid keys �
 
 -- the row is done, or the next plan goes on with it
 abbrev pub FitsAmong : Network → Text → List (Text × Key) → Pair × Progress → Type 0
-FitsAmong next name keys row = (is_open_at row.1 ≡ false) ⊎ ((key : Key) × (IsOfKey keys row.0.0 key × IsReached next key name row.0.1))
+FitsAmong next name keys row =
+    (is_open_at row.1 ≡ false)
+    ⊎ ((key : Key) × (IsOfKey keys row.0.0 key × IsReached next key name row.0.1))
 
 -- the row isn't done, and the next plan doesn't go on with it
 abbrev pub IsUnfitRow : Network → Text → List (Text × Key) → Pair × Progress → Type 0
-IsUnfitRow next name keys row = (is_open_at row.1 ≡ true) × ((key : Key) × (IsOfKey keys row.0.0 key × (IsReached next key name row.0.1 → ⊥)))
+IsUnfitRow next name keys row =
+    (is_open_at row.1 ≡ true)
+    × ((key : Key) × (IsOfKey keys row.0.0 key × (IsReached next key name row.0.1 → ⊥)))
 
 abbrev pub IsUnfitAmong : Network → Text → List (Text × Key) → Pair × Progress → Bool → Type 0
 IsUnfitAmong next name keys row true = IsUnfitRow next name keys row
 IsUnfitAmong next name keys row false = FitsAmong next name keys row
 
 -- the first unfit row, before which all fit, or that all fit
-abbrev pub UnfitsAmong : Network → Text → List (Pair × Progress) → List (Text × Key) → Option Pair → Type 0
+abbrev pub UnfitsAmong : Network → Text → List (Pair × Progress) → List (Text × Key) → Option Pair
+    → Type 0
 UnfitsAmong next name rows keys None = All (FitsAmong next name keys) rows
-UnfitsAmong next name rows keys (Some at) = (i : ℕ) × ((row : Progress) × ((i < length rows) × (HoldsAt (λ r. r ≡ (at, row)) rows i × (All (FitsAmong next name keys) (take i rows) × IsUnfitRow next name keys (at, row)))))
+UnfitsAmong next name rows keys (Some at) =
+    (i : ℕ)
+    × ((row : Progress)
+    × ((i < length rows)
+    × (HoldsAt (λ r. r ≡ (at, row)) rows i
+    × (All (FitsAmong next name keys) (take i rows) × IsUnfitRow next name keys (at, row)))))
 
 -- where rows and keys were listed, the first unfit one of these
-abbrev pub UnfitsOf : {L : Type 0} → (L → List (Pair × Progress)) → (L → List (Text × Key)) → Network → Text → Result L LedgerFault → Result (Option Pair) LedgerFault → Type 0
-UnfitsOf rows keys next name (Ok listed) result = Reads result (UnfitsAmong next name (rows listed) (keys listed))
+abbrev pub UnfitsOf : {L : Type 0}
+    → (L → List (Pair × Progress))
+    → (L → List (Text × Key)) → Network → Text → Result L LedgerFault
+    → Result (Option Pair) LedgerFault
+    → Type 0
+UnfitsOf rows keys next name (Ok listed) result =
+    Reads result (UnfitsAmong next name (rows listed) (keys listed))
 UnfitsOf rows keys next name (Err why) result = result ≡ Err why

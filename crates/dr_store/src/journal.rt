@@ -1,5 +1,6 @@
 //! The lines of the journal, as they are shown.
-ghost use Rattle.std.specs.Prelude.{◌≡◌, ◌++◌, ◌∷◌, [], ℕ, cond, false, not, filter, IfOk, OnOk, true, map as mapped};
+ghost use Rattle.std.specs.Prelude.{◌≡◌, ◌++◌, ◌∷◌, [], ℕ, cond, false, not, filter, IfOk, OnOk};
+ghost use Rattle.std.specs.Prelude.{true, map as mapped};
 ghost use Rattle.std.specs.FinMap as map;
 ghost use Rattle.std.specs.List.{list_any};
 ghost use Rattle.std.specs.List.Sorted.{IsStrictlySortedBy};
@@ -10,7 +11,8 @@ ghost use Rattle.dr_ledger.specs.Replies.{Reads, entry_of};
 ghost use Rattle.dr_store_schema.specs.Books.{lines_of};
 ghost use Rattle.dr_store_lists.specs.Lists.{IsJournal, keys_of, whole_prints_of};
 ghost use Rattle.dr_store_calls.specs.Calling.{Looked};
-ghost use Rattle.dr_store.specs.Journals.{AreEntries, AreGoalsOf, AreTargets, IsEntry, IsKnownBy, is_mark};
+ghost use Rattle.dr_store.specs.Journals.{AreEntries, AreGoalsOf, AreTargets, IsEntry, IsKnownBy};
+ghost use Rattle.dr_store.specs.Journals.{is_mark};
 
 use crate::lookup::get;
 use dr_base::{Seq, Text};
@@ -55,7 +57,8 @@ fn push_name(to: &mut Seq<Text>, name: &Text) -> Result<(), AllocError>
 
 /// The destinations of a line's goals.
 fn names_of(alloc: Global, goals: &[(u64, Text)]) -> Result<Seq<Text>, AllocError>
-    ensures { IfOk result (λ to. to ≡ mapped (λ goal. goal.1) (filter (λ goal. not (is_mark goal.1)) goals.now)) }
+    ensures { IfOk result (λ to.
+        to ≡ mapped (λ goal. goal.1) (filter (λ goal. not (is_mark goal.1)) goals.now)) }
 {
     let mut to = Seq::new(alloc);
     for goal in goals {
@@ -133,7 +136,8 @@ fn arrival_line(
     known: (Key, u64),
     targets: (Seq<Text>, bool),
 ) -> Result<Entry, AllocError>
-    ensures { IfOk result (λ line. line ≡ Entry.Arrival caller.now uid.now known.0 known.1 targets.0 targets.1) }
+    ensures { IfOk result (λ line.
+        line ≡ Entry.Arrival caller.now uid.now known.0 known.1 targets.0 targets.1) }
 {
     let caller = caller.clone()?;
     let uid = uid.clone()?;
@@ -159,7 +163,8 @@ fn arrival_of_note(
     prints: &[(Text, Print)],
     goals: &[(u64, Text)],
 ) -> Result<Entry, LedgerFault>
-    ensures { Reads result (IsEntry keys.now prints.now goals.now n (Note.Arrival caller.now uid.now)) }
+    ensures { Reads result
+        (IsEntry keys.now prints.now goals.now n (Note.Arrival caller.now uid.now)) }
 {
     let known = known_of(keys, prints, uid)?;
     let targets = targets_of(alloc, goals, n)?;
@@ -251,8 +256,12 @@ fn list_by_prints<S: Alter>(
     keys: &[(Text, Key)],
     prints: &[(Text, Print)],
 ) -> Result<Seq<Entry>, LedgerFault>
-    ensures looked { (n : ℕ) (part : Part) → Looked n part result (state S.Store conn.old) (state S.Store conn.new)
-        (λ base all. IsJournal base notes.now → keys.now ≡ map.entries (keys_of base) → prints.now ≡ map.entries (whole_prints_of base) → all ≡ mapped entry_of (lines_of base)) }
+    ensures looked { (n : ℕ) (part : Part)
+        → Looked n part result (state S.Store conn.old) (state S.Store conn.new)
+        (λ base all. IsJournal base notes.now
+        → keys.now ≡ map.entries (keys_of base)
+        → prints.now ≡ map.entries (whole_prints_of base)
+        → all ≡ mapped entry_of (lines_of base)) }
     ensures idle { conn.old.in_transaction ≡ false → conn.new.in_transaction ≡ false }
 {
     match all_targets(conn, alloc) {
@@ -267,8 +276,11 @@ fn list_by_keys<S: Alter>(
     notes: &[(u64, Note)],
     keys: &[(Text, Key)],
 ) -> Result<Seq<Entry>, LedgerFault>
-    ensures looked { (n : ℕ) (part : Part) → Looked n part result (state S.Store conn.old) (state S.Store conn.new)
-        (λ base all. IsJournal base notes.now → keys.now ≡ map.entries (keys_of base) → all ≡ mapped entry_of (lines_of base)) }
+    ensures looked { (n : ℕ) (part : Part)
+        → Looked n part result (state S.Store conn.old) (state S.Store conn.new)
+        (λ base all. IsJournal base notes.now
+        → keys.now ≡ map.entries (keys_of base)
+        → all ≡ mapped entry_of (lines_of base)) }
     ensures idle { conn.old.in_transaction ≡ false → conn.new.in_transaction ≡ false }
 {
     match all_prints(conn, alloc) {
@@ -282,7 +294,9 @@ fn list_by_notes<S: Alter>(
     alloc: Global,
     notes: &[(u64, Note)],
 ) -> Result<Seq<Entry>, LedgerFault>
-    ensures looked { (n : ℕ) (part : Part) → Looked n part result (state S.Store conn.old) (state S.Store conn.new) (λ base all. IsJournal base notes.now → all ≡ mapped entry_of (lines_of base)) }
+    ensures looked { (n : ℕ) (part : Part)
+        → Looked n part result (state S.Store conn.old) (state S.Store conn.new)
+        (λ base all. IsJournal base notes.now → all ≡ mapped entry_of (lines_of base)) }
     ensures idle { conn.old.in_transaction ≡ false → conn.new.in_transaction ≡ false }
 {
     match all_keys(conn, alloc) {
@@ -296,7 +310,9 @@ pub fn list_lines<S: Alter>(
     conn: &mut Connection<S>,
     alloc: Global,
 ) -> Result<Seq<Entry>, LedgerFault>
-    ensures looked { (n : ℕ) (part : Part) → Looked n part result (state S.Store conn.old) (state S.Store conn.new) (λ base all. all ≡ mapped entry_of (lines_of base)) }
+    ensures looked { (n : ℕ) (part : Part)
+        → Looked n part result (state S.Store conn.old) (state S.Store conn.new) (λ base all.
+        all ≡ mapped entry_of (lines_of base)) }
     ensures idle { conn.old.in_transaction ≡ false → conn.new.in_transaction ≡ false }
 {
     match all_notes(conn, alloc) {

@@ -39,7 +39,8 @@ pub struct SqlLedger<S: Alter> {
 }
 
 impl<S: Alter> SqlLedger<S> {
-    /// The ledger of this site, over a connection to its tables; the number of its next line is `next`.
+    /// The ledger of this site, over a connection to its tables; the number of its next line is
+    /// `next`.
     pub fn of(alloc: Global, conn: Connection<S>, site: Site, next: u64) -> SqlLedger<S>
         requires idle { conn.in_transaction ≡ false }
         requires kept { IsSafe (state S.Store conn) → ∥ IsKept next site (state S.Store conn) ∥₁ }
@@ -74,7 +75,9 @@ impl<S: Alter> SqlLedger<S> {
     /// Takes an item from a caller, as `Ledger::arrive` says, and survives a crash at any moment.
     pub fn arrive_in(&mut self, caller: &Text, item: Item) -> Result<Arrived, LedgerFault>
         ensures wrote { Wrote result (state S.Store self.old.conn) (state S.Store self.new.conn)
-            (λ base db. Arrives (site_routing self.old.site) caller.now (instance_of item) (book_of base) result (book_of db) × OnlyTakes item (bodies_of base) (bodies_of db))
+            (λ base db. Arrives (site_routing self.old.site) caller.now (instance_of item)
+            (book_of base) result (book_of db)
+            × OnlyTakes item (bodies_of base) (bodies_of db))
             (IsAccepted self.old.site caller.now (instance_of item)) }
         ensures counted { self.new.failures ≡ failures_after result self.old.failures }
         ensures counts { Counts result self.old.failures self.new.failures }
@@ -103,7 +106,8 @@ impl<S: Alter> SqlLedger<S> {
     ) -> Result<(), LedgerFault>
         requires { now ≤ 2 ^ 62 }
         ensures wrote { Wrote result (state S.Store self.old.conn) (state S.Store self.new.conn)
-            (λ base db. Settles uid.now dest.now outcome now (book_of base) result (book_of db) × OnlyLetsGo (bodies_of base) (bodies_of db))
+            (λ base db. Settles uid.now dest.now outcome now (book_of base) result (book_of db)
+            × OnlyLetsGo (bodies_of base) (bodies_of db))
             (λ old new. Settles uid.now dest.now outcome now old (Ok tt) new) }
         ensures counted { self.new.failures ≡ failures_after result self.old.failures }
         ensures counts { Counts result self.old.failures self.new.failures }
@@ -118,7 +122,8 @@ impl<S: Alter> SqlLedger<S> {
     /// Queues a held row again, as `Ledger::requeue` says, and survives a crash at any moment.
     pub fn requeue_in(&mut self, uid: &Text, dest: &Text) -> Result<(), LedgerFault>
         ensures wrote { Wrote result (state S.Store self.old.conn) (state S.Store self.new.conn)
-            (λ base db. Requeues uid.now dest.now (book_of base) result (book_of db) × OnlyLetsGo (bodies_of base) (bodies_of db))
+            (λ base db. Requeues uid.now dest.now (book_of base) result (book_of db)
+            × OnlyLetsGo (bodies_of base) (bodies_of db))
             (λ old new. Requeues uid.now dest.now old (Ok tt) new) }
         ensures counted { self.new.failures ≡ failures_after result self.old.failures }
         ensures counts { Counts result self.old.failures self.new.failures }
@@ -130,10 +135,12 @@ impl<S: Alter> SqlLedger<S> {
         answer
     }
 
-    /// Adopts the plan of the next site of its node, as `Ledger::adopt` says, and survives a crash at any moment.
+    /// Adopts the plan of the next site of its node, as `Ledger::adopt` says, and survives a crash
+    /// at any moment.
     pub fn adopt_in(&mut self, own: Site) -> Result<(), LedgerFault>
         ensures wrote { Wrote result (state S.Store self.old.conn) (state S.Store self.new.conn)
-            (λ base db. Adopting (book_of base) result (book_of db) × OnlyLetsGo (bodies_of base) (bodies_of db))
+            (λ base db. Adopting (book_of base) result (book_of db)
+            × OnlyLetsGo (bodies_of base) (bodies_of db))
             (λ old new. Adopting old (Ok tt) new) }
         ensures counted { self.new.failures ≡ failures_after result self.old.failures }
         ensures counts { Counts result self.old.failures self.new.failures }

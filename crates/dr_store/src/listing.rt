@@ -10,7 +10,8 @@ ghost use Rattle.dr_ledger.specs.Replies.{AreKept, Lists, Reads};
 ghost use Rattle.dr_store_schema.specs.Books.{all_kept_in, arrivals_in, book_of, rows_of};
 ghost use Rattle.dr_store_calls.specs.Calling.{Looked};
 ghost use Rattle.dr_store_lists.specs.Lists.{keys_of, whole_prints_of};
-ghost use Rattle.dr_store.specs.Listing.{AreSized, IsSized, IsUnfitAmong, UnfitsAmong, UnfitsOf, is_open_at};
+ghost use Rattle.dr_store.specs.Listing.{AreSized, IsSized, IsUnfitAmong, UnfitsAmong, UnfitsOf};
+ghost use Rattle.dr_store.specs.Listing.{is_open_at};
 
 use crate::lookup::get;
 use dr_base::{Seq, Text};
@@ -27,7 +28,9 @@ pub fn list_arrivals<S: Alter>(
     conn: &mut Connection<S>,
     alloc: Global,
 ) -> Result<Seq<(Text, Text)>, LedgerFault>
-    ensures looked { (n : ℕ) (part : Part) → Looked n part result (state S.Store conn.old) (state S.Store conn.new) (λ base all. Lists pair_cmp (arrivals_in (base 5)) all) }
+    ensures looked { (n : ℕ) (part : Part)
+        → Looked n part result (state S.Store conn.old) (state S.Store conn.new) (λ base all.
+        Lists pair_cmp (arrivals_in (base 5)) all) }
     ensures idle { conn.old.in_transaction ≡ false → conn.new.in_transaction ≡ false }
 {
     match all_arrivals(conn, alloc) {
@@ -36,12 +39,15 @@ pub fn list_arrivals<S: Alter>(
     }
 }
 
-/// How far each uid is on its way to each destination, in byte order of the uid, then of the destination.
+/// How far each uid is on its way to each destination, in byte order of the uid, then of the
+/// destination.
 pub fn list_rows<S: Alter>(
     conn: &mut Connection<S>,
     alloc: Global,
 ) -> Result<Seq<((Text, Text), Progress)>, LedgerFault>
-    ensures looked { (n : ℕ) (part : Part) → Looked n part result (state S.Store conn.old) (state S.Store conn.new) (λ base all. all ≡ map.entries (rows_of base)) }
+    ensures looked { (n : ℕ) (part : Part)
+        → Looked n part result (state S.Store conn.old) (state S.Store conn.new) (λ base all.
+        all ≡ map.entries (rows_of base)) }
     ensures idle { conn.old.in_transaction ≡ false → conn.new.in_transaction ≡ false }
 {
     match all_rows(conn, alloc) {
@@ -84,7 +90,9 @@ fn list_sizes<S: Alter>(
     alloc: Global,
     kept: &[Text],
 ) -> Result<Seq<(Text, u64)>, LedgerFault>
-    ensures looked { (n : ℕ) (part : Part) → Looked n part result (state S.Store conn.old) (state S.Store conn.new) (λ base all. Lists text_cmp (all_kept_in (base 7)) kept.now → AreKept (book_of base) all) }
+    ensures looked { (n : ℕ) (part : Part)
+        → Looked n part result (state S.Store conn.old) (state S.Store conn.new)
+        (λ base all. Lists text_cmp (all_kept_in (base 7)) kept.now → AreKept (book_of base) all) }
     ensures idle { conn.old.in_transaction ≡ false → conn.new.in_transaction ≡ false }
 {
     match all_prints(conn, alloc) {
@@ -98,7 +106,9 @@ pub fn list_kept<S: Alter>(
     conn: &mut Connection<S>,
     alloc: Global,
 ) -> Result<Seq<(Text, u64)>, LedgerFault>
-    ensures looked { (n : ℕ) (part : Part) → Looked n part result (state S.Store conn.old) (state S.Store conn.new) (λ base all. AreKept (book_of base) all) }
+    ensures looked { (n : ℕ) (part : Part)
+        → Looked n part result (state S.Store conn.old) (state S.Store conn.new)
+        (λ base all. AreKept (book_of base) all) }
     ensures idle { conn.old.in_transaction ≡ false → conn.new.in_transaction ≡ false }
 {
     match all_kept(conn, alloc) {
@@ -118,7 +128,9 @@ fn with_keys<S: Alter>(
     alloc: Global,
     rows: Vec<((Text, Text), Progress)>,
 ) -> Result<RowsAndKeys, LedgerFault>
-    ensures looked { (n : ℕ) (part : Part) → Looked n part result (state S.Store conn.old) (state S.Store conn.new) (λ base both. (both.0.items ≡ rows.items) × (both.1.items ≡ map.entries (keys_of base))) }
+    ensures looked { (n : ℕ) (part : Part)
+        → Looked n part result (state S.Store conn.old) (state S.Store conn.new)
+        (λ base both. (both.0.items ≡ rows.items) × (both.1.items ≡ map.entries (keys_of base))) }
     ensures idle { conn.old.in_transaction ≡ false → conn.new.in_transaction ≡ false }
 {
     match all_keys(conn, alloc) {
@@ -132,7 +144,10 @@ pub fn list_rows_and_keys<S: Alter>(
     conn: &mut Connection<S>,
     alloc: Global,
 ) -> Result<RowsAndKeys, LedgerFault>
-    ensures looked { (n : ℕ) (part : Part) → Looked n part result (state S.Store conn.old) (state S.Store conn.new) (λ base both. (both.0.items ≡ map.entries (rows_of base)) × (both.1.items ≡ map.entries (keys_of base))) }
+    ensures looked { (n : ℕ) (part : Part)
+        → Looked n part result (state S.Store conn.old) (state S.Store conn.new)
+        (λ base both.
+        (both.0.items ≡ map.entries (rows_of base)) × (both.1.items ≡ map.entries (keys_of base))) }
     ensures idle { conn.old.in_transaction ≡ false → conn.new.in_transaction ≡ false }
 {
     match all_rows(conn, alloc) {
@@ -191,13 +206,16 @@ fn unfit_among(
     Ok(None)
 }
 
-/// The first row that isn't done and that the next plan doesn't go on with, among those that were listed.
+/// The first row that isn't done and that the next plan doesn't go on with, among those that were
+/// listed.
 pub fn first_unfit(
     next: &Sealed,
     name: &Text,
     listed: Result<RowsAndKeys, LedgerFault>,
 ) -> Result<Option<(Text, Text)>, LedgerFault>
-    ensures { UnfitsOf (λ both. both.0.items) (λ both. both.1.items) next.now.plan name.now listed result }
+    ensures { UnfitsOf
+        (λ both. both.0.items)
+        (λ both. both.1.items) next.now.plan name.now listed result }
 {
     match listed {
         Ok(both) => unfit_among(next, name, both.0.as_slice(), both.1.as_slice()),

@@ -14,7 +14,8 @@ fn place<K: Ord, V>(entries: &[(K, V)], key: &K) -> Result<usize, usize>
 
 /// The value at the key, where keys rise.
 pub fn get<'a, K: Ord, V>(entries: &'a [(K, V)], key: &K) -> Option<&'a V>
-    ensures { IfSome result (λ value. T (is_sorted K.cmp entries.now) → find K.cmp key.now entries.now ≡ Some value.now) }
+    ensures { IfSome result (λ value.
+        T (is_sorted K.cmp entries.now) → find K.cmp key.now entries.now ≡ Some value.now) }
 {
     match place(entries, key) {
         Ok(at) => Some(&entries[at].1),

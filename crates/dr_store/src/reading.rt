@@ -26,7 +26,9 @@ pub fn has_item<S: Alter>(
     alloc: Global,
     uid: &Text,
 ) -> Result<bool, LedgerFault>
-    ensures looked { (n : ℕ) (part : Part) → Looked n part result (state S.Store conn.old) (state S.Store conn.new) (λ base there. there ≡ map.contains_key (items_of base) uid.now) }
+    ensures looked { (n : ℕ) (part : Part)
+        → Looked n part result (state S.Store conn.old) (state S.Store conn.new)
+        (λ base there. there ≡ map.contains_key (items_of base) uid.now) }
     ensures idle { conn.old.in_transaction ≡ false → conn.new.in_transaction ≡ false }
 {
     match find_key(conn, alloc, uid) {
@@ -41,7 +43,9 @@ pub fn has_data_set<S: Alter>(
     alloc: Global,
     uid: &Text,
 ) -> Result<bool, LedgerFault>
-    ensures looked { (n : ℕ) (part : Part) → Looked n part result (state S.Store conn.old) (state S.Store conn.new) (λ base there. there ≡ map.contains_key (bodies_of base) uid.now) }
+    ensures looked { (n : ℕ) (part : Part)
+        → Looked n part result (state S.Store conn.old) (state S.Store conn.new)
+        (λ base there. there ≡ map.contains_key (bodies_of base) uid.now) }
     ensures idle { conn.old.in_transaction ≡ false → conn.new.in_transaction ≡ false }
 {
     match find_item(conn, alloc, uid) {
@@ -57,7 +61,9 @@ fn job_of<S: Alter>(
     alloc: Global,
     uid: &Text,
 ) -> Result<Option<Job>, LedgerFault>
-    ensures looked { (n : ℕ) (part : Part) → Looked n part result (state S.Store conn.old) (state S.Store conn.new) (λ base job. IsWholeJob uid.now base job) }
+    ensures looked { (n : ℕ) (part : Part)
+        → Looked n part result (state S.Store conn.old) (state S.Store conn.new)
+        (λ base job. IsWholeJob uid.now base job) }
     ensures idle { conn.old.in_transaction ≡ false → conn.new.in_transaction ≡ false }
 {
     match find_job(conn, alloc, uid) {
@@ -67,15 +73,17 @@ fn job_of<S: Alter>(
     }
 }
 
-/// What the first row for the destination, by (due, uid), that waits and is due at the moment `now` (milliseconds) is about, with its data
-/// set.
+/// What the first row for the destination, by (due, uid), that waits and is due at the moment `now`
+/// (milliseconds) is about, with its data set.
 pub fn next_job<S: Alter>(
     conn: &mut Connection<S>,
     alloc: Global,
     dest: &Text,
     now: u64,
 ) -> Result<Option<Job>, LedgerFault>
-    ensures looked { (n : ℕ) (part : Part) → Looked n part result (state S.Store conn.old) (state S.Store conn.new) (λ base job. NextsWith (book_of base) (bodies_of base) dest.now now job) }
+    ensures looked { (n : ℕ) (part : Part)
+        → Looked n part result (state S.Store conn.old) (state S.Store conn.new)
+        (λ base job. NextsWith (book_of base) (bodies_of base) dest.now now job) }
     ensures idle { conn.old.in_transaction ≡ false → conn.new.in_transaction ≡ false }
 {
     match find_next(conn, alloc, dest, now) {
@@ -105,7 +113,11 @@ fn admit_instance<S: Alter>(
     item: &Instance,
 ) -> Result<(), LedgerFault>
     requires { HasLineFor site.now caller.now item.now.key }
-    ensures called { (n : ℕ) → Called n n site.now result (state S.Store conn.old) (state S.Store conn.new) Nothing (λ base db. (db ≡ base) × Admits (site_routing site.now) caller.now item.now (book_of base) result) (λ base db. ⊥) }
+    ensures called { (n : ℕ)
+        → Called n n site.now result (state S.Store conn.old) (state S.Store conn.new) Nothing
+        (λ base db.
+        (db ≡ base) × Admits (site_routing site.now) caller.now item.now (book_of base) result)
+        (λ base db. ⊥) }
     ensures idle { conn.old.in_transaction ≡ false → conn.new.in_transaction ≡ false }
 {
     match know(conn, alloc, item) {
@@ -114,7 +126,8 @@ fn admit_instance<S: Alter>(
     }
 }
 
-/// Whether the item would be taken from the caller: NoLine or Conflict where an arrival would be refused so.
+/// Whether the item would be taken from the caller: NoLine or Conflict where an arrival would be
+/// refused so.
 pub fn admit<S: Alter>(
     conn: &mut Connection<S>,
     alloc: Global,
@@ -122,7 +135,11 @@ pub fn admit<S: Alter>(
     caller: &Text,
     item: &Item,
 ) -> Result<(), LedgerFault>
-    ensures called { (n : ℕ) → Called n n site.now result (state S.Store conn.old) (state S.Store conn.new) Nothing (λ base db. (db ≡ base) × Admits (site_routing site.now) caller.now (instance_of item.now) (book_of base) result) (λ base db. ⊥) }
+    ensures called { (n : ℕ)
+        → Called n n site.now result (state S.Store conn.old) (state S.Store conn.new) Nothing
+        (λ base db. (db ≡ base)
+        × Admits (site_routing site.now) caller.now (instance_of item.now) (book_of base) result)
+        (λ base db. ⊥) }
     ensures idle { conn.old.in_transaction ≡ false → conn.new.in_transaction ≡ false }
 {
     if !site.has_line(caller, item.key()) {

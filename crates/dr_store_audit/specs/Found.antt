@@ -14,11 +14,14 @@ use Rattle.dr_ledger.specs.SiteRoutes.{site_routing}
 use Rattle.dr_store_schema.specs.Books.{all_kept_in, arrivals_in, bodies_of, book_of, rows_of}
 use Rattle.dr_store_reads.specs.declared.finding.Print.{Print}
 use Rattle.dr_store_lists.specs.declared.listing.Note.{Note}
-use Rattle.dr_store_lists.specs.Lists.{Goal, IsJournal, goal_cmp, goals_of, keys_of, whole_prints_of}
+use Rattle.dr_store_lists.specs.Lists.{Goal, IsJournal, goal_cmp, goals_of, keys_of}
+use Rattle.dr_store_lists.specs.Lists.{whole_prints_of}
 use Rattle.dr_store_changes.specs.Bringing.{AreJoined}
 
 -- the lists of all tables but site
-pub record AreListsOf (db : Trees) (keys : List (Text × Key)) (prints : List (Text × Print)) (arrivals : List Pair) (kept : List Text) (rows : List (Pair × Progress)) (notes : List (ℕ × Note)) (goals : List Goal) : Type 0 where
+pub record AreListsOf (db : Trees) (keys : List (Text × Key)) (prints : List (Text × Print))
+    (arrivals : List Pair) (kept : List Text) (rows : List (Pair × Progress))
+    (notes : List (ℕ × Note)) (goals : List Goal) : Type 0 where
   pub keys_are : keys ≡ map.entries (keys_of db)
   pub prints_are : prints ≡ map.entries (whole_prints_of db)
   pub arrivals_are : Lists pair_cmp (arrivals_in (db 5)) arrivals
@@ -27,8 +30,10 @@ pub record AreListsOf (db : Trees) (keys : List (Text × Key)) (prints : List (T
   pub notes_are : IsJournal db notes
   pub goals_are : Lists goal_cmp (goals_of db) goals
 
--- The tables are those of a ledger of that site, whose next line has number n, but for what their data sets are.
+-- The tables are those of a ledger of that site, whose next line has number n, but for what their
+-- data sets are.
 pub record IsFound (n : ℕ) (part : Part) (db : Trees) : Type 0 where
   pub joined : AreJoined n db
   pub journalled : IsJournalled (site_routing part) (book_of db)
-  pub there : (uid : Text) → ((body : List ℕ) × (map.get (bodies_of db) uid ≡ Some body)) ↔ IsNeeded (book_of db) uid
+  pub there : (uid : Text)
+      → ((body : List ℕ) × (map.get (bodies_of db) uid ≡ Some body)) ↔ IsNeeded (book_of db) uid

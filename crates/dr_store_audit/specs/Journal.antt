@@ -10,10 +10,15 @@ use Rattle.dr_store_lists.specs.declared.listing.Note.{Note}
 use Rattle.dr_store_lists.specs.declared.listing.Note.TheVariants as note
 use Rattle.dr_store_audit.specs.Goals.{keep_of, to_of}
 
--- the line of a note with that number: the instance of an arrival is there, and a first one goes on to its goals
+-- the line of a note with that number: the instance of an arrival is there, and a first one goes on
+-- to its goals
 abbrev pub IsLineOf : FinMap text_cmp Instance → List Goal → ℕ → Note → Line → Type 0
-IsLineOf items goals n (note.Arrival caller uid) line = (i : Instance) × (map.get items uid ≡ Some i) × (line ≡ Arrival caller i (to_of goals n) (keep_of goals n))
-IsLineOf items goals n (note.Repeat caller uid) line = (i : Instance) × (map.get items uid ≡ Some i) × (line ≡ Repeat caller i)
+IsLineOf items goals n (note.Arrival caller uid) line =
+    (i : Instance)
+    × (map.get items uid ≡ Some i)
+    × (line ≡ Arrival caller i (to_of goals n) (keep_of goals n))
+IsLineOf items goals n (note.Repeat caller uid) line =
+    (i : Instance) × (map.get items uid ≡ Some i) × (line ≡ Repeat caller i)
 IsLineOf items goals n (note.Settling uid dest what now) line = line ≡ Settling uid dest what now
 IsLineOf items goals n (note.Requeuing uid dest) line = line ≡ Requeuing uid dest
 IsLineOf items goals n note.Adoption line = line ≡ Adoption
@@ -23,7 +28,8 @@ abbrev pub AreLinesOf : FinMap text_cmp Instance → List Goal → List (ℕ × 
 AreLinesOf items goals [] [] = Unit {0}
 AreLinesOf items goals [] (line ∷ lines) = ⊥
 AreLinesOf items goals (e ∷ notes) [] = ⊥
-AreLinesOf items goals (e ∷ notes) (line ∷ lines) = IsLineOf items goals e.0 e.1 line × AreLinesOf items goals notes lines
+AreLinesOf items goals (e ∷ notes) (line ∷ lines) =
+    IsLineOf items goals e.0 e.1 line × AreLinesOf items goals notes lines
 
 -- the numbers count up from this one
 abbrev pub CountUp : ℕ → List (ℕ × Note) → Type 0

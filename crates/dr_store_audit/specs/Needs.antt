@@ -7,4 +7,5 @@ use Rattle.dr_ledger.specs.Pairs.{Pair}
 
 -- a row of the uid isn't done
 abbrev pub IsOpenIn : List (Pair × Progress) → Text → Type 0
-IsOpenIn rows uid = (dest : Text) × (row : Progress) × Contains rows ((uid, dest), row) × (row ≢ Done)
+IsOpenIn rows uid =
+    (dest : Text) × (row : Progress) × Contains rows ((uid, dest), row) × (row ≢ Done)

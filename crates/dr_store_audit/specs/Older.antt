@@ -1,10 +1,12 @@
 -- Files from before: the tables of a ledger, less those that came later.
-use Rattle.std.specs.Prelude.{◌≡◌, ◌≢◌, ◌||◌, ◌-◌, ℕ, Bool, true, false, IsTrue, List, [], ◌∷◌, map as mapped}
+use Rattle.std.specs.Prelude.{◌≡◌, ◌≢◌, ◌||◌, ◌-◌, ℕ, Bool, true, false, IsTrue, List, [], ◌∷◌}
+use Rattle.std.specs.Prelude.{map as mapped}
 use Rattle.sqlite.specs.Change.{created, indexed}
 use Rattle.sqlite.specs.Schema.{Schema}
 use Rattle.sqlite.specs.Table.{Table}
 use Rattle.sqlite_schema.specs.declared.schema.Index.{Index}
-use Rattle.dr_store_schema.specs.Tables.{arrival, item, journal, kept, print, queue, queue_due, site, tables, target}
+use Rattle.dr_store_schema.specs.Tables.{arrival, item, journal, kept, print, queue, queue_due}
+use Rattle.dr_store_schema.specs.Tables.{site, tables, target}
 use Rattle.dr_store_audit.specs.declared.older.Lacks.{Lacks}
 
 abbrev pub created_unless : Bool → Schema → Table → Schema
@@ -23,8 +25,10 @@ behind false tree = tree
 -- the same tables, less those
 abbrev pub older_tables : Lacks → Schema
 older_tables lacks =
-    let stock = created_unless lacks.print (created (created (record { tables = []; indexes = []; views = [] }) site) item) print in
-    let moves = created_unless lacks.target (created (created (created (created stock arrival) kept) queue) journal) target in
+    let stock = created_unless lacks.print
+    (created (created (record { tables = []; indexes = []; views = [] }) site) item) print in
+    let moves = created_unless lacks.target
+    (created (created (created (created stock arrival) kept) queue) journal) target in
     indexed_unless lacks.due moves (record queue { tree = behind lacks.print 9 }) queue_due
 
 -- it lacks print, target, or the index of the rows that are due
@@ -47,4 +51,8 @@ NoOlderIsNew = (schema : Schema) → IsOlder schema → schema ≢ tables
 
 -- of the oldest files the trees of site, item, arrival, kept, queue and journal
 abbrev pub OldestHasSix : Type 0
-OldestHasSix = mapped (λ (table : Table). table.tree) (older_tables (record { print = true; target = true; due = true })).tables ≡ 0 ∷ 1 ∷ 3 ∷ 5 ∷ 7 ∷ 9 ∷ []
+OldestHasSix =
+    mapped
+    (λ (table : Table). table.tree)
+    (older_tables (record { print = true; target = true; due = true })).tables
+    ≡ 0 ∷ 1 ∷ 3 ∷ 5 ∷ 7 ∷ 9 ∷ []

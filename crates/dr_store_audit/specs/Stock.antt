@@ -9,11 +9,15 @@ use Rattle.dr_store_reads.specs.declared.finding.Print.{Print}
 
 -- the instance of that uid with this key and this print
 abbrev pub instance_with : Text → Key → Print → Instance
-instance_with uid key print = record { uid = uid; key = key; size = print.size; digest = print.digest }
+instance_with uid key print =
+    record { uid = uid; key = key; size = print.size; digest = print.digest }
 
--- Keys and prints go by the same uids, in this order, and with their instances the first map is the last one.
-abbrev pub Stocks : FinMap text_cmp Instance → List (Text × Key) → List (Text × Print) → FinMap text_cmp Instance → Type 0
+-- Keys and prints go by the same uids, in this order, and with their instances the first map is the
+-- last one.
+abbrev pub Stocks : FinMap text_cmp Instance → List (Text × Key) → List (Text × Print)
+    → FinMap text_cmp Instance → Type 0
 Stocks before [] [] after = after ≡ before
 Stocks before [] (p ∷ prints) after = ⊥
 Stocks before (k ∷ keys) [] after = ⊥
-Stocks before (k ∷ keys) (p ∷ prints) after = (p.0 ≡ k.0) × Stocks (map.insert before k.0 (instance_with k.0 k.1 p.1)) keys prints after
+Stocks before (k ∷ keys) (p ∷ prints) after =
+    (p.0 ≡ k.0) × Stocks (map.insert before k.0 (instance_with k.0 k.1 p.1)) keys prints after

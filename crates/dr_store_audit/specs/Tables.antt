@@ -5,7 +5,8 @@ use Rattle.sqlite.specs.Table.{Table}
 use Rattle.sqlite_schema.specs.declared.schema.Column.{Column}
 use Rattle.sqlite_schema.specs.declared.schema.Index.{Index}
 use Rattle.sqlite_schema.specs.declared.schema.Reference.{Reference}
-use Rattle.dr_store_schema.specs.Tables.{arrival_table, item_table, journal_table, kept_table, print_table, queue_table, site_table, target_table}
+use Rattle.dr_store_schema.specs.Tables.{arrival_table, item_table, journal_table, kept_table}
+use Rattle.dr_store_schema.specs.Tables.{print_table, queue_table, site_table, target_table}
 
 -- a table under a key of its own, with nothing that the texts of a ledger's tables don't say
 abbrev pub keyed : List ℕ → ℕ → List Column → List ℕ → List Reference → Table
@@ -50,10 +51,19 @@ pub record HasNothingMore (table : Table) : Type 0 where
 
 -- columns sort as they stand
 abbrev pub index_of : List ℕ → ℕ → ℕ → List ℕ → Bool → Index
-index_of name tree table columns unique = record { name = name; tree = tree; table = table; columns = columns; order = record { digits = 0 }; is_unique = unique }
+index_of name tree table columns unique = record {
+  name = name;
+  tree = tree;
+  table = table;
+  columns = columns;
+  order = record { digits = 0 };
+  is_unique = unique;
+}
 
 abbrev pub ledger_tables : List Table
-ledger_tables = site_table ∷ item_table ∷ print_table ∷ arrival_table ∷ kept_table ∷ queue_table ∷ journal_table ∷ target_table ∷ []
+ledger_tables =
+    site_table ∷ item_table ∷ print_table ∷ arrival_table ∷ kept_table ∷ queue_table ∷ journal_table
+    ∷ target_table ∷ []
 
 -- those of keys, and that of the rows that are due
 abbrev pub ledger_indexes : List Index

@@ -9,7 +9,9 @@ use Rattle.dr_store_lists.specs.declared.listing.Note.TheVariants as note
 
 -- the notes are none, or end with an adoption
 abbrev pub IsOver : List (ℕ × Note) → Type 0
-IsOver notes = (notes ≡ []) ⊎ ((earlier : List (ℕ × Note)) × (n : ℕ) × (notes ≡ earlier ++ (n, note.Adoption) ∷ []))
+IsOver notes =
+    (notes ≡ [])
+    ⊎ ((earlier : List (ℕ × Note)) × (n : ℕ) × (notes ≡ earlier ++ (n, note.Adoption) ∷ []))
 
 -- these lines are a journal of a ledger with that routing, and this is what they make
 pub record IsToldJournal (routing : Routing) (lines : List Line) (c : Content) : Type 0 where

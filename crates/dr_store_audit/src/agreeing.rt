@@ -16,8 +16,9 @@ use dr_store_lists::Note;
 use dr_store_reads::Print;
 use std::alloc::Global;
 
-/// Tests that the lists of all tables are those of a ledger of the site, whose next line has this number: that the journal is one of its
-/// ledger, that all else is what its lines make, and that just the data sets are there that are needed.
+/// Tests that the lists of all tables are those of a ledger of the site, whose next line has this
+/// number: that the journal is one of its ledger, that all else is what its lines make, and that
+/// just the data sets are there that are needed.
 ///
 /// Errors: OtherSite, Memory.
 pub fn agree(
@@ -32,7 +33,10 @@ pub fn agree(
     goals: &[(u64, Text)],
     next: u64,
 ) -> Result<(), FindingFault>
-    ensures { OnOk result ((db : Trees) → AreListsOf db keys.now prints.now arrivals.now kept.now rows.now notes.now goals.now → IsFound next site.now db) }
+    ensures { OnOk result
+        ((db : Trees)
+        → AreListsOf db keys.now prints.now arrivals.now kept.now rows.now notes.now goals.now
+        → IsFound next site.now db) }
 {
     if !are_by_line(goals) {
         return Err(FindingFault::OtherSite);

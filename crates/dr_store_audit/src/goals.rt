@@ -21,7 +21,8 @@ pub fn are_by_line(goals: &[(u64, Text)]) -> bool
     goals.is_sorted_by(|goal, next| goal.0 <= next.0)
 }
 
-/// The goals of line n, which stand together where goals are in the order of their lines: so no other goal is looked at but on the way there.
+/// The goals of line n, which stand together where goals are in the order of their lines: so no
+/// other goal is looked at but on the way there.
 fn goals_of(goals: &[(u64, Text)], n: u64) -> &[(u64, Text)]
     requires { AreByLine goals.now }
     ensures { result.now ≡ filter (is_at n) goals.now }
@@ -34,7 +35,8 @@ fn goals_of(goals: &[(u64, Text)], n: u64) -> &[(u64, Text)]
 
 /// Where these goals of one line go on to, and whether it is kept.
 fn targets_by(alloc: Global, goals: &[(u64, Text)]) -> Result<Targets, AllocError>
-    ensures { IfOk result (λ targets. (targets.to ≡ to_by goals.now) × (targets.keep ≡ keep_by goals.now)) }
+    ensures { IfOk result (λ targets.
+        (targets.to ≡ to_by goals.now) × (targets.keep ≡ keep_by goals.now)) }
 {
     let mut to = Seq::new(alloc);
     let mut keep = false;
@@ -51,7 +53,8 @@ fn targets_by(alloc: Global, goals: &[(u64, Text)]) -> Result<Targets, AllocErro
 /// Where line n goes on to, and whether it is kept, by the goals of all lines.
 pub fn targets_of(alloc: Global, goals: &[(u64, Text)], n: u64) -> Result<Targets, AllocError>
     requires { AreByLine goals.now }
-    ensures { IfOk result (λ targets. (targets.to ≡ to_of goals.now n) × (targets.keep ≡ keep_of goals.now n)) }
+    ensures { IfOk result (λ targets.
+        (targets.to ≡ to_of goals.now n) × (targets.keep ≡ keep_of goals.now n)) }
 {
     let targets = targets_by(alloc, goals_of(goals, n))?;
     Ok(targets)

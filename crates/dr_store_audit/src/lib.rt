@@ -1,5 +1,5 @@
-//! Whether what stands in a file's tables is a ledger's of a site: tests of the tables and of the lists that they show, each with what it
-//! says of the ledger. No database is called here.
+//! Whether what stands in a file's tables is a ledger's of a site: tests of the tables and of the
+//! lists that they show, each with what it says of the ledger. No database is called here.
 #![tactic(auto)]
 
 pub mod agreeing;

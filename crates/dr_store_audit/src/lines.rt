@@ -52,7 +52,8 @@ fn arrival_of(
     uid: &Text,
 ) -> Result<JournalLine, FindingFault>
     requires { AreByLine goals.now }
-    ensures { IfOk result (λ line. IsLineOf (as_map text_cmp items.now) goals.now n (noted.Arrival caller.now uid.now) (line_of line)) }
+    ensures { IfOk result (λ line. IsLineOf (as_map text_cmp items.now) goals.now n
+        (noted.Arrival caller.now uid.now) (line_of line)) }
 {
     let instance = instance_at(items, uid)?;
     let targets = targets_of(alloc, goals, n)?;
@@ -71,14 +72,17 @@ fn repeat_of(
     caller: &Text,
     uid: &Text,
 ) -> Result<JournalLine, FindingFault>
-    ensures { IfOk result (λ line. (i : _) × (map.get (as_map text_cmp items.now) uid.now ≡ Some i) × (line_of line ≡ Repeat caller.now i)) }
+    ensures { IfOk result (λ line. (i : _)
+        × (map.get (as_map text_cmp items.now) uid.now ≡ Some i)
+        × (line_of line ≡ Repeat caller.now i)) }
 {
     let instance = instance_at(items, uid)?;
     let caller = caller.clone()?;
     Ok(JournalLine::Repeat { caller, instance })
 }
 
-/// The line of a note: the instance of an arrival is there, and the goals, in the order of their lines, say where it goes on to.
+/// The line of a note: the instance of an arrival is there, and the goals, in the order of their
+/// lines, say where it goes on to.
 pub fn line_for(
     alloc: Global,
     items: &BTreeMap<Text, Instance>,
@@ -87,7 +91,8 @@ pub fn line_for(
     note: &Note,
 ) -> Result<JournalLine, FindingFault>
     requires { AreByLine goals.now }
-    ensures { IfOk result (λ line. IsLineOf (as_map text_cmp items.now) goals.now n note.now (line_of line)) }
+    ensures { IfOk result (λ line.
+        IsLineOf (as_map text_cmp items.now) goals.now n note.now (line_of line)) }
 {
     match note {
         Note::Arrival { caller, uid } => arrival_of(alloc, items, goals, n, caller, uid),

@@ -27,7 +27,8 @@ fn is_open(row: Progress) -> bool
 
 /// Adds a uid.
 fn add(uids: &mut BTreeSet<Text>, uid: &Text) -> Result<(), AllocError>
-    ensures { OnOk result (as_set text_cmp uids.new ≡ set.insert (as_set text_cmp uids.old) uid.now) }
+    ensures { OnOk result
+        (as_set text_cmp uids.new ≡ set.insert (as_set text_cmp uids.old) uid.now) }
 {
     uids.insert(uid.clone()?)?;
     Ok(())
@@ -35,7 +36,11 @@ fn add(uids: &mut BTreeSet<Text>, uid: &Text) -> Result<(), AllocError>
 
 /// Adds the uid of a row that isn't done.
 fn add_open(uids: &mut BTreeSet<Text>, row: &((Text, Text), Progress)) -> Result<(), AllocError>
-    ensures { OnOk result ((uid : _) → (set.contains (as_set text_cmp uids.new) uid ≡ true) ↔ ((set.contains (as_set text_cmp uids.old) uid ≡ true) ⊎ ((uid ≡ row.now.0.0) × (row.now.1 ≢ Done)))) }
+    ensures { OnOk result
+        ((uid : _)
+        → (set.contains (as_set text_cmp uids.new) uid ≡ true)
+        ↔ ((set.contains (as_set text_cmp uids.old) uid ≡ true)
+        ⊎ ((uid ≡ row.now.0.0) × (row.now.1 ≢ Done)))) }
 {
     if is_open(row.1) {
         return add(uids, &row.0.0);
@@ -49,7 +54,9 @@ pub fn needed(
     kept: &[Text],
     rows: &[((Text, Text), Progress)],
 ) -> Result<BTreeSet<Text>, FindingFault>
-    ensures { IfOk result (λ uids. (uid : _) → (set.contains (as_set text_cmp uids) uid ≡ true) ↔ (Contains kept.now uid ⊎ IsOpenIn rows.now uid)) }
+    ensures { IfOk result (λ uids. (uid : _)
+        → (set.contains (as_set text_cmp uids) uid ≡ true)
+        ↔ (Contains kept.now uid ⊎ IsOpenIn rows.now uid)) }
 {
     let mut uids = all_kept(alloc, kept)?;
     for row in rows {
@@ -60,7 +67,8 @@ pub fn needed(
 
 /// The kept uids.
 fn all_kept(alloc: Global, kept: &[Text]) -> Result<BTreeSet<Text>, AllocError>
-    ensures { IfOk result (λ uids. (uid : _) → (set.contains (as_set text_cmp uids) uid ≡ true) ↔ Contains kept.now uid) }
+    ensures { IfOk result (λ uids.
+        (uid : _) → (set.contains (as_set text_cmp uids) uid ≡ true) ↔ Contains kept.now uid) }
 {
     let mut uids = BTreeSet::new(alloc);
     for uid in kept {
@@ -71,14 +79,16 @@ fn all_kept(alloc: Global, kept: &[Text]) -> Result<BTreeSet<Text>, AllocError>
 
 /// Whether a print says that the data set is there just where it is needed.
 fn is_as_needed(print: &(Text, Print), uids: &BTreeSet<Text>) -> bool
-    ensures { IsTrue result → print.now.1.whole ≡ set.contains (as_set text_cmp uids.now) print.now.0 }
+    ensures { IsTrue result
+        → print.now.1.whole ≡ set.contains (as_set text_cmp uids.now) print.now.0 }
 {
     print.1.whole == uids.contains(&print.0)
 }
 
 /// Whether just the data sets of these uids are there.
 pub fn are_whole(prints: &[(Text, Print)], uids: &BTreeSet<Text>) -> bool
-    ensures { IsTrue result → AllByRecursion (λ p. p.1.whole ≡ set.contains (as_set text_cmp uids.now) p.0) prints.now }
+    ensures { IsTrue result
+        → AllByRecursion (λ p. p.1.whole ≡ set.contains (as_set text_cmp uids.now) p.0) prints.now }
 {
     for print in prints {
         if !is_as_needed(print, uids) {

@@ -2,7 +2,9 @@
 ghost use Rattle.std.specs.Prelude.{◌≡◌, ◌≤◌, IsTrue, IfSome, codes, ◌∷◌, [], true, false};
 ghost use Rattle.dr_store_schema.specs.Tables.{print_table, target};
 ghost use Rattle.dr_store_audit.specs.Older.{LacksSome, behind, older_tables};
-ghost use Rattle.dr_store_audit.specs.OlderTables.{due_indexes, listed, moves_indexes, older_indexes, older_list, older_schema, stock_indexes};
+ghost use Rattle.dr_store_audit.specs.OlderTables.{due_indexes, listed, moves_indexes};
+ghost use Rattle.dr_store_audit.specs.OlderTables.{older_indexes, older_list, older_schema};
+ghost use Rattle.dr_store_audit.specs.OlderTables.{stock_indexes};
 ghost use Rattle.dr_store_audit.specs.Tables.{index_of};
 
 use crate::schema::{
@@ -11,7 +13,8 @@ use crate::schema::{
 };
 use sqlite_schema::schema::{Index, Schema, Table};
 
-/// What a ledger's file from before lacks: the table of prints, that of targets, or the index of the rows that are due.
+/// What a ledger's file from before lacks: the table of prints, that of targets, or the index of
+/// the rows that are due.
 #[derive(Clone, Copy, PartialEq, Eq, Debug)]
 pub struct Lacks {
     pub print: bool,
@@ -42,7 +45,8 @@ fn behind_print(tables: &[Table], lacks: bool) -> Option<&[Table]>
 
 /// The tables after target, if that one is the first, or is lacking.
 fn behind_target(tables: &[Table], lacks: bool, tree: u32) -> Option<&[Table]>
-    ensures { IfSome result (λ rest. tables.now ≡ listed lacks (record target { tree = tree }) rest.now) }
+    ensures { IfSome result (λ rest.
+        tables.now ≡ listed lacks (record target { tree = tree }) rest.now) }
 {
     if lacks {
         return Some(tables);
@@ -77,7 +81,8 @@ fn behind_key<'x>(
     table: u32,
     columns: &[usize],
 ) -> Option<&'x [Index]>
-    ensures { IfSome result (λ rest. indexes.now ≡ listed lacks (index_of name.now tree table columns.now true) rest.now) }
+    ensures { IfSome result (λ rest.
+        indexes.now ≡ listed lacks (index_of name.now tree table columns.now true) rest.now) }
 {
     if lacks {
         return Some(indexes);
@@ -98,7 +103,8 @@ fn is_due(indexes: &[Index], lacks: bool, tree: u32, table: u32) -> bool
     is_index(due, b"queue_due", tree, table, &[2, 3, 5, 1], false)
 }
 
-/// The number of the tree of the index of the rows that are due, behind those of print and of target, which have two each.
+/// The number of the tree of the index of the rows that are due, behind those of print and of
+/// target, which have two each.
 fn due_number(lacks: Lacks) -> u32
     ensures { result ≡ behind lacks.target (behind lacks.print 14) }
 {
@@ -129,7 +135,8 @@ fn behind_stock<'x>(indexes: &'x [Index], lacks_print: bool) -> Option<&'x [Inde
 
 /// The indexes after those of kept, queue and target, if these are the first.
 fn behind_moves<'x>(indexes: &'x [Index], lacks: Lacks) -> Option<&'x [Index]>
-    ensures { IfSome result (λ rest. indexes.now ≡ moves_indexes lacks.print lacks.target rest.now) }
+    ensures { IfSome result (λ rest.
+        indexes.now ≡ moves_indexes lacks.print lacks.target rest.now) }
 {
     let kept = number(lacks.print, 7);
     let queue = number(lacks.print, 9);
@@ -160,7 +167,8 @@ fn behind_moves<'x>(indexes: &'x [Index], lacks: Lacks) -> Option<&'x [Index]>
 
 /// Whether these are the indexes of a ledger's tables, less those.
 fn are_older_indexes<'x>(indexes: &'x [Index], lacks: Lacks) -> Option<&'x [Index]>
-    ensures { IfSome result (λ rest. indexes.now ≡ older_indexes lacks.print lacks.target lacks.due) }
+    ensures { IfSome result (λ rest.
+        indexes.now ≡ older_indexes lacks.print lacks.target lacks.due) }
 {
     let rest = behind_stock(indexes, lacks.print)?;
     let rest = behind_moves(rest, lacks)?;
@@ -207,8 +215,8 @@ fn lacks_some(lacks: Lacks) -> bool
     lacks.print || lacks.target || lacks.due
 }
 
-/// What a ledger's file from before lacks, if the tables and indexes are those of a ledger but for that, and nothing else; None where they
-/// lack nothing too.
+/// What a ledger's file from before lacks, if the tables and indexes are those of a ledger but for
+/// that, and nothing else; None where they lack nothing too.
 pub fn lacking(schema: &Schema) -> Option<Lacks>
     ensures { IfSome result (λ lacks. LacksSome lacks × (schema.now ≡ older_tables lacks)) }
 {

@@ -1,7 +1,11 @@
 //! Whether the tables of a file are those of a ledger.
 ghost use Rattle.std.specs.Prelude.{◌≡◌, IsTrue, [], ◌∷◌, IfSome, true};
-ghost use Rattle.dr_store_schema.specs.Tables.{arrival, arrival_table, column_named, item_table, journal, journal_table, kept, kept_table, print_table, queue, queue_table, refers, site_table, tables, target, target_table};
-ghost use Rattle.dr_store_audit.specs.Tables.{HasNothingMore, index_of, keyed, ledger_indexes, ledger_schema, ledger_tables, numbered};
+ghost use Rattle.dr_store_schema.specs.Tables.{arrival, arrival_table, column_named, item_table};
+ghost use Rattle.dr_store_schema.specs.Tables.{journal, journal_table, kept, kept_table};
+ghost use Rattle.dr_store_schema.specs.Tables.{print_table, queue, queue_table, refers, site_table};
+ghost use Rattle.dr_store_schema.specs.Tables.{tables, target, target_table};
+ghost use Rattle.dr_store_audit.specs.Tables.{HasNothingMore, index_of, keyed, ledger_indexes};
+ghost use Rattle.dr_store_audit.specs.Tables.{ledger_schema, ledger_tables, numbered};
 
 use sqlite_items::Items;
 use sqlite_schema::schema::{Action, Column, Index, Kind, Reference, Schema, Table};
@@ -209,7 +213,8 @@ fn is_one_order(orders: &[Order]) -> bool
 
 /// Whether the table is of the form of those under a key of their own.
 fn is_keyed(table: &Table, name: &[u8], tree: u32, key: &[usize]) -> bool
-    ensures { IsTrue result → table.now ≡ keyed name.now tree table.now.columns key.now table.now.references }
+    ensures { IsTrue result
+        → table.now ≡ keyed name.now tree table.now.columns key.now table.now.references }
 {
     if !is_named(&table.name, name) || table.tree != tree {
         return false;
@@ -225,7 +230,8 @@ fn is_keyed(table: &Table, name: &[u8], tree: u32, key: &[usize]) -> bool
 
 /// Whether the table is of the form of those whose rows go by the number in their first column.
 fn is_numbered(table: &Table, name: &[u8], tree: u32) -> bool
-    ensures { IsTrue result → table.now ≡ numbered name.now tree table.now.columns table.now.references }
+    ensures { IsTrue result
+        → table.now ≡ numbered name.now tree table.now.columns table.now.references }
 {
     if !is_named(&table.name, name) || table.tree != tree {
         return false;
@@ -405,7 +411,8 @@ pub(crate) fn after_key<'x>(
     table: u32,
     columns: &[usize],
 ) -> Option<&'x [Index]>
-    ensures { IfSome result (λ rest. indexes.now ≡ index_of name.now tree table columns.now true ∷ rest.now) }
+    ensures { IfSome result (λ rest.
+        indexes.now ≡ index_of name.now tree table columns.now true ∷ rest.now) }
 {
     let [first, rest @ ..] = indexes else {
         return None;

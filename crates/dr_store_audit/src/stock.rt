@@ -53,7 +53,8 @@ fn put(
     uid: &Text,
     instance: Instance,
 ) -> Result<(), AllocError>
-    ensures { OnOk result (as_map text_cmp items.new ≡ map.insert (as_map text_cmp items.old) uid.now instance) }
+    ensures { OnOk result
+        (as_map text_cmp items.new ≡ map.insert (as_map text_cmp items.old) uid.now instance) }
 {
     let_go(items.insert(uid.clone()?, instance)?);
     Ok(())
@@ -65,7 +66,11 @@ fn stock(
     key: &(Text, Key),
     print: &(Text, Print),
 ) -> Result<(), FindingFault>
-    ensures { OnOk result ((print.now.0 ≡ key.now.0) × (as_map text_cmp items.new ≡ map.insert (as_map text_cmp items.old) key.now.0 (instance_with key.now.0 key.now.1 print.now.1))) }
+    ensures { OnOk result
+        ((print.now.0 ≡ key.now.0)
+        × (as_map text_cmp items.new
+        ≡ map.insert (as_map text_cmp items.old) key.now.0
+        (instance_with key.now.0 key.now.1 print.now.1))) }
 {
     if !is_uid(&print.0, &key.0) {
         return Err(FindingFault::OtherSite);

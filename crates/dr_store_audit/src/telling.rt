@@ -74,7 +74,9 @@ pub fn count_up(notes: &[(u64, Note)]) -> bool
 
 /// Tells one more line of the past.
 fn tell_past(history: History, line: JournalLine) -> Result<History, FindingFault>
-    ensures { IfOk result (λ h. (lines : List Line) → IsTold lines (content history.parts) → IsTold (lines ++ line_of line ∷ []) (content h.parts)) }
+    ensures { IfOk result (λ h. (lines : List Line)
+        → IsTold lines (content history.parts)
+        → IsTold (lines ++ line_of line ∷ []) (content h.parts)) }
 {
     match history.tell_past(line) {
         Ok(history) => Ok(history),
@@ -84,7 +86,9 @@ fn tell_past(history: History, line: JournalLine) -> Result<History, FindingFaul
 
 /// Tells one more line since the last adoption.
 fn tell_since(history: History, site: &Site, line: JournalLine) -> Result<History, FindingFault>
-    ensures { IfOk result (λ h. (past since : List Line) → IsToldSince (site_routing site.now) past since (content history.parts) → IsToldSince (site_routing site.now) past (since ++ line_of line ∷ []) (content h.parts)) }
+    ensures { IfOk result (λ h. (past since : List Line)
+        → IsToldSince (site_routing site.now) past since (content history.parts)
+        → IsToldSince (site_routing site.now) past (since ++ line_of line ∷ []) (content h.parts)) }
 {
     match history.tell(site, line) {
         Ok(history) => Ok(history),
@@ -100,7 +104,9 @@ fn tell_all_past(
     notes: &[(u64, Note)],
 ) -> Result<History, FindingFault>
     requires { AreByLine goals.now }
-    ensures { IfOk result (λ h. (lines : List Line) × AreLinesOf (as_map text_cmp items.now) goals.now notes.now lines × IsTold lines (content h.parts)) }
+    ensures { IfOk result (λ h. (lines : List Line)
+        × AreLinesOf (as_map text_cmp items.now) goals.now notes.now lines
+        × IsTold lines (content h.parts)) }
 {
     let mut history = History::new(alloc);
     for entry in notes {
@@ -120,8 +126,11 @@ fn tell_all_since(
     told: History,
 ) -> Result<History, FindingFault>
     requires { AreByLine goals.now }
-    ensures { IfOk result (λ h. (lines : List Line) × AreLinesOf (as_map text_cmp items.now) goals.now notes.now lines
-        × ((past : List Line) → IsToldSince (site_routing site.now) past [] (content told.parts) → IsToldSince (site_routing site.now) past lines (content h.parts))) }
+    ensures { IfOk result (λ h. (lines : List Line)
+        × AreLinesOf (as_map text_cmp items.now) goals.now notes.now lines
+        × ((past : List Line)
+        → IsToldSince (site_routing site.now) past [] (content told.parts)
+        → IsToldSince (site_routing site.now) past lines (content h.parts))) }
 {
     let mut history = told;
     for entry in notes {
@@ -131,7 +140,8 @@ fn tell_all_since(
     Ok(history)
 }
 
-/// What the whole journal makes, if it is one of this site's ledger. The goals are in the order of their lines.
+/// What the whole journal makes, if it is one of this site's ledger. The goals are in the order of
+/// their lines.
 pub fn tell(
     alloc: Global,
     site: &Site,
@@ -140,7 +150,9 @@ pub fn tell(
     notes: &[(u64, Note)],
 ) -> Result<History, FindingFault>
     requires { AreByLine goals.now }
-    ensures { IfOk result (λ h. (lines : List Line) × AreLinesOf (as_map text_cmp items.now) goals.now notes.now lines × IsToldJournal (site_routing site.now) lines (content h.parts)) }
+    ensures { IfOk result (λ h. (lines : List Line)
+        × AreLinesOf (as_map text_cmp items.now) goals.now notes.now lines
+        × IsToldJournal (site_routing site.now) lines (content h.parts)) }
 {
     let (past, since) = notes.split_at(count_past(notes));
     let told = tell_all_past(alloc, items, goals, past)?;

@@ -26,7 +26,8 @@ pub record Clears (old new : Trees) : Type 0 where
   pub journal : new 11 ≡ old 11
   pub targets : new 12 ≡ old 12
 
--- the plan in force is this one, for the same node, and line n is an adoption; all other tables stay
+-- the plan in force is this one, for the same node, and line n is an adoption; all other tables
+-- stay
 pub record NotesPlan (plan : List ℕ) (n : ℕ) (old new : Trees) : Type 0 where
   pub site : (node : Text) (was : List ℕ) → IsSiteOf node was old → IsSiteOf node plan new
   pub journal : new 11 ≡ put_row (adopted_line n) (old 11)
@@ -37,8 +38,8 @@ pub record NotesPlan (plan : List ℕ) (n : ℕ) (old new : Trees) : Type 0 wher
   pub queue : new 9 ≡ old 9
   pub targets : new 12 ≡ old 12
 
--- An adoption of the plan with this SHA-256 as line n: arrivals and done rows have left, the line stands in the journal, and the plan is in
--- force for the same node. All else stays.
+-- An adoption of the plan with this SHA-256 as line n: arrivals and done rows have left, the line
+-- stands in the journal, and the plan is in force for the same node. All else stays.
 pub record Adopts (plan : List ℕ) (n : ℕ) (old new : Trees) : Type 0 where
   pub site : (node : Text) (was : List ℕ) → IsSiteOf node was old → IsSiteOf node plan new
   pub items : new 1 ≡ old 1
@@ -55,27 +56,36 @@ pub record Adopts (plan : List ℕ) (n : ℕ) (old new : Trees) : Type 0 where
 abbrev pub IsOwnedBy : Part → Trees → Type 0
 IsOwnedBy part db = IsSiteOf part.name part.digest db
 
--- the book after an adoption that was accepted, with the same data sets, in tables that the next site owns
+-- the book after an adoption that was accepted, with the same data sets, in tables that the next
+-- site owns
 pub record IsAdopted (next : Part) (base db : Trees) : Type 0 where
   pub book : book_of db ≡ after Adoption (book_of base)
   pub bodies : bodies_of db ≡ bodies_of base
   pub owner : IsOwnedBy next db
 
 -- Book, data sets and tables after an adoption with this answer.
-pub record Answers (next : Part) (result : Result (Unit {0}) LedgerFault) (base db : Trees) : Type 0 where
+pub record Answers (next : Part) (result : Result (Unit {0}) LedgerFault)
+    (base db : Trees) : Type 0 where
   pub reply : Adopting (book_of base) result (book_of db)
   pub bodies : bodies_of db ≡ bodies_of base
   pub owner : OnOk result (IsOwnedBy next db)
   pub same : OnErr result (db ≡ base)
 
--- An adoption of the next site's plan by a ledger of this site, whose next line has number n. Where the tables are as it asks, they are
--- afterwards those of a ledger of the next site where it was accepted, and else as they were; the store stays open but where the store
--- failed or memory ran out. A crash leaves what it could leave before, or the tables after the adoption.
-pub record Adopted (n : ℕ) (part next : Part) (result : Result (Unit {0}) LedgerFault) (old new : State) (Asks : Trees → Type 0) : Type 0 where
+-- An adoption of the next site's plan by a ledger of this site, whose next line has number n. Where
+-- the tables are as it asks, they are afterwards those of a ledger of the next site where it was
+-- accepted, and else as they were; the store stays open but where the store failed or memory ran
+-- out. A crash leaves what it could leave before, or the tables after the adoption.
+pub record Adopted (n : ℕ) (part next : Part) (result : Result (Unit {0}) LedgerFault)
+    (old new : State) (Asks : Trees → Type 0) : Type 0 where
   pub clean : doubt old.is_clean ≤ doubt new.is_clean
   pub was_open : HasCleanDisk new → IsTrue new.is_open → IsTrue old.is_open
   pub idle : old.in_transaction ≡ false → new.in_transaction ≡ false
-  pub lasts : HasCleanDisk new → IsKept n part old → Asks old.committed.trees → LastsAfter result (IsTrue new.is_open)
-  pub kept : HasCleanDisk new → IsTrue new.is_open → IsKept n part old → Asks old.committed.trees → IsKept (advanced result n) (site_after result next part) new
-  pub answers : HasCleanDisk new → IsTrue new.is_open → IsKept n part old → Asks old.committed.trees → Answers next result old.committed.trees new.committed.trees
-  pub crash : HasCleanDisk new → IsKept n part old → Asks old.committed.trees → (db : Trees) → new.may_leave db → old.may_leave db ⊎ IsAdopted next old.committed.trees db
+  pub lasts : HasCleanDisk new → IsKept n part old → Asks old.committed.trees
+      → LastsAfter result (IsTrue new.is_open)
+  pub kept : HasCleanDisk new → IsTrue new.is_open → IsKept n part old → Asks old.committed.trees
+      → IsKept (advanced result n) (site_after result next part) new
+  pub answers : HasCleanDisk new → IsTrue new.is_open → IsKept n part old → Asks old.committed.trees
+      → Answers next result old.committed.trees new.committed.trees
+  pub crash : HasCleanDisk new → IsKept n part old → Asks old.committed.trees → (db : Trees)
+      → new.may_leave db
+      → old.may_leave db ⊎ IsAdopted next old.committed.trees db

@@ -18,8 +18,9 @@ use Rattle.dr_store_changes.specs.Writing.{IsReady}
 abbrev pub IsSafe : State → Type 0
 IsSafe s = HasCleanDisk s × IsTrue s.is_open
 
--- What the tables of a ledger of that site show, where its next line has number n: lines that are joined with what they speak of, a
--- book that its journal makes, and just the data sets that the book needs.
+-- What the tables of a ledger of that site show, where its next line has number n: lines that are
+-- joined with what they speak of, a book that its journal makes, and just the data sets that the
+-- book needs.
 pub record IsLedgerOf (n : ℕ) (part : Part) (db : Trees) : Type 0 where
   pub joined : AreJoined n db
   pub journalled : IsJournalled (site_routing part) (book_of db)
@@ -35,25 +36,36 @@ abbrev pub advanced : {A : Type 0} → Result A LedgerFault → ℕ → ℕ
 advanced (Ok value) n = n + 1
 advanced (Err why) n = n
 
--- A call of a ledger of that site, whose next line has number n before it and m after it. Where the tables are as it asks, it answers for the
--- tables committed before and after it, and the ledger's tables are kept; the store stays open but where the store failed or memory ran
--- out. A crash leaves what it could leave before, or what the call makes of the tables.
-pub record Called {A : Type 0} (n m : ℕ) (part : Part) (result : Result A LedgerFault) (old new : State) (Asks : Trees → Type 0) (Answers Makes : Trees → Trees → Type 0) : Type 0 where
+-- A call of a ledger of that site, whose next line has number n before it and m after it. Where the
+-- tables are as it asks, it answers for the tables committed before and after it, and the ledger's
+-- tables are kept; the store stays open but where the store failed or memory ran out. A crash
+-- leaves what it could leave before, or what the call makes of the tables.
+pub record Called {A : Type 0} (n m : ℕ) (part : Part) (result : Result A LedgerFault)
+    (old new : State) (Asks : Trees → Type 0)
+    (Answers Makes : Trees → Trees → Type 0) : Type 0 where
   pub clean : doubt old.is_clean ≤ doubt new.is_clean
   pub was_open : HasCleanDisk new → IsTrue new.is_open → IsTrue old.is_open
   pub idle : old.in_transaction ≡ false → new.in_transaction ≡ false
-  pub lasts : HasCleanDisk new → IsKept n part old → Asks old.committed.trees → LastsAfter result (IsTrue new.is_open)
-  pub kept : HasCleanDisk new → IsTrue new.is_open → IsKept n part old → Asks old.committed.trees → IsKept m part new
-  pub answers : HasCleanDisk new → IsTrue new.is_open → IsKept n part old → Asks old.committed.trees → Answers old.committed.trees new.committed.trees
-  pub crash : HasCleanDisk new → IsKept n part old → Asks old.committed.trees → (db : Trees) → new.may_leave db → old.may_leave db ⊎ Makes old.committed.trees db
+  pub lasts : HasCleanDisk new → IsKept n part old → Asks old.committed.trees
+      → LastsAfter result (IsTrue new.is_open)
+  pub kept : HasCleanDisk new → IsTrue new.is_open → IsKept n part old → Asks old.committed.trees
+      → IsKept m part new
+  pub answers : HasCleanDisk new → IsTrue new.is_open → IsKept n part old → Asks old.committed.trees
+      → Answers old.committed.trees new.committed.trees
+  pub crash : HasCleanDisk new → IsKept n part old → Asks old.committed.trees → (db : Trees)
+      → new.may_leave db
+      → old.may_leave db ⊎ Makes old.committed.trees db
 
 -- nothing is asked of the tables
 abbrev pub Nothing : Trees → Type 0
 Nothing db = Unit {0}
 
 -- A call that only reads: it shows this of the tables, which stay.
-abbrev pub Looked : {A : Type 0} → ℕ → Part → Result A LedgerFault → State → State → (Trees → A → Type 0) → Type 0
-Looked n part result old new Shows = Called n n part result old new Nothing (λ base db. (db ≡ base) × Reads result (Shows base)) (λ base db. ⊥)
+abbrev pub Looked : {A : Type 0} → ℕ → Part → Result A LedgerFault → State → State
+    → (Trees → A → Type 0) → Type 0
+Looked n part result old new Shows = Called n n part result old new Nothing
+    (λ base db. (db ≡ base) × Reads result (Shows base))
+    (λ base db. ⊥)
 
 -- a fault that may come whatever the book is
 abbrev pub IsOwnFault : LedgerFault → Type 0

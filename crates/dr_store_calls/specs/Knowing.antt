@@ -12,7 +12,8 @@ use Rattle.dr_ledger.specs.Books.{Arrival, Book, after}
 use Rattle.dr_ledger.specs.Items.{instance_of}
 use Rattle.dr_ledger.specs.Replies.{Arrives, HasConflict}
 use Rattle.dr_ledger.specs.SiteRoutes.{site_routing}
-use Rattle.dr_store_schema.specs.Books.{all_kept_in, arrivals_in, bodies_of, book_of, items_of, rows_of}
+use Rattle.dr_store_schema.specs.Books.{all_kept_in, arrivals_in, bodies_of, book_of, items_of}
+use Rattle.dr_store_schema.specs.Books.{rows_of}
 use Rattle.dr_store_changes.specs.declared.first.Taking.{Taking}
 use Rattle.dr_store_changes.specs.declared.first.Taking.TheVariants.{New, Bare, Again, Nothing}
 use Rattle.dr_store_changes.specs.Bringing.{AsksToTake, IsKnownFor, missing}
@@ -33,24 +34,29 @@ IsKnown db item known.No = HasNeither item.uid db
 IsKnown db item known.Other = HasConflict (book_of db) item
 IsKnown db item (known.Same whole) = IsThere db item whole
 
--- A first arrival, of an item that is taken so, fits the tables: these are the destinations to which it has no row, and it is to be kept
--- from now on just if it wasn't.
-pub record Fits (how : Taking) (caller : Text) (item : Job) (to : List Text) (keep : Bool) (dests : List Text) (keeps : Bool) (db : Trees) : Type 0 where
+-- A first arrival, of an item that is taken so, fits the tables: these are the destinations to
+-- which it has no row, and it is to be kept from now on just if it wasn't.
+pub record Fits (how : Taking) (caller : Text) (item : Job) (to : List Text) (keep : Bool)
+    (dests : List Text) (keeps : Bool) (db : Trees) : Type 0 where
   pub asks : AsksToTake how item.uid db
   pub known : IsKnownFor how (instance_of item) (map.get (items_of db) item.uid)
-  pub comes : ComesWhereNeeded how (after (Arrival caller (instance_of item) to keep) (book_of db)) (bodies_of db) item.uid
+  pub comes : ComesWhereNeeded how (after (Arrival caller (instance_of item) to keep) (book_of db))
+      (bodies_of db) item.uid
   pub missing_are : dests ≡ missing (rows_of db) item.uid to
   pub keeps_is : keeps ≡ (keep && not (set.contains (all_kept_in (db 7)) item.uid))
   pub first : set.contains (arrivals_in (db 5)) (caller, item.uid) ≡ false
 
 -- the book is that after an arrival that was accepted
 abbrev pub IsAccepted : Part → Text → Instance → Book → Book → Type 0
-IsAccepted part caller item old new = (answer : Arrived) × Arrives (site_routing part) caller item old (Ok answer) new
+IsAccepted part caller item old new =
+    (answer : Arrived) × Arrives (site_routing part) caller item old (Ok answer) new
 
--- how an instance is taken in that is there: its data set comes again where it isn't there, and the instance is to be kept or lacks a row
+-- how an instance is taken in that is there: its data set comes again where it isn't there, and the
+-- instance is to be kept or lacks a row
 abbrev pub taking_there : Bool → Bool → Bool → Taking
 taking_there whole keep none = cond (whole || (not keep && none)) Nothing Again
 
--- how one is taken in that isn't there: with its data set, where it is to be kept or has a destination
+-- how one is taken in that isn't there: with its data set, where it is to be kept or has a
+-- destination
 abbrev pub taking_absent : Bool → Bool → Taking
 taking_absent keep none = cond (not keep && none) Bare New

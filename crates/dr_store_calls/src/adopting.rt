@@ -25,7 +25,8 @@ fn write_plan<S: Alter>(conn: &mut Connection<S>, n: u64, digest: &[u8]) -> Resu
     ensures idle { conn.new.in_transaction ≡ false }
     ensures number { OnOk result (n ≤ 2 ^ 62) }
     ensures fault { IfErr result IsOwnFault }
-    ensures written { Written n HasSite (Adopts digest.now n) result (state S.Store conn.old) (state S.Store conn.new) }
+    ensures written { Written n HasSite (Adopts digest.now n) result (state S.Store conn.old)
+        (state S.Store conn.new) }
 {
     if n > MOST_LINES {
         return Err(LedgerFault::Store);
@@ -52,7 +53,9 @@ fn adopt_at<S: Alter>(
     node: &Text,
 ) -> Result<(), LedgerFault>
     requires { conn.old.in_transaction ≡ false }
-    ensures adopted { (part : Part) → Adopted n part next.now result (state S.Store conn.old) (state S.Store conn.new) (λ base. (was : List ℕ) × IsSiteOf node.now was base) }
+    ensures adopted { (part : Part)
+        → Adopted n part next.now result (state S.Store conn.old) (state S.Store conn.new)
+        (λ base. (was : List ℕ) × IsSiteOf node.now was base) }
     ensures number { OnOk result (n ≤ 2 ^ 62) }
     ensures idle { conn.new.in_transaction ≡ false }
 {
@@ -62,10 +65,12 @@ fn adopt_at<S: Alter>(
     write_plan(conn, n, next.digest())
 }
 
-/// Adopts the plan of the next site of the tables' node, as line `n` of the journal: arrivals and done rows leave, and the tables are
-/// from now on those of a ledger of that site. Data sets stay, since just those are needed that were needed before.
+/// Adopts the plan of the next site of the tables' node, as line `n` of the journal: arrivals and
+/// done rows leave, and the tables are from now on those of a ledger of that site. Data sets stay,
+/// since just those are needed that were needed before.
 ///
-/// Errors: Store, also where the tables aren't those of the next site's node, or the journal is full; Memory.
+/// Errors: Store, also where the tables aren't those of the next site's node, or the journal is
+/// full; Memory.
 pub fn adopt<S: Alter>(
     conn: &mut Connection<S>,
     alloc: Global,
@@ -73,7 +78,8 @@ pub fn adopt<S: Alter>(
     next: &Site,
 ) -> Result<(), LedgerFault>
     requires { conn.old.in_transaction ≡ false }
-    ensures adopted { (part : Part) → Adopted n part next.now result (state S.Store conn.old) (state S.Store conn.new) Nothing }
+    ensures adopted { (part : Part)
+        → Adopted n part next.now result (state S.Store conn.old) (state S.Store conn.new) Nothing }
     ensures number { OnOk result (n ≤ 2 ^ 62) }
     ensures idle { conn.new.in_transaction ≡ false }
 {

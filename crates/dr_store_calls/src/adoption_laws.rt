@@ -1,7 +1,8 @@
 //! What an adoption makes of the book.
 ghost use Rattle.dr_store_calls.specs.AdoptionLaws.{AdoptedLedgersAreOfTheNext, AdoptionsAdopt};
 
-/// Where arrivals and done rows leave, and the line of an adoption stands in the journal, the book is that after an adoption.
+/// Where arrivals and done rows leave, and the line of an adoption stands in the journal, the book
+/// is that after an adoption.
 pub fn adoptions_adopt()
     ensures { AdoptionsAdopt }
 {}

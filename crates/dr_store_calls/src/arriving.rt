@@ -57,10 +57,15 @@ pub fn repeat<'x, S: Alter>(
 ) -> Result<Arrived, LedgerFault>
     requires idle { conn.old.in_transaction ≡ false }
     requires line { HasLineFor site.now caller.now item.now.key }
-    ensures called { Called n (advanced result n) site.now result (state S.Store conn.old) (state S.Store conn.new)
-        (λ base. IsThere base (instance_of item.now) whole × (set.contains (arrivals_in (base 5)) (caller.now, item.now.uid) ≡ true))
-        (λ base db. Arrives (site_routing site.now) caller.now (instance_of item.now) (book_of base) result (book_of db) × OnlyTakes item.now (bodies_of base) (bodies_of db))
-        (λ base db. Arrives (site_routing site.now) caller.now (instance_of item.now) (book_of base) (Ok Arrived.Again) (book_of db)) }
+    ensures called { Called n (advanced result n) site.now result (state S.Store conn.old)
+        (state S.Store conn.new)
+        (λ base. IsThere base (instance_of item.now) whole
+        × (set.contains (arrivals_in (base 5)) (caller.now, item.now.uid) ≡ true))
+        (λ base db. Arrives (site_routing site.now) caller.now (instance_of item.now) (book_of base)
+        result (book_of db)
+        × OnlyTakes item.now (bodies_of base) (bodies_of db))
+        (λ base db. Arrives (site_routing site.now) caller.now (instance_of item.now) (book_of base)
+        (Ok Arrived.Again) (book_of db)) }
     ensures number { OnOk result (n ≤ 2 ^ 62) }
     ensures idle { conn.new.in_transaction ≡ false }
 {
@@ -96,10 +101,15 @@ fn bring<'x, S: Alter>(
     requires names { names.now ≡ names_for targets.now.keep targets.now.to }
     requires instance { instance.now ≡ instance_of item.now }
     requires is_item { IsItem item.now }
-    ensures called { Called n (advanced result n) site.now result (state S.Store conn.old) (state S.Store conn.new)
-        (λ base. Fits taking caller.now item.now targets.now.to targets.now.keep dests.now keeps base)
-        (λ base db. Arrives (site_routing site.now) caller.now (instance_of item.now) (book_of base) result (book_of db) × OnlyTakes item.now (bodies_of base) (bodies_of db))
-        (λ base db. Arrives (site_routing site.now) caller.now (instance_of item.now) (book_of base) (Ok Arrived.New) (book_of db)) }
+    ensures called { Called n (advanced result n) site.now result (state S.Store conn.old)
+        (state S.Store conn.new)
+        (λ base.
+        Fits taking caller.now item.now targets.now.to targets.now.keep dests.now keeps base)
+        (λ base db. Arrives (site_routing site.now) caller.now (instance_of item.now) (book_of base)
+        result (book_of db)
+        × OnlyTakes item.now (bodies_of base) (bodies_of db))
+        (λ base db. Arrives (site_routing site.now) caller.now (instance_of item.now) (book_of base)
+        (Ok Arrived.New) (book_of db)) }
     ensures number { OnOk result (n ≤ 2 ^ 62) }
     ensures idle { conn.new.in_transaction ≡ false }
 {
@@ -139,10 +149,15 @@ pub fn bring_item<'x, S: Alter>(
     requires formed { AreNames targets.now.to }
     requires instance { instance.now ≡ instance_of item.now }
     requires is_item { IsItem item.now }
-    ensures called { Called n (advanced result n) site.now result (state S.Store conn.old) (state S.Store conn.new)
-        (λ base. Fits taking caller.now item.now targets.now.to targets.now.keep dests.now keeps base)
-        (λ base db. Arrives (site_routing site.now) caller.now (instance_of item.now) (book_of base) result (book_of db) × OnlyTakes item.now (bodies_of base) (bodies_of db))
-        (λ base db. Arrives (site_routing site.now) caller.now (instance_of item.now) (book_of base) (Ok Arrived.New) (book_of db)) }
+    ensures called { Called n (advanced result n) site.now result (state S.Store conn.old)
+        (state S.Store conn.new)
+        (λ base.
+        Fits taking caller.now item.now targets.now.to targets.now.keep dests.now keeps base)
+        (λ base db. Arrives (site_routing site.now) caller.now (instance_of item.now) (book_of base)
+        result (book_of db)
+        × OnlyTakes item.now (bodies_of base) (bodies_of db))
+        (λ base db. Arrives (site_routing site.now) caller.now (instance_of item.now) (book_of base)
+        (Ok Arrived.New) (book_of db)) }
     ensures number { OnOk result (n ≤ 2 ^ 62) }
     ensures idle { conn.new.in_transaction ≡ false }
 {
@@ -164,7 +179,8 @@ pub fn bring_item<'x, S: Alter>(
     }
 }
 
-/// How an instance that isn't there is taken in: with its data set, where it is to be kept or has a destination.
+/// How an instance that isn't there is taken in: with its data set, where it is to be kept or has a
+/// destination.
 fn taking_of(keep: bool, none: bool) -> Taking
     ensures { result ≡ taking_absent keep none }
 {
@@ -192,10 +208,14 @@ pub fn bring_new<'x, S: Alter>(
     requires formed { AreNames targets.now.to }
     requires instance { instance.now ≡ instance_of item.now }
     requires is_item { IsItem item.now }
-    ensures called { Called n (advanced result n) site.now result (state S.Store conn.old) (state S.Store conn.new)
+    ensures called { Called n (advanced result n) site.now result (state S.Store conn.old)
+        (state S.Store conn.new)
         (λ base. HasNeither item.now.uid base)
-        (λ base db. Arrives (site_routing site.now) caller.now (instance_of item.now) (book_of base) result (book_of db) × OnlyTakes item.now (bodies_of base) (bodies_of db))
-        (λ base db. Arrives (site_routing site.now) caller.now (instance_of item.now) (book_of base) (Ok Arrived.New) (book_of db)) }
+        (λ base db. Arrives (site_routing site.now) caller.now (instance_of item.now) (book_of base)
+        result (book_of db)
+        × OnlyTakes item.now (bodies_of base) (bodies_of db))
+        (λ base db. Arrives (site_routing site.now) caller.now (instance_of item.now) (book_of base)
+        (Ok Arrived.New) (book_of db)) }
     ensures number { OnOk result (n ≤ 2 ^ 62) }
     ensures idle { conn.new.in_transaction ≡ false }
 {

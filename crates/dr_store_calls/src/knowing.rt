@@ -31,14 +31,21 @@ pub enum Known {
 
 /// Whether the key and the print are those of the instance.
 fn is_same(item: &Instance, key: &Key, print: &Print) -> bool
-    ensures { IsTrue result ↔ ((key.now ≡ item.now.key) × (print.now.size ≡ item.now.size) × (print.now.digest ≡ item.now.digest)) }
+    ensures { IsTrue result
+        ↔ ((key.now ≡ item.now.key)
+        × (print.now.size ≡ item.now.size)
+        × (print.now.digest ≡ item.now.digest)) }
 {
     *key == item.key && print.size == item.size && print.digest == item.digest
 }
 
-/// What is known where this key is found with this print; a key without a print no ledger has written.
+/// What is known where this key is found with this print; a key without a print no ledger has
+/// written.
 fn with_key(item: &Instance, key: &Key, print: Option<Print>) -> Result<Known, LedgerFault>
-    ensures { Reads result (λ known. (db : Trees) → IsKeyOf item.now.uid db (Some key.now) → IsPrintOf item.now.uid db print → IsKnown db item.now known) }
+    ensures { Reads result (λ known. (db : Trees)
+        → IsKeyOf item.now.uid db (Some key.now)
+        → IsPrintOf item.now.uid db print
+        → IsKnown db item.now known) }
 {
     match print {
         Some(print) => {
@@ -53,7 +60,10 @@ fn with_key(item: &Instance, key: &Key, print: Option<Print>) -> Result<Known, L
 
 /// What is known where no key is found; a print without a key no ledger has written.
 fn without_key(print: Option<Print>) -> Result<Known, LedgerFault>
-    ensures { Reads result (λ known. (item : Instance) (db : Trees) → IsKeyOf item.uid db None → IsPrintOf item.uid db print → IsKnown db item known) }
+    ensures { Reads result (λ known. (item : Instance) (db : Trees)
+        → IsKeyOf item.uid db None
+        → IsPrintOf item.uid db print
+        → IsKnown db item known) }
 {
     match print {
         Some(_) => Err(LedgerFault::Store),
@@ -63,7 +73,10 @@ fn without_key(print: Option<Print>) -> Result<Known, LedgerFault>
 
 /// What is known where this key and this print are found.
 fn compare(item: &Instance, key: Option<Key>, print: Option<Print>) -> Result<Known, LedgerFault>
-    ensures { Reads result (λ known. (db : Trees) → IsKeyOf item.now.uid db key → IsPrintOf item.now.uid db print → IsKnown db item.now known) }
+    ensures { Reads result (λ known. (db : Trees)
+        → IsKeyOf item.now.uid db key
+        → IsPrintOf item.now.uid db print
+        → IsKnown db item.now known) }
 {
     match key {
         Some(key) => with_key(item, &key, print),
@@ -77,7 +90,9 @@ fn known_by<S: Alter>(
     item: &Instance,
     key: Option<Key>,
 ) -> Result<Known, LedgerFault>
-    ensures looked { (n : ℕ) (part : Part) → Looked n part result (state S.Store conn.old) (state S.Store conn.new) (λ base known. IsKeyOf item.now.uid base key → IsKnown base item.now known) }
+    ensures looked { (n : ℕ) (part : Part)
+        → Looked n part result (state S.Store conn.old) (state S.Store conn.new)
+        (λ base known. IsKeyOf item.now.uid base key → IsKnown base item.now known) }
     ensures idle { conn.old.in_transaction ≡ false → conn.new.in_transaction ≡ false }
 {
     match find_print(conn, &item.uid) {
@@ -92,7 +107,9 @@ pub fn know<S: Alter>(
     alloc: Global,
     item: &Instance,
 ) -> Result<Known, LedgerFault>
-    ensures looked { (n : ℕ) (part : Part) → Looked n part result (state S.Store conn.old) (state S.Store conn.new) (λ base known. IsKnown base item.now known) }
+    ensures looked { (n : ℕ) (part : Part)
+        → Looked n part result (state S.Store conn.old) (state S.Store conn.new)
+        (λ base known. IsKnown base item.now known) }
     ensures idle { conn.old.in_transaction ≡ false → conn.new.in_transaction ≡ false }
 {
     match find_key(conn, alloc, &item.uid) {

@@ -1,7 +1,9 @@
-//! Calls of a ledger in tables over a connection, each in terms of the ledger's book (`specs/Calling.antt`).
+//! Calls of a ledger in tables over a connection, each in terms of the ledger's book
+//! (`specs/Calling.antt`).
 //!
-//! Each call that writes reads what it has to know, and then is one transaction, whose commit is its last call of the database. What is
-//! claimed stands under a call's end: that the disk has returned what was written so far, and that the store is open.
+//! Each call that writes reads what it has to know, and then is one transaction, whose commit is
+//! its last call of the database. What is claimed stands under a call's end: that the disk has
+//! returned what was written so far, and that the store is open.
 #![tactic(auto)]
 
 pub mod adopting;

@@ -28,7 +28,9 @@ fn or_kept<'x, S: Alter>(
     uid: &'x Text,
     elsewhere: bool,
 ) -> Result<bool, LedgerFault>
-    ensures looked { (n : ℕ) (part : Part) → Looked n part result (state S.Store conn.old) (state S.Store conn.new) (λ base needed. IsTrue needed ↔ ((elsewhere ≡ true) ⊎ IsKeptIn base uid.now)) }
+    ensures looked { (n : ℕ) (part : Part)
+        → Looked n part result (state S.Store conn.old) (state S.Store conn.new)
+        (λ base needed. IsTrue needed ↔ ((elsewhere ≡ true) ⊎ IsKeptIn base uid.now)) }
     ensures idle { conn.old.in_transaction ≡ false → conn.new.in_transaction ≡ false }
 {
     if elsewhere {
@@ -44,7 +46,9 @@ pub fn is_needed<'x, S: Alter>(
     dest: &'x Text,
     to: Progress,
 ) -> Result<bool, LedgerFault>
-    ensures looked { (n : ℕ) (part : Part) → Looked n part result (state S.Store conn.old) (state S.Store conn.new) (λ base needed. IsTrue needed ↔ IsNeededStill base uid.now dest.now to) }
+    ensures looked { (n : ℕ) (part : Part)
+        → Looked n part result (state S.Store conn.old) (state S.Store conn.new)
+        (λ base needed. IsTrue needed ↔ IsNeededStill base uid.now dest.now to) }
     ensures idle { conn.old.in_transaction ≡ false → conn.new.in_transaction ≡ false }
 {
     if is_open(to) {

@@ -11,8 +11,11 @@ use sqlite::{Alter, Error, Transaction};
 /// Lets arrivals and done rows go.
 fn clear<S: Alter>(tx: &mut Transaction<'_, S>) -> Result<(), Error>
     ensures same_reference { tx.new.conn.ghost_name ≡ tx.old.conn.ghost_name }
-    ensures step { Step result (state S.Store tx.old.conn.now) (state S.Store tx.new.conn.now) (Unit {0}
-        → GoesOn (state S.Store tx.old.conn.now) (state S.Store tx.new.conn.now) × Clears (state S.Store tx.old.conn.now).now.trees (state S.Store tx.new.conn.now).now.trees) }
+    ensures step { Step result (state S.Store tx.old.conn.now) (state S.Store tx.new.conn.now)
+        (Unit {0}
+        → GoesOn (state S.Store tx.old.conn.now) (state S.Store tx.new.conn.now)
+        × Clears (state S.Store tx.old.conn.now).now.trees
+        (state S.Store tx.new.conn.now).now.trees) }
 {
     drop_arrivals(tx)?;
     drop_done(tx)?;
@@ -23,8 +26,11 @@ fn clear<S: Alter>(tx: &mut Transaction<'_, S>) -> Result<(), Error>
 fn note_plan<'x, S: Alter>(tx: &mut Transaction<'_, S>, n: u64, plan: &'x [u8]) -> Result<(), Error>
     requires { n ≤ 2 ^ 62 }
     ensures same_reference { tx.new.conn.ghost_name ≡ tx.old.conn.ghost_name }
-    ensures step { Step result (state S.Store tx.old.conn.now) (state S.Store tx.new.conn.now) (HasSite (state S.Store tx.old.conn.now).now.trees
-        → GoesOn (state S.Store tx.old.conn.now) (state S.Store tx.new.conn.now) × NotesPlan plan.now n (state S.Store tx.old.conn.now).now.trees (state S.Store tx.new.conn.now).now.trees) }
+    ensures step { Step result (state S.Store tx.old.conn.now) (state S.Store tx.new.conn.now)
+        (HasSite (state S.Store tx.old.conn.now).now.trees
+        → GoesOn (state S.Store tx.old.conn.now) (state S.Store tx.new.conn.now)
+        × NotesPlan plan.now n (state S.Store tx.old.conn.now).now.trees
+        (state S.Store tx.new.conn.now).now.trees) }
 {
     set_plan(tx, plan)?;
     add_adopted(tx, n)?;

@@ -1,5 +1,6 @@
 //! Arrivals, whatever the tables have of them.
-ghost use Rattle.std.specs.Prelude.{◌≡◌, ◌≤◌, ◌^◌, ◌++◌, ◌∷◌, [], ◌&&◌, cond, not, is_some, IfOk, OnOk, ℕ, false, true};
+ghost use Rattle.std.specs.Prelude.{◌≡◌, ◌≤◌, ◌^◌, ◌++◌, ◌∷◌, [], ◌&&◌, cond, not, is_some, IfOk};
+ghost use Rattle.std.specs.Prelude.{OnOk, ℕ, false, true};
 ghost use Rattle.std.specs.FinSet as set;
 ghost use Rattle.sqlite.specs.Held.{state};
 ghost use Rattle.dr_ledger.specs.Bodies.{OnlyTakes};
@@ -8,7 +9,8 @@ ghost use Rattle.dr_ledger.specs.Replies.{Arrives, Reads};
 ghost use Rattle.dr_ledger.specs.SiteRoutes.{site_routing};
 ghost use Rattle.dr_site.specs.Parts.{Part};
 ghost use Rattle.dr_site.specs.Routing.{HasLineFor};
-ghost use Rattle.dr_store_schema.specs.Books.{all_kept_in, arrivals_in, bodies_of, book_of, rows_of};
+ghost use Rattle.dr_store_schema.specs.Books.{all_kept_in, arrivals_in, bodies_of, book_of};
+ghost use Rattle.dr_store_schema.specs.Books.{rows_of};
 ghost use Rattle.dr_store_changes.specs.Bringing.{AreNames, missing};
 ghost use Rattle.dr_store_changes.specs.Changes.{HasNeither};
 ghost use Rattle.dr_store_calls.specs.Calling.{Called, Looked, Nothing, advanced};
@@ -64,7 +66,9 @@ fn missing_one<'x, S: Alter>(
     dest: &'x Text,
     dests: Seq<Text>,
 ) -> Result<Seq<Text>, LedgerFault>
-    ensures looked { (n : ℕ) (part : Part) → Looked n part result (state S.Store conn.old) (state S.Store conn.new) (λ base all. all ≡ dests ++ missing (rows_of base) uid.now (dest.now ∷ [])) }
+    ensures looked { (n : ℕ) (part : Part)
+        → Looked n part result (state S.Store conn.old) (state S.Store conn.new) (λ base all.
+        all ≡ dests ++ missing (rows_of base) uid.now (dest.now ∷ [])) }
     ensures idle { conn.old.in_transaction ≡ false → conn.new.in_transaction ≡ false }
 {
     match find_row(conn, uid, dest) {
@@ -80,7 +84,9 @@ fn missing_from<'x, S: Alter>(
     uid: &'x Text,
     to: &'x [Text],
 ) -> Result<Seq<Text>, LedgerFault>
-    ensures looked { (n : ℕ) (part : Part) → Looked n part result (state S.Store conn.old) (state S.Store conn.new) (λ base dests. dests ≡ missing (rows_of base) uid.now to.now) }
+    ensures looked { (n : ℕ) (part : Part)
+        → Looked n part result (state S.Store conn.old) (state S.Store conn.new)
+        (λ base dests. dests ≡ missing (rows_of base) uid.now to.now) }
     ensures idle { conn.old.in_transaction ≡ false → conn.new.in_transaction ≡ false }
 {
     let mut dests = Seq::new(alloc);
@@ -100,7 +106,9 @@ fn missing_of<'x, S: Alter>(
     uid: &'x Text,
     targets: &'x Targets,
 ) -> Result<Seq<Text>, LedgerFault>
-    ensures looked { (n : ℕ) (part : Part) → Looked n part result (state S.Store conn.old) (state S.Store conn.new) (λ base dests. dests ≡ missing (rows_of base) uid.now targets.now.to) }
+    ensures looked { (n : ℕ) (part : Part)
+        → Looked n part result (state S.Store conn.old) (state S.Store conn.new)
+        (λ base dests. dests ≡ missing (rows_of base) uid.now targets.now.to) }
     ensures idle { conn.old.in_transaction ≡ false → conn.new.in_transaction ≡ false }
 {
     missing_from(conn, alloc, uid, targets.to.as_slice())
@@ -113,7 +121,8 @@ fn keeps_now(keep: bool, kept: bool) -> bool
     keep && !kept
 }
 
-/// How an instance that is there is taken in: where its data set isn't there, it comes again for an instance that is to be kept or has a new row.
+/// How an instance that is there is taken in: where its data set isn't there, it comes again for an
+/// instance that is to be kept or has a new row.
 fn taking_of(whole: bool, keep: bool, none: bool) -> Taking
     ensures { result ≡ taking_there whole keep none }
 {
@@ -144,9 +153,17 @@ fn bring_kept<'x, S: Alter>(
     requires to { targets.now.to ≡ (site_routing site.now).targets caller.now item.now.key }
     requires keep { targets.now.keep ≡ (site_routing site.now).keeps caller.now item.now.key }
     requires formed { AreNames targets.now.to }
-    ensures called { Called n (advanced result n) site.now result (state S.Store conn.old) (state S.Store conn.new) (λ base. IsThere base (instance_of item.now) whole × (set.contains (arrivals_in (base 5)) (caller.now, item.now.uid) ≡ false) × (dests.now ≡ missing (rows_of base) item.now.uid targets.now.to) × (kept ≡ set.contains (all_kept_in (base 7)) item.now.uid))
-        (λ base db. Arrives (site_routing site.now) caller.now (instance_of item.now) (book_of base) result (book_of db) × OnlyTakes item.now (bodies_of base) (bodies_of db))
-        (λ base db. IsAccepted site.now caller.now (instance_of item.now) (book_of base) (book_of db)) }
+    ensures called { Called n (advanced result n) site.now result (state S.Store conn.old)
+        (state S.Store conn.new)
+        (λ base. IsThere base (instance_of item.now) whole
+        × (set.contains (arrivals_in (base 5)) (caller.now, item.now.uid) ≡ false)
+        × (dests.now ≡ missing (rows_of base) item.now.uid targets.now.to)
+        × (kept ≡ set.contains (all_kept_in (base 7)) item.now.uid))
+        (λ base db. Arrives (site_routing site.now) caller.now (instance_of item.now) (book_of base)
+        result (book_of db)
+        × OnlyTakes item.now (bodies_of base) (bodies_of db))
+        (λ base db.
+        IsAccepted site.now caller.now (instance_of item.now) (book_of base) (book_of db)) }
     ensures number { OnOk result (n ≤ 2 ^ 62) }
     ensures idle { conn.new.in_transaction ≡ false }
 {
@@ -178,9 +195,16 @@ fn bring_missing<'x, S: Alter>(
     requires to { targets.now.to ≡ (site_routing site.now).targets caller.now item.now.key }
     requires keep { targets.now.keep ≡ (site_routing site.now).keeps caller.now item.now.key }
     requires formed { AreNames targets.now.to }
-    ensures called { Called n (advanced result n) site.now result (state S.Store conn.old) (state S.Store conn.new) (λ base. IsThere base (instance_of item.now) whole × (set.contains (arrivals_in (base 5)) (caller.now, item.now.uid) ≡ false) × (dests.now ≡ missing (rows_of base) item.now.uid targets.now.to))
-        (λ base db. Arrives (site_routing site.now) caller.now (instance_of item.now) (book_of base) result (book_of db) × OnlyTakes item.now (bodies_of base) (bodies_of db))
-        (λ base db. IsAccepted site.now caller.now (instance_of item.now) (book_of base) (book_of db)) }
+    ensures called { Called n (advanced result n) site.now result (state S.Store conn.old)
+        (state S.Store conn.new)
+        (λ base. IsThere base (instance_of item.now) whole
+        × (set.contains (arrivals_in (base 5)) (caller.now, item.now.uid) ≡ false)
+        × (dests.now ≡ missing (rows_of base) item.now.uid targets.now.to))
+        (λ base db. Arrives (site_routing site.now) caller.now (instance_of item.now) (book_of base)
+        result (book_of db)
+        × OnlyTakes item.now (bodies_of base) (bodies_of db))
+        (λ base db.
+        IsAccepted site.now caller.now (instance_of item.now) (book_of base) (book_of db)) }
     ensures number { OnOk result (n ≤ 2 ^ 62) }
     ensures idle { conn.new.in_transaction ≡ false }
 {
@@ -211,9 +235,15 @@ fn bring_known<'x, S: Alter>(
     requires to { targets.now.to ≡ (site_routing site.now).targets caller.now item.now.key }
     requires keep { targets.now.keep ≡ (site_routing site.now).keeps caller.now item.now.key }
     requires formed { AreNames targets.now.to }
-    ensures called { Called n (advanced result n) site.now result (state S.Store conn.old) (state S.Store conn.new) (λ base. IsThere base (instance_of item.now) whole × (set.contains (arrivals_in (base 5)) (caller.now, item.now.uid) ≡ false))
-        (λ base db. Arrives (site_routing site.now) caller.now (instance_of item.now) (book_of base) result (book_of db) × OnlyTakes item.now (bodies_of base) (bodies_of db))
-        (λ base db. IsAccepted site.now caller.now (instance_of item.now) (book_of base) (book_of db)) }
+    ensures called { Called n (advanced result n) site.now result (state S.Store conn.old)
+        (state S.Store conn.new)
+        (λ base. IsThere base (instance_of item.now) whole
+        × (set.contains (arrivals_in (base 5)) (caller.now, item.now.uid) ≡ false))
+        (λ base db. Arrives (site_routing site.now) caller.now (instance_of item.now) (book_of base)
+        result (book_of db)
+        × OnlyTakes item.now (bodies_of base) (bodies_of db))
+        (λ base db.
+        IsAccepted site.now caller.now (instance_of item.now) (book_of base) (book_of db)) }
     ensures number { OnOk result (n ≤ 2 ^ 62) }
     ensures idle { conn.new.in_transaction ≡ false }
 {
@@ -240,9 +270,15 @@ fn arrive_first<'x, S: Alter>(
     requires line { HasLineFor site.now caller.now item.now.key }
     requires instance { instance.now ≡ instance_of item.now }
     requires is_item { IsItem item.now }
-    ensures called { Called n (advanced result n) site.now result (state S.Store conn.old) (state S.Store conn.new) (λ base. IsThere base (instance_of item.now) whole × (set.contains (arrivals_in (base 5)) (caller.now, item.now.uid) ≡ false))
-        (λ base db. Arrives (site_routing site.now) caller.now (instance_of item.now) (book_of base) result (book_of db) × OnlyTakes item.now (bodies_of base) (bodies_of db))
-        (λ base db. IsAccepted site.now caller.now (instance_of item.now) (book_of base) (book_of db)) }
+    ensures called { Called n (advanced result n) site.now result (state S.Store conn.old)
+        (state S.Store conn.new)
+        (λ base. IsThere base (instance_of item.now) whole
+        × (set.contains (arrivals_in (base 5)) (caller.now, item.now.uid) ≡ false))
+        (λ base db. Arrives (site_routing site.now) caller.now (instance_of item.now) (book_of base)
+        result (book_of db)
+        × OnlyTakes item.now (bodies_of base) (bodies_of db))
+        (λ base db.
+        IsAccepted site.now caller.now (instance_of item.now) (book_of base) (book_of db)) }
     ensures number { OnOk result (n ≤ 2 ^ 62) }
     ensures idle { conn.new.in_transaction ≡ false }
 {
@@ -270,9 +306,15 @@ fn arrive_there<'x, S: Alter>(
     requires line { HasLineFor site.now caller.now item.now.key }
     requires instance { instance.now ≡ instance_of item.now }
     requires is_item { IsItem item.now }
-    ensures called { Called n (advanced result n) site.now result (state S.Store conn.old) (state S.Store conn.new) (λ base. IsThere base (instance_of item.now) whole × (brought ≡ set.contains (arrivals_in (base 5)) (caller.now, item.now.uid)))
-        (λ base db. Arrives (site_routing site.now) caller.now (instance_of item.now) (book_of base) result (book_of db) × OnlyTakes item.now (bodies_of base) (bodies_of db))
-        (λ base db. IsAccepted site.now caller.now (instance_of item.now) (book_of base) (book_of db)) }
+    ensures called { Called n (advanced result n) site.now result (state S.Store conn.old)
+        (state S.Store conn.new)
+        (λ base. IsThere base (instance_of item.now) whole
+        × (brought ≡ set.contains (arrivals_in (base 5)) (caller.now, item.now.uid)))
+        (λ base db. Arrives (site_routing site.now) caller.now (instance_of item.now) (book_of base)
+        result (book_of db)
+        × OnlyTakes item.now (bodies_of base) (bodies_of db))
+        (λ base db.
+        IsAccepted site.now caller.now (instance_of item.now) (book_of base) (book_of db)) }
     ensures number { OnOk result (n ≤ 2 ^ 62) }
     ensures idle { conn.new.in_transaction ≡ false }
 {
@@ -297,9 +339,14 @@ fn arrive_known<'x, S: Alter>(
     requires line { HasLineFor site.now caller.now item.now.key }
     requires instance { instance.now ≡ instance_of item.now }
     requires is_item { IsItem item.now }
-    ensures called { Called n (advanced result n) site.now result (state S.Store conn.old) (state S.Store conn.new) (λ base. IsThere base (instance_of item.now) whole)
-        (λ base db. Arrives (site_routing site.now) caller.now (instance_of item.now) (book_of base) result (book_of db) × OnlyTakes item.now (bodies_of base) (bodies_of db))
-        (λ base db. IsAccepted site.now caller.now (instance_of item.now) (book_of base) (book_of db)) }
+    ensures called { Called n (advanced result n) site.now result (state S.Store conn.old)
+        (state S.Store conn.new)
+        (λ base. IsThere base (instance_of item.now) whole)
+        (λ base db. Arrives (site_routing site.now) caller.now (instance_of item.now) (book_of base)
+        result (book_of db)
+        × OnlyTakes item.now (bodies_of base) (bodies_of db))
+        (λ base db.
+        IsAccepted site.now caller.now (instance_of item.now) (book_of base) (book_of db)) }
     ensures number { OnOk result (n ≤ 2 ^ 62) }
     ensures idle { conn.new.in_transaction ≡ false }
 {
@@ -323,9 +370,14 @@ fn arrive_new<'x, S: Alter>(
     requires line { HasLineFor site.now caller.now item.now.key }
     requires instance { instance.now ≡ instance_of item.now }
     requires is_item { IsItem item.now }
-    ensures called { Called n (advanced result n) site.now result (state S.Store conn.old) (state S.Store conn.new) (λ base. HasNeither item.now.uid base)
-        (λ base db. Arrives (site_routing site.now) caller.now (instance_of item.now) (book_of base) result (book_of db) × OnlyTakes item.now (bodies_of base) (bodies_of db))
-        (λ base db. IsAccepted site.now caller.now (instance_of item.now) (book_of base) (book_of db)) }
+    ensures called { Called n (advanced result n) site.now result (state S.Store conn.old)
+        (state S.Store conn.new)
+        (λ base. HasNeither item.now.uid base)
+        (λ base db. Arrives (site_routing site.now) caller.now (instance_of item.now) (book_of base)
+        result (book_of db)
+        × OnlyTakes item.now (bodies_of base) (bodies_of db))
+        (λ base db.
+        IsAccepted site.now caller.now (instance_of item.now) (book_of base) (book_of db)) }
     ensures number { OnOk result (n ≤ 2 ^ 62) }
     ensures idle { conn.new.in_transaction ≡ false }
 {
@@ -350,9 +402,14 @@ fn arrive_by<'x, S: Alter>(
     requires line { HasLineFor site.now caller.now item.now.key }
     requires instance { instance.now ≡ instance_of item.now }
     requires is_item { IsItem item.now }
-    ensures called { Called n (advanced result n) site.now result (state S.Store conn.old) (state S.Store conn.new) (λ base. IsKnown base (instance_of item.now) known)
-        (λ base db. Arrives (site_routing site.now) caller.now (instance_of item.now) (book_of base) result (book_of db) × OnlyTakes item.now (bodies_of base) (bodies_of db))
-        (λ base db. IsAccepted site.now caller.now (instance_of item.now) (book_of base) (book_of db)) }
+    ensures called { Called n (advanced result n) site.now result (state S.Store conn.old)
+        (state S.Store conn.new)
+        (λ base. IsKnown base (instance_of item.now) known)
+        (λ base db. Arrives (site_routing site.now) caller.now (instance_of item.now) (book_of base)
+        result (book_of db)
+        × OnlyTakes item.now (bodies_of base) (bodies_of db))
+        (λ base db.
+        IsAccepted site.now caller.now (instance_of item.now) (book_of base) (book_of db)) }
     ensures number { OnOk result (n ≤ 2 ^ 62) }
     ensures idle { conn.new.in_transaction ≡ false }
 {
@@ -365,7 +422,8 @@ fn arrive_by<'x, S: Alter>(
     }
 }
 
-/// Takes an arrival that the certificate has a line for; what the tables have of its uid is looked up.
+/// Takes an arrival that the certificate has a line for; what the tables have of its uid is looked
+/// up.
 ///
 /// Errors: Conflict, Store and Memory.
 pub fn receive<'x, S: Alter>(
@@ -381,9 +439,13 @@ pub fn receive<'x, S: Alter>(
     requires line { HasLineFor site.now caller.now item.now.key }
     requires instance { instance.now ≡ instance_of item.now }
     requires is_item { IsItem item.now }
-    ensures called { Called n (advanced result n) site.now result (state S.Store conn.old) (state S.Store conn.new) Nothing
-        (λ base db. Arrives (site_routing site.now) caller.now (instance_of item.now) (book_of base) result (book_of db) × OnlyTakes item.now (bodies_of base) (bodies_of db))
-        (λ base db. IsAccepted site.now caller.now (instance_of item.now) (book_of base) (book_of db)) }
+    ensures called { Called n (advanced result n) site.now result (state S.Store conn.old)
+        (state S.Store conn.new) Nothing
+        (λ base db. Arrives (site_routing site.now) caller.now (instance_of item.now) (book_of base)
+        result (book_of db)
+        × OnlyTakes item.now (bodies_of base) (bodies_of db))
+        (λ base db.
+        IsAccepted site.now caller.now (instance_of item.now) (book_of base) (book_of db)) }
     ensures number { OnOk result (n ≤ 2 ^ 62) }
     ensures idle { conn.new.in_transaction ≡ false }
 {
@@ -395,7 +457,8 @@ pub fn receive<'x, S: Alter>(
 
 /// Takes an item from a caller, `-` for what enters at the node itself.
 ///
-/// Errors: NoLine, Conflict, Store and Memory, tested in this order; Store and Memory may come before a conflict is seen.
+/// Errors: NoLine, Conflict, Store and Memory, tested in this order; Store and Memory may come
+/// before a conflict is seen.
 pub fn arrive<'x, S: Alter>(
     conn: &mut Connection<S>,
     alloc: Global,
@@ -405,8 +468,11 @@ pub fn arrive<'x, S: Alter>(
     item: Item,
 ) -> Result<Arrived, LedgerFault>
     requires idle { conn.old.in_transaction ≡ false }
-    ensures called { Called n (advanced result n) site.now result (state S.Store conn.old) (state S.Store conn.new) Nothing
-        (λ base db. Arrives (site_routing site.now) caller.now (instance_of item) (book_of base) result (book_of db) × OnlyTakes item (bodies_of base) (bodies_of db))
+    ensures called { Called n (advanced result n) site.now result (state S.Store conn.old)
+        (state S.Store conn.new) Nothing
+        (λ base db. Arrives (site_routing site.now) caller.now (instance_of item) (book_of base)
+        result (book_of db)
+        × OnlyTakes item (bodies_of base) (bodies_of db))
         (λ base db. IsAccepted site.now caller.now (instance_of item) (book_of base) (book_of db)) }
     ensures number { OnOk result (n ≤ 2 ^ 62) }
     ensures idle { conn.new.in_transaction ≡ false }

@@ -28,9 +28,11 @@ fn settle_row<'x, S: Alter>(
 ) -> Result<(), LedgerFault>
     requires idle { conn.old.in_transaction ≡ false }
     requires early { now ≤ 2 ^ 62 }
-    ensures called { (part : Part) → Called n (advanced result n) part result (state S.Store conn.old) (state S.Store conn.new)
+    ensures called { (part : Part)
+        → Called n (advanced result n) part result (state S.Store conn.old) (state S.Store conn.new)
         (λ base. map.get (rows_of base) (uid.now, dest.now) ≡ Some (Progress.Waiting was.0 was.1))
-        (λ base db. Settles uid.now dest.now outcome now (book_of base) result (book_of db) × OnlyLetsGo (bodies_of base) (bodies_of db))
+        (λ base db. Settles uid.now dest.now outcome now (book_of base) result (book_of db)
+        × OnlyLetsGo (bodies_of base) (bodies_of db))
         (λ base db. Settles uid.now dest.now outcome now (book_of base) (Ok tt) (book_of db)) }
     ensures number { OnOk result (n ≤ 2 ^ 62) }
     ensures idle { conn.new.in_transaction ≡ false }
@@ -64,9 +66,11 @@ fn settle_found<'x, S: Alter>(
 ) -> Result<(), LedgerFault>
     requires idle { conn.old.in_transaction ≡ false }
     requires early { now ≤ 2 ^ 62 }
-    ensures called { (part : Part) → Called n (advanced result n) part result (state S.Store conn.old) (state S.Store conn.new)
+    ensures called { (part : Part)
+        → Called n (advanced result n) part result (state S.Store conn.old) (state S.Store conn.new)
         (λ base. found ≡ map.get (rows_of base) (uid.now, dest.now))
-        (λ base db. Settles uid.now dest.now outcome now (book_of base) result (book_of db) × OnlyLetsGo (bodies_of base) (bodies_of db))
+        (λ base db. Settles uid.now dest.now outcome now (book_of base) result (book_of db)
+        × OnlyLetsGo (bodies_of base) (bodies_of db))
         (λ base db. Settles uid.now dest.now outcome now (book_of base) (Ok tt) (book_of db)) }
     ensures number { OnOk result (n ≤ 2 ^ 62) }
     ensures idle { conn.new.in_transaction ≡ false }
@@ -81,7 +85,8 @@ fn settle_found<'x, S: Alter>(
     }
 }
 
-/// Settles a row, if it waits: it is done, waits again or is held. Its data set goes where it is needed no more.
+/// Settles a row, if it waits: it is done, waits again or is held. Its data set goes where it is
+/// needed no more.
 ///
 /// Errors: NotWaiting, Store and Memory.
 pub fn settle<'x, S: Alter>(
@@ -94,8 +99,11 @@ pub fn settle<'x, S: Alter>(
 ) -> Result<(), LedgerFault>
     requires idle { conn.old.in_transaction ≡ false }
     requires early { now ≤ 2 ^ 62 }
-    ensures called { (part : Part) → Called n (advanced result n) part result (state S.Store conn.old) (state S.Store conn.new) Nothing
-        (λ base db. Settles uid.now dest.now outcome now (book_of base) result (book_of db) × OnlyLetsGo (bodies_of base) (bodies_of db))
+    ensures called { (part : Part)
+        → Called n (advanced result n) part result (state S.Store conn.old) (state S.Store conn.new)
+        Nothing
+        (λ base db. Settles uid.now dest.now outcome now (book_of base) result (book_of db)
+        × OnlyLetsGo (bodies_of base) (bodies_of db))
         (λ base db. Settles uid.now dest.now outcome now (book_of base) (Ok tt) (book_of db)) }
     ensures number { OnOk result (n ≤ 2 ^ 62) }
     ensures idle { conn.new.in_transaction ≡ false }
@@ -115,9 +123,11 @@ fn requeue_row<'x, S: Alter>(
     why: Cause,
 ) -> Result<(), LedgerFault>
     requires idle { conn.old.in_transaction ≡ false }
-    ensures called { (part : Part) → Called n (advanced result n) part result (state S.Store conn.old) (state S.Store conn.new)
+    ensures called { (part : Part)
+        → Called n (advanced result n) part result (state S.Store conn.old) (state S.Store conn.new)
         (λ base. map.get (rows_of base) (uid.now, dest.now) ≡ Some (Progress.Held why))
-        (λ base db. Requeues uid.now dest.now (book_of base) result (book_of db) × OnlyLetsGo (bodies_of base) (bodies_of db))
+        (λ base db. Requeues uid.now dest.now (book_of base) result (book_of db)
+        × OnlyLetsGo (bodies_of base) (bodies_of db))
         (λ base db. Requeues uid.now dest.now (book_of base) (Ok tt) (book_of db)) }
     ensures number { OnOk result (n ≤ 2 ^ 62) }
     ensures idle { conn.new.in_transaction ≡ false }
@@ -139,9 +149,11 @@ fn requeue_found<'x, S: Alter>(
     found: Option<Progress>,
 ) -> Result<(), LedgerFault>
     requires idle { conn.old.in_transaction ≡ false }
-    ensures called { (part : Part) → Called n (advanced result n) part result (state S.Store conn.old) (state S.Store conn.new)
+    ensures called { (part : Part)
+        → Called n (advanced result n) part result (state S.Store conn.old) (state S.Store conn.new)
         (λ base. found ≡ map.get (rows_of base) (uid.now, dest.now))
-        (λ base db. Requeues uid.now dest.now (book_of base) result (book_of db) × OnlyLetsGo (bodies_of base) (bodies_of db))
+        (λ base db. Requeues uid.now dest.now (book_of base) result (book_of db)
+        × OnlyLetsGo (bodies_of base) (bodies_of db))
         (λ base db. Requeues uid.now dest.now (book_of base) (Ok tt) (book_of db)) }
     ensures number { OnOk result (n ≤ 2 ^ 62) }
     ensures idle { conn.new.in_transaction ≡ false }
@@ -164,8 +176,11 @@ pub fn requeue<'x, S: Alter>(
     dest: &'x Text,
 ) -> Result<(), LedgerFault>
     requires idle { conn.old.in_transaction ≡ false }
-    ensures called { (part : Part) → Called n (advanced result n) part result (state S.Store conn.old) (state S.Store conn.new) Nothing
-        (λ base db. Requeues uid.now dest.now (book_of base) result (book_of db) × OnlyLetsGo (bodies_of base) (bodies_of db))
+    ensures called { (part : Part)
+        → Called n (advanced result n) part result (state S.Store conn.old) (state S.Store conn.new)
+        Nothing
+        (λ base db. Requeues uid.now dest.now (book_of base) result (book_of db)
+        × OnlyLetsGo (bodies_of base) (bodies_of db))
         (λ base db. Requeues uid.now dest.now (book_of base) (Ok tt) (book_of db)) }
     ensures number { OnOk result (n ≤ 2 ^ 62) }
     ensures idle { conn.new.in_transaction ≡ false }

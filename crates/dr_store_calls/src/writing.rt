@@ -24,7 +24,8 @@ pub fn written<C: Change, S: Alter>(
     ensures idle { conn.new.in_transaction ≡ false }
     ensures number { OnOk result (n ≤ 2 ^ 62) }
     ensures fault { IfErr result IsOwnFault }
-    ensures written { Written n (C.asks change.now) (C.makes change.now n) result (state S.Store conn.old) (state S.Store conn.new) }
+    ensures written { Written n (C.asks change.now) (C.makes change.now n) result
+        (state S.Store conn.old) (state S.Store conn.new) }
 {
     if n > MOST_LINES {
         return Err(LedgerFault::Store);

@@ -1,5 +1,6 @@
 -- First arrivals: what each makes of the tables.
-use Rattle.std.specs.Prelude.{◌≡◌, ◌≤◌, ◌==◌, ◌&&◌, ℕ, Bool, cond, not, List, [], ◌∷◌, Contains, filter, Option, None, Some, IsSome}
+use Rattle.std.specs.Prelude.{◌≡◌, ◌≤◌, ◌==◌, ◌&&◌, ℕ, Bool, cond, not, List, [], ◌∷◌, Contains}
+use Rattle.std.specs.Prelude.{filter, Option, None, Some, IsSome}
 use Rattle.std.specs.FinMap as map
 use Rattle.std.specs.FinMap.{FinMap}
 use Rattle.std.specs.FinSet as set
@@ -12,7 +13,8 @@ use Rattle.dr_ledger.specs.declared.item.Progress.{Progress}
 use Rattle.dr_ledger.specs.Bodies.{Bodies}
 use Rattle.dr_ledger.specs.Books.{with_rows}
 use Rattle.dr_ledger.specs.Pairs.{Pair, pair_cmp}
-use Rattle.dr_store_schema.specs.Books.{all_kept_in, arrivals_in, bodies_of, items_of, keep_mark, names_in, rows_of}
+use Rattle.dr_store_schema.specs.Books.{all_kept_in, arrivals_in, bodies_of, items_of, keep_mark}
+use Rattle.dr_store_schema.specs.Books.{names_in, rows_of}
 use Rattle.dr_store_schema.specs.Cells.{number_in, text_in}
 use Rattle.dr_store_writes.specs.Effects.{arrived_line}
 use Rattle.dr_store_changes.specs.declared.first.Taking.{Taking}
@@ -59,7 +61,8 @@ pub record TakesIn (how : Taking) (item : Instance) (body : List ℕ) (old new :
 
 -- The instance is kept, if it is to be. All other tables stay.
 pub record KeepsIf (uid : Text) (keeps : Bool) (old new : Trees) : Type 0 where
-  pub kept : all_kept_in (new 7) ≡ cond keeps (set.insert (all_kept_in (old 7)) uid) (all_kept_in (old 7))
+  pub kept : all_kept_in (new 7)
+      ≡ cond keeps (set.insert (all_kept_in (old 7)) uid) (all_kept_in (old 7))
   pub site : new 0 ≡ old 0
   pub items : new 1 ≡ old 1
   pub prints : new 3 ≡ old 3
@@ -70,16 +73,21 @@ pub record KeepsIf (uid : Text) (keeps : Bool) (old new : Trees) : Type 0 where
 
 -- ---- all of it
 
--- A first arrival with line n: the item is there, and its data set if it comes; the caller has brought it; it waits for each of these
--- destinations, and is kept if it is to be; and the line goes on to these names, `-` standing for keeping.
-pub record Brings (how : Taking) (caller : Text) (item : Instance) (body : List ℕ) (dests : List Text) (keeps : Bool) (names : List Text) (n : ℕ) (old new : Trees) : Type 0 where
+-- A first arrival with line n: the item is there, and its data set if it comes; the caller has
+-- brought it; it waits for each of these destinations, and is kept if it is to be; and the line
+-- goes on to these names, `-` standing for keeping.
+pub record Brings (how : Taking) (caller : Text) (item : Instance) (body : List ℕ)
+    (dests : List Text) (keeps : Bool) (names : List Text) (n : ℕ) (old new : Trees) : Type 0 where
   pub items : items_of new ≡ items_taken how (items_of old) item
   pub bodies : bodies_of new ≡ bodies_taken how (bodies_of old) item.uid body
   pub arrivals : arrivals_in (new 5) ≡ set.insert (arrivals_in (old 5)) (caller, item.uid)
   pub rows : rows_of new ≡ with_rows (rows_of old) item.uid dests
-  pub kept : all_kept_in (new 7) ≡ cond keeps (set.insert (all_kept_in (old 7)) item.uid) (all_kept_in (old 7))
+  pub kept : all_kept_in (new 7)
+      ≡ cond keeps (set.insert (all_kept_in (old 7)) item.uid) (all_kept_in (old 7))
   pub journal : new 11 ≡ put_row (arrived_line n 0 caller item.uid) (old 11)
-  pub targets : (m : ℕ) → names_in (new 12) m ≡ cond (n == m) (with_names (names_in (old 12) m) names) (names_in (old 12) m)
+  pub targets : (m : ℕ)
+      → names_in (new 12) m
+      ≡ cond (n == m) (with_names (names_in (old 12) m) names) (names_in (old 12) m)
   pub site : new 0 ≡ old 0
 
 -- ---- what the routes say of it

@@ -10,7 +10,8 @@ use Rattle.dr_ledger.specs.declared.item.Instance.{Instance}
 use Rattle.dr_ledger.specs.declared.item.Progress.{Progress}
 use Rattle.dr_ledger.specs.Books.{with_rows}
 use Rattle.dr_ledger.specs.Pairs.{Pair}
-use Rattle.dr_store_schema.specs.Books.{Names, all_kept_in, arrivals_in, bodies_of, contents_in, items_of, names_in, rows_of, wholes_in}
+use Rattle.dr_store_schema.specs.Books.{Names, all_kept_in, arrivals_in, bodies_of, contents_in}
+use Rattle.dr_store_schema.specs.Books.{items_of, names_in, rows_of, wholes_in}
 use Rattle.dr_store_writes.specs.Effects.{GoesOn, HasItem, HasPrint, HasRow}
 
 -- ---- a data set is let go
@@ -30,7 +31,8 @@ pub record LetsGo (uid : Text) (old new : Trees) : Type 0 where
   pub journal : new 11 ≡ old 11
   pub targets : new 12 ≡ old 12
 
--- the data set of that uid is there again; what is known of the items stays, and so do all other tables
+-- the data set of that uid is there again; what is known of the items stays, and so do all other
+-- tables
 pub record TakesBack (uid : Text) (body : List ℕ) (old new : Trees) : Type 0 where
   pub items : items_of new ≡ items_of old
   pub bodies : bodies_of new ≡ map.insert (bodies_of old) uid body
@@ -43,7 +45,8 @@ pub record TakesBack (uid : Text) (body : List ℕ) (old new : Trees) : Type 0 w
 
 -- ---- a row moves on: a settling, or a requeuing
 
--- inside a transaction a row moved on, and the line stands in the journal; all other tables are as they were
+-- inside a transaction a row moved on, and the line stands in the journal; all other tables are as
+-- they were
 pub record Moved (at : Pair) (to : Progress) (line : Row) (old new : State) : Type 0 where
   pub goes_on : GoesOn old new
   pub rows : rows_of new.now.trees ≡ map.insert (rows_of old.now.trees) at to
@@ -55,8 +58,10 @@ pub record Moved (at : Pair) (to : Progress) (line : Row) (old new : State) : Ty
   pub kept : new.now.trees 7 ≡ old.now.trees 7
   pub targets : new.now.trees 12 ≡ old.now.trees 12
 
--- The row moves on, the line stands in the journal, and the data set goes if it is to go. All else stays.
-pub record MovesOn (at : Pair) (to : Progress) (line : Row) (lets_go : Bool) (old new : Trees) : Type 0 where
+-- The row moves on, the line stands in the journal, and the data set goes if it is to go. All else
+-- stays.
+pub record MovesOn (at : Pair) (to : Progress) (line : Row) (lets_go : Bool)
+    (old new : Trees) : Type 0 where
   pub rows : rows_of new ≡ map.insert (rows_of old) at to
   pub journal : new 11 ≡ put_row line (old 11)
   pub items : items_of new ≡ items_of old
@@ -85,9 +90,11 @@ pub record AddsOnlyLine (line : Row) (old new : Trees) : Type 0 where
 
 -- neither the item nor its print is there
 abbrev pub HasNeither : Text → Trees → Type 0
-HasNeither uid db = (map.get (contents_in (db 1)) uid ≡ None) × (map.get (wholes_in (db 3)) uid ≡ None)
+HasNeither uid db =
+    (map.get (contents_in (db 1)) uid ≡ None) × (map.get (wholes_in (db 3)) uid ≡ None)
 
--- An instance is there that wasn't, with this data set, which counts as there where `whole` isn't 0. All other tables stay.
+-- An instance is there that wasn't, with this data set, which counts as there where `whole`
+-- isn't 0. All other tables stay.
 pub record Stores (item : Instance) (body : List ℕ) (whole : ℕ) (old new : Trees) : Type 0 where
   pub items : items_of new ≡ map.insert (items_of old) item.uid item
   pub contents : contents_in (new 1) ≡ map.insert (contents_in (old 1)) item.uid body
@@ -99,7 +106,8 @@ pub record Stores (item : Instance) (body : List ℕ) (whole : ℕ) (old new : T
   pub journal : new 11 ≡ old 11
   pub targets : new 12 ≡ old 12
 
--- queue has a row for each of the destinations, which waits, untried; those that had one would refuse it. All other tables stay.
+-- queue has a row for each of the destinations, which waits, untried; those that had one would
+-- refuse it. All other tables stay.
 pub record AddsRows (uid : Text) (dests : List Text) (old new : Trees) : Type 0 where
   pub rows : rows_of new ≡ with_rows (rows_of old) uid dests
   pub site : new 0 ≡ old 0
@@ -137,9 +145,12 @@ abbrev pub with_names : Names → List Text → Names
 with_names names [] = names
 with_names names (name ∷ more) = with_names (map.insert names name tt) more
 
--- Line n goes on to each of these too, `-` standing for keeping; other lines go on as before. All other tables stay.
+-- Line n goes on to each of these too, `-` standing for keeping; other lines go on as before. All
+-- other tables stay.
 pub record AddsTargets (n : ℕ) (names : List Text) (old new : Trees) : Type 0 where
-  pub targets : (m : ℕ) → names_in (new 12) m ≡ cond (n == m) (with_names (names_in (old 12) m) names) (names_in (old 12) m)
+  pub targets : (m : ℕ)
+      → names_in (new 12) m
+      ≡ cond (n == m) (with_names (names_in (old 12) m) names) (names_in (old 12) m)
   pub site : new 0 ≡ old 0
   pub items : new 1 ≡ old 1
   pub prints : new 3 ≡ old 3

@@ -1,4 +1,5 @@
--- Laws of the calls that write: what they make of the tables is what the ledger's call makes of the book.
+-- Laws of the calls that write: what they make of the tables is what the ledger's call makes of the
+-- book.
 use Rattle.std.specs.Prelude.{◌≡◌, ◌&&◌, ℕ, Bool, true, false, not, List, Some}
 use Rattle.std.specs.FinMap as map
 use Rattle.std.specs.FinSet as set
@@ -14,58 +15,90 @@ use Rattle.dr_ledger.specs.declared.item.Progress.TheVariants.{Waiting, Held}
 use Rattle.dr_ledger.specs.Bodies.{Bodies, HasBodies, IsNeeded}
 use Rattle.dr_ledger.specs.Books.{Book, Arrival, Repeat, Settling, Requeuing, after, row_after}
 use Rattle.dr_ledger.specs.Items.{IsItem, instance_of}
-use Rattle.dr_store_schema.specs.Books.{AreBelow, all_kept_in, bodies_of, book_of, items_of, rows_of}
+use Rattle.dr_store_schema.specs.Books.{AreBelow, all_kept_in, bodies_of, book_of, items_of}
+use Rattle.dr_store_schema.specs.Books.{rows_of}
 use Rattle.dr_store_writes.specs.Effects.{arrived_line, requeued_line, settled_line}
 use Rattle.dr_store_changes.specs.declared.first.Taking.{Taking}
 use Rattle.dr_store_changes.specs.declared.first.Taking.TheVariants as taking
-use Rattle.dr_store_changes.specs.Bringing.{AreJoined, AreNames, Brings, IsKnownFor, bodies_taken, missing, names_for}
+use Rattle.dr_store_changes.specs.Bringing.{AreJoined, AreNames, Brings, IsKnownFor, bodies_taken}
+use Rattle.dr_store_changes.specs.Bringing.{missing, names_for}
 use Rattle.dr_store_changes.specs.Changes.{AddsOnlyLine, MovesOn}
 
 -- Where a row waits, to move it on by an outcome with the line of its settling is to settle it.
 abbrev pub SettlingsSettle : Type 0
-SettlingsSettle = (old new : Trees) (n : ℕ) (uid dest : Text) (tries due : ℕ) (what : Outcome) (now : ℕ) (lets_go : Bool) → AreBelow n (old 11) →
-    map.get (rows_of old) (uid, dest) ≡ Some (Waiting tries due) → MovesOn (uid, dest) (row_after tries what now) (settled_line n uid dest what now) lets_go old new →
-    book_of new ≡ after (Settling uid dest what now) (book_of old)
+SettlingsSettle =
+    (old new : Trees) (n : ℕ) (uid dest : Text) (tries due : ℕ) (what : Outcome) (now : ℕ)
+    (lets_go : Bool)
+    → AreBelow n (old 11)
+    → map.get (rows_of old) (uid, dest) ≡ Some (Waiting tries due)
+    → MovesOn (uid, dest) (row_after tries what now) (settled_line n uid dest what now) lets_go old
+    new
+    → book_of new ≡ after (Settling uid dest what now) (book_of old)
 
 -- Where a row is held, to let it wait again with the line of its requeuing is to queue it again.
 abbrev pub RequeuingsRequeue : Type 0
-RequeuingsRequeue = (old new : Trees) (n : ℕ) (uid dest : Text) (why : Cause) (lets_go : Bool) → AreBelow n (old 11) →
-    map.get (rows_of old) (uid, dest) ≡ Some (Held why) → MovesOn (uid, dest) (Waiting 0 0) (requeued_line n uid dest) lets_go old new →
-    book_of new ≡ after (Requeuing uid dest) (book_of old)
+RequeuingsRequeue =
+    (old new : Trees) (n : ℕ) (uid dest : Text) (why : Cause) (lets_go : Bool)
+    → AreBelow n (old 11)
+    → map.get (rows_of old) (uid, dest) ≡ Some (Held why)
+    → MovesOn (uid, dest) (Waiting 0 0) (requeued_line n uid dest) lets_go old new
+    → book_of new ≡ after (Requeuing uid dest) (book_of old)
 
 -- the data set goes just where the book that is made needs it no more
 abbrev pub GoesWhereNeededNoMore : Bool → Trees → Text → Type 0
 GoesWhereNeededNoMore true new uid = IsNeeded (book_of new) uid → ⊥
 GoesWhereNeededNoMore false new uid = IsNeeded (book_of new) uid
 
--- A row that waited or was held moves on. Where its data set goes just if it is needed no more, the data sets are those that are needed.
+-- A row that waited or was held moves on. Where its data set goes just if it is needed no more, the
+-- data sets are those that are needed.
 abbrev pub WhatIsNeededStays : Type 0
-WhatIsNeededStays = (old new : Trees) (uid dest : Text) (was to : Progress) (line : Row) (lets_go : Bool) → HasBodies (book_of old) (bodies_of old) →
-    IsNeeded (book_of old) uid → MovesOn (uid, dest) to line lets_go old new → GoesWhereNeededNoMore lets_go new uid → HasBodies (book_of new) (bodies_of new)
+WhatIsNeededStays =
+    (old new : Trees) (uid dest : Text) (was to : Progress) (line : Row) (lets_go : Bool)
+    → HasBodies (book_of old) (bodies_of old)
+    → IsNeeded (book_of old) uid
+    → MovesOn (uid, dest) to line lets_go old new
+    → GoesWhereNeededNoMore lets_go new uid
+    → HasBodies (book_of new) (bodies_of new)
 
 -- Where an instance is there, the line of its repeat is all that its repeat adds to the book.
 abbrev pub RepeatsRepeat : Type 0
-RepeatsRepeat = (old new : Trees) (n : ℕ) (caller uid : Text) (item : Instance) → AreBelow n (old 11) → map.get (items_of old) uid ≡ Some item →
-    AddsOnlyLine (arrived_line n 1 caller uid) old new → (book_of new ≡ after (Repeat caller item) (book_of old)) × (bodies_of new ≡ bodies_of old)
+RepeatsRepeat =
+    (old new : Trees) (n : ℕ) (caller uid : Text) (item : Instance)
+    → AreBelow n (old 11)
+    → map.get (items_of old) uid ≡ Some item
+    → AddsOnlyLine (arrived_line n 1 caller uid) old new
+    → (book_of new ≡ after (Repeat caller item) (book_of old)) × (bodies_of new ≡ bodies_of old)
 
--- An instance that comes from a caller for the first time, with rows for those of its destinations that have none, kept if it is to be and
--- isn't, and with the line and its names: that is its arrival.
+-- An instance that comes from a caller for the first time, with rows for those of its destinations
+-- that have none, kept if it is to be and isn't, and with the line and its names: that is its
+-- arrival.
 abbrev pub ArrivalsArrive : Type 0
-ArrivalsArrive = (how : Taking) (old new : Trees) (n : ℕ) (caller : Text) (item : Instance) (body : List ℕ) (to : List Text) (keep : Bool) → AreBelow n (old 11) → AreJoined n old →
-    IsKnownFor how item (map.get (items_of old) item.uid) → AreNames to →
-    Brings how caller item body (missing (rows_of old) item.uid to) (keep && not (set.contains (all_kept_in (old 7)) item.uid)) (names_for keep to) n old new →
-    book_of new ≡ after (Arrival caller item to keep) (book_of old)
+ArrivalsArrive =
+    (how : Taking) (old new : Trees) (n : ℕ) (caller : Text) (item : Instance) (body : List ℕ)
+    (to : List Text) (keep : Bool)
+    → AreBelow n (old 11) → AreJoined n old
+    → IsKnownFor how item (map.get (items_of old) item.uid)
+    → AreNames to
+    → Brings how caller item body (missing (rows_of old) item.uid to)
+    (keep && not (set.contains (all_kept_in (old 7)) item.uid)) (names_for keep to) n old new
+    → book_of new ≡ after (Arrival caller item to keep) (book_of old)
 
 -- the data set comes just where the book that is made needs it and it isn't there
 abbrev pub ComesWhereNeeded : Taking → Book → Bodies → Text → Type 0
 ComesWhereNeeded taking.New made bodies uid = IsNeeded made uid
 ComesWhereNeeded taking.Bare made bodies uid = IsNeeded made uid → ⊥
 ComesWhereNeeded taking.Again made bodies uid = IsNeeded made uid
-ComesWhereNeeded taking.Nothing made bodies uid = IsNeeded made uid → (body : List ℕ) × (map.get bodies uid ≡ Some body)
+ComesWhereNeeded taking.Nothing made bodies uid =
+    IsNeeded made uid → (body : List ℕ) × (map.get bodies uid ≡ Some body)
 
--- Where the data set of what arrives comes just if it is needed, the data sets that are there are those that are needed.
+-- Where the data set of what arrives comes just if it is needed, the data sets that are there are
+-- those that are needed.
 abbrev pub DataSetsCome : Type 0
-DataSetsCome = (how : Taking) (b : Book) (caller : Text) (job : Job) (to : List Text) (keep : Bool) (bodies : Bodies) → IsItem job → HasBodies b bodies →
-    ((held : Instance) → map.get b.items job.uid ≡ Some held → held ≡ instance_of job) →
-    ComesWhereNeeded how (after (Arrival caller (instance_of job) to keep) b) bodies job.uid →
-    HasBodies (after (Arrival caller (instance_of job) to keep) b) (bodies_taken how bodies job.uid job.body)
+DataSetsCome =
+    (how : Taking) (b : Book) (caller : Text) (job : Job) (to : List Text) (keep : Bool)
+    (bodies : Bodies)
+    → IsItem job → HasBodies b bodies
+    → ((held : Instance) → map.get b.items job.uid ≡ Some held → held ≡ instance_of job)
+    → ComesWhereNeeded how (after (Arrival caller (instance_of job) to keep) b) bodies job.uid
+    → HasBodies (after (Arrival caller (instance_of job) to keep) b)
+    (bodies_taken how bodies job.uid job.body)

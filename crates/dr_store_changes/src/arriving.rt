@@ -2,7 +2,8 @@
 ghost use Rattle.std.specs.Prelude.{◌≡◌, ◌≤◌, ◌^◌};
 ghost use Rattle.sqlite.specs.Held.{state};
 ghost use Rattle.dr_store_writes.specs.Effects.{GoesOn, Step};
-ghost use Rattle.dr_store_changes.specs.Changes.{AddsRows, AddsTargets, HasNeither, KeepsOne, NotesArrival, Stores};
+ghost use Rattle.dr_store_changes.specs.Changes.{AddsRows, AddsTargets, HasNeither, KeepsOne};
+ghost use Rattle.dr_store_changes.specs.Changes.{NotesArrival, Stores};
 
 use crate::writing::Change;
 use dr_base::Text;
@@ -12,8 +13,8 @@ use dr_store_writes::{
 };
 use sqlite::{Alter, Error, Transaction};
 
-/// Stores an instance that isn't there, with its data set, or with none where it isn't needed; `whole` is 1 where it is
-/// there, and else 0.
+/// Stores an instance that isn't there, with its data set, or with none where it isn't needed;
+/// `whole` is 1 where it is there, and else 0.
 pub fn store<'x, S: Alter>(
     tx: &mut Transaction<'_, S>,
     item: &'x Instance,
@@ -23,8 +24,11 @@ pub fn store<'x, S: Alter>(
     requires size { item.now.size ≤ 2 ^ 62 }
     requires whole { whole ≤ 2 ^ 62 }
     ensures same_reference { tx.new.conn.ghost_name ≡ tx.old.conn.ghost_name }
-    ensures step { Step result (state S.Store tx.old.conn.now) (state S.Store tx.new.conn.now) (HasNeither item.now.uid (state S.Store tx.old.conn.now).now.trees
-        → GoesOn (state S.Store tx.old.conn.now) (state S.Store tx.new.conn.now) × Stores item.now body.now whole (state S.Store tx.old.conn.now).now.trees (state S.Store tx.new.conn.now).now.trees) }
+    ensures step { Step result (state S.Store tx.old.conn.now) (state S.Store tx.new.conn.now)
+        (HasNeither item.now.uid (state S.Store tx.old.conn.now).now.trees
+        → GoesOn (state S.Store tx.old.conn.now) (state S.Store tx.new.conn.now)
+        × Stores item.now body.now whole (state S.Store tx.old.conn.now).now.trees
+        (state S.Store tx.new.conn.now).now.trees) }
 {
     add_item(tx, &item.uid, &item.key, body)?;
     add_print(tx, &item.uid, item.size, &item.digest, whole)?;
@@ -38,8 +42,11 @@ pub fn add_rows<'x, S: Alter>(
     dests: &'x [Text],
 ) -> Result<(), Error>
     ensures same_reference { tx.new.conn.ghost_name ≡ tx.old.conn.ghost_name }
-    ensures step { Step result (state S.Store tx.old.conn.now) (state S.Store tx.new.conn.now) (Unit {0}
-        → GoesOn (state S.Store tx.old.conn.now) (state S.Store tx.new.conn.now) × AddsRows uid.now dests.now (state S.Store tx.old.conn.now).now.trees (state S.Store tx.new.conn.now).now.trees) }
+    ensures step { Step result (state S.Store tx.old.conn.now) (state S.Store tx.new.conn.now)
+        (Unit {0}
+        → GoesOn (state S.Store tx.old.conn.now) (state S.Store tx.new.conn.now)
+        × AddsRows uid.now dests.now (state S.Store tx.old.conn.now).now.trees
+        (state S.Store tx.new.conn.now).now.trees) }
 {
     for dest in dests {
         add_row(tx, uid, dest)?;
@@ -54,8 +61,10 @@ pub fn note_arrival<'x, S: Alter>(
     uid: &'x Text,
 ) -> Result<(), Error>
     ensures same_reference { tx.new.conn.ghost_name ≡ tx.old.conn.ghost_name }
-    ensures step { Step result (state S.Store tx.old.conn.now) (state S.Store tx.new.conn.now) (GoesOn (state S.Store tx.old.conn.now) (state S.Store tx.new.conn.now)
-        × NotesArrival (caller.now, uid.now) (state S.Store tx.old.conn.now).now.trees (state S.Store tx.new.conn.now).now.trees) }
+    ensures step { Step result (state S.Store tx.old.conn.now) (state S.Store tx.new.conn.now)
+        (GoesOn (state S.Store tx.old.conn.now) (state S.Store tx.new.conn.now)
+        × NotesArrival (caller.now, uid.now) (state S.Store tx.old.conn.now).now.trees
+        (state S.Store tx.new.conn.now).now.trees) }
 {
     add_arrival(tx, caller, uid)?;
     Ok(())
@@ -64,8 +73,10 @@ pub fn note_arrival<'x, S: Alter>(
 /// Keeps an instance.
 pub fn keep<'x, S: Alter>(tx: &mut Transaction<'_, S>, uid: &'x Text) -> Result<(), Error>
     ensures same_reference { tx.new.conn.ghost_name ≡ tx.old.conn.ghost_name }
-    ensures step { Step result (state S.Store tx.old.conn.now) (state S.Store tx.new.conn.now) (GoesOn (state S.Store tx.old.conn.now) (state S.Store tx.new.conn.now)
-        × KeepsOne uid.now (state S.Store tx.old.conn.now).now.trees (state S.Store tx.new.conn.now).now.trees) }
+    ensures step { Step result (state S.Store tx.old.conn.now) (state S.Store tx.new.conn.now)
+        (GoesOn (state S.Store tx.old.conn.now) (state S.Store tx.new.conn.now)
+        × KeepsOne uid.now (state S.Store tx.old.conn.now).now.trees
+        (state S.Store tx.new.conn.now).now.trees) }
 {
     add_kept(tx, uid)?;
     Ok(())
@@ -79,8 +90,11 @@ pub fn add_targets<'x, S: Alter>(
 ) -> Result<(), Error>
     requires { n ≤ 2 ^ 62 }
     ensures same_reference { tx.new.conn.ghost_name ≡ tx.old.conn.ghost_name }
-    ensures step { Step result (state S.Store tx.old.conn.now) (state S.Store tx.new.conn.now) (Unit {0}
-        → GoesOn (state S.Store tx.old.conn.now) (state S.Store tx.new.conn.now) × AddsTargets n names.now (state S.Store tx.old.conn.now).now.trees (state S.Store tx.new.conn.now).now.trees) }
+    ensures step { Step result (state S.Store tx.old.conn.now) (state S.Store tx.new.conn.now)
+        (Unit {0}
+        → GoesOn (state S.Store tx.old.conn.now) (state S.Store tx.new.conn.now)
+        × AddsTargets n names.now (state S.Store tx.old.conn.now).now.trees
+        (state S.Store tx.new.conn.now).now.trees) }
 {
     for name in names {
         add_target(tx, n, name)?;

@@ -11,8 +11,11 @@ use sqlite::{Alter, Error, Transaction};
 /// Lets the data set of an item go; what is known of the item stays.
 pub fn let_go<'x, S: Alter>(tx: &mut Transaction<'_, S>, uid: &'x Text) -> Result<(), Error>
     ensures same_reference { tx.new.conn.ghost_name ≡ tx.old.conn.ghost_name }
-    ensures step { Step result (state S.Store tx.old.conn.now) (state S.Store tx.new.conn.now) (HasBoth uid.now (state S.Store tx.old.conn.now).now.trees
-        → GoesOn (state S.Store tx.old.conn.now) (state S.Store tx.new.conn.now) × LetsGo uid.now (state S.Store tx.old.conn.now).now.trees (state S.Store tx.new.conn.now).now.trees) }
+    ensures step { Step result (state S.Store tx.old.conn.now) (state S.Store tx.new.conn.now)
+        (HasBoth uid.now (state S.Store tx.old.conn.now).now.trees
+        → GoesOn (state S.Store tx.old.conn.now) (state S.Store tx.new.conn.now)
+        × LetsGo uid.now (state S.Store tx.old.conn.now).now.trees
+        (state S.Store tx.new.conn.now).now.trees) }
 {
     set_body(tx, uid, &[])?;
     set_whole(tx, uid, 0)?;
@@ -26,8 +29,11 @@ pub fn take_back<'x, S: Alter>(
     body: &'x [u8],
 ) -> Result<(), Error>
     ensures same_reference { tx.new.conn.ghost_name ≡ tx.old.conn.ghost_name }
-    ensures step { Step result (state S.Store tx.old.conn.now) (state S.Store tx.new.conn.now) (HasBoth uid.now (state S.Store tx.old.conn.now).now.trees
-        → GoesOn (state S.Store tx.old.conn.now) (state S.Store tx.new.conn.now) × TakesBack uid.now body.now (state S.Store tx.old.conn.now).now.trees (state S.Store tx.new.conn.now).now.trees) }
+    ensures step { Step result (state S.Store tx.old.conn.now) (state S.Store tx.new.conn.now)
+        (HasBoth uid.now (state S.Store tx.old.conn.now).now.trees
+        → GoesOn (state S.Store tx.old.conn.now) (state S.Store tx.new.conn.now)
+        × TakesBack uid.now body.now (state S.Store tx.old.conn.now).now.trees
+        (state S.Store tx.new.conn.now).now.trees) }
 {
     set_body(tx, uid, body)?;
     set_whole(tx, uid, 1)?;

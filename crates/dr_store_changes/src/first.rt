@@ -35,8 +35,11 @@ fn take<'x, S: Alter>(
 ) -> Result<(), Error>
     requires { item.now.size ≤ 2 ^ 62 }
     ensures same_reference { tx.new.conn.ghost_name ≡ tx.old.conn.ghost_name }
-    ensures step { Step result (state S.Store tx.old.conn.now) (state S.Store tx.new.conn.now) (AsksToTake taking item.now.uid (state S.Store tx.old.conn.now).now.trees
-        → GoesOn (state S.Store tx.old.conn.now) (state S.Store tx.new.conn.now) × TakesIn taking item.now body.now (state S.Store tx.old.conn.now).now.trees (state S.Store tx.new.conn.now).now.trees) }
+    ensures step { Step result (state S.Store tx.old.conn.now) (state S.Store tx.new.conn.now)
+        (AsksToTake taking item.now.uid (state S.Store tx.old.conn.now).now.trees
+        → GoesOn (state S.Store tx.old.conn.now) (state S.Store tx.new.conn.now)
+        × TakesIn taking item.now body.now (state S.Store tx.old.conn.now).now.trees
+        (state S.Store tx.new.conn.now).now.trees) }
 {
     match taking {
         Taking::New => store(tx, item, body, 1),
@@ -56,9 +59,11 @@ fn take_from<'x, S: Alter>(
 ) -> Result<(), Error>
     requires { item.now.size ≤ 2 ^ 62 }
     ensures same_reference { tx.new.conn.ghost_name ≡ tx.old.conn.ghost_name }
-    ensures step { Step result (state S.Store tx.old.conn.now) (state S.Store tx.new.conn.now) (AsksToTake taking item.now.uid (state S.Store tx.old.conn.now).now.trees
+    ensures step { Step result (state S.Store tx.old.conn.now) (state S.Store tx.new.conn.now)
+        (AsksToTake taking item.now.uid (state S.Store tx.old.conn.now).now.trees
         → GoesOn (state S.Store tx.old.conn.now) (state S.Store tx.new.conn.now)
-        × Then (TakesIn taking item.now body.now) (NotesArrival (caller.now, item.now.uid)) (state S.Store tx.old.conn.now).now.trees (state S.Store tx.new.conn.now).now.trees) }
+        × Then (TakesIn taking item.now body.now) (NotesArrival (caller.now, item.now.uid))
+        (state S.Store tx.old.conn.now).now.trees (state S.Store tx.new.conn.now).now.trees) }
 {
     take(tx, item, body, taking)?;
     note_arrival(tx, caller, &item.uid)?;
@@ -72,8 +77,10 @@ fn keep_if<'x, S: Alter>(
     keeps: bool,
 ) -> Result<(), Error>
     ensures same_reference { tx.new.conn.ghost_name ≡ tx.old.conn.ghost_name }
-    ensures step { Step result (state S.Store tx.old.conn.now) (state S.Store tx.new.conn.now) (GoesOn (state S.Store tx.old.conn.now) (state S.Store tx.new.conn.now)
-        × KeepsIf uid.now keeps (state S.Store tx.old.conn.now).now.trees (state S.Store tx.new.conn.now).now.trees) }
+    ensures step { Step result (state S.Store tx.old.conn.now) (state S.Store tx.new.conn.now)
+        (GoesOn (state S.Store tx.old.conn.now) (state S.Store tx.new.conn.now)
+        × KeepsIf uid.now keeps (state S.Store tx.old.conn.now).now.trees
+        (state S.Store tx.new.conn.now).now.trees) }
 {
     if keeps {
         return keep(tx, uid);
@@ -89,9 +96,11 @@ fn queue<'x, S: Alter>(
     keeps: bool,
 ) -> Result<(), Error>
     ensures same_reference { tx.new.conn.ghost_name ≡ tx.old.conn.ghost_name }
-    ensures step { Step result (state S.Store tx.old.conn.now) (state S.Store tx.new.conn.now) (Unit {0}
+    ensures step { Step result (state S.Store tx.old.conn.now) (state S.Store tx.new.conn.now)
+        (Unit {0}
         → GoesOn (state S.Store tx.old.conn.now) (state S.Store tx.new.conn.now)
-        × Then (AddsRows uid.now dests.now) (KeepsIf uid.now keeps) (state S.Store tx.old.conn.now).now.trees (state S.Store tx.new.conn.now).now.trees) }
+        × Then (AddsRows uid.now dests.now) (KeepsIf uid.now keeps)
+        (state S.Store tx.old.conn.now).now.trees (state S.Store tx.new.conn.now).now.trees) }
 {
     add_rows(tx, uid, dests)?;
     keep_if(tx, uid, keeps)?;
@@ -107,9 +116,11 @@ fn add_line<'x, S: Alter>(
 ) -> Result<(), Error>
     requires { n ≤ 2 ^ 62 }
     ensures same_reference { tx.new.conn.ghost_name ≡ tx.old.conn.ghost_name }
-    ensures step { Step result (state S.Store tx.old.conn.now) (state S.Store tx.new.conn.now) (Unit {0}
+    ensures step { Step result (state S.Store tx.old.conn.now) (state S.Store tx.new.conn.now)
+        (Unit {0}
         → GoesOn (state S.Store tx.old.conn.now) (state S.Store tx.new.conn.now)
-        × AddsOnlyLine (arrived_line n 0 caller.now uid.now) (state S.Store tx.old.conn.now).now.trees (state S.Store tx.new.conn.now).now.trees) }
+        × AddsOnlyLine (arrived_line n 0 caller.now uid.now)
+        (state S.Store tx.old.conn.now).now.trees (state S.Store tx.new.conn.now).now.trees) }
 {
     add_arrived(tx, n, 0, caller, uid)?;
     Ok(())
@@ -125,9 +136,11 @@ fn write_line<'x, S: Alter>(
 ) -> Result<(), Error>
     requires { n ≤ 2 ^ 62 }
     ensures same_reference { tx.new.conn.ghost_name ≡ tx.old.conn.ghost_name }
-    ensures step { Step result (state S.Store tx.old.conn.now) (state S.Store tx.new.conn.now) (Unit {0}
+    ensures step { Step result (state S.Store tx.old.conn.now) (state S.Store tx.new.conn.now)
+        (Unit {0}
         → GoesOn (state S.Store tx.old.conn.now) (state S.Store tx.new.conn.now)
-        × Then (AddsOnlyLine (arrived_line n 0 caller.now uid.now)) (AddsTargets n names.now) (state S.Store tx.old.conn.now).now.trees (state S.Store tx.new.conn.now).now.trees) }
+        × Then (AddsOnlyLine (arrived_line n 0 caller.now uid.now)) (AddsTargets n names.now)
+        (state S.Store tx.old.conn.now).now.trees (state S.Store tx.new.conn.now).now.trees) }
 {
     add_line(tx, n, caller, uid)?;
     add_targets(tx, n, names)?;
@@ -142,7 +155,8 @@ pub struct Arriving<'x> {
     pub body: &'x [u8],
     /// What is done with the instance and its data set.
     pub taking: Taking,
-    /// The destinations for which it waits from now on: those of its targets to which it has no row.
+    /// The destinations for which it waits from now on: those of its targets to which it has no
+    /// row.
     pub dests: &'x [Text],
     /// Whether it is kept from now on.
     pub keeps: bool,
@@ -155,10 +169,15 @@ impl Arriving<'_> {
     /// All but its line.
     fn fill<S: Alter>(&self, tx: &mut Transaction<'_, S>) -> Result<(), Error>
         ensures same_reference { tx.new.conn.ghost_name ≡ tx.old.conn.ghost_name }
-        ensures step { Step result (state S.Store tx.old.conn.now) (state S.Store tx.new.conn.now) (AsksToTake self.now.taking self.now.item.now.uid (state S.Store tx.old.conn.now).now.trees
+        ensures step { Step result (state S.Store tx.old.conn.now) (state S.Store tx.new.conn.now)
+            (AsksToTake self.now.taking self.now.item.now.uid
+            (state S.Store tx.old.conn.now).now.trees
             → GoesOn (state S.Store tx.old.conn.now) (state S.Store tx.new.conn.now)
-            × Then (Then (TakesIn self.now.taking self.now.item.now self.now.body.now) (NotesArrival (self.now.caller.now, self.now.item.now.uid)))
-            (Then (AddsRows self.now.item.now.uid self.now.dests.now) (KeepsIf self.now.item.now.uid self.now.keeps))
+            × Then
+            (Then (TakesIn self.now.taking self.now.item.now self.now.body.now)
+            (NotesArrival (self.now.caller.now, self.now.item.now.uid)))
+            (Then (AddsRows self.now.item.now.uid self.now.dests.now)
+            (KeepsIf self.now.item.now.uid self.now.keeps))
             (state S.Store tx.old.conn.now).now.trees (state S.Store tx.new.conn.now).now.trees) }
     {
         take_from(tx, self.caller, self.item, self.body, self.taking)?;
@@ -172,7 +191,8 @@ impl Change for Arriving<'_> {
 
     ghost asks = { λ s db. AsksToTake s.taking s.item.now.uid db };
 
-    ghost makes = { λ s n. Brings s.taking s.caller.now s.item.now s.body.now s.dests.now s.keeps s.names.now n };
+    ghost makes = { λ s n.
+        Brings s.taking s.caller.now s.item.now s.body.now s.dests.now s.keeps s.names.now n };
 
     fn run<S: Alter>(&self, tx: &mut Transaction<'_, S>, n: u64) -> Result<(), Error> {
         self.fill(tx)?;

@@ -1,5 +1,7 @@
 //! What the calls that write make of the book.
-ghost use Rattle.dr_store_changes.specs.Laws.{ArrivalsArrive, DataSetsCome, RepeatsRepeat, RequeuingsRequeue, SettlingsSettle, WhatIsNeededStays};
+ghost use Rattle.dr_store_changes.specs.Laws.{ArrivalsArrive, DataSetsCome, RepeatsRepeat};
+ghost use Rattle.dr_store_changes.specs.Laws.{RequeuingsRequeue, SettlingsSettle};
+ghost use Rattle.dr_store_changes.specs.Laws.{WhatIsNeededStays};
 
 /// To move a waiting row on with the line of its settling is to settle it.
 pub fn settlings_settle()
@@ -11,7 +13,8 @@ pub fn requeuings_requeue()
     ensures { RequeuingsRequeue }
 {}
 
-/// Where a data set goes just if it is needed no more, those that are there are those that are needed.
+/// Where a data set goes just if it is needed no more, those that are there are those that are
+/// needed.
 pub fn what_is_needed_stays()
     ensures { WhatIsNeededStays }
 {}

@@ -27,8 +27,10 @@ fn settle<'x, S: Alter>(
     requires moment { now ≤ 2 ^ 62 }
     requires number { n ≤ 2 ^ 62 }
     ensures same_reference { tx.new.conn.ghost_name ≡ tx.old.conn.ghost_name }
-    ensures step { Step result (state S.Store tx.old.conn.now) (state S.Store tx.new.conn.now) (HasRow (uid.now, dest.now) (state S.Store tx.old.conn.now).now.trees
-        → Moved (uid.now, dest.now) to (settled_line n uid.now dest.now outcome now) (state S.Store tx.old.conn.now) (state S.Store tx.new.conn.now)) }
+    ensures step { Step result (state S.Store tx.old.conn.now) (state S.Store tx.new.conn.now)
+        (HasRow (uid.now, dest.now) (state S.Store tx.old.conn.now).now.trees
+        → Moved (uid.now, dest.now) to (settled_line n uid.now dest.now outcome now)
+        (state S.Store tx.old.conn.now) (state S.Store tx.new.conn.now)) }
 {
     set_row(tx, uid, dest, to)?;
     add_settled(tx, n, uid, dest, outcome, now)?;
@@ -49,8 +51,11 @@ fn settle_and_let_go<'x, S: Alter>(
     requires moment { now ≤ 2 ^ 62 }
     requires number { n ≤ 2 ^ 62 }
     ensures same_reference { tx.new.conn.ghost_name ≡ tx.old.conn.ghost_name }
-    ensures step { Step result (state S.Store tx.old.conn.now) (state S.Store tx.new.conn.now) (AsksForRow (uid.now, dest.now) (state S.Store tx.old.conn.now).now.trees
-        → IsMade n (MovesOn (uid.now, dest.now) to (settled_line n uid.now dest.now outcome now) true) (state S.Store tx.old.conn.now) (state S.Store tx.new.conn.now)) }
+    ensures step { Step result (state S.Store tx.old.conn.now) (state S.Store tx.new.conn.now)
+        (AsksForRow (uid.now, dest.now) (state S.Store tx.old.conn.now).now.trees
+        → IsMade n
+        (MovesOn (uid.now, dest.now) to (settled_line n uid.now dest.now outcome now) true)
+        (state S.Store tx.old.conn.now) (state S.Store tx.new.conn.now)) }
 {
     settle(tx, n, uid, dest, to, outcome, now)?;
     let_go(tx, uid)?;
@@ -68,8 +73,10 @@ fn requeue<'x, S: Alter>(
     requires due { due_of to ≤ 2 ^ 62 + 300000 }
     requires number { n ≤ 2 ^ 62 }
     ensures same_reference { tx.new.conn.ghost_name ≡ tx.old.conn.ghost_name }
-    ensures step { Step result (state S.Store tx.old.conn.now) (state S.Store tx.new.conn.now) (HasRow (uid.now, dest.now) (state S.Store tx.old.conn.now).now.trees
-        → Moved (uid.now, dest.now) to (requeued_line n uid.now dest.now) (state S.Store tx.old.conn.now) (state S.Store tx.new.conn.now)) }
+    ensures step { Step result (state S.Store tx.old.conn.now) (state S.Store tx.new.conn.now)
+        (HasRow (uid.now, dest.now) (state S.Store tx.old.conn.now).now.trees
+        → Moved (uid.now, dest.now) to (requeued_line n uid.now dest.now)
+        (state S.Store tx.old.conn.now) (state S.Store tx.new.conn.now)) }
 {
     set_row(tx, uid, dest, to)?;
     add_requeued(tx, n, uid, dest)?;
@@ -98,7 +105,8 @@ impl Change for Settling<'_> {
 
     ghost asks = { λ s. AsksForRow (s.uid.now, s.dest.now) };
 
-    ghost makes = { λ s n. MovesOn (s.uid.now, s.dest.now) s.to (settled_line n s.uid.now s.dest.now s.outcome s.now) s.lets_go };
+    ghost makes = { λ s n. MovesOn (s.uid.now, s.dest.now) s.to
+        (settled_line n s.uid.now s.dest.now s.outcome s.now) s.lets_go };
 
     fn run<S: Alter>(&self, tx: &mut Transaction<'_, S>, n: u64) -> Result<(), Error> {
         if self.lets_go {
@@ -125,7 +133,8 @@ impl Change for Requeuing<'_> {
 
     ghost asks = { λ s. AsksForRow (s.uid.now, s.dest.now) };
 
-    ghost makes = { λ s n. MovesOn (s.uid.now, s.dest.now) s.to (requeued_line n s.uid.now s.dest.now) false };
+    ghost makes = { λ s n.
+        MovesOn (s.uid.now, s.dest.now) s.to (requeued_line n s.uid.now s.dest.now) false };
 
     fn run<S: Alter>(&self, tx: &mut Transaction<'_, S>, n: u64) -> Result<(), Error> {
         requeue(tx, n, self.uid, self.dest, self.to)

@@ -19,7 +19,10 @@ pub trait Change {
     fn run<S: Alter>(&self, tx: &mut Transaction<'_, S>, n: u64) -> Result<(), Error>
         requires { n ≤ 2 ^ 62 }
         ensures same_reference { tx.new.conn.ghost_name ≡ tx.old.conn.ghost_name }
-        ensures step { Step result (state S.Store tx.old.conn.now) (state S.Store tx.new.conn.now) (asks self.now (state S.Store tx.old.conn.now).now.trees → IsMade n (makes self.now n) (state S.Store tx.old.conn.now) (state S.Store tx.new.conn.now)) };
+        ensures step { Step result (state S.Store tx.old.conn.now) (state S.Store tx.new.conn.now)
+            (asks self.now (state S.Store tx.old.conn.now).now.trees
+            → IsMade n (makes self.now n) (state S.Store tx.old.conn.now)
+            (state S.Store tx.new.conn.now)) };
 }
 
 /// Makes a change as one transaction, whose commit is its last call of the database.
@@ -27,7 +30,8 @@ pub fn write<C: Change, S: Alter>(conn: &mut Connection<S>, n: u64, change: &C) 
     requires idle { conn.old.in_transaction ≡ false }
     requires number { n ≤ 2 ^ 62 }
     ensures idle { conn.new.in_transaction ≡ false }
-    ensures written { Written n (C.asks change.now) (C.makes change.now n) result (state S.Store conn.old) (state S.Store conn.new) }
+    ensures written { Written n (C.asks change.now) (C.makes change.now n) result
+        (state S.Store conn.old) (state S.Store conn.new) }
 {
     let mut tx = conn.transaction();
     change.run(&mut tx, n)?;

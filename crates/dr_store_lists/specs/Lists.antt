@@ -1,5 +1,6 @@
 -- Whole tables, as lists whose keys rise.
-use Rattle.std.specs.Prelude.{◌≡◌, ◌==◌, not, ℕ, zero, suc, List, Contains, option_map, map as mapped}
+use Rattle.std.specs.Prelude.{◌≡◌, ◌==◌, not, ℕ, zero, suc, List, Contains, option_map}
+use Rattle.std.specs.Prelude.{map as mapped}
 use Rattle.std.specs.List.{AllByRecursion}
 use Rattle.std.specs.declared.cmp.Ordering.{Ordering}
 use Rattle.std.specs.Ordering.{nat_cmp, ordering_then}
@@ -16,8 +17,11 @@ use Rattle.dr_ledger.specs.declared.item.Outcome.{Outcome}
 use Rattle.dr_ledger.specs.declared.item.Progress.{Progress}
 use Rattle.dr_ledger.specs.Pairs.{Pair}
 use Rattle.dr_ledger.specs.Books.{Line, Arrival, Repeat, Settling, Requeuing, Adoption}
-use Rattle.dr_store_schema.specs.Books.{instance_by, item_or_none, items_of, key_in, keeps_in, line_in, lines_in, names_in, prints_of, targets_in, wholes_in}
-use Rattle.dr_store_schema.specs.Cells.{bytes_in, number_in, outcome_in, progress_in, syntax_marked, text_in}
+use Rattle.dr_store_schema.specs.Books.{instance_by, item_or_none, items_of, key_in, keeps_in}
+use Rattle.dr_store_schema.specs.Books.{line_in, lines_in, names_in, prints_of, targets_in}
+use Rattle.dr_store_schema.specs.Books.{wholes_in}
+use Rattle.dr_store_schema.specs.Cells.{bytes_in, number_in, outcome_in, progress_in, syntax_marked}
+use Rattle.dr_store_schema.specs.Cells.{text_in}
 use Rattle.dr_store_reads.specs.declared.finding.Print.{Print}
 use Rattle.dr_store_lists.specs.declared.listing.Note.{Note}
 use Rattle.dr_store_lists.specs.declared.listing.Note.TheVariants as note
@@ -29,17 +33,28 @@ abbrev pub keys_of : Trees → FinMap text_cmp Key
 keys_of db = map.from_entries (mapped (λ (row : Row). (text_in (column row 1), key_in row)) (db 1))
 
 abbrev pub whole_print_in : Row → Print
-whole_print_in row = record { size = number_in (column row 2); digest = bytes_in (column row 3); whole = not (number_in (column row 4) == 0) }
+whole_print_in row = record {
+  size = number_in (column row 2);
+  digest = bytes_in (column row 3);
+  whole = not (number_in (column row 4) == 0);
+}
 
 -- of each print all that it says
 abbrev pub whole_prints_of : Trees → FinMap text_cmp Print
-whole_prints_of db = map.from_entries (mapped (λ (row : Row). (text_in (column row 1), whole_print_in row)) (db 3))
+whole_prints_of db =
+    map.from_entries (mapped (λ (row : Row). (text_in (column row 1), whole_print_in row)) (db 3))
 
 -- What is known of an instance is its key with its print.
 pub record KeysAndPrintsAreInstances (db : Trees) : Type 0 where
-  pub items : (uid : Text) → map.get (items_of db) uid ≡ option_map (instance_by (prints_of db) uid) (map.get (keys_of db) uid)
-  pub prints : (uid : Text) → map.get (prints_of db) uid ≡ option_map (λ (p : Print). (p.size, p.digest)) (map.get (whole_prints_of db) uid)
-  pub wholes : (uid : Text) → option_map (λ n. not (n == 0)) (map.get (wholes_in (db 3)) uid) ≡ option_map (λ (p : Print). p.whole) (map.get (whole_prints_of db) uid)
+  pub items : (uid : Text)
+      → map.get (items_of db) uid
+      ≡ option_map (instance_by (prints_of db) uid) (map.get (keys_of db) uid)
+  pub prints : (uid : Text)
+      → map.get (prints_of db) uid
+      ≡ option_map (λ (p : Print). (p.size, p.digest)) (map.get (whole_prints_of db) uid)
+  pub wholes : (uid : Text)
+      → option_map (λ n. not (n == 0)) (map.get (wholes_in (db 3)) uid)
+      ≡ option_map (λ (p : Print). p.whole) (map.get (whole_prints_of db) uid)
 
 -- ---- journal
 
@@ -52,16 +67,20 @@ note_by (suc (suc (suc zero))) caller uid dest what now = note.Requeuing uid des
 note_by (suc (suc (suc (suc more)))) caller uid dest what now = note.Adoption
 
 abbrev pub note_in : Row → Note
-note_in row = note_by (number_in (column row 2)) (text_in (column row 3)) (text_in (column row 4)) (text_in (column row 5)) (outcome_in (column row 6)) (number_in (column row 7))
+note_in row = note_by (number_in (column row 2)) (text_in (column row 3)) (text_in (column row 4))
+    (text_in (column row 5)) (outcome_in (column row 6)) (number_in (column row 7))
 
 -- by the line's number
 abbrev pub notes_of : Trees → FinMap nat_cmp Note
-notes_of db = map.from_entries (mapped (λ (row : Row). (number_in (rowid row), note_in row)) (db 11))
+notes_of db =
+    map.from_entries (mapped (λ (row : Row). (number_in (rowid row), note_in row)) (db 11))
 
 -- the line of a note, with its instance and where it goes on to
 abbrev pub line_of : FinMap text_cmp Instance → List Row → ℕ → Note → Line
-line_of items targets n (note.Arrival caller uid) = Arrival caller (item_or_none uid (map.get items uid)) (targets_in targets n) (keeps_in targets n)
-line_of items targets n (note.Repeat caller uid) = Repeat caller (item_or_none uid (map.get items uid))
+line_of items targets n (note.Arrival caller uid) = Arrival caller
+    (item_or_none uid (map.get items uid)) (targets_in targets n) (keeps_in targets n)
+line_of items targets n (note.Repeat caller uid) =
+    Repeat caller (item_or_none uid (map.get items uid))
 line_of items targets n (note.Settling uid dest what now) = Settling uid dest what now
 line_of items targets n (note.Requeuing uid dest) = Requeuing uid dest
 line_of items targets n note.Adoption = Adoption
@@ -70,11 +89,15 @@ line_of items targets n note.Adoption = Adoption
 pub record IsJournal (db : Trees) (all : List (ℕ × Note)) : Type 0 where
   pub each : AllByRecursion (λ row. Contains all (number_in (rowid row), note_in row)) (db 11)
   pub notes : all ≡ map.entries (notes_of db)
-  pub lines : (items : FinMap text_cmp Instance) (targets : List Row) → mapped (λ (e : ℕ × Note). line_of items targets e.0 e.1) all ≡ lines_in items targets (db 11)
+  pub lines : (items : FinMap text_cmp Instance) (targets : List Row)
+      → mapped (λ (e : ℕ × Note). line_of items targets e.0 e.1) all
+      ≡ lines_in items targets (db 11)
 
 -- a row's line is that of its note
 abbrev pub NotesAreLines : Type 0
-NotesAreLines = (items : FinMap text_cmp Instance) (targets : List Row) (row : Row) → line_in items targets row ≡ line_of items targets (number_in (rowid row)) (note_in row)
+NotesAreLines =
+    (items : FinMap text_cmp Instance) (targets : List Row) (row : Row)
+    → line_in items targets row ≡ line_of items targets (number_in (rowid row)) (note_in row)
 
 -- ---- target
 
@@ -86,11 +109,14 @@ abbrev pub goal_cmp : Goal → Goal → Ordering
 goal_cmp a b = ordering_then (nat_cmp a.0 b.0) (text_cmp a.1 b.1)
 
 abbrev pub goals_of : Trees → FinSet goal_cmp
-goals_of db = set.from_list (mapped (λ (row : Row). (number_in (column row 1), text_in (column row 2))) (db 12))
+goals_of db = set.from_list
+    (mapped (λ (row : Row). (number_in (column row 1), text_in (column row 2))) (db 12))
 
 -- which names a line has is told by them
 abbrev pub GoalsAreNames : Type 0
-GoalsAreNames = (db : Trees) (n : ℕ) (name : Text) → set.contains (goals_of db) (n, name) ≡ map.contains_key (names_in (db 12) n) name
+GoalsAreNames =
+    (db : Trees) (n : ℕ) (name : Text)
+    → set.contains (goals_of db) (n, name) ≡ map.contains_key (names_in (db 12) n) name
 
 -- ---- rows as lists show them
 
@@ -112,16 +138,29 @@ shown_key_entry row = (
 )
 
 abbrev pub shown_print_entry : Row → Text × Print
-shown_print_entry row = (text_in (column row 0), record { size = number_in (column row 1); digest = bytes_in (column row 2); whole = not (number_in (column row 3) == 0) })
+shown_print_entry row = (
+  text_in (column row 0),
+  record {
+    size = number_in (column row 1);
+    digest = bytes_in (column row 2);
+    whole = not (number_in (column row 3) == 0);
+  },
+)
 
 abbrev pub shown_entry : Row → Pair × Progress
-shown_entry row = ((text_in (column row 0), text_in (column row 1)), progress_in (column row 2) (column row 3) (column row 4) (column row 5))
+shown_entry row = (
+  (text_in (column row 0), text_in (column row 1)),
+  progress_in (column row 2) (column row 3) (column row 4) (column row 5),
+)
 
 abbrev pub shown_settling : Row → Note
-shown_settling row = note.Settling (text_in (column row 3)) (text_in (column row 4)) (outcome_in (column row 5)) (number_in (column row 6))
+shown_settling row = note.Settling (text_in (column row 3)) (text_in (column row 4))
+    (outcome_in (column row 5)) (number_in (column row 6))
 
 abbrev pub shown_note : Row → Note
-shown_note row = note_by (number_in (column row 1)) (text_in (column row 2)) (text_in (column row 3)) (text_in (column row 4)) (outcome_in (column row 5)) (number_in (column row 6))
+shown_note row = note_by (number_in (column row 1)) (text_in (column row 2))
+    (text_in (column row 3)) (text_in (column row 4)) (outcome_in (column row 5))
+    (number_in (column row 6))
 
 abbrev pub shown_note_entry : Row → ℕ × Note
 shown_note_entry row = (number_in (column row 0), shown_note row)

@@ -1,6 +1,7 @@
 //! What the lists of whole tables tell of the book.
 ghost use Rattle.sqlite.specs.Tree.{Trees};
-ghost use Rattle.dr_store_lists.specs.Lists.{GoalsAreNames, KeysAndPrintsAreInstances, NotesAreLines};
+ghost use Rattle.dr_store_lists.specs.Lists.{GoalsAreNames, KeysAndPrintsAreInstances};
+ghost use Rattle.dr_store_lists.specs.Lists.{NotesAreLines};
 
 /// What is known of an instance is its key with its print.
 pub fn keys_and_prints_are_instances()

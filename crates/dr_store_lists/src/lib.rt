@@ -1,6 +1,8 @@
-//! The whole tables of a ledger, each as a list whose keys rise, and what is tested of tables that were found.
+//! The whole tables of a ledger, each as a list whose keys rise, and what is tested of tables that
+//! were found.
 //!
-//! What is known of a query stands under its end: that the disk has returned what was written so far (`Asked` of `dr_store_reads`).
+//! What is known of a query stands under its end: that the disk has returned what was written so
+//! far (`Asked` of `dr_store_reads`).
 #![tactic(auto)]
 
 pub mod laws;

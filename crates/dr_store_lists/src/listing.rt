@@ -10,7 +10,10 @@ ghost use Rattle.dr_base.specs.Texts.{text_cmp};
 ghost use Rattle.dr_ledger.specs.Pairs.{pair_cmp};
 ghost use Rattle.dr_ledger.specs.Replies.{Lists, Reads};
 ghost use Rattle.dr_store_schema.specs.Books.{all_kept_in, arrivals_in, rows_of};
-ghost use Rattle.dr_store_lists.specs.Lists.{IsJournal, goal_cmp, goals_of, keys_of, shown_entry, shown_goal, shown_key_entry, shown_note, shown_note_entry, shown_pair, shown_print_entry, shown_settling, whole_prints_of};
+ghost use Rattle.dr_store_lists.specs.Lists.{IsJournal, goal_cmp, goals_of, keys_of, shown_entry};
+ghost use Rattle.dr_store_lists.specs.Lists.{shown_goal, shown_key_entry, shown_note};
+ghost use Rattle.dr_store_lists.specs.Lists.{shown_note_entry, shown_pair, shown_print_entry};
+ghost use Rattle.dr_store_lists.specs.Lists.{shown_settling, whole_prints_of};
 ghost use Rattle.dr_store_reads.specs.Queries.{Asked, HasTables, shown_text};
 
 use dr_base::Text;
@@ -24,7 +27,8 @@ use dr_store_reads::reading::{
 use sqlite::{Alter, Connection, Row};
 use std::alloc::Global;
 
-/// A line of the journal as its own row has it: what is known of its instance stands in other tables, and where it goes on to.
+/// A line of the journal as its own row has it: what is known of its instance stands in other
+/// tables, and where it goes on to.
 #[derive(Drop)]
 pub enum Note {
     Arrival {
@@ -218,7 +222,8 @@ fn keys_rise<K: Ord>(keys: &[K]) -> bool
 
 /// Uids with keys.
 pub fn key_entries(alloc: Global, rows: &[Row]) -> Result<Vec<(Text, Key)>, LedgerFault>
-    ensures { Reads result (λ all. (all.items ≡ mapped shown_key_entry rows.now) × T (is_sorted text_cmp all.items)) }
+    ensures { Reads result (λ all.
+        (all.items ≡ mapped shown_key_entry rows.now) × T (is_sorted text_cmp all.items)) }
 {
     let entries = read_all::<(Text, Key)>(alloc, rows)?;
     if !rise(entries.as_slice()) {
@@ -229,7 +234,8 @@ pub fn key_entries(alloc: Global, rows: &[Row]) -> Result<Vec<(Text, Key)>, Ledg
 
 /// Uids with prints.
 pub fn print_entries(alloc: Global, rows: &[Row]) -> Result<Vec<(Text, Print)>, LedgerFault>
-    ensures { Reads result (λ all. (all.items ≡ mapped shown_print_entry rows.now) × T (is_sorted text_cmp all.items)) }
+    ensures { Reads result (λ all.
+        (all.items ≡ mapped shown_print_entry rows.now) × T (is_sorted text_cmp all.items)) }
 {
     let entries = read_all::<(Text, Print)>(alloc, rows)?;
     if !rise(entries.as_slice()) {
@@ -243,7 +249,8 @@ pub fn row_entries(
     alloc: Global,
     rows: &[Row],
 ) -> Result<Vec<((Text, Text), Progress)>, LedgerFault>
-    ensures { Reads result (λ all. (all.items ≡ mapped shown_entry rows.now) × T (is_sorted pair_cmp all.items)) }
+    ensures { Reads result (λ all.
+        (all.items ≡ mapped shown_entry rows.now) × T (is_sorted pair_cmp all.items)) }
 {
     let entries = read_all::<((Text, Text), Progress)>(alloc, rows)?;
     if !rise(entries.as_slice()) {
@@ -254,7 +261,8 @@ pub fn row_entries(
 
 /// Numbers with notes.
 pub fn note_entries(alloc: Global, rows: &[Row]) -> Result<Vec<(u64, Note)>, LedgerFault>
-    ensures { Reads result (λ all. (all.items ≡ mapped shown_note_entry rows.now) × T (is_sorted nat_cmp all.items)) }
+    ensures { Reads result (λ all.
+        (all.items ≡ mapped shown_note_entry rows.now) × T (is_sorted nat_cmp all.items)) }
 {
     let entries = read_all::<(u64, Note)>(alloc, rows)?;
     if !rise(entries.as_slice()) {
@@ -265,7 +273,8 @@ pub fn note_entries(alloc: Global, rows: &[Row]) -> Result<Vec<(u64, Note)>, Led
 
 /// Pairs of texts.
 pub fn pair_keys(alloc: Global, rows: &[Row]) -> Result<Vec<(Text, Text)>, LedgerFault>
-    ensures { Reads result (λ all. (all.items ≡ mapped shown_pair rows.now) × IsStrictlySortedBy pair_cmp all.items) }
+    ensures { Reads result (λ all.
+        (all.items ≡ mapped shown_pair rows.now) × IsStrictlySortedBy pair_cmp all.items) }
 {
     let keys = read_all::<(Text, Text)>(alloc, rows)?;
     if !keys_rise(keys.as_slice()) {
@@ -276,7 +285,8 @@ pub fn pair_keys(alloc: Global, rows: &[Row]) -> Result<Vec<(Text, Text)>, Ledge
 
 /// Texts.
 pub fn text_keys(alloc: Global, rows: &[Row]) -> Result<Vec<Text>, LedgerFault>
-    ensures { Reads result (λ all. (all.items ≡ mapped shown_text rows.now) × IsStrictlySortedBy text_cmp all.items) }
+    ensures { Reads result (λ all.
+        (all.items ≡ mapped shown_text rows.now) × IsStrictlySortedBy text_cmp all.items) }
 {
     let keys = read_all::<Text>(alloc, rows)?;
     if !keys_rise(keys.as_slice()) {
@@ -287,7 +297,8 @@ pub fn text_keys(alloc: Global, rows: &[Row]) -> Result<Vec<Text>, LedgerFault>
 
 /// Numbers and names.
 pub fn goal_keys(alloc: Global, rows: &[Row]) -> Result<Vec<(u64, Text)>, LedgerFault>
-    ensures { Reads result (λ all. (all.items ≡ mapped shown_goal rows.now) × IsStrictlySortedBy goal_cmp all.items) }
+    ensures { Reads result (λ all.
+        (all.items ≡ mapped shown_goal rows.now) × IsStrictlySortedBy goal_cmp all.items) }
 {
     let keys = read_all::<(u64, Text)>(alloc, rows)?;
     if !keys_rise(keys.as_slice()) {
@@ -303,7 +314,8 @@ pub fn all_keys<S: Alter>(
     conn: &mut Connection<S>,
     alloc: Global,
 ) -> Result<Vec<(Text, Key)>, LedgerFault>
-    ensures asked { Asked HasTables result (state S.Store conn.old) (state S.Store conn.new) (λ all. all.items ≡ map.entries (keys_of (state S.Store conn.old).now.trees)) }
+    ensures asked { Asked HasTables result (state S.Store conn.old) (state S.Store conn.new)
+        (λ all. all.items ≡ map.entries (keys_of (state S.Store conn.old).now.trees)) }
 {
     let rows = ask(
         conn,
@@ -313,12 +325,14 @@ pub fn all_keys<S: Alter>(
     key_entries(alloc, rows.as_slice())
 }
 
-/// Of each instance's data set the length, the SHA-256 and whether it is there, in byte order of the uid.
+/// Of each instance's data set the length, the SHA-256 and whether it is there, in byte order of
+/// the uid.
 pub fn all_prints<S: Alter>(
     conn: &mut Connection<S>,
     alloc: Global,
 ) -> Result<Vec<(Text, Print)>, LedgerFault>
-    ensures asked { Asked HasTables result (state S.Store conn.old) (state S.Store conn.new) (λ all. all.items ≡ map.entries (whole_prints_of (state S.Store conn.old).now.trees)) }
+    ensures asked { Asked HasTables result (state S.Store conn.old) (state S.Store conn.new)
+        (λ all. all.items ≡ map.entries (whole_prints_of (state S.Store conn.old).now.trees)) }
 {
     let rows = ask(
         conn,
@@ -333,7 +347,8 @@ pub fn all_arrivals<S: Alter>(
     conn: &mut Connection<S>,
     alloc: Global,
 ) -> Result<Vec<(Text, Text)>, LedgerFault>
-    ensures asked { Asked HasTables result (state S.Store conn.old) (state S.Store conn.new) (λ all. Lists pair_cmp (arrivals_in ((state S.Store conn.old).now.trees 5)) all.items) }
+    ensures asked { Asked HasTables result (state S.Store conn.old) (state S.Store conn.new)
+        (λ all. Lists pair_cmp (arrivals_in ((state S.Store conn.old).now.trees 5)) all.items) }
 {
     let rows = ask(
         conn,
@@ -345,18 +360,21 @@ pub fn all_arrivals<S: Alter>(
 
 /// The kept uids, in byte order.
 pub fn all_kept<S: Alter>(conn: &mut Connection<S>, alloc: Global) -> Result<Vec<Text>, LedgerFault>
-    ensures asked { Asked HasTables result (state S.Store conn.old) (state S.Store conn.new) (λ all. Lists text_cmp (all_kept_in ((state S.Store conn.old).now.trees 7)) all.items) }
+    ensures asked { Asked HasTables result (state S.Store conn.old) (state S.Store conn.new)
+        (λ all. Lists text_cmp (all_kept_in ((state S.Store conn.old).now.trees 7)) all.items) }
 {
     let rows = ask(conn, "SELECT uid FROM kept ORDER BY uid", &[])?;
     text_keys(alloc, rows.as_slice())
 }
 
-/// How far each uid is on its way to each destination, in byte order of the uid, then of the destination.
+/// How far each uid is on its way to each destination, in byte order of the uid, then of the
+/// destination.
 pub fn all_rows<S: Alter>(
     conn: &mut Connection<S>,
     alloc: Global,
 ) -> Result<Vec<((Text, Text), Progress)>, LedgerFault>
-    ensures asked { Asked HasTables result (state S.Store conn.old) (state S.Store conn.new) (λ all. all.items ≡ map.entries (rows_of (state S.Store conn.old).now.trees)) }
+    ensures asked { Asked HasTables result (state S.Store conn.old) (state S.Store conn.new)
+        (λ all. all.items ≡ map.entries (rows_of (state S.Store conn.old).now.trees)) }
 {
     let rows = ask(
         conn,
@@ -371,7 +389,8 @@ pub fn all_notes<S: Alter>(
     conn: &mut Connection<S>,
     alloc: Global,
 ) -> Result<Vec<(u64, Note)>, LedgerFault>
-    ensures asked { Asked HasTables result (state S.Store conn.old) (state S.Store conn.new) (λ all. IsJournal (state S.Store conn.old).now.trees all.items) }
+    ensures asked { Asked HasTables result (state S.Store conn.old) (state S.Store conn.new)
+        (λ all. IsJournal (state S.Store conn.old).now.trees all.items) }
 {
     let rows = ask(
         conn,
@@ -381,13 +400,14 @@ pub fn all_notes<S: Alter>(
     note_entries(alloc, rows.as_slice())
 }
 
-/// Where the first arrivals go on to: the line's number and the destination, or `-` where it is kept; by the number, then in
-/// byte order.
+/// Where the first arrivals go on to: the line's number and the destination, or `-` where it is
+/// kept; by the number, then in byte order.
 pub fn all_targets<S: Alter>(
     conn: &mut Connection<S>,
     alloc: Global,
 ) -> Result<Vec<(u64, Text)>, LedgerFault>
-    ensures asked { Asked HasTables result (state S.Store conn.old) (state S.Store conn.new) (λ all. Lists goal_cmp (goals_of (state S.Store conn.old).now.trees) all.items) }
+    ensures asked { Asked HasTables result (state S.Store conn.old) (state S.Store conn.new)
+        (λ all. Lists goal_cmp (goals_of (state S.Store conn.old).now.trees) all.items) }
 {
     let rows = ask(conn, "SELECT n, dest FROM target ORDER BY n, dest", &[])?;
     goal_keys(alloc, rows.as_slice())

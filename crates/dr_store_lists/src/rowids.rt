@@ -25,7 +25,8 @@ fn read_rowid(row: &Row) -> Option<i64>
 }
 
 fn read_rowids(alloc: Global, rows: &[Row]) -> Result<Vec<(i64, ())>, LedgerFault>
-    ensures { Reads result (λ all. mapped (λ e. Int e.0) all.items ≡ mapped (λ r. column r 0) rows.now) }
+    ensures { Reads result (λ all.
+        mapped (λ e. Int e.0) all.items ≡ mapped (λ r. column r 0) rows.now) }
 {
     let mut ids = Vec::new(alloc);
     for row in rows {
@@ -38,7 +39,9 @@ fn read_rowids(alloc: Global, rows: &[Row]) -> Result<Vec<(i64, ())>, LedgerFaul
 }
 
 fn test_rowids(alloc: Global, rows: &[Row]) -> Result<(), LedgerFault>
-    ensures { Reads result (λ done. (ids : List (ℤ × Unit {0})) × (mapped (λ e. Int e.0) ids ≡ mapped (λ r. column r 0) rows.now) × T (is_sorted int_cmp ids)) }
+    ensures { Reads result (λ done. (ids : List (ℤ × Unit {0}))
+        × (mapped (λ e. Int e.0) ids ≡ mapped (λ r. column r 0) rows.now)
+        × T (is_sorted int_cmp ids)) }
 {
     let ids = read_rowids(alloc, rows)?;
     if !rise(ids.as_slice()) {
@@ -52,7 +55,8 @@ pub fn test_item_rowids<S: Alter>(
     conn: &mut Connection<S>,
     alloc: Global,
 ) -> Result<(), LedgerFault>
-    ensures asked { Asked HasTables result (state S.Store conn.old) (state S.Store conn.new) (λ done. AreRows ((state S.Store conn.old).now.trees 1)) }
+    ensures asked { Asked HasTables result (state S.Store conn.old) (state S.Store conn.new)
+        (λ done. AreRows ((state S.Store conn.old).now.trees 1)) }
 {
     let rows = ask(conn, "SELECT rowid FROM item ORDER BY rowid", &[])?;
     test_rowids(alloc, rows.as_slice())
@@ -63,7 +67,8 @@ pub fn test_print_rowids<S: Alter>(
     conn: &mut Connection<S>,
     alloc: Global,
 ) -> Result<(), LedgerFault>
-    ensures asked { Asked HasTables result (state S.Store conn.old) (state S.Store conn.new) (λ done. AreRows ((state S.Store conn.old).now.trees 3)) }
+    ensures asked { Asked HasTables result (state S.Store conn.old) (state S.Store conn.new)
+        (λ done. AreRows ((state S.Store conn.old).now.trees 3)) }
 {
     let rows = ask(conn, "SELECT rowid FROM print ORDER BY rowid", &[])?;
     test_rowids(alloc, rows.as_slice())
@@ -74,7 +79,8 @@ pub fn test_arrival_rowids<S: Alter>(
     conn: &mut Connection<S>,
     alloc: Global,
 ) -> Result<(), LedgerFault>
-    ensures asked { Asked HasTables result (state S.Store conn.old) (state S.Store conn.new) (λ done. AreRows ((state S.Store conn.old).now.trees 5)) }
+    ensures asked { Asked HasTables result (state S.Store conn.old) (state S.Store conn.new)
+        (λ done. AreRows ((state S.Store conn.old).now.trees 5)) }
 {
     let rows = ask(conn, "SELECT rowid FROM arrival ORDER BY rowid", &[])?;
     test_rowids(alloc, rows.as_slice())
@@ -85,7 +91,8 @@ pub fn test_queue_rowids<S: Alter>(
     conn: &mut Connection<S>,
     alloc: Global,
 ) -> Result<(), LedgerFault>
-    ensures asked { Asked HasTables result (state S.Store conn.old) (state S.Store conn.new) (λ done. AreRows ((state S.Store conn.old).now.trees 9)) }
+    ensures asked { Asked HasTables result (state S.Store conn.old) (state S.Store conn.new)
+        (λ done. AreRows ((state S.Store conn.old).now.trees 9)) }
 {
     let rows = ask(conn, "SELECT rowid FROM queue ORDER BY rowid", &[])?;
     test_rowids(alloc, rows.as_slice())
@@ -119,7 +126,8 @@ fn are_counted(rows: &[Row]) -> bool
 
 /// Tests that the numbers in queue are a ledger's.
 pub fn test_counts<S: Alter>(conn: &mut Connection<S>) -> Result<(), LedgerFault>
-    ensures asked { Asked HasTables result (state S.Store conn.old) (state S.Store conn.new) (λ done. AllByRecursion IsCounted ((state S.Store conn.old).now.trees 9)) }
+    ensures asked { Asked HasTables result (state S.Store conn.old) (state S.Store conn.new)
+        (λ done. AllByRecursion IsCounted ((state S.Store conn.old).now.trees 9)) }
 {
     let rows = ask(conn, "SELECT state, due FROM queue", &[])?;
     if !are_counted(rows.as_slice()) {
@@ -169,7 +177,8 @@ fn number_after(rows: &[Row]) -> Result<u64, LedgerFault>
 
 /// The number of the journal's next line: each line has a lower one. The first is 1.
 pub fn next_number<S: Alter>(conn: &mut Connection<S>) -> Result<u64, LedgerFault>
-    ensures asked { Asked HasTables result (state S.Store conn.old) (state S.Store conn.new) (λ next. (1 ≤ next) × AreBelow next ((state S.Store conn.old).now.trees 11)) }
+    ensures asked { Asked HasTables result (state S.Store conn.old) (state S.Store conn.new)
+        (λ next. (1 ≤ next) × AreBelow next ((state S.Store conn.old).now.trees 11)) }
 {
     let rows = ask(conn, "SELECT rowid FROM journal ORDER BY rowid", &[])?;
     number_after(rows.as_slice())

@@ -1,5 +1,6 @@
 -- What is found in a file, and what an opening answers.
-use Rattle.std.specs.Prelude.{All, ◌≡◌, ◌≤◌, ◌+◌, ◌⊎◌, ℕ, false, IsTrue, List, [], Option, None, Some, Result, Ok, Err, OnOk, length, true}
+use Rattle.std.specs.Prelude.{All, ◌≡◌, ◌≤◌, ◌+◌, ◌⊎◌, ℕ, false, IsTrue, List, [], Option, None}
+use Rattle.std.specs.Prelude.{Some, Result, Ok, Err, OnOk, length, true}
 use Rattle.std.specs.FinMap as map
 use Rattle.sha2.specs.Sha256.{sha256}
 use Rattle.sqlite.specs.Effect.{Database}
@@ -27,7 +28,8 @@ use Rattle.dr_store_open.specs.Renewing.{KeepsRows}
 
 -- ---- what is tested of rows
 
--- the rows of the tables whose rows change or leave have integers for rowids, none twice, and queue's numbers are a ledger's
+-- the rows of the tables whose rows change or leave have integers for rowids, none twice, and
+-- queue's numbers are a ledger's
 pub record AreTested (db : Trees) : Type 0 where
   pub items : AreRows (db 1)
   pub prints : AreRows (db 3)
@@ -39,15 +41,21 @@ pub record AreTested (db : Trees) : Type 0 where
 
 -- a data set of that uid, if it is there, is that of the item
 abbrev pub IsOwn : Text → Trees → Type 0
-IsOwn uid db = (body : List ℕ) → map.get (bodies_of db) uid ≡ Some body → (item : Job) × IsItem item × (item.body ≡ body) × (map.get (items_of db) uid ≡ Some (instance_of item))
+IsOwn uid db =
+    (body : List ℕ)
+    → map.get (bodies_of db) uid ≡ Some body
+    → (item : Job) × IsItem item × (item.body ≡ body)
+    × (map.get (items_of db) uid ≡ Some (instance_of item))
 
 -- the data set has this length and this SHA-256
 abbrev pub IsSpelled : Job → Print → Type 0
 IsSpelled job print = (length job.body ≡ print.size) × (sha256 job.body ≡ print.digest)
 
--- where the print is that of its uid, the data set is the instance's if the print says that it is there
+-- where the print is that of its uid, the data set is the instance's if the print says that it is
+-- there
 abbrev pub AreOwnUnder : Trees → Text × Print → Type 0
-AreOwnUnder db p = p.1.whole ≡ true → map.get (prints_of db) p.0 ≡ Some (p.1.size, p.1.digest) → IsOwn p.0 db
+AreOwnUnder db p =
+    p.1.whole ≡ true → map.get (prints_of db) p.0 ≡ Some (p.1.size, p.1.digest) → IsOwn p.0 db
 
 -- ---- all of it
 
@@ -83,12 +91,16 @@ AreReadIf db prints next (Some n) = (n ≡ next) × All (AreOwnUnder db) prints
 
 -- ---- calls that only read
 
--- What a call that only reads does, where the store is open: as a query's `Asked`, but that it may make no query at all.
-pub record Seen {A : Type 0} (Asks : Database → Type 0) (result : Result A LedgerFault) (old new : State) (Shows : A → Type 0) : Type 0 where
+-- What a call that only reads does, where the store is open: as a query's `Asked`, but that it may
+-- make no query at all.
+pub record Seen {A : Type 0} (Asks : Database → Type 0) (result : Result A LedgerFault)
+    (old new : State) (Shows : A → Type 0) : Type 0 where
   pub shown : HasCleanDisk new → IsTrue old.is_open → Asks old.now → Reads result Shows
-  pub same : HasCleanDisk new → IsTrue old.is_open → Asks old.now → OnOk result (IsTrue new.is_open × (new.now ≡ old.now))
+  pub same : HasCleanDisk new → IsTrue old.is_open → Asks old.now
+      → OnOk result (IsTrue new.is_open × (new.now ≡ old.now))
   pub stays : HasCleanDisk new → IsTrue new.is_open → Asks old.now → Stays old new
-  pub leaves : HasCleanDisk new → IsTrue old.is_open → Asks old.now → (db : Trees) → new.may_leave db → old.may_leave db
+  pub leaves : HasCleanDisk new → IsTrue old.is_open → Asks old.now → (db : Trees)
+      → new.may_leave db → old.may_leave db
   pub was_open : HasCleanDisk new → IsTrue new.is_open → IsTrue old.is_open
   pub clean : doubt old.is_clean ≤ doubt new.is_clean
   pub idle : old.in_transaction ≡ false → new.in_transaction ≡ false
@@ -101,16 +113,19 @@ IfFound (Ok None) P = Unit {0}
 IfFound (Ok (Some x)) P = P x
 IfFound (Err why) P = Unit {0}
 
--- The store is open with the tables of a ledger of that site, which owns them, and whose next line has number n. All of it was committed before.
+-- The store is open with the tables of a ledger of that site, which owns them, and whose next line
+-- has number n. All of it was committed before.
 pub record IsLedgerFound (n : ℕ) (part : Part) (old new : State) : Type 0 where
   pub kept : IsKept n part new
   pub owned : IsOwnedBy part new.committed.trees
   pub next : IsNext n new.committed.trees
   pub same : new.committed ≡ old.committed
 
--- What tells whether a file has a ledger of this site does. Where it says the number n of the next line, that ledger is found. Whatever it
--- answers, nothing is committed, and a crash leaves only what it could leave before.
-pub record IsOpened (part : Part) (result : Result (Option ℕ) LedgerFault) (old new : State) : Type 0 where
+-- What tells whether a file has a ledger of this site does. Where it says the number n of the next
+-- line, that ledger is found. Whatever it answers, nothing is committed, and a crash leaves only
+-- what it could leave before.
+pub record IsOpened (part : Part) (result : Result (Option ℕ) LedgerFault)
+    (old new : State) : Type 0 where
   pub has : IfFound result (λ n. old.now.schema ≡ tables)
   pub kept : HasCleanDisk new → IfFound result (λ n. IsLedgerFound n part old new)
   pub leaves : HasCleanDisk new → (db : Trees) → new.may_leave db → old.may_leave db
@@ -125,20 +140,22 @@ pub record IsBlank (schema : Schema) : Type 0 where
 
 -- a crash leaves what it could leave before, or what is committed now
 abbrev pub LeavesOldOrCommitted : State → State → Type 0
-LeavesOldOrCommitted old new = (db : Trees) → new.may_leave db → old.may_leave db ⊎ (db ≡ new.committed.trees)
+LeavesOldOrCommitted old new =
+    (db : Trees) → new.may_leave db → old.may_leave db ⊎ (db ≡ new.committed.trees)
 
 -- what the file had stays, and a crash leaves what it could leave before
 pub record StaysAsFound (old new : State) : Type 0 where
   pub committed : new.committed ≡ old.committed
   pub leaves : (db : Trees) → new.may_leave db → old.may_leave db
 
--- the file has a ledger without any line, and a crash leaves what it could leave before, or that ledger
+-- the file has a ledger without any line, and a crash leaves what it could leave before, or that
+-- ledger
 pub record HasNewLedger (old new : State) : Type 0 where
   pub book : book_of new.committed.trees ≡ empty_book
   pub leaves : LeavesOldOrCommitted old new
 
--- What a file from before had is there still, in the tables of today: all that the queries ask for. A crash leaves what it could leave
--- before, or what is committed.
+-- What a file from before had is there still, in the tables of today: all that the queries ask for.
+-- A crash leaves what it could leave before, or what is committed.
 pub record IsBroughtOver (old new : State) : Type 0 where
   pub keeps : KeepsRows old.now new.committed
   pub leaves : LeavesOldOrCommitted old new

@@ -9,7 +9,8 @@ use Rattle.sqlite_resolve.specs.declared.compiled.Compiled.{Compiled}
 use Rattle.dr_store_schema.specs.Statements as text
 use Rattle.dr_store_open.specs.declared.sheets.Sheets.{Sheets}
 
--- over these tables the text is one of SQL, which writes nothing and doesn't read the list of tables
+-- over these tables the text is one of SQL, which writes nothing and doesn't read the list of
+-- tables
 pub record IsQuery (schema : Schema) (sql : List ℕ) : Type 0 where
   pub plain : IsPlain (understood schema sql)
   pub listing : reads_listing schema sql ≡ false
@@ -24,8 +25,9 @@ pub record IsAnswer (sql : List ℕ) (db : Database) (rows : List Row) : Type 0 
 abbrev pub AnswersTheSame : Database → Database → List ℕ → Type 0
 AnswersTheSame old new sql = (rows : List Row) × IsAnswer sql old rows × IsAnswer sql new rows
 
--- Whose file it is, its instances, who brought them, which of them it keeps, its queue and its journal: all of it is asked for before and
--- after by the same queries, in the order of the keys, and the answers are the same.
+-- Whose file it is, its instances, who brought them, which of them it keeps, its queue and its
+-- journal: all of it is asked for before and after by the same queries, in the order of the keys,
+-- and the answers are the same.
 pub record KeepsRows (old new : Database) : Type 0 where
   pub site : AnswersTheSame old new text.the_site
   pub items : AnswersTheSame old new text.all_items

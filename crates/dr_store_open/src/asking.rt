@@ -19,8 +19,11 @@ pub fn ask_within<S: Alter>(
     params: &[ValueRef<'_>],
 ) -> Result<Vec<Row>, OpeningFault>
     ensures same_reference { tx.new.conn.ghost_name ≡ tx.old.conn.ghost_name }
-    ensures survives { Survives (state S.Store tx.old.conn.now) (state S.Store tx.new.conn.now) (λ _. ⊥) }
-    ensures shown { HasCleanDisk (state S.Store tx.new.conn.now) → IfOk result (λ rows. Shown sql.now (bound params.now) (state S.Store tx.old.conn.now) (state S.Store tx.new.conn.now) rows.items) }
+    ensures survives { Survives (state S.Store tx.old.conn.now) (state S.Store tx.new.conn.now)
+        (λ _. ⊥) }
+    ensures shown { HasCleanDisk (state S.Store tx.new.conn.now)
+        → IfOk result (λ rows. Shown sql.now (bound params.now) (state S.Store tx.old.conn.now)
+        (state S.Store tx.new.conn.now) rows.items) }
 {
     match tx.query_all(sql, params) {
         Ok(rows) => Ok(rows),
@@ -31,9 +34,15 @@ pub fn ask_within<S: Alter>(
 /// The answer of a query without parameters, which changes nothing.
 pub fn ask_rows<S: Alter>(tx: &mut Transaction<'_, S>, sql: &str) -> Result<Vec<Row>, OpeningFault>
     ensures same_reference { tx.new.conn.ghost_name ≡ tx.old.conn.ghost_name }
-    ensures survives { Survives (state S.Store tx.old.conn.now) (state S.Store tx.new.conn.now) (λ _. ⊥) }
-    ensures schema { HasCleanDisk (state S.Store tx.new.conn.now) → IfOk result (λ rows. (state S.Store tx.new.conn.now).now.schema ≡ (state S.Store tx.old.conn.now).now.schema) }
-    ensures answer { HasCleanDisk (state S.Store tx.new.conn.now) → IsQuery (state S.Store tx.old.conn.now).now.schema sql.now → IfOk result (λ rows. IsAnswer sql.now (state S.Store tx.old.conn.now).now rows.items × ((state S.Store tx.new.conn.now).now ≡ (state S.Store tx.old.conn.now).now)) }
+    ensures survives { Survives (state S.Store tx.old.conn.now) (state S.Store tx.new.conn.now)
+        (λ _. ⊥) }
+    ensures schema { HasCleanDisk (state S.Store tx.new.conn.now)
+        → IfOk result (λ rows.
+        (state S.Store tx.new.conn.now).now.schema ≡ (state S.Store tx.old.conn.now).now.schema) }
+    ensures answer { HasCleanDisk (state S.Store tx.new.conn.now)
+        → IsQuery (state S.Store tx.old.conn.now).now.schema sql.now
+        → IfOk result (λ rows. IsAnswer sql.now (state S.Store tx.old.conn.now).now rows.items
+        × ((state S.Store tx.new.conn.now).now ≡ (state S.Store tx.old.conn.now).now)) }
 {
     ask_within(tx, sql, &[])
 }
@@ -45,9 +54,16 @@ pub fn test_rows<S: Alter>(
     rows: &[Row],
 ) -> Result<(), OpeningFault>
     ensures same_reference { tx.new.conn.ghost_name ≡ tx.old.conn.ghost_name }
-    ensures survives { Survives (state S.Store tx.old.conn.now) (state S.Store tx.new.conn.now) (λ _. ⊥) }
-    ensures schema { HasCleanDisk (state S.Store tx.new.conn.now) → OnOk result ((state S.Store tx.new.conn.now).now.schema ≡ (state S.Store tx.old.conn.now).now.schema) }
-    ensures answer { HasCleanDisk (state S.Store tx.new.conn.now) → IsQuery (state S.Store tx.old.conn.now).now.schema sql.now → OnOk result (IsAnswer sql.now (state S.Store tx.old.conn.now).now rows.now × ((state S.Store tx.new.conn.now).now ≡ (state S.Store tx.old.conn.now).now)) }
+    ensures survives { Survives (state S.Store tx.old.conn.now) (state S.Store tx.new.conn.now)
+        (λ _. ⊥) }
+    ensures schema { HasCleanDisk (state S.Store tx.new.conn.now)
+        → OnOk result
+        ((state S.Store tx.new.conn.now).now.schema ≡ (state S.Store tx.old.conn.now).now.schema) }
+    ensures answer { HasCleanDisk (state S.Store tx.new.conn.now)
+        → IsQuery (state S.Store tx.old.conn.now).now.schema sql.now
+        → OnOk result
+        (IsAnswer sql.now (state S.Store tx.old.conn.now).now rows.now
+        × ((state S.Store tx.new.conn.now).now ≡ (state S.Store tx.old.conn.now).now)) }
 {
     let there = ask_rows(tx, sql)?;
     if !are_rows(there.as_slice(), rows) {
@@ -63,7 +79,8 @@ pub fn run_within<S: Alter>(
     params: &[ValueRef<'_>],
 ) -> Result<(), OpeningFault>
     ensures same_reference { tx.new.conn.ghost_name ≡ tx.old.conn.ghost_name }
-    ensures survives { Survives (state S.Store tx.old.conn.now) (state S.Store tx.new.conn.now) (λ _. ⊥) }
+    ensures survives { Survives (state S.Store tx.old.conn.now) (state S.Store tx.new.conn.now)
+        (λ _. ⊥) }
 {
     match tx.execute(sql, params) {
         Ok(_) => Ok(()),
@@ -74,7 +91,8 @@ pub fn run_within<S: Alter>(
 /// Runs these statements, in their order.
 pub fn run_texts<S: Alter>(tx: &mut Transaction<'_, S>, texts: &[&str]) -> Result<(), OpeningFault>
     ensures same_reference { tx.new.conn.ghost_name ≡ tx.old.conn.ghost_name }
-    ensures survives { Survives (state S.Store tx.old.conn.now) (state S.Store tx.new.conn.now) (λ _. ⊥) }
+    ensures survives { Survives (state S.Store tx.old.conn.now) (state S.Store tx.new.conn.now)
+        (λ _. ⊥) }
 {
     for text in texts {
         run_within(tx, text, &[])?;
@@ -90,7 +108,8 @@ fn add_row<S: Alter>(
     row: &Row,
 ) -> Result<(), OpeningFault>
     ensures same_reference { tx.new.conn.ghost_name ≡ tx.old.conn.ghost_name }
-    ensures survives { Survives (state S.Store tx.old.conn.now) (state S.Store tx.new.conn.now) (λ _. ⊥) }
+    ensures survives { Survives (state S.Store tx.old.conn.now) (state S.Store tx.new.conn.now)
+        (λ _. ⊥) }
 {
     let mut cells = Vec::new(alloc);
     for at in 0..row.column_count() {
@@ -110,7 +129,8 @@ pub fn add_rows<S: Alter>(
     rows: &[Row],
 ) -> Result<(), OpeningFault>
     ensures same_reference { tx.new.conn.ghost_name ≡ tx.old.conn.ghost_name }
-    ensures survives { Survives (state S.Store tx.old.conn.now) (state S.Store tx.new.conn.now) (λ _. ⊥) }
+    ensures survives { Survives (state S.Store tx.old.conn.now) (state S.Store tx.new.conn.now)
+        (λ _. ⊥) }
 {
     for row in rows {
         add_row(tx, alloc, sql, row)?;

@@ -20,7 +20,8 @@ use std::alloc::Global;
 
 /// Whether the item has this uid, this key and this print.
 fn is_of(item: &Item, uid: &Text, key: &Key, print: &Print) -> bool
-    ensures { IsTrue result → (item.now.uid ≡ uid.now) × (item.now.key ≡ key.now) × IsSpelled item.now print.now }
+    ensures { IsTrue result
+        → (item.now.uid ≡ uid.now) × (item.now.key ≡ key.now) × IsSpelled item.now print.now }
 {
     if item.uid() != uid || item.key() != key {
         return false;
@@ -47,7 +48,11 @@ fn test_body<'x, S: Alter>(
     uid: &'x Text,
     print: &'x Print,
 ) -> Result<bool, LedgerFault>
-    ensures asked { Asked IsLedger result (state S.Store conn.old) (state S.Store conn.new) (λ own. IsTrue own → map.get (prints_of (state S.Store conn.old).now.trees) uid.now ≡ Some (print.now.size, print.now.digest) → IsOwn uid.now (state S.Store conn.old).now.trees) }
+    ensures asked { Asked IsLedger result (state S.Store conn.old) (state S.Store conn.new)
+        (λ own. IsTrue own
+        → map.get (prints_of (state S.Store conn.old).now.trees) uid.now
+        ≡ Some (print.now.size, print.now.digest)
+        → IsOwn uid.now (state S.Store conn.old).now.trees) }
 {
     match find_job(conn, alloc, uid) {
         Ok(Some(job)) => is_own(alloc, job, print),
@@ -62,7 +67,8 @@ fn test_print<'x, S: Alter>(
     alloc: Global,
     print: &'x (Text, Print),
 ) -> Result<bool, LedgerFault>
-    ensures seen { Seen IsLedger result (state S.Store conn.old) (state S.Store conn.new) (λ own. IsTrue own → AreOwnUnder (state S.Store conn.old).now.trees print.now) }
+    ensures seen { Seen IsLedger result (state S.Store conn.old) (state S.Store conn.new)
+        (λ own. IsTrue own → AreOwnUnder (state S.Store conn.old).now.trees print.now) }
 {
     if print.1.whole {
         return test_body(conn, alloc, &print.0, &print.1);
@@ -76,7 +82,8 @@ pub fn test_bodies<'x, S: Alter>(
     alloc: Global,
     prints: &'x [(Text, Print)],
 ) -> Result<bool, LedgerFault>
-    ensures seen { Seen IsLedger result (state S.Store conn.old) (state S.Store conn.new) (λ own. IsTrue own → All (AreOwnUnder (state S.Store conn.old).now.trees) prints.now) }
+    ensures seen { Seen IsLedger result (state S.Store conn.old) (state S.Store conn.new)
+        (λ own. IsTrue own → All (AreOwnUnder (state S.Store conn.old).now.trees) prints.now) }
 {
     for print in prints {
         let own = match test_print(conn, alloc, print) {

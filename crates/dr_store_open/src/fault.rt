@@ -7,7 +7,8 @@ use thiserror::Error;
 /// Why a file's ledger isn't opened.
 #[derive(Clone, Copy, PartialEq, Eq, Debug, Error)]
 pub enum OpeningFault {
-    /// It is another node's, or was left under another plan, has other tables, or rows that aren't what the journal's lines make.
+    /// It is another node's, or was left under another plan, has other tables, or rows that aren't
+    /// what the journal's lines make.
     #[error("OtherSite")]
     OtherSite,
     #[error("Store")]

@@ -8,7 +8,8 @@ ghost use Rattle.dr_ledger.specs.Replies.{Lists};
 ghost use Rattle.dr_store_schema.specs.Books.{AreBelow, all_kept_in, arrivals_in, rows_of};
 ghost use Rattle.dr_store_schema.specs.Ledgers.{IsLedger};
 ghost use Rattle.dr_store_reads.specs.Queries.{Asked};
-ghost use Rattle.dr_store_lists.specs.Lists.{IsJournal, goal_cmp, goals_of, keys_of, whole_prints_of};
+ghost use Rattle.dr_store_lists.specs.Lists.{IsJournal, goal_cmp, goals_of, keys_of};
+ghost use Rattle.dr_store_lists.specs.Lists.{whole_prints_of};
 ghost use Rattle.dr_store_audit.specs.Found.{AreListsOf};
 ghost use Rattle.dr_store_writes.specs.Effects.{IsSiteOf};
 ghost use Rattle.dr_store_open.specs.Opening.{AreReadIf, IsAgreedIf, IsWholeIf, Seen};
@@ -29,7 +30,8 @@ use std::alloc::Global;
 
 /// Whether the node and the plan are the site's.
 fn is_owner(owner: &Owner, site: &Site) -> bool
-    ensures { IsTrue result → (owner.now.node ≡ site.now.name) × (owner.now.plan ≡ site.now.digest) }
+    ensures { IsTrue result
+        → (owner.now.node ≡ site.now.name) × (owner.now.plan ≡ site.now.digest) }
 {
     if owner.node != *site.name() {
         return false;
@@ -61,7 +63,8 @@ fn read_bodies<'x, S: Alter>(
     prints: &'x [(Text, Print)],
     next: u64,
 ) -> Result<Option<u64>, LedgerFault>
-    ensures seen { Seen IsLedger result (state S.Store conn.old) (state S.Store conn.new) (AreReadIf (state S.Store conn.old).now.trees prints.now next) }
+    ensures seen { Seen IsLedger result (state S.Store conn.old) (state S.Store conn.new)
+        (AreReadIf (state S.Store conn.old).now.trees prints.now next) }
 {
     match test_bodies(conn, alloc, prints) {
         Ok(own) => Ok(next_if(own, next)),
@@ -83,7 +86,11 @@ fn compare<'x, S: Alter>(
     goals: &'x [(u64, Text)],
     next: u64,
 ) -> Result<Option<u64>, LedgerFault>
-    ensures seen { Seen IsLedger result (state S.Store conn.old) (state S.Store conn.new) (λ found. AreListsOf (state S.Store conn.old).now.trees keys.now prints.now arrivals.now kept.now rows.now notes.now goals.now → AreBelow next ((state S.Store conn.old).now.trees 11) → IsAgreedIf site.now (state S.Store conn.old).now.trees found) }
+    ensures seen { Seen IsLedger result (state S.Store conn.old) (state S.Store conn.new)
+        (λ found. AreListsOf (state S.Store conn.old).now.trees keys.now prints.now arrivals.now
+        kept.now rows.now notes.now goals.now
+        → AreBelow next ((state S.Store conn.old).now.trees 11)
+        → IsAgreedIf site.now (state S.Store conn.old).now.trees found) }
 {
     if !is_next(notes, next) {
         return Ok(None);
@@ -110,7 +117,15 @@ fn with_goals<'x, S: Alter>(
     notes: &'x [(u64, Note)],
     goals: &'x [(u64, Text)],
 ) -> Result<Option<u64>, LedgerFault>
-    ensures asked { Asked IsLedger result (state S.Store conn.old) (state S.Store conn.new) (λ found. keys.now ≡ map.entries (keys_of (state S.Store conn.old).now.trees) → prints.now ≡ map.entries (whole_prints_of (state S.Store conn.old).now.trees) → Lists pair_cmp (arrivals_in ((state S.Store conn.old).now.trees 5)) arrivals.now → Lists text_cmp (all_kept_in ((state S.Store conn.old).now.trees 7)) kept.now → rows.now ≡ map.entries (rows_of (state S.Store conn.old).now.trees) → IsJournal (state S.Store conn.old).now.trees notes.now → Lists goal_cmp (goals_of (state S.Store conn.old).now.trees) goals.now → IsAgreedIf site.now (state S.Store conn.old).now.trees found) }
+    ensures asked { Asked IsLedger result (state S.Store conn.old) (state S.Store conn.new)
+        (λ found. keys.now ≡ map.entries (keys_of (state S.Store conn.old).now.trees)
+        → prints.now ≡ map.entries (whole_prints_of (state S.Store conn.old).now.trees)
+        → Lists pair_cmp (arrivals_in ((state S.Store conn.old).now.trees 5)) arrivals.now
+        → Lists text_cmp (all_kept_in ((state S.Store conn.old).now.trees 7)) kept.now
+        → rows.now ≡ map.entries (rows_of (state S.Store conn.old).now.trees)
+        → IsJournal (state S.Store conn.old).now.trees notes.now
+        → Lists goal_cmp (goals_of (state S.Store conn.old).now.trees) goals.now
+        → IsAgreedIf site.now (state S.Store conn.old).now.trees found) }
 {
     match next_number(conn) {
         Ok(next) => compare(
@@ -132,7 +147,14 @@ fn with_notes<'x, S: Alter>(
     rows: &'x [((Text, Text), Progress)],
     notes: &'x [(u64, Note)],
 ) -> Result<Option<u64>, LedgerFault>
-    ensures asked { Asked IsLedger result (state S.Store conn.old) (state S.Store conn.new) (λ found. keys.now ≡ map.entries (keys_of (state S.Store conn.old).now.trees) → prints.now ≡ map.entries (whole_prints_of (state S.Store conn.old).now.trees) → Lists pair_cmp (arrivals_in ((state S.Store conn.old).now.trees 5)) arrivals.now → Lists text_cmp (all_kept_in ((state S.Store conn.old).now.trees 7)) kept.now → rows.now ≡ map.entries (rows_of (state S.Store conn.old).now.trees) → IsJournal (state S.Store conn.old).now.trees notes.now → IsAgreedIf site.now (state S.Store conn.old).now.trees found) }
+    ensures asked { Asked IsLedger result (state S.Store conn.old) (state S.Store conn.new)
+        (λ found. keys.now ≡ map.entries (keys_of (state S.Store conn.old).now.trees)
+        → prints.now ≡ map.entries (whole_prints_of (state S.Store conn.old).now.trees)
+        → Lists pair_cmp (arrivals_in ((state S.Store conn.old).now.trees 5)) arrivals.now
+        → Lists text_cmp (all_kept_in ((state S.Store conn.old).now.trees 7)) kept.now
+        → rows.now ≡ map.entries (rows_of (state S.Store conn.old).now.trees)
+        → IsJournal (state S.Store conn.old).now.trees notes.now
+        → IsAgreedIf site.now (state S.Store conn.old).now.trees found) }
 {
     match all_targets(conn, alloc) {
         Ok(goals) => with_goals(
@@ -162,7 +184,13 @@ fn with_rows<'x, S: Alter>(
     kept: &'x [Text],
     rows: &'x [((Text, Text), Progress)],
 ) -> Result<Option<u64>, LedgerFault>
-    ensures asked { Asked IsLedger result (state S.Store conn.old) (state S.Store conn.new) (λ found. keys.now ≡ map.entries (keys_of (state S.Store conn.old).now.trees) → prints.now ≡ map.entries (whole_prints_of (state S.Store conn.old).now.trees) → Lists pair_cmp (arrivals_in ((state S.Store conn.old).now.trees 5)) arrivals.now → Lists text_cmp (all_kept_in ((state S.Store conn.old).now.trees 7)) kept.now → rows.now ≡ map.entries (rows_of (state S.Store conn.old).now.trees) → IsAgreedIf site.now (state S.Store conn.old).now.trees found) }
+    ensures asked { Asked IsLedger result (state S.Store conn.old) (state S.Store conn.new)
+        (λ found. keys.now ≡ map.entries (keys_of (state S.Store conn.old).now.trees)
+        → prints.now ≡ map.entries (whole_prints_of (state S.Store conn.old).now.trees)
+        → Lists pair_cmp (arrivals_in ((state S.Store conn.old).now.trees 5)) arrivals.now
+        → Lists text_cmp (all_kept_in ((state S.Store conn.old).now.trees 7)) kept.now
+        → rows.now ≡ map.entries (rows_of (state S.Store conn.old).now.trees)
+        → IsAgreedIf site.now (state S.Store conn.old).now.trees found) }
 {
     match all_notes(conn, alloc) {
         Ok(notes) => with_notes(
@@ -190,7 +218,12 @@ fn with_kept<'x, S: Alter>(
     arrivals: &'x [(Text, Text)],
     kept: &'x [Text],
 ) -> Result<Option<u64>, LedgerFault>
-    ensures asked { Asked IsLedger result (state S.Store conn.old) (state S.Store conn.new) (λ found. keys.now ≡ map.entries (keys_of (state S.Store conn.old).now.trees) → prints.now ≡ map.entries (whole_prints_of (state S.Store conn.old).now.trees) → Lists pair_cmp (arrivals_in ((state S.Store conn.old).now.trees 5)) arrivals.now → Lists text_cmp (all_kept_in ((state S.Store conn.old).now.trees 7)) kept.now → IsAgreedIf site.now (state S.Store conn.old).now.trees found) }
+    ensures asked { Asked IsLedger result (state S.Store conn.old) (state S.Store conn.new)
+        (λ found. keys.now ≡ map.entries (keys_of (state S.Store conn.old).now.trees)
+        → prints.now ≡ map.entries (whole_prints_of (state S.Store conn.old).now.trees)
+        → Lists pair_cmp (arrivals_in ((state S.Store conn.old).now.trees 5)) arrivals.now
+        → Lists text_cmp (all_kept_in ((state S.Store conn.old).now.trees 7)) kept.now
+        → IsAgreedIf site.now (state S.Store conn.old).now.trees found) }
 {
     match all_rows(conn, alloc) {
         Ok(rows) => with_rows(
@@ -216,7 +249,11 @@ fn with_arrivals<'x, S: Alter>(
     prints: &'x [(Text, Print)],
     arrivals: &'x [(Text, Text)],
 ) -> Result<Option<u64>, LedgerFault>
-    ensures asked { Asked IsLedger result (state S.Store conn.old) (state S.Store conn.new) (λ found. keys.now ≡ map.entries (keys_of (state S.Store conn.old).now.trees) → prints.now ≡ map.entries (whole_prints_of (state S.Store conn.old).now.trees) → Lists pair_cmp (arrivals_in ((state S.Store conn.old).now.trees 5)) arrivals.now → IsAgreedIf site.now (state S.Store conn.old).now.trees found) }
+    ensures asked { Asked IsLedger result (state S.Store conn.old) (state S.Store conn.new)
+        (λ found. keys.now ≡ map.entries (keys_of (state S.Store conn.old).now.trees)
+        → prints.now ≡ map.entries (whole_prints_of (state S.Store conn.old).now.trees)
+        → Lists pair_cmp (arrivals_in ((state S.Store conn.old).now.trees 5)) arrivals.now
+        → IsAgreedIf site.now (state S.Store conn.old).now.trees found) }
 {
     match all_kept(conn, alloc) {
         Ok(kept) => with_kept(conn, alloc, site, keys, prints, arrivals, kept.as_slice()),
@@ -232,7 +269,10 @@ fn with_prints<'x, S: Alter>(
     keys: &'x [(Text, Key)],
     prints: &'x [(Text, Print)],
 ) -> Result<Option<u64>, LedgerFault>
-    ensures asked { Asked IsLedger result (state S.Store conn.old) (state S.Store conn.new) (λ found. keys.now ≡ map.entries (keys_of (state S.Store conn.old).now.trees) → prints.now ≡ map.entries (whole_prints_of (state S.Store conn.old).now.trees) → IsAgreedIf site.now (state S.Store conn.old).now.trees found) }
+    ensures asked { Asked IsLedger result (state S.Store conn.old) (state S.Store conn.new)
+        (λ found. keys.now ≡ map.entries (keys_of (state S.Store conn.old).now.trees)
+        → prints.now ≡ map.entries (whole_prints_of (state S.Store conn.old).now.trees)
+        → IsAgreedIf site.now (state S.Store conn.old).now.trees found) }
 {
     match all_arrivals(conn, alloc) {
         Ok(arrivals) => with_arrivals(conn, alloc, site, keys, prints, arrivals.as_slice()),
@@ -247,7 +287,9 @@ fn with_keys<'x, S: Alter>(
     site: &'x Site,
     keys: &'x [(Text, Key)],
 ) -> Result<Option<u64>, LedgerFault>
-    ensures asked { Asked IsLedger result (state S.Store conn.old) (state S.Store conn.new) (λ found. keys.now ≡ map.entries (keys_of (state S.Store conn.old).now.trees) → IsAgreedIf site.now (state S.Store conn.old).now.trees found) }
+    ensures asked { Asked IsLedger result (state S.Store conn.old) (state S.Store conn.new)
+        (λ found. keys.now ≡ map.entries (keys_of (state S.Store conn.old).now.trees)
+        → IsAgreedIf site.now (state S.Store conn.old).now.trees found) }
 {
     match all_prints(conn, alloc) {
         Ok(prints) => with_prints(conn, alloc, site, keys, prints.as_slice()),
@@ -261,7 +303,8 @@ pub fn find_lists<'x, S: Alter>(
     alloc: Global,
     site: &'x Site,
 ) -> Result<Option<u64>, LedgerFault>
-    ensures asked { Asked IsLedger result (state S.Store conn.old) (state S.Store conn.new) (λ found. IsAgreedIf site.now (state S.Store conn.old).now.trees found) }
+    ensures asked { Asked IsLedger result (state S.Store conn.old) (state S.Store conn.new)
+        (λ found. IsAgreedIf site.now (state S.Store conn.old).now.trees found) }
 {
     match all_keys(conn, alloc) {
         Ok(keys) => with_keys(conn, alloc, site, keys.as_slice()),
@@ -275,7 +318,8 @@ pub fn find_owned<'x, S: Alter>(
     alloc: Global,
     site: &'x Site,
 ) -> Result<Option<u64>, LedgerFault>
-    ensures asked { Asked IsLedger result (state S.Store conn.old) (state S.Store conn.new) (IsWholeIf site.now (state S.Store conn.old).now.trees) }
+    ensures asked { Asked IsLedger result (state S.Store conn.old) (state S.Store conn.new)
+        (IsWholeIf site.now (state S.Store conn.old).now.trees) }
 {
     match find_owner(conn, alloc) {
         Ok(Some(owner)) => with_owner(conn, alloc, site, &owner),
@@ -291,7 +335,9 @@ fn with_owner<'x, S: Alter>(
     site: &'x Site,
     owner: &'x Owner,
 ) -> Result<Option<u64>, LedgerFault>
-    ensures seen { Seen IsLedger result (state S.Store conn.old) (state S.Store conn.new) (λ found. IsSiteOf owner.now.node owner.now.plan (state S.Store conn.old).now.trees → IsWholeIf site.now (state S.Store conn.old).now.trees found) }
+    ensures seen { Seen IsLedger result (state S.Store conn.old) (state S.Store conn.new)
+        (λ found. IsSiteOf owner.now.node owner.now.plan (state S.Store conn.old).now.trees
+        → IsWholeIf site.now (state S.Store conn.old).now.trees found) }
 {
     if !is_owner(owner, site) {
         return Ok(None);

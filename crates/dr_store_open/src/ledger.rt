@@ -11,8 +11,8 @@ use dr_store::SqlLedger;
 use sqlite::{Alter, Connection};
 use std::alloc::Global;
 
-/// The ledger of a site over a connection to a file: its tables are made where the file has none, a file from before is brought over, and
-/// then they are compared with what the journal's lines make.
+/// The ledger of a site over a connection to a file: its tables are made where the file has none, a
+/// file from before is brought over, and then they are compared with what the journal's lines make.
 ///
 /// Errors: OtherSite, Store, Memory.
 pub fn ledger_on<S: Alter + Drop>(

@@ -90,7 +90,8 @@ fn find_body<'x, S: Alter>(
     uid: &'x Text,
 ) -> Result<Octets, OpeningFault>
     ensures same_reference { tx.new.conn.ghost_name ≡ tx.old.conn.ghost_name }
-    ensures survives { Survives (state S.Store tx.old.conn.now) (state S.Store tx.new.conn.now) (λ _. ⊥) }
+    ensures survives { Survives (state S.Store tx.old.conn.now) (state S.Store tx.new.conn.now)
+        (λ _. ⊥) }
 {
     let rows = ask_within(
         tx,
@@ -131,7 +132,8 @@ fn print_by(
     body: Octets,
     whole: bool,
 ) -> Result<Print, OpeningFault>
-    ensures { IfOk result (λ print. (print.size ≡ length body) × (print.digest ≡ sha256 body) × (print.whole ≡ whole)) }
+    ensures { IfOk result (λ print.
+        (print.size ≡ length body) × (print.digest ≡ sha256 body) × (print.whole ≡ whole)) }
 {
     let item = match Item::read(alloc, key.syntax, body) {
         Ok(item) => item,
@@ -152,7 +154,8 @@ fn made_print<'x, S: Alter>(
     uids: &'x BTreeSet<Text>,
 ) -> Result<(Text, Print), OpeningFault>
     ensures same_reference { tx.new.conn.ghost_name ≡ tx.old.conn.ghost_name }
-    ensures survives { Survives (state S.Store tx.old.conn.now) (state S.Store tx.new.conn.now) (λ _. ⊥) }
+    ensures survives { Survives (state S.Store tx.old.conn.now) (state S.Store tx.new.conn.now)
+        (λ _. ⊥) }
 {
     let body = find_body(tx, alloc, &key.0)?;
     let print = print_by(alloc, &key.0, &key.1, body, uids.contains(&key.0))?;
@@ -168,7 +171,8 @@ fn made_prints<'x, S: Alter>(
     uids: &'x BTreeSet<Text>,
 ) -> Result<Vec<(Text, Print)>, OpeningFault>
     ensures same_reference { tx.new.conn.ghost_name ≡ tx.old.conn.ghost_name }
-    ensures survives { Survives (state S.Store tx.old.conn.now) (state S.Store tx.new.conn.now) (λ _. ⊥) }
+    ensures survives { Survives (state S.Store tx.old.conn.now) (state S.Store tx.new.conn.now)
+        (λ _. ⊥) }
 {
     let mut prints = Vec::new(alloc);
     for key in keys {
@@ -191,7 +195,8 @@ fn found_prints<S: Alter>(
     alloc: Global,
 ) -> Result<Vec<(Text, Print)>, OpeningFault>
     ensures same_reference { tx.new.conn.ghost_name ≡ tx.old.conn.ghost_name }
-    ensures survives { Survives (state S.Store tx.old.conn.now) (state S.Store tx.new.conn.now) (λ _. ⊥) }
+    ensures survives { Survives (state S.Store tx.old.conn.now) (state S.Store tx.new.conn.now)
+        (λ _. ⊥) }
 {
     let rows = ask_within(
         tx,
@@ -212,7 +217,8 @@ pub fn prints_for<'x, S: Alter>(
     told: &'x Told,
 ) -> Result<Vec<(Text, Print)>, OpeningFault>
     ensures same_reference { tx.new.conn.ghost_name ≡ tx.old.conn.ghost_name }
-    ensures survives { Survives (state S.Store tx.old.conn.now) (state S.Store tx.new.conn.now) (λ _. ⊥) }
+    ensures survives { Survives (state S.Store tx.old.conn.now) (state S.Store tx.new.conn.now)
+        (λ _. ⊥) }
 {
     if !lacks.print {
         return found_prints(tx, alloc);
@@ -239,8 +245,8 @@ fn add_goals(
     Ok(())
 }
 
-/// Adds where the line of a first arrival goes on to by the site. Where a file has an adoption, the plans before it aren't known, nor where
-/// their lines went on to.
+/// Adds where the line of a first arrival goes on to by the site. Where a file has an adoption, the
+/// plans before it aren't known, nor where their lines went on to.
 fn add_goals_of(
     goals: &mut Vec<(u64, Text)>,
     alloc: Global,
@@ -285,7 +291,8 @@ fn found_goals<S: Alter>(
     alloc: Global,
 ) -> Result<Vec<(u64, Text)>, OpeningFault>
     ensures same_reference { tx.new.conn.ghost_name ≡ tx.old.conn.ghost_name }
-    ensures survives { Survives (state S.Store tx.old.conn.now) (state S.Store tx.new.conn.now) (λ _. ⊥) }
+    ensures survives { Survives (state S.Store tx.old.conn.now) (state S.Store tx.new.conn.now)
+        (λ _. ⊥) }
 {
     let rows = ask_within(tx, "SELECT n, dest FROM target ORDER BY n, dest", &[])?;
     match goal_keys(alloc, rows.as_slice()) {
@@ -304,7 +311,8 @@ pub fn goals_for<'x, S: Alter>(
     prints: &'x [(Text, Print)],
 ) -> Result<Vec<(u64, Text)>, OpeningFault>
     ensures same_reference { tx.new.conn.ghost_name ≡ tx.old.conn.ghost_name }
-    ensures survives { Survives (state S.Store tx.old.conn.now) (state S.Store tx.new.conn.now) (λ _. ⊥) }
+    ensures survives { Survives (state S.Store tx.old.conn.now) (state S.Store tx.new.conn.now)
+        (λ _. ⊥) }
 {
     if !lacks.target {
         return found_goals(tx, alloc);

@@ -7,7 +7,9 @@ ghost use Rattle.sqlite_trees.specs.View.{doubt};
 ghost use Rattle.dr_store_calls.specs.Calling.{IsKept};
 ghost use Rattle.dr_store_audit.specs.Older.{IsOlder};
 ghost use Rattle.dr_store_open.specs.Renewing.{KeepsRows};
-ghost use Rattle.dr_store_open.specs.Opening.{HasNewLedger, IsBlank, IsBroughtOver, IsNext, IsOpened, IsOwnedBy, LeavesOldOrCommitted, StaysAsFound};
+ghost use Rattle.dr_store_open.specs.Opening.{HasNewLedger, IsBlank, IsBroughtOver, IsNext};
+ghost use Rattle.dr_store_open.specs.Opening.{IsOpened, IsOwnedBy, LeavesOldOrCommitted};
+ghost use Rattle.dr_store_open.specs.Opening.{StaysAsFound};
 
 use crate::fault::{OpeningFault, opening_fault};
 use crate::finding::find_owned;
@@ -43,7 +45,8 @@ fn find_tested<S: Alter>(
 ) -> Result<Option<u64>, LedgerFault>
     requires schema { (state S.Store conn.old).now.schema ≡ tables }
     requires live { IsLive (state S.Store conn.old) }
-    requires settled { IsTrue (state S.Store conn.old).is_open → (state S.Store conn.old).now ≡ (state S.Store conn.old).committed }
+    requires settled { IsTrue (state S.Store conn.old).is_open
+        → (state S.Store conn.old).now ≡ (state S.Store conn.old).committed }
     ensures { IsOpened site.now result (state S.Store conn.old) (state S.Store conn.new) }
 {
     match test_tables(conn, alloc) {
@@ -52,8 +55,9 @@ fn find_tested<S: Alter>(
     }
 }
 
-/// The number of the next line, if the file has a ledger of this site: its tables are just a ledger's, the node and the plan are the
-/// site's, all rows are what the journal's lines make, which are a history of that ledger, and each data set that is there is read again.
+/// The number of the next line, if the file has a ledger of this site: its tables are just a
+/// ledger's, the node and the plan are the site's, all rows are what the journal's lines make,
+/// which are a history of that ledger, and each data set that is there is read again.
 ///
 /// Errors: Store, Memory.
 pub fn find<S: Alter>(
@@ -77,9 +81,14 @@ pub fn find<S: Alter>(
 fn make_new<S: Alter>(conn: &mut Connection<S>, site: &Site) -> Result<bool, OpeningFault>
     requires { conn.old.in_transaction ≡ false }
     ensures idle { conn.new.in_transaction ≡ false }
-    ensures clean { doubt (state S.Store conn.old).is_clean ≤ doubt (state S.Store conn.new).is_clean }
-    ensures found { IfOk result (λ made. made ≡ false → (IsBlank (state S.Store conn.old).now.schema → ⊥) × (conn.new ≡ conn.old)) }
-    ensures made { IfOk result (λ made. made ≡ true → IsBlank (state S.Store conn.old).now.schema × (HasCleanDisk (state S.Store conn.new) → LeavesOldOrCommitted (state S.Store conn.old) (state S.Store conn.new))) }
+    ensures clean { doubt (state S.Store conn.old).is_clean
+        ≤ doubt (state S.Store conn.new).is_clean }
+    ensures found { IfOk result (λ made.
+        made ≡ false → (IsBlank (state S.Store conn.old).now.schema → ⊥) × (conn.new ≡ conn.old)) }
+    ensures made { IfOk result (λ made. made ≡ true
+        → IsBlank (state S.Store conn.old).now.schema
+        × (HasCleanDisk (state S.Store conn.new)
+        → LeavesOldOrCommitted (state S.Store conn.old) (state S.Store conn.new))) }
 {
     if !is_blank(conn.schema()) {
         return Ok(false);
@@ -90,7 +99,8 @@ fn make_new<S: Alter>(conn: &mut Connection<S>, site: &Site) -> Result<bool, Ope
     }
 }
 
-/// Makes the tables of a new ledger, where the file has no table, and says whether it did; a file from before is brought over.
+/// Makes the tables of a new ledger, where the file has no table, and says whether it did; a file
+/// from before is brought over.
 fn prepare<S: Alter>(
     conn: &mut Connection<S>,
     alloc: Global,
@@ -98,11 +108,21 @@ fn prepare<S: Alter>(
 ) -> Result<bool, OpeningFault>
     requires { conn.old.in_transaction ≡ false }
     ensures idle { conn.new.in_transaction ≡ false }
-    ensures clean { doubt (state S.Store conn.old).is_clean ≤ doubt (state S.Store conn.new).is_clean }
-    ensures found { IfOk result (λ made. made ≡ false → (IsBlank (state S.Store conn.old).now.schema → ⊥) × ((IsOlder (state S.Store conn.old).now.schema → ⊥) → StaysAsFound (state S.Store conn.old) (state S.Store conn.new))) }
-    ensures leaves { HasCleanDisk (state S.Store conn.new) → OnOk result (LeavesOldOrCommitted (state S.Store conn.old) (state S.Store conn.new)) }
+    ensures clean { doubt (state S.Store conn.old).is_clean
+        ≤ doubt (state S.Store conn.new).is_clean }
+    ensures found { IfOk result (λ made. made ≡ false
+        → (IsBlank (state S.Store conn.old).now.schema → ⊥)
+        × ((IsOlder (state S.Store conn.old).now.schema → ⊥)
+        → StaysAsFound (state S.Store conn.old) (state S.Store conn.new))) }
+    ensures leaves { HasCleanDisk (state S.Store conn.new)
+        → OnOk result (LeavesOldOrCommitted (state S.Store conn.old) (state S.Store conn.new)) }
     ensures made { IfOk result (λ made. made ≡ true → IsBlank (state S.Store conn.old).now.schema) }
-    ensures kept { HasCleanDisk (state S.Store conn.new) → IsOlder (state S.Store conn.old).now.schema → (state S.Store conn.new).now.schema ≡ tables → (state S.Store conn.new).committed.schema ≡ tables → IfOk result (λ made. made ≡ false → KeepsRows (state S.Store conn.old).now (state S.Store conn.new).committed) }
+    ensures kept { HasCleanDisk (state S.Store conn.new)
+        → IsOlder (state S.Store conn.old).now.schema
+        → (state S.Store conn.new).now.schema ≡ tables
+        → (state S.Store conn.new).committed.schema ≡ tables
+        → IfOk result (λ made.
+        made ≡ false → KeepsRows (state S.Store conn.old).now (state S.Store conn.new).committed) }
 {
     if make_new(conn, site)? {
         return Ok(true);
@@ -123,9 +143,10 @@ fn is_as_made(made: bool, next: u64) -> bool
     true
 }
 
-/// The ledger of this site in a file, with the number of its next line: its tables are made where the file has none, and else they are
-/// found, and compared with what the journal's lines make; a file from before, which lacks some of them, is brought over first, as one
-/// transaction. A refusal closes the connection and gives nothing back.
+/// The ledger of this site in a file, with the number of its next line: its tables are made where
+/// the file has none, and else they are found, and compared with what the journal's lines make; a
+/// file from before, which lacks some of them, is brought over first, as one transaction. A refusal
+/// closes the connection and gives nothing back.
 ///
 /// Errors: OtherSite; Store; Memory.
 pub fn on<S: Alter + Drop>(
@@ -134,13 +155,24 @@ pub fn on<S: Alter + Drop>(
     site: &Site,
 ) -> Result<(Connection<S>, u64), OpeningFault>
     requires { conn.in_transaction ≡ false }
-    ensures kept { IfOk result (λ opened. HasCleanDisk (state S.Store opened.0) → IsKept opened.1 site.now (state S.Store opened.0) × IsOwnedBy site.now (state S.Store opened.0).committed.trees) }
-    ensures next { IfOk result (λ opened. HasCleanDisk (state S.Store opened.0) → IsNext opened.1 (state S.Store opened.0).committed.trees) }
-    ensures found { IfOk result (λ opened. HasCleanDisk (state S.Store opened.0) → (IsBlank (state S.Store conn).now.schema → ⊥) → (IsOlder (state S.Store conn).now.schema → ⊥) → StaysAsFound (state S.Store conn) (state S.Store opened.0)) }
-    ensures older { IfOk result (λ opened. HasCleanDisk (state S.Store opened.0) → IsOlder (state S.Store conn).now.schema → IsBroughtOver (state S.Store conn) (state S.Store opened.0)) }
-    ensures made { IfOk result (λ opened. HasCleanDisk (state S.Store opened.0) → IsBlank (state S.Store conn).now.schema → HasNewLedger (state S.Store conn) (state S.Store opened.0)) }
+    ensures kept { IfOk result (λ opened. HasCleanDisk (state S.Store opened.0)
+        → IsKept opened.1 site.now (state S.Store opened.0)
+        × IsOwnedBy site.now (state S.Store opened.0).committed.trees) }
+    ensures next { IfOk result (λ opened. HasCleanDisk (state S.Store opened.0)
+        → IsNext opened.1 (state S.Store opened.0).committed.trees) }
+    ensures found { IfOk result (λ opened. HasCleanDisk (state S.Store opened.0)
+        → (IsBlank (state S.Store conn).now.schema → ⊥)
+        → (IsOlder (state S.Store conn).now.schema → ⊥)
+        → StaysAsFound (state S.Store conn) (state S.Store opened.0)) }
+    ensures older { IfOk result (λ opened. HasCleanDisk (state S.Store opened.0)
+        → IsOlder (state S.Store conn).now.schema
+        → IsBroughtOver (state S.Store conn) (state S.Store opened.0)) }
+    ensures made { IfOk result (λ opened. HasCleanDisk (state S.Store opened.0)
+        → IsBlank (state S.Store conn).now.schema
+        → HasNewLedger (state S.Store conn) (state S.Store opened.0)) }
     ensures idle { IfOk result (λ opened. opened.0.in_transaction ≡ false) }
-    ensures clean { IfOk result (λ opened. doubt (state S.Store conn).is_clean ≤ doubt (state S.Store opened.0).is_clean) }
+    ensures clean { IfOk result (λ opened.
+        doubt (state S.Store conn).is_clean ≤ doubt (state S.Store opened.0).is_clean) }
 {
     let mut conn = conn;
     let made = prepare(&mut conn, alloc, site)?;

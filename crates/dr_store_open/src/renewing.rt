@@ -24,7 +24,8 @@ use std::alloc::Global;
 /// The last number that a cell holds.
 const LAST_NUMBER: u64 = 1 << 62;
 
-/// All tables but those of instances leave, each before the one to which it refers: only so do they stand in the order of today.
+/// All tables but those of instances leave, each before the one to which it refers: only so do they
+/// stand in the order of today.
 const LEAVE: [&str; 6] = [
     "DROP TABLE IF EXISTS target",
     "DROP TABLE journal",
@@ -72,7 +73,8 @@ fn put_print<'x, S: Alter>(
     print: &'x (Text, Print),
 ) -> Result<(), OpeningFault>
     ensures same_reference { tx.new.conn.ghost_name ≡ tx.old.conn.ghost_name }
-    ensures survives { Survives (state S.Store tx.old.conn.now) (state S.Store tx.new.conn.now) (λ _. ⊥) }
+    ensures survives { Survives (state S.Store tx.old.conn.now) (state S.Store tx.new.conn.now)
+        (λ _. ⊥) }
 {
     if print.1.size > LAST_NUMBER {
         return Err(OpeningFault::Store);
@@ -90,7 +92,8 @@ fn put_prints<'x, S: Alter>(
     prints: &'x [(Text, Print)],
 ) -> Result<(), OpeningFault>
     ensures same_reference { tx.new.conn.ghost_name ≡ tx.old.conn.ghost_name }
-    ensures survives { Survives (state S.Store tx.old.conn.now) (state S.Store tx.new.conn.now) (λ _. ⊥) }
+    ensures survives { Survives (state S.Store tx.old.conn.now) (state S.Store tx.new.conn.now)
+        (λ _. ⊥) }
 {
     for print in prints {
         put_print(tx, print)?;
@@ -104,7 +107,8 @@ fn let_go<'x, S: Alter>(
     print: &'x (Text, Print),
 ) -> Result<(), OpeningFault>
     ensures same_reference { tx.new.conn.ghost_name ≡ tx.old.conn.ghost_name }
-    ensures survives { Survives (state S.Store tx.old.conn.now) (state S.Store tx.new.conn.now) (λ _. ⊥) }
+    ensures survives { Survives (state S.Store tx.old.conn.now) (state S.Store tx.new.conn.now)
+        (λ _. ⊥) }
 {
     if print.1.whole {
         return Ok(());
@@ -121,7 +125,8 @@ fn let_all_go<'x, S: Alter>(
     prints: &'x [(Text, Print)],
 ) -> Result<(), OpeningFault>
     ensures same_reference { tx.new.conn.ghost_name ≡ tx.old.conn.ghost_name }
-    ensures survives { Survives (state S.Store tx.old.conn.now) (state S.Store tx.new.conn.now) (λ _. ⊥) }
+    ensures survives { Survives (state S.Store tx.old.conn.now) (state S.Store tx.new.conn.now)
+        (λ _. ⊥) }
 {
     for print in prints {
         let_go(tx, print)?;
@@ -135,7 +140,8 @@ fn put_goal<'x, S: Alter>(
     target: &'x (u64, Text),
 ) -> Result<(), OpeningFault>
     ensures same_reference { tx.new.conn.ghost_name ≡ tx.old.conn.ghost_name }
-    ensures survives { Survives (state S.Store tx.old.conn.now) (state S.Store tx.new.conn.now) (λ _. ⊥) }
+    ensures survives { Survives (state S.Store tx.old.conn.now) (state S.Store tx.new.conn.now)
+        (λ _. ⊥) }
 {
     if target.0 > LAST_NUMBER {
         return Err(OpeningFault::Store);
@@ -152,7 +158,8 @@ fn put_goals<'x, S: Alter>(
     goals: &'x [(u64, Text)],
 ) -> Result<(), OpeningFault>
     ensures same_reference { tx.new.conn.ghost_name ≡ tx.old.conn.ghost_name }
-    ensures survives { Survives (state S.Store tx.old.conn.now) (state S.Store tx.new.conn.now) (λ _. ⊥) }
+    ensures survives { Survives (state S.Store tx.old.conn.now) (state S.Store tx.new.conn.now)
+        (λ _. ⊥) }
 {
     for target in goals {
         put_goal(tx, target)?;
@@ -167,7 +174,8 @@ fn put_back<'x, S: Alter>(
     sheets: &'x Sheets,
 ) -> Result<(), OpeningFault>
     ensures same_reference { tx.new.conn.ghost_name ≡ tx.old.conn.ghost_name }
-    ensures survives { Survives (state S.Store tx.old.conn.now) (state S.Store tx.new.conn.now) (λ _. ⊥) }
+    ensures survives { Survives (state S.Store tx.old.conn.now) (state S.Store tx.new.conn.now)
+        (λ _. ⊥) }
 {
     add_rows(
         tx,
@@ -204,7 +212,8 @@ fn fill_anew<'x, S: Alter>(
     goals: &'x [(u64, Text)],
 ) -> Result<(), OpeningFault>
     ensures same_reference { tx.new.conn.ghost_name ≡ tx.old.conn.ghost_name }
-    ensures survives { Survives (state S.Store tx.old.conn.now) (state S.Store tx.new.conn.now) (λ _. ⊥) }
+    ensures survives { Survives (state S.Store tx.old.conn.now) (state S.Store tx.new.conn.now)
+        (λ _. ⊥) }
 {
     put_back(tx, alloc, sheets)?;
     put_prints(tx, prints)?;
@@ -220,7 +229,8 @@ fn make_anew<'x, S: Alter>(
     goals: &'x [(u64, Text)],
 ) -> Result<(), OpeningFault>
     ensures same_reference { tx.new.conn.ghost_name ≡ tx.old.conn.ghost_name }
-    ensures survives { Survives (state S.Store tx.old.conn.now) (state S.Store tx.new.conn.now) (λ _. ⊥) }
+    ensures survives { Survives (state S.Store tx.old.conn.now) (state S.Store tx.new.conn.now)
+        (λ _. ⊥) }
 {
     run_texts(tx, LEAVE.as_slice())?;
     run_texts(tx, LATER.as_slice())?;
@@ -236,7 +246,8 @@ fn rewrite<'x, S: Alter>(
     sheets: &'x Sheets,
 ) -> Result<(), OpeningFault>
     ensures same_reference { tx.new.conn.ghost_name ≡ tx.old.conn.ghost_name }
-    ensures survives { Survives (state S.Store tx.old.conn.now) (state S.Store tx.new.conn.now) (λ _. ⊥) }
+    ensures survives { Survives (state S.Store tx.old.conn.now) (state S.Store tx.new.conn.now)
+        (λ _. ⊥) }
 {
     let told = told_of(alloc, site, sheets)?;
     let prints = prints_for(tx, alloc, lacks, &told)?;
@@ -254,8 +265,13 @@ fn renew<'x, S: Alter>(
     lacks: Lacks,
 ) -> Result<(), OpeningFault>
     ensures same_reference { tx.new.conn.ghost_name ≡ tx.old.conn.ghost_name }
-    ensures survives { Survives (state S.Store tx.old.conn.now) (state S.Store tx.new.conn.now) (λ _. ⊥) }
-    ensures kept { HasCleanDisk (state S.Store tx.new.conn.now) → AreQueries (state S.Store tx.old.conn.now).now.schema → AreQueries (state S.Store tx.new.conn.now).now.schema → OnOk result (KeepsRows (state S.Store tx.old.conn.now).now (state S.Store tx.new.conn.now).now) }
+    ensures survives { Survives (state S.Store tx.old.conn.now) (state S.Store tx.new.conn.now)
+        (λ _. ⊥) }
+    ensures kept { HasCleanDisk (state S.Store tx.new.conn.now)
+        → AreQueries (state S.Store tx.old.conn.now).now.schema
+        → AreQueries (state S.Store tx.new.conn.now).now.schema
+        → OnOk result
+        (KeepsRows (state S.Store tx.old.conn.now).now (state S.Store tx.new.conn.now).now) }
 {
     let sheets = ask_sheets(tx)?;
     rewrite(tx, alloc, site, lacks, &sheets)?;
@@ -271,9 +287,14 @@ fn bring_over<S: Alter>(
 ) -> Result<(), OpeningFault>
     requires { conn.old.in_transaction ≡ false }
     ensures idle { conn.new.in_transaction ≡ false }
-    ensures clean { doubt (state S.Store conn.old).is_clean ≤ doubt (state S.Store conn.new).is_clean }
-    ensures made { HasCleanDisk (state S.Store conn.new) → OnOk result (LeavesOldOrCommitted (state S.Store conn.old) (state S.Store conn.new)) }
-    ensures kept { HasCleanDisk (state S.Store conn.new) → AreQueries (state S.Store conn.old).now.schema → AreQueries (state S.Store conn.new).committed.schema → OnOk result (KeepsRows (state S.Store conn.old).now (state S.Store conn.new).committed) }
+    ensures clean { doubt (state S.Store conn.old).is_clean
+        ≤ doubt (state S.Store conn.new).is_clean }
+    ensures made { HasCleanDisk (state S.Store conn.new)
+        → OnOk result (LeavesOldOrCommitted (state S.Store conn.old) (state S.Store conn.new)) }
+    ensures kept { HasCleanDisk (state S.Store conn.new)
+        → AreQueries (state S.Store conn.old).now.schema
+        → AreQueries (state S.Store conn.new).committed.schema
+        → OnOk result (KeepsRows (state S.Store conn.old).now (state S.Store conn.new).committed) }
 {
     let mut tx = conn.transaction();
     renew(&mut tx, alloc, site, lacks)?;
@@ -285,7 +306,8 @@ fn bring_over<S: Alter>(
 
 /// Brings a file from before over to the tables of today; another file stays as it is.
 ///
-/// Errors: OtherSite, where it isn't this site's or has rows that its journal doesn't make; Store; Memory.
+/// Errors: OtherSite, where it isn't this site's or has rows that its journal doesn't make; Store;
+/// Memory.
 pub fn renew_older<S: Alter>(
     conn: &mut Connection<S>,
     alloc: Global,
@@ -293,10 +315,18 @@ pub fn renew_older<S: Alter>(
 ) -> Result<(), OpeningFault>
     requires { conn.old.in_transaction ≡ false }
     ensures idle { conn.new.in_transaction ≡ false }
-    ensures clean { doubt (state S.Store conn.old).is_clean ≤ doubt (state S.Store conn.new).is_clean }
-    ensures found { OnOk result ((IsOlder (state S.Store conn.old).now.schema → ⊥) → StaysAsFound (state S.Store conn.old) (state S.Store conn.new)) }
-    ensures leaves { HasCleanDisk (state S.Store conn.new) → OnOk result (LeavesOldOrCommitted (state S.Store conn.old) (state S.Store conn.new)) }
-    ensures kept { HasCleanDisk (state S.Store conn.new) → IsOlder (state S.Store conn.old).now.schema → (state S.Store conn.new).now.schema ≡ tables → (state S.Store conn.new).committed.schema ≡ tables → OnOk result (KeepsRows (state S.Store conn.old).now (state S.Store conn.new).committed) }
+    ensures clean { doubt (state S.Store conn.old).is_clean
+        ≤ doubt (state S.Store conn.new).is_clean }
+    ensures found { OnOk result
+        ((IsOlder (state S.Store conn.old).now.schema → ⊥)
+        → StaysAsFound (state S.Store conn.old) (state S.Store conn.new)) }
+    ensures leaves { HasCleanDisk (state S.Store conn.new)
+        → OnOk result (LeavesOldOrCommitted (state S.Store conn.old) (state S.Store conn.new)) }
+    ensures kept { HasCleanDisk (state S.Store conn.new)
+        → IsOlder (state S.Store conn.old).now.schema
+        → (state S.Store conn.new).now.schema ≡ tables
+        → (state S.Store conn.new).committed.schema ≡ tables
+        → OnOk result (KeepsRows (state S.Store conn.old).now (state S.Store conn.new).committed) }
 {
     match lacking(conn.schema()) {
         Some(lacks) => bring_over(conn, alloc, site, lacks),

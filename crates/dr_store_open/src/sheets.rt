@@ -1,8 +1,10 @@
-//! What stands in the tables that each file from before has, read and looked at again inside a transaction.
+//! What stands in the tables that each file from before has, read and looked at again inside a
+//! transaction.
 ghost use Rattle.std.specs.Prelude.{◌≡◌, IfOk, OnOk};
 ghost use Rattle.sqlite.specs.Held.{state};
 ghost use Rattle.sqlite.specs.State.{HasCleanDisk, Survives};
-ghost use Rattle.dr_store_schema.specs.Statements.{all_arrivals, all_items, all_kept, all_lines, all_rows, the_site};
+ghost use Rattle.dr_store_schema.specs.Statements.{all_arrivals, all_items, all_kept, all_lines};
+ghost use Rattle.dr_store_schema.specs.Statements.{all_rows, the_site};
 ghost use Rattle.dr_store_open.specs.Renewing.{AreQueries, IsAnswer, IsTold};
 
 use crate::asking::{ask_rows, test_rows};
@@ -25,9 +27,14 @@ fn ask_stock<S: Alter>(
     tx: &mut Transaction<'_, S>,
 ) -> Result<(Vec<Row>, Vec<Row>, Vec<Row>), OpeningFault>
     ensures same_reference { tx.new.conn.ghost_name ≡ tx.old.conn.ghost_name }
-    ensures survives { Survives (state S.Store tx.old.conn.now) (state S.Store tx.new.conn.now) (λ _. ⊥) }
-    ensures answers { HasCleanDisk (state S.Store tx.new.conn.now) → AreQueries (state S.Store tx.old.conn.now).now.schema → IfOk result (λ r. IsAnswer the_site (state S.Store tx.old.conn.now).now r.0.items
-        × IsAnswer all_items (state S.Store tx.old.conn.now).now r.1.items × IsAnswer all_arrivals (state S.Store tx.old.conn.now).now r.2.items × ((state S.Store tx.new.conn.now).now ≡ (state S.Store tx.old.conn.now).now)) }
+    ensures survives { Survives (state S.Store tx.old.conn.now) (state S.Store tx.new.conn.now)
+        (λ _. ⊥) }
+    ensures answers { HasCleanDisk (state S.Store tx.new.conn.now)
+        → AreQueries (state S.Store tx.old.conn.now).now.schema
+        → IfOk result (λ r. IsAnswer the_site (state S.Store tx.old.conn.now).now r.0.items
+        × IsAnswer all_items (state S.Store tx.old.conn.now).now r.1.items
+        × IsAnswer all_arrivals (state S.Store tx.old.conn.now).now r.2.items
+        × ((state S.Store tx.new.conn.now).now ≡ (state S.Store tx.old.conn.now).now)) }
 {
     let site = ask_rows(tx, "SELECT id, node, plan FROM site")?;
     let items = ask_rows(
@@ -43,9 +50,14 @@ fn ask_moves<S: Alter>(
     tx: &mut Transaction<'_, S>,
 ) -> Result<(Vec<Row>, Vec<Row>, Vec<Row>), OpeningFault>
     ensures same_reference { tx.new.conn.ghost_name ≡ tx.old.conn.ghost_name }
-    ensures survives { Survives (state S.Store tx.old.conn.now) (state S.Store tx.new.conn.now) (λ _. ⊥) }
-    ensures answers { HasCleanDisk (state S.Store tx.new.conn.now) → AreQueries (state S.Store tx.old.conn.now).now.schema → IfOk result (λ r. IsAnswer all_kept (state S.Store tx.old.conn.now).now r.0.items
-        × IsAnswer all_rows (state S.Store tx.old.conn.now).now r.1.items × IsAnswer all_lines (state S.Store tx.old.conn.now).now r.2.items × ((state S.Store tx.new.conn.now).now ≡ (state S.Store tx.old.conn.now).now)) }
+    ensures survives { Survives (state S.Store tx.old.conn.now) (state S.Store tx.new.conn.now)
+        (λ _. ⊥) }
+    ensures answers { HasCleanDisk (state S.Store tx.new.conn.now)
+        → AreQueries (state S.Store tx.old.conn.now).now.schema
+        → IfOk result (λ r. IsAnswer all_kept (state S.Store tx.old.conn.now).now r.0.items
+        × IsAnswer all_rows (state S.Store tx.old.conn.now).now r.1.items
+        × IsAnswer all_lines (state S.Store tx.old.conn.now).now r.2.items
+        × ((state S.Store tx.new.conn.now).now ≡ (state S.Store tx.old.conn.now).now)) }
 {
     let kept = ask_rows(tx, "SELECT uid FROM kept ORDER BY uid")?;
     let rows = ask_rows(
@@ -62,8 +74,11 @@ fn ask_moves<S: Alter>(
 /// All of it.
 pub fn ask_sheets<S: Alter>(tx: &mut Transaction<'_, S>) -> Result<Sheets, OpeningFault>
     ensures same_reference { tx.new.conn.ghost_name ≡ tx.old.conn.ghost_name }
-    ensures survives { Survives (state S.Store tx.old.conn.now) (state S.Store tx.new.conn.now) (λ _. ⊥) }
-    ensures answers { HasCleanDisk (state S.Store tx.new.conn.now) → AreQueries (state S.Store tx.old.conn.now).now.schema → IfOk result (λ sheets. IsTold (state S.Store tx.old.conn.now).now sheets) }
+    ensures survives { Survives (state S.Store tx.old.conn.now) (state S.Store tx.new.conn.now)
+        (λ _. ⊥) }
+    ensures answers { HasCleanDisk (state S.Store tx.new.conn.now)
+        → AreQueries (state S.Store tx.old.conn.now).now.schema
+        → IfOk result (λ sheets. IsTold (state S.Store tx.old.conn.now).now sheets) }
 {
     let (site, items, arrivals) = ask_stock(tx)?;
     let (kept, rows, lines) = ask_moves(tx)?;
@@ -83,10 +98,18 @@ fn test_stock<'x, S: Alter>(
     sheets: &'x Sheets,
 ) -> Result<(), OpeningFault>
     ensures same_reference { tx.new.conn.ghost_name ≡ tx.old.conn.ghost_name }
-    ensures survives { Survives (state S.Store tx.old.conn.now) (state S.Store tx.new.conn.now) (λ _. ⊥) }
-    ensures schema { HasCleanDisk (state S.Store tx.new.conn.now) → OnOk result ((state S.Store tx.new.conn.now).now.schema ≡ (state S.Store tx.old.conn.now).now.schema) }
-    ensures answers { HasCleanDisk (state S.Store tx.new.conn.now) → AreQueries (state S.Store tx.old.conn.now).now.schema → OnOk result (IsAnswer the_site (state S.Store tx.old.conn.now).now sheets.now.site.items
-        × IsAnswer all_items (state S.Store tx.old.conn.now).now sheets.now.items.items × IsAnswer all_arrivals (state S.Store tx.old.conn.now).now sheets.now.arrivals.items × ((state S.Store tx.new.conn.now).now ≡ (state S.Store tx.old.conn.now).now)) }
+    ensures survives { Survives (state S.Store tx.old.conn.now) (state S.Store tx.new.conn.now)
+        (λ _. ⊥) }
+    ensures schema { HasCleanDisk (state S.Store tx.new.conn.now)
+        → OnOk result
+        ((state S.Store tx.new.conn.now).now.schema ≡ (state S.Store tx.old.conn.now).now.schema) }
+    ensures answers { HasCleanDisk (state S.Store tx.new.conn.now)
+        → AreQueries (state S.Store tx.old.conn.now).now.schema
+        → OnOk result
+        (IsAnswer the_site (state S.Store tx.old.conn.now).now sheets.now.site.items
+        × IsAnswer all_items (state S.Store tx.old.conn.now).now sheets.now.items.items
+        × IsAnswer all_arrivals (state S.Store tx.old.conn.now).now sheets.now.arrivals.items
+        × ((state S.Store tx.new.conn.now).now ≡ (state S.Store tx.old.conn.now).now)) }
 {
     test_rows(
         tx,
@@ -111,10 +134,18 @@ fn test_moves<'x, S: Alter>(
     sheets: &'x Sheets,
 ) -> Result<(), OpeningFault>
     ensures same_reference { tx.new.conn.ghost_name ≡ tx.old.conn.ghost_name }
-    ensures survives { Survives (state S.Store tx.old.conn.now) (state S.Store tx.new.conn.now) (λ _. ⊥) }
-    ensures schema { HasCleanDisk (state S.Store tx.new.conn.now) → OnOk result ((state S.Store tx.new.conn.now).now.schema ≡ (state S.Store tx.old.conn.now).now.schema) }
-    ensures answers { HasCleanDisk (state S.Store tx.new.conn.now) → AreQueries (state S.Store tx.old.conn.now).now.schema → OnOk result (IsAnswer all_kept (state S.Store tx.old.conn.now).now sheets.now.kept.items
-        × IsAnswer all_rows (state S.Store tx.old.conn.now).now sheets.now.rows.items × IsAnswer all_lines (state S.Store tx.old.conn.now).now sheets.now.lines.items × ((state S.Store tx.new.conn.now).now ≡ (state S.Store tx.old.conn.now).now)) }
+    ensures survives { Survives (state S.Store tx.old.conn.now) (state S.Store tx.new.conn.now)
+        (λ _. ⊥) }
+    ensures schema { HasCleanDisk (state S.Store tx.new.conn.now)
+        → OnOk result
+        ((state S.Store tx.new.conn.now).now.schema ≡ (state S.Store tx.old.conn.now).now.schema) }
+    ensures answers { HasCleanDisk (state S.Store tx.new.conn.now)
+        → AreQueries (state S.Store tx.old.conn.now).now.schema
+        → OnOk result
+        (IsAnswer all_kept (state S.Store tx.old.conn.now).now sheets.now.kept.items
+        × IsAnswer all_rows (state S.Store tx.old.conn.now).now sheets.now.rows.items
+        × IsAnswer all_lines (state S.Store tx.old.conn.now).now sheets.now.lines.items
+        × ((state S.Store tx.new.conn.now).now ≡ (state S.Store tx.old.conn.now).now)) }
 {
     test_rows(
         tx,
@@ -139,9 +170,14 @@ pub fn test_sheets<'x, S: Alter>(
     sheets: &'x Sheets,
 ) -> Result<(), OpeningFault>
     ensures same_reference { tx.new.conn.ghost_name ≡ tx.old.conn.ghost_name }
-    ensures survives { Survives (state S.Store tx.old.conn.now) (state S.Store tx.new.conn.now) (λ _. ⊥) }
-    ensures schema { HasCleanDisk (state S.Store tx.new.conn.now) → OnOk result ((state S.Store tx.new.conn.now).now.schema ≡ (state S.Store tx.old.conn.now).now.schema) }
-    ensures answers { HasCleanDisk (state S.Store tx.new.conn.now) → AreQueries (state S.Store tx.old.conn.now).now.schema → OnOk result (IsTold (state S.Store tx.new.conn.now).now sheets.now) }
+    ensures survives { Survives (state S.Store tx.old.conn.now) (state S.Store tx.new.conn.now)
+        (λ _. ⊥) }
+    ensures schema { HasCleanDisk (state S.Store tx.new.conn.now)
+        → OnOk result
+        ((state S.Store tx.new.conn.now).now.schema ≡ (state S.Store tx.old.conn.now).now.schema) }
+    ensures answers { HasCleanDisk (state S.Store tx.new.conn.now)
+        → AreQueries (state S.Store tx.old.conn.now).now.schema
+        → OnOk result (IsTold (state S.Store tx.new.conn.now).now sheets.now) }
 {
     test_stock(tx, sheets)?;
     test_moves(tx, sheets)

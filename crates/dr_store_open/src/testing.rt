@@ -14,7 +14,9 @@ use std::alloc::Global;
 
 /// Tests the rowids of queue, and its numbers.
 fn test_queue<S: Alter>(conn: &mut Connection<S>, alloc: Global) -> Result<(), LedgerFault>
-    ensures asked { Asked HasTables result (state S.Store conn.old) (state S.Store conn.new) (λ done. AreRows ((state S.Store conn.old).now.trees 9) × AllByRecursion IsCounted ((state S.Store conn.old).now.trees 9)) }
+    ensures asked { Asked HasTables result (state S.Store conn.old) (state S.Store conn.new)
+        (λ done. AreRows ((state S.Store conn.old).now.trees 9)
+        × AllByRecursion IsCounted ((state S.Store conn.old).now.trees 9)) }
 {
     match test_queue_rowids(conn, alloc) {
         Ok(()) => test_counts(conn),
@@ -24,8 +26,10 @@ fn test_queue<S: Alter>(conn: &mut Connection<S>, alloc: Global) -> Result<(), L
 
 /// Tests the rowids of arrival, and what is tested of queue.
 fn test_moving<S: Alter>(conn: &mut Connection<S>, alloc: Global) -> Result<(), LedgerFault>
-    ensures asked { Asked HasTables result (state S.Store conn.old) (state S.Store conn.new) (λ done. AreRows ((state S.Store conn.old).now.trees 5)
-        × (AreRows ((state S.Store conn.old).now.trees 9) × AllByRecursion IsCounted ((state S.Store conn.old).now.trees 9))) }
+    ensures asked { Asked HasTables result (state S.Store conn.old) (state S.Store conn.new)
+        (λ done. AreRows ((state S.Store conn.old).now.trees 5)
+        × (AreRows ((state S.Store conn.old).now.trees 9)
+        × AllByRecursion IsCounted ((state S.Store conn.old).now.trees 9))) }
 {
     match test_arrival_rowids(conn, alloc) {
         Ok(()) => test_queue(conn, alloc),
@@ -35,8 +39,11 @@ fn test_moving<S: Alter>(conn: &mut Connection<S>, alloc: Global) -> Result<(), 
 
 /// Tests the rowids of print, and so on.
 fn test_changing<S: Alter>(conn: &mut Connection<S>, alloc: Global) -> Result<(), LedgerFault>
-    ensures asked { Asked HasTables result (state S.Store conn.old) (state S.Store conn.new) (λ done. AreRows ((state S.Store conn.old).now.trees 3) × (AreRows ((state S.Store conn.old).now.trees 5)
-        × (AreRows ((state S.Store conn.old).now.trees 9) × AllByRecursion IsCounted ((state S.Store conn.old).now.trees 9)))) }
+    ensures asked { Asked HasTables result (state S.Store conn.old) (state S.Store conn.new)
+        (λ done. AreRows ((state S.Store conn.old).now.trees 3)
+        × (AreRows ((state S.Store conn.old).now.trees 5)
+        × (AreRows ((state S.Store conn.old).now.trees 9)
+        × AllByRecursion IsCounted ((state S.Store conn.old).now.trees 9)))) }
 {
     match test_print_rowids(conn, alloc) {
         Ok(()) => test_moving(conn, alloc),
@@ -46,7 +53,8 @@ fn test_changing<S: Alter>(conn: &mut Connection<S>, alloc: Global) -> Result<()
 
 /// Tests the rows of all tables whose rows change or leave.
 pub fn test_tables<S: Alter>(conn: &mut Connection<S>, alloc: Global) -> Result<(), LedgerFault>
-    ensures asked { Asked HasTables result (state S.Store conn.old) (state S.Store conn.new) (λ done. AreTested (state S.Store conn.old).now.trees) }
+    ensures asked { Asked HasTables result (state S.Store conn.old) (state S.Store conn.new)
+        (λ done. AreTested (state S.Store conn.old).now.trees) }
 {
     match test_item_rowids(conn, alloc) {
         Ok(()) => test_changing(conn, alloc),

@@ -1,5 +1,6 @@
 -- What queries answer, and what they leave.
-use Rattle.std.specs.Prelude.{◌≡◌, ◌≢◌, ◌≤◌, ◌<◌, ◌^◌, ◌⊎◌, ℕ, pos, false, not, ◌==◌, IsTrue, List, [], ◌∷◌, Option, Some, None, option_map, unwrap_or, Result, OnOk}
+use Rattle.std.specs.Prelude.{◌≡◌, ◌≢◌, ◌≤◌, ◌<◌, ◌^◌, ◌⊎◌, ℕ, pos, false, not, ◌==◌, IsTrue, List}
+use Rattle.std.specs.Prelude.{[], ◌∷◌, Option, Some, None, option_map, unwrap_or, Result, OnOk}
 use Rattle.std.specs.FinMap as map
 use Rattle.sqlite.specs.declared.types.Value.TheVariants.{Blob, Int, Text as TextCell}
 use Rattle.sqlite.specs.declared.types.Value.{Value}
@@ -15,7 +16,8 @@ use Rattle.dr_ledger.specs.declared.fault.LedgerFault.{LedgerFault}
 use Rattle.dr_ledger.specs.declared.item.Progress.{Progress}
 use Rattle.dr_ledger.specs.declared.item.Progress.TheVariants.{Done}
 use Rattle.dr_ledger.specs.Replies.{IsDue, IsNoLater, Reads}
-use Rattle.dr_store_schema.specs.Books.{bodies_of, book_of, contents_in, instance_by, is_whole, items_of, prints_of, rows_of, wholes_in}
+use Rattle.dr_store_schema.specs.Books.{bodies_of, book_of, contents_in, instance_by, is_whole}
+use Rattle.dr_store_schema.specs.Books.{items_of, prints_of, rows_of, wholes_in}
 use Rattle.dr_store_schema.specs.Cells.{bytes_in, number_in, progress_in, syntax_marked, text_in}
 use Rattle.dr_store_schema.specs.Tables.{tables}
 use Rattle.dr_store_writes.specs.Effects.{IsSiteOf}
@@ -32,11 +34,14 @@ pub record Stays (old new : State) : Type 0 where
   pub committed : new.committed ≡ old.committed
   pub now : (new.now ≡ old.now) ⊎ (new.now ≡ old.committed)
 
--- What a query does. Of a database that is as it asks it shows this; then the store is open, and all is as it was. Whatever it answers,
--- nothing is committed, and a crash leaves only what it could leave before.
-pub record Asked {A : Type 0} (Asks : Database → Type 0) (result : Result A LedgerFault) (old new : State) (Shows : A → Type 0) : Type 0 where
+-- What a query does. Of a database that is as it asks it shows this; then the store is open, and
+-- all is as it was. Whatever it answers, nothing is committed, and a crash leaves only what it
+-- could leave before.
+pub record Asked {A : Type 0} (Asks : Database → Type 0) (result : Result A LedgerFault)
+    (old new : State) (Shows : A → Type 0) : Type 0 where
   pub shown : HasCleanDisk new → Asks old.now → Reads result Shows
-  pub same : HasCleanDisk new → Asks old.now → OnOk result (IsTrue new.is_open × (new.now ≡ old.now))
+  pub same : HasCleanDisk new → Asks old.now
+      → OnOk result (IsTrue new.is_open × (new.now ≡ old.now))
   pub stays : HasCleanDisk new → IsTrue new.is_open → Asks old.now → Stays old new
   pub leaves : HasCleanDisk new → Asks old.now → (db : Trees) → new.may_leave db → old.may_leave db
   pub was_open : HasCleanDisk new → IsTrue new.is_open → IsTrue old.is_open
@@ -49,32 +54,50 @@ pub record Asked {A : Type 0} (Asks : Database → Type 0) (result : Result A Le
 abbrev pub IsKeyOf : Text → Trees → Option Key → Type 0
 IsKeyOf uid db key = map.get (items_of db) uid ≡ option_map (instance_by (prints_of db) uid) key
 
--- its data set's length and SHA-256, and whether the data set is there; or that there is no print of that uid
+-- its data set's length and SHA-256, and whether the data set is there; or that there is no print
+-- of that uid
 abbrev pub IsPrintOf : Text → Trees → Option Print → Type 0
-IsPrintOf uid db None = (map.get (prints_of db) uid ≡ None) × (map.get (wholes_in (db 3)) uid ≡ None)
-IsPrintOf uid db (Some print) = (map.get (prints_of db) uid ≡ Some (print.size, print.digest)) × (is_whole (map.get (wholes_in (db 3)) uid) ≡ print.whole)
+IsPrintOf uid db None =
+    (map.get (prints_of db) uid ≡ None) × (map.get (wholes_in (db 3)) uid ≡ None)
+IsPrintOf uid db (Some print) =
+    (map.get (prints_of db) uid ≡ Some (print.size, print.digest))
+    × (is_whole (map.get (wholes_in (db 3)) uid) ≡ print.whole)
 
--- what is known of the instance of that uid, and whether its data set is there; or that there is no such instance, and so no data set of it
+-- what is known of the instance of that uid, and whether its data set is there; or that there is no
+-- such instance, and so no data set of it
 pub record IsStored (uid : Text) (db : Trees) (found : Option Stored) : Type 0 where
   pub item : map.get (items_of db) uid ≡ option_map (λ (s : Stored). s.instance) found
-  pub whole : map.contains_key (bodies_of db) uid ≡ unwrap_or (option_map (λ (s : Stored). s.whole) found) false
+  pub whole : map.contains_key (bodies_of db) uid
+      ≡ unwrap_or (option_map (λ (s : Stored). s.whole) found) false
 
--- The instance of that uid with what stands in its row for its data set, which is nothing where it was let go; or that there is none.
+-- The instance of that uid with what stands in its row for its data set, which is nothing where it
+-- was let go; or that there is none.
 abbrev pub IsJobOf : Text → Trees → Option Job → Type 0
 IsJobOf uid db None = map.get (items_of db) uid ≡ None
-IsJobOf uid db (Some job) = (job.uid ≡ uid) × (map.get (items_of db) uid ≡ Some (instance_by (prints_of db) uid job.key)) × (map.get (contents_in (db 1)) uid ≡ Some job.body)
+IsJobOf uid db (Some job) =
+    (job.uid ≡ uid)
+    × (map.get (items_of db) uid ≡ Some (instance_by (prints_of db) uid job.key))
+    × (map.get (contents_in (db 1)) uid ≡ Some job.body)
 
 -- ---- rows of an instance, and of a destination
 
 -- the instance has a row that isn't done, to another destination than this one
 abbrev pub IsOpenElsewhere : Trees → Text → Text → Type 0
-IsOpenElsewhere db uid dest = (other : Text) × (row : Progress) × (other ≢ dest) × (map.get (rows_of db) (uid, other) ≡ Some row) × (row ≢ Done)
+IsOpenElsewhere db uid dest =
+    (other : Text) × (row : Progress) × (other ≢ dest)
+    × (map.get (rows_of db) (uid, other) ≡ Some row)
+    × (row ≢ Done)
 
--- The uid of the first row for the destination, by (due, uid), that waits and is due; or that no row is due.
+-- The uid of the first row for the destination, by (due, uid), that waits and is due; or that no
+-- row is due.
 abbrev pub IsFirstDue : Trees → Text → ℕ → Option Text → Type 0
 IsFirstDue db dest now None = (uid : Text) (due : ℕ) → IsDue (book_of db) dest now uid due → ⊥
 IsFirstDue db dest now (Some uid) =
-    (due : ℕ) × IsDue (book_of db) dest now uid due × ((other : Text) (moment : ℕ) → IsDue (book_of db) dest now other moment → IsNoLater (due, uid) (moment, other))
+    (due : ℕ)
+    × IsDue (book_of db) dest now uid due
+    × ((other : Text) (moment : ℕ)
+    → IsDue (book_of db) dest now other moment
+    → IsNoLater (due, uid) (moment, other))
 
 -- ---- whose ledger it is
 
@@ -99,7 +122,11 @@ shown_key row = record {
 }
 
 abbrev pub shown_print : Row → Print
-shown_print row = record { size = number_in (column row 0); digest = bytes_in (column row 1); whole = not (number_in (column row 2) == 0) }
+shown_print row = record {
+  size = number_in (column row 0);
+  digest = bytes_in (column row 1);
+  whole = not (number_in (column row 2) == 0);
+}
 
 abbrev pub shown_job : Text → Row → Job
 shown_job uid row = record { uid = uid; key = shown_key row; body = bytes_in (column row 4) }

@@ -9,7 +9,11 @@ ghost use Rattle.sqlite.specs.declared.types.Value.TheVariants.{Int};
 ghost use Rattle.dr_ledger.specs.Replies.{Reads};
 ghost use Rattle.dr_store_schema.specs.Books.{all_kept_in, arrivals_in, rows_of};
 ghost use Rattle.dr_store_schema.specs.Ledgers.{IsLedger};
-ghost use Rattle.dr_store_reads.specs.Queries.{Asked, IsFirstDue, IsJobOf, IsKeyOf, IsBlobIn, IsOpenElsewhere, IsOwnerAsShown, IsOwnerIn, IsOwnerOf, IsPrintOf, IsTextIn, IsStored, first_of, shown_job, shown_key, shown_print, shown_progress, shown_text};
+ghost use Rattle.dr_store_reads.specs.Queries.{Asked, IsFirstDue, IsJobOf, IsKeyOf, IsBlobIn};
+ghost use Rattle.dr_store_reads.specs.Queries.{IsOpenElsewhere, IsOwnerAsShown, IsOwnerIn};
+ghost use Rattle.dr_store_reads.specs.Queries.{IsOwnerOf, IsPrintOf, IsTextIn, IsStored, first_of};
+ghost use Rattle.dr_store_reads.specs.Queries.{shown_job, shown_key, shown_print, shown_progress};
+ghost use Rattle.dr_store_reads.specs.Queries.{shown_text};
 
 use crate::queries::ask;
 use crate::reading::{read_bytes, read_digest, read_key, read_number, read_progress, read_text};
@@ -106,7 +110,8 @@ fn first_text(alloc: Global, rows: &[Row]) -> Result<Option<Text>, LedgerFault>
 
 /// A moment, or the last one that a cell can hold.
 fn moment_cell(now: u64) -> ValueRef<'static>
-    ensures { (owned result ≡ Int (pos now)) ⊎ ((owned result ≡ Int (pos (2 ^ 63 - 1))) × (2 ^ 63 ≤ now)) }
+    ensures { (owned result ≡ Int (pos now))
+        ⊎ ((owned result ≡ Int (pos (2 ^ 63 - 1))) × (2 ^ 63 ≤ now)) }
 {
     match i64::try_from(now) {
         Ok(moment) => ValueRef::Int(moment),
@@ -120,7 +125,9 @@ fn with_print<'x, S: Alter>(
     uid: &'x Text,
     key: Key,
 ) -> Result<Option<Stored>, LedgerFault>
-    ensures asked { Asked IsLedger result (state S.Store conn.old) (state S.Store conn.new) (λ found. IsKeyOf uid.now (state S.Store conn.old).now.trees (Some key) → IsStored uid.now (state S.Store conn.old).now.trees found) }
+    ensures asked { Asked IsLedger result (state S.Store conn.old) (state S.Store conn.new)
+        (λ found. IsKeyOf uid.now (state S.Store conn.old).now.trees (Some key)
+        → IsStored uid.now (state S.Store conn.old).now.trees found) }
 {
     match find_print(conn, uid) {
         Ok(Some(print)) => as_stored(uid, key, print),
@@ -130,7 +137,13 @@ fn with_print<'x, S: Alter>(
 }
 
 fn as_stored(uid: &Text, key: Key, print: Print) -> Result<Option<Stored>, LedgerFault>
-    ensures { Reads result (λ found. found ≡ Some (record { instance = record { uid = uid.now; key = key; size = print.size; digest = print.digest }; whole = print.whole })) }
+    ensures { Reads result (λ found. found
+        ≡ Some
+        (record {
+          instance =
+              record { uid = uid.now; key = key; size = print.size; digest = print.digest };
+          whole = print.whole;
+        })) }
 {
     let uid = uid.clone()?;
     let digest = print.digest;
@@ -154,7 +167,8 @@ pub fn find_key<'x, S: Alter>(
     alloc: Global,
     uid: &'x Text,
 ) -> Result<Option<Key>, LedgerFault>
-    ensures asked { Asked IsLedger result (state S.Store conn.old) (state S.Store conn.new) (IsKeyOf uid.now (state S.Store conn.old).now.trees) }
+    ensures asked { Asked IsLedger result (state S.Store conn.old) (state S.Store conn.new)
+        (IsKeyOf uid.now (state S.Store conn.old).now.trees) }
 {
     let rows = ask(
         conn,
@@ -164,12 +178,14 @@ pub fn find_key<'x, S: Alter>(
     first_key(alloc, rows.as_slice())
 }
 
-/// The length and the SHA-256 of the data set of this uid, and whether it is there, if there is such an instance.
+/// The length and the SHA-256 of the data set of this uid, and whether it is there, if there is
+/// such an instance.
 pub fn find_print<'x, S: Alter>(
     conn: &mut Connection<S>,
     uid: &'x Text,
 ) -> Result<Option<Print>, LedgerFault>
-    ensures asked { Asked IsLedger result (state S.Store conn.old) (state S.Store conn.new) (IsPrintOf uid.now (state S.Store conn.old).now.trees) }
+    ensures asked { Asked IsLedger result (state S.Store conn.old) (state S.Store conn.new)
+        (IsPrintOf uid.now (state S.Store conn.old).now.trees) }
 {
     let rows = ask(
         conn,
@@ -179,13 +195,15 @@ pub fn find_print<'x, S: Alter>(
     first_print(rows.as_slice())
 }
 
-/// The instance of this uid and whether its data set is there, if there is one. The data set isn't read.
+/// The instance of this uid and whether its data set is there, if there is one. The data set isn't
+/// read.
 pub fn find_item<'x, S: Alter>(
     conn: &mut Connection<S>,
     alloc: Global,
     uid: &'x Text,
 ) -> Result<Option<Stored>, LedgerFault>
-    ensures asked { Asked IsLedger result (state S.Store conn.old) (state S.Store conn.new) (IsStored uid.now (state S.Store conn.old).now.trees) }
+    ensures asked { Asked IsLedger result (state S.Store conn.old) (state S.Store conn.new)
+        (IsStored uid.now (state S.Store conn.old).now.trees) }
 {
     match find_key(conn, alloc, uid) {
         Ok(Some(key)) => with_print(conn, uid, key),
@@ -194,13 +212,15 @@ pub fn find_item<'x, S: Alter>(
     }
 }
 
-/// The instance of this uid with its data set, if it is there; where the data set was let go, it has none of its bytes.
+/// The instance of this uid with its data set, if it is there; where the data set was let go, it
+/// has none of its bytes.
 pub fn find_job<'x, S: Alter>(
     conn: &mut Connection<S>,
     alloc: Global,
     uid: &'x Text,
 ) -> Result<Option<Job>, LedgerFault>
-    ensures asked { Asked IsLedger result (state S.Store conn.old) (state S.Store conn.new) (IsJobOf uid.now (state S.Store conn.old).now.trees) }
+    ensures asked { Asked IsLedger result (state S.Store conn.old) (state S.Store conn.new)
+        (IsJobOf uid.now (state S.Store conn.old).now.trees) }
 {
     let rows = ask(
         conn,
@@ -216,7 +236,9 @@ pub fn find_arrival<'x, S: Alter>(
     caller: &'x Text,
     uid: &'x Text,
 ) -> Result<bool, LedgerFault>
-    ensures asked { Asked IsLedger result (state S.Store conn.old) (state S.Store conn.new) (λ there. there ≡ set.contains (arrivals_in ((state S.Store conn.old).now.trees 5)) (caller.now, uid.now)) }
+    ensures asked { Asked IsLedger result (state S.Store conn.old) (state S.Store conn.new)
+        (λ there. there
+        ≡ set.contains (arrivals_in ((state S.Store conn.old).now.trees 5)) (caller.now, uid.now)) }
 {
     let rows = ask(
         conn,
@@ -231,7 +253,9 @@ pub fn find_arrival<'x, S: Alter>(
 
 /// Whether the instance of this uid is kept.
 pub fn find_kept<'x, S: Alter>(conn: &mut Connection<S>, uid: &'x Text) -> Result<bool, LedgerFault>
-    ensures asked { Asked IsLedger result (state S.Store conn.old) (state S.Store conn.new) (λ there. there ≡ set.contains (all_kept_in ((state S.Store conn.old).now.trees 7)) uid.now) }
+    ensures asked { Asked IsLedger result (state S.Store conn.old) (state S.Store conn.new)
+        (λ there.
+        there ≡ set.contains (all_kept_in ((state S.Store conn.old).now.trees 7)) uid.now) }
 {
     let rows = ask(
         conn,
@@ -247,7 +271,8 @@ pub fn find_row<'x, S: Alter>(
     uid: &'x Text,
     dest: &'x Text,
 ) -> Result<Option<Progress>, LedgerFault>
-    ensures asked { Asked IsLedger result (state S.Store conn.old) (state S.Store conn.new) (λ row. row ≡ map.get (rows_of (state S.Store conn.old).now.trees) (uid.now, dest.now)) }
+    ensures asked { Asked IsLedger result (state S.Store conn.old) (state S.Store conn.new)
+        (λ row. row ≡ map.get (rows_of (state S.Store conn.old).now.trees) (uid.now, dest.now)) }
 {
     let rows = ask(
         conn,
@@ -260,13 +285,16 @@ pub fn find_row<'x, S: Alter>(
     first_progress(rows.as_slice())
 }
 
-/// Whether an instance waits or is held for another destination than this one, so that its data set is needed still.
+/// Whether an instance waits or is held for another destination than this one, so that its data set
+/// is needed still.
 pub fn is_open_elsewhere<'x, S: Alter>(
     conn: &mut Connection<S>,
     uid: &'x Text,
     dest: &'x Text,
 ) -> Result<bool, LedgerFault>
-    ensures asked { Asked IsLedger result (state S.Store conn.old) (state S.Store conn.new) (λ needed. IsTrue needed ↔ IsOpenElsewhere (state S.Store conn.old).now.trees uid.now dest.now) }
+    ensures asked { Asked IsLedger result (state S.Store conn.old) (state S.Store conn.new)
+        (λ needed.
+        IsTrue needed ↔ IsOpenElsewhere (state S.Store conn.old).now.trees uid.now dest.now) }
 {
     let rows = ask(
         conn,
@@ -279,14 +307,16 @@ pub fn is_open_elsewhere<'x, S: Alter>(
     Ok(!rows.as_slice().is_empty())
 }
 
-/// The uid of the first row for a destination, by (due, uid), that waits and is due at the moment `now` (milliseconds).
+/// The uid of the first row for a destination, by (due, uid), that waits and is due at the moment
+/// `now` (milliseconds).
 pub fn find_next<'x, S: Alter>(
     conn: &mut Connection<S>,
     alloc: Global,
     dest: &'x Text,
     now: u64,
 ) -> Result<Option<Text>, LedgerFault>
-    ensures asked { Asked IsLedger result (state S.Store conn.old) (state S.Store conn.new) (IsFirstDue (state S.Store conn.old).now.trees dest.now now) }
+    ensures asked { Asked IsLedger result (state S.Store conn.old) (state S.Store conn.new)
+        (IsFirstDue (state S.Store conn.old).now.trees dest.now now) }
 {
     let rows = ask(
         conn,
@@ -301,7 +331,8 @@ pub fn find_owner<S: Alter>(
     conn: &mut Connection<S>,
     alloc: Global,
 ) -> Result<Option<Owner>, LedgerFault>
-    ensures asked { Asked IsLedger result (state S.Store conn.old) (state S.Store conn.new) (IsOwnerOf (state S.Store conn.old).now.trees) }
+    ensures asked { Asked IsLedger result (state S.Store conn.old) (state S.Store conn.new)
+        (IsOwnerOf (state S.Store conn.old).now.trees) }
 {
     let rows = ask(conn, "SELECT id, node, plan FROM site", &[])?;
     one_owner(alloc, rows.as_slice())

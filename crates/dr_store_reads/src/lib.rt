@@ -1,7 +1,8 @@
 //! The queries of a ledger in tables by key, each with what it shows of them.
 //!
-//! What is known of a query stands under its end: that the disk has returned what was written so far. A query outside a transaction
-//! commits nothing, and a crash leaves after it only what it could leave before (`Asked`).
+//! What is known of a query stands under its end: that the disk has returned what was written so
+//! far. A query outside a transaction commits nothing, and a crash leaves after it only what it
+//! could leave before (`Asked`).
 #![tactic(auto)]
 
 pub mod finding;

@@ -28,7 +28,11 @@ pub fn ask<S: Alter>(
     sql: &str,
     params: &[ValueRef<'_>],
 ) -> Result<Vec<Row>, LedgerFault>
-    ensures asked { Asked (λ db. IsPlain (understood db.schema sql.now)) result (state S.Store conn.old) (state S.Store conn.new) (λ rows. Shown sql.now (bound params.now) (state S.Store conn.old) (state S.Store conn.new) rows.items) }
+    ensures asked { Asked
+        (λ db. IsPlain (understood db.schema sql.now)) result (state S.Store conn.old)
+        (state S.Store conn.new)
+        (λ rows. Shown sql.now (bound params.now) (state S.Store conn.old) (state S.Store conn.new)
+        rows.items) }
 {
     match conn.query_all(sql, params) {
         Ok(rows) => Ok(rows),

@@ -3,7 +3,8 @@ ghost use Rattle.std.specs.Prelude.{◌≡◌, ◌<◌, ◌+◌, IfSome};
 ghost use Rattle.sqlite.specs.Order.{column};
 ghost use Rattle.dr_ledger.specs.Replies.{Reads};
 ghost use Rattle.dr_route.specs.declared.key.Key.{Key};
-ghost use Rattle.dr_store_schema.specs.Cells.{bytes_in, number_in, outcome_in, progress_in, syntax_marked, text_in};
+ghost use Rattle.dr_store_schema.specs.Cells.{bytes_in, number_in, outcome_in, progress_in};
+ghost use Rattle.dr_store_schema.specs.Cells.{syntax_marked, text_in};
 
 use dr_base::{Octets, Syntax, Text};
 use dr_ledger::{Cause, LedgerFault, Outcome, Progress};
@@ -67,10 +68,17 @@ pub fn read_syntax(row: &Row, at: usize) -> Result<Syntax, LedgerFault>
     }
 }
 
-/// What rules read of an instance, from the columns class, syntax, modality and station, of which the first is at this place.
+/// What rules read of an instance, from the columns class, syntax, modality and station, of which
+/// the first is at this place.
 pub fn read_key(alloc: Global, row: &Row, first: usize) -> Result<Key, LedgerFault>
     requires { first < 100 }
-    ensures { Reads result (λ k. k ≡ record { class = text_in (column row.now first); syntax = syntax_marked (text_in (column row.now (first + 1))); modality = bytes_in (column row.now (first + 2)); station = bytes_in (column row.now (first + 3)) }) }
+    ensures { Reads result (λ k. k
+        ≡ record {
+          class = text_in (column row.now first);
+          syntax = syntax_marked (text_in (column row.now (first + 1)));
+          modality = bytes_in (column row.now (first + 2));
+          station = bytes_in (column row.now (first + 3));
+        }) }
 {
     let class = read_text(alloc, row, first)?;
     let syntax = read_syntax(row, first + 1)?;
@@ -103,11 +111,13 @@ pub fn read_outcome(row: &Row, at: usize) -> Result<Outcome, LedgerFault>
     }
 }
 
-/// What a row of queue says, from its columns state, tries, due and cause, of which the first is at this place; None
-/// where they aren't a ledger's.
+/// What a row of queue says, from its columns state, tries, due and cause, of which the first is at
+/// this place; None where they aren't a ledger's.
 pub fn read_progress(row: &Row, first: usize) -> Option<Progress>
     requires { first < 100 }
-    ensures { IfSome result (λ p. p ≡ progress_in (column row.now first) (column row.now (first + 1)) (column row.now (first + 2)) (column row.now (first + 3))) }
+    ensures { IfSome result (λ p. p
+        ≡ progress_in (column row.now first) (column row.now (first + 1))
+        (column row.now (first + 2)) (column row.now (first + 3))) }
 {
     let state: u64 = row.get(first).ok()?;
     match state {

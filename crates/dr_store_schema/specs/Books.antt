@@ -1,6 +1,8 @@
--- The book that the tables stand for, and its data sets: each table is a part of it, and of an instance `item` has what rules read and
--- `print` the length and the digest. The lines of the journal are joined with both, since an item that is there never changes.
-use Rattle.std.specs.Prelude.{◌≡◌, ◌==◌, ◌<◌, ℕ, zero, suc, pos, Bool, false, not, List, [], ◌∷◌, map as mapped, filter, Option, Some, None}
+-- The book that the tables stand for, and its data sets: each table is a part of it, and of an
+-- instance `item` has what rules read and `print` the length and the digest. The lines of the
+-- journal are joined with both, since an item that is there never changes.
+use Rattle.std.specs.Prelude.{◌≡◌, ◌==◌, ◌<◌, ℕ, zero, suc, pos, Bool, false, not, List, [], ◌∷◌}
+use Rattle.std.specs.Prelude.{map as mapped, filter, Option, Some, None}
 use Rattle.std.specs.List.{AllByRecursion}
 use Rattle.std.specs.Ordering.{nat_cmp}
 use Rattle.std.specs.FinMap as map
@@ -19,10 +21,11 @@ use Rattle.dr_ledger.specs.declared.item.Progress.{Progress}
 use Rattle.dr_ledger.specs.Bodies.{Bodies}
 use Rattle.dr_ledger.specs.Books.{Book, Line, Arrival, Repeat, Settling, Requeuing, Adoption}
 use Rattle.dr_ledger.specs.Pairs.{Pair, pair_cmp}
-use Rattle.dr_store_schema.specs.Cells.{text_in, bytes_in, number_in, syntax_marked, progress_in, outcome_in}
+use Rattle.dr_store_schema.specs.Cells.{text_in, bytes_in, number_in, syntax_marked, progress_in}
+use Rattle.dr_store_schema.specs.Cells.{outcome_in}
 
--- Column 0 of a row is its rowid; the table's own columns follow. In journal the number of the line is the rowid, and its own column is
--- NULL, as that of each INTEGER PRIMARY KEY.
+-- Column 0 of a row is its rowid; the table's own columns follow. In journal the number of the line
+-- is the rowid, and its own column is NULL, as that of each INTEGER PRIMARY KEY.
 
 -- ---- print
 
@@ -60,10 +63,16 @@ print_or_none (Some print) = print
 
 -- the instance of that uid and key, by the prints
 abbrev pub instance_by : FinMap text_cmp Print → Text → Key → Instance
-instance_by prints uid key = record { uid = uid; key = key; size = (print_or_none (map.get prints uid)).0; digest = (print_or_none (map.get prints uid)).1 }
+instance_by prints uid key = record {
+  uid = uid;
+  key = key;
+  size = (print_or_none (map.get prints uid)).0;
+  digest = (print_or_none (map.get prints uid)).1;
+}
 
 abbrev pub item_in : FinMap text_cmp Print → Row → Text × Instance
-item_in prints row = (text_in (column row 1), instance_by prints (text_in (column row 1)) (key_in row))
+item_in prints row =
+    (text_in (column row 1), instance_by prints (text_in (column row 1)) (key_in row))
 
 abbrev pub items_in : FinMap text_cmp Print → List Row → FinMap text_cmp Instance
 items_in prints rows = map.from_entries (mapped (item_in prints) rows)
@@ -89,7 +98,10 @@ abbrev pub all_kept_in : List Row → FinSet text_cmp
 all_kept_in rows = set.from_list (mapped kept_in rows)
 
 abbrev pub entry_in : Row → Pair × Progress
-entry_in row = ((text_in (column row 1), text_in (column row 2)), progress_in (column row 3) (column row 4) (column row 5) (column row 6))
+entry_in row = (
+  (text_in (column row 1), text_in (column row 2)),
+  progress_in (column row 3) (column row 4) (column row 5) (column row 6),
+)
 
 abbrev pub rows_in : List Row → FinMap pair_cmp Progress
 rows_in rows = map.from_entries (mapped entry_in rows)
@@ -127,7 +139,12 @@ keeps_in rows n = map.contains_key (names_in rows n) keep_mark
 
 -- an item that isn't there; no line of a ledger speaks of one
 abbrev pub no_item : Text → Instance
-no_item uid = record { uid = uid; key = record { class = []; syntax = Explicit; modality = []; station = [] }; size = 0; digest = [] }
+no_item uid = record {
+  uid = uid;
+  key = record { class = []; syntax = Explicit; modality = []; station = [] };
+  size = 0;
+  digest = [];
+}
 
 abbrev pub item_or_none : Text → Option Instance → Instance
 item_or_none uid None = no_item uid
@@ -143,22 +160,26 @@ line_by (suc (suc (suc (suc more)))) caller item uid dest what now to keep = Ado
 
 -- the line of a row of journal, with its item and with its rows of target
 abbrev pub line_in : FinMap text_cmp Instance → List Row → Row → Line
-line_in items targets row = line_by (number_in (column row 2)) (text_in (column row 3)) (item_or_none (text_in (column row 4)) (map.get items (text_in (column row 4))))
-    (text_in (column row 4)) (text_in (column row 5)) (outcome_in (column row 6)) (number_in (column row 7))
-    (targets_in targets (number_in (rowid row))) (keeps_in targets (number_in (rowid row)))
+line_in items targets row = line_by (number_in (column row 2)) (text_in (column row 3))
+    (item_or_none (text_in (column row 4)) (map.get items (text_in (column row 4))))
+    (text_in (column row 4)) (text_in (column row 5)) (outcome_in (column row 6))
+    (number_in (column row 7)) (targets_in targets (number_in (rowid row)))
+    (keeps_in targets (number_in (rowid row)))
 
 abbrev pub numbered_line : FinMap text_cmp Instance → List Row → Row → ℕ × Line
 numbered_line items targets row = (number_in (rowid row), line_in items targets row)
 
 -- in the order of their numbers
 abbrev pub lines_in : FinMap text_cmp Instance → List Row → List Row → List Line
-lines_in items targets rows = map.values (map.from_entries {R = nat_cmp} (mapped (numbered_line items targets) rows))
+lines_in items targets rows =
+    map.values (map.from_entries {R = nat_cmp} (mapped (numbered_line items targets) rows))
 
 -- each line has a lower number
 abbrev pub AreBelow : ℕ → List Row → Type 0
 AreBelow n = AllByRecursion (λ row. (m : ℕ) × (rowid row ≡ Int (pos m)) × (m < n))
 
--- ---- all of it. The trees of the tables are 1 item, 3 print, 5 arrival, 7 kept, 9 queue, 11 journal and 12 target.
+-- ---- all of it. The trees of the tables are 1 item, 3 print, 5 arrival, 7 kept, 9 queue, 11
+-- journal and 12 target.
 
 abbrev pub prints_of : Trees → FinMap text_cmp Print
 prints_of db = prints_in (db 3)

@@ -13,7 +13,8 @@ use Rattle.dr_ledger.specs.declared.item.Outcome.TheVariants as outcome
 use Rattle.dr_ledger.specs.declared.item.Progress.{Progress}
 use Rattle.dr_ledger.specs.declared.item.Progress.TheVariants.{Waiting, Held, Done}
 
--- ---- cells. A strict table has in each column only values of the column's type, so that the other cases don't occur.
+-- ---- cells. A strict table has in each column only values of the column's type, so that the other
+-- cases don't occur.
 
 -- the text of a cell
 abbrev pub text_in : Value → List ℕ
@@ -56,8 +57,8 @@ abbrev pub mark_of : Syntax → List ℕ
 mark_of Implicit = 73 ∷ []
 mark_of Explicit = 69 ∷ []
 
--- ---- queue: how far an instance is. State 0 waits, 1 is held, 2 is done; a held row's cause is a status, or NULL where the
--- association had no presentation context.
+-- ---- queue: how far an instance is. State 0 waits, 1 is held, 2 is done; a held row's cause is a
+-- status, or NULL where the association had no presentation context.
 
 abbrev pub cause_in : Value → Cause
 cause_in Null = cause.NoContext
@@ -73,7 +74,8 @@ progress_by (suc (suc more)) tries due why = Done
 
 -- what the cells state, tries, due and cause say
 abbrev pub progress_in : Value → Value → Value → Value → Progress
-progress_in state tries due why = progress_by (number_in state) (number_in tries) (number_in due) (cause_in why)
+progress_in state tries due why =
+    progress_by (number_in state) (number_in tries) (number_in due) (cause_in why)
 
 abbrev pub state_of : Progress → ℕ
 state_of (Waiting tries due) = 0
@@ -103,7 +105,8 @@ why_of Done = Null
 abbrev pub cells : Progress → Row
 cells p = Int (pos (state_of p)) ∷ Int (pos (tries_of p)) ∷ Int (pos (due_of p)) ∷ why_of p ∷ []
 
--- ---- journal: outcomes. NULL is a broken association, -1 stands for no presentation context, all else is the response's status.
+-- ---- journal: outcomes. NULL is a broken association, -1 stands for no presentation context, all
+-- else is the response's status.
 
 abbrev pub outcome_in : Value → Outcome
 outcome_in Null = outcome.Broken

@@ -10,7 +10,8 @@ use Rattle.dr_ledger.specs.declared.item.Outcome.{Outcome}
 use Rattle.dr_ledger.specs.declared.item.Progress.{Progress}
 use Rattle.dr_ledger.specs.Books.{empty_book}
 use Rattle.dr_store_schema.specs.Books.{bodies_of, book_of}
-use Rattle.dr_store_schema.specs.Cells.{due_of, mark_of, outcome_in, outcome_value, progress_in, state_of, syntax_marked, tries_of, why_of}
+use Rattle.dr_store_schema.specs.Cells.{due_of, mark_of, outcome_in, outcome_value, progress_in}
+use Rattle.dr_store_schema.specs.Cells.{state_of, syntax_marked, tries_of, why_of}
 use Rattle.dr_store_schema.specs.Statements as text
 use Rattle.dr_store_schema.specs.Tables as table
 use Rattle.dr_store_schema.specs.Tables.{tables}
@@ -26,7 +27,8 @@ pub record TextsMakeTables : Type 0 where
   pub journal : table_defined_by text.create_journal ≡ Ok table.journal
   pub target : table_defined_by text.create_target ≡ Ok table.target
 
--- Over these tables each statement is one of SQL that is understood; none has a RETURNING, and none reads the clock.
+-- Over these tables each statement is one of SQL that is understood; none has a RETURNING, and none
+-- reads the clock.
 pub record StatementsAreUnderstood : Type 0 where
   pub insert_item : IsPlain (understood tables text.insert_item)
   pub insert_print : IsPlain (understood tables text.insert_print)
@@ -70,7 +72,10 @@ pub record StatementsAreUnderstood : Type 0 where
 
 -- The cells of a row and of an outcome say what was written into them.
 pub record CellsSayWhatWasWritten : Type 0 where
-  pub progress : (p : Progress) → progress_in (Int (pos (state_of p))) (Int (pos (tries_of p))) (Int (pos (due_of p))) (why_of p) ≡ p
+  pub progress : (p : Progress)
+      → progress_in (Int (pos (state_of p))) (Int (pos (tries_of p))) (Int (pos (due_of p)))
+      (why_of p)
+      ≡ p
   pub outcome : (what : Outcome) → outcome_in (outcome_value what) ≡ what
   pub syntax : (syntax : Syntax) → syntax_marked (mark_of syntax) ≡ syntax
 

@@ -13,7 +13,8 @@ pub record AreRows (rows : List Row) : Type 0 where
   pub apart : IsAscending (λ a b. rowid a ≢ rowid b) rows
   pub ints : AllByRecursion (λ r. IsTrue (is_int (rowid r))) rows
 
--- the numbers of a row of queue that has come from a ledger: its state is one of the three, and it is due at a moment of 63 bits
+-- the numbers of a row of queue that has come from a ledger: its state is one of the three, and it
+-- is due at a moment of 63 bits
 pub record IsCounted (row : Row) : Type 0 where
   pub state : ℕ
   pub due : ℕ
@@ -22,8 +23,9 @@ pub record IsCounted (row : Row) : Type 0 where
   pub known : state < 3
   pub fits : due < 2 ^ 63
 
--- The tables are those of a ledger, each row obeys them, and the rowids of the tables in which rows change or leave differ: those of
--- item, print, arrival and queue. And queue's numbers are a ledger's.
+-- The tables are those of a ledger, each row obeys them, and the rowids of the tables in which rows
+-- change or leave differ: those of item, print, arrival and queue. And queue's numbers are a
+-- ledger's.
 pub record IsLedger (db : Database) : Type 0 where
   pub schema : db.schema ≡ tables
   pub sound : IsDatabase db

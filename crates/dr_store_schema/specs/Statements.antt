@@ -4,28 +4,35 @@ use Rattle.std.specs.Prelude.{List, ℕ, codes}
 -- ---- making the tables
 
 abbrev pub create_site : List ℕ
-create_site = codes "CREATE TABLE site (id INTEGER PRIMARY KEY, node TEXT NOT NULL, plan BLOB NOT NULL) STRICT"
+create_site = codes
+    "CREATE TABLE site (id INTEGER PRIMARY KEY, node TEXT NOT NULL, plan BLOB NOT NULL) STRICT"
 
 abbrev pub create_item : List ℕ
-create_item = codes "CREATE TABLE item (uid TEXT NOT NULL PRIMARY KEY, class TEXT NOT NULL, syntax TEXT NOT NULL, modality BLOB NOT NULL, station BLOB NOT NULL, body BLOB NOT NULL) STRICT"
+create_item = codes
+    "CREATE TABLE item (uid TEXT NOT NULL PRIMARY KEY, class TEXT NOT NULL, syntax TEXT NOT NULL, modality BLOB NOT NULL, station BLOB NOT NULL, body BLOB NOT NULL) STRICT"
 
 abbrev pub create_print : List ℕ
-create_print = codes "CREATE TABLE print (uid TEXT NOT NULL PRIMARY KEY REFERENCES item (uid), length INTEGER NOT NULL, sha256 BLOB NOT NULL, whole INTEGER NOT NULL) STRICT"
+create_print = codes
+    "CREATE TABLE print (uid TEXT NOT NULL PRIMARY KEY REFERENCES item (uid), length INTEGER NOT NULL, sha256 BLOB NOT NULL, whole INTEGER NOT NULL) STRICT"
 
 abbrev pub create_arrival : List ℕ
-create_arrival = codes "CREATE TABLE arrival (caller TEXT NOT NULL, uid TEXT NOT NULL REFERENCES item (uid), PRIMARY KEY (caller, uid)) STRICT"
+create_arrival = codes
+    "CREATE TABLE arrival (caller TEXT NOT NULL, uid TEXT NOT NULL REFERENCES item (uid), PRIMARY KEY (caller, uid)) STRICT"
 
 abbrev pub create_kept : List ℕ
 create_kept = codes "CREATE TABLE kept (uid TEXT NOT NULL PRIMARY KEY REFERENCES item (uid)) STRICT"
 
 abbrev pub create_queue : List ℕ
-create_queue = codes "CREATE TABLE queue (uid TEXT NOT NULL REFERENCES item (uid), dest TEXT NOT NULL, state INTEGER NOT NULL, tries INTEGER NOT NULL, due INTEGER NOT NULL, cause INTEGER, PRIMARY KEY (uid, dest)) STRICT"
+create_queue = codes
+    "CREATE TABLE queue (uid TEXT NOT NULL REFERENCES item (uid), dest TEXT NOT NULL, state INTEGER NOT NULL, tries INTEGER NOT NULL, due INTEGER NOT NULL, cause INTEGER, PRIMARY KEY (uid, dest)) STRICT"
 
 abbrev pub create_journal : List ℕ
-create_journal = codes "CREATE TABLE journal (n INTEGER PRIMARY KEY, kind INTEGER NOT NULL, caller TEXT, uid TEXT REFERENCES item (uid), dest TEXT, outcome INTEGER, moment INTEGER) STRICT"
+create_journal = codes
+    "CREATE TABLE journal (n INTEGER PRIMARY KEY, kind INTEGER NOT NULL, caller TEXT, uid TEXT REFERENCES item (uid), dest TEXT, outcome INTEGER, moment INTEGER) STRICT"
 
 abbrev pub create_target : List ℕ
-create_target = codes "CREATE TABLE target (n INTEGER NOT NULL REFERENCES journal (n), dest TEXT NOT NULL, PRIMARY KEY (n, dest)) STRICT"
+create_target = codes
+    "CREATE TABLE target (n INTEGER NOT NULL REFERENCES journal (n), dest TEXT NOT NULL, PRIMARY KEY (n, dest)) STRICT"
 
 abbrev pub create_queue_due : List ℕ
 create_queue_due = codes "CREATE INDEX queue_due ON queue (dest, state, due, uid)"
@@ -34,7 +41,8 @@ create_queue_due = codes "CREATE INDEX queue_due ON queue (dest, state, due, uid
 
 -- an instance with its data set
 abbrev pub insert_item : List ℕ
-insert_item = codes "INSERT INTO item (uid, class, syntax, modality, station, body) VALUES (?1, ?2, ?3, ?4, ?5, ?6)"
+insert_item = codes
+    "INSERT INTO item (uid, class, syntax, modality, station, body) VALUES (?1, ?2, ?3, ?4, ?5, ?6)"
 
 -- the length and the SHA-256 of its data set, and whether it is there
 abbrev pub insert_print : List ℕ
@@ -50,11 +58,14 @@ insert_kept = codes "INSERT INTO kept (uid) VALUES (?1)"
 
 -- it waits for a destination, untried
 abbrev pub insert_row : List ℕ
-insert_row = codes "INSERT INTO queue (uid, dest, state, tries, due, cause) VALUES (?1, ?2, 0, 0, 0, NULL)"
+insert_row =
+    codes "INSERT INTO queue (uid, dest, state, tries, due, cause) VALUES (?1, ?2, 0, 0, 0, NULL)"
 
--- the line of a first arrival (kind 0) or of a repeat (kind 1), whose outcome is what was answered: 0 new, 1 again
+-- the line of a first arrival (kind 0) or of a repeat (kind 1), whose outcome is what was answered:
+-- 0 new, 1 again
 abbrev pub insert_arrived : List ℕ
-insert_arrived = codes "INSERT INTO journal (n, kind, caller, uid, dest, outcome, moment) VALUES (?1, ?2, ?3, ?4, NULL, ?2, NULL)"
+insert_arrived = codes
+    "INSERT INTO journal (n, kind, caller, uid, dest, outcome, moment) VALUES (?1, ?2, ?3, ?4, NULL, ?2, NULL)"
 
 -- where the first arrival of this line goes on to
 abbrev pub insert_target : List ℕ
@@ -64,15 +75,18 @@ insert_target = codes "INSERT INTO target (n, dest) VALUES (?1, ?2)"
 
 -- the row of an instance and a destination moves on
 abbrev pub set_row : List ℕ
-set_row = codes "UPDATE queue SET state = ?3, tries = ?4, due = ?5, cause = ?6 WHERE uid = ?1 AND dest = ?2"
+set_row = codes
+    "UPDATE queue SET state = ?3, tries = ?4, due = ?5, cause = ?6 WHERE uid = ?1 AND dest = ?2"
 
 -- the line of a settling
 abbrev pub insert_settled : List ℕ
-insert_settled = codes "INSERT INTO journal (n, kind, caller, uid, dest, outcome, moment) VALUES (?1, 2, NULL, ?2, ?3, ?4, ?5)"
+insert_settled = codes
+    "INSERT INTO journal (n, kind, caller, uid, dest, outcome, moment) VALUES (?1, 2, NULL, ?2, ?3, ?4, ?5)"
 
 -- the line of a requeuing
 abbrev pub insert_requeued : List ℕ
-insert_requeued = codes "INSERT INTO journal (n, kind, caller, uid, dest, outcome, moment) VALUES (?1, 3, NULL, ?2, ?3, NULL, NULL)"
+insert_requeued = codes
+    "INSERT INTO journal (n, kind, caller, uid, dest, outcome, moment) VALUES (?1, 3, NULL, ?2, ?3, NULL, NULL)"
 
 -- ---- data sets
 
@@ -96,7 +110,8 @@ drop_done = codes "DELETE FROM queue WHERE state = 2"
 
 -- the line of an adoption
 abbrev pub insert_adopted : List ℕ
-insert_adopted = codes "INSERT INTO journal (n, kind, caller, uid, dest, outcome, moment) VALUES (?1, 4, NULL, NULL, NULL, NULL, NULL)"
+insert_adopted = codes
+    "INSERT INTO journal (n, kind, caller, uid, dest, outcome, moment) VALUES (?1, 4, NULL, NULL, NULL, NULL, NULL)"
 
 -- whose ledger it is
 abbrev pub insert_site : List ℕ
@@ -138,7 +153,8 @@ find_open = codes "SELECT dest FROM queue WHERE uid = ?1 AND dest <> ?2 AND stat
 
 -- the first row of a destination that waits and is due
 abbrev pub find_next : List ℕ
-find_next = codes "SELECT uid FROM queue WHERE dest = ?1 AND state = 0 AND due <= ?2 ORDER BY due, uid LIMIT 1"
+find_next = codes
+    "SELECT uid FROM queue WHERE dest = ?1 AND state = 0 AND due <= ?2 ORDER BY due, uid LIMIT 1"
 
 -- ---- listing all
 

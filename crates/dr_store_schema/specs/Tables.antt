@@ -1,5 +1,6 @@
--- The tables of a ledger, as the schema of a database: what `CREATE TABLE` and `CREATE INDEX` make of their texts (`specs/Statements.antt`).
--- A database is a family of trees by number; a table has one, and the index of a key that is no rowid follows its table.
+-- The tables of a ledger, as the schema of a database: what `CREATE TABLE` and `CREATE INDEX` make
+-- of their texts (`specs/Statements.antt`). A database is a family of trees by number; a table has
+-- one, and the index of a key that is no rowid follows its table.
 use Rattle.std.specs.Prelude.{Bool, true, false, None, Some, [], ◌∷◌, codes, List, ℕ}
 use Rattle.sqlite.specs.Collation.TheVariants.{Binary}
 use Rattle.sqlite.specs.declared.types.Value.TheVariants.{Null}
@@ -15,18 +16,35 @@ use Rattle.sqlite.specs.Kind.TheVariants.{Integer, Text, Blob}
 
 -- a column of a strict table, without a default, compared byte by byte
 abbrev pub column_named : List ℕ → Kind → Bool → Column
-column_named name kind not_null = record { name = name; kind = kind; is_strict = true; not_null = not_null; default = Null; collation = Binary }
+column_named name kind not_null = record {
+  name = name;
+  kind = kind;
+  is_strict = true;
+  not_null = not_null;
+  default = Null;
+  collation = Binary;
+}
 
--- a column whose value stands in that column of another table, of which no such row may leave or change its key
+-- a column whose value stands in that column of another table, of which no such row may leave or
+-- change its key
 abbrev pub refers : ℕ → List ℕ → List ℕ → Reference
-refers place parent name = record { columns = place ∷ []; parent = parent; parent_columns = name ∷ []; on_delete = NoAction; on_update = NoAction; is_deferred = false }
+refers place parent name = record {
+  columns = place ∷ [];
+  parent = parent;
+  parent_columns = name ∷ [];
+  on_delete = NoAction;
+  on_update = NoAction;
+  is_deferred = false;
+}
 
 -- the node that the ledger is of, and the SHA-256 of the plan in force: one row, whose id is 1
 abbrev pub site : Table
 site = record {
   name = codes "site";
   tree = 0;
-  columns = column_named (codes "id") Integer false ∷ column_named (codes "node") Text true ∷ column_named (codes "plan") Blob true ∷ [];
+  columns =
+      column_named (codes "id") Integer false ∷ column_named (codes "node") Text true
+      ∷ column_named (codes "plan") Blob true ∷ [];
   key = Some 0;
   primary = 0 ∷ [];
   uniques = [];
@@ -38,12 +56,16 @@ site = record {
   is_counted = false;
 }
 
--- instances by SOP instance UID: what rules read of them, and the data set, empty where it was let go
+-- instances by SOP instance UID: what rules read of them, and the data set, empty where it was let
+-- go
 abbrev pub item : Table
 item = record {
   name = codes "item";
   tree = 0;
-  columns = column_named (codes "uid") Text true ∷ column_named (codes "class") Text true ∷ column_named (codes "syntax") Text true ∷ column_named (codes "modality") Blob true ∷ column_named (codes "station") Blob true ∷ column_named (codes "body") Blob true ∷ [];
+  columns =
+      column_named (codes "uid") Text true ∷ column_named (codes "class") Text true
+      ∷ column_named (codes "syntax") Text true ∷ column_named (codes "modality") Blob true
+      ∷ column_named (codes "station") Blob true ∷ column_named (codes "body") Blob true ∷ [];
   key = None;
   primary = 1 ∷ [];
   uniques = (1 ∷ []) ∷ [];
@@ -55,12 +77,15 @@ item = record {
   is_counted = false;
 }
 
--- of each item its data set's length (bytes) and SHA-256, and whether the data set is there: `whole` is 1, or 0 where it was let go
+-- of each item its data set's length (bytes) and SHA-256, and whether the data set is there:
+-- `whole` is 1, or 0 where it was let go
 abbrev pub print : Table
 print = record {
   name = codes "print";
   tree = 0;
-  columns = column_named (codes "uid") Text true ∷ column_named (codes "length") Integer true ∷ column_named (codes "sha256") Blob true ∷ column_named (codes "whole") Integer true ∷ [];
+  columns =
+      column_named (codes "uid") Text true ∷ column_named (codes "length") Integer true
+      ∷ column_named (codes "sha256") Blob true ∷ column_named (codes "whole") Integer true ∷ [];
   key = None;
   primary = 1 ∷ [];
   uniques = (1 ∷ []) ∷ [];
@@ -111,7 +136,10 @@ abbrev pub queue : Table
 queue = record {
   name = codes "queue";
   tree = 0;
-  columns = column_named (codes "uid") Text true ∷ column_named (codes "dest") Text true ∷ column_named (codes "state") Integer true ∷ column_named (codes "tries") Integer true ∷ column_named (codes "due") Integer true ∷ column_named (codes "cause") Integer false ∷ [];
+  columns =
+      column_named (codes "uid") Text true ∷ column_named (codes "dest") Text true
+      ∷ column_named (codes "state") Integer true ∷ column_named (codes "tries") Integer true
+      ∷ column_named (codes "due") Integer true ∷ column_named (codes "cause") Integer false ∷ [];
   key = None;
   primary = 1 ∷ 2 ∷ [];
   uniques = (1 ∷ 2 ∷ []) ∷ [];
@@ -123,12 +151,17 @@ queue = record {
   is_counted = false;
 }
 
--- the accepted calls, numbered from 1; kind 0 is a first arrival, 1 a repeat, 2 a settling, 3 a requeuing, 4 an adoption
+-- the accepted calls, numbered from 1; kind 0 is a first arrival, 1 a repeat, 2 a settling, 3 a
+-- requeuing, 4 an adoption
 abbrev pub journal : Table
 journal = record {
   name = codes "journal";
   tree = 0;
-  columns = column_named (codes "n") Integer false ∷ column_named (codes "kind") Integer true ∷ column_named (codes "caller") Text false ∷ column_named (codes "uid") Text false ∷ column_named (codes "dest") Text false ∷ column_named (codes "outcome") Integer false ∷ column_named (codes "moment") Integer false ∷ [];
+  columns =
+      column_named (codes "n") Integer false ∷ column_named (codes "kind") Integer true
+      ∷ column_named (codes "caller") Text false ∷ column_named (codes "uid") Text false
+      ∷ column_named (codes "dest") Text false ∷ column_named (codes "outcome") Integer false
+      ∷ column_named (codes "moment") Integer false ∷ [];
   key = Some 0;
   primary = 0 ∷ [];
   uniques = [];
@@ -140,7 +173,8 @@ journal = record {
   is_counted = false;
 }
 
--- where each first arrival goes on to, one row a destination, and one with `-` where the node keeps it
+-- where each first arrival goes on to, one row a destination, and one with `-` where the node keeps
+-- it
 abbrev pub target : Table
 target = record {
   name = codes "target";
@@ -159,11 +193,25 @@ target = record {
 
 -- the rows of a destination in the order in which they are due
 abbrev pub queue_due : Index
-queue_due = record { name = codes "queue_due"; tree = 0; table = 9; columns = 2 ∷ 3 ∷ 5 ∷ 1 ∷ []; order = record { digits = 0 }; is_unique = false }
+queue_due = record {
+  name = codes "queue_due";
+  tree = 0;
+  table = 9;
+  columns = 2 ∷ 3 ∷ 5 ∷ 1 ∷ [];
+  order = record { digits = 0 };
+  is_unique = false;
+}
 
 -- All of them; each is numbered as it is made.
 abbrev pub tables : Schema
-tables = indexed (created (created (created (created (created (created (created (created (record { tables = []; indexes = []; views = [] }) site) item) print) arrival) kept) queue) journal) target) (record queue { tree = 9 }) queue_due
+tables = indexed
+    (created
+    (created
+    (created
+    (created
+    (created
+    (created (created (created (record { tables = []; indexes = []; views = [] }) site) item) print)
+    arrival) kept) queue) journal) target) (record queue { tree = 9 }) queue_due
 
 -- ---- the tables with their trees
 

@@ -1,5 +1,6 @@
 //! Laws of the tables.
-ghost use Rattle.dr_store_schema.specs.Laws.{CellsSayWhatWasWritten, EmptyTablesAreEmpty, StatementsAreUnderstood, TextsMakeTables};
+ghost use Rattle.dr_store_schema.specs.Laws.{CellsSayWhatWasWritten, EmptyTablesAreEmpty};
+ghost use Rattle.dr_store_schema.specs.Laws.{StatementsAreUnderstood, TextsMakeTables};
 
 /// The texts of CREATE TABLE make the tables.
 pub fn texts_make_the_tables()

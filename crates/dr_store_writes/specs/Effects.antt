@@ -1,5 +1,6 @@
 -- What each statement of a ledger makes of its tables, inside a transaction.
-use Rattle.std.specs.Prelude.{◌≡◌, ◌≢◌, ℕ, ℤ, pos, false, IsTrue, List, [], ◌∷◌, Result, IsSome, OnOk}
+use Rattle.std.specs.Prelude.{◌≡◌, ◌≢◌, ℕ, ℤ, pos, false, IsTrue, List, [], ◌∷◌, Result, IsSome}
+use Rattle.std.specs.Prelude.{OnOk}
 use Rattle.std.specs.FinMap as map
 use Rattle.std.specs.FinMap.{FinMap}
 use Rattle.sqlite.specs.declared.types.Value.TheVariants.{Null, Int, Text, Blob}
@@ -25,10 +26,13 @@ pub record GoesOn (old new : State) : Type 0 where
   pub committed : new.committed ≡ old.committed
   pub is_open : IsTrue new.is_open
 
--- What a statement does inside a transaction. Where it is done it makes this of a ledger's tables; whatever it answers, nothing is
--- committed, and a crash leaves what it could leave before.
-pub record Step {A E : Type 0} (result : Result A E) (old new : State) (Made : Type 0) : Type 0 where
-  pub ok : HasCleanDisk new → IsTrue old.in_transaction → IsTrue old.is_open → IsLedger old.now → OnOk result Made
+-- What a statement does inside a transaction. Where it is done it makes this of a ledger's tables;
+-- whatever it answers, nothing is committed, and a crash leaves what it could leave before.
+pub record Step {A E : Type 0} (result : Result A E) (old new : State)
+    (Made : Type 0) : Type 0 where
+  pub ok : HasCleanDisk new
+      → IsTrue old.in_transaction
+      → IsTrue old.is_open → IsLedger old.now → OnOk result Made
   pub kept : HasCleanDisk new → KeepsCommit old new
   pub survives : Survives old new (λ _. ⊥)
 
@@ -58,7 +62,9 @@ pub record AddsCells (tree : ℕ) (cells : Row) (old new : State) : Type 0 where
 -- ---- the cells of each table's row
 
 abbrev pub item_cells : texts.Text → Key → List ℕ → Row
-item_cells uid key body = Text uid ∷ Text key.class ∷ Text (mark_of key.syntax) ∷ Blob key.modality ∷ Blob key.station ∷ Blob body ∷ []
+item_cells uid key body =
+    Text uid ∷ Text key.class ∷ Text (mark_of key.syntax) ∷ Blob key.modality ∷ Blob key.station
+    ∷ Blob body ∷ []
 
 -- `whole` is 1 where the data set is there, and else 0
 abbrev pub print_cells : texts.Text → ℕ → List ℕ → ℕ → Row
@@ -85,13 +91,17 @@ site_row node plan = Int (pos 1) ∷ Null ∷ Text node ∷ Blob plan ∷ []
 
 -- kind 0 is a first arrival, 1 a repeat
 abbrev pub arrived_line : ℕ → ℕ → texts.Text → texts.Text → Row
-arrived_line n kind caller uid = Int (pos n) ∷ Null ∷ Int (pos kind) ∷ Text caller ∷ Text uid ∷ Null ∷ Int (pos kind) ∷ Null ∷ []
+arrived_line n kind caller uid =
+    Int (pos n) ∷ Null ∷ Int (pos kind) ∷ Text caller ∷ Text uid ∷ Null ∷ Int (pos kind) ∷ Null ∷ []
 
 abbrev pub settled_line : ℕ → texts.Text → texts.Text → Outcome → ℕ → Row
-settled_line n uid dest what now = Int (pos n) ∷ Null ∷ Int (pos 2) ∷ Null ∷ Text uid ∷ Text dest ∷ outcome_value what ∷ Int (pos now) ∷ []
+settled_line n uid dest what now =
+    Int (pos n) ∷ Null ∷ Int (pos 2) ∷ Null ∷ Text uid ∷ Text dest ∷ outcome_value what
+    ∷ Int (pos now) ∷ []
 
 abbrev pub requeued_line : ℕ → texts.Text → texts.Text → Row
-requeued_line n uid dest = Int (pos n) ∷ Null ∷ Int (pos 3) ∷ Null ∷ Text uid ∷ Text dest ∷ Null ∷ Null ∷ []
+requeued_line n uid dest =
+    Int (pos n) ∷ Null ∷ Int (pos 3) ∷ Null ∷ Text uid ∷ Text dest ∷ Null ∷ Null ∷ []
 
 abbrev pub adopted_line : ℕ → Row
 adopted_line n = Int (pos n) ∷ Null ∷ Int (pos 4) ∷ Null ∷ Null ∷ Null ∷ Null ∷ Null ∷ []
@@ -120,7 +130,8 @@ pub record SetsRow (at : Pair) (to : Progress) (old new : State) : Type 0 where
 pub record SetsBody (uid body : List ℕ) (old new : State) : Type 0 where
   pub goes_on : GoesOn old new
   pub contents : contents_in (new.now.trees 1) ≡ map.insert (contents_in (old.now.trees 1)) uid body
-  pub items : (prints : FinMap text_cmp Print) → items_in prints (new.now.trees 1) ≡ items_in prints (old.now.trees 1)
+  pub items : (prints : FinMap text_cmp Print)
+      → items_in prints (new.now.trees 1) ≡ items_in prints (old.now.trees 1)
   pub others : LeavesOthers 1 old.now.trees new.now.trees
 
 -- an item's print says whether the data set is there; length and digest stay
@@ -141,7 +152,9 @@ HasSite db = (node : texts.Text) × (plan : List ℕ) × IsSiteOf node plan db
 -- the plan in force is this one, for the same node
 pub record SetsPlan (plan : List ℕ) (old new : State) : Type 0 where
   pub goes_on : GoesOn old new
-  pub site : (node : texts.Text) (was : List ℕ) → IsSiteOf node was old.now.trees → IsSiteOf node plan new.now.trees
+  pub site : (node : texts.Text) (was : List ℕ)
+      → IsSiteOf node was old.now.trees
+      → IsSiteOf node plan new.now.trees
   pub others : LeavesOthers 0 old.now.trees new.now.trees
 
 -- no arrival is left

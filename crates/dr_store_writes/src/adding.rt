@@ -1,7 +1,10 @@
 //! Rows that are added.
 ghost use Rattle.std.specs.Prelude.{◌≡◌, ◌≤◌, ◌^◌};
 ghost use Rattle.sqlite.specs.Held.{state};
-ghost use Rattle.dr_store_writes.specs.Effects.{AddsCells, AddsRow, Step, adopted_line, arrival_cells, arrived_line, item_cells, kept_cells, new_cells, print_cells, requeued_line, settled_line, site_row, target_cells};
+ghost use Rattle.dr_store_writes.specs.Effects.{AddsCells, AddsRow, Step, adopted_line};
+ghost use Rattle.dr_store_writes.specs.Effects.{arrival_cells, arrived_line, item_cells};
+ghost use Rattle.dr_store_writes.specs.Effects.{kept_cells, new_cells, print_cells, requeued_line};
+ghost use Rattle.dr_store_writes.specs.Effects.{settled_line, site_row, target_cells};
 
 use crate::cells::{number_cell, outcome_cell, syntax_cell};
 use crate::running::run;
@@ -19,7 +22,9 @@ pub fn add_item<'x, S: Alter>(
     body: &'x [u8],
 ) -> Result<usize, Error>
     ensures same_reference { tx.new.conn.ghost_name ≡ tx.old.conn.ghost_name }
-    ensures step { Step result (state S.Store tx.old.conn.now) (state S.Store tx.new.conn.now) (AddsCells 1 (item_cells uid.now key.now body.now) (state S.Store tx.old.conn.now) (state S.Store tx.new.conn.now)) }
+    ensures step { Step result (state S.Store tx.old.conn.now) (state S.Store tx.new.conn.now)
+        (AddsCells 1 (item_cells uid.now key.now body.now) (state S.Store tx.old.conn.now)
+        (state S.Store tx.new.conn.now)) }
 {
     run(
         tx,
@@ -35,7 +40,8 @@ pub fn add_item<'x, S: Alter>(
     )
 }
 
-/// The length (bytes) and the SHA-256 of an instance's data set; `whole` is 1 where it is there, and else 0.
+/// The length (bytes) and the SHA-256 of an instance's data set; `whole` is 1 where it is there,
+/// and else 0.
 pub fn add_print<'x, S: Alter>(
     tx: &mut Transaction<'_, S>,
     uid: &'x Text,
@@ -46,7 +52,9 @@ pub fn add_print<'x, S: Alter>(
     requires size { size ≤ 2 ^ 62 }
     requires whole { whole ≤ 2 ^ 62 }
     ensures same_reference { tx.new.conn.ghost_name ≡ tx.old.conn.ghost_name }
-    ensures step { Step result (state S.Store tx.old.conn.now) (state S.Store tx.new.conn.now) (AddsCells 3 (print_cells uid.now size digest.now whole) (state S.Store tx.old.conn.now) (state S.Store tx.new.conn.now)) }
+    ensures step { Step result (state S.Store tx.old.conn.now) (state S.Store tx.new.conn.now)
+        (AddsCells 3 (print_cells uid.now size digest.now whole) (state S.Store tx.old.conn.now)
+        (state S.Store tx.new.conn.now)) }
 {
     run(
         tx,
@@ -67,7 +75,9 @@ pub fn add_arrival<'x, S: Alter>(
     uid: &'x Text,
 ) -> Result<usize, Error>
     ensures same_reference { tx.new.conn.ghost_name ≡ tx.old.conn.ghost_name }
-    ensures step { Step result (state S.Store tx.old.conn.now) (state S.Store tx.new.conn.now) (AddsCells 5 (arrival_cells (caller.now, uid.now)) (state S.Store tx.old.conn.now) (state S.Store tx.new.conn.now)) }
+    ensures step { Step result (state S.Store tx.old.conn.now) (state S.Store tx.new.conn.now)
+        (AddsCells 5 (arrival_cells (caller.now, uid.now)) (state S.Store tx.old.conn.now)
+        (state S.Store tx.new.conn.now)) }
 {
     run(
         tx,
@@ -82,7 +92,9 @@ pub fn add_arrival<'x, S: Alter>(
 /// An instance is kept.
 pub fn add_kept<'x, S: Alter>(tx: &mut Transaction<'_, S>, uid: &'x Text) -> Result<usize, Error>
     ensures same_reference { tx.new.conn.ghost_name ≡ tx.old.conn.ghost_name }
-    ensures step { Step result (state S.Store tx.old.conn.now) (state S.Store tx.new.conn.now) (AddsCells 7 (kept_cells uid.now) (state S.Store tx.old.conn.now) (state S.Store tx.new.conn.now)) }
+    ensures step { Step result (state S.Store tx.old.conn.now) (state S.Store tx.new.conn.now)
+        (AddsCells 7 (kept_cells uid.now) (state S.Store tx.old.conn.now)
+        (state S.Store tx.new.conn.now)) }
 {
     run(
         tx,
@@ -98,7 +110,9 @@ pub fn add_row<'x, S: Alter>(
     dest: &'x Text,
 ) -> Result<usize, Error>
     ensures same_reference { tx.new.conn.ghost_name ≡ tx.old.conn.ghost_name }
-    ensures step { Step result (state S.Store tx.old.conn.now) (state S.Store tx.new.conn.now) (AddsCells 9 (new_cells (uid.now, dest.now)) (state S.Store tx.old.conn.now) (state S.Store tx.new.conn.now)) }
+    ensures step { Step result (state S.Store tx.old.conn.now) (state S.Store tx.new.conn.now)
+        (AddsCells 9 (new_cells (uid.now, dest.now)) (state S.Store tx.old.conn.now)
+        (state S.Store tx.new.conn.now)) }
 {
     run(
         tx,
@@ -118,7 +132,9 @@ pub fn add_target<'x, S: Alter>(
 ) -> Result<usize, Error>
     requires { n ≤ 2 ^ 62 }
     ensures same_reference { tx.new.conn.ghost_name ≡ tx.old.conn.ghost_name }
-    ensures step { Step result (state S.Store tx.old.conn.now) (state S.Store tx.new.conn.now) (AddsCells 12 (target_cells n dest.now) (state S.Store tx.old.conn.now) (state S.Store tx.new.conn.now)) }
+    ensures step { Step result (state S.Store tx.old.conn.now) (state S.Store tx.new.conn.now)
+        (AddsCells 12 (target_cells n dest.now) (state S.Store tx.old.conn.now)
+        (state S.Store tx.new.conn.now)) }
 {
     run(
         tx,
@@ -138,7 +154,9 @@ pub fn add_arrived<'x, S: Alter>(
     requires n { n ≤ 2 ^ 62 }
     requires kind { kind ≤ 2 ^ 62 }
     ensures same_reference { tx.new.conn.ghost_name ≡ tx.old.conn.ghost_name }
-    ensures step { Step result (state S.Store tx.old.conn.now) (state S.Store tx.new.conn.now) (AddsRow 11 (arrived_line n kind caller.now uid.now) (state S.Store tx.old.conn.now) (state S.Store tx.new.conn.now)) }
+    ensures step { Step result (state S.Store tx.old.conn.now) (state S.Store tx.new.conn.now)
+        (AddsRow 11 (arrived_line n kind caller.now uid.now) (state S.Store tx.old.conn.now)
+        (state S.Store tx.new.conn.now)) }
 {
     run(
         tx,
@@ -164,7 +182,9 @@ pub fn add_settled<'x, S: Alter>(
     requires n { n ≤ 2 ^ 62 }
     requires now { now ≤ 2 ^ 62 }
     ensures same_reference { tx.new.conn.ghost_name ≡ tx.old.conn.ghost_name }
-    ensures step { Step result (state S.Store tx.old.conn.now) (state S.Store tx.new.conn.now) (AddsRow 11 (settled_line n uid.now dest.now outcome now) (state S.Store tx.old.conn.now) (state S.Store tx.new.conn.now)) }
+    ensures step { Step result (state S.Store tx.old.conn.now) (state S.Store tx.new.conn.now)
+        (AddsRow 11 (settled_line n uid.now dest.now outcome now) (state S.Store tx.old.conn.now)
+        (state S.Store tx.new.conn.now)) }
 {
     run(
         tx,
@@ -188,7 +208,9 @@ pub fn add_requeued<'x, S: Alter>(
 ) -> Result<usize, Error>
     requires { n ≤ 2 ^ 62 }
     ensures same_reference { tx.new.conn.ghost_name ≡ tx.old.conn.ghost_name }
-    ensures step { Step result (state S.Store tx.old.conn.now) (state S.Store tx.new.conn.now) (AddsRow 11 (requeued_line n uid.now dest.now) (state S.Store tx.old.conn.now) (state S.Store tx.new.conn.now)) }
+    ensures step { Step result (state S.Store tx.old.conn.now) (state S.Store tx.new.conn.now)
+        (AddsRow 11 (requeued_line n uid.now dest.now) (state S.Store tx.old.conn.now)
+        (state S.Store tx.new.conn.now)) }
 {
     run(
         tx,
@@ -205,7 +227,9 @@ pub fn add_requeued<'x, S: Alter>(
 pub fn add_adopted<S: Alter>(tx: &mut Transaction<'_, S>, n: u64) -> Result<usize, Error>
     requires { n ≤ 2 ^ 62 }
     ensures same_reference { tx.new.conn.ghost_name ≡ tx.old.conn.ghost_name }
-    ensures step { Step result (state S.Store tx.old.conn.now) (state S.Store tx.new.conn.now) (AddsRow 11 (adopted_line n) (state S.Store tx.old.conn.now) (state S.Store tx.new.conn.now)) }
+    ensures step { Step result (state S.Store tx.old.conn.now) (state S.Store tx.new.conn.now)
+        (AddsRow 11 (adopted_line n) (state S.Store tx.old.conn.now)
+        (state S.Store tx.new.conn.now)) }
 {
     run(
         tx,
@@ -221,7 +245,9 @@ pub fn add_site<'x, S: Alter>(
     plan: &'x [u8],
 ) -> Result<usize, Error>
     ensures same_reference { tx.new.conn.ghost_name ≡ tx.old.conn.ghost_name }
-    ensures step { Step result (state S.Store tx.old.conn.now) (state S.Store tx.new.conn.now) (AddsRow 0 (site_row node.now plan.now) (state S.Store tx.old.conn.now) (state S.Store tx.new.conn.now)) }
+    ensures step { Step result (state S.Store tx.old.conn.now) (state S.Store tx.new.conn.now)
+        (AddsRow 0 (site_row node.now plan.now) (state S.Store tx.old.conn.now)
+        (state S.Store tx.new.conn.now)) }
 {
     run(
         tx,

@@ -2,7 +2,8 @@
 ghost use Rattle.std.specs.Prelude.{◌≡◌, ◌≤◌, ◌+◌, ◌^◌, pos};
 ghost use Rattle.sqlite_value.specs.Value.{owned};
 ghost use Rattle.sqlite.specs.declared.types.Value.TheVariants.{Int, Text as TextCell};
-ghost use Rattle.dr_store_schema.specs.Cells.{due_of, mark_of, outcome_value, state_of, tries_of, why_of};
+ghost use Rattle.dr_store_schema.specs.Cells.{due_of, mark_of, outcome_value, state_of, tries_of};
+ghost use Rattle.dr_store_schema.specs.Cells.{why_of};
 
 use dr_base::Syntax;
 use dr_ledger::{Cause, Outcome, Progress};

@@ -1,6 +1,7 @@
 //! The statements by which a ledger in tables is written, each with what it makes of them.
 //!
-//! What is known of a statement stands under its end: that the disk has returned what was written so far.
+//! What is known of a statement stands under its end: that the disk has returned what was written
+//! so far.
 #![tactic(auto)]
 
 pub mod adding;

@@ -19,18 +19,25 @@ use Rattle.dr_word_adopt.specs.declared.change.Changeover.TheVariants.{Made, Unf
 abbrev pub adopted_line : Text
 adopted_line = codes "adopted" ++ (10 ∷ [])
 
--- what is printed where a row isn't one that the next plan goes on with: the node, the instance and the destination
+-- what is printed where a row isn't one that the next plan goes on with: the node, the instance and
+-- the destination
 abbrev pub unfit_line : Text → Text → Text → Text
 unfit_line node uid dest = line_of (codes "no") (codes "U1 Unfit" ∷ node ∷ uid ∷ dest ∷ [])
 
--- what the word comes to is printed after what the output held, and the program ends with its status
+-- what the word comes to is printed after what the output held, and the program ends with its
+-- status
 abbrev pub EndsChange : Result Changeover Halt → Option Text → Option Text → Status → Type 0
 EndsChange (Ok Made) old new status = Appends old new adopted_line × (status ≡ ends.Success)
-EndsChange (Ok (Unfit node uid dest)) old new status = Appends old new (unfit_line node uid dest) × (status ≡ ends.Refused)
+EndsChange (Ok (Unfit node uid dest)) old new status =
+    Appends old new (unfit_line node uid dest) × (status ≡ ends.Refused)
 EndsChange (Err halt) old new status = Appends old new (printed_by halt) × (status ≡ status_by halt)
 
--- The word `adopt`: what comes of the change from the plan in the first file to that in the third, of the ledgers in the folder, what is printed of
--- it, and the exit status.
-abbrev pub Adopts : {L : Type 0} (holds : Text → Text → Type 0) (opens : Text → L → Type 0) (site_of : L → Part) (book : L → Book) (stands : L → Type 0) → PlanChange
-    → Option Text → Option Text → Status → Type 0
-Adopts holds opens site_of book stands files old new status = (came : Result Changeover Halt) × Changes holds opens site_of book stands files came × EndsChange came old new status
+-- The word `adopt`: what comes of the change from the plan in the first file to that in the third,
+-- of the ledgers in the folder, what is printed of it, and the exit status.
+abbrev pub Adopts : {L : Type 0} (holds : Text → Text → Type 0) (opens : Text → L → Type 0)
+    (site_of : L → Part) (book : L → Book) (stands : L → Type 0)
+    → PlanChange → Option Text → Option Text → Status → Type 0
+Adopts holds opens site_of book stands files old new status =
+    (came : Result Changeover Halt)
+    × Changes holds opens site_of book stands files came
+    × EndsChange came old new status

@@ -1,6 +1,7 @@
 //! The word `adopt`.
 ghost use Rattle.std.specs.Prelude.{◌≡◌, IfOk, MatchResult, Ok, Err};
-ghost use Rattle.dr_word_adopt.specs.Changes.{AreSealed, AreUnsealed, Changes, ChangesBetween, StopsAt, came_of};
+ghost use Rattle.dr_word_adopt.specs.Changes.{AreSealed, AreUnsealed, Changes, ChangesBetween};
+ghost use Rattle.dr_word_adopt.specs.Changes.{StopsAt, came_of};
 ghost use Rattle.dr_word_adopt.specs.Endings.{Adopts, EndsChange, unfit_line};
 
 use crate::change::{Changeover, Halted};
@@ -29,7 +30,9 @@ fn seal_both<'a, F: Files>(
     files: &F,
     given: PlanChange<'a>,
 ) -> Result<(Sealed, Sealed), Halt<'a>>
-    ensures { MatchResult result (λ both. AreSealed (F.holds files.now) given.entry both.0 both.1) (AreUnsealed (F.holds files.now) given.entry) }
+    ensures { MatchResult result
+        (λ both. AreSealed (F.holds files.now) given.entry both.0 both.1)
+        (AreUnsealed (F.holds files.now) given.entry) }
 {
     let old = match seal_files(alloc, files, given.plan, given.certificate) {
         Ok(sealed) => sealed,
@@ -44,7 +47,8 @@ fn seal_both<'a, F: Files>(
     }
 }
 
-/// Changes the ledgers in the folder, of all nodes of the one sealed plan, to the next, where that goes on with all that they have still to send.
+/// Changes the ledgers in the folder, of all nodes of the one sealed plan, to the next, where that
+/// goes on with all that they have still to send.
 ///
 /// Errors: NoNode; those of `look_at_all` and `change_all`; Memory.
 fn change_between<'a, O: Ledgers>(
@@ -54,7 +58,11 @@ fn change_between<'a, O: Ledgers>(
     old: &Sealed,
     next: &Sealed,
 ) -> Result<Changeover, Halted<'a>>
-    ensures { MatchResult result (λ change. ChangesBetween (O.opens ledgers.now) O.Ledger.site O.Ledger.book O.Ledger.stands folder.now old.now next.now (Ok change)) (λ stop. StopsAt (O.opens ledgers.now) O.Ledger.site O.Ledger.book O.Ledger.stands folder.now old.now next.now stop.halt) }
+    ensures { MatchResult result
+        (λ change. ChangesBetween (O.opens ledgers.now) O.Ledger.site O.Ledger.book O.Ledger.stands
+        folder.now old.now next.now (Ok change))
+        (λ stop. StopsAt (O.opens ledgers.now) O.Ledger.site O.Ledger.book O.Ledger.stands
+        folder.now old.now next.now stop.halt) }
 {
     let names = names_of(alloc, old.plan())?;
     if let Some(name) = missing_in(next.plan(), names.as_slice()) {
@@ -79,7 +87,8 @@ fn change_files<'a, F: Files, O: Ledgers>(
     ledgers: &O,
     given: PlanChange<'a>,
 ) -> Result<Changeover, Halted<'a>>
-    ensures { Changes (F.holds files.now) (O.opens ledgers.now) O.Ledger.site O.Ledger.book O.Ledger.stands given.entry (came_of result) }
+    ensures { Changes (F.holds files.now) (O.opens ledgers.now) O.Ledger.site O.Ledger.book
+        O.Ledger.stands given.entry (came_of result) }
 {
     match seal_both(alloc, files, given) {
         Ok((old, next)) => {
@@ -116,7 +125,8 @@ fn tell_change<'a, W: Write>(
     change: &Changeover,
     output: &mut W,
 ) -> Result<Status, Failure<'a>>
-    ensures { IfOk result (EndsChange (Ok change.now) (W.contents output.old) (W.contents output.new)) }
+    ensures { IfOk result
+        (EndsChange (Ok change.now) (W.contents output.old) (W.contents output.new)) }
 {
     match change {
         Changeover::Made => {
@@ -140,7 +150,8 @@ fn tell_stop<'a, W: Write, E: Write>(
     output: &mut W,
     faults: &mut E,
 ) -> Result<Status, Failure<'a>>
-    ensures { IfOk result (EndsChange (Err stop.entry.halt) (W.contents output.old) (W.contents output.new)) }
+    ensures { IfOk result
+        (EndsChange (Err stop.entry.halt) (W.contents output.old) (W.contents output.new)) }
 {
     let Halted { halt, node } = stop;
     let halt = match halt {
@@ -156,8 +167,8 @@ fn tell_stop<'a, W: Write, E: Write>(
     Ok(halt.status())
 }
 
-/// Brings the ledgers in a folder, of all nodes of the plan in the first file, over to the plan in the third, and prints `adopted`; or which row is in
-/// the way, and then nothing has changed.
+/// Brings the ledgers in a folder, of all nodes of the plan in the first file, over to the plan in
+/// the third, and prints `adopted`; or which row is in the way, and then nothing has changed.
 ///
 /// Errors: Stream, File.
 pub fn adopt_files<'a, F: Files, O: Ledgers, W: Write, E: Write>(
@@ -168,7 +179,9 @@ pub fn adopt_files<'a, F: Files, O: Ledgers, W: Write, E: Write>(
     output: &mut W,
     faults: &mut E,
 ) -> Result<Status, Failure<'a>>
-    ensures { IfOk result (Adopts (F.holds files.now) (O.opens ledgers.now) O.Ledger.site O.Ledger.book O.Ledger.stands given.entry (W.contents output.old) (W.contents output.new)) }
+    ensures { IfOk result
+        (Adopts (F.holds files.now) (O.opens ledgers.now) O.Ledger.site O.Ledger.book
+        O.Ledger.stands given.entry (W.contents output.old) (W.contents output.new)) }
 {
     match change_files(alloc, files, ledgers, given) {
         Ok(change) => tell_change(alloc, &change, output),

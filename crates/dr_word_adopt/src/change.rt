@@ -10,12 +10,13 @@ use std::alloc::AllocError;
 pub enum Changeover {
     /// All ledgers are of the next plan.
     Made,
-    /// No ledger has changed: at the first node, its first row with which the next plan doesn't go on is that of the instance of
-    /// the second text to the node of the third.
+    /// No ledger has changed: at the first node, its first row with which the next plan doesn't go
+    /// on is that of the instance of the second text to the node of the third.
     Unfit(Text, Text, Text),
 }
 
-/// Why a change comes to nothing, or only to its beginning, and at which node that is, where it is at one.
+/// Why a change comes to nothing, or only to its beginning, and at which node that is, where it is
+/// at one.
 #[derive(Drop)]
 pub struct Halted<'a> {
     pub halt: Halt<'a>,
@@ -47,7 +48,8 @@ impl<'a> From<AllocError> for Halted<'a> {
 }
 
 impl<'a> Halted<'a> {
-    /// The halt, at the node of that name; where there is no memory for the name the halt is told without it.
+    /// The halt, at the node of that name; where there is no memory for the name the halt is told
+    /// without it.
     pub fn at(name: &Text, halt: Halt<'a>) -> Halted<'a>
         ensures { result.halt ≡ halt.entry }
     {

@@ -1,6 +1,7 @@
 //! The ledgers of all nodes, changed one after the other.
 ghost use Rattle.std.specs.Prelude.{◌≡◌, All, MatchResult};
-ghost use Rattle.dr_word_adopt.specs.Changings.{IsChanged, IsUnchanged, MayChange, OnlyFirstAreChanged};
+ghost use Rattle.dr_word_adopt.specs.Changings.{IsChanged, IsUnchanged, MayChange};
+ghost use Rattle.dr_word_adopt.specs.Changings.{OnlyFirstAreChanged};
 ghost use Rattle.dr_word_adopt.specs.declared.standing.Standing.TheVariants.{Ready};
 
 use crate::change::Halted;
@@ -17,7 +18,9 @@ use std::alloc::AllocError;
 /// Errors: Refused with Store or Memory, at the node; Memory.
 fn adopt<'a, L: Ledger + Drop>(ledger: L, own: Site, next: &Sealed) -> Result<(), Halted<'a>>
     requires { MayChange L.site L.book L.stands next.now (Ready ledger own) }
-    ensures { MatchResult result (λ _. IsChanged L.site L.book L.stands next.now (Ready ledger own)) (λ stop. IsUnchanged stop.halt) }
+    ensures { MatchResult result
+        (λ _. IsChanged L.site L.book L.stands next.now (Ready ledger own))
+        (λ stop. IsUnchanged stop.halt) }
 {
     let mut ledger = ledger;
     let node: Result<Text, AllocError> = own.name().clone();
@@ -35,7 +38,9 @@ fn adopt<'a, L: Ledger + Drop>(ledger: L, own: Site, next: &Sealed) -> Result<()
 /// Errors: those of `adopt`.
 fn change<'a, L: Ledger + Drop>(standing: Standing<L>, next: &Sealed) -> Result<(), Halted<'a>>
     requires { MayChange L.site L.book L.stands next.now standing }
-    ensures { MatchResult result (λ _. IsChanged L.site L.book L.stands next.now standing) (λ stop. IsUnchanged stop.halt) }
+    ensures { MatchResult result
+        (λ _. IsChanged L.site L.book L.stands next.now standing)
+        (λ stop. IsUnchanged stop.halt) }
 {
     match standing {
         Standing::Over(_) => Ok(()),
@@ -51,7 +56,9 @@ pub fn change_all<'a, L: Ledger + Drop>(
     next: &Sealed,
 ) -> Result<(), Halted<'a>>
     requires { All (MayChange L.site L.book L.stands next.now) all.items }
-    ensures { MatchResult result (λ _. All (IsChanged L.site L.book L.stands next.now) all.items) (λ stop. OnlyFirstAreChanged L.site L.book L.stands next.now all.items stop.halt) }
+    ensures { MatchResult result
+        (λ _. All (IsChanged L.site L.book L.stands next.now) all.items)
+        (λ stop. OnlyFirstAreChanged L.site L.book L.stands next.now all.items stop.halt) }
 {
     for standing in all {
         match change(standing, next) {

@@ -1,9 +1,11 @@
-//! The word `adopt`: the ledgers of all nodes of a plan are brought over to another plan, while no node runs.
+//! The word `adopt`: the ledgers of all nodes of a plan are brought over to another plan, while no
+//! node runs.
 //!
-//! - `adopt_files`: both plans are read and sealed; each node's ledger is opened and looked into; and only where the next plan goes on with all
-//!   that they have still to send, each is changed.
+//! - `adopt_files`: both plans are read and sealed; each node's ledger is opened and looked into;
+//!   and only where the next plan goes on with all that they have still to send, each is changed.
 //!
-//! All ledgers stay open from the first look to the last change, so that no node can begin to run in between.
+//! All ledgers stay open from the first look to the last change, so that no node can begin to run
+//! in between.
 #![tactic(auto)]
 
 mod adopting;

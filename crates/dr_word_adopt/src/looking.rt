@@ -3,7 +3,8 @@ ghost use Rattle.std.specs.Prelude.{◌≡◌, ◌++◌, ◌∷◌, [], IfOk, Ma
 ghost use Rattle.std.specs.String.{string_bytes};
 ghost use Rattle.dr_run_open.specs.Openings.{IsUnopened, Sites};
 ghost use Rattle.dr_word_adopt.specs.Changes.{AreNames, IsSiteAt, StopsAt, path_in};
-ghost use Rattle.dr_word_adopt.specs.Lookings.{AllLookAs, IsFound, IsLookBy, IsLookInto, IsUnseen, LooksAs};
+ghost use Rattle.dr_word_adopt.specs.Lookings.{AllLookAs, IsFound, IsLookBy, IsLookInto, IsUnseen};
+ghost use Rattle.dr_word_adopt.specs.Lookings.{LooksAs};
 
 use crate::change::Halted;
 use crate::standing::{FoundLedger, Looked, LookedAt, Standing};
@@ -30,7 +31,8 @@ fn path_bytes(alloc: Global, folder: &str, name: &Text) -> Result<Vec<u8>, Alloc
 ///
 /// Errors: NotOpened with Store, Memory.
 fn path_of<'a>(alloc: Global, folder: &str, name: &Text) -> Result<String, Halt<'a>>
-    ensures { MatchResult result (λ path. string_bytes path ≡ path_in folder.now name.now) IsUnopened }
+    ensures { MatchResult result
+        (λ path. string_bytes path ≡ path_in folder.now name.now) IsUnopened }
 {
     let path = path_bytes(alloc, folder, name)?;
     match String::from_utf8(path) {
@@ -60,7 +62,8 @@ fn find<'a, O: Ledgers>(
     site: &Site,
     own: &Site,
 ) -> Result<FoundLedger<O::Ledger>, Halt<'a>>
-    ensures { MatchResult result (IsFound (O.opens ledgers.now) O.Ledger.site path.now site.now own.now) IsUnopened }
+    ensures { MatchResult result
+        (IsFound (O.opens ledgers.now) O.Ledger.site path.now site.now own.now) IsUnopened }
 {
     match ledger_of(alloc, ledgers, path, site) {
         Ok(ledger) => return Ok(FoundLedger::InForce(ledger)),
@@ -71,7 +74,8 @@ fn find<'a, O: Ledgers>(
     Ok(FoundLedger::Next(ledger))
 }
 
-/// Looks whether the next plan goes on with all that a ledger of the plan in force has still to send. `own` is the node's part of the next plan.
+/// Looks whether the next plan goes on with all that a ledger of the plan in force has still to
+/// send. `own` is the node's part of the next plan.
 ///
 /// Errors: Store, Memory.
 fn look_into<L: Ledger + Drop>(
@@ -125,7 +129,9 @@ fn parts_of<'a>(
     next: &Sealed,
     name: &Text,
 ) -> Result<(Site, Site), Halt<'a>>
-    ensures { MatchResult result (λ parts. IsSiteAt old.now name.now parts.0 × IsSiteAt next.now name.now parts.1) (IsUnseen old.now next.now name.now) }
+    ensures { MatchResult result
+        (λ parts. IsSiteAt old.now name.now parts.0 × IsSiteAt next.now name.now parts.1)
+        (IsUnseen old.now next.now name.now) }
 {
     let site = match part_of(alloc, old, name) {
         Ok(site) => site,
@@ -151,7 +157,9 @@ fn find_in<'a, O: Ledgers>(
     site: &Site,
     own: &Site,
 ) -> Result<FoundLedger<O::Ledger>, Halt<'a>>
-    ensures { MatchResult result (IsFound (O.opens ledgers.now) O.Ledger.site (path_in folder.now name.now) site.now own.now) IsUnopened }
+    ensures { MatchResult result
+        (IsFound (O.opens ledgers.now) O.Ledger.site (path_in folder.now name.now) site.now own.now)
+        IsUnopened }
 {
     match path_of(alloc, folder, name) {
         Ok(path) => find(alloc, ledgers, path.as_str(), site, own),
@@ -170,7 +178,9 @@ fn look_at<'a, O: Ledgers>(
     next: &Sealed,
     name: &Text,
 ) -> Result<LookedAt<O::Ledger>, Halt<'a>>
-    ensures { MatchResult result (LooksAs (O.opens ledgers.now) O.Ledger.site O.Ledger.book O.Ledger.stands folder.now old.now next.now name.now) (IsUnseen old.now next.now name.now) }
+    ensures { MatchResult result
+        (LooksAs (O.opens ledgers.now) O.Ledger.site O.Ledger.book O.Ledger.stands folder.now
+        old.now next.now name.now) (IsUnseen old.now next.now name.now) }
 {
     let (site, own) = match parts_of(alloc, old, next, name) {
         Ok(parts) => parts,
@@ -202,7 +212,8 @@ fn add<L: Ledger + Drop>(
     Ok(())
 }
 
-/// Opens the ledgers of these nodes in the folder and looks into each, up to the first that may not be changed.
+/// Opens the ledgers of these nodes in the folder and looks into each, up to the first that may not
+/// be changed.
 ///
 /// Errors: those of `look_at`, at a node; Memory.
 pub fn look_at_all<'a, O: Ledgers>(
@@ -214,7 +225,10 @@ pub fn look_at_all<'a, O: Ledgers>(
     names: &[Text],
 ) -> Result<Looked<O::Ledger>, Halted<'a>>
     requires { AreNames old.now.plan names.now }
-    ensures { MatchResult result (AllLookAs (O.opens ledgers.now) O.Ledger.site O.Ledger.book O.Ledger.stands folder.now old.now next.now names.now) (λ stop. StopsAt (O.opens ledgers.now) O.Ledger.site O.Ledger.book O.Ledger.stands folder.now old.now next.now stop.halt) }
+    ensures { MatchResult result
+        (AllLookAs (O.opens ledgers.now) O.Ledger.site O.Ledger.book O.Ledger.stands folder.now
+        old.now next.now names.now) (λ stop. StopsAt (O.opens ledgers.now) O.Ledger.site
+        O.Ledger.book O.Ledger.stands folder.now old.now next.now stop.halt) }
 {
     let mut all = Vec::new(alloc);
     for name in names {

@@ -15,7 +15,8 @@ pub enum FoundLedger<L: Ledger + Drop> {
 /// A ledger that may be changed.
 #[derive(Drop)]
 pub enum Standing<L: Ledger + Drop> {
-    /// It is of the plan in force, and the next one goes on with all that it has still to send; with the node's part of the next plan.
+    /// It is of the plan in force, and the next one goes on with all that it has still to send;
+    /// with the node's part of the next plan.
     Ready(L, Site),
     /// It is of the next plan already.
     Over(L),
@@ -35,6 +36,7 @@ pub enum LookedAt<L: Ledger + Drop> {
 pub enum Looked<L: Ledger + Drop> {
     /// All may be changed.
     All(Vec<Standing<L>>),
-    /// At the node of the first name the next plan doesn't go on with the row of the instance of this UID to the other node.
+    /// At the node of the first name the next plan doesn't go on with the row of the instance of
+    /// this UID to the other node.
     Unfit(Text, Text, Text),
 }

@@ -4,7 +4,8 @@ ghost use Rattle.std.specs.Borrow.{Bor};
 ghost use Rattle.dr_base.specs.Texts.{Text};
 ghost use Rattle.dr_word_adopt.specs.Endings.{Adopts};
 ghost use Rattle.dr_word_check.specs.Runs.{Answers, Verifies};
-ghost use Rattle.dr_word_line.specs.Words.{IsPlainCheck, IsCheckOf, IsVerifyOf, IsQuestionOf, IsSimulateOf, IsEchoOf, IsDutyOf, IsAdoptOf};
+ghost use Rattle.dr_word_line.specs.Words.{IsPlainCheck, IsCheckOf, IsVerifyOf, IsQuestionOf};
+ghost use Rattle.dr_word_line.specs.Words.{IsSimulateOf, IsEchoOf, IsDutyOf, IsAdoptOf};
 ghost use Rattle.dr_run_open.specs.declared.status.Status.TheVariants.{Success, Refused, Usage};
 ghost use Rattle.dr_word_line.specs.declared.words.Task.TheVariants as asks;
 ghost use Rattle.dr_word_line.specs.declared.words.Duty.{Duty as DutyValue};
@@ -68,20 +69,50 @@ where
     N::Socket: Send,
     N::Listener: Sync,
     ensures known { asked.entry ≡ asks.CheckInput → IfOk result (λ status. status ≢ Usage) }
-    ensures answered { asked.entry ≡ asks.CheckInput → IfOk result (λ status. IfSome (R.remaining input.old) (λ text. Answers text (W.contents output.old) (W.contents output.new) status)) }
-    ensures checked { (plan : Bor (List ℕ)) → asked.entry ≡ asks.CheckFile plan
-        → IfOk result (λ status. (text : Text) × F.holds files.now plan.now text × Answers text (W.contents output.old) (W.contents output.new) status) }
-    ensures verified { (plan certificate : Bor (List ℕ)) → asked.entry ≡ asks.Verify plan certificate
-        → IfOk result (λ status. (text : Text) × F.holds files.now plan.now text × Verifies (F.holds files.now certificate.now) text (W.contents output.old) (W.contents output.new) status) }
-    ensures responded { (plan certificate : Bor (List ℕ)) (question : QuestionValue) → asked.entry ≡ asks.Question plan certificate question
-        → IfOk result (Asks (F.holds files.now) plan certificate question (W.contents output.old) (W.contents output.new)) }
-    ensures simulated { (plan certificate script : Bor (List ℕ)) → asked.entry ≡ asks.Simulate plan certificate script
-        → IfOk result (λ status. (text : Text) × F.holds files.now plan.now text × Simulates (F.holds files.now certificate.now) (F.holds files.now script.now) text (W.contents output.old) (W.contents output.new) status) }
-    ensures echoed { (plan caller called : Bor (List ℕ)) → asked.entry ≡ asks.Echo plan caller called
-        → IfOk result (λ status. (text : Text) × F.holds files.now plan.now text
-        × Echoes (N.reaches network.now) N.Socket.hears N.Socket.sends N.Socket.closes (C.tells clock.now) caller.now called.now text (W.contents output.old) (W.contents output.new) status) }
-    ensures worked { (given : NodeFilesValue) (duty : DutyValue) → asked.entry ≡ asks.AtNode given duty → IfOk result (Works (F.holds files.now) (O.opens ledgers.now) O.Ledger.site O.Ledger.book O.Ledger.stands (VisitsBy (N.reaches network.now) N.Socket.hears N.Socket.sends N.Socket.closes ⟦<OwnPort<O::Ledger> as DeskPort>⟧.step (C.tells clock.now)) given duty (W.contents output.old) (W.contents output.new)) }
-    ensures adopted { (change : PlanChangeValue) → asked.entry ≡ asks.Adopt change → IfOk result (Adopts (F.holds files.now) (O.opens ledgers.now) O.Ledger.site O.Ledger.book O.Ledger.stands change (W.contents output.old) (W.contents output.new)) }
+    ensures answered { asked.entry ≡ asks.CheckInput
+        → IfOk result (λ status. IfSome (R.remaining input.old) (λ text.
+        Answers text (W.contents output.old) (W.contents output.new) status)) }
+    ensures checked { (plan : Bor (List ℕ))
+        → asked.entry ≡ asks.CheckFile plan
+        → IfOk result (λ status. (text : Text)
+        × F.holds files.now plan.now text
+        × Answers text (W.contents output.old) (W.contents output.new) status) }
+    ensures verified { (plan certificate : Bor (List ℕ))
+        → asked.entry ≡ asks.Verify plan certificate
+        → IfOk result (λ status. (text : Text)
+        × F.holds files.now plan.now text
+        × Verifies (F.holds files.now certificate.now) text (W.contents output.old)
+        (W.contents output.new) status) }
+    ensures responded { (plan certificate : Bor (List ℕ)) (question : QuestionValue)
+        → asked.entry ≡ asks.Question plan certificate question
+        → IfOk result
+        (Asks (F.holds files.now) plan certificate question (W.contents output.old)
+        (W.contents output.new)) }
+    ensures simulated { (plan certificate script : Bor (List ℕ))
+        → asked.entry ≡ asks.Simulate plan certificate script
+        → IfOk result (λ status. (text : Text)
+        × F.holds files.now plan.now text
+        × Simulates (F.holds files.now certificate.now) (F.holds files.now script.now) text
+        (W.contents output.old) (W.contents output.new) status) }
+    ensures echoed { (plan caller called : Bor (List ℕ))
+        → asked.entry ≡ asks.Echo plan caller called
+        → IfOk result (λ status. (text : Text)
+        × F.holds files.now plan.now text
+        × Echoes (N.reaches network.now) N.Socket.hears N.Socket.sends N.Socket.closes
+        (C.tells clock.now) caller.now called.now text (W.contents output.old)
+        (W.contents output.new) status) }
+    ensures worked { (given : NodeFilesValue) (duty : DutyValue)
+        → asked.entry ≡ asks.AtNode given duty
+        → IfOk result
+        (Works (F.holds files.now) (O.opens ledgers.now) O.Ledger.site O.Ledger.book O.Ledger.stands
+        (VisitsBy (N.reaches network.now) N.Socket.hears N.Socket.sends N.Socket.closes
+        ⟦<OwnPort<O::Ledger> as DeskPort>⟧.step (C.tells clock.now)) given duty
+        (W.contents output.old) (W.contents output.new)) }
+    ensures adopted { (change : PlanChangeValue)
+        → asked.entry ≡ asks.Adopt change
+        → IfOk result
+        (Adopts (F.holds files.now) (O.opens ledgers.now) O.Ledger.site O.Ledger.book
+        O.Ledger.stands change (W.contents output.old) (W.contents output.new)) }
 {
     match asked {
         Task::Echo(plan, caller, called) => {
@@ -97,7 +128,8 @@ where
     }
 }
 
-/// Runs the program on the words of its command line, without the program's own name, and answers how it ends.
+/// Runs the program on the words of its command line, without the program's own name, and answers
+/// how it ends.
 pub fn run_words<
     T: Threads + Wait + Sync + time::Clock,
     R: Read,
@@ -126,23 +158,55 @@ where
     N::Socket: Send,
     N::Listener: Sync,
     ensures known { IsPlainCheck words.now → result ≢ Usage }
-    ensures answered { IsPlainCheck words.now → (result ≡ Success) ⊎ (result ≡ Refused)
-        → IfSome (R.remaining input.old) (λ text. Answers text (W.contents output.old) (W.contents output.new) result) }
-    ensures checked { (plan : Bor (List ℕ)) → IsCheckOf words.now plan → (result ≡ Success) ⊎ (result ≡ Refused)
-        → (text : Text) × F.holds files.now plan.now text × Answers text (W.contents output.old) (W.contents output.new) result }
-    ensures verified { (plan certificate : Bor (List ℕ)) → IsVerifyOf words.now plan certificate → (result ≡ Success) ⊎ (result ≡ Refused)
-        → (text : Text) × F.holds files.now plan.now text × Verifies (F.holds files.now certificate.now) text (W.contents output.old) (W.contents output.new) result }
-    ensures responded { (plan certificate : Bor (List ℕ)) (question : QuestionValue) → IsQuestionOf words.now plan certificate question → (result ≡ Success) ⊎ (result ≡ Refused)
-        → Asks (F.holds files.now) plan certificate question (W.contents output.old) (W.contents output.new) result }
-    ensures simulated { (plan certificate script : Bor (List ℕ)) → IsSimulateOf words.now plan certificate script → (result ≡ Success) ⊎ (result ≡ Refused)
-        → (text : Text) × F.holds files.now plan.now text × Simulates (F.holds files.now certificate.now) (F.holds files.now script.now) text (W.contents output.old) (W.contents output.new) result }
-    ensures echoed { (plan caller called : Bor (List ℕ)) → IsEchoOf words.now plan caller called → (result ≡ Success) ⊎ (result ≡ Refused)
-        → (text : Text) × F.holds files.now plan.now text
-        × Echoes (N.reaches network.now) N.Socket.hears N.Socket.sends N.Socket.closes (C.tells clock.now) caller.now called.now text (W.contents output.old) (W.contents output.new) result }
-    ensures worked { (given : NodeFilesValue) (duty : DutyValue) → IsDutyOf words.now given duty → (result ≡ Success) ⊎ (result ≡ Refused)
-        → Works (F.holds files.now) (O.opens ledgers.now) O.Ledger.site O.Ledger.book O.Ledger.stands (VisitsBy (N.reaches network.now) N.Socket.hears N.Socket.sends N.Socket.closes ⟦<OwnPort<O::Ledger> as DeskPort>⟧.step (C.tells clock.now)) given duty (W.contents output.old) (W.contents output.new) result }
-    ensures adopted { (change : PlanChangeValue) → IsAdoptOf words.now change → (result ≡ Success) ⊎ (result ≡ Refused)
-        → Adopts (F.holds files.now) (O.opens ledgers.now) O.Ledger.site O.Ledger.book O.Ledger.stands change (W.contents output.old) (W.contents output.new) result }
+    ensures answered { IsPlainCheck words.now
+        → (result ≡ Success) ⊎ (result ≡ Refused)
+        → IfSome (R.remaining input.old) (λ text.
+        Answers text (W.contents output.old) (W.contents output.new) result) }
+    ensures checked { (plan : Bor (List ℕ)) → IsCheckOf words.now plan
+        → (result ≡ Success) ⊎ (result ≡ Refused)
+        → (text : Text)
+        × F.holds files.now plan.now text
+        × Answers text (W.contents output.old) (W.contents output.new) result }
+    ensures verified { (plan certificate : Bor (List ℕ))
+        → IsVerifyOf words.now plan certificate
+        → (result ≡ Success) ⊎ (result ≡ Refused)
+        → (text : Text)
+        × F.holds files.now plan.now text
+        × Verifies (F.holds files.now certificate.now) text (W.contents output.old)
+        (W.contents output.new) result }
+    ensures responded { (plan certificate : Bor (List ℕ)) (question : QuestionValue)
+        → IsQuestionOf words.now plan certificate question
+        → (result ≡ Success) ⊎ (result ≡ Refused)
+        → Asks (F.holds files.now) plan certificate question (W.contents output.old)
+        (W.contents output.new) result }
+    ensures simulated { (plan certificate script : Bor (List ℕ))
+        → IsSimulateOf words.now plan certificate script
+        → (result ≡ Success) ⊎ (result ≡ Refused)
+        → (text : Text)
+        × F.holds files.now plan.now text
+        × Simulates (F.holds files.now certificate.now) (F.holds files.now script.now) text
+        (W.contents output.old) (W.contents output.new) result }
+    ensures echoed { (plan caller called : Bor (List ℕ))
+        → IsEchoOf words.now plan caller called
+        → (result ≡ Success) ⊎ (result ≡ Refused)
+        → (text : Text)
+        × F.holds files.now plan.now text
+        × Echoes (N.reaches network.now) N.Socket.hears N.Socket.sends N.Socket.closes
+        (C.tells clock.now) caller.now called.now text (W.contents output.old)
+        (W.contents output.new) result }
+    ensures worked { (given : NodeFilesValue) (duty : DutyValue)
+        → IsDutyOf words.now given duty
+        → (result ≡ Success) ⊎ (result ≡ Refused)
+        → Works (F.holds files.now) (O.opens ledgers.now) O.Ledger.site O.Ledger.book
+        O.Ledger.stands
+        (VisitsBy (N.reaches network.now) N.Socket.hears N.Socket.sends N.Socket.closes
+        ⟦<OwnPort<O::Ledger> as DeskPort>⟧.step (C.tells clock.now)) given duty
+        (W.contents output.old) (W.contents output.new) result }
+    ensures adopted { (change : PlanChangeValue)
+        → IsAdoptOf words.now change
+        → (result ≡ Success) ⊎ (result ≡ Refused)
+        → Adopts (F.holds files.now) (O.opens ledgers.now) O.Ledger.site O.Ledger.book
+        O.Ledger.stands change (W.contents output.old) (W.contents output.new) result }
 {
     let asked = match read_words(alloc, words) {
         Ok(asked) => asked,

@@ -11,9 +11,11 @@ use Rattle.dr_check.specs.declared.verdict.Verdict.TheVariants.{No}
 use Rattle.dr_certify.specs.Certified.{IsCertified}
 use Rattle.dr_word_check.specs.Faults.{no_line}
 use Rattle.dr_run_open.specs.declared.answer.PlanAnswer.{PlanAnswer}
-use Rattle.dr_run_open.specs.declared.answer.PlanAnswer.TheVariants.{Sound, Unsound, NoPlan, TooLarge, Memory}
+use Rattle.dr_run_open.specs.declared.answer.PlanAnswer.TheVariants.{Sound, Unsound, NoPlan}
+use Rattle.dr_run_open.specs.declared.answer.PlanAnswer.TheVariants.{TooLarge, Memory}
 
--- the text writes a plan of which this fault is named, the first of those that show themselves, and this is the fault's line
+-- the text writes a plan of which this fault is named, the first of those that show themselves, and
+-- this is the fault's line
 pub record IsRefuted (text output : Text) : Type 0 where
   pub plan : Network
   pub fault : Fault
@@ -21,7 +23,8 @@ pub record IsRefuted (text output : Text) : Type 0 where
   pub judged : Judges plan (No fault)
   pub printed : output ≡ no_line fault
 
--- the answer to a plan that has this fault: the fault's line, with words for people about it, or want of memory
+-- the answer to a plan that has this fault: the fault's line, with words for people about it, or
+-- want of memory
 abbrev pub IsLineOf : Fault → PlanAnswer → Type 0
 IsLineOf fault (Unsound printed why) = printed ≡ no_line fault
 IsLineOf fault Memory = Unit {0}

@@ -10,5 +10,8 @@ use Rattle.dr_word_check.specs.declared.verify.Verification.TheVariants.{Yes, Me
 
 -- to what `check` prints for a sound plan, `verify` answers yes, want of memory aside
 abbrev pub WhatCheckPrintsIsVerified : Type 0
-WhatCheckPrintsIsVerified = (text output : Text) → IsCertified text output → (plan : Network) → Reads text (Ok plan) →
-    (verdict : Verification) → IsVerdictOn plan output verdict → (verdict ≡ Yes) ⊎ (verdict ≡ Memory)
+WhatCheckPrintsIsVerified =
+    (text output : Text) → IsCertified text output → (plan : Network) → Reads text (Ok plan)
+    → (verdict : Verification)
+    → IsVerdictOn plan output verdict
+    → (verdict ≡ Yes) ⊎ (verdict ≡ Memory)

@@ -12,15 +12,18 @@ use Rattle.dr_run_open.specs.Answers.{Refuses, printed_for, status_for}
 use Rattle.dr_word_check.specs.Answers.{IsAnswerTo}
 use Rattle.dr_word_check.specs.Verdicts.{IsVerdictOn, verdict_line, verdict_status}
 
--- a run of `check`: an answer to the text is printed after what the output held, and the program ends with its status
+-- a run of `check`: an answer to the text is printed after what the output held, and the program
+-- ends with its status
 pub record Answers (text : Text) (old new : Option (List ℕ)) (status : Status) : Type 0 where
   pub answer : PlanAnswer
   pub right : IsAnswerTo text answer
   pub printed : Appends old new (printed_for answer)
   pub ends : status ≡ status_for answer
 
--- a run of `verify` on a text that has one: the verdict on the second text, of which `Holds` holds, is printed
-pub record Judges (Holds : Text → Type 0) (text : Text) (old new : Option (List ℕ)) (status : Status) : Type 0 where
+-- a run of `verify` on a text that has one: the verdict on the second text, of which `Holds` holds,
+-- is printed
+pub record Judges (Holds : Text → Type 0) (text : Text) (old new : Option (List ℕ))
+    (status : Status) : Type 0 where
   pub plan : Network
   pub reads : Reads text (Ok plan)
   pub second : Text

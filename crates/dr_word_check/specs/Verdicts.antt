@@ -11,11 +11,16 @@ use Rattle.dr_run_open.specs.Sealings.{IsFaultOf, IsTextOf}
 use Rattle.dr_word_check.specs.declared.verify.Verification.{Verification}
 use Rattle.dr_word_check.specs.declared.verify.Verification.TheVariants.{Yes, No, Memory}
 use Rattle.dr_run_open.specs.declared.status.Status.{Status}
-use Rattle.dr_run_open.specs.declared.status.Status.TheVariants.{Success, Refused, Memory as OutOfMemory}
+use Rattle.dr_run_open.specs.declared.status.Status.TheVariants.{Success, Refused}
+use Rattle.dr_run_open.specs.declared.status.Status.TheVariants.{Memory as OutOfMemory}
 
 -- what `verify` may answer on a plan and a text; want of memory may be the answer to any
 abbrev pub IsVerdictOn : Network → Text → Verification → Type 0
-IsVerdictOn plan text Yes = (certificate : Certificate) × IsTextOf text certificate × IsSound plan × IsCertificateOf plan certificate
+IsVerdictOn plan text Yes =
+    (certificate : Certificate)
+    × IsTextOf text certificate
+    × IsSound plan
+    × IsCertificateOf plan certificate
 IsVerdictOn plan text (No refused) = (refused ≢ fault.Memory) × IsFaultOf plan text refused
 IsVerdictOn plan text Memory = Unit {0}
 

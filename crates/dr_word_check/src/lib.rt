@@ -1,5 +1,5 @@
-//! The commands of the program `dr_router`: to check a plan, which prints its certificate or what is wrong with it, and to
-//! verify a certificate for a plan.
+//! The commands of the program `dr_router`: to check a plan, which prints its certificate or what
+//! is wrong with it, and to verify a certificate for a plan.
 #![tactic(auto)]
 
 mod answer;

@@ -7,7 +7,8 @@ ghost use Rattle.dr_word_check.specs.Verdicts.{verdict_line};
 ghost use Rattle.dr_word_check.specs.Runs.{Answers, Verifies};
 ghost use Rattle.dr_word_line.specs.Words.{IsPlainCheck, IsCheckOf, IsVerifyOf};
 ghost use Rattle.dr_word_line.specs.declared.words.Task.TheVariants as asks;
-ghost use Rattle.dr_run_open.specs.declared.status.Status.TheVariants.{Success, Refused, Usage, InputOutput, Memory};
+ghost use Rattle.dr_run_open.specs.declared.status.Status.TheVariants.{Success, Refused, Usage};
+ghost use Rattle.dr_run_open.specs.declared.status.Status.TheVariants.{InputOutput, Memory};
 
 use crate::answer::answer_to;
 use crate::verify::{Verification, verdict_on};
@@ -29,7 +30,8 @@ fn answer_text<W: Write, E: Write>(
     faults: &mut E,
 ) -> io::Result<Status>
     ensures known { IfOk result (λ status. status ≢ Usage) }
-    ensures answered { IfOk result (Answers text.now (W.contents output.old) (W.contents output.new)) }
+    ensures answered { IfOk result
+        (Answers text.now (W.contents output.old) (W.contents output.new)) }
 {
     let answer = answer_to(alloc, text);
     tell_answer(&answer, output, faults)?;
@@ -44,7 +46,8 @@ fn answer_input<R: Read, W: Write, E: Write>(
     faults: &mut E,
 ) -> io::Result<Status>
     ensures known { IfOk result (λ status. status ≢ Usage) }
-    ensures answered { IfOk result (λ status. IfSome (R.remaining input.old) (λ text. Answers text (W.contents output.old) (W.contents output.new) status)) }
+    ensures answered { IfOk result (λ status. IfSome (R.remaining input.old) (λ text.
+        Answers text (W.contents output.old) (W.contents output.new) status)) }
 {
     let text = read_input(alloc, input)?;
     answer_text(alloc, text.as_slice(), output, faults)
@@ -58,7 +61,9 @@ fn answer_file<'a, F: Files, W: Write, E: Write>(
     output: &mut W,
     faults: &mut E,
 ) -> Result<Status, Failure<'a>>
-    ensures { IfOk result (λ status. (text : Text) × F.holds files.now path.now text × Answers text (W.contents output.old) (W.contents output.new) status) }
+    ensures { IfOk result (λ status. (text : Text)
+        × F.holds files.now path.now text
+        × Answers text (W.contents output.old) (W.contents output.new) status) }
 {
     let text = read_file(alloc, files, path)?;
     let status = answer_text(alloc, text.as_slice(), output, faults)?;
@@ -71,7 +76,8 @@ fn tell_verdict<W: Write, E: Write>(
     output: &mut W,
     faults: &mut E,
 ) -> io::Result<()>
-    ensures { OnOk result (Appends (W.contents output.old) (W.contents output.new) (verdict_line verdict)) }
+    ensures { OnOk result
+        (Appends (W.contents output.old) (W.contents output.new) (verdict_line verdict)) }
 {
     match verdict {
         Verification::Memory => writeln!(faults, "dr_router: Memory"),
@@ -79,8 +85,8 @@ fn tell_verdict<W: Write, E: Write>(
     }
 }
 
-/// Verifies, for the plan of the text, the certificate whose text is in a file, which is read only where the first
-/// text has a plan.
+/// Verifies, for the plan of the text, the certificate whose text is in a file, which is read only
+/// where the first text has a plan.
 fn verify_text<'a, F: Files, W: Write, E: Write>(
     alloc: Global,
     text: &[u8],
@@ -89,7 +95,9 @@ fn verify_text<'a, F: Files, W: Write, E: Write>(
     output: &mut W,
     faults: &mut E,
 ) -> Result<Status, Failure<'a>>
-    ensures { IfOk result (Verifies (F.holds files.now path.now) text.now (W.contents output.old) (W.contents output.new)) }
+    ensures { IfOk result
+        (Verifies (F.holds files.now path.now) text.now (W.contents output.old)
+        (W.contents output.new)) }
 {
     let plan = match plan_of(alloc, text) {
         Ok(plan) => plan,
@@ -113,7 +121,10 @@ fn verify_files<'a, F: Files, W: Write, E: Write>(
     output: &mut W,
     faults: &mut E,
 ) -> Result<Status, Failure<'a>>
-    ensures { IfOk result (λ status. (text : Text) × F.holds files.now plan.now text × Verifies (F.holds files.now certificate.now) text (W.contents output.old) (W.contents output.new) status) }
+    ensures { IfOk result (λ status. (text : Text)
+        × F.holds files.now plan.now text
+        × Verifies (F.holds files.now certificate.now) text (W.contents output.old)
+        (W.contents output.new) status) }
 {
     let text = read_file(alloc, files, plan)?;
     verify_text(alloc, text.as_slice(), files, certificate, output, faults)
@@ -190,11 +201,20 @@ pub fn run_asked<'a, R: Read, W: Write, E: Write, F: Files>(
     files: &F,
 ) -> Result<Status, Failure<'a>>
     ensures known { asked.entry ≡ asks.CheckInput → IfOk result (λ status. status ≢ Usage) }
-    ensures answered { asked.entry ≡ asks.CheckInput → IfOk result (λ status. IfSome (R.remaining input.old) (λ text. Answers text (W.contents output.old) (W.contents output.new) status)) }
-    ensures checked { (plan : Bor (List ℕ)) → asked.entry ≡ asks.CheckFile plan
-        → IfOk result (λ status. (text : Text) × F.holds files.now plan.now text × Answers text (W.contents output.old) (W.contents output.new) status) }
-    ensures verified { (plan certificate : Bor (List ℕ)) → asked.entry ≡ asks.Verify plan certificate
-        → IfOk result (λ status. (text : Text) × F.holds files.now plan.now text × Verifies (F.holds files.now certificate.now) text (W.contents output.old) (W.contents output.new) status) }
+    ensures answered { asked.entry ≡ asks.CheckInput
+        → IfOk result (λ status. IfSome (R.remaining input.old) (λ text.
+        Answers text (W.contents output.old) (W.contents output.new) status)) }
+    ensures checked { (plan : Bor (List ℕ))
+        → asked.entry ≡ asks.CheckFile plan
+        → IfOk result (λ status. (text : Text)
+        × F.holds files.now plan.now text
+        × Answers text (W.contents output.old) (W.contents output.new) status) }
+    ensures verified { (plan certificate : Bor (List ℕ))
+        → asked.entry ≡ asks.Verify plan certificate
+        → IfOk result (λ status. (text : Text)
+        × F.holds files.now plan.now text
+        × Verifies (F.holds files.now certificate.now) text (W.contents output.old)
+        (W.contents output.new) status) }
 {
     match asked {
         Task::CheckInput => Ok(answer_input(alloc, input, output, faults)?),
@@ -211,7 +231,8 @@ pub fn run_asked<'a, R: Read, W: Write, E: Write, F: Files>(
     }
 }
 
-/// Runs the program for plans on the words of its command line, without the program's own name, and answers how it ends.
+/// Runs the program for plans on the words of its command line, without the program's own name, and
+/// answers how it ends.
 pub fn run_words<R: Read, W: Write, E: Write, F: Files>(
     alloc: Global,
     words: &[&str],
@@ -221,12 +242,22 @@ pub fn run_words<R: Read, W: Write, E: Write, F: Files>(
     files: &F,
 ) -> Status
     ensures known { IsPlainCheck words.now → result ≢ Usage }
-    ensures answered { IsPlainCheck words.now → (result ≡ Success) ⊎ (result ≡ Refused)
-        → IfSome (R.remaining input.old) (λ text. Answers text (W.contents output.old) (W.contents output.new) result) }
-    ensures checked { (plan : Bor (List ℕ)) → IsCheckOf words.now plan → (result ≡ Success) ⊎ (result ≡ Refused)
-        → (text : Text) × F.holds files.now plan.now text × Answers text (W.contents output.old) (W.contents output.new) result }
-    ensures verified { (plan certificate : Bor (List ℕ)) → IsVerifyOf words.now plan certificate → (result ≡ Success) ⊎ (result ≡ Refused)
-        → (text : Text) × F.holds files.now plan.now text × Verifies (F.holds files.now certificate.now) text (W.contents output.old) (W.contents output.new) result }
+    ensures answered { IsPlainCheck words.now
+        → (result ≡ Success) ⊎ (result ≡ Refused)
+        → IfSome (R.remaining input.old) (λ text.
+        Answers text (W.contents output.old) (W.contents output.new) result) }
+    ensures checked { (plan : Bor (List ℕ)) → IsCheckOf words.now plan
+        → (result ≡ Success) ⊎ (result ≡ Refused)
+        → (text : Text)
+        × F.holds files.now plan.now text
+        × Answers text (W.contents output.old) (W.contents output.new) result }
+    ensures verified { (plan certificate : Bor (List ℕ))
+        → IsVerifyOf words.now plan certificate
+        → (result ≡ Success) ⊎ (result ≡ Refused)
+        → (text : Text)
+        × F.holds files.now plan.now text
+        × Verifies (F.holds files.now certificate.now) text (W.contents output.old)
+        (W.contents output.new) result }
 {
     let asked = match read_words(alloc, words) {
         Ok(asked) => asked,

@@ -11,10 +11,12 @@ use Rattle.dr_session.specs.declared.ends.Ended.TheVariants.{Rejected, Aborted, 
 abbrev pub status_digits : ℕ → Text
 status_digits status = encode_upper (status / 256 ∷ status % 256 ∷ [])
 
--- How an association ended on which no response came: rejected, with the result, source and reason of PS3.8 9.3.4; aborted; released,
--- since its context wasn't accepted; or closed.
+-- How an association ended on which no response came: rejected, with the result, source and reason
+-- of PS3.8 9.3.4; aborted; released, since its context wasn't accepted; or closed.
 abbrev pub ended_fields : Ended → Text
-ended_fields (Rejected rj) = codes "rejected" ++ (9 ∷ decimal rj.result) ++ (9 ∷ decimal rj.source) ++ (9 ∷ decimal rj.reason)
+ended_fields (Rejected rj) =
+    codes "rejected" ++ (9 ∷ decimal rj.result) ++ (9 ∷ decimal rj.source)
+    ++ (9 ∷ decimal rj.reason)
 ended_fields Aborted = codes "aborted"
 ended_fields Released = codes "no-context"
 ended_fields Closed = codes "closed"

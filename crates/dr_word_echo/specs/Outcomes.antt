@@ -1,19 +1,22 @@
 -- What comes of an echo from one node of a plan to another.
-use Rattle.std.specs.Prelude.{◌≡◌, ◌⊎◌, ◌==◌, ℕ, Bool, List, [], None, Some, Result, Ok, Err, if◌then◌else◌}
+use Rattle.std.specs.Prelude.{◌≡◌, ◌⊎◌, ◌==◌, ℕ, Bool, List, [], None, Some, Result, Ok, Err}
+use Rattle.std.specs.Prelude.{if◌then◌else◌}
 use Rattle.std.specs.declared.option.Option.{Option}
 use Rattle.dr_base.specs.Texts.{Text}
 use Rattle.dr_plan_model.specs.Networks.{Network}
 use Rattle.dr_plan_model.specs.Plans.{IsTheNode, NamesNoNode}
 use Rattle.dr_plan_model.specs.declared.plan.Node.{Node}
 use Rattle.dr_run_open.specs.declared.status.Status.{Status}
-use Rattle.dr_run_open.specs.declared.status.Status.TheVariants.{Success, Refused, InputOutput, Memory as OutOfMemory}
+use Rattle.dr_run_open.specs.declared.status.Status.TheVariants.{Success, Refused, InputOutput}
+use Rattle.dr_run_open.specs.declared.status.Status.TheVariants.{Memory as OutOfMemory}
 use Rattle.dr_session.specs.Links.{EchoesAs}
 use Rattle.dr_session.specs.declared.ends.Heard.{Heard}
 use Rattle.dr_session.specs.declared.echo_desk.Echoed.{Echoed}
 use Rattle.dr_session.specs.declared.sessions.SessionFault.{SessionFault}
 use Rattle.dr_word_echo.specs.Lines.{echo_line}
 use Rattle.dr_word_echo.specs.declared.outcome.EchoOutcome.{EchoOutcome}
-use Rattle.dr_word_echo.specs.declared.outcome.EchoOutcome.TheVariants.{Answered, NoNode, Unreached, Failed, Memory}
+use Rattle.dr_word_echo.specs.declared.outcome.EchoOutcome.TheVariants.{Answered, NoNode, Unreached}
+use Rattle.dr_word_echo.specs.declared.outcome.EchoOutcome.TheVariants.{Failed, Memory}
 
 -- the outcome tells of a session of which `Came` says what it came to; want of memory may end any
 abbrev pub TellsOf : (Result Echoed SessionFault → Type 0) → EchoOutcome → Type 0
@@ -23,10 +26,13 @@ TellsOf Came Memory = Unit {0}
 TellsOf Came NoNode = ⊥
 TellsOf Came (Unreached error) = ⊥
 
-module _ {L : Type 0} (reaches : Text → L → Type 0) (hears : L → Heard → L → Type 0) (sends : L → List ℕ → Bool → L → Type 0) (closes : L → L → Type 0) (tells : ℕ → Type 0) where
+module _ {L : Type 0} (reaches : Text → L → Type 0) (hears : L → Heard → L → Type 0)
+    (sends : L → List ℕ → Bool → L → Type 0) (closes : L → L → Type 0) (tells : ℕ → Type 0) where
   -- an echo from the one name to the other, over a link that leads to the address, comes to this
   abbrev pub ComesTo : Text → Text → Text → Result Echoed SessionFault → Type 0
-  ComesTo caller called address came = (link after : L) × reaches address link × EchoesAs hears sends closes tells caller called came link after
+  ComesTo caller called address came =
+      (link after : L) × reaches address link
+      × EchoesAs hears sends closes tells caller called came link after
 
   -- the same as an outcome; nothing may answer at the address
   abbrev pub IsAskedAt : Text → Text → Text → EchoOutcome → Type 0
@@ -35,10 +41,14 @@ module _ {L : Type 0} (reaches : Text → L → Type 0) (hears : L → Heard →
 
   -- an echo between two nodes of the plan, over a link to the second one's address, comes to this
   abbrev pub ComesBetween : Network → Text → Text → Result Echoed SessionFault → Type 0
-  ComesBetween plan caller called came = (from_node to_node : Node) × IsTheNode plan caller from_node × IsTheNode plan called to_node × ComesTo caller called to_node.address came
+  ComesBetween plan caller called came =
+      (from_node to_node : Node)
+      × IsTheNode plan caller from_node
+      × IsTheNode plan called to_node
+      × ComesTo caller called to_node.address came
 
-  -- What may come of an echo from one name to another, for a plan: one of the two is no node, or an echo comes to it; that nothing
-  -- answers at the address, and want of memory, may come of any.
+  -- What may come of an echo from one name to another, for a plan: one of the two is no node, or an
+  -- echo comes to it; that nothing answers at the address, and want of memory, may come of any.
   abbrev pub IsOutcomeOf : Network → Text → Text → EchoOutcome → Type 0
   IsOutcomeOf plan caller called NoNode = NamesNoNode plan caller ⊎ NamesNoNode plan called
   IsOutcomeOf plan caller called (Unreached error) = Unit {0}

@@ -23,7 +23,8 @@ fn tell_outcome<W: Write, E: Write>(
     output: &mut W,
     faults: &mut E,
 ) -> io::Result<()>
-    ensures { OnOk result (Appends (W.contents output.old) (W.contents output.new) (printed_for outcome.now)) }
+    ensures { OnOk result
+        (Appends (W.contents output.old) (W.contents output.new) (printed_for outcome.now)) }
 {
     match outcome {
         EchoOutcome::Answered(echoed) => {
@@ -48,7 +49,10 @@ fn echo_text<N: Network, C: Clock, W: Write, E: Write>(
     output: &mut W,
     faults: &mut E,
 ) -> io::Result<Status>
-    ensures { IfOk result (Echoes (N.reaches network.now) N.Socket.hears N.Socket.sends N.Socket.closes (C.tells clock.now) caller.now called.now text.now (W.contents output.old) (W.contents output.new)) }
+    ensures { IfOk result
+        (Echoes (N.reaches network.now) N.Socket.hears N.Socket.sends N.Socket.closes
+        (C.tells clock.now) caller.now called.now text.now (W.contents output.old)
+        (W.contents output.new)) }
 {
     let plan = match plan_of(alloc, text) {
         Ok(plan) => plan,
@@ -62,7 +66,8 @@ fn echo_text<N: Network, C: Clock, W: Write, E: Write>(
     Ok(outcome.status())
 }
 
-/// Asks the node of the second name for an echo, as the node of the first one, both of the plan in the file.
+/// Asks the node of the second name for an echo, as the node of the first one, both of the plan in
+/// the file.
 ///
 /// Errors: Stream, File.
 pub fn echo_files<'a, F: Files, N: Network, C: Clock, W: Write, E: Write>(
@@ -76,8 +81,11 @@ pub fn echo_files<'a, F: Files, N: Network, C: Clock, W: Write, E: Write>(
     output: &mut W,
     faults: &mut E,
 ) -> Result<Status, Failure<'a>>
-    ensures { IfOk result (λ status. (text : Text) × F.holds files.now plan.now text
-        × Echoes (N.reaches network.now) N.Socket.hears N.Socket.sends N.Socket.closes (C.tells clock.now) caller.now called.now text (W.contents output.old) (W.contents output.new) status) }
+    ensures { IfOk result (λ status. (text : Text)
+        × F.holds files.now plan.now text
+        × Echoes (N.reaches network.now) N.Socket.hears N.Socket.sends N.Socket.closes
+        (C.tells clock.now) caller.now called.now text (W.contents output.old)
+        (W.contents output.new) status) }
 {
     let text = read_file(alloc, files, plan)?;
     let status = echo_text(

@@ -29,7 +29,8 @@ pub enum EchoOutcome {
 }
 
 impl EchoOutcome {
-    /// The status with which the program ends, where the outcome is told: success for an echo whose status is 0000H alone.
+    /// The status with which the program ends, where the outcome is told: success for an echo whose
+    /// status is 0000H alone.
     pub fn status(&self) -> Status
         ensures { result ≡ status_for self.now }
     {
@@ -48,7 +49,8 @@ impl EchoOutcome {
 
 /// The node of that name, and None for a stranger.
 fn known_node<'a>(plan: &'a Plan, name: &Text) -> Option<&'a Node>
-    ensures node { MatchOption result (NamesNoNode plan.now name.now) (λ node. IsTheNode plan.now name.now node.now) }
+    ensures node { MatchOption result (NamesNoNode plan.now name.now) (λ node.
+        IsTheNode plan.now name.now node.now) }
     ensures name { MatchOption result (Unit {0}) (λ node. IsName name.now) }
 {
     let _nodes = plan.nodes();
@@ -65,7 +67,9 @@ fn answer<L: Link, C: Clock>(
 ) -> EchoOutcome
     requires caller { IsName caller.now }
     requires called { IsName called.now }
-    ensures { TellsOf (λ came. EchoesAs L.hears L.sends L.closes (C.tells clock.now) caller.now called.now came link.old link.new) result }
+    ensures { TellsOf
+        (λ came. EchoesAs L.hears L.sends L.closes (C.tells clock.now) caller.now called.now came
+        link.old link.new) result }
 {
     match echo(alloc, link, caller, called, clock) {
         Ok(echoed) => EchoOutcome::Answered(echoed),
@@ -85,7 +89,8 @@ fn ask<N: Network, C: Clock>(
 ) -> EchoOutcome
     requires caller { IsName caller.now }
     requires called { IsName called.now }
-    ensures { IsAskedAt (N.reaches network.now) N.Socket.hears N.Socket.sends N.Socket.closes (C.tells clock.now) caller.now called.now address.now result }
+    ensures { IsAskedAt (N.reaches network.now) N.Socket.hears N.Socket.sends N.Socket.closes
+        (C.tells clock.now) caller.now called.now address.now result }
 {
     let mut link = match network.connect(alloc, address) {
         Ok(link) => link,
@@ -108,7 +113,8 @@ fn outcome_between<N: Network, C: Clock>(
     network: &N,
     clock: &C,
 ) -> EchoOutcome
-    ensures { IsOutcomeOf (N.reaches network.now) N.Socket.hears N.Socket.sends N.Socket.closes (C.tells clock.now) plan.now caller.now called.now result }
+    ensures { IsOutcomeOf (N.reaches network.now) N.Socket.hears N.Socket.sends N.Socket.closes
+        (C.tells clock.now) plan.now caller.now called.now result }
 {
     let Some(_known) = known_node(plan, caller) else {
         return EchoOutcome::NoNode;
@@ -128,7 +134,8 @@ pub fn outcome_of<N: Network, C: Clock>(
     network: &N,
     clock: &C,
 ) -> EchoOutcome
-    ensures { IsOutcomeOf (N.reaches network.now) N.Socket.hears N.Socket.sends N.Socket.closes (C.tells clock.now) plan.now caller.now called.now result }
+    ensures { IsOutcomeOf (N.reaches network.now) N.Socket.hears N.Socket.sends N.Socket.closes
+        (C.tells clock.now) plan.now caller.now called.now result }
 {
     let Ok(caller) = Text::copy_of(alloc, caller.as_bytes()) else {
         return EchoOutcome::Memory;

@@ -45,7 +45,8 @@ fn add_ended(line: &mut Vec<u8>, ended: Ended) -> Result<(), AllocError>
 
 /// Adds the status of the response, where one came, else how the association ended.
 fn add_echoed(alloc: Global, line: &mut Vec<u8>, echoed: Echoed) -> Result<(), AllocError>
-    ensures { OnOk result (line.new.items ≡ line.old.items ++ echo_fields echoed.status echoed.ended) }
+    ensures { OnOk result
+        (line.new.items ≡ line.old.items ++ echo_fields echoed.status echoed.ended) }
 {
     match echoed.status {
         Some(status) => {

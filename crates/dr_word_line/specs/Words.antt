@@ -1,21 +1,28 @@
 -- The words of the command line.
-use Rattle.std.specs.Prelude.{◌≡◌, ◌≢◌, ℕ, List, [], ◌∷◌, ◌++◌, ◌⊎◌, codes, Option, None, MatchOption}
+use Rattle.std.specs.Prelude.{◌≡◌, ◌≢◌, ℕ, List, [], ◌∷◌, ◌++◌, ◌⊎◌, codes, Option, None}
+use Rattle.std.specs.Prelude.{MatchOption}
 use Rattle.std.specs.Borrow.{Bor}
 use Rattle.dr_word_line.specs.declared.words.Task.{Task}
-use Rattle.dr_word_line.specs.declared.words.Task.TheVariants.{CheckInput, CheckFile, Verify, Simulate, Echo, Question as AsksQuestion, AtNode, Adopt, Told}
+use Rattle.dr_word_line.specs.declared.words.Task.TheVariants.{CheckInput, CheckFile, Verify}
+use Rattle.dr_word_line.specs.declared.words.Task.TheVariants.{Simulate, Echo}
+use Rattle.dr_word_line.specs.declared.words.Task.TheVariants.{Question as AsksQuestion, AtNode}
+use Rattle.dr_word_line.specs.declared.words.Task.TheVariants.{Adopt, Told}
 use Rattle.dr_word_line.specs.declared.words.Duty.{Duty}
-use Rattle.dr_word_line.specs.declared.words.Duty.TheVariants.{List as ToList, Summary, Requeue, RequeueAll, Send, Serve}
+use Rattle.dr_word_line.specs.declared.words.Duty.TheVariants.{List as ToList, Summary, Requeue}
+use Rattle.dr_word_line.specs.declared.words.Duty.TheVariants.{RequeueAll, Send, Serve}
 use Rattle.dr_word_line.specs.declared.words.KeyWords.{KeyWords}
 use Rattle.dr_run_files.specs.declared.node.NodeFiles.{NodeFiles}
 use Rattle.dr_word_line.specs.declared.words.PlanChange.{PlanChange}
 use Rattle.dr_word_line.specs.declared.words.Question.{Question}
-use Rattle.dr_word_line.specs.declared.words.Question.TheVariants.{RouteOfKey, RouteOfFile, Graph, Lint}
+use Rattle.dr_word_line.specs.declared.words.Question.TheVariants.{RouteOfKey, RouteOfFile, Graph}
+use Rattle.dr_word_line.specs.declared.words.Question.TheVariants.{Lint}
 use Rattle.dr_word_line.specs.declared.words.Serving.{Serving}
 use Rattle.dr_word_line.specs.declared.words.Verbosity.TheVariants.{Events}
 
 -- none, or the one word check: they ask for a check of the plan on the standard input
 abbrev pub IsPlainCheck : List (Bor (List ℕ)) → Type 0
-IsPlainCheck words = (words ≡ []) ⊎ ((word : Bor (List ℕ)) × (words ≡ word ∷ []) × (word.now ≡ codes "check"))
+IsPlainCheck words =
+    (words ≡ []) ⊎ ((word : Bor (List ℕ)) × (words ≡ word ∷ []) × (word.now ≡ codes "check"))
 
 -- a word that doesn't begin with a hyphen is no option
 abbrev pub IsNoOption : List ℕ → Type 0
@@ -23,60 +30,106 @@ IsNoOption word = (rest : List ℕ) → word ≢ 45 ∷ rest
 
 -- the word check and a file's path: they ask for a check of the plan in that file
 abbrev pub IsCheckOf : List (Bor (List ℕ)) → Bor (List ℕ) → Type 0
-IsCheckOf words plan = (word : Bor (List ℕ)) × (words ≡ word ∷ plan ∷ []) × (word.now ≡ codes "check") × IsNoOption plan.now
+IsCheckOf words plan =
+    (word : Bor (List ℕ))
+    × (words ≡ word ∷ plan ∷ [])
+    × (word.now ≡ codes "check")
+    × IsNoOption plan.now
 
--- the word verify and two files' paths: they ask for a verification of the certificate in the second for the plan in the first
+-- the word verify and two files' paths: they ask for a verification of the certificate in the
+-- second for the plan in the first
 abbrev pub IsVerifyOf : List (Bor (List ℕ)) → Bor (List ℕ) → Bor (List ℕ) → Type 0
 IsVerifyOf words plan certificate =
-    (word : Bor (List ℕ)) × (words ≡ word ∷ plan ∷ certificate ∷ []) × (word.now ≡ codes "verify") × IsNoOption plan.now × IsNoOption certificate.now
+    (word : Bor (List ℕ))
+    × (words ≡ word ∷ plan ∷ certificate ∷ [])
+    × (word.now ≡ codes "verify")
+    × IsNoOption plan.now
+    × IsNoOption certificate.now
 
--- the word simulate and three files' paths: they ask for a run of the script in the third, for the plan in the first and the certificate in the second
+-- the word simulate and three files' paths: they ask for a run of the script in the third, for the
+-- plan in the first and the certificate in the second
 abbrev pub IsSimulateOf : List (Bor (List ℕ)) → Bor (List ℕ) → Bor (List ℕ) → Bor (List ℕ) → Type 0
 IsSimulateOf words plan certificate script =
-    (word : Bor (List ℕ)) × (words ≡ word ∷ plan ∷ certificate ∷ script ∷ []) × (word.now ≡ codes "simulate")
-    × IsNoOption plan.now × IsNoOption certificate.now × IsNoOption script.now
+    (word : Bor (List ℕ))
+    × (words ≡ word ∷ plan ∷ certificate ∷ script ∷ [])
+    × (word.now ≡ codes "simulate")
+    × IsNoOption plan.now
+    × IsNoOption certificate.now
+    × IsNoOption script.now
 
--- the word echo, a file's path and two names: they ask for an echo from the node of the first name to that of the second, of the plan in the file
+-- the word echo, a file's path and two names: they ask for an echo from the node of the first name
+-- to that of the second, of the plan in the file
 abbrev pub IsEchoOf : List (Bor (List ℕ)) → Bor (List ℕ) → Bor (List ℕ) → Bor (List ℕ) → Type 0
 IsEchoOf words plan caller called =
     (word : Bor (List ℕ)) × (words ≡ word ∷ plan ∷ caller ∷ called ∷ []) × (word.now ≡ codes "echo")
     × IsNoOption plan.now × IsNoOption caller.now × IsNoOption called.now
 
--- the word graph and two files' paths: they ask for the graph of the plan in the first, whose certificate is in the second
+-- the word graph and two files' paths: they ask for the graph of the plan in the first, whose
+-- certificate is in the second
 abbrev pub IsGraphOf : List (Bor (List ℕ)) → Bor (List ℕ) → Bor (List ℕ) → Type 0
 IsGraphOf words plan certificate =
-    (word : Bor (List ℕ)) × (words ≡ word ∷ plan ∷ certificate ∷ []) × (word.now ≡ codes "graph") × IsNoOption plan.now × IsNoOption certificate.now
+    (word : Bor (List ℕ))
+    × (words ≡ word ∷ plan ∷ certificate ∷ [])
+    × (word.now ≡ codes "graph")
+    × IsNoOption plan.now
+    × IsNoOption certificate.now
 
--- the word lint and two files' paths: they ask for what looks wrong in the plan in the first, whose certificate is in the second
+-- the word lint and two files' paths: they ask for what looks wrong in the plan in the first, whose
+-- certificate is in the second
 abbrev pub IsLintOf : List (Bor (List ℕ)) → Bor (List ℕ) → Bor (List ℕ) → Type 0
 IsLintOf words plan certificate =
-    (word : Bor (List ℕ)) × (words ≡ word ∷ plan ∷ certificate ∷ []) × (word.now ≡ codes "lint") × IsNoOption plan.now × IsNoOption certificate.now
+    (word : Bor (List ℕ))
+    × (words ≡ word ∷ plan ∷ certificate ∷ [])
+    × (word.now ≡ codes "lint")
+    × IsNoOption plan.now
+    × IsNoOption certificate.now
 
--- the word route, two files' paths, a name and a file's path: they ask where the instance in that file goes that enters at the node of that name
-abbrev pub IsFileRouteOf : List (Bor (List ℕ)) → Bor (List ℕ) → Bor (List ℕ) → Bor (List ℕ) → Bor (List ℕ) → Type 0
+-- the word route, two files' paths, a name and a file's path: they ask where the instance in that
+-- file goes that enters at the node of that name
+abbrev pub IsFileRouteOf : List (Bor (List ℕ)) → Bor (List ℕ) → Bor (List ℕ) → Bor (List ℕ)
+    → Bor (List ℕ) → Type 0
 IsFileRouteOf words plan certificate at path =
-    (word : Bor (List ℕ)) × (words ≡ word ∷ plan ∷ certificate ∷ at ∷ path ∷ []) × (word.now ≡ codes "route")
-    × IsNoOption plan.now × IsNoOption certificate.now × IsNoOption at.now × IsNoOption path.now
+    (word : Bor (List ℕ))
+    × (words ≡ word ∷ plan ∷ certificate ∷ at ∷ path ∷ [])
+    × (word.now ≡ codes "route")
+    × IsNoOption plan.now
+    × IsNoOption certificate.now
+    × IsNoOption at.now × IsNoOption path.now
 
--- the word route, two files' paths, a name and four values: they ask where an instance with these values goes that enters at the node of that name
-abbrev pub IsKeyRouteOf : List (Bor (List ℕ)) → Bor (List ℕ) → Bor (List ℕ) → Bor (List ℕ) → KeyWords → Type 0
+-- the word route, two files' paths, a name and four values: they ask where an instance with these
+-- values goes that enters at the node of that name
+abbrev pub IsKeyRouteOf : List (Bor (List ℕ)) → Bor (List ℕ) → Bor (List ℕ) → Bor (List ℕ)
+    → KeyWords → Type 0
 IsKeyRouteOf words plan certificate at key =
-    (word : Bor (List ℕ)) × (words ≡ word ∷ plan ∷ certificate ∷ at ∷ key.class ∷ key.syntax ∷ key.modality ∷ key.station ∷ []) × (word.now ≡ codes "route")
-    × IsNoOption plan.now × IsNoOption certificate.now × IsNoOption at.now
-    × IsNoOption key.class.now × IsNoOption key.syntax.now × IsNoOption key.modality.now × IsNoOption key.station.now
+    (word : Bor (List ℕ))
+    × (words
+    ≡ word ∷ plan ∷ certificate ∷ at ∷ key.class ∷ key.syntax ∷ key.modality ∷ key.station ∷ [])
+    × (word.now ≡ codes "route")
+    × IsNoOption plan.now
+    × IsNoOption certificate.now
+    × IsNoOption at.now × IsNoOption key.class.now
+    × IsNoOption key.syntax.now
+    × IsNoOption key.modality.now
+    × IsNoOption key.station.now
 
 -- the words ask this question about the plan in the first file, whose certificate is in the second
 abbrev pub IsQuestionOf : List (Bor (List ℕ)) → Bor (List ℕ) → Bor (List ℕ) → Question → Type 0
 IsQuestionOf words plan certificate (RouteOfKey at key) = IsKeyRouteOf words plan certificate at key
-IsQuestionOf words plan certificate (RouteOfFile at path) = IsFileRouteOf words plan certificate at path
+IsQuestionOf words plan certificate (RouteOfFile at path) =
+    IsFileRouteOf words plan certificate at path
 IsQuestionOf words plan certificate Graph = IsGraphOf words plan certificate
 IsQuestionOf words plan certificate Lint = IsLintOf words plan certificate
 
 -- a word, what names a node and its ledger, and further words
 abbrev pub IsAtNode : List ℕ → List (Bor (List ℕ)) → NodeFiles → List (Bor (List ℕ)) → Type 0
 IsAtNode name words given more =
-    (word : Bor (List ℕ)) × (words ≡ word ∷ given.plan ∷ given.certificate ∷ given.node ∷ given.ledger ∷ more) × (word.now ≡ name)
-    × IsNoOption given.plan.now × IsNoOption given.certificate.now × IsNoOption given.node.now × IsNoOption given.ledger.now
+    (word : Bor (List ℕ))
+    × (words ≡ word ∷ given.plan ∷ given.certificate ∷ given.node ∷ given.ledger ∷ more)
+    × (word.now ≡ name)
+    × IsNoOption given.plan.now
+    × IsNoOption given.certificate.now
+    × IsNoOption given.node.now
+    × IsNoOption given.ledger.now
 
 -- the word list and what names a node and its ledger: they ask for what the node has
 abbrev pub IsListOf : List (Bor (List ℕ)) → NodeFiles → Type 0
@@ -84,29 +137,42 @@ IsListOf words given = IsAtNode (codes "list") words given []
 
 -- the same words and the option --summary: they ask for how much the node has
 abbrev pub IsSummaryOf : List (Bor (List ℕ)) → NodeFiles → Type 0
-IsSummaryOf words given = (option : Bor (List ℕ)) × IsAtNode (codes "list") words given (option ∷ []) × (option.now ≡ codes "--summary")
+IsSummaryOf words given =
+    (option : Bor (List ℕ))
+    × IsAtNode (codes "list") words given (option ∷ [])
+    × (option.now ≡ codes "--summary")
 
 -- the word serve and what names a node and its ledger: they ask the node to serve for ever
 abbrev pub IsServeOf : List (Bor (List ℕ)) → NodeFiles → Type 0
 IsServeOf words given = IsAtNode (codes "serve") words given []
 
--- the word send, what names a node and its ledger, and a file's path: they ask the node to take in and send the instance in that file
+-- the word send, what names a node and its ledger, and a file's path: they ask the node to take in
+-- and send the instance in that file
 abbrev pub IsSendOf : List (Bor (List ℕ)) → NodeFiles → Bor (List ℕ) → Type 0
 IsSendOf words given file = IsAtNode (codes "send") words given (file ∷ []) × IsNoOption file.now
 
--- the word requeue, what names a node and its ledger, a UID and a name: they ask the node to queue again the held row of that instance to that node
+-- the word requeue, what names a node and its ledger, a UID and a name: they ask the node to queue
+-- again the held row of that instance to that node
 abbrev pub IsRequeueOf : List (Bor (List ℕ)) → NodeFiles → Bor (List ℕ) → Bor (List ℕ) → Type 0
-IsRequeueOf words given uid dest = IsAtNode (codes "requeue") words given (uid ∷ dest ∷ []) × IsNoOption uid.now × IsNoOption dest.now
+IsRequeueOf words given uid dest =
+    IsAtNode (codes "requeue") words given (uid ∷ dest ∷ [])
+    × IsNoOption uid.now × IsNoOption dest.now
 
--- the word requeue, what names a node and its ledger, the option --all-held and a name: they ask the node to queue again all held rows to that node
+-- the word requeue, what names a node and its ledger, the option --all-held and a name: they ask
+-- the node to queue again all held rows to that node
 abbrev pub IsRequeueAllOf : List (Bor (List ℕ)) → NodeFiles → Bor (List ℕ) → Type 0
-IsRequeueAllOf words given dest = (option : Bor (List ℕ)) × IsAtNode (codes "requeue") words given (option ∷ dest ∷ []) × (option.now ≡ codes "--all-held") × IsNoOption dest.now
+IsRequeueAllOf words given dest =
+    (option : Bor (List ℕ))
+    × IsAtNode (codes "requeue") words given (option ∷ dest ∷ [])
+    × (option.now ≡ codes "--all-held")
+    × IsNoOption dest.now
 
 -- without options a node serves for ever, logs its events, and writes no file of what it has
 abbrev pub plain_serving : Serving
 plain_serving = record { links = 0; verbosity = Events; report = None }
 
--- the words ask this of the node with these files; other ways of serving are asked for by options, of which nothing is said here
+-- the words ask this of the node with these files; other ways of serving are asked for by options,
+-- of which nothing is said here
 abbrev pub IsDutyOf : List (Bor (List ℕ)) → NodeFiles → Duty → Type 0
 IsDutyOf words given ToList = IsListOf words given
 IsDutyOf words given Summary = IsSummaryOf words given
@@ -115,13 +181,21 @@ IsDutyOf words given (RequeueAll dest) = IsRequeueAllOf words given dest
 IsDutyOf words given (Send file) = IsSendOf words given file
 IsDutyOf words given (Serve serving) = IsServeOf words given × (serving ≡ plain_serving)
 
--- the word adopt, the paths of a plan and its certificate, those of the next plan and its certificate, and a folder's path: they ask to bring the ledgers in that
--- folder over from the one plan to the other
+-- the word adopt, the paths of a plan and its certificate, those of the next plan and its
+-- certificate, and a folder's path: they ask to bring the ledgers in that folder over from the one
+-- plan to the other
 abbrev pub IsAdoptOf : List (Bor (List ℕ)) → PlanChange → Type 0
 IsAdoptOf words change =
-    (word : Bor (List ℕ)) × (words ≡ word ∷ change.plan ∷ change.certificate ∷ change.next_plan ∷ change.next_certificate ∷ change.folder ∷ []) × (word.now ≡ codes "adopt")
-    × IsNoOption change.plan.now × IsNoOption change.certificate.now
-    × IsNoOption change.next_plan.now × IsNoOption change.next_certificate.now × IsNoOption change.folder.now
+    (word : Bor (List ℕ))
+    × (words
+    ≡ word ∷ change.plan ∷ change.certificate ∷ change.next_plan ∷ change.next_certificate
+    ∷ change.folder ∷ [])
+    × (word.now ≡ codes "adopt")
+    × IsNoOption change.plan.now
+    × IsNoOption change.certificate.now
+    × IsNoOption change.next_plan.now
+    × IsNoOption change.next_certificate.now
+    × IsNoOption change.folder.now
 
 -- the words are of a plain form, which asks for this
 abbrev pub Asks : List (Bor (List ℕ)) → Task → Type 0

@@ -39,8 +39,8 @@ fn optional<'a>(alloc: Global, name: &'a str, help: &'a str) -> Arg<'a> {
     Arg::new(alloc, name).action(ArgAction::Set).help(help)
 }
 
-/// What takes a part by value and comes back with it: a word takes its values and options, the line its words. The
-/// functions that may fail know such a value by this trait alone, whatever is in it.
+/// What takes a part by value and comes back with it: a word takes its values and options, the line
+/// its words. The functions that may fail know such a value by this trait alone, whatever is in it.
 trait Takes<P>: Sized + Drop {
     fn take(self, part: P) -> Result<Self, AllocError>;
 }

@@ -1,7 +1,7 @@
 //! The words of the command line of `dr_router`, and what they ask for.
 //!
-//! Words of a plain form are read as `specs/Words.antt` says. Options, help, and what the program doesn't know are clap's, of which no
-//! contract speaks.
+//! Words of a plain form are read as `specs/Words.antt` says. Options, help, and what the program
+//! doesn't know are clap's, of which no contract speaks.
 #![tactic(auto)]
 
 mod command_line;

@@ -2,7 +2,11 @@
 ghost use Rattle.std.specs.Prelude.{◌≡◌, ◌↔◌, ℕ, List, IfNone, IfOk, IfSome, IsTrue};
 ghost use Rattle.std.specs.Borrow.{Bor};
 ghost use Rattle.dr_run_files.specs.declared.node.NodeFiles.{NodeFiles as NodeFilesValue};
-ghost use Rattle.dr_word_line.specs.Words.{Asks, Reads, IsPlainCheck, IsCheckOf, IsVerifyOf, IsSimulateOf, IsEchoOf, IsNoOption, IsGraphOf, IsLintOf, IsFileRouteOf, IsKeyRouteOf, IsQuestionOf, IsListOf, IsSummaryOf, IsServeOf, IsSendOf, IsRequeueOf, IsRequeueAllOf, IsDutyOf, IsAdoptOf};
+ghost use Rattle.dr_word_line.specs.Words.{Asks, Reads, IsPlainCheck, IsCheckOf, IsVerifyOf};
+ghost use Rattle.dr_word_line.specs.Words.{IsSimulateOf, IsEchoOf, IsNoOption, IsGraphOf, IsLintOf};
+ghost use Rattle.dr_word_line.specs.Words.{IsFileRouteOf, IsKeyRouteOf, IsQuestionOf, IsListOf};
+ghost use Rattle.dr_word_line.specs.Words.{IsSummaryOf, IsServeOf, IsSendOf, IsRequeueOf};
+ghost use Rattle.dr_word_line.specs.Words.{IsRequeueAllOf, IsDutyOf, IsAdoptOf};
 ghost use Rattle.dr_word_line.specs.declared.words.Task.{Task as TaskValue};
 ghost use Rattle.dr_word_line.specs.declared.words.Task.TheVariants as asks;
 ghost use Rattle.dr_word_line.specs.declared.words.Duty.{Duty as DutyValue};
@@ -15,8 +19,8 @@ use clap::{ArgMatches, Error};
 use dr_run_files::NodeFiles;
 use std::alloc::{AllocError, Global};
 
-/// The four values of an instance by which it is routed, as words: the SOP class UID, the UID of the transfer syntax, the
-/// modality and the station name.
+/// The four values of an instance by which it is routed, as words: the SOP class UID, the UID of
+/// the transfer syntax, the modality and the station name.
 #[derive(Clone, Copy, Drop)]
 pub struct KeyWords<'a> {
     pub class: &'a str,
@@ -38,8 +42,9 @@ pub enum Question<'a> {
     Lint,
 }
 
-/// What names two plans and where the nodes' ledgers are: the paths of the plan in force, of its certificate, of the next plan, of that one's
-/// certificate, and of the folder that holds each node's ledger.
+/// What names two plans and where the nodes' ledgers are: the paths of the plan in force, of its
+/// certificate, of the next plan, of that one's certificate, and of the folder that holds each
+/// node's ledger.
 #[derive(Clone, Copy, Debug, Drop)]
 pub struct PlanChange<'a> {
     pub plan: &'a str,
@@ -95,11 +100,14 @@ pub enum Task<'a> {
     CheckInput,
     /// To check the plan whose text is in this file.
     CheckFile(&'a str),
-    /// To verify, for the plan whose text is in the first file, the certificate whose text is in the second.
+    /// To verify, for the plan whose text is in the first file, the certificate whose text is in
+    /// the second.
     Verify(&'a str, &'a str),
-    /// To play the script in the third file in a world of the nodes of the plan in the first, whose certificate is in the second.
+    /// To play the script in the third file in a world of the nodes of the plan in the first, whose
+    /// certificate is in the second.
     Simulate(&'a str, &'a str, &'a str),
-    /// To ask for an echo, from the node of the first name to that of the second, of the plan in the file.
+    /// To ask for an echo, from the node of the first name to that of the second, of the plan in
+    /// the file.
     Echo(&'a str, &'a str, &'a str),
     /// To answer a question about the plan in the first file, whose certificate is in the second.
     Question(&'a str, &'a str, Question<'a>),
@@ -151,7 +159,8 @@ fn read_change<'a>(words: &'a [&'a str]) -> Option<Task<'a>>
 fn read_all<'a>(words: &'a [&'a str]) -> Option<Task<'a>>
     ensures asked { IfSome result (λ asked. Asks words.now asked) }
     ensures summary { IfNone result ((given : NodeFilesValue) → IsSummaryOf words.now given → ⊥) }
-    ensures requeue_all { IfNone result ((given : NodeFilesValue) (dest : Bor (List ℕ)) → IsRequeueAllOf words.now given dest → ⊥) }
+    ensures requeue_all { IfNone result
+        ((given : NodeFilesValue) (dest : Bor (List ℕ)) → IsRequeueAllOf words.now given dest → ⊥) }
 {
     match words {
         [word, plan, certificate, node, ledger, option]
@@ -192,8 +201,12 @@ fn read_all<'a>(words: &'a [&'a str]) -> Option<Task<'a>>
 /// What words ask a node to do with one of its instances, if they are of such a form.
 fn read_work<'a>(words: &'a [&'a str]) -> Option<Task<'a>>
     ensures asked { IfSome result (λ asked. Asks words.now asked) }
-    ensures requeue { IfNone result ((given : NodeFilesValue) (uid dest : Bor (List ℕ)) → IsRequeueOf words.now given uid dest → ⊥) }
-    ensures send { IfNone result ((given : NodeFilesValue) (file : Bor (List ℕ)) → IsSendOf words.now given file → ⊥) }
+    ensures requeue { IfNone result
+        ((given : NodeFilesValue) (uid dest : Bor (List ℕ))
+        → IsRequeueOf words.now given uid dest
+        → ⊥) }
+    ensures send { IfNone result
+        ((given : NodeFilesValue) (file : Bor (List ℕ)) → IsSendOf words.now given file → ⊥) }
 {
     match words {
         [word, plan, certificate, node, ledger, file]
@@ -278,8 +291,14 @@ fn read_duty<'a>(words: &'a [&'a str]) -> Option<Task<'a>>
 /// What words ask about where an instance goes, if they are of such a form.
 fn read_route<'a>(words: &'a [&'a str]) -> Option<Task<'a>>
     ensures asked { IfSome result (λ asked. Asks words.now asked) }
-    ensures route_of_file { IfNone result ((plan certificate at path : Bor (List ℕ)) → IsFileRouteOf words.now plan certificate at path → ⊥) }
-    ensures route_of_key { IfNone result ((plan certificate at : Bor (List ℕ)) (key : KeyWordsValue) → IsKeyRouteOf words.now plan certificate at key → ⊥) }
+    ensures route_of_file { IfNone result
+        ((plan certificate at path : Bor (List ℕ))
+        → IsFileRouteOf words.now plan certificate at path
+        → ⊥) }
+    ensures route_of_key { IfNone result
+        ((plan certificate at : Bor (List ℕ)) (key : KeyWordsValue)
+        → IsKeyRouteOf words.now plan certificate at key
+        → ⊥) }
 {
     match words {
         [word, plan, certificate, at, path]
@@ -322,8 +341,10 @@ fn read_route<'a>(words: &'a [&'a str]) -> Option<Task<'a>>
 /// What words ask about a plan and its certificate, if they have no more than what names them.
 fn read_question<'a>(words: &'a [&'a str]) -> Option<Task<'a>>
     ensures asked { IfSome result (λ asked. Asks words.now asked) }
-    ensures graph { IfNone result ((plan certificate : Bor (List ℕ)) → IsGraphOf words.now plan certificate → ⊥) }
-    ensures lint { IfNone result ((plan certificate : Bor (List ℕ)) → IsLintOf words.now plan certificate → ⊥) }
+    ensures graph { IfNone result
+        ((plan certificate : Bor (List ℕ)) → IsGraphOf words.now plan certificate → ⊥) }
+    ensures lint { IfNone result
+        ((plan certificate : Bor (List ℕ)) → IsLintOf words.now plan certificate → ⊥) }
 {
     match words {
         [word, plan, certificate]
@@ -355,9 +376,14 @@ fn read_check<'a>(words: &'a [&'a str]) -> Option<Task<'a>>
 /// What words ask of a plan and something else, if they are of such a form.
 fn read_pair<'a>(words: &'a [&'a str]) -> Option<Task<'a>>
     ensures asked { IfSome result (λ asked. Asks words.now asked) }
-    ensures verify { IfNone result ((plan certificate : Bor (List ℕ)) → IsVerifyOf words.now plan certificate → ⊥) }
-    ensures simulate { IfNone result ((plan certificate script : Bor (List ℕ)) → IsSimulateOf words.now plan certificate script → ⊥) }
-    ensures echo { IfNone result ((plan caller called : Bor (List ℕ)) → IsEchoOf words.now plan caller called → ⊥) }
+    ensures verify { IfNone result
+        ((plan certificate : Bor (List ℕ)) → IsVerifyOf words.now plan certificate → ⊥) }
+    ensures simulate { IfNone result
+        ((plan certificate script : Bor (List ℕ))
+        → IsSimulateOf words.now plan certificate script
+        → ⊥) }
+    ensures echo { IfNone result
+        ((plan caller called : Bor (List ℕ)) → IsEchoOf words.now plan caller called → ⊥) }
 {
     match words {
         [word, plan, certificate]
@@ -378,10 +404,12 @@ fn read_pair<'a>(words: &'a [&'a str]) -> Option<Task<'a>>
     }
 }
 
-/// What plain words ask a node to do with its ledger, or of the ledgers of all nodes: those of a known form.
+/// What plain words ask a node to do with its ledger, or of the ledgers of all nodes: those of a
+/// known form.
 fn read_ledger<'a>(words: &'a [&'a str]) -> Option<Task<'a>>
     ensures asked { IfSome result (λ asked. Asks words.now asked) }
-    ensures duty { IfNone result ((given : NodeFilesValue) (duty : DutyValue) → IsDutyOf words.now given duty → ⊥) }
+    ensures duty { IfNone result
+        ((given : NodeFilesValue) (duty : DutyValue) → IsDutyOf words.now given duty → ⊥) }
     ensures adopt { IfNone result ((change : PlanChangeValue) → IsAdoptOf words.now change → ⊥) }
 {
     if let Some(asked) = read_duty(words) {
@@ -551,13 +579,26 @@ fn read_others<'a>(alloc: Global, words: &'a [&'a str]) -> Result<Task<'a>, Allo
 /// What the words ask for.
 pub fn read_words<'a>(alloc: Global, words: &'a [&'a str]) -> Result<Task<'a>, AllocError>
     ensures input { IfOk result (λ a. IsPlainCheck words.now → a ≡ asks.CheckInput) }
-    ensures file { IfOk result (λ a. (plan : Bor (List ℕ)) → IsCheckOf words.now plan → a ≡ asks.CheckFile plan) }
-    ensures verify { IfOk result (λ a. (plan certificate : Bor (List ℕ)) → IsVerifyOf words.now plan certificate → a ≡ asks.Verify plan certificate) }
-    ensures simulate { IfOk result (λ a. (plan certificate script : Bor (List ℕ)) → IsSimulateOf words.now plan certificate script → a ≡ asks.Simulate plan certificate script) }
-    ensures echo { IfOk result (λ a. (plan caller called : Bor (List ℕ)) → IsEchoOf words.now plan caller called → a ≡ asks.Echo plan caller called) }
-    ensures question { IfOk result (λ a. (plan certificate : Bor (List ℕ)) (question : QuestionValue) → IsQuestionOf words.now plan certificate question → a ≡ asks.Question plan certificate question) }
-    ensures duty { IfOk result (λ a. (given : NodeFilesValue) (duty : DutyValue) → IsDutyOf words.now given duty → a ≡ asks.AtNode given duty) }
-    ensures adopt { IfOk result (λ a. (change : PlanChangeValue) → IsAdoptOf words.now change → a ≡ asks.Adopt change) }
+    ensures file { IfOk result (λ a.
+        (plan : Bor (List ℕ)) → IsCheckOf words.now plan → a ≡ asks.CheckFile plan) }
+    ensures verify { IfOk result (λ a. (plan certificate : Bor (List ℕ))
+        → IsVerifyOf words.now plan certificate
+        → a ≡ asks.Verify plan certificate) }
+    ensures simulate { IfOk result (λ a. (plan certificate script : Bor (List ℕ))
+        → IsSimulateOf words.now plan certificate script
+        → a ≡ asks.Simulate plan certificate script) }
+    ensures echo { IfOk result (λ a. (plan caller called : Bor (List ℕ))
+        → IsEchoOf words.now plan caller called
+        → a ≡ asks.Echo plan caller called) }
+    ensures question { IfOk result
+        (λ a. (plan certificate : Bor (List ℕ)) (question : QuestionValue)
+        → IsQuestionOf words.now plan certificate question
+        → a ≡ asks.Question plan certificate question) }
+    ensures duty { IfOk result (λ a. (given : NodeFilesValue) (duty : DutyValue)
+        → IsDutyOf words.now given duty
+        → a ≡ asks.AtNode given duty) }
+    ensures adopt { IfOk result (λ a.
+        (change : PlanChangeValue) → IsAdoptOf words.now change → a ≡ asks.Adopt change) }
 {
     if let Some(asked) = read_plain(words) {
         return Ok(asked);

@@ -1,5 +1,6 @@
 -- All held rows to a node, queued again.
-use Rattle.std.specs.Prelude.{◌≡◌, ℕ, List, [], ◌∷◌, codes, filter, flat_map, map as mapped, take, Result, Ok, Err}
+use Rattle.std.specs.Prelude.{◌≡◌, ℕ, List, [], ◌∷◌, codes, filter, flat_map, map as mapped, take}
+use Rattle.std.specs.Prelude.{Result, Ok, Err}
 use Rattle.std.specs.FinMap as map
 use Rattle.dr_base.specs.Texts.{Text}
 use Rattle.dr_ledger.specs.Books.{Book}
@@ -32,13 +33,16 @@ uid_line uid = line_of (codes "requeued") (uid ∷ [])
 -- the rows of these instances to that node are queued again, one after the other
 abbrev pub RequeuesEach : List Text → Text → Book → Book → Type 0
 RequeuesEach [] dest old new = new ≡ old
-RequeuesEach (uid ∷ uids) dest old new = (mid : Book) × Requeues uid dest old (Ok tt) mid × RequeuesEach uids dest mid new
+RequeuesEach (uid ∷ uids) dest old new =
+    (mid : Book) × Requeues uid dest old (Ok tt) mid × RequeuesEach uids dest mid new
 
 -- each held row to that node is queued again, and the text has a line for each
 abbrev pub RequeuesAll : Text → Book → Text → Book → Type 0
-RequeuesAll dest old text new = (text ≡ flat_map uid_line (held_for old dest)) × RequeuesEach (held_for old dest) dest old new
+RequeuesAll dest old text new =
+    (text ≡ flat_map uid_line (held_for old dest)) × RequeuesEach (held_for old dest) dest old new
 
--- the rows of the first so many of these instances to that node are queued again, one after the other, and nothing else has changed
+-- the rows of the first so many of these instances to that node are queued again, one after the
+-- other, and nothing else has changed
 abbrev pub RequeuesFirstOf : List Text → Text → Book → Book → Type 0
 RequeuesFirstOf uids dest old new = (count : ℕ) × RequeuesEach (take count uids) dest old new
 
@@ -46,10 +50,13 @@ RequeuesFirstOf uids dest old new = (count : ℕ) × RequeuesEach (take count ui
 abbrev pub RequeuesFirst : Text → Book → Book → Type 0
 RequeuesFirst dest old new = RequeuesFirstOf (held_for old dest) dest old new
 
-module _ {L : Type 0} (HoldsPlan HoldsCertificate : Text → Type 0) (MayOpen : L → Type 0) (site_of : L → Part) (book : L → Book) (stands : L → Type 0) (name : Text) where
-  -- `requeue --all-held`: all are queued again, and that is printed; or the ledger's refusal, before which some may have been; or why it
-  -- doesn't come to that
+module _ {L : Type 0} (HoldsPlan HoldsCertificate : Text → Type 0) (MayOpen : L → Type 0)
+    (site_of : L → Part) (book : L → Book) (stands : L → Type 0) (name : Text) where
+  -- `requeue --all-held`: all are queued again, and that is printed; or the ledger's refusal,
+  -- before which some may have been; or why it doesn't come to that
   abbrev pub RequeuedAll : Text → Result Text Halt → Type 0
-  RequeuedAll dest (Ok text) = AtNode HoldsPlan HoldsCertificate MayOpen site_of book stands name (λ old new. stands new → RequeuesAll dest (book old) text (book new))
-  RequeuedAll dest (Err (Refused fault)) = AtNode HoldsPlan HoldsCertificate MayOpen site_of book stands name (λ old new. stands new → RequeuesFirst dest (book old) (book new))
+  RequeuedAll dest (Ok text) = AtNode HoldsPlan HoldsCertificate MayOpen site_of book stands name
+      (λ old new. stands new → RequeuesAll dest (book old) text (book new))
+  RequeuedAll dest (Err (Refused fault)) = AtNode HoldsPlan HoldsCertificate MayOpen site_of book
+      stands name (λ old new. stands new → RequeuesFirst dest (book old) (book new))
   RequeuedAll dest (Err halt) = HaltsAs HoldsPlan HoldsCertificate name halt

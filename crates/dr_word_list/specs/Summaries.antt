@@ -1,5 +1,7 @@
--- How much a node has, as it is printed: a number for each kind, and for each node to which it sends how the rows for that are.
-use Rattle.std.specs.Prelude.{◌≡◌, ℕ, List, [], ◌∷◌, ◌++◌, length, codes, decimal, Option, None, Some, Result, Ok, Err}
+-- How much a node has, as it is printed: a number for each kind, and for each node to which it
+-- sends how the rows for that are.
+use Rattle.std.specs.Prelude.{◌≡◌, ℕ, List, [], ◌∷◌, ◌++◌, length, codes, decimal, Option, None}
+use Rattle.std.specs.Prelude.{Some, Result, Ok, Err}
 use Rattle.std.specs.FinMap as map
 use Rattle.dr_base.specs.Texts.{Text}
 use Rattle.dr_ledger.specs.Books.{Book}
@@ -25,7 +27,8 @@ abbrev pub moment_field : Option ℕ → Text
 moment_field None = codes "-"
 moment_field (Some moment) = decimal moment
 
--- the line of a node to which this one sends: how many rows for it wait, are held and are done, and that moment
+-- the line of a node to which this one sends: how many rows for it wait, are held and are done, and
+-- that moment
 abbrev pub queue_line : List Row → Text → Option ℕ → Text
 queue_line rows dest oldest = line_of (codes "queue") (dest
     ∷ codes "waiting" ∷ decimal (how_many rows dest stages.Waiting)
@@ -35,28 +38,45 @@ queue_line rows dest oldest = line_of (codes "queue") (dest
 
 -- the line of that node, with the earliest moment from which on a row is due that waits for it
 abbrev pub IsQueueLine : List Row → Text → Text → Type 0
-IsQueueLine rows dest line = (oldest : Option ℕ) × IsLeast (dues rows dest) oldest × (line ≡ queue_line rows dest oldest)
+IsQueueLine rows dest line =
+    (oldest : Option ℕ) × IsLeast (dues rows dest) oldest × (line ≡ queue_line rows dest oldest)
 
 -- the lines of the nodes to which the hops lead, in the order of the hops
 abbrev pub AreQueueLines : List Row → List NextHop → Text → Type 0
 AreQueueLines rows [] text = text ≡ []
-AreQueueLines rows (hop ∷ hops) text = (here : Text) × (rest : Text) × IsQueueLine rows hop.dest here × AreQueueLines rows hops rest × (text ≡ here ++ rest)
+AreQueueLines rows (hop ∷ hops) text =
+    (here : Text) × (rest : Text)
+    × IsQueueLine rows hop.dest here
+    × AreQueueLines rows hops rest
+    × (text ≡ here ++ rest)
 
--- the lines of a node of this name with so many arrivals and kept instances, these rows, and so many lines in its journal
+-- the lines of a node of this name with so many arrivals and kept instances, these rows, and so
+-- many lines in its journal
 abbrev pub IsSummary : Text → List NextHop → ℕ → ℕ → List Row → ℕ → Text → Type 0
-IsSummary name hops arrivals kept rows lines text = (queues : Text) × AreQueueLines rows hops queues
-    × (text ≡ name_line name ++ count_line (codes "arrivals") arrivals ++ count_line (codes "kept") kept ++ queues ++ count_line (codes "lines") lines)
+IsSummary name hops arrivals kept rows lines text =
+    (queues : Text)
+    × AreQueueLines rows hops queues
+    × (text
+    ≡ name_line name ++ count_line (codes "arrivals") arrivals ++ count_line (codes "kept") kept
+    ++ queues ++ count_line (codes "lines") lines)
 
 -- the text says how much the node of this name has, whose hops these are, and whose book this is
 abbrev pub IsSummaryOf : Text → List NextHop → Book → Text → Type 0
-IsSummaryOf name hops book text = (arrivals : List Pair) × (kept : List (Text × ℕ))
-    × Lists pair_cmp book.arrivals arrivals × AreKept book kept
-    × IsSummary name hops (length arrivals) (length kept) (map.entries book.rows) (length book.lines) text
+IsSummaryOf name hops book text =
+    (arrivals : List Pair) × (kept : List (Text × ℕ))
+    × Lists pair_cmp book.arrivals arrivals
+    × AreKept book kept
+    × IsSummary name hops (length arrivals) (length kept) (map.entries book.rows)
+    (length book.lines) text
 
-module _ {L : Type 0} (HoldsPlan HoldsCertificate : Text → Type 0) (MayOpen : L → Type 0) (site_of : L → Part) (book : L → Book) (stands : L → Type 0) (name : Text) where
+module _ {L : Type 0} (HoldsPlan HoldsCertificate : Text → Type 0) (MayOpen : L → Type 0)
+    (site_of : L → Part) (book : L → Book) (stands : L → Type 0) (name : Text) where
   -- `list --summary`: how much the node's book has, which stays as it is; or why that isn't told
   abbrev pub Summarizes : Result Text Halt → Type 0
   Summarizes (Ok summary) = AtSite HoldsPlan HoldsCertificate MayOpen site_of book stands name
-      (λ sealed site old new. stands new → (book new ≡ book old) × IsSummaryOf name (hops_from site sealed.plan.nodes) (book new) summary)
-  Summarizes (Err (Refused fault)) = AtNode HoldsPlan HoldsCertificate MayOpen site_of book stands name (λ old new. stands new → book new ≡ book old)
+      (λ sealed site old new. stands new
+      → (book new ≡ book old)
+      × IsSummaryOf name (hops_from site sealed.plan.nodes) (book new) summary)
+  Summarizes (Err (Refused fault)) = AtNode HoldsPlan HoldsCertificate MayOpen site_of book stands
+      name (λ old new. stands new → book new ≡ book old)
   Summarizes (Err halt) = HaltsAs HoldsPlan HoldsCertificate name halt

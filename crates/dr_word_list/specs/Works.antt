@@ -14,24 +14,35 @@ use Rattle.dr_run_open.specs.declared.halt.Halt.TheVariants.{Refused}
 abbrev pub requeued_line : Text
 requeued_line = codes "requeued" ++ (10 ∷ [])
 
-module _ {L : Type 0} (HoldsPlan HoldsCertificate : Text → Type 0) (MayOpen : L → Type 0) (site_of : L → Part) (book : L → Book) (stands : L → Type 0) (name : Text) where
+module _ {L : Type 0} (HoldsPlan HoldsCertificate : Text → Type 0) (MayOpen : L → Type 0)
+    (site_of : L → Part) (book : L → Book) (stands : L → Type 0) (name : Text) where
   -- a ledger of the node was opened; this is so of it as it was then and as it is in the end
   abbrev pub AtNode : (L → L → Type 0) → Type 0
-  AtNode Becomes = (sealed : Certified) × (site : Part) × (old new : L) × IsAt HoldsPlan HoldsCertificate MayOpen site_of name sealed site old × Becomes old new
+  AtNode Becomes =
+      (sealed : Certified) × (site : Part) × (old new : L)
+      × IsAt HoldsPlan HoldsCertificate MayOpen site_of name sealed site old
+      × Becomes old new
 
   -- the same, and so of the sealed plan and the node's site too
   abbrev pub AtSite : (Certified → Part → L → L → Type 0) → Type 0
-  AtSite Becomes = (sealed : Certified) × (site : Part) × (old new : L) × IsAt HoldsPlan HoldsCertificate MayOpen site_of name sealed site old × Becomes sealed site old new
+  AtSite Becomes =
+      (sealed : Certified) × (site : Part) × (old new : L)
+      × IsAt HoldsPlan HoldsCertificate MayOpen site_of name sealed site old
+      × Becomes sealed site old new
 
   -- `list`: the report of the node's book, which stays as it is; or why there is none
   abbrev pub Lists : Result Text Halt → Type 0
-  Lists (Ok report) = AtNode (λ old new. stands new → (book new ≡ book old) × IsReportOf name (book new) report)
+  Lists (Ok report) =
+      AtNode (λ old new. stands new → (book new ≡ book old) × IsReportOf name (book new) report)
   Lists (Err (Refused fault)) = AtNode (λ old new. stands new → book new ≡ book old)
   Lists (Err halt) = HaltsAs HoldsPlan HoldsCertificate name halt
 
-  -- `requeue`: the row waits again, and that is printed; or the ledger's refusal, after which the book is as it was; or why it doesn't
-  -- come to that
+  -- `requeue`: the row waits again, and that is printed; or the ledger's refusal, after which the
+  -- book is as it was; or why it doesn't come to that
   abbrev pub Requeued : Text → Text → Result Text Halt → Type 0
-  Requeued uid dest (Ok line) = (line ≡ requeued_line) × AtNode (λ old new. stands new → Requeues uid dest (book old) (Ok tt) (book new))
-  Requeued uid dest (Err (Refused fault)) = AtNode (λ old new. stands new → Requeues uid dest (book old) (Err fault) (book new))
+  Requeued uid dest (Ok line) =
+      (line ≡ requeued_line)
+      × AtNode (λ old new. stands new → Requeues uid dest (book old) (Ok tt) (book new))
+  Requeued uid dest (Err (Refused fault)) =
+      AtNode (λ old new. stands new → Requeues uid dest (book old) (Err fault) (book new))
   Requeued uid dest (Err halt) = HaltsAs HoldsPlan HoldsCertificate name halt

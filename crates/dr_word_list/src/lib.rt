@@ -1,7 +1,8 @@
 //! The words of the program that only look into a node's ledger or queue a row again.
 //!
-//! - `list_files`, `requeue_files`: the words `list` and `requeue`; `summarize_files`, `requeue_all_files`: with the options that count what there
-//!   is, and that take all held rows to a node.
+//! - `list_files`, `requeue_files`: the words `list` and `requeue`; `summarize_files`,
+//!   `requeue_all_files`: with the options that count what there is, and that take all held rows to
+//!   a node.
 //!
 //! Each comes to its ledger by `open_node` of `dr_run_open`.
 #![tactic(auto)]

@@ -18,8 +18,10 @@ use std::io::Write;
 ///
 /// Errors: Store, Memory.
 fn list_opened<L: Ledger + Drop>(alloc: Global, opened: &mut Opened<L>) -> Result<Text, LedgerFault>
-    ensures report { IfOk result (λ text. L.stands opened.new.ledger → IsReportOf opened.old.site.name (L.book opened.new.ledger) text) }
-    ensures same { L.stands opened.new.ledger → L.book opened.new.ledger ≡ L.book opened.old.ledger }
+    ensures report { IfOk result (λ text. L.stands opened.new.ledger
+        → IsReportOf opened.old.site.name (L.book opened.new.ledger) text) }
+    ensures same { L.stands opened.new.ledger
+        → L.book opened.new.ledger ≡ L.book opened.old.ledger }
 {
     report_of(alloc, opened.site.name(), &mut opened.ledger)
 }
@@ -33,7 +35,9 @@ fn list_node<'a, F: Files, O: Ledgers>(
     ledgers: &O,
     given: NodeFiles<'a>,
 ) -> Result<Text, Halt<'a>>
-    ensures { Lists (F.holds files.now given.entry.plan.now) (F.holds files.now given.entry.certificate.now) (O.opens ledgers.now given.entry.ledger.now) O.Ledger.site O.Ledger.book O.Ledger.stands given.entry.node.now result }
+    ensures { Lists (F.holds files.now given.entry.plan.now)
+        (F.holds files.now given.entry.certificate.now) (O.opens ledgers.now given.entry.ledger.now)
+        O.Ledger.site O.Ledger.book O.Ledger.stands given.entry.node.now result }
 {
     let mut opened = open_node(alloc, files, ledgers, given)?;
     let came = list_opened(alloc, &mut opened);
@@ -55,7 +59,10 @@ pub fn list_files<'a, F: Files, O: Ledgers, W: Write, E: Write>(
     output: &mut W,
     faults: &mut E,
 ) -> Result<Status, Failure<'a>>
-    ensures { IfOk result (λ status. (came : Result Words HaltValue) × Lists (F.holds files.now given.entry.plan.now) (F.holds files.now given.entry.certificate.now) (O.opens ledgers.now given.entry.ledger.now) O.Ledger.site O.Ledger.book O.Ledger.stands given.entry.node.now came
+    ensures { IfOk result (λ status. (came : Result Words HaltValue)
+        × Lists (F.holds files.now given.entry.plan.now)
+        (F.holds files.now given.entry.certificate.now) (O.opens ledgers.now given.entry.ledger.now)
+        O.Ledger.site O.Ledger.book O.Ledger.stands given.entry.node.now came
         × Ends came (W.contents output.old) (W.contents output.new) status) }
 {
     let came = list_node(alloc, files, ledgers, given);

@@ -16,7 +16,8 @@ use std::io::Write;
 /// The line that is printed where a row is queued again.
 const REQUEUED: &[u8] = b"requeued\n";
 
-/// Queues a held row again. The line to be printed is made first, so that none is wanting once the row waits.
+/// Queues a held row again. The line to be printed is made first, so that none is wanting once the
+/// row waits.
 ///
 /// Errors: NotHeld, Store, Memory.
 fn requeue_row<L: Ledger>(
@@ -25,7 +26,12 @@ fn requeue_row<L: Ledger>(
     uid: &str,
     dest: &str,
 ) -> Result<Text, LedgerFault>
-    ensures { MatchResult result (λ line. (line ≡ requeued_line) × (L.stands ledger.new → Requeues uid.now dest.now (L.book ledger.old) (Ok tt) (L.book ledger.new))) (λ why. L.stands ledger.new → Requeues uid.now dest.now (L.book ledger.old) (Err why) (L.book ledger.new)) }
+    ensures { MatchResult result
+        (λ line. (line ≡ requeued_line)
+        × (L.stands ledger.new
+        → Requeues uid.now dest.now (L.book ledger.old) (Ok tt) (L.book ledger.new)))
+        (λ why. L.stands ledger.new
+        → Requeues uid.now dest.now (L.book ledger.old) (Err why) (L.book ledger.new)) }
 {
     let uid = Text::copy_of(alloc, uid.as_bytes())?;
     let dest = Text::copy_of(alloc, dest.as_bytes())?;
@@ -45,7 +51,9 @@ fn requeue_node<'a, F: Files, O: Ledgers>(
     uid: &str,
     dest: &str,
 ) -> Result<Text, Halt<'a>>
-    ensures { Requeued (F.holds files.now given.entry.plan.now) (F.holds files.now given.entry.certificate.now) (O.opens ledgers.now given.entry.ledger.now) O.Ledger.site O.Ledger.book O.Ledger.stands given.entry.node.now uid.now dest.now result }
+    ensures { Requeued (F.holds files.now given.entry.plan.now)
+        (F.holds files.now given.entry.certificate.now) (O.opens ledgers.now given.entry.ledger.now)
+        O.Ledger.site O.Ledger.book O.Ledger.stands given.entry.node.now uid.now dest.now result }
 {
     let mut opened = open_node(alloc, files, ledgers, given)?;
     let came = requeue_row(alloc, &mut opened.ledger, uid, dest);
@@ -56,7 +64,8 @@ fn requeue_node<'a, F: Files, O: Ledgers>(
     }
 }
 
-/// Queues a held row again: that of the instance of this UID to that node. The node's plan, certificate and ledger are in these files.
+/// Queues a held row again: that of the instance of this UID to that node. The node's plan,
+/// certificate and ledger are in these files.
 ///
 /// Errors: Stream, File.
 pub fn requeue_files<'a, F: Files, O: Ledgers, W: Write, E: Write>(
@@ -69,7 +78,10 @@ pub fn requeue_files<'a, F: Files, O: Ledgers, W: Write, E: Write>(
     output: &mut W,
     faults: &mut E,
 ) -> Result<Status, Failure<'a>>
-    ensures { IfOk result (λ status. (came : Result Words HaltValue) × Requeued (F.holds files.now given.entry.plan.now) (F.holds files.now given.entry.certificate.now) (O.opens ledgers.now given.entry.ledger.now) O.Ledger.site O.Ledger.book O.Ledger.stands given.entry.node.now uid.now dest.now came
+    ensures { IfOk result (λ status. (came : Result Words HaltValue)
+        × Requeued (F.holds files.now given.entry.plan.now)
+        (F.holds files.now given.entry.certificate.now) (O.opens ledgers.now given.entry.ledger.now)
+        O.Ledger.site O.Ledger.book O.Ledger.stands given.entry.node.now uid.now dest.now came
         × Ends came (W.contents output.old) (W.contents output.new) status) }
 {
     let came = requeue_node(alloc, files, ledgers, given, uid, dest);

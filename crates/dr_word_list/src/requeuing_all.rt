@@ -2,7 +2,8 @@
 ghost use Rattle.std.specs.Prelude.{◌≡◌, ◌++◌, IfOk, MatchResult, OnOk, Result, flat_map};
 ghost use Rattle.dr_base.specs.Texts.{Text as Words};
 ghost use Rattle.dr_run_open.specs.Ends.{Ends};
-ghost use Rattle.dr_word_list.specs.Requeuings.{RequeuedAll, RequeuesAll, RequeuesEach, RequeuesFirst, RequeuesFirstOf, held_in, uid_line};
+ghost use Rattle.dr_word_list.specs.Requeuings.{RequeuedAll, RequeuesAll, RequeuesEach};
+ghost use Rattle.dr_word_list.specs.Requeuings.{RequeuesFirst, RequeuesFirstOf, held_in, uid_line};
 ghost use Rattle.dr_run_open.specs.declared.halt.Halt.{Halt as HaltValue};
 
 use dr_base::Text;
@@ -51,11 +52,16 @@ fn lines_of(alloc: Global, uids: &[Text]) -> Result<Text, AllocError>
     Ok(Text::from_vec(out))
 }
 
-/// Queues the rows of these instances to that node again, one after the other, until one is refused.
+/// Queues the rows of these instances to that node again, one after the other, until one is
+/// refused.
 ///
 /// Errors: NotHeld, Store, Memory.
 fn requeue_each<L: Ledger>(ledger: &mut L, uids: &[Text], dest: &Text) -> Result<(), LedgerFault>
-    ensures each { MatchResult result (λ _. L.stands ledger.new → RequeuesEach uids.now dest.now (L.book ledger.old) (L.book ledger.new)) (λ _. L.stands ledger.new → RequeuesFirstOf uids.now dest.now (L.book ledger.old) (L.book ledger.new)) }
+    ensures each { MatchResult result
+        (λ _. L.stands ledger.new
+        → RequeuesEach uids.now dest.now (L.book ledger.old) (L.book ledger.new))
+        (λ _. L.stands ledger.new
+        → RequeuesFirstOf uids.now dest.now (L.book ledger.old) (L.book ledger.new)) }
     ensures stood { L.stands ledger.new → L.stands ledger.old }
 {
     for uid in uids {
@@ -64,11 +70,16 @@ fn requeue_each<L: Ledger>(ledger: &mut L, uids: &[Text], dest: &Text) -> Result
     Ok(())
 }
 
-/// Queues all held rows to that node again. The lines to be printed are made first, so that none is wanting once a row waits.
+/// Queues all held rows to that node again. The lines to be printed are made first, so that none is
+/// wanting once a row waits.
 ///
 /// Errors: NotHeld, Store, Memory.
 fn requeue_held<L: Ledger>(alloc: Global, ledger: &mut L, dest: &str) -> Result<Text, LedgerFault>
-    ensures { MatchResult result (λ text. L.stands ledger.new → RequeuesAll dest.now (L.book ledger.old) text (L.book ledger.new)) (λ _. L.stands ledger.new → RequeuesFirst dest.now (L.book ledger.old) (L.book ledger.new)) }
+    ensures { MatchResult result
+        (λ text.
+        L.stands ledger.new → RequeuesAll dest.now (L.book ledger.old) text (L.book ledger.new))
+        (λ _.
+        L.stands ledger.new → RequeuesFirst dest.now (L.book ledger.old) (L.book ledger.new)) }
 {
     let dest = Text::copy_of(alloc, dest.as_bytes())?;
     let rows = ledger.rows()?;
@@ -88,7 +99,9 @@ fn requeue_all_node<'a, F: Files, O: Ledgers>(
     given: NodeFiles<'a>,
     dest: &str,
 ) -> Result<Text, Halt<'a>>
-    ensures { RequeuedAll (F.holds files.now given.entry.plan.now) (F.holds files.now given.entry.certificate.now) (O.opens ledgers.now given.entry.ledger.now) O.Ledger.site O.Ledger.book O.Ledger.stands given.entry.node.now dest.now result }
+    ensures { RequeuedAll (F.holds files.now given.entry.plan.now)
+        (F.holds files.now given.entry.certificate.now) (O.opens ledgers.now given.entry.ledger.now)
+        O.Ledger.site O.Ledger.book O.Ledger.stands given.entry.node.now dest.now result }
 {
     let mut opened = open_node(alloc, files, ledgers, given)?;
     let came = requeue_held(alloc, &mut opened.ledger, dest);
@@ -99,7 +112,8 @@ fn requeue_all_node<'a, F: Files, O: Ledgers>(
     }
 }
 
-/// Queues all held rows to that node again, and prints a line for each. The node's plan, certificate and ledger are in these files.
+/// Queues all held rows to that node again, and prints a line for each. The node's plan,
+/// certificate and ledger are in these files.
 ///
 /// Errors: Stream, File.
 pub fn requeue_all_files<'a, F: Files, O: Ledgers, W: Write, E: Write>(
@@ -111,7 +125,10 @@ pub fn requeue_all_files<'a, F: Files, O: Ledgers, W: Write, E: Write>(
     output: &mut W,
     faults: &mut E,
 ) -> Result<Status, Failure<'a>>
-    ensures { IfOk result (λ status. (came : Result Words HaltValue) × RequeuedAll (F.holds files.now given.entry.plan.now) (F.holds files.now given.entry.certificate.now) (O.opens ledgers.now given.entry.ledger.now) O.Ledger.site O.Ledger.book O.Ledger.stands given.entry.node.now dest.now came
+    ensures { IfOk result (λ status. (came : Result Words HaltValue)
+        × RequeuedAll (F.holds files.now given.entry.plan.now)
+        (F.holds files.now given.entry.certificate.now) (O.opens ledgers.now given.entry.ledger.now)
+        O.Ledger.site O.Ledger.book O.Ledger.stands given.entry.node.now dest.now came
         × Ends came (W.contents output.old) (W.contents output.new) status) }
 {
     let came = requeue_all_node(alloc, files, ledgers, given, dest);

@@ -5,7 +5,8 @@ ghost use Rattle.dr_ledger_report.specs.Reports.{next_field};
 ghost use Rattle.dr_run_open.specs.Ends.{Ends};
 ghost use Rattle.dr_run_open.specs.Hops.{hops_from};
 ghost use Rattle.dr_run_open.specs.Queues.{how_many as number_of};
-ghost use Rattle.dr_word_list.specs.Summaries.{AreQueueLines, IsQueueLine, IsSummary, IsSummaryOf, Summarizes, count_line, moment_field, queue_line};
+ghost use Rattle.dr_word_list.specs.Summaries.{AreQueueLines, IsQueueLine, IsSummary, IsSummaryOf};
+ghost use Rattle.dr_word_list.specs.Summaries.{Summarizes, count_line, moment_field, queue_line};
 ghost use Rattle.dr_run_open.specs.declared.halt.Halt.{Halt as HaltValue};
 
 use dr_base::Text;
@@ -39,7 +40,10 @@ fn put_stage(
     dest: &Text,
     stage: RowStage,
 ) -> Result<(), AllocError>
-    ensures { OnOk result (out.new.items ≡ out.old.items ++ (next_field word.now ++ next_field (decimal (number_of rows.now dest.now stage)))) }
+    ensures { OnOk result
+        (out.new.items
+        ≡ out.old.items
+        ++ (next_field word.now ++ next_field (decimal (number_of rows.now dest.now stage)))) }
 {
     put_field(out, word)?;
     put_number(out, how_many(rows, dest, stage) as u64)
@@ -77,7 +81,10 @@ fn put_queue_line(
 
 /// Adds the line of a node to which this one sends.
 fn put_queue(out: &mut Vec<u8>, rows: &[Row], dest: &Text) -> Result<(), AllocError>
-    ensures { OnOk result ((line : Words) × IsQueueLine rows.now dest.now line × (out.new.items ≡ out.old.items ++ line)) }
+    ensures { OnOk result
+        ((line : Words)
+        × IsQueueLine rows.now dest.now line
+        × (out.new.items ≡ out.old.items ++ line)) }
 {
     let moment = oldest(rows, dest);
     put_queue_line(out, rows, dest, moment)?;
@@ -86,7 +93,10 @@ fn put_queue(out: &mut Vec<u8>, rows: &[Row], dest: &Text) -> Result<(), AllocEr
 
 /// Adds the lines of the nodes to which these hops lead.
 fn put_queues(out: &mut Vec<u8>, rows: &[Row], hops: &[NextHop]) -> Result<(), AllocError>
-    ensures { OnOk result ((lines : Words) × AreQueueLines rows.now hops.now lines × (out.new.items ≡ out.old.items ++ lines)) }
+    ensures { OnOk result
+        ((lines : Words)
+        × AreQueueLines rows.now hops.now lines
+        × (out.new.items ≡ out.old.items ++ lines)) }
 {
     for hop in hops {
         put_queue(out, rows, &hop.dest)?;
@@ -94,7 +104,8 @@ fn put_queues(out: &mut Vec<u8>, rows: &[Row], hops: &[NextHop]) -> Result<(), A
     Ok(())
 }
 
-/// The lines of a node with so many arrivals and kept instances, these rows, and so many lines in its journal.
+/// The lines of a node with so many arrivals and kept instances, these rows, and so many lines in
+/// its journal.
 fn summary_text(
     alloc: Global,
     name: &Text,
@@ -124,7 +135,8 @@ fn summary_of<L: Ledger>(
     hops: &[NextHop],
     ledger: &mut L,
 ) -> Result<Text, LedgerFault>
-    ensures summary { IfOk result (λ text. L.stands ledger.new → IsSummaryOf name.now hops.now (L.book ledger.new) text) }
+    ensures summary { IfOk result (λ text.
+        L.stands ledger.new → IsSummaryOf name.now hops.now (L.book ledger.new) text) }
     ensures same { L.stands ledger.new → L.book ledger.new ≡ L.book ledger.old }
     ensures stood { L.stands ledger.new → L.stands ledger.old }
 {
@@ -151,8 +163,11 @@ fn summarize_opened<L: Ledger + Drop>(
     alloc: Global,
     opened: &mut Opened<L>,
 ) -> Result<Text, LedgerFault>
-    ensures summary { IfOk result (λ text. L.stands opened.new.ledger → IsSummaryOf opened.old.site.name (hops_from opened.old.site opened.old.sealed.plan.nodes) (L.book opened.new.ledger) text) }
-    ensures same { L.stands opened.new.ledger → L.book opened.new.ledger ≡ L.book opened.old.ledger }
+    ensures summary { IfOk result (λ text. L.stands opened.new.ledger
+        → IsSummaryOf opened.old.site.name (hops_from opened.old.site opened.old.sealed.plan.nodes)
+        (L.book opened.new.ledger) text) }
+    ensures same { L.stands opened.new.ledger
+        → L.book opened.new.ledger ≡ L.book opened.old.ledger }
 {
     let hops = hops_of(alloc, &opened.site, opened.sealed.plan())?;
     summary_of(
@@ -172,7 +187,9 @@ fn summarize_node<'a, F: Files, O: Ledgers>(
     ledgers: &O,
     given: NodeFiles<'a>,
 ) -> Result<Text, Halt<'a>>
-    ensures { Summarizes (F.holds files.now given.entry.plan.now) (F.holds files.now given.entry.certificate.now) (O.opens ledgers.now given.entry.ledger.now) O.Ledger.site O.Ledger.book O.Ledger.stands given.entry.node.now result }
+    ensures { Summarizes (F.holds files.now given.entry.plan.now)
+        (F.holds files.now given.entry.certificate.now) (O.opens ledgers.now given.entry.ledger.now)
+        O.Ledger.site O.Ledger.book O.Ledger.stands given.entry.node.now result }
 {
     let mut opened = open_node(alloc, files, ledgers, given)?;
     let came = summarize_opened(alloc, &mut opened);
@@ -194,7 +211,10 @@ pub fn summarize_files<'a, F: Files, O: Ledgers, W: Write, E: Write>(
     output: &mut W,
     faults: &mut E,
 ) -> Result<Status, Failure<'a>>
-    ensures { IfOk result (λ status. (came : Result Words HaltValue) × Summarizes (F.holds files.now given.entry.plan.now) (F.holds files.now given.entry.certificate.now) (O.opens ledgers.now given.entry.ledger.now) O.Ledger.site O.Ledger.book O.Ledger.stands given.entry.node.now came
+    ensures { IfOk result (λ status. (came : Result Words HaltValue)
+        × Summarizes (F.holds files.now given.entry.plan.now)
+        (F.holds files.now given.entry.certificate.now) (O.opens ledgers.now given.entry.ledger.now)
+        O.Ledger.site O.Ledger.book O.Ledger.stands given.entry.node.now came
         × Ends came (W.contents output.old) (W.contents output.new) status) }
 {
     let came = summarize_node(alloc, files, ledgers, given);

@@ -16,11 +16,13 @@ use Rattle.dr_run_open.specs.Sealings.{IsFaultOf, IsTextOf}
 use Rattle.dr_run_open.specs.declared.status.Status.{Status}
 use Rattle.dr_run_open.specs.declared.status.Status.TheVariants.{Refused, Memory}
 use Rattle.dr_word_line.specs.declared.words.Question.{Question}
-use Rattle.dr_word_line.specs.declared.words.Question.TheVariants.{RouteOfKey, RouteOfFile, Graph, Lint}
+use Rattle.dr_word_line.specs.declared.words.Question.TheVariants.{RouteOfKey, RouteOfFile, Graph}
+use Rattle.dr_word_line.specs.declared.words.Question.TheVariants.{Lint}
 use Rattle.dr_cert_lint.specs.Graphs.{IsGraphText}
 use Rattle.dr_cert_lint.specs.Findings.{IsLintText}
 use Rattle.dr_word_route.specs.Keys.{ReadsFileKey, ReadsWords}
-use Rattle.dr_word_route.specs.Replies.{IsRouteReply, IsSiteReply, IsTextReply, printed_for, status_for}
+use Rattle.dr_word_route.specs.Replies.{IsRouteReply, IsSiteReply, IsTextReply, printed_for}
+use Rattle.dr_word_route.specs.Replies.{status_for}
 use Rattle.dr_word_route.specs.declared.reply.Response.{Response}
 
 -- the reply is printed after what the output held, and the program ends with its status
@@ -32,41 +34,53 @@ pub record IsTold (reply : Response) (old new : Option (List ℕ)) (status : Sta
 abbrev pub Replies : (Response → Type 0) → Option (List ℕ) → Option (List ℕ) → Status → Type 0
 Replies May old new status = (reply : Response) × May reply × IsTold reply old new status
 
--- A run on a question about a sealed plan; a file of the path, of which `Holds` says what bytes it holds, is read only where the node at
--- which its instance would enter is one of the plan.
-abbrev pub Responds : (List ℕ → Text → Type 0) → Network → Certificate → Question → Option (List ℕ) → Option (List ℕ) → Status → Type 0
-Responds Holds plan certificate (RouteOfKey at words) old new status = Replies (IsRouteReply plan at.now (ReadsWords words)) old new status
+-- A run on a question about a sealed plan; a file of the path, of which `Holds` says what bytes it
+-- holds, is read only where the node at which its instance would enter is one of the plan.
+abbrev pub Responds : (List ℕ → Text → Type 0) → Network → Certificate → Question → Option (List ℕ)
+    → Option (List ℕ) → Status → Type 0
+Responds Holds plan certificate (RouteOfKey at words) old new status =
+    Replies (IsRouteReply plan at.now (ReadsWords words)) old new status
 Responds Holds plan certificate (RouteOfFile at path) old new status =
     Replies (IsSiteReply plan at.now) old new status
-    ⊎ ((bytes : Text) × Holds path.now bytes × Replies (IsRouteReply plan at.now (ReadsFileKey bytes)) old new status)
-Responds Holds plan certificate Graph old new status = Replies (IsTextReply (IsGraphText plan certificate)) old new status
-Responds Holds plan certificate Lint old new status = Replies (IsTextReply (IsLintText plan)) old new status
+    ⊎ ((bytes : Text) × Holds path.now bytes
+    × Replies (IsRouteReply plan at.now (ReadsFileKey bytes)) old new status)
+Responds Holds plan certificate Graph old new status =
+    Replies (IsTextReply (IsGraphText plan certificate)) old new status
+Responds Holds plan certificate Lint old new status =
+    Replies (IsTextReply (IsLintText plan)) old new status
 
--- a run in which the text is refused as the plan's certificate, or memory ran out over it: nothing is printed
-pub record Unseals (plan : Network) (text : Text) (old new : Option (List ℕ)) (status : Status) : Type 0 where
+-- a run in which the text is refused as the plan's certificate, or memory ran out over it: nothing
+-- is printed
+pub record Unseals (plan : Network) (text : Text) (old new : Option (List ℕ))
+    (status : Status) : Type 0 where
   pub fault : CertFault
   pub right : (fault ≢ NoMemory) → IsFaultOf plan text fault × (status ≡ Refused)
   pub memory : fault ≡ NoMemory → status ≡ Memory
   pub nothing : Appends old new []
 
 -- a run in which the text is that of the certificate of a sound plan: the question is answered
-pub record Seals (Holds : List ℕ → Text → Type 0) (question : Question) (plan : Network) (text : Text) (old new : Option (List ℕ)) (status : Status) : Type 0 where
+pub record Seals (Holds : List ℕ → Text → Type 0) (question : Question) (plan : Network)
+    (text : Text) (old new : Option (List ℕ)) (status : Status) : Type 0 where
   pub certificate : Certificate
   pub written : IsTextOf text certificate
   pub sound : IsSound plan
   pub own : IsCertificateOf plan certificate
   pub responds : Responds Holds plan certificate question old new status
 
--- a run for a text that has a plan: another text, which the file of the certificate holds, is refused as its certificate or is it
-pub record Judges (Holds : List ℕ → Text → Type 0) (path : List ℕ) (question : Question) (text : Text) (old new : Option (List ℕ)) (status : Status) : Type 0 where
+-- a run for a text that has a plan: another text, which the file of the certificate holds, is
+-- refused as its certificate or is it
+pub record Judges (Holds : List ℕ → Text → Type 0) (path : List ℕ) (question : Question)
+    (text : Text) (old new : Option (List ℕ)) (status : Status) : Type 0 where
   pub plan : Network
   pub reads : Reads text (Ok plan)
   pub second : Text
   pub held : Holds path second
   pub judged : Unseals plan second old new status ⊎ Seals Holds question plan second old new status
 
--- a run on a question about the plan in the one file, whose certificate is in the other: the first text has no plan, or it goes on to the
--- certificate and the question
-abbrev pub Asks : (List ℕ → Text → Type 0) → Bor (List ℕ) → Bor (List ℕ) → Question → Option (List ℕ) → Option (List ℕ) → Status → Type 0
+-- a run on a question about the plan in the one file, whose certificate is in the other: the first
+-- text has no plan, or it goes on to the certificate and the question
+abbrev pub Asks : (List ℕ → Text → Type 0) → Bor (List ℕ) → Bor (List ℕ) → Question
+    → Option (List ℕ) → Option (List ℕ) → Status → Type 0
 Asks Holds plan certificate question old new status =
-    (text : Text) × Holds plan.now text × (Refuses text old new status ⊎ Judges Holds certificate.now question text old new status)
+    (text : Text) × Holds plan.now text
+    × (Refuses text old new status ⊎ Judges Holds certificate.now question text old new status)

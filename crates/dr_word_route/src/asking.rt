@@ -27,7 +27,8 @@ fn write_reply<W: Write, E: Write>(
     output: &mut W,
     faults: &mut E,
 ) -> io::Result<()>
-    ensures { OnOk result (Appends (W.contents output.old) (W.contents output.new) (printed_for reply.now)) }
+    ensures { OnOk result
+        (Appends (W.contents output.old) (W.contents output.new) (printed_for reply.now)) }
 {
     match reply {
         Response::Printed(text) => output.write_all(text.as_bytes()),
@@ -53,7 +54,9 @@ fn ask_key<W: Write, E: Write>(
     output: &mut W,
     faults: &mut E,
 ) -> io::Result<Status>
-    ensures { IfOk result (Replies (IsRouteReply sealed.now.plan at.now (ReadsWords words.now)) (W.contents output.old) (W.contents output.new)) }
+    ensures { IfOk result
+        (Replies (IsRouteReply sealed.now.plan at.now (ReadsWords words.now))
+        (W.contents output.old) (W.contents output.new)) }
 {
     let site = match site_of(alloc, sealed.plan(), at) {
         Ok(site) => site,
@@ -69,7 +72,8 @@ fn ask_key<W: Write, E: Write>(
     Ok(status)
 }
 
-/// Tells where the instance in the file goes that enters at the node of that name; the file is read where there is such a node.
+/// Tells where the instance in the file goes that enters at the node of that name; the file is read
+/// where there is such a node.
 fn ask_file<'a, F: Files, W: Write, E: Write>(
     alloc: Global,
     sealed: &Sealed,
@@ -79,8 +83,12 @@ fn ask_file<'a, F: Files, W: Write, E: Write>(
     output: &mut W,
     faults: &mut E,
 ) -> Result<Status, Failure<'a>>
-    ensures { IfOk result (λ status. Replies (IsSiteReply sealed.now.plan at.now) (W.contents output.old) (W.contents output.new) status
-        ⊎ ((bytes : Text) × F.holds files.now path.now bytes × Replies (IsRouteReply sealed.now.plan at.now (ReadsFileKey bytes)) (W.contents output.old) (W.contents output.new) status)) }
+    ensures { IfOk result (λ status. Replies (IsSiteReply sealed.now.plan at.now)
+        (W.contents output.old) (W.contents output.new) status
+        ⊎ ((bytes : Text)
+        × F.holds files.now path.now bytes
+        × Replies (IsRouteReply sealed.now.plan at.now (ReadsFileKey bytes)) (W.contents output.old)
+        (W.contents output.new) status)) }
 {
     let site = match site_of(alloc, sealed.plan(), at) {
         Ok(site) => site,
@@ -105,7 +113,9 @@ fn respond<'a, F: Files, W: Write, E: Write>(
     output: &mut W,
     faults: &mut E,
 ) -> Result<Status, Failure<'a>>
-    ensures { IfOk result (Responds (F.holds files.now) sealed.now.plan sealed.now.certificate question.entry (W.contents output.old) (W.contents output.new)) }
+    ensures { IfOk result
+        (Responds (F.holds files.now) sealed.now.plan sealed.now.certificate question.entry
+        (W.contents output.old) (W.contents output.new)) }
 {
     match question {
         Question::RouteOfKey(at, words) => {
@@ -148,8 +158,10 @@ fn ask_sealed<'a, F: Files, W: Write, E: Write>(
     output: &mut W,
     faults: &mut E,
 ) -> Result<Status, Failure<'a>>
-    ensures { IfOk result (λ status. Unseals plan text.now (W.contents output.old) (W.contents output.new) status
-        ⊎ Seals (F.holds files.now) question.entry plan text.now (W.contents output.old) (W.contents output.new) status) }
+    ensures { IfOk result
+        (λ status. Unseals plan text.now (W.contents output.old) (W.contents output.new) status
+        ⊎ Seals (F.holds files.now) question.entry plan text.now (W.contents output.old)
+        (W.contents output.new) status) }
 {
     let sealed = match seal_text(alloc, plan, text) {
         Ok(sealed) => sealed,
@@ -163,7 +175,8 @@ fn ask_sealed<'a, F: Files, W: Write, E: Write>(
     status
 }
 
-/// Answers a question about the plan of a text, whose certificate is in a file, which is read only where the text has a plan.
+/// Answers a question about the plan of a text, whose certificate is in a file, which is read only
+/// where the text has a plan.
 fn ask_text<'a, F: Files, W: Write, E: Write>(
     alloc: Global,
     text: &[u8],
@@ -173,8 +186,10 @@ fn ask_text<'a, F: Files, W: Write, E: Write>(
     output: &mut W,
     faults: &mut E,
 ) -> Result<Status, Failure<'a>>
-    ensures { IfOk result (λ status. Refuses text.now (W.contents output.old) (W.contents output.new) status
-        ⊎ Judges (F.holds files.now) certificate.now question.entry text.now (W.contents output.old) (W.contents output.new) status) }
+    ensures { IfOk result
+        (λ status. Refuses text.now (W.contents output.old) (W.contents output.new) status
+        ⊎ Judges (F.holds files.now) certificate.now question.entry text.now (W.contents output.old)
+        (W.contents output.new) status) }
 {
     let plan = match plan_of(alloc, text) {
         Ok(plan) => plan,
@@ -212,7 +227,9 @@ pub fn ask_files<'a, F: Files, W: Write, E: Write>(
     output: &mut W,
     faults: &mut E,
 ) -> Result<Status, Failure<'a>>
-    ensures { IfOk result (Asks (F.holds files.now) plan.entry certificate.entry question.entry (W.contents output.old) (W.contents output.new)) }
+    ensures { IfOk result
+        (Asks (F.holds files.now) plan.entry certificate.entry question.entry
+        (W.contents output.old) (W.contents output.new)) }
 {
     let text = read_file(alloc, files, plan)?;
     ask_text(

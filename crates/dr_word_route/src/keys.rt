@@ -1,7 +1,8 @@
 //! The key of an instance, of its words or of its file.
 ghost use Rattle.std.specs.Prelude.{◌≡◌, ◌≢◌, IfOk, MatchOption};
 ghost use Rattle.dr_plan_model.specs.Plans.{IsTheNode, NamesNoNode};
-ghost use Rattle.dr_word_route.specs.Keys.{ReadsDataSet, ReadsFileKey, ReadsItemKey, ReadsSite, ReadsWords};
+ghost use Rattle.dr_word_route.specs.Keys.{ReadsDataSet, ReadsFileKey, ReadsItemKey, ReadsSite};
+ghost use Rattle.dr_word_route.specs.Keys.{ReadsWords};
 
 use crate::reply::Unanswered;
 use dr_base::{Syntax, Text};
@@ -15,7 +16,8 @@ use std::alloc::{AllocError, Global};
 
 /// The node of that name, and None for a stranger.
 fn known_node<'a>(plan: &'a Plan, name: &Text) -> Option<&'a Node>
-    ensures { MatchOption result (NamesNoNode plan.now name.now) (λ node. IsTheNode plan.now name.now node.now) }
+    ensures { MatchOption result (NamesNoNode plan.now name.now) (λ node.
+        IsTheNode plan.now name.now node.now) }
 {
     plan.node(name)
 }
@@ -37,7 +39,10 @@ pub fn site_of(alloc: Global, plan: &Plan, at: &str) -> Result<Text, Unanswered>
 
 /// The key with these words, in that transfer syntax.
 fn key_in(alloc: Global, words: &KeyWords<'_>, syntax: Syntax) -> Result<Key, AllocError>
-    ensures { IfOk result (λ key. (key.class ≡ words.now.class.now) × (key.syntax ≡ syntax) × (key.modality ≡ words.now.modality.now) × (key.station ≡ words.now.station.now)) }
+    ensures { IfOk result (λ key. (key.class ≡ words.now.class.now)
+        × (key.syntax ≡ syntax)
+        × (key.modality ≡ words.now.modality.now)
+        × (key.station ≡ words.now.station.now)) }
 {
     Ok(Key {
         class: Text::copy_of(alloc, words.class.as_bytes())?,

@@ -1,5 +1,5 @@
-//! The words of the program `dr_router` that ask about a plan with its certificate: `route`, `graph` and `lint`. And all words for
-//! plans: `check` and `verify` (`dr_word_check`), and these.
+//! The words of the program `dr_router` that ask about a plan with its certificate: `route`,
+//! `graph` and `lint`. And all words for plans: `check` and `verify` (`dr_word_check`), and these.
 #![tactic(auto)]
 
 mod asking;

@@ -14,7 +14,8 @@ pub enum Unanswered {
     /// The plan has no node of that name.
     #[error("NoNode")]
     NoNode,
-    /// The file is none that can be read, or the transfer syntax none in which instances are routed.
+    /// The file is none that can be read, or the transfer syntax none in which instances are
+    /// routed.
     #[error("{0}")]
     File(FileFault),
     /// The file's data set is no item.

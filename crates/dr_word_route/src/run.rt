@@ -30,13 +30,25 @@ pub fn run_asked<'a, R: Read, W: Write, E: Write, F: Files>(
     files: &F,
 ) -> Result<Status, Failure<'a>>
     ensures known { asked.entry ≡ asks.CheckInput → IfOk result (λ status. status ≢ Usage) }
-    ensures answered { asked.entry ≡ asks.CheckInput → IfOk result (λ status. IfSome (R.remaining input.old) (λ text. Answers text (W.contents output.old) (W.contents output.new) status)) }
-    ensures checked { (plan : Bor (List ℕ)) → asked.entry ≡ asks.CheckFile plan
-        → IfOk result (λ status. (text : Text) × F.holds files.now plan.now text × Answers text (W.contents output.old) (W.contents output.new) status) }
-    ensures verified { (plan certificate : Bor (List ℕ)) → asked.entry ≡ asks.Verify plan certificate
-        → IfOk result (λ status. (text : Text) × F.holds files.now plan.now text × Verifies (F.holds files.now certificate.now) text (W.contents output.old) (W.contents output.new) status) }
-    ensures responded { (plan certificate : Bor (List ℕ)) (question : QuestionValue) → asked.entry ≡ asks.Question plan certificate question
-        → IfOk result (Asks (F.holds files.now) plan certificate question (W.contents output.old) (W.contents output.new)) }
+    ensures answered { asked.entry ≡ asks.CheckInput
+        → IfOk result (λ status. IfSome (R.remaining input.old) (λ text.
+        Answers text (W.contents output.old) (W.contents output.new) status)) }
+    ensures checked { (plan : Bor (List ℕ))
+        → asked.entry ≡ asks.CheckFile plan
+        → IfOk result (λ status. (text : Text)
+        × F.holds files.now plan.now text
+        × Answers text (W.contents output.old) (W.contents output.new) status) }
+    ensures verified { (plan certificate : Bor (List ℕ))
+        → asked.entry ≡ asks.Verify plan certificate
+        → IfOk result (λ status. (text : Text)
+        × F.holds files.now plan.now text
+        × Verifies (F.holds files.now certificate.now) text (W.contents output.old)
+        (W.contents output.new) status) }
+    ensures responded { (plan certificate : Bor (List ℕ)) (question : QuestionValue)
+        → asked.entry ≡ asks.Question plan certificate question
+        → IfOk result
+        (Asks (F.holds files.now) plan certificate question (W.contents output.old)
+        (W.contents output.new)) }
 {
     match asked {
         Task::Question(plan, certificate, question) => {
@@ -46,7 +58,8 @@ pub fn run_asked<'a, R: Read, W: Write, E: Write, F: Files>(
     }
 }
 
-/// Runs the program for plans on the words of its command line, without the program's own name, and answers how it ends.
+/// Runs the program for plans on the words of its command line, without the program's own name, and
+/// answers how it ends.
 pub fn run_words<R: Read, W: Write, E: Write, F: Files>(
     alloc: Global,
     words: &[&str],
@@ -56,14 +69,27 @@ pub fn run_words<R: Read, W: Write, E: Write, F: Files>(
     files: &F,
 ) -> Status
     ensures known { IsPlainCheck words.now → result ≢ Usage }
-    ensures answered { IsPlainCheck words.now → (result ≡ Success) ⊎ (result ≡ Refused)
-        → IfSome (R.remaining input.old) (λ text. Answers text (W.contents output.old) (W.contents output.new) result) }
-    ensures checked { (plan : Bor (List ℕ)) → IsCheckOf words.now plan → (result ≡ Success) ⊎ (result ≡ Refused)
-        → (text : Text) × F.holds files.now plan.now text × Answers text (W.contents output.old) (W.contents output.new) result }
-    ensures verified { (plan certificate : Bor (List ℕ)) → IsVerifyOf words.now plan certificate → (result ≡ Success) ⊎ (result ≡ Refused)
-        → (text : Text) × F.holds files.now plan.now text × Verifies (F.holds files.now certificate.now) text (W.contents output.old) (W.contents output.new) result }
-    ensures responded { (plan certificate : Bor (List ℕ)) (question : QuestionValue) → IsQuestionOf words.now plan certificate question → (result ≡ Success) ⊎ (result ≡ Refused)
-        → Asks (F.holds files.now) plan certificate question (W.contents output.old) (W.contents output.new) result }
+    ensures answered { IsPlainCheck words.now
+        → (result ≡ Success) ⊎ (result ≡ Refused)
+        → IfSome (R.remaining input.old) (λ text.
+        Answers text (W.contents output.old) (W.contents output.new) result) }
+    ensures checked { (plan : Bor (List ℕ)) → IsCheckOf words.now plan
+        → (result ≡ Success) ⊎ (result ≡ Refused)
+        → (text : Text)
+        × F.holds files.now plan.now text
+        × Answers text (W.contents output.old) (W.contents output.new) result }
+    ensures verified { (plan certificate : Bor (List ℕ))
+        → IsVerifyOf words.now plan certificate
+        → (result ≡ Success) ⊎ (result ≡ Refused)
+        → (text : Text)
+        × F.holds files.now plan.now text
+        × Verifies (F.holds files.now certificate.now) text (W.contents output.old)
+        (W.contents output.new) result }
+    ensures responded { (plan certificate : Bor (List ℕ)) (question : QuestionValue)
+        → IsQuestionOf words.now plan certificate question
+        → (result ≡ Success) ⊎ (result ≡ Refused)
+        → Asks (F.holds files.now) plan certificate question (W.contents output.old)
+        (W.contents output.new) result }
 {
     let asked = match read_words(alloc, words) {
         Ok(asked) => asked,

@@ -37,7 +37,8 @@ local_caller = codes "-"
 -- what comes of a file that is to have an instance
 abbrev pub ReadsFrom : (Text → Type 0) → Result Job Halt → Type 0
 ReadsFrom HoldsFile (Ok item) = (text : Text) × HoldsFile text × ReadsInstance text (Ok item)
-ReadsFrom HoldsFile (Err (NoInstance fault)) = (text : Text) × HoldsFile text × ReadsInstance text (Err fault)
+ReadsFrom HoldsFile (Err (NoInstance fault)) =
+    (text : Text) × HoldsFile text × ReadsInstance text (Err fault)
 ReadsFrom HoldsFile (Err (Failed failure)) = Unit {0}
 ReadsFrom HoldsFile (Err halt) = ⊥
 
@@ -48,32 +49,55 @@ IsUnsent (Failed failure) = Unit {0}
 IsUnsent Memory = Unit {0}
 IsUnsent halt = ⊥
 
--- each hop of the site is visited once, in order, up to the last, over links that lead to its address
-abbrev pub VisitsBy : {K S : Type 0} (reaches : Text → K → Type 0) (hears : K → Heard → K → Type 0) (sends : K → List ℕ → Bool → K → Type 0) (closes : K → K → Type 0)
-    (step : S → DeskCall → DeskAnswer → S → Type 0) (tells : ℕ → Type 0) → Part → List NextHop → S → S → Type 0
-VisitsBy reaches hears sends closes step tells site hops s t =
-    VisitsEach (λ hop a came b. Visits reaches hears sends closes step tells site hop.dest hop.address a came b) hops s (Ok tt) t
+-- each hop of the site is visited once, in order, up to the last, over links that lead to its
+-- address
+abbrev pub VisitsBy : {K S : Type 0} (reaches : Text → K → Type 0) (hears : K → Heard → K → Type 0)
+    (sends : K → List ℕ → Bool → K → Type 0) (closes : K → K → Type 0)
+    (step : S → DeskCall → DeskAnswer → S → Type 0) (tells : ℕ → Type 0)
+    → Part → List NextHop → S → S → Type 0
+VisitsBy reaches hears sends closes step tells site hops s t = VisitsEach
+    (λ hop a came b.
+    Visits reaches hears sends closes step tells site hop.dest hop.address a came b) hops s (Ok tt)
+    t
 
-module _ {L : Type 0} (book : L → Book) (stands : L → Type 0) (VisitsAll : Part → List NextHop → OwnPort L → OwnPort L → Type 0) where
+module _ {L : Type 0} (book : L → Book) (stands : L → Type 0)
+    (VisitsAll : Part → List NextHop → OwnPort L → OwnPort L → Type 0) where
   -- all hops are visited, and the text is the report of what the ledger then has
   abbrev pub ReportsVisited : Part → List NextHop → OwnPort L → Text → Type 0
-  ReportsVisited site hops first report = (visited : OwnPort L) × (last : L) × VisitsAll site hops first visited
-      × (stands last → stands visited.desk.ledger × (book last ≡ book visited.desk.ledger) × IsReportOf site.name (book last) report)
+  ReportsVisited site hops first report =
+      (visited : OwnPort L) × (last : L)
+      × VisitsAll site hops first visited
+      × (stands last
+      → stands visited.desk.ledger
+      × (book last ≡ book visited.desk.ledger)
+      × IsReportOf site.name (book last) report)
 
-  -- an instance that enters at the node arrives at its ledger, that is printed, and then all hops are visited
+  -- an instance that enters at the node arrives at its ledger, that is printed, and then all hops
+  -- are visited
   abbrev pub SentFrom : Part → List NextHop → Job → L → Text → Option Text → Option Text → Type 0
-  SentFrom site hops item old report before after = (arrived : Arrived) × (first : OwnPort L)
-      × (stands first.desk.ledger → Arrives (site_routing site) local_caller (instance_of item) (book old) (Ok arrived) (book first.desk.ledger))
-      × Appends before after (arrived_line arrived) × ReportsVisited site hops first report
+  SentFrom site hops item old report before after =
+      (arrived : Arrived) × (first : OwnPort L)
+      × (stands first.desk.ledger
+      → Arrives (site_routing site) local_caller (instance_of item) (book old) (Ok arrived)
+      (book first.desk.ledger))
+      × Appends before after (arrived_line arrived)
+      × ReportsVisited site hops first report
 
-module _ {L : Type 0} (HoldsPlan HoldsCertificate HoldsFile : Text → Type 0) (MayOpen : L → Type 0) (site_of : L → Part) (book : L → Book) (stands : L → Type 0)
+module _ {L : Type 0} (HoldsPlan HoldsCertificate HoldsFile : Text → Type 0) (MayOpen : L → Type 0)
+    (site_of : L → Part) (book : L → Book) (stands : L → Type 0)
     (VisitsAll : Part → List NextHop → OwnPort L → OwnPort L → Type 0) (name : Text) where
-  -- `send`: the instance in the file arrives, each hop of the site to a node of the plan is visited, and the report is what the node then
-  -- has; or the file has no instance, or the ledger refuses, or why it doesn't come to that. What is printed on the way stands between
-  -- what the output had before and after.
+  -- `send`: the instance in the file arrives, each hop of the site to a node of the plan is
+  -- visited, and the report is what the node then has; or the file has no instance, or the ledger
+  -- refuses, or why it doesn't come to that. What is printed on the way stands between what the
+  -- output had before and after.
   abbrev pub Sends : Result Text Halt → Option Text → Option Text → Type 0
-  Sends (Ok report) before after = AtOpened HoldsPlan HoldsCertificate MayOpen site_of book stands name
-      (λ sealed site old. (item : Job) × ReadsFrom HoldsFile (Ok item) × SentFrom book stands VisitsAll site (hops_from site sealed.plan.nodes) item old report before after)
-  Sends (Err (NoInstance fault)) before after = AtOpened HoldsPlan HoldsCertificate MayOpen site_of book stands name (λ sealed site old. ReadsFrom HoldsFile (Err (NoInstance fault)))
-  Sends (Err (Refused fault)) before after = AtOpened HoldsPlan HoldsCertificate MayOpen site_of book stands name (λ sealed site old. (item : Job) × ReadsFrom HoldsFile (Ok item))
+  Sends (Ok report) before after = AtOpened HoldsPlan HoldsCertificate MayOpen site_of book stands
+      name (λ sealed site old. (item : Job)
+      × ReadsFrom HoldsFile (Ok item)
+      × SentFrom book stands VisitsAll site (hops_from site sealed.plan.nodes) item old report
+      before after)
+  Sends (Err (NoInstance fault)) before after = AtOpened HoldsPlan HoldsCertificate MayOpen site_of
+      book stands name (λ sealed site old. ReadsFrom HoldsFile (Err (NoInstance fault)))
+  Sends (Err (Refused fault)) before after = AtOpened HoldsPlan HoldsCertificate MayOpen site_of
+      book stands name (λ sealed site old. (item : Job) × ReadsFrom HoldsFile (Ok item))
   Sends (Err halt) before after = HaltsAs HoldsPlan HoldsCertificate name halt

@@ -90,7 +90,10 @@ fn serve_ledger<
     log: &G,
 ) -> Result<Text, Halt<'a>>
     requires { L.site ledger ≡ site }
-    ensures { MatchResult result (λ text. (last : L) × (L.stands last → Grew site name.now (L.book ledger) (L.book last) text)) IsUnserved }
+    ensures { MatchResult result
+        (λ text.
+        (last : L) × (L.stands last → Grew site name.now (L.book ledger) (L.book last) text))
+        IsUnserved }
 {
     let served = serve::<R, L, K, D, N, C, G>(
         rt, alloc, ledger, site, hops, listener, links, network, clock, log,
@@ -128,7 +131,10 @@ fn serve_opened<
     log: &G,
 ) -> Result<Text, Halt<'a>>
     requires { L.site opened.ledger ≡ opened.site }
-    ensures { MatchResult result (λ text. (last : L) × (L.stands last → Grew opened.site opened.site.name (L.book opened.ledger) (L.book last) text)) IsUnserved }
+    ensures { MatchResult result
+        (λ text. (last : L)
+        × (L.stands last
+        → Grew opened.site opened.site.name (L.book opened.ledger) (L.book last) text)) IsUnserved }
 {
     let Ok(hops) = hops_of(alloc, &opened.site, opened.sealed.plan()) else {
         drop(opened);
@@ -160,7 +166,8 @@ fn tell_serving<G: Monitor>(log: &G, given: NodeFiles<'_>, links: u64) {
 
 /// Opens a node and serves at its address; the report of what it then has.
 ///
-/// Errors: those of `open_node`; Failed with the node's name where its address can't be listened at; those of `serve_opened`.
+/// Errors: those of `open_node`; Failed with the node's name where its address can't be listened
+/// at; those of `serve_opened`.
 fn serve_node<
     'a,
     R: Threads + Wait + Sync + time::Clock,
@@ -184,7 +191,9 @@ where
     O::Ledger: Send,
     N::Socket: Send,
     N::Listener: Sync,
-    ensures { Serves (F.holds files.now given.entry.plan.now) (F.holds files.now given.entry.certificate.now) (O.opens ledgers.now given.entry.ledger.now) O.Ledger.site O.Ledger.book O.Ledger.stands given.entry.node.now result }
+    ensures { Serves (F.holds files.now given.entry.plan.now)
+        (F.holds files.now given.entry.certificate.now) (O.opens ledgers.now given.entry.ledger.now)
+        O.Ledger.site O.Ledger.book O.Ledger.stands given.entry.node.now result }
 {
     let opened = open_node(alloc, files, ledgers, given)?;
     let listener = match listen_at(alloc, &opened, network, given.node) {
@@ -224,9 +233,10 @@ fn test_report<'a, P: Paths>(
     }
 }
 
-/// Serves at the address of a node, whose plan, certificate and ledger are in these files, and sends what is due. After so many connections
-/// (for 0 never) the node's report is printed. Events are logged as they happen; where a file is named for it, the report is written there too,
-/// at most every ten seconds.
+/// Serves at the address of a node, whose plan, certificate and ledger are in these files, and
+/// sends what is due. After so many connections (for 0 never) the node's report is printed. Events
+/// are logged as they happen; where a file is named for it, the report is written there too, at
+/// most every ten seconds.
 ///
 /// Errors: Stream, File; File with the node's name where its address can't be listened at, and with
 /// the report's path where no report may be written there.
@@ -257,7 +267,10 @@ where
     O::Ledger: Send,
     N::Socket: Send,
     N::Listener: Sync,
-    ensures { IfOk result (λ status. (came : Result Words HaltValue) × Serves (F.holds files.now given.entry.plan.now) (F.holds files.now given.entry.certificate.now) (O.opens ledgers.now given.entry.ledger.now) O.Ledger.site O.Ledger.book O.Ledger.stands given.entry.node.now came
+    ensures { IfOk result (λ status. (came : Result Words HaltValue)
+        × Serves (F.holds files.now given.entry.plan.now)
+        (F.holds files.now given.entry.certificate.now) (O.opens ledgers.now given.entry.ledger.now)
+        O.Ledger.site O.Ledger.book O.Ledger.stands given.entry.node.now came
         × Ends came (W.contents output.old) (W.contents output.new) status) }
 {
     test_report(alloc, files, given, serving.report)?;

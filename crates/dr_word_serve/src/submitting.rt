@@ -10,7 +10,8 @@ ghost use Rattle.dr_ledger.specs.declared.item.Arrived.{Arrived as ArrivedValue}
 ghost use Rattle.dr_run_open.specs.Ends.{Ends};
 ghost use Rattle.dr_run_open.specs.Hops.{hops_from};
 ghost use Rattle.dr_run_open.specs.declared.halt.Halt.{Halt as HaltValue};
-ghost use Rattle.dr_word_serve.specs.Sending.{IsUnsent, ReadsFrom, ReportsVisited, Sends, SentFrom, VisitsBy, arrived_line, local_caller};
+ghost use Rattle.dr_word_serve.specs.Sending.{IsUnsent, ReadsFrom, ReportsVisited, Sends, SentFrom};
+ghost use Rattle.dr_word_serve.specs.Sending.{VisitsBy, arrived_line, local_caller};
 
 use dr_base::Text;
 use dr_ledger::{Arrived, Item, Ledger, LedgerFault};
@@ -51,7 +52,9 @@ fn read_instance<'a, F: Files>(alloc: Global, files: &F, file: &'a str) -> Resul
 ///
 /// Errors: those of `arrive`.
 fn submit<L: Ledger>(alloc: Global, ledger: &mut L, item: Item) -> Result<Arrived, LedgerFault>
-    ensures { IfOk result (λ arrived. L.stands ledger.new → Arrives (site_routing (L.site ledger.old)) local_caller (instance_of item) (L.book ledger.old) (Ok arrived) (L.book ledger.new)) }
+    ensures { IfOk result (λ arrived. L.stands ledger.new
+        → Arrives (site_routing (L.site ledger.old)) local_caller (instance_of item)
+        (L.book ledger.old) (Ok arrived) (L.book ledger.new)) }
 {
     let local = Text::copy_of(alloc, b"-")?;
     ledger.arrive(&local, item)
@@ -66,7 +69,11 @@ fn take_in<'a, L: Ledger, W: Write>(
     item: Item,
     output: &mut W,
 ) -> Result<(), Halt<'a>>
-    ensures { MatchResult result (λ done. (arrived : ArrivedValue) × (L.stands ledger.new → Arrives (site_routing (L.site ledger.old)) local_caller (instance_of item) (L.book ledger.old) (Ok arrived) (L.book ledger.new))
+    ensures { MatchResult result
+        (λ done. (arrived : ArrivedValue)
+        × (L.stands ledger.new
+        → Arrives (site_routing (L.site ledger.old)) local_caller (instance_of item)
+        (L.book ledger.old) (Ok arrived) (L.book ledger.new))
         × Appends (W.contents output.old) (W.contents output.new) (arrived_line arrived)) IsUnsent }
 {
     let arrived = match submit(alloc, ledger, item) {
@@ -90,15 +97,18 @@ fn send_due<L: Ledger, N: Network, C: Clock>(
     port: &mut OwnPort<L>,
     clock: &C,
 ) -> Result<Text, LedgerFault>
-    ensures { IfOk result (ReportsVisited L.book L.stands (VisitsBy (N.reaches network.now) N.Socket.hears N.Socket.sends N.Socket.closes ⟦<OwnPort<L> as DeskPort>⟧.step (C.tells clock.now)) site.now hops.now port.old) }
+    ensures { IfOk result
+        (ReportsVisited L.book L.stands
+        (VisitsBy (N.reaches network.now) N.Socket.hears N.Socket.sends N.Socket.closes
+        ⟦<OwnPort<L> as DeskPort>⟧.step (C.tells clock.now)) site.now hops.now port.old) }
 {
     visit_each(alloc, site, hops, network, port, clock)?;
     let report = report_of(alloc, site.name(), &mut port.desk.ledger)?;
     Ok(report)
 }
 
-/// Sends an instance that enters at the node of a ledger: it is brought to it, what that answers is printed, and each hop with a due row
-/// is visited once.
+/// Sends an instance that enters at the node of a ledger: it is brought to it, what that answers is
+/// printed, and each hop with a due row is visited once.
 ///
 /// Errors: Refused; Failed where the output failed.
 fn send_ledger<'a, L: Ledger + Drop, N: Network, C: Clock, W: Write>(
@@ -112,7 +122,11 @@ fn send_ledger<'a, L: Ledger + Drop, N: Network, C: Clock, W: Write>(
     output: &mut W,
 ) -> Result<Text, Halt<'a>>
     requires { L.site ledger ≡ site.now }
-    ensures { MatchResult result (λ report. SentFrom L.book L.stands (VisitsBy (N.reaches network.now) N.Socket.hears N.Socket.sends N.Socket.closes ⟦<OwnPort<L> as DeskPort>⟧.step (C.tells clock.now)) site.now hops.now item ledger report (W.contents output.old) (W.contents output.new)) IsUnsent }
+    ensures { MatchResult result
+        (λ report. SentFrom L.book L.stands
+        (VisitsBy (N.reaches network.now) N.Socket.hears N.Socket.sends N.Socket.closes
+        ⟦<OwnPort<L> as DeskPort>⟧.step (C.tells clock.now)) site.now hops.now item ledger report
+        (W.contents output.old) (W.contents output.new)) IsUnsent }
 {
     let mut port = OwnPort::new(ledger);
     take_in(alloc, &mut port.desk.ledger, item, output)?;
@@ -134,7 +148,12 @@ fn send_opened<'a, L: Ledger + Drop, N: Network, C: Clock, W: Write>(
     output: &mut W,
 ) -> Result<Text, Halt<'a>>
     requires { L.site opened.ledger ≡ opened.site }
-    ensures { MatchResult result (λ report. SentFrom L.book L.stands (VisitsBy (N.reaches network.now) N.Socket.hears N.Socket.sends N.Socket.closes ⟦<OwnPort<L> as DeskPort>⟧.step (C.tells clock.now)) opened.site (hops_from opened.site opened.sealed.plan.nodes) item opened.ledger report (W.contents output.old) (W.contents output.new)) IsUnsent }
+    ensures { MatchResult result
+        (λ report. SentFrom L.book L.stands
+        (VisitsBy (N.reaches network.now) N.Socket.hears N.Socket.sends N.Socket.closes
+        ⟦<OwnPort<L> as DeskPort>⟧.step (C.tells clock.now)) opened.site
+        (hops_from opened.site opened.sealed.plan.nodes) item opened.ledger report
+        (W.contents output.old) (W.contents output.new)) IsUnsent }
 {
     let Ok(hops) = hops_of(alloc, &opened.site, opened.sealed.plan()) else {
         drop(opened);
@@ -174,7 +193,12 @@ fn send_node<'a, F: Files, O: Ledgers, N: Network, C: Clock, W: Write>(
     clock: &C,
     output: &mut W,
 ) -> Result<Text, Halt<'a>>
-    ensures { Sends (F.holds files.now given.entry.plan.now) (F.holds files.now given.entry.certificate.now) (F.holds files.now file.now) (O.opens ledgers.now given.entry.ledger.now) O.Ledger.site O.Ledger.book O.Ledger.stands (VisitsBy (N.reaches network.now) N.Socket.hears N.Socket.sends N.Socket.closes ⟦<OwnPort<O::Ledger> as DeskPort>⟧.step (C.tells clock.now)) given.entry.node.now result (W.contents output.old) (W.contents output.new) }
+    ensures { Sends (F.holds files.now given.entry.plan.now)
+        (F.holds files.now given.entry.certificate.now) (F.holds files.now file.now)
+        (O.opens ledgers.now given.entry.ledger.now) O.Ledger.site O.Ledger.book O.Ledger.stands
+        (VisitsBy (N.reaches network.now) N.Socket.hears N.Socket.sends N.Socket.closes
+        ⟦<OwnPort<O::Ledger> as DeskPort>⟧.step (C.tells clock.now)) given.entry.node.now result
+        (W.contents output.old) (W.contents output.new) }
 {
     let opened = open_node(alloc, files, ledgers, given)?;
     let item = match read_instance(alloc, files, file) {
@@ -187,8 +211,9 @@ fn send_node<'a, F: Files, O: Ledgers, N: Network, C: Clock, W: Write>(
     send_opened(alloc, opened, item, network, clock, output)
 }
 
-/// Brings the instance in a Part 10 file to a node, whose plan, certificate and ledger are in these files, and prints `new` or `again`;
-/// visits each hop with a due row once, and prints what the node then has.
+/// Brings the instance in a Part 10 file to a node, whose plan, certificate and ledger are in these
+/// files, and prints `new` or `again`; visits each hop with a due row once, and prints what the
+/// node then has.
 ///
 /// Errors: Stream, File.
 pub fn send_files<'a, F: Files, O: Ledgers, N: Network, C: Clock, W: Write, E: Write>(
@@ -202,7 +227,14 @@ pub fn send_files<'a, F: Files, O: Ledgers, N: Network, C: Clock, W: Write, E: W
     output: &mut W,
     faults: &mut E,
 ) -> Result<Status, Failure<'a>>
-    ensures { IfOk result (λ status. (came : Result Words HaltValue) × (mid : Option Words) × Sends (F.holds files.now given.entry.plan.now) (F.holds files.now given.entry.certificate.now) (F.holds files.now file.now) (O.opens ledgers.now given.entry.ledger.now) O.Ledger.site O.Ledger.book O.Ledger.stands (VisitsBy (N.reaches network.now) N.Socket.hears N.Socket.sends N.Socket.closes ⟦<OwnPort<O::Ledger> as DeskPort>⟧.step (C.tells clock.now)) given.entry.node.now came (W.contents output.old) mid
+    ensures { IfOk result (λ status. (came : Result Words HaltValue)
+        × (mid : Option Words)
+        × Sends (F.holds files.now given.entry.plan.now)
+        (F.holds files.now given.entry.certificate.now) (F.holds files.now file.now)
+        (O.opens ledgers.now given.entry.ledger.now) O.Ledger.site O.Ledger.book O.Ledger.stands
+        (VisitsBy (N.reaches network.now) N.Socket.hears N.Socket.sends N.Socket.closes
+        ⟦<OwnPort<O::Ledger> as DeskPort>⟧.step (C.tells clock.now)) given.entry.node.now came
+        (W.contents output.old) mid
         × Ends came mid (W.contents output.new) status) }
 {
     let came = send_node(alloc, files, ledgers, given, file, network, clock, output);

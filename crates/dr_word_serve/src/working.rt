@@ -50,7 +50,11 @@ where
     O::Ledger: Send,
     N::Socket: Send,
     N::Listener: Sync,
-    ensures { IfOk result (Works (F.holds files.now) (O.opens ledgers.now) O.Ledger.site O.Ledger.book O.Ledger.stands (VisitsBy (N.reaches network.now) N.Socket.hears N.Socket.sends N.Socket.closes ⟦<OwnPort<O::Ledger> as DeskPort>⟧.step (C.tells clock.now)) given.entry duty.entry (W.contents output.old) (W.contents output.new)) }
+    ensures { IfOk result
+        (Works (F.holds files.now) (O.opens ledgers.now) O.Ledger.site O.Ledger.book O.Ledger.stands
+        (VisitsBy (N.reaches network.now) N.Socket.hears N.Socket.sends N.Socket.closes
+        ⟦<OwnPort<O::Ledger> as DeskPort>⟧.step (C.tells clock.now)) given.entry duty.entry
+        (W.contents output.old) (W.contents output.new)) }
 {
     match duty {
         Duty::List => list_files(alloc, files, ledgers, given, output, faults),

@@ -4,16 +4,19 @@ use Rattle.dr_base.specs.Texts.{Text}
 use Rattle.dr_plan_model.specs.Networks.{Network}
 use Rattle.dr_plan_sound.specs.declared.certificate.Certificate.{Certificate}
 use Rattle.dr_run_open.specs.declared.status.Status.{Status}
-use Rattle.dr_run_open.specs.declared.status.Status.TheVariants.{Success, Refused, InputOutput, Memory as OutOfMemory}
+use Rattle.dr_run_open.specs.declared.status.Status.TheVariants.{Success, Refused, InputOutput}
+use Rattle.dr_run_open.specs.declared.status.Status.TheVariants.{Memory as OutOfMemory}
 use Rattle.dr_world_script.specs.Scripts.{IsFirstWrong, IsScriptOf}
 use Rattle.dr_world_script.specs.declared.step.Step.{Step}
 use Rattle.dr_word_simulate.specs.Reported.{IsReportAfter}
 use Rattle.dr_word_simulate.specs.declared.outcome.PlayOutcome.{PlayOutcome}
-use Rattle.dr_word_simulate.specs.declared.outcome.PlayOutcome.TheVariants.{Report, NoScript, Store, Memory}
+use Rattle.dr_word_simulate.specs.declared.outcome.PlayOutcome.TheVariants.{Report, NoScript, Store}
+use Rattle.dr_word_simulate.specs.declared.outcome.PlayOutcome.TheVariants.{Memory}
 
--- The text is a script, and this is the report of the nodes of a world to which its steps lead from the beginning of the plan's
--- world; the headline's claims hold of that world.
-pub record IsSimulated (plan : Network) (certificate : Certificate) (text report : Text) : Type 0 where
+-- The text is a script, and this is the report of the nodes of a world to which its steps lead from
+-- the beginning of the plan's world; the headline's claims hold of that world.
+pub record IsSimulated (plan : Network) (certificate : Certificate)
+    (text report : Text) : Type 0 where
   pub steps : List Step
   pub told : IsScriptOf text steps
   pub reported : IsReportAfter plan certificate steps report

@@ -17,8 +17,10 @@ use Rattle.dr_world.specs.Runs.{step_of}
 abbrev pub Books : Type 0
 Books = Text → Option Book
 
--- The steps lead, from the beginning, to a world of bytes in which the plan's nodes have these books, and no other node has one.
-pub record AreBooksAfter (plan : Network) (certificate : Certificate) (steps : List Step) (books : Books) : Type 0 where
+-- The steps lead, from the beginning, to a world of bytes in which the plan's nodes have these
+-- books, and no other node has one.
+pub record AreBooksAfter (plan : Network) (certificate : Certificate) (steps : List Step)
+    (books : Books) : Type 0 where
   pub nodes : (name : Text) → HasNode plan name → (book : Book) × (books name ≡ Some book)
   pub only : (name : Text) (book : Book) → books name ≡ Some book → HasNode plan name
   pub world : ByteWorld
@@ -28,12 +30,14 @@ pub record AreBooksAfter (plan : Network) (certificate : Certificate) (steps : L
 -- the headline's four claims hold of the nodes' books: of a world of messages that has them, and to
 -- which events of the plan lead from the start
 abbrev pub HoldsOfBooks : Network → Books → Type 0
-HoldsOfBooks plan books = (world : model.World) 
+HoldsOfBooks plan books = (world : model.World)
     × ((name : Text) (book : Book) → books name ≡ Some book → world.books name ≡ book)
     × ComesAbout plan world × Headline plan world
 
--- The text is the report of the nodes' books after the steps, in byte order of the nodes' names; the headline holds of them.
-pub record IsReportAfter (plan : Network) (certificate : Certificate) (steps : List Step) (report : Text) : Type 0 where
+-- The text is the report of the nodes' books after the steps, in byte order of the nodes' names;
+-- the headline holds of them.
+pub record IsReportAfter (plan : Network) (certificate : Certificate) (steps : List Step)
+    (report : Text) : Type 0 where
   pub books : Books
   pub reported : IsReportOfAll books report
   pub after : ∥ AreBooksAfter plan certificate steps books ∥₁

@@ -17,22 +17,28 @@ use Rattle.dr_run_open.specs.declared.status.Status.TheVariants.{Refused, Memory
 use Rattle.dr_word_simulate.specs.Outcomes.{IsOutcomeOf, printed_for, status_for}
 use Rattle.dr_word_simulate.specs.declared.outcome.PlayOutcome.{PlayOutcome}
 
--- a run for a sealed plan: the outcome of the script is printed after what the output held, and the program ends with its status
-pub record Plays (plan : Network) (certificate : Certificate) (script : Text) (old new : Option (List ℕ)) (status : Status) : Type 0 where
+-- a run for a sealed plan: the outcome of the script is printed after what the output held, and the
+-- program ends with its status
+pub record Plays (plan : Network) (certificate : Certificate) (script : Text)
+    (old new : Option (List ℕ)) (status : Status) : Type 0 where
   pub outcome : PlayOutcome
   pub right : IsOutcomeOf plan certificate script outcome
   pub printed : Appends old new (printed_for outcome)
   pub ends : status ≡ status_for outcome
 
--- a run in which the text is refused as the plan's certificate, or memory ran out over it: nothing is printed
-pub record Unseals (plan : Network) (text : Text) (old new : Option (List ℕ)) (status : Status) : Type 0 where
+-- a run in which the text is refused as the plan's certificate, or memory ran out over it: nothing
+-- is printed
+pub record Unseals (plan : Network) (text : Text) (old new : Option (List ℕ))
+    (status : Status) : Type 0 where
   pub fault : CertFault
   pub right : (fault ≢ NoMemory) → IsFaultOf plan text fault × (status ≡ Refused)
   pub memory : fault ≡ NoMemory → status ≡ Memory
   pub nothing : Appends old new []
 
--- a run in which the text is that of the certificate of a sound plan: a script, of which `Holds` holds, is played
-pub record Seals (Holds : Text → Type 0) (plan : Network) (text : Text) (old new : Option (List ℕ)) (status : Status) : Type 0 where
+-- a run in which the text is that of the certificate of a sound plan: a script, of which `Holds`
+-- holds, is played
+pub record Seals (Holds : Text → Type 0) (plan : Network) (text : Text) (old new : Option (List ℕ))
+    (status : Status) : Type 0 where
   pub certificate : Certificate
   pub written : IsTextOf text certificate
   pub sound : IsSound plan
@@ -41,8 +47,10 @@ pub record Seals (Holds : Text → Type 0) (plan : Network) (text : Text) (old n
   pub held : Holds script
   pub plays : Plays plan certificate script old new status
 
--- a run for a text that has a plan: another text, of which `Holds` holds, is refused as its certificate or is it
-pub record Judges (Holds HoldsScript : Text → Type 0) (text : Text) (old new : Option (List ℕ)) (status : Status) : Type 0 where
+-- a run for a text that has a plan: another text, of which `Holds` holds, is refused as its
+-- certificate or is it
+pub record Judges (Holds HoldsScript : Text → Type 0) (text : Text) (old new : Option (List ℕ))
+    (status : Status) : Type 0 where
   pub plan : Network
   pub reads : Reads text (Ok plan)
   pub second : Text
@@ -50,5 +58,7 @@ pub record Judges (Holds HoldsScript : Text → Type 0) (text : Text) (old new :
   pub judged : Unseals plan second old new status ⊎ Seals HoldsScript plan second old new status
 
 -- a run of `simulate`: the first text has no plan, or it goes on to the certificate and the script
-abbrev pub Simulates : (Text → Type 0) → (Text → Type 0) → Text → Option (List ℕ) → Option (List ℕ) → Status → Type 0
-Simulates Holds HoldsScript text old new status = Refuses text old new status ⊎ Judges Holds HoldsScript text old new status
+abbrev pub Simulates : (Text → Type 0) → (Text → Type 0) → Text → Option (List ℕ) → Option (List ℕ)
+    → Status → Type 0
+Simulates Holds HoldsScript text old new status =
+    Refuses text old new status ⊎ Judges Holds HoldsScript text old new status

@@ -1,5 +1,6 @@
-//! The word `simulate` of the program `dr_router`: it plays a script in a world of a sealed plan's nodes and prints what each
-//! has then. And all words that need no network: those for plans (`dr_word_check`) and this one.
+//! The word `simulate` of the program `dr_router`: it plays a script in a world of a sealed plan's
+//! nodes and prints what each has then. And all words that need no network: those for plans
+//! (`dr_word_check`) and this one.
 #![tactic(auto)]
 
 mod outcome;

@@ -53,7 +53,8 @@ fn report_after(alloc: Global, sealed: &Sealed, steps: &[Step]) -> Result<Text, 
     }
 }
 
-/// What comes of the text of a script, played in a world of the plan's nodes: each begins with nothing.
+/// What comes of the text of a script, played in a world of the plan's nodes: each begins with
+/// nothing.
 pub fn outcome_of(alloc: Global, sealed: &Sealed, text: &[u8]) -> PlayOutcome
     ensures { IsOutcomeOf sealed.now.plan sealed.now.certificate text.now result }
 {

@@ -29,15 +29,31 @@ pub fn run_offline<'a, R: Read, W: Write, E: Write, F: Files>(
     files: &F,
 ) -> Result<Status, Failure<'a>>
     ensures known { asked.entry ≡ asks.CheckInput → IfOk result (λ status. status ≢ Usage) }
-    ensures answered { asked.entry ≡ asks.CheckInput → IfOk result (λ status. IfSome (R.remaining input.old) (λ text. Answers text (W.contents output.old) (W.contents output.new) status)) }
-    ensures checked { (plan : Bor (List ℕ)) → asked.entry ≡ asks.CheckFile plan
-        → IfOk result (λ status. (text : Text) × F.holds files.now plan.now text × Answers text (W.contents output.old) (W.contents output.new) status) }
-    ensures verified { (plan certificate : Bor (List ℕ)) → asked.entry ≡ asks.Verify plan certificate
-        → IfOk result (λ status. (text : Text) × F.holds files.now plan.now text × Verifies (F.holds files.now certificate.now) text (W.contents output.old) (W.contents output.new) status) }
-    ensures responded { (plan certificate : Bor (List ℕ)) (question : QuestionValue) → asked.entry ≡ asks.Question plan certificate question
-        → IfOk result (Asks (F.holds files.now) plan certificate question (W.contents output.old) (W.contents output.new)) }
-    ensures simulated { (plan certificate script : Bor (List ℕ)) → asked.entry ≡ asks.Simulate plan certificate script
-        → IfOk result (λ status. (text : Text) × F.holds files.now plan.now text × Simulates (F.holds files.now certificate.now) (F.holds files.now script.now) text (W.contents output.old) (W.contents output.new) status) }
+    ensures answered { asked.entry ≡ asks.CheckInput
+        → IfOk result (λ status. IfSome (R.remaining input.old) (λ text.
+        Answers text (W.contents output.old) (W.contents output.new) status)) }
+    ensures checked { (plan : Bor (List ℕ))
+        → asked.entry ≡ asks.CheckFile plan
+        → IfOk result (λ status. (text : Text)
+        × F.holds files.now plan.now text
+        × Answers text (W.contents output.old) (W.contents output.new) status) }
+    ensures verified { (plan certificate : Bor (List ℕ))
+        → asked.entry ≡ asks.Verify plan certificate
+        → IfOk result (λ status. (text : Text)
+        × F.holds files.now plan.now text
+        × Verifies (F.holds files.now certificate.now) text (W.contents output.old)
+        (W.contents output.new) status) }
+    ensures responded { (plan certificate : Bor (List ℕ)) (question : QuestionValue)
+        → asked.entry ≡ asks.Question plan certificate question
+        → IfOk result
+        (Asks (F.holds files.now) plan certificate question (W.contents output.old)
+        (W.contents output.new)) }
+    ensures simulated { (plan certificate script : Bor (List ℕ))
+        → asked.entry ≡ asks.Simulate plan certificate script
+        → IfOk result (λ status. (text : Text)
+        × F.holds files.now plan.now text
+        × Simulates (F.holds files.now certificate.now) (F.holds files.now script.now) text
+        (W.contents output.old) (W.contents output.new) status) }
 {
     match asked {
         Task::Simulate(plan, certificate, script) => {

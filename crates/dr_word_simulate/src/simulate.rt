@@ -23,7 +23,8 @@ fn tell_outcome<W: Write, E: Write>(
     output: &mut W,
     faults: &mut E,
 ) -> io::Result<()>
-    ensures { OnOk result (Appends (W.contents output.old) (W.contents output.new) (printed_for outcome.now)) }
+    ensures { OnOk result
+        (Appends (W.contents output.old) (W.contents output.new) (printed_for outcome.now)) }
 {
     match outcome {
         PlayOutcome::Report(report) => output.write_all(report.as_bytes()),
@@ -54,7 +55,10 @@ fn play_file<'a, F: Files, W: Write, E: Write>(
     output: &mut W,
     faults: &mut E,
 ) -> Result<Status, Failure<'a>>
-    ensures { IfOk result (λ status. (script : Text) × F.holds files.now path.now script × Plays sealed.now.plan sealed.now.certificate script (W.contents output.old) (W.contents output.new) status) }
+    ensures { IfOk result (λ status. (script : Text)
+        × F.holds files.now path.now script
+        × Plays sealed.now.plan sealed.now.certificate script (W.contents output.old)
+        (W.contents output.new) status) }
 {
     let text = read_file(alloc, files, path)?;
     let outcome = outcome_of(alloc, sealed, text.as_slice());
@@ -62,7 +66,8 @@ fn play_file<'a, F: Files, W: Write, E: Write>(
     Ok(outcome.status())
 }
 
-/// Plays the script in a file for a plan and the text of its certificate; the file is read only where the text is that.
+/// Plays the script in a file for a plan and the text of its certificate; the file is read only
+/// where the text is that.
 fn play_sealed<'a, F: Files, W: Write, E: Write>(
     alloc: Global,
     plan: Plan,
@@ -72,7 +77,10 @@ fn play_sealed<'a, F: Files, W: Write, E: Write>(
     output: &mut W,
     faults: &mut E,
 ) -> Result<Status, Failure<'a>>
-    ensures { IfOk result (λ status. Unseals plan text.now (W.contents output.old) (W.contents output.new) status ⊎ Seals (F.holds files.now script.now) plan text.now (W.contents output.old) (W.contents output.new) status) }
+    ensures { IfOk result
+        (λ status. Unseals plan text.now (W.contents output.old) (W.contents output.new) status
+        ⊎ Seals (F.holds files.now script.now) plan text.now (W.contents output.old)
+        (W.contents output.new) status) }
 {
     let sealed = match seal_text(alloc, plan, text) {
         Ok(sealed) => sealed,
@@ -86,7 +94,8 @@ fn play_sealed<'a, F: Files, W: Write, E: Write>(
     played
 }
 
-/// Plays a script for the plan of a text, whose certificate is in a file, which is read only where the text has a plan.
+/// Plays a script for the plan of a text, whose certificate is in a file, which is read only where
+/// the text has a plan.
 fn play_text<'a, F: Files, W: Write, E: Write>(
     alloc: Global,
     text: &[u8],
@@ -96,7 +105,9 @@ fn play_text<'a, F: Files, W: Write, E: Write>(
     output: &mut W,
     faults: &mut E,
 ) -> Result<Status, Failure<'a>>
-    ensures { IfOk result (Simulates (F.holds files.now certificate.now) (F.holds files.now script.now) text.now (W.contents output.old) (W.contents output.new)) }
+    ensures { IfOk result
+        (Simulates (F.holds files.now certificate.now) (F.holds files.now script.now) text.now
+        (W.contents output.old) (W.contents output.new)) }
 {
     let plan = match plan_of(alloc, text) {
         Ok(plan) => plan,
@@ -135,7 +146,10 @@ pub fn simulate_files<'a, F: Files, W: Write, E: Write>(
     output: &mut W,
     faults: &mut E,
 ) -> Result<Status, Failure<'a>>
-    ensures { IfOk result (λ status. (text : Text) × F.holds files.now plan.now text × Simulates (F.holds files.now certificate.now) (F.holds files.now script.now) text (W.contents output.old) (W.contents output.new) status) }
+    ensures { IfOk result (λ status. (text : Text)
+        × F.holds files.now plan.now text
+        × Simulates (F.holds files.now certificate.now) (F.holds files.now script.now) text
+        (W.contents output.old) (W.contents output.new) status) }
 {
     let text = read_file(alloc, files, plan)?;
     play_text(

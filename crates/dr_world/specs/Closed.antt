@@ -31,18 +31,24 @@ pub record IsClosed (old : Contents) (number : ℕ) (new : Contents) : Type 0 wh
   pub acts : List LinkAction
   pub end : Terminal
   pub desk : Desk
-  pub ends : Meets (RoutedStep (site_routing far.site)) (moment_at number far.sides old.now) Ended theirs.end far.desk (Ok acts) end desk
+  pub ends : Meets (RoutedStep (site_routing far.site)) (moment_at number far.sides old.now) Ended
+      theirs.end far.desk (Ok acts) end desk
   pub near : Seat
-  pub is_near : with_seat old.seats wires.receiver (with_side far number (with_end theirs end) desk) wires.caller ≡ Some near
+  pub is_near : with_seat old.seats wires.receiver (with_side far number (with_end theirs end) desk)
+      wires.caller
+      ≡ Some near
   pub mine : Side
   pub has_mine : map.get near.sides number ≡ Some mine
   pub own_acts : List LinkAction
   pub own_end : Terminal
   pub own_desk : Desk
-  pub own_ends : Meets (RoutedStep (site_routing near.site)) (moment_at number near.sides old.now) Ended mine.end near.desk (Ok own_acts) own_end own_desk
+  pub own_ends : Meets (RoutedStep (site_routing near.site)) (moment_at number near.sides old.now)
+      Ended mine.end near.desk (Ok own_acts) own_end own_desk
   pub is : new ≡ record {
     now = old.now;
     opened = old.opened;
-    seats = with_seat (with_seat old.seats wires.receiver (with_side far number (with_end theirs end) desk)) wires.caller (with_side near number (with_end mine own_end) own_desk);
+    seats = with_seat
+        (with_seat old.seats wires.receiver (with_side far number (with_end theirs end) desk))
+        wires.caller (with_side near number (with_end mine own_end) own_desk);
     wires = with_wires old.wires number after;
   }

@@ -36,16 +36,22 @@ abbrev pub opposite : Side → Side
 opposite Requestor = Acceptor
 opposite Acceptor = Requestor
 
--- so many bytes were taken off the wire of a side, and behind the other wire stands what was written
-pub record AreWritten (side : Side) (taken : ℕ) (acts : List LinkAction) (w v : Wires) : Type 0 where
+-- so many bytes were taken off the wire of a side, and behind the other wire stands what was
+-- written
+pub record AreWritten (side : Side) (taken : ℕ) (acts : List LinkAction)
+    (w v : Wires) : Type 0 where
   pub caller : v.caller ≡ w.caller
   pub receiver : v.receiver ≡ w.receiver
   pub own : wire_at side v ≡ drop taken (wire_at side w)
   pub other : wire_at (opposite side) v ≡ wire_at (opposite side) w ++ bytes_of acts
 
--- At the end of a link that is there something was done: its node did it at its desk, so many bytes were taken off the end's wire,
--- and what it wrote is on the other end's.
-pub record IsDone (does : Part → Moment → Terminal → Desk → Result (List LinkAction) AllocError → Terminal → Desk → Type 0) (taken : ℕ) (old : Contents) (number : ℕ) (side : Side) (acts : List LinkAction) (new : Contents) : Type 0 where
+-- At the end of a link that is there something was done: its node did it at its desk, so many bytes
+-- were taken off the end's wire, and what it wrote is on the other end's.
+pub record IsDone
+    (does : Part → Moment → Terminal → Desk
+    → Result (List LinkAction) AllocError
+    → Terminal → Desk → Type 0) (taken : ℕ) (old : Contents) (number : ℕ) (side : Side)
+    (acts : List LinkAction) (new : Contents) : Type 0 where
   pub wires : Wires
   pub after : Wires
   pub wired : old.wires number ≡ Some wires
@@ -55,7 +61,8 @@ pub record IsDone (does : Part → Moment → Terminal → Desk → Result (List
   pub has : map.get seat.sides number ≡ Some own
   pub end : Terminal
   pub desk : Desk
-  pub does_it : does seat.site (moment_at number seat.sides old.now) own.end seat.desk (Ok acts) end desk
+  pub does_it :
+      does seat.site (moment_at number seat.sides old.now) own.end seat.desk (Ok acts) end desk
   pub written : AreWritten side taken acts wires after
   pub is : new ≡ with_end_done old (name_at side wires) seat number (with_end own end) desk after
 

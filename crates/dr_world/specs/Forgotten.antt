@@ -46,6 +46,6 @@ pends_here nodes wires name uid number =
     pends (seats_of nodes) (λ n. tree.get nat_cmp wires n) name uid number
 
 -- it does so over one of the links
-abbrev pub is_under_way : {L : Type 0} {l : Ghosts L} → BTreeMap Text (Node L l) → BTreeMap ℕ Wires →
-    Text → Text → Bool
+abbrev pub is_under_way : {L : Type 0} {l : Ghosts L}
+    → BTreeMap Text (Node L l) → BTreeMap ℕ Wires → Text → Text → Bool
 is_under_way nodes wires name uid = list_any (pends_here nodes wires name uid) (tree.keys wires)

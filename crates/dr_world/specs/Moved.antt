@@ -1,5 +1,6 @@
 -- A Move of bytes: what it finds to do, and what it does.
-use Rattle.std.specs.Prelude.{◌≡◌, ◌≢◌, ◌⊎◌, ℕ, ◌<◌, ◌≤◌, ◌++◌, nat_le, true, false, List, [], length, take, drop, Option, Some, None}
+use Rattle.std.specs.Prelude.{◌≡◌, ◌≢◌, ◌⊎◌, ℕ, ◌<◌, ◌≤◌, ◌++◌, nat_le, true, false, List, []}
+use Rattle.std.specs.Prelude.{length, take, drop, Option, Some, None}
 use Rattle.std.specs.Ordering.{nat_cmp}
 use Rattle.std.specs.FinMap as map
 use Rattle.std.specs.BTreeMap as tree
@@ -29,16 +30,24 @@ use Rattle.dr_world.specs.Whole.{AllStand, contents}
 
 -- that many bytes has the PDU with which the text begins, if it begins with one
 abbrev pub TellsLength : List ℕ → ℕ → Type 0
-TellsLength text n = (p : Pdu) (more : List ℕ) → text ≡ written p ++ more → Fits p → n ≡ length (written p)
+TellsLength text n =
+    (p : Pdu) (more : List ℕ) → text ≡ written p ++ more → Fits p → n ≡ length (written p)
 
--- So many bytes of a wire belong to the PDU whose front is kept, where its rest is on the wire; and some do, where there are some.
+-- So many bytes of a wire belong to the PDU whose front is kept, where its rest is on the wire; and
+-- some do, where there are some.
 abbrev pub IsLeftOf : List ℕ → List ℕ → ℕ → Type 0
-IsLeftOf kept wire n = (n ≤ length wire) × (wire ≢ [] → 0 < n)
-    × ((p : Pdu) (left more : List ℕ) → kept ++ left ≡ written p → left ≢ [] → wire ≡ left ++ more → Fits p → n ≡ length left)
+IsLeftOf kept wire n =
+    (n ≤ length wire) × (wire ≢ [] → 0 < n)
+    × ((p : Pdu) (left more : List ℕ)
+    → kept ++ left ≡ written p → left ≢ [] → wire ≡ left ++ more → Fits p → n ≡ length left)
 
--- So many of at most n bytes of a wire may come to a reader that keeps these; and some do, where there are some.
+-- So many of at most n bytes of a wire may come to a reader that keeps these; and some do, where
+-- there are some.
 abbrev pub IsMovable : List ℕ → List ℕ → ℕ → ℕ → Type 0
-IsMovable kept wire n m = (m ≤ length wire) × (wire ≢ [] → 0 < n → 0 < m) × ((t : Terminal) → t.ear.kept ≡ kept → IsMoved t wire n m)
+IsMovable kept wire n m =
+    (m ≤ length wire)
+    × (wire ≢ [] → 0 < n → 0 < m)
+    × ((t : Terminal) → t.ear.kept ≡ kept → IsMoved t wire n m)
 
 -- ---- what is due
 
@@ -51,17 +60,29 @@ abbrev pub kept_at : {L : Type 0} {l : Ghosts L} → ℕ → Option (Node L l) �
 kept_at link None = []
 kept_at link (Some n) = kept_of (map.get n.links link)
 
--- What a Move of at most n bytes finds to do at a link: nothing, where no byte is asked for, the reader is over, or its wire is empty and
--- the writer isn't over; the connection's end, where the wire is empty and the writer is over; else bytes.
-abbrev pub IsDueAt : {L : Type 0} {l : Ghosts L} → BTreeMap Text (Node L l) → ℕ → Side → ℕ → Wires → Due → Type 0
-IsDueAt nodes link side n w due.Nothing = (n ≡ 0) ⊎ ((over_at link (tree.get text_cmp nodes (name_at side w)) ≡ true)
-    ⊎ ((wire_at side w ≡ []) × (over_at link (tree.get text_cmp nodes (name_at (opposite side) w)) ≡ false)))
-IsDueAt nodes link side n w due.End = (nat_le 1 n ≡ true) × (over_at link (tree.get text_cmp nodes (name_at side w)) ≡ false)
-    × (wire_at side w ≡ []) × (over_at link (tree.get text_cmp nodes (name_at (opposite side) w)) ≡ true)
-IsDueAt nodes link side n w (due.Bytes m) = (nat_le 1 n ≡ true) × (over_at link (tree.get text_cmp nodes (name_at side w)) ≡ false)
-    × (wire_at side w ≢ []) × IsMovable (kept_at link (tree.get text_cmp nodes (name_at side w))) (wire_at side w) n m
+-- What a Move of at most n bytes finds to do at a link: nothing, where no byte is asked for, the
+-- reader is over, or its wire is empty and the writer isn't over; the connection's end, where the
+-- wire is empty and the writer is over; else bytes.
+abbrev pub IsDueAt : {L : Type 0} {l : Ghosts L}
+    → BTreeMap Text (Node L l) → ℕ → Side → ℕ → Wires → Due → Type 0
+IsDueAt nodes link side n w due.Nothing =
+    (n ≡ 0)
+    ⊎ ((over_at link (tree.get text_cmp nodes (name_at side w)) ≡ true)
+    ⊎ ((wire_at side w ≡ [])
+    × (over_at link (tree.get text_cmp nodes (name_at (opposite side) w)) ≡ false)))
+IsDueAt nodes link side n w due.End =
+    (nat_le 1 n ≡ true)
+    × (over_at link (tree.get text_cmp nodes (name_at side w)) ≡ false)
+    × (wire_at side w ≡ [])
+    × (over_at link (tree.get text_cmp nodes (name_at (opposite side) w)) ≡ true)
+IsDueAt nodes link side n w (due.Bytes m) =
+    (nat_le 1 n ≡ true)
+    × (over_at link (tree.get text_cmp nodes (name_at side w)) ≡ false)
+    × (wire_at side w ≢ [])
+    × IsMovable (kept_at link (tree.get text_cmp nodes (name_at side w))) (wire_at side w) n m
 
-abbrev pub IsDue : {L : Type 0} {l : Ghosts L} → Option Wires → BTreeMap Text (Node L l) → ℕ → Side → ℕ → Due → Type 0
+abbrev pub IsDue : {L : Type 0} {l : Ghosts L}
+    → Option Wires → BTreeMap Text (Node L l) → ℕ → Side → ℕ → Due → Type 0
 IsDue None nodes link side n what = what ≡ due.Nothing
 IsDue (Some w) nodes link side n what = IsDueAt nodes link side n w what
 
@@ -74,11 +95,20 @@ pub record AreTaken (side : Side) (m : ℕ) (w v : Wires) : Type 0 where
   pub own : wire_at side v ≡ drop m (wire_at side w)
   pub other : wire_at (opposite side) v ≡ wire_at (opposite side) w
 
--- Nothing is done where there is no link of that number. Else the first m bytes of the side's wire came to its end.
-abbrev pub HearsIn : {L : Type 0} {l : Ghosts L} → Option Wires → ℕ → Side → ℕ → World L l → StepNote → World L l → Type 0
-HearsIn None link side m old note new = (note ≡ Skipped) × (contents new ≡ contents old) × (new.nodes ≡ old.nodes)
-HearsIn (Some w) link side m old note new = (note ≡ Done) × (AllStand new → AllStand old)
-    × (AllStand new → (acts : List LinkAction) × IsDone (event_at (event.Heard (heard.Bytes (take m (wire_at side w))))) m (contents old) link side acts (contents new))
+-- Nothing is done where there is no link of that number. Else the first m bytes of the side's wire
+-- came to its end.
+abbrev pub HearsIn : {L : Type 0} {l : Ghosts L}
+    → Option Wires → ℕ → Side → ℕ → World L l → StepNote → World L l → Type 0
+HearsIn None link side m old note new =
+    (note ≡ Skipped) × (contents new ≡ contents old) × (new.nodes ≡ old.nodes)
+HearsIn (Some w) link side m old note new =
+    (note ≡ Done)
+    × (AllStand new → AllStand old)
+    × (AllStand new
+    → (acts : List LinkAction)
+    × IsDone (event_at (event.Heard (heard.Bytes (take m (wire_at side w))))) m (contents old) link
+    side acts (contents new))
 
-abbrev pub Hears : {L : Type 0} {l : Ghosts L} → ℕ → Side → ℕ → World L l → StepNote → World L l → Type 0
+abbrev pub Hears : {L : Type 0} {l : Ghosts L}
+    → ℕ → Side → ℕ → World L l → StepNote → World L l → Type 0
 Hears link side m old note new = HearsIn (tree.get nat_cmp old.wires link) link side m old note new

@@ -18,15 +18,18 @@ abbrev pub with_opened : Contents → Text → Seat → Side → Text → Seat �
 with_opened c from near mine to far theirs w = record {
   now = c.now;
   opened = c.opened + 1;
-  seats = with_seat (with_seat c.seats from (with_side near (c.opened + 1) mine near.desk)) to (with_side far (c.opened + 1) theirs far.desk);
+  seats = with_seat (with_seat c.seats from (with_side near (c.opened + 1) mine near.desk)) to
+      (with_side far (c.opened + 1) theirs far.desk);
   wires = with_wires c.wires (c.opened + 1) w;
 }
 
 -- the requestor's side, which has asked for the association
 abbrev pub asks_at : Part → Text → AssociateRq → ℕ → Side
-asks_at site dest rq now = record { end = begins site.max_pdu (requesting (Some site) dest rq now); accepted = false }
+asks_at site dest rq now =
+    record { end = begins site.max_pdu (requesting (Some site) dest rq now); accepted = false }
 
--- A link was opened between two nodes, over a hop of the first one's site: its request is on the wire, and nothing else.
+-- A link was opened between two nodes, over a hop of the first one's site: its request is on the
+-- wire, and nothing else.
 pub record IsOpened (from to : Text) (old new : Contents) : Type 0 where
   pub near : Seat
   pub far : Seat
@@ -41,4 +44,6 @@ pub record IsOpened (from to : Text) (old new : Contents) : Type 0 where
   pub receiver : wires.receiver ≡ to
   pub to_caller : wires.to_caller.items ≡ []
   pub to_receiver : wires.to_receiver.items ≡ spellings (pdu.AssociateRq rq ∷ [])
-  pub is : new ≡ with_opened old from near (asks_at near.site to rq old.now) to far (accepts_at far.site old.now) wires
+  pub is : new
+      ≡ with_opened old from near (asks_at near.site to rq old.now) to far
+      (accepts_at far.site old.now) wires

@@ -1,5 +1,6 @@
 -- What is read of a world's nodes, and their reports.
-use Rattle.std.specs.Prelude.{◌≡◌, ◌↔◌, ℕ, Bool, List, [], ◌∷◌, ◌++◌, map as mapped, Contains, Option, Some, None}
+use Rattle.std.specs.Prelude.{◌≡◌, ◌↔◌, ℕ, Bool, List, [], ◌∷◌, ◌++◌, map as mapped, Contains}
+use Rattle.std.specs.Prelude.{Option, Some, None}
 use Rattle.std.specs.Option.{option_map}
 use Rattle.std.specs.FinMap as map
 use Rattle.std.specs.BTreeMap as tree
@@ -22,7 +23,8 @@ books_of {L} {l} nodes name = option_map (λ n. l.book n.desk.ledger) (tree.get 
 
 -- and their data sets
 abbrev pub bodies_of : {L : Type 0} {l : Ghosts L} → BTreeMap Text (Node L l) → Text → Option Bodies
-bodies_of {L} {l} nodes name = option_map (λ n. l.bodies n.desk.ledger) (tree.get text_cmp nodes name)
+bodies_of {L} {l} nodes name =
+    option_map (λ n. l.bodies n.desk.ledger) (tree.get text_cmp nodes name)
 
 -- what a book has, in lists
 pub record IsListingOf (b : Book) (x : Listing) : Type 0 where
@@ -41,7 +43,8 @@ ListsBook other x = ⊥
 abbrev pub has_in : Option Bodies → Text → Option Bool
 has_in bodies uid = option_map (λ b. map.contains_key b uid) bodies
 
--- A node as it was; where its ledger's premise stands after it, it stood before, and the ledger has what it had.
+-- A node as it was; where its ledger's premise stands after it, it stood before, and the ledger has
+-- what it had.
 pub record IsSameNode {L : Type 0} {l : Ghosts L} (old new : Node L l) : Type 0 where
   pub stood : l.stands new.desk.ledger → l.stands old.desk.ledger
   pub book : l.stands new.desk.ledger → l.book new.desk.ledger ≡ l.book old.desk.ledger
@@ -49,28 +52,42 @@ pub record IsSameNode {L : Type 0} {l : Ghosts L} (old new : Node L l) : Type 0 
   pub of : l.site new.desk.ledger ≡ l.site old.desk.ledger
   pub links : new.links ≡ old.links
 
--- Nothing has changed that a world shows; where the premise of each ledger stands after it, it stood before.
-abbrev pub AreSameNodes : {L : Type 0} {l : Ghosts L} → BTreeMap Text (Node L l) → BTreeMap Text (Node L l) → Type 0
-AreSameNodes old new = (AllStandIn new → AllStandIn old) × (AllStandIn new → (name : Text) → seats_of new name ≡ seats_of old name)
+-- Nothing has changed that a world shows; where the premise of each ledger stands after it, it
+-- stood before.
+abbrev pub AreSameNodes : {L : Type 0} {l : Ghosts L}
+    → BTreeMap Text (Node L l) → BTreeMap Text (Node L l) → Type 0
+AreSameNodes old new =
+    (AllStandIn new → AllStandIn old)
+    × (AllStandIn new → (name : Text) → seats_of new name ≡ seats_of old name)
 
 -- ---- reports
 
 -- the reports of these nodes, one behind the other
 abbrev pub AreReports : (Text → Option Book) → List Text → Text → Type 0
 AreReports books [] text = text ≡ []
-AreReports books (name ∷ names) text = (book : Book) × (first rest : Text) × (books name ≡ Some book) × IsReportOf name book first × AreReports books names rest × (text ≡ first ++ rest)
+AreReports books (name ∷ names) text =
+    (book : Book) × (first rest : Text) × (books name ≡ Some book)
+    × IsReportOf name book first
+    × AreReports books names rest
+    × (text ≡ first ++ rest)
 
 -- these are the names that have a book, each once and in byte order
 abbrev pub AreNamesOf : (Text → Option Book) → List Text → Type 0
-AreNamesOf books names = IsStrictlySortedBy text_cmp names × ((name : Text) → Contains names name ↔ ((book : Book) × (books name ≡ Some book)))
+AreNamesOf books names =
+    IsStrictlySortedBy text_cmp names
+    × ((name : Text) → Contains names name ↔ ((book : Book) × (books name ≡ Some book)))
 
 -- The text is the report of all nodes that have these books, in byte order of their names.
 abbrev pub IsReportOfAll : (Text → Option Book) → Text → Type 0
-IsReportOfAll books text = (names : List Text) × AreNamesOf books names × AreReports books names text
+IsReportOfAll books text =
+    (names : List Text) × AreNamesOf books names × AreReports books names text
 
 -- the report of that node was written behind what was there
 abbrev pub HasReport : Option Book → Text → List ℕ → List ℕ → Type 0
-HasReport o name old new = (book : Book) × (text : Text) × (o ≡ Some book) × IsReportOf name book text × (new ≡ old ++ text)
+HasReport o name old new =
+    (book : Book) × (text : Text) × (o ≡ Some book)
+    × IsReportOf name book text
+    × (new ≡ old ++ text)
 
 -- those of these nodes were
 abbrev pub AreWritten : (Text → Option Book) → List Text → List ℕ → List ℕ → Type 0

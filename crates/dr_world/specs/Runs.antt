@@ -13,7 +13,9 @@ use Rattle.dr_world_tie.specs.ByteWorlds as bytes
 use Rattle.dr_world_tie.specs.ByteWorlds.{ByteWorld, beginning}
 use Rattle.dr_world_tie.specs.Shown.{ComesAbout, RunsOf}
 use Rattle.dr_world_script.specs.declared.step.Step.{Step}
-use Rattle.dr_world_script.specs.declared.step.Step.TheVariants.{Submit, Open, Push, Move, Abort, Release, Close, Late, Restart, Requeue, Forget, Tick, RefuseStore}
+use Rattle.dr_world_script.specs.declared.step.Step.TheVariants.{Submit, Open, Push, Move, Abort}
+use Rattle.dr_world_script.specs.declared.step.Step.TheVariants.{Release, Close, Late, Restart}
+use Rattle.dr_world_script.specs.declared.step.Step.TheVariants.{Requeue, Forget, Tick, RefuseStore}
 use Rattle.dr_world.specs.declared.world.World.{World}
 use Rattle.dr_world.specs.Shows.{ShowsBytes, IsSeated}
 use Rattle.dr_world.specs.Ends.{named}
@@ -35,41 +37,80 @@ step_of (Forget node uid) = bytes.Forget node uid
 step_of (Tick ms) = bytes.Tick ms
 step_of (RefuseStore node) = bytes.Refuse node
 
--- These steps lead from the beginning of the world of bytes to one that stands beside the contents. Each node is one of the plan.
-abbrev pub WasReached : {L : Type 0} {l : Ghosts L} → Network → Certificate → List bytes.WorldStep → World L l → Type 0
-WasReached plan certificate steps w = ∥ (IsSeated plan certificate (contents w).seats × ((b : ByteWorld) × RunsOf plan certificate beginning steps b × ShowsBytes (contents w) b)) ∥₁
+-- These steps lead from the beginning of the world of bytes to one that stands beside the contents.
+-- Each node is one of the plan.
+abbrev pub WasReached : {L : Type 0} {l : Ghosts L}
+    → Network → Certificate → List bytes.WorldStep → World L l → Type 0
+WasReached plan certificate steps w =
+    ∥ (IsSeated plan certificate (contents w).seats
+    × ((b : ByteWorld) × RunsOf plan certificate beginning steps b × ShowsBytes (contents w) b)) ∥₁
 
 -- The same, under the ledgers' own premise.
-abbrev pub IsReached : {L : Type 0} {l : Ghosts L} → Network → Certificate → List bytes.WorldStep → World L l → Type 0
+abbrev pub IsReached : {L : Type 0} {l : Ghosts L}
+    → Network → Certificate → List bytes.WorldStep → World L l → Type 0
 IsReached plan certificate steps w = AllStand w → WasReached plan certificate steps w
 
 -- a step more, from any world that some steps have led to
 abbrev pub GoesOn : {L : Type 0} {l : Ghosts L} → bytes.WorldStep → World L l → World L l → Type 0
-GoesOn step old new = (plan : Network) (certificate : Certificate) → IsCertified plan certificate → (steps : List bytes.WorldStep) → IsReached plan certificate steps old → IsReached plan certificate (steps ++ step ∷ []) new
+GoesOn step old new =
+    (plan : Network) (certificate : Certificate)
+    → IsCertified plan certificate
+    → (steps : List bytes.WorldStep)
+    → IsReached plan certificate steps old
+    → IsReached plan certificate (steps ++ step ∷ []) new
 
 -- the headline's four claims hold of the nodes' books: of a world of messages that has just these,
 -- and to which events of the plan lead from the start
 abbrev pub HoldsOf : {L : Type 0} {l : Ghosts L} → Network → World L l → Type 0
-HoldsOf {L} {l} plan w = ∥ ((v : model.World) × ((name : Text) (n : Node L l) → tree.get text_cmp w.nodes name ≡ Some n → v.books name ≡ l.book n.desk.ledger)
+HoldsOf {L} {l} plan w =
+    ∥ ((v : model.World)
+    × ((name : Text) (n : Node L l)
+    → tree.get text_cmp w.nodes name ≡ Some n
+    → v.books name ≡ l.book n.desk.ledger)
     × ComesAbout plan v × Headline plan v) ∥₁
 
--- They hold after the step, whatever steps have led to where it was taken, under the ledgers' own premise.
-abbrev pub HoldsAfter : {L : Type 0} {l : Ghosts L} → bytes.WorldStep → World L l → World L l → Type 0
-HoldsAfter step old new = (plan : Network) (certificate : Certificate) → IsCertified plan certificate → (steps : List bytes.WorldStep) → IsReached plan certificate steps old → AllStand new → HoldsOf plan new
+-- They hold after the step, whatever steps have led to where it was taken, under the ledgers' own
+-- premise.
+abbrev pub HoldsAfter : {L : Type 0} {l : Ghosts L}
+    → bytes.WorldStep → World L l → World L l → Type 0
+HoldsAfter step old new =
+    (plan : Network) (certificate : Certificate)
+    → IsCertified plan certificate
+    → (steps : List bytes.WorldStep)
+    → IsReached plan certificate steps old
+    → AllStand new → HoldsOf plan new
 
 -- They hold of each world that some steps have led to.
 abbrev pub HoldsWhereReached : {L : Type 0} {l : Ghosts L} → World L l → Type 0
-HoldsWhereReached w = (plan : Network) (certificate : Certificate) → IsCertified plan certificate → (steps : List bytes.WorldStep) → IsReached plan certificate steps w → AllStand w → HoldsOf plan w
+HoldsWhereReached w =
+    (plan : Network) (certificate : Certificate)
+    → IsCertified plan certificate
+    → (steps : List bytes.WorldStep)
+    → IsReached plan certificate steps w
+    → AllStand w → HoldsOf plan w
 
 -- These steps lead from the one world to the other, whatever steps have led to the first.
-abbrev pub Leads : {L : Type 0} {l : Ghosts L} → List bytes.WorldStep → World L l → World L l → Type 0
-Leads steps old new = (plan : Network) (certificate : Certificate) → IsCertified plan certificate → (before : List bytes.WorldStep) → IsReached plan certificate before old → IsReached plan certificate (before ++ steps) new
+abbrev pub Leads : {L : Type 0} {l : Ghosts L}
+    → List bytes.WorldStep → World L l → World L l → Type 0
+Leads steps old new =
+    (plan : Network) (certificate : Certificate)
+    → IsCertified plan certificate
+    → (before : List bytes.WorldStep)
+    → IsReached plan certificate before old
+    → IsReached plan certificate (before ++ steps) new
 
 -- The four claims hold after them, under the ledgers' own premise.
 abbrev pub HoldsAfterAll : {L : Type 0} {l : Ghosts L} → World L l → World L l → Type 0
-HoldsAfterAll old new = (plan : Network) (certificate : Certificate) → IsCertified plan certificate → (before : List bytes.WorldStep) → IsReached plan certificate before old → AllStand new → HoldsOf plan new
+HoldsAfterAll old new =
+    (plan : Network) (certificate : Certificate)
+    → IsCertified plan certificate
+    → (before : List bytes.WorldStep)
+    → IsReached plan certificate before old
+    → AllStand new → HoldsOf plan new
 
--- A world that just these steps have made of the plan, and nothing else is asked: they lead to it from the beginning, and the
--- headline's four claims hold of its nodes' books.
-abbrev pub IsRunOf : {L : Type 0} {l : Ghosts L} → Network → Certificate → List Step → World L l → Type 0
-IsRunOf plan certificate steps w = WasReached plan certificate (mapped step_of steps) w × HoldsOf plan w
+-- A world that just these steps have made of the plan, and nothing else is asked: they lead to it
+-- from the beginning, and the headline's four claims hold of its nodes' books.
+abbrev pub IsRunOf : {L : Type 0} {l : Ghosts L}
+    → Network → Certificate → List Step → World L l → Type 0
+IsRunOf plan certificate steps w =
+    WasReached plan certificate (mapped step_of steps) w × HoldsOf plan w

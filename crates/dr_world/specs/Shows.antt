@@ -1,4 +1,5 @@
--- Which world of bytes a simulator's world is: its nodes by name, and for each link its ends' names and its wires.
+-- Which world of bytes a simulator's world is: its nodes by name, and for each link its ends' names
+-- and its wires.
 use Rattle.std.specs.Prelude.{◌≡◌, ◌≢◌, ◌⊎◌, ℕ, ◌<◌, Bool, true, false, cond, Option, Some, None}
 use Rattle.std.specs.Ordering.{nat_cmp, eq_by_cmp}
 use Rattle.std.specs.FinMap as map
@@ -13,7 +14,8 @@ use Rattle.dr_node.specs.Sides.{Sides, is_taken}
 use Rattle.dr_world_model.specs.Worlds.{same_text}
 use Rattle.dr_world_model.specs.Events.{HasNode}
 use Rattle.dr_world_tie.specs.Channels.{Terminal, Channel}
-use Rattle.dr_world_tie.specs.ByteWorlds.{ByteWorld, WorldStep, StepNote, Steps, caller_of, receiver_of}
+use Rattle.dr_world_tie.specs.ByteWorlds.{ByteWorld, WorldStep, StepNote, Steps, caller_of}
+use Rattle.dr_world_tie.specs.ByteWorlds.{receiver_of}
 use Rattle.dr_world.specs.declared.wires.Wires.{Wires}
 
 -- a node: its site, its sides of links, and its ledger as a desk
@@ -42,7 +44,9 @@ desk_at (Some seat) = seat.desk
 
 -- each node of the plan, with its own part of the plan, and no other
 pub record IsSeated (plan : Network) (certificate : Certificate) (seats : Seats) : Type 0 where
-  pub each : (name : Text) (seat : Seat) → seats name ≡ Some seat → (seat.site.name ≡ name) × IsPartOf plan certificate seat.site
+  pub each : (name : Text) (seat : Seat)
+      → seats name ≡ Some seat
+      → (seat.site.name ≡ name) × IsPartOf plan certificate seat.site
   pub all : (name : Text) → HasNode plan name → (seat : Seat) × (seats name ≡ Some seat)
 
 -- one node is another now
@@ -55,7 +59,8 @@ with_desk_of seat t = record { site = seat.site; sides = seat.sides; desk = t }
 
 -- one of its sides is another now, and its ledger
 abbrev pub with_side : Seat → ℕ → Side → Desk → Seat
-with_side seat number side t = record { site = seat.site; sides = map.insert seat.sides number side; desk = t }
+with_side seat number side t =
+    record { site = seat.site; sides = map.insert seat.sides number side; desk = t }
 
 -- ---- links
 
@@ -65,14 +70,22 @@ with_wires wires number w other = cond (eq_by_cmp nat_cmp other number) (Some w)
 
 -- after something was done at one end of a link, at that node
 abbrev pub with_end_done : Contents → Text → Seat → ℕ → Side → Desk → Wires → Contents
-with_end_done c name seat number side t w = record { now = c.now; opened = c.opened; seats = with_seat c.seats name (with_side seat number side t); wires = with_wires c.wires number w }
+with_end_done c name seat number side t w = record {
+  now = c.now;
+  opened = c.opened;
+  seats = with_seat c.seats name (with_side seat number side t);
+  wires = with_wires c.wires number w;
+}
 
--- An end as its node has it. Its core is there: where memory ended one the whole world is over, and stands for no world of bytes.
+-- An end as its node has it. Its core is there: where memory ended one the whole world is over, and
+-- stands for no world of bytes.
 abbrev pub side_of : Bool → Terminal → Side
-side_of accepted end = record { end = record { ear = end.ear; core = Some end.core }; accepted = accepted }
+side_of accepted end =
+    record { end = record { ear = end.ear; core = Some end.core }; accepted = accepted }
 
 abbrev pub HasSide : Seats → Text → ℕ → Side → Type 0
-HasSide seats name number side = (seat : Seat) × (seats name ≡ Some seat) × (map.get seat.sides number ≡ Some side)
+HasSide seats name number side =
+    (seat : Seat) × (seats name ≡ Some seat) × (map.get seat.sides number ≡ Some side)
 
 -- A link: its two ends stand at two nodes under the link's number, and the wires are its own.
 pub record IsLinked (seats : Seats) (number : ℕ) (w : Wires) (k : Channel) : Type 0 where
@@ -94,7 +107,8 @@ LinkedAt seats number (Some w) None = ⊥
 
 -- a side is of a link of its node
 abbrev pub IsOfLink : (ℕ → Option Wires) → Text → ℕ → Type 0
-IsOfLink wires name number = (w : Wires) × (wires number ≡ Some w) × ((name ≡ w.caller) ⊎ (name ≡ w.receiver))
+IsOfLink wires name number =
+    (w : Wires) × (wires number ≡ Some w) × ((name ≡ w.caller) ⊎ (name ≡ w.receiver))
 
 -- ---- the whole world
 
@@ -103,11 +117,18 @@ pub record ShowsBytes (c : Contents) (b : ByteWorld) : Type 0 where
   pub opened : b.opened ≡ c.opened
   pub desks : (name : Text) → b.desks name ≡ desk_at (c.seats name)
   pub links : (number : ℕ) → LinkedAt c.seats number (c.wires number) (map.get b.links number)
-  -- A side whose link is there no more, as its other node was started anew, is over: it isn't counted among others.
-  pub sides : (name : Text) (number : ℕ) (side : Side) → HasSide c.seats name number side → IsOfLink c.wires name number ⊎ (is_taken side ≡ false)
+  -- A side whose link is there no more, as its other node was started anew, is over: it isn't
+  -- counted among others.
+  pub sides : (name : Text) (number : ℕ) (side : Side)
+      → HasSide c.seats name number side
+      → IsOfLink c.wires name number ⊎ (is_taken side ≡ false)
   -- the next link's number is free at each node
-  pub fresh : (name : Text) (number : ℕ) (side : Side) → HasSide c.seats name number side → c.opened < number → ⊥
+  pub fresh : (name : Text) (number : ℕ) (side : Side)
+      → HasSide c.seats name number side
+      → c.opened < number → ⊥
 
--- A step of the world of bytes that stood beside the old contents, to one that stands beside the new.
+-- A step of the world of bytes that stood beside the old contents, to one that stands beside the
+-- new.
 abbrev pub Becomes : Network → Certificate → ByteWorld → WorldStep → StepNote → Contents → Type 0
-Becomes plan certificate b step note new = (after : ByteWorld) × Steps plan certificate b step note after × ShowsBytes new after
+Becomes plan certificate b step note new =
+    (after : ByteWorld) × Steps plan certificate b step note after × ShowsBytes new after

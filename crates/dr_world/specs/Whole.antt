@@ -51,28 +51,48 @@ AllStand w = AllStandIn w.nodes
 
 -- Nothing has changed; where the premise of each ledger stands after it, it stood before.
 abbrev pub IsSameWorld : {L : Type 0} {l : Ghosts L} → World L l → World L l → Type 0
-IsSameWorld old new = (AllStand new → AllStand old) × (AllStand new → contents new ≡ contents old) × (new.lost ≡ old.lost)
+IsSameWorld old new =
+    (AllStand new → AllStand old)
+    × (AllStand new → contents new ≡ contents old)
+    × (new.lost ≡ old.lost)
 
 abbrev pub HasTicked : {L : Type 0} {l : Ghosts L} → ℕ → World L l → World L l → Type 0
-HasTicked ms old new = (contents new ≡ with_time (contents old) (min (old.time.passed + ms) (2 ^ 62))) × (new.nodes ≡ old.nodes)
+HasTicked ms old new =
+    (contents new ≡ with_time (contents old) (min (old.time.passed + ms) (2 ^ 62)))
+    × (new.nodes ≡ old.nodes)
 
 -- ---- calls on a node's ledger
 
--- Nothing is done at a name that no node has. Else the node's ledger alone has changed, by such a call; and where the premise of
--- each ledger stands after it, it stood before.
-abbrev pub CallsIn : {L : Type 0} {l : Ghosts L} → (Seat → StepNote → Desk → Type 0) → Option (Node L l) → Text → World L l → StepNote → World L l → Type 0
-CallsIn does None name old note new = (note ≡ Skipped) × (contents new ≡ contents old) × (new.nodes ≡ old.nodes)
-CallsIn does (Some n) name old note new = (AllStand new → AllStand old)
-    × (AllStand new → (t : Desk) × does (seat_of n) note t × (contents new ≡ with_seats (contents old) name (with_desk_of (seat_of n) t)))
+-- Nothing is done at a name that no node has. Else the node's ledger alone has changed, by such a
+-- call; and where the premise of each ledger stands after it, it stood before.
+abbrev pub CallsIn : {L : Type 0} {l : Ghosts L}
+    → (Seat → StepNote → Desk → Type 0)
+    → Option (Node L l) → Text → World L l → StepNote → World L l → Type 0
+CallsIn does None name old note new =
+    (note ≡ Skipped) × (contents new ≡ contents old) × (new.nodes ≡ old.nodes)
+CallsIn does (Some n) name old note new =
+    (AllStand new → AllStand old)
+    × (AllStand new
+    → (t : Desk) × does (seat_of n) note t
+    × (contents new ≡ with_seats (contents old) name (with_desk_of (seat_of n) t)))
 
-abbrev pub Calls : {L : Type 0} {l : Ghosts L} → (Seat → StepNote → Desk → Type 0) → Text → World L l → StepNote → World L l → Type 0
+abbrev pub Calls : {L : Type 0} {l : Ghosts L}
+    → (Seat → StepNote → Desk → Type 0)
+    → Text → World L l → StepNote → World L l → Type 0
 Calls does name old note new = CallsIn does (tree.get text_cmp old.nodes name) name old note new
 
 abbrev pub Submits : Job → Seat → StepNote → Desk → Type 0
-Submits item seat note t = (reply : Reply) × RoutedStep (site_routing seat.site) seat.desk (Arrive local item) (Arrival reply) t × (noted note ≡ bytes.note_of reply)
+Submits item seat note t =
+    (reply : Reply)
+    × RoutedStep (site_routing seat.site) seat.desk (Arrive local item) (Arrival reply) t
+    × (noted note ≡ bytes.note_of reply)
 
 abbrev pub Puts : Text → Text → Seat → StepNote → Desk → Type 0
-Puts uid dest seat note t = (answer : Answer) × Requeues uid dest seat.desk.book answer t.book × Arms (IsHeld seat.desk.book uid dest) seat.desk.armed answer t.armed × (noted note ≡ bytes.note_of answer)
+Puts uid dest seat note t =
+    (answer : Answer)
+    × Requeues uid dest seat.desk.book answer t.book
+    × Arms (IsHeld seat.desk.book uid dest) seat.desk.armed answer t.armed
+    × (noted note ≡ bytes.note_of answer)
 
 abbrev pub Drops : Text → Seat → StepNote → Desk → Type 0
 Drops uid seat note t = (answer : Answer) × Forgets uid seat.desk.book answer t.book
@@ -84,19 +104,38 @@ IsToldToRefuse seat note t = (note ≡ Done) × (t ≡ desk seat.desk.book true)
 
 -- ---- steps
 
--- It is that step of the world of bytes: of each that stood beside the old contents, to one that stands beside the new. Each node is
--- one of the plan still. The ledgers' own premise is all that is asked, as it stands after the step; then it stood before.
-abbrev pub StepsTo : {L : Type 0} {l : Ghosts L} → bytes.WorldStep → World L l → StepNote → World L l → Type 0
-StepsTo step old note new = (AllStand new → AllStand old) × ((plan : Network) (certificate : Certificate) → IsCertified plan certificate → (b : bytes.ByteWorld) → IsSeated plan certificate (contents old).seats → ShowsBytes (contents old) b →
-    AllStand new → IsSeated plan certificate (contents new).seats × ∥ Becomes plan certificate b step (noted note) (contents new) ∥₁)
+-- It is that step of the world of bytes: of each that stood beside the old contents, to one that
+-- stands beside the new. Each node is one of the plan still. The ledgers' own premise is all that
+-- is asked, as it stands after the step; then it stood before.
+abbrev pub StepsTo : {L : Type 0} {l : Ghosts L}
+    → bytes.WorldStep → World L l → StepNote → World L l → Type 0
+StepsTo step old note new =
+    (AllStand new → AllStand old)
+    × ((plan : Network) (certificate : Certificate)
+    → IsCertified plan certificate
+    → (b : bytes.ByteWorld)
+    → IsSeated plan certificate (contents old).seats
+    → ShowsBytes (contents old) b
+    → AllStand new
+    → IsSeated plan certificate (contents new).seats
+    × ∥ Becomes plan certificate b step (noted note) (contents new) ∥₁)
 
 -- ---- at links
 
--- Nothing is done where there is no link of that number. Else its end did this, and it is noted by whether anything was written.
-abbrev pub MeetsIn : {L : Type 0} {l : Ghosts L} → (Part → Deed Desk) → Option Wires → ℕ → bytes.Side → World L l → StepNote → World L l → Type 0
-MeetsIn does None link side old note new = (note ≡ Skipped) × (contents new ≡ contents old) × (new.nodes ≡ old.nodes)
-MeetsIn does (Some w) link side old note new = (AllStand new → AllStand old)
-    × (AllStand new → (acts : List LinkAction) × (noted note ≡ note_by acts) × IsDone does 0 (contents old) link side acts (contents new))
+-- Nothing is done where there is no link of that number. Else its end did this, and it is noted by
+-- whether anything was written.
+abbrev pub MeetsIn : {L : Type 0} {l : Ghosts L}
+    → (Part → Deed Desk) → Option Wires → ℕ → bytes.Side → World L l → StepNote → World L l → Type 0
+MeetsIn does None link side old note new =
+    (note ≡ Skipped) × (contents new ≡ contents old) × (new.nodes ≡ old.nodes)
+MeetsIn does (Some w) link side old note new =
+    (AllStand new → AllStand old)
+    × (AllStand new
+    → (acts : List LinkAction)
+    × (noted note ≡ note_by acts)
+    × IsDone does 0 (contents old) link side acts (contents new))
 
-abbrev pub Meets : {L : Type 0} {l : Ghosts L} → (Part → Deed Desk) → ℕ → bytes.Side → World L l → StepNote → World L l → Type 0
-Meets does link side old note new = MeetsIn does (tree.get nat_cmp old.wires link) link side old note new
+abbrev pub Meets : {L : Type 0} {l : Ghosts L}
+    → (Part → Deed Desk) → ℕ → bytes.Side → World L l → StepNote → World L l → Type 0
+Meets does link side old note new =
+    MeetsIn does (tree.get nat_cmp old.wires link) link side old note new

@@ -16,7 +16,8 @@ use dr_session::LinkAction;
 use dr_ulstate::State;
 use std::collections::BTreeMap;
 
-/// Something happens at a link of the node of that name, at a moment of at most 2^62 milliseconds; gives what its end does.
+/// Something happens at a link of the node of that name, at a moment of at most 2^62 milliseconds;
+/// gives what its end does.
 ///
 /// Errors: LinkUnknown where there is no such node or link; Memory.
 pub fn input_at<L: Ledger>(
@@ -27,7 +28,8 @@ pub fn input_at<L: Ledger>(
     now: u64,
 ) -> Result<Seq<LinkAction>, NodeFault>
     requires { now ≤ 2 ^ 62 }
-    ensures { IfOk result (λ actions. IsDoneAt (event_at event) name.now link now nodes.old actions nodes.new) }
+    ensures { IfOk result (λ actions.
+        IsDoneAt (event_at event) name.now link now nodes.old actions nodes.new) }
 {
     let Some(node) = nodes.get_mut(name) else {
         return Err(NodeFault::LinkUnknown);
@@ -45,7 +47,8 @@ pub fn push_at<L: Ledger>(
     now: u64,
 ) -> Result<Seq<LinkAction>, NodeFault>
     requires { now ≤ 2 ^ 62 }
-    ensures { IfOk result (λ actions. IsDoneAt push_at name.now link now nodes.old actions nodes.new) }
+    ensures { IfOk result (λ actions.
+        IsDoneAt push_at name.now link now nodes.old actions nodes.new) }
 {
     let Some(node) = nodes.get_mut(name) else {
         return Err(NodeFault::LinkUnknown);
@@ -80,8 +83,9 @@ fn has_hop(hops: &[Hop], dest: &Text) -> bool
     hops.iter().any(|hop| hop.to == *dest)
 }
 
-/// The node of that name asks another for an association, at a moment in milliseconds; gives what it writes at once. None, and
-/// nothing has changed, where there is no such node, or it has no hop there.
+/// The node of that name asks another for an association, at a moment in milliseconds; gives what
+/// it writes at once. None, and nothing has changed, where there is no such node, or it has no hop
+/// there.
 ///
 /// Errors: LinkKnown, Memory.
 pub fn open_at<L: Ledger>(
@@ -91,7 +95,8 @@ pub fn open_at<L: Ledger>(
     link: u64,
     now: u64,
 ) -> Result<Option<Seq<LinkAction>>, NodeFault>
-    ensures { IfOk result (λ actions. OpensAt name.now dest.now link now nodes.old actions nodes.new) }
+    ensures { IfOk result (λ actions.
+        OpensAt name.now dest.now link now nodes.old actions nodes.new) }
 {
     let Some(node) = nodes.get_mut(name) else {
         return Ok(None);

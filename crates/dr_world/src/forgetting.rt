@@ -37,8 +37,8 @@ fn pending_at<'a, L: Ledger>(
     side.end.pending()
 }
 
-/// Whether the node of that name asked for the link of these wires, and this, which it has pending there, is the
-/// uid.
+/// Whether the node of that name asked for the link of these wires, and this, which it has pending
+/// there, is the uid.
 fn pends_over(wires: Option<&Wires>, name: &Text, uid: &Text, pending: Option<&Text>) -> bool
     ensures { result ≡
         pends_over name.now uid.now (option_copied pending.entry) (option_copied wires.entry) }
@@ -49,8 +49,8 @@ fn pends_over(wires: Option<&Wires>, name: &Text, uid: &Text, pending: Option<&T
     }
 }
 
-/// Whether an end that the node of that name asked over still awaits the response to a store of that
-/// uid.
+/// Whether an end that the node of that name asked over still awaits the response to a store of
+/// that uid.
 pub fn is_under_way<L: Ledger>(
     wires: &BTreeMap<u64, Wires>,
     nodes: &BTreeMap<Text, Node<L>>,

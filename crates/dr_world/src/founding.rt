@@ -3,8 +3,10 @@ ghost use Rattle.std.specs.Prelude.{◌≡◌, ◌≢◌, [], IfErr, IfOk, OnOk,
 ghost use Rattle.std.specs.Vec.{vec_len};
 ghost use Rattle.std.specs.FinMap as map;
 ghost use Rattle.dr_ledger.specs.Replies.{HasRisen};
-ghost use Rattle.dr_world.specs.Founding.{AreFounded, AreNames, Founds, HasCause, IsUnfit, IsUnfitAt, SaysEmpty, SaysFilled, SomeIsUnfit};
-ghost use Rattle.dr_world.specs.declared.fault.WorldFault.TheVariants.{Store as StoreFault, WrongLedgers as WrongFault};
+ghost use Rattle.dr_world.specs.Founding.{AreFounded, AreNames, Founds, HasCause, IsUnfit};
+ghost use Rattle.dr_world.specs.Founding.{IsUnfitAt, SaysEmpty, SaysFilled, SomeIsUnfit};
+ghost use Rattle.dr_world.specs.declared.fault.WorldFault.TheVariants.{Store as StoreFault};
+ghost use Rattle.dr_world.specs.declared.fault.WorldFault.TheVariants.{WrongLedgers as WrongFault};
 ghost use Rattle.dr_world.specs.Runs.{IsReached};
 
 use crate::fault::WorldFault;
@@ -22,10 +24,13 @@ use std::collections::BTreeMap;
 ///
 /// Errors: Store, Memory.
 fn is_empty<L: Ledger>(ledger: &mut L) -> Result<bool, WorldFault>
-    ensures empty { IfOk result (λ empty. L.stands ledger.new → SaysEmpty (L.book ledger.new) empty) }
-    ensures filled { IfOk result (λ empty. empty ≡ false → SaysFilled L.trusts L.stands L.book ledger.old) }
+    ensures empty { IfOk result (λ empty.
+        L.stands ledger.new → SaysEmpty (L.book ledger.new) empty) }
+    ensures filled { IfOk result (λ empty.
+        empty ≡ false → SaysFilled L.trusts L.stands L.book ledger.old) }
     ensures wrong { result ≢ Err WrongFault }
-    ensures failed { result ≡ Err StoreFault → HasRisen (L.failed ledger.old) (L.failed ledger.new) }
+    ensures failed { result ≡ Err StoreFault
+        → HasRisen (L.failed ledger.old) (L.failed ledger.new) }
     ensures armed { L.armed ledger.new ≡ L.armed ledger.old }
     ensures site { L.site ledger.new ≡ L.site ledger.old }
 {
@@ -46,7 +51,8 @@ fn found<L: Ledger + Drop>(
     ensures site { IfOk result (λ n. L.site n.desk.ledger.ledger ≡ site) }
     ensures links { IfOk result (λ n. n.links ≡ map.empty) }
     ensures armed { IfOk result (λ n. n.desk.ledger.refusals.is_due ≡ false) }
-    ensures empty { IfOk result (λ n. L.stands n.desk.ledger.ledger → SaysEmpty (L.book n.desk.ledger.ledger) true) }
+    ensures empty { IfOk result (λ n.
+        L.stands n.desk.ledger.ledger → SaysEmpty (L.book n.desk.ledger.ledger) true) }
     ensures unfit { IfErr result (IsUnfit L.trusts L.stands L.book L.site L.failed site ledger) }
 {
     let mut ledger = ledger;
@@ -81,8 +87,11 @@ fn seat<L: Ledger + Drop>(
     ledger: L,
     nodes: &mut BTreeMap<Text, Node<Refusing<L>>>,
 ) -> Result<(), WorldFault>
-    ensures founds { OnOk result (Founds sealed.now.plan sealed.now.certificate name.now nodes.old nodes.new) }
-    ensures unfit { IfErr result (IsUnfitAt (IsUnfit L.trusts L.stands L.book L.site L.failed) sealed.now.plan sealed.now.certificate name.now ledger) }
+    ensures founds { OnOk result
+        (Founds sealed.now.plan sealed.now.certificate name.now nodes.old nodes.new) }
+    ensures unfit { IfErr result
+        (IsUnfitAt (IsUnfit L.trusts L.stands L.book L.site L.failed) sealed.now.plan
+        sealed.now.certificate name.now ledger) }
 {
     // each name here is a node's, so that want of memory is all that can be in the way
     let Ok(site) = Site::of(alloc, sealed, name) else {
@@ -116,7 +125,9 @@ fn seat_all<L: Ledger + Drop>(
 ) -> Result<BTreeMap<Text, Node<Refusing<L>>>, WorldFault>
     requires { length names.now ≡ vec_len ledgers }
     ensures founded { IfOk result (AreFounded sealed.now.plan sealed.now.certificate names.now) }
-    ensures unfit { IfErr result (SomeIsUnfit (IsUnfit L.trusts L.stands L.book L.site L.failed) sealed.now.plan sealed.now.certificate names.now ledgers.items) }
+    ensures unfit { IfErr result
+        (SomeIsUnfit (IsUnfit L.trusts L.stands L.book L.site L.failed) sealed.now.plan
+        sealed.now.certificate names.now ledgers.items) }
 {
     let mut nodes = BTreeMap::new(alloc);
     let mut place = 0;
@@ -128,18 +139,21 @@ fn seat_all<L: Ledger + Drop>(
 }
 
 impl<L: Ledger + Drop> World<Refusing<L>> {
-    /// The nodes of a plan at time 0, without a link, each over the ledger at its place: one for each node, by the byte order of the
-    /// nodes' names. Each can be told to refuse.
+    /// The nodes of a plan at time 0, without a link, each over the ledger at its place: one for
+    /// each node, by the byte order of the nodes' names. Each can be told to refuse.
     ///
-    /// Errors: WrongLedgers, where there is another number of them, one that isn't empty, or one that is of another
-    /// site; Store, where a ledger's store fails; Memory. No ledger is given back.
+    /// Errors: WrongLedgers, where there is another number of them, one that isn't empty, or one
+    /// that is of another site; Store, where a ledger's store fails; Memory. No ledger is given
+    /// back.
     pub fn with(
         alloc: Global,
         sealed: &Sealed,
         ledgers: Vec<L>,
     ) -> Result<World<Refusing<L>>, WorldFault>
         ensures reached { IfOk result (IsReached sealed.now.plan sealed.now.certificate []) }
-        ensures cause { IfErr result (HasCause (IsUnfit L.trusts L.stands L.book L.site L.failed) sealed.now.plan sealed.now.certificate ledgers.items) }
+        ensures cause { IfErr result
+            (HasCause (IsUnfit L.trusts L.stands L.book L.site L.failed) sealed.now.plan
+            sealed.now.certificate ledgers.items) }
     {
         let names = names_of(alloc, sealed.plan())?;
         if names.len() != ledgers.len() {

@@ -12,7 +12,8 @@ pub enum Due {
     Bytes(usize),
 }
 
-/// The byte at that place of what a reader keeps and of its wire behind that; 0 where there is none.
+/// The byte at that place of what a reader keeps and of its wire behind that; 0 where there is
+/// none.
 fn byte_at(kept: &[u8], wire: &[u8], place: usize) -> u8
     ensures { result ≡ get_or (kept.now ++ wire.now) place 0 }
 {
@@ -39,8 +40,8 @@ fn length_of_front(kept: &[u8], wire: &[u8]) -> usize
     u32::from_be_bytes(field) as usize + 6
 }
 
-/// How many bytes of a wire belong to the PDU at the front, whose first bytes the reader keeps. All of them where the PDU's last byte
-/// isn't there.
+/// How many bytes of a wire belong to the PDU at the front, whose first bytes the reader keeps. All
+/// of them where the PDU's last byte isn't there.
 fn left_of(kept: &[u8], wire: &[u8]) -> usize
     ensures { IsLeftOf kept.now wire.now result }
 {
@@ -55,8 +56,8 @@ fn left_of(kept: &[u8], wire: &[u8]) -> usize
     left
 }
 
-/// How many of at most so many bytes of a wire may come to its reader, which keeps these: as many as there are, and none beyond the
-/// PDU at the front.
+/// How many of at most so many bytes of a wire may come to its reader, which keeps these: as many
+/// as there are, and none beyond the PDU at the front.
 pub fn movable(kept: &[u8], wire: &[u8], most: u64) -> usize
     ensures { IsMovable kept.now wire.now most result }
 {

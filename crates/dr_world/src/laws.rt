@@ -1,6 +1,9 @@
 //! Laws: what is done to a world's contents is a step of the world of bytes beside it.
 ghost use Rattle.dr_world.specs.Ended.{MoveEndsPdu};
-ghost use Rattle.dr_world.specs.Laws.{EndStaysOfItsSite, ForgetIsShown, MoveIsShown, NewIsBeginning, OthersAreCounted, RefuseIsShown, RequeueIsShown, StrangerIsSkipped, SubmitIsShown, TickIsShown, UnderWayStays};
+ghost use Rattle.dr_world.specs.Laws.{EndStaysOfItsSite, ForgetIsShown, MoveIsShown};
+ghost use Rattle.dr_world.specs.Laws.{NewIsBeginning, OthersAreCounted, RefuseIsShown};
+ghost use Rattle.dr_world.specs.Laws.{RequeueIsShown, StrangerIsSkipped, SubmitIsShown};
+ghost use Rattle.dr_world.specs.Laws.{TickIsShown, UnderWayStays};
 
 use dr_session::DeskPort;
 
@@ -39,7 +42,8 @@ pub fn moves()
     ensures { MoveIsShown }
 {}
 
-/// A Move of all that is left of a PDU ends it: just that comes off the wire, and the end has heard the PDU.
+/// A Move of all that is left of a PDU ends it: just that comes off the wire, and the end has heard
+/// the PDU.
 pub fn ends_pdus()
     ensures { MoveEndsPdu }
 {}

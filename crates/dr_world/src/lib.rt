@@ -1,10 +1,12 @@
 //! The simulator of all nodes of a plan, over wires of bytes.
 //!
-//! A world has its nodes by name and, for each link, the names of its two ends and what is on its two wires. Which world of
-//! bytes it is, is said in `specs/Shows.antt`. Each step of a world is that step of the world of bytes beside it (`World::step`), so
-//! the headline's four claims hold of its nodes' books after it.
+//! A world has its nodes by name and, for each link, the names of its two ends and what is on its
+//! two wires. Which world of bytes it is, is said in `specs/Shows.antt`. Each step of a world is
+//! that step of the world of bytes beside it (`World::step`), so the headline's four claims hold of
+//! its nodes' books after it.
 //!
-//! A world begins by `World::with`, over a new ledger for each node of a sealed plan; `run` plays steps from there over ledgers in memory.
+//! A world begins by `World::with`, over a new ledger for each node of a sealed plan; `run` plays
+//! steps from there over ledgers in memory.
 #![tactic(auto)]
 
 mod calls;

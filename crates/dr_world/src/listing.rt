@@ -1,7 +1,9 @@
 //! What is read of one of several nodes, by its name.
 ghost use Rattle.std.specs.Prelude.{◌≡◌, ◌++◌, IfOk, OnOk, length};
 ghost use Rattle.dr_ledger_report.specs.Reports.{name_line, report_of};
-ghost use Rattle.dr_world.specs.Reports.{AreNamesOf, AreSameNodes, AreWritten, HasReport, IsListingOf, IsSameNode, ListsBook, bodies_of, books_of, has_in};
+ghost use Rattle.dr_world.specs.Reports.{AreNamesOf, AreSameNodes, AreWritten, HasReport};
+ghost use Rattle.dr_world.specs.Reports.{IsListingOf, IsSameNode, ListsBook, bodies_of, books_of};
+ghost use Rattle.dr_world.specs.Reports.{has_in};
 ghost use Rattle.dr_world.specs.Nodes.{AllStandIn};
 
 use crate::fault::WorldFault;
@@ -12,8 +14,9 @@ use dr_node::Node;
 use std::alloc::{AllocError, Global};
 use std::collections::BTreeMap;
 
-/// What a book has: who brought which uid, by caller and uid; the kept uids with the lengths of their data sets (bytes); how
-/// far each uid is on its way to each destination, by uid and destination; and its journal, in order.
+/// What a book has: who brought which uid, by caller and uid; the kept uids with the lengths of
+/// their data sets (bytes); how far each uid is on its way to each destination, by uid and
+/// destination; and its journal, in order.
 #[derive(Debug, Drop)]
 pub struct Listing {
     pub arrivals: Seq<(Text, Text)>,
@@ -32,7 +35,8 @@ fn fault_of(fault: LedgerFault) -> WorldFault {
 
 /// What a node's book has.
 fn list<L: Ledger>(node: &mut Node<L>) -> Result<Listing, LedgerFault>
-    ensures lists { IfOk result (λ x. L.stands node.new.desk.ledger → IsListingOf (L.book node.old.desk.ledger) x) }
+    ensures lists { IfOk result (λ x.
+        L.stands node.new.desk.ledger → IsListingOf (L.book node.old.desk.ledger) x) }
     ensures same { IsSameNode node.old node.new }
 {
     let arrivals = node.arrivals()?;
@@ -54,7 +58,8 @@ pub fn list_at<L: Ledger>(
     nodes: &mut BTreeMap<Text, Node<L>>,
     name: &Text,
 ) -> Result<Option<Listing>, WorldFault>
-    ensures lists { IfOk result (λ o. AllStandIn nodes.new → ListsBook (books_of nodes.old name.now) o) }
+    ensures lists { IfOk result (λ o.
+        AllStandIn nodes.new → ListsBook (books_of nodes.old name.now) o) }
     ensures same { AreSameNodes nodes.old nodes.new }
 {
     let Some(node) = nodes.get_mut(name) else {
@@ -66,8 +71,8 @@ pub fn list_at<L: Ledger>(
     }
 }
 
-/// Whether the node of that name has the data set of that uid: it does while the uid is kept or a row of it isn't done.
-/// None where there is no such node.
+/// Whether the node of that name has the data set of that uid: it does while the uid is kept or a
+/// row of it isn't done. None where there is no such node.
 ///
 /// Errors: Store, Memory.
 pub fn has_body_at<L: Ledger>(
@@ -75,7 +80,8 @@ pub fn has_body_at<L: Ledger>(
     name: &Text,
     uid: &Text,
 ) -> Result<Option<bool>, WorldFault>
-    ensures has { IfOk result (λ o. AllStandIn nodes.new → o ≡ has_in (bodies_of nodes.old name.now) uid.now) }
+    ensures has { IfOk result (λ o.
+        AllStandIn nodes.new → o ≡ has_in (bodies_of nodes.old name.now) uid.now) }
     ensures same { AreSameNodes nodes.old nodes.new }
 {
     let Some(node) = nodes.get_mut(name) else {
@@ -103,7 +109,11 @@ pub fn names_in<L: Ledger>(
 
 /// Adds the report of one node.
 fn put_listing(out: &mut Vec<u8>, name: &Text, x: &Listing) -> Result<(), AllocError>
-    ensures { OnOk result (out.new.items ≡ out.old.items ++ (name_line name.now ++ report_of x.now.arrivals x.now.kept x.now.rows (length x.now.lines))) }
+    ensures { OnOk result
+        (out.new.items
+        ≡ out.old.items
+        ++ (name_line name.now
+        ++ report_of x.now.arrivals x.now.kept x.now.rows (length x.now.lines))) }
 {
     put_name(out, name)?;
     put_report(
@@ -122,7 +132,9 @@ fn report_at<L: Ledger>(
     name: &Text,
     out: &mut Vec<u8>,
 ) -> Result<(), WorldFault>
-    ensures report { OnOk result (AllStandIn nodes.new → HasReport (books_of nodes.old name.now) name.now out.old.items out.new.items) }
+    ensures report { OnOk result
+        (AllStandIn nodes.new
+        → HasReport (books_of nodes.old name.now) name.now out.old.items out.new.items) }
     ensures same { AreSameNodes nodes.old nodes.new }
 {
     let Some(listing) = list_at(nodes, name)? else {
@@ -140,7 +152,9 @@ pub fn report_each<L: Ledger>(
     names: &[Text],
     out: &mut Vec<u8>,
 ) -> Result<(), WorldFault>
-    ensures reports { OnOk result (AllStandIn nodes.new → AreWritten (books_of nodes.old) names.now out.old.items out.new.items) }
+    ensures reports { OnOk result
+        (AllStandIn nodes.new
+        → AreWritten (books_of nodes.old) names.now out.old.items out.new.items) }
     ensures same { AreSameNodes nodes.old nodes.new }
 {
     for name in names {

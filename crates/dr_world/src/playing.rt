@@ -31,8 +31,8 @@ fn ledgers_of(
     Ok(ledgers)
 }
 
-/// The world of a sealed plan after these steps, from the beginning: each node over a ledger in memory, which can be told to
-/// refuse.
+/// The world of a sealed plan after these steps, from the beginning: each node over a ledger in
+/// memory, which can be told to refuse.
 ///
 /// Errors: Memory.
 pub fn run(

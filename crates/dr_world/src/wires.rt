@@ -92,8 +92,8 @@ impl Wires {
     }
 }
 
-/// The first bytes of a wire, so many or all, taken off it. No other byte is moved; where all are taken, all of the wire's room is free
-/// again.
+/// The first bytes of a wire, so many or all, taken off it. No other byte is moved; where all are
+/// taken, all of the wire's room is free again.
 fn take_front(alloc: Global, wire: &mut BytesMut, count: usize) -> Result<Octets, AllocError>
     ensures piece { IfOk result (λ piece. piece ≡ take count wire.old.items) }
     ensures rest { IfOk result (λ piece. wire.new.items ≡ drop count wire.old.items) }

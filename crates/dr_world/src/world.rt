@@ -4,7 +4,9 @@ ghost use Rattle.std.specs.BTreeMap as tree;
 ghost use Rattle.dr_base.specs.Texts.{text_cmp};
 ghost use Rattle.dr_session.specs.declared.ends.Heard.TheVariants as heard;
 ghost use Rattle.dr_node.specs.declared.event.LinkEvent.TheVariants as event_of;
-ghost use Rattle.dr_world_tie.specs.ByteWorlds.{Abort, Close as CloseStep, Forget, Late, Open, Push, Refuse, Release, Requestor, Requeue, Restart, Submit, Tick};
+ghost use Rattle.dr_world_tie.specs.ByteWorlds.{Abort, Close as CloseStep, Forget, Late, Open};
+ghost use Rattle.dr_world_tie.specs.ByteWorlds.{Push, Refuse, Release, Requestor, Requeue, Restart};
+ghost use Rattle.dr_world_tie.specs.ByteWorlds.{Submit, Tick};
 ghost use Rattle.dr_world.specs.declared.steps.StepNote.TheVariants.{Done as WasDone};
 ghost use Rattle.dr_world.specs.Ends.{named, note_by};
 ghost use Rattle.dr_world.specs.Nodes.{event_at, over_at, push_at as pushed_at};
@@ -12,7 +14,8 @@ ghost use Rattle.dr_world.specs.declared.fault.WorldFault.TheVariants.{Memory as
 ghost use Rattle.dr_world.specs.Runs.{GoesOn, HoldsAfter, HoldsAfterAll, Leads, step_of};
 ghost use Rattle.dr_world.specs.Reports.{IsReported, ListsBook, bodies_of, books_of, has_in};
 ghost use Rattle.dr_world.specs.Restarted.{AllFarHear, FarHears};
-ghost use Rattle.dr_world.specs.Whole.{AllStand, Calls, Drops, HasTicked, IsSameWorld, IsToldToRefuse, Meets, Puts, StepsTo, Submits, noted};
+ghost use Rattle.dr_world.specs.Whole.{AllStand, Calls, Drops, HasTicked, IsSameWorld};
+ghost use Rattle.dr_world.specs.Whole.{IsToldToRefuse, Meets, Puts, StepsTo, Submits, noted};
 
 mod reading;
 
@@ -101,8 +104,8 @@ impl<L: Ledger> World<L> {
         }
     }
 
-    /// One node asks another for an association, over a new link. Skipped where there is no such node, or it has no hop
-    /// there.
+    /// One node asks another for an association, over a new link. Skipped where there is no such
+    /// node, or it has no hop there.
     ///
     /// Errors: Memory.
     fn open(&mut self, from: &Text, to: &Text) -> Result<StepNote, WorldFault>
@@ -123,10 +126,11 @@ impl<L: Ledger> World<L> {
         Ok(StepNote::Done)
     }
 
-    /// Something happens at an end of a link, and what the end writes goes onto the other one's wire. Skipped where there is
-    /// no link of that number, or nothing is done.
+    /// Something happens at an end of a link, and what the end writes goes onto the other one's
+    /// wire. Skipped where there is no link of that number, or nothing is done.
     fn meet(&mut self, link: u64, side: Side, event: LinkEvent) -> Result<StepNote, WorldFault>
-        ensures { IfOk result (λ note. Meets (event_at event) link (named side) self.old note self.new) }
+        ensures { IfOk result (λ note.
+            Meets (event_at event) link (named side) self.old note self.new) }
     {
         let now = self.time.moment();
         let Some(wires) = self.wires.get_mut(&link) else {
@@ -137,8 +141,8 @@ impl<L: Ledger> World<L> {
         Ok(note_of(actions.as_slice()))
     }
 
-    /// An end aborts (PS3.8 table 9-10, event 15). Skipped where there is no link of that number, or the table has no cell
-    /// for it.
+    /// An end aborts (PS3.8 table 9-10, event 15). Skipped where there is no link of that number,
+    /// or the table has no cell for it.
     ///
     /// Errors: Memory.
     fn abort(&mut self, link: u64, side: Side) -> Result<StepNote, WorldFault>
@@ -148,8 +152,8 @@ impl<L: Ledger> World<L> {
         Ok(note)
     }
 
-    /// The requestor asks for the release (event 11). Skipped where there is no link of that number, or its requestor isn't
-    /// established with nothing pending.
+    /// The requestor asks for the release (event 11). Skipped where there is no link of that
+    /// number, or its requestor isn't established with nothing pending.
     ///
     /// Errors: Memory.
     fn release(&mut self, link: u64) -> Result<StepNote, WorldFault>
@@ -159,8 +163,9 @@ impl<L: Ledger> World<L> {
         Ok(note)
     }
 
-    /// A late mark at an end: event 18 where ARTIM has expired, event 15 at a requestor that has awaited an answer for
-    /// 60,000 ms. Skipped where there is no link of that number, or neither is so.
+    /// A late mark at an end: event 18 where ARTIM has expired, event 15 at a requestor that has
+    /// awaited an answer for 60,000 ms. Skipped where there is no link of that number, or neither
+    /// is so.
     ///
     /// Errors: Memory.
     fn late(&mut self, link: u64, side: Side) -> Result<StepNote, WorldFault>
@@ -170,8 +175,9 @@ impl<L: Ledger> World<L> {
         Ok(note)
     }
 
-    /// The connection of a link is lost, with what is under way: each end that isn't over hears of it (event 17), the acceptor's
-    /// first. Skipped where there is no link of that number, or both ends are over.
+    /// The connection of a link is lost, with what is under way: each end that isn't over hears of
+    /// it (event 17), the acceptor's first. Skipped where there is no link of that number, or both
+    /// ends are over.
     ///
     /// Errors: Memory.
     fn close(&mut self, link: u64) -> Result<StepNote, WorldFault>
@@ -203,8 +209,8 @@ impl<L: Ledger> World<L> {
         Ok(note_of(actions.as_slice()))
     }
 
-    /// The requestor, established and with nothing pending, sends the first due row. Skipped where there is no link of that
-    /// number, or nothing is sent.
+    /// The requestor, established and with nothing pending, sends the first due row. Skipped where
+    /// there is no link of that number, or nothing is sent.
     ///
     /// Errors: Memory.
     fn push(&mut self, link: u64) -> Result<StepNote, WorldFault>
@@ -216,8 +222,8 @@ impl<L: Ledger> World<L> {
 }
 
 impl<L: Ledger> World<L> {
-    /// The far end of a link of the named node hears that its connection has ended (event 17). What it writes is lost with
-    /// the link.
+    /// The far end of a link of the named node hears that its connection has ended (event 17). What
+    /// it writes is lost with the link.
     fn end_far(&mut self, name: &Text, link: u64) -> Result<(), WorldFault>
         ensures { OnOk result (FarHears name.now link self.old self.new) }
     {
@@ -239,8 +245,9 @@ impl<L: Ledger> World<L> {
         Ok(())
     }
 
-    /// A node stops and starts again: its links are lost with what is under way on them, and each far end that isn't over hears
-    /// of it, by rising numbers of the links; its book stays. Skipped where no node has that name.
+    /// A node stops and starts again: its links are lost with what is under way on them, and each
+    /// far end that isn't over hears of it, by rising numbers of the links; its book stays. Skipped
+    /// where no node has that name.
     ///
     /// Errors: Memory.
     fn restart(&mut self, name: &Text) -> Result<StepNote, WorldFault>
@@ -259,7 +266,9 @@ impl<L: Ledger> World<L> {
 
 /// Whether both ends of a link are over.
 fn are_over<L: Ledger>(nodes: &BTreeMap<Text, Node<L>>, wires: &Wires, link: u64) -> bool
-    ensures { result ≡ (over_at link (tree.get text_cmp nodes.now wires.now.caller) && over_at link (tree.get text_cmp nodes.now wires.now.receiver)) }
+    ensures { result
+        ≡ (over_at link (tree.get text_cmp nodes.now wires.now.caller)
+        && over_at link (tree.get text_cmp nodes.now wires.now.receiver)) }
 {
     is_over_at(nodes, &wires.caller, link) && is_over_at(nodes, &wires.receiver, link)
 }
@@ -289,18 +298,20 @@ impl<L: Ledger> World<L> {
     ///
     /// Errors: Store, where the ledger's store fails; Memory.
     pub fn book(&mut self, name: &Text) -> Result<Option<Listing>, WorldFault>
-        ensures lists { IfOk result (λ o. AllStand self.new → ListsBook (books_of self.old.nodes name.now) o) }
+        ensures lists { IfOk result (λ o.
+            AllStand self.new → ListsBook (books_of self.old.nodes name.now) o) }
         ensures same { IsSameWorld self.old self.new }
     {
         list_at(&mut self.nodes, name)
     }
 
-    /// Whether the node of that name has the data set of that uid: it does while the uid is kept or a row of it isn't done.
-    /// None where no node has that name.
+    /// Whether the node of that name has the data set of that uid: it does while the uid is kept or
+    /// a row of it isn't done. None where no node has that name.
     ///
     /// Errors: Store, where the ledger's store fails; Memory.
     pub fn has_body(&mut self, name: &Text, uid: &Text) -> Result<Option<bool>, WorldFault>
-        ensures has { IfOk result (λ o. AllStand self.new → o ≡ has_in (bodies_of self.old.nodes name.now) uid.now) }
+        ensures has { IfOk result (λ o.
+            AllStand self.new → o ≡ has_in (bodies_of self.old.nodes name.now) uid.now) }
         ensures same { IsSameWorld self.old self.new }
     {
         has_body_at(&mut self.nodes, name, uid)
@@ -310,7 +321,8 @@ impl<L: Ledger> World<L> {
     ///
     /// Errors: Store, where a ledger's store fails; Memory. Parts of it may have been added then.
     pub fn report(&mut self, out: &mut Vec<u8>) -> Result<(), WorldFault>
-        ensures reports { OnOk result (AllStand self.new → IsReported (books_of self.old.nodes) out.old.items out.new.items) }
+        ensures reports { OnOk result
+            (AllStand self.new → IsReported (books_of self.old.nodes) out.old.items out.new.items) }
         ensures same { IsSameWorld self.old self.new }
     {
         let names = names_in(self.alloc, &self.nodes)?;
@@ -332,9 +344,9 @@ impl<L: LetsGo> World<L> {
         }
     }
 
-    /// A node forgets what it has of an instance that is over; skipped where no node has that name. While an
-    /// end that it asked over awaits the response to a store of that uid nothing is done: that response would
-    /// settle a row of another instance, if one came under that uid.
+    /// A node forgets what it has of an instance that is over; skipped where no node has that name.
+    /// While an end that it asked over awaits the response to a store of that uid nothing is done:
+    /// that response would settle a row of another instance, if one came under that uid.
     fn forget(&mut self, name: &Text, uid: &Text) -> StepNote
         ensures { StepsTo (Forget name.now uid.now) self.old result self.new }
     {
@@ -406,7 +418,8 @@ impl<L: LetsGo> World<Refusing<L>> {
         }
     }
 
-    /// The next call of a node that would add a line is to be refused by its store; skipped where no node has that name.
+    /// The next call of a node that would add a line is to be refused by its store; skipped where
+    /// no node has that name.
     fn refuse(&mut self, name: &Text) -> StepNote
         ensures calls { Calls IsToldToRefuse name.now self.old result self.new }
         ensures step { StepsTo (Refuse name.now) self.old result self.new }

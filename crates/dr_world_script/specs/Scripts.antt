@@ -1,5 +1,6 @@
 -- Scripts: a step a line, its fields joined by tabs.
-use Rattle.std.specs.Prelude.{◌≡◌, ◌⊎◌, ℕ, ◌+◌, ◌<◌, ◌^◌, ◌==◌, Bool, true, false, List, [], ◌∷◌, ◌++◌, All, length, codes, decimal, filter, not, Result, Ok, Err}
+use Rattle.std.specs.Prelude.{◌≡◌, ◌⊎◌, ℕ, ◌+◌, ◌<◌, ◌^◌, ◌==◌, Bool, true, false, List, [], ◌∷◌}
+use Rattle.std.specs.Prelude.{◌++◌, All, length, codes, decimal, filter, not, Result, Ok, Err}
 use Rattle.std.specs.List.{AllZip}
 use Rattle.std.specs.Borrow.{Bor}
 use Rattle.hex.specs.Hex.{decode_of}
@@ -12,7 +13,9 @@ use Rattle.dr_ledger.specs.declared.content.Job.{Job}
 use Rattle.dr_world_script.specs.declared.step.Side.{Side}
 use Rattle.dr_world_script.specs.declared.step.Side.TheVariants.{Requestor, Acceptor}
 use Rattle.dr_world_script.specs.declared.step.Step.{Step}
-use Rattle.dr_world_script.specs.declared.step.Step.TheVariants.{Submit, Open, Push, Move, Abort, Release, Close, Late, Restart, Requeue, Forget, Tick, RefuseStore}
+use Rattle.dr_world_script.specs.declared.step.Step.TheVariants.{Submit, Open, Push, Move, Abort}
+use Rattle.dr_world_script.specs.declared.step.Step.TheVariants.{Release, Close, Late, Restart}
+use Rattle.dr_world_script.specs.declared.step.Step.TheVariants.{Requeue, Forget, Tick, RefuseStore}
 use Rattle.dr_world_script.specs.declared.step.Word.{Word}
 use Rattle.dr_world_script.specs.declared.step.Word.TheVariants as word
 use Rattle.dr_world_script.specs.declared.fault.LineFault.{LineFault}
@@ -56,34 +59,51 @@ AreNumber n fields = (field : Text) × (fields ≡ field ∷ []) × IsNumber n f
 
 -- the fields are a link's number and an end of it
 abbrev pub AreEnd : ℕ → Side → List Text → Type 0
-AreEnd link side fields = (field : Text) × (fields ≡ field ∷ side_word side ∷ []) × IsNumber link field
+AreEnd link side fields =
+    (field : Text) × (fields ≡ field ∷ side_word side ∷ []) × IsNumber link field
 
 -- the fields are a link's number, the end that reads, and how many bytes it reads at most
 abbrev pub AreMove : ℕ → Side → ℕ → List Text → Type 0
-AreMove link reader most fields = (field count : Text) × (fields ≡ field ∷ side_word reader ∷ count ∷ []) × IsNumber link field × IsNumber most count
+AreMove link reader most fields =
+    (field count : Text)
+    × (fields ≡ field ∷ side_word reader ∷ count ∷ [])
+    × IsNumber link field × IsNumber most count
 
--- What the fields behind a word tell. A data set is written in hex digits of either case; its item is what the data set has in
--- the given transfer syntax.
+-- What the fields behind a word tell. A data set is written in hex digits of either case; its item
+-- is what the data set has in the given transfer syntax.
 abbrev pub Follows : Word → List Text → Step → Type 0
-Follows word.Submit fields step = (node digits : Text) × (item : Job)
-    × (step ≡ Submit node item) × (fields ≡ node ∷ syntax_letter item.key.syntax ∷ digits ∷ []) × (decode_of digits ≡ Ok item.body) × IsItem item
-Follows word.Open fields step = («from» «to» : Text) × (step ≡ Open «from» «to») × (fields ≡ «from» ∷ «to» ∷ [])
+Follows word.Submit fields step =
+    (node digits : Text) × (item : Job)
+    × (step ≡ Submit node item)
+    × (fields ≡ node ∷ syntax_letter item.key.syntax ∷ digits ∷ [])
+    × (decode_of digits ≡ Ok item.body)
+    × IsItem item
+Follows word.Open fields step =
+    («from» «to» : Text) × (step ≡ Open «from» «to») × (fields ≡ «from» ∷ «to» ∷ [])
 Follows word.Push fields step = (link : ℕ) × (step ≡ Push link) × AreNumber link fields
-Follows word.Move fields step = (link most : ℕ) × (reader : Side) × (step ≡ Move link reader most) × AreMove link reader most fields
-Follows word.Abort fields step = (link : ℕ) × (side : Side) × (step ≡ Abort link side) × AreEnd link side fields
+Follows word.Move fields step =
+    (link most : ℕ) × (reader : Side)
+    × (step ≡ Move link reader most)
+    × AreMove link reader most fields
+Follows word.Abort fields step =
+    (link : ℕ) × (side : Side) × (step ≡ Abort link side) × AreEnd link side fields
 Follows word.Release fields step = (link : ℕ) × (step ≡ Release link) × AreNumber link fields
 Follows word.Close fields step = (link : ℕ) × (step ≡ Close link) × AreNumber link fields
-Follows word.Late fields step = (link : ℕ) × (side : Side) × (step ≡ Late link side) × AreEnd link side fields
+Follows word.Late fields step =
+    (link : ℕ) × (side : Side) × (step ≡ Late link side) × AreEnd link side fields
 Follows word.Restart fields step = (node : Text) × (step ≡ Restart node) × (fields ≡ node ∷ [])
-Follows word.Requeue fields step = (node uid dest : Text) × (step ≡ Requeue node uid dest) × (fields ≡ node ∷ uid ∷ dest ∷ [])
+Follows word.Requeue fields step =
+    (node uid dest : Text) × (step ≡ Requeue node uid dest) × (fields ≡ node ∷ uid ∷ dest ∷ [])
 Follows word.Forget fields step =
     (node uid : Text) × (step ≡ Forget node uid) × (fields ≡ node ∷ uid ∷ [])
-Follows word.Tick fields step = (milliseconds : ℕ) × (step ≡ Tick milliseconds) × AreNumber milliseconds fields
+Follows word.Tick fields step =
+    (milliseconds : ℕ) × (step ≡ Tick milliseconds) × AreNumber milliseconds fields
 Follows word.Refuse fields step = (node : Text) × (step ≡ RefuseStore node) × (fields ≡ node ∷ [])
 
 -- the line tells the step: a word, and what follows, parted by tabs
 abbrev pub Tells : Text → Step → Type 0
-Tells line step = (w : Word) × (fields : List Text) × (cuts 9 line ≡ spelled w ∷ fields) × Follows w fields step
+Tells line step =
+    (w : Word) × (fields : List Text) × (cuts 9 line ≡ spelled w ∷ fields) × Follows w fields step
 
 -- a line that tells nothing: one without a byte, or with `#` first
 abbrev pub is_skipped : Text → Bool
@@ -129,8 +149,10 @@ DecodesBody digits (Ok bytes) = decode_of digits ≡ Ok bytes
 DecodesBody digits (Err lines.NoStep) = (bytes : List ℕ) → decode_of digits ≡ Ok bytes → ⊥
 DecodesBody digits (Err lines.Memory) = Unit {0}
 
--- what taking a data set as an item answers: the item that it has in the transfer syntax, or that it has none
+-- what taking a data set as an item answers: the item that it has in the transfer syntax, or that
+-- it has none
 abbrev pub TakesItem : Syntax → List ℕ → Result Job LineFault → Type 0
 TakesItem syntax body (Ok item) = IsItem item × (item.key.syntax ≡ syntax) × (item.body ≡ body)
-TakesItem syntax body (Err lines.NoStep) = (item : Job) → IsItem item → item.key.syntax ≡ syntax → item.body ≡ body → ⊥
+TakesItem syntax body (Err lines.NoStep) =
+    (item : Job) → IsItem item → item.key.syntax ≡ syntax → item.body ≡ body → ⊥
 TakesItem syntax body (Err lines.Memory) = Unit {0}

@@ -5,8 +5,8 @@ use thiserror::Error;
 /// Why a script isn't read.
 #[derive(Clone, Copy, PartialEq, Eq, Debug, Error)]
 pub enum ScriptFault {
-    /// The first line that tells no step, counted from 1: its word or one of its fields isn't one, or its data set has no
-    /// item.
+    /// The first line that tells no step, counted from 1: its word or one of its fields isn't one,
+    /// or its data set has no item.
     #[error("K1 Script {0}")]
     Line(u64),
     #[error("Memory")]

@@ -3,7 +3,8 @@ ghost use Rattle.std.specs.Prelude.{◌≡◌, ◌<◌, ◌^◌, ℕ, IfOk, Matc
 ghost use Rattle.hex.specs.Hex.{decode_of};
 ghost use Rattle.dr_base.specs.declared.syntax.Syntax.{Syntax as SyntaxValue};
 ghost use Rattle.dr_cert_text.specs.Cuts.{Lacks, SplitsAt, cuts};
-ghost use Rattle.dr_world_script.specs.Scripts.{IsNumber, side_word, spelled, syntax_letter, DecodesBody};
+ghost use Rattle.dr_world_script.specs.Scripts.{IsNumber, side_word, spelled, syntax_letter};
+ghost use Rattle.dr_world_script.specs.Scripts.{DecodesBody};
 ghost use Rattle.dr_world_script.specs.declared.step.Side.{Side as SideValue};
 ghost use Rattle.dr_world_script.specs.declared.step.Word.{Word as WordValue};
 
@@ -17,7 +18,8 @@ use std::str;
 
 /// What stands before the first mark, and what follows the mark; None where there is no mark.
 fn split_at_byte(text: &[u8], mark: u8) -> Option<(&[u8], &[u8])>
-    ensures { MatchOption result (Lacks mark text.now) (λ p. SplitsAt mark text.now p.0.now p.1.now) }
+    ensures { MatchOption result (Lacks mark text.now) (λ p.
+        SplitsAt mark text.now p.0.now p.1.now) }
 {
     let at = memchr(mark, text)?;
     Some((&text[..at], &text[at + 1..]))
@@ -39,7 +41,8 @@ pub fn parts_of<'a>(alloc: Global, text: &'a [u8], mark: u8) -> Result<Vec<&'a [
 
 /// The word that is spelled so.
 pub fn read_word(field: &[u8]) -> Option<Word>
-    ensures { MatchOption result ((word : WordValue) → spelled word ≡ field.now → ⊥) (λ word. spelled word ≡ field.now) }
+    ensures { MatchOption result ((word : WordValue) → spelled word ≡ field.now → ⊥)
+        (λ word. spelled word ≡ field.now) }
 {
     match field {
         b"submit" => Some(Word::Submit),
@@ -78,7 +81,8 @@ pub fn read_number(field: &[u8]) -> Option<u64>
 
 /// The end of a link that is named so.
 pub fn read_side(field: &[u8]) -> Option<Side>
-    ensures { MatchOption result ((side : SideValue) → side_word side ≡ field.now → ⊥) (λ side. side_word side ≡ field.now) }
+    ensures { MatchOption result ((side : SideValue) → side_word side ≡ field.now → ⊥)
+        (λ side. side_word side ≡ field.now) }
 {
     match field {
         b"requestor" => Some(Side::Requestor),
@@ -89,7 +93,8 @@ pub fn read_side(field: &[u8]) -> Option<Side>
 
 /// The transfer syntax with this letter.
 pub fn read_syntax(field: &[u8]) -> Option<Syntax>
-    ensures { MatchOption result ((syntax : SyntaxValue) → syntax_letter syntax ≡ field.now → ⊥) (λ syntax. syntax_letter syntax ≡ field.now) }
+    ensures { MatchOption result ((syntax : SyntaxValue) → syntax_letter syntax ≡ field.now → ⊥)
+        (λ syntax. syntax_letter syntax ≡ field.now) }
 {
     match field {
         b"I" => Some(Syntax::Implicit),

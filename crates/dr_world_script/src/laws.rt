@@ -1,5 +1,6 @@
 //! Laws of scripts.
-ghost use Rattle.dr_world_script.specs.Laws.{LinesTellNone, LinesTellSteps, OneScriptForAText, OneStepForALine};
+ghost use Rattle.dr_world_script.specs.Laws.{LinesTellNone, LinesTellSteps, OneScriptForAText};
+ghost use Rattle.dr_world_script.specs.Laws.{OneStepForALine};
 
 /// A line tells one step, and a text is the script of one list of steps.
 pub fn a_script_has_one_reading()

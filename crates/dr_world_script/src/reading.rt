@@ -1,7 +1,8 @@
 //! What stands behind a word.
 ghost use Rattle.std.specs.Prelude.{◌≡◌, ◌∷◌, [], ℕ, map, MatchOption};
 ghost use Rattle.dr_base.specs.Texts.{Text as TextValue};
-ghost use Rattle.dr_world_script.specs.Scripts.{AreNumber, AreEnd, ReadsFields, ReadsLine, TakesItem};
+ghost use Rattle.dr_world_script.specs.Scripts.{AreNumber, AreEnd, ReadsFields, ReadsLine};
+ghost use Rattle.dr_world_script.specs.Scripts.{TakesItem};
 ghost use Rattle.dr_world_script.specs.declared.step.Side.{Side as SideValue};
 ghost use Rattle.dr_world_script.specs.declared.step.Word.TheVariants as words;
 
@@ -16,7 +17,8 @@ const TAB: u8 = 9;
 
 /// The one number that the fields are.
 fn only_number(fields: &[&[u8]]) -> Option<u64>
-    ensures { MatchOption result ((n : ℕ) → AreNumber n (map (λ f. f.now) fields.now) → ⊥) (λ n. AreNumber n (map (λ f. f.now) fields.now)) }
+    ensures { MatchOption result ((n : ℕ) → AreNumber n (map (λ f. f.now) fields.now) → ⊥)
+        (λ n. AreNumber n (map (λ f. f.now) fields.now)) }
 {
     match fields {
         [field] => read_number(field),
@@ -26,7 +28,8 @@ fn only_number(fields: &[&[u8]]) -> Option<u64>
 
 /// The one field that the fields are.
 fn only_field<'a>(fields: &[&'a [u8]]) -> Option<&'a [u8]>
-    ensures { MatchOption result ((f : TextValue) → map (λ f. f.now) fields.now ≡ f ∷ [] → ⊥) (λ f. map (λ f. f.now) fields.now ≡ f.now ∷ []) }
+    ensures { MatchOption result ((f : TextValue) → map (λ f. f.now) fields.now ≡ f ∷ [] → ⊥)
+        (λ f. map (λ f. f.now) fields.now ≡ f.now ∷ []) }
 {
     match fields {
         [field] => Some(field),
@@ -36,7 +39,9 @@ fn only_field<'a>(fields: &[&'a [u8]]) -> Option<&'a [u8]>
 
 /// The link and the end of it that the fields are.
 fn end_of(fields: &[&[u8]]) -> Option<(u64, Side)>
-    ensures { MatchOption result ((link : ℕ) (side : SideValue) → AreEnd link side (map (λ f. f.now) fields.now) → ⊥) (λ p. AreEnd p.0 p.1 (map (λ f. f.now) fields.now)) }
+    ensures { MatchOption result
+        ((link : ℕ) (side : SideValue) → AreEnd link side (map (λ f. f.now) fields.now) → ⊥)
+        (λ p. AreEnd p.0 p.1 (map (λ f. f.now) fields.now)) }
 {
     let [first, second] = fields else {
         return None;

@@ -21,10 +21,12 @@ fn is_skipped(line: &[u8]) -> bool
     }
 }
 
-/// The steps of a script: one a line, whose fields are joined by tabs; lines that are empty or begin with `#` are
-/// skipped. Numbers are decimal without leading zeros and below 2^64; a data set is given in hex digits of either case.
+/// The steps of a script: one a line, whose fields are joined by tabs; lines that are empty or
+/// begin with `#` are skipped. Numbers are decimal without leading zeros and below 2^64; a data set
+/// is given in hex digits of either case.
 ///
-/// Errors: Line, of the first line that tells no step; Memory, which may come before a later line is known to be wrong.
+/// Errors: Line, of the first line that tells no step; Memory, which may come before a later line
+/// is known to be wrong.
 pub fn read_script(alloc: Global, text: &[u8]) -> Result<Seq<Step>, ScriptFault>
     ensures { ReadsScript text.now result }
 {

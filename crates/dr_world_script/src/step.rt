@@ -20,7 +20,8 @@ pub enum Step {
     Open { from: Text, to: Text },
     /// The requestor sends the first row that is due.
     Push { link: u64 },
-    /// At most so many bytes that are on their way to the reader come to it, and none beyond the PDU at their front.
+    /// At most so many bytes that are on their way to the reader come to it, and none beyond the
+    /// PDU at their front.
     Move { link: u64, reader: Side, most: u64 },
     /// That end aborts.
     Abort { link: u64, side: Side },

@@ -12,7 +12,8 @@ use Rattle.dr_ledger.specs.SiteRoutes.{site_routing}
 use Rattle.dr_site.specs.Parts.{Part, IsPartOf}
 use Rattle.dr_site.specs.Sites.{IsCertified}
 use Rattle.dr_plan_sound.specs.declared.certificate.Certificate.{Certificate}
-use Rattle.dr_session.specs.Desks.{DeskCall, DeskAnswer, Arrive, Next, Settle, Arrival, Upcoming, Settling}
+use Rattle.dr_session.specs.Desks.{DeskCall, DeskAnswer, Arrive, Next, Settle, Arrival, Upcoming}
+use Rattle.dr_session.specs.Desks.{Settling}
 
 -- Whether it is to refuse after a call: the message world's rule at one node.
 abbrev pub ArmedBy : Type 0 → Bool → StoreOutcome → Bool → Type 0
@@ -24,13 +25,21 @@ ArmedBy Would old Failed new = (new ≡ old) ⊎ (Would × (old ≡ true) × (ne
 abbrev pub LedgerStep : Network → Text → Desk → DeskCall → DeskAnswer → Desk → Type 0
 LedgerStep plan name old (Arrive caller item) (Arrival reply) new =
     Arrives (plan_routing plan name) caller (instance_of item) old.book reply new.book
-    × ArmedBy (IsAdmitted (plan_routing plan name) caller (instance_of item) old.book) old.armed (store_outcome_of reply) new.armed
-LedgerStep plan name old (Next dest now) (Upcoming due) new = Reads due (Hands old.book dest now) × (new ≡ old)
+    × ArmedBy (IsAdmitted (plan_routing plan name) caller (instance_of item) old.book) old.armed
+    (store_outcome_of reply) new.armed
+LedgerStep plan name old (Next dest now) (Upcoming due) new =
+    Reads due (Hands old.book dest now) × (new ≡ old)
 LedgerStep plan name old (Settle uid dest outcome now) (Settling answer) new =
-    Settles uid dest outcome now old.book answer new.book × ArmedBy (IsWaiting old.book uid dest) old.armed (store_outcome_of answer) new.armed
+    Settles uid dest outcome now old.book answer new.book
+    × ArmedBy (IsWaiting old.book uid dest) old.armed (store_outcome_of answer) new.armed
 LedgerStep plan name old call answer new = ⊥
 
 -- What a ledger does by its site's lines, flows and rules is what its node does by the plan.
 abbrev pub SiteStepsArePlanSteps : Type 0
-SiteStepsArePlanSteps = (plan : Network) (certificate : Certificate) (part : Part) → IsCertified plan certificate → IsPartOf plan certificate part →
-    (old new : Desk) (call : DeskCall) (answer : DeskAnswer) → RoutedStep (site_routing part) old call answer new → LedgerStep plan part.name old call answer new
+SiteStepsArePlanSteps =
+    (plan : Network) (certificate : Certificate) (part : Part)
+    → IsCertified plan certificate
+    → IsPartOf plan certificate part
+    → (old new : Desk) (call : DeskCall) (answer : DeskAnswer)
+    → RoutedStep (site_routing part) old call answer new
+    → LedgerStep plan part.name old call answer new

@@ -11,7 +11,8 @@ use Rattle.dr_session.specs.declared.ends.Moment.{Moment}
 use Rattle.dr_session.specs.Plays.{PlaysBytes}
 use Rattle.dr_world_model.specs.Worlds.{World, Link}
 use Rattle.dr_world_model.specs.Steps.{IsLink, others}
-use Rattle.dr_world_model.specs.Events.{Event, AgreeReceiver, AgreeCaller, Receive, Answered, BreakCaller, BreakReceiver}
+use Rattle.dr_world_model.specs.Events.{Event, AgreeReceiver, AgreeCaller, Receive, Answered}
+use Rattle.dr_world_model.specs.Events.{BreakCaller, BreakReceiver}
 use Rattle.dr_world_tie.specs.Desks.{Desk, LedgerStep}
 use Rattle.dr_world_tie.specs.Channels.{Terminal, Channel, ShowsLink}
 use Rattle.dr_world_tie.specs.Ties.{IsDeskOf, IsFirst, IsData, Happens, receiver_read, caller_read}
@@ -38,24 +39,53 @@ IsOfCaller number (Answered link answer) = link ≡ number
 IsOfCaller number (BreakCaller link answer) = link ≡ number
 IsOfCaller number event = ⊥
 
--- Where bytes are on the wire of a receiver that is on, a PDU is at its front; and as many of its bytes as one likes are either an
--- event of the receiver, only where they are all that is left of it, or nothing, and then the channel is the same link; nothing only
--- where there is more of it, or where it is a value of data.
+-- Where bytes are on the wire of a receiver that is on, a PDU is at its front; and as many of its
+-- bytes as one likes are either an event of the receiver, only where they are all that is left of
+-- it, or nothing, and then the channel is the same link; nothing only where there is more of it, or
+-- where it is a value of data.
 abbrev pub ReceiverMoves : Type 0
-ReceiverMoves = (plan : Network) (certificate : Certificate) → IsCertified plan certificate → (w : World) (number : ℕ) (link : Link) (k : Channel) (s : Desk) →
-    IsLink w number link → IsDeskOf w link.receiver s → ShowsLink plan certificate k link → link.receiver_connected ≡ true → k.to_receiver ≢ [] →
-    (moment : Moment) → moment.now ≡ w.time → moment.others ≡ others w number link.receiver →
-    (front : Pdu) × (left : List ℕ) × IsLeft k.receiver k.to_receiver front left × ((n : ℕ) → n ≤ length left → (new : Feeding) (x : Effect) (t : Desk) →
-    PlaysBytes (LedgerStep plan link.receiver) moment k.receiver.ear k.receiver.core (take n k.to_receiver) s new x t →
-    ((event : Event) × IsOfReceiver number event × (n ≡ length left) × Happens plan certificate w number event link.receiver t (receiver_read k n new x))
-    ⊎ ((t ≡ s) × ShowsLink plan certificate (receiver_read k n new x) link × ((n < length left) ⊎ IsData front)))
+ReceiverMoves =
+    (plan : Network) (certificate : Certificate)
+    → IsCertified plan certificate
+    → (w : World) (number : ℕ) (link : Link) (k : Channel) (s : Desk)
+    → IsLink w number link
+    → IsDeskOf w link.receiver s
+    → ShowsLink plan certificate k link
+    → link.receiver_connected ≡ true
+    → k.to_receiver ≢ [] → (moment : Moment) → moment.now ≡ w.time
+    → moment.others ≡ others w number link.receiver
+    → (front : Pdu) × (left : List ℕ)
+    × IsLeft k.receiver k.to_receiver front left
+    × ((n : ℕ) → n ≤ length left
+    → (new : Feeding) (x : Effect) (t : Desk)
+    → PlaysBytes (LedgerStep plan link.receiver) moment k.receiver.ear k.receiver.core
+    (take n k.to_receiver) s new x t
+    → ((event : Event)
+    × IsOfReceiver number event
+    × (n ≡ length left)
+    × Happens plan certificate w number event link.receiver t (receiver_read k n new x))
+    ⊎ ((t ≡ s)
+    × ShowsLink plan certificate (receiver_read k n new x) link
+    × ((n < length left) ⊎ IsData front)))
 
 -- the same of a caller
 abbrev pub CallerMoves : Type 0
-CallerMoves = (plan : Network) (certificate : Certificate) → IsCertified plan certificate → (w : World) (number : ℕ) (link : Link) (k : Channel) (s : Desk) →
-    IsLink w number link → IsDeskOf w link.caller s → ShowsLink plan certificate k link → link.caller_connected ≡ true → k.to_caller ≢ [] →
-    (moment : Moment) → moment.now ≡ w.time →
-    (front : Pdu) × (left : List ℕ) × IsLeft k.caller k.to_caller front left × ((n : ℕ) → n ≤ length left → (new : Feeding) (x : Effect) (t : Desk) →
-    PlaysBytes (LedgerStep plan link.caller) moment k.caller.ear k.caller.core (take n k.to_caller) s new x t →
-    ((event : Event) × IsOfCaller number event × (n ≡ length left) × Happens plan certificate w number event link.caller t (caller_read k n new x))
-    ⊎ ((t ≡ s) × ShowsLink plan certificate (caller_read k n new x) link × ((n < length left) ⊎ IsData front)))
+CallerMoves =
+    (plan : Network) (certificate : Certificate)
+    → IsCertified plan certificate
+    → (w : World) (number : ℕ) (link : Link) (k : Channel) (s : Desk)
+    → IsLink w number link → IsDeskOf w link.caller s
+    → ShowsLink plan certificate k link
+    → link.caller_connected ≡ true
+    → k.to_caller ≢ [] → (moment : Moment) → moment.now ≡ w.time
+    → (front : Pdu) × (left : List ℕ)
+    × IsLeft k.caller k.to_caller front left
+    × ((n : ℕ) → n ≤ length left
+    → (new : Feeding) (x : Effect) (t : Desk)
+    → PlaysBytes (LedgerStep plan link.caller) moment k.caller.ear k.caller.core
+    (take n k.to_caller) s new x t
+    → ((event : Event) × IsOfCaller number event × (n ≡ length left)
+    × Happens plan certificate w number event link.caller t (caller_read k n new x))
+    ⊎ ((t ≡ s)
+    × ShowsLink plan certificate (caller_read k n new x) link
+    × ((n < length left) ⊎ IsData front)))

@@ -20,12 +20,15 @@ use Rattle.dr_world_tie.specs.Ties.{IsDeskOf}
 -- all else is as it was, and all links
 pub record OnlyAt (w v : World) (name : Text) : Type 0 where
   pub books : (other : Text) → same_text other name ≡ false → v.books other ≡ w.books other
-  pub armed : (other : Text) → same_text other name ≡ false → set.contains v.armed other ≡ set.contains w.armed other
+  pub armed : (other : Text)
+      → same_text other name ≡ false
+      → set.contains v.armed other ≡ set.contains w.armed other
   pub links : v.links ≡ w.links
   pub rest : (v.time ≡ w.time) × (v.stood ≡ w.stood) × (v.opened ≡ w.opened)
 
 -- the event happens at this node alone
-pub record HappensAt (plan : Network) (w : World) (event : Event) (name : Text) (t : Desk) : Type 0 where
+pub record HappensAt (plan : Network) (w : World) (event : Event) (name : Text)
+    (t : Desk) : Type 0 where
   pub after : World
   pub step : Step plan w event after
   pub desk_is : IsDeskOf after name t
@@ -33,17 +36,25 @@ pub record HappensAt (plan : Network) (w : World) (event : Event) (name : Text) 
 
 -- An instance that enters at a node, whatever the ledger answers.
 abbrev pub SubmittingTakes : Type 0
-SubmittingTakes = (plan : Network) (w : World) (name : Text) (job : Job) (s t : Desk) (reply : Reply) → HasNode plan name → IsDeskOf w name s →
-    LedgerStep plan name s (Arrive local job) (Arrival reply) t → HappensAt plan w (Take name (instance_of job) reply) name t
+SubmittingTakes =
+    (plan : Network) (w : World) (name : Text) (job : Job) (s t : Desk) (reply : Reply)
+    → HasNode plan name → IsDeskOf w name s
+    → LedgerStep plan name s (Arrive local job) (Arrival reply) t
+    → HappensAt plan w (Take name (instance_of job) reply) name t
 
 -- what a ledger's `requeue` does
 abbrev pub RequeuesAt : Desk → Text → Text → Answer → Desk → Type 0
-RequeuesAt old uid dest answer new = Requeues uid dest old.book answer new.book × Arms (IsHeld old.book uid dest) old.armed answer new.armed
+RequeuesAt old uid dest answer new =
+    Requeues uid dest old.book answer new.book
+    × Arms (IsHeld old.book uid dest) old.armed answer new.armed
 
 -- A row that is put back, whatever the ledger answers.
 abbrev pub RequeueingIsRequeue : Type 0
-RequeueingIsRequeue = (plan : Network) (w : World) (name uid dest : Text) (s t : Desk) (answer : Answer) → HasNode plan name → IsDeskOf w name s →
-    RequeuesAt s uid dest answer t → HappensAt plan w (Requeue name uid dest answer) name t
+RequeueingIsRequeue =
+    (plan : Network) (w : World) (name uid dest : Text) (s t : Desk) (answer : Answer)
+    → HasNode plan name → IsDeskOf w name s
+    → RequeuesAt s uid dest answer t
+    → HappensAt plan w (Requeue name uid dest answer) name t
 
 -- what a ledger's `forget` does
 abbrev pub ForgetsAt : Desk → Text → Answer → Desk → Type 0
@@ -58,9 +69,16 @@ ForgettingIsForget = (plan : Network) (w : World) (name uid : Text) (s t : Desk)
 
 -- A ledger that is told to refuse, whatever it was told before.
 abbrev pub RefusingIsRefuse : Type 0
-RefusingIsRefuse = (plan : Network) (w : World) (name : Text) (s : Desk) → HasNode plan name → IsDeskOf w name s → HappensAt plan w (Refuse name) name (desk s.book true)
+RefusingIsRefuse =
+    (plan : Network) (w : World) (name : Text) (s : Desk)
+    → HasNode plan name → IsDeskOf w name s
+    → HappensAt plan w (Refuse name) name (desk s.book true)
 
 -- As time passes each node, each link and each number stays as it is, and the time is at most 2^62.
 abbrev pub TimePasses : Type 0
-TimePasses = (plan : Network) (w : World) (ms : ℕ) → (v : World) × Step plan w (Tick ms) v × (v.time ≡ min (w.time + ms) (2 ^ 62))
-    × ((name : Text) (s : Desk) → IsDeskOf w name s → IsDeskOf v name s) × (v.links ≡ w.links) × (v.stood ≡ w.stood) × (v.opened ≡ w.opened)
+TimePasses =
+    (plan : Network) (w : World) (ms : ℕ)
+    → (v : World) × Step plan w (Tick ms) v
+    × (v.time ≡ min (w.time + ms) (2 ^ 62))
+    × ((name : Text) (s : Desk) → IsDeskOf w name s → IsDeskOf v name s)
+    × (v.links ≡ w.links) × (v.stood ≡ w.stood) × (v.opened ≡ w.opened)

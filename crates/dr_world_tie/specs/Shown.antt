@@ -1,5 +1,6 @@
 -- Which message world stands beside a world of bytes, and what steps do to both.
-use Rattle.std.specs.Prelude.{◌≡◌, ◌⊎◌, ◌<◌, ℕ, Bool, true, false, List, [], ◌∷◌, length, Option, Some, None}
+use Rattle.std.specs.Prelude.{◌≡◌, ◌⊎◌, ◌<◌, ℕ, Bool, true, false, List, [], ◌∷◌, length, Option}
+use Rattle.std.specs.Prelude.{Some, None}
 use Rattle.std.specs.Prelude.{map as mapped}
 use Rattle.std.specs.FinMap as map
 use Rattle.dr_base.specs.Texts.{Text}
@@ -20,7 +21,10 @@ use Rattle.dr_world_model.specs.Theorem.{Lasts}
 use Rattle.dr_world_tie.specs.Channels.{Terminal, Channel, ShowsLink}
 use Rattle.dr_world_tie.specs.Ties.{IsDeskOf, IsData}
 use Rattle.dr_world_tie.specs.Moves.{IsLeft, IsOfReceiver, IsOfCaller}
-use Rattle.dr_world_tie.specs.ByteWorlds.{ByteWorld, beginning, WorldStep, Submit, Open, Push, Move, Abort, Release, Close, Late, Restart, Requeue, Forget, Tick, Refuse, Side, Requestor, Acceptor, StepNote, Skipped, Steps}
+use Rattle.dr_world_tie.specs.ByteWorlds.{ByteWorld, beginning, WorldStep, Submit, Open, Push, Move}
+use Rattle.dr_world_tie.specs.ByteWorlds.{Abort, Release, Close, Late, Restart, Requeue, Forget}
+use Rattle.dr_world_tie.specs.ByteWorlds.{Tick, Refuse, Side, Requestor, Acceptor, StepNote}
+use Rattle.dr_world_tie.specs.ByteWorlds.{Skipped, Steps}
 
 -- a number has a channel and the link that it is, or neither
 abbrev pub ShowsAt : Network → Certificate → Option Channel → Option Link → Type 0
@@ -30,15 +34,18 @@ ShowsAt plan certificate None (Some link) = ⊥
 ShowsAt plan certificate (Some k) None = ⊥
 
 -- the same time, the same books, armed alike, and each link shown
-pub record Shows (plan : Network) (certificate : Certificate) (b : ByteWorld) (w : World) : Type 0 where
+pub record Shows (plan : Network) (certificate : Certificate) (b : ByteWorld)
+    (w : World) : Type 0 where
   pub time : w.time ≡ b.time
   pub opened : w.opened ≡ b.opened
   pub desks : (name : Text) → IsDeskOf w name (b.desks name)
-  pub links : (number : ℕ) → ShowsAt plan certificate (map.get b.links number) (map.get w.links number)
+  pub links : (number : ℕ)
+      → ShowsAt plan certificate (map.get b.links number) (map.get w.links number)
 
 -- the events that a step may be
 abbrev pub IsNamed : WorldStep → Event → Type 0
-IsNamed (Submit node item) (Take name instance reply) = (name ≡ node) × (instance ≡ instance_of item)
+IsNamed (Submit node item) (Take name instance reply) =
+    (name ≡ node) × (instance ≡ instance_of item)
 IsNamed (Open from to) (Ask caller receiver) = (caller ≡ from) × (receiver ≡ to)
 IsNamed (Push link) (Give number answer) = number ≡ link
 IsNamed (Push link) (BreakCaller number answer) = number ≡ link
@@ -51,7 +58,8 @@ IsNamed (Close link) (event.Close number answer) = number ≡ link
 IsNamed (Late link Requestor) (BreakCaller number answer) = number ≡ link
 IsNamed (Late link Acceptor) (BreakReceiver number) = number ≡ link
 IsNamed (Restart node) (event.Restart name answers) = name ≡ node
-IsNamed (Requeue node uid dest) (event.Requeue name row to answer) = (name ≡ node) × (row ≡ uid) × (to ≡ dest)
+IsNamed (Requeue node uid dest) (event.Requeue name row to answer) =
+    (name ≡ node) × (row ≡ uid) × (to ≡ dest)
 IsNamed (Forget node uid) (event.Forget name item answer) = (name ≡ node) × (item ≡ uid)
 IsNamed (Tick ms) (event.Tick passed) = passed ≡ ms
 IsNamed (Refuse node) (event.Refuse name) = name ≡ node
@@ -68,7 +76,8 @@ IsOffAt w number side = (link : Link) × IsLink w number link × (is_on side lin
 
 -- so few bytes end no message: there is more of the PDU at the front, or it is a value of data
 abbrev pub EndsNone : Terminal → List ℕ → ℕ → Type 0
-EndsNone t wire n = (front : Pdu) × (left : List ℕ) × IsLeft t wire front left × ((n < length left) ⊎ IsData front)
+EndsNone t wire n =
+    (front : Pdu) × (left : List ℕ) × IsLeft t wire front left × ((n < length left) ⊎ IsData front)
 
 abbrev pub EndsNoneAt : Channel → Side → ℕ → Type 0
 EndsNoneAt k Requestor n = EndsNone k.caller k.to_caller n
@@ -84,11 +93,14 @@ SomeIsPending w name uid = (number : ℕ) × (link : Link) × (item : Instance) 
     × (link.caller ≡ name) × (link.caller_connected ≡ true) × (pending link.stage ≡ Some item)
     × (item.uid ≡ uid)
 
--- Where a step that isn't skipped is no event: the end is off already, nothing was due, the bytes end no
--- message, or what is to be forgotten is pending.
+-- Where a step that isn't skipped is no event: the end is off already, nothing was due, the bytes
+-- end no message, or what is to be forgotten is pending.
 abbrev pub IsSilent : ByteWorld → World → WorldStep → Type 0
-IsSilent b w (Push number) = IsOffAt w number Requestor ⊎ ((link : Link) × IsLink w number link × HasNoneDue w link)
-IsSilent b w (Move number side n) = IsOffAt w number side ⊎ ((k : Channel) × (map.get b.links number ≡ Some k) × EndsNoneAt k side n)
+IsSilent b w (Push number) =
+    IsOffAt w number Requestor ⊎ ((link : Link) × IsLink w number link × HasNoneDue w link)
+IsSilent b w (Move number side n) =
+    IsOffAt w number side
+    ⊎ ((k : Channel) × (map.get b.links number ≡ Some k) × EndsNoneAt k side n)
 IsSilent b w (Abort number side) = IsOffAt w number side
 IsSilent b w (Late number side) = IsOffAt w number side
 IsSilent b w (Forget name uid) = SomeIsPending w name uid
@@ -96,30 +108,52 @@ IsSilent b w step = ⊥
 
 -- no event, where the step is skipped or silent, or one that the step may be
 abbrev pub Comes : Network → ByteWorld → WorldStep → StepNote → World → World → Type 0
-Comes plan b step note w v = ((v ≡ w) × ((note ≡ Skipped) ⊎ IsSilent b w step)) ⊎ ((event : Event) × IsNamed step event × Step plan w event v)
+Comes plan b step note w v =
+    ((v ≡ w) × ((note ≡ Skipped) ⊎ IsSilent b w step))
+    ⊎ ((event : Event) × IsNamed step event × Step plan w event v)
 
 -- A step of a world that is shown leads to one that is shown, by an event of its kind or by none.
 abbrev pub WorldStepsAreEvents : Type 0
-WorldStepsAreEvents = (plan : Network) (certificate : Certificate) → IsCertified plan certificate → (b new : ByteWorld) (w : World) (step : WorldStep) (note : StepNote) →
-    Shows plan certificate b w → Steps plan certificate b step note new → ∥ ((v : World) × Comes plan b step note w v × Shows plan certificate new v) ∥₁
+WorldStepsAreEvents =
+    (plan : Network) (certificate : Certificate)
+    → IsCertified plan certificate
+    → (b new : ByteWorld) (w : World) (step : WorldStep) (note : StepNote)
+    → Shows plan certificate b w
+    → Steps plan certificate b step note new
+    → ∥ ((v : World) × Comes plan b step note w v × Shows plan certificate new v) ∥₁
 
 -- steps one after the other
 abbrev pub RunsOf : Network → Certificate → ByteWorld → List WorldStep → ByteWorld → Type 0
 RunsOf plan certificate b [] new = new ≡ b
-RunsOf plan certificate b (step ∷ steps) new = (note : StepNote) × (mid : ByteWorld) × Steps plan certificate b step note mid × RunsOf plan certificate mid steps new
+RunsOf plan certificate b (step ∷ steps) new =
+    (note : StepNote) × (mid : ByteWorld)
+    × Steps plan certificate b step note mid
+    × RunsOf plan certificate mid steps new
 
 -- events of the plan lead from the start to the world
 abbrev pub ComesAbout : Network → World → Type 0
 ComesAbout plan w = (events : List Event) × Runs plan start (mapped Occurs events) plan w
 
--- After any steps from the beginning a world stands beside the bytes, with their books, to which events
--- of the plan lead, and of which the headline's four claims hold.
+-- After any steps from the beginning a world stands beside the bytes, with their books, to which
+-- events of the plan lead, and of which the headline's four claims hold.
 abbrev pub RunsKeepTheHeadline : Type 0
-RunsKeepTheHeadline = (plan : Network) (certificate : Certificate) → IsCertified plan certificate → (steps : List WorldStep) (b : ByteWorld) → RunsOf plan certificate beginning steps b →
-    ∥ ((w : World) × Shows plan certificate b w × ComesAbout plan w × Headline plan w) ∥₁
+RunsKeepTheHeadline =
+    (plan : Network) (certificate : Certificate)
+    → IsCertified plan certificate
+    → (steps : List WorldStep) (b : ByteWorld)
+    → RunsOf plan certificate beginning steps b
+    → ∥ ((w : World) × Shows plan certificate b w × ComesAbout plan w × Headline plan w) ∥₁
 
--- What a node has and keeps after some steps it has and keeps after any further ones, unchanged, and its journal has grown at its end.
+-- What a node has and keeps after some steps it has and keeps after any further ones, unchanged,
+-- and its journal has grown at its end.
 abbrev pub WhatIsKeptStaysKept : Type 0
-WhatIsKeptStaysKept = (plan : Network) (certificate : Certificate) → IsCertified plan certificate → (steps more : List WorldStep) (b c : ByteWorld) →
-    RunsOf plan certificate beginning steps b → RunsOf plan certificate b more c →
-    ∥ ((v : World) × (w : World) × Shows plan certificate b v × Shows plan certificate c w × Lasts v w) ∥₁
+WhatIsKeptStaysKept =
+    (plan : Network) (certificate : Certificate)
+    → IsCertified plan certificate
+    → (steps more : List WorldStep) (b c : ByteWorld)
+    → RunsOf plan certificate beginning steps b
+    → RunsOf plan certificate b more c
+    → ∥ ((v : World) × (w : World)
+    × Shows plan certificate b v
+    × Shows plan certificate c w
+    × Lasts v w) ∥₁

@@ -1,37 +1,49 @@
 //! What ends do with bytes is what the message world's events do.
 //!
 //! A link as bytes is its two ends, what they keep of what they heard, and what is on the two wires
-//! (`specs/Channels.antt`); which link of the message world it is, is said there by `ShowsLink`. What happens at an end
-//! is an event of the message world, and leaves the channel that link (`specs/Ties.antt`, `Moves.antt`,
-//! `Closing.antt`). A whole world of bytes and its steps stand in `specs/ByteWorlds.antt`, and beside which message
-//! world it stands in `specs/Shown.antt`. Nothing here runs: the crate has definitions, and functions without a body
-//! whose contracts are theorems about them.
+//! (`specs/Channels.antt`); which link of the message world it is, is said there by `ShowsLink`.
+//! What happens at an end is an event of the message world, and leaves the channel that link
+//! (`specs/Ties.antt`, `Moves.antt`, `Closing.antt`). A whole world of bytes and its steps stand in
+//! `specs/ByteWorlds.antt`, and beside which message world it stands in `specs/Shown.antt`. Nothing
+//! here runs: the crate has definitions, and functions without a body whose contracts are theorems
+//! about them.
 #![tactic(auto)]
 
 ghost use Rattle.dr_world_tie.specs.Closing.{ClosingIsClose};
 ghost use Rattle.dr_world_tie.specs.Desks.{SiteStepsArePlanSteps};
 ghost use Rattle.dr_world_tie.specs.Moves.{CallerMoves, ReceiverMoves};
-ghost use Rattle.dr_world_tie.specs.Nodes.{ForgettingIsForget, RefusingIsRefuse, RequeueingIsRequeue};
+ghost use Rattle.dr_world_tie.specs.Nodes.{ForgettingIsForget, RefusingIsRefuse};
+ghost use Rattle.dr_world_tie.specs.Nodes.{RequeueingIsRequeue};
 ghost use Rattle.dr_world_tie.specs.Nodes.{SubmittingTakes, TimePasses};
-ghost use Rattle.dr_world_tie.specs.Shown.{RunsKeepTheHeadline, WhatIsKeptStaysKept, WorldStepsAreEvents};
-ghost use Rattle.dr_world_tie.specs.Ties.{AgreesAtReceiver, CallerHearsControl, CallerHearsNothing, CallerLeaves, GivesStore, HearsAcceptance, HearsRejection, HearsReply, HearsStore, LateAtCaller, LateAtReceiver, OffCallerIsNoEvent, OffReceiverIsNoEvent, OffStaysOff, OpensAreAsks, PiecesMakeCommands, PiecesMakeStores, PushGives, ReceiverHearsControl, ReceiverHearsNothing, ReceiverLeaves, ReleaseLeaves, RestartLeaves};
+ghost use Rattle.dr_world_tie.specs.Shown.{RunsKeepTheHeadline, WhatIsKeptStaysKept};
+ghost use Rattle.dr_world_tie.specs.Shown.{WorldStepsAreEvents};
+ghost use Rattle.dr_world_tie.specs.Ties.{AgreesAtReceiver, CallerHearsControl, CallerHearsNothing};
+ghost use Rattle.dr_world_tie.specs.Ties.{CallerLeaves, GivesStore, HearsAcceptance};
+ghost use Rattle.dr_world_tie.specs.Ties.{HearsRejection, HearsReply, HearsStore, LateAtCaller};
+ghost use Rattle.dr_world_tie.specs.Ties.{LateAtReceiver, OffCallerIsNoEvent, OffReceiverIsNoEvent};
+ghost use Rattle.dr_world_tie.specs.Ties.{OffStaysOff, OpensAreAsks, PiecesMakeCommands};
+ghost use Rattle.dr_world_tie.specs.Ties.{PiecesMakeStores, PushGives, ReceiverHearsControl};
+ghost use Rattle.dr_world_tie.specs.Ties.{ReceiverHearsNothing, ReceiverLeaves, ReleaseLeaves};
+ghost use Rattle.dr_world_tie.specs.Ties.{RestartLeaves};
 
 use dr_session::DeskPort;
 
 /// A step of a whole world of bytes is an event of the message world beside it, or none where it is
-/// skipped, where the end is off, where nothing was due, where the bytes end no message, or where what is to be
-/// forgotten is under way.
+/// skipped, where the end is off, where nothing was due, where the bytes end no message, or where
+/// what is to be forgotten is under way.
 pub fn world_steps_are_events()
     ensures { WorldStepsAreEvents }
 {}
 
-/// After any steps from the beginning the headline's four claims hold of the books, and what was kept stays kept.
+/// After any steps from the beginning the headline's four claims hold of the books, and what was
+/// kept stays kept.
 pub fn runs_keep_the_headline()
     ensures headline { RunsKeepTheHeadline }
     ensures kept { WhatIsKeptStaysKept }
 {}
 
-/// Bytes that are moved from a wire to an end that is on are an event where they end one, or else nothing.
+/// Bytes that are moved from a wire to an end that is on are an event where they end one, or else
+/// nothing.
 pub fn moves_are_events()
     ensures receiver { ReceiverMoves }
     ensures caller { CallerMoves }
@@ -98,7 +110,8 @@ pub fn hears_controls()
     ensures caller { CallerHearsControl }
 {}
 
-/// An end that is off calls nothing and stays off, whatever it hears and is asked, and its channel is the same link.
+/// An end that is off calls nothing and stays off, whatever it hears and is asked, and its channel
+/// is the same link.
 pub fn stays_off<P: DeskPort>()
     ensures off { OffStaysOff P.step }
     ensures caller { OffCallerIsNoEvent P.step }
@@ -110,7 +123,8 @@ pub fn closes()
     ensures { ClosingIsClose }
 {}
 
-/// A restart makes each far caller leave, in the order of their links, also where several of them are one node's.
+/// A restart makes each far caller leave, in the order of their links, also where several of them
+/// are one node's.
 pub fn restarts()
     ensures { RestartLeaves }
 {}

@@ -22,10 +22,11 @@ use dr_world_script::Side;
 use std::collections::BTreeMap;
 
 impl<L: Ledger> World<L> {
-    /// At most so many bytes that are on their way to the reader of a link come to it, and none beyond the end of the PDU at their front.
-    /// Where nothing is on its way and the other end is over, the reader hears that the connection has ended (PS3.8 table 9-10, event
-    /// 17). Skipped where there is no link of that number, no byte is asked for, the reader is over, or nothing is on its way
-    /// and the other end isn't over.
+    /// At most so many bytes that are on their way to the reader of a link come to it, and none
+    /// beyond the end of the PDU at their front. Where nothing is on its way and the other end is
+    /// over, the reader hears that the connection has ended (PS3.8 table 9-10, event 17). Skipped
+    /// where there is no link of that number, no byte is asked for, the reader is over, or nothing
+    /// is on its way and the other end isn't over.
     ///
     /// Errors: Memory.
     pub(super) fn move_bytes(
@@ -34,7 +35,8 @@ impl<L: Ledger> World<L> {
         reader: Side,
         most: u64,
     ) -> Result<StepNote, WorldFault>
-        ensures { IfOk result (λ note. StepsTo (Move link (named reader) most) self.old note self.new) }
+        ensures { IfOk result (λ note.
+            StepsTo (Move link (named reader) most) self.old note self.new) }
     {
         match self.due(link, reader, most) {
             Due::Nothing => Ok(StepNote::Skipped),
@@ -51,7 +53,8 @@ impl<L: Ledger> World<L> {
 
     /// What a Move of at most so many bytes finds to do.
     fn due(&self, link: u64, reader: Side, most: u64) -> Due
-        ensures { IsDue (tree.get nat_cmp self.now.wires link) self.now.nodes link (named reader) most result }
+        ensures { IsDue (tree.get nat_cmp self.now.wires link) self.now.nodes link (named reader)
+            most result }
     {
         let Some(wires) = self.wires.get(&link) else {
             return Due::Nothing;
@@ -59,7 +62,8 @@ impl<L: Ledger> World<L> {
         due_at(&self.nodes, wires, link, reader, most)
     }
 
-    /// So many of the first bytes on their way to the reader come to it, and what it writes goes onto the other one's wire.
+    /// So many of the first bytes on their way to the reader come to it, and what it writes goes
+    /// onto the other one's wire.
     fn hear(&mut self, link: u64, reader: Side, count: usize) -> Result<StepNote, WorldFault>
         ensures { IfOk result (λ note. Hears link (named reader) count self.old note self.new) }
     {
@@ -101,7 +105,8 @@ fn due_at<L: Ledger>(
     Due::Nothing
 }
 
-/// How many of at most so many bytes of a wire may come to the end of a link at the node of that name.
+/// How many of at most so many bytes of a wire may come to the end of a link at the node of that
+/// name.
 fn movable_at<L: Ledger>(
     nodes: &BTreeMap<Text, Node<L>>,
     name: &Text,
