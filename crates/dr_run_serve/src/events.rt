@@ -57,10 +57,16 @@ pub fn tell_association<G: Log>(
     match ended {
         Ok(ended) => {
             let (word, why) = (word_of(ended), Why(ended));
-            info!(log; target: "association", "{word} session={session}{why} instances={accepted} refused={refused} milliseconds={milliseconds}");
+            info!(
+                log; target: "association",
+                "{word} session={session}{why} instances={accepted} refused={refused} milliseconds={milliseconds}"
+            );
         }
         Err(fault) => {
-            warn!(log; target: "association", "failed session={session} fault=\"{fault}\" instances={accepted} refused={refused} milliseconds={milliseconds}");
+            warn!(
+                log; target: "association",
+                "failed session={session} fault=\"{fault}\" instances={accepted} refused={refused} milliseconds={milliseconds}"
+            );
         }
     }
 }
@@ -79,11 +85,17 @@ pub fn tell_arrival<G: Log>(
             debug!(log; target: "instance", "new session={session} caller=\"{caller}\" uid={uid}");
         }
         Ok(Arrived::Again) => {
-            debug!(log; target: "instance", "again session={session} caller=\"{caller}\" uid={uid}");
+            debug!(
+                log; target: "instance",
+                "again session={session} caller=\"{caller}\" uid={uid}"
+            );
         }
         Err(fault) => {
             let fault = code_of(fault);
-            warn!(log; target: "instance", "refused session={session} caller=\"{caller}\" uid={uid} fault=\"{fault}\"");
+            warn!(
+                log; target: "instance",
+                "refused session={session} caller=\"{caller}\" uid={uid} fault=\"{fault}\""
+            );
         }
     }
 }
@@ -119,7 +131,10 @@ fn tell_waiting<G: Log>(log: &G, uid: &Text, dest: &Text, outcome: Outcome, trie
         Escaped(dest.as_bytes()),
         Answer(outcome),
     );
-    info!(log; target: "row", "waits dest=\"{dest}\" uid={uid} status=\"{answer}\" tries={tries} due={due}");
+    info!(
+        log; target: "row",
+        "waits dest=\"{dest}\" uid={uid} status=\"{answer}\" tries={tries} due={due}"
+    );
 }
 
 /// Tells of a row that needs nobody's eye, with what happened to it in a word.
@@ -161,7 +176,10 @@ pub fn tell_visit<G: Log>(
     match visited {
         Ok(Visit::Idle) => {}
         Ok(Visit::Unreached(error)) => {
-            warn!(log; target: "visit", "unreached dest=\"{dest}\" settled={settled} error=\"{error}\"");
+            warn!(
+                log; target: "visit",
+                "unreached dest=\"{dest}\" settled={settled} error=\"{error}\""
+            );
         }
         Ok(Visit::Ended(Ended::Released)) => {
             info!(log; target: "visit", "released dest=\"{dest}\" settled={settled}");
@@ -171,11 +189,17 @@ pub fn tell_visit<G: Log>(
             warn!(log; target: "visit", "{word} dest=\"{dest}\"{why} settled={settled}");
         }
         Ok(Visit::Failed(fault)) => {
-            warn!(log; target: "visit", "failed dest=\"{dest}\" settled={settled} fault=\"{fault}\"");
+            warn!(
+                log; target: "visit",
+                "failed dest=\"{dest}\" settled={settled} fault=\"{fault}\""
+            );
         }
         Err(fault) => {
             let fault = code_of(*fault);
-            error!(log; target: "visit", "ledger dest=\"{dest}\" settled={settled} fault=\"{fault}\"");
+            error!(
+                log; target: "visit",
+                "ledger dest=\"{dest}\" settled={settled} fault=\"{fault}\""
+            );
         }
     }
 }
@@ -203,7 +227,10 @@ pub fn tell_holdings<G: Log>(log: &G, arrivals: usize, kept: usize, lines: u64) 
 pub fn tell_queue<G: Log>(log: &G, dest: &Text, stages: [usize; 3], oldest: Option<u64>) {
     let [waiting, held, done] = stages;
     let (dest, oldest) = (Escaped(dest.as_bytes()), Moment(oldest));
-    info!(log; target: "queue", "has dest=\"{dest}\" waiting={waiting} held={held} done={done} oldest={oldest}");
+    info!(
+        log; target: "queue",
+        "has dest=\"{dest}\" waiting={waiting} held={held} done={done} oldest={oldest}"
+    );
 }
 
 /// Tells that what the node has couldn't be read.

@@ -48,5 +48,5 @@ gave (Ok e) core x context id at job uid said h says id_is x_is uid_is = λ agre
     x_is ∙ (ap (λ (i : ℕ). awaiting (storing i context uid) at.now core) id_is
     ∙ ap (λ (u : Text). awaiting (storing (id_after core.last) context u) at.now core) uid_is) in
     sym (ap (λ (d : Effect). ended d) (h ∙ same_effect said (write (store_pdus agreed context (id_after core.last) job)) x
-        (awaiting (storing (id_after core.last) context job.uid) at.now core) act after))
+    (awaiting (storing (id_after core.last) context job.uid) at.now core) act after))
 gave (Err f) core x context id at job uid said h says id_is x_is uid_is = tt

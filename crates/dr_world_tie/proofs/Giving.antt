@@ -134,8 +134,19 @@ module _ (plan : Network) (certificate : Certificate) (w : World) (number : ℕ)
       let F : ℕ → Type 0 = λ l. AllByRecursion (λ (p : Pdu). Fits p × MeetsLimit l p) pdus in
       let G : List Pdu → Type 0 = λ ps. AllByRecursion (λ (p : Pdu). Fits p × MeetsLimit k.receiver.ear.limit p) ps in record {
         coming = pdus;
-        is = (job, refl, (id_after k.caller.core.last, context, is_item, m.0, (λ p e. (let same : Some (storing (id_after k.caller.core.last) context job.uid) ≡ Some p = e in
-            (ap (λ (q : Pending). q.id) (sym (same_Some _ _ same)), ap (λ (q : Pending). q.context) (sym (same_Some _ _ same))))), id_small k.caller.core.last (shows.caller_agrees on).1));
+        is = (
+          job,
+          refl,
+          (
+            id_after k.caller.core.last,
+            context,
+            is_item,
+            m.0,
+            (λ p e. (let same : Some (storing (id_after k.caller.core.last) context job.uid) ≡ Some p = e in
+                (ap (λ (q : Pending). q.id) (sym (same_Some _ _ same)), ap (λ (q : Pending). q.context) (sym (same_Some _ _ same))))),
+            id_small k.caller.core.last (shows.caller_agrees on).1,
+          ),
+        );
         controls = [];
         joined = written_on k.receiver k.to_receiver (spellings pdus) (nothing_there o) ∙ ap (λ (l : List Pdu). spellings l) (sym (append-nil pdus));
         works = old.works;

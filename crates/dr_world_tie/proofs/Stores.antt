@@ -184,7 +184,7 @@ module _ (plan : Network) (certificate : Certificate) (w : World) (number : ℕ)
             id,
             m.context.id,
             storer.1.2 ∙ (ap (λ (n : ℕ). Some (storing n storer.1.1 item.uid)) ids
-            ∙ ap (λ (n : ℕ). Some (storing id n item.uid)) (same_ids.1 ∙ m.at)),
+                ∙ ap (λ (n : ℕ). Some (storing id n item.uid)) (same_ids.1 ∙ m.at)),
             back.0,
           );
           controls = [];

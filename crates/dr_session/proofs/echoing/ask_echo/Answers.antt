@@ -46,7 +46,7 @@ returns c =
     let core : c.await_response.result ≡ after =
     c.await_response.ensures ∙ (ap (λ (i : ℕ). awaiting (record { id = i; context = context; asked = Echo; uid = c.empty.result }) c.args.now c.args.core) id
     ∙ ap (λ (t : Text). awaiting (record { id = id_after c.args.core.last; context = context; asked = Echo; uid = t }) c.args.now c.args.core)
-        c.empty.ensures) in
+    c.empty.ensures) in
     let P : Option Agreed → Type 0 = λ o. IfOk c.act_once.result (λ (e : Effect). e ≡ echoes_by o c.args.now c.args.core) in
     let Q : Option ℕ → Type 0 = λ o. IfOk c.act_once.result (λ (e : Effect). e ≡ echoes_in o c.in-Some.agreed c.args.now c.args.core) in
     subst P (sym (ap (λ (x : Core). x.agreed) (sym c.as_core.ensures) ∙ c.in-Some.is)) (subst Q (sym some) (acted c.act_once.result c.in_ok-action.action act c.await_response.result after c.act_once.ensures said core))
