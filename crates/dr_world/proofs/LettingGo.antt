@@ -97,8 +97,8 @@ forgets plan certificate c b seated s name seat is uid answer t none h arms =
     subst (λ (d : Desk). ForgetsAt d uid answer t) (sym (desk_there c b s name seat is)) here in
     let free : IsUnderWay b name uid → ⊥ = λ u.
     false≢true (sym (none u.0) ∙ pended c b s name uid u.0 u.1) in
-    let done = (answer, t, at_desk, refl, refl) in
-    (with_call b name t, inl (node, inr (free, done)), called c b s name seat is t)
+    let shown = called c b s name seat is t in
+    (with_call b name t, inl (node, inr (free, (answer, t, at_desk, refl, refl))), shown)
 
 -- ---- as the call has it
 
