@@ -239,7 +239,7 @@ module _ (plan : Network) (certificate : Certificate) (w : World) (number : ℕ)
     where
       has_still : (item : Option Instance) → HasPendingOf item k.caller.core → HasPendingOf item core
       has_still None none = same ∙ none
-      has_still (Some item) (id, has) = (id, same ∙ has)
+      has_still (Some item) (id, context, has) = (id, context, same ∙ has)
 
       at_time : (item : Option Instance) (answer : Option Answer) → Does plan link.caller core moment.now item answer s t → Does plan link.caller k.caller.core w.time item answer s t
       at_time None None d = d
