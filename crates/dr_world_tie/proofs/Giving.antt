@@ -172,7 +172,7 @@ module _ (plan : Network) (certificate : Certificate) (w : World) (number : ℕ)
       caller_agrees = λ o. ((shows.caller_agrees on).0, id_small k.caller.core.last (shows.caller_agrees on).1);
       receiver_agrees = shows.receiver_agrees;
       caller = subst (λ (b : Bool). IsCaller b (Storing accepted (instance_of job)) link.receiver core) (sym on)
-          (((moved at.0 Sta6 moment.now, refl, at.2, refl), at_open.0.1), (id_after k.caller.core.last, refl, refl), at_open.3);
+          (((moved at.0 Sta6 moment.now, refl, at.2, refl), at_open.0.1), (id_after k.caller.core.last, context, refl, refl), at_open.3);
       receiver = receiver_at;
       to_receiver = λ o. carried is_item o;
       to_caller = λ o. (let old = subst (λ (st : Stage). Carries k.caller k.to_caller (ToCaller st (site_of k.receiver.core) k.caller.core) link.receiver_connected) is_open (shows.to_caller o) in record {

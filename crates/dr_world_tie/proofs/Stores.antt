@@ -47,7 +47,7 @@ use Rattle.dr_session.specs.declared.ends.Pending.{Pending}
 use Rattle.dr_session.specs.Desks.{DeskCall, DeskAnswer, Arrive, Arrival}
 use Rattle.dr_nego.specs.Fragments.{spellings}
 use Rattle.dr_session.specs.declared.ends.Moment.{Moment}
-use Rattle.dr_session.specs.Reactions.{stored, status_of, effect, storing}
+use Rattle.dr_session.specs.Reactions.{stored, status_of, effect, storing as pending_store}
 use Rattle.dr_session.specs.Plays.{PlaysBytes, with_stage}
 use Rattle.dr_world_model.specs.Calls.{StoreOutcome, Written, Untried, Failed}
 use Rattle.dr_world_model.specs.Worlds.{with_book, with_armed}
@@ -166,7 +166,7 @@ module _ (plan : Network) (certificate : Certificate) (w : World) (number : ℕ)
         let storer : IsCaller true (Storing accepted (instance_of item)) link.receiver k.caller.core = subst (λ (b : Bool). IsCaller b (Storing accepted (instance_of item)) link.receiver k.caller.core) o caller_at in
         let agreed = storer.0.1.0 in
         let has = storer.0.1.1 in
-        let same_ids = asked (storing storer.1.0 storer.1.1 item.uid) storer.1.2 in
+        let same_ids = asked (pending_store storer.1.0 storer.1.1 item.uid) storer.1.2 in
         let ids : storer.1.0 ≡ id = same_ids.0 in
         let there : m.agreed ≡ record { pairs = hop_contexts from to; limit = from.max_pdu } = shows.receiver_agrees on m.agreed m.has in
         let answer : Command = StoreRsp id status item.key.class item.uid false in
@@ -183,8 +183,8 @@ module _ (plan : Network) (certificate : Certificate) (w : World) (number : ℕ)
           is = (
             id,
             m.context.id,
-            storer.1.2 ∙ (ap (λ (n : ℕ). Some (storing n storer.1.1 item.uid)) ids
-                ∙ ap (λ (n : ℕ). Some (storing id n item.uid)) (same_ids.1 ∙ m.at)),
+            storer.1.2 ∙ (ap (λ (n : ℕ). Some (pending_store n storer.1.1 item.uid)) ids
+                ∙ ap (λ (n : ℕ). Some (pending_store id n item.uid)) (same_ids.1 ∙ m.at)),
             back.0,
           );
           controls = [];
