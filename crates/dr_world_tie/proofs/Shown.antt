@@ -264,8 +264,8 @@ module _ (plan : Network) (certificate : Certificate) where
         by_stage on Asking e c = absurd (no_cell k.caller.core true Sta5 ReleaseRequest c.0 refl both.1)
         by_stage on (Answering accepted) e c = absurd (no_cell k.caller.core true Sta5 ReleaseRequest c.0 refl both.1)
         by_stage on Rejecting e c = absurd (no_cell k.caller.core true Sta5 ReleaseRequest c.0 refl both.1)
-        by_stage on (Storing accepted item) e c = absurd (idle_pends_none both.0 _ c.1.1)
-        by_stage on (Replying accepted item status) e c = absurd (idle_pends_none both.0 _ c.1.1)
+        by_stage on (Storing accepted item) e c = absurd (idle_pends_none both.0 _ c.1.2)
+        by_stage on (Replying accepted item status) e c = absurd (idle_pends_none both.0 _ c.1.2)
         by_stage on Gone e c = absurd c
 
     -- ---- a push
@@ -294,8 +294,8 @@ module _ (plan : Network) (certificate : Certificate) where
         by_stage on Asking e c = absurd (asking_sends_none link.receiver c ready)
         by_stage on (Answering accepted) e c = absurd (asking_sends_none link.receiver c ready)
         by_stage on Rejecting e c = absurd (asking_sends_none link.receiver c ready)
-        by_stage on (Storing accepted item) e c = absurd (idle_pends_none idle _ c.1.1)
-        by_stage on (Replying accepted item status) e c = absurd (idle_pends_none idle _ c.1.1)
+        by_stage on (Storing accepted item) e c = absurd (idle_pends_none idle _ c.1.2)
+        by_stage on (Replying accepted item status) e c = absurd (idle_pends_none idle _ c.1.2)
         by_stage on Gone e c = absurd c
 
     -- ---- bytes
