@@ -46,6 +46,7 @@ module _ {L : Type 0} {l : Ghosts L} where
         v.0,
         (λ name n is. sym ((v.1.desks name).0) ∙ ap (λ (d : Desk). d.book) (r.1.2.desks name ∙ ap (λ (o : Option (Node L l)). desk_at (option_map seat_of o)) is)),
         v.2,
+        v.3,
       )))
 
   pub holds_after : (step : bytes.WorldStep) (old new : World L l) (note : StepNote) → StepsTo step old note new → HoldsAfter step old new

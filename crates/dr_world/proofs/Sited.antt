@@ -12,7 +12,6 @@ use Rattle.dr_ulstate.specs.Phases.{next_stepped}
 use Rattle.dr_pdu.specs.Feeding.{Feeding}
 use Rattle.dr_dimse.specs.declared.command.Command.{Command}
 use Rattle.dr_dimse.specs.declared.command.Command.TheVariants as command
-use Rattle.dr_dimse.specs.Commands as commands
 use Rattle.dr_ledger.specs.declared.content.Job.{Job}
 use Rattle.dr_ledger.specs.declared.fault.LedgerFault.{LedgerFault}
 use Rattle.dr_ledger.specs.declared.fault.LedgerFault.TheVariants as fault
@@ -113,14 +112,20 @@ requested_keep c context of (command.EchoRsp id status class has_data) = refl
 aborts_keep : (at : Moment) (c : Core) → KeepsSite c.site (r.aborts at c)
 aborts_keep at c = leaves_keep c.pending at.now _ (r.aborted (r.stepped_by UpperAbort at.now c))
 
-replied_keep : (p : Option Pending) (status : Option ℕ) (at : Moment) (c : Core) → KeepsSite c.site (r.replied p status at c)
-replied_keep (Some p) (Some status) at c = settling_keeps c.site (Ends (r.effect [] (r.settled_with c))) (r.aborts_desk at c) refl refl
-replied_keep None status at c = aborts_keep at c
-replied_keep (Some p) None at c = aborts_keep at c
+settles_keep : (p : Pending) (status : Option ℕ) (at : Moment) (c : Core) →
+    KeepsSite c.site (r.settles_by p status at c)
+settles_keep p (Some status) at c =
+    settling_keeps c.site (Ends (r.effect [] (r.settled_with c))) (r.aborts_desk at c) refl refl
+settles_keep p None at c = aborts_keep at c
+
+replied_keep : (p : Option Pending) (context : ℕ) (m : Command) (at : Moment) (c : Core) →
+    KeepsSite c.site (r.replied p context m at c)
+replied_keep (Some p) context m at c = settles_keep p (r.status_for p context m) at c
+replied_keep None context m at c = aborts_keep at c
 
 hears_keep : (told : Told) (at : Moment) (c : Core) → KeepsSite c.site (r.hears told at c)
 hears_keep (Store context of id class instance found) at c = either c.site (bytes_eq class of) (r.arrives c context id class instance found) (Ends (r.stored c context id class instance 0x0122)) (arrives_keep c context id class instance found) refl
-hears_keep (Whole context of m) at c = either c.site (is_requestor c) _ _ (replied_keep c.pending (commands.status_of m) at c) (requested_keep c context of m)
+hears_keep (Whole context of m) at c = either c.site (is_requestor c) _ _ (replied_keep c.pending context m at c) (requested_keep c context of m)
 hears_keep Fault at c = aborts_keep at c
 hears_keep (Plain i) at c = refl
 hears_keep Quiet at c = refl
