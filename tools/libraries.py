@@ -3,7 +3,13 @@
 The kit's prover is called directly, as the gate calls it, and not by `rt lib`: a library is read without its proofs then, which
 takes half the time. What is made is in the crate's `out/rlib`; `rt check` and `rt run` don't take it, and prove these libraries
 for themselves. A library that the gate has made is taken as it is. What was made from other sources is made anew.
+
+Beside a library its `sources` has the digest of all that it was made from: the kit, and the sources and the lines of `crates.txt` of it
+and of those below it. With DR_PROVED=FOLDER, which is for whoever works in several clones, each library that is proved goes there
+under its digest, and one that is there isn't proved again. The gate never looks there.
 """
+import functools
+import hashlib
 import os
 import shutil
 import subprocess
@@ -11,21 +17,80 @@ import sys
 import tempfile
 import time
 
-from crates import TOP, below, copy_sources, lanes, listed, prover, rlib_of, sources_of, work_of, words_of
+from crates import TOP, below, copy_sources, kit, lanes, listed, prover, rlib_of, sources_of, work_of, words_of
 
 # The bytes of sources for which one more process pays.
 PIECE = 20_000
 
 
-def is_fresh(name):
-    """Whether the library is there, and newer than each source of it and of those below it. A file that gets a second name, or is
-    written, has its time of change renewed; so what the gate puts there is newer, too."""
-    try:
-        made = os.stat(f"{rlib_of(name)}/format").st_ctime
-    except OSError:
-        return False
+@functools.cache
+def digest_of(name):
+    """The digest of all that a library is made from."""
+    found = hashlib.sha256()
+    own, of_kit = listed()[name]
+    with open(f"{kit()}/KIT-ID", "rb") as file:
+        found.update(file.read())
+    found.update(" ".join([name, *own, "/", *of_kit]).encode())
+    for path in sources_of(name):
+        with open(path, "rb") as file:
+            found.update(os.path.relpath(path, TOP).encode() + b"\0" + hashlib.sha256(file.read()).digest())
+    for library in own:
+        found.update(digest_of(library).encode())
+    return found.hexdigest()
+
+
+def made_from(name):
+    """The file beside a library that says what it was made from."""
+    return f"{os.path.dirname(rlib_of(name))}/sources"
+
+
+def is_newer(name):
+    """Whether the library that the gate made is newer than each source of it and of those below it. A file that gets a second name, or
+    is written, has its time of change renewed; so what the gate puts there is newer, too."""
+    made = os.stat(f"{rlib_of(name)}/format").st_ctime
     sources = [file for crate in (*below(name), name) for file in sources_of(crate)]
     return made >= max(os.stat(file).st_mtime for file in sources)
+
+
+def is_fresh(name):
+    """Whether the library is there, made from these sources: here, by the gate, or in another clone."""
+    try:
+        with open(made_from(name), encoding="ascii") as file:
+            return file.read() == digest_of(name) or is_taken(name)
+    except OSError:
+        pass
+    return os.path.isfile(f"{rlib_of(name)}/format") and is_newer(name) or is_taken(name)
+
+
+def copy_library(source, to):
+    """Puts a library with its digest into a place, whole or not at all, as second names of the same files."""
+    os.makedirs(os.path.dirname(to), exist_ok=True)
+    room = tempfile.mkdtemp(prefix="copying-", dir=os.path.dirname(to))
+    shutil.copytree(source, f"{room}/made", copy_function=os.link)
+    shutil.rmtree(to, ignore_errors=True)
+    try:
+        os.rename(f"{room}/made", to)
+    except OSError:
+        pass  # Another clone was faster.
+    shutil.rmtree(room, ignore_errors=True)
+
+
+def is_taken(name):
+    """Takes a library that another clone has proved from the same sources; whether there is one."""
+    place = os.environ.get("DR_PROVED")
+    if not place or not os.path.isdir(f"{place}/{digest_of(name)}"):
+        return False
+    copy_library(f"{place}/{digest_of(name)}", os.path.dirname(rlib_of(name)))
+    return True
+
+
+def keep(name):
+    """Notes what a library was made from, and lends it to other clones."""
+    with open(made_from(name), "w", encoding="ascii") as file:
+        file.write(digest_of(name))
+    place = os.environ.get("DR_PROVED")
+    if place and not os.path.isdir(f"{place}/{digest_of(name)}"):
+        copy_library(os.path.dirname(rlib_of(name)), f"{place}/{digest_of(name)}")
 
 
 def stale_of(libraries):
@@ -63,6 +128,7 @@ class Library:
             shutil.rmtree(os.path.dirname(rlib_of(self.name)), ignore_errors=True)
             os.makedirs(os.path.dirname(rlib_of(self.name)))
             os.rename(f"{self.room}/made.rlib", rlib_of(self.name))
+            keep(self.name)
         shutil.rmtree(self.room, ignore_errors=True)
         return self.process.returncode == 0
 
