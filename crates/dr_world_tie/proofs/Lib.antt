@@ -3,6 +3,7 @@ pub mod Closing
 pub mod Controls
 pub mod CallerLeaving
 pub mod Carrying
+pub mod Changes
 pub mod Leaving
 pub mod Agreeing
 pub mod ContextSets

@@ -237,12 +237,17 @@ run_lasting plan certificate certified v (step ∷ steps) b new good (note, mid,
       lasts_on v g.0 r.0 g.3 (come_lasting plan certificate certified b step note g.0 r.0 g.2 r.1),
     )))) rest
 
+pub beside_beginning : (plan : Network) (certificate : Certificate) → Shows plan certificate beginning start
+beside_beginning plan certificate = record {
+  time = refl;
+  opened = refl;
+  desks = λ name. (refl, sym (Rattle.std.specs.FinSet.contains-empty Rattle.dr_base.specs.Texts.text_cmp name));
+  links = λ number. subst (λ (o : Option Channel). ShowsAt plan certificate o (map_of.get start.links number)) (sym (map_of.get-empty nat_cmp number))
+      (subst (λ (o : Option Link). ShowsAt plan certificate None o) (sym (map_of.get-empty nat_cmp number)) tt);
+}
+
 first_good : (plan : Network) (certificate : Certificate) → IsGood plan certificate beginning
-first_good plan certificate =
-    let none : (number : ℕ) → ShowsAt plan certificate (map_of.get beginning.links number) (map_of.get start.links number) = λ number.
-    subst (λ (o : Option Channel). ShowsAt plan certificate o (map_of.get start.links number)) (sym (map_of.get-empty nat_cmp number))
-    (subst (λ (o : Option Link). ShowsAt plan certificate None o) (sym (map_of.get-empty nat_cmp number)) tt) in
-    (start, record { time = refl; opened = refl; desks = λ name. (refl, sym (Rattle.std.specs.FinSet.contains-empty Rattle.dr_base.specs.Texts.text_cmp name)); links = none }, start_safe plan, ([], (refl, refl)))
+first_good plan certificate = (start, beside_beginning plan certificate, start_safe plan, ([], (refl, refl)))
 
 pub runs_keep : RunsKeepTheHeadline
 runs_keep plan certificate certified steps b h =

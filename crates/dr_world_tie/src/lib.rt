@@ -4,11 +4,14 @@
 //! (`specs/Channels.antt`); which link of the message world it is, is said there by `ShowsLink`.
 //! What happens at an end is an event of the message world, and leaves the channel that link
 //! (`specs/Ties.antt`, `Moves.antt`, `Closing.antt`). A whole world of bytes and its steps stand in
-//! `specs/ByteWorlds.antt`, and beside which message world it stands in `specs/Shown.antt`. Nothing
-//! here runs: the crate has definitions, and functions without a body whose contracts are theorems
+//! `specs/ByteWorlds.antt`, and beside which message world it stands in `specs/Shown.antt`; how all
+//! its nodes take another plan in `specs/Changes.antt`. Nothing here runs: the crate has definitions, and functions without a body whose contracts are theorems
 //! about them.
 #![tactic(auto)]
 
+ghost use Rattle.dr_world_tie.specs.Changes.{ChangesKeepTheHeadline, NewWorldsMayTake};
+ghost use Rattle.dr_world_tie.specs.Changes.{PlansAreAdopted, PlansCanBeTaken, WhatIsKeptStaysThrough};
+ghost use Rattle.dr_world_tie.specs.Changes.{WhatIsTakenIsOne};
 ghost use Rattle.dr_world_tie.specs.Closing.{ClosingIsClose};
 ghost use Rattle.dr_world_tie.specs.Desks.{SiteStepsArePlanSteps};
 ghost use Rattle.dr_world_tie.specs.Moves.{CallerMoves, ReceiverMoves};
@@ -40,6 +43,25 @@ pub fn world_steps_are_events()
 pub fn runs_keep_the_headline()
     ensures headline { RunsKeepTheHeadline }
     ensures kept { WhatIsKeptStaysKept }
+{}
+
+/// A plan that all nodes of a world of bytes take at once is adopted in the message world beside it.
+pub fn plans_are_adopted()
+    ensures { PlansAreAdopted }
+{}
+
+/// Through any steps and changes of plan from the beginning the headline's four claims hold of the
+/// books by the plan in force, and what was kept stays kept.
+pub fn changes_keep_the_headline()
+    ensures headline { ChangesKeepTheHeadline }
+    ensures kept { WhatIsKeptStaysThrough }
+{}
+
+/// A plan that may be taken can be, in one way, and at the beginning each may that all nodes know.
+pub fn plans_are_taken()
+    ensures can { PlansCanBeTaken }
+    ensures may { NewWorldsMayTake }
+    ensures one { WhatIsTakenIsOne }
 {}
 
 /// Bytes that are moved from a wire to an end that is on are an event where they end one, or else
