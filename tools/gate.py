@@ -4,11 +4,13 @@
 The lines of `rt ci` go to standard output as they come, but for the last one, 'N passed, M failed', which stays the
 last: the table comes before it. With --quiet only the lines that say how a crate or a program came out are shown, each
 with the minutes since the start, how many crates are proved, and the minutes that are left, as far as the sizes of the
-crates tell; the whole log is in the file that the first line names, and its end is shown where the run fails. Names of
-crates are passed on: then these and those below them are proved, which is not the gate. The exit status is that of
-`rt ci`. A crate's seconds are sampled from /proc, so a process that lives for less than the pause is counted in the last
-line alone, with rt itself, compilers and linkers. What an earlier run on this machine passed isn't proved again, and
-costs nothing.
+crates tell; the whole log is in the file that the first line names, and its end is shown where the run fails. The exit
+status is that of `rt ci`. A crate's seconds are sampled from /proc, so a process that lives for less than the pause is
+counted in the last line alone, with rt itself, compilers and linkers.
+
+Kit 13b proves each crate from nothing, and its `rt ci` takes no names. With kit 13f names of crates are passed on (then
+these and those below them are proved, which is not the gate), and what an earlier run on this machine passed isn't
+proved again, and costs nothing.
 
 `rt ci` guesses a check's memory at twice what it takes, and leaves processors idle: where RT_JOBS isn't set and at least
 3.5 GB are free for each processor, it is set to the number of processors, which asks no guess.

@@ -12,6 +12,7 @@ use Rattle.dr_ulstate.specs.declared.table.State.TheVariants.{Sta12}
 use Rattle.dr_plan_sound.specs.declared.certificate.Hop.{Hop}
 use Rattle.dr_site.specs.Parts.{Part}
 use Rattle.dr_nego.specs.Proposing.{IsHopTo}
+use Rattle.dr_ledger.specs.declared.fault.LedgerFault.{LedgerFault}
 use Rattle.dr_session.specs.declared.ends.Heard.{Heard}
 use Rattle.dr_session.specs.declared.ends.Input.TheVariants.{AbortAsked, ReleaseAsked, PushAsked}
 use Rattle.dr_session.specs.declared.ends.LinkAction.{LinkAction}
@@ -32,6 +33,11 @@ Sides = FinMap nat_cmp Side
 -- the side with another end
 abbrev pub with_end : Side → Terminal → Side
 with_end side end = record { end = end; accepted = side.accepted }
+
+-- the sides after an adoption: none, or as they were where it was refused
+abbrev pub sides_after : Result (Unit {0}) LedgerFault → Sides → Sides
+sides_after (Ok done) old = map.empty
+sides_after (Err why) old = old
 
 -- ---- how many associations a node has accepted and not left
 

@@ -3,6 +3,7 @@ ghost use Rattle.std.specs.Prelude.{◌≡◌, ◌≤◌, ◌^◌, IfErr, IfOk, 
 ghost use Rattle.std.specs.Prelude.{option_copied, true};
 ghost use Rattle.std.specs.declared.alloc.AllocError.{AllocError as NoMemory};
 ghost use Rattle.std.specs.FinMap as map;
+ghost use Rattle.dr_ledger.specs.Adopting.{Adopting, IsFit, Unfits, site_after};
 ghost use Rattle.dr_ledger.specs.Bodies.{OnlyLetsGo, OnlyTakes};
 ghost use Rattle.dr_ledger.specs.Items.{instance_of};
 ghost use Rattle.dr_ledger.specs.Pairs.{pair_cmp};
@@ -14,12 +15,15 @@ ghost use Rattle.dr_ledger.specs.SiteRoutes.{site_routing};
 ghost use Rattle.std.proofs.Props.{props};
 ghost use Rattle.dr_route.specs.Routes.{local as local_caller};
 ghost use Rattle.dr_node.specs.Desks.{LedgerStep};
-ghost use Rattle.dr_node.specs.Sides.{Accepts, Does, MeetsEvent, Opens, Pushes, state_of_side};
+ghost use Rattle.dr_node.specs.Sides.{Accepts, Does, MeetsEvent, Opens, Pushes, sides_after};
+ghost use Rattle.dr_node.specs.Sides.{state_of_side};
+ghost use Rattle.dr_site.specs.Parts.{IsPartOf};
 
 use crate::event::LinkEvent;
 use crate::fault::NodeFault;
 use crate::links::{Links, Side};
 use dr_base::{Seq, Text};
+use dr_cert::Sealed;
 use dr_ledger::{Arrived, Entry, Item, Ledger, LedgerFault, LetsGo, Progress, Refusing};
 use dr_session::LinkAction;
 use dr_session::desk::LedgerDesk;
@@ -200,6 +204,70 @@ impl<L: Ledger> Node<L> {
         ensures site { self.new.site ≡ self.old.site }
     {
         self.links = Links::new(self.alloc);
+    }
+
+    /// The first row, by (uid, destination), that isn't done and that the next plan doesn't go on
+    /// with; None where there is no such row.
+    ///
+    /// Errors: Store, Memory.
+    pub fn unfit(&mut self, next: &Sealed) -> Result<Option<(Text, Text)>, LedgerFault>
+        ensures reply { L.stands self.new.desk.ledger
+            → Reads result
+            (Unfits next.now.plan (L.site self.old.desk.ledger).name
+            (L.book self.old.desk.ledger)) }
+        ensures same { L.stands self.new.desk.ledger
+            → (L.book self.new.desk.ledger ≡ L.book self.old.desk.ledger)
+            × (L.bodies self.new.desk.ledger ≡ L.bodies self.old.desk.ledger) }
+        ensures counts { Counts result (L.failed self.old.desk.ledger)
+            (L.failed self.new.desk.ledger) }
+        ensures armed { L.armed self.new.desk.ledger ≡ L.armed self.old.desk.ledger }
+        ensures stood { L.stands self.new.desk.ledger → L.stands self.old.desk.ledger }
+        ensures lasts { Lasts result (L.trusts self.old.desk.ledger) (L.trusts self.new.desk.ledger)
+            (L.stands self.old.desk.ledger) (L.stands self.new.desk.ledger) }
+        ensures of { L.site self.new.desk.ledger ≡ L.site self.old.desk.ledger }
+        ensures links { self.new.links ≡ self.old.links }
+        ensures site { self.new.site ≡ self.old.site }
+    {
+        self.desk.ledger.unfit(next)
+    }
+
+    /// The node takes the next plan, by which no row of it is unfit: from now on this is its site,
+    /// and it has no link. Who calls this looks at the links first, and at the rows (`unfit`).
+    ///
+    /// Errors: Store, Memory; after them nothing has changed.
+    pub fn adopt(&mut self, next: &Sealed, own: Site) -> Result<(), LedgerFault>
+        requires part { IsPartOf next.now.plan next.now.certificate own }
+        requires name { own.name ≡ (L.site self.old.desk.ledger).name }
+        requires fit { L.stands self.old.desk.ledger
+            → IsFit next.now.plan own.name (L.book self.old.desk.ledger) }
+        ensures reply { L.stands self.new.desk.ledger
+            → Adopting (L.book self.old.desk.ledger) result (L.book self.new.desk.ledger) }
+        ensures bodies { L.stands self.new.desk.ledger
+            → OnlyLetsGo (L.bodies self.old.desk.ledger) (L.bodies self.new.desk.ledger) }
+        ensures counts { Counts result (L.failed self.old.desk.ledger)
+            (L.failed self.new.desk.ledger) }
+        ensures armed { L.stands self.new.desk.ledger
+            → Arms (Unit {0}) (L.armed self.old.desk.ledger) result
+            (L.armed self.new.desk.ledger) }
+        ensures stood { L.stands self.new.desk.ledger → L.stands self.old.desk.ledger }
+        ensures lasts { Lasts result (L.trusts self.old.desk.ledger) (L.trusts self.new.desk.ledger)
+            (L.stands self.old.desk.ledger) (L.stands self.new.desk.ledger) }
+        ensures of { L.site self.new.desk.ledger
+            ≡ site_after result own (L.site self.old.desk.ledger) }
+        ensures links { self.new.links ≡ sides_after result self.old.links }
+        ensures site { self.new.site ≡ site_after result own self.old.site }
+    {
+        let Ok(site) = own.copy() else {
+            drop(own);
+            return Err(LedgerFault::Memory);
+        };
+        if let Err(fault) = self.desk.ledger.adopt(next, own) {
+            drop(site);
+            return Err(fault);
+        }
+        self.site = site;
+        self.links = Links::new(self.alloc);
+        Ok(())
     }
 
     /// Whether the data set of that uid is there: it is while the uid is kept or a row of it isn't

@@ -83,7 +83,7 @@ module _ {L : Type 0} {l : Ghosts L} (plan : Network) (certificate : Certificate
   }
 
 -- what is there in truth of each element is there in truth of all of them
-choose : {X : Type 0} (P : X → Type 0) (xs : List X) → ((x : X) → Contains xs x → ∥ P x ∥₁) → ∥ ((x : X) → Contains xs x → P x) ∥₁
+pub choose : {X : Type 0} (P : X → Type 0) (xs : List X) → ((x : X) → Contains xs x → ∥ P x ∥₁) → ∥ ((x : X) → Contains xs x → P x) ∥₁
 choose P [] each = ∣ (λ x among. absurd (nothing_in_nil x among)) ∣₁
 choose P (y ∷ xs) each = ∥∥₁_map₂ (each y (Contains-here y xs)) (choose P xs (λ x among. each x (Contains-there y xs x among)))
     (λ first others x among. elim (Contains-cons_cases y xs x among) [
@@ -92,7 +92,7 @@ choose P (y ∷ xs) each = ∥∥₁_map₂ (each y (Contains-here y xs)) (choos
     ])
 
 -- a node as it begins has nothing in its book
-book_is_empty : {L : Type 0} (l : Ghosts L) (ledger : L) → l.stands ledger → (l.book ledger).lines ≡ [] → ∥ l.book ledger ≡ empty_book ∥₁
+pub book_is_empty : {L : Type 0} (l : Ghosts L) (ledger : L) → l.stands ledger → (l.book ledger).lines ≡ [] → ∥ l.book ledger ≡ empty_book ∥₁
 book_is_empty l ledger stands none = ∥∥₁_map (l.journalled ledger stands) (λ j. j.1.fold ∙ ap Fold none)
 
 module _ {L : Type 0} {l : Ghosts L} (plan : Network) (certificate : Certificate) (names : List Text) (nodes : BTreeMap Text (Node L l)) (f : AreFounded plan certificate names nodes) where

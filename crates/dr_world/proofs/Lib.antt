@@ -1,3 +1,4 @@
+pub mod Adopting
 pub mod Beginning
 pub mod Calling
 pub mod Counted

@@ -1,3 +1,4 @@
+pub mod Adopted
 pub mod Shows
 pub mod Forgotten
 pub mod Laws

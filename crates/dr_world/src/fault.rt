@@ -15,6 +15,9 @@ pub enum WorldFault {
     /// A ledger's store failed.
     #[error("Store")]
     Store,
+    /// A ledger's store failed while all nodes took another plan: some have taken it.
+    #[error("U2 Store")]
+    HalfAdopted,
     #[error("Memory")]
     Memory,
 }

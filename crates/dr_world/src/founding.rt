@@ -80,7 +80,7 @@ fn found<L: Ledger + Drop>(
 }
 
 /// The node of that name over its ledger is one more.
-fn seat<L: Ledger + Drop>(
+pub(crate) fn seat<L: Ledger + Drop>(
     alloc: Global,
     sealed: &Sealed,
     name: &Text,

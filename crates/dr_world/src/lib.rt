@@ -10,6 +10,7 @@
 #![tactic(auto)]
 
 mod calls;
+pub mod changing;
 pub mod fault;
 mod forgetting;
 pub mod founding;
@@ -23,6 +24,7 @@ pub mod time;
 pub mod wires;
 pub mod world;
 
+pub use changing::Change;
 pub use dr_world_script::{Side, Step};
 pub use fault::WorldFault;
 pub use listing::Listing;

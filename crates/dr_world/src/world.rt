@@ -17,6 +17,7 @@ ghost use Rattle.dr_world.specs.Restarted.{AllFarHear, FarHears};
 ghost use Rattle.dr_world.specs.Whole.{AllStand, Calls, Drops, HasTicked, IsSameWorld};
 ghost use Rattle.dr_world.specs.Whole.{IsToldToRefuse, Meets, Puts, StepsTo, Submits, noted};
 
+mod adopting;
 mod reading;
 
 use crate::calls::{accept_at, input_at, is_over_at, open_at, push_at};

@@ -1,0 +1,136 @@
+//! A plan that all nodes of a world take at once.
+ghost use Rattle.std.specs.Prelude.{◌≡◌, Err, IfOk, IsErr, OnOk, length, true};
+ghost use Rattle.std.specs.Vec.{vec_len};
+ghost use Rattle.dr_world.specs.Adopted.{AllJoin, AreJoining, ChangesTo, Took};
+ghost use Rattle.dr_world.specs.declared.fault.WorldFault.TheVariants.{Memory as MemoryFault};
+
+use crate::changing::{Change, are_nodes, look_at_all, some_is_on, take_all};
+use crate::fault::WorldFault;
+use crate::founding::{names_of, seat};
+use crate::listing::names_in;
+use crate::world::World;
+use dr_base::Text;
+use dr_cert::Sealed;
+use dr_ledger::{Ledger, Refusing};
+use dr_node::Node;
+use dr_plan_model::Plan;
+use std::alloc::{AllocError, Global};
+use std::collections::BTreeMap;
+
+/// The names of the plan's nodes that aren't there, in byte order.
+fn joining_in<L: Ledger>(
+    alloc: Global,
+    plan: &Plan,
+    nodes: &BTreeMap<Text, Node<L>>,
+) -> Result<Vec<Text>, AllocError>
+    ensures { IfOk result (λ names. AreJoining plan.now nodes.now names.items) }
+{
+    let all = names_of(alloc, plan)?;
+    let mut names = Vec::new(alloc);
+    for name in all {
+        if nodes.contains_key(&name) {
+            drop(name);
+        } else {
+            names.push(name)?;
+        }
+    }
+    Ok(names)
+}
+
+/// Nodes of these names are founded, each over the ledger at its place.
+fn join_all<L: Ledger + Drop>(
+    alloc: Global,
+    next: &Sealed,
+    names: &[Text],
+    ledgers: Vec<L>,
+    nodes: &mut BTreeMap<Text, Node<Refusing<L>>>,
+) -> Result<(), WorldFault>
+    requires { length names.now ≡ vec_len ledgers }
+    ensures { OnOk result
+        (AllJoin next.now.plan next.now.certificate names.now nodes.old nodes.new) }
+{
+    let mut place = 0;
+    for ledger in ledgers {
+        seat(alloc, next, &names[place], ledger, nodes)?;
+        place += 1;
+    }
+    Ok(())
+}
+
+impl<L: Ledger + Drop> World<Refusing<L>> {
+    /// All nodes take the next plan at once (its site for each): arrivals and rows that are done
+    /// leave the books, and the links are gone. A node that joins is founded over the ledger at its
+    /// place, by the byte order of the names of those that join. Skipped where an end of a link
+    /// isn't over, or a node isn't one of the next plan. Where the next plan doesn't go on with a
+    /// row, that row is answered, and nothing has changed. After want of memory each further step
+    /// answers Memory, and so it does after each fault of this.
+    ///
+    /// Errors: WrongLedgers, where there is another number of ledgers than of nodes that join, one
+    /// that isn't empty, or one of another site; HalfAdopted, where a store fails; Memory.
+    pub fn adopt(&mut self, next: &Sealed, joining: Vec<L>) -> Result<Change, WorldFault>
+        ensures changes { IfOk result (λ change.
+            ChangesTo next.now.plan next.now.certificate self.old change self.new) }
+        ensures lost { self.old.lost ≡ true → (result ≡ Err MemoryFault) × (self.new ≡ self.old) }
+        ensures after { IsErr result → self.new.lost ≡ true }
+    {
+        if self.lost {
+            drop(joining);
+            return Err(WorldFault::Memory);
+        }
+        match self.change(next, joining) {
+            Ok(change) => Ok(change),
+            Err(fault) => {
+                self.lost = true;
+                Err(fault)
+            }
+        }
+    }
+
+    /// The same, where no fault ended an earlier step.
+    fn change(&mut self, next: &Sealed, joining: Vec<L>) -> Result<Change, WorldFault>
+        ensures { IfOk result (λ change.
+            ChangesTo next.now.plan next.now.certificate self.old change self.new) }
+    {
+        let names = names_in(self.alloc, &self.nodes)?;
+        if some_is_on(&self.nodes, &self.wires) {
+            drop(joining);
+            return Ok(Change::Skipped);
+        }
+        if !are_nodes(next.plan(), names.as_slice()) {
+            drop(joining);
+            return Ok(Change::Skipped);
+        }
+        let joins = joining_in(self.alloc, next.plan(), &self.nodes)?;
+        match look_at_all(&mut self.nodes, names.as_slice(), next)? {
+            Change::Adopted => {}
+            other => {
+                drop(joining);
+                return Ok(other);
+            }
+        }
+        self.take(next, names.as_slice(), joins.as_slice(), joining)?;
+        Ok(Change::Adopted)
+    }
+
+    /// The nodes of these names go over, those of the other names are founded, and the links are
+    /// gone.
+    fn take(
+        &mut self,
+        next: &Sealed,
+        names: &[Text],
+        joins: &[Text],
+        joining: Vec<L>,
+    ) -> Result<(), WorldFault>
+        ensures { OnOk result
+            (Took next.now.plan next.now.certificate names.now joins.now self.old self.new) }
+    {
+        if joins.len() != joining.len() {
+            drop(joining);
+            return Err(WorldFault::WrongLedgers);
+        }
+        take_all(self.alloc, &mut self.nodes, names, next)?;
+        join_all(self.alloc, next, joins, joining, &mut self.nodes)?;
+        self.wires = BTreeMap::new(self.alloc);
+        Ok(())
+    }
+}
