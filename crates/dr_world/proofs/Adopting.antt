@@ -81,7 +81,7 @@ inside x y o a b = let e : Some x ≡ Some y = sym a ∙ b in cc
 -- ---- nodes that go over, one after the other
 
 module _ {L : Type 0} {l : Ghosts L} (next : Network) (own : Certificate) where
-  Nodes : Type 0
+  abbrev Nodes : Type 0
   Nodes = BTreeMap Text (Node L l)
 
   took_more : (names : List Text) (name : Text) (a b c : Nodes) → AllTake next own names a b → TakesAt next own name b c → AllTake next own (names ++ name ∷ []) a c
@@ -121,7 +121,7 @@ module _ {L : Type 0} {l : Ghosts L} (next : Network) (own : Certificate) where
       ]
 
   -- each of the names has a node that has gone over
-  IsOver : (a b : Nodes) (q : Text) → Type 0
+  abbrev IsOver : (a b : Nodes) (q : Text) → Type 0
   IsOver a b q = (n m : Node L l) × (tree.get text_cmp a q ≡ Some n) × (tree.get text_cmp b q ≡ Some m) × HasGoneOver next own n m
 
   took_here : (names : List Text) (a b : Nodes) (q : Text) → IsStrictlySortedBy text_cmp names → Contains names q → AllTake next own names a b → IsOver a b q
@@ -162,7 +162,7 @@ module _ {L : Type 0} {l : Ghosts L} (next : Network) (own : Certificate) where
         | inr apart ↦ rest ∙ now_there a h.0 x f.0 f.2 q apart
       ]
 
-  HasFounded : (b : Nodes) (q : Text) → Type 0
+  abbrev HasFounded : (b : Nodes) (q : Text) → Type 0
   HasFounded b q = (n : Node L l) × (tree.get text_cmp b q ≡ Some n) × IsFounded next own q n
 
   joined_still : (names : List Text) (a b : Nodes) (q : Text) → HasFounded a q → AllJoin next own names a b → HasFounded b q
@@ -242,7 +242,7 @@ no_node {L} {l} nodes q e = by (tree.get text_cmp nodes q) refl e
 module _ {L : Type 0} {l : Ghosts L} (plan next : Network) (certificate own : Certificate) (old new : World L l) (looked mid : BTreeMap Text (Node L l)) (names joins : List Text)
     (are : AreNamesOf (books_of old.nodes) names) (joining : AreJoining next looked joins) (looks : AreSameNodes old.nodes looked)
     (took : AllTake next own names looked mid) (join : AllJoin next own joins mid new.nodes) where
-  Seen : Text → Type 0
+  abbrev Seen : Text → Type 0
   Seen q = (seat : Seat) × (seats_of old.nodes q ≡ Some seat)
 
   not_joining : (q : Text) (n : Node L l) → tree.get text_cmp looked q ≡ Some n → Contains joins q → ⊥
@@ -342,7 +342,7 @@ module _ {L : Type 0} {l : Ghosts L} (plan next : Network) (certificate own : Ce
 
       module _ (b : ByteWorld) (shown : ShowsBytes (contents old) b) (over : AllAreOver b) (stay : AreNodes next names) (none_left : new.wires.entries ≡ []) (time : new.time ≡ old.time) (opened : new.opened ≡ old.opened)
           (bare : (q : Text) → Contains joins q → (n : Node L l) → tree.get text_cmp new.nodes q ≡ Some n → l.book n.desk.ledger ≡ empty_book) where
-        after_it : ByteWorld
+        abbrev after_it : ByteWorld
         after_it = record { time = b.time; desks = λ q. desk_at (seats_of new.nodes q); links = map.empty; opened = b.opened }
 
         desk_was : (q : Text) (seat : Seat) → seats_of old.nodes q ≡ Some seat → b.desks q ≡ seat.desk

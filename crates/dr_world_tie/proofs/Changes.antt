@@ -101,7 +101,7 @@ no_links number next own =
     (subst (λ (o : Option Link). ShowsAt next own None o) (sym (map_of.get-empty nat_cmp number)) tt)
 
 module _ (plan next : Network) (certificate own : Certificate) (certified : IsCertified next own) (b new : ByteWorld) (w : World) (s : Shows plan certificate b w) (t : TakesPlan plan b next new) where
-  adopted : World
+  abbrev adopted : World
   adopted = record {
     time = w.time;
     books = λ name. (new.desks name).book;
@@ -126,10 +126,10 @@ module _ (plan next : Network) (certificate own : Certificate) (certified : IsCe
   unarmed name is = sym (s.desks name).1 ∙ t.may.unarmed name is
 
   fit : (name uid to : Text) (row : Progress) (item : Instance) → map_of.get (w.books name).rows (uid, to) ≡ Some row → (row ≡ Done → ⊥) → map_of.get (w.books name).items uid ≡ Some item → Goes next item.key name to
-  fit name uid to row item at open has = elim (node_or_not plan name) [
+  fit name uid to row item at undone has = elim (node_or_not plan name) [
     | inl is ↦
         let fits = subst (IsFit next name) (s.desks name).0 (t.may.fit name is) in
-        reached_goes next item.key name to (node_apart next name certified.formed (t.may.stay name is)) (fits (uid, to) row item at open has)
+        reached_goes next item.key name to (node_apart next name certified.formed (t.may.stay name is)) (fits (uid, to) row item at undone has)
     | inr none ↦ absurd (no_row row (sym (map_of.get-empty pair_cmp (uid, to)) ∙ (sym (ap (λ (k : Book). map_of.get k.rows (uid, to)) (stranger name none)) ∙ at)))
   ]
 
@@ -209,7 +209,7 @@ kept_stays_through plan certificate certified deeds more mid last own its b c h 
 -- ---- laws
 
 module _ (plan : Network) (name : Text) where
-  taken : HasNode plan name ⊎ (HasNode plan name → ⊥) → Book → Desk
+  abbrev taken : HasNode plan name ⊎ (HasNode plan name → ⊥) → Book → Desk
   taken (inl is) k = desk (after Adoption k) false
   taken (inr none) k = desk empty_book false
 
@@ -244,7 +244,7 @@ new_worlds_may_take plan next stay = record {
   over = λ number k h. absurd (no_row k (sym (map_of.get-empty nat_cmp number) ∙ h));
   unarmed = λ name is. refl;
   stay = stay;
-  fit = λ name is at row item h open has. absurd (no_row row (sym (map_of.get-empty pair_cmp at) ∙ h));
+  fit = λ name is at row item h undone has. absurd (no_row row (sym (map_of.get-empty pair_cmp at) ∙ h));
   strangers = λ name none. refl;
 }
 
