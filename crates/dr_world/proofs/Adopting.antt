@@ -1,30 +1,33 @@
 -- All nodes of a world take another plan: what comes of it stands beside what comes of a world of bytes.
-use Rattle.std.proofs.Common.{◌≡◌, ℕ, ◌+◌, ◌<◌, ◌≤◌, Bool, true, false, cond, List, [], ◌∷◌, ◌++◌, length, take, Option, None, Some, refl, sym, ap, subst, ◌∙◌, inl, inr, ◌⊎◌}
-use Rattle.std.specs.Prelude.{◌&&◌, not, Contains}
+use Rattle.std.proofs.Common.{◌≡◌, ℕ, ◌+◌, ◌<◌, ◌≤◌, Bool, true, false, cond, List, [], ◌∷◌, ◌++◌, length, take, drop, get_or, append_assoc, map as mapped, Option, None, Some, Result, Ok, Err, refl, sym, ap, subst, ◌∙◌, inl, inr, ◌⊎◌}
+use Rattle.std.specs.Prelude.{◌&&◌, ◌↔◌, not, Contains, OnOk}
 use Rattle.std.specs.declared.cmp.Ordering.{Ordering}
 use Rattle.std.specs.declared.cmp.Ordering.TheVariants.{Less}
-use Rattle.std.specs.Ordering.{nat_cmp, eq_by_cmp}
+use Rattle.std.specs.Ordering.{nat_cmp, eq_by_cmp, ordering_reverse}
 use Rattle.std.specs.Cmp.{eq_by_cmp_equiv}
 use Rattle.std.specs.Option.{option_map}
 use Rattle.std.specs.List.{AllByRecursion, list_any}
 use Rattle.std.specs.List.Sorted.{IsStrictlySortedBy}
 use Rattle.std.specs.FinMap as map
 use Rattle.std.specs.BTreeMap as tree
-use Rattle.std.specs.BTreeMap.{BTreeMap}
-use Rattle.std.proofs.Math.Logic.{∥∥₁_map, ∥∥₁_map₂}
+use Rattle.std.specs.BTreeMap.{BTreeMap, is_at}
+use Rattle.std.proofs.Math.Logic.{∥∥₁_map, ∥∥₁_elim}
 use Rattle.std.proofs.lemmas.Bool.{false≢true}
-use Rattle.std.proofs.lemmas.List.{take_all}
-use Rattle.std.proofs.lemmas.List.Elements.{All-from_recursion, All-contains}
+use Rattle.std.proofs.lemmas.List.{take_all, take_more, take-append-drop}
+use Rattle.std.proofs.lemmas.List.Elements.{All-from_recursion, All-contains, Contains-append_left, Contains-push, Contains-push_cases}
+use Rattle.std.proofs.lemmas.List.Sorted.{Contains-permutation, IsPermutation-sym}
 use Rattle.std.proofs.lemmas.List.Folds.{Any-from_list_any, list_any_at}
 use Rattle.std.proofs.lemmas.Map.Views.{tells_apart, Contains-keys_from_lookup}
 use Rattle.dr_base.specs.Texts.{Text, text_cmp}
 use Rattle.dr_plan_model.specs.Networks.{Network}
+use Rattle.dr_plan_model.specs.declared.plan.Node.{Node as PlannedNode}
 use Rattle.dr_plan_model.proofs.Gathered.{Contains-cons_cases, Contains-here, Contains-there, nothing_in_nil}
 use Rattle.dr_plan_sound.specs.declared.certificate.Certificate.{Certificate}
 use Rattle.dr_site.specs.Parts.{Part, IsPartOf}
 use Rattle.dr_site.specs.Sites.{IsCertified}
 use Rattle.dr_ledger.specs.declared.ledger.Ledger.{Ghosts}
 use Rattle.dr_ledger.specs.Adopting.{IsFit, Unfits}
+use Rattle.dr_ledger.specs.Pairs.{Pair}
 use Rattle.dr_ledger.specs.Books.{Book, Adoption, Fold, after, empty_book}
 use Rattle.dr_ledger.proofs.Maps.{texts, same_or_not, ties_itself, cases_of}
 use Rattle.dr_session.specs.Ledgers.{Desk, desk}
@@ -38,20 +41,22 @@ use Rattle.dr_world_model.proofs.Lookups.{numbers}
 use Rattle.dr_world_tie.specs.Channels.{Channel}
 use Rattle.dr_world_tie.specs.ByteWorlds.{ByteWorld, is_over}
 use Rattle.dr_world_tie.specs.Changes.{AllAreOver, TakesPlan}
+use Rattle.dr_world.specs.declared.fault.WorldFault.{WorldFault}
 use Rattle.dr_world.specs.declared.wires.Wires.{Wires}
 use Rattle.dr_world.specs.declared.world.World.{World}
 use Rattle.dr_world.specs.declared.changing.Change.{Change}
 use Rattle.dr_world.specs.declared.changing.Change.TheVariants.{Adopted, Skipped, Unfit}
-use Rattle.dr_world.specs.Adopted.{AllJoin, AllTake, AreFit, AreJoining, AreNodes, ChangesTo, ComesTo, Finds, HasGoneOver, IsFirstUnfit, LooksAt, TakesAt, Took, is_on, is_on_at, some_is_on}
-use Rattle.dr_world.specs.Founding.{Founds, IsFounded}
+use Rattle.dr_world.specs.Adopted.{AddsAbsent, AddsIn, AllJoin, AllTake, AreFit, AreJoining, AreNodes, ChangesTo, ComesTo, Finds, HasGoneOver, IsFirstUnfit, LooksAt, TakesAt, Took, is_on, is_on_at, some_is_on}
+use Rattle.dr_world.specs.Founding.{AreNames, Founds, IsFounded}
 use Rattle.dr_world.specs.Nodes.{AllStandIn, over_at, seat_of, seats_of}
-use Rattle.dr_world.specs.Reports.{AreNamesOf, AreSameNodes, books_of}
+use Rattle.dr_world.specs.Reports.{AreNamesOf, AreSameNodes, IsSameNode, books_of}
 use Rattle.dr_world.specs.Shows.{HasSide, IsLinked, IsSeated, LinkedAt, Seat, ShowsBytes, desk_at}
 use Rattle.dr_world.specs.Whole.{AllStand, contents}
 use Rattle.dr_world.proofs.AtNodes.{node_named}
 use Rattle.dr_world.proofs.Called.{all_stood}
 use Rattle.dr_world.proofs.Closes.{over_is}
-use Rattle.dr_world.proofs.Founded.{book_is_empty, choose}
+use Rattle.dr_world.proofs.Founded.{book_is_empty, choose, name_among}
+use Rattle.dr_world.proofs.Listed.{are_same, nodes_then}
 
 -- ---- one node under its name
 
@@ -81,27 +86,24 @@ inside x y o a b = let e : Some x ≡ Some y = sym a ∙ b in cc
 -- ---- nodes that go over, one after the other
 
 module _ {L : Type 0} {l : Ghosts L} (next : Network) (own : Certificate) where
-  abbrev Nodes : Type 0
-  Nodes = BTreeMap Text (Node L l)
-
-  took_more : (names : List Text) (name : Text) (a b c : Nodes) → AllTake next own names a b → TakesAt next own name b c → AllTake next own (names ++ name ∷ []) a c
-  took_more [] name a b c h t = (c, subst (λ (z : Nodes). TakesAt next own name z c) h t, refl)
+  took_more : (names : List Text) (name : Text) (a b c : BTreeMap Text (Node L l)) → AllTake next own names a b → TakesAt next own name b c → AllTake next own (names ++ name ∷ []) a c
+  took_more [] name a b c h t = (c, subst (λ (z : BTreeMap Text (Node L l)). TakesAt next own name z c) h t, refl)
   took_more (x ∷ xs) name a b c h t = (h.0, h.1, took_more xs name h.0 b c h.2 t)
 
-  pub took_next : (names : List Text) (i : ℕ) (name : Text) (a b c : Nodes) → AllTake next own (take i names) a b → TakesAt next own name b c → take i names ++ name ∷ [] ≡ take (i + 1) names → AllTake next own (take (i + 1) names) a c
+  pub took_next : (names : List Text) (i : ℕ) (name : Text) (a b c : BTreeMap Text (Node L l)) → AllTake next own (take i names) a b → TakesAt next own name b c → take i names ++ name ∷ [] ≡ take (i + 1) names → AllTake next own (take (i + 1) names) a c
   took_next names i name a b c h t is = let P : List Text → Type 0 = λ ns. AllTake next own ns a c in subst P is (took_more (take i names) name a b c h t)
 
-  pub took_all : (names : List Text) (i : ℕ) (a b : Nodes) → length names ≤ i → AllTake next own (take i names) a b → AllTake next own names a b
-  took_all names i a b all h = let P : List Text → Type 0 = λ ns. AllTake next own ns a b in subst P (take_all names i all) h
+  pub took_all : (names : List Text) (i : ℕ) (a b : BTreeMap Text (Node L l)) → length names ≤ i → AllTake next own (take i names) a b → AllTake next own names a b
+  took_all names i a b all h = let P : List Text → Type 0 = λ ns. AllTake next own ns a b in subst P (take_all i names all) h
 
-  took_stood : (names : List Text) (a b : Nodes) → AllTake next own names a b → AllStandIn b → AllStandIn a
-  took_stood [] a b h all = (let P : Nodes → Type 0 = λ z. AllStandIn z in subst P h all)
+  took_stood : (names : List Text) (a b : BTreeMap Text (Node L l)) → AllTake next own names a b → AllStandIn b → AllStandIn a
+  took_stood [] a b h all = (let P : BTreeMap Text (Node L l) → Type 0 = λ z. AllStandIn z in subst P h all)
   took_stood (x ∷ xs) a b h all =
       let t = h.1 in
       all_stood a h.0 x t.0 t.1 (sym t.2) (t.4.0) t.3.stood (took_stood xs h.0 b h.2 all)
 
-  took_there : (names : List Text) (a b : Nodes) (q : Text) → (Contains names q → ⊥) → AllTake next own names a b → tree.get text_cmp b q ≡ tree.get text_cmp a q
-  took_there [] a b q none h = ap (λ (z : Nodes). tree.get text_cmp z q) h
+  took_there : (names : List Text) (a b : BTreeMap Text (Node L l)) (q : Text) → (Contains names q → ⊥) → AllTake next own names a b → tree.get text_cmp b q ≡ tree.get text_cmp a q
+  took_there [] a b q none h = ap (λ (z : BTreeMap Text (Node L l)). tree.get text_cmp z q) h
   took_there (x ∷ xs) a b q none h =
       let t = h.1 in
       let rest = took_there xs h.0 b q (λ among. none (Contains-there x xs q among)) h.2 in
@@ -111,8 +113,8 @@ module _ {L : Type 0} {l : Ghosts L} (next : Network) (own : Certificate) where
       ]
 
   -- a node that isn't there doesn't come
-  took_none : (names : List Text) (a b : Nodes) (q : Text) → tree.get text_cmp a q ≡ None → AllTake next own names a b → tree.get text_cmp b q ≡ None
-  took_none [] a b q none h = ap (λ (z : Nodes). tree.get text_cmp z q) h ∙ none
+  took_none : (names : List Text) (a b : BTreeMap Text (Node L l)) (q : Text) → tree.get text_cmp a q ≡ None → AllTake next own names a b → tree.get text_cmp b q ≡ None
+  took_none [] a b q none h = ap (λ (z : BTreeMap Text (Node L l)). tree.get text_cmp z q) h ∙ none
   took_none (x ∷ xs) a b q none h =
       let t = h.1 in
       elim (same_or_not texts q x) [
@@ -121,10 +123,10 @@ module _ {L : Type 0} {l : Ghosts L} (next : Network) (own : Certificate) where
       ]
 
   -- each of the names has a node that has gone over
-  abbrev IsOver : (a b : Nodes) (q : Text) → Type 0
+  abbrev IsOver : (a b : BTreeMap Text (Node L l)) (q : Text) → Type 0
   IsOver a b q = (n m : Node L l) × (tree.get text_cmp a q ≡ Some n) × (tree.get text_cmp b q ≡ Some m) × HasGoneOver next own n m
 
-  took_here : (names : List Text) (a b : Nodes) (q : Text) → IsStrictlySortedBy text_cmp names → Contains names q → AllTake next own names a b → IsOver a b q
+  took_here : (names : List Text) (a b : BTreeMap Text (Node L l)) (q : Text) → IsStrictlySortedBy text_cmp names → Contains names q → AllTake next own names a b → IsOver a b q
   unfolding IsStrictlySortedBy
   took_here [] a b q sorted among h = absurd (nothing_in_nil q among)
   took_here (x ∷ xs) a b q sorted among h =
@@ -142,18 +144,18 @@ module _ {L : Type 0} {l : Ghosts L} (next : Network) (own : Certificate) where
 
   -- ---- nodes that join
 
-  joined_more : (names : List Text) (name : Text) (a b c : Nodes) → AllJoin next own names a b → Founds next own name b c → AllJoin next own (names ++ name ∷ []) a c
-  joined_more [] name a b c h t = (c, subst (λ (z : Nodes). Founds next own name z c) h t, refl)
+  joined_more : (names : List Text) (name : Text) (a b c : BTreeMap Text (Node L l)) → AllJoin next own names a b → Founds next own name b c → AllJoin next own (names ++ name ∷ []) a c
+  joined_more [] name a b c h t = (c, subst (λ (z : BTreeMap Text (Node L l)). Founds next own name z c) h t, refl)
   joined_more (x ∷ xs) name a b c h t = (h.0, h.1, joined_more xs name h.0 b c h.2 t)
 
-  pub joined_next : (names : List Text) (i : ℕ) (name : Text) (a b c : Nodes) → AllJoin next own (take i names) a b → Founds next own name b c → take (i + 1) names ≡ take i names ++ name ∷ [] → AllJoin next own (take (i + 1) names) a c
+  pub joined_next : (names : List Text) (i : ℕ) (name : Text) (a b c : BTreeMap Text (Node L l)) → AllJoin next own (take i names) a b → Founds next own name b c → take (i + 1) names ≡ take i names ++ name ∷ [] → AllJoin next own (take (i + 1) names) a c
   joined_next names i name a b c h t is = let P : List Text → Type 0 = λ ns. AllJoin next own ns a c in subst P (sym is) (joined_more (take i names) name a b c h t)
 
-  pub joined_all : (names : List Text) (i : ℕ) (a b : Nodes) → length names ≤ i → AllJoin next own (take i names) a b → AllJoin next own names a b
-  joined_all names i a b all h = let P : List Text → Type 0 = λ ns. AllJoin next own ns a b in subst P (take_all names i all) h
+  pub joined_all : (names : List Text) (i : ℕ) (a b : BTreeMap Text (Node L l)) → length names ≤ i → AllJoin next own (take i names) a b → AllJoin next own names a b
+  joined_all names i a b all h = let P : List Text → Type 0 = λ ns. AllJoin next own ns a b in subst P (take_all i names all) h
 
-  joined_there : (names : List Text) (a b : Nodes) (q : Text) → (Contains names q → ⊥) → AllJoin next own names a b → tree.get text_cmp b q ≡ tree.get text_cmp a q
-  joined_there [] a b q none h = ap (λ (z : Nodes). tree.get text_cmp z q) h
+  joined_there : (names : List Text) (a b : BTreeMap Text (Node L l)) (q : Text) → (Contains names q → ⊥) → AllJoin next own names a b → tree.get text_cmp b q ≡ tree.get text_cmp a q
+  joined_there [] a b q none h = ap (λ (z : BTreeMap Text (Node L l)). tree.get text_cmp z q) h
   joined_there (x ∷ xs) a b q none h =
       let f = h.1 in
       let rest = joined_there xs h.0 b q (λ among. none (Contains-there x xs q among)) h.2 in
@@ -162,11 +164,11 @@ module _ {L : Type 0} {l : Ghosts L} (next : Network) (own : Certificate) where
         | inr apart ↦ rest ∙ now_there a h.0 x f.0 f.2 q apart
       ]
 
-  abbrev HasFounded : (b : Nodes) (q : Text) → Type 0
+  abbrev HasFounded : (b : BTreeMap Text (Node L l)) (q : Text) → Type 0
   HasFounded b q = (n : Node L l) × (tree.get text_cmp b q ≡ Some n) × IsFounded next own q n
 
-  joined_still : (names : List Text) (a b : Nodes) (q : Text) → HasFounded a q → AllJoin next own names a b → HasFounded b q
-  joined_still [] a b q f h = (let P : Nodes → Type 0 = λ z. HasFounded z q in subst P (sym h) f)
+  joined_still : (names : List Text) (a b : BTreeMap Text (Node L l)) (q : Text) → HasFounded a q → AllJoin next own names a b → HasFounded b q
+  joined_still [] a b q f h = (let P : BTreeMap Text (Node L l) → Type 0 = λ z. HasFounded z q in subst P (sym h) f)
   joined_still (x ∷ xs) a b q f h =
       let t = h.1 in
       elim (same_or_not texts q x) [
@@ -174,7 +176,7 @@ module _ {L : Type 0} {l : Ghosts L} (next : Network) (own : Certificate) where
         | inr apart ↦ joined_still xs h.0 b q (f.0, now_there a h.0 x t.0 t.2 q apart ∙ f.1, f.2) h.2
       ]
 
-  joined_here : (names : List Text) (a b : Nodes) (q : Text) → Contains names q → AllJoin next own names a b → HasFounded b q
+  joined_here : (names : List Text) (a b : BTreeMap Text (Node L l)) (q : Text) → Contains names q → AllJoin next own names a b → HasFounded b q
   joined_here [] a b q among h = absurd (nothing_in_nil q among)
   joined_here (x ∷ xs) a b q among h =
       let t = h.1 in
@@ -485,17 +487,22 @@ module _ {L : Type 0} {l : Ghosts L} (plan next : Network) (certificate own : Ce
 
 -- ---- a row that doesn't fit
 
+both_less : (a b : Text) → text_cmp a b ≡ Less → text_cmp b a ≡ Less → ⊥
+both_less a b f g =
+    let e : Less ≡ ordering_reverse Less = sym f ∙ (texts.total.antisymm a b ∙ ap ordering_reverse g) in
+    cc
+
 before_it : (before : List Text) (node : Text) (after : List Text) (q : Text) → IsStrictlySortedBy text_cmp (before ++ node ∷ after) → Contains (before ++ node ∷ after) q → text_cmp q node ≡ Less → Contains before q
 unfolding IsStrictlySortedBy
-before_it [] node after q sorted among less = elim (Contains-cons_cases node after q among) [
+before_it [] node later q sorted among less = elim (Contains-cons_cases node later q among) [
   | inl same ↦ absurd (false≢true (sym (less_apart q node less) ∙ (ap (λ (z : Text). same_text z q) same ∙ ties_itself texts q)))
-  | inr later ↦
-      let greater : text_cmp node q ≡ Less = All-contains (λ (z : Text). text_cmp node z ≡ Less) after q (All-from_recursion (λ (z : Text). text_cmp node z ≡ Less) after sorted.0) later in
+  | inr behind ↦
+      let greater : text_cmp node q ≡ Less = All-contains (λ (z : Text). text_cmp node z ≡ Less) later q (All-from_recursion (λ (z : Text). text_cmp node z ≡ Less) later sorted.0) behind in
       absurd (both_less node q greater less)
 ]
-before_it (x ∷ xs) node after q sorted among less = elim (Contains-cons_cases x (xs ++ node ∷ after) q among) [
+before_it (x ∷ xs) node later q sorted among less = elim (Contains-cons_cases x (xs ++ node ∷ later) q among) [
   | inl same ↦ subst (λ (z : Text). Contains (x ∷ xs) z) same (Contains-here x xs)
-  | inr later ↦ Contains-there x xs q (before_it xs node after q sorted.1 later less)
+  | inr behind ↦ Contains-there x xs q (before_it xs node later q sorted.1 behind less)
 ]
 
 module _ {L : Type 0} {l : Ghosts L} (plan next : Network) (certificate : Certificate) (old : World L l) (names : List Text) (are : AreNamesOf (books_of old.nodes) names) (b : ByteWorld)
@@ -512,7 +519,7 @@ module _ {L : Type 0} {l : Ghosts L} (plan next : Network) (certificate : Certif
 
   pub first_unfit : IsFirstUnfit plan next b.desks node (uid, dest)
   first_unfit = record {
-    node = node_named plan certificate (contents old) seated node seat has;
+    of = node_named plan certificate (contents old) seated node seat has;
     unfit =
         let named = (seated.each node seat has).0 in
         let book = ap (λ (d : Desk). d.book) (sym (desk_there node seat has)) in
@@ -523,3 +530,219 @@ module _ {L : Type 0} {l : Ghosts L} (plan next : Network) (certificate : Certif
         let book = ap (λ (d : Desk). d.book) (sym (desk_there q f.0 f.1)) in
         subst (λ (p : Text × Book). IsFit next p.0 p.1) (λ j. (named j, book j)) f.2;
   }
+
+-- ---- loops
+
+-- the names before one, and then it
+pub so_far : (names : List Text) (i : ℕ) (name : Text) → i < length names → name ≡ get_or names i name → take (i + 1) names ≡ take i names ++ name ∷ []
+so_far names i name less is = take_more names i name less ∙ ap (λ (x : Text). take i names ++ x ∷ []) (sym is)
+
+pub nodes_none : (plan : Network) (names : List Text) → AreNodes plan (take 0 names)
+nodes_none plan names q among = absurd (nothing_in_nil q among)
+
+pub nodes_more : (plan : Network) (names : List Text) (i : ℕ) (name : Text) → i < length names → name ≡ get_or names i name → AreNodes plan (take i names) → HasNode plan name → AreNodes plan (take (i + 1) names)
+nodes_more plan names i name less is before here q among = elim (Contains-push_cases (take i names) name q (subst (λ (ns : List Text). Contains ns q) (so_far names i name less is) among)) [
+  | inl earlier ↦ before q earlier
+  | inr last ↦ subst (λ (z : Text). HasNode plan z) last here
+]
+
+pub nodes_all : (plan : Network) (names : List Text) (i : ℕ) → length names ≤ i → AreNodes plan (take i names) → AreNodes plan names
+nodes_all plan names i all h = let P : List Text → Type 0 = λ ns. AreNodes plan ns in subst P (take_all i names all) h
+
+module _ {L : Type 0} {l : Ghosts L} where
+  -- a node's answer to a look at its rows
+  pub same_node : (n m : Node L l) → (l.stands m.desk.ledger → l.stands n.desk.ledger) → (l.stands m.desk.ledger → l.book m.desk.ledger ≡ l.book n.desk.ledger) → l.armed m.desk.ledger ≡ l.armed n.desk.ledger
+      → l.site m.desk.ledger ≡ l.site n.desk.ledger → m.links ≡ n.links → IsSameNode n m
+  same_node n m stood book armed of links = record { stood = stood; book = book; armed = armed; of = of; links = links }
+
+  module _ (next : Network) (old new : BTreeMap Text (Node L l)) (name : Text) (n after : Node L l) (has : Some n ≡ tree.get text_cmp old name)
+      (updates : (q : Text) → tree.get text_cmp new q ≡ cond (is_at (text_cmp name) q) (Some after) (tree.get text_cmp old q)) where
+    now_is : tree.get text_cmp new name ≡ Some after
+    now_is = updates name ∙ ap (λ (b : Bool). cond b (Some after) (tree.get text_cmp old name)) (ties_itself texts name)
+
+    pub looked_at : (found : Option Pair) → IsSameNode n after → (l.stands after.desk.ledger → Unfits next (l.site n.desk.ledger).name (l.book n.desk.ledger) found) → LooksAt next name old found new
+    looked_at found same h = (are_same old new name n after has updates same, λ all. (seat_of n, sym (ap (option_map seat_of) has), h (all name after now_is)))
+
+  pub takes_if : (next : Network) (own : Certificate) (old new : BTreeMap Text (Node L l)) (name : Text) (n after : Node L l) (r : Result (Unit {0}) WorldFault) → tree.get text_cmp old name ≡ Some n
+      → tree.Updates text_cmp old new name (Some after) → OnOk r (HasGoneOver next own n after) → OnOk r (TakesAt next own name old new)
+  takes_if next own old new name n after (Ok done) has updates h = (n, after, has, h, updates)
+  takes_if next own old new name n after (Err why) has updates h = tt
+
+  -- ---- rows, node by node
+
+  pub fit_none : (next : Network) (nodes : BTreeMap Text (Node L l)) (names : List Text) → AreFit next (seats_of nodes) (take 0 names)
+  fit_none next nodes names q among = absurd (nothing_in_nil q among)
+
+  module _ (next : Network) (first old new : BTreeMap Text (Node L l)) (names : List Text) (i : ℕ) (name : Text) (less : i < length names) (is : name ≡ get_or names i name)
+      (so : AreSameNodes first old × (AllStandIn old → AreFit next (seats_of first) (take i names))) where
+    pub fit_more : LooksAt next name old None new → AreSameNodes first new × (AllStandIn new → AreFit next (seats_of first) (take (i + 1) names))
+    fit_more look = (
+      nodes_then first old new so.0 look.0,
+      λ all q among.
+          let stood = look.0.0 all in
+          elim (Contains-push_cases (take i names) name q (subst (λ (ns : List Text). Contains ns q) (so_far names i name less is) among)) [
+            | inl earlier ↦ so.1 stood q earlier
+            | inr last ↦
+                let at = look.1 all in
+                subst (λ (z : Text). (seat : Seat) × (seats_of first z ≡ Some seat) × IsFit next seat.site.name seat.desk.book) last (at.0, sym (so.0.1 stood name) ∙ at.1, at.2)
+          ],
+    )
+
+    pub found_unfit : (uid dest : Text) (node : Text) → node ≡ name → LooksAt next name old (Some (uid, dest)) new → Finds next names first (Unfit node uid dest) new
+    found_unfit uid dest node same look = (
+      nodes_then first old new so.0 look.0,
+      λ all.
+          let stood = look.0.0 all in
+          let at = look.1 all in
+          let parts : names ≡ take i names ++ name ∷ drop (i + 1) names = sym (take-append-drop (i + 1) names) ∙ (ap (λ (x : List Text). x ++ drop (i + 1) names) (so_far names i name less is) ∙ append_assoc (take i names) (name ∷ []) (drop (i + 1) names)) in
+          let P : Text → Type 0 = λ z. (before later : List Text) × (names ≡ before ++ z ∷ later) × AreFit next (seats_of first) before × ((seat : Seat) × (seats_of first z ≡ Some seat) × Unfits next seat.site.name seat.desk.book (Some (uid, dest))) in
+          subst P (sym same) (take i names, drop (i + 1) names, parts, so.1 stood, (at.0, sym (so.0.1 stood name) ∙ at.1, at.2)),
+    )
+
+  pub fit_all : (next : Network) (first now : BTreeMap Text (Node L l)) (names : List Text) (i : ℕ) → length names ≤ i → AreSameNodes first now × (AllStandIn now → AreFit next (seats_of first) (take i names)) → Finds next names first Adopted now
+  fit_all next first now names i all so = (so.0, λ stands. let P : List Text → Type 0 = λ ns. AreFit next (seats_of first) ns in subst P (take_all i names all) (so.1 stands))
+
+-- ---- one node
+
+module _ {L : Type 0} {l : Ghosts L} where
+  -- a node's ledger has the name of its site
+  pub named_own : (n : Node L l) (name : Text) → name ≡ n.site.name → name ≡ (l.site n.desk.ledger).name
+  named_own n name is = elim (same_or_not texts name (l.site n.desk.ledger).name) [
+    | inl same ↦ same
+    | inr apart ↦ absurd (∥∥₁_elim n.of (λ x y. absurd x) (λ e.
+        let one : name ≡ (l.site n.desk.ledger).name = is ∙ sym (ap (λ (s : Part). s.name) e) in
+        false≢true (sym apart ∙ (ap (λ (z : Text). same_text z (l.site n.desk.ledger).name) one ∙ ties_itself texts (l.site n.desk.ledger).name))))
+  ]
+
+  pub gone_over : (next : Network) (own : Certificate) (old tested new : Node L l) (site : Part) → IsSameNode old tested → (l.stands tested.desk.ledger → IsFit next (l.site tested.desk.ledger).name (l.book tested.desk.ledger)) → site.name ≡ (l.site tested.desk.ledger).name → IsPartOf next own site
+      → (l.stands new.desk.ledger → l.book new.desk.ledger ≡ after Adoption (l.book tested.desk.ledger)) → (l.stands new.desk.ledger → (l.armed tested.desk.ledger ≡ false) × (l.armed new.desk.ledger ≡ false))
+      → (l.stands new.desk.ledger → l.stands tested.desk.ledger) → l.site new.desk.ledger ≡ site → new.links ≡ map.empty → HasGoneOver next own old new
+  gone_over next own old tested new site same fit named part reply armed stood of links = record {
+    named = ap (λ (s : Part). s.name) of ∙ (named ∙ ap (λ (s : Part). s.name) same.of);
+    part = subst (λ (s : Part). IsPartOf next own s) (sym of) part;
+    links = links;
+    stood = λ s. same.stood (stood s);
+    fit = λ s.
+        let book = same.book (stood s) in
+        subst (λ (p : Text × Book). IsFit next p.0 p.1) (λ j. ((same.of j).name, book j)) (fit (stood s));
+    book = λ s. reply s ∙ ap (λ (k : Book). after Adoption k) (same.book (stood s));
+    was_unarmed = λ s. sym same.armed ∙ (armed s).0;
+    unarmed = λ s. (armed s).1;
+  }
+
+-- ---- names that join
+
+named_node : (nodes : List PlannedNode) (q : Text) → Contains (mapped (λ (n : PlannedNode). n.name) nodes) q → (n : PlannedNode) × Contains nodes n × (n.name ≡ q)
+named_node [] q among = absurd (nothing_in_nil q among)
+named_node (x ∷ xs) q among = elim (Contains-cons_cases x.name (mapped (λ (n : PlannedNode). n.name) xs) q among) [
+  | inl same ↦ (x, Contains-here x xs, same)
+  | inr later ↦ (let r = named_node xs q later in (r.0, Contains-there x xs r.0 r.1, r.2))
+]
+
+module _ {L : Type 0} {l : Ghosts L} (nodes : BTreeMap Text (Node L l)) (every : List Text) where
+  abbrev Joins : List Text → ℕ → Type 0
+  Joins names i = (q : Text) → Contains names q ↔ (Contains (take i every) q × (tree.get text_cmp nodes q ≡ None))
+
+  pub joins_none : Joins [] 0
+  joins_none q = (λ among. absurd (nothing_in_nil q among), λ h. absurd (nothing_in_nil q h.0))
+
+  module _ (names : List Text) (i : ℕ) (name : Text) (less : i < length every) (is : name ≡ get_or every i name) (so : Joins names i) where
+    more_has : (q : Text) → Contains (take i every ++ name ∷ []) q → Contains (take (i + 1) every) q
+    more_has q h = subst (λ (ns : List Text). Contains ns q) (sym (so_far every i name less is)) h
+
+    more_cases : (q : Text) → Contains (take (i + 1) every) q → Contains (take i every) q ⊎ (name ≡ q)
+    more_cases q h = Contains-push_cases (take i every) name q (subst (λ (ns : List Text). Contains ns q) (so_far every i name less is) h)
+
+    pub joins_absent : tree.get text_cmp nodes name ≡ None → Joins (names ++ name ∷ []) (i + 1)
+    joins_absent none q = (
+      λ among. elim (Contains-push_cases names name q among) [
+        | inl earlier ↦ (let h = (so q).0 earlier in (more_has q (Contains-append_left (take i every) (name ∷ []) q h.0), h.1))
+        | inr last ↦ (
+          more_has q (subst (λ (z : Text). Contains (take i every ++ name ∷ []) z) last (Contains-push (take i every) name)),
+          subst (λ (z : Text). tree.get text_cmp nodes z ≡ None) last none,
+        )
+      ],
+      λ h. elim (more_cases q h.0) [
+        | inl earlier ↦ Contains-append_left names (name ∷ []) q ((so q).1 (earlier, h.1))
+        | inr last ↦ subst (λ (z : Text). Contains (names ++ name ∷ []) z) last (Contains-push names name)
+      ],
+    )
+
+    pub joins_there : (n : Node L l) → tree.get text_cmp nodes name ≡ Some n → Joins names (i + 1)
+    joins_there n has q = (
+      λ among. (let h = (so q).0 among in (more_has q (Contains-append_left (take i every) (name ∷ []) q h.0), h.1)),
+      λ h. elim (more_cases q h.0) [
+        | inl earlier ↦ (so q).1 (earlier, h.1)
+        | inr last ↦ absurd (not_some n (tree.get text_cmp nodes name) (subst (λ (z : Text). tree.get text_cmp nodes z ≡ None) (sym last) h.1) has)
+      ],
+    )
+
+    pub joins_on : (new : List Text) → AddsAbsent nodes name names new → Joins new (i + 1)
+    joins_on new h = by (tree.get text_cmp nodes name) refl h
+      where
+        by : (o : Option (Node L l)) → tree.get text_cmp nodes name ≡ o → AddsIn o name names new → Joins new (i + 1)
+        by None e a = subst (λ (ns : List Text). Joins ns (i + 1)) (sym a) (joins_absent e)
+        by (Some n) e a = subst (λ (ns : List Text). Joins ns (i + 1)) (sym a) (joins_there n e)
+
+  pub joins_all : (plan : Network) (names : List Text) (i : ℕ) → AreNames plan every → length every ≤ i → Joins names i → AreJoining plan nodes names
+  joins_all plan names i are whole so q =
+      let listed = mapped (λ (n : PlannedNode). n.name) plan.nodes in
+      let same : take i every ≡ every = take_all i every whole in (
+        λ among.
+            let h = (so q).0 among in
+            let in_plan : Contains listed q = Contains-permutation every listed q (IsPermutation-sym listed every are.0) (subst (λ (ns : List Text). Contains ns q) same h.0) in
+            let n = named_node plan.nodes q in_plan in
+            ((n.0, (n.1, n.2)), h.1),
+        λ h. (so q).1 (subst (λ (ns : List Text). Contains ns q) (sym same) (Contains-permutation listed every q are.0 (name_among plan.nodes h.0.0 q h.0.1.0 h.0.1.1)), h.1),
+      )
+
+-- ---- a change, as the code makes it
+
+same_all : {L : Type 0} {l : Ghosts L} (old new : World L l) → AreSameNodes old.nodes new.nodes → new.wires ≡ old.wires → new.time ≡ old.time → new.opened ≡ old.opened → AllStand new → contents new ≡ contents old
+same_all {L} {l} old new same wires time opened all =
+    let seats : (q : Text) → seats_of new.nodes q ≡ seats_of old.nodes q = same.1 all in
+    λ i. record { now = (time i).passed; opened = opened i; seats = λ q. seats q i; wires = λ number. tree.get nat_cmp (wires i) number }
+
+module _ {L : Type 0} {l : Ghosts L} (next : Network) (own : Certificate) (old new : World L l) (names : List Text) (are : AreNamesOf (books_of old.nodes) names) where
+  -- nothing is done where an end is on, or a node is none of the next plan's
+  pub skipped_on : new ≡ old → some_is_on old.nodes old.wires ≡ true → ChangesTo next own old Skipped new
+  skipped_on is on = (
+    (λ all. let P : World L l → Type 0 = λ w. AllStand w in subst P is all),
+    λ plan certificate certified b seated shown all.
+        ∣ (ap (λ (w : World L l). contents w) is, inl (an_end_is_on plan next certificate own old names are b seated shown on)) ∣₁,
+  )
+
+  pub skipped_stranger : new ≡ old → (AreNodes next names → ⊥) → ChangesTo next own old Skipped new
+  skipped_stranger is none = (
+    (λ all. let P : World L l → Type 0 = λ w. AllStand w in subst P is all),
+    λ plan certificate certified b seated shown all.
+        ∣ (ap (λ (w : World L l). contents w) is, inr (a_stranger plan next certificate own old names are b seated shown none)) ∣₁,
+  )
+
+  -- nothing is changed where a row doesn't fit
+  pub found_a_row : (node uid dest : Text) → some_is_on old.nodes old.wires ≡ false → new.wires ≡ old.wires → new.time ≡ old.time → new.opened ≡ old.opened → Finds next names old.nodes (Unfit node uid dest) new.nodes → ChangesTo next own old (Unfit node uid dest) new
+  found_a_row node uid dest none wires time opened found = (
+    found.0.0,
+    λ plan certificate certified b seated shown all.
+        let f = found.1 all in
+        ∣ (
+          same_all old new found.0 wires time opened all,
+          all_over old b shown none,
+          first_unfit plan next certificate old names are b seated shown node uid dest f.0 f.1 f.2 f.3 f.4.0 f.4.1 f.4.2,
+        ) ∣₁,
+  )
+
+  -- all nodes took it
+  pub all_took : (mid : World L l) (joins : List Text) → some_is_on old.nodes old.wires ≡ false → AreNodes next names → AreJoining next mid.nodes joins → Finds next names old.nodes Adopted mid.nodes
+      → mid.time ≡ old.time → mid.opened ≡ old.opened → Took next own names joins mid new → ChangesTo next own old Adopted new
+  all_took mid joins none stay joining found time opened took = (
+    stood plan_of next certificate_of own old new mid.nodes took.0 names joins are joining found.0 took.1 took.2,
+    λ plan certificate certified b seated shown all.
+        ∥∥₁_map (all_bare plan next certificate own old new mid.nodes took.0 names joins are joining found.0 took.1 took.2 all seated) (λ bare.
+        comes plan next certificate own old new mid.nodes took.0 names joins are joining found.0 took.1 took.2 all seated b shown (all_over old b shown none) stay took.3 (took.4 ∙ time) (took.5 ∙ opened) bare),
+  )
+    where
+      plan_of : Network
+      plan_of = next
+      certificate_of : Certificate
+      certificate_of = own

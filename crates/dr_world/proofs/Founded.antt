@@ -43,7 +43,7 @@ map_among g (y ∷ xs) x among = elim (Contains-cons_cases y xs x among) [
   | inr later ↦ Contains-there (g y) (map g xs) (g x) (map_among g xs x later)
 ]
 
-name_among : (nodes : List PlannedNode) (node : PlannedNode) (name : Text) → Contains nodes node → node.name ≡ name → Contains (map (λ n. n.name) nodes) name
+pub name_among : (nodes : List PlannedNode) (node : PlannedNode) (name : Text) → Contains nodes node → node.name ≡ name → Contains (map (λ n. n.name) nodes) name
 name_among nodes node name among named = subst (λ (x : Text). Contains (map (λ (n : PlannedNode). n.name) nodes) x) named (map_among (λ (n : PlannedNode). n.name) nodes node among)
 
 no_wires : (m : BTreeMap ℕ Wires) (number : ℕ) → m.entries ≡ [] → tree.get nat_cmp m number ≡ None

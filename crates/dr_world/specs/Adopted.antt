@@ -94,6 +94,16 @@ AllJoin {L} {l} next own (name ∷ more) old new =
     × Founds next own name old mid
     × AllJoin next own more mid new
 
+-- the name is behind the others, if no node has it
+abbrev pub AddsIn : {L : Type 0} {l : Ghosts L}
+    → Option (Node L l) → Text → List Text → List Text → Type 0
+AddsIn None name old new = new ≡ old ++ name ∷ []
+AddsIn (Some n) name old new = new ≡ old
+
+abbrev pub AddsAbsent : {L : Type 0} {l : Ghosts L}
+    → BTreeMap Text (Node L l) → Text → List Text → List Text → Type 0
+AddsAbsent nodes name old new = AddsIn (tree.get text_cmp nodes name) name old new
+
 -- these names of the plan's nodes are no node's yet, and no other is
 abbrev pub AreJoining : {L : Type 0} {l : Ghosts L}
     → Network → BTreeMap Text (Node L l) → List Text → Type 0
@@ -152,7 +162,7 @@ Finds next names old Skipped new = ⊥
 -- the row is the first, by node, uid and destination, that the next plan doesn't go on with
 pub record IsFirstUnfit (plan next : Network) (desks : Text → Desk) (node : Text)
     (at : Pair) : Type 0 where
-  pub node : HasNode plan node
+  pub of : HasNode plan node
   pub unfit : Unfits next node (desks node).book (Some at)
   pub first : (other : Text) → HasNode plan other → text_cmp other node ≡ Less
       → IsFit next other (desks other).book

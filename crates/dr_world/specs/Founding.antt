@@ -14,7 +14,8 @@ use Rattle.dr_ledger.specs.Replies.{HasRisen}
 use Rattle.dr_ledger.specs.declared.ledger.Ledger.{Ghosts}
 use Rattle.dr_node.specs.declared.node.Node.{Node}
 use Rattle.dr_world.specs.declared.fault.WorldFault.{WorldFault}
-use Rattle.dr_world.specs.declared.fault.WorldFault.TheVariants.{WrongLedgers, Store, Memory}
+use Rattle.dr_world.specs.declared.fault.WorldFault.TheVariants.{WrongLedgers, Store, HalfAdopted}
+use Rattle.dr_world.specs.declared.fault.WorldFault.TheVariants.{Memory}
 
 -- the journal has no line, or it has one
 abbrev pub SaysEmpty : Book → Bool → Type 0
@@ -71,6 +72,7 @@ IsUnfit trusts stands book site failed part ledger WrongLedgers =
 IsUnfit {L} trusts stands book site failed part ledger Store =
     (later : L) × HasRisen (failed ledger) (failed later)
 IsUnfit trusts stands book site failed part ledger Memory = Unit {0}
+IsUnfit trusts stands book site failed part ledger HalfAdopted = ⊥
 
 -- why a ledger can't be that of the node of this name: it can't be that of the node's part of the
 -- plan, or there is no memory

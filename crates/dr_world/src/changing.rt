@@ -103,13 +103,16 @@ pub fn look_at_all<L: Ledger>(
     names: &[Text],
     next: &Sealed,
 ) -> Result<Change, WorldFault>
-    ensures finds { IfOk result (λ change.
+    ensures { IfOk result (λ change.
         Finds next.now.plan names.now nodes.old change nodes.new) }
 {
     for name in names {
-        if let Some((uid, dest)) = look_at(nodes, name, next)? {
-            let node = name.clone()?;
-            return Ok(Change::Unfit { node, uid, dest });
+        match look_at(nodes, name, next)? {
+            None => {}
+            Some((uid, dest)) => {
+                let node = name.clone()?;
+                return Ok(Change::Unfit { node, uid, dest });
+            }
         }
     }
     Ok(Change::Adopted)

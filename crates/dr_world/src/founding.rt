@@ -7,6 +7,7 @@ ghost use Rattle.dr_world.specs.Founding.{AreFounded, AreNames, Founds, HasCause
 ghost use Rattle.dr_world.specs.Founding.{IsUnfitAt, SaysEmpty, SaysFilled, SomeIsUnfit};
 ghost use Rattle.dr_world.specs.declared.fault.WorldFault.TheVariants.{Store as StoreFault};
 ghost use Rattle.dr_world.specs.declared.fault.WorldFault.TheVariants.{WrongLedgers as WrongFault};
+ghost use Rattle.dr_world.specs.declared.fault.WorldFault.TheVariants.{HalfAdopted as HalfFault};
 ghost use Rattle.dr_world.specs.Runs.{IsReached};
 
 use crate::fault::WorldFault;
@@ -29,6 +30,7 @@ fn is_empty<L: Ledger>(ledger: &mut L) -> Result<bool, WorldFault>
     ensures filled { IfOk result (λ empty.
         empty ≡ false → SaysFilled L.trusts L.stands L.book ledger.old) }
     ensures wrong { result ≢ Err WrongFault }
+    ensures whole { result ≢ Err HalfFault }
     ensures failed { result ≡ Err StoreFault
         → HasRisen (L.failed ledger.old) (L.failed ledger.new) }
     ensures armed { L.armed ledger.new ≡ L.armed ledger.old }

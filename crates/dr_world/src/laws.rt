@@ -4,7 +4,10 @@ ghost use Rattle.dr_world.specs.Laws.{EndStaysOfItsSite, ForgetIsShown, MoveIsSh
 ghost use Rattle.dr_world.specs.Laws.{NewIsBeginning, OthersAreCounted, RefuseIsShown};
 ghost use Rattle.dr_world.specs.Laws.{RequeueIsShown, StrangerIsSkipped, SubmitIsShown};
 ghost use Rattle.dr_world.specs.Laws.{TickIsShown, UnderWayStays};
+ghost use Rattle.dr_world.specs.Through.{ChangesGoOn, DeedsKeepTheHeadline, StepsGoOn};
 
+use crate::world::World;
+use dr_ledger::Ledger;
 use dr_session::DeskPort;
 
 /// Whatever happens at an end, it stays of its site.
@@ -46,4 +49,16 @@ pub fn moves()
 /// the PDU.
 pub fn ends_pdus()
     ensures { MoveEndsPdu }
+{}
+
+/// From wherever steps and changes of plan have led to, a step goes on, and so does a change of
+/// plan: what `World::step` and `World::adopt` promise can be put together in any order.
+pub fn steps_and_changes_go_on<L: Ledger>(_old: &World<L>, _new: &World<L>)
+    ensures steps { StepsGoOn _old.now _new.now }
+    ensures changes { ChangesGoOn _old.now _new.now }
+{}
+
+/// Wherever they have led to, the four claims hold by the plan in force.
+pub fn changes_keep_the_headline<L: Ledger>(_world: &World<L>)
+    ensures { DeedsKeepTheHeadline _world.now }
 {}

@@ -192,6 +192,11 @@ through_from first v (Takes next own ∷ deeds) plan certificate last its b new 
         (a.0, a.2, (f.2.0 ++ Adopt next ∷ [], runs_then f.2.0 (Adopt next ∷ []) first plan next v f.0 a.0 f.2.1 ((proper.formed, proper.sound), (a.0, a.1, (refl, refl)))))
     )) rest
 
+pub certified_through : (deeds : List Deed) (plan last : Network) (certificate its : Certificate) (b new : ByteWorld) → IsCertified plan certificate → RunsThrough plan certificate b deeds last its new → IsCertified last its
+certified_through [] plan last certificate its b new certified h = (let P : Network × Certificate → Type 0 = λ p. IsCertified p.0 p.1 in subst P (λ j. (sym h.0 j, sym h.1 j)) certified)
+certified_through (Does step ∷ deeds) plan last certificate its b new certified h = certified_through deeds plan last certificate its h.1 new certified h.3
+certified_through (Takes next own ∷ deeds) plan last certificate its b new certified h = certified_through deeds next last own its h.0 new h.1 h.3
+
 starts : (plan : Network) (certificate : Certificate) → IsFrom plan start plan certificate beginning
 starts plan certificate = (start, beside_beginning plan certificate, ([], (refl, refl)))
 

@@ -1,7 +1,7 @@
 //! A plan that all nodes of a world take at once.
 ghost use Rattle.std.specs.Prelude.{◌≡◌, Err, IfOk, IsErr, OnOk, length, true};
 ghost use Rattle.std.specs.Vec.{vec_len};
-ghost use Rattle.dr_world.specs.Adopted.{AllJoin, AreJoining, ChangesTo, Took};
+ghost use Rattle.dr_world.specs.Adopted.{AddsAbsent, AllJoin, AreJoining, ChangesTo, Took};
 ghost use Rattle.dr_world.specs.declared.fault.WorldFault.TheVariants.{Memory as MemoryFault};
 
 use crate::changing::{Change, are_nodes, look_at_all, some_is_on, take_all};
@@ -17,6 +17,23 @@ use dr_plan_model::Plan;
 use std::alloc::{AllocError, Global};
 use std::collections::BTreeMap;
 
+/// Puts the name behind the others, if no node has it.
+fn add_absent<L: Ledger>(
+    nodes: &BTreeMap<Text, Node<L>>,
+    name: &Text,
+    names: &mut Vec<Text>,
+) -> Result<(), AllocError>
+    ensures { OnOk result (AddsAbsent nodes.now name.now names.old.items names.new.items) }
+{
+    match nodes.get(name) {
+        Some(_) => Ok(()),
+        None => {
+            names.push(name.clone()?)?;
+            Ok(())
+        }
+    }
+}
+
 /// The names of the plan's nodes that aren't there, in byte order.
 fn joining_in<L: Ledger>(
     alloc: Global,
@@ -27,12 +44,8 @@ fn joining_in<L: Ledger>(
 {
     let all = names_of(alloc, plan)?;
     let mut names = Vec::new(alloc);
-    for name in all {
-        if nodes.contains_key(&name) {
-            drop(name);
-        } else {
-            names.push(name)?;
-        }
+    for name in all.as_slice() {
+        add_absent(nodes, name, &mut names)?;
     }
     Ok(names)
 }
