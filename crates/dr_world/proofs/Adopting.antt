@@ -1,7 +1,6 @@
 -- All nodes of a world take another plan: what comes of it stands beside what comes of a world of bytes.
 use Rattle.std.proofs.Common.{◌≡◌, ℕ, ◌+◌, ◌<◌, ◌≤◌, Bool, true, false, cond, List, [], ◌∷◌, ◌++◌, length, take, drop, get_or, append_assoc, map as mapped, Option, None, Some, Result, Ok, Err, refl, sym, ap, subst, ◌∙◌, inl, inr, ◌⊎◌}
 use Rattle.std.specs.Prelude.{◌&&◌, ◌↔◌, not, Contains, OnOk}
-use Rattle.std.specs.declared.cmp.Ordering.{Ordering}
 use Rattle.std.specs.declared.cmp.Ordering.TheVariants.{Less}
 use Rattle.std.specs.Ordering.{nat_cmp, eq_by_cmp, ordering_reverse}
 use Rattle.std.specs.Cmp.{eq_by_cmp_equiv}
@@ -24,11 +23,10 @@ use Rattle.dr_plan_model.specs.declared.plan.Node.{Node as PlannedNode}
 use Rattle.dr_plan_model.proofs.Gathered.{Contains-cons_cases, Contains-here, Contains-there, nothing_in_nil}
 use Rattle.dr_plan_sound.specs.declared.certificate.Certificate.{Certificate}
 use Rattle.dr_site.specs.Parts.{Part, IsPartOf}
-use Rattle.dr_site.specs.Sites.{IsCertified}
 use Rattle.dr_ledger.specs.declared.ledger.Ledger.{Ghosts}
 use Rattle.dr_ledger.specs.Adopting.{IsFit, Unfits}
 use Rattle.dr_ledger.specs.Pairs.{Pair}
-use Rattle.dr_ledger.specs.Books.{Book, Adoption, Fold, after, empty_book}
+use Rattle.dr_ledger.specs.Books.{Book, Adoption, after, empty_book}
 use Rattle.dr_ledger.proofs.Maps.{texts, same_or_not, ties_itself, cases_of}
 use Rattle.dr_session.specs.Ledgers.{Desk, desk}
 use Rattle.dr_node.specs.declared.links.Side.{Side}
@@ -44,13 +42,12 @@ use Rattle.dr_world_tie.specs.Changes.{AllAreOver, TakesPlan}
 use Rattle.dr_world.specs.declared.fault.WorldFault.{WorldFault}
 use Rattle.dr_world.specs.declared.wires.Wires.{Wires}
 use Rattle.dr_world.specs.declared.world.World.{World}
-use Rattle.dr_world.specs.declared.changing.Change.{Change}
 use Rattle.dr_world.specs.declared.changing.Change.TheVariants.{Adopted, Skipped, Unfit}
 use Rattle.dr_world.specs.Adopted.{AddsAbsent, AddsIn, AllJoin, AllTake, AreFit, AreJoining, AreNodes, ChangesTo, ComesTo, Finds, HasGoneOver, IsFirstUnfit, LooksAt, TakesAt, Took, is_on, is_on_at, some_is_on}
 use Rattle.dr_world.specs.Founding.{AreNames, Founds, IsFounded}
 use Rattle.dr_world.specs.Nodes.{AllStandIn, over_at, seat_of, seats_of}
 use Rattle.dr_world.specs.Reports.{AreNamesOf, AreSameNodes, IsSameNode, books_of}
-use Rattle.dr_world.specs.Shows.{HasSide, IsLinked, IsSeated, LinkedAt, Seat, ShowsBytes, desk_at}
+use Rattle.dr_world.specs.Shows.{HasSide, IsSeated, LinkedAt, Seat, ShowsBytes, desk_at}
 use Rattle.dr_world.specs.Whole.{AllStand, contents}
 use Rattle.dr_world.proofs.AtNodes.{node_named}
 use Rattle.dr_world.proofs.Called.{all_stood}

@@ -1,5 +1,5 @@
 -- What a world does at a Move is that step of the world of bytes.
-use Rattle.std.proofs.Common.{◌≡◌, ◌≢◌, ℕ, zero, suc, arith, length, Bool, true, false, cond, List, [], ◌∷◌, ◌++◌, take, drop, Option, None, Some, Result, Ok, refl, sym, ap, subst, ◌∙◌, inl, inr, ◌⊎◌}
+use Rattle.std.proofs.Common.{◌≡◌, ℕ, zero, suc, arith, length, Bool, true, false, cond, List, [], ◌∷◌, ◌++◌, take, Option, None, Some, refl, sym, ap, subst, ◌∙◌, inl, inr, ◌⊎◌}
 use Rattle.std.specs.Prelude.{◌&&◌, ◌==◌, nat_le}
 use Rattle.std.proofs.lemmas.Bool.{le-leb}
 use Rattle.std.specs.Option.{option_map, option_map_or}
@@ -12,8 +12,6 @@ use Rattle.dr_plan_model.specs.Networks.{Network}
 use Rattle.dr_plan_sound.specs.declared.certificate.Certificate.{Certificate}
 use Rattle.dr_site.specs.Sites.{IsCertified}
 use Rattle.dr_ulstate.specs.declared.table.State.{State}
-use Rattle.dr_ulstate.specs.declared.table.State.TheVariants.{Sta1}
-use Rattle.dr_ulstate.specs.Phases.{state_of}
 use Rattle.dr_ledger.specs.declared.ledger.Ledger.{Ghosts}
 use Rattle.dr_session.specs.declared.ends.Heard.TheVariants as heard
 use Rattle.dr_session.specs.declared.ends.Input.TheVariants as input
@@ -27,7 +25,7 @@ use Rattle.dr_node.specs.declared.node.Node.{Node}
 use Rattle.dr_node.specs.Sides.{state_of_side}
 use Rattle.dr_world_tie.specs.Desks.{LedgerStep}
 use Rattle.dr_world_tie.specs.Channels.{Terminal, Channel}
-use Rattle.dr_world_tie.specs.ByteWorlds.{ByteWorld, Move, Side, Requestor, Acceptor, StepNote as ByteNote, Done as WasDone, Skipped as WasSkipped, LinkStep, DoesIf, ReadsIf, Moves, CallerReads, ReceiverReads, CallerHears, ReceiverHears, CallerMeets, ReceiverMeets, Meets as MeetsBytes, IsMoved, core_at, is_over, with_done}
+use Rattle.dr_world_tie.specs.ByteWorlds.{ByteWorld, Move, Side, Requestor, Acceptor, StepNote as ByteNote, Done as WasDone, Skipped as WasSkipped, LinkStep, DoesIf, ReadsIf, Moves, CallerReads, ReceiverReads, CallerMeets, ReceiverMeets, Meets as MeetsBytes, core_at, is_over, with_done}
 use Rattle.dr_world.specs.declared.fronts.Due.{Due}
 use Rattle.dr_world.specs.declared.fronts.Due.TheVariants as due
 use Rattle.dr_world.specs.declared.steps.StepNote.{StepNote}
@@ -36,8 +34,8 @@ use Rattle.dr_world.specs.declared.wires.Wires.{Wires}
 use Rattle.dr_world.specs.declared.world.World.{World}
 use Rattle.dr_world.specs.Shows.{Contents, Seat, ShowsBytes, IsSeated, Becomes, IsLinked}
 use Rattle.dr_world.specs.Ends.{IsDone, AreWritten, name_at, wire_at, opposite}
-use Rattle.dr_world.specs.Nodes.{AllStandIn, IsDoneAt, event_at, over_at, seat_of}
-use Rattle.dr_world.specs.Whole.{AllStand, Meets, MeetsIn, StepsTo, contents, noted}
+use Rattle.dr_world.specs.Nodes.{IsDoneAt, event_at, over_at, seat_of}
+use Rattle.dr_world.specs.Whole.{Meets, MeetsIn, StepsTo, contents, noted}
 use Rattle.dr_world.specs.Moved.{AreTaken, Hears, HearsIn, IsDue, IsDueAt, IsMovable, kept_at, kept_of}
 use Rattle.dr_world.proofs.Asking.{MetAt, met_at, seated_after, node_of, did_at, wire_of}
 use Rattle.dr_world.proofs.Closes.{over_is, skipped}

@@ -1,5 +1,5 @@
 -- What was done at an end of a link is that step of the world of bytes.
-use Rattle.std.proofs.Common.{◌≡◌, ◌≢◌, ℕ, ◌+◌, ◌++◌, Bool, true, false, cond, List, [], ◌∷◌, drop, Option, None, Some, Result, Ok, refl, sym, ap, subst, ◌∙◌, inl, inr, ◌⊎◌}
+use Rattle.std.proofs.Common.{◌≡◌, ◌≢◌, ℕ, ◌++◌, Bool, true, false, List, [], ◌∷◌, drop, Option, None, Some, Result, Ok, refl, sym, ap, subst, ◌∙◌, inl, inr, ◌⊎◌}
 use Rattle.std.specs.Prelude.{◌&&◌, if◌then◌else◌}
 use Rattle.std.specs.Ordering.{nat_cmp, eq_by_cmp}
 use Rattle.std.specs.FinMap as map
@@ -24,15 +24,13 @@ use Rattle.dr_session.specs.Ledgers.{Desk, RoutedStep}
 use Rattle.dr_session.specs.Plays.{Reacts, at_moment}
 use Rattle.dr_session.specs.Reactions.{effect, is_free, is_idle, occurs, moves}
 use Rattle.dr_node.specs.declared.links.Side.{Side as NodeSide}
-use Rattle.dr_node.specs.Sides.{Sides, moment_at, with_end}
+use Rattle.dr_node.specs.Sides.{moment_at, with_end}
 use Rattle.dr_world_model.proofs.Lookups.{numbers}
 use Rattle.dr_world_model.specs.Worlds.{same_text}
 use Rattle.dr_world_tie.specs.Desks.{LedgerStep}
 use Rattle.dr_world_tie.specs.Channels.{Terminal, Channel, bytes_of}
 use Rattle.dr_world_tie.specs.Ties.{caller_did, receiver_did, caller_read, receiver_read, with_desk}
-use Rattle.dr_world_tie.specs.ByteWorlds.{ByteWorld, WorldStep, Push, Abort, Release, Late, Side, Requestor, Acceptor, StepNote, Done, Skipped, Steps, DoesIf, LinkStep, CallerMeets, CallerPushes, PushesIf, PushNote, Skips, Meets, IsMoment, AreOthers, caller_of, receiver_of, core_at, with_done, has_cell, acts_late}
-use Rattle.dr_world_tie.specs.ByteWorlds as bytes
-use Rattle.dr_world_tie.specs.Shown.{Shows}
+use Rattle.dr_world_tie.specs.ByteWorlds.{ByteWorld, Push, Abort, Release, Late, Side, Requestor, Acceptor, StepNote, Done, Skipped, DoesIf, LinkStep, CallerMeets, PushesIf, PushNote, Meets, IsMoment, caller_of, receiver_of, core_at, with_done, has_cell, acts_late}
 use Rattle.std.specs.Option.{option_map_or}
 use Rattle.dr_ulstate.specs.declared.table.Event.TheVariants.{AbortRequest, ReleaseRequest, DataRequest}
 use Rattle.dr_ulstate.specs.declared.table.State.{State}
@@ -45,8 +43,7 @@ use Rattle.dr_session.specs.Desks.{DeskCall, DeskAnswer}
 use Rattle.dr_session.specs.Turns.{Turns}
 use Rattle.dr_world.specs.declared.wires.Wires.{Wires}
 use Rattle.dr_world.specs.Shows.{Contents, Seat, Seats, ShowsBytes, IsSeated, Becomes, HasSide, IsLinked, side_of, with_end_done}
-use Rattle.dr_world.specs.Ends.{IsDone, AreWritten, name_at, wire_at, opposite, note_by}
-use Rattle.dr_world.specs.Nodes.{event_at, push_at}
+use Rattle.dr_world.specs.Ends.{IsDone, name_at, note_by}
 use Rattle.dr_world.proofs.Counted.{linked_there}
 use Rattle.dr_world.proofs.AtNodes.{one_seat}
 use Rattle.dr_world.proofs.Doing.{caller_done, receiver_done, still_seated}

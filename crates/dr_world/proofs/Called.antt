@@ -10,20 +10,20 @@ use Rattle.std.specs.Cmp.{eq_by_cmp_equiv}
 use Rattle.std.specs.BTreeMap as tree
 use Rattle.std.specs.BTreeMap.{BTreeMap, is_at}
 use Rattle.dr_base.specs.Texts.{Text, text_cmp}
-use Rattle.dr_site.specs.Parts.{Part, ends_at}
+use Rattle.dr_site.specs.Parts.{ends_at}
 use Rattle.dr_ledger.specs.declared.ledger.Ledger.{Ghosts}
 use Rattle.dr_ledger.proofs.Maps.{texts, same_or_not, ties_itself}
 use Rattle.dr_session.specs.declared.ends.LinkAction.{LinkAction}
-use Rattle.dr_session.specs.Ledgers.{Desk, desk}
+use Rattle.dr_session.specs.Ledgers.{desk}
 use Rattle.dr_node.specs.declared.event.LinkEvent.{LinkEvent}
 use Rattle.dr_node.specs.declared.fault.NodeFault.{NodeFault}
 use Rattle.dr_node.specs.declared.node.Node.{Node}
 use Rattle.dr_node.specs.Desks.{LedgerStep}
-use Rattle.dr_node.specs.Sides.{Sides, Accepts, Deed, Does, MeetsEvent, Opens, Pushes}
+use Rattle.dr_node.specs.Sides.{Accepts, Does, MeetsEvent, Opens, Pushes}
 use Rattle.dr_node.proofs.Booked.{input_booked, push_booked}
 use Rattle.dr_node.proofs.Keeping.{input_stays, push_stays, input_stood, push_stood}
 use Rattle.dr_world_model.specs.Worlds.{same_text}
-use Rattle.dr_world.specs.Shows.{Seat, Seats, with_seat}
+use Rattle.dr_world.specs.Shows.{Seat, with_seat}
 use Rattle.dr_world.specs.Nodes.{AcceptsAt, AllStandIn, HasSides, IsDoneAt, OpensAt, event_at, push_at, seat_of, seats_of}
 
 module _ {L : Type 0} {l : Ghosts L} (old new : BTreeMap Text (Node L l)) (name : Text) (n after : Node L l) (has : Some n ≡ tree.get text_cmp old name)

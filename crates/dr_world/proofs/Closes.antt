@@ -1,5 +1,5 @@
 -- A link that a world closed, as its contents show it.
-use Rattle.std.proofs.Common.{◌≡◌, ℕ, Bool, true, false, cond, List, Option, None, Some, Result, Ok, Err, refl, sym, ap, subst, ◌∙◌, inl, inr}
+use Rattle.std.proofs.Common.{◌≡◌, ℕ, Bool, true, false, cond, List, Option, None, Some, Ok, Err, refl, sym, ap, subst, ◌∙◌}
 use Rattle.std.specs.Prelude.{◌&&◌, not}
 use Rattle.std.specs.Option.{option_map, option_map_or}
 use Rattle.std.specs.Ordering.{nat_cmp, eq_by_cmp}
@@ -11,13 +11,11 @@ use Rattle.std.specs.BTreeMap.{BTreeMap, is_at}
 use Rattle.dr_base.specs.Texts.{Text, text_cmp}
 use Rattle.dr_plan_model.specs.Networks.{Network}
 use Rattle.dr_plan_sound.specs.declared.certificate.Certificate.{Certificate}
-use Rattle.dr_site.specs.Parts.{Part}
-use Rattle.dr_site.specs.Sites.{IsCertified}
 use Rattle.dr_ledger.specs.declared.ledger.Ledger.{Ghosts}
 use Rattle.dr_session.specs.declared.ends.Heard.TheVariants as heard
 use Rattle.dr_session.specs.declared.ends.LinkAction.{LinkAction}
-use Rattle.dr_session.specs.Ends.{Terminal, is_gone, state_in}
-use Rattle.dr_session.specs.Ledgers.{Desk, RoutedStep}
+use Rattle.dr_session.specs.Ends.{Terminal, is_gone}
+use Rattle.dr_session.specs.Ledgers.{Desk}
 use Rattle.dr_node.specs.declared.event.LinkEvent.{LinkEvent}
 use Rattle.dr_node.specs.declared.event.LinkEvent.TheVariants as event
 use Rattle.dr_node.specs.declared.fault.NodeFault.TheVariants.{LinkUnknown}
@@ -26,11 +24,11 @@ use Rattle.dr_node.specs.declared.node.Node.{Node}
 use Rattle.dr_node.specs.Sides.{Sides, Deed, Does, DoesIn, moment_at, state_of_side, with_end}
 use Rattle.dr_world_model.proofs.Lookups.{numbers}
 use Rattle.dr_world_tie.specs.Channels.{Channel}
-use Rattle.dr_world_tie.specs.ByteWorlds.{ByteWorld, WorldStep, Steps, Close, Done, Skipped as WasSkipped, LinkStep, DoesIf, Closes, is_over}
+use Rattle.dr_world_tie.specs.ByteWorlds.{ByteWorld, WorldStep, Steps, Close, Skipped as WasSkipped, LinkStep, DoesIf, Closes, is_over}
 use Rattle.dr_world.specs.declared.steps.StepNote.TheVariants as note
 use Rattle.dr_world.specs.declared.wires.Wires.{Wires}
 use Rattle.dr_world.specs.declared.world.World.{World}
-use Rattle.dr_world.specs.Shows.{Contents, Seat, Seats, ShowsBytes, IsSeated, Becomes, HasSide, IsLinked, side_of, with_seat, with_side, with_wires}
+use Rattle.dr_world.specs.Shows.{Contents, Seat, ShowsBytes, IsSeated, Becomes, side_of, with_seat, with_side, with_wires}
 use Rattle.dr_world.specs.Closed.{AreLost, IsClosed}
 use Rattle.dr_world.specs.Nodes.{AllStandIn, IsDoneAt, event_at, over_at, seat_of, seats_of}
 use Rattle.dr_world.specs.Whole.{AllStand, StepsTo, contents}

@@ -1,6 +1,6 @@
 -- A link that is closed, in both worlds.
-use Rattle.std.proofs.Common.{◌≡◌, ◌≢◌, ℕ, ◌+◌, Bool, true, false, cond, List, [], ◌∷◌, Option, None, Some, Result, Ok, refl, sym, ap, subst, ◌∙◌, inl, inr, ◌⊎◌}
-use Rattle.std.specs.Prelude.{◌&&◌, not, if◌then◌else◌}
+use Rattle.std.proofs.Common.{◌≡◌, ℕ, Bool, true, false, cond, [], Option, Some, refl, sym, ap, subst, ◌∙◌, inl, inr, ◌⊎◌}
+use Rattle.std.specs.Prelude.{◌&&◌, not}
 use Rattle.std.specs.Ordering.{nat_cmp, eq_by_cmp}
 use Rattle.std.specs.FinMap as map
 use Rattle.dr_base.specs.Texts.{Text}
@@ -8,7 +8,7 @@ use Rattle.dr_plan_model.specs.Networks.{Network}
 use Rattle.dr_plan_sound.specs.declared.certificate.Certificate.{Certificate}
 use Rattle.dr_site.specs.Parts.{Part}
 use Rattle.dr_site.specs.Sites.{IsCertified}
-use Rattle.dr_ledger.proofs.Maps.{texts, same_or_not, ties_itself, get_new, get_other}
+use Rattle.dr_ledger.proofs.Maps.{same_or_not, ties_itself, get_new, get_other}
 use Rattle.dr_session.specs.declared.ends.Effect.{Effect}
 use Rattle.dr_session.specs.declared.ends.Input.TheVariants.{Ended}
 use Rattle.dr_session.specs.declared.ends.Moment.{Moment}
@@ -16,15 +16,13 @@ use Rattle.dr_session.specs.Ledgers.{Desk}
 use Rattle.dr_node.specs.declared.links.Side.{Side}
 use Rattle.dr_node.specs.Sides.{moment_at, with_end}
 use Rattle.dr_world_model.proofs.Lookups.{numbers}
-use Rattle.dr_world_model.specs.Worlds.{same_text}
 use Rattle.dr_world_tie.specs.Desks.{LedgerStep}
-use Rattle.dr_world_tie.specs.Channels.{Terminal, Channel, site_in}
+use Rattle.dr_world_tie.specs.Channels.{Channel, site_in}
 use Rattle.dr_world_tie.specs.Closing.{IsEnded, closed}
 use Rattle.dr_world_tie.specs.Ties.{with_desk}
-use Rattle.dr_world_tie.specs.ByteWorlds.{ByteWorld, Close, Done, Skipped, Steps, LinkStep, DoesIf, Closes, is_over, caller_of, receiver_of, with_done, with_call}
-use Rattle.dr_world.specs.declared.wires.Wires.{Wires}
-use Rattle.dr_world.specs.Shows.{Contents, Seat, Seats, ShowsBytes, IsSeated, Becomes, HasSide, IsLinked, LinkedAt, side_of, with_seat, with_side, with_wires, with_end_done}
-use Rattle.dr_world.specs.Closed.{AreLost, IsClosed}
+use Rattle.dr_world_tie.specs.ByteWorlds.{ByteWorld, Close, Done, LinkStep, DoesIf, Closes, is_over, caller_of, receiver_of, with_done, with_call}
+use Rattle.dr_world.specs.Shows.{Contents, Seat, ShowsBytes, IsSeated, Becomes, HasSide, IsLinked, LinkedAt, side_of, with_side, with_end_done}
+use Rattle.dr_world.specs.Closed.{IsClosed}
 use Rattle.dr_world.proofs.AtNodes.{one_seat}
 use Rattle.dr_world.proofs.Counted.{linked_there}
 use Rattle.dr_world.proofs.Doing.{done_shows, side_here, side_kept, still_seated, apart_texts}

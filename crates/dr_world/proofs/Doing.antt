@@ -8,14 +8,14 @@ use Rattle.dr_plan_model.specs.Networks.{Network}
 use Rattle.dr_plan_sound.specs.declared.certificate.Certificate.{Certificate}
 use Rattle.dr_site.specs.Parts.{Part, IsPartOf}
 use Rattle.dr_pdu.specs.Feeding.{Feeding}
-use Rattle.dr_ledger.proofs.Maps.{texts, same_or_not, ties_itself, get_new, get_other, cases_of}
+use Rattle.dr_ledger.proofs.Maps.{texts, same_or_not, ties_itself, get_new, get_other}
 use Rattle.dr_session.specs.declared.ends.Effect.{Effect}
 use Rattle.dr_session.specs.Ledgers.{Desk}
 use Rattle.dr_node.specs.declared.links.Side.{Side}
 use Rattle.dr_node.specs.Sides.{is_taken}
 use Rattle.dr_world_model.proofs.Lookups.{numbers}
 use Rattle.dr_world_model.specs.Worlds.{same_text}
-use Rattle.dr_world_tie.specs.Channels.{Terminal, Channel, site_in, bytes_of}
+use Rattle.dr_world_tie.specs.Channels.{Channel, site_in, bytes_of}
 use Rattle.dr_world_tie.specs.Ties.{caller_as, receiver_as}
 use Rattle.dr_world_tie.specs.ByteWorlds.{ByteWorld, with_done}
 use Rattle.dr_world.specs.declared.wires.Wires.{Wires}

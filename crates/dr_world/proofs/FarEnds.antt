@@ -1,8 +1,8 @@
 -- The far ends of a node's links hear that their connections have ended, in both worlds.
-use Rattle.std.proofs.Common.{◌≡◌, ◌≢◌, ℕ, ◌+◌, Bool, true, false, cond, List, [], ◌∷◌, map as mapped, Option, None, Some, Result, Ok, refl, sym, ap, subst, ◌∙◌, inl, inr, ◌⊎◌}
+use Rattle.std.proofs.Common.{◌≡◌, ℕ, Bool, true, false, List, [], ◌∷◌, Option, None, Some, refl, sym, ap, subst, ◌∙◌, inl, inr}
 use Rattle.std.specs.Prelude.{AllPairs, Contains}
 use Rattle.std.specs.declared.cmp.Ordering.TheVariants.{Less, Equal}
-use Rattle.std.specs.Ordering.{nat_cmp, eq_by_cmp}
+use Rattle.std.specs.Ordering.{nat_cmp}
 use Rattle.std.specs.FinMap as map
 use Rattle.std.proofs.lemmas.Cmp.{tied_itself}
 use Rattle.dr_base.specs.Texts.{Text}
@@ -17,13 +17,12 @@ use Rattle.dr_ledger.proofs.Maps.{same_or_not, get_new, get_other}
 use Rattle.dr_session.specs.declared.ends.Input.TheVariants.{Ended}
 use Rattle.dr_session.specs.declared.ends.Heard.TheVariants as heard
 use Rattle.dr_session.specs.declared.ends.LinkAction.{LinkAction}
-use Rattle.dr_session.specs.Ledgers.{Desk}
 use Rattle.dr_node.specs.declared.event.LinkEvent.TheVariants as event
 use Rattle.dr_world_model.proofs.Lookups.{numbers}
 use Rattle.dr_world_model.specs.Worlds.{same_text}
 use Rattle.dr_world_tie.specs.Desks.{LedgerStep}
 use Rattle.dr_world_tie.specs.Channels.{Channel}
-use Rattle.dr_world_tie.specs.ByteWorlds.{ByteWorld, FarEnds, FarEndsOf, AllFarEnd, caller_of, receiver_of, with_done}
+use Rattle.dr_world_tie.specs.ByteWorlds.{ByteWorld, FarEnds, FarEndsOf, AllFarEnd, receiver_of, with_done}
 use Rattle.dr_world.specs.declared.wires.Wires.{Wires}
 use Rattle.dr_world.specs.Shows.{Contents, ShowsBytes, IsSeated}
 use Rattle.dr_world.specs.Ends.{IsDone}

@@ -1,5 +1,5 @@
 -- A Move of all that is left of a PDU ends it.
-use Rattle.std.proofs.Common.{◌≡◌, ◌≢◌, ℕ, ◌<◌, ◌≤◌, Bool, true, false, List, [], ◌∷◌, ◌++◌, length, take, map as mapped, Option, Some, refl, sym, ap, subst, ◌∙◌, arith, inl, inr, ◌⊎◌}
+use Rattle.std.proofs.Common.{◌≡◌, ◌≢◌, ℕ, ◌≤◌, Bool, true, false, List, [], ◌∷◌, ◌++◌, length, take, map as mapped, Option, Some, refl, sym, ap, subst, ◌∙◌, arith, inl, inr}
 use Rattle.std.specs.Prelude.{nat_le}
 use Rattle.std.proofs.lemmas.Bool.{le-leb}
 use Rattle.std.proofs.Math.Seq.{take-append_seam}
@@ -7,18 +7,15 @@ use Rattle.std.specs.FinMap as map
 use Rattle.dr_plan_model.specs.Networks.{Network}
 use Rattle.dr_pdu.specs.declared.pdu.Pdu.{Pdu}
 use Rattle.dr_pdu.specs.Feeding.{Feeding, fresh}
-use Rattle.dr_pdu.specs.Written.{written}
-use Rattle.dr_session.specs.declared.ends.Core.{Core}
 use Rattle.dr_session.specs.declared.ends.Effect.{Effect}
 use Rattle.dr_session.specs.declared.ends.Input.{Input}
 use Rattle.dr_session.specs.declared.ends.Moment.{Moment}
 use Rattle.dr_session.specs.Desks.{DeskCall, DeskAnswer}
-use Rattle.dr_session.specs.Ledgers.{Desk}
-use Rattle.dr_session.specs.Plays.{Hears, Plays, PlaysBytes, at_moment, inputs_of}
+use Rattle.dr_session.specs.Plays.{Plays, PlaysBytes, at_moment, inputs_of}
 use Rattle.dr_world_tie.specs.Desks.{LedgerStep}
 use Rattle.dr_world_tie.specs.Channels.{Terminal, Channel}
 use Rattle.dr_world_tie.specs.Moves.{IsLeft}
-use Rattle.dr_world_tie.specs.ByteWorlds.{ByteWorld, Move, Side, Requestor, Acceptor, StepNote, Done, LinkStep, DoesIf, ReadsIf, Moves, CallerReads, ReceiverReads, CallerHears, ReceiverHears, IsMoved, is_over, with_done, caller_of, receiver_of}
+use Rattle.dr_world_tie.specs.ByteWorlds.{ByteWorld, Requestor, Acceptor, StepNote, Done, LinkStep, DoesIf, ReadsIf, Moves, CallerReads, ReceiverReads, CallerHears, ReceiverHears, IsMoved, is_over, with_done, caller_of, receiver_of}
 use Rattle.dr_world_tie.proofs.Fronts.{hears_one}
 use Rattle.dr_world.specs.Ended.{HasHeard, MoveEndsPdu, after_reading}
 

@@ -1,10 +1,10 @@
 -- Nodes founded one by one, and the world that begins so.
-use Rattle.std.proofs.Common.{◌≡◌, ◌≢◌, ℕ, ◌+◌, ◌<◌, Bool, true, false, cond, List, [], ◌∷◌, ◌++◌, length, take, get_or, map, Option, None, Some, refl, sym, ap, subst, ◌∙◌, inl, inr, arith}
+use Rattle.std.proofs.Common.{◌≡◌, ℕ, ◌+◌, ◌<◌, Bool, false, cond, List, [], ◌∷◌, ◌++◌, length, get_or, map, Option, None, Some, refl, sym, ap, subst, ◌∙◌, inl, inr}
 use Rattle.std.specs.Prelude.{Contains}
 use Rattle.std.specs.Cmp.{eq_by_cmp_equiv}
 use Rattle.std.specs.BTreeMap as tree
-use Rattle.std.specs.BTreeMap.{BTreeMap, is_at}
-use Rattle.std.proofs.lemmas.List.{append_assoc, length_push, take_more}
+use Rattle.std.specs.BTreeMap.{BTreeMap}
+use Rattle.std.proofs.lemmas.List.{append_assoc, length_push}
 use Rattle.std.proofs.lemmas.List.Elements.{Contains-push, Contains-push_cases, Contains-append_left}
 use Rattle.std.proofs.lemmas.List.Sorted.{Contains-permutation}
 use Rattle.std.proofs.Math.Logic.{∥∥₁_map, ∥∥₁_map₂}
@@ -27,7 +27,7 @@ use Rattle.dr_world.specs.Laws.{IsNew}
 use Rattle.dr_world.specs.Nodes.{AllStandIn, seat_of, seats_of}
 use Rattle.dr_world.specs.Runs.{IsReached}
 use Rattle.dr_world.specs.Shows.{IsSeated, Seat}
-use Rattle.dr_world.specs.Whole.{AllStand, contents}
+use Rattle.dr_world.specs.Whole.{contents}
 use Rattle.dr_world.proofs.Beginning.{begins}
 use Rattle.dr_world_tie.specs.ByteWorlds.{beginning}
 use Rattle.dr_site.specs.Parts.{IsPartOf}

@@ -1,5 +1,5 @@
 -- How many bytes on a wire belong to the PDU at the front.
-use Rattle.std.proofs.Common.{◌≡◌, ◌≢◌, ℕ, suc, ◌+◌, ◌-◌, ◌<◌, ◌≤◌, ◌^◌, List, [], ◌∷◌, ◌++◌, append_assoc, length, get_or, refl, sym, ap, subst, ◌∙◌, arith, inl, inr, ◌⊎◌}
+use Rattle.std.proofs.Common.{◌≡◌, ◌≢◌, ℕ, suc, ◌+◌, ◌-◌, ◌<◌, ◌≤◌, List, [], ◌∷◌, ◌++◌, append_assoc, length, get_or, refl, sym, ap, ◌∙◌, arith, inl, inr}
 use Rattle.std.specs.Int.{w32, to_be_bytes, from_be_bytes}
 use Rattle.std.proofs.lemmas.Nat.{from_be_bytes-to_be_bytes_4}
 use Rattle.std.proofs.lemmas.List.{length-append, append-nil}
@@ -8,7 +8,6 @@ use Rattle.dr_pdu.specs.declared.pdu.Pdu.TheVariants as pdu
 use Rattle.dr_pdu.specs.Written.{Fits, MeetsLimit, written}
 use Rattle.dr_pdu.proofs.WrittenLemmas.{written_spells}
 use Rattle.dr_world_tie.specs.Channels.{Terminal}
-use Rattle.dr_world_tie.specs.ByteWorlds.{IsMoved}
 use Rattle.dr_world_tie.specs.Moves.{IsLeft}
 use Rattle.dr_world.specs.Moved.{TellsLength, IsLeftOf, IsMovable}
 

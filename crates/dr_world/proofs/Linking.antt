@@ -1,29 +1,26 @@
 -- A call at one end, and what it writes, as a world's contents show it.
-use Rattle.std.proofs.Common.{◌≡◌, ℕ, Bool, true, false, cond, List, Option, None, Some, Result, Ok, Err, refl, sym, ap, subst, ◌∙◌, inl, inr}
+use Rattle.std.proofs.Common.{◌≡◌, ℕ, Bool, cond, List, Option, None, Some, Ok, Err, refl, sym, ap, subst, ◌∙◌}
 use Rattle.std.specs.Option.{option_map}
 use Rattle.std.specs.Ordering.{nat_cmp}
 use Rattle.std.specs.Cmp.{eq_by_cmp_equiv}
 use Rattle.std.specs.FinMap as map
 use Rattle.std.specs.BTreeMap as tree
 use Rattle.std.specs.BTreeMap.{BTreeMap, is_at}
-use Rattle.std.specs.declared.alloc.AllocError.{AllocError}
 use Rattle.dr_base.specs.Texts.{Text, text_cmp}
 use Rattle.dr_plan_model.specs.Networks.{Network}
 use Rattle.dr_plan_sound.specs.declared.certificate.Certificate.{Certificate}
 use Rattle.dr_site.specs.Parts.{Part}
 use Rattle.dr_site.specs.Sites.{IsCertified}
 use Rattle.dr_ledger.specs.declared.ledger.Ledger.{Ghosts}
-use Rattle.dr_ledger.proofs.Maps.{texts}
 use Rattle.dr_session.specs.declared.ends.LinkAction.{LinkAction}
 use Rattle.dr_session.specs.declared.ends.Input.TheVariants as input
 use Rattle.dr_session.specs.declared.ends.Heard.TheVariants as heard
-use Rattle.dr_session.specs.Ledgers.{Desk, desk}
+use Rattle.dr_session.specs.Ledgers.{Desk}
 use Rattle.dr_node.specs.declared.event.LinkEvent.TheVariants as event
-use Rattle.dr_node.specs.declared.fault.NodeFault.{NodeFault}
 use Rattle.dr_node.specs.declared.fault.NodeFault.TheVariants.{LinkUnknown}
 use Rattle.dr_node.specs.declared.links.Side.{Side as NodeSide}
 use Rattle.dr_node.specs.declared.node.Node.{Node}
-use Rattle.dr_node.specs.Sides.{Sides, Deed, Does, DoesIn, moment_at, with_end}
+use Rattle.dr_node.specs.Sides.{Sides, Deed, Does, DoesIn, with_end}
 use Rattle.dr_world_model.proofs.Lookups.{numbers}
 use Rattle.dr_world_tie.specs.Channels.{Channel}
 use Rattle.dr_world_tie.specs.ByteWorlds.{ByteWorld, Side, Requestor, Acceptor, WorldStep, Push, Abort, Release, Late, Steps, Skipped as WasSkipped}
@@ -32,11 +29,11 @@ use Rattle.dr_world.specs.declared.steps.StepNote.{StepNote}
 use Rattle.dr_world.specs.declared.steps.StepNote.TheVariants.{Skipped}
 use Rattle.dr_world.specs.declared.wires.Wires.{Wires}
 use Rattle.dr_world.specs.declared.world.World.{World}
-use Rattle.dr_world.specs.Shows.{Contents, Seat, Seats, ShowsBytes, LinkedAt, IsSeated, Becomes, with_seat, with_side, with_wires, with_end_done}
+use Rattle.dr_world.specs.Shows.{Contents, ShowsBytes, LinkedAt, IsSeated, Becomes, with_seat, with_side, with_wires, with_end_done}
 use Rattle.dr_world.specs.Ends.{IsDone, AreWritten, name_at, note_by}
 use Rattle.dr_world.specs.Nodes.{IsDoneAt, AllStandIn, seat_of, seats_of, event_at, push_at}
-use Rattle.dr_world.specs.Whole.{AllStand, Meets, MeetsIn, StepsTo, contents, noted}
-use Rattle.dr_world.proofs.Asking.{MetAt, met_at, seated_after, aborted, released, delayed, pushed}
+use Rattle.dr_world.specs.Whole.{Meets, MeetsIn, StepsTo, contents, noted}
+use Rattle.dr_world.proofs.Asking.{met_at, seated_after, aborted, released, delayed, pushed}
 
 -- ---- the contents after a call
 

@@ -1,5 +1,5 @@
 -- What an end of a node does is done at that end in the world of bytes.
-use Rattle.std.proofs.Common.{◌≡◌, ◌≢◌, ℕ, ◌+◌, ◌++◌, Bool, true, false, List, [], ◌∷◌, map as mapped, Option, None, Some, Result, Ok, refl, sym, ap, subst, ◌∙◌, inl, inr, ◌⊎◌}
+use Rattle.std.proofs.Common.{◌≡◌, ℕ, ◌+◌, Bool, true, false, List, [], ◌∷◌, Option, None, Some, Ok, refl, sym, ap, subst, ◌∙◌, inl, inr, ◌⊎◌}
 use Rattle.std.specs.Prelude.{◌&&◌, ◌||◌, is_some, length}
 use Rattle.std.specs.Option.{option_map_or}
 use Rattle.std.specs.FinMap as map
@@ -10,34 +10,34 @@ use Rattle.dr_site.specs.Sites.{IsCertified}
 use Rattle.dr_ulstate.specs.declared.table.State.{State}
 use Rattle.dr_ulstate.specs.declared.table.State.TheVariants.{Sta1, Sta2, Sta3, Sta4, Sta5, Sta6, Sta7, Sta8, Sta9, Sta10, Sta11, Sta12, Sta13}
 use Rattle.dr_ulstate.specs.declared.table.Event.{Event as UpperEvent}
-use Rattle.dr_ulstate.specs.declared.table.Event.TheVariants.{AbortRequest, ReleaseRequest, DataRequest}
+use Rattle.dr_ulstate.specs.declared.table.Event.TheVariants.{AbortRequest, ReleaseRequest}
 use Rattle.dr_ulstate.specs.Table.{action_of}
 use Rattle.dr_ulstate.specs.Standing.{Standing, has_expired, runs_artim}
-use Rattle.dr_ulstate.specs.Phases.{standing_of, state_of, next_expired}
+use Rattle.dr_ulstate.specs.Phases.{standing_of, state_of}
 use Rattle.dr_pdu.specs.Feeding.{Feeding}
 use Rattle.dr_ledger.specs.SiteRoutes.{site_routing}
 use Rattle.dr_session.specs.declared.ends.Core.{Core}
 use Rattle.dr_session.specs.declared.ends.Effect.{Effect}
 use Rattle.dr_session.specs.declared.ends.Input.{Input}
-use Rattle.dr_session.specs.declared.ends.Input.TheVariants.{Late, AbortAsked, ReleaseAsked, PushAsked}
+use Rattle.dr_session.specs.declared.ends.Input.TheVariants.{Late, AbortAsked, ReleaseAsked}
 use Rattle.dr_session.specs.declared.ends.LinkAction.{LinkAction}
 use Rattle.dr_session.specs.declared.ends.Moment.{Moment}
 use Rattle.dr_session.specs.Desks.{DeskCall, DeskAnswer}
-use Rattle.dr_session.specs.Ends.{Terminal as End, MeetsBy, MeetsIn, Meets, HearsPiece, HearsBytes, is_gone}
+use Rattle.dr_session.specs.Ends.{Terminal as End, MeetsBy, Meets, HearsPiece, HearsBytes, is_gone}
 use Rattle.dr_session.specs.Ledgers.{Desk, RoutedStep}
 use Rattle.dr_session.specs.Plays.{At, Reacts, Plays, PlaysBytes, at_moment}
-use Rattle.dr_session.specs.Reactions.{Reaction, effect, is_idle, is_free, is_impatient}
+use Rattle.dr_session.specs.Reactions.{Reaction, effect, is_idle, is_impatient}
 use Rattle.dr_session.specs.Turns.{Turns, Ends, Asks, Fails}
 use Rattle.dr_node.specs.declared.links.Side.{Side}
 use Rattle.dr_node.specs.Sides.{moment_at, with_end}
 use Rattle.dr_world_tie.specs.Desks.{LedgerStep}
 use Rattle.dr_world_tie.specs.Channels.{Terminal}
-use Rattle.dr_world_tie.specs.ByteWorlds.{ByteWorld, IsMoment, AreOthers, has_cell, acts_late}
+use Rattle.dr_world_tie.specs.ByteWorlds.{ByteWorld, IsMoment, has_cell, acts_late}
 use Rattle.dr_world_tie.proofs.Sites.{site_steps}
 use Rattle.dr_world.specs.Shows.{Contents, Seat, ShowsBytes, IsSeated, side_of}
 use Rattle.dr_world.proofs.Counted.{others_are_counted}
 use Rattle.dr_world.proofs.AtNodes.{desk_there}
-use Rattle.dr_world.proofs.Noted.{WritesIf, abort_writes, release_writes, late_writes, push_rests}
+use Rattle.dr_world.proofs.Noted.{WritesIf, abort_writes, release_writes, late_writes}
 
 -- ---- one port's calls as another's
 

@@ -1,30 +1,27 @@
 -- Bytes that come to an end, and the connection's end, are a Move of the world of bytes.
-use Rattle.std.proofs.Common.{◌≡◌, ◌≢◌, ℕ, Bool, true, false, List, [], ◌∷◌, take, drop, Option, None, Some, Result, Ok, refl, sym, ap, subst, ◌∙◌}
+use Rattle.std.proofs.Common.{◌≡◌, ◌≢◌, ℕ, Bool, true, false, List, [], ◌∷◌, take, Option, Some, refl, sym, ap, subst, ◌∙◌}
 use Rattle.std.specs.Prelude.{nat_le}
 use Rattle.std.specs.FinMap as map
-use Rattle.std.specs.declared.alloc.AllocError.{AllocError}
 use Rattle.dr_base.specs.Texts.{Text}
 use Rattle.dr_plan_model.specs.Networks.{Network}
 use Rattle.dr_plan_sound.specs.declared.certificate.Certificate.{Certificate}
-use Rattle.dr_site.specs.Sites.{IsCertified}
 use Rattle.dr_pdu.specs.Feeding.{Feeding}
 use Rattle.dr_session.specs.declared.ends.Core.{Core}
 use Rattle.dr_session.specs.declared.ends.Effect.{Effect}
 use Rattle.dr_session.specs.declared.ends.Heard.TheVariants as heard
-use Rattle.dr_session.specs.declared.ends.LinkAction.{LinkAction}
 use Rattle.dr_session.specs.declared.ends.Moment.{Moment}
 use Rattle.dr_session.specs.Ends.{is_gone, state_in}
 use Rattle.dr_session.specs.Ledgers.{Desk}
 use Rattle.dr_session.specs.Plays.{PlaysBytes}
 use Rattle.dr_node.specs.declared.event.LinkEvent.TheVariants as event
 use Rattle.dr_node.specs.declared.links.Side.{Side as NodeSide}
-use Rattle.dr_node.specs.Sides.{moment_at, with_end}
+use Rattle.dr_node.specs.Sides.{moment_at}
 use Rattle.dr_world_tie.specs.Desks.{LedgerStep}
-use Rattle.dr_world_tie.specs.Channels.{Terminal, Channel}
-use Rattle.dr_world_tie.specs.ByteWorlds.{ByteWorld, Move, Side, Requestor, Acceptor, StepNote, Done, LinkStep, DoesIf, ReadsIf, Moves, CallerReads, ReceiverReads, CallerHears, ReceiverHears, IsMoved, IsMoment, caller_of, receiver_of, core_at, is_over, with_done}
+use Rattle.dr_world_tie.specs.Channels.{Channel}
+use Rattle.dr_world_tie.specs.ByteWorlds.{ByteWorld, Side, Requestor, Acceptor, Done, LinkStep, DoesIf, ReadsIf, Moves, CallerReads, ReceiverReads, CallerHears, ReceiverHears, IsMoved, IsMoment, caller_of, receiver_of, core_at, is_over, with_done}
 use Rattle.dr_world.specs.Laws.{MoveIsShown}
 use Rattle.dr_world.specs.Shows.{Contents, ShowsBytes, IsSeated, Becomes, IsLinked, side_of}
-use Rattle.dr_world.specs.Ends.{IsDone, name_at, wire_at}
+use Rattle.dr_world.specs.Ends.{name_at, wire_at}
 use Rattle.dr_world.specs.Nodes.{event_at}
 use Rattle.dr_world.proofs.Asking.{Found, found, shown, end_of, node_of, accepts, read_at, wire_of, named_so}
 use Rattle.dr_world.proofs.Meeting.{hears, is_moment}

@@ -1,5 +1,5 @@
 -- What an end writes at a step tells whether it did anything.
-use Rattle.std.proofs.Common.{◌≡◌, ◌≢◌, ℕ, Bool, true, false, List, [], ◌∷◌, Option, None, Some, Result, Ok, Err, refl, sym, ap, subst, ◌∙◌}
+use Rattle.std.proofs.Common.{◌≡◌, ◌≢◌, ℕ, Bool, true, false, List, [], ◌∷◌, Option, None, Some, Ok, Err, refl, sym, ap, subst, ◌∙◌}
 use Rattle.std.specs.Prelude.{◌&&◌, ◌||◌, is_some, if◌then◌else◌}
 use Rattle.std.specs.Option.{option_map_or}
 use Rattle.dr_ulstate.specs.declared.table.State.{State}
@@ -10,7 +10,7 @@ use Rattle.dr_ulstate.specs.declared.table.Action.{Action}
 use Rattle.dr_ulstate.specs.declared.table.Action.TheVariants.{Aa1, Aa2, Ar1}
 use Rattle.dr_ulstate.specs.Table.{action_of, with_next}
 use Rattle.dr_ulstate.specs.Standing.{Standing, has_expired, runs_artim}
-use Rattle.dr_ulstate.specs.Phases.{standing_of, state_of, stepped_from, after_cell, next_expired}
+use Rattle.dr_ulstate.specs.Phases.{standing_of, stepped_from, after_cell, next_expired}
 use Rattle.dr_ledger.specs.declared.fault.LedgerFault.TheVariants as fault
 use Rattle.dr_session.specs.declared.ends.Core.{Core}
 use Rattle.dr_session.specs.declared.ends.Effect.{Effect}
@@ -22,7 +22,7 @@ use Rattle.dr_session.specs.declared.ends.Told.{Told}
 use Rattle.dr_session.specs.declared.ends.Told.TheVariants.{Plain}
 use Rattle.dr_session.specs.Desks.{DeskCall, DeskAnswer, Arrival, Upcoming, Settling}
 use Rattle.dr_session.specs.Plays.{Reacts, at_moment}
-use Rattle.dr_session.specs.Reactions.{effect, turn, occurs, moves, leaves_by, settling, left, desk_failed, is_idle, is_free, is_impatient}
+use Rattle.dr_session.specs.Reactions.{effect, occurs, moves, leaves_by, settling, left, desk_failed, is_idle, is_free, is_impatient}
 use Rattle.dr_session.specs.Turns.{Turns, Ends}
 use Rattle.dr_world_tie.specs.ByteWorlds.{has_cell, acts_late}
 use Rattle.dr_world_tie.proofs.Leaving.{plain_turn}

@@ -1,7 +1,6 @@
 -- A link that is opened, in both worlds.
 use Rattle.std.proofs.Common.{◌≡◌, ◌≢◌, ℕ, ◌+◌, ◌<◌, Bool, true, false, cond, List, [], ◌∷◌, Contains, Option, None, Some, refl, sym, ap, subst, ◌∙◌, inl, inr, ◌⊎◌, arith}
 use Rattle.std.proofs.lemmas.List.Elements.{All-contains}
-use Rattle.std.specs.Prelude.{All}
 use Rattle.std.specs.Ordering.{nat_cmp, eq_by_cmp}
 use Rattle.std.specs.FinMap as map
 use Rattle.dr_base.specs.Texts.{Text}
@@ -18,19 +17,17 @@ use Rattle.dr_plan_sound.specs.declared.certificate.Hop.{Hop}
 use Rattle.dr_site.specs.Parts.{Part, IsPartOf}
 use Rattle.dr_site.specs.Sites.{IsCertified}
 use Rattle.dr_site.proofs.ContextsAsPlanned.{hop_to, pairs_as_planned}
-use Rattle.dr_nego.specs.Agreeing.{AssociateRq}
-use Rattle.dr_nego.specs.Proposing.{IsProposal, IsHopTo}
+use Rattle.dr_nego.specs.Proposing.{IsHopTo}
 use Rattle.dr_ledger.proofs.Maps.{texts, same_or_not, ties_itself, get_new, get_other}
 use Rattle.dr_session.specs.Ledgers.{Desk}
-use Rattle.dr_session.specs.Ends.{requesting}
 use Rattle.dr_node.specs.declared.links.Side.{Side}
 use Rattle.dr_node.specs.Sides.{is_taken, accepts_at}
 use Rattle.dr_world_model.proofs.Lookups.{numbers}
 use Rattle.dr_world_model.specs.Worlds.{same_text}
 use Rattle.dr_world_tie.specs.Channels.{Channel}
-use Rattle.dr_world_tie.specs.ByteWorlds.{ByteWorld, Open, Done, Skipped, Steps, HasNoHop, opened_between}
+use Rattle.dr_world_tie.specs.ByteWorlds.{ByteWorld, Open, Done, opened_between}
 use Rattle.dr_world.specs.declared.wires.Wires.{Wires}
-use Rattle.dr_world.specs.Shows.{Contents, Seat, Seats, ShowsBytes, IsSeated, Becomes, HasSide, IsLinked, LinkedAt, IsOfLink, side_of, desk_at, with_seat, with_side, with_wires}
+use Rattle.dr_world.specs.Shows.{Contents, Seat, Seats, ShowsBytes, IsSeated, Becomes, HasSide, IsLinked, LinkedAt, IsOfLink, desk_at, with_seat, with_side, with_wires}
 use Rattle.dr_world.specs.Opened.{IsOpened, with_opened, asks_at}
 use Rattle.dr_world.proofs.AtNodes.{one_seat}
 use Rattle.dr_world.proofs.Doing.{seat_here, seat_there, apart_texts, still_seated}

@@ -1,5 +1,5 @@
 -- A link that a world opened, as its contents show it.
-use Rattle.std.proofs.Common.{◌≡◌, ◌≢◌, ℕ, ◌+◌, ◌++◌, Bool, true, false, cond, List, [], ◌∷◌, Option, None, Some, Result, Ok, refl, sym, ap, subst, ◌∙◌, inl, inr, ◌⊎◌}
+use Rattle.std.proofs.Common.{◌≡◌, ◌≢◌, ℕ, ◌+◌, ◌++◌, Bool, true, false, cond, List, [], Option, None, Some, Ok, refl, sym, ap, subst, ◌∙◌, inl, inr, ◌⊎◌}
 use Rattle.std.proofs.Math.Logic.{∥∥₁_map, ∥∥₁_elim, ∥∥₁_prop}
 use Rattle.std.proofs.lemmas.List.{append-nil}
 use Rattle.std.specs.Option.{option_map}
@@ -21,25 +21,24 @@ use Rattle.dr_ledger.proofs.Maps.{texts, same_or_not, ties_itself}
 use Rattle.dr_session.specs.declared.ends.LinkAction.{LinkAction}
 use Rattle.dr_session.specs.declared.desk.LedgerDesk.{LedgerDesk}
 use Rattle.dr_session.specs.Ends.{Terminal, OpensTo}
-use Rattle.dr_session.specs.Ledgers.{Desk, desk}
-use Rattle.dr_node.specs.declared.fault.NodeFault.{NodeFault}
+use Rattle.dr_session.specs.Ledgers.{desk}
 use Rattle.dr_node.specs.declared.links.Side.{Side}
 use Rattle.dr_node.specs.declared.node.Node.{Node}
-use Rattle.dr_node.specs.Sides.{Sides, Accepts, AcceptsIn, Opens, OpensIn, accepts_at}
+use Rattle.dr_node.specs.Sides.{Sides, AcceptsIn, OpensIn, accepts_at}
 use Rattle.dr_world_model.proofs.Lookups.{numbers}
 use Rattle.dr_world_model.specs.Worlds.{same_text}
 use Rattle.dr_world_model.specs.Events.{HasNode}
 use Rattle.dr_world_tie.specs.Channels.{bytes_of}
 use Rattle.dr_world.specs.Ends.{AreWritten}
-use Rattle.dr_world_tie.specs.ByteWorlds.{ByteWorld, Requestor, Open, Done, Skipped as WasSkipped, HasNoHop}
+use Rattle.dr_world_tie.specs.ByteWorlds.{ByteWorld, Requestor, Open, Skipped as WasSkipped, HasNoHop}
 use Rattle.dr_world.specs.declared.steps.StepNote.TheVariants as note
 use Rattle.dr_world.specs.declared.wires.Wires.{Wires}
 use Rattle.dr_world.specs.declared.world.World.{World}
 use Rattle.dr_world.specs.Shows.{Contents, Seat, Seats, ShowsBytes, IsSeated, Becomes, with_seat, with_side, with_wires}
-use Rattle.dr_world.specs.Opened.{IsOpened, with_opened, asks_at}
+use Rattle.dr_world.specs.Opened.{IsOpened, asks_at}
 use Rattle.dr_world.specs.Nodes.{AllStandIn, HasSides, OpensAt, AcceptsAt, seat_of, seats_of}
 use Rattle.dr_world.specs.Whole.{AllStand, StepsTo, contents}
-use Rattle.dr_world.proofs.Opening.{hops_elsewhere, opened_becomes, opened_seated}
+use Rattle.dr_world.proofs.Opening.{hops_elsewhere, opened_becomes}
 
 -- ---- a node with other sides
 

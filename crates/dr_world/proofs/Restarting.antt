@@ -1,5 +1,5 @@
 -- A node that came up again, in both worlds.
-use Rattle.std.proofs.Common.{◌≡◌, ℕ, ◌+◌, ◌<◌, ◌≤◌, Bool, true, false, cond, List, [], ◌∷◌, ◌++◌, length, take, get_or, filter, Option, None, Some, refl, sym, ap, subst, ◌∙◌, inl, inr, ◌⊎◌}
+use Rattle.std.proofs.Common.{◌≡◌, ℕ, ◌+◌, ◌<◌, ◌≤◌, Bool, true, false, cond, List, [], ◌∷◌, ◌++◌, length, take, filter, Option, None, Some, refl, sym, ap, subst, ◌∙◌, inl, inr, ◌⊎◌}
 use Rattle.std.specs.Prelude.{◌||◌, ◌↔◌, not, Contains, is_some}
 use Rattle.std.specs.Option.{option_map, IsSome}
 use Rattle.std.specs.Ordering.{nat_cmp, eq_by_cmp}
@@ -8,7 +8,7 @@ use Rattle.std.specs.List.Sorted.{IsStrictlySortedBy}
 use Rattle.std.specs.FinMap as map
 use Rattle.std.specs.BTreeMap as tree
 use Rattle.std.specs.BTreeMap.{BTreeMap, is_at}
-use Rattle.std.proofs.lemmas.List.{append-nil, take_more, take_all}
+use Rattle.std.proofs.lemmas.List.{append-nil, take_all}
 use Rattle.std.proofs.lemmas.List.Elements.{Contains-push, Contains-push_cases, Contains-append_left}
 use Rattle.std.proofs.lemmas.List.Kept.{IsStrictlySortedBy-filter}
 use Rattle.std.proofs.lemmas.Map.Views.{tells_apart, Contains-keys_from_lookup}
@@ -28,18 +28,17 @@ use Rattle.dr_node.specs.declared.event.LinkEvent.{LinkEvent}
 use Rattle.dr_node.specs.declared.event.LinkEvent.TheVariants as event
 use Rattle.dr_node.specs.declared.links.Side.{Side}
 use Rattle.dr_node.specs.declared.node.Node.{Node}
-use Rattle.dr_node.specs.Sides.{Sides, is_standing, is_taken}
+use Rattle.dr_node.specs.Sides.{is_standing, is_taken}
 use Rattle.dr_world_model.proofs.Lookups.{numbers}
 use Rattle.dr_world_model.specs.Worlds.{same_text}
-use Rattle.dr_world_model.specs.Events.{HasNode}
 use Rattle.dr_world_tie.specs.Channels.{Channel}
-use Rattle.dr_world_tie.specs.ByteWorlds.{Side as WorldSide, ByteWorld, AllFarEnd, AreLinksOf, Done, Restart, Restarts, Skipped as WasSkipped, is_there, caller_of, receiver_of}
+use Rattle.dr_world_tie.specs.ByteWorlds.{Side as WorldSide, ByteWorld, AreLinksOf, Done, Restart, is_there, caller_of, receiver_of}
 use Rattle.dr_world_tie.proofs.Others.{as_pairs}
 use Rattle.dr_world.specs.declared.steps.StepNote.{StepNote}
 use Rattle.dr_world.specs.declared.steps.StepNote.TheVariants as note
 use Rattle.dr_world.specs.declared.wires.Wires.{Wires}
 use Rattle.dr_world.specs.declared.world.World.{World}
-use Rattle.dr_world.specs.Shows.{Contents, Seat, Seats, ShowsBytes, IsSeated, Becomes, HasSide, IsLinked, IsOfLink, LinkedAt, desk_at, side_of, with_seat}
+use Rattle.dr_world.specs.Shows.{Contents, Seat, Seats, ShowsBytes, IsSeated, Becomes, HasSide, IsOfLink, LinkedAt, desk_at, side_of, with_seat}
 use Rattle.dr_world.specs.Nodes.{AllStandIn, HasSides, event_at, seat_of, seats_of}
 use Rattle.dr_world.specs.Restarted.{AllFarHear, AreForgotten, AreLinksAt, ComesUp, ComesUpIn, FarHears, FarHearsIn, far_of, is_end}
 use Rattle.dr_world.specs.Whole.{AllStand, Meets, MeetsIn, StepsTo, contents}

@@ -1,32 +1,29 @@
 -- What holds after lists of steps.
-use Rattle.std.proofs.Common.{◌≡◌, ℕ, ◌+◌, ◌<◌, ◌≤◌, List, [], ◌∷◌, ◌++◌, length, get_or, take, append_assoc, map as mapped, Option, Some, None, Result, Ok, Err, refl, sym, ap, subst, ◌∙◌}
+use Rattle.std.proofs.Common.{◌≡◌, ℕ, ◌+◌, ◌<◌, ◌≤◌, List, [], ◌∷◌, ◌++◌, length, get_or, take, append_assoc, map as mapped, Option, Result, Ok, Err, refl, sym, ap, subst, ◌∙◌}
 use Rattle.std.proofs.Math.Logic.{∥∥₁_map, ∥∥₁_elim, ∥∥₁_prop}
 use Rattle.std.proofs.lemmas.List.{append-nil, take_more, take_all, map-append}
 use Rattle.std.specs.Option.{option_map}
-use Rattle.std.specs.BTreeMap as tree
-use Rattle.dr_base.specs.Texts.{Text, text_cmp}
+use Rattle.dr_base.specs.Texts.{Text}
 use Rattle.dr_ledger.specs.declared.ledger.Ledger.{Ghosts}
 use Rattle.dr_plan_model.specs.Networks.{Network}
 use Rattle.dr_plan_sound.specs.declared.certificate.Certificate.{Certificate}
 use Rattle.dr_site.specs.Sites.{IsCertified}
 use Rattle.dr_node.specs.declared.node.Node.{Node}
-use Rattle.dr_world_model.specs.Worlds as model
-use Rattle.dr_world_model.specs.Claims.{Headline}
 use Rattle.dr_world_tie.specs.ByteWorlds as bytes
 use Rattle.dr_world_tie.specs.ByteWorlds.{ByteWorld, beginning, Steps}
-use Rattle.dr_world_tie.specs.Shown.{RunsOf, Shows}
+use Rattle.dr_world_tie.specs.Shown.{RunsOf}
 use Rattle.dr_world_tie.proofs.World.{runs_keep}
 use Rattle.std.specs.Prelude.{IfOk}
 use Rattle.dr_session.specs.Ledgers.{Desk}
 use Rattle.dr_world.specs.declared.fault.WorldFault.{WorldFault}
 use Rattle.dr_world.specs.declared.steps.StepNote.{StepNote}
 use Rattle.dr_world.specs.declared.world.World.{World}
-use Rattle.dr_world.specs.Shows.{Seat, ShowsBytes, IsSeated, desk_at}
+use Rattle.dr_world.specs.Shows.{desk_at}
 use Rattle.dr_world.specs.Nodes.{seat_of}
-use Rattle.dr_world.specs.Whole.{AllStand, StepsTo, contents, noted}
+use Rattle.dr_world.specs.Whole.{AllStand, StepsTo, noted}
 use Rattle.dr_ledger.specs.declared.content.Job.{Job}
 use Rattle.dr_world_script.specs.declared.step.Step.{Step}
-use Rattle.dr_world.specs.Runs.{IsReached, GoesOn, HoldsOf, HoldsAfter, HoldsAfterAll, HoldsWhereReached, IsRunOf, Leads, step_of}
+use Rattle.dr_world.specs.Runs.{IsReached, GoesOn, HoldsAfter, HoldsAfterAll, HoldsWhereReached, IsRunOf, Leads, step_of}
 
 -- one step behind others
 one_more : (plan : Network) (certificate : Certificate) (steps : List bytes.WorldStep) (step : bytes.WorldStep) (note : bytes.StepNote) (a b c : ByteWorld) → RunsOf plan certificate a steps b → Steps plan certificate b step note c → RunsOf plan certificate a (steps ++ step ∷ []) c

@@ -1,5 +1,5 @@
 -- Whatever happens at an end, it stays of its site.
-use Rattle.std.proofs.Common.{◌≡◌, ◌⊎◌, ℕ, Bool, true, false, List, [], ◌∷◌, Option, None, Some, Result, Ok, Err, inl, inr, refl, sym, ap, subst, ◌∙◌}
+use Rattle.std.proofs.Common.{◌≡◌, ℕ, Bool, true, false, List, [], ◌∷◌, Option, None, Some, Result, Ok, Err, refl, ap, subst, ◌∙◌}
 use Rattle.std.specs.Prelude.{if◌then◌else◌}
 use Rattle.std.specs.Str.{bytes_eq}
 use Rattle.dr_base.specs.Texts.{Text}
@@ -39,7 +39,7 @@ use Rattle.dr_session.specs.Desks.{DeskCall, DeskAnswer, Arrival, Upcoming, Sett
 use Rattle.dr_session.specs.Plays.{At, Reacts, Plays, PlaysBytes, with_stage}
 use Rattle.dr_session.specs.Reactions as r
 use Rattle.dr_session.specs.Reactions.{Reaction, left, rejected, noted, is_requestor, is_named}
-use Rattle.dr_session.specs.Turns.{Turn, Turns, Ends, Asks, Fails}
+use Rattle.dr_session.specs.Turns.{Turns, Ends, Asks, Fails}
 
 -- however a turn ends, the end is of that site
 abbrev KeepsSite : Option Part → Reaction → Type 0

@@ -1,9 +1,7 @@
 -- Steps and changes of plan, one after the other.
-use Rattle.std.proofs.Common.{◌≡◌, List, [], ◌∷◌, ◌++◌, Option, Some, refl, sym, ap, subst, ◌∙◌}
+use Rattle.std.proofs.Common.{List, [], ◌∷◌, ◌++◌, Option, refl, sym, ap, subst, ◌∙◌}
 use Rattle.std.proofs.Math.Logic.{∥∥₁_map, ∥∥₁_elim, ∥∥₁_prop}
 use Rattle.std.specs.Option.{option_map}
-use Rattle.std.specs.BTreeMap as tree
-use Rattle.dr_base.specs.Texts.{Text, text_cmp}
 use Rattle.dr_ledger.specs.declared.ledger.Ledger.{Ghosts}
 use Rattle.dr_plan_model.specs.Networks.{Network}
 use Rattle.dr_plan_sound.specs.declared.certificate.Certificate.{Certificate}
@@ -16,11 +14,11 @@ use Rattle.dr_world_tie.proofs.Changes.{certified_through, changes_keep_the_head
 use Rattle.dr_world.specs.declared.changing.Change.{Change}
 use Rattle.dr_world.specs.declared.changing.Change.TheVariants.{Adopted, Skipped, Unfit}
 use Rattle.dr_world.specs.declared.world.World.{World}
-use Rattle.dr_world.specs.Adopted.{ChangesTo, ComesTo}
+use Rattle.dr_world.specs.Adopted.{ComesTo}
 use Rattle.dr_world.specs.Nodes.{seat_of}
 use Rattle.dr_world.specs.Shows.{Contents, IsSeated, ShowsBytes, desk_at}
-use Rattle.dr_world.specs.Through.{ChangesGoOn, DeedsKeepTheHeadline, IsReachedThrough, StepsGoOn, certificate_after, deeds_after, plan_after}
-use Rattle.dr_world.specs.Whole.{AllStand, contents, noted}
+use Rattle.dr_world.specs.Through.{ChangesGoOn, DeedsKeepTheHeadline, StepsGoOn, certificate_after, deeds_after, plan_after}
+use Rattle.dr_world.specs.Whole.{contents, noted}
 
 module _ (plan next : Network) (certificate own : Certificate) where
   -- one deed behind others

@@ -1,6 +1,5 @@
 -- The contents of a simulator's world, and what its steps do to them.
 use Rattle.std.specs.Prelude.{List, ◌≡◌, ℕ, ◌+◌, ◌^◌, min, true, Option, None, Some}
-use Rattle.std.specs.Option.{option_map}
 use Rattle.std.specs.Ordering.{nat_cmp}
 use Rattle.std.specs.BTreeMap as tree
 use Rattle.dr_base.specs.Texts.{Text, text_cmp}

@@ -113,14 +113,18 @@ impl<L: Ledger + Drop> World<Refusing<L>> {
             drop(joining);
             return Ok(Change::Skipped);
         }
-        let joins = joining_in(self.alloc, next.plan(), &self.nodes)?;
         match look_at_all(&mut self.nodes, names.as_slice(), next)? {
             Change::Adopted => {}
-            other => {
+            Change::Skipped => {
                 drop(joining);
-                return Ok(other);
+                return Ok(Change::Skipped);
+            }
+            Change::Unfit { node, uid, dest } => {
+                drop(joining);
+                return Ok(Change::Unfit { node, uid, dest });
             }
         }
+        let joins = joining_in(self.alloc, next.plan(), &self.nodes)?;
         self.take(next, names.as_slice(), joins.as_slice(), joining)?;
         Ok(Change::Adopted)
     }

@@ -1,4 +1,4 @@
-use Rattle.std.proofs.Common.{◌≡◌, ◌∙◌, List, ap, sym, subst, map, take, length, arith}
+use Rattle.std.proofs.Common.{◌∙◌, List, ap, subst, map, arith}
 use Rattle.std.proofs.Common.{IsPermutation}
 use Rattle.std.proofs.lemmas.List.{take_all}
 use Rattle.dr_base.specs.Texts.{Text}

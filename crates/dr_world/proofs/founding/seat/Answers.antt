@@ -1,4 +1,4 @@
-use Rattle.std.proofs.Common.{◌≡◌, Some, ap, sym, subst, ◌∙◌}
+use Rattle.std.proofs.Common.{Some, ap, sym, subst, ◌∙◌}
 use Rattle.std.specs.BTreeMap as tree
 use Rattle.dr_base.specs.Texts.{Text, text_cmp}
 use Rattle.dr_site.specs.Parts.{Part, IsPartOf}

@@ -1,4 +1,4 @@
-use Rattle.std.proofs.Common.{◌≡◌, ◌+◌, sym, arith}
+use Rattle.std.proofs.Common.{◌≡◌, ◌+◌, arith}
 use Rattle.dr_world.proofs.Opens.{opening_as, unopened_as}
 use Rattle.dr_world.proofs.world.World.open.Goals as goal
 

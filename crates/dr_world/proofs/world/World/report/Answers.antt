@@ -1,5 +1,4 @@
-use Rattle.std.proofs.Common.{refl}
-use Rattle.dr_world.proofs.Listed.{all_reported, nodes_same, world_same}
+use Rattle.dr_world.proofs.Listed.{world_same}
 use Rattle.dr_world.proofs.world.World.report.Goals as goal
 
 pub returns-clause-same : goal.returns-clause-same

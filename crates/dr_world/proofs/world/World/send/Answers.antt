@@ -1,10 +1,8 @@
-use Rattle.std.proofs.Common.{refl, sym, ap, subst, ◌∙◌}
+use Rattle.std.proofs.Common.{refl}
 use Rattle.std.specs.BTreeMap as tree
 use Rattle.std.specs.Ordering.{nat_cmp}
-use Rattle.dr_base.specs.Texts.{Text}
 use Rattle.dr_world_tie.specs.ByteWorlds.{Requestor}
-use Rattle.dr_world.specs.Ends.{named}
-use Rattle.dr_world.specs.Nodes.{event_at, push_at, IsDoneAt}
+use Rattle.dr_world.specs.Nodes.{push_at}
 use Rattle.dr_world.proofs.Called.{there}
 use Rattle.dr_world.proofs.Linking.{done_named, unmet}
 use Rattle.dr_world.proofs.world.World.send.Goals as goal

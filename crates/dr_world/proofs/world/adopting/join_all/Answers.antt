@@ -1,8 +1,8 @@
-use Rattle.std.proofs.Common.{◌≡◌, ◌+◌, ◌<◌, List, ◌∷◌, ◌++◌, [], get_or, length, refl, take, sym, ap, ◌∙◌, rules, arith}
+use Rattle.std.proofs.Common.{◌≡◌, ◌+◌, ◌∷◌, ◌++◌, [], get_or, length, take, sym, ap, ◌∙◌, rules, arith}
 use Rattle.std.specs.Vec.Iter.{into_iter_items}
 use Rattle.std.proofs.lemmas.List.{take_more}
 use Rattle.dr_base.specs.Texts.{Text}
-use Rattle.dr_world.proofs.Adopting.{joined_all, joined_next}
+use Rattle.dr_world.proofs.Adopting.{joined_next}
 use Rattle.dr_world.proofs.world.adopting.join_all.Goals as goal
 
 pub loop-ledger-preserved : goal.loop-ledger-preserved

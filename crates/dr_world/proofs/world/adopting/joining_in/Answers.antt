@@ -1,3 +1,6 @@
+use Rattle.std.proofs.Common.{List, sym, subst}
+use Rattle.dr_base.specs.Texts.{Text}
+use Rattle.dr_world.specs.Founding.{AreNames}
 use Rattle.dr_world.proofs.Adopting.{joins_all, joins_on}
 use Rattle.dr_world.proofs.world.adopting.joining_in.Goals as goal
 
@@ -7,4 +10,6 @@ loop-name-preserved g c =
     c.add_absent.new.names.items c.in_ok-add_absent.ensures
 
 pub returns : goal.returns
-returns g c = joins_all c.args.nodes.now c.in_ok-all.all.items c.args.plan.now c.loop-name.names.items c.loop-name.name-index c.in_ok-all.ensures c.loop-name-test.false c.loop-name.invariant
+returns g c =
+    joins_all c.args.nodes.now c.as_slice-name-items.result.now c.args.plan.now c.loop-name.names.items c.loop-name.name-index
+        (subst (λ (ns : List Text). AreNames c.args.plan.now ns) (sym c.as_slice-name-items.ensures.value) c.in_ok-all.ensures) c.loop-name-test.false c.loop-name.invariant
