@@ -432,7 +432,7 @@ module _ {L : Type 0} {l : Ghosts L} (plan next : Network) (certificate own : Ce
           let f = joined_here next own joins mid new.nodes q among join in
           let stands = all q f.0 f.1 in
           ∥∥₁_map (book_is_empty l f.0.desk.ledger stands (f.2.empty stands)) (λ bare n has.
-              subst (λ (m : Node L l). l.book m.desk.ledger ≡ empty_book) (inside f.0 n (tree.get text_cmp new.nodes q) f.1 has) bare))
+          subst (λ (m : Node L l). l.book m.desk.ledger ≡ empty_book) (inside f.0 n (tree.get text_cmp new.nodes q) f.1 has) bare))
 
 -- ---- what keeps a world from a change
 
@@ -741,5 +741,6 @@ module _ {L : Type 0} {l : Ghosts L} (next : Network) (own : Certificate) (old n
     where
       plan_of : Network
       plan_of = next
+
       certificate_of : Certificate
       certificate_of = own

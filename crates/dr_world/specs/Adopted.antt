@@ -145,7 +145,8 @@ AreFit next seats names =
     (name : Text) → Contains names name
     → (seat : Seat) × (seats name ≡ Some seat) × IsFit next seat.site.name seat.desk.book
 
--- The rows of all of these nodes are fit, or the first of them with an unfit row has this one first.
+-- The rows of all of these nodes are fit, or the first of them with an unfit row has this one
+-- first.
 abbrev pub Finds : {L : Type 0} {l : Ghosts L}
     → Network → List Text → BTreeMap Text (Node L l) → Change → BTreeMap Text (Node L l) → Type 0
 Finds next names old Adopted new =

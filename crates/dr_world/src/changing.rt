@@ -42,10 +42,7 @@ fn is_on<L: Ledger>(nodes: &BTreeMap<Text, Node<L>>, link: u64, wires: Option<&W
 }
 
 /// Whether an end of some link isn't over.
-pub fn some_is_on<L: Ledger>(
-    nodes: &BTreeMap<Text, Node<L>>,
-    wires: &BTreeMap<u64, Wires>,
-) -> bool
+pub fn some_is_on<L: Ledger>(nodes: &BTreeMap<Text, Node<L>>, wires: &BTreeMap<u64, Wires>) -> bool
     ensures { result ≡ some_is_on nodes.now wires.now }
 {
     for link in wires.keys() {
@@ -139,11 +136,7 @@ fn test_fit<L: Ledger>(node: &mut Node<L>, next: &Sealed) -> Result<(), WorldFau
 ///
 /// Errors: HalfAdopted, where its store fails, or it has a row that doesn't fit, which it hadn't
 /// when it was looked at; Memory.
-fn go_over<L: Ledger>(
-    alloc: Global,
-    node: &mut Node<L>,
-    next: &Sealed,
-) -> Result<(), WorldFault>
+fn go_over<L: Ledger>(alloc: Global, node: &mut Node<L>, next: &Sealed) -> Result<(), WorldFault>
     ensures { OnOk result (HasGoneOver next.now.plan next.now.certificate node.old node.new) }
 {
     test_fit(node, next)?;

@@ -188,8 +188,8 @@ through_from first v (Does step ∷ deeds) plan certificate last its b new certi
     ∥∥₁_map (world_steps plan certificate certified b mid f.0 step note f.1 h) (λ r. (r.0, r.2, step_from first v plan b step note f.0 r.0 f.2 r.1)))) rest
 through_from first v (Takes next own ∷ deeds) plan certificate last its b new certified from (mid, proper, h, rest) =
     through_from first v deeds next own last its mid new proper (∥∥₁_map from (λ f.
-        let a = plans_are_adopted plan next certificate own proper b mid f.0 f.1 h in
-        (a.0, a.2, (f.2.0 ++ Adopt next ∷ [], runs_then f.2.0 (Adopt next ∷ []) first plan next v f.0 a.0 f.2.1 ((proper.formed, proper.sound), (a.0, a.1, (refl, refl)))))
+    let a = plans_are_adopted plan next certificate own proper b mid f.0 f.1 h in
+    (a.0, a.2, (f.2.0 ++ Adopt next ∷ [], runs_then f.2.0 (Adopt next ∷ []) first plan next v f.0 a.0 f.2.1 ((proper.formed, proper.sound), (a.0, a.1, (refl, refl)))))
     )) rest
 
 pub certified_through : (deeds : List Deed) (plan last : Network) (certificate its : Certificate) (b new : ByteWorld) → IsCertified plan certificate → RunsThrough plan certificate b deeds last its new → IsCertified last its

@@ -5,12 +5,13 @@
 //! What happens at an end is an event of the message world, and leaves the channel that link
 //! (`specs/Ties.antt`, `Moves.antt`, `Closing.antt`). A whole world of bytes and its steps stand in
 //! `specs/ByteWorlds.antt`, and beside which message world it stands in `specs/Shown.antt`; how all
-//! its nodes take another plan in `specs/Changes.antt`. Nothing here runs: the crate has definitions, and functions without a body whose contracts are theorems
-//! about them.
+//! its nodes take another plan in `specs/Changes.antt`. Nothing here runs: the crate has
+//! definitions, and functions without a body whose contracts are theorems about them.
 #![tactic(auto)]
 
 ghost use Rattle.dr_world_tie.specs.Changes.{ChangesKeepTheHeadline, NewWorldsMayTake};
-ghost use Rattle.dr_world_tie.specs.Changes.{PlansAreAdopted, PlansCanBeTaken, WhatIsKeptStaysThrough};
+ghost use Rattle.dr_world_tie.specs.Changes.{PlansAreAdopted, PlansCanBeTaken};
+ghost use Rattle.dr_world_tie.specs.Changes.{WhatIsKeptStaysThrough};
 ghost use Rattle.dr_world_tie.specs.Changes.{WhatIsTakenIsOne};
 ghost use Rattle.dr_world_tie.specs.Closing.{ClosingIsClose};
 ghost use Rattle.dr_world_tie.specs.Desks.{SiteStepsArePlanSteps};
@@ -45,7 +46,8 @@ pub fn runs_keep_the_headline()
     ensures kept { WhatIsKeptStaysKept }
 {}
 
-/// A plan that all nodes of a world of bytes take at once is adopted in the message world beside it.
+/// A plan that all nodes of a world of bytes take at once is adopted in the message world beside
+/// it.
 pub fn plans_are_adopted()
     ensures { PlansAreAdopted }
 {}

@@ -12,4 +12,4 @@ loop-name-preserved g c =
 pub returns : goal.returns
 returns g c =
     joins_all c.args.nodes.now c.as_slice-name-items.result.now c.args.plan.now c.loop-name.names.items c.loop-name.name-index
-        (subst (λ (ns : List Text). AreNames c.args.plan.now ns) (sym c.as_slice-name-items.ensures.value) c.in_ok-all.ensures) c.loop-name-test.false c.loop-name.invariant
+    (subst (λ (ns : List Text). AreNames c.args.plan.now ns) (sym c.as_slice-name-items.ensures.value) c.in_ok-all.ensures) c.loop-name-test.false c.loop-name.invariant

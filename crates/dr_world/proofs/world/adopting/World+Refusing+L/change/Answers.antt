@@ -15,7 +15,7 @@ pub returns-then-not-are_nodes : goal.returns-then-not-are_nodes
 returns-then-not-are_nodes g c =
     skipped_stranger c.args.next.now.plan c.args.next.now.certificate c.args.self.now c.args.self.now c.in_ok-names.names.items c.in_ok-names.ensures refl
     (λ each. false≢true (sym c.if-not-are_nodes.true ∙ c.are_nodes.ensures.1
-        (subst (λ (p : Network × List Text). AreNodes p.0 p.1) (λ j. (sym c.plan.ensures.same j, sym c.as_slice.ensures.value j)) each)))
+    (subst (λ (p : Network × List Text). AreNodes p.0 p.1) (λ j. (sym c.plan.ensures.same j, sym c.as_slice.ensures.value j)) each)))
 
 pub returns-in-Unfit : goal.returns-in-Unfit
 returns-in-Unfit g c =
@@ -27,9 +27,9 @@ returns-in-Unfit g c =
       wires = c.args.self.now.wires;
       lost = c.args.self.now.lost;
     } c.in_ok-names.names.items c.in_ok-names.ensures c.in-Unfit.node c.in-Unfit.uid c.in-Unfit.dest
-        (sym c.some_is_on.ensures ∙ c.if-some_is_on.false) refl refl refl
-        (subst (λ (p : List Text × Change). Finds c.args.next.now.plan p.0 c.args.self.now.nodes p.1 c.look_at_all.new.nodes)
-            (λ j. (c.as_slice-2.ensures.value j, c.in-Unfit.is j)) c.in_ok-look_at_all.ensures)
+    (sym c.some_is_on.ensures ∙ c.if-some_is_on.false) refl refl refl
+    (subst (λ (p : List Text × Change). Finds c.args.next.now.plan p.0 c.args.self.now.nodes p.1 c.look_at_all.new.nodes)
+    (λ j. (c.as_slice-2.ensures.value j, c.in-Unfit.is j)) c.in_ok-look_at_all.ensures)
 
 pub returns : goal.returns
 returns g c =
@@ -43,13 +43,13 @@ returns g c =
       wires = c.args.self.now.wires;
       lost = c.args.self.now.lost;
     } c.in_ok-joins.joins.items
-        (sym c.some_is_on.ensures ∙ c.if-some_is_on.false)
-        (subst (λ (p : Network × List Text). AreNodes p.0 p.1) (λ j. (c.plan.ensures.same j, c.as_slice.ensures.value j)) (c.are_nodes.ensures.0 c.if-not-are_nodes.false))
-        (subst (λ (p : Network). AreJoining p c.look_at_all.new.nodes c.in_ok-joins.joins.items) c.plan-2.ensures.same c.in_ok-joins.ensures)
-        (subst (λ (p : List Text × Change). Finds plan p.0 c.args.self.now.nodes p.1 c.look_at_all.new.nodes)
-            (λ j. (c.as_slice-2.ensures.value j, c.in-Adopted.is j)) c.in_ok-look_at_all.ensures)
-        refl refl
-        (subst (λ (p : List Text × List Text). Took plan own p.0 p.1 record {
+    (sym c.some_is_on.ensures ∙ c.if-some_is_on.false)
+    (subst (λ (p : Network × List Text). AreNodes p.0 p.1) (λ j. (c.plan.ensures.same j, c.as_slice.ensures.value j)) (c.are_nodes.ensures.0 c.if-not-are_nodes.false))
+    (subst (λ (p : Network). AreJoining p c.look_at_all.new.nodes c.in_ok-joins.joins.items) c.plan-2.ensures.same c.in_ok-joins.ensures)
+    (subst (λ (p : List Text × Change). Finds plan p.0 c.args.self.now.nodes p.1 c.look_at_all.new.nodes)
+    (λ j. (c.as_slice-2.ensures.value j, c.in-Adopted.is j)) c.in_ok-look_at_all.ensures)
+    refl refl
+    (subst (λ (p : List Text × List Text). Took plan own p.0 p.1 record {
       alloc = c.args.self.now.alloc;
       time = c.args.self.now.time;
       opened = c.args.self.now.opened;
@@ -57,4 +57,4 @@ returns g c =
       wires = c.args.self.now.wires;
       lost = c.args.self.now.lost;
     } c.take.new.self)
-            (λ j. (c.as_slice-3.ensures.value j, c.as_slice-4.ensures.value j)) c.in_ok-take.ensures)
+    (λ j. (c.as_slice-3.ensures.value j, c.as_slice-4.ensures.value j)) c.in_ok-take.ensures)
