@@ -24,7 +24,7 @@ use Rattle.dr_store_writes.specs.Effects.{AddsRow, DropsOf, GoesOn, forgotten_li
 use Rattle.dr_store_writes.proofs.Keys.{pairs_exact, pairs_total}
 use Rattle.dr_store_writes.proofs.Maps.{equal}
 use Rattle.dr_store_changes.specs.Bringing.{Then}
-use Rattle.dr_store_changes.specs.Changes.{DropsMoves, DropsStock, Forgets}
+use Rattle.dr_store_changes.specs.Changes.{DropsMoves, DropsStock, TakesOut}
 use Rattle.dr_store_changes.specs.Laws.{ForgettingsForget, ForgettingsLetNoDataSetGo}
 use Rattle.dr_store_changes.specs.Writing.{IsMade}
 use Rattle.dr_store_changes.proofs.Arrivals.{item_at, keyed, keys_in}
@@ -107,7 +107,7 @@ uid_left entry uid rows =
     map.get-retain_keys whole (is_other uid) q (λ x tie. ap (is_other uid) (sym (exact_bytes q x tie)))
     ∙ turned (eq_by_cmp text_cmp q uid) (map.get whole q) None ∙ sym (map.get-remove nat_list_cmp_total whole uid q))
 
-module _ (uid : Text) (old new : Trees) (n : ℕ) (w : Forgets uid n old new) where
+module _ (uid : Text) (old new : Trees) (n : ℕ) (w : TakesOut uid n old new) where
   contents_left : contents_in (new 1) ≡ map.remove (contents_in (old 1)) uid
   contents_left = ap contents_in w.items ∙ uid_left content_in uid (old 1)
 
@@ -164,7 +164,7 @@ forgettings_forget old new n uid below w = λ i. record {
 
 -- ---- the data sets
 
-not_needed : (b : Book) (uid : Text) → IsOver b uid → IsNeeded b uid → ⊥
+pub not_needed : (b : Book) (uid : Text) → IsOver b uid → IsNeeded b uid → ⊥
 not_needed b uid over needed = elim needed [
   | inl kept ↦ true≢false (sym kept ∙ over.unkept)
   | inr open_row ↦ open_row.3 (over.done open_row.0 open_row.1 open_row.2)
@@ -213,7 +213,7 @@ stock_left uid old mid new prints items =
       },
     )
 
-pub forgotten : (uid : Text) (n : ℕ) (old mid new : State) → GoesOn old mid × Then (DropsMoves uid) (DropsStock uid) old.now.trees mid.now.trees → AddsRow 11 (forgotten_line n uid) mid new → IsMade n (Forgets uid n) old new
+pub forgotten : (uid : Text) (n : ℕ) (old mid new : State) → GoesOn old mid × Then (DropsMoves uid) (DropsStock uid) old.now.trees mid.now.trees → AddsRow 11 (forgotten_line n uid) mid new → IsMade n (TakesOut uid n) old new
 forgotten uid n old mid new dropped adds =
     let m = dropped.1.1 in
     let s = dropped.1.2 in

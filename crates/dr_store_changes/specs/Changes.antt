@@ -186,7 +186,7 @@ pub record DropsStock (uid : Text) (old new : Trees) : Type 0 where
 
 -- A forgetting with line n: the item has left, its print, its arrivals, whoever brought it, and its
 -- rows, to whatever destination; and the line stands in the journal. All else stays.
-pub record Forgets (uid : Text) (n : ℕ) (old new : Trees) : Type 0 where
+pub record TakesOut (uid : Text) (n : ℕ) (old new : Trees) : Type 0 where
   pub items : new 1 ≡ filter (is_of_other 1 uid) (old 1)
   pub prints : new 3 ≡ filter (is_of_other 1 uid) (old 3)
   pub arrivals : new 5 ≡ filter (is_of_other 2 uid) (old 5)

@@ -24,7 +24,7 @@ use Rattle.dr_store_changes.specs.declared.first.Taking.{Taking}
 use Rattle.dr_store_changes.specs.declared.first.Taking.TheVariants as taking
 use Rattle.dr_store_changes.specs.Bringing.{AreNames, Brings, GoNowhere, IsKnownFor, bodies_taken}
 use Rattle.dr_store_changes.specs.Bringing.{missing, names_for}
-use Rattle.dr_store_changes.specs.Changes.{AddsOnlyLine, Forgets, MovesOn}
+use Rattle.dr_store_changes.specs.Changes.{AddsOnlyLine, TakesOut, MovesOn}
 
 -- Where a row waits, to move it on by an outcome with the line of its settling is to settle it.
 abbrev pub SettlingsSettle : Type 0
@@ -109,7 +109,7 @@ abbrev pub ForgettingsForget : Type 0
 ForgettingsForget =
     (old new : Trees) (n : ℕ) (uid : Text)
     → AreBelow n (old 11)
-    → Forgets uid n old new
+    → TakesOut uid n old new
     → book_of new ≡ after (Forgetting uid) (book_of old)
 
 -- An instance that is over has no data set, so the data sets stay as they were.
@@ -118,5 +118,5 @@ ForgettingsLetNoDataSetGo =
     (old new : Trees) (n : ℕ) (uid : Text)
     → HasBodies (book_of old) (bodies_of old)
     → IsOver (book_of old) uid
-    → Forgets uid n old new
+    → TakesOut uid n old new
     → bodies_of new ≡ bodies_of old

@@ -59,11 +59,11 @@ pub struct Forgetting<'x> {
 }
 
 impl Change for Forgetting<'_> {
-    ghost use Rattle.dr_store_changes.specs.Changes.{Forgets};
+    ghost use Rattle.dr_store_changes.specs.Changes.{TakesOut};
 
     ghost asks = { λ s db. Unit {0} };
 
-    ghost makes = { λ s n. Forgets s.uid.now n };
+    ghost makes = { λ s n. TakesOut s.uid.now n };
 
     fn run<S: Alter>(&self, tx: &mut Transaction<'_, S>, n: u64) -> Result<(), Error> {
         drop_all(tx, self.uid)?;
