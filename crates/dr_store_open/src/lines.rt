@@ -31,8 +31,8 @@ fn instance_at<'x>(
     }
 }
 
-/// The instance that a line is of: that of its uid, where it is an arrival or a repeat. No file from
-/// before has a forgetting.
+/// The instance that a line is of: that of its uid, where it is an arrival or a repeat. No file
+/// from before has a forgetting.
 fn instance_of<'x>(
     alloc: Global,
     items: &'x BTreeMap<Text, Instance>,
