@@ -15,7 +15,7 @@ use Rattle.dr_ledger.specs.declared.content.Job.{Job}
 use Rattle.dr_ledger.specs.Books.{Fold, Line, empty_book}
 use Rattle.dr_ledger.specs.Items.{IsItem, instance_of}
 use Rattle.dr_ledger.proofs.Maps.{texts}
-use Rattle.dr_store_schema.specs.Books.{AreBelow, book_of, contents_in, instance_by, is_whole, items_of, lines_of, print_or_none, prints_of, wholes_in}
+use Rattle.dr_store_schema.specs.Books.{AreBelow, book_of, contents_in, instance_by, is_whole, lines_of, print_or_none, prints_of, wholes_in}
 use Rattle.dr_store_changes.proofs.LettingGo.{body_at}
 use Rattle.dr_store_reads.specs.declared.finding.Print.{Print}
 use Rattle.dr_store_reads.specs.Queries.{Asked, HasTables, IsJobOf}
