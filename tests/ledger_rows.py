@@ -167,24 +167,20 @@ class Ledger:
         self.rows[uid, dest] = ('waiting', 0, 0)
         return '()'
 
-    def is_over(self, uid):
-        """Whether it is there, isn't kept, and each row of it is done."""
-        return uid in self.items and uid not in self.kept and all(row[0] == 'done' for (it, _), row in self.rows.items() if it == uid)
+    def has(self, uid):
+        return str(uid in self.items).lower()
 
-    def over(self, uid):
-        return str(self.is_over(uid)).lower()
+    def is_over(self, uid):
+        return str(uid in self.items and uid not in self.kept and all(row[0] == 'done' for (it, _), row in self.rows.items() if it == uid)).lower()
 
     def forget(self, uid):
-        if not self.is_over(uid):
+        if self.is_over(uid) == 'false':
             raise Refused('NotOver')
         self.add(f'forgetting {uid}')
         del self.items[uid]
         self.arrivals = {at for at in self.arrivals if at[1] != uid}
         self.rows = {at: row for at, row in self.rows.items() if at[0] != uid}
         return '()'
-
-    def has(self, uid):
-        return str(uid in self.items).lower()
 
     def has_body(self, uid):
         return str(uid in self.bodies).lower()

@@ -1,10 +1,7 @@
 -- What an adoption makes of the book, and of a ledger's tables.
-use Rattle.std.proofs.Common.{◌≡◌, ◌≤◌, ◌+◌, ℕ, List, [], ◌∷◌, ◌++◌, refl, sym, ap, subst, ◌∙◌, arith}
+use Rattle.std.proofs.Common.{◌≡◌, ◌≤◌, ◌+◌, [], ◌∷◌, ◌++◌, refl, sym, ap, subst, ◌∙◌, arith}
 use Rattle.std.specs.FinMap as map
-use Rattle.std.specs.List.{AllByRecursion}
-use Rattle.sqlite.specs.Order.{Row, column}
-use Rattle.sqlite.specs.Tree.{Trees, put_row}
-use Rattle.sqlite_trees.proofs.TreeLemmas.{all-put_row}
+use Rattle.sqlite.specs.Order.{column}
 use Rattle.dr_site.specs.Parts.{Part}
 use Rattle.dr_ledger.specs.Bodies.{Bodies, HasBodies}
 use Rattle.dr_ledger.specs.Books.{Adoption, Book, after}
@@ -12,11 +9,9 @@ use Rattle.dr_ledger.specs.Histories.{IsJournalled}
 use Rattle.dr_ledger.specs.SiteRoutes.{site_routing}
 use Rattle.dr_ledger.proofs.Folding.{adoptions_are_journalled}
 use Rattle.dr_ledger.proofs.Needs.{adoptions_need_the_same}
-use Rattle.dr_store_schema.specs.Books.{AreBelow, all_kept_in, arrivals_in, bodies_by, bodies_of, book_of, contents_in, items_in, items_of, lines_in, lines_of, names_in, prints_in, wholes_in}
-use Rattle.dr_store_writes.specs.Effects.{adopted_line}
+use Rattle.dr_store_schema.specs.Books.{AreBelow, all_kept_in, arrivals_in, bodies_by, bodies_of, book_of, contents_in, items_in, lines_in, lines_of, names_in, prints_in, wholes_in}
 use Rattle.dr_store_changes.proofs.Numbers.{lines_put}
 use Rattle.dr_store_calls.specs.Calling.{IsLedgerOf}
-use Rattle.dr_store_calls.specs.Adoptions.{Adopts}
 use Rattle.dr_store_calls.specs.AdoptionLaws.{AdoptedLedgersAreOfTheNext, AdoptionsAdopt}
 
 pub adoptions_adopt : AdoptionsAdopt

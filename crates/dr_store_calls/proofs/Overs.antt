@@ -8,7 +8,6 @@ use Rattle.dr_base.specs.Texts.{Text}
 use Rattle.dr_route.specs.declared.key.Key.{Key}
 use Rattle.dr_site.specs.Parts.{Part}
 use Rattle.dr_ledger.specs.declared.fault.LedgerFault.{LedgerFault}
-use Rattle.dr_ledger.specs.declared.fault.LedgerFault.TheVariants as fault
 use Rattle.dr_ledger.specs.declared.item.Instance.{Instance}
 use Rattle.dr_ledger.specs.declared.item.Progress.{Progress}
 use Rattle.dr_ledger.specs.declared.item.Progress.TheVariants.{Waiting, Held, Done}
@@ -21,8 +20,7 @@ use Rattle.dr_ledger.proofs.Folding.{forgettings_are_journalled}
 use Rattle.dr_ledger.proofs.Forgotten.{Apart, item_stays}
 use Rattle.dr_ledger.proofs.Maps.{same_or_not, texts}
 use Rattle.dr_ledger.proofs.Needs.{forgettings_need_the_same}
-use Rattle.dr_store_schema.specs.Books.{AreBelow, all_kept_in, bodies_of, book_of, instance_by, items_of, names_in, prints_of, rows_of}
-use Rattle.dr_store_changes.specs.Bringing.{GoNowhere}
+use Rattle.dr_store_schema.specs.Books.{AreBelow, all_kept_in, bodies_of, book_of, instance_by, items_of, names_in, prints_of}
 use Rattle.dr_store_changes.specs.Changes.{TakesOut}
 use Rattle.dr_store_changes.proofs.Forgotten.{forgettings_forget, forgettings_let_no_data_set_go, not_needed}
 use Rattle.dr_store_reads.specs.Queries.{IsKeyOf, IsUndone}

@@ -1,25 +1,23 @@
 -- What a forgetting takes out of the tables, and out of the book.
-use Rattle.std.proofs.Common.{◌≡◌, ◌≢◌, inl, inr, ℕ, pos, List, [], ◌∷◌, ◌++◌, map as mapped, filter, Bool, true, false, cond, not, ◌&&◌, ◌||◌, Option, Some, None, option_map, refl, sym, ap, subst, ◌∙◌, true≢false, arith}
+use Rattle.std.proofs.Common.{◌≡◌, ◌≢◌, inl, inr, ℕ, List, [], ◌∷◌, map as mapped, filter, Bool, true, false, cond, not, ◌&&◌, ◌||◌, Option, Some, None, option_map, refl, sym, ap, ◌∙◌, true≢false, arith}
 use Rattle.std.specs.Cmp.{IsTotalOrder}
 use Rattle.std.specs.Cmp.Lexicographic.{nat_list_cmp_total}
 use Rattle.std.specs.declared.cmp.Ordering.{Ordering}
 use Rattle.std.specs.FinMap as map
-use Rattle.std.specs.FinMap.{FinMap, IsAntisymmetric, find}
+use Rattle.std.specs.FinMap.{IsAntisymmetric, find}
 use Rattle.std.specs.FinSet as set
 use Rattle.std.specs.List.{list_any}
 use Rattle.std.specs.Ordering.{eq_by_cmp}
 use Rattle.std.proofs.lemmas.Map.Lookups.{exact_bytes}
-use Rattle.sqlite.specs.declared.types.Value.TheVariants.{Int}
 use Rattle.sqlite.specs.Order.{Row}
 use Rattle.sqlite.specs.State.{State}
 use Rattle.sqlite.specs.Tree.{Trees, put_row}
 use Rattle.dr_base.specs.Texts.{Text, text_cmp}
-use Rattle.dr_ledger.specs.declared.item.Progress.{Progress}
-use Rattle.dr_ledger.specs.Bodies.{HasBodies, IsNeeded}
+use Rattle.dr_ledger.specs.Bodies.{IsNeeded}
 use Rattle.dr_ledger.specs.Books.{Book, is_other}
 use Rattle.dr_ledger.specs.Pairs.{Pair}
 use Rattle.dr_ledger.specs.Replies.{IsOver}
-use Rattle.dr_store_schema.specs.Books.{Print, all_kept_in, arrival_in, arrivals_in, bodies_by, bodies_of, book_of, content_in, contents_in, entry_in, instance_by, is_whole, items_in, items_of, lines_in, print_in, print_or_none, prints_in, rows_in, rows_of, whole_in, wholes_in}
+use Rattle.dr_store_schema.specs.Books.{Print, all_kept_in, arrival_in, arrivals_in, bodies_by, bodies_of, book_of, content_in, contents_in, entry_in, instance_by, is_whole, items_of, lines_in, print_in, print_or_none, prints_in, rows_in, whole_in, wholes_in}
 use Rattle.dr_store_writes.specs.Effects.{AddsRow, DropsOf, GoesOn, forgotten_line, is_of_other}
 use Rattle.dr_store_writes.proofs.Keys.{pairs_exact, pairs_total}
 use Rattle.dr_store_writes.proofs.Maps.{equal}

@@ -1,4 +1,4 @@
-use Rattle.std.proofs.Common.{◌≡◌, ◌↔◌, Bool, IsTrue, Ok, Err}
+use Rattle.std.proofs.Common.{◌↔◌, Bool, IsTrue, Ok, Err}
 use Rattle.sqlite.specs.Held.{state}
 use Rattle.sqlite.specs.Tree.{Trees}
 use Rattle.dr_ledger.specs.Bodies.{OnlyLetsGo}

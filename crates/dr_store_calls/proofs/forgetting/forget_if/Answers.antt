@@ -1,4 +1,4 @@
-use Rattle.std.proofs.Common.{◌≡◌, ◌↔◌, IsTrue, Ok, Err, Result, refl}
+use Rattle.std.proofs.Common.{◌↔◌, IsTrue, Ok, Result}
 use Rattle.sqlite.specs.Held.{state}
 use Rattle.sqlite.specs.Tree.{Trees}
 use Rattle.dr_ledger.specs.declared.fault.LedgerFault.{LedgerFault}
