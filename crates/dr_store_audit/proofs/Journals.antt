@@ -1,7 +1,7 @@
 -- The lines of a journal are those of its notes.
 use Rattle.std.proofs.Common.{◌≡◌, ◌++◌, ◌∷◌, [], ℕ, List, map as mapped, refl, sym, ap, ◌∙◌}
 use Rattle.sqlite.specs.Tree.{Trees}
-use Rattle.dr_ledger.specs.Books.{Arrival, Line}
+use Rattle.dr_ledger.specs.Books.{Arrival}
 use Rattle.dr_ledger.specs.Replies.{Lists}
 use Rattle.dr_store_schema.specs.Books.{lines_of}
 use Rattle.dr_store_lists.specs.Lists.{Goal, IsJournal, goal_cmp, goals_of, line_of}

@@ -1,7 +1,7 @@
 -- Files from before: the tables of a ledger whose lines had no instance of their own, less those
 -- that came later.
-use Rattle.std.specs.Prelude.{◌≡◌, ◌≢◌, ◌-◌, ◌++◌, ℕ, Bool, true, false, cond, List, [], ◌∷◌, codes}
-use Rattle.std.specs.Prelude.{map as mapped, Some}
+use Rattle.std.specs.Prelude.{◌≡◌, ◌≢◌, ◌-◌, ◌++◌, ℕ, Bool, true, false, cond, [], ◌∷◌, codes}
+use Rattle.std.specs.Prelude.{map as mapped}
 use Rattle.std.specs.Str.{bytes_eq}
 use Rattle.sqlite.specs.Change.{created, indexed}
 use Rattle.sqlite.specs.Schema.{Schema}

@@ -48,7 +48,8 @@ fn arrival_of(
     })
 }
 
-/// The line of a note. The goals, in the order of their lines, say where a first arrival goes on to.
+/// The line of a note. The goals, in the order of their lines, say where a first arrival goes on
+/// to.
 pub fn line_for(
     alloc: Global,
     goals: &[(u64, Text)],

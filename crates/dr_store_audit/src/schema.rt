@@ -575,7 +575,8 @@ fn after_journal(tables: &[Table], tree: u32) -> Option<&[Table]>
 
 /// The tables after the journal as it was, if that one is the first.
 pub(crate) fn after_journal_before(tables: &[Table], tree: u32) -> Option<&[Table]>
-    ensures { IfSome result (λ rest. tables.now ≡ record journal_before { tree = tree } ∷ rest.now) }
+    ensures { IfSome result (λ rest.
+        tables.now ≡ record journal_before { tree = tree } ∷ rest.now) }
 {
     let [first, rest @ ..] = tables else {
         return None;
