@@ -22,8 +22,12 @@ from lib.plan_reader import EXPLICIT, IMPLICIT, read_plan
 TOP = os.path.dirname(os.path.dirname(os.path.abspath(__file__)))
 MEMORY, TABLES = f'{TOP}/tests/played/ledger', f'{TOP}/tests/played/tables'
 COUNTS = re.compile(r'(?:log|database): (\d+) stops(?: \| while opening (\d+)| behind the \d+ of opening)((?: \| [^|]*: \d+)*) \| after, as written (\d+), as synced (\d+)')
-# What a ledger's files were given last, the last one first: without these they are files from before.
-LATER = 'DROP INDEX queue_due', 'DROP TABLE target'
+# What makes files from before of a ledger's, besides the rows of the journal and of target.
+UNMAKE = 'DROP INDEX arrival_uid', 'DROP INDEX queue_due', 'DROP TABLE target', 'DROP TABLE journal'
+JOURNAL_BEFORE = ('CREATE TABLE journal (n INTEGER PRIMARY KEY, kind INTEGER NOT NULL, caller TEXT, uid TEXT REFERENCES item (uid), '
+                  'dest TEXT, outcome INTEGER, moment INTEGER) STRICT')
+TARGET = 'CREATE TABLE target (n INTEGER NOT NULL REFERENCES journal (n), dest TEXT NOT NULL, PRIMARY KEY (n, dest)) STRICT'
+QUEUE_DUE = 'CREATE INDEX queue_due ON queue (dest, state, due, uid)'
 UNCOUNTED = 'Store, 0 lines, 0 counted, 0 receipts; '
 LARGEST = 64 * 1024 * 1024
 NAMES = {(0x0008, 0x0016): 'class', (0x0008, 0x0018): 'uid', (0x0008, 0x0060): 'modality', (0x0008, 0x1010): 'station'}
@@ -96,7 +100,7 @@ def told(row):
 class Ledger:
     def __init__(self, site):
         self.site, self.items, self.bodies, self.arrivals, self.kept, self.rows, self.journal = site, {}, set(), set(), set(), {}, []
-        self.armed, self.made, self.changed, self.lacks = False, 0, False, 0
+        self.armed, self.made, self.changed, self.unmade = False, 0, False, 0
 
     def add(self, line):
         """The line, where the store takes it."""
@@ -166,6 +170,18 @@ class Ledger:
     def has(self, uid):
         return str(uid in self.items).lower()
 
+    def is_over(self, uid):
+        return str(uid in self.items and uid not in self.kept and all(row[0] == 'done' for (it, _), row in self.rows.items() if it == uid)).lower()
+
+    def forget(self, uid):
+        if self.is_over(uid) == 'false':
+            raise Refused('NotOver')
+        self.add(f'forgetting {uid}')
+        del self.items[uid]
+        self.arrivals = {at for at in self.arrivals if at[1] != uid}
+        self.rows = {at: row for at, row in self.rows.items() if at[0] != uid}
+        return '()'
+
     def has_body(self, uid):
         return str(uid in self.bodies).lower()
 
@@ -195,6 +211,45 @@ class Ledger:
         self.site, self.arrivals = following, set()
         self.rows = {at: row for at, row in self.rows.items() if row[0] != 'done'}
         return 'true'
+
+
+# ---- files from before
+
+def cell(value):
+    return 'NULL' if value is None else str(value) if isinstance(value, int) else f"'{value}'"
+
+
+def row_before(number, line):
+    """The row of a journal whose lines had no instance of their own."""
+    what, *words = line.split()
+    if what in ('arrival', 'repeat'):
+        kind = int(what == 'repeat')
+        return number, kind, *words[:2], None, kind, None
+    if what == 'settling':
+        uid, dest, outcome, now = words
+        return number, 2, None, uid, dest, {'broken': None, 'no-context': -1}[outcome] if len(outcome) > 4 else int(outcome, 16), int(now)
+    return (number, 3, None, *words, None, None) if what == 'requeuing' else (number, 4, *5 * [None])
+
+
+def targets_before(number, line):
+    """Where a first arrival goes on to."""
+    words = line.split() if line.startswith('arrival') else []
+    return [*([(number, '-')] if words[-1:] == ['keep'] else []), *((number, it) for at, it in zip(words, words[1:]) if at == 'to')]
+
+
+def added(table, rows):
+    return [f'INSERT INTO {table} VALUES ({", ".join(map(cell, row))})' for row in rows]
+
+
+def steps_back(journal):
+    """The statements that make files from before of those of a ledger with this journal, each with whether the files can be opened behind it: without
+    targets only where no adoption has been."""
+    numbered = [*enumerate(journal, 1)]
+    lines = added('journal', (row_before(*it) for it in numbered))
+    targets = added('target', (row for it in numbered for row in targets_before(*it)))
+    first, second = [*UNMAKE, JOURNAL_BEFORE, *lines], [TARGET, *targets]
+    is_known = 'adoption' not in journal
+    return [*((it, False) for it in first[:-1]), (first[-1], is_known), *((it, False) for it in second[:-1]), (second[-1], True), (QUEUE_DUE, True)]
 
 
 # ---- the lines of the input
@@ -227,20 +282,19 @@ class Playing:
         return str(ledger.made) if what == 'failures' else getattr(ledger, what)(*words)
 
     def open(self, site):
-        """The files have a ledger of this site alone, and none that another connection has changed; one from before is brought over, but for one with an
-        adoption and without its targets."""
+        """The files have a ledger of this site alone, and none that another connection has changed; one from before is brought over."""
         if self.files is None or self.files.changed or not self.files.site.is_same(site):
             return 'OtherSite'
-        if self.files.lacks == len(LATER) and 'adoption' in self.files.journal:
+        if self.files.unmade and not steps_back(self.files.journal)[self.files.unmade - 1][1]:
             return 'OtherSite'
-        self.ledger, self.files.lacks = self.files, 0
+        self.ledger, self.files.unmade = self.files, 0
         return 'opened'
 
     def change(self, statement):
         """Another connection changes the files, or makes them such as they were before."""
-        lacks = self.files.lacks
-        if statement in LATER[lacks:lacks + 1]:
-            self.files.lacks += 1
+        steps = steps_back(self.files.journal)[self.files.unmade:]
+        if steps and statement == steps[0][0]:
+            self.files.unmade += 1
         else:
             self.files.changed = True
 

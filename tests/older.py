@@ -1,7 +1,10 @@
 #!/usr/bin/env python3
-"""Opens ledger files from before: files that lack the table of prints, that of targets, or the index of the rows that are due. Each is made
-of a file of today by the sqlite3 of Python, and is opened by the built program, which brings it over; then it is the file of today again,
-row by row. A file that is refused stays as it was.
+"""Opens ledger files from before: their journal's lines have no instances of their own, and they may lack the table of prints, that of
+targets, or the index of the rows that are due. Each is made of a file of today by the sqlite3 of Python, and is opened by the built
+program, which brings it over; then it is the file of today again, row by row. A file that is refused stays as it was.
+
+Files of today are opened too whose journal and whose items don't agree: an instance that was forgotten is no item any more, and one
+that wasn't is the item that its lines show.
 
     tests/older.py
 """
@@ -11,14 +14,17 @@ import sqlite3
 import sys
 
 sys.dont_write_bytecode = True
-from lib.nodes import PLAN, PROGRAM, Room, data_set, ended, part10, run_cases, same, stop, told
+from lib.nodes import PLAN, PROGRAM, Room, data_set, element, ended, part10, run_cases, same, stop, told
 from adopting import NEXT, NEXT_TEXT, adopt, book, copy, kept
 
 TABLES = {
     'site': 'id', 'item': 'uid', 'print': 'uid', 'arrival': 'caller, uid', 'kept': 'uid', 'queue': 'uid, dest', 'journal': 'n', 'target': 'n, dest',
 }
-LATER = {'print': 'DROP TABLE print', 'target': 'DROP TABLE target', 'queue_due': 'DROP INDEX queue_due'}
-LESS = [less for count in (1, 2, 3) for less in itertools.combinations(LATER, count)]
+JOURNAL_BEFORE = ('CREATE TABLE journal (n INTEGER PRIMARY KEY, kind INTEGER NOT NULL, caller TEXT, uid TEXT REFERENCES item (uid), '
+                  'dest TEXT, outcome INTEGER, moment INTEGER) STRICT')
+# What no file from before has, beside the instances of its journal's lines, and what some lack.
+LAST, LATER = 'arrival_uid', ('print', 'target', 'queue_due')
+LESS = [less for count in range(4) for less in itertools.combinations(LATER, count)]
 FIRST, SECOND = b'1.2.3.4', b'1.2.3.5'
 
 
@@ -54,21 +60,42 @@ def all_of(room, name):
 
 
 def make_older(room, name, source, less, more=()):
-    """A copy of the file without some of what came later. Before there were prints each data set stayed in its file. VACUUM makes the file anew, since
-    its objects are numbered without gaps where they were never made."""
+    """A copy of the file with the journal as it was, without some of what came later. Before there were prints each data set stayed in its file. All is
+    made again in the order in which it was made then, and VACUUM numbers it without gaps."""
+    schema, rows = all_of(room, source)
     copy(room, source, name)
     file = opened(room, name)
     file.execute('PRAGMA foreign_keys = OFF')
+    for table in reversed(TABLES):
+        file.execute(f'DROP TABLE {table}')
+    for _, it, table, text in schema:
+        if text and not {it, table} & {LAST, *less}:
+            file.execute(JOURNAL_BEFORE if it == 'journal' else text)
+    for table in TABLES.keys() - set(less):
+        for row in rows[table]:
+            row = row[:7] if table == 'journal' else row
+            file.execute(f'INSERT INTO {table} VALUES ({", ".join("?" * len(row))})', row)
     if 'print' in less:
         for uid in FIRST, SECOND:
             file.execute('UPDATE item SET body = ? WHERE uid = ?', (data_set(uid), uid.decode()))
-    for later in less:
-        file.execute(LATER[later])
-    for statement in more:
+    end_with(file, more)
+
+
+def end_with(file, statements):
+    """Runs these, and closes the file, all of it in its place."""
+    for statement in statements:
         file.execute(statement)
     file.commit()
     file.execute('VACUUM')
     file.close()
+
+
+def make_other(room, name, source, statements):
+    """A copy of the file in which these were run."""
+    copy(room, source, name)
+    file = opened(room, name)
+    file.execute('PRAGMA foreign_keys = OFF')
+    end_with(file, statements)
 
 
 def listed(room, node, name):
@@ -94,7 +121,7 @@ def older_files():
             for less in LESS:
                 make_older(room, 'older', node, less)
                 before = [name for _, name, *_ in all_of(room, 'older')[0]]
-                same([later in before for later in LATER], [later not in less for later in LATER])
+                same([later in before for later in (*LATER, LAST)], [later not in (*less, LAST) for later in (*LATER, LAST)])
                 same(listed(room, node, 'older'), report)
                 same(all_of(room, 'older'), today)
                 same((listed(room, node, 'older'), summed_up(room, node, 'older')), (report, summary))
@@ -142,13 +169,14 @@ def refused_files():
             ('GATE', ('target',), ["UPDATE print SET whole = 1"]),
             ('GATE', ('queue_due',), ["DELETE FROM target WHERE n = 1"]),
             ('GATE', less, ["CREATE TABLE more (id INTEGER PRIMARY KEY)"]),
+            ('GATE', (), ["UPDATE journal SET uid = '1.2.3.5' WHERE n = 1"]),
+            ('GATE', (), ["INSERT INTO journal SELECT max(n) + 1, 5, NULL, '1.2.3.4', NULL, NULL, NULL FROM journal"]),
+            ('GATE', (), ["CREATE INDEX arrival_uid ON arrival (uid)"]),
             ('CT1', less, []),
         )
         for node, lacks, more in changes:
             make_older(room, 'older', node, lacks, more)
-            before = all_of(room, 'older')
-            told(room.at('list', 'GATE', ledger='older.db'), 1, '', 'dr_router: G6 OtherSite\n')
-            same(all_of(room, 'older'), before)
+            refused(room, 'older')
         make_older(room, 'older', 'GATE', less)
         before = all_of(room, 'older')
         told(room.at('list', 'GATE', ledger='older.db', plan=NEXT), 1, '', 'dr_router: G6 OtherSite\n')
@@ -160,10 +188,65 @@ def refused_files():
         same(all_of(room, 'older'), before)
 
 
+LEAVE = {table: f"DELETE FROM {table} WHERE uid = '1.2.3.4'" for table in ('queue', 'arrival', 'print', 'item')}
+LET_GO = "INSERT INTO journal (n, kind, uid) SELECT max(n) + 1, 5, '1.2.3.4' FROM journal"
+
+
+def forgotten():
+    """1.2.3.4, which GATE has sent on, was forgotten: all but its lines is gone, and the file is a ledger's. When it comes again, it may be another one."""
+    with Room() as room:
+        prepare(room)
+        make_other(room, 'other', 'GATE', [*LEAVE.values(), LET_GO])
+        before = all_of(room, 'other')
+        same([it for it in listed(room, 'GATE', 'other').decode().splitlines() if '1.2.3.4' in it], [])
+        same(all_of(room, 'other'), before)
+        copy(room, 'other', 'GATE')
+        more = element(0x10, 0x10, b'PN', b'Another')
+        room.put('again.dcm', part10(FIRST, more))
+        gate = room.serve('GATE', 1)
+        same(room.at('send', 'CT1', 'again.dcm', ledger='more.db').returncode, 0)
+        ended(gate)
+        listed(room, 'GATE', 'GATE')
+        rows = all_of(room, 'GATE')[1]
+        same([row[11] for row in rows['journal'] if row[1] == 0 and row[3] == '1.2.3.4'], [len(data_set(FIRST)), len(data_set(FIRST, more))])
+        same([row[1] for row in rows['print'] if row[0] == '1.2.3.4'], [len(data_set(FIRST, more))])
+
+
+def not_forgotten():
+    """Where something is left of an instance that was forgotten, or something is gone of one that wasn't, or one was forgotten that wasn't over or wasn't
+    there, the file is no ledger's."""
+    with Room() as room:
+        prepare(room)
+        for left in ('queue',), ('arrival',), ('print',), ('item',), ('print', 'item'), tuple(LEAVE):
+            make_other(room, 'other', 'GATE', [*(text for table, text in LEAVE.items() if table not in left), LET_GO])
+            refused(room, 'other')
+        for statements in ([*LEAVE.values()], [*LEAVE.values(), LET_GO, LET_GO], [LET_GO.replace('1.2.3.4', '1.2.3.5')]):
+            make_other(room, 'other', 'GATE', statements)
+            refused(room, 'other')
+
+
+def other_lines():
+    """A journal whose lines show another instance than the item, or none, is no ledger's, though the item was let go."""
+    with Room() as room:
+        prepare(room)
+        for change in "class = '1.2'", "syntax = 'I'", "modality = x'4D52'", "station = x'5332'", 'length = length + 1', 'sha256 = zeroblob(32)':
+            make_other(room, 'other', 'GATE', [f"UPDATE journal SET {change} WHERE n = 1"])
+            refused(room, 'other')
+        make_other(room, 'other', 'GATE', ["UPDATE journal SET length = NULL WHERE n = 1"])
+        same(room.at('list', 'GATE', ledger='other.db').returncode != 0, True)
+
+
+def refused(room, name):
+    """GATE's ledger in that file isn't opened, and the file stays as it was."""
+    before = all_of(room, name)
+    told(room.at('list', 'GATE', ledger=f'{name}.db'), 1, '', 'dr_router: G6 OtherSite\n')
+    same(all_of(room, name), before)
+
+
 def main():
     if not os.path.exists(PROGRAM):
         sys.exit(f'{PROGRAM} is not built')
-    run_cases('older', older_files, what_is_let_go, goes_on, refused_files)
+    run_cases('older', older_files, what_is_let_go, goes_on, refused_files, forgotten, not_forgotten, other_lines)
 
 
 if __name__ == '__main__':

@@ -1,7 +1,7 @@
--- The lines of the journal, by notes, keys, prints and goals.
-use Rattle.std.proofs.Common.{◌≡◌, ◌↔◌, ◌⊎◌, inl, inr, ℕ, zero, suc, ◌+◌, ◌<◌, ◌≤◌, le_of_eq, le_of_lt, le_refl, List, [], ◌∷◌, length, get_or, Contains, filter, AllPairs, map as mapped, None, Some, Option, option_map, is_some, Bool, true, false, not, cond, T, Ordering, Less, Equal, Greater, eq-or-lt_of_le, refl, sym, ap, subst, ◌∙◌, arith, true≢false}
+-- The lines of the journal, by notes and goals.
+use Rattle.std.proofs.Common.{◌≡◌, ◌↔◌, ◌⊎◌, inl, inr, ℕ, zero, suc, ◌+◌, ◌<◌, ◌≤◌, le_of_eq, le_of_lt, le_refl, List, [], ◌∷◌, length, get_or, Contains, filter, AllPairs, map as mapped, None, is_some, Bool, true, false, not, cond, T, Ordering, Less, Equal, Greater, eq-or-lt_of_le, refl, sym, ap, subst, ◌∙◌, arith, true≢false}
 use Rattle.std.specs.FinMap as map
-use Rattle.std.specs.FinMap.{FinMap, find, is_sorted}
+use Rattle.std.specs.FinMap.{is_sorted}
 use Rattle.std.specs.FinMap.Entries.{below_all}
 use Rattle.std.specs.FinSet as set
 use Rattle.std.specs.Cmp.Lexicographic.{nat_list_cmp_total}
@@ -18,22 +18,19 @@ use Rattle.sqlite.specs.Order.{Row}
 use Rattle.sqlite.specs.Tree.{Trees}
 use Rattle.dr_base.specs.Texts.{Text, text_cmp}
 use Rattle.dr_cert_hops.proofs.Rows.{filter_has, map_has, map_of, same_sorted}
-use Rattle.dr_route.specs.declared.key.Key.{Key}
 use Rattle.dr_site.specs.Parts.{Part}
 use Rattle.dr_ledger.specs.declared.item.Entry.{Entry}
 use Rattle.dr_ledger.specs.declared.item.Entry.TheVariants as entry
-use Rattle.dr_ledger.specs.declared.item.Instance.{Instance}
 use Rattle.dr_ledger.specs.Books.{Line}
 use Rattle.dr_ledger.specs.Replies.{Lists, entry_of}
 use Rattle.dr_ledger.proofs.Growing.{inside}
 use Rattle.dr_ledger.proofs.Maps.{texts, ties_itself}
-use Rattle.dr_store_schema.specs.Books.{Names, instance_by, item_or_none, items_of, keep_mark, keeps_in, lines_of, names_in, print_or_none, prints_of, targets_in}
+use Rattle.dr_store_schema.specs.Books.{Names, keep_mark, keeps_in, lines_of, names_in, targets_in}
 use Rattle.dr_store_lists.specs.declared.listing.Note.{Note}
 use Rattle.dr_store_lists.specs.declared.listing.Note.TheVariants as note
-use Rattle.dr_store_lists.specs.Lists.{Goal, IsJournal, goal_cmp, goals_of, keys_of, line_of, whole_prints_of}
-use Rattle.dr_store_lists.proofs.Alike.{goals_are_names, keys_and_prints}
-use Rattle.dr_store_reads.specs.declared.finding.Print.{Print}
-use Rattle.dr_store.specs.Journals.{AreByLine, AreEntries, AreGoalsOf, AreNames, AreTargets, IsEntry, IsKnownBy, is_mark}
+use Rattle.dr_store_lists.specs.Lists.{Goal, IsJournal, goal_cmp, goals_of, line_of}
+use Rattle.dr_store_lists.proofs.Alike.{goals_are_names}
+use Rattle.dr_store.specs.Journals.{AreByLine, AreEntries, AreGoalsOf, AreNames, AreTargets, IsEntry, is_mark}
 use Rattle.dr_store.proofs.Found.{left, less, right}
 
 -- ---- a line's goals
@@ -165,37 +162,21 @@ module _ (base : Trees) (goals : List Goal) (listed : Lists goal_cmp (goals_of b
 
 -- ---- lines
 
-item_by : (o : Option Key) (uid : Text) (key : Key) (by : Key → Instance) → o ≡ Some key → item_or_none uid (option_map by o) ≡ by key
-item_by o uid key by h = ap (λ x. item_or_none uid (option_map by x)) h
-
-module _ (base : Trees) (keys : List (Text × Key)) (prints : List (Text × Print)) (goals : List Goal) (keys_are : keys ≡ map.entries (keys_of base)) (prints_are : prints ≡ map.entries (whole_prints_of base))
-    (listed : Lists goal_cmp (goals_of base) goals) where
-  known : (uid : Text) (key : Key) (size : ℕ) → IsKnownBy keys prints uid key size
-      → item_or_none uid (map.get (items_of base) uid) ≡ record { uid = uid; key = key; size = size; digest = (print_or_none (map.get (prints_of base) uid)).1 }
-  known uid key size (of, (print, of_print, sized)) =
-      let key_found : map.get (keys_of base) uid ≡ Some key = map.get-entries (keys_of base) uid ∙ (subst (λ ks. find text_cmp uid ks ≡ Some key) keys_are (of (subst (λ ks. T (is_sorted text_cmp ks)) (sym keys_are) (map.entries_sorted (keys_of base))))) in
-      let print_found : map.get (whole_prints_of base) uid ≡ Some print =
-      map.get-entries (whole_prints_of base) uid ∙ (subst (λ ps. find text_cmp uid ps ≡ Some print) prints_are (of_print (subst (λ ps. T (is_sorted text_cmp ps)) (sym prints_are) (map.entries_sorted (whole_prints_of base))))) in
-      let size_is : (print_or_none (map.get (prints_of base) uid)).0 ≡ size = ap (λ o. (print_or_none o).0) ((keys_and_prints base).prints uid ∙ ap (option_map (λ (p : Print). (p.size, p.digest))) print_found) ∙ sized in
-      ap (item_or_none uid) ((keys_and_prints base).items uid) ∙ (item_by (map.get (keys_of base) uid) uid key (instance_by (prints_of base) uid) key_found
-      ∙ (λ j. record { uid = uid; key = key; size = size_is j; digest = (print_or_none (map.get (prints_of base) uid)).1 }))
-
-  line_is : (n : ℕ) (what : Note) (line : Entry) → IsEntry keys prints goals n what line → line ≡ entry_of (line_of (items_of base) (base 12) n what)
-  line_is n (note.Arrival caller uid) line (key, size, to, keep, by, are, is) =
-      let i = known uid key size by in
-      is ∙ (λ j. entry.Arrival caller ((sym i j).uid) ((sym i j).key) ((sym i j).size) (to_are base goals listed n to keep are j) (keeps_are base goals listed n to keep are j))
-  line_is n (note.Repeat caller uid) line (key, size, by, is) =
-      let i = known uid key size by in
-      is ∙ (λ j. entry.Repeat caller ((sym i j).uid) ((sym i j).key) ((sym i j).size))
+module _ (base : Trees) (goals : List Goal) (listed : Lists goal_cmp (goals_of base) goals) where
+  line_is : (n : ℕ) (what : Note) (line : Entry) → IsEntry goals n what line → line ≡ entry_of (line_of (base 12) n what)
+  line_is n (note.Arrival caller instance) line (to, keep, are, is) =
+      is ∙ (λ j. entry.Arrival caller instance.uid instance.key instance.size (to_are base goals listed n to keep are j) (keeps_are base goals listed n to keep are j))
+  line_is n (note.Repeat caller instance) line is = is
   line_is n (note.Settling uid dest outcome now) line is = is
   line_is n (note.Requeuing uid dest) line is = is
+  line_is n (note.Forgetting uid) line is = is
   line_is n note.Adoption line is = is
 
-  all_lines : (notes : List (ℕ × Note)) (all : List Entry) → AreEntries keys prints goals notes all → all ≡ mapped entry_of (mapped (λ (e : ℕ × Note). line_of (items_of base) (base 12) e.0 e.1) notes)
+  all_lines : (notes : List (ℕ × Note)) (all : List Entry) → AreEntries goals notes all → all ≡ mapped entry_of (mapped (λ (e : ℕ × Note). line_of (base 12) e.0 e.1) notes)
   all_lines [] [] z = refl
   all_lines [] (line ∷ all) z = absurd z
   all_lines (e ∷ notes) [] z = absurd z
   all_lines (e ∷ notes) (line ∷ all) z = λ i. line_is e.0 e.1 line z.0 i ∷ all_lines notes all z.1 i
 
-  pub lines_are : (notes : List (ℕ × Note)) (all : List Entry) → IsJournal base notes → AreEntries keys prints goals notes all → all ≡ mapped entry_of (lines_of base)
-  lines_are notes all j z = all_lines notes all z ∙ ap (mapped entry_of) (j.lines (items_of base) (base 12))
+  pub lines_are : (notes : List (ℕ × Note)) (all : List Entry) → IsJournal base notes → AreEntries goals notes all → all ≡ mapped entry_of (lines_of base)
+  lines_are notes all j z = all_lines notes all z ∙ ap (mapped entry_of) (j.lines (base 12))

@@ -1,5 +1,5 @@
 -- What a ledger's calls answer holds where it merely holds: each part can be tested, or has one proof at most.
-use Rattle.std.proofs.Common.{◌≡◌, ◌≢◌, ◌⊎◌, inl, inr, ℕ, Bool, true, false, List, [], ◌∷◌, Contains, Option, Some, None, Result, Ok, Err, refl, sym, ap, subst, ◌∙◌, true≢false}
+use Rattle.std.proofs.Common.{◌≡◌, ◌≢◌, ◌⊎◌, ◌↔◌, inl, inr, ℕ, Bool, IsTrue, true, false, List, [], ◌∷◌, Contains, Option, Some, None, Result, Ok, Err, refl, sym, ap, subst, ◌∙◌, true≢false}
 use Rattle.std.proofs.Math.Logic.{∥∥₁_elim, ∥∥₁_map}
 use mathlib.Core.Bool.{Bool-set}
 use Rattle.std.specs.Coded.{Coded}
@@ -33,7 +33,7 @@ use Rattle.dr_ledger.specs.declared.item.Progress.TheVariants.{Waiting, Held, Do
 use Rattle.dr_ledger.specs.Adopting.{Adopting}
 use Rattle.dr_ledger.specs.Bodies.{Bodies, OnlyLetsGo, OnlyTakes}
 use Rattle.dr_ledger.specs.Books.{Book}
-use Rattle.dr_ledger.specs.Replies.{Admits, Arrives, HasConflict, IsAdmitted, IsHeld, IsWaiting, Requeues, Settles}
+use Rattle.dr_ledger.specs.Replies.{Admits, Arrives, Forgets, HasConflict, IsAdmitted, IsHeld, IsOver, IsWaiting, Requeues, Settles}
 use Rattle.dr_ledger.specs.SiteRoutes.{site_routing}
 use Rattle.dr_ledger.proofs.Growing.{inside}
 use Rattle.dr_store_calls.specs.Knowing.{IsAccepted}
@@ -233,6 +233,39 @@ requeues uid dest old (Err fault.Memory) new = same_book _ _
 requeues uid dest old (Err fault.NoLine) new = impossible
 requeues uid dest old (Err fault.Conflict) new = impossible
 requeues uid dest old (Err fault.NotWaiting) new = impossible
+
+-- ---- what is over
+
+module _ (b : Book) (uid : Text) where
+  item_there : (o : Option Instance) → map.get b.items uid ≡ o → Stable ((item : Instance) × (map.get b.items uid ≡ Some item))
+  item_there None is h = absurd (nothing impossible h (λ t. absurd (let e : None ≡ Some t.0 = sym is ∙ t.1 in cc)))
+  item_there (Some item) is h = (item, is)
+
+  row_done : (row : Progress) → Stable (row ≡ Done)
+  row_done (Waiting tries due) h = absurd (nothing impossible h (λ e. absurd (let f : ⊥ = cc in f)))
+  row_done (Held why) h = absurd (nothing impossible h (λ e. absurd (let f : ⊥ = cc in f)))
+  row_done Done h = refl
+
+  is_over : Stable (IsOver b uid)
+  is_over h = record {
+    there = item_there (map.get b.items uid) refl (∥∥₁_map h (λ o. o.there));
+    unkept = of_prop (Bool-set _ _) (∥∥₁_map h (λ o. o.unkept));
+    done = each (λ dest. each (λ row. each (λ at. row_done row))) (∥∥₁_map h (λ o. o.done));
+  }
+
+  -- whether it is
+  pub over_told : (over : Bool) → Stable (IsTrue over ↔ IsOver b uid)
+  over_told over = both (each (λ told. is_over)) (each (λ is. of_prop (Bool-set _ _)))
+
+pub forgets : (uid : Text) (old : Book) (r : Result (Unit {0}) LedgerFault) (new : Book) → Stable (Forgets uid old r new)
+forgets uid old (Ok done) new = both (is_over old uid) (same_book _ _)
+forgets uid old (Err fault.NotOver) new = both never (same_book _ _)
+forgets uid old (Err fault.Store) new = same_book _ _
+forgets uid old (Err fault.Memory) new = same_book _ _
+forgets uid old (Err fault.NoLine) new = impossible
+forgets uid old (Err fault.Conflict) new = impossible
+forgets uid old (Err fault.NotWaiting) new = impossible
+forgets uid old (Err fault.NotHeld) new = impossible
 
 pub adopting : (old : Book) (r : Result (Unit {0}) LedgerFault) (new : Book) → Stable (Adopting old r new)
 adopting old (Ok done) new = same_book _ _

@@ -1,19 +1,15 @@
--- The lines of a journal, of its notes, of what is known of instances, and of where lines go on to.
-use Rattle.std.specs.Prelude.{◌≡◌, ◌↔◌, ℕ, Bool, true, false, T, List, Contains, Some}
+-- The lines of a journal, of its notes, and of where lines go on to.
+use Rattle.std.specs.Prelude.{◌≡◌, ◌↔◌, ℕ, Bool, true, false, List, Contains}
 use Rattle.std.specs.List.{AllZip}
 use Rattle.std.specs.List.Sorted.{IsNonDecreasingBy, IsStrictlySortedBy}
-use Rattle.std.specs.FinMap.{find, is_sorted}
 use Rattle.std.specs.Str.{bytes_eq}
 use Rattle.dr_base.specs.Texts.{Text, text_cmp}
-use Rattle.dr_route.specs.declared.key.Key.{Key}
 use Rattle.dr_ledger.specs.declared.item.Entry.{Entry}
 use Rattle.dr_ledger.specs.declared.item.Entry.TheVariants as entry
 use Rattle.dr_store_schema.specs.Books.{keep_mark}
 use Rattle.dr_store_lists.specs.declared.listing.Note.{Note}
 use Rattle.dr_store_lists.specs.declared.listing.Note.TheVariants as note
 use Rattle.dr_store_lists.specs.Lists.{Goal}
-use Rattle.dr_store_reads.specs.declared.finding.Print.{Print}
-use Rattle.dr_store.specs.Listing.{IsOfKey}
 
 -- the name stands for keeping
 abbrev pub is_mark : Text → Bool
@@ -40,32 +36,20 @@ pub record AreNames (goals : List Goal) (n : ℕ) (to : List Text) (keep : Bool)
 abbrev pub AreTargets : List Goal → ℕ → List Text → Bool → Type 0
 AreTargets goals n to keep = AreByLine goals → AreNames goals n to keep
 
--- the instance of that uid has this key, and its print this length
-abbrev pub IsKnownBy : List (Text × Key) → List (Text × Print) → Text → Key → ℕ → Type 0
-IsKnownBy keys prints uid key length =
-    IsOfKey keys uid key
-    × ((print : Print)
-    × (T (is_sorted text_cmp prints) → find text_cmp uid prints ≡ Some print)
-    × (print.size ≡ length))
-
 -- the line of a note
-abbrev pub IsEntry : List (Text × Key) → List (Text × Print) → List Goal → ℕ → Note → Entry → Type 0
-IsEntry keys prints goals n (note.Arrival caller uid) line =
-    (key : Key) × (length : ℕ) × (to : List Text) × (keep : Bool)
-    × IsKnownBy keys prints uid key length
+abbrev pub IsEntry : List Goal → ℕ → Note → Entry → Type 0
+IsEntry goals n (note.Arrival caller instance) line =
+    (to : List Text) × (keep : Bool)
     × AreTargets goals n to keep
-    × (line ≡ entry.Arrival caller uid key length to keep)
-IsEntry keys prints goals n (note.Repeat caller uid) line =
-    (key : Key) × (length : ℕ)
-    × IsKnownBy keys prints uid key length
-    × (line ≡ entry.Repeat caller uid key length)
-IsEntry keys prints goals n (note.Settling uid dest outcome now) line =
+    × (line ≡ entry.Arrival caller instance.uid instance.key instance.size to keep)
+IsEntry goals n (note.Repeat caller instance) line =
+    line ≡ entry.Repeat caller instance.uid instance.key instance.size
+IsEntry goals n (note.Settling uid dest outcome now) line =
     line ≡ entry.Settling uid dest outcome now
-IsEntry keys prints goals n (note.Requeuing uid dest) line = line ≡ entry.Requeuing uid dest
-IsEntry keys prints goals n note.Adoption line = line ≡ entry.Adoption
+IsEntry goals n (note.Requeuing uid dest) line = line ≡ entry.Requeuing uid dest
+IsEntry goals n (note.Forgetting uid) line = line ≡ entry.Forgetting uid
+IsEntry goals n note.Adoption line = line ≡ entry.Adoption
 
 -- the lines of all notes
-abbrev pub AreEntries : List (Text × Key) → List (Text × Print) → List Goal → List (ℕ × Note)
-    → List Entry → Type 0
-AreEntries keys prints goals notes all =
-    AllZip (λ (n : ℕ × Note) line. IsEntry keys prints goals n.0 n.1 line) notes all
+abbrev pub AreEntries : List Goal → List (ℕ × Note) → List Entry → Type 0
+AreEntries goals notes all = AllZip (λ (n : ℕ × Note) line. IsEntry goals n.0 n.1 line) notes all

@@ -1,7 +1,6 @@
 //! The lines of the journal, as they are shown.
 ghost use Rattle.std.specs.Prelude.{◌≡◌, ◌++◌, ◌∷◌, [], ℕ, cond, false, not, filter, IfOk, OnOk};
 ghost use Rattle.std.specs.Prelude.{true, map as mapped};
-ghost use Rattle.std.specs.FinMap as map;
 ghost use Rattle.std.specs.List.{list_any};
 ghost use Rattle.std.specs.List.Sorted.{IsStrictlySortedBy};
 ghost use Rattle.sqlite.specs.Held.{state};
@@ -9,17 +8,14 @@ ghost use Rattle.dr_base.specs.Texts.{text_cmp};
 ghost use Rattle.dr_site.specs.Parts.{Part};
 ghost use Rattle.dr_ledger.specs.Replies.{Reads, entry_of};
 ghost use Rattle.dr_store_schema.specs.Books.{lines_of};
-ghost use Rattle.dr_store_lists.specs.Lists.{IsJournal, keys_of, whole_prints_of};
+ghost use Rattle.dr_store_lists.specs.Lists.{IsJournal};
 ghost use Rattle.dr_store_calls.specs.Calling.{Looked};
-ghost use Rattle.dr_store.specs.Journals.{AreEntries, AreGoalsOf, AreTargets, IsEntry, IsKnownBy};
-ghost use Rattle.dr_store.specs.Journals.{is_mark};
+ghost use Rattle.dr_store.specs.Journals.{AreEntries, AreGoalsOf, AreTargets, IsEntry, is_mark};
 
-use crate::lookup::get;
 use dr_base::{Seq, Text};
-use dr_ledger::{Entry, LedgerFault};
+use dr_ledger::{Entry, Instance, LedgerFault};
 use dr_route::Key;
-use dr_store_lists::{Note, all_keys, all_notes, all_prints, all_targets};
-use dr_store_reads::Print;
+use dr_store_lists::{Note, all_notes, all_targets};
 use sqlite::{Alter, Connection};
 use std::alloc::{AllocError, Global};
 
@@ -111,99 +107,75 @@ fn copy_key(key: &Key) -> Result<Key, AllocError>
     })
 }
 
-/// What is known of the instance of this uid: its key, and the length of its data set (bytes).
-fn known_of(
-    keys: &[(Text, Key)],
-    prints: &[(Text, Print)],
-    uid: &Text,
-) -> Result<(Key, u64), LedgerFault>
-    ensures { Reads result (λ known. IsKnownBy keys.now prints.now uid.now known.0 known.1) }
-{
-    let Some(key) = get(keys, uid) else {
-        return Err(LedgerFault::Store);
-    };
-    let Some(print) = get(prints, uid) else {
-        return Err(LedgerFault::Store);
-    };
-    let key = copy_key(key)?;
-    Ok((key, print.size))
-}
-
 /// The line of a first arrival.
 fn arrival_line(
     caller: &Text,
-    uid: &Text,
-    known: (Key, u64),
+    instance: &Instance,
     targets: (Seq<Text>, bool),
 ) -> Result<Entry, AllocError>
-    ensures { IfOk result (λ line.
-        line ≡ Entry.Arrival caller.now uid.now known.0 known.1 targets.0 targets.1) }
+    ensures { IfOk result (λ line. line
+        ≡ Entry.Arrival caller.now instance.now.uid instance.now.key instance.now.size targets.0
+        targets.1) }
 {
     let caller = caller.clone()?;
-    let uid = uid.clone()?;
-    let (key, length) = known;
+    let uid = instance.uid.clone()?;
+    let key = copy_key(&instance.key)?;
     let (to, keep) = targets;
     Ok(Entry::Arrival {
         caller,
         uid,
         key,
-        length,
+        length: instance.size,
         to,
         keep,
     })
 }
 
-/// The line of a first arrival, with what is known of its instance, and where it goes on to.
+/// The line of a first arrival, with where it goes on to.
 fn arrival_of_note(
     alloc: Global,
     n: u64,
     caller: &Text,
-    uid: &Text,
-    keys: &[(Text, Key)],
-    prints: &[(Text, Print)],
+    instance: &Instance,
     goals: &[(u64, Text)],
 ) -> Result<Entry, LedgerFault>
-    ensures { Reads result
-        (IsEntry keys.now prints.now goals.now n (Note.Arrival caller.now uid.now)) }
+    ensures { Reads result (IsEntry goals.now n (Note.Arrival caller.now instance.now)) }
 {
-    let known = known_of(keys, prints, uid)?;
     let targets = targets_of(alloc, goals, n)?;
-    let line = arrival_line(caller, uid, known, targets)?;
+    let line = arrival_line(caller, instance, targets)?;
     Ok(line)
 }
 
 /// The line of a repeat.
-fn repeat_line(caller: &Text, uid: &Text, known: (Key, u64)) -> Result<Entry, AllocError>
-    ensures { IfOk result (λ line. line ≡ Entry.Repeat caller.now uid.now known.0 known.1) }
+fn repeat_line(caller: &Text, instance: &Instance) -> Result<Entry, AllocError>
+    ensures { IfOk result (λ line. line
+        ≡ Entry.Repeat caller.now instance.now.uid instance.now.key instance.now.size) }
 {
     let caller = caller.clone()?;
-    let uid = uid.clone()?;
-    let (key, length) = known;
+    let uid = instance.uid.clone()?;
+    let key = copy_key(&instance.key)?;
     Ok(Entry::Repeat {
         caller,
         uid,
         key,
-        length,
+        length: instance.size,
     })
 }
 
-/// The line of a note, with what is known of its instance, and where it goes on to.
+/// The line of a note, with where it goes on to.
 fn line_of_note(
     alloc: Global,
     note: &(u64, Note),
-    keys: &[(Text, Key)],
-    prints: &[(Text, Print)],
     goals: &[(u64, Text)],
 ) -> Result<Entry, LedgerFault>
-    ensures { Reads result (IsEntry keys.now prints.now goals.now note.now.0 note.now.1) }
+    ensures { Reads result (IsEntry goals.now note.now.0 note.now.1) }
 {
     match &note.1 {
-        Note::Arrival { caller, uid } => {
-            arrival_of_note(alloc, note.0, caller, uid, keys, prints, goals)
+        Note::Arrival { caller, instance } => {
+            arrival_of_note(alloc, note.0, caller, instance, goals)
         }
-        Note::Repeat { caller, uid } => {
-            let known = known_of(keys, prints, uid)?;
-            let line = repeat_line(caller, uid, known)?;
+        Note::Repeat { caller, instance } => {
+            let line = repeat_line(caller, instance)?;
             Ok(line)
         }
         Note::Settling {
@@ -226,6 +198,10 @@ fn line_of_note(
             let dest = dest.clone()?;
             Ok(Entry::Requeuing { uid, dest })
         }
+        Note::Forgetting { uid } => {
+            let uid = uid.clone()?;
+            Ok(Entry::Forgetting { uid })
+        }
         Note::Adoption => Ok(Entry::Adoption),
     }
 }
@@ -234,60 +210,18 @@ fn line_of_note(
 fn lines_of_notes(
     alloc: Global,
     notes: &[(u64, Note)],
-    keys: &[(Text, Key)],
-    prints: &[(Text, Print)],
     goals: &[(u64, Text)],
 ) -> Result<Seq<Entry>, LedgerFault>
-    ensures { Reads result (AreEntries keys.now prints.now goals.now notes.now) }
+    ensures { Reads result (AreEntries goals.now notes.now) }
 {
     let mut all = Seq::new(alloc);
     for note in notes {
-        all.push(line_of_note(alloc, note, keys, prints, goals)?)?;
+        all.push(line_of_note(alloc, note, goals)?)?;
     }
     Ok(all)
 }
 
 // ---- the tables, one after another
-
-fn list_by_prints<S: Alter>(
-    conn: &mut Connection<S>,
-    alloc: Global,
-    notes: &[(u64, Note)],
-    keys: &[(Text, Key)],
-    prints: &[(Text, Print)],
-) -> Result<Seq<Entry>, LedgerFault>
-    ensures looked { (n : ℕ) (part : Part)
-        → Looked n part result (state S.Store conn.old) (state S.Store conn.new)
-        (λ base all. IsJournal base notes.now
-        → keys.now ≡ map.entries (keys_of base)
-        → prints.now ≡ map.entries (whole_prints_of base)
-        → all ≡ mapped entry_of (lines_of base)) }
-    ensures idle { conn.old.in_transaction ≡ false → conn.new.in_transaction ≡ false }
-{
-    match all_targets(conn, alloc) {
-        Ok(goals) => lines_of_notes(alloc, notes, keys, prints, goals.as_slice()),
-        Err(fault) => Err(fault),
-    }
-}
-
-fn list_by_keys<S: Alter>(
-    conn: &mut Connection<S>,
-    alloc: Global,
-    notes: &[(u64, Note)],
-    keys: &[(Text, Key)],
-) -> Result<Seq<Entry>, LedgerFault>
-    ensures looked { (n : ℕ) (part : Part)
-        → Looked n part result (state S.Store conn.old) (state S.Store conn.new)
-        (λ base all. IsJournal base notes.now
-        → keys.now ≡ map.entries (keys_of base)
-        → all ≡ mapped entry_of (lines_of base)) }
-    ensures idle { conn.old.in_transaction ≡ false → conn.new.in_transaction ≡ false }
-{
-    match all_prints(conn, alloc) {
-        Ok(prints) => list_by_prints(conn, alloc, notes, keys, prints.as_slice()),
-        Err(fault) => Err(fault),
-    }
-}
 
 fn list_by_notes<S: Alter>(
     conn: &mut Connection<S>,
@@ -299,8 +233,8 @@ fn list_by_notes<S: Alter>(
         (λ base all. IsJournal base notes.now → all ≡ mapped entry_of (lines_of base)) }
     ensures idle { conn.old.in_transaction ≡ false → conn.new.in_transaction ≡ false }
 {
-    match all_keys(conn, alloc) {
-        Ok(keys) => list_by_keys(conn, alloc, notes, keys.as_slice()),
+    match all_targets(conn, alloc) {
+        Ok(goals) => lines_of_notes(alloc, notes, goals.as_slice()),
         Err(fault) => Err(fault),
     }
 }

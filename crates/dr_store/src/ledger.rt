@@ -5,7 +5,7 @@ ghost use Rattle.sqlite.specs.State.{HasCleanDisk};
 ghost use Rattle.dr_ledger.specs.Adopting.{Adopting, site_after};
 ghost use Rattle.dr_ledger.specs.Bodies.{OnlyLetsGo, OnlyTakes};
 ghost use Rattle.dr_ledger.specs.Items.{instance_of};
-ghost use Rattle.dr_ledger.specs.Replies.{Arrives, Counts, Requeues, Settles};
+ghost use Rattle.dr_ledger.specs.Replies.{Arrives, Counts, Forgets, Requeues, Settles};
 ghost use Rattle.dr_ledger.specs.SiteRoutes.{site_routing};
 ghost use Rattle.dr_store_schema.specs.Books.{bodies_of, book_of};
 ghost use Rattle.dr_store_calls.specs.Calling.{IsKept, IsSafe};
@@ -19,9 +19,9 @@ use crate::listing::{first_unfit, list_arrivals, list_kept, list_rows, list_rows
 use crate::reading::{admit, has_data_set, has_item, next_job};
 use dr_base::{Seq, Text};
 use dr_cert::Sealed;
-use dr_ledger::{Arrived, Entry, Item, Job, Ledger, LedgerFault, Outcome, Progress};
+use dr_ledger::{Arrived, Entry, Item, Job, Ledger, LedgerFault, LetsGo, Outcome, Progress};
 use dr_site::Site;
-use dr_store_calls::{adopt, arrive, requeue, settle};
+use dr_store_calls::{adopt, arrive, forget, is_over, requeue, settle};
 use dr_store_reads::find_row;
 use sqlite::{Alter, Connection};
 use std::alloc::Global;
@@ -130,6 +130,23 @@ impl<S: Alter> SqlLedger<S> {
         ensures site { self.new.site ≡ self.old.site }
     {
         let answer = requeue(&mut self.conn, self.next, uid, dest);
+        self.next = next_after(&answer, self.next);
+        self.failures = counted(&answer, self.failures);
+        answer
+    }
+
+    /// Forgets an instance that is over, as `LetsGo::forget` says, and survives a crash at any
+    /// moment.
+    pub fn forget_in(&mut self, uid: &Text) -> Result<(), LedgerFault>
+        ensures wrote { Wrote result (state S.Store self.old.conn) (state S.Store self.new.conn)
+            (λ base db. Forgets uid.now (book_of base) result (book_of db)
+            × OnlyLetsGo (bodies_of base) (bodies_of db))
+            (λ old new. Forgets uid.now old (Ok tt) new) }
+        ensures counted { self.new.failures ≡ failures_after result self.old.failures }
+        ensures counts { Counts result self.old.failures self.new.failures }
+        ensures site { self.new.site ≡ self.old.site }
+    {
+        let answer = forget(&mut self.conn, self.alloc, self.next, uid);
         self.next = next_after(&answer, self.next);
         self.failures = counted(&answer, self.failures);
         answer
@@ -279,5 +296,17 @@ impl<S: Alter> Ledger for SqlLedger<S> {
 
     fn failures(&self) -> u64 {
         self.failures
+    }
+}
+
+impl<S: Alter> LetsGo for SqlLedger<S> {
+    fn forget(&mut self, uid: &Text) -> Result<(), LedgerFault> {
+        self.forget_in(uid)
+    }
+
+    fn is_over(&mut self, uid: &Text) -> Result<bool, LedgerFault> {
+        let answer = is_over(&mut self.conn, self.alloc, uid);
+        self.failures = counted(&answer, self.failures);
+        answer
     }
 }

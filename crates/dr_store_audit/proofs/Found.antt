@@ -18,7 +18,7 @@ use Rattle.dr_route.specs.declared.key.Key.{Key}
 use Rattle.dr_site.specs.Parts.{Part}
 use Rattle.dr_ledger.specs.declared.item.Instance.{Instance}
 use Rattle.dr_ledger.specs.declared.item.Progress.{Progress}
-use Rattle.dr_ledger.specs.Books.{Fold, Line}
+use Rattle.dr_ledger.specs.Books.{Fold}
 use Rattle.dr_ledger.specs.Histories.{IsJournalled}
 use Rattle.dr_ledger.specs.Pairs.{Pair}
 use Rattle.dr_ledger.specs.Replies.{Lists}
@@ -28,18 +28,18 @@ use Rattle.dr_ledger.proofs.Maps.{IsExact, text_pairs, texts}
 use Rattle.dr_ledger.proofs.Solid.{journals_are_solid}
 use Rattle.dr_ledger_history.specs.Contents.{Content, all_of, content_of}
 use Rattle.dr_ledger_history.proofs.Telling.{all_but_the_lines}
-use Rattle.dr_store_schema.specs.Books.{all_kept_in, arrivals_in, book_of, items_of, lines_of, names_in, rows_of}
+use Rattle.dr_store_schema.specs.Books.{all_kept_in, arrivals_in, book_of, items_of, names_in, rows_of}
 use Rattle.dr_store_writes.proofs.Maps.{equal}
 use Rattle.dr_store_reads.specs.declared.finding.Print.{Print}
 use Rattle.dr_store_lists.specs.declared.listing.Note.{Note}
 use Rattle.dr_store_lists.specs.Lists.{Goal, goals_of}
 use Rattle.dr_store_lists.proofs.Alike.{goals_are_names}
 use Rattle.dr_store_audit.specs.Found.{AreListsOf, IsFound}
-use Rattle.dr_store_audit.specs.Journal.{AreLinesOf}
+use Rattle.dr_store_audit.specs.Journal.{lines_told}
 use Rattle.dr_store_audit.specs.Needs.{IsOpenIn}
 use Rattle.dr_store_audit.specs.Stock.{Stocks}
 use Rattle.dr_store_audit.specs.Telling.{IsToldJournal}
-use Rattle.dr_store_audit.proofs.Journals.{lines_are, rows_joined}
+use Rattle.dr_store_audit.proofs.Journals.{lines_are}
 use Rattle.dr_store_audit.proofs.Needed.{there}
 use Rattle.dr_store_audit.proofs.Stocked.{both_there, stocked}
 
@@ -59,17 +59,11 @@ module _ {K : Type 0} {R : K → K → Ordering} (x : IsExact R) where
   as_mapped m = map.same_map x.total x.exact (map.from_entries (map.entries m)) m (λ q. map.get-from_entries x.total (map.entries m) q ∙ sym (map.get-entries m q))
 
 module _ (n : ℕ) (part : Part) (db : Trees) (keys : List (Text × Key)) (prints : List (Text × Print)) (arrivals : List Pair) (kept : List Text) (rows : List (Pair × Progress)) (notes : List (ℕ × Note)) (goals : List Goal)
-    (are : AreListsOf db keys prints arrivals kept rows notes goals) (items : FinMap text_cmp Instance) (stocks : Stocks map.empty keys prints items) (lines : List Line) (told : AreLinesOf items goals notes lines) (c : Content)
-    (journal : IsToldJournal (site_routing part) lines c) (all : c ≡ all_of items arrivals kept rows) (uids : FinSet text_cmp)
+    (are : AreListsOf db keys prints arrivals kept rows notes goals) (items : FinMap text_cmp Instance) (stocks : Stocks map.empty keys prints items) (c : Content)
+    (journal : IsToldJournal (site_routing part) (lines_told goals notes) c) (all : c ≡ all_of items arrivals kept rows) (uids : FinSet text_cmp)
     (are_needed : (q : Text) → (set.contains uids q ≡ true) ↔ (Contains kept q ⊎ IsOpenIn rows q)) (whole : AllByRecursion (λ (p : Text × Print). p.1.whole ≡ set.contains uids p.0) prints) (before : All (λ (g : Goal). g.0 < n) goals) where
   items_are : items ≡ items_of db
   items_are = stocked db keys prints items are.keys_are are.prints_are stocks
-
-  told_so : AreLinesOf (items_of db) goals notes lines
-  told_so = subst (λ is. AreLinesOf is goals notes lines) items_are told
-
-  lines_so : lines_of db ≡ lines
-  lines_so = lines_are db goals are.goals_are notes lines are.notes_are told_so
 
   -- all but the lines
   content_is : content_of (book_of db) ≡ c
@@ -80,8 +74,8 @@ module _ (n : ℕ) (part : Part) (db : Trees) (keys : List (Text × Key)) (print
     rows = (ap map.from_entries are.rows_are ∙ as_mapped text_pairs (rows_of db)) i;
   }))
 
-  book_is : book_of db ≡ Fold lines
-  book_is = all_but_the_lines (book_of db) (Fold lines) (content_is ∙ journal.fold) (lines_so ∙ sym (folds_have_their_lines lines))
+  book_is : book_of db ≡ Fold (lines_told goals notes)
+  book_is = all_but_the_lines (book_of db) (Fold (lines_told goals notes)) (content_is ∙ journal.fold) (lines_are db goals are.goals_are notes are.notes_are ∙ sym (folds_have_their_lines (lines_told goals notes)))
 
   journalled : IsJournalled (site_routing part) (book_of db)
   journalled = subst (IsJournalled (site_routing part)) (sym book_is) journal.journalled
@@ -103,7 +97,7 @@ module _ (n : ℕ) (part : Part) (db : Trees) (keys : List (Text × Key)) (print
 
   pub found : IsFound n part db
   found = record {
-    joined = record { items = rows_joined db goals notes lines are.notes_are told_so; targets = nowhere };
+    ahead = nowhere;
     journalled = journalled;
     there = there db prints kept rows uids are.prints_are are.kept_are are.rows_are (both_there db keys prints items are.keys_are are.prints_are stocks) are_needed whole (journals_are_solid (site_routing part) journalled.0 (book_of db) journalled.1);
   }

@@ -16,7 +16,7 @@ use Rattle.dr_store_reads.specs.declared.finding.Print.{Print}
 use Rattle.dr_store_lists.specs.declared.listing.Note.{Note}
 use Rattle.dr_store_lists.specs.Lists.{Goal, IsJournal, goal_cmp, goals_of, keys_of}
 use Rattle.dr_store_lists.specs.Lists.{whole_prints_of}
-use Rattle.dr_store_changes.specs.Bringing.{AreJoined}
+use Rattle.dr_store_changes.specs.Bringing.{GoNowhere}
 
 -- the lists of all tables but site
 pub record AreListsOf (db : Trees) (keys : List (Text × Key)) (prints : List (Text × Print))
@@ -33,7 +33,7 @@ pub record AreListsOf (db : Trees) (keys : List (Text × Key)) (prints : List (T
 -- The tables are those of a ledger of that site, whose next line has number n, but for what their
 -- data sets are.
 pub record IsFound (n : ℕ) (part : Part) (db : Trees) : Type 0 where
-  pub joined : AreJoined n db
+  pub ahead : GoNowhere n db
   pub journalled : IsJournalled (site_routing part) (book_of db)
   pub there : (uid : Text)
       → ((body : List ℕ) × (map.get (bodies_of db) uid ≡ Some body)) ↔ IsNeeded (book_of db) uid

@@ -1,35 +1,25 @@
--- The lines of a journal, as notes, instances and goals tell them.
-use Rattle.std.specs.Prelude.{◌≡◌, ℕ, List, [], ◌∷◌, ◌+◌, Some}
-use Rattle.std.specs.FinMap as map
-use Rattle.std.specs.FinMap.{FinMap}
-use Rattle.dr_base.specs.Texts.{text_cmp}
-use Rattle.dr_ledger.specs.declared.item.Instance.{Instance}
-use Rattle.dr_ledger.specs.Books.{Line, Arrival, Repeat, Settling, Requeuing, Adoption}
+-- The lines of a journal, as notes and goals tell them.
+use Rattle.std.specs.Prelude.{◌≡◌, ℕ, List, [], ◌∷◌, ◌+◌, map as mapped}
+use Rattle.dr_ledger.specs.Books.{Line, Arrival, Repeat, Settling, Requeuing, Forgetting, Adoption}
 use Rattle.dr_store_lists.specs.Lists.{Goal}
 use Rattle.dr_store_lists.specs.declared.listing.Note.{Note}
 use Rattle.dr_store_lists.specs.declared.listing.Note.TheVariants as note
 use Rattle.dr_store_audit.specs.Goals.{keep_of, to_of}
 
--- the line of a note with that number: the instance of an arrival is there, and a first one goes on
--- to its goals
-abbrev pub IsLineOf : FinMap text_cmp Instance → List Goal → ℕ → Note → Line → Type 0
-IsLineOf items goals n (note.Arrival caller uid) line =
-    (i : Instance)
-    × (map.get items uid ≡ Some i)
-    × (line ≡ Arrival caller i (to_of goals n) (keep_of goals n))
-IsLineOf items goals n (note.Repeat caller uid) line =
-    (i : Instance) × (map.get items uid ≡ Some i) × (line ≡ Repeat caller i)
-IsLineOf items goals n (note.Settling uid dest what now) line = line ≡ Settling uid dest what now
-IsLineOf items goals n (note.Requeuing uid dest) line = line ≡ Requeuing uid dest
-IsLineOf items goals n note.Adoption line = line ≡ Adoption
+-- the line of a note with that number: each has its own instance, and a first arrival goes on to
+-- its goals
+abbrev pub line_told : List Goal → ℕ → Note → Line
+line_told goals n (note.Arrival caller item) =
+    Arrival caller item (to_of goals n) (keep_of goals n)
+line_told goals n (note.Repeat caller item) = Repeat caller item
+line_told goals n (note.Settling uid dest what now) = Settling uid dest what now
+line_told goals n (note.Requeuing uid dest) = Requeuing uid dest
+line_told goals n (note.Forgetting uid) = Forgetting uid
+line_told goals n note.Adoption = Adoption
 
--- these lines are those of the notes
-abbrev pub AreLinesOf : FinMap text_cmp Instance → List Goal → List (ℕ × Note) → List Line → Type 0
-AreLinesOf items goals [] [] = Unit {0}
-AreLinesOf items goals [] (line ∷ lines) = ⊥
-AreLinesOf items goals (e ∷ notes) [] = ⊥
-AreLinesOf items goals (e ∷ notes) (line ∷ lines) =
-    IsLineOf items goals e.0 e.1 line × AreLinesOf items goals notes lines
+-- the lines of these notes
+abbrev pub lines_told : List Goal → List (ℕ × Note) → List Line
+lines_told goals notes = mapped (λ (e : ℕ × Note). line_told goals e.0 e.1) notes
 
 -- the numbers count up from this one
 abbrev pub CountUp : ℕ → List (ℕ × Note) → Type 0

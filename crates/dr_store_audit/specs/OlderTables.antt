@@ -3,10 +3,10 @@ use Rattle.std.specs.Prelude.{ℕ, Bool, true, false, List, [], ◌∷◌, codes
 use Rattle.sqlite.specs.Schema.{Schema}
 use Rattle.sqlite.specs.Table.{Table}
 use Rattle.sqlite_schema.specs.declared.schema.Index.{Index}
-use Rattle.dr_store_schema.specs.Tables.{arrival, item_table, journal, kept, print_table, queue}
+use Rattle.dr_store_schema.specs.Tables.{arrival, item_table, kept, print_table, queue}
 use Rattle.dr_store_schema.specs.Tables.{site_table, target}
 use Rattle.dr_store_audit.specs.declared.older.Lacks.{Lacks}
-use Rattle.dr_store_audit.specs.Older.{behind}
+use Rattle.dr_store_audit.specs.Older.{behind, journal_before}
 use Rattle.dr_store_audit.specs.Tables.{index_of}
 
 -- the first, unless it is lacking, and the rest
@@ -20,7 +20,7 @@ older_list p t =
     site_table ∷ item_table
     ∷ listed p print_table
     (record arrival { tree = behind p 5 } ∷ record kept { tree = behind p 7 }
-    ∷ record queue { tree = behind p 9 } ∷ record journal { tree = behind p 11 }
+    ∷ record queue { tree = behind p 9 } ∷ record journal_before { tree = behind p 11 }
     ∷ listed t (record target { tree = behind p 12 }) [])
 
 abbrev pub stock_indexes : Bool → List Index → List Index

@@ -5,8 +5,10 @@ use Rattle.sqlite.specs.Table.{Table}
 use Rattle.sqlite_schema.specs.declared.schema.Column.{Column}
 use Rattle.sqlite_schema.specs.declared.schema.Index.{Index}
 use Rattle.sqlite_schema.specs.declared.schema.Reference.{Reference}
-use Rattle.dr_store_schema.specs.Tables.{arrival_table, item_table, journal_table, kept_table}
-use Rattle.dr_store_schema.specs.Tables.{print_table, queue_table, site_table, target_table}
+use Rattle.sqlite.specs.Kind.TheVariants.{Integer, Text}
+use Rattle.dr_store_schema.specs.Tables.{arrival_table, column_named, item_table, journal_table}
+use Rattle.dr_store_schema.specs.Tables.{kept_table, print_table, queue_table, site_table}
+use Rattle.dr_store_schema.specs.Tables.{target_table}
 
 -- a table under a key of its own, with nothing that the texts of a ledger's tables don't say
 abbrev pub keyed : List ℕ → ℕ → List Column → List ℕ → List Reference → Table
@@ -49,6 +51,14 @@ pub record HasNothingMore (table : Table) : Type 0 where
   pub stamps : table.stamps ≡ record { places = []; terms = []; formats = [] }
   pub uncounted : table.is_counted ≡ false
 
+-- the columns of journal that say of a line which call it was, before others
+abbrev pub with_call : List Column → List Column
+with_call rest =
+    column_named (codes "n") Integer false ∷ column_named (codes "kind") Integer true
+    ∷ column_named (codes "caller") Text false ∷ column_named (codes "uid") Text false
+    ∷ column_named (codes "dest") Text false ∷ column_named (codes "outcome") Integer false
+    ∷ column_named (codes "moment") Integer false ∷ rest
+
 -- columns sort as they stand
 abbrev pub index_of : List ℕ → ℕ → ℕ → List ℕ → Bool → Index
 index_of name tree table columns unique = record {
@@ -65,7 +75,7 @@ ledger_tables =
     site_table ∷ item_table ∷ print_table ∷ arrival_table ∷ kept_table ∷ queue_table ∷ journal_table
     ∷ target_table ∷ []
 
--- those of keys, and that of the rows that are due
+-- those of keys, that of the rows that are due, and that of an instance's arrivals
 abbrev pub ledger_indexes : List Index
 ledger_indexes =
     index_of (codes "sqlite_autoindex_item_1") 2 1 (1 ∷ []) true
@@ -75,6 +85,7 @@ ledger_indexes =
     ∷ index_of (codes "sqlite_autoindex_queue_1") 10 9 (1 ∷ 2 ∷ []) true
     ∷ index_of (codes "sqlite_autoindex_target_1") 13 12 (1 ∷ 2 ∷ []) true
     ∷ index_of (codes "queue_due") 14 9 (2 ∷ 3 ∷ 5 ∷ 1 ∷ []) false
+    ∷ index_of (codes "arrival_uid") 15 5 (2 ∷ []) false
     ∷ []
 
 -- all of it

@@ -42,7 +42,7 @@ pub fn agree(
         return Err(FindingFault::OtherSite);
     }
     let items = stock_all(alloc, keys, prints)?;
-    let history = tell(alloc, site, &items, goals, notes)?;
+    let history = tell(alloc, site, goals, notes)?;
     if !history.has_just(&items, arrivals, kept, rows) {
         return Err(FindingFault::OtherSite);
     }

@@ -1,19 +1,20 @@
-//! Whether the tables of a file are those of a ledger from before some of them.
+//! Whether the tables of a file are those of a ledger from before.
 ghost use Rattle.std.specs.Prelude.{◌≡◌, ◌≤◌, IsTrue, IfSome, codes, ◌∷◌, [], true, false};
 ghost use Rattle.dr_store_schema.specs.Tables.{print_table, target};
-ghost use Rattle.dr_store_audit.specs.Older.{LacksSome, behind, older_tables};
+ghost use Rattle.dr_store_audit.specs.Older.{behind, older_tables};
 ghost use Rattle.dr_store_audit.specs.OlderTables.{due_indexes, listed, moves_indexes};
 ghost use Rattle.dr_store_audit.specs.OlderTables.{older_indexes, older_list, older_schema};
 ghost use Rattle.dr_store_audit.specs.OlderTables.{stock_indexes};
 ghost use Rattle.dr_store_audit.specs.Tables.{index_of};
 
 use crate::schema::{
-    after_arrival, after_item, after_journal, after_kept, after_key, after_print, after_queue,
-    after_site, after_target, is_index,
+    after_arrival, after_item, after_journal_before, after_kept, after_key, after_print,
+    after_queue, after_site, after_target, is_index,
 };
 use sqlite_schema::schema::{Index, Schema, Table};
 
-/// What a ledger's file from before lacks: the table of prints, that of targets, or the index of
+/// What a ledger's file from before lacks, besides the instances in its journal and the index of
+/// arrivals by their uids, which each lacks: the table of prints, that of targets, or the index of
 /// the rows that are due.
 #[derive(Clone, Copy, PartialEq, Eq, Debug)]
 pub struct Lacks {
@@ -54,7 +55,7 @@ fn behind_target(tables: &[Table], lacks: bool, tree: u32) -> Option<&[Table]>
     after_target(tables, tree)
 }
 
-/// Whether these are a ledger's tables, less those.
+/// Whether these are the tables from before, less those.
 fn are_older_tables<'x>(tables: &'x [Table], lacks: Lacks) -> Option<&'x [Table]>
     ensures { IfSome result (λ rest. tables.now ≡ older_list lacks.print lacks.target) }
 {
@@ -64,7 +65,7 @@ fn are_older_tables<'x>(tables: &'x [Table], lacks: Lacks) -> Option<&'x [Table]
     let rest = after_arrival(rest, number(lacks.print, 5))?;
     let rest = after_kept(rest, number(lacks.print, 7))?;
     let rest = after_queue(rest, number(lacks.print, 9))?;
-    let rest = after_journal(rest, number(lacks.print, 11))?;
+    let rest = after_journal_before(rest, number(lacks.print, 11))?;
     let rest = behind_target(rest, lacks.target, number(lacks.print, 12))?;
     let [] = rest else {
         return None;
@@ -165,7 +166,7 @@ fn behind_moves<'x>(indexes: &'x [Index], lacks: Lacks) -> Option<&'x [Index]>
     )
 }
 
-/// Whether these are the indexes of a ledger's tables, less those.
+/// Whether these are the indexes of the tables from before, less those.
 fn are_older_indexes<'x>(indexes: &'x [Index], lacks: Lacks) -> Option<&'x [Index]>
     ensures { IfSome result (λ rest.
         indexes.now ≡ older_indexes lacks.print lacks.target lacks.due) }
@@ -178,7 +179,7 @@ fn are_older_indexes<'x>(indexes: &'x [Index], lacks: Lacks) -> Option<&'x [Inde
     None
 }
 
-/// Whether these are a ledger's tables and indexes, less those, and nothing else.
+/// Whether these are the tables and indexes from before, less those, and nothing else.
 fn is_less(schema: &Schema, lacks: Lacks) -> Option<()>
     ensures { IfSome result (λ done. schema.now ≡ older_schema lacks) }
 {
@@ -208,26 +209,16 @@ fn has_index(schema: &Schema, name: &[u8]) -> bool {
         .any(|index| index.name.as_slice() == name)
 }
 
-/// Whether it lacks something.
-fn lacks_some(lacks: Lacks) -> bool
-    ensures { IsTrue result → LacksSome lacks }
-{
-    lacks.print || lacks.target || lacks.due
-}
-
-/// What a ledger's file from before lacks, if the tables and indexes are those of a ledger but for
-/// that, and nothing else; None where they lack nothing too.
+/// What a ledger's file from before lacks, if its tables and indexes are those from before but for
+/// that, and nothing else.
 pub fn lacking(schema: &Schema) -> Option<Lacks>
-    ensures { IfSome result (λ lacks. LacksSome lacks × (schema.now ≡ older_tables lacks)) }
+    ensures { IfSome result (λ lacks. schema.now ≡ older_tables lacks) }
 {
     let lacks = Lacks {
         print: !has_table(schema, b"print"),
         target: !has_table(schema, b"target"),
         due: !has_index(schema, b"queue_due"),
     };
-    if !lacks_some(lacks) {
-        return None;
-    }
     is_less(schema, lacks)?;
     Some(lacks)
 }

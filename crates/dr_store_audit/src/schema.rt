@@ -4,8 +4,9 @@ ghost use Rattle.dr_store_schema.specs.Tables.{arrival, arrival_table, column_na
 ghost use Rattle.dr_store_schema.specs.Tables.{journal, journal_table, kept, kept_table};
 ghost use Rattle.dr_store_schema.specs.Tables.{print_table, queue, queue_table, refers, site_table};
 ghost use Rattle.dr_store_schema.specs.Tables.{tables, target, target_table};
+ghost use Rattle.dr_store_audit.specs.Older.{journal_before};
 ghost use Rattle.dr_store_audit.specs.Tables.{HasNothingMore, index_of, keyed, ledger_indexes};
-ghost use Rattle.dr_store_audit.specs.Tables.{ledger_schema, ledger_tables, numbered};
+ghost use Rattle.dr_store_audit.specs.Tables.{ledger_schema, ledger_tables, numbered, with_call};
 
 use sqlite_items::Items;
 use sqlite_schema::schema::{Action, Column, Index, Kind, Reference, Schema, Table};
@@ -147,9 +148,9 @@ fn are_queue_columns(columns: &[Column]) -> Option<&[Column]>
     Some(rest)
 }
 
-/// Whether these are the columns of journal.
-fn are_journal_columns(columns: &[Column]) -> Option<&[Column]>
-    ensures { IfSome result (λ rest. columns.now ≡ journal_table.columns) }
+/// The columns after those of journal that say which call a line was, if these are the first.
+fn after_call(columns: &[Column]) -> Option<&[Column]>
+    ensures { IfSome result (λ rest. columns.now ≡ with_call rest.now) }
 {
     let rest = after(columns, b"n", Kind::Integer, false)?;
     let rest = after(rest, b"kind", Kind::Integer, true)?;
@@ -157,7 +158,31 @@ fn are_journal_columns(columns: &[Column]) -> Option<&[Column]>
     let rest = after(rest, b"uid", Kind::Text, false)?;
     let rest = after(rest, b"dest", Kind::Text, false)?;
     let rest = after(rest, b"outcome", Kind::Integer, false)?;
-    let rest = after(rest, b"moment", Kind::Integer, false)?;
+    after(rest, b"moment", Kind::Integer, false)
+}
+
+/// Whether these are the columns of journal.
+fn are_journal_columns(columns: &[Column]) -> Option<&[Column]>
+    ensures { IfSome result (λ rest. columns.now ≡ journal_table.columns) }
+{
+    let rest = after_call(columns)?;
+    let rest = after(rest, b"class", Kind::Text, false)?;
+    let rest = after(rest, b"syntax", Kind::Text, false)?;
+    let rest = after(rest, b"modality", Kind::Blob, false)?;
+    let rest = after(rest, b"station", Kind::Blob, false)?;
+    let rest = after(rest, b"length", Kind::Integer, false)?;
+    let rest = after(rest, b"sha256", Kind::Blob, false)?;
+    let [] = rest else {
+        return None;
+    };
+    Some(rest)
+}
+
+/// Whether these are the columns of journal as it was.
+fn are_columns_before(columns: &[Column]) -> Option<&[Column]>
+    ensures { IfSome result (λ rest. columns.now ≡ with_call []) }
+{
+    let rest = after_call(columns)?;
     let [] = rest else {
         return None;
     };
@@ -366,6 +391,18 @@ fn is_journal(table: &Table, tree: u32) -> bool
     if are_journal_columns(table.columns.as_slice()).is_none() {
         return false;
     }
+    table.references.is_empty()
+}
+
+fn is_journal_before(table: &Table, tree: u32) -> bool
+    ensures { IsTrue result → table.now ≡ record journal_before { tree = tree } }
+{
+    if !is_numbered(table, b"journal", tree) {
+        return false;
+    }
+    if are_columns_before(table.columns.as_slice()).is_none() {
+        return false;
+    }
     is_one_reference(table.references.as_slice(), 4, b"item", b"uid")
 }
 
@@ -433,10 +470,13 @@ fn are_indexes(indexes: &[Index]) -> Option<&[Index]>
     let rest = after_key(rest, b"sqlite_autoindex_kept_1", 8, 7, &[1])?;
     let rest = after_key(rest, b"sqlite_autoindex_queue_1", 10, 9, &[1, 2])?;
     let rest = after_key(rest, b"sqlite_autoindex_target_1", 13, 12, &[1, 2])?;
-    let [due] = rest else {
+    let [due, arrivals] = rest else {
         return None;
     };
-    if is_index(due, b"queue_due", 14, 9, &[2, 3, 5, 1], false) {
+    if !is_index(due, b"queue_due", 14, 9, &[2, 3, 5, 1], false) {
+        return None;
+    }
+    if is_index(arrivals, b"arrival_uid", 15, 5, &[2], false) {
         return Some(rest);
     }
     None
@@ -521,13 +561,27 @@ pub(crate) fn after_queue(tables: &[Table], tree: u32) -> Option<&[Table]>
 }
 
 /// The tables after journal, if that one is the first.
-pub(crate) fn after_journal(tables: &[Table], tree: u32) -> Option<&[Table]>
+fn after_journal(tables: &[Table], tree: u32) -> Option<&[Table]>
     ensures { IfSome result (λ rest. tables.now ≡ record journal { tree = tree } ∷ rest.now) }
 {
     let [first, rest @ ..] = tables else {
         return None;
     };
     if is_journal(first, tree) {
+        return Some(rest);
+    }
+    None
+}
+
+/// The tables after the journal as it was, if that one is the first.
+pub(crate) fn after_journal_before(tables: &[Table], tree: u32) -> Option<&[Table]>
+    ensures { IfSome result (λ rest.
+        tables.now ≡ record journal_before { tree = tree } ∷ rest.now) }
+{
+    let [first, rest @ ..] = tables else {
+        return None;
+    };
+    if is_journal_before(first, tree) {
         return Some(rest);
     }
     None

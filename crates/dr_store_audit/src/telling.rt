@@ -1,27 +1,22 @@
 //! The journal, told to a history.
 ghost use Rattle.std.specs.Prelude.{◌≡◌, ◌≤◌, ◌⊎◌, ◌++◌, IfOk, IsTrue, List, [], ◌∷◌, length, take};
-ghost use Rattle.dr_base.specs.Texts.{text_cmp};
-ghost use Rattle.dr_ledger.specs.Books.{Fold, Line};
-ghost use Rattle.dr_ledger.specs.Histories.{IsJournalled};
+ghost use Rattle.dr_ledger.specs.Books.{Line};
 ghost use Rattle.dr_ledger.specs.SiteRoutes.{site_routing};
-ghost use Rattle.dr_ledger_history.specs.Contents.{content, content_of};
+ghost use Rattle.dr_ledger_history.specs.Contents.{content};
 ghost use Rattle.dr_ledger_history.specs.Lines.{line_of};
 ghost use Rattle.dr_ledger_history.specs.Told.{IsTold, IsToldSince};
-ghost use Rattle.dr_ledger_history.specs.Trees.{as_map};
 ghost use Rattle.dr_store_lists.specs.declared.listing.Note.TheVariants as noted;
 ghost use Rattle.dr_store_audit.specs.Goals.{AreByLine};
-ghost use Rattle.dr_store_audit.specs.Journal.{AreLinesOf, CountUp};
+ghost use Rattle.dr_store_audit.specs.Journal.{CountUp, lines_told};
 ghost use Rattle.dr_store_audit.specs.Telling.{IsOver, IsToldJournal};
 
 use crate::fault::{FindingFault, of_history};
 use crate::lines::line_for;
 use dr_base::Text;
-use dr_ledger::Instance;
 use dr_ledger_history::{History, JournalLine};
 use dr_site::Site;
 use dr_store_lists::Note;
 use std::alloc::Global;
-use std::collections::BTreeMap;
 
 /// Whether it is an adoption.
 fn is_adoption(note: &Note) -> bool
@@ -99,18 +94,15 @@ fn tell_since(history: History, site: &Site, line: JournalLine) -> Result<Histor
 /// What these lines make, whose plans may be gone.
 fn tell_all_past(
     alloc: Global,
-    items: &BTreeMap<Text, Instance>,
     goals: &[(u64, Text)],
     notes: &[(u64, Note)],
 ) -> Result<History, FindingFault>
     requires { AreByLine goals.now }
-    ensures { IfOk result (λ h. (lines : List Line)
-        × AreLinesOf (as_map text_cmp items.now) goals.now notes.now lines
-        × IsTold lines (content h.parts)) }
+    ensures { IfOk result (λ h. IsTold (lines_told goals.now notes.now) (content h.parts)) }
 {
     let mut history = History::new(alloc);
     for entry in notes {
-        let line = line_for(alloc, items, goals, entry.0, &entry.1)?;
+        let line = line_for(alloc, goals, entry.0, &entry.1)?;
         history = tell_past(history, line)?;
     }
     Ok(history)
@@ -120,21 +112,19 @@ fn tell_all_past(
 fn tell_all_since(
     alloc: Global,
     site: &Site,
-    items: &BTreeMap<Text, Instance>,
     goals: &[(u64, Text)],
     notes: &[(u64, Note)],
     told: History,
 ) -> Result<History, FindingFault>
     requires { AreByLine goals.now }
-    ensures { IfOk result (λ h. (lines : List Line)
-        × AreLinesOf (as_map text_cmp items.now) goals.now notes.now lines
-        × ((past : List Line)
+    ensures { IfOk result (λ h. (past : List Line)
         → IsToldSince (site_routing site.now) past [] (content told.parts)
-        → IsToldSince (site_routing site.now) past lines (content h.parts))) }
+        → IsToldSince (site_routing site.now) past (lines_told goals.now notes.now)
+        (content h.parts)) }
 {
     let mut history = told;
     for entry in notes {
-        let line = line_for(alloc, items, goals, entry.0, &entry.1)?;
+        let line = line_for(alloc, goals, entry.0, &entry.1)?;
         history = tell_since(history, site, line)?;
     }
     Ok(history)
@@ -145,17 +135,16 @@ fn tell_all_since(
 pub fn tell(
     alloc: Global,
     site: &Site,
-    items: &BTreeMap<Text, Instance>,
     goals: &[(u64, Text)],
     notes: &[(u64, Note)],
 ) -> Result<History, FindingFault>
     requires { AreByLine goals.now }
-    ensures { IfOk result (λ h. (lines : List Line)
-        × AreLinesOf (as_map text_cmp items.now) goals.now notes.now lines
-        × IsToldJournal (site_routing site.now) lines (content h.parts)) }
+    ensures { IfOk result (λ h.
+        IsToldJournal (site_routing site.now) (lines_told goals.now notes.now)
+        (content h.parts)) }
 {
     let (past, since) = notes.split_at(count_past(notes));
-    let told = tell_all_past(alloc, items, goals, past)?;
-    let all = tell_all_since(alloc, site, items, goals, since, told)?;
+    let told = tell_all_past(alloc, goals, past)?;
+    let all = tell_all_since(alloc, site, goals, since, told)?;
     Ok(all)
 }

@@ -1,10 +1,7 @@
 -- What an adoption makes of the book, and of a ledger's tables.
-use Rattle.std.proofs.Common.{◌≡◌, ◌≤◌, ◌+◌, ℕ, List, [], ◌∷◌, ◌++◌, refl, sym, ap, subst, ◌∙◌, arith}
+use Rattle.std.proofs.Common.{◌≡◌, ◌≤◌, ◌+◌, [], ◌∷◌, ◌++◌, refl, sym, ap, subst, ◌∙◌, arith}
 use Rattle.std.specs.FinMap as map
-use Rattle.std.specs.List.{AllByRecursion}
-use Rattle.sqlite.specs.Order.{Row, column}
-use Rattle.sqlite.specs.Tree.{Trees, put_row}
-use Rattle.sqlite_trees.proofs.TreeLemmas.{all-put_row}
+use Rattle.sqlite.specs.Order.{column}
 use Rattle.dr_site.specs.Parts.{Part}
 use Rattle.dr_ledger.specs.Bodies.{Bodies, HasBodies}
 use Rattle.dr_ledger.specs.Books.{Adoption, Book, after}
@@ -12,24 +9,17 @@ use Rattle.dr_ledger.specs.Histories.{IsJournalled}
 use Rattle.dr_ledger.specs.SiteRoutes.{site_routing}
 use Rattle.dr_ledger.proofs.Folding.{adoptions_are_journalled}
 use Rattle.dr_ledger.proofs.Needs.{adoptions_need_the_same}
-use Rattle.dr_store_schema.specs.Books.{AreBelow, all_kept_in, arrivals_in, bodies_by, bodies_of, book_of, contents_in, items_in, items_of, lines_in, lines_of, names_in, prints_in, wholes_in}
-use Rattle.dr_store_writes.specs.Effects.{adopted_line}
-use Rattle.dr_store_changes.specs.Bringing.{AreJoined, IsJoined}
+use Rattle.dr_store_schema.specs.Books.{AreBelow, all_kept_in, arrivals_in, bodies_by, bodies_of, book_of, contents_in, items_in, lines_in, lines_of, names_in, prints_in, wholes_in}
 use Rattle.dr_store_changes.proofs.Numbers.{lines_put}
 use Rattle.dr_store_calls.specs.Calling.{IsLedgerOf}
-use Rattle.dr_store_calls.specs.Adoptions.{Adopts}
 use Rattle.dr_store_calls.specs.AdoptionLaws.{AdoptedLedgersAreOfTheNext, AdoptionsAdopt}
-
-same_items : (plan : List ℕ) (n : ℕ) (old new : Trees) → Adopts plan n old new → items_of new ≡ items_of old
-same_items plan n old new w = λ i. items_in (prints_in (w.prints i)) (w.items i)
 
 pub adoptions_adopt : AdoptionsAdopt
 adoptions_adopt old new plan n below w =
-    let items = same_items plan n old new w in
     let lines : lines_of new ≡ lines_of old ++ Adoption ∷ [] =
-    (λ i. lines_in (items i) (w.targets i) (w.journal i)) ∙ lines_put (items_of old) (old 12) n _ (old 11) below in (
+    (λ i. lines_in (w.targets i) (w.journal i)) ∙ lines_put (old 12) n _ (old 11) below in (
       λ i. record {
-        items = items i;
+        items = items_in (prints_in (w.prints i)) (w.items i);
         arrivals = arrivals_in (w.arrivals i);
         kept = all_kept_in (w.kept i);
         rows = w.rows i;
@@ -37,17 +27,6 @@ adoptions_adopt old new plan n below w =
       },
       λ i. bodies_by (contents_in (w.items i)) (wholes_in (w.prints i)),
     )
-
--- the items of its lines are there, since an adoption speaks of none
-joined : (n : ℕ) (plan : List ℕ) (old new : Trees) → AreJoined n old → Adopts plan n old new → AreJoined (n + 1) new
-joined n plan old new j w =
-    let P : Row → Type 0 = IsJoined (items_of old) in
-    let none : P (adopted_line n) = λ few. absurd (omega (arith, few)) in
-    record {
-      items = subst (λ rows. AllByRecursion (IsJoined (items_of new)) rows) (sym w.journal)
-          (subst (λ is. AllByRecursion (IsJoined is) (put_row (adopted_line n) (old 11))) (sym (same_items plan n old new w)) (all-put_row P (adopted_line n) (old 11) none j.items));
-      targets = λ m later. ap (λ rows. names_in rows m) w.targets ∙ j.targets m (omega (arith, later));
-    }
 
 -- what was needed is needed
 needed_still : (b : Book) (bodies : Bodies) → HasBodies b bodies → HasBodies (after Adoption b) bodies
@@ -61,7 +40,7 @@ adopted_ledgers_are_of_the_next part next old new plan n below l w =
     let it = adoptions_adopt old new plan n below w in
     let b = book_of old in
     record {
-      joined = joined n plan old new l.joined w;
+      ahead = λ m later. ap (λ rows. names_in rows m) w.targets ∙ l.ahead m (omega (arith, later));
       journalled = subst (IsJournalled (site_routing next)) (sym it.0) (b.lines ++ Adoption ∷ [], adoptions_are_journalled (site_routing part) (site_routing next) l.journalled.0 b l.journalled.1);
       bodied = subst (λ (x : Book). HasBodies x (bodies_of new)) (sym it.0) (subst (HasBodies (after Adoption b)) (sym it.1) (needed_still b (bodies_of old) l.bodied));
     }

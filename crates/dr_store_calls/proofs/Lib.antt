@@ -4,5 +4,6 @@ pub mod Changes
 pub mod Fitting
 pub mod Knows
 pub mod Moves
+pub mod Overs
 pub mod Reading
 pub mod Takings

@@ -2,12 +2,10 @@
 use Rattle.std.proofs.Common.{◌≡◌, ◌≢◌, ◌⊎◌, ◌↔◌, inl, inr, ℕ, pos, ◌+◌, ◌≤◌, ◌^◌, Bool, true, false, cond, not, IsTrue, is_some, List, Option, Some, None, IsSome, Ok, Err, Result, refl, sym, ap, subst, ◌∙◌, true≢false, arith}
 use Rattle.std.specs.FinMap as map
 use Rattle.std.specs.FinSet as set
-use Rattle.std.specs.List.{AllByRecursion}
 use Rattle.std.specs.Ordering.{eq_by_cmp}
-use Rattle.sqlite.specs.Order.{Row, column}
-use Rattle.sqlite.specs.Tree.{Trees, put_row}
+use Rattle.sqlite.specs.Order.{Row}
+use Rattle.sqlite.specs.Tree.{Trees}
 use Rattle.sqlite_trees.proofs.ListLemmas.{all_weaker}
-use Rattle.sqlite_trees.proofs.TreeLemmas.{all-put_row}
 use Rattle.dr_base.specs.Texts.{Text}
 use Rattle.dr_site.specs.Parts.{Part}
 use Rattle.dr_ledger.specs.declared.fault.LedgerFault.{LedgerFault}
@@ -25,10 +23,10 @@ use Rattle.dr_ledger.specs.SiteRoutes.{site_routing}
 use Rattle.dr_ledger.proofs.Folding.{requeuings_are_journalled, settlings_are_journalled}
 use Rattle.dr_ledger.proofs.Maps.{get_new, get_other, got, text_pairs, ties_itself, same_or_not}
 use Rattle.dr_ledger.proofs.Wholes.{settled_fits}
-use Rattle.dr_store_schema.specs.Books.{AreBelow, all_kept_in, bodies_by, bodies_of, book_of, contents_in, is_whole, items_of, names_in, rows_in, rows_of, wholes_in}
-use Rattle.dr_store_schema.specs.Cells.{due_of, number_in}
+use Rattle.dr_store_schema.specs.Books.{AreBelow, all_kept_in, bodies_by, bodies_of, book_of, contents_in, is_whole, names_in, rows_in, rows_of, wholes_in}
+use Rattle.dr_store_schema.specs.Cells.{due_of}
 use Rattle.dr_store_writes.specs.Effects.{HasRow, requeued_line, settled_line}
-use Rattle.dr_store_changes.specs.Bringing.{AreJoined, IsJoined}
+use Rattle.dr_store_changes.specs.Bringing.{GoNowhere}
 use Rattle.dr_store_changes.specs.Changes.{AsksForRow, HasBoth, MovesOn}
 use Rattle.dr_store_changes.specs.Laws.{GoesWhereNeededNoMore}
 use Rattle.dr_store_changes.specs.Writing.{IsReady}
@@ -86,12 +84,8 @@ module _ (base db : Trees) (uid dest : Text) (to : Progress) (line : Row) (lets_
   goes true says = still_needed (says.0 refl)
   goes false says = λ needed. true≢false (sym (says.1 (only_needed needed)))
 
-  moved_joined : (n : ℕ) → AreJoined n base → (number_in (column line 2) ≤ 1 → ⊥) → AreJoined (n + 1) db
-  moved_joined n j kind = record {
-    items = subst (λ rows. AllByRecursion (IsJoined (items_of db)) rows) (sym w.journal)
-        (subst (λ is. AllByRecursion (IsJoined is) (put_row line (base 11))) (sym w.items) (all-put_row (IsJoined (items_of base)) line (base 11) (λ few. absurd (kind few)) j.items));
-    targets = λ m later. ap (λ rows. names_in rows m) w.targets ∙ j.targets m (omega (arith, later));
-  }
+  moved_ahead : (n : ℕ) → GoNowhere n base → GoNowhere (n + 1) db
+  moved_ahead n ahead m later = ap (λ rows. names_in rows m) w.targets ∙ ahead m (omega (arith, later))
 
 pub settles : (n : ℕ) (part : Part) (base db : Trees) (uid dest : Text) (tries due : ℕ) (to : Progress) (what : Outcome) (now : ℕ) (needed : Bool) → now ≤ 2 ^ 62 → AreBelow n (base 11) → IsLedgerOf n part base
     → map.get (rows_of base) (uid, dest) ≡ Some (Waiting tries due) → to ≡ row_after tries what now → (IsTrue needed ↔ IsNeededStill base uid dest to)
@@ -104,7 +98,7 @@ settles n part base db uid dest tries due to what now needed early below l waits
     let answer : Settles uid dest what now (book_of base) (Ok tt) (book_of db) = ((tries, due, waits), book) in
     let unfinished : Waiting tries due ≢ Done = λ e. cc in (
       record {
-        joined = moved_joined base db uid dest to line (not needed) w n l.joined (λ few. omega (arith, few));
+        ahead = moved_ahead base db uid dest to line (not needed) w n l.ahead;
         journalled = (l.journalled.0, settlings_are_journalled (site_routing part) l.journalled.0 uid dest what now (book_of base) (book_of db) (Ok tt) early l.journalled.1 answer);
         bodied = what_is_needed_stays base db uid dest (Waiting tries due) to line (not needed) l.bodied (row_needed base uid dest (Waiting tries due) waits unfinished) w (goes base db uid dest to line (not needed) w needed says);
       },
@@ -121,7 +115,7 @@ requeues n part base db uid dest why below l held w =
     let unfinished : Held why ≢ Done = λ e. cc in
     let again : Waiting 0 0 ≢ Done = λ e. cc in (
       record {
-        joined = moved_joined base db uid dest (Waiting 0 0) line false w n l.joined (λ few. omega (arith, few));
+        ahead = moved_ahead base db uid dest (Waiting 0 0) line false w n l.ahead;
         journalled = (l.journalled.0, requeuings_are_journalled (site_routing part) l.journalled.0 uid dest (book_of base) (book_of db) (Ok tt) l.journalled.1 answer);
         bodied = what_is_needed_stays base db uid dest (Held why) (Waiting 0 0) line false l.bodied (row_needed base uid dest (Held why) held unfinished) w (still_needed base db uid dest (Waiting 0 0) line false w (inl again));
       },

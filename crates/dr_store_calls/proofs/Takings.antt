@@ -1,14 +1,9 @@
 -- Arrivals that are taken.
-use Rattle.std.proofs.Common.{◌≡◌, ◌≢◌, ◌⊎◌, ◌==◌, inl, inr, ℕ, pos, ◌+◌, ◌≤◌, Bool, true, false, cond, not, ◌&&◌, is_some, List, [], ◌∷◌, Contains, Option, Some, None, IsSome, Ok, Err, Result, refl, sym, ap, subst, ◌∙◌, true≢false, arith, ne_eqb}
+use Rattle.std.proofs.Common.{◌≡◌, ◌≢◌, ◌⊎◌, ◌==◌, inl, inr, ℕ, pos, ◌+◌, ◌≤◌, Bool, true, false, cond, not, ◌&&◌, List, [], ◌∷◌, Contains, Option, Some, None, IsSome, Ok, Err, Result, refl, sym, ap, subst, ◌∙◌, true≢false, arith, ne_eqb}
 use Rattle.std.specs.FinMap as map
-use Rattle.std.specs.FinMap.{FinMap}
 use Rattle.std.specs.FinSet as set
-use Rattle.std.specs.List.{AllByRecursion}
-use Rattle.sqlite.specs.Order.{Row, column}
-use Rattle.sqlite.specs.Tree.{Trees, put_row}
-use Rattle.sqlite_trees.proofs.ListLemmas.{all_weaker}
-use Rattle.sqlite_trees.proofs.TreeLemmas.{all-put_row}
-use Rattle.dr_base.specs.Texts.{Text, text_cmp}
+use Rattle.sqlite.specs.Tree.{Trees}
+use Rattle.dr_base.specs.Texts.{Text}
 use Rattle.dr_plan_model.proofs.WalksAlike.{local_never_sent_to}
 use Rattle.dr_route.specs.declared.key.Key.{Key}
 use Rattle.dr_route.specs.Routes.{local}
@@ -30,28 +25,18 @@ use Rattle.dr_ledger.specs.SiteRoutes.{site_routing}
 use Rattle.dr_ledger.proofs.Folding.{arrivals_are_journalled}
 use Rattle.dr_ledger.proofs.Growing.{inside}
 use Rattle.dr_ledger.proofs.Maps.{got, texts}
-use Rattle.dr_store_schema.specs.Books.{AreBelow, arrivals_in, bodies_of, book_of, items_in, items_of, names_in, prints_in, rows_of}
-use Rattle.dr_store_schema.specs.Cells.{text_in}
+use Rattle.dr_store_schema.specs.Books.{AreBelow, arrivals_in, bodies_of, book_of, items_of, names_in, rows_of}
 use Rattle.dr_store_writes.specs.Effects.{arrived_line}
 use Rattle.dr_store_changes.specs.declared.first.Taking.{Taking}
 use Rattle.dr_store_changes.specs.declared.first.Taking.TheVariants as taking
-use Rattle.dr_store_changes.specs.Bringing.{AreJoined, AreNames, Brings, IsJoined, IsKnownFor, bodies_taken, items_taken, missing, names_for}
+use Rattle.dr_store_changes.specs.Bringing.{AreNames, Brings, GoNowhere, IsKnownFor, bodies_taken, missing, names_for}
 use Rattle.dr_store_changes.specs.Changes.{AddsOnlyLine, with_names}
 use Rattle.dr_store_changes.proofs.Bookings.{repeats_repeat}
-use Rattle.dr_store_changes.proofs.Joins.{Stay, arrivals_arrive, data_sets_come, taken_stay, taken_there}
+use Rattle.dr_store_changes.proofs.Joins.{arrivals_arrive, data_sets_come}
 use Rattle.sqlite.specs.State.{State}
 use Rattle.dr_store_calls.specs.Calling.{Called, IsLedgerOf, IsOwnFault, Looked}
 use Rattle.dr_store_calls.specs.Knowing.{Fits, IsAccepted, IsThere}
 use Rattle.dr_store_calls.proofs.Calls.{looked_failed, still_called}
-
--- ---- lines
-
--- a line's item that was there is there still
-still_joined : (items more : FinMap text_cmp Instance) → Stay items more → (row : Row) → IsJoined items row → IsJoined more row
-still_joined items more stay row joined few = ap is_some (stay (text_in (column row 4)) (joined few)) ∙ joined few
-
-line_joined : (n kind : ℕ) (caller uid : Text) (items : FinMap text_cmp Instance) (item : Instance) → map.get items uid ≡ Some item → IsJoined items (arrived_line n kind caller uid)
-line_joined n kind caller uid items item there few = ap is_some there
 
 -- ---- a first arrival
 
@@ -77,7 +62,7 @@ module _ (n : ℕ) (part : Part) (how : Taking) (caller : Text) (item : Job) (to
   book : book_of db ≡ after (Arrival caller instance to keep) (book_of base)
   book =
       let P : List Text → Bool → Type 0 = λ ds ks. Brings how caller instance item.body ds ks (names_for keep to) n base db in
-      arrivals_arrive how base db n caller instance item.body to keep below l.joined f.known names (subst (λ ks. P (missing (rows_of base) item.uid to) ks) f.keeps_is (subst (λ ds. P ds keeps) f.missing_are w))
+      arrivals_arrive how base db n caller instance item.body to keep below l.ahead f.known names (subst (λ ks. P (missing (rows_of base) item.uid to) ks) f.keeps_is (subst (λ ds. P ds keeps) f.missing_are w))
 
   same : (held : Instance) → map.get (items_of base) item.uid ≡ Some held → held ≡ instance
   same held is = known_same how instance (map.get (items_of base) item.uid) f.known held is
@@ -90,53 +75,33 @@ module _ (n : ℕ) (part : Part) (how : Taking) (caller : Text) (item : Job) (to
       subst (λ b. HasBodies b (bodies_of db)) (sym book)
       (subst (λ x. HasBodies (after (Arrival caller instance to keep) (book_of base)) x) (sym w.bodies) (data_sets_come how (book_of base) caller item to keep (bodies_of base) is_item l.bodied same f.comes))
 
-  stay : Stay (items_of base) (items_of db)
-  stay = subst (λ m. Stay (items_of base) m) (sym w.items) (taken_stay how (items_of base) instance f.known)
-
-  there : map.get (items_of db) item.uid ≡ Some instance
-  there = ap (λ m. map.get m item.uid) w.items ∙ taken_there how (items_of base) instance f.known
-
-  joined : AreJoined (n + 1) db
-  joined =
-      let j = l.joined in
-      record {
-        items = subst (λ rows. AllByRecursion (IsJoined (items_of db)) rows) (sym w.journal)
-            (all-put_row (IsJoined (items_of db)) (arrived_line n 0 caller item.uid) (base 11) (line_joined n 0 caller item.uid (items_of db) instance there)
-            (all_weaker (IsJoined (items_of base)) (IsJoined (items_of db)) (still_joined (items_of base) (items_of db) stay) (base 11) j.items));
-        targets = λ m later.
-            w.targets m ∙ ap (λ b. cond b (with_names (names_in (base 12) m) (names_for keep to)) (names_in (base 12) m)) (ne_eqb n m (λ e. omega (arith, e, later)))
-            ∙ j.targets m (omega (arith, later));
-      }
+  ahead : GoNowhere (n + 1) db
+  ahead m later =
+      w.targets m ∙ ap (λ b. cond b (with_names (names_in (base 12) m) (names_for keep to)) (names_in (base 12) m)) (ne_eqb n m (λ e. omega (arith, e, later)))
+      ∙ l.ahead m (omega (arith, later))
 
   pub arrives : IsLedgerOf (n + 1) part db × (Arrives (site_routing part) caller instance (book_of base) (Ok New) (book_of db) × OnlyTakes item (bodies_of base) (bodies_of db))
   arrives = (
-    record { joined = joined; journalled = (l.journalled.0, arrivals_are_journalled (site_routing part) l.journalled.0 caller instance (book_of base) (book_of db) (Ok New) l.journalled.1 answer); bodied = bodied },
+    record { ahead = ahead; journalled = (l.journalled.0, arrivals_are_journalled (site_routing part) l.journalled.0 caller instance (book_of base) (book_of db) (Ok New) l.journalled.1 answer); bodied = bodied },
     (answer, subst (λ x. OnlyTakes item (bodies_of base) x) (sym w.bodies) (only_takes how item (bodies_of base))),
   )
 
 -- ---- a repeat
 
 pub repeats : (n : ℕ) (part : Part) (caller : Text) (item : Job) (whole : Bool) (base db : Trees) → HasLineFor part caller item.key → AreBelow n (base 11) → IsLedgerOf n part base
-    → IsThere base (instance_of item) whole → set.contains (arrivals_in (base 5)) (caller, item.uid) ≡ true → AddsOnlyLine (arrived_line n 1 caller item.uid) base db
+    → IsThere base (instance_of item) whole → set.contains (arrivals_in (base 5)) (caller, item.uid) ≡ true → AddsOnlyLine (arrived_line n 1 caller (instance_of item)) base db
     → IsLedgerOf (n + 1) part db × (Arrives (site_routing part) caller (instance_of item) (book_of base) (Ok Again) (book_of db) × OnlyTakes item (bodies_of base) (bodies_of db))
 repeats n part caller item whole base db line below l was again w =
     let instance = instance_of item in
-    let made = repeats_repeat base db n caller item.uid instance below was.same w in
-    let items : items_of db ≡ items_of base = λ i. items_in (prints_in (w.prints i)) (w.items i) in
+    let made = repeats_repeat base db n caller instance below w in
     let answer : Arrives (site_routing part) caller instance (book_of base) (Ok Again) (book_of db) = (
       record { line = line; same = λ held is. sym (inside instance held (sym was.same ∙ is)) },
       again,
       made.0,
     ) in
-    let has : HasBodies (after (Repeat caller instance) (book_of base)) (bodies_of base) = record { there = l.bodied.there; own = l.bodied.own } in
-    let j = l.joined in (
+    let has : HasBodies (after (Repeat caller instance) (book_of base)) (bodies_of base) = record { there = l.bodied.there; own = l.bodied.own } in (
       record {
-        joined = record {
-          items = subst (λ rows. AllByRecursion (IsJoined (items_of db)) rows) (sym w.journal)
-              (subst (λ is. AllByRecursion (IsJoined is) (put_row (arrived_line n 1 caller item.uid) (base 11))) (sym items)
-              (all-put_row (IsJoined (items_of base)) (arrived_line n 1 caller item.uid) (base 11) (line_joined n 1 caller item.uid (items_of base) instance was.same) j.items));
-          targets = λ m later. ap (λ rows. names_in rows m) w.targets ∙ j.targets m (omega (arith, later));
-        };
+        ahead = λ m later. ap (λ rows. names_in rows m) w.targets ∙ l.ahead m (omega (arith, later));
         journalled = (l.journalled.0, arrivals_are_journalled (site_routing part) l.journalled.0 caller instance (book_of base) (book_of db) (Ok Again) l.journalled.1 answer);
         bodied = subst (λ b. HasBodies b (bodies_of db)) (sym made.0) (subst (λ x. HasBodies (after (Repeat caller instance) (book_of base)) x) (sym made.1) has);
       },

@@ -11,18 +11,18 @@ use Rattle.dr_ledger.specs.Histories.{IsJournalled}
 use Rattle.dr_ledger.specs.Replies.{LastsAfter, Reads}
 use Rattle.dr_ledger.specs.SiteRoutes.{site_routing}
 use Rattle.dr_store_schema.specs.Books.{bodies_of, book_of}
-use Rattle.dr_store_changes.specs.Bringing.{AreJoined}
+use Rattle.dr_store_changes.specs.Bringing.{GoNowhere}
 use Rattle.dr_store_changes.specs.Writing.{IsReady}
 
 -- the disk has returned what was written, and the store is open
 abbrev pub IsSafe : State → Type 0
 IsSafe s = HasCleanDisk s × IsTrue s.is_open
 
--- What the tables of a ledger of that site show, where its next line has number n: lines that are
--- joined with what they speak of, a book that its journal makes, and just the data sets that the
--- book needs.
+-- What the tables of a ledger of that site show, where its next line has number n: no targets of
+-- lines that are still to come, a book that its journal makes, and just the data sets that the book
+-- needs.
 pub record IsLedgerOf (n : ℕ) (part : Part) (db : Trees) : Type 0 where
-  pub joined : AreJoined n db
+  pub ahead : GoNowhere n db
   pub journalled : IsJournalled (site_routing part) (book_of db)
   pub bodied : HasBodies (book_of db) (bodies_of db)
 

@@ -53,10 +53,13 @@ pub fn repeat<'x, S: Alter>(
     n: u64,
     caller: &'x Text,
     item: &'x Job,
+    instance: &'x Instance,
     whole: bool,
 ) -> Result<Arrived, LedgerFault>
     requires idle { conn.old.in_transaction ≡ false }
     requires line { HasLineFor site.now caller.now item.now.key }
+    requires instance { instance.now ≡ instance_of item.now }
+    requires is_item { IsItem item.now }
     ensures called { Called n (advanced result n) site.now result (state S.Store conn.old)
         (state S.Store conn.new)
         (λ base. IsThere base (instance_of item.now) whole
@@ -71,7 +74,7 @@ pub fn repeat<'x, S: Alter>(
 {
     let change = Repeating {
         caller,
-        uid: &item.uid,
+        item: instance,
     };
     match written(conn, n, &change) {
         Ok(()) => Ok(Arrived::Again),

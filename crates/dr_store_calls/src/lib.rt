@@ -9,6 +9,7 @@
 pub mod adopting;
 pub mod adoption_laws;
 pub mod arriving;
+pub mod forgetting;
 pub mod knowing;
 pub mod laws;
 mod needs;
@@ -19,6 +20,7 @@ mod writing;
 
 pub use adopting::adopt;
 pub use arriving::{bring_item, bring_new, repeat};
+pub use forgetting::{forget, is_over};
 pub use knowing::{Known, know};
 pub use plan::NewPlan;
 pub use receiving::{arrive, receive};

@@ -319,7 +319,7 @@ fn arrive_there<'x, S: Alter>(
     ensures idle { conn.new.in_transaction ≡ false }
 {
     if brought {
-        return repeat(conn, site, n, caller, item, whole);
+        return repeat(conn, site, n, caller, item, instance, whole);
     }
     arrive_first(conn, alloc, site, n, caller, item, instance, whole)
 }

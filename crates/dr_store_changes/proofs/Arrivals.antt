@@ -43,10 +43,10 @@ only_line n line old new numbered adds =
 
 -- ---- the items, by what stands at each uid
 
-abbrev keyed : Row → Text × Key
+abbrev pub keyed : Row → Text × Key
 keyed row = ((content_in row).0, key_in row)
 
-abbrev keys_in : List Row → FinMap text_cmp Key
+abbrev pub keys_in : List Row → FinMap text_cmp Key
 keys_in rows = map.from_entries (mapped keyed rows)
 
 found_item : (prints : FinMap text_cmp Print) (q : Text) (rows : List Row) → find text_cmp q (mapped (item_in prints) rows) ≡ option_map (λ key. instance_by prints q key) (find text_cmp q (mapped keyed rows))
@@ -58,7 +58,7 @@ found_item prints q (r ∷ rows) = go (eq_by_cmp text_cmp q (content_in r).0) re
     go true is later = ap (λ uid. Some (instance_by prints uid (key_in r))) (sym (exact_bytes q (content_in r).0 (equal _ is)))
     go false is later = later
 
-item_at : (prints : FinMap text_cmp Print) (rows : List Row) (q : Text) → map.get (items_in prints rows) q ≡ option_map (λ key. instance_by prints q key) (map.get (keys_in rows) q)
+pub item_at : (prints : FinMap text_cmp Print) (rows : List Row) (q : Text) → map.get (items_in prints rows) q ≡ option_map (λ key. instance_by prints q key) (map.get (keys_in rows) q)
 item_at prints rows q =
     map.get-from_entries nat_list_cmp_total (mapped (item_in prints) rows) q ∙ found_item prints q rows
     ∙ ap (option_map (λ key. instance_by prints q key)) (sym (map.get-from_entries nat_list_cmp_total (mapped keyed rows) q))

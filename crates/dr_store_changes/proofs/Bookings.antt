@@ -10,14 +10,15 @@ use Rattle.sqlite.specs.declared.types.Value.TheVariants.{Int}
 use Rattle.sqlite.specs.Order.{Row}
 use Rattle.sqlite.specs.Tree.{Trees}
 use Rattle.dr_base.specs.Texts.{Text, text_cmp}
+use Rattle.dr_ledger.specs.declared.item.Instance.{Instance}
 use Rattle.dr_ledger.specs.declared.item.Progress.{Progress}
 use Rattle.dr_ledger.specs.declared.item.Progress.TheVariants.{Waiting}
 use Rattle.dr_ledger.specs.Bodies.{IsNeeded}
 use Rattle.dr_ledger.specs.Books.{Book, Repeat, Settling, Requeuing, after, row_after, settled_row, requeued_row}
 use Rattle.dr_ledger.specs.Pairs.{Pair, pair_cmp}
-use Rattle.dr_store_schema.specs.Books.{AreBelow, all_kept_in, arrivals_in, bodies_by, bodies_of, book_of, contents_in, item_or_none, items_in, items_of, line_in, lines_in, lines_of, prints_in, rows_in, rows_of, wholes_in}
-use Rattle.dr_store_schema.proofs.WhatIsWritten.{outcome_back}
-use Rattle.dr_store_writes.specs.Effects.{requeued_line, settled_line}
+use Rattle.dr_store_schema.specs.Books.{AreBelow, all_kept_in, arrivals_in, bodies_by, bodies_of, book_of, contents_in, instance_in, items_in, items_of, line_in, lines_in, lines_of, prints_in, rows_in, rows_of, wholes_in}
+use Rattle.dr_store_schema.proofs.WhatIsWritten.{cells_say_what_was_written, outcome_back}
+use Rattle.dr_store_writes.specs.Effects.{arrived_line, requeued_line, settled_line}
 use Rattle.dr_store_writes.proofs.Keys.{pairs_total, pairs_exact}
 use Rattle.dr_store_writes.proofs.Maps.{equal}
 use Rattle.dr_store_changes.specs.Changes.{MovesOn}
@@ -26,8 +27,8 @@ use Rattle.dr_store_changes.specs.Laws.{GoesWhereNeededNoMore, RepeatsRepeat, Re
 
 -- where only a row moves on, the book has these lines
 lines_moved : (old new : Trees) (at : Pair) (to : Progress) (n : ℕ) (rest : Row) (lets_go : Bool) → AreBelow n (old 11) → MovesOn at to (Int (pos n) ∷ rest) lets_go old new
-    → lines_of new ≡ lines_of old ++ line_in (items_of old) (old 12) (Int (pos n) ∷ rest) ∷ []
-lines_moved old new at to n rest lets_go below w = (λ i. lines_in (w.items i) (w.targets i) (w.journal i)) ∙ lines_put (items_of old) (old 12) n rest (old 11) below
+    → lines_of new ≡ lines_of old ++ line_in (old 12) (Int (pos n) ∷ rest) ∷ []
+lines_moved old new at to n rest lets_go below w = (λ i. lines_in (w.targets i) (w.journal i)) ∙ lines_put (old 12) n rest (old 11) below
 
 book_moved : (old new : Trees) (at : Pair) (to : Progress) (line : Row) (lets_go : Bool) (made : Book) → MovesOn at to line lets_go old new
     → items_of old ≡ made.items → arrivals_in (old 5) ≡ made.arrivals → all_kept_in (old 7) ≡ made.kept → rows_of new ≡ made.rows → lines_of new ≡ made.lines → book_of new ≡ made
@@ -56,14 +57,16 @@ requeuings_requeue old new n uid dest why lets_go below held w =
     (w.rows ∙ ap (λ o. requeued_row (rows_of old) (uid, dest) o) (sym held))
     (lines_moved old new (uid, dest) (Waiting 0 0) n _ lets_go below w)
 
+-- the line of an arrival has what came
+pub came : (item : Instance) (n kind : ℕ) (caller : Text) → instance_in (arrived_line n kind caller item) ≡ item
+came item n kind caller = λ i. record item { key = record item.key { syntax = cells_say_what_was_written.syntax item.key.syntax i } }
+
 pub repeats_repeat : RepeatsRepeat
-repeats_repeat old new n caller uid item below there w =
-    let items : items_of new ≡ items_of old = λ i. items_in (prints_in (w.prints i)) (w.items i) in
+repeats_repeat old new n caller item below w =
     let lines : lines_of new ≡ lines_of old ++ Repeat caller item ∷ [] =
-    (λ i. lines_in (items i) (w.targets i) (w.journal i)) ∙ lines_put (items_of old) (old 12) n _ (old 11) below
-    ∙ ap (λ found. lines_of old ++ Repeat caller (item_or_none uid found) ∷ []) there in (
+    (λ i. lines_in (w.targets i) (w.journal i)) ∙ lines_put (old 12) n _ (old 11) below ∙ ap (λ it. lines_of old ++ Repeat caller it ∷ []) (came item n 1 caller) in (
       λ i. record {
-        items = items i;
+        items = items_in (prints_in (w.prints i)) (w.items i);
         arrivals = arrivals_in (w.arrivals i);
         kept = all_kept_in (w.kept i);
         rows = rows_in (w.queue i);

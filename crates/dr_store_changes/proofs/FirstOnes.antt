@@ -47,7 +47,7 @@ step_then old mid new x r P One Other one two =
 -- ---- the item and its data set
 
 -- to remove what isn't there changes nothing
-none_left : (bodies : Bodies) (uid : Text) → map.get bodies uid ≡ None → map.remove bodies uid ≡ bodies
+pub none_left : (bodies : Bodies) (uid : Text) → map.get bodies uid ≡ None → map.remove bodies uid ≡ bodies
 none_left bodies uid none = map.same_map nat_list_cmp_total exact_bytes _ _ (λ q. map.get-remove nat_list_cmp_total bodies uid q ∙ go q (eq_by_cmp text_cmp q uid) refl)
   where
     go : (q : Text) (b : Bool) → eq_by_cmp text_cmp q uid ≡ b → cond b None (map.get bodies q) ≡ map.get bodies q
@@ -106,8 +106,8 @@ not_kept uid db = record { kept = refl; site = refl; items = refl; prints = refl
 
 -- ---- its line
 
-pub line_added : (n : ℕ) (caller uid : Text) (old new : State) → AddsRow 11 (arrived_line n 0 caller uid) old new → GoesOn old new × AddsOnlyLine (arrived_line n 0 caller uid) old.now.trees new.now.trees
-line_added n caller uid old new adds = let m = only_line n (arrived_line n 0 caller uid) old new refl adds in (m.goes_on, m.made)
+pub line_added : (n : ℕ) (caller : Text) (item : Instance) (old new : State) → AddsRow 11 (arrived_line n 0 caller item) old new → GoesOn old new × AddsOnlyLine (arrived_line n 0 caller item) old.now.trees new.now.trees
+line_added n caller item old new adds = let m = only_line n (arrived_line n 0 caller item) old new refl adds in (m.goes_on, m.made)
 
 -- ---- all of it
 
@@ -115,14 +115,14 @@ line_added n caller uid old new adds = let m = only_line n (arrived_line n 0 cal
 abbrev pub Filled : Taking → Text → Instance → List ℕ → List Text → Bool → Trees → Trees → Type 0
 Filled how caller item body dests keeps = Then (Then (TakesIn how item body) (NotesArrival (caller, item.uid))) (Then (AddsRows item.uid dests) (KeepsIf item.uid keeps))
 
-abbrev pub LineWritten : Text → Text → List Text → ℕ → Trees → Trees → Type 0
-LineWritten caller uid names n = Then (AddsOnlyLine (arrived_line n 0 caller uid)) (AddsTargets n names)
+abbrev pub LineWritten : Text → Instance → List Text → ℕ → Trees → Trees → Type 0
+LineWritten caller item names n = Then (AddsOnlyLine (arrived_line n 0 caller item)) (AddsTargets n names)
 
 pub brought : (how : Taking) (caller : Text) (item : Instance) (body : List ℕ) (dests : List Text) (keeps : Bool) (names : List Text) (n : ℕ) (old new : Trees)
-    → Then (Filled how caller item body dests keeps) (LineWritten caller item.uid names n) old new → Brings how caller item body dests keeps names n old new
+    → Then (Filled how caller item body dests keeps) (LineWritten caller item names n) old new → Brings how caller item body dests keeps names n old new
 brought how caller item body dests keeps names n old new all =
     let at : Pair = (caller, item.uid) in
-    let line : Row = arrived_line n 0 caller item.uid in
+    let line : Row = arrived_line n 0 caller item in
     let filled = all.1 in
     let written = all.2 in
     let t = filled.1.1 in
@@ -145,8 +145,8 @@ brought how caller item body dests keeps names n old new all =
     }
 
 pub arrival_made : (how : Taking) (caller : Text) (item : Instance) (body : List ℕ) (dests : List Text) (keeps : Bool) (names : List Text) (n : ℕ) (old new : State)
-    → GoesOn old new × Then (Filled how caller item body dests keeps) (LineWritten caller item.uid names n) old.now.trees new.now.trees
+    → GoesOn old new × Then (Filled how caller item body dests keeps) (LineWritten caller item names n) old.now.trees new.now.trees
     → IsMade n (Brings how caller item body dests keeps names n) old new
 arrival_made how caller item body dests keeps names n old new all =
     let made = brought how caller item body dests keeps names n old.now.trees new.now.trees all.1 in
-    record { goes_on = all.0; line = record { row = arrived_line n 0 caller item.uid; numbered = refl; journal = made.journal }; made = made }
+    record { goes_on = all.0; line = record { row = arrived_line n 0 caller item; numbered = refl; journal = made.journal }; made = made }

@@ -1,5 +1,5 @@
 -- What first arrivals make of the book, and of its data sets.
-use Rattle.std.proofs.Common.{◌≡◌, ◌≢◌, ◌↔◌, inl, inr, ℕ, pos, zero, suc, ◌≤◌, ◌<◌, ◌==◌, List, [], ◌∷◌, ◌++◌, Contains, map as mapped, Bool, true, false, cond, not, ◌&&◌, ◌||◌, T, is_some, Option, Some, None, IsSome, unwrap_or, refl, sym, ap, subst, ◌∙◌, true≢false, arith, ne_eqb, eq-eqb}
+use Rattle.std.proofs.Common.{◌≡◌, ◌≢◌, ◌↔◌, inl, inr, ℕ, pos, ◌<◌, ◌==◌, List, [], ◌∷◌, ◌++◌, Contains, map as mapped, Bool, true, false, cond, not, ◌&&◌, ◌||◌, T, is_some, Option, Some, None, unwrap_or, refl, sym, ap, subst, ◌∙◌, true≢false, arith, ne_eqb, eq-eqb}
 use Rattle.std.specs.Cmp.Lexicographic.{nat_list_cmp_total}
 use Rattle.std.specs.declared.cmp.Ordering.{Ordering}
 use Rattle.std.specs.declared.cmp.Ordering.TheVariants.{Less, Equal, Greater}
@@ -22,26 +22,26 @@ use Rattle.dr_base.specs.Texts.{IsInByteOrder, Text, text_cmp}
 use Rattle.dr_plan_model.proofs.Gathered.{Contains-cons_cases, nothing_in_nil}
 use Rattle.dr_ledger.specs.declared.content.Job.{Job}
 use Rattle.dr_ledger.specs.declared.item.Instance.{Instance}
-use Rattle.dr_ledger.specs.declared.item.Outcome.{Outcome}
 use Rattle.dr_ledger.specs.declared.item.Progress.{Progress}
 use Rattle.dr_ledger.specs.declared.item.Progress.TheVariants.{Waiting}
 use Rattle.dr_ledger.specs.Bodies.{Bodies, HasBodies, IsNeeded}
-use Rattle.dr_ledger.specs.Books.{Book, Arrival, Repeat, after, with_rows}
+use Rattle.dr_ledger.specs.Books.{Book, Arrival, after, with_rows}
 use Rattle.dr_ledger.specs.Items.{IsItem, instance_of}
 use Rattle.dr_ledger.specs.Pairs.{Pair, pair_cmp}
 use Rattle.dr_ledger.proofs.Growing.{inside, kept_from, rows_from, rows_stay, still_kept}
 use Rattle.dr_ledger.proofs.Maps.{filled_is, filled_keeps, get_new, get_other, same_or_not, texts, ties_itself}
 use Rattle.dr_ledger.proofs.PlanRouting.{any_from, one_list, or_right}
-use Rattle.dr_store_schema.specs.Books.{AreBelow, Names, all_kept_in, arrivals_in, bodies_of, book_of, item_or_none, items_of, keep_mark, line_by, line_in, lines_in, lines_of, names_in, numbered_line, rows_of}
-use Rattle.dr_store_schema.specs.Cells.{number_in, text_in}
+use Rattle.dr_store_schema.specs.Books.{AreBelow, Names, all_kept_in, arrivals_in, bodies_of, book_of, instance_in, items_of, keep_mark, line_by, line_in, lines_in, lines_of, names_in, numbered_line, rows_of}
+use Rattle.dr_store_schema.specs.Cells.{number_in, outcome_in, text_in}
 use Rattle.dr_store_writes.specs.Effects.{arrived_line}
 use Rattle.dr_store_writes.proofs.Keys.{pairs_exact, pairs_total}
 use Rattle.dr_store_writes.proofs.Maps.{equal}
 use Rattle.dr_store_changes.specs.declared.first.Taking.{Taking}
 use Rattle.dr_store_changes.specs.declared.first.Taking.TheVariants as taking
-use Rattle.dr_store_changes.specs.Bringing.{AreJoined, AreNames, Brings, IsJoined, IsKnownFor, bodies_taken, items_taken, missing, names_for}
+use Rattle.dr_store_changes.specs.Bringing.{AreNames, Brings, IsKnownFor, bodies_taken, items_taken, missing, names_for}
 use Rattle.dr_store_changes.specs.Changes.{with_names}
 use Rattle.dr_store_changes.specs.Laws.{ArrivalsArrive, ComesWhereNeeded, DataSetsCome}
+use Rattle.dr_store_changes.proofs.Bookings.{came}
 use Rattle.dr_store_changes.proofs.Numbers.{lines_put}
 use Rattle.dr_store_changes.proofs.Sets.{present}
 
@@ -233,58 +233,21 @@ module _ (keep : Bool) (to : List Text) (names : AreNames to) where
 other_number : (n m : ℕ) (v : Value) → v ≡ Int (pos m) → m < n → (n == number_in v) ≡ false
 other_number n m v is below = ap (λ x. n == number_in x) is ∙ ne_eqb n m (λ e. omega (arith, e, below))
 
-line_same : (k : ℕ) (caller uid dest : Text) (what : Outcome) (now : ℕ) (a b : Instance) (to more : List Text) (keep also : Bool) → (k ≤ 1 → a ≡ b) → to ≡ more → keep ≡ also
-    → line_by k caller a uid dest what now to keep ≡ line_by k caller b uid dest what now more also
-line_same zero caller uid dest what now a b to more keep also f p q = λ i. Arrival caller (f (omega arith) i) (p i) (q i)
-line_same (suc zero) caller uid dest what now a b to more keep also f p q = ap (λ x. Repeat caller x) (f (omega arith))
-line_same (suc (suc zero)) caller uid dest what now a b to more keep also f p q = refl
-line_same (suc (suc (suc zero))) caller uid dest what now a b to more keep also f p q = refl
-line_same (suc (suc (suc (suc k)))) caller uid dest what now a b to more keep also f p q = refl
+module _ (targets others : List Row) (n : ℕ) (names : (m : ℕ) → (n == m) ≡ false → names_in others m ≡ names_in targets m) where
+  one_line_same : (row : Row) → (m : ℕ) × (rowid row ≡ Int (pos m)) × (m < n) → line_in others row ≡ line_in targets row
+  one_line_same row below =
+      let same = names (number_in (rowid row)) (other_number n below.0 (rowid row) below.1 below.2) in λ i.
+      line_by (number_in (column row 2)) (text_in (column row 3)) (instance_in row) (text_in (column row 4)) (text_in (column row 5)) (outcome_in (column row 6)) (number_in (column row 7))
+      (map.keys (map.remove (same i) keep_mark)) (map.contains_key (same i) keep_mark)
 
--- what is there stays for the lines
-abbrev pub Stay : FinMap text_cmp Instance → FinMap text_cmp Instance → Type 0
-Stay items more = (uid : Text) → IsSome (map.get items uid) → map.get more uid ≡ map.get items uid
+  numbered_same : (rows : List Row) → AreBelow n rows → mapped (numbered_line others) rows ≡ mapped (numbered_line targets) rows
+  numbered_same [] below = refl
+  numbered_same (row ∷ rows) below = λ i. (number_in (rowid row), one_line_same row below.0 i) ∷ numbered_same rows below.1 i
 
-module _ (items more : FinMap text_cmp Instance) (targets others : List Row) (n : ℕ) (names : (m : ℕ) → (n == m) ≡ false → names_in others m ≡ names_in targets m) (stay : Stay items more) where
-  one_line_same : (row : Row) → (m : ℕ) × (rowid row ≡ Int (pos m)) × (m < n) → IsJoined items row → line_in more others row ≡ line_in items targets row
-  one_line_same row below joined =
-      let uid = text_in (column row 4) in
-      let same = names (number_in (rowid row)) (other_number n below.0 (rowid row) below.1 below.2) in
-      line_same (number_in (column row 2)) _ uid _ _ _ (item_or_none uid (map.get more uid)) (item_or_none uid (map.get items uid)) _ _ _ _ (λ few. ap (item_or_none uid) (stay uid (joined few)))
-      (ap (λ (s : Names). map.keys (map.remove s keep_mark)) same) (ap (λ (s : Names). map.contains_key s keep_mark) same)
-
-  numbered_same : (rows : List Row) → AreBelow n rows → AllByRecursion (IsJoined items) rows → mapped (numbered_line more others) rows ≡ mapped (numbered_line items targets) rows
-  numbered_same [] below joined = refl
-  numbered_same (row ∷ rows) below joined = λ i. (number_in (rowid row), one_line_same row below.0 joined.0 i) ∷ numbered_same rows below.1 joined.1 i
-
-  lines_same : (rows : List Row) → AreBelow n rows → AllByRecursion (IsJoined items) rows → lines_in more others rows ≡ lines_in items targets rows
-  lines_same rows below joined = ap (λ es. map.values (map.from_entries {R = nat_cmp} es)) (numbered_same rows below joined)
+  lines_same : (rows : List Row) → AreBelow n rows → lines_in others rows ≡ lines_in targets rows
+  lines_same rows below = ap (λ es. map.values (map.from_entries {R = nat_cmp} es)) (numbered_same rows below)
 
 -- ---- the items
-
-put_stays : (items : FinMap text_cmp Instance) (item : Instance) (uid : Text) → map.get items item.uid ≡ None → (b : Bool) → eq_by_cmp text_cmp uid item.uid ≡ b → IsSome (map.get items uid)
-    → cond b (Some item) (map.get items uid) ≡ map.get items uid
-put_stays items item uid none true is there = absurd (let e : None ≡ map.get items uid = sym (ap (map.get items) (exact_bytes uid item.uid (equal _ is)) ∙ none) in true≢false (sym there ∙ sym (ap is_some e)))
-put_stays items item uid none false is there = refl
-
-new_stays : (items : FinMap text_cmp Instance) (item : Instance) → map.get items item.uid ≡ None → Stay items (map.insert items item.uid item)
-new_stays items item none uid there = map.get-insert nat_list_cmp_total items item.uid item uid ∙ put_stays items item uid none (eq_by_cmp text_cmp uid item.uid) refl there
-
-same_stays : (items : FinMap text_cmp Instance) → Stay items items
-same_stays items uid there = refl
-
-pub taken_stay : (how : Taking) (items : FinMap text_cmp Instance) (item : Instance) → IsKnownFor how item (map.get items item.uid) → Stay items (items_taken how items item)
-taken_stay taking.New items item known = new_stays items item known
-taken_stay taking.Bare items item known = new_stays items item known
-taken_stay taking.Again items item known = same_stays items
-taken_stay taking.Nothing items item known = same_stays items
-
--- its own item is there then
-pub taken_there : (how : Taking) (items : FinMap text_cmp Instance) (item : Instance) → IsKnownFor how item (map.get items item.uid) → map.get (items_taken how items item) item.uid ≡ Some item
-taken_there taking.New items item known = get_new texts items item.uid item
-taken_there taking.Bare items item known = get_new texts items item.uid item
-taken_there taking.Again items item known = known
-taken_there taking.Nothing items item known = known
 
 taken_is : (how : Taking) (items : FinMap text_cmp Instance) (item : Instance) → IsKnownFor how item (map.get items item.uid)
     → items_taken how items item ≡ map.insert items item.uid (unwrap_or (map.get items item.uid) item)
@@ -299,21 +262,17 @@ same_number : (n : ℕ) → (n == n) ≡ true
 same_number n = eq-eqb n n refl
 
 pub arrivals_arrive : ArrivalsArrive
-arrivals_arrive how old new n caller item body to keep below joined known names w =
-    let was = items_of old in
-    let items = w.items in
-    let stay : Stay was (items_of new) = subst (λ m. Stay was m) (sym items) (taken_stay how was item known) in
+arrivals_arrive how old new n caller item body to keep below ahead known names w =
     let others : (m : ℕ) → (n == m) ≡ false → names_in (new 12) m ≡ names_in (old 12) m = λ m is. w.targets m ∙ ap (λ b. cond b (with_names (names_in (old 12) m) (names_for keep to)) (names_in (old 12) m)) is in
     let its : names_in (new 12) n ≡ with_names map.empty (names_for keep to) =
     w.targets n ∙ ap (λ b. cond b (with_names (names_in (old 12) n) (names_for keep to)) (names_in (old 12) n)) (same_number n)
-    ∙ ap (λ (s : Names). with_names s (names_for keep to)) (joined.targets n (omega arith)) in
-    let there : map.get (items_of new) item.uid ≡ Some item = ap (λ m. map.get m item.uid) items ∙ taken_there how was item known in
+    ∙ ap (λ (s : Names). with_names s (names_for keep to)) (ahead n (omega arith)) in
     let lines : lines_of new ≡ lines_of old ++ Arrival caller item to keep ∷ [] =
-    ap (λ rows. lines_in (items_of new) (new 12) rows) w.journal ∙ lines_put (items_of new) (new 12) n _ (old 11) below
-    ∙ (λ i. lines_same was (items_of new) (old 12) (new 12) n others stay (old 11) below joined.items i
-    ++ Arrival caller (item_or_none item.uid (there i)) ((ap (λ (s : Names). map.keys (map.remove s keep_mark)) its ∙ its_targets keep to names) i) ((ap (λ (s : Names). map.contains_key s keep_mark) its ∙ it_keeps keep to names) i) ∷ []) in
+    ap (λ rows. lines_in (new 12) rows) w.journal ∙ lines_put (new 12) n _ (old 11) below
+    ∙ (λ i. lines_same (old 12) (new 12) n others (old 11) below i
+    ++ Arrival caller (came item n 0 caller i) ((ap (λ (s : Names). map.keys (map.remove s keep_mark)) its ∙ its_targets keep to names) i) ((ap (λ (s : Names). map.contains_key s keep_mark) its ∙ it_keeps keep to names) i) ∷ []) in
     λ i. record {
-      items = (items ∙ taken_is how was item known) i;
+      items = (w.items ∙ taken_is how (items_of old) item known) i;
       arrivals = w.arrivals i;
       kept = (w.kept ∙ kept_once (all_kept_in (old 7)) item.uid keep) i;
       rows = (w.rows ∙ rows_missing (rows_of old) item.uid to) i;

@@ -1,6 +1,7 @@
 pub mod Arrivals
 pub mod Bookings
 pub mod FirstOnes
+pub mod Forgotten
 pub mod Joins
 pub mod LettingGo
 pub mod Movements

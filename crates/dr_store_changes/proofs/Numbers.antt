@@ -4,7 +4,6 @@ use Rattle.std.specs.Cmp.{IsTotalOrder, nat_cmp_is, nat_cmp_total}
 use Rattle.std.specs.declared.cmp.Ordering.{Ordering}
 use Rattle.std.specs.declared.cmp.Ordering.TheVariants.{Less, Equal, Greater}
 use Rattle.std.specs.FinMap as map
-use Rattle.std.specs.FinMap.{FinMap}
 use Rattle.std.specs.FinMap.Entries.{by_order, put}
 use Rattle.std.specs.List.{AllByRecursion}
 use Rattle.std.specs.Ordering.{match_ordering, nat_cmp}
@@ -16,8 +15,6 @@ use Rattle.sqlite.specs.Tree.{put_row, rowid}
 use Rattle.sqlite_trees.proofs.ListLemmas.{all_weaker}
 use Rattle.sqlite_trees.proofs.TreeLemmas.{all-put_row}
 use Rattle.sqlite_value.proofs.OrderLemmas.{value_cmp-Int}
-use Rattle.dr_base.specs.Texts.{text_cmp}
-use Rattle.dr_ledger.specs.declared.item.Instance.{Instance}
 use Rattle.dr_ledger.specs.Books.{Line}
 use Rattle.dr_store_schema.specs.Books.{AreBelow, line_in, lines_in, numbered_line}
 use Rattle.dr_store_schema.specs.Cells.{number_in}
@@ -70,18 +67,18 @@ put_last n rest (r ∷ rows) below =
 
 -- ---- lines
 
-module _ (items : FinMap text_cmp Instance) (targets : List Row) where
-  numbers_below : (n : ℕ) (rows : List Row) → AreBelow n rows → AllByRecursion (λ (e : ℕ × Line). nat_cmp e.0 n ≡ Less) (mapped (numbered_line items targets) rows)
+module _ (targets : List Row) where
+  numbers_below : (n : ℕ) (rows : List Row) → AreBelow n rows → AllByRecursion (λ (e : ℕ × Line). nat_cmp e.0 n ≡ Less) (mapped (numbered_line targets) rows)
   numbers_below n [] below = tt
   numbers_below n (r ∷ rows) below =
       (ap (λ v. nat_cmp (number_in v) n) below.0.1 ∙ sym (nat_cmp_is below.0.0 n Less below.0.2), numbers_below n rows below.1)
 
   -- a line with a higher number is the last
   pub lines_put : (n : ℕ) (rest : Row) (rows : List Row) → AreBelow n rows
-      → lines_in items targets (put_row (Int (pos n) ∷ rest) rows) ≡ lines_in items targets rows ++ line_in items targets (Int (pos n) ∷ rest) ∷ []
+      → lines_in targets (put_row (Int (pos n) ∷ rest) rows) ≡ lines_in targets rows ++ line_in targets (Int (pos n) ∷ rest) ∷ []
   lines_put n rest rows below =
       let row : Row = Int (pos n) ∷ rest in
-      ap (lines_in items targets) (put_last n rest rows below)
-      ∙ ap (λ es. map.values (map.from_entries {R = nat_cmp} es)) (map-append (numbered_line items targets) rows (row ∷ []))
-      ∙ ap (mapped (λ (e : ℕ × Line). e.1)) (entries_last nat_cmp_total (mapped (numbered_line items targets) rows) n (line_in items targets row) (numbers_below n rows below))
-      ∙ map-append (λ (e : ℕ × Line). e.1) (map.entries (map.from_entries {R = nat_cmp} (mapped (numbered_line items targets) rows))) ((n, line_in items targets row) ∷ [])
+      ap (lines_in targets) (put_last n rest rows below)
+      ∙ ap (λ es. map.values (map.from_entries {R = nat_cmp} es)) (map-append (numbered_line targets) rows (row ∷ []))
+      ∙ ap (mapped (λ (e : ℕ × Line). e.1)) (entries_last nat_cmp_total (mapped (numbered_line targets) rows) n (line_in targets row) (numbers_below n rows below))
+      ∙ map-append (λ (e : ℕ × Line). e.1) (map.entries (map.from_entries {R = nat_cmp} (mapped (numbered_line targets) rows))) ((n, line_in targets row) ∷ [])

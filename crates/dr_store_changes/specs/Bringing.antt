@@ -1,11 +1,9 @@
 -- First arrivals: what each makes of the tables.
 use Rattle.std.specs.Prelude.{◌≡◌, ◌≤◌, ◌==◌, ◌&&◌, ℕ, Bool, cond, not, List, [], ◌∷◌, Contains}
-use Rattle.std.specs.Prelude.{filter, Option, None, Some, IsSome}
+use Rattle.std.specs.Prelude.{filter, Option, None, Some}
 use Rattle.std.specs.FinMap as map
 use Rattle.std.specs.FinMap.{FinMap}
 use Rattle.std.specs.FinSet as set
-use Rattle.std.specs.List.{AllByRecursion}
-use Rattle.sqlite.specs.Order.{Row, column}
 use Rattle.sqlite.specs.Tree.{Trees, put_row}
 use Rattle.dr_base.specs.Texts.{IsInByteOrder, Text, text_cmp}
 use Rattle.dr_ledger.specs.declared.item.Instance.{Instance}
@@ -15,7 +13,6 @@ use Rattle.dr_ledger.specs.Books.{with_rows}
 use Rattle.dr_ledger.specs.Pairs.{Pair, pair_cmp}
 use Rattle.dr_store_schema.specs.Books.{all_kept_in, arrivals_in, bodies_of, items_of, keep_mark}
 use Rattle.dr_store_schema.specs.Books.{names_in, rows_of}
-use Rattle.dr_store_schema.specs.Cells.{number_in, text_in}
 use Rattle.dr_store_writes.specs.Effects.{arrived_line}
 use Rattle.dr_store_changes.specs.declared.first.Taking.{Taking}
 use Rattle.dr_store_changes.specs.declared.first.Taking.TheVariants as taking
@@ -84,7 +81,7 @@ pub record Brings (how : Taking) (caller : Text) (item : Instance) (body : List 
   pub rows : rows_of new ≡ with_rows (rows_of old) item.uid dests
   pub kept : all_kept_in (new 7)
       ≡ cond keeps (set.insert (all_kept_in (old 7)) item.uid) (all_kept_in (old 7))
-  pub journal : new 11 ≡ put_row (arrived_line n 0 caller item.uid) (old 11)
+  pub journal : new 11 ≡ put_row (arrived_line n 0 caller item) (old 11)
   pub targets : (m : ℕ)
       → names_in (new 12) m
       ≡ cond (n == m) (with_names (names_in (old 12) m) names) (names_in (old 12) m)
@@ -111,13 +108,8 @@ IsKnownFor taking.Bare item found = found ≡ None
 IsKnownFor taking.Again item found = found ≡ Some item
 IsKnownFor taking.Nothing item found = found ≡ Some item
 
--- ---- lines
+-- ---- lines that are still to come
 
--- the item of an arrival's line is there
-abbrev pub IsJoined : FinMap text_cmp Instance → Row → Type 0
-IsJoined items row = number_in (column row 2) ≤ 1 → IsSome (map.get items (text_in (column row 4)))
-
--- The item of each arrival's line is there, and no line from this number on goes anywhere.
-pub record AreJoined (n : ℕ) (db : Trees) : Type 0 where
-  pub items : AllByRecursion (IsJoined (items_of db)) (db 11)
-  pub targets : (m : ℕ) → n ≤ m → names_in (db 12) m ≡ map.empty
+-- no line from this number on goes anywhere
+abbrev pub GoNowhere : ℕ → Trees → Type 0
+GoNowhere n db = (m : ℕ) → n ≤ m → names_in (db 12) m ≡ map.empty

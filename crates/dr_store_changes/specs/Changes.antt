@@ -1,5 +1,5 @@
 -- What the calls that write make of the tables.
-use Rattle.std.specs.Prelude.{◌≡◌, ◌==◌, ℕ, Bool, cond, List, [], ◌∷◌, None}
+use Rattle.std.specs.Prelude.{◌≡◌, ◌==◌, ℕ, Bool, cond, filter, List, [], ◌∷◌, None}
 use Rattle.std.specs.FinSet as set
 use Rattle.std.specs.FinMap as map
 use Rattle.sqlite.specs.Order.{Row}
@@ -12,7 +12,8 @@ use Rattle.dr_ledger.specs.Books.{with_rows}
 use Rattle.dr_ledger.specs.Pairs.{Pair}
 use Rattle.dr_store_schema.specs.Books.{Names, all_kept_in, arrivals_in, bodies_of, contents_in}
 use Rattle.dr_store_schema.specs.Books.{items_of, names_in, rows_of, wholes_in}
-use Rattle.dr_store_writes.specs.Effects.{GoesOn, HasItem, HasPrint, HasRow}
+use Rattle.dr_store_writes.specs.Effects.{GoesOn, HasItem, HasPrint, HasRow, forgotten_line}
+use Rattle.dr_store_writes.specs.Effects.{is_of_other}
 
 -- ---- a data set is let go
 
@@ -158,3 +159,39 @@ pub record AddsTargets (n : ℕ) (names : List Text) (old new : Trees) : Type 0 
   pub kept : new 7 ≡ old 7
   pub queue : new 9 ≡ old 9
   pub journal : new 11 ≡ old 11
+
+-- ---- a forgetting
+
+-- the arrivals and the rows of an instance have left; all other tables stay
+pub record DropsMoves (uid : Text) (old new : Trees) : Type 0 where
+  pub arrivals : new 5 ≡ filter (is_of_other 2 uid) (old 5)
+  pub rows : new 9 ≡ filter (is_of_other 1 uid) (old 9)
+  pub site : new 0 ≡ old 0
+  pub items : new 1 ≡ old 1
+  pub prints : new 3 ≡ old 3
+  pub kept : new 7 ≡ old 7
+  pub journal : new 11 ≡ old 11
+  pub targets : new 12 ≡ old 12
+
+-- the item and its print have left; all other tables stay
+pub record DropsStock (uid : Text) (old new : Trees) : Type 0 where
+  pub items : new 1 ≡ filter (is_of_other 1 uid) (old 1)
+  pub prints : new 3 ≡ filter (is_of_other 1 uid) (old 3)
+  pub site : new 0 ≡ old 0
+  pub arrivals : new 5 ≡ old 5
+  pub kept : new 7 ≡ old 7
+  pub queue : new 9 ≡ old 9
+  pub journal : new 11 ≡ old 11
+  pub targets : new 12 ≡ old 12
+
+-- A forgetting with line n: the item has left, its print, its arrivals, whoever brought it, and its
+-- rows, to whatever destination; and the line stands in the journal. All else stays.
+pub record TakesOut (uid : Text) (n : ℕ) (old new : Trees) : Type 0 where
+  pub items : new 1 ≡ filter (is_of_other 1 uid) (old 1)
+  pub prints : new 3 ≡ filter (is_of_other 1 uid) (old 3)
+  pub arrivals : new 5 ≡ filter (is_of_other 2 uid) (old 5)
+  pub rows : new 9 ≡ filter (is_of_other 1 uid) (old 9)
+  pub journal : new 11 ≡ put_row (forgotten_line n uid) (old 11)
+  pub site : new 0 ≡ old 0
+  pub kept : new 7 ≡ old 7
+  pub targets : new 12 ≡ old 12

@@ -13,16 +13,18 @@ use Rattle.dr_ledger.specs.declared.item.Outcome.{Outcome}
 use Rattle.dr_ledger.specs.declared.item.Progress.{Progress}
 use Rattle.dr_ledger.specs.declared.item.Progress.TheVariants.{Waiting, Held}
 use Rattle.dr_ledger.specs.Bodies.{Bodies, HasBodies, IsNeeded}
-use Rattle.dr_ledger.specs.Books.{Book, Arrival, Repeat, Settling, Requeuing, after, row_after}
+use Rattle.dr_ledger.specs.Books.{Book, Arrival, Repeat, Settling, Requeuing, Forgetting, after}
+use Rattle.dr_ledger.specs.Books.{row_after}
 use Rattle.dr_ledger.specs.Items.{IsItem, instance_of}
+use Rattle.dr_ledger.specs.Replies.{IsOver}
 use Rattle.dr_store_schema.specs.Books.{AreBelow, all_kept_in, bodies_of, book_of, items_of}
 use Rattle.dr_store_schema.specs.Books.{rows_of}
 use Rattle.dr_store_writes.specs.Effects.{arrived_line, requeued_line, settled_line}
 use Rattle.dr_store_changes.specs.declared.first.Taking.{Taking}
 use Rattle.dr_store_changes.specs.declared.first.Taking.TheVariants as taking
-use Rattle.dr_store_changes.specs.Bringing.{AreJoined, AreNames, Brings, IsKnownFor, bodies_taken}
+use Rattle.dr_store_changes.specs.Bringing.{AreNames, Brings, GoNowhere, IsKnownFor, bodies_taken}
 use Rattle.dr_store_changes.specs.Bringing.{missing, names_for}
-use Rattle.dr_store_changes.specs.Changes.{AddsOnlyLine, MovesOn}
+use Rattle.dr_store_changes.specs.Changes.{AddsOnlyLine, TakesOut, MovesOn}
 
 -- Where a row waits, to move it on by an outcome with the line of its settling is to settle it.
 abbrev pub SettlingsSettle : Type 0
@@ -60,13 +62,12 @@ WhatIsNeededStays =
     → GoesWhereNeededNoMore lets_go new uid
     → HasBodies (book_of new) (bodies_of new)
 
--- Where an instance is there, the line of its repeat is all that its repeat adds to the book.
+-- The line of a repeat, with what came, is all that a repeat adds to the book.
 abbrev pub RepeatsRepeat : Type 0
 RepeatsRepeat =
-    (old new : Trees) (n : ℕ) (caller uid : Text) (item : Instance)
+    (old new : Trees) (n : ℕ) (caller : Text) (item : Instance)
     → AreBelow n (old 11)
-    → map.get (items_of old) uid ≡ Some item
-    → AddsOnlyLine (arrived_line n 1 caller uid) old new
+    → AddsOnlyLine (arrived_line n 1 caller item) old new
     → (book_of new ≡ after (Repeat caller item) (book_of old)) × (bodies_of new ≡ bodies_of old)
 
 -- An instance that comes from a caller for the first time, with rows for those of its destinations
@@ -76,7 +77,7 @@ abbrev pub ArrivalsArrive : Type 0
 ArrivalsArrive =
     (how : Taking) (old new : Trees) (n : ℕ) (caller : Text) (item : Instance) (body : List ℕ)
     (to : List Text) (keep : Bool)
-    → AreBelow n (old 11) → AreJoined n old
+    → AreBelow n (old 11) → GoNowhere n old
     → IsKnownFor how item (map.get (items_of old) item.uid)
     → AreNames to
     → Brings how caller item body (missing (rows_of old) item.uid to)
@@ -102,3 +103,20 @@ DataSetsCome =
     → ComesWhereNeeded how (after (Arrival caller (instance_of job) to keep) b) bodies job.uid
     → HasBodies (after (Arrival caller (instance_of job) to keep) b)
     (bodies_taken how bodies job.uid job.body)
+
+-- Where what is of an instance leaves, with the line of its forgetting, the instance is forgotten.
+abbrev pub ForgettingsForget : Type 0
+ForgettingsForget =
+    (old new : Trees) (n : ℕ) (uid : Text)
+    → AreBelow n (old 11)
+    → TakesOut uid n old new
+    → book_of new ≡ after (Forgetting uid) (book_of old)
+
+-- An instance that is over has no data set, so the data sets stay as they were.
+abbrev pub ForgettingsLetNoDataSetGo : Type 0
+ForgettingsLetNoDataSetGo =
+    (old new : Trees) (n : ℕ) (uid : Text)
+    → HasBodies (book_of old) (bodies_of old)
+    → IsOver (book_of old) uid
+    → TakesOut uid n old new
+    → bodies_of new ≡ bodies_of old

@@ -106,7 +106,8 @@ pub fn add_targets<'x, S: Alter>(
 #[derive(Drop)]
 pub struct Repeating<'x> {
     pub caller: &'x Text,
-    pub uid: &'x Text,
+    pub item: &'x Instance,
+    ghost size: { item.now.size ≤ 2 ^ 62 },
 }
 
 impl Change for Repeating<'_> {
@@ -115,10 +116,10 @@ impl Change for Repeating<'_> {
 
     ghost asks = { λ s db. Unit {0} };
 
-    ghost makes = { λ s n. AddsOnlyLine (arrived_line n 1 s.caller.now s.uid.now) };
+    ghost makes = { λ s n. AddsOnlyLine (arrived_line n 1 s.caller.now s.item.now) };
 
     fn run<S: Alter>(&self, tx: &mut Transaction<'_, S>, n: u64) -> Result<(), Error> {
-        add_arrived(tx, n, 1, self.caller, self.uid)?;
+        add_arrived(tx, n, 1, self.caller, self.item)?;
         Ok(())
     }
 }

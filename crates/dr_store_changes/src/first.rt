@@ -112,17 +112,18 @@ fn add_line<'x, S: Alter>(
     tx: &mut Transaction<'_, S>,
     n: u64,
     caller: &'x Text,
-    uid: &'x Text,
+    item: &'x Instance,
 ) -> Result<(), Error>
-    requires { n ≤ 2 ^ 62 }
+    requires n { n ≤ 2 ^ 62 }
+    requires size { item.now.size ≤ 2 ^ 62 }
     ensures same_reference { tx.new.conn.ghost_name ≡ tx.old.conn.ghost_name }
     ensures step { Step result (state S.Store tx.old.conn.now) (state S.Store tx.new.conn.now)
         (Unit {0}
         → GoesOn (state S.Store tx.old.conn.now) (state S.Store tx.new.conn.now)
-        × AddsOnlyLine (arrived_line n 0 caller.now uid.now)
+        × AddsOnlyLine (arrived_line n 0 caller.now item.now)
         (state S.Store tx.old.conn.now).now.trees (state S.Store tx.new.conn.now).now.trees) }
 {
-    add_arrived(tx, n, 0, caller, uid)?;
+    add_arrived(tx, n, 0, caller, item)?;
     Ok(())
 }
 
@@ -131,18 +132,19 @@ fn write_line<'x, S: Alter>(
     tx: &mut Transaction<'_, S>,
     n: u64,
     caller: &'x Text,
-    uid: &'x Text,
+    item: &'x Instance,
     names: &'x [Text],
 ) -> Result<(), Error>
-    requires { n ≤ 2 ^ 62 }
+    requires n { n ≤ 2 ^ 62 }
+    requires size { item.now.size ≤ 2 ^ 62 }
     ensures same_reference { tx.new.conn.ghost_name ≡ tx.old.conn.ghost_name }
     ensures step { Step result (state S.Store tx.old.conn.now) (state S.Store tx.new.conn.now)
         (Unit {0}
         → GoesOn (state S.Store tx.old.conn.now) (state S.Store tx.new.conn.now)
-        × Then (AddsOnlyLine (arrived_line n 0 caller.now uid.now)) (AddsTargets n names.now)
+        × Then (AddsOnlyLine (arrived_line n 0 caller.now item.now)) (AddsTargets n names.now)
         (state S.Store tx.old.conn.now).now.trees (state S.Store tx.new.conn.now).now.trees) }
 {
-    add_line(tx, n, caller, uid)?;
+    add_line(tx, n, caller, item)?;
     add_targets(tx, n, names)?;
     Ok(())
 }
@@ -196,7 +198,7 @@ impl Change for Arriving<'_> {
 
     fn run<S: Alter>(&self, tx: &mut Transaction<'_, S>, n: u64) -> Result<(), Error> {
         self.fill(tx)?;
-        write_line(tx, n, self.caller, &self.item.uid, self.names)?;
+        write_line(tx, n, self.caller, self.item, self.names)?;
         Ok(())
     }
 }

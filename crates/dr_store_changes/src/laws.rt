@@ -1,5 +1,6 @@
 //! What the calls that write make of the book.
-ghost use Rattle.dr_store_changes.specs.Laws.{ArrivalsArrive, DataSetsCome, RepeatsRepeat};
+ghost use Rattle.dr_store_changes.specs.Laws.{ArrivalsArrive, DataSetsCome, ForgettingsForget};
+ghost use Rattle.dr_store_changes.specs.Laws.{ForgettingsLetNoDataSetGo, RepeatsRepeat};
 ghost use Rattle.dr_store_changes.specs.Laws.{RequeuingsRequeue, SettlingsSettle};
 ghost use Rattle.dr_store_changes.specs.Laws.{WhatIsNeededStays};
 
@@ -32,4 +33,14 @@ pub fn arrivals_arrive()
 /// Where a data set comes just if it is needed, those that are there are those that are needed.
 pub fn data_sets_come()
     ensures { DataSetsCome }
+{}
+
+/// What a forgetting takes out of the tables is what it takes out of the book.
+pub fn forgettings_forget()
+    ensures { ForgettingsForget }
+{}
+
+/// What is over has no data set that a forgetting could let go.
+pub fn forgettings_let_no_data_set_go()
+    ensures { ForgettingsLetNoDataSetGo }
 {}

@@ -4,6 +4,7 @@
 pub mod arriving;
 pub mod bodies;
 pub mod first;
+pub mod forgetting;
 pub mod laws;
 pub mod moving;
 pub mod writing;
@@ -11,5 +12,6 @@ pub mod writing;
 pub use arriving::{Repeating, add_rows, add_targets, keep, note_arrival, store};
 pub use bodies::{let_go, take_back};
 pub use first::{Arriving, Taking};
+pub use forgetting::Forgetting;
 pub use moving::{Requeuing, Settling};
 pub use writing::{Change, write};

@@ -29,7 +29,7 @@ use Rattle.dr_ledger.specs.declared.item.Outcome.{Outcome}
 use Rattle.dr_ledger.specs.Books.{Line}
 use Rattle.dr_ledger.specs.Pairs.{pair_cmp}
 use Rattle.dr_ledger.specs.Replies.{Lists}
-use Rattle.dr_store_schema.specs.Books.{all_kept_in, arrivals_in, item_or_none, keeps_in, line_by, numbered_line, rows_of, targets_in}
+use Rattle.dr_store_schema.specs.Books.{all_kept_in, arrivals_in, instance_in, keeps_in, line_by, numbered_line, rows_of, targets_in}
 use Rattle.dr_store_schema.specs.Cells.{number_in, outcome_in, text_in}
 use Rattle.dr_store_schema.specs.Statements as text
 use Rattle.dr_store_schema.specs.Tables.{tables}
@@ -133,16 +133,18 @@ targets_listed old new rows has h sorted =
 
 -- ---- the journal
 
-noted : (items : FinMap text_cmp Instance) (targets : List Row) (n kind : ℕ) (caller uid dest : Text) (what : Outcome) (now : ℕ)
-    → line_by kind caller (item_or_none uid (fin.get items uid)) uid dest what now (targets_in targets n) (keeps_in targets n) ≡ line_of items targets n (note_by kind caller uid dest what now)
-noted items targets n zero caller uid dest what now = refl
-noted items targets n (suc zero) caller uid dest what now = refl
-noted items targets n (suc (suc zero)) caller uid dest what now = refl
-noted items targets n (suc (suc (suc zero))) caller uid dest what now = refl
-noted items targets n (suc (suc (suc (suc more)))) caller uid dest what now = refl
+noted : (targets : List Row) (n kind : ℕ) (caller : Text) (item : Instance) (uid dest : Text) (what : Outcome) (now : ℕ)
+    → line_by kind caller item uid dest what now (targets_in targets n) (keeps_in targets n) ≡ line_of targets n (note_by kind caller item uid dest what now)
+noted targets n zero caller item uid dest what now = refl
+noted targets n (suc zero) caller item uid dest what now = refl
+noted targets n (suc (suc zero)) caller item uid dest what now = refl
+noted targets n (suc (suc (suc zero))) caller item uid dest what now = refl
+noted targets n (suc (suc (suc (suc zero)))) caller item uid dest what now = refl
+noted targets n (suc (suc (suc (suc (suc zero))))) caller item uid dest what now = refl
+noted targets n (suc (suc (suc (suc (suc (suc more)))))) caller item uid dest what now = refl
 
 pub notes_are_lines : NotesAreLines
-notes_are_lines items targets row = noted items targets (number_in (rowid row)) (number_in (column row 2)) (text_in (column row 3)) (text_in (column row 4)) (text_in (column row 5)) (outcome_in (column row 6)) (number_in (column row 7))
+notes_are_lines targets row = noted targets (number_in (rowid row)) (number_in (column row 2)) (text_in (column row 3)) (instance_in row) (text_in (column row 4)) (text_in (column row 5)) (outcome_in (column row 6)) (number_in (column row 7))
 
 -- whether keys rise is seen at the keys alone
 same_below : {K V W : Type 0} (R : K → K → Ordering) (k : K) (key : Row → K) (f : Row → V) (g : Row → W) (rows : List Row) → T (below_all R k (map (λ r. (key r, f r)) rows)) → T (below_all R k (map (λ r. (key r, g r)) rows))
@@ -163,14 +165,14 @@ pub journal_listed : (old new : State) (rows : List Row) → HasTables old.now �
 journal_listed old new rows has h sorted = record {
   each = lists_each 11 whole.all_lines_shown whole.all_lines_order old.now.trees rows answer answer.grouped shown_note_entry;
   notes = lists_entries 11 whole.all_lines_shown whole.all_lines_order old.now.trees rows answer answer.grouped nat_cmp_total fin.nat_cmp-IsAntisymmetric shown_note_entry sorted;
-  lines = λ items targets.
-      let told : Row → ℕ × Line = λ r. (number_in (column r 0), line_of items targets (number_in (column r 0)) (shown_note r)) in
-      map_twice shown_note_entry (λ (e : ℕ × Note). line_of items targets e.0 e.1) rows ∙ sym (map_twice told (λ (e : ℕ × Line). e.1) rows)
+  lines = λ targets.
+      let told : Row → ℕ × Line = λ r. (number_in (column r 0), line_of targets (number_in (column r 0)) (shown_note r)) in
+      map_twice shown_note_entry (λ (e : ℕ × Note). line_of targets e.0 e.1) rows ∙ sym (map_twice told (λ (e : ℕ × Line). e.1) rows)
       ∙ ap (map (λ (e : ℕ × Line). e.1))
       (lists_entries 11 whole.all_lines_shown whole.all_lines_order old.now.trees rows answer answer.grouped nat_cmp_total fin.nat_cmp-IsAntisymmetric told
-      (same_order nat_cmp (λ r. number_in (column r 0)) shown_note (λ r. line_of items targets (number_in (column r 0)) (shown_note r)) rows sorted)
+      (same_order nat_cmp (λ r. number_in (column r 0)) shown_note (λ r. line_of targets (number_in (column r 0)) (shown_note r)) rows sorted)
       ∙ ap (λ es. entries (from_entries {R = nat_cmp} es))
-      (same_map (λ r. (number_in (rowid r), line_of items targets (number_in (rowid r)) (note_in r))) (numbered_line items targets) (λ r. ap (λ l. (number_in (rowid r), l)) (sym (notes_are_lines items targets r))) (old.now.trees 11)));
+      (same_map (λ r. (number_in (rowid r), line_of targets (number_in (rowid r)) (note_in r))) (numbered_line targets) (λ r. ap (λ l. (number_in (rowid r), l)) (sym (notes_are_lines targets r))) (old.now.trees 11)));
 }
   where
     answer : IsAnswer (listing 11 whole.all_lines_shown whole.all_lines_order) (overlay old.now.trees []) [] rows

@@ -76,12 +76,14 @@ unfolding understood everything
 all_rows = record { command = refl; listing = refl; plain = (refl, refl) }
 
 abbrev pub all_lines_shown : List Term
-all_lines_shown = col 1 0 ∷ col 1 2 ∷ col 1 3 ∷ col 1 4 ∷ col 1 5 ∷ col 1 6 ∷ col 1 7 ∷ []
+all_lines_shown =
+    col 1 0 ∷ col 1 2 ∷ col 1 3 ∷ col 1 4 ∷ col 1 5 ∷ col 1 6 ∷ col 1 7 ∷ col 1 8 ∷ col 1 9 ∷ col 1 10 ∷ col 1 11 ∷ col 1 12 ∷ col 1 13
+    ∷ []
 
 abbrev pub all_lines_order : List (Term × Key)
 all_lines_order = (col 1 0, ascending Binary) ∷ []
 
-pub all_lines : Is text.all_lines (listing 11 all_lines_shown all_lines_order) (codes "n" ∷ codes "kind" ∷ codes "caller" ∷ codes "uid" ∷ codes "dest" ∷ codes "outcome" ∷ codes "moment" ∷ [])
+pub all_lines : Is text.all_lines (listing 11 all_lines_shown all_lines_order) (codes "n" ∷ codes "kind" ∷ codes "caller" ∷ codes "uid" ∷ codes "dest" ∷ codes "outcome" ∷ codes "moment" ∷ codes "class" ∷ codes "syntax" ∷ codes "modality" ∷ codes "station" ∷ codes "length" ∷ codes "sha256" ∷ [])
 unfolding understood everything
 all_lines = record { command = refl; listing = refl; plain = (refl, refl) }
 

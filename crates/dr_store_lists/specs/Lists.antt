@@ -16,8 +16,9 @@ use Rattle.dr_ledger.specs.declared.item.Instance.{Instance}
 use Rattle.dr_ledger.specs.declared.item.Outcome.{Outcome}
 use Rattle.dr_ledger.specs.declared.item.Progress.{Progress}
 use Rattle.dr_ledger.specs.Pairs.{Pair}
-use Rattle.dr_ledger.specs.Books.{Line, Arrival, Repeat, Settling, Requeuing, Adoption}
-use Rattle.dr_store_schema.specs.Books.{instance_by, item_or_none, items_of, key_in, keeps_in}
+use Rattle.dr_ledger.specs.Books.{Line, Arrival, Repeat, Settling, Requeuing, Forgetting}
+use Rattle.dr_ledger.specs.Books.{Adoption}
+use Rattle.dr_store_schema.specs.Books.{instance_by, instance_in, items_of, key_in, keeps_in}
 use Rattle.dr_store_schema.specs.Books.{line_in, lines_in, names_in, prints_of, targets_in}
 use Rattle.dr_store_schema.specs.Books.{wholes_in}
 use Rattle.dr_store_schema.specs.Cells.{bytes_in, number_in, outcome_in, progress_in, syntax_marked}
@@ -58,46 +59,48 @@ pub record KeysAndPrintsAreInstances (db : Trees) : Type 0 where
 
 -- ---- journal
 
--- what a row of journal says by itself
-abbrev pub note_by : ℕ → Text → Text → Text → Outcome → ℕ → Note
-note_by zero caller uid dest what now = note.Arrival caller uid
-note_by (suc zero) caller uid dest what now = note.Repeat caller uid
-note_by (suc (suc zero)) caller uid dest what now = note.Settling uid dest what now
-note_by (suc (suc (suc zero))) caller uid dest what now = note.Requeuing uid dest
-note_by (suc (suc (suc (suc more)))) caller uid dest what now = note.Adoption
+-- what a row of journal says
+abbrev pub note_by : ℕ → Text → Instance → Text → Text → Outcome → ℕ → Note
+note_by zero caller item uid dest what now = note.Arrival caller item
+note_by (suc zero) caller item uid dest what now = note.Repeat caller item
+note_by (suc (suc zero)) caller item uid dest what now = note.Settling uid dest what now
+note_by (suc (suc (suc zero))) caller item uid dest what now = note.Requeuing uid dest
+note_by (suc (suc (suc (suc zero)))) caller item uid dest what now = note.Adoption
+note_by (suc (suc (suc (suc (suc zero))))) caller item uid dest what now = note.Forgetting uid
+note_by (suc (suc (suc (suc (suc (suc more)))))) caller item uid dest what now = note.Adoption
 
 abbrev pub note_in : Row → Note
-note_in row = note_by (number_in (column row 2)) (text_in (column row 3)) (text_in (column row 4))
-    (text_in (column row 5)) (outcome_in (column row 6)) (number_in (column row 7))
+note_in row = note_by (number_in (column row 2)) (text_in (column row 3)) (instance_in row)
+    (text_in (column row 4)) (text_in (column row 5)) (outcome_in (column row 6))
+    (number_in (column row 7))
 
 -- by the line's number
 abbrev pub notes_of : Trees → FinMap nat_cmp Note
 notes_of db =
     map.from_entries (mapped (λ (row : Row). (number_in (rowid row), note_in row)) (db 11))
 
--- the line of a note, with its instance and where it goes on to
-abbrev pub line_of : FinMap text_cmp Instance → List Row → ℕ → Note → Line
-line_of items targets n (note.Arrival caller uid) = Arrival caller
-    (item_or_none uid (map.get items uid)) (targets_in targets n) (keeps_in targets n)
-line_of items targets n (note.Repeat caller uid) =
-    Repeat caller (item_or_none uid (map.get items uid))
-line_of items targets n (note.Settling uid dest what now) = Settling uid dest what now
-line_of items targets n (note.Requeuing uid dest) = Requeuing uid dest
-line_of items targets n note.Adoption = Adoption
+-- the line of a note, with where it goes on to
+abbrev pub line_of : List Row → ℕ → Note → Line
+line_of targets n (note.Arrival caller item) =
+    Arrival caller item (targets_in targets n) (keeps_in targets n)
+line_of targets n (note.Repeat caller item) = Repeat caller item
+line_of targets n (note.Settling uid dest what now) = Settling uid dest what now
+line_of targets n (note.Requeuing uid dest) = Requeuing uid dest
+line_of targets n (note.Forgetting uid) = Forgetting uid
+line_of targets n note.Adoption = Adoption
 
 -- a list of the notes by their numbers, which tells the lines and has each row
 pub record IsJournal (db : Trees) (all : List (ℕ × Note)) : Type 0 where
   pub each : AllByRecursion (λ row. Contains all (number_in (rowid row), note_in row)) (db 11)
   pub notes : all ≡ map.entries (notes_of db)
-  pub lines : (items : FinMap text_cmp Instance) (targets : List Row)
-      → mapped (λ (e : ℕ × Note). line_of items targets e.0 e.1) all
-      ≡ lines_in items targets (db 11)
+  pub lines : (targets : List Row)
+      → mapped (λ (e : ℕ × Note). line_of targets e.0 e.1) all ≡ lines_in targets (db 11)
 
 -- a row's line is that of its note
 abbrev pub NotesAreLines : Type 0
 NotesAreLines =
-    (items : FinMap text_cmp Instance) (targets : List Row) (row : Row)
-    → line_in items targets row ≡ line_of items targets (number_in (rowid row)) (note_in row)
+    (targets : List Row) (row : Row)
+    → line_in targets row ≡ line_of targets (number_in (rowid row)) (note_in row)
 
 -- ---- target
 
@@ -157,8 +160,22 @@ abbrev pub shown_settling : Row → Note
 shown_settling row = note.Settling (text_in (column row 3)) (text_in (column row 4))
     (outcome_in (column row 5)) (number_in (column row 6))
 
+-- the instance of a line, which its last six columns have
+abbrev pub shown_instance : Row → Instance
+shown_instance row = record {
+  uid = text_in (column row 3);
+  key = record {
+    class = text_in (column row 7);
+    syntax = syntax_marked (text_in (column row 8));
+    modality = bytes_in (column row 9);
+    station = bytes_in (column row 10);
+  };
+  size = number_in (column row 11);
+  digest = bytes_in (column row 12);
+}
+
 abbrev pub shown_note : Row → Note
-shown_note row = note_by (number_in (column row 1)) (text_in (column row 2))
+shown_note row = note_by (number_in (column row 1)) (text_in (column row 2)) (shown_instance row)
     (text_in (column row 3)) (text_in (column row 4)) (outcome_in (column row 5))
     (number_in (column row 6))
 

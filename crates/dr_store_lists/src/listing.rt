@@ -11,13 +11,13 @@ ghost use Rattle.dr_ledger.specs.Pairs.{pair_cmp};
 ghost use Rattle.dr_ledger.specs.Replies.{Lists, Reads};
 ghost use Rattle.dr_store_schema.specs.Books.{all_kept_in, arrivals_in, rows_of};
 ghost use Rattle.dr_store_lists.specs.Lists.{IsJournal, goal_cmp, goals_of, keys_of, shown_entry};
-ghost use Rattle.dr_store_lists.specs.Lists.{shown_goal, shown_key_entry, shown_note};
-ghost use Rattle.dr_store_lists.specs.Lists.{shown_note_entry, shown_pair, shown_print_entry};
-ghost use Rattle.dr_store_lists.specs.Lists.{shown_settling, whole_prints_of};
+ghost use Rattle.dr_store_lists.specs.Lists.{shown_goal, shown_instance, shown_key_entry};
+ghost use Rattle.dr_store_lists.specs.Lists.{shown_note, shown_note_entry, shown_pair};
+ghost use Rattle.dr_store_lists.specs.Lists.{shown_print_entry, shown_settling, whole_prints_of};
 ghost use Rattle.dr_store_reads.specs.Queries.{Asked, HasTables, shown_text};
 
 use dr_base::Text;
-use dr_ledger::{LedgerFault, Outcome, Progress};
+use dr_ledger::{Instance, LedgerFault, Outcome, Progress};
 use dr_route::Key;
 use dr_store_reads::Print;
 use dr_store_reads::queries::ask;
@@ -27,17 +27,17 @@ use dr_store_reads::reading::{
 use sqlite::{Alter, Connection, Row};
 use std::alloc::Global;
 
-/// A line of the journal as its own row has it: what is known of its instance stands in other
-/// tables, and where it goes on to.
+/// A line of the journal as its own row has it: where a first arrival goes on to stands in another
+/// table.
 #[derive(Drop)]
 pub enum Note {
     Arrival {
         caller: Text,
-        uid: Text,
+        instance: Instance,
     },
     Repeat {
         caller: Text,
-        uid: Text,
+        instance: Instance,
     },
     Settling {
         uid: Text,
@@ -48,6 +48,9 @@ pub enum Note {
     Requeuing {
         uid: Text,
         dest: Text,
+    },
+    Forgetting {
+        uid: Text,
     },
     Adoption,
 }
@@ -153,20 +156,21 @@ impl FromRow for (u64, Note) {
     }
 }
 
-/// What a line of the journal says by its columns n, kind, caller, uid, dest, outcome and moment.
+/// What a line of the journal says by its columns n, kind, caller, uid, dest, outcome and moment,
+/// and by those of its instance.
 fn read_note(alloc: Global, row: &Row) -> Result<Note, LedgerFault>
     ensures { Reads result (λ note. note ≡ shown_note row.now) }
 {
     match read_number(row, 1)? {
         0 => {
             let caller = read_text(alloc, row, 2)?;
-            let uid = read_text(alloc, row, 3)?;
-            Ok(Note::Arrival { caller, uid })
+            let instance = read_instance(alloc, row)?;
+            Ok(Note::Arrival { caller, instance })
         }
         1 => {
             let caller = read_text(alloc, row, 2)?;
-            let uid = read_text(alloc, row, 3)?;
-            Ok(Note::Repeat { caller, uid })
+            let instance = read_instance(alloc, row)?;
+            Ok(Note::Repeat { caller, instance })
         }
         2 => read_settling(alloc, row),
         3 => {
@@ -174,8 +178,28 @@ fn read_note(alloc: Global, row: &Row) -> Result<Note, LedgerFault>
             let dest = read_text(alloc, row, 4)?;
             Ok(Note::Requeuing { uid, dest })
         }
+        5 => {
+            let uid = read_text(alloc, row, 3)?;
+            Ok(Note::Forgetting { uid })
+        }
         _ => Ok(Note::Adoption),
     }
+}
+
+/// The instance of a line, by its columns uid, class, syntax, modality, station, length and sha256.
+fn read_instance(alloc: Global, row: &Row) -> Result<Instance, LedgerFault>
+    ensures { Reads result (λ instance. instance ≡ shown_instance row.now) }
+{
+    let uid = read_text(alloc, row, 3)?;
+    let key = read_key(alloc, row, 7)?;
+    let size = read_number(row, 11)?;
+    let digest = read_digest(row, 12)?;
+    Ok(Instance {
+        uid,
+        key,
+        size,
+        digest,
+    })
 }
 
 fn read_settling(alloc: Global, row: &Row) -> Result<Note, LedgerFault>
@@ -394,7 +418,7 @@ pub fn all_notes<S: Alter>(
 {
     let rows = ask(
         conn,
-        "SELECT n, kind, caller, uid, dest, outcome, moment FROM journal ORDER BY n",
+        "SELECT n, kind, caller, uid, dest, outcome, moment, class, syntax, modality, station, length, sha256 FROM journal ORDER BY n",
         &[],
     )?;
     note_entries(alloc, rows.as_slice())

@@ -16,7 +16,7 @@ use Rattle.sqlite_schema.specs.declared.command.Returning.{Returning}
 use Rattle.dr_store_schema.specs.Statements as text
 use Rattle.dr_store_reads.proofs.Asking.{shown_same}
 use Rattle.dr_store_open.specs.declared.sheets.Sheets.{Sheets}
-use Rattle.dr_store_open.specs.Renewing.{AreQueries, IsAnswer, IsQuery, IsTold, KeepsRows}
+use Rattle.dr_store_open.specs.Renewing.{AreQueries, IsAnswer, IsQuery, IsTold, KeepsRows, all_calls}
 
 pub if_ok_map : {A E : Type 0} {P Q : A → Type 0} (r : Result A E) → ((x : A) → P x → Q x) → IfOk r P → IfOk r Q
 if_ok_map (Ok x) f h = f x h
@@ -130,7 +130,7 @@ abbrev pub StockAnswers : Database → Database → Sheets → Type 0
 StockAnswers old new sheets = ThreeAnswers text.the_site text.all_items text.all_arrivals old new sheets.site.items sheets.items.items sheets.arrivals.items
 
 abbrev pub MovesAnswers : Database → Database → Sheets → Type 0
-MovesAnswers old new sheets = ThreeAnswers text.all_kept text.all_rows text.all_lines old new sheets.kept.items sheets.rows.items sheets.lines.items
+MovesAnswers old new sheets = ThreeAnswers text.all_kept text.all_rows all_calls old new sheets.kept.items sheets.rows.items sheets.lines.items
 
 told_before : (old mid new : Database) (sheets : Sheets) → StockAnswers old mid sheets → MovesAnswers mid new sheets → IsTold old sheets
 told_before old mid new sheets stock moves = record {
@@ -139,7 +139,7 @@ told_before old mid new sheets stock moves = record {
   arrivals = stock.2;
   kept = subst (λ d. IsAnswer text.all_kept d sheets.kept.items) stock.3 moves.0;
   rows = subst (λ d. IsAnswer text.all_rows d sheets.rows.items) stock.3 moves.1;
-  lines = subst (λ d. IsAnswer text.all_lines d sheets.lines.items) stock.3 moves.2;
+  lines = subst (λ d. IsAnswer all_calls d sheets.lines.items) stock.3 moves.2;
 }
 
 still_queries : (old mid : Database) → mid ≡ old → AreQueries old.schema → AreQueries mid.schema

@@ -10,13 +10,14 @@ use Rattle.dr_store_audit.specs.Older.{IsOlder, older_tables}
 use Rattle.dr_store_open.specs.Renewing.{AreQueries}
 
 pub new_queries : AreQueries tables
+unfolding understood everything
 new_queries = record {
   site = record { plain = select.the_site.plain; listing = select.the_site.listing };
   items = record { plain = whole.all_items.plain; listing = whole.all_items.listing };
   arrivals = record { plain = whole.all_arrivals.plain; listing = whole.all_arrivals.listing };
   kept = record { plain = whole.all_kept.plain; listing = whole.all_kept.listing };
   rows = record { plain = whole.all_rows.plain; listing = whole.all_rows.listing };
-  lines = record { plain = whole.all_lines.plain; listing = whole.all_lines.listing };
+  lines = record { plain = (refl, refl); listing = refl };
 }
 
 -- by cases of what is lacking
@@ -32,4 +33,4 @@ older_queries false false true = record { site = record { plain = (refl, refl); 
 older_queries false false false = record { site = record { plain = (refl, refl); listing = refl }; items = record { plain = (refl, refl); listing = refl }; arrivals = record { plain = (refl, refl); listing = refl }; kept = record { plain = (refl, refl); listing = refl }; rows = record { plain = (refl, refl); listing = refl }; lines = record { plain = (refl, refl); listing = refl } }
 
 pub queries_of : (schema : Schema) → IsOlder schema → AreQueries schema
-queries_of schema older = subst AreQueries (sym older.2) (older_queries older.0.print older.0.target older.0.due)
+queries_of schema older = subst AreQueries (sym older.1) (older_queries older.0.print older.0.target older.0.due)

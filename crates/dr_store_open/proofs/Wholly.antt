@@ -15,7 +15,7 @@ use Rattle.dr_ledger.specs.declared.content.Job.{Job}
 use Rattle.dr_ledger.specs.Books.{Fold, Line, empty_book}
 use Rattle.dr_ledger.specs.Items.{IsItem, instance_of}
 use Rattle.dr_ledger.proofs.Maps.{texts}
-use Rattle.dr_store_schema.specs.Books.{AreBelow, book_of, contents_in, instance_by, is_whole, items_of, lines_of, print_or_none, prints_of, wholes_in}
+use Rattle.dr_store_schema.specs.Books.{AreBelow, book_of, contents_in, instance_by, is_whole, lines_of, print_or_none, prints_of, wholes_in}
 use Rattle.dr_store_changes.proofs.LettingGo.{body_at}
 use Rattle.dr_store_reads.specs.declared.finding.Print.{Print}
 use Rattle.dr_store_reads.specs.Queries.{Asked, HasTables, IsJobOf}
@@ -60,7 +60,7 @@ pub agreed : (part : Part) (db : Trees) (prints : List (Text × Print)) (notes :
     → IsFound next part db → AreBelow next (db 11) → (found : Option ℕ) → AreReadIf db prints next found → IsAgreedIf part db found
 agreed part db prints notes next are journal after is below None h = tt
 agreed part db prints notes next are journal after is below (Some n) h = record {
-  next = h.0 ∙ after ∙ ap (λ k. k + 1) (sym (length-map notes (λ (e : ℕ × Note). line_of (items_of db) (db 12) e.0 e.1)) ∙ ap length (journal.lines (items_of db) (db 12)));
+  next = h.0 ∙ after ∙ ap (λ k. k + 1) (sym (length-map notes (λ (e : ℕ × Note). line_of (db 12) e.0 e.1)) ∙ ap length (journal.lines (db 12)));
   below = subst (λ m. AreBelow m (db 11)) (sym h.0) below;
   found = subst (λ m. IsFound m part db) (sym h.0) is;
   own = all_own db prints are h.1;
@@ -113,7 +113,7 @@ module _ (part : Part) (old new : State) (has : HasTables old.now) (live : IsLiv
                 below = subst (λ (d : Database). AreBelow n (d.trees 11)) (sym is.1) all.below;
               };
               ledger = subst (λ (d : Database). IsLedgerOf n part d.trees) back
-                  (record { joined = all.found.joined; journalled = all.found.journalled; bodied = record { there = all.found.there; own = all.own } });
+                  (record { ahead = all.found.ahead; journalled = all.found.journalled; bodied = record { there = all.found.there; own = all.own } });
             };
             owned = subst (λ (d : Database). IsOwnedBy part d.trees) back shown.1.1;
             next = subst (λ (d : Database). IsNext n d.trees) back all.next;

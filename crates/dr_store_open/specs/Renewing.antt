@@ -1,5 +1,5 @@
 -- What a file from before keeps where it is brought over.
-use Rattle.std.specs.Prelude.{◌≡◌, ℕ, false, List, [], Ok}
+use Rattle.std.specs.Prelude.{◌≡◌, ℕ, false, List, [], Ok, codes}
 use Rattle.sqlite.specs.Effect.{Database, Reads}
 use Rattle.sqlite.specs.Given.{IsPlain}
 use Rattle.sqlite.specs.Listing.{reads_listing, understood}
@@ -8,6 +8,10 @@ use Rattle.sqlite.specs.Schema.{Schema}
 use Rattle.sqlite_resolve.specs.declared.compiled.Compiled.{Compiled}
 use Rattle.dr_store_schema.specs.Statements as text
 use Rattle.dr_store_open.specs.declared.sheets.Sheets.{Sheets}
+
+-- the journal by the columns that it had, which say of each line what call it was
+abbrev pub all_calls : List ℕ
+all_calls = codes "SELECT n, kind, caller, uid, dest, outcome, moment FROM journal ORDER BY n"
 
 -- over these tables the text is one of SQL, which writes nothing and doesn't read the list of
 -- tables
@@ -26,15 +30,15 @@ abbrev pub AnswersTheSame : Database → Database → List ℕ → Type 0
 AnswersTheSame old new sql = (rows : List Row) × IsAnswer sql old rows × IsAnswer sql new rows
 
 -- Whose file it is, its instances, who brought them, which of them it keeps, its queue and its
--- journal: all of it is asked for before and after by the same queries, in the order of the keys,
--- and the answers are the same.
+-- journal by the columns that it had: all of it is asked for before and after by the same queries,
+-- in the order of the keys, and the answers are the same.
 pub record KeepsRows (old new : Database) : Type 0 where
   pub site : AnswersTheSame old new text.the_site
   pub items : AnswersTheSame old new text.all_items
   pub arrivals : AnswersTheSame old new text.all_arrivals
   pub kept : AnswersTheSame old new text.all_kept
   pub rows : AnswersTheSame old new text.all_rows
-  pub lines : AnswersTheSame old new text.all_lines
+  pub lines : AnswersTheSame old new all_calls
 
 -- these are queries over the tables
 pub record AreQueries (schema : Schema) : Type 0 where
@@ -43,7 +47,7 @@ pub record AreQueries (schema : Schema) : Type 0 where
   pub arrivals : IsQuery schema text.all_arrivals
   pub kept : IsQuery schema text.all_kept
   pub rows : IsQuery schema text.all_rows
-  pub lines : IsQuery schema text.all_lines
+  pub lines : IsQuery schema all_calls
 
 -- the sheets have what it has
 pub record IsTold (db : Database) (sheets : Sheets) : Type 0 where
@@ -52,4 +56,4 @@ pub record IsTold (db : Database) (sheets : Sheets) : Type 0 where
   pub arrivals : IsAnswer text.all_arrivals db sheets.arrivals.items
   pub kept : IsAnswer text.all_kept db sheets.kept.items
   pub rows : IsAnswer text.all_rows db sheets.rows.items
-  pub lines : IsAnswer text.all_lines db sheets.lines.items
+  pub lines : IsAnswer all_calls db sheets.lines.items

@@ -100,6 +100,18 @@ pub fn run_texts<S: Alter>(tx: &mut Transaction<'_, S>, texts: &[&str]) -> Resul
     Ok(())
 }
 
+/// The cells of a row.
+pub fn cells_of(alloc: Global, row: &Row) -> Result<Vec<ValueRef<'_>>, OpeningFault> {
+    let mut cells = Vec::new(alloc);
+    for at in 0..row.column_count() {
+        match row.get_ref(at) {
+            Ok(cell) => cells.push(cell)?,
+            Err(_) => return Err(OpeningFault::Store),
+        }
+    }
+    Ok(cells)
+}
+
 /// Adds a row with just the cells of this one.
 fn add_row<S: Alter>(
     tx: &mut Transaction<'_, S>,
@@ -111,13 +123,7 @@ fn add_row<S: Alter>(
     ensures survives { Survives (state S.Store tx.old.conn.now) (state S.Store tx.new.conn.now)
         (λ _. ⊥) }
 {
-    let mut cells = Vec::new(alloc);
-    for at in 0..row.column_count() {
-        match row.get_ref(at) {
-            Ok(cell) => cells.push(cell)?,
-            Err(_) => return Err(OpeningFault::Store),
-        }
-    }
+    let cells = cells_of(alloc, row)?;
     run_within(tx, sql, cells.as_slice())
 }
 

@@ -10,6 +10,7 @@ pub mod bodies;
 mod fault;
 pub mod finding;
 mod ledger;
+mod lines;
 pub mod making;
 mod older;
 pub mod opening;

@@ -15,15 +15,16 @@ const FIRST: [&str; 2] = [
     "CREATE TABLE item (uid TEXT NOT NULL PRIMARY KEY, class TEXT NOT NULL, syntax TEXT NOT NULL, modality BLOB NOT NULL, station BLOB NOT NULL, body BLOB NOT NULL) STRICT",
 ];
 
-/// The other tables, and the index of the rows that are due.
-pub const LATER: [&str; 7] = [
+/// The other tables, and the indexes of the rows that are due and of an instance's arrivals.
+pub const LATER: [&str; 8] = [
     "CREATE TABLE print (uid TEXT NOT NULL PRIMARY KEY REFERENCES item (uid), length INTEGER NOT NULL, sha256 BLOB NOT NULL, whole INTEGER NOT NULL) STRICT",
     "CREATE TABLE arrival (caller TEXT NOT NULL, uid TEXT NOT NULL REFERENCES item (uid), PRIMARY KEY (caller, uid)) STRICT",
     "CREATE TABLE kept (uid TEXT NOT NULL PRIMARY KEY REFERENCES item (uid)) STRICT",
     "CREATE TABLE queue (uid TEXT NOT NULL REFERENCES item (uid), dest TEXT NOT NULL, state INTEGER NOT NULL, tries INTEGER NOT NULL, due INTEGER NOT NULL, cause INTEGER, PRIMARY KEY (uid, dest)) STRICT",
-    "CREATE TABLE journal (n INTEGER PRIMARY KEY, kind INTEGER NOT NULL, caller TEXT, uid TEXT REFERENCES item (uid), dest TEXT, outcome INTEGER, moment INTEGER) STRICT",
+    "CREATE TABLE journal (n INTEGER PRIMARY KEY, kind INTEGER NOT NULL, caller TEXT, uid TEXT, dest TEXT, outcome INTEGER, moment INTEGER, class TEXT, syntax TEXT, modality BLOB, station BLOB, length INTEGER, sha256 BLOB) STRICT",
     "CREATE TABLE target (n INTEGER NOT NULL REFERENCES journal (n), dest TEXT NOT NULL, PRIMARY KEY (n, dest)) STRICT",
     "CREATE INDEX queue_due ON queue (dest, state, due, uid)",
+    "CREATE INDEX arrival_uid ON arrival (uid)",
 ];
 
 /// Runs these statements.

@@ -8,31 +8,29 @@ use crate::asking::ask_within;
 use crate::fault::{OpeningFault, of_finding, opening_fault};
 use crate::sheets::Sheets;
 use dr_base::{Octets, Text};
-use dr_ledger::{Instance, Item, ItemFault, LedgerFault, Progress};
+use dr_ledger::{Item, ItemFault, LedgerFault, Progress};
 use dr_route::{Key, Targets};
 use dr_site::Site;
 use dr_store_audit::Lacks;
 use dr_store_audit::needs::needed;
-use dr_store_audit::stock::stock_all;
 use dr_store_lists::Note;
 use dr_store_lists::listing::{
-    goal_keys, key_entries, note_entries, pair_keys, print_entries, row_entries, text_keys,
+    goal_keys, key_entries, pair_keys, print_entries, row_entries, text_keys,
 };
 use dr_store_reads::Print;
 use dr_store_reads::reading::read_bytes;
 use sqlite::types::ValueRef;
 use sqlite::{Alter, Row, Transaction};
 use std::alloc::Global;
-use std::collections::{BTreeMap, BTreeSet};
+use std::collections::BTreeSet;
 
-/// What the rows of such a file say.
+/// What the rows of such a file say, but for its journal.
 #[derive(Drop)]
 pub struct Told {
     pub keys: Vec<(Text, Key)>,
     pub arrivals: Vec<(Text, Text)>,
     pub kept: Vec<Text>,
     pub rows: Vec<((Text, Text), Progress)>,
-    pub notes: Vec<(u64, Note)>,
 }
 
 /// Whether the row of site says this site's node and plan.
@@ -71,13 +69,11 @@ fn told_by(alloc: Global, sheets: &Sheets) -> Result<Told, LedgerFault> {
     let arrivals = pair_keys(alloc, sheets.arrivals.as_slice())?;
     let kept = text_keys(alloc, sheets.kept.as_slice())?;
     let rows = row_entries(alloc, sheets.rows.as_slice())?;
-    let notes = note_entries(alloc, sheets.lines.as_slice())?;
     Ok(Told {
         keys,
         arrivals,
         kept,
         rows,
-        notes,
     })
 }
 
@@ -251,14 +247,10 @@ fn add_goals_of(
     goals: &mut Vec<(u64, Text)>,
     alloc: Global,
     site: &Site,
-    items: &BTreeMap<Text, Instance>,
     note: &(u64, Note),
 ) -> Result<(), OpeningFault> {
     match &note.1 {
-        Note::Arrival { caller, uid } => {
-            let Some(instance) = items.get(uid) else {
-                return Err(OpeningFault::OtherSite);
-            };
+        Note::Arrival { caller, instance } => {
             let targets = site.targets(alloc, caller, &instance.key)?;
             add_goals(goals, alloc, note.0, &targets)
         }
@@ -268,54 +260,34 @@ fn add_goals_of(
 }
 
 /// Where all first arrivals go on to by the site.
-fn made_goals(
+pub fn made_goals(
     alloc: Global,
     site: &Site,
-    told: &Told,
-    prints: &[(Text, Print)],
+    notes: &[(u64, Note)],
 ) -> Result<Vec<(u64, Text)>, OpeningFault> {
-    let items = match stock_all(alloc, told.keys.as_slice(), prints) {
-        Ok(items) => items,
-        Err(fault) => return Err(of_finding(fault)),
-    };
     let mut goals = Vec::new(alloc);
-    for note in told.notes.as_slice() {
-        add_goals_of(&mut goals, alloc, site, &items, note)?;
+    for note in notes {
+        add_goals_of(&mut goals, alloc, site, note)?;
     }
     Ok(goals)
 }
 
-/// The goals that the file has.
-fn found_goals<S: Alter>(
+/// The goals that the file has; None where it lacks them.
+pub fn found_goals<S: Alter>(
     tx: &mut Transaction<'_, S>,
     alloc: Global,
-) -> Result<Vec<(u64, Text)>, OpeningFault>
+    lacks: Lacks,
+) -> Result<Option<Vec<(u64, Text)>>, OpeningFault>
     ensures same_reference { tx.new.conn.ghost_name ≡ tx.old.conn.ghost_name }
     ensures survives { Survives (state S.Store tx.old.conn.now) (state S.Store tx.new.conn.now)
         (λ _. ⊥) }
 {
+    if lacks.target {
+        return Ok(None);
+    }
     let rows = ask_within(tx, "SELECT n, dest FROM target ORDER BY n, dest", &[])?;
     match goal_keys(alloc, rows.as_slice()) {
-        Ok(goals) => Ok(goals),
+        Ok(goals) => Ok(Some(goals)),
         Err(fault) => Err(opening_fault(fault)),
     }
-}
-
-/// The goals that the file has or, where it lacks them, those that the site gives.
-pub fn goals_for<'x, S: Alter>(
-    tx: &mut Transaction<'_, S>,
-    alloc: Global,
-    site: &'x Site,
-    lacks: Lacks,
-    told: &'x Told,
-    prints: &'x [(Text, Print)],
-) -> Result<Vec<(u64, Text)>, OpeningFault>
-    ensures same_reference { tx.new.conn.ghost_name ≡ tx.old.conn.ghost_name }
-    ensures survives { Survives (state S.Store tx.old.conn.now) (state S.Store tx.new.conn.now)
-        (λ _. ⊥) }
-{
-    if !lacks.target {
-        return found_goals(tx, alloc);
-    }
-    made_goals(alloc, site, told, prints)
 }

@@ -10,16 +10,21 @@ ghost use Rattle.dr_store_schema.specs.Tables.{tables};
 
 use crate::asking::{add_rows, run_texts};
 use crate::fault::{OpeningFault, of_finding, opening_fault};
+use crate::lines::{notes_in, put_lines};
 use crate::making::LATER;
-use crate::older::{Told, goals_for, prints_for, told_of};
+use crate::older::{Told, found_goals, made_goals, prints_for, told_of};
 use crate::sheets::{Sheets, ask_sheets, test_sheets};
 use dr_base::Text;
+use dr_ledger::Instance;
 use dr_site::Site;
+use dr_store_audit::stock::stock_all;
 use dr_store_audit::{Lacks, agree, lacking};
+use dr_store_lists::Note;
 use dr_store_reads::{Print, fault_of};
 use dr_store_writes::{add_print, add_target, set_body};
 use sqlite::{Alter, Connection, Error, Transaction};
 use std::alloc::Global;
+use std::collections::BTreeMap;
 
 /// The last number that a cell holds.
 const LAST_NUMBER: u64 = 1 << 62;
@@ -40,15 +45,16 @@ fn of_error(error: &Error) -> OpeningFault {
     opening_fault(fault_of(error))
 }
 
-/// Tests that what the file says, with these prints and goals, is a ledger's of the site.
+/// Tests that what the file says, with these prints, lines and goals, is a ledger's of the site.
 fn test(
     alloc: Global,
     site: &Site,
     told: &Told,
     prints: &[(Text, Print)],
+    notes: &[(u64, Note)],
     goals: &[(u64, Text)],
 ) -> Result<(), OpeningFault> {
-    let next = told.notes.len() as u64 + 1;
+    let next = notes.len() as u64 + 1;
     let agreed = agree(
         alloc,
         site,
@@ -57,7 +63,7 @@ fn test(
         told.arrivals.as_slice(),
         told.kept.as_slice(),
         told.rows.as_slice(),
-        told.notes.as_slice(),
+        notes,
         goals,
         next,
     );
@@ -167,7 +173,7 @@ fn put_goals<'x, S: Alter>(
     Ok(())
 }
 
-/// Puts the rows back of who brought what, of what is kept, of the queue and of the journal.
+/// Puts the rows back of who brought what, of what is kept and of the queue.
 fn put_back<'x, S: Alter>(
     tx: &mut Transaction<'_, S>,
     alloc: Global,
@@ -194,39 +200,33 @@ fn put_back<'x, S: Alter>(
         alloc,
         "INSERT INTO queue (uid, dest, state, tries, due, cause) VALUES (?1, ?2, ?3, ?4, ?5, ?6)",
         sheets.rows.as_slice(),
-    )?;
-    add_rows(
-        tx,
-        alloc,
-        "INSERT INTO journal (n, kind, caller, uid, dest, outcome, moment) VALUES (?1, ?2, ?3, ?4, ?5, ?6, ?7)",
-        sheets.lines.as_slice(),
     )
 }
 
-/// Puts in what the tables had, and these prints and goals.
+/// Puts in what the tables had, these prints, and the lines with their instances.
 fn fill_anew<'x, S: Alter>(
     tx: &mut Transaction<'_, S>,
     alloc: Global,
     sheets: &'x Sheets,
     prints: &'x [(Text, Print)],
-    goals: &'x [(u64, Text)],
+    items: &'x BTreeMap<Text, Instance>,
 ) -> Result<(), OpeningFault>
     ensures same_reference { tx.new.conn.ghost_name ≡ tx.old.conn.ghost_name }
     ensures survives { Survives (state S.Store tx.old.conn.now) (state S.Store tx.new.conn.now)
         (λ _. ⊥) }
 {
-    put_back(tx, alloc, sheets)?;
     put_prints(tx, prints)?;
-    put_goals(tx, goals)
+    put_back(tx, alloc, sheets)?;
+    put_lines(tx, alloc, items, sheets.lines.as_slice())
 }
 
-/// Makes the tables anew, with the rows that they had and with these prints and goals.
+/// Makes the tables anew that come after those of instances.
 fn make_anew<'x, S: Alter>(
     tx: &mut Transaction<'_, S>,
     alloc: Global,
     sheets: &'x Sheets,
     prints: &'x [(Text, Print)],
-    goals: &'x [(u64, Text)],
+    items: &'x BTreeMap<Text, Instance>,
 ) -> Result<(), OpeningFault>
     ensures same_reference { tx.new.conn.ghost_name ≡ tx.old.conn.ghost_name }
     ensures survives { Survives (state S.Store tx.old.conn.now) (state S.Store tx.new.conn.now)
@@ -234,10 +234,62 @@ fn make_anew<'x, S: Alter>(
 {
     run_texts(tx, LEAVE.as_slice())?;
     run_texts(tx, LATER.as_slice())?;
-    fill_anew(tx, alloc, sheets, prints, goals)
+    fill_anew(tx, alloc, sheets, prints, items)
 }
 
-/// Writes all that brings the file over, once it is tested that it is then a ledger's of the site.
+/// Where the first arrivals go on to: the goals that the file had or, where it lacked them, those
+/// that the site gives.
+fn goals_for(
+    alloc: Global,
+    site: &Site,
+    notes: &[(u64, Note)],
+    found: Option<Vec<(u64, Text)>>,
+) -> Result<Vec<(u64, Text)>, OpeningFault> {
+    match found {
+        Some(goals) => Ok(goals),
+        None => made_goals(alloc, site, notes),
+    }
+}
+
+/// Puts in where the lines go on to, and tests that all of it is a ledger's of the site.
+fn put_rest<'x, S: Alter>(
+    tx: &mut Transaction<'_, S>,
+    alloc: Global,
+    site: &'x Site,
+    told: &'x Told,
+    prints: &'x [(Text, Print)],
+    found: Option<Vec<(u64, Text)>>,
+) -> Result<(), OpeningFault>
+    ensures same_reference { tx.new.conn.ghost_name ≡ tx.old.conn.ghost_name }
+    ensures survives { Survives (state S.Store tx.old.conn.now) (state S.Store tx.new.conn.now)
+        (λ _. ⊥) }
+{
+    let notes = notes_in(tx, alloc)?;
+    let goals = goals_for(alloc, site, notes.as_slice(), found)?;
+    test(
+        alloc,
+        site,
+        told,
+        prints,
+        notes.as_slice(),
+        goals.as_slice(),
+    )?;
+    put_goals(tx, goals.as_slice())
+}
+
+/// The instances that the file has.
+fn items_of(
+    alloc: Global,
+    told: &Told,
+    prints: &[(Text, Print)],
+) -> Result<BTreeMap<Text, Instance>, OpeningFault> {
+    match stock_all(alloc, told.keys.as_slice(), prints) {
+        Ok(items) => Ok(items),
+        Err(fault) => Err(of_finding(fault)),
+    }
+}
+
+/// Writes all that brings the file over, and tests that it is a ledger's of the site then.
 fn rewrite<'x, S: Alter>(
     tx: &mut Transaction<'_, S>,
     alloc: Global,
@@ -251,9 +303,10 @@ fn rewrite<'x, S: Alter>(
 {
     let told = told_of(alloc, site, sheets)?;
     let prints = prints_for(tx, alloc, lacks, &told)?;
-    let goals = goals_for(tx, alloc, site, lacks, &told, prints.as_slice())?;
-    test(alloc, site, &told, prints.as_slice(), goals.as_slice())?;
-    make_anew(tx, alloc, sheets, prints.as_slice(), goals.as_slice())?;
+    let items = items_of(alloc, &told, prints.as_slice())?;
+    let found = found_goals(tx, alloc, lacks)?;
+    make_anew(tx, alloc, sheets, prints.as_slice(), &items)?;
+    put_rest(tx, alloc, site, &told, prints.as_slice(), found)?;
     let_all_go(tx, prints.as_slice())
 }
 

@@ -3,15 +3,16 @@
 ghost use Rattle.std.specs.Prelude.{◌≡◌, IfOk, OnOk};
 ghost use Rattle.sqlite.specs.Held.{state};
 ghost use Rattle.sqlite.specs.State.{HasCleanDisk, Survives};
-ghost use Rattle.dr_store_schema.specs.Statements.{all_arrivals, all_items, all_kept, all_lines};
-ghost use Rattle.dr_store_schema.specs.Statements.{all_rows, the_site};
-ghost use Rattle.dr_store_open.specs.Renewing.{AreQueries, IsAnswer, IsTold};
+ghost use Rattle.dr_store_schema.specs.Statements.{all_arrivals, all_items, all_kept, all_rows};
+ghost use Rattle.dr_store_schema.specs.Statements.{the_site};
+ghost use Rattle.dr_store_open.specs.Renewing.{AreQueries, IsAnswer, IsTold, all_calls};
 
 use crate::asking::{ask_rows, test_rows};
 use crate::fault::OpeningFault;
 use sqlite::{Alter, Row, Transaction};
 
-/// The rows of the tables that each such file has; those of instances without their data sets.
+/// The rows of the tables that each such file has; those of instances without their data sets, and
+/// those of the journal by the columns that it had.
 #[derive(Drop)]
 pub struct Sheets {
     pub site: Vec<Row>,
@@ -56,7 +57,7 @@ fn ask_moves<S: Alter>(
         → AreQueries (state S.Store tx.old.conn.now).now.schema
         → IfOk result (λ r. IsAnswer all_kept (state S.Store tx.old.conn.now).now r.0.items
         × IsAnswer all_rows (state S.Store tx.old.conn.now).now r.1.items
-        × IsAnswer all_lines (state S.Store tx.old.conn.now).now r.2.items
+        × IsAnswer all_calls (state S.Store tx.old.conn.now).now r.2.items
         × ((state S.Store tx.new.conn.now).now ≡ (state S.Store tx.old.conn.now).now)) }
 {
     let kept = ask_rows(tx, "SELECT uid FROM kept ORDER BY uid")?;
@@ -144,7 +145,7 @@ fn test_moves<'x, S: Alter>(
         → OnOk result
         (IsAnswer all_kept (state S.Store tx.old.conn.now).now sheets.now.kept.items
         × IsAnswer all_rows (state S.Store tx.old.conn.now).now sheets.now.rows.items
-        × IsAnswer all_lines (state S.Store tx.old.conn.now).now sheets.now.lines.items
+        × IsAnswer all_calls (state S.Store tx.old.conn.now).now sheets.now.lines.items
         × ((state S.Store tx.new.conn.now).now ≡ (state S.Store tx.old.conn.now).now)) }
 {
     test_rows(

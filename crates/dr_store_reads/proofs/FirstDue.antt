@@ -47,7 +47,7 @@ use Rattle.dr_store_writes.proofs.Keys.{IsQueueRow, all_both, both, int_test, ke
 use Rattle.dr_store_writes.proofs.Maps as maps
 use Rattle.dr_store_writes.proofs.Maps.{AreApart}
 use Rattle.dr_store_writes.proofs.Updated.{hits, matched}
-use Rattle.dr_store_reads.specs.Queries.{IsFirstDue, IsOpenElsewhere, first_of, shown_text}
+use Rattle.dr_store_reads.specs.Queries.{IsFirstDue, IsOpenElsewhere, IsUndone, first_of, shown_text}
 use Rattle.dr_store_reads.proofs.Points.{map_twice, none_shown}
 use Rattle.dr_store_reads.proofs.Selects as select
 
@@ -207,6 +207,51 @@ module _ (k : Pair) where
 
     pub open_found : IsTrue (not (length rows == 0)) ↔ IsOpenElsewhere old.now.trees k.0 k.1
     open_found = (λ shown. let row = some_passes hits_open (old.now.trees 9) (sym any_open ∙ shown) in from_row row.0 row.1 row.2, λ it. any_open ∙ to_row it)
+
+-- ---- rows of one instance that are open, to whatever destination
+
+module _ (uid : Text) where
+  abbrev undone_params : Row
+  undone_params = TextCell uid ∷ []
+
+  abbrev hits_undone : Row → Bool
+  hits_undone = hits select.undone undone_params
+
+  undone_test : (row : Row) (is : IsOurs row) → hits_undone row ≡ (is_eq (slice_cmp nat_cmp is.queue.at.0 uid) && (is_ne (int_cmp (pos is.counted.state) (pos 2)) && true))
+  undone_test row is = rw (is.queue.uid, is.counted.state_is, same_text is.queue.at.0 uid, int_test Ne (pos is.counted.state) (pos 2))
+
+  module _ (old new : State) (rows : List Row) (has : IsLedger old.now) (h : Shown text.find_undone undone_params old new rows) where
+    is_its_row : (row : Row) → Has (old.now.trees 9) row → IsOurs row
+    is_its_row row there = all_has IsOurs (old.now.trees 9) row (are_ours old has) there
+
+    any_undone : not (length rows == 0) ≡ list_any hits_undone (old.now.trees 9)
+    any_undone =
+        let answer : IsAnswer (over 9 select.undone select.open_shown) (overlay old.now.trees []) undone_params rows =
+        (reads_as text.find_undone undone_params old new tables has.schema _ select.find_undone.command select.find_undone.plain select.find_undone.listing rows h).answer Null in
+        none_shown 9 select.undone select.open_shown old.now.trees undone_params rows answer answer.grouped
+
+    by_row : (row : Row) → Has (old.now.trees 9) row → hits_undone row ≡ true → IsUndone old.now.trees uid
+    by_row row there hit =
+        let is = is_its_row row there in
+        let a = both (is_eq (slice_cmp nat_cmp is.queue.at.0 uid)) _ (sym (undone_test row is) ∙ hit) in
+        let d = both (is_ne (int_cmp (pos is.counted.state) (pos 2))) true a.1 in (
+          is.queue.at.1,
+          (entry_in row).1,
+          found_at old has row there is uid is.queue.at.1 (exact_bytes is.queue.at.0 uid (maps.equal _ a.0)) refl,
+          λ done. is_open_by is.counted.state _ _ _ is.counted.known d.0 (sym (progress_of row is) ∙ done),
+        )
+
+    of_row : IsUndone old.now.trees uid → list_any hits_undone (old.now.trees 9) ≡ true
+    of_row it =
+        let row = found_row (uid, it.0) it.1 (old.now.trees 9) (sym (in_map old.now.trees (uid, it.0)) ∙ it.2) in
+        let is = is_its_row row.0 row.1 in
+        let at : is.queue.at ≡ (uid, it.0) = sym (key_of row.0 is.queue) ∙ row.2 in
+        let its : is_eq (slice_cmp nat_cmp is.queue.at.0 uid) ≡ true = ap (λ (q : Pair). is_eq (slice_cmp nat_cmp q.0 uid)) at ∙ ap is_eq (tied_itself nat_list_cmp_total uid) in
+        let state : is_ne (int_cmp (pos is.counted.state) (pos 2)) ≡ true = open_by is.counted.state _ _ _ (λ done. it.3 (sym row.3 ∙ progress_of row.0 is ∙ done)) in
+        one_passes hits_undone (old.now.trees 9) row.0 row.1 (undone_test row.0 is ∙ (λ i. its i && (state i && true)))
+
+    pub undone_found : IsTrue (not (length rows == 0)) ↔ IsUndone old.now.trees uid
+    undone_found = (λ shown. let row = some_passes hits_undone (old.now.trees 9) (sym any_undone ∙ shown) in by_row row.0 row.1 row.2, λ it. any_undone ∙ of_row it)
 
 -- ---- the first of an order that ORDER BY allows
 

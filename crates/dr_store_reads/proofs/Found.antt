@@ -25,9 +25,9 @@ use Rattle.dr_ledger.specs.Pairs.{Pair}
 use Rattle.dr_store_schema.specs.Books.{Print, all_kept_in, arrival_in, arrivals_in, bodies_of, content_in, contents_in, entry_in, instance_by, is_whole, item_in, items_of, kept_in, key_in, print_in, print_or_none, prints_of, rows_of, whole_in, wholes_in}
 use Rattle.dr_store_schema.specs.Ledgers.{IsLedger}
 use Rattle.dr_store_schema.specs.Statements as text
-use Rattle.dr_store_schema.specs.Tables.{arrival_table, kept_table, tables}
+use Rattle.dr_store_schema.specs.Tables.{kept_table, tables}
 use Rattle.dr_store_writes.proofs.Commands.{by_key, by_uid, over}
-use Rattle.dr_store_writes.proofs.Keys.{IsQueueRow, IsUidRow, a_text, all_both, all_hit, all_uid_hits, both, item_uids, items_apart, pairs_exact, pairs_total, print_uids, prints_apart, queue_apart, queue_rows}
+use Rattle.dr_store_writes.proofs.Keys.{IsQueueRow, IsUidRow, a_text, all_both, all_hit, all_uid_hits, arrival_rows, both, item_uids, items_apart, pairs_exact, pairs_total, print_uids, prints_apart, queue_apart, queue_rows}
 use Rattle.dr_store_writes.proofs.Maps.{found_hit}
 use Rattle.dr_store_writes.proofs.Updated.{hits}
 use Rattle.dr_store_reads.specs.Queries.{IsJobOf, IsKeyOf, IsPrintOf, IsStored, first_of, shown_job, shown_key, shown_print, shown_progress}
@@ -141,24 +141,6 @@ row_found old new k rows has h =
     ]
 
 -- ---- arrivals, and what is kept
-
-arrival_row : (db : Trees) (row : Row) → passes Datatype tables db arrival_table row ≡ true → passes NotNull tables db arrival_table row ≡ true → IsQueueRow row
-arrival_row db [] typed there = absurd cc
-arrival_row db (id ∷ []) typed there = absurd cc
-arrival_row db (id ∷ a ∷ []) typed there = let h = both (not (is_null a)) _ there in absurd (let e = h.1 in cc)
-arrival_row db (id ∷ a ∷ b ∷ rest) typed there =
-    let t1 = both (is_of kind.Text a) _ (both _ true typed).0 in
-    let t2 = both (is_of kind.Text b) _ t1.1 in
-    let n1 = both (not (is_null a)) _ there in
-    let n2 = both (not (is_null b)) _ n1.1 in
-    let caller = a_text a t1.0 n1.0 in
-    let uid = a_text b t2.0 n2.0 in
-    record { at = (caller.0, uid.0); uid = caller.1; dest = uid.1 }
-
-arrival_rows : (db : Database) → IsLedger db → AllByRecursion IsQueueRow (db.trees 5)
-arrival_rows db is =
-    let obeys = (subst (λ s. IsSound s db.trees) is.schema is.sound).obeys in
-    all_both _ _ IsQueueRow (arrival_row db.trees) (db.trees 5) (obeys.rules Datatype).1.1.1.0 (obeys.rules NotNull).1.1.1.0
 
 pub arrival_found : (old new : State) (at : Pair) (rows : List Row) → IsLedger old.now → Shown text.find_arrival (TextCell at.0 ∷ TextCell at.1 ∷ []) old new rows
     → not (length rows == 0) ≡ set.contains (arrivals_in (old.now.trees 5)) at

@@ -81,6 +81,14 @@ pub find_open : Is text.find_open (over 9 open_elsewhere open_shown) (codes "des
 unfolding understood everything
 find_open = record { command = refl; listing = refl; plain = (refl, refl) }
 
+-- WHERE uid = ?1 AND state <> 2
+abbrev pub undone : List Term
+undone = op2 (Compare Eq Binary) (col 1 1) (col 0 0) ∷ op2 (Compare Ne Binary) (col 1 3) (lit (Int (pos 2))) ∷ []
+
+pub find_undone : Is text.find_undone (over 9 undone open_shown) (codes "dest" ∷ [])
+unfolding understood everything
+find_undone = record { command = refl; listing = refl; plain = (refl, refl) }
+
 -- WHERE dest = ?1 AND state = 0 AND due <= ?2
 abbrev pub due_at_dest : List Term
 due_at_dest =

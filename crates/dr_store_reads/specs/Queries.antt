@@ -88,6 +88,11 @@ IsOpenElsewhere db uid dest =
     × (map.get (rows_of db) (uid, other) ≡ Some row)
     × (row ≢ Done)
 
+-- the instance has a row that isn't done, to whatever destination
+abbrev pub IsUndone : Trees → Text → Type 0
+IsUndone db uid =
+    (dest : Text) × (row : Progress) × (map.get (rows_of db) (uid, dest) ≡ Some row) × (row ≢ Done)
+
 -- The uid of the first row for the destination, by (due, uid), that waits and is due; or that no
 -- row is due.
 abbrev pub IsFirstDue : Trees → Text → ℕ → Option Text → Type 0

@@ -11,9 +11,9 @@ ghost use Rattle.dr_store_schema.specs.Books.{all_kept_in, arrivals_in, rows_of}
 ghost use Rattle.dr_store_schema.specs.Ledgers.{IsLedger};
 ghost use Rattle.dr_store_reads.specs.Queries.{Asked, IsFirstDue, IsJobOf, IsKeyOf, IsBlobIn};
 ghost use Rattle.dr_store_reads.specs.Queries.{IsOpenElsewhere, IsOwnerAsShown, IsOwnerIn};
-ghost use Rattle.dr_store_reads.specs.Queries.{IsOwnerOf, IsPrintOf, IsTextIn, IsStored, first_of};
-ghost use Rattle.dr_store_reads.specs.Queries.{shown_job, shown_key, shown_print, shown_progress};
-ghost use Rattle.dr_store_reads.specs.Queries.{shown_text};
+ghost use Rattle.dr_store_reads.specs.Queries.{IsOwnerOf, IsPrintOf, IsTextIn, IsStored, IsUndone};
+ghost use Rattle.dr_store_reads.specs.Queries.{first_of, shown_job, shown_key, shown_print};
+ghost use Rattle.dr_store_reads.specs.Queries.{shown_progress, shown_text};
 
 use crate::queries::ask;
 use crate::reading::{read_bytes, read_digest, read_key, read_number, read_progress, read_text};
@@ -303,6 +303,19 @@ pub fn is_open_elsewhere<'x, S: Alter>(
             ValueRef::Text(uid.as_bytes()),
             ValueRef::Text(dest.as_bytes()),
         ],
+    )?;
+    Ok(!rows.as_slice().is_empty())
+}
+
+/// Whether an instance waits or is held for any destination, so that it isn't over.
+pub fn is_undone<'x, S: Alter>(conn: &mut Connection<S>, uid: &'x Text) -> Result<bool, LedgerFault>
+    ensures asked { Asked IsLedger result (state S.Store conn.old) (state S.Store conn.new)
+        (λ undone. IsTrue undone ↔ IsUndone (state S.Store conn.old).now.trees uid.now) }
+{
+    let rows = ask(
+        conn,
+        "SELECT dest FROM queue WHERE uid = ?1 AND state <> 2",
+        &[ValueRef::Text(uid.as_bytes())],
     )?;
     Ok(!rows.as_slice().is_empty())
 }

@@ -113,6 +113,26 @@ pub insert_adopted_plain : IsPlain (understood tables text.insert_adopted)
 unfolding understood everything
 insert_adopted_plain = (refl, refl)
 
+pub drop_arrivals_of_plain : IsPlain (understood tables text.drop_arrivals_of)
+unfolding understood everything
+drop_arrivals_of_plain = (refl, refl)
+
+pub drop_rows_of_plain : IsPlain (understood tables text.drop_rows_of)
+unfolding understood everything
+drop_rows_of_plain = (refl, refl)
+
+pub drop_print_plain : IsPlain (understood tables text.drop_print)
+unfolding understood everything
+drop_print_plain = (refl, refl)
+
+pub drop_item_plain : IsPlain (understood tables text.drop_item)
+unfolding understood everything
+drop_item_plain = (refl, refl)
+
+pub insert_forgotten_plain : IsPlain (understood tables text.insert_forgotten)
+unfolding understood everything
+insert_forgotten_plain = (refl, refl)
+
 pub insert_site_plain : IsPlain (understood tables text.insert_site)
 unfolding understood everything
 insert_site_plain = (refl, refl)
@@ -152,6 +172,10 @@ find_row_plain = (refl, refl)
 pub find_open_plain : IsPlain (understood tables text.find_open)
 unfolding understood everything
 find_open_plain = (refl, refl)
+
+pub find_undone_plain : IsPlain (understood tables text.find_undone)
+unfolding understood everything
+find_undone_plain = (refl, refl)
 
 pub find_next_plain : IsPlain (understood tables text.find_next)
 unfolding understood everything
@@ -226,6 +250,11 @@ statements_are_understood = record {
   drop_arrivals = drop_arrivals_plain;
   drop_done = drop_done_plain;
   insert_adopted = insert_adopted_plain;
+  drop_arrivals_of = drop_arrivals_of_plain;
+  drop_rows_of = drop_rows_of_plain;
+  drop_print = drop_print_plain;
+  drop_item = drop_item_plain;
+  insert_forgotten = insert_forgotten_plain;
   insert_site = insert_site_plain;
   set_plan = set_plan_plain;
   the_site = the_site_plain;
@@ -236,6 +265,7 @@ statements_are_understood = record {
   find_kept = find_kept_plain;
   find_row = find_row_plain;
   find_open = find_open_plain;
+  find_undone = find_undone_plain;
   find_next = find_next_plain;
   all_items = all_items_plain;
   all_prints = all_prints_plain;

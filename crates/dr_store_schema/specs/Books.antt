@@ -1,6 +1,7 @@
 -- The book that the tables stand for, and its data sets: each table is a part of it, and of an
--- instance `item` has what rules read and `print` the length and the digest. The lines of the
--- journal are joined with both, since an item that is there never changes.
+-- instance `item` has what rules read and `print` the length and the digest. The line of an arrival
+-- has all of its instance itself, since the item may be forgotten, and another one come under its
+-- uid.
 use Rattle.std.specs.Prelude.{◌≡◌, ◌==◌, ◌<◌, ℕ, zero, suc, pos, Bool, false, not, List, [], ◌∷◌}
 use Rattle.std.specs.Prelude.{map as mapped, filter, Option, Some, None}
 use Rattle.std.specs.List.{AllByRecursion}
@@ -13,13 +14,13 @@ use Rattle.sqlite.specs.declared.types.Value.TheVariants.{Int}
 use Rattle.sqlite.specs.Order.{Row, column}
 use Rattle.sqlite.specs.Tree.{Trees, rowid}
 use Rattle.dr_base.specs.Texts.{Text, text_cmp}
-use Rattle.dr_base.specs.declared.syntax.Syntax.TheVariants.{Explicit}
 use Rattle.dr_route.specs.declared.key.Key.{Key}
 use Rattle.dr_ledger.specs.declared.item.Instance.{Instance}
 use Rattle.dr_ledger.specs.declared.item.Outcome.{Outcome}
 use Rattle.dr_ledger.specs.declared.item.Progress.{Progress}
 use Rattle.dr_ledger.specs.Bodies.{Bodies}
-use Rattle.dr_ledger.specs.Books.{Book, Line, Arrival, Repeat, Settling, Requeuing, Adoption}
+use Rattle.dr_ledger.specs.Books.{Book, Line, Arrival, Repeat, Settling, Requeuing, Forgetting}
+use Rattle.dr_ledger.specs.Books.{Adoption}
 use Rattle.dr_ledger.specs.Pairs.{Pair, pair_cmp}
 use Rattle.dr_store_schema.specs.Cells.{text_in, bytes_in, number_in, syntax_marked, progress_in}
 use Rattle.dr_store_schema.specs.Cells.{outcome_in}
@@ -137,42 +138,45 @@ targets_in rows n = map.keys (map.remove (names_in rows n) keep_mark)
 abbrev pub keeps_in : List Row → ℕ → Bool
 keeps_in rows n = map.contains_key (names_in rows n) keep_mark
 
--- an item that isn't there; no line of a ledger speaks of one
-abbrev pub no_item : Text → Instance
-no_item uid = record {
-  uid = uid;
-  key = record { class = []; syntax = Explicit; modality = []; station = [] };
-  size = 0;
-  digest = [];
+-- the instance in a row of journal
+abbrev pub instance_in : Row → Instance
+instance_in row = record {
+  uid = text_in (column row 4);
+  key = record {
+    class = text_in (column row 8);
+    syntax = syntax_marked (text_in (column row 9));
+    modality = bytes_in (column row 10);
+    station = bytes_in (column row 11);
+  };
+  size = number_in (column row 12);
+  digest = bytes_in (column row 13);
 }
 
-abbrev pub item_or_none : Text → Option Instance → Instance
-item_or_none uid None = no_item uid
-item_or_none uid (Some item) = item
-
--- 0 is a first arrival, 1 a repeat, 2 a settling, 3 a requeuing, and all else an adoption
+-- 0 is a first arrival, 1 a repeat, 2 a settling, 3 a requeuing, 5 a forgetting, and all else an
+-- adoption
 abbrev pub line_by : ℕ → Text → Instance → Text → Text → Outcome → ℕ → List Text → Bool → Line
 line_by zero caller item uid dest what now to keep = Arrival caller item to keep
 line_by (suc zero) caller item uid dest what now to keep = Repeat caller item
 line_by (suc (suc zero)) caller item uid dest what now to keep = Settling uid dest what now
 line_by (suc (suc (suc zero))) caller item uid dest what now to keep = Requeuing uid dest
-line_by (suc (suc (suc (suc more)))) caller item uid dest what now to keep = Adoption
+line_by (suc (suc (suc (suc zero)))) caller item uid dest what now to keep = Adoption
+line_by (suc (suc (suc (suc (suc zero))))) caller item uid dest what now to keep = Forgetting uid
+line_by (suc (suc (suc (suc (suc (suc more)))))) caller item uid dest what now to keep = Adoption
 
--- the line of a row of journal, with its item and with its rows of target
-abbrev pub line_in : FinMap text_cmp Instance → List Row → Row → Line
-line_in items targets row = line_by (number_in (column row 2)) (text_in (column row 3))
-    (item_or_none (text_in (column row 4)) (map.get items (text_in (column row 4))))
-    (text_in (column row 4)) (text_in (column row 5)) (outcome_in (column row 6))
-    (number_in (column row 7)) (targets_in targets (number_in (rowid row)))
-    (keeps_in targets (number_in (rowid row)))
+-- the line of a row of journal, with its rows of target
+abbrev pub line_in : List Row → Row → Line
+line_in targets row = line_by (number_in (column row 2)) (text_in (column row 3))
+    (instance_in row) (text_in (column row 4)) (text_in (column row 5))
+    (outcome_in (column row 6)) (number_in (column row 7))
+    (targets_in targets (number_in (rowid row))) (keeps_in targets (number_in (rowid row)))
 
-abbrev pub numbered_line : FinMap text_cmp Instance → List Row → Row → ℕ × Line
-numbered_line items targets row = (number_in (rowid row), line_in items targets row)
+abbrev pub numbered_line : List Row → Row → ℕ × Line
+numbered_line targets row = (number_in (rowid row), line_in targets row)
 
 -- in the order of their numbers
-abbrev pub lines_in : FinMap text_cmp Instance → List Row → List Row → List Line
-lines_in items targets rows =
-    map.values (map.from_entries {R = nat_cmp} (mapped (numbered_line items targets) rows))
+abbrev pub lines_in : List Row → List Row → List Line
+lines_in targets rows =
+    map.values (map.from_entries {R = nat_cmp} (mapped (numbered_line targets) rows))
 
 -- each line has a lower number
 abbrev pub AreBelow : ℕ → List Row → Type 0
@@ -191,7 +195,7 @@ abbrev pub rows_of : Trees → FinMap pair_cmp Progress
 rows_of db = rows_in (db 9)
 
 abbrev pub lines_of : Trees → List Line
-lines_of db = lines_in (items_of db) (db 12) (db 11)
+lines_of db = lines_in (db 12) (db 11)
 
 -- the book
 abbrev pub book_of : Trees → Book

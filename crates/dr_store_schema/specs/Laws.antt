@@ -5,11 +5,12 @@ use Rattle.sqlite.specs.Compile.{table_defined_by}
 use Rattle.sqlite.specs.Given.{IsPlain}
 use Rattle.sqlite.specs.Listing.{understood}
 use Rattle.sqlite.specs.declared.types.Value.TheVariants.{Int}
+use Rattle.sqlite.specs.Tree.{Trees}
 use Rattle.dr_base.specs.declared.syntax.Syntax.{Syntax}
 use Rattle.dr_ledger.specs.declared.item.Outcome.{Outcome}
 use Rattle.dr_ledger.specs.declared.item.Progress.{Progress}
 use Rattle.dr_ledger.specs.Books.{empty_book}
-use Rattle.dr_store_schema.specs.Books.{bodies_of, book_of}
+use Rattle.dr_store_schema.specs.Books.{bodies_of, book_of, lines_of}
 use Rattle.dr_store_schema.specs.Cells.{due_of, mark_of, outcome_in, outcome_value, progress_in}
 use Rattle.dr_store_schema.specs.Cells.{state_of, syntax_marked, tries_of, why_of}
 use Rattle.dr_store_schema.specs.Statements as text
@@ -45,6 +46,11 @@ pub record StatementsAreUnderstood : Type 0 where
   pub drop_arrivals : IsPlain (understood tables text.drop_arrivals)
   pub drop_done : IsPlain (understood tables text.drop_done)
   pub insert_adopted : IsPlain (understood tables text.insert_adopted)
+  pub drop_arrivals_of : IsPlain (understood tables text.drop_arrivals_of)
+  pub drop_rows_of : IsPlain (understood tables text.drop_rows_of)
+  pub drop_print : IsPlain (understood tables text.drop_print)
+  pub drop_item : IsPlain (understood tables text.drop_item)
+  pub insert_forgotten : IsPlain (understood tables text.insert_forgotten)
   pub insert_site : IsPlain (understood tables text.insert_site)
   pub set_plan : IsPlain (understood tables text.set_plan)
   pub the_site : IsPlain (understood tables text.the_site)
@@ -55,6 +61,7 @@ pub record StatementsAreUnderstood : Type 0 where
   pub find_kept : IsPlain (understood tables text.find_kept)
   pub find_row : IsPlain (understood tables text.find_row)
   pub find_open : IsPlain (understood tables text.find_open)
+  pub find_undone : IsPlain (understood tables text.find_undone)
   pub find_next : IsPlain (understood tables text.find_next)
   pub all_items : IsPlain (understood tables text.all_items)
   pub all_prints : IsPlain (understood tables text.all_prints)
@@ -83,3 +90,9 @@ pub record CellsSayWhatWasWritten : Type 0 where
 pub record EmptyTablesAreEmpty : Type 0 where
   pub book : book_of (λ tree. []) ≡ empty_book
   pub bodies : bodies_of (λ tree. []) ≡ map.empty
+
+-- the lines stand in journal and target alone: an item that leaves, or that comes under the uid of
+-- one that left, changes none
+abbrev pub LinesStandAlone : Type 0
+LinesStandAlone =
+    (old new : Trees) → new 11 ≡ old 11 → new 12 ≡ old 12 → lines_of new ≡ lines_of old

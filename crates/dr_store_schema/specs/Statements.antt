@@ -28,7 +28,7 @@ create_queue = codes
 
 abbrev pub create_journal : List ℕ
 create_journal = codes
-    "CREATE TABLE journal (n INTEGER PRIMARY KEY, kind INTEGER NOT NULL, caller TEXT, uid TEXT REFERENCES item (uid), dest TEXT, outcome INTEGER, moment INTEGER) STRICT"
+    "CREATE TABLE journal (n INTEGER PRIMARY KEY, kind INTEGER NOT NULL, caller TEXT, uid TEXT, dest TEXT, outcome INTEGER, moment INTEGER, class TEXT, syntax TEXT, modality BLOB, station BLOB, length INTEGER, sha256 BLOB) STRICT"
 
 abbrev pub create_target : List ℕ
 create_target = codes
@@ -36,6 +36,9 @@ create_target = codes
 
 abbrev pub create_queue_due : List ℕ
 create_queue_due = codes "CREATE INDEX queue_due ON queue (dest, state, due, uid)"
+
+abbrev pub create_arrival_uid : List ℕ
+create_arrival_uid = codes "CREATE INDEX arrival_uid ON arrival (uid)"
 
 -- ---- a first arrival
 
@@ -62,10 +65,11 @@ insert_row =
     codes "INSERT INTO queue (uid, dest, state, tries, due, cause) VALUES (?1, ?2, 0, 0, 0, NULL)"
 
 -- the line of a first arrival (kind 0) or of a repeat (kind 1), whose outcome is what was answered:
--- 0 new, 1 again
+-- 0 new, 1 again; with what came: what rules read of it, and the length and the SHA-256 of its data
+-- set
 abbrev pub insert_arrived : List ℕ
 insert_arrived = codes
-    "INSERT INTO journal (n, kind, caller, uid, dest, outcome, moment) VALUES (?1, ?2, ?3, ?4, NULL, ?2, NULL)"
+    "INSERT INTO journal (n, kind, caller, uid, dest, outcome, moment, class, syntax, modality, station, length, sha256) VALUES (?1, ?2, ?3, ?4, NULL, ?2, NULL, ?5, ?6, ?7, ?8, ?9, ?10)"
 
 -- where the first arrival of this line goes on to
 abbrev pub insert_target : List ℕ
@@ -87,6 +91,29 @@ insert_settled = codes
 abbrev pub insert_requeued : List ℕ
 insert_requeued = codes
     "INSERT INTO journal (n, kind, caller, uid, dest, outcome, moment) VALUES (?1, 3, NULL, ?2, ?3, NULL, NULL)"
+
+-- ---- a forgetting
+
+-- its arrivals leave
+abbrev pub drop_arrivals_of : List ℕ
+drop_arrivals_of = codes "DELETE FROM arrival WHERE uid = ?1"
+
+-- its rows leave
+abbrev pub drop_rows_of : List ℕ
+drop_rows_of = codes "DELETE FROM queue WHERE uid = ?1"
+
+-- its print leaves
+abbrev pub drop_print : List ℕ
+drop_print = codes "DELETE FROM print WHERE uid = ?1"
+
+-- the item itself leaves, to which nothing refers by now
+abbrev pub drop_item : List ℕ
+drop_item = codes "DELETE FROM item WHERE uid = ?1"
+
+-- the line of a forgetting
+abbrev pub insert_forgotten : List ℕ
+insert_forgotten = codes
+    "INSERT INTO journal (n, kind, caller, uid, dest, outcome, moment) VALUES (?1, 5, NULL, ?2, NULL, NULL, NULL)"
 
 -- ---- data sets
 
@@ -151,6 +178,10 @@ find_row = codes "SELECT state, tries, due, cause FROM queue WHERE uid = ?1 AND 
 abbrev pub find_open : List ℕ
 find_open = codes "SELECT dest FROM queue WHERE uid = ?1 AND dest <> ?2 AND state <> 2"
 
+-- the rows of an instance that aren't done
+abbrev pub find_undone : List ℕ
+find_undone = codes "SELECT dest FROM queue WHERE uid = ?1 AND state <> 2"
+
 -- the first row of a destination that waits and is due
 abbrev pub find_next : List ℕ
 find_next = codes
@@ -174,7 +205,8 @@ abbrev pub all_rows : List ℕ
 all_rows = codes "SELECT uid, dest, state, tries, due, cause FROM queue ORDER BY uid, dest"
 
 abbrev pub all_lines : List ℕ
-all_lines = codes "SELECT n, kind, caller, uid, dest, outcome, moment FROM journal ORDER BY n"
+all_lines = codes
+    "SELECT n, kind, caller, uid, dest, outcome, moment, class, syntax, modality, station, length, sha256 FROM journal ORDER BY n"
 
 abbrev pub all_targets : List ℕ
 all_targets = codes "SELECT n, dest FROM target ORDER BY n, dest"

@@ -152,7 +152,8 @@ queue = record {
 }
 
 -- the accepted calls, numbered from 1; kind 0 is a first arrival, 1 a repeat, 2 a settling, 3 a
--- requeuing, 4 an adoption
+-- requeuing, 4 an adoption, 5 a forgetting. The line of an arrival has the instance itself, which
+-- may have been forgotten since: what rules read of it, and its data set's length and SHA-256.
 abbrev pub journal : Table
 journal = record {
   name = codes "journal";
@@ -161,13 +162,16 @@ journal = record {
       column_named (codes "n") Integer false ∷ column_named (codes "kind") Integer true
       ∷ column_named (codes "caller") Text false ∷ column_named (codes "uid") Text false
       ∷ column_named (codes "dest") Text false ∷ column_named (codes "outcome") Integer false
-      ∷ column_named (codes "moment") Integer false ∷ [];
+      ∷ column_named (codes "moment") Integer false ∷ column_named (codes "class") Text false
+      ∷ column_named (codes "syntax") Text false ∷ column_named (codes "modality") Blob false
+      ∷ column_named (codes "station") Blob false ∷ column_named (codes "length") Integer false
+      ∷ column_named (codes "sha256") Blob false ∷ [];
   key = Some 0;
   primary = 0 ∷ [];
   uniques = [];
   orders = [];
   checks = [];
-  references = refers 4 (codes "item") (codes "uid") ∷ [];
+  references = [];
   computed = [];
   stamps = record { places = []; terms = []; formats = [] };
   is_counted = false;
@@ -202,16 +206,29 @@ queue_due = record {
   is_unique = false;
 }
 
+-- the arrivals of an instance, by which they leave with it
+abbrev pub arrival_uid : Index
+arrival_uid = record {
+  name = codes "arrival_uid";
+  tree = 0;
+  table = 5;
+  columns = 2 ∷ [];
+  order = record { digits = 0 };
+  is_unique = false;
+}
+
 -- All of them; each is numbered as it is made.
 abbrev pub tables : Schema
 tables = indexed
+    (indexed
     (created
     (created
     (created
     (created
     (created
     (created (created (created (record { tables = []; indexes = []; views = [] }) site) item) print)
-    arrival) kept) queue) journal) target) (record queue { tree = 9 }) queue_due
+    arrival) kept) queue) journal) target) (record queue { tree = 9 }) queue_due)
+    (record arrival { tree = 5 }) arrival_uid
 
 -- ---- the tables with their trees
 

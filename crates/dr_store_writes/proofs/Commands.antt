@@ -56,33 +56,44 @@ pub insert_row : Is text.insert_row (Insert 5 (Values row_terms 7))
 unfolding understood everything
 insert_row = (refl, (refl, refl))
 
-abbrev pub arrived_terms : List Term
-arrived_terms = col 0 0 ∷ lit Null ∷ col 0 1 ∷ col 0 2 ∷ col 0 3 ∷ lit Null ∷ col 0 1 ∷ lit Null ∷ []
+-- no instance comes by the line
+abbrev nothing_came : List Term
+nothing_came = lit Null ∷ lit Null ∷ lit Null ∷ lit Null ∷ lit Null ∷ lit Null ∷ []
 
-pub insert_arrived : Is text.insert_arrived (Insert 6 (Values arrived_terms 8))
+abbrev pub arrived_terms : List Term
+arrived_terms = col 0 0 ∷ lit Null ∷ col 0 1 ∷ col 0 2 ∷ col 0 3 ∷ lit Null ∷ col 0 1 ∷ lit Null ∷ col 0 4 ∷ col 0 5 ∷ col 0 6 ∷ col 0 7 ∷ col 0 8 ∷ col 0 9 ∷ []
+
+pub insert_arrived : Is text.insert_arrived (Insert 6 (Values arrived_terms 14))
 unfolding understood everything
 insert_arrived = (refl, (refl, refl))
 
 abbrev pub settled_terms : List Term
-settled_terms = col 0 0 ∷ lit Null ∷ lit (Int (pos 2)) ∷ lit Null ∷ col 0 1 ∷ col 0 2 ∷ col 0 3 ∷ col 0 4 ∷ []
+settled_terms = col 0 0 ∷ lit Null ∷ lit (Int (pos 2)) ∷ lit Null ∷ col 0 1 ∷ col 0 2 ∷ col 0 3 ∷ col 0 4 ∷ nothing_came
 
-pub insert_settled : Is text.insert_settled (Insert 6 (Values settled_terms 8))
+pub insert_settled : Is text.insert_settled (Insert 6 (Values settled_terms 14))
 unfolding understood everything
 insert_settled = (refl, (refl, refl))
 
 abbrev pub requeued_terms : List Term
-requeued_terms = col 0 0 ∷ lit Null ∷ lit (Int (pos 3)) ∷ lit Null ∷ col 0 1 ∷ col 0 2 ∷ lit Null ∷ lit Null ∷ []
+requeued_terms = col 0 0 ∷ lit Null ∷ lit (Int (pos 3)) ∷ lit Null ∷ col 0 1 ∷ col 0 2 ∷ lit Null ∷ lit Null ∷ nothing_came
 
-pub insert_requeued : Is text.insert_requeued (Insert 6 (Values requeued_terms 8))
+pub insert_requeued : Is text.insert_requeued (Insert 6 (Values requeued_terms 14))
 unfolding understood everything
 insert_requeued = (refl, (refl, refl))
 
 abbrev pub adopted_terms : List Term
-adopted_terms = col 0 0 ∷ lit Null ∷ lit (Int (pos 4)) ∷ lit Null ∷ lit Null ∷ lit Null ∷ lit Null ∷ lit Null ∷ []
+adopted_terms = col 0 0 ∷ lit Null ∷ lit (Int (pos 4)) ∷ lit Null ∷ lit Null ∷ lit Null ∷ lit Null ∷ lit Null ∷ nothing_came
 
-pub insert_adopted : Is text.insert_adopted (Insert 6 (Values adopted_terms 8))
+pub insert_adopted : Is text.insert_adopted (Insert 6 (Values adopted_terms 14))
 unfolding understood everything
 insert_adopted = (refl, (refl, refl))
+
+abbrev pub forgotten_terms : List Term
+forgotten_terms = col 0 0 ∷ lit Null ∷ lit (Int (pos 5)) ∷ lit Null ∷ col 0 1 ∷ lit Null ∷ lit Null ∷ lit Null ∷ nothing_came
+
+pub insert_forgotten : Is text.insert_forgotten (Insert 6 (Values forgotten_terms 14))
+unfolding understood everything
+insert_forgotten = (refl, (refl, refl))
 
 abbrev pub target_terms : List Term
 target_terms = lit Null ∷ col 0 0 ∷ col 0 1 ∷ []
@@ -100,9 +111,13 @@ insert_site = (refl, (refl, refl))
 
 -- ---- UPDATE: the rowid, and then the new row
 
--- WHERE uid = ?1
+-- WHERE uid = ?1, where the uid is in that column
+abbrev pub by_uid_at : ℕ → List Term
+by_uid_at at = op2 (Compare Eq Binary) (col 1 at) (col 0 0) ∷ []
+
+-- and where it is in the first
 abbrev pub by_uid : List Term
-by_uid = op2 (Compare Eq Binary) (col 1 1) (col 0 0) ∷ []
+by_uid = by_uid_at 1
 
 -- WHERE uid = ?1 AND dest = ?2
 abbrev pub by_key : List Term
@@ -156,19 +171,32 @@ set_plan = (refl, (refl, refl))
 
 -- ---- DELETE: the rowids
 
-abbrev pub drop_arrivals_shown : List Term
-drop_arrivals_shown = col 1 0 ∷ []
+abbrev pub dropped_shown : List Term
+dropped_shown = col 1 0 ∷ []
 
-pub drop_arrivals : Is text.drop_arrivals (Delete 3 (record { lets = []; body = over 5 [] drop_arrivals_shown }))
+pub drop_arrivals : Is text.drop_arrivals (Delete 3 (record { lets = []; body = over 5 [] dropped_shown }))
 unfolding understood everything
 drop_arrivals = (refl, (refl, refl))
 
 abbrev pub is_done : List Term
 is_done = op2 (Compare Eq Binary) (col 1 3) (lit (Int (pos 2))) ∷ []
 
-abbrev pub drop_done_shown : List Term
-drop_done_shown = col 1 0 ∷ []
-
-pub drop_done : Is text.drop_done (Delete 5 (record { lets = []; body = over 9 is_done drop_done_shown }))
+pub drop_done : Is text.drop_done (Delete 5 (record { lets = []; body = over 9 is_done dropped_shown }))
 unfolding understood everything
 drop_done = (refl, (refl, refl))
+
+pub drop_arrivals_of : Is text.drop_arrivals_of (Delete 3 (record { lets = []; body = over 5 (by_uid_at 2) dropped_shown }))
+unfolding understood everything
+drop_arrivals_of = (refl, (refl, refl))
+
+pub drop_rows_of : Is text.drop_rows_of (Delete 5 (record { lets = []; body = over 9 (by_uid_at 1) dropped_shown }))
+unfolding understood everything
+drop_rows_of = (refl, (refl, refl))
+
+pub drop_print : Is text.drop_print (Delete 2 (record { lets = []; body = over 3 (by_uid_at 1) dropped_shown }))
+unfolding understood everything
+drop_print = (refl, (refl, refl))
+
+pub drop_item : Is text.drop_item (Delete 1 (record { lets = []; body = over 1 (by_uid_at 1) dropped_shown }))
+unfolding understood everything
+drop_item = (refl, (refl, refl))

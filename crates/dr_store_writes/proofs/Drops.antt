@@ -163,10 +163,10 @@ module _ (hit : Row → Bool) where
         (every_pair AreTwo (λ x a b. absurd (true≢false (sym b ∙ a))) rows (two_ways rows are.apart are.ints)) (members rows))
 
 -- the rowids that a query answers are those of the rows that it finds
-module _ (tree : ℕ) (conditions : List Term) (db : Trees) (params : Row) (rows : List Row) (answer : IsAnswer (over tree conditions command.drop_done_shown) (overlay db []) params rows)
+module _ (tree : ℕ) (conditions : List Term) (db : Trees) (params : Row) (rows : List Row) (answer : IsAnswer (over tree conditions command.dropped_shown) (overlay db []) params rows)
     (staged : answer.staged ≡ map (λ r. params ∷ r ∷ []) (filter (hits conditions params) (db tree))) where
   abbrev q : Query
-  q = over tree conditions command.drop_done_shown
+  q = over tree conditions command.dropped_shown
 
   abbrev id_out : Output → ℤ
   id_out o = number_of o.1
@@ -189,7 +189,7 @@ none_left rows = filter_none (λ r. false) rows (all_of (λ (r : Row). ◌≡◌
 drops_arrivals : (old new : State) (count : ℕ) → IsLedger old.now → ExecutesInside 0 text.drop_arrivals [] old new (Ok count) → DropsArrivals old new
 drops_arrivals old new count has h =
     let db = old.now.trees in
-    let d = deleted old new text.drop_arrivals [] 3 5 [] command.drop_arrivals_shown table.arrival_table count has.schema command.drop_arrivals.0 command.drop_arrivals.1 refl h in
+    let d = deleted old new text.drop_arrivals [] 3 5 [] command.dropped_shown table.arrival_table count has.schema command.drop_arrivals.0 command.drop_arrivals.1 refl h in
     let staged = d.1.grouped ∙ matched (hits [] []) (λ r. [] ∷ r ∷ []) (db 5) in
     let it = arrivals_dropped old new (ids_of d.0) d.2 in
     let none : new.now.trees 5 ≡ [] = it.0 ∙ left_alone (hits [] []) (db 5) has.arrivals (ids_of d.0) (dropped_ids 5 [] db [] d.0 d.1 staged) ∙ none_left (db 5) in
@@ -267,7 +267,7 @@ stays_undone rows counted apart = fin.same_map pairs_total pairs_exact _ _ (λ q
 drops_done : (old new : State) (count : ℕ) → IsLedger old.now → ExecutesInside 0 text.drop_done [] old new (Ok count) → DropsDone old new
 drops_done old new count has h =
     let db = old.now.trees in
-    let d = deleted old new text.drop_done [] 5 9 command.is_done command.drop_done_shown table.queue_table count has.schema command.drop_done.0 command.drop_done.1 refl h in
+    let d = deleted old new text.drop_done [] 5 9 command.is_done command.dropped_shown table.queue_table count has.schema command.drop_done.0 command.drop_done.1 refl h in
     let staged = d.1.grouped ∙ matched hits_done (λ r. [] ∷ r ∷ []) (db 9) in
     let it = rows_dropped old new (ids_of d.0) d.2 in
     let stay : new.now.trees 9 ≡ filter kept_row (db 9) = it.0 ∙ left_alone hits_done (db 9) has.queue (ids_of d.0) (dropped_ids 9 command.is_done db [] d.0 d.1 staged) in

@@ -32,7 +32,7 @@ use Rattle.sqlite_value.specs.Keys.{plain}
 use Rattle.dr_ledger.specs.Pairs.{Pair, pair_cmp}
 use Rattle.dr_store_schema.specs.Books.{content_in, entry_in, whole_in}
 use Rattle.dr_store_schema.specs.Ledgers.{AreRows, IsLedger}
-use Rattle.dr_store_schema.specs.Tables.{tables, item_table, print_table, queue_table}
+use Rattle.dr_store_schema.specs.Tables.{tables, arrival_table, item_table, print_table, queue_table}
 use Rattle.dr_store_writes.proofs.Commands.{by_uid, by_key}
 use Rattle.dr_store_writes.proofs.Maps as maps
 
@@ -213,6 +213,25 @@ pub queue_rows : (db : Database) → IsLedger db → AllByRecursion IsQueueRow (
 queue_rows db is =
     let obeys = (subst (λ s. IsSound s db.trees) is.schema is.sound).obeys in
     all_both _ _ IsQueueRow (queue_row db.trees) (db.trees 9) (obeys.rules Datatype).1.1.1.1.1.0 (obeys.rules NotNull).1.1.1.1.1.0
+
+-- an arrival has two texts too, of which the second is the uid
+arrival_row : (db : Trees) (row : Row) → passes Datatype tables db arrival_table row ≡ true → passes NotNull tables db arrival_table row ≡ true → IsQueueRow row
+arrival_row db [] typed there = absurd cc
+arrival_row db (id ∷ []) typed there = absurd cc
+arrival_row db (id ∷ a ∷ []) typed there = let h = both (not (is_null a)) _ there in absurd (let e = h.1 in cc)
+arrival_row db (id ∷ a ∷ b ∷ rest) typed there =
+    let t1 = both (is_of kind.Text a) _ (both _ true typed).0 in
+    let t2 = both (is_of kind.Text b) _ t1.1 in
+    let n1 = both (not (is_null a)) _ there in
+    let n2 = both (not (is_null b)) _ n1.1 in
+    let caller = a_text a t1.0 n1.0 in
+    let uid = a_text b t2.0 n2.0 in
+    record { at = (caller.0, uid.0); uid = caller.1; dest = uid.1 }
+
+pub arrival_rows : (db : Database) → IsLedger db → AllByRecursion IsQueueRow (db.trees 5)
+arrival_rows db is =
+    let obeys = (subst (λ s. IsSound s db.trees) is.schema is.sound).obeys in
+    all_both _ _ IsQueueRow (arrival_row db.trees) (db.trees 5) (obeys.rules Datatype).1.1.1.0 (obeys.rules NotNull).1.1.1.0
 
 pub queue_apart : (db : Database) → IsLedger db → maps.AreApart entry_in (db.trees 9)
 queue_apart db is =

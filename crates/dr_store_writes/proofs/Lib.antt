@@ -5,6 +5,7 @@ pub mod Drops
 pub mod Inserted
 pub mod Keeping
 pub mod Keys
+pub mod Leaves
 pub mod Maps
 pub mod Sets
 pub mod Updated

@@ -1,22 +1,23 @@
 -- What each statement of a ledger makes of its tables, inside a transaction.
-use Rattle.std.specs.Prelude.{◌≡◌, ◌≢◌, ℕ, ℤ, pos, false, IsTrue, List, [], ◌∷◌, Result, IsSome}
-use Rattle.std.specs.Prelude.{OnOk}
+use Rattle.std.specs.Prelude.{◌≡◌, ◌≢◌, ℕ, ℤ, pos, Bool, false, filter, IsTrue, List, [], ◌∷◌}
+use Rattle.std.specs.Prelude.{IsSome, OnOk, Result}
 use Rattle.std.specs.FinMap as map
 use Rattle.std.specs.FinMap.{FinMap}
 use Rattle.sqlite.specs.declared.types.Value.TheVariants.{Null, Int, Text, Blob}
 use Rattle.sqlite.specs.Edit.{is_taken}
-use Rattle.sqlite.specs.Order.{Row}
+use Rattle.sqlite.specs.Order.{Row, column}
 use Rattle.sqlite.specs.State.{State, HasCleanDisk, KeepsCommit, Survives}
 use Rattle.sqlite.specs.Tree.{Trees, put_row}
 use Rattle.dr_base.specs.Texts as texts
 use Rattle.dr_base.specs.Texts.{text_cmp}
+use Rattle.dr_ledger.specs.declared.item.Instance.{Instance}
 use Rattle.dr_ledger.specs.declared.item.Outcome.{Outcome}
 use Rattle.dr_ledger.specs.declared.item.Progress.{Progress}
-use Rattle.dr_ledger.specs.Books.{not_done}
+use Rattle.dr_ledger.specs.Books.{is_other, not_done}
 use Rattle.dr_ledger.specs.Pairs.{Pair}
 use Rattle.dr_route.specs.declared.key.Key.{Key}
 use Rattle.dr_store_schema.specs.Books.{Print, contents_in, items_in, prints_in, rows_in, wholes_in}
-use Rattle.dr_store_schema.specs.Cells.{mark_of, outcome_value}
+use Rattle.dr_store_schema.specs.Cells.{mark_of, outcome_value, text_in}
 use Rattle.dr_store_schema.specs.Ledgers.{IsLedger}
 
 -- the transaction goes on over a ledger's tables, and nothing is committed
@@ -89,22 +90,37 @@ site_row node plan = Int (pos 1) ∷ Null ∷ Text node ∷ Blob plan ∷ []
 
 -- ---- the lines of the journal
 
+-- what rules read of an instance, and its data set's length and SHA-256
+abbrev pub instance_cells : Instance → Row
+instance_cells item =
+    Text item.key.class ∷ Text (mark_of item.key.syntax) ∷ Blob item.key.modality
+    ∷ Blob item.key.station ∷ Int (pos item.size) ∷ Blob item.digest ∷ []
+
+-- those cells of a line by which no instance comes
+abbrev pub no_instance : Row
+no_instance = Null ∷ Null ∷ Null ∷ Null ∷ Null ∷ Null ∷ []
+
 -- kind 0 is a first arrival, 1 a repeat
-abbrev pub arrived_line : ℕ → ℕ → texts.Text → texts.Text → Row
-arrived_line n kind caller uid =
-    Int (pos n) ∷ Null ∷ Int (pos kind) ∷ Text caller ∷ Text uid ∷ Null ∷ Int (pos kind) ∷ Null ∷ []
+abbrev pub arrived_line : ℕ → ℕ → texts.Text → Instance → Row
+arrived_line n kind caller item =
+    Int (pos n) ∷ Null ∷ Int (pos kind) ∷ Text caller ∷ Text item.uid ∷ Null ∷ Int (pos kind)
+    ∷ Null ∷ instance_cells item
 
 abbrev pub settled_line : ℕ → texts.Text → texts.Text → Outcome → ℕ → Row
 settled_line n uid dest what now =
     Int (pos n) ∷ Null ∷ Int (pos 2) ∷ Null ∷ Text uid ∷ Text dest ∷ outcome_value what
-    ∷ Int (pos now) ∷ []
+    ∷ Int (pos now) ∷ no_instance
 
 abbrev pub requeued_line : ℕ → texts.Text → texts.Text → Row
 requeued_line n uid dest =
-    Int (pos n) ∷ Null ∷ Int (pos 3) ∷ Null ∷ Text uid ∷ Text dest ∷ Null ∷ Null ∷ []
+    Int (pos n) ∷ Null ∷ Int (pos 3) ∷ Null ∷ Text uid ∷ Text dest ∷ Null ∷ Null ∷ no_instance
 
 abbrev pub adopted_line : ℕ → Row
-adopted_line n = Int (pos n) ∷ Null ∷ Int (pos 4) ∷ Null ∷ Null ∷ Null ∷ Null ∷ Null ∷ []
+adopted_line n = Int (pos n) ∷ Null ∷ Int (pos 4) ∷ Null ∷ Null ∷ Null ∷ Null ∷ Null ∷ no_instance
+
+abbrev pub forgotten_line : ℕ → texts.Text → Row
+forgotten_line n uid =
+    Int (pos n) ∷ Null ∷ Int (pos 5) ∷ Null ∷ Text uid ∷ Null ∷ Null ∷ Null ∷ no_instance
 
 -- ---- rows that change or leave
 
@@ -168,3 +184,14 @@ pub record DropsDone (old new : State) : Type 0 where
   pub goes_on : GoesOn old new
   pub rows : rows_in (new.now.trees 9) ≡ not_done (rows_in (old.now.trees 9))
   pub others : LeavesOthers 9 old.now.trees new.now.trees
+
+-- the row is of another instance than that of this uid, by its uid in that column
+abbrev pub is_of_other : ℕ → texts.Text → Row → Bool
+is_of_other at uid row = is_other uid (text_in (column row at))
+
+-- The rows of an instance have left the table of that tree, where the uid stands in that column;
+-- each other row is as it was.
+pub record DropsOf (tree at : ℕ) (uid : texts.Text) (old new : State) : Type 0 where
+  pub goes_on : GoesOn old new
+  pub rows : new.now.trees tree ≡ filter (is_of_other at uid) (old.now.trees tree)
+  pub others : LeavesOthers tree old.now.trees new.now.trees

@@ -2,14 +2,15 @@
 ghost use Rattle.std.specs.Prelude.{◌≡◌, ◌≤◌, ◌^◌};
 ghost use Rattle.sqlite.specs.Held.{state};
 ghost use Rattle.dr_store_writes.specs.Effects.{AddsCells, AddsRow, Step, adopted_line};
-ghost use Rattle.dr_store_writes.specs.Effects.{arrival_cells, arrived_line, item_cells};
-ghost use Rattle.dr_store_writes.specs.Effects.{kept_cells, new_cells, print_cells, requeued_line};
+ghost use Rattle.dr_store_writes.specs.Effects.{arrival_cells, arrived_line, forgotten_line};
+ghost use Rattle.dr_store_writes.specs.Effects.{item_cells, kept_cells, new_cells, print_cells};
+ghost use Rattle.dr_store_writes.specs.Effects.{requeued_line};
 ghost use Rattle.dr_store_writes.specs.Effects.{settled_line, site_row, target_cells};
 
 use crate::cells::{number_cell, outcome_cell, syntax_cell};
 use crate::running::run;
 use dr_base::Text;
-use dr_ledger::Outcome;
+use dr_ledger::{Instance, Outcome};
 use dr_route::Key;
 use sqlite::types::ValueRef;
 use sqlite::{Alter, Error, Transaction};
@@ -143,29 +144,36 @@ pub fn add_target<'x, S: Alter>(
     )
 }
 
-/// The line of an arrival: kind 0 is a first one, 1 a repeat.
+/// The line of an arrival, with what came: kind 0 is a first one, 1 a repeat.
 pub fn add_arrived<'x, S: Alter>(
     tx: &mut Transaction<'_, S>,
     n: u64,
     kind: u64,
     caller: &'x Text,
-    uid: &'x Text,
+    item: &'x Instance,
 ) -> Result<usize, Error>
     requires n { n ≤ 2 ^ 62 }
     requires kind { kind ≤ 2 ^ 62 }
+    requires size { item.now.size ≤ 2 ^ 62 }
     ensures same_reference { tx.new.conn.ghost_name ≡ tx.old.conn.ghost_name }
     ensures step { Step result (state S.Store tx.old.conn.now) (state S.Store tx.new.conn.now)
-        (AddsRow 11 (arrived_line n kind caller.now uid.now) (state S.Store tx.old.conn.now)
+        (AddsRow 11 (arrived_line n kind caller.now item.now) (state S.Store tx.old.conn.now)
         (state S.Store tx.new.conn.now)) }
 {
     run(
         tx,
-        "INSERT INTO journal (n, kind, caller, uid, dest, outcome, moment) VALUES (?1, ?2, ?3, ?4, NULL, ?2, NULL)",
+        "INSERT INTO journal (n, kind, caller, uid, dest, outcome, moment, class, syntax, modality, station, length, sha256) VALUES (?1, ?2, ?3, ?4, NULL, ?2, NULL, ?5, ?6, ?7, ?8, ?9, ?10)",
         &[
             number_cell(n),
             number_cell(kind),
             ValueRef::Text(caller.as_bytes()),
-            ValueRef::Text(uid.as_bytes()),
+            ValueRef::Text(item.uid.as_bytes()),
+            ValueRef::Text(item.key.class.as_bytes()),
+            syntax_cell(item.key.syntax),
+            ValueRef::Blob(item.key.modality.as_bytes()),
+            ValueRef::Blob(item.key.station.as_bytes()),
+            number_cell(item.size),
+            ValueRef::Blob(&item.digest),
         ],
     )
 }
@@ -235,6 +243,25 @@ pub fn add_adopted<S: Alter>(tx: &mut Transaction<'_, S>, n: u64) -> Result<usiz
         tx,
         "INSERT INTO journal (n, kind, caller, uid, dest, outcome, moment) VALUES (?1, 4, NULL, NULL, NULL, NULL, NULL)",
         &[number_cell(n)],
+    )
+}
+
+/// The line of a forgetting.
+pub fn add_forgotten<'x, S: Alter>(
+    tx: &mut Transaction<'_, S>,
+    n: u64,
+    uid: &'x Text,
+) -> Result<usize, Error>
+    requires { n ≤ 2 ^ 62 }
+    ensures same_reference { tx.new.conn.ghost_name ≡ tx.old.conn.ghost_name }
+    ensures step { Step result (state S.Store tx.old.conn.now) (state S.Store tx.new.conn.now)
+        (AddsRow 11 (forgotten_line n uid.now) (state S.Store tx.old.conn.now)
+        (state S.Store tx.new.conn.now)) }
+{
+    run(
+        tx,
+        "INSERT INTO journal (n, kind, caller, uid, dest, outcome, moment) VALUES (?1, 5, NULL, ?2, NULL, NULL, NULL)",
+        &[number_cell(n), ValueRef::Text(uid.as_bytes())],
     )
 }
 

@@ -1,40 +1,36 @@
-use Rattle.std.proofs.Common.{◌≡◌, ◌∙◌, ℕ, List, Vec, Global, map as mapped, sym, subst}
-use Rattle.std.specs.FinMap as map
+use Rattle.std.proofs.Common.{◌≡◌, ℕ, List, Vec, Global, map as mapped, sym, subst}
 use Rattle.sqlite.specs.Held.{state}
 use Rattle.sqlite.specs.Tree.{Trees}
 use Rattle.dr_base.specs.Texts.{Text}
-use Rattle.dr_route.specs.declared.key.Key.{Key}
 use Rattle.dr_ledger.specs.declared.item.Entry.{Entry}
 use Rattle.dr_ledger.specs.Replies.{Lists, entry_of}
 use Rattle.dr_store_schema.specs.Books.{lines_of}
-use Rattle.dr_store_lists.specs.declared.listing.Note.{Note}
-use Rattle.dr_store_lists.specs.Lists.{Goal, IsJournal, goal_cmp, goals_of, keys_of, whole_prints_of}
-use Rattle.dr_store_reads.specs.declared.finding.Print.{Print}
+use Rattle.dr_store_lists.specs.Lists.{IsJournal, goal_cmp, goals_of}
 use Rattle.dr_store_calls.proofs.Calls.{asked_looked}
 use Rattle.dr_store_calls.proofs.Reading.{reads_as}
 use Rattle.dr_store.specs.Journals.{AreEntries}
 use Rattle.dr_store.proofs.Lines.{lines_are}
-use Rattle.dr_store.proofs.Looks.{failed_as, looked_both, looked_more, of_ledger}
+use Rattle.dr_store.proofs.Looks.{failed_as, looked_more, of_ledger}
 use Rattle.dr_store.proofs.journal.list_by_notes.Goals as goal
 
 pub returns-in-Ok-clause-looked : goal.returns-in-Ok-clause-looked
 returns-in-Ok-clause-looked g c n part =
     let notes = c.args.notes.now in
-    let slice = c.as_slice.result.now in
+    let goals = c.as_slice.result.now in
+    let r = c.lines_of_notes.result in
     let old = state g.S.Store c.args.conn.now in
-    let mid = state g.S.Store c.all_keys.new.conn in
-    let new = state g.S.Store c.list_by_keys.new.conn in
-    let Shows : Trees → Vec (Text × Key) Global → Type 0 = λ base keys. keys.items ≡ map.entries (keys_of base) in
-    let Then : Trees → List Entry → Type 0 = λ base all. IsJournal base notes → slice ≡ map.entries (keys_of base) → all ≡ mapped entry_of (lines_of base) in
+    let new = state g.S.Store c.all_targets.new.conn in
+    let Shows : Trees → Vec (ℕ × Text) Global → Type 0 = λ base all. Lists goal_cmp (goals_of base) all.items in
     let Says : Trees → List Entry → Type 0 = λ base all. IsJournal base notes → all ≡ mapped entry_of (lines_of base) in
-    looked_both n part old mid new Shows c.in-Ok.keys c.list_by_keys.result Then Says (asked_looked n part _ old mid Shows (of_ledger _ old mid (Shows old.now.trees) c.in-Ok.ensures.asked)) (c.list_by_keys.ensures.looked n part)
-    (λ base l shown all then journal. then journal (c.as_slice.ensures.value ∙ shown))
+    looked_more n part old new Shows c.in-Ok.goals r Says (asked_looked n part _ old new Shows (of_ledger _ old new (Shows old.now.trees) c.in-Ok.ensures.asked))
+    (λ base l shown. reads_as r (AreEntries goals notes) (Says base)
+    (λ all z journal. lines_are base goals (subst (Lists goal_cmp (goals_of base)) (sym c.as_slice.ensures.value) shown) notes all journal z) c.lines_of_notes.ensures)
 
 pub returns-in-Err-clause-looked : goal.returns-in-Err-clause-looked
 returns-in-Err-clause-looked g c n part =
     let notes = c.args.notes.now in
     let old = state g.S.Store c.args.conn.now in
-    let new = state g.S.Store c.all_keys.new.conn in
-    let Shows : Trees → Vec (Text × Key) Global → Type 0 = λ base keys. keys.items ≡ map.entries (keys_of base) in
+    let new = state g.S.Store c.all_targets.new.conn in
+    let Shows : Trees → Vec (ℕ × Text) Global → Type 0 = λ base all. Lists goal_cmp (goals_of base) all.items in
     let Says : Trees → List Entry → Type 0 = λ base all. IsJournal base notes → all ≡ mapped entry_of (lines_of base) in
     failed_as n part c.in-Err.fault old new Shows Says (asked_looked n part _ old new Shows (of_ledger _ old new (Shows old.now.trees) c.in-Err.ensures.asked))

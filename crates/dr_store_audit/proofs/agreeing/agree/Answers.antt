@@ -6,7 +6,6 @@ use Rattle.dr_store_audit.proofs.agreeing.agree.Goals as goal
 
 pub returns : goal.returns
 returns c = λ db are.
-    let h = c.in_ok-history.ensures in
     found c.args.next c.args.site.now db c.args.keys.now c.args.prints.now c.args.arrivals.now c.args.kept.now c.args.rows.now c.args.notes.now c.args.goals.now are (as_map text_cmp c.in_ok-items.items) c.in_ok-items.ensures
-    h.0 h.1 (content c.in_ok-history.history.parts) h.2 (c.has_just.ensures c.if-not-has_just.false) (as_set text_cmp c.in_ok-uids.uids) c.in_ok-uids.ensures (c.are_whole.ensures c.if-not-are_whole.false)
+    (content c.in_ok-history.history.parts) c.in_ok-history.ensures (c.has_just.ensures c.if-not-has_just.false) (as_set text_cmp c.in_ok-uids.uids) c.in_ok-uids.ensures (c.are_whole.ensures c.if-not-are_whole.false)
     (c.are_before.ensures c.if-not-are_before.false)

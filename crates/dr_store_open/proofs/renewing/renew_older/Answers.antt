@@ -11,7 +11,7 @@ use Rattle.dr_store_open.proofs.renewing.renew_older.Goals as goal
 
 pub returns-in-Some-clause-found : goal.returns-in-Some-clause-found
 returns-in-Some-clause-found g c =
-    let older : IsOlder (state g.S.Store c.args.conn.now).now.schema = (c.in-Some.lacks, c.in-Some.ensures.0, sym c.schema.ensures.value ∙ c.in-Some.ensures.1) in
+    let older : IsOlder (state g.S.Store c.args.conn.now).now.schema = (c.in-Some.lacks, sym c.schema.ensures.value ∙ c.in-Some.ensures) in
     if_older (StaysAsFound (state g.S.Store c.args.conn.now) (state g.S.Store c.bring_over.new.conn)) c.bring_over.result older
 
 pub returns-in-Some-clause-kept : goal.returns-in-Some-clause-kept

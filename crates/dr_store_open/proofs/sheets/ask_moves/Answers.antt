@@ -2,6 +2,7 @@ use Rattle.std.proofs.Common.{arith}
 use Rattle.sqlite.specs.Held.{state}
 use Rattle.sqlite.specs.State.{HasCleanDisk}
 use Rattle.dr_store_schema.specs.Statements as text
+use Rattle.dr_store_open.specs.Renewing.{all_calls}
 use Rattle.dr_store_open.proofs.Answered.{three_answers}
 use Rattle.dr_store_open.proofs.sheets.ask_moves.Goals as goal
 
@@ -13,5 +14,5 @@ returns-clause-answers g c clean queries =
     let new = state g.S.Store c.ask_rows-3.new.tx.conn.now in
     let clean_two : HasCleanDisk two = omega (arith, c.in_ok-lines.ensures.survives.clean, clean) in
     let clean_one : HasCleanDisk one = omega (arith, c.in_ok-rows.ensures.survives.clean, clean_two) in
-    three_answers text.all_kept text.all_rows text.all_lines old.now one.now two.now new.now c.in_ok-kept.kept.items c.in_ok-rows.rows.items c.in_ok-lines.lines.items queries.rows queries.lines
+    three_answers text.all_kept text.all_rows all_calls old.now one.now two.now new.now c.in_ok-kept.kept.items c.in_ok-rows.rows.items c.in_ok-lines.lines.items queries.rows queries.lines
     (c.in_ok-kept.ensures.answer clean_one queries.kept) (c.in_ok-rows.ensures.answer clean_two) (c.in_ok-lines.ensures.answer clean)

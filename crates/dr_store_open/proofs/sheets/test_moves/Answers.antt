@@ -2,6 +2,7 @@ use Rattle.std.proofs.Common.{◌≡◌, ◌∙◌, arith}
 use Rattle.sqlite.specs.Held.{state}
 use Rattle.sqlite.specs.State.{HasCleanDisk}
 use Rattle.dr_store_schema.specs.Statements as text
+use Rattle.dr_store_open.specs.Renewing.{all_calls}
 use Rattle.dr_store_open.proofs.Answered.{on_ok_map, three_tested}
 use Rattle.dr_store_open.proofs.sheets.test_moves.Goals as goal
 
@@ -25,5 +26,5 @@ returns-clause-answers g c clean queries =
     let first : c.as_slice.result.now ≡ sheets.kept.items = c.as_slice.ensures.value in
     let second : c.as_slice-2.result.now ≡ sheets.rows.items = c.as_slice-2.ensures.value in
     let third : c.as_slice-3.result.now ≡ sheets.lines.items = c.as_slice-3.ensures.value in
-    three_tested c.test_rows-3.result text.all_kept text.all_rows text.all_lines old.now one.now two.now new.now sheets.kept.items sheets.rows.items sheets.lines.items queries.rows queries.lines
+    three_tested c.test_rows-3.result text.all_kept text.all_rows all_calls old.now one.now two.now new.now sheets.kept.items sheets.rows.items sheets.lines.items queries.rows queries.lines
     (rw first at (c.in_ok-test_rows.ensures.answer clean_one queries.kept)) (rw second at (c.in_ok-test_rows-2.ensures.answer clean_two)) (rw third at (c.test_rows-3.ensures.answer clean))

@@ -1,0 +1,44 @@
+use Rattle.std.proofs.Common.{◌↔◌, Bool, IsTrue, refl}
+use Rattle.sqlite.specs.Held.{state}
+use Rattle.sqlite.specs.Tree.{Trees}
+use Rattle.dr_ledger.specs.Replies.{IsOver}
+use Rattle.dr_store_schema.specs.Books.{book_of}
+use Rattle.dr_store.proofs.Replies.{over_told}
+use Rattle.dr_store.proofs.Writes.{looked_books, looked_kept, looked_lasting, looked_reads, looked_safe}
+use Rattle.dr_store.proofs.ledger.SqlLedgerLetsGo.is_over.Goals as goal
+
+pub invariant_of-self : goal.invariant_of-self
+invariant_of-self g c =
+    let n = c.args.self.now.next in
+    let part = c.args.self.now.site in
+    let uid = c.args.uid.now in
+    let r = c.is_over-answer.result in
+    let old = state g.S.Store c.args.self.now.conn in
+    let new = state g.S.Store c.is_over-answer.new.conn in
+    let Shows : Trees → Bool → Type 0 = λ base over. IsTrue over ↔ IsOver (book_of base) uid in
+    record {
+      idle = c.is_over-answer.ensures.idle c.args.self.now.idle;
+      kept = looked_kept n part r old new Shows c.args.self.now.kept (c.is_over-answer.ensures.looked n part);
+    }
+
+-- by hand: the search loses itself in what the trait asks
+pub returns : goal.returns
+returns g c =
+    let n = c.args.self.now.next in
+    let part = c.args.self.now.site in
+    let uid = c.args.uid.now in
+    let r = c.is_over-answer.result in
+    let old = state g.S.Store c.args.self.now.conn in
+    let new = state g.S.Store c.is_over-answer.new.conn in
+    let Shows : Trees → Bool → Type 0 = λ base over. IsTrue over ↔ IsOver (book_of base) uid in
+    let kept = c.args.self.now.kept in
+    let looked = c.is_over-answer.ensures.looked n part in
+    record {
+      reply = looked_reads n part r old new Shows kept looked (λ over. over_told (book_of old.committed.trees) uid over);
+      same = looked_books n part r old new Shows kept looked;
+      counts = c.counted-self.ensures.counts;
+      armed = refl;
+      stood = looked_safe n part r old new Shows kept looked;
+      lasts = looked_lasting n part r old new Shows kept looked;
+      site = refl;
+    }

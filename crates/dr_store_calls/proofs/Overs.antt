@@ -1,0 +1,131 @@
+-- Instances that are over, and forgettings.
+use Rattle.std.proofs.Common.{◌≡◌, ◌≢◌, ◌⊎◌, ◌↔◌, inl, inr, ℕ, ◌+◌, Bool, true, false, not, IsTrue, is_some, List, Option, Some, None, option_map, Ok, Err, Result, refl, sym, ap, subst, ◌∙◌, true≢false, arith}
+use Rattle.std.specs.FinMap as map
+use Rattle.std.specs.FinSet as set
+use Rattle.sqlite.specs.State.{State}
+use Rattle.sqlite.specs.Tree.{Trees}
+use Rattle.dr_base.specs.Texts.{Text}
+use Rattle.dr_route.specs.declared.key.Key.{Key}
+use Rattle.dr_site.specs.Parts.{Part}
+use Rattle.dr_ledger.specs.declared.fault.LedgerFault.{LedgerFault}
+use Rattle.dr_ledger.specs.declared.item.Instance.{Instance}
+use Rattle.dr_ledger.specs.declared.item.Progress.{Progress}
+use Rattle.dr_ledger.specs.declared.item.Progress.TheVariants.{Waiting, Held, Done}
+use Rattle.dr_ledger.specs.Bodies.{Bodies, HasBodies, IsNeeded, OnlyLetsGo}
+use Rattle.dr_ledger.specs.Books.{Book, Forgetting, after}
+use Rattle.dr_ledger.specs.Items.{instance_of}
+use Rattle.dr_ledger.specs.Replies.{Forgets, IsOver}
+use Rattle.dr_ledger.specs.SiteRoutes.{site_routing}
+use Rattle.dr_ledger.proofs.Folding.{forgettings_are_journalled}
+use Rattle.dr_ledger.proofs.Forgotten.{Apart, item_stays}
+use Rattle.dr_ledger.proofs.Maps.{same_or_not, texts}
+use Rattle.dr_ledger.proofs.Needs.{forgettings_need_the_same}
+use Rattle.dr_store_schema.specs.Books.{AreBelow, all_kept_in, bodies_of, book_of, instance_by, items_of, names_in, prints_of}
+use Rattle.dr_store_changes.specs.Changes.{TakesOut}
+use Rattle.dr_store_changes.proofs.Forgotten.{forgettings_forget, forgettings_let_no_data_set_go, not_needed}
+use Rattle.dr_store_reads.specs.Queries.{IsKeyOf, IsUndone}
+use Rattle.dr_store_calls.specs.Calling.{IsLedgerOf, IsOwnFault, Looked}
+use Rattle.dr_store_calls.specs.Needs.{IsKeptIn}
+use Rattle.dr_store_calls.proofs.Reading.{reads_as}
+
+-- ---- what is over
+
+done_or_not : (p : Progress) → (p ≡ Done) ⊎ (p ≢ Done)
+done_or_not (Waiting tries due) = inr (λ e. cc)
+done_or_not (Held why) = inr (λ e. cc)
+done_or_not Done = inl refl
+
+is_not : (b : Bool) → (b ≡ true → ⊥) → b ≡ false
+is_not true h = absurd (h refl)
+is_not false h = refl
+
+found_there : (found : Option Instance) (key : Option Key) (by : Key → Instance) → found ≡ option_map by key → is_some key ≡ true → (item : Instance) × (found ≡ Some item)
+found_there found None by is there = absurd (true≢false (sym there))
+found_there found (Some key) by is there = (by key, is)
+
+there_found : (found : Option Instance) (key : Option Key) (by : Key → Instance) (item : Instance) → found ≡ option_map by key → found ≡ Some item → is_some key ≡ true
+there_found found None by item is there = absurd (let e : None ≡ Some item = sym is ∙ there in cc)
+there_found found (Some key) by item is there = refl
+
+-- it is over where it is there, isn't kept, and has no row that isn't done
+pub over_by : (base : Trees) (uid : Text) (key : Option Key) (past : Bool) → IsKeyOf uid base key
+    → (IsTrue past ↔ ((is_some key ≡ true) × (IsKeptIn base uid → ⊥) × (IsUndone base uid → ⊥))) → (IsTrue past ↔ IsOver (book_of base) uid)
+over_by base uid key past shown says = (
+  λ h.
+      let it = says.0 h in
+      record {
+        there = found_there (map.get (items_of base) uid) key (instance_by (prints_of base) uid) shown it.0;
+        unkept = is_not (set.contains (all_kept_in (base 7)) uid) it.1;
+        done = λ dest row at. elim (done_or_not row) [ inl done ↦ done | inr other ↦ absurd (it.2 (dest, row, at, other)) ];
+      },
+  λ over. says.1 (
+    there_found (map.get (items_of base) uid) key (instance_by (prints_of base) uid) over.there.0 shown over.there.1,
+    λ kept. true≢false (sym kept ∙ over.unkept),
+    λ undone. undone.3 (over.done undone.0 undone.1 undone.2),
+  ),
+)
+
+-- what isn't kept, by whether it is
+pub past_by : (base : Trees) (uid : Text) (kept past : Bool) → kept ≡ set.contains (all_kept_in (base 7)) uid → (IsTrue past ↔ ((kept ≡ false) × (IsUndone base uid → ⊥)))
+    → (IsTrue past ↔ ((IsKeptIn base uid → ⊥) × (IsUndone base uid → ⊥)))
+past_by base uid kept past shown says = (
+  λ h. let it = says.0 h in (λ yes_kept. true≢false (sym yes_kept ∙ sym shown ∙ it.0), it.1),
+  λ h. says.1 (is_not kept (λ yes_kept. h.0 (sym shown ∙ yes_kept)), h.1),
+)
+
+-- all are done where none is open
+pub done_by : (kept undone : Bool) (Undone : Type 0) → kept ≡ false → (IsTrue undone ↔ Undone) → (IsTrue (not undone) ↔ ((kept ≡ false) × (Undone → ⊥)))
+done_by kept true Undone unkept says = (λ h. absurd (true≢false (sym h)), λ h. absurd (h.1 (says.0 refl)))
+done_by kept false Undone unkept says = (λ h. (unkept, λ more. true≢false (sym (says.1 more))), λ h. refl)
+
+-- what is shown of a uid that is there
+pub past_there : (there past : Bool) (Kept Undone : Type 0) → there ≡ true → (IsTrue past ↔ ((Kept → ⊥) × (Undone → ⊥))) → (IsTrue past ↔ ((there ≡ true) × (Kept → ⊥) × (Undone → ⊥)))
+past_there there past Kept Undone is says = (λ h. let it = says.0 h in (is, it.0, it.1), λ h. says.1 (h.1, h.2))
+
+-- what is read is read as something else
+pub looked_as : {A : Type 0} (n : ℕ) (part : Part) (r : Result A LedgerFault) (old new : State) (Shows Says : Trees → A → Type 0) → Looked n part r old new Shows → ((base : Trees) (a : A) → Shows base a → Says base a)
+    → Looked n part r old new Says
+looked_as n part r old new Shows Says l f = record {
+  clean = l.clean;
+  was_open = l.was_open;
+  idle = l.idle;
+  lasts = l.lasts;
+  kept = l.kept;
+  answers = λ clean is_open k any.
+      let base = old.committed.trees in
+      let it = l.answers clean is_open k any in
+      (it.0, reads_as r (Shows base) (Says base) (f base) it.1);
+  crash = l.crash;
+}
+
+-- ---- a forgetting
+
+still_bodied : (b : Book) (bodies : Bodies) (uid : Text) → IsOver b uid → HasBodies b bodies → HasBodies (after (Forgetting uid) b) bodies
+still_bodied b bodies uid over has = record {
+  there = λ u. let same = forgettings_need_the_same b uid over u in (λ body. same.1 ((has.there u).0 body), λ needed. (has.there u).1 (same.0 needed));
+  own = λ u body h. let it = has.own u body h in (it.0, it.1, it.2, item_stays b uid u (instance_of it.0) (other u body h) it.3);
+}
+  where
+    other : (u : Text) (body : List ℕ) → map.get bodies u ≡ Some body → Apart u uid
+    other u body h = elim (same_or_not texts u uid) [
+      | inr apart ↦ apart
+      | inl same ↦ absurd (not_needed b uid over (subst (IsNeeded b) same ((has.there u).0 (body, h))))
+    ]
+
+pub forgets : (n : ℕ) (part : Part) (base db : Trees) (uid : Text) → AreBelow n (base 11) → IsLedgerOf n part base → IsOver (book_of base) uid → TakesOut uid n base db
+    → IsLedgerOf (n + 1) part db × (Forgets uid (book_of base) (Ok tt) (book_of db) × OnlyLetsGo (bodies_of base) (bodies_of db))
+forgets n part base db uid below l over w =
+    let book = forgettings_forget base db n uid below w in
+    let bodies = forgettings_let_no_data_set_go base db n uid l.bodied over w in
+    let answer : Forgets uid (book_of base) (Ok tt) (book_of db) = (over, book) in (
+      record {
+        ahead = λ m later. ap (λ rows. names_in rows m) w.targets ∙ l.ahead m (omega (arith, later));
+        journalled = (l.journalled.0, forgettings_are_journalled (site_routing part) l.journalled.0 uid (book_of base) (book_of db) (Ok tt) l.journalled.1 answer);
+        bodied = subst (λ (b : Book). HasBodies b (bodies_of db)) (sym book) (subst (HasBodies (after (Forgetting uid) (book_of base))) (sym bodies) (still_bodied (book_of base) (bodies_of base) uid over l.bodied));
+      },
+      (answer, λ q body h. ap (λ x. map.get x q) (sym bodies) ∙ h),
+    )
+
+pub forgets_own : (e : LedgerFault) (uid : Text) (b : Book) → IsOwnFault e → Forgets uid b (Err e) b
+forgets_own e uid b (inl is) = subst (λ x. Forgets uid b (Err x) b) (sym is) refl
+forgets_own e uid b (inr is) = subst (λ x. Forgets uid b (Err x) b) (sym is) refl
