@@ -6,7 +6,7 @@ use dr_node::NodeFault;
 use std::alloc::{AllocError, AllocFailed};
 use thiserror::Error;
 
-/// Why a world can't go on, or can't be made. They are tested in this order.
+/// Why a world can't go on, or can't be made.
 #[derive(Clone, Copy, PartialEq, Eq, Debug, Error)]
 pub enum WorldFault {
     /// Another number of ledgers than of nodes, one that isn't empty, or one of another site.
@@ -15,7 +15,7 @@ pub enum WorldFault {
     /// A ledger's store failed.
     #[error("Store")]
     Store,
-    /// A ledger's store failed while all nodes took another plan: some have taken it.
+    /// A ledger's store failed while all nodes were to take another plan; some may have taken it.
     #[error("U2 Store")]
     HalfAdopted,
     #[error("Memory")]
