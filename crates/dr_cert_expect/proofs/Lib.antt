@@ -1,0 +1,4 @@
+pub mod Alike
+pub mod Covering
+pub mod Refuting
+pub mod Sampling
