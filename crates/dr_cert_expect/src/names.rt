@@ -1,6 +1,6 @@
 //! Names that are looked for in a set.
-ghost use Rattle.std.specs.Prelude.{MatchOption, Contains};
-ghost use Rattle.dr_base.specs.Texts.{Text as Words, IsInByteOrder};
+ghost use Rattle.std.specs.Prelude.{All, Contains, MatchOption};
+ghost use Rattle.dr_base.specs.Texts.{IsInByteOrder};
 
 use dr_base::Text;
 use dr_route::names::is_in_set;
@@ -9,7 +9,7 @@ use dr_route::names::is_in_set;
 pub fn first_outside<'a>(names: &'a [Text], set: &[Text]) -> Option<&'a Text>
     requires { IsInByteOrder set.now }
     ensures { MatchOption result
-        ((name : Words) → Contains names.now name → Contains set.now name)
+        (All (λ name. Contains set.now name) names.now)
         (λ name. Contains names.now name.now × (Contains set.now name.now → ⊥)) }
 {
     for name in names {
@@ -24,7 +24,7 @@ pub fn first_outside<'a>(names: &'a [Text], set: &[Text]) -> Option<&'a Text>
 pub fn first_inside<'a>(names: &'a [Text], set: &[Text]) -> Option<&'a Text>
     requires { IsInByteOrder set.now }
     ensures { MatchOption result
-        ((name : Words) → Contains names.now name → Contains set.now name → ⊥)
+        (All (λ name. Contains set.now name → ⊥) names.now)
         (λ name. Contains names.now name.now × Contains set.now name.now) }
 {
     for name in names {

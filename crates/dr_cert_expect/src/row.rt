@@ -91,10 +91,12 @@ fn judge(
         return Ok(Finding::Other);
     };
     if let Some(name) = first_outside(row.keep.as_slice(), reach.keeps.as_slice()) {
-        return lacks_keep(name, site, key);
+        let lack = lacks_keep(name, site, key)?;
+        return Ok(lack);
     }
     if let Some(name) = first_inside(row.never.as_slice(), reach.nodes.as_slice()) {
-        return lacks_never(name, site, key);
+        let lack = lacks_never(name, site, key)?;
+        return Ok(lack);
     }
     Ok(Finding::Met)
 }
