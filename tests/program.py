@@ -121,18 +121,35 @@ def pictures(certificate):
     is_answer('another certificate', run(['lint', CYCLE, certificate]), 1, b'', b'dr_router: C2 OtherPlan\n')
 
 
+def expectations(room, certificate):
+    """What is expected of the sample plan."""
+    key = f'CT1\t{CLASS}\t{SYNTAX}\tCT\tS1\n'.encode()
+    for what, text, status, output, faults in (
+            ('what is so', b'[[expect]]\nkeep = ["ARCH"]\n', 0, b'yes\n', b''),
+            ('a node that keeps nothing', b'[[expect]]\nkeep = ["ARCH"]\n[[expect]]\nkeep = ["GATE"]\n', 1, b'no\t2\tkeep GATE\t' + key, b''),
+            ('a node on the way', b'[[expect]]\nstation = "S*"\nnever = ["GATE"]\n', 1, b'no\t1\tnever GATE\t' + key, b''),
+            ('no such image', b'[[expect]]\nmodality = "MR"\n', 1, b'no\t1\tnothing\n', b''),
+            ('an unknown key', b'\n[[expect]]\nkeeps = ["ARCH"]\n', 1, b'', b'dr_router: X1 Expect 2\n')):
+        with open(f'{room}/expected', 'wb') as it:
+            it.write(text)
+        is_answer(what, run(['expect', SOUND, certificate, f'{room}/expected']), status, output, faults)
+    is_answer('another certificate', run(['expect', CYCLE, certificate, f'{room}/expected']), 1, b'', b'dr_router: C2 OtherPlan\n')
+    is_answer('no file', run(['expect', SOUND, certificate, f'{room}/none']), 3, b'', (b'dr_router: ',))
+
+
 def words():
     usage = (b'Usage: dr_router',)
-    for given in (['carry'], ['check', 'a', 'b'], ['check', '--fast'], ['verify'], ['verify', SOUND], ['verify', SOUND, 'a', 'b'], ['simulate', SOUND, 'a'], ['simulate', SOUND, 'a', 'b', 'c'], ['echo', SOUND, 'CT1'], ['route', SOUND, 'a', 'CT1'], ['route', SOUND, 'a', 'CT1', 'C', 'E'], ['route', SOUND, 'a', 'CT1', 'C', 'E', 'CT'], ['route', SOUND, 'a', 'CT1', 'C', 'E', 'CT', 'S1', 'x'], ['graph', SOUND], ['graph', SOUND, 'a', 'b'], ['lint', SOUND], ['-x']):
+    for given in (['carry'], ['check', 'a', 'b'], ['check', '--fast'], ['verify'], ['verify', SOUND], ['verify', SOUND, 'a', 'b'], ['simulate', SOUND, 'a'], ['simulate', SOUND, 'a', 'b', 'c'], ['echo', SOUND, 'CT1'], ['route', SOUND, 'a', 'CT1'], ['route', SOUND, 'a', 'CT1', 'C', 'E'], ['route', SOUND, 'a', 'CT1', 'C', 'E', 'CT'], ['route', SOUND, 'a', 'CT1', 'C', 'E', 'CT', 'S1', 'x'], ['graph', SOUND], ['graph', SOUND, 'a', 'b'], ['lint', SOUND], ['expect', SOUND, 'a'], ['expect', SOUND, 'a', 'b', 'c'], ['-x']):
         is_answer(f'words {given}', run(given), 2, b'', usage)
     for given in ([b'\xff'], [b'check', b'\xff'], [b'check', SOUND.encode(), b'\x80']):
         is_answer(f'words {given}', run(given), 2, b'', b"dr_router: a word isn't UTF-8\n")
-    is_answer('help', run(['--help']), 0, (b'Usage: dr_router <COMMAND>', b'check', b'verify', b'route', b'graph', b'lint', b'simulate', b'echo'), b'')
+    is_answer('help', run(['--help']), 0, (b'Usage: dr_router <COMMAND>', b'check', b'verify', b'route', b'graph', b'lint', b'expect', b'simulate', b'echo'), b'')
     is_answer('help of check', run(['check', '--help']), 0, (b'Usage: dr_router check [PLAN]\n',), b'')
     is_answer('help of verify', run(['verify', '--help']), 0, (b'Usage: dr_router verify <PLAN> <CERT>\n',), b'')
     is_answer('help of route', run(['route', '--help']), 0, (b'Usage: dr_router route <PLAN> <CERT> <AT> <FILE|CLASS> [SYNTAX] [MODALITY] [STATION]\n',), b'')
     is_answer('help of graph', run(['graph', '--help']), 0, (b'Usage: dr_router graph <PLAN> <CERT>\n',), b'')
     is_answer('help of lint', run(['lint', '--help']), 0, (b'Usage: dr_router lint <PLAN> <CERT>\n',), b'')
+    is_answer('help of expect', run(['expect', '--help']), 0, (b'Usage: dr_router expect <PLAN> <CERT> <FILE>\n',), b'')
     is_answer('help of simulate', run(['simulate', '--help']), 0, (b'Usage: dr_router simulate <PLAN> <CERT> <SCRIPT>\n',), b'')
     is_answer('help of echo', run(['echo', '--help']), 0, (b'Usage: dr_router echo <PLAN> <FROM> <TO>\n',), b'')
     is_answer('version', run(['--version']), 0, b'dr_router ' + content(f'{TOP}/VERSION'), b'')

@@ -22,6 +22,14 @@ initial word = get_or word 0 0
 abbrev files : Word → Word → Word → Word → NodeFiles
 files plan certificate node ledger = record { plan = plan; certificate = certificate; node = node; ledger = ledger }
 
+-- the second byte of a word
+abbrev second : List ℕ → ℕ
+second word = get_or word 1 0
+
+-- what a word and three more ask for
+abbrev of_four : List ℕ → Word → Word → Word → Task
+of_four word a b c = cond (initial word == 115) (asks.Simulate a b c) (cond (second word == 120) (asks.Question a b (questions.Expect c)) (asks.Echo a b c))
+
 -- what words of a plain form ask for: their number says nearly all, and then the first byte of the first word or of the option
 abbrev meant : List Word → Task
 meant [] = asks.CheckInput
@@ -29,7 +37,7 @@ meant (word ∷ []) = asks.CheckInput
 meant (word ∷ a ∷ []) = asks.CheckFile a
 meant (word ∷ a ∷ b ∷ []) =
     cond (initial word.now == 118) (asks.Verify a b) (cond (initial word.now == 103) (asks.Question a b questions.Graph) (asks.Question a b questions.Lint))
-meant (word ∷ a ∷ b ∷ c ∷ []) = cond (initial word.now == 115) (asks.Simulate a b c) (asks.Echo a b c)
+meant (word ∷ a ∷ b ∷ c ∷ []) = of_four word.now a b c
 meant (word ∷ a ∷ b ∷ c ∷ d ∷ []) =
     cond (initial word.now == 114) (asks.Question a b (questions.RouteOfFile c d))
     (cond (initial word.now == 108) (asks.AtNode (files a b c d) duties.List) (asks.AtNode (files a b c d) (duties.Serve plain_serving)))
@@ -59,10 +67,13 @@ module _ (words : List Word) where
       (subst (λ n. cond (initial n == 118) (asks.Verify a b) (cond (initial n == 103) (asks.Question a b questions.Graph) (asks.Question a b questions.Lint)) ≡ asks.Verify a b) (sym h.2) refl)
   is_meant (asks.Simulate a b c) h =
       subst (Means (asks.Simulate a b c)) (sym h.1)
-      (subst (λ n. cond (initial n == 115) (asks.Simulate a b c) (asks.Echo a b c) ≡ asks.Simulate a b c) (sym h.2) refl)
+      (subst (λ n. of_four n a b c ≡ asks.Simulate a b c) (sym h.2) refl)
   is_meant (asks.Echo a b c) h =
       subst (Means (asks.Echo a b c)) (sym h.1)
-      (subst (λ n. cond (initial n == 115) (asks.Simulate a b c) (asks.Echo a b c) ≡ asks.Echo a b c) (sym h.2) refl)
+      (subst (λ n. of_four n a b c ≡ asks.Echo a b c) (sym h.2) refl)
+  is_meant (asks.Question a b (questions.Expect c)) h =
+      subst (Means (asks.Question a b (questions.Expect c))) (sym h.1)
+      (subst (λ n. of_four n a b c ≡ asks.Question a b (questions.Expect c)) (sym h.2) refl)
   is_meant (asks.Question a b questions.Graph) h =
       subst (Means (asks.Question a b questions.Graph)) (sym h.1)
       (subst (λ n. cond (initial n == 118) (asks.Verify a b) (cond (initial n == 103) (asks.Question a b questions.Graph) (asks.Question a b questions.Lint)) ≡ asks.Question a b questions.Graph) (sym h.2) refl)

@@ -15,7 +15,7 @@ use Rattle.dr_run_files.specs.declared.node.NodeFiles.{NodeFiles}
 use Rattle.dr_word_line.specs.declared.words.PlanChange.{PlanChange}
 use Rattle.dr_word_line.specs.declared.words.Question.{Question}
 use Rattle.dr_word_line.specs.declared.words.Question.TheVariants.{RouteOfKey, RouteOfFile, Graph}
-use Rattle.dr_word_line.specs.declared.words.Question.TheVariants.{Lint}
+use Rattle.dr_word_line.specs.declared.words.Question.TheVariants.{Lint, Expect}
 use Rattle.dr_word_line.specs.declared.words.Serving.{Serving}
 use Rattle.dr_word_line.specs.declared.words.Verbosity.TheVariants.{Events}
 
@@ -84,6 +84,17 @@ IsLintOf words plan certificate =
     × IsNoOption plan.now
     × IsNoOption certificate.now
 
+-- the word expect and three files' paths: they ask whether what the third expects holds of the plan
+-- in the first, whose certificate is in the second
+abbrev pub IsExpectOf : List (Bor (List ℕ)) → Bor (List ℕ) → Bor (List ℕ) → Bor (List ℕ) → Type 0
+IsExpectOf words plan certificate path =
+    (word : Bor (List ℕ))
+    × (words ≡ word ∷ plan ∷ certificate ∷ path ∷ [])
+    × (word.now ≡ codes "expect")
+    × IsNoOption plan.now
+    × IsNoOption certificate.now
+    × IsNoOption path.now
+
 -- the word route, two files' paths, a name and a file's path: they ask where the instance in that
 -- file goes that enters at the node of that name
 abbrev pub IsFileRouteOf : List (Bor (List ℕ)) → Bor (List ℕ) → Bor (List ℕ) → Bor (List ℕ)
@@ -119,6 +130,7 @@ IsQuestionOf words plan certificate (RouteOfFile at path) =
     IsFileRouteOf words plan certificate at path
 IsQuestionOf words plan certificate Graph = IsGraphOf words plan certificate
 IsQuestionOf words plan certificate Lint = IsLintOf words plan certificate
+IsQuestionOf words plan certificate (Expect path) = IsExpectOf words plan certificate path
 
 -- a word, what names a node and its ledger, and further words
 abbrev pub IsAtNode : List ℕ → List (Bor (List ℕ)) → NodeFiles → List (Bor (List ℕ)) → Type 0

@@ -246,6 +246,22 @@ fn lint<'a>(alloc: Global) -> Result<Command<'a>, AllocError> {
     word(alloc, "lint", about, SEALED, &[])
 }
 
+/// The word `expect`.
+fn expect<'a>(alloc: Global) -> Result<Command<'a>, AllocError> {
+    let about = "Tests a plan against what a file expects of it, for all instances";
+    word(
+        alloc,
+        "expect",
+        about,
+        &[
+            PLAN,
+            CERTIFICATE,
+            ("FILE", "the file with what is expected"),
+        ],
+        &[],
+    )
+}
+
 /// The option of `list` for numbers alone.
 fn summary<'a>(alloc: Global) -> Arg<'a> {
     Arg::new(alloc, "SUMMARY")
@@ -381,6 +397,7 @@ enum Verb {
     Route,
     Graph,
     Lint,
+    Expect,
     Simulate,
     Echo,
     Serve,
@@ -396,6 +413,7 @@ const VERBS: &[Verb] = &[
     Verb::Route,
     Verb::Graph,
     Verb::Lint,
+    Verb::Expect,
     Verb::Simulate,
     Verb::Echo,
     Verb::Serve,
@@ -413,6 +431,7 @@ impl<'a> Makes<Command<'a>> for Verb {
             Verb::Route => route(alloc),
             Verb::Graph => graph(alloc),
             Verb::Lint => lint(alloc),
+            Verb::Expect => expect(alloc),
             Verb::Simulate => simulate(alloc),
             Verb::Echo => echo(alloc),
             Verb::Serve => serve(alloc),

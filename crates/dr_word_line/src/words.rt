@@ -6,7 +6,7 @@ ghost use Rattle.dr_word_line.specs.Words.{Asks, Reads, IsPlainCheck, IsCheckOf,
 ghost use Rattle.dr_word_line.specs.Words.{IsSimulateOf, IsEchoOf, IsNoOption, IsGraphOf, IsLintOf};
 ghost use Rattle.dr_word_line.specs.Words.{IsFileRouteOf, IsKeyRouteOf, IsQuestionOf, IsListOf};
 ghost use Rattle.dr_word_line.specs.Words.{IsSummaryOf, IsServeOf, IsSendOf, IsRequeueOf};
-ghost use Rattle.dr_word_line.specs.Words.{IsRequeueAllOf, IsDutyOf, IsAdoptOf};
+ghost use Rattle.dr_word_line.specs.Words.{IsRequeueAllOf, IsDutyOf, IsAdoptOf, IsExpectOf};
 ghost use Rattle.dr_word_line.specs.declared.words.Task.{Task as TaskValue};
 ghost use Rattle.dr_word_line.specs.declared.words.Task.TheVariants as asks;
 ghost use Rattle.dr_word_line.specs.declared.words.Duty.{Duty as DutyValue};
@@ -40,6 +40,8 @@ pub enum Question<'a> {
     Graph,
     /// What is sound and still looks wrong.
     Lint,
+    /// Whether it does what this file expects of it.
+    Expect(&'a str),
 }
 
 /// What names two plans and where the nodes' ledgers are: the paths of the plan in force, of its
@@ -359,6 +361,26 @@ fn read_question<'a>(words: &'a [&'a str]) -> Option<Task<'a>>
     }
 }
 
+/// What words ask of a plan, its certificate and what is expected of it, if they are of that form.
+fn read_expect<'a>(words: &'a [&'a str]) -> Option<Task<'a>>
+    ensures asked { IfSome result (λ asked. Asks words.now asked) }
+    ensures expect { IfNone result
+        ((plan certificate path : Bor (List ℕ))
+        → IsExpectOf words.now plan certificate path
+        → ⊥) }
+{
+    match words {
+        [word, plan, certificate, path]
+            if *word == "expect"
+                && is_no_option(plan)
+                && is_no_option(certificate)
+                && is_no_option(path) => {
+            Some(Task::Question(plan, certificate, Question::Expect(path)))
+        }
+        _ => None,
+    }
+}
+
 /// What words ask of a plan's text alone, if they are of such a form.
 fn read_check<'a>(words: &'a [&'a str]) -> Option<Task<'a>>
     ensures asked { IfSome result (λ asked. Asks words.now asked) }
@@ -440,6 +462,9 @@ fn read_plain<'a>(words: &'a [&'a str]) -> Option<Task<'a>>
     if let Some(asked) = read_question(words) {
         return Some(asked);
     }
+    if let Some(asked) = read_expect(words) {
+        return Some(asked);
+    }
     if let Some(asked) = read_route(words) {
         return Some(asked);
     }
@@ -471,6 +496,7 @@ fn question_of<'a>(name: &str, given: &ArgMatches<'a>) -> Option<Question<'a>> {
         "route" => Some(route_of(given)),
         "graph" => Some(Question::Graph),
         "lint" => Some(Question::Lint),
+        "expect" => Some(Question::Expect(given.get_str("FILE").unwrap_or(""))),
         _ => None,
     }
 }

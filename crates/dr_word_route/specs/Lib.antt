@@ -1,3 +1,4 @@
+pub mod Expecting
 pub mod Keys
 pub mod Replies
 pub mod Runs

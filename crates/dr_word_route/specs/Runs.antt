@@ -17,9 +17,10 @@ use Rattle.dr_run_open.specs.declared.status.Status.{Status}
 use Rattle.dr_run_open.specs.declared.status.Status.TheVariants.{Refused, Memory}
 use Rattle.dr_word_line.specs.declared.words.Question.{Question}
 use Rattle.dr_word_line.specs.declared.words.Question.TheVariants.{RouteOfKey, RouteOfFile, Graph}
-use Rattle.dr_word_line.specs.declared.words.Question.TheVariants.{Lint}
+use Rattle.dr_word_line.specs.declared.words.Question.TheVariants.{Lint, Expect}
 use Rattle.dr_cert_lint.specs.Graphs.{IsGraphText}
 use Rattle.dr_cert_lint.specs.Findings.{IsLintText}
+use Rattle.dr_word_route.specs.Expecting.{Expects}
 use Rattle.dr_word_route.specs.Keys.{ReadsFileKey, ReadsWords}
 use Rattle.dr_word_route.specs.Replies.{IsRouteReply, IsSiteReply, IsTextReply, printed_for}
 use Rattle.dr_word_route.specs.Replies.{status_for}
@@ -48,6 +49,8 @@ Responds Holds plan certificate Graph old new status =
     Replies (IsTextReply (IsGraphText plan certificate)) old new status
 Responds Holds plan certificate Lint old new status =
     Replies (IsTextReply (IsLintText plan)) old new status
+Responds Holds plan certificate (Expect path) old new status =
+    (text : Text) × Holds path.now text × Expects plan text old new status
 
 -- a run in which the text is refused as the plan's certificate, or memory ran out over it: nothing
 -- is printed

@@ -9,6 +9,7 @@ ghost use Rattle.dr_word_route.specs.Keys.{ReadsFileKey, ReadsWords};
 ghost use Rattle.dr_word_route.specs.Replies.{IsRouteReply, IsSiteReply, printed_for};
 ghost use Rattle.dr_word_route.specs.Runs.{Asks, IsTold, Judges, Replies, Responds, Seals, Unseals};
 
+use crate::expecting::ask_expect;
 use crate::keys::{key_of_file, key_of_words, site_of};
 use crate::reply::Response;
 use crate::replying::{graph_reply, lint_reply, reply_for};
@@ -133,6 +134,7 @@ fn respond<'a, F: Files, W: Write, E: Write>(
             let status = tell(&lint_reply(alloc, sealed), output, faults)?;
             Ok(status)
         }
+        Question::Expect(path) => ask_expect(alloc, sealed, files, path, output, faults),
     }
 }
 
