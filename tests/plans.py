@@ -16,6 +16,7 @@ import resource
 import subprocess
 import sys
 import tempfile
+import tomllib
 
 sys.dont_write_bytecode = True
 import lib.plan_cases as worked
@@ -181,6 +182,13 @@ def compare_expected(it, times, seed):
         got = it.ask('expect', plan, certificate, ('expect', given))
         want = (b'', f'dr_router: X1 Expect {line}\n'.encode(), 1) if line else (got[0], b'', got[2])
         it.compare(f'a file of expectations {given}', want, got)
+    for name in sorted(os.listdir(f'{TOP}/plans')):
+        if name.endswith('.expect'):
+            front = f'{TOP}/plans/{name.removesuffix(".expect")}.toml'
+            with open(front, 'rb') as plan, open(f'{TOP}/plans/{name}', 'rb') as given:
+                plan, given = plan.read(), given.read()
+            it.compare(name, (b'yes\n', b'', 0), it.ask('expect', plan, model_of(plan).check()[0], ('expect', given)))
+            assert Rows(model_of(plan), tomllib.loads(given.decode())['expect']).first_miss() is None, name
     for i in range(times * EXPECTED):
         it.expect(f'expectations {i}', random.Random(f'expectations {seed} {i}'))
 

@@ -183,6 +183,7 @@ def main():
         verdicts(f'{room}/certificate')
         routes(f'{room}/certificate', room)
         pictures(f'{room}/certificate')
+        expectations(room, f'{room}/certificate')
         words()
         failures(room, large)
     print('program.py: the program ends as it should')
