@@ -33,6 +33,8 @@ _dr_router() {
             mapfile -t COMPREPLY < <(compgen -W "--links --log --report" -- "$current") ;;
         "list 6")
             mapfile -t COMPREPLY < <(compgen -W "--summary" -- "$current") ;;
+        "lint 4")
+            mapfile -t COMPREPLY < <(compgen -W "--strict" -- "$current") ;;
         "requeue 6")
             mapfile -t COMPREPLY < <(compgen -W "--all-held" -- "$current") ;;
         "help 2")

@@ -49,6 +49,7 @@ module _ (words : List (Bor (List ℕ)))
   nothing_asked (asks.Echo plan caller called) h = echo plan caller called h
   nothing_asked (asks.Question plan certificate questions.Graph) h = graph plan certificate h
   nothing_asked (asks.Question plan certificate questions.Lint) h = lint plan certificate h
+  nothing_asked (asks.Question plan certificate questions.StrictLint) h = absurd h
   nothing_asked (asks.Question plan certificate (questions.Expect path)) h = expect plan certificate path h
   nothing_asked (asks.Question plan certificate (questions.RouteOfFile at path)) h = route_of_file plan certificate at path h
   nothing_asked (asks.Question plan certificate (questions.RouteOfKey at key)) h = route_of_key plan certificate at key h

@@ -71,6 +71,7 @@ module _ (words : List Word) where
   is_meant (asks.Echo a b c) h =
       subst (Means (asks.Echo a b c)) (sym h.1)
       (subst (λ n. of_four n a b c ≡ asks.Echo a b c) (sym h.2) refl)
+  is_meant (asks.Question a b questions.StrictLint) h = absurd h
   is_meant (asks.Question a b (questions.Expect c)) h =
       subst (Means (asks.Question a b (questions.Expect c))) (sym h.1)
       (subst (λ n. of_four n a b c ≡ asks.Question a b (questions.Expect c)) (sym h.2) refl)

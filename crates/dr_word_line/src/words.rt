@@ -40,6 +40,8 @@ pub enum Question<'a> {
     Graph,
     /// What is sound and still looks wrong.
     Lint,
+    /// The same, where a finding is a no.
+    StrictLint,
     /// Whether it does what this file expects of it.
     Expect(&'a str),
 }
@@ -169,7 +171,6 @@ fn read_all<'a>(words: &'a [&'a str]) -> Option<Task<'a>>
             if *word == "list"
                 && is_no_option(plan)
                 && is_no_option(certificate)
-                && is_no_option(node)
                 && is_no_option(ledger)
                 && *option == "--summary" => {
             let given = NodeFiles {
@@ -184,10 +185,8 @@ fn read_all<'a>(words: &'a [&'a str]) -> Option<Task<'a>>
             if *word == "requeue"
                 && is_no_option(plan)
                 && is_no_option(certificate)
-                && is_no_option(node)
                 && is_no_option(ledger)
-                && *option == "--all-held"
-                && is_no_option(dest) => {
+                && *option == "--all-held" => {
             let given = NodeFiles {
                 plan,
                 certificate,
@@ -215,7 +214,6 @@ fn read_work<'a>(words: &'a [&'a str]) -> Option<Task<'a>>
             if *word == "send"
                 && is_no_option(plan)
                 && is_no_option(certificate)
-                && is_no_option(node)
                 && is_no_option(ledger)
                 && is_no_option(file) => {
             let given = NodeFiles {
@@ -230,10 +228,8 @@ fn read_work<'a>(words: &'a [&'a str]) -> Option<Task<'a>>
             if *word == "requeue"
                 && is_no_option(plan)
                 && is_no_option(certificate)
-                && is_no_option(node)
                 && is_no_option(ledger)
-                && is_no_option(uid)
-                && is_no_option(dest) => {
+                && is_no_option(uid) => {
             let given = NodeFiles {
                 plan,
                 certificate,
@@ -257,7 +253,6 @@ fn read_duty<'a>(words: &'a [&'a str]) -> Option<Task<'a>>
             if *word == "list"
                 && is_no_option(plan)
                 && is_no_option(certificate)
-                && is_no_option(node)
                 && is_no_option(ledger) => {
             let given = NodeFiles {
                 plan,
@@ -271,7 +266,6 @@ fn read_duty<'a>(words: &'a [&'a str]) -> Option<Task<'a>>
             if *word == "serve"
                 && is_no_option(plan)
                 && is_no_option(certificate)
-                && is_no_option(node)
                 && is_no_option(ledger) => {
             let given = NodeFiles {
                 plan,
@@ -307,7 +301,6 @@ fn read_route<'a>(words: &'a [&'a str]) -> Option<Task<'a>>
             if *word == "route"
                 && is_no_option(plan)
                 && is_no_option(certificate)
-                && is_no_option(at)
                 && is_no_option(path) => {
             Some(Task::Question(plan, certificate, Question::RouteOfFile(at, path)))
         }
@@ -320,14 +313,7 @@ fn read_route<'a>(words: &'a [&'a str]) -> Option<Task<'a>>
             syntax,
             modality,
             station,
-        ] if *word == "route"
-            && is_no_option(plan)
-            && is_no_option(certificate)
-            && is_no_option(at)
-            && is_no_option(class)
-            && is_no_option(syntax)
-            && is_no_option(modality)
-            && is_no_option(station) => {
+        ] if *word == "route" && is_no_option(plan) && is_no_option(certificate) => {
             let key = KeyWords {
                 class,
                 syntax,
@@ -417,11 +403,9 @@ fn read_pair<'a>(words: &'a [&'a str]) -> Option<Task<'a>>
                 && is_no_option(plan)
                 && is_no_option(certificate)
                 && is_no_option(script) => { Some(Task::Simulate(plan, certificate, script)) }
-        [word, plan, caller, called]
-            if *word == "echo"
-                && is_no_option(plan)
-                && is_no_option(caller)
-                && is_no_option(called) => { Some(Task::Echo(plan, caller, called)) }
+        [word, plan, caller, called] if *word == "echo" && is_no_option(plan) => {
+            Some(Task::Echo(plan, caller, called))
+        }
         _ => None,
     }
 }
@@ -495,6 +479,7 @@ fn question_of<'a>(name: &str, given: &ArgMatches<'a>) -> Option<Question<'a>> {
     match name {
         "route" => Some(route_of(given)),
         "graph" => Some(Question::Graph),
+        "lint" if given.get_flag("STRICT") => Some(Question::StrictLint),
         "lint" => Some(Question::Lint),
         "expect" => Some(Question::Expect(given.get_str("FILE").unwrap_or(""))),
         _ => None,

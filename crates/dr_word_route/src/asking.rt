@@ -8,6 +8,7 @@ ghost use Rattle.dr_run_open.specs.declared.status.Status.TheVariants.{Refused, 
 ghost use Rattle.dr_word_route.specs.Keys.{ReadsFileKey, ReadsWords};
 ghost use Rattle.dr_word_route.specs.Replies.{IsRouteReply, IsSiteReply, printed_for};
 ghost use Rattle.dr_word_route.specs.Runs.{Asks, IsTold, Judges, Replies, Responds, Seals, Unseals};
+ghost use Rattle.dr_word_route.specs.Runs.{strict_status};
 
 use crate::expecting::ask_expect;
 use crate::keys::{key_of_file, key_of_words, site_of};
@@ -44,6 +45,20 @@ fn tell<W: Write, E: Write>(reply: &Response, output: &mut W, faults: &mut E) ->
 {
     write_reply(reply, output, faults)?;
     Ok(reply.status())
+}
+
+/// Tells a reply, and ends with a no where it says something.
+fn tell_strictly<W: Write, E: Write>(
+    reply: &Response,
+    output: &mut W,
+    faults: &mut E,
+) -> io::Result<Status>
+    ensures { IfOk result (λ status.
+        Appends (W.contents output.old) (W.contents output.new) (printed_for reply.now)
+        × (status ≡ strict_status reply.now)) }
+{
+    write_reply(reply, output, faults)?;
+    Ok(reply.strict_status())
 }
 
 /// Tells where an instance with these values goes that enters at the node of that name.
@@ -132,6 +147,10 @@ fn respond<'a, F: Files, W: Write, E: Write>(
         }
         Question::Lint => {
             let status = tell(&lint_reply(alloc, sealed), output, faults)?;
+            Ok(status)
+        }
+        Question::StrictLint => {
+            let status = tell_strictly(&lint_reply(alloc, sealed), output, faults)?;
             Ok(status)
         }
         Question::Expect(path) => ask_expect(alloc, sealed, files, path, output, faults),
