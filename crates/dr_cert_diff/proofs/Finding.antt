@@ -1,5 +1,5 @@
 -- Each key for which something changes enters somewhere, and its cell is looked at.
-use Rattle.std.proofs.Common.{◌≡◌, ◌⊎◌, ◌↔◌, ◌∙◌, inl, inr, refl, sym, subst, List, [], ◌∷◌, ◌++◌, Contains}
+use Rattle.std.proofs.Common.{◌≡◌, ◌≢◌, ◌<◌, ◌⊎◌, ◌↔◌, ◌∙◌, inl, inr, refl, sym, subst, List, [], ◌∷◌, ◌++◌, Contains}
 use Rattle.std.specs.Prelude.{All}
 use Rattle.std.proofs.lemmas.List.Elements.{All-append}
 use Rattle.dr_base.specs.Texts.{Text}
@@ -45,11 +45,11 @@ pub both_have_keys : (old new : Network) → IsWellFormed old → IsWellFormed n
 both_have_keys old new formed_old formed_new class syntax modality place is_part is_place =
     let of_old = stations_are_plain old formed_old in
     let of_new = stations_are_plain new formed_new in
-    let plain : ArePlain (modalities_of old ++ modalities_of new) = All-append _ (modalities_of old) (modalities_of new) (named_are_plain old formed_old Modality) (named_are_plain new formed_new Modality) in
+    let plain : ArePlain (modalities_of old ++ modalities_of new) = All-append (λ (t : Text). All (λ byte. byte < 127) t) (modalities_of old) (modalities_of new) (named_are_plain old formed_old Modality) (named_are_plain new formed_new Modality) in
     let stations : ArePlainStations (literals_of_both old new).stations = record {
-      literals = All-append _ (stations_of old) (stations_of new) of_old.literals of_new.literals;
-      prefixes = All-append _ (prefixes_of old) (prefixes_of new) of_old.prefixes of_new.prefixes;
-      some = All-append _ (prefixes_of old) (prefixes_of new) of_old.some of_new.some;
+      literals = All-append (λ (t : Text). All (λ byte. byte < 127) t) (stations_of old) (stations_of new) of_old.literals of_new.literals;
+      prefixes = All-append (λ (t : Text). All (λ byte. byte < 127) t) (prefixes_of old) (prefixes_of new) of_old.prefixes of_new.prefixes;
+      some = All-append (λ (t : Text). t ≢ []) (prefixes_of old) (prefixes_of new) of_old.some of_new.some;
     } in
     record {
       class = refl;

@@ -15,12 +15,19 @@ pub struct Change {
     pub gained: Seq<Text>,
 }
 
+/// Whether the change loses a node.
+fn loses(change: &Change) -> bool
+    ensures { IsTrue result ↔ (change.now.lost ≢ []) }
+{
+    !change.lost.is_empty()
+}
+
 /// Whether some node is lost.
 pub fn has_lost(changes: &[Change]) -> bool
     ensures { IsTrue result ↔ LosesSome changes.now }
 {
     for change in changes {
-        if !change.lost.is_empty() {
+        if loses(change) {
             return true;
         }
     }

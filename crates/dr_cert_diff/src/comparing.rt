@@ -36,7 +36,8 @@ fn add_unless(names: &mut BTreeSet<Text>, name: &Text, set: &[Text]) -> Result<(
     if is_in_set(set, name) {
         return Ok(());
     }
-    add_names(names, slice::from_ref(name))
+    add_names(names, slice::from_ref(name))?;
+    Ok(())
 }
 
 /// Those of the names that aren't in the set, in byte order and each once.
@@ -52,6 +53,23 @@ fn without(alloc: Global, names: &[Text], set: &[Text]) -> Result<Seq<Text>, All
     Ok(rest)
 }
 
+/// A copy of names.
+fn copy_names(names: &Seq<Text>) -> Result<Seq<Text>, AllocError>
+    ensures { IfOk result (λ copy. copy ≡ names.now) }
+{
+    let copy = names.clone()?;
+    Ok(copy)
+}
+
+/// No names.
+fn no_names(alloc: Global) -> Result<Seq<Text>, AllocError>
+    ensures none { IfOk result (λ seq. (name : Words) → Contains seq name → ⊥) }
+    ensures ordered { IfOk result IsInByteOrder }
+{
+    let names = names_in_order(alloc, BTreeSet::new(alloc))?;
+    Ok(names)
+}
+
 /// The nodes that keep the key where it enters at the site; none where it doesn't enter.
 fn keepers(alloc: Global, sealed: &Sealed, site: &Text, key: &Key) -> Result<Seq<Text>, AllocError>
     ensures same { IfOk result (λ seq. (dest : Words)
@@ -59,8 +77,14 @@ fn keepers(alloc: Global, sealed: &Sealed, site: &Text, key: &Key) -> Result<Seq
     ensures ordered { IfOk result IsInByteOrder }
 {
     match reach_of(alloc, sealed, site, key)? {
-        Some(reach) => reach.keeps.clone(),
-        None => Ok(Seq::new(alloc)),
+        Some(reach) => {
+            let names = copy_names(&reach.keeps)?;
+            Ok(names)
+        }
+        None => {
+            let names = no_names(alloc)?;
+            Ok(names)
+        }
     }
 }
 

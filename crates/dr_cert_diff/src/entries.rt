@@ -33,7 +33,8 @@ fn add_classes_of(names: &mut BTreeSet<Text>, flow: &Flow, site: &Text) -> Resul
     if flow.at != *site {
         return Ok(());
     }
-    add_names(names, flow.classes.as_slice())
+    add_names(names, flow.classes.as_slice())?;
+    Ok(())
 }
 
 /// The classes that flows bring in at the site.

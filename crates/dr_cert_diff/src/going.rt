@@ -129,7 +129,8 @@ fn over_syntaxes(
         class,
         syntax: Syntax::Explicit,
     };
-    over_modalities(alloc, both, site, &explicit, parts, changes)
+    over_modalities(alloc, both, site, &explicit, parts, changes)?;
+    Ok(())
 }
 
 /// What changes for the keys of these classes.
