@@ -58,6 +58,30 @@ fn note(
     Ok(())
 }
 
+/// What changes for the keys with this class, transfer syntax and parts.
+fn note_at(
+    alloc: Global,
+    both: &Both<'_>,
+    site: &Text,
+    pair: &Pair<'_>,
+    modality: &OwnedField,
+    station: &OwnedStation,
+    changes: &mut Vec<Change>,
+) -> Result<(), AllocError>
+    requires { LiesInBoth both.now.old.now.plan both.now.new.now.plan
+        (cell_at pair.now.class.now pair.now.syntax modality.now station.now)
+        (key_of (cell_at pair.now.class.now pair.now.syntax modality.now station.now)) }
+    ensures { OnOk result (Adds both.now.old.now.plan both.now.new.now.plan
+        (At both.now.old.now.plan both.now.new.now.plan site.now
+        (cell_at pair.now.class.now pair.now.syntax modality.now station.now))
+        changes.old.items changes.new.items) }
+{
+    let cell = cell_of(pair, modality, station)?;
+    let noted = note(alloc, both, site, &cell, changes);
+    drop(cell);
+    noted
+}
+
 /// What changes for the keys with this class, transfer syntax and part of the modalities.
 fn over_stations(
     alloc: Global,
@@ -79,8 +103,7 @@ fn over_stations(
     let _old = both.old.plan();
     let _new = both.new.plan();
     for station in parts.stations.as_slice() {
-        let cell = cell_of(pair, modality, station)?;
-        note(alloc, both, site, &cell, changes)?;
+        note_at(alloc, both, site, pair, modality, station, changes)?;
     }
     Ok(())
 }
