@@ -20,6 +20,7 @@ import tomllib
 
 sys.dont_write_bytecode = True
 import lib.plan_cases as worked
+from lib.plan_diff import WRONG_DIFFS, Diff, changed_plan
 from lib.plan_expect import FILES, WRONG_ROWS, Rows, fitting_rows, random_rows, rows_text
 from lib.plan_model import WRONG, Model
 from lib.plan_reader import Refused, read_plan
@@ -28,7 +29,7 @@ from lib.plan_texts import LARGE, LARGEST, OddTexts, hostile, mutated, over_limi
 TOP = os.path.dirname(os.path.dirname(os.path.abspath(__file__)))
 PROGRAM = f'{TOP}/crates/dr_router/out/dr_router'
 CERTIFIER = f'{TOP}/crates/dr_certifier/out/dr_certifier'
-PLANS, CERTIFICATES, TEXTS, EXPECTED = 1000, 1000, 1500, 600
+PLANS, CERTIFICATES, TEXTS, EXPECTED, CHANGED = 1000, 1000, 1500, 600, 600
 STACK = 256 * 1024  # bytes of stack that the longest walk may take: the search takes none
 sys.setrecursionlimit(10_000)
 
@@ -57,6 +58,21 @@ def expected(text):
         return b'', b'dr_router: TooLarge\n', 1
     printed, is_yes = answer
     return printed, b'', 0 if is_yes else 1
+
+
+def pair_of(*plans):
+    """The plans as they are read, with their certificates; None where one isn't sound."""
+    found = []
+    for text in plans:
+        try:
+            model = model_of(text)
+        except Refused:
+            return None
+        answer = model.check()
+        if answer is None or not answer[1]:
+            return None
+        found.append((model, answer[0]))
+    return found
 
 
 class Comparison:
@@ -110,6 +126,25 @@ class Comparison:
             if fault:
                 self.compare(f'{what}: {rows}: {fault}', None, got)
         return True
+
+    def diff(self, what, dice):
+        """Tries a random plan and another one like it, if both are sound."""
+        plan = random_plan(dice)
+        next_plan = changed_plan(dice, plan)
+        models = pair_of(plan, next_plan)
+        if models is None:
+            return
+        (old, certificate), (new, next_certificate) = models
+        more = (('next', next_plan), ('next.certificate', next_certificate))
+        want, got = Diff(old, new).rows(), self.ask('diff', plan, certificate, *more)
+        rows = got[0].decode('latin-1').splitlines()
+        self.answers[f'diff: {" and ".join(sorted({it.split(chr(9))[0] for it in rows})) or "nothing"}'] += 1
+        if (set(rows), len(rows), got[1:]) != (want, len(want), (b'', 0)):
+            self.compare(f'{what}: {sorted(want)}', None, got)
+        lost = any(it.startswith('lost') for it in rows)
+        strict = run('diff', *(f'{self.room}/{it}' for it in ('plan', 'certificate', 'next', 'next.certificate')), '--fail-on-lost')
+        if strict != (got[0], b'', int(lost)):
+            self.compare(f'{what}: a loss that is a no', None, strict)
 
     def verify(self, what, model, plan, certificate):
         self.verdict(what, model.verdict(certificate), plan, certificate)
@@ -196,6 +231,8 @@ def compare_expected(it, times, seed):
 def compare_all(it, times, seed):
     compare_worked(it)
     compare_expected(it, times, seed)
+    for i in range(times * CHANGED):
+        it.diff(f'change {i}', random.Random(f'change {seed} {i}'))
     for name, text in {**LARGE, **LARGEST}.items():
         it.check(name, text, limit_stack if 'walk' in name else None)
     for name in sorted(os.listdir(f'{TOP}/plans')):
@@ -239,13 +276,28 @@ def rows_seen_by(count, seed):
     return seen
 
 
+def diffs_seen_by(count, seed):
+    """How many random changes of plans see each wrong definition of them."""
+    seen = dict.fromkeys(WRONG_DIFFS, 0)
+    for i in range(count):
+        dice = random.Random(f'change {seed} {i}')
+        plan = random_plan(dice)
+        models = pair_of(plan, changed_plan(dice, plan))
+        if models:
+            (old, _), (new, _) = models
+            want = Diff(old, new).rows()
+            for name, kind in WRONG_DIFFS.items():
+                seen[name] += kind(old, new).rows() != want
+    return seen
+
+
 def main():
     words = [int(it) for it in sys.argv[1:] if it != '--wrong']
     times, seed = (words + [1, 1][len(words):])[:2]
     hops = [text for name, text in LARGE.items() if 'hops' not in name or 'overfull' in name]
     by_hand = [text.encode() for text, _ in worked.UNSOUND + worked.SOUND_IN_FORMAT_2]
     seen = seen_by(hops + by_hand + [random_plan(random.Random(f'plan {seed} {i}')) for i in range(200)])
-    seen |= rows_seen_by(200, seed)
+    seen |= rows_seen_by(200, seed) | diffs_seen_by(100, seed)
     if '--wrong' in sys.argv:
         for name, count in seen.items():
             print(f'{name}: {count}')

@@ -139,6 +139,23 @@ def expectations(room, certificate):
     is_answer('no file', run(['expect', SOUND, certificate, f'{room}/none']), 3, b'', (b'dr_router: ',))
 
 
+def differences(room, certificate):
+    """What changes from the sample plan to its next one, and back."""
+    following, key = f'{TOP}/plans/three-nodes-next.toml', f'CT1\t{CLASS}\t{SYNTAX}\tCT\tS1\tHUB\n'.encode()
+    with open(f'{room}/next', 'wb') as it:
+        it.write(run(['check', following])[1])
+    there, back = [SOUND, certificate, following, f'{room}/next'], [following, f'{room}/next', SOUND, certificate]
+    is_answer('a node more', run(['diff', *there]), 0, b'gained\t' + key, b'')
+    is_answer('a node more is no loss', run(['diff', *there, '--fail-on-lost']), 0, b'gained\t' + key, b'')
+    is_answer('a node less', run(['diff', *back]), 0, b'lost\t' + key, b'')
+    for given in (['--fail-on-lost', *back], [*back, '--fail-on-lost']):
+        is_answer('a node less is a loss', run(['diff', *given]), 1, b'lost\t' + key, b'')
+    is_answer('no change', run(['diff', SOUND, certificate, SOUND, certificate]), 0, b'', b'')
+    is_answer('another next certificate', run(['diff', SOUND, certificate, following, certificate]), 1, b'', b'dr_router: C2 OtherPlan\n')
+    is_answer('no next plan', run(['diff', SOUND, certificate, certificate, certificate]), 1, b'', b'dr_router: L1 NotToml\n')
+    is_answer('no file', run(['diff', SOUND, certificate, f'{room}/none', certificate]), 3, b'', (b'dr_router: ',))
+
+
 HYPHENS = f'''
 [[node]]
 name = "-a"
@@ -185,17 +202,18 @@ def hyphens(room):
 
 def words():
     usage = (b'Usage: dr_router',)
-    for given in (['carry'], ['check', 'a', 'b'], ['check', '--fast'], ['verify'], ['verify', SOUND], ['verify', SOUND, 'a', 'b'], ['simulate', SOUND, 'a'], ['simulate', SOUND, 'a', 'b', 'c'], ['echo', SOUND, 'CT1'], ['route', SOUND, 'a', 'CT1'], ['route', SOUND, 'a', 'CT1', 'C', 'E'], ['route', SOUND, 'a', 'CT1', 'C', 'E', 'CT'], ['route', SOUND, 'a', 'CT1', 'C', 'E', 'CT', 'S1', 'x'], ['graph', SOUND], ['graph', SOUND, 'a', 'b'], ['lint', SOUND], ['expect', SOUND, 'a'], ['expect', SOUND, 'a', 'b', 'c'], ['-x']):
+    for given in (['carry'], ['check', 'a', 'b'], ['check', '--fast'], ['verify'], ['verify', SOUND], ['verify', SOUND, 'a', 'b'], ['simulate', SOUND, 'a'], ['simulate', SOUND, 'a', 'b', 'c'], ['echo', SOUND, 'CT1'], ['route', SOUND, 'a', 'CT1'], ['route', SOUND, 'a', 'CT1', 'C', 'E'], ['route', SOUND, 'a', 'CT1', 'C', 'E', 'CT'], ['route', SOUND, 'a', 'CT1', 'C', 'E', 'CT', 'S1', 'x'], ['graph', SOUND], ['graph', SOUND, 'a', 'b'], ['lint', SOUND], ['expect', SOUND, 'a'], ['expect', SOUND, 'a', 'b', 'c'], ['diff', SOUND, 'a', 'b'], ['-x']):
         is_answer(f'words {given}', run(given), 2, b'', usage)
     for given in ([b'\xff'], [b'check', b'\xff'], [b'check', SOUND.encode(), b'\x80']):
         is_answer(f'words {given}', run(given), 2, b'', b"dr_router: a word isn't UTF-8\n")
-    is_answer('help', run(['--help']), 0, (b'Usage: dr_router <COMMAND>', b'check', b'verify', b'route', b'graph', b'lint', b'expect', b'simulate', b'echo'), b'')
+    is_answer('help', run(['--help']), 0, (b'Usage: dr_router <COMMAND>', b'check', b'verify', b'route', b'graph', b'lint', b'expect', b'diff', b'simulate', b'echo'), b'')
     is_answer('help of check', run(['check', '--help']), 0, (b'Usage: dr_router check [PLAN]\n',), b'')
     is_answer('help of verify', run(['verify', '--help']), 0, (b'Usage: dr_router verify <PLAN> <CERT>\n',), b'')
     is_answer('help of route', run(['route', '--help']), 0, (b'Usage: dr_router route <PLAN> <CERT> <AT> <FILE|CLASS> [SYNTAX] [MODALITY] [STATION]\n',), b'')
     is_answer('help of graph', run(['graph', '--help']), 0, (b'Usage: dr_router graph <PLAN> <CERT>\n',), b'')
     is_answer('help of lint', run(['lint', '--help']), 0, (b'Usage: dr_router lint [OPTIONS] <PLAN> <CERT>\n',), b'')
     is_answer('help of expect', run(['expect', '--help']), 0, (b'Usage: dr_router expect <PLAN> <CERT> <FILE>\n',), b'')
+    is_answer('help of diff', run(['diff', '--help']), 0, (b'Usage: dr_router diff [OPTIONS] <PLAN> <CERT> <NEXTPLAN> <NEXTCERT>\n',), b'')
     is_answer('help of simulate', run(['simulate', '--help']), 0, (b'Usage: dr_router simulate <PLAN> <CERT> <SCRIPT>\n',), b'')
     is_answer('help of echo', run(['echo', '--help']), 0, (b'Usage: dr_router echo <PLAN> <FROM> <TO>\n',), b'')
     is_answer('version', run(['--version']), 0, b'dr_router ' + content(f'{TOP}/VERSION'), b'')
@@ -230,6 +248,7 @@ def main():
         routes(f'{room}/certificate', room)
         pictures(f'{room}/certificate')
         expectations(room, f'{room}/certificate')
+        differences(room, f'{room}/certificate')
         hyphens(room)
         words()
         failures(room, large)

@@ -50,7 +50,8 @@ AtPair old new at class syntax parts =
 -- the keys of a class, in either transfer syntax
 abbrev pub AtClass : Network → Network → Text → Parts → Text → Text → Key → Type 0
 AtClass old new at parts class site key =
-    AtPair old new at class Implicit parts site key ⊎ AtPair old new at class Explicit parts site key
+    AtPair old new at class Implicit parts site key
+    ⊎ AtPair old new at class Explicit parts site key
 
 -- the keys that enter at the site by one of the plans
 abbrev pub AtSite : Network → Network → Text → Text → Key → Type 0

@@ -39,8 +39,8 @@ pub record Holds (plan : Network) (row : Expectation) : Type 0 where
   pub some : HasCase plan row
   pub each : (site : Text) (key : Key) → IsCase plan row site key → IsMet plan row site key
 
--- what is lacking shows that the row doesn't hold: it has no case; or a case isn't kept where it has
--- to be, or comes where it must not
+-- what is lacking shows that the row doesn't hold: it has no case; or a case isn't kept where it
+-- has to be, or comes where it must not
 abbrev pub Shows : Network → Expectation → Lack → Type 0
 Shows plan row Nothing = HasCase plan row → ⊥
 Shows plan row (Keep name case) =

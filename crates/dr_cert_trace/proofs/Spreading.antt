@@ -99,16 +99,16 @@ module _ (plan : Network) (site : Text) (key : Key) where
       λ h. elim ((step.behind place).0 h) [
         | inl none ↦ absurd none
         | inr m ↦ (
-          let w = (so_far.here m.0).0 m.1 in
-          let P : Text × Text → Type 0 = λ p. Sends plan p.1 p.0 key place.1 in
-          let pushed : last_place local site (w.0 ++ place.1 ∷ []) ≡ ((last_place local site w.0).1, place.1) = last_push local site w.0 place.1 in
-          let name : (last_place local site w.0).1 ≡ place.0 = ap (λ (p : Text × Text). p.1) w.3 ∙ sym m.2.0 in
-          let long : length (w.0 ++ place.1 ∷ []) ≡ length w.0 + 1 = length-append w.0 (place.1 ∷ []) in (
-            w.0 ++ place.1 ∷ [],
-            walk_push plan key local site w.0 place.1 w.1 (subst P (sym w.3) m.2.1),
-            long ∙ ap (λ n. n + 1) w.2,
-            pushed ∙ ap (λ (t : Text). let p : Text × Text = (t, place.1) in p) name,
-          ))
+            let w = (so_far.here m.0).0 m.1 in
+            let P : Text × Text → Type 0 = λ p. Sends plan p.1 p.0 key place.1 in
+            let pushed : last_place local site (w.0 ++ place.1 ∷ []) ≡ ((last_place local site w.0).1, place.1) = last_push local site w.0 place.1 in
+            let name : (last_place local site w.0).1 ≡ place.0 = ap (λ (p : Text × Text). p.1) w.3 ∙ sym m.2.0 in
+            let long : length (w.0 ++ place.1 ∷ []) ≡ length w.0 + 1 = length-append w.0 (place.1 ∷ []) in (
+              w.0 ++ place.1 ∷ [],
+              walk_push plan key local site w.0 place.1 w.1 (subst P (sym w.3) m.2.1),
+              long ∙ ap (λ n. n + 1) w.2,
+              pushed ∙ ap (λ (t : Text). let p : Text × Text = (t, place.1) in p) name,
+            ))
       ],
       λ w. (
           let parts = some_hop w.0 hops w.2 in
@@ -131,8 +131,8 @@ module _ (plan : Network) (site : Text) (key : Key) where
       λ h. elim ((more name).0 h) [
         | inl earlier ↦ (let w = (before name).0 earlier in (w.0, w.1, (let lt : length w.0 < hops = w.2 in omega (arith, lt)), w.3))
         | inr m ↦ (
-          let w = (so_far.here m.0).0 m.1 in
-          (w.0, w.1, (let is : length w.0 ≡ hops = w.2 in omega (arith, is)), subst (λ (p : Text × Text). Gives p name) (sym w.3) m.2))
+            let w = (so_far.here m.0).0 m.1 in
+            (w.0, w.1, (let is : length w.0 ≡ hops = w.2 in omega (arith, is)), subst (λ (p : Text × Text). Gives p name) (sym w.3) m.2))
       ],
       λ w. elim (either (length w.0) hops w.2) [
         | inl fewer ↦ (more name).1 (inl ((before name).1 (w.0, w.1, fewer, w.3)))

@@ -59,8 +59,8 @@ pub record PassesAll (plan : Network) (key : Key) (front : List (Text × Text))
   pub comes : Gathers IsAt front (HasName nodes) (HasName now_nodes)
   pub ends : Gathers (KeepsAt plan key) front (HasName keeps) (HasName now_keeps)
 
--- what is found by the walks of that many hops and fewer: the nodes to which they come, and those of
--- them that keep
+-- what is found by the walks of that many hops and fewer: the nodes to which they come, and those
+-- of them that keep
 pub record AreWithin (plan : Network) (site : Text) (key : Key) (hops : ℕ)
     (nodes keeps : BTreeSet Text) : Type 0 where
   pub comes : (name : Text)

@@ -15,5 +15,6 @@ WritesExpectations text rows = (root : Members) × IsTree text root × IsExpectR
 -- what is read of a text: the rows that it writes, or that it writes none
 abbrev pub ReadsExpectations : Text → Result (List Expectation) ExpectFault → Type 0
 ReadsExpectations text (Ok rows) = WritesExpectations text rows
-ReadsExpectations text (Err (Expect line)) = (rows : List Expectation) → WritesExpectations text rows → ⊥
+ReadsExpectations text (Err (Expect line)) =
+    (rows : List Expectation) → WritesExpectations text rows → ⊥
 ReadsExpectations text (Err Memory) = Unit {0}

@@ -1,5 +1,5 @@
-//! What is expected of a plan, as a text in TOML writes it: which instances, where they enter, which
-//! nodes have to keep them, and to which nodes they must never come.
+//! What is expected of a plan, as a text in TOML writes it: which instances, where they enter,
+//! which nodes have to keep them, and to which nodes they must never come.
 #![tactic(auto)]
 
 mod fault;

@@ -1,5 +1,5 @@
 -- The words of the command line.
-use Rattle.std.specs.Prelude.{◌≡◌, ◌≢◌, ℕ, List, [], ◌∷◌, ◌++◌, ◌⊎◌, codes, Option, None}
+use Rattle.std.specs.Prelude.{◌≡◌, ◌≢◌, ℕ, List, [], ◌∷◌, ◌++◌, ◌⊎◌, codes, false, Option, None}
 use Rattle.std.specs.Prelude.{MatchOption}
 use Rattle.std.specs.Borrow.{Bor}
 use Rattle.dr_word_line.specs.declared.words.Task.{Task}
@@ -13,9 +13,11 @@ use Rattle.dr_word_line.specs.declared.words.Duty.TheVariants.{RequeueAll, Send,
 use Rattle.dr_word_line.specs.declared.words.KeyWords.{KeyWords}
 use Rattle.dr_run_files.specs.declared.node.NodeFiles.{NodeFiles}
 use Rattle.dr_word_line.specs.declared.words.PlanChange.{PlanChange}
+use Rattle.dr_word_line.specs.declared.words.NextPlan.{NextPlan}
 use Rattle.dr_word_line.specs.declared.words.Question.{Question}
 use Rattle.dr_word_line.specs.declared.words.Question.TheVariants.{RouteOfKey, RouteOfFile, Graph}
 use Rattle.dr_word_line.specs.declared.words.Question.TheVariants.{Lint, StrictLint, Expect}
+use Rattle.dr_word_line.specs.declared.words.Question.TheVariants.{Diff}
 use Rattle.dr_word_line.specs.declared.words.Serving.{Serving}
 use Rattle.dr_word_line.specs.declared.words.Verbosity.TheVariants.{Events}
 
@@ -24,8 +26,9 @@ abbrev pub IsPlainCheck : List (Bor (List ℕ)) → Type 0
 IsPlainCheck words =
     (words ≡ []) ⊎ ((word : Bor (List ℕ)) × (words ≡ word ∷ []) × (word.now ≡ codes "check"))
 
--- a word that doesn't begin with a hyphen is no option. Paths are asked for it, and names and values
--- aren't: a node may be named `-a`, and so options stand before the first value or behind all
+-- a word that doesn't begin with a hyphen is no option. Paths are asked for it, and names and
+-- values aren't: a node may be named `-a`, and so options stand before the first value or behind
+-- all
 abbrev pub IsNoOption : List ℕ → Type 0
 IsNoOption word = (rest : List ℕ) → word ≢ 45 ∷ rest
 
@@ -96,6 +99,18 @@ IsExpectOf words plan certificate path =
     × IsNoOption certificate.now
     × IsNoOption path.now
 
+-- the word diff, the paths of a plan and its certificate, and those of the next plan and its
+-- certificate: they ask what changes from the one to the other
+abbrev pub IsDiffOf : List (Bor (List ℕ)) → Bor (List ℕ) → Bor (List ℕ) → NextPlan → Type 0
+IsDiffOf words plan certificate next =
+    (word : Bor (List ℕ))
+    × (words ≡ word ∷ plan ∷ certificate ∷ next.plan ∷ next.certificate ∷ [])
+    × (word.now ≡ codes "diff")
+    × IsNoOption plan.now
+    × IsNoOption certificate.now
+    × IsNoOption next.plan.now
+    × IsNoOption next.certificate.now
+
 -- the word route, two files' paths, a name and a file's path: they ask where the instance in that
 -- file goes that enters at the node of that name
 abbrev pub IsFileRouteOf : List (Bor (List ℕ)) → Bor (List ℕ) → Bor (List ℕ) → Bor (List ℕ)
@@ -121,7 +136,7 @@ IsKeyRouteOf words plan certificate at key =
     × IsNoOption certificate.now
 
 -- the words ask this question about the plan in the first file, whose certificate is in the second;
--- a strict lint is asked for by an option, of which nothing is said here
+-- a strict lint, and a loss that is a no, are asked for by options, of which nothing is said here
 abbrev pub IsQuestionOf : List (Bor (List ℕ)) → Bor (List ℕ) → Bor (List ℕ) → Question → Type 0
 IsQuestionOf words plan certificate (RouteOfKey at key) = IsKeyRouteOf words plan certificate at key
 IsQuestionOf words plan certificate (RouteOfFile at path) =
@@ -129,6 +144,8 @@ IsQuestionOf words plan certificate (RouteOfFile at path) =
 IsQuestionOf words plan certificate Graph = IsGraphOf words plan certificate
 IsQuestionOf words plan certificate Lint = IsLintOf words plan certificate
 IsQuestionOf words plan certificate StrictLint = ⊥
+IsQuestionOf words plan certificate (Diff next) =
+    IsDiffOf words plan certificate next × (next.fails_on_lost ≡ false)
 IsQuestionOf words plan certificate (Expect path) = IsExpectOf words plan certificate path
 
 -- a word, what names a node and its ledger, and further words

@@ -114,6 +114,7 @@ enum Choice {
     Modality,
     Station,
     Strict,
+    Fails,
     Summary,
     Row,
     Dest,
@@ -132,6 +133,7 @@ impl<'a> Makes<Arg<'a>> for Choice {
             Choice::Modality => Ok(modality(alloc)),
             Choice::Station => Ok(station(alloc)),
             Choice::Strict => Ok(strict(alloc)),
+            Choice::Fails => Ok(fails(alloc)),
             Choice::Summary => Ok(summary(alloc)),
             Choice::Row => row(alloc),
             Choice::Dest => Ok(dest(alloc)),
@@ -280,6 +282,31 @@ fn expect<'a>(alloc: Global) -> Result<Command<'a>, AllocError> {
     )
 }
 
+/// The option of `diff` for a no where something is lost.
+fn fails<'a>(alloc: Global) -> Arg<'a> {
+    Arg::new(alloc, "FAILS")
+        .long("fail-on-lost")
+        .action(ArgAction::SetTrue)
+        .help("ends with the status 1 where an instance isn't kept any more where it was")
+}
+
+/// The word `diff`.
+fn diff<'a>(alloc: Global) -> Result<Command<'a>, AllocError> {
+    let about = "Prints which instances other nodes keep by the next plan";
+    word(
+        alloc,
+        "diff",
+        about,
+        &[
+            ("PLAN", "the file with the plan in force"),
+            ("CERT", "the file with that plan's certificate"),
+            ("NEXTPLAN", "the file with the next plan"),
+            ("NEXTCERT", "the file with the next plan's certificate"),
+        ],
+        &[Choice::Fails],
+    )
+}
+
 /// The option of `list` for numbers alone.
 fn summary<'a>(alloc: Global) -> Arg<'a> {
     Arg::new(alloc, "SUMMARY")
@@ -416,6 +443,7 @@ enum Verb {
     Graph,
     Lint,
     Expect,
+    Diff,
     Simulate,
     Echo,
     Serve,
@@ -432,6 +460,7 @@ const VERBS: &[Verb] = &[
     Verb::Graph,
     Verb::Lint,
     Verb::Expect,
+    Verb::Diff,
     Verb::Simulate,
     Verb::Echo,
     Verb::Serve,
@@ -450,6 +479,7 @@ impl<'a> Makes<Command<'a>> for Verb {
             Verb::Graph => graph(alloc),
             Verb::Lint => lint(alloc),
             Verb::Expect => expect(alloc),
+            Verb::Diff => diff(alloc),
             Verb::Simulate => simulate(alloc),
             Verb::Echo => echo(alloc),
             Verb::Serve => serve(alloc),

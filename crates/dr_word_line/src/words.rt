@@ -6,12 +6,14 @@ ghost use Rattle.dr_word_line.specs.Words.{Asks, Reads, IsPlainCheck, IsCheckOf,
 ghost use Rattle.dr_word_line.specs.Words.{IsSimulateOf, IsEchoOf, IsNoOption, IsGraphOf, IsLintOf};
 ghost use Rattle.dr_word_line.specs.Words.{IsFileRouteOf, IsKeyRouteOf, IsQuestionOf, IsListOf};
 ghost use Rattle.dr_word_line.specs.Words.{IsSummaryOf, IsServeOf, IsSendOf, IsRequeueOf};
-ghost use Rattle.dr_word_line.specs.Words.{IsRequeueAllOf, IsDutyOf, IsAdoptOf, IsExpectOf};
+ghost use Rattle.dr_word_line.specs.Words.{IsRequeueAllOf, IsDutyOf, IsAdoptOf, IsDiffOf};
+ghost use Rattle.dr_word_line.specs.Words.{IsExpectOf};
 ghost use Rattle.dr_word_line.specs.declared.words.Task.{Task as TaskValue};
 ghost use Rattle.dr_word_line.specs.declared.words.Task.TheVariants as asks;
 ghost use Rattle.dr_word_line.specs.declared.words.Duty.{Duty as DutyValue};
 ghost use Rattle.dr_word_line.specs.declared.words.KeyWords.{KeyWords as KeyWordsValue};
 ghost use Rattle.dr_word_line.specs.declared.words.PlanChange.{PlanChange as PlanChangeValue};
+ghost use Rattle.dr_word_line.specs.declared.words.NextPlan.{NextPlan as NextPlanValue};
 ghost use Rattle.dr_word_line.specs.declared.words.Question.{Question as QuestionValue};
 
 use crate::command_line::command_line;
@@ -29,6 +31,15 @@ pub struct KeyWords<'a> {
     pub station: &'a str,
 }
 
+/// The next plan with its certificate, by their paths.
+#[derive(Clone, Copy, Drop)]
+pub struct NextPlan<'a> {
+    pub plan: &'a str,
+    pub certificate: &'a str,
+    /// Whether it is a no where an instance isn't kept any more where it was.
+    pub fails_on_lost: bool,
+}
+
 /// What may be asked of a plan with its certificate.
 #[derive(Clone, Copy, Drop)]
 pub enum Question<'a> {
@@ -44,6 +55,8 @@ pub enum Question<'a> {
     StrictLint,
     /// Whether it does what this file expects of it.
     Expect(&'a str),
+    /// What changes from it to the next plan.
+    Diff(NextPlan<'a>),
 }
 
 /// What names two plans and where the nodes' ledgers are: the paths of the plan in force, of its
@@ -367,6 +380,32 @@ fn read_expect<'a>(words: &'a [&'a str]) -> Option<Task<'a>>
     }
 }
 
+/// What words ask of two plans with their certificates, if they are of that form.
+fn read_diff<'a>(words: &'a [&'a str]) -> Option<Task<'a>>
+    ensures asked { IfSome result (λ asked. Asks words.now asked) }
+    ensures diff { IfNone result
+        ((plan certificate : Bor (List ℕ)) (next : NextPlanValue)
+        → IsDiffOf words.now plan certificate next
+        → ⊥) }
+{
+    match words {
+        [word, plan, certificate, next_plan, next_certificate]
+            if *word == "diff"
+                && is_no_option(plan)
+                && is_no_option(certificate)
+                && is_no_option(next_plan)
+                && is_no_option(next_certificate) => {
+            let next = NextPlan {
+                plan: next_plan,
+                certificate: next_certificate,
+                fails_on_lost: false,
+            };
+            Some(Task::Question(plan, certificate, Question::Diff(next)))
+        }
+        _ => None,
+    }
+}
+
 /// What words ask of a plan's text alone, if they are of such a form.
 fn read_check<'a>(words: &'a [&'a str]) -> Option<Task<'a>>
     ensures asked { IfSome result (λ asked. Asks words.now asked) }
@@ -449,6 +488,9 @@ fn read_plain<'a>(words: &'a [&'a str]) -> Option<Task<'a>>
     if let Some(asked) = read_expect(words) {
         return Some(asked);
     }
+    if let Some(asked) = read_diff(words) {
+        return Some(asked);
+    }
     if let Some(asked) = read_route(words) {
         return Some(asked);
     }
@@ -474,6 +516,15 @@ fn route_of<'a>(given: &ArgMatches<'a>) -> Question<'a> {
     Question::RouteOfKey(at, key)
 }
 
+/// The next plan, as clap has read it.
+fn next_of<'a>(given: &ArgMatches<'a>) -> NextPlan<'a> {
+    NextPlan {
+        plan: given.get_str("NEXTPLAN").unwrap_or(""),
+        certificate: given.get_str("NEXTCERT").unwrap_or(""),
+        fails_on_lost: given.get_flag("FAILS"),
+    }
+}
+
 /// The question that a word asks about a plan and its certificate, if it asks one.
 fn question_of<'a>(name: &str, given: &ArgMatches<'a>) -> Option<Question<'a>> {
     match name {
@@ -481,6 +532,7 @@ fn question_of<'a>(name: &str, given: &ArgMatches<'a>) -> Option<Question<'a>> {
         "graph" => Some(Question::Graph),
         "lint" if given.get_flag("STRICT") => Some(Question::StrictLint),
         "lint" => Some(Question::Lint),
+        "diff" => Some(Question::Diff(next_of(given))),
         "expect" => Some(Question::Expect(given.get_str("FILE").unwrap_or(""))),
         _ => None,
     }

@@ -9,21 +9,22 @@ use Rattle.dr_plan.specs.Reading.{Reads}
 use Rattle.dr_plan_sound.specs.Certificates.{IsCertificateOf}
 use Rattle.dr_plan_sound.specs.Soundness.{IsSound}
 use Rattle.dr_plan_sound.specs.declared.certificate.Certificate.{Certificate}
-use Rattle.dr_cert.specs.declared.fault.CertFault.{CertFault}
-use Rattle.dr_cert.specs.declared.fault.CertFault.TheVariants.{Memory as NoMemory}
 use Rattle.dr_run_open.specs.Answers.{Refuses}
-use Rattle.dr_run_open.specs.Sealings.{IsFaultOf, IsTextOf}
+use Rattle.dr_run_open.specs.Sealings.{IsTextOf}
 use Rattle.dr_run_open.specs.declared.status.Status.{Status}
-use Rattle.dr_run_open.specs.declared.status.Status.TheVariants.{Refused as No, Memory, Success}
+use Rattle.dr_run_open.specs.declared.status.Status.TheVariants.{Refused as No, Success}
 use Rattle.dr_word_line.specs.declared.words.Question.{Question}
 use Rattle.dr_word_line.specs.declared.words.Question.TheVariants.{RouteOfKey, RouteOfFile, Graph}
 use Rattle.dr_word_line.specs.declared.words.Question.TheVariants.{Lint, StrictLint, Expect}
+use Rattle.dr_word_line.specs.declared.words.Question.TheVariants.{Diff}
 use Rattle.dr_cert_lint.specs.Graphs.{IsGraphText}
 use Rattle.dr_cert_lint.specs.Findings.{IsLintText}
+use Rattle.dr_word_route.specs.Differing.{Compares}
 use Rattle.dr_word_route.specs.Expecting.{Expects}
 use Rattle.dr_word_route.specs.Keys.{ReadsFileKey, ReadsWords}
 use Rattle.dr_word_route.specs.Replies.{IsRouteReply, IsSiteReply, IsTextReply, printed_for}
 use Rattle.dr_word_route.specs.Replies.{status_for}
+use Rattle.dr_word_route.specs.Unsealing.{Unseals}
 use Rattle.dr_word_route.specs.declared.reply.Response.{Response}
 use Rattle.dr_word_route.specs.declared.reply.Response.TheVariants.{NoLine, Printed, Refused}
 
@@ -69,15 +70,8 @@ Responds Holds plan certificate StrictLint old new status =
     RepliesStrictly (IsTextReply (IsLintText plan)) old new status
 Responds Holds plan certificate (Expect path) old new status =
     (text : Text) × Holds path.now text × Expects plan text old new status
-
--- a run in which the text is refused as the plan's certificate, or memory ran out over it: nothing
--- is printed
-pub record Unseals (plan : Network) (text : Text) (old new : Option (List ℕ))
-    (status : Status) : Type 0 where
-  pub fault : CertFault
-  pub right : (fault ≢ NoMemory) → IsFaultOf plan text fault × (status ≡ No)
-  pub memory : fault ≡ NoMemory → status ≡ Memory
-  pub nothing : Appends old new []
+Responds Holds plan certificate (Diff paths) old new status =
+    Compares Holds plan paths old new status
 
 -- a run in which the text is that of the certificate of a sound plan: the question is answered
 pub record Seals (Holds : List ℕ → Text → Type 0) (question : Question) (plan : Network)
