@@ -38,6 +38,8 @@ def main():
     compare('a destination', ['CT1'], offered('requeue', plan, 'certificate', 'ARCH', 'arch.db', '1.2', 'C'))
     compare('an image behind a node', ['docs/USAGE.md'], offered('route', plan, 'certificate', 'GATE', 'docs/US'))
     compare('a folder of ledgers', ['plans'], offered('adopt', plan, 'certificate', plan, 'certificate', 'pl'))
+    compare('what is expected', ['plans/hospital.expect'], offered('expect', plan, 'certificate', 'plans/hospital.e'))
+    compare('the option of a word', ['--fail-on-lost'], offered('diff', plan, 'certificate', plan, 'certificate', '--f'))
     compare('nothing behind all words', [''], offered('graph', plan, 'certificate', ''))
     print('completion: the words of the program, files and nodes')
 

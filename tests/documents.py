@@ -70,21 +70,30 @@ def play(path):
     return text, "".join(parts) + text[done:], count
 
 
-def compare_picture():
-    """The picture of the sample plan has the nodes and the arrows of its graph, as the document shows it."""
-    with open(f"{TOP}/docs/USAGE.md") as it:
-        graph = re.search(r"^digraph network {\n(.*?)^}$", it.read(), re.MULTILINE | re.DOTALL).group(1)
-    with open(f"{TOP}/docs/three-nodes.svg") as it:
+def compare_picture(name, text):
+    """The picture of a sample plan has the nodes and the arrows of its graph, which a text shows."""
+    graph = re.search(r"^digraph network {\n(.*?)^}$", text, re.MULTILINE | re.DOTALL).group(1)
+    with open(f"{TOP}/docs/{name}.svg") as it:
         drawn = [html.unescape(title) for title in re.findall(r"<title>(.*?)</title>", it.read())]
     wanted = re.findall(r'^  "(\w+)" \[', graph, re.MULTILINE) + ["->".join(ends) for ends in re.findall(r'^  "(\w+)" -> "(\w+)"', graph, re.MULTILINE)]
     if sorted(drawn) != sorted(wanted + ["network"]):
-        sys.exit(f"the picture has {drawn}, and the graph {wanted}")
+        sys.exit(f"the picture of {name} has {drawn}, and the graph {wanted}")
+
+
+def compare_hospital():
+    """The picture of the hospital is of its plan."""
+    with tempfile.TemporaryDirectory(prefix="documents-") as folder:
+        os.symlink(f"{TOP}/plans", f"{folder}/plans")
+        run("dr_router check plans/hospital.toml > certificate", folder)
+        compare_picture("hospital", run("dr_router graph plans/hospital.toml certificate", folder))
 
 
 def main():
-    compare_picture()
+    with open(f"{TOP}/docs/USAGE.md") as it:
+        compare_picture("three-nodes", it.read())
     if subprocess.run([f"{TOP}/dr_router", "simulate", "--help"], stdout=subprocess.DEVNULL).returncode != 0:
         sys.exit("the program is not built")
+    compare_hospital()
     total = 0
     for path in DOCUMENTS:
         text, new, count = play(path)

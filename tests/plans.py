@@ -16,9 +16,12 @@ import resource
 import subprocess
 import sys
 import tempfile
+import tomllib
 
 sys.dont_write_bytecode = True
 import lib.plan_cases as worked
+from lib.plan_diff import WRONG_DIFFS, Diff, changed_plan
+from lib.plan_expect import FILES, WRONG_ROWS, Rows, fitting_rows, random_rows, rows_text
 from lib.plan_model import WRONG, Model
 from lib.plan_reader import Refused, read_plan
 from lib.plan_texts import LARGE, LARGEST, OddTexts, hostile, mutated, over_limits, random_plan
@@ -26,7 +29,7 @@ from lib.plan_texts import LARGE, LARGEST, OddTexts, hostile, mutated, over_limi
 TOP = os.path.dirname(os.path.dirname(os.path.abspath(__file__)))
 PROGRAM = f'{TOP}/crates/dr_router/out/dr_router'
 CERTIFIER = f'{TOP}/crates/dr_certifier/out/dr_certifier'
-PLANS, CERTIFICATES, TEXTS = 1000, 1000, 1500
+PLANS, CERTIFICATES, TEXTS, EXPECTED, CHANGED = 1000, 1000, 1500, 600, 600
 STACK = 256 * 1024  # bytes of stack that the longest walk may take: the search takes none
 sys.setrecursionlimit(10_000)
 
@@ -57,6 +60,21 @@ def expected(text):
     return printed, b'', 0 if is_yes else 1
 
 
+def pair_of(*plans):
+    """The plans as they are read, with their certificates; None where one isn't sound."""
+    found = []
+    for text in plans:
+        try:
+            model = model_of(text)
+        except Refused:
+            return None
+        answer = model.check()
+        if answer is None or not answer[1]:
+            return None
+        found.append((model, answer[0]))
+    return found
+
+
 class Comparison:
     """Counts answers, and stops at the first that differs."""
 
@@ -64,7 +82,8 @@ class Comparison:
         self.room, self.answers = room, collections.Counter()
 
     def compare(self, what, want, got, **texts):
-        self.answers[want[0].split(b'\n')[0].split(b'\t')[:2][-1].decode() or want[1].decode().strip() or 'nothing'] += 1
+        if want:
+            self.answers[want[0].split(b'\n')[0].split(b'\t')[:2][-1].decode() or want[1].decode().strip() or 'nothing'] += 1
         if want != got:
             for name, text in texts.items():
                 with open(f'{self.room}/{name}', 'wb') as it:
@@ -85,6 +104,47 @@ class Comparison:
             with open(f'{self.room}/{name}', 'wb') as it:
                 it.write(text)
         self.compare(what, want, run('verify', f'{self.room}/plan', f'{self.room}/certificate'))
+
+    def ask(self, word, plan, certificate, *more):
+        """What is printed for a word about a plan, its certificate and further files."""
+        for name, text in (('plan', plan), ('certificate', certificate), *more):
+            with open(f'{self.room}/{name}', 'wb') as it:
+                it.write(text)
+        return run(word, f'{self.room}/plan', f'{self.room}/certificate', *(f'{self.room}/{name}' for name, _ in more))
+
+    def expect(self, what, dice):
+        """Tries rows on a random plan, if it is sound; whether it is."""
+        plan = random_plan(dice)
+        model = model_of(plan)
+        answer = model.check()
+        if answer is None or not answer[1] or not model.flows:
+            return False
+        for rows in (random_rows(dice), fitting_rows(dice, model) if model.entries() else random_rows(dice)):
+            got = self.ask('expect', plan, answer[0], ('expect', rows_text(rows)))
+            fault = Rows(model, rows).fault(got)
+            self.answers[f'expect: {b" ".join(got[0].split()[:3:2]).decode("latin-1")}'] += 1
+            if fault:
+                self.compare(f'{what}: {rows}: {fault}', None, got)
+        return True
+
+    def diff(self, what, dice):
+        """Tries a random plan and another one like it, if both are sound."""
+        plan = random_plan(dice)
+        next_plan = changed_plan(dice, plan)
+        models = pair_of(plan, next_plan)
+        if models is None:
+            return
+        (old, certificate), (new, next_certificate) = models
+        more = (('next', next_plan), ('next.certificate', next_certificate))
+        want, got = Diff(old, new).rows(), self.ask('diff', plan, certificate, *more)
+        rows = got[0].decode('latin-1').splitlines()
+        self.answers[f'diff: {" and ".join(sorted({it.split(chr(9))[0] for it in rows})) or "nothing"}'] += 1
+        if (set(rows), len(rows), got[1:]) != (want, len(want), (b'', 0)):
+            self.compare(f'{what}: {sorted(want)}', None, got)
+        lost = any(it.startswith('lost') for it in rows)
+        strict = run('diff', *(f'{self.room}/{it}' for it in ('plan', 'certificate', 'next', 'next.certificate')), '--fail-on-lost')
+        if strict != (got[0], b'', int(lost)):
+            self.compare(f'{what}: a loss that is a no', None, strict)
 
     def verify(self, what, model, plan, certificate):
         self.verdict(what, model.verdict(certificate), plan, certificate)
@@ -149,8 +209,30 @@ def compare_worked(it):
         it.verdict(fault, fault, text.encode(), written_for(text.encode(), rows))
 
 
+def compare_expected(it, times, seed):
+    """What is expected: files that aren't read, and rows over random plans."""
+    text, rows = worked.SOUND[0]
+    plan, certificate = text.encode(), written_for(text.encode(), rows)
+    for given, line in FILES:
+        got = it.ask('expect', plan, certificate, ('expect', given))
+        want = (b'', f'dr_router: X1 Expect {line}\n'.encode(), 1) if line else (got[0], b'', got[2])
+        it.compare(f'a file of expectations {given}', want, got)
+    for name in sorted(os.listdir(f'{TOP}/plans')):
+        if name.endswith('.expect'):
+            front = f'{TOP}/plans/{name.removesuffix(".expect")}.toml'
+            with open(front, 'rb') as plan, open(f'{TOP}/plans/{name}', 'rb') as given:
+                plan, given = plan.read(), given.read()
+            it.compare(name, (b'yes\n', b'', 0), it.ask('expect', plan, model_of(plan).check()[0], ('expect', given)))
+            assert Rows(model_of(plan), tomllib.loads(given.decode())['expect']).first_miss() is None, name
+    for i in range(times * EXPECTED):
+        it.expect(f'expectations {i}', random.Random(f'expectations {seed} {i}'))
+
+
 def compare_all(it, times, seed):
     compare_worked(it)
+    compare_expected(it, times, seed)
+    for i in range(times * CHANGED):
+        it.diff(f'change {i}', random.Random(f'change {seed} {i}'))
     for name, text in {**LARGE, **LARGEST}.items():
         it.check(name, text, limit_stack if 'walk' in name else None)
     for name in sorted(os.listdir(f'{TOP}/plans')):
@@ -178,12 +260,44 @@ def seen_by(plans):
     return {name: sum(kind(*it).check() != want for it, want in zip(read, right)) for name, kind in WRONG.items()}
 
 
+def rows_seen_by(count, seed):
+    """How many random files over random plans see each wrong definition of rows."""
+    seen = dict.fromkeys(WRONG_ROWS, 0)
+    for i in range(count):
+        dice = random.Random(f'expectations {seed} {i}')
+        model = model_of(random_plan(dice))
+        answer = model.check()
+        if answer is None or not answer[1] or not model.entries():
+            continue
+        for rows in (random_rows(dice), fitting_rows(dice, model)):
+            want = Rows(model, rows).first_miss()
+            for name, kind in WRONG_ROWS.items():
+                seen[name] += kind(model, rows).first_miss() != want
+    return seen
+
+
+def diffs_seen_by(count, seed):
+    """How many random changes of plans see each wrong definition of them."""
+    seen = dict.fromkeys(WRONG_DIFFS, 0)
+    for i in range(count):
+        dice = random.Random(f'change {seed} {i}')
+        plan = random_plan(dice)
+        models = pair_of(plan, changed_plan(dice, plan))
+        if models:
+            (old, _), (new, _) = models
+            want = Diff(old, new).rows()
+            for name, kind in WRONG_DIFFS.items():
+                seen[name] += kind(old, new).rows() != want
+    return seen
+
+
 def main():
     words = [int(it) for it in sys.argv[1:] if it != '--wrong']
     times, seed = (words + [1, 1][len(words):])[:2]
     hops = [text for name, text in LARGE.items() if 'hops' not in name or 'overfull' in name]
     by_hand = [text.encode() for text, _ in worked.UNSOUND + worked.SOUND_IN_FORMAT_2]
     seen = seen_by(hops + by_hand + [random_plan(random.Random(f'plan {seed} {i}')) for i in range(200)])
+    seen |= rows_seen_by(200, seed) | diffs_seen_by(100, seed)
     if '--wrong' in sys.argv:
         for name, count in seen.items():
             print(f'{name}: {count}')

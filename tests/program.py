@@ -117,22 +117,103 @@ def pictures(certificate):
     graph = run(['graph', SOUND, certificate])
     is_answer('a graph', graph, 0, (b'digraph network {\n', b'  "CT1" -> "GATE" [label="1"];\n  "GATE" -> "ARCH" [label="1"];\n}\n'), b'')
     is_answer('nothing looks wrong', run(['lint', SOUND, certificate]), 0, b'', b'')
+    for given in (['--strict', SOUND, certificate], [SOUND, certificate, '--strict']):
+        is_answer('nothing looks wrong, strictly', run(['lint', *given]), 0, b'', b'')
     is_answer('another certificate', run(['graph', CYCLE, certificate]), 1, b'', b'dr_router: C2 OtherPlan\n')
     is_answer('another certificate', run(['lint', CYCLE, certificate]), 1, b'', b'dr_router: C2 OtherPlan\n')
 
 
+def expectations(room, certificate):
+    """What is expected of the sample plan."""
+    key = f'CT1\t{CLASS}\t{SYNTAX}\tCT\tS1\n'.encode()
+    for what, text, status, output, faults in (
+            ('what is so', b'[[expect]]\nkeep = ["ARCH"]\n', 0, b'yes\n', b''),
+            ('a node that keeps nothing', b'[[expect]]\nkeep = ["ARCH"]\n[[expect]]\nkeep = ["GATE"]\n', 1, b'no\t2\tkeep GATE\t' + key, b''),
+            ('a node on the way', b'[[expect]]\nstation = "S*"\nnever = ["GATE"]\n', 1, b'no\t1\tnever GATE\t' + key, b''),
+            ('no such image', b'[[expect]]\nmodality = "MR"\n', 1, b'no\t1\tnothing\n', b''),
+            ('an unknown key', b'\n[[expect]]\nkeeps = ["ARCH"]\n', 1, b'', b'dr_router: X1 Expect 2\n')):
+        with open(f'{room}/expected', 'wb') as it:
+            it.write(text)
+        is_answer(what, run(['expect', SOUND, certificate, f'{room}/expected']), status, output, faults)
+    is_answer('another certificate', run(['expect', CYCLE, certificate, f'{room}/expected']), 1, b'', b'dr_router: C2 OtherPlan\n')
+    is_answer('no file', run(['expect', SOUND, certificate, f'{room}/none']), 3, b'', (b'dr_router: ',))
+
+
+def differences(room, certificate):
+    """What changes from the sample plan to its next one, and back."""
+    following, key = f'{TOP}/plans/three-nodes-next.toml', f'CT1\t{CLASS}\t{SYNTAX}\tCT\tS1\tHUB\n'.encode()
+    with open(f'{room}/next', 'wb') as it:
+        it.write(run(['check', following])[1])
+    there, back = [SOUND, certificate, following, f'{room}/next'], [following, f'{room}/next', SOUND, certificate]
+    is_answer('a node more', run(['diff', *there]), 0, b'gained\t' + key, b'')
+    is_answer('a node more is no loss', run(['diff', *there, '--fail-on-lost']), 0, b'gained\t' + key, b'')
+    is_answer('a node less', run(['diff', *back]), 0, b'lost\t' + key, b'')
+    for given in (['--fail-on-lost', *back], [*back, '--fail-on-lost']):
+        is_answer('a node less is a loss', run(['diff', *given]), 1, b'lost\t' + key, b'')
+    is_answer('no change', run(['diff', SOUND, certificate, SOUND, certificate]), 0, b'', b'')
+    is_answer('another next certificate', run(['diff', SOUND, certificate, following, certificate]), 1, b'', b'dr_router: C2 OtherPlan\n')
+    is_answer('no next plan', run(['diff', SOUND, certificate, certificate, certificate]), 1, b'', b'dr_router: L1 NotToml\n')
+    is_answer('no file', run(['diff', SOUND, certificate, f'{room}/none', certificate]), 3, b'', (b'dr_router: ',))
+
+
+HYPHENS = f'''
+[[node]]
+name = "-a"
+address = "h:1"
+[[node]]
+name = "--strict"
+address = "h:1"
+[[node.accept]]
+from = "*"
+class = "{CLASS}"
+syntax = ["{SYNTAX}", "1.2.840.10008.1.2"]
+[[node.rule]]
+keep = true
+[[flow]]
+at = "-a"
+to = "--strict"
+class = ["{CLASS}"]
+syntax = ["{SYNTAX}"]
+modality = ["CT"]
+station = ["-s"]
+'''.encode()
+
+
+def hyphens(room):
+    """Names and values that begin with a hyphen; and a plan in which something looks wrong."""
+    plan, certificate = f'{room}/hyphens', f'{room}/hyphens.certificate'
+    with open(plan, 'wb') as it:
+        it.write(HYPHENS)
+    with open(certificate, 'wb') as it:
+        it.write(run(['check', plan])[1])
+    rows = f'cell\t{CLASS}\t{SYNTAX}\tCT\t-s\nrank\t1\nhop\t-a\t--strict\t1\nkeep\t--strict\n'.encode()
+    key = [CLASS, SYNTAX, 'CT', '-s']
+    for front in (['route'], ['route', '--']):
+        is_answer('a node -a', run([*front, plan, certificate, '-a', *key]), 0, rows, b'')
+    is_answer('a node --strict', run(['route', plan, certificate, '--strict', *key]), 1, b'no\tG1 NoLine\n', b'')
+    is_answer('no node --help', run(['route', plan, certificate, '--help', *key]), 1, b'', b'dr_router: NoNode\n')
+    is_answer('no node -b, with options', run(['serve', plan, certificate, '-b', f'{room}/none.db', '--links', '1']), 1, b'', b'dr_router: NoNode\n')
+    is_answer('a path that is an option', run(['lint', plan, '-x']), 2, b'', (b'Usage: dr_router',))
+    finding = f'syntax\t--strict\t1\t{CLASS}\t1.2.840.10008.1.2\n'.encode()
+    is_answer('something looks wrong', run(['lint', plan, certificate]), 0, finding, b'')
+    for given in (['--strict', plan, certificate], [plan, certificate, '--strict']):
+        is_answer('something looks wrong, strictly', run(['lint', *given]), 1, finding, b'')
+
+
 def words():
     usage = (b'Usage: dr_router',)
-    for given in (['carry'], ['check', 'a', 'b'], ['check', '--fast'], ['verify'], ['verify', SOUND], ['verify', SOUND, 'a', 'b'], ['simulate', SOUND, 'a'], ['simulate', SOUND, 'a', 'b', 'c'], ['echo', SOUND, 'CT1'], ['route', SOUND, 'a', 'CT1'], ['route', SOUND, 'a', 'CT1', 'C', 'E'], ['route', SOUND, 'a', 'CT1', 'C', 'E', 'CT'], ['route', SOUND, 'a', 'CT1', 'C', 'E', 'CT', 'S1', 'x'], ['graph', SOUND], ['graph', SOUND, 'a', 'b'], ['lint', SOUND], ['-x']):
+    for given in (['carry'], ['check', 'a', 'b'], ['check', '--fast'], ['verify'], ['verify', SOUND], ['verify', SOUND, 'a', 'b'], ['simulate', SOUND, 'a'], ['simulate', SOUND, 'a', 'b', 'c'], ['echo', SOUND, 'CT1'], ['route', SOUND, 'a', 'CT1'], ['route', SOUND, 'a', 'CT1', 'C', 'E'], ['route', SOUND, 'a', 'CT1', 'C', 'E', 'CT'], ['route', SOUND, 'a', 'CT1', 'C', 'E', 'CT', 'S1', 'x'], ['graph', SOUND], ['graph', SOUND, 'a', 'b'], ['lint', SOUND], ['expect', SOUND, 'a'], ['expect', SOUND, 'a', 'b', 'c'], ['diff', SOUND, 'a', 'b'], ['-x']):
         is_answer(f'words {given}', run(given), 2, b'', usage)
     for given in ([b'\xff'], [b'check', b'\xff'], [b'check', SOUND.encode(), b'\x80']):
         is_answer(f'words {given}', run(given), 2, b'', b"dr_router: a word isn't UTF-8\n")
-    is_answer('help', run(['--help']), 0, (b'Usage: dr_router <COMMAND>', b'check', b'verify', b'route', b'graph', b'lint', b'simulate', b'echo'), b'')
+    is_answer('help', run(['--help']), 0, (b'Usage: dr_router <COMMAND>', b'check', b'verify', b'route', b'graph', b'lint', b'expect', b'diff', b'simulate', b'echo'), b'')
     is_answer('help of check', run(['check', '--help']), 0, (b'Usage: dr_router check [PLAN]\n',), b'')
     is_answer('help of verify', run(['verify', '--help']), 0, (b'Usage: dr_router verify <PLAN> <CERT>\n',), b'')
     is_answer('help of route', run(['route', '--help']), 0, (b'Usage: dr_router route <PLAN> <CERT> <AT> <FILE|CLASS> [SYNTAX] [MODALITY] [STATION]\n',), b'')
     is_answer('help of graph', run(['graph', '--help']), 0, (b'Usage: dr_router graph <PLAN> <CERT>\n',), b'')
-    is_answer('help of lint', run(['lint', '--help']), 0, (b'Usage: dr_router lint <PLAN> <CERT>\n',), b'')
+    is_answer('help of lint', run(['lint', '--help']), 0, (b'Usage: dr_router lint [OPTIONS] <PLAN> <CERT>\n',), b'')
+    is_answer('help of expect', run(['expect', '--help']), 0, (b'Usage: dr_router expect <PLAN> <CERT> <FILE>\n',), b'')
+    is_answer('help of diff', run(['diff', '--help']), 0, (b'Usage: dr_router diff [OPTIONS] <PLAN> <CERT> <NEXTPLAN> <NEXTCERT>\n',), b'')
     is_answer('help of simulate', run(['simulate', '--help']), 0, (b'Usage: dr_router simulate <PLAN> <CERT> <SCRIPT>\n',), b'')
     is_answer('help of echo', run(['echo', '--help']), 0, (b'Usage: dr_router echo <PLAN> <FROM> <TO>\n',), b'')
     is_answer('version', run(['--version']), 0, b'dr_router ' + content(f'{TOP}/VERSION'), b'')
@@ -166,6 +247,9 @@ def main():
         verdicts(f'{room}/certificate')
         routes(f'{room}/certificate', room)
         pictures(f'{room}/certificate')
+        expectations(room, f'{room}/certificate')
+        differences(room, f'{room}/certificate')
+        hyphens(room)
         words()
         failures(room, large)
     print('program.py: the program ends as it should')

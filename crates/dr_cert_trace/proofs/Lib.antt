@@ -4,5 +4,6 @@ pub mod Followed
 pub mod Gathering
 pub mod Lying
 pub mod PairSets
+pub mod Spreading
 pub mod TwoNodes
 pub mod Walked

@@ -1,5 +1,6 @@
 pub mod Found
 pub mod Laws
+pub mod Reaches
 pub mod Routes
 pub mod Rows
 pub mod Stages

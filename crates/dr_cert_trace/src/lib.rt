@@ -7,10 +7,12 @@ mod contexts;
 pub mod laws;
 mod pairs;
 mod print;
+mod reaching;
 mod routes;
 mod stages;
 mod tracing;
 mod walking;
 
+pub use reaching::{Reach, reach_of};
 pub use routes::route_text;
 pub use tracing::{Journey, trace};

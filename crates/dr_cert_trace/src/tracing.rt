@@ -30,7 +30,7 @@ pub struct Journey {
 }
 
 /// Whether some flow at the site fits the key.
-fn enters(alloc: Global, plan: &Plan, site: &Text, key: &Key) -> Result<bool, AllocError>
+pub fn enters(alloc: Global, plan: &Plan, site: &Text, key: &Key) -> Result<bool, AllocError>
     ensures { IfOk result (λ b. IsTrue b ↔ IsEntry plan.now site.now key.now) }
 {
     let to = flow_targets(alloc, plan.flows(), site, key)?;

@@ -34,7 +34,7 @@ fn add_if(names: &mut BTreeSet<Text>, name: &Text, is_added: bool) -> Result<(),
 }
 
 /// What the node of a place does with the key.
-fn go_on(
+pub fn go_on(
     alloc: Global,
     plan: &Plan,
     key: &Key,

@@ -8,8 +8,9 @@ use Rattle.dr_word_line.specs.declared.words.Duty.TheVariants as duties
 use Rattle.dr_word_line.specs.declared.words.KeyWords.{KeyWords}
 use Rattle.dr_run_files.specs.declared.node.NodeFiles.{NodeFiles}
 use Rattle.dr_word_line.specs.declared.words.PlanChange.{PlanChange}
+use Rattle.dr_word_line.specs.declared.words.NextPlan.{NextPlan}
 use Rattle.dr_word_line.specs.declared.words.Question.TheVariants as questions
-use Rattle.dr_word_line.specs.Words.{Asks, IsAdoptOf, IsCheckOf, IsDutyOf, IsEchoOf, IsFileRouteOf, IsGraphOf, IsKeyRouteOf, IsLintOf, IsListOf, IsPlainCheck, IsRequeueAllOf, IsRequeueOf, IsSendOf, IsServeOf, IsSimulateOf, IsSummaryOf, IsVerifyOf}
+use Rattle.dr_word_line.specs.Words.{Asks, IsAdoptOf, IsCheckOf, IsDiffOf, IsDutyOf, IsEchoOf, IsExpectOf, IsFileRouteOf, IsGraphOf, IsKeyRouteOf, IsLintOf, IsListOf, IsPlainCheck, IsRequeueAllOf, IsRequeueOf, IsSendOf, IsServeOf, IsSimulateOf, IsSummaryOf, IsVerifyOf}
 
 -- no duty is asked for, where none of each kind is
 module _ (words : List (Bor (List ℕ)))
@@ -36,6 +37,8 @@ module _ (words : List (Bor (List ℕ)))
     (echo : (plan caller called : Bor (List ℕ)) → IsEchoOf words plan caller called → ⊥)
     (graph : (plan certificate : Bor (List ℕ)) → IsGraphOf words plan certificate → ⊥)
     (lint : (plan certificate : Bor (List ℕ)) → IsLintOf words plan certificate → ⊥)
+    (expect : (plan certificate path : Bor (List ℕ)) → IsExpectOf words plan certificate path → ⊥)
+    (diff : (plan certificate : Bor (List ℕ)) (next : NextPlan) → IsDiffOf words plan certificate next → ⊥)
     (route_of_file : (plan certificate at path : Bor (List ℕ)) → IsFileRouteOf words plan certificate at path → ⊥)
     (route_of_key : (plan certificate at : Bor (List ℕ)) (key : KeyWords) → IsKeyRouteOf words plan certificate at key → ⊥)
     (duty : (given : NodeFiles) (duty : Duty) → IsDutyOf words given duty → ⊥)
@@ -48,6 +51,9 @@ module _ (words : List (Bor (List ℕ)))
   nothing_asked (asks.Echo plan caller called) h = echo plan caller called h
   nothing_asked (asks.Question plan certificate questions.Graph) h = graph plan certificate h
   nothing_asked (asks.Question plan certificate questions.Lint) h = lint plan certificate h
+  nothing_asked (asks.Question plan certificate questions.StrictLint) h = absurd h
+  nothing_asked (asks.Question plan certificate (questions.Diff next)) h = diff plan certificate next h.0
+  nothing_asked (asks.Question plan certificate (questions.Expect path)) h = expect plan certificate path h
   nothing_asked (asks.Question plan certificate (questions.RouteOfFile at path)) h = route_of_file plan certificate at path h
   nothing_asked (asks.Question plan certificate (questions.RouteOfKey at key)) h = route_of_key plan certificate at key h
   nothing_asked (asks.AtNode given work) h = duty given work h

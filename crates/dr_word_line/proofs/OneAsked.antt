@@ -8,6 +8,7 @@ use Rattle.dr_word_line.specs.declared.words.Duty.TheVariants as duties
 use Rattle.dr_word_line.specs.declared.words.KeyWords.{KeyWords}
 use Rattle.dr_run_files.specs.declared.node.NodeFiles.{NodeFiles}
 use Rattle.dr_word_line.specs.declared.words.PlanChange.{PlanChange}
+use Rattle.dr_word_line.specs.declared.words.NextPlan.{NextPlan}
 use Rattle.dr_word_line.specs.declared.words.Question.{Question}
 use Rattle.dr_word_line.specs.declared.words.Question.TheVariants as questions
 use Rattle.dr_word_line.specs.Words.{Asks, IsNoOption, plain_serving}
@@ -22,6 +23,21 @@ initial word = get_or word 0 0
 abbrev files : Word → Word → Word → Word → NodeFiles
 files plan certificate node ledger = record { plan = plan; certificate = certificate; node = node; ledger = ledger }
 
+-- the second byte of a word
+abbrev second : List ℕ → ℕ
+second word = get_or word 1 0
+
+-- what a word and three more ask for
+abbrev of_four : List ℕ → Word → Word → Word → Task
+of_four word a b c = cond (initial word == 115) (asks.Simulate a b c) (cond (second word == 120) (asks.Question a b (questions.Expect c)) (asks.Echo a b c))
+
+-- what a word and four more ask for
+abbrev of_five : List ℕ → Word → Word → Word → Word → Task
+of_five word a b c d =
+    cond (initial word == 114) (asks.Question a b (questions.RouteOfFile c d))
+    (cond (initial word == 108) (asks.AtNode (files a b c d) duties.List)
+    (cond (initial word == 100) (asks.Question a b (questions.Diff (record { plan = c; certificate = d; fails_on_lost = false }))) (asks.AtNode (files a b c d) (duties.Serve plain_serving))))
+
 -- what words of a plain form ask for: their number says nearly all, and then the first byte of the first word or of the option
 abbrev meant : List Word → Task
 meant [] = asks.CheckInput
@@ -29,10 +45,8 @@ meant (word ∷ []) = asks.CheckInput
 meant (word ∷ a ∷ []) = asks.CheckFile a
 meant (word ∷ a ∷ b ∷ []) =
     cond (initial word.now == 118) (asks.Verify a b) (cond (initial word.now == 103) (asks.Question a b questions.Graph) (asks.Question a b questions.Lint))
-meant (word ∷ a ∷ b ∷ c ∷ []) = cond (initial word.now == 115) (asks.Simulate a b c) (asks.Echo a b c)
-meant (word ∷ a ∷ b ∷ c ∷ d ∷ []) =
-    cond (initial word.now == 114) (asks.Question a b (questions.RouteOfFile c d))
-    (cond (initial word.now == 108) (asks.AtNode (files a b c d) duties.List) (asks.AtNode (files a b c d) (duties.Serve plain_serving)))
+meant (word ∷ a ∷ b ∷ c ∷ []) = of_four word.now a b c
+meant (word ∷ a ∷ b ∷ c ∷ d ∷ []) = of_five word.now a b c d
 meant (word ∷ a ∷ b ∷ c ∷ d ∷ e ∷ []) =
     cond (initial word.now == 108) (asks.AtNode (files a b c d) duties.Summary)
     (cond (initial word.now == 115) (asks.AtNode (files a b c d) (duties.Send e))
@@ -59,10 +73,14 @@ module _ (words : List Word) where
       (subst (λ n. cond (initial n == 118) (asks.Verify a b) (cond (initial n == 103) (asks.Question a b questions.Graph) (asks.Question a b questions.Lint)) ≡ asks.Verify a b) (sym h.2) refl)
   is_meant (asks.Simulate a b c) h =
       subst (Means (asks.Simulate a b c)) (sym h.1)
-      (subst (λ n. cond (initial n == 115) (asks.Simulate a b c) (asks.Echo a b c) ≡ asks.Simulate a b c) (sym h.2) refl)
+      (subst (λ n. of_four n a b c ≡ asks.Simulate a b c) (sym h.2) refl)
   is_meant (asks.Echo a b c) h =
       subst (Means (asks.Echo a b c)) (sym h.1)
-      (subst (λ n. cond (initial n == 115) (asks.Simulate a b c) (asks.Echo a b c) ≡ asks.Echo a b c) (sym h.2) refl)
+      (subst (λ n. of_four n a b c ≡ asks.Echo a b c) (sym h.2) refl)
+  is_meant (asks.Question a b questions.StrictLint) h = absurd h
+  is_meant (asks.Question a b (questions.Expect c)) h =
+      subst (Means (asks.Question a b (questions.Expect c))) (sym h.1)
+      (subst (λ n. of_four n a b c ≡ asks.Question a b (questions.Expect c)) (sym h.2) refl)
   is_meant (asks.Question a b questions.Graph) h =
       subst (Means (asks.Question a b questions.Graph)) (sym h.1)
       (subst (λ n. cond (initial n == 118) (asks.Verify a b) (cond (initial n == 103) (asks.Question a b questions.Graph) (asks.Question a b questions.Lint)) ≡ asks.Question a b questions.Graph) (sym h.2) refl)
@@ -71,18 +89,19 @@ module _ (words : List Word) where
       (subst (λ n. cond (initial n == 118) (asks.Verify a b) (cond (initial n == 103) (asks.Question a b questions.Graph) (asks.Question a b questions.Lint)) ≡ asks.Question a b questions.Lint) (sym h.2) refl)
   is_meant (asks.Question a b (questions.RouteOfFile c d)) h =
       subst (Means (asks.Question a b (questions.RouteOfFile c d))) (sym h.1)
-      (subst (λ n. cond (initial n == 114) (asks.Question a b (questions.RouteOfFile c d))
-      (cond (initial n == 108) (asks.AtNode (files a b c d) duties.List) (asks.AtNode (files a b c d) (duties.Serve plain_serving))) ≡ asks.Question a b (questions.RouteOfFile c d)) (sym h.2) refl)
+      (subst (λ n. of_five n a b c d ≡ asks.Question a b (questions.RouteOfFile c d)) (sym h.2) refl)
+  is_meant (asks.Question a b (questions.Diff next)) h =
+      subst (λ f. meant words ≡ asks.Question a b (questions.Diff (record { plan = next.plan; certificate = next.certificate; fails_on_lost = f }))) (sym h.1)
+      (subst (Means (asks.Question a b (questions.Diff (record { plan = next.plan; certificate = next.certificate; fails_on_lost = false })))) (sym h.0.1)
+      (subst (λ n. of_five n a b next.plan next.certificate ≡ asks.Question a b (questions.Diff (record { plan = next.plan; certificate = next.certificate; fails_on_lost = false }))) (sym h.0.2) refl))
   is_meant (asks.Question a b (questions.RouteOfKey c key)) h = subst (Means (asks.Question a b (questions.RouteOfKey c key))) (sym h.1) refl
   is_meant (asks.AtNode given duties.List) h =
       subst (Means (asks.AtNode given duties.List)) (sym h.1)
-      (subst (λ n. cond (initial n == 114) (asks.Question given.plan given.certificate (questions.RouteOfFile given.node given.ledger))
-      (cond (initial n == 108) (asks.AtNode given duties.List) (asks.AtNode given (duties.Serve plain_serving))) ≡ asks.AtNode given duties.List) (sym h.2) refl)
+      (subst (λ n. of_five n given.plan given.certificate given.node given.ledger ≡ asks.AtNode given duties.List) (sym h.2) refl)
   is_meant (asks.AtNode given (duties.Serve serving)) h =
       subst (λ s. meant words ≡ asks.AtNode given (duties.Serve s)) (sym h.1)
       (subst (Means (asks.AtNode given (duties.Serve plain_serving))) (sym h.0.1)
-      (subst (λ n. cond (initial n == 114) (asks.Question given.plan given.certificate (questions.RouteOfFile given.node given.ledger))
-      (cond (initial n == 108) (asks.AtNode given duties.List) (asks.AtNode given (duties.Serve plain_serving))) ≡ asks.AtNode given (duties.Serve plain_serving)) (sym h.0.2) refl))
+      (subst (λ n. of_five n given.plan given.certificate given.node given.ledger ≡ asks.AtNode given (duties.Serve plain_serving)) (sym h.0.2) refl))
   is_meant (asks.AtNode given duties.Summary) h =
       subst (Means (asks.AtNode given duties.Summary)) (sym h.1.1)
       (subst (λ n. cond (initial n == 108) (asks.AtNode given duties.Summary) (cond (initial n == 115) (asks.AtNode given (duties.Send h.0))

@@ -1,5 +1,5 @@
 -- The words of the command line.
-use Rattle.std.specs.Prelude.{◌≡◌, ◌≢◌, ℕ, List, [], ◌∷◌, ◌++◌, ◌⊎◌, codes, Option, None}
+use Rattle.std.specs.Prelude.{◌≡◌, ◌≢◌, ℕ, List, [], ◌∷◌, ◌++◌, ◌⊎◌, codes, false, Option, None}
 use Rattle.std.specs.Prelude.{MatchOption}
 use Rattle.std.specs.Borrow.{Bor}
 use Rattle.dr_word_line.specs.declared.words.Task.{Task}
@@ -13,9 +13,11 @@ use Rattle.dr_word_line.specs.declared.words.Duty.TheVariants.{RequeueAll, Send,
 use Rattle.dr_word_line.specs.declared.words.KeyWords.{KeyWords}
 use Rattle.dr_run_files.specs.declared.node.NodeFiles.{NodeFiles}
 use Rattle.dr_word_line.specs.declared.words.PlanChange.{PlanChange}
+use Rattle.dr_word_line.specs.declared.words.NextPlan.{NextPlan}
 use Rattle.dr_word_line.specs.declared.words.Question.{Question}
 use Rattle.dr_word_line.specs.declared.words.Question.TheVariants.{RouteOfKey, RouteOfFile, Graph}
-use Rattle.dr_word_line.specs.declared.words.Question.TheVariants.{Lint}
+use Rattle.dr_word_line.specs.declared.words.Question.TheVariants.{Lint, StrictLint, Expect}
+use Rattle.dr_word_line.specs.declared.words.Question.TheVariants.{Diff}
 use Rattle.dr_word_line.specs.declared.words.Serving.{Serving}
 use Rattle.dr_word_line.specs.declared.words.Verbosity.TheVariants.{Events}
 
@@ -24,7 +26,9 @@ abbrev pub IsPlainCheck : List (Bor (List ℕ)) → Type 0
 IsPlainCheck words =
     (words ≡ []) ⊎ ((word : Bor (List ℕ)) × (words ≡ word ∷ []) × (word.now ≡ codes "check"))
 
--- a word that doesn't begin with a hyphen is no option
+-- a word that doesn't begin with a hyphen is no option. Paths are asked for it, and names and
+-- values aren't: a node may be named `-a`, and so options stand before the first value or behind
+-- all
 abbrev pub IsNoOption : List ℕ → Type 0
 IsNoOption word = (rest : List ℕ) → word ≢ 45 ∷ rest
 
@@ -62,7 +66,7 @@ IsSimulateOf words plan certificate script =
 abbrev pub IsEchoOf : List (Bor (List ℕ)) → Bor (List ℕ) → Bor (List ℕ) → Bor (List ℕ) → Type 0
 IsEchoOf words plan caller called =
     (word : Bor (List ℕ)) × (words ≡ word ∷ plan ∷ caller ∷ called ∷ []) × (word.now ≡ codes "echo")
-    × IsNoOption plan.now × IsNoOption caller.now × IsNoOption called.now
+    × IsNoOption plan.now
 
 -- the word graph and two files' paths: they ask for the graph of the plan in the first, whose
 -- certificate is in the second
@@ -84,6 +88,29 @@ IsLintOf words plan certificate =
     × IsNoOption plan.now
     × IsNoOption certificate.now
 
+-- the word expect and three files' paths: they ask whether what the third expects holds of the plan
+-- in the first, whose certificate is in the second
+abbrev pub IsExpectOf : List (Bor (List ℕ)) → Bor (List ℕ) → Bor (List ℕ) → Bor (List ℕ) → Type 0
+IsExpectOf words plan certificate path =
+    (word : Bor (List ℕ))
+    × (words ≡ word ∷ plan ∷ certificate ∷ path ∷ [])
+    × (word.now ≡ codes "expect")
+    × IsNoOption plan.now
+    × IsNoOption certificate.now
+    × IsNoOption path.now
+
+-- the word diff, the paths of a plan and its certificate, and those of the next plan and its
+-- certificate: they ask what changes from the one to the other
+abbrev pub IsDiffOf : List (Bor (List ℕ)) → Bor (List ℕ) → Bor (List ℕ) → NextPlan → Type 0
+IsDiffOf words plan certificate next =
+    (word : Bor (List ℕ))
+    × (words ≡ word ∷ plan ∷ certificate ∷ next.plan ∷ next.certificate ∷ [])
+    × (word.now ≡ codes "diff")
+    × IsNoOption plan.now
+    × IsNoOption certificate.now
+    × IsNoOption next.plan.now
+    × IsNoOption next.certificate.now
+
 -- the word route, two files' paths, a name and a file's path: they ask where the instance in that
 -- file goes that enters at the node of that name
 abbrev pub IsFileRouteOf : List (Bor (List ℕ)) → Bor (List ℕ) → Bor (List ℕ) → Bor (List ℕ)
@@ -94,7 +121,7 @@ IsFileRouteOf words plan certificate at path =
     × (word.now ≡ codes "route")
     × IsNoOption plan.now
     × IsNoOption certificate.now
-    × IsNoOption at.now × IsNoOption path.now
+    × IsNoOption path.now
 
 -- the word route, two files' paths, a name and four values: they ask where an instance with these
 -- values goes that enters at the node of that name
@@ -107,18 +134,19 @@ IsKeyRouteOf words plan certificate at key =
     × (word.now ≡ codes "route")
     × IsNoOption plan.now
     × IsNoOption certificate.now
-    × IsNoOption at.now × IsNoOption key.class.now
-    × IsNoOption key.syntax.now
-    × IsNoOption key.modality.now
-    × IsNoOption key.station.now
 
--- the words ask this question about the plan in the first file, whose certificate is in the second
+-- the words ask this question about the plan in the first file, whose certificate is in the second;
+-- a strict lint, and a loss that is a no, are asked for by options, of which nothing is said here
 abbrev pub IsQuestionOf : List (Bor (List ℕ)) → Bor (List ℕ) → Bor (List ℕ) → Question → Type 0
 IsQuestionOf words plan certificate (RouteOfKey at key) = IsKeyRouteOf words plan certificate at key
 IsQuestionOf words plan certificate (RouteOfFile at path) =
     IsFileRouteOf words plan certificate at path
 IsQuestionOf words plan certificate Graph = IsGraphOf words plan certificate
 IsQuestionOf words plan certificate Lint = IsLintOf words plan certificate
+IsQuestionOf words plan certificate StrictLint = ⊥
+IsQuestionOf words plan certificate (Diff next) =
+    IsDiffOf words plan certificate next × (next.fails_on_lost ≡ false)
+IsQuestionOf words plan certificate (Expect path) = IsExpectOf words plan certificate path
 
 -- a word, what names a node and its ledger, and further words
 abbrev pub IsAtNode : List ℕ → List (Bor (List ℕ)) → NodeFiles → List (Bor (List ℕ)) → Type 0
@@ -128,7 +156,6 @@ IsAtNode name words given more =
     × (word.now ≡ name)
     × IsNoOption given.plan.now
     × IsNoOption given.certificate.now
-    × IsNoOption given.node.now
     × IsNoOption given.ledger.now
 
 -- the word list and what names a node and its ledger: they ask for what the node has
@@ -155,8 +182,7 @@ IsSendOf words given file = IsAtNode (codes "send") words given (file ∷ []) ×
 -- again the held row of that instance to that node
 abbrev pub IsRequeueOf : List (Bor (List ℕ)) → NodeFiles → Bor (List ℕ) → Bor (List ℕ) → Type 0
 IsRequeueOf words given uid dest =
-    IsAtNode (codes "requeue") words given (uid ∷ dest ∷ [])
-    × IsNoOption uid.now × IsNoOption dest.now
+    IsAtNode (codes "requeue") words given (uid ∷ dest ∷ []) × IsNoOption uid.now
 
 -- the word requeue, what names a node and its ledger, the option --all-held and a name: they ask
 -- the node to queue again all held rows to that node
@@ -165,7 +191,6 @@ IsRequeueAllOf words given dest =
     (option : Bor (List ℕ))
     × IsAtNode (codes "requeue") words given (option ∷ dest ∷ [])
     × (option.now ≡ codes "--all-held")
-    × IsNoOption dest.now
 
 -- without options a node serves for ever, logs its events, and writes no file of what it has
 abbrev pub plain_serving : Serving

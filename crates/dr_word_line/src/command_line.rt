@@ -39,6 +39,14 @@ fn optional<'a>(alloc: Global, name: &'a str, help: &'a str) -> Arg<'a> {
     Arg::new(alloc, name).action(ArgAction::Set).help(help)
 }
 
+/// Whether the value is the name of a node, which may begin with a hyphen.
+fn names_a_node(value: &str) -> bool {
+    match value {
+        "AT" | "NODE" | "FROM" | "TO" => true,
+        _ => false,
+    }
+}
+
 /// What takes a part by value and comes back with it: a word takes its values and options, the line
 /// its words. The functions that may fail know such a value by this trait alone, whatever is in it.
 trait Takes<P>: Sized + Drop {
@@ -64,7 +72,7 @@ trait Makes<P>: Copy {
 
 impl<'a> Makes<Arg<'a>> for Value<'a> {
     fn make(self, alloc: Global) -> Result<Arg<'a>, AllocError> {
-        Ok(needed(alloc, self.0, self.1))
+        Ok(needed(alloc, self.0, self.1).allow_hyphen_values(names_a_node(self.0)))
     }
 }
 
@@ -105,6 +113,8 @@ enum Choice {
     Syntax,
     Modality,
     Station,
+    Strict,
+    Fails,
     Summary,
     Row,
     Dest,
@@ -122,6 +132,8 @@ impl<'a> Makes<Arg<'a>> for Choice {
             Choice::Syntax => syntax(alloc),
             Choice::Modality => Ok(modality(alloc)),
             Choice::Station => Ok(station(alloc)),
+            Choice::Strict => Ok(strict(alloc)),
+            Choice::Fails => Ok(fails(alloc)),
             Choice::Summary => Ok(summary(alloc)),
             Choice::Row => row(alloc),
             Choice::Dest => Ok(dest(alloc)),
@@ -240,10 +252,59 @@ fn graph<'a>(alloc: Global) -> Result<Command<'a>, AllocError> {
     word(alloc, "graph", about, SEALED, &[])
 }
 
+/// The option of `lint` for a no where something looks wrong.
+fn strict<'a>(alloc: Global) -> Arg<'a> {
+    Arg::new(alloc, "STRICT")
+        .long("strict")
+        .action(ArgAction::SetTrue)
+        .help("ends with the status 1 where something looks wrong")
+}
+
 /// The word `lint`.
 fn lint<'a>(alloc: Global) -> Result<Command<'a>, AllocError> {
     let about = "Prints what is sound in a plan and still looks wrong";
-    word(alloc, "lint", about, SEALED, &[])
+    word(alloc, "lint", about, SEALED, &[Choice::Strict])
+}
+
+/// The word `expect`.
+fn expect<'a>(alloc: Global) -> Result<Command<'a>, AllocError> {
+    let about = "Tests a plan against what a file expects of it, for all instances";
+    word(
+        alloc,
+        "expect",
+        about,
+        &[
+            PLAN,
+            CERTIFICATE,
+            ("FILE", "the file with what is expected"),
+        ],
+        &[],
+    )
+}
+
+/// The option of `diff` for a no where something is lost.
+fn fails<'a>(alloc: Global) -> Arg<'a> {
+    Arg::new(alloc, "FAILS")
+        .long("fail-on-lost")
+        .action(ArgAction::SetTrue)
+        .help("ends with the status 1 where an instance isn't kept any more where it was")
+}
+
+/// The word `diff`.
+fn diff<'a>(alloc: Global) -> Result<Command<'a>, AllocError> {
+    let about = "Prints which instances other nodes keep by the next plan";
+    word(
+        alloc,
+        "diff",
+        about,
+        &[
+            ("PLAN", "the file with the plan in force"),
+            ("CERT", "the file with that plan's certificate"),
+            ("NEXTPLAN", "the file with the next plan"),
+            ("NEXTCERT", "the file with the next plan's certificate"),
+        ],
+        &[Choice::Fails],
+    )
 }
 
 /// The option of `list` for numbers alone.
@@ -381,6 +442,8 @@ enum Verb {
     Route,
     Graph,
     Lint,
+    Expect,
+    Diff,
     Simulate,
     Echo,
     Serve,
@@ -396,6 +459,8 @@ const VERBS: &[Verb] = &[
     Verb::Route,
     Verb::Graph,
     Verb::Lint,
+    Verb::Expect,
+    Verb::Diff,
     Verb::Simulate,
     Verb::Echo,
     Verb::Serve,
@@ -413,6 +478,8 @@ impl<'a> Makes<Command<'a>> for Verb {
             Verb::Route => route(alloc),
             Verb::Graph => graph(alloc),
             Verb::Lint => lint(alloc),
+            Verb::Expect => expect(alloc),
+            Verb::Diff => diff(alloc),
             Verb::Simulate => simulate(alloc),
             Verb::Echo => echo(alloc),
             Verb::Serve => serve(alloc),

@@ -6,12 +6,14 @@ ghost use Rattle.dr_word_line.specs.Words.{Asks, Reads, IsPlainCheck, IsCheckOf,
 ghost use Rattle.dr_word_line.specs.Words.{IsSimulateOf, IsEchoOf, IsNoOption, IsGraphOf, IsLintOf};
 ghost use Rattle.dr_word_line.specs.Words.{IsFileRouteOf, IsKeyRouteOf, IsQuestionOf, IsListOf};
 ghost use Rattle.dr_word_line.specs.Words.{IsSummaryOf, IsServeOf, IsSendOf, IsRequeueOf};
-ghost use Rattle.dr_word_line.specs.Words.{IsRequeueAllOf, IsDutyOf, IsAdoptOf};
+ghost use Rattle.dr_word_line.specs.Words.{IsRequeueAllOf, IsDutyOf, IsAdoptOf, IsDiffOf};
+ghost use Rattle.dr_word_line.specs.Words.{IsExpectOf};
 ghost use Rattle.dr_word_line.specs.declared.words.Task.{Task as TaskValue};
 ghost use Rattle.dr_word_line.specs.declared.words.Task.TheVariants as asks;
 ghost use Rattle.dr_word_line.specs.declared.words.Duty.{Duty as DutyValue};
 ghost use Rattle.dr_word_line.specs.declared.words.KeyWords.{KeyWords as KeyWordsValue};
 ghost use Rattle.dr_word_line.specs.declared.words.PlanChange.{PlanChange as PlanChangeValue};
+ghost use Rattle.dr_word_line.specs.declared.words.NextPlan.{NextPlan as NextPlanValue};
 ghost use Rattle.dr_word_line.specs.declared.words.Question.{Question as QuestionValue};
 
 use crate::command_line::command_line;
@@ -29,6 +31,15 @@ pub struct KeyWords<'a> {
     pub station: &'a str,
 }
 
+/// The next plan with its certificate, by their paths.
+#[derive(Clone, Copy, Drop)]
+pub struct NextPlan<'a> {
+    pub plan: &'a str,
+    pub certificate: &'a str,
+    /// Whether it is a no where an instance isn't kept any more where it was.
+    pub fails_on_lost: bool,
+}
+
 /// What may be asked of a plan with its certificate.
 #[derive(Clone, Copy, Drop)]
 pub enum Question<'a> {
@@ -40,6 +51,12 @@ pub enum Question<'a> {
     Graph,
     /// What is sound and still looks wrong.
     Lint,
+    /// The same, where a finding is a no.
+    StrictLint,
+    /// Whether it does what this file expects of it.
+    Expect(&'a str),
+    /// What changes from it to the next plan.
+    Diff(NextPlan<'a>),
 }
 
 /// What names two plans and where the nodes' ledgers are: the paths of the plan in force, of its
@@ -167,7 +184,6 @@ fn read_all<'a>(words: &'a [&'a str]) -> Option<Task<'a>>
             if *word == "list"
                 && is_no_option(plan)
                 && is_no_option(certificate)
-                && is_no_option(node)
                 && is_no_option(ledger)
                 && *option == "--summary" => {
             let given = NodeFiles {
@@ -182,10 +198,8 @@ fn read_all<'a>(words: &'a [&'a str]) -> Option<Task<'a>>
             if *word == "requeue"
                 && is_no_option(plan)
                 && is_no_option(certificate)
-                && is_no_option(node)
                 && is_no_option(ledger)
-                && *option == "--all-held"
-                && is_no_option(dest) => {
+                && *option == "--all-held" => {
             let given = NodeFiles {
                 plan,
                 certificate,
@@ -213,7 +227,6 @@ fn read_work<'a>(words: &'a [&'a str]) -> Option<Task<'a>>
             if *word == "send"
                 && is_no_option(plan)
                 && is_no_option(certificate)
-                && is_no_option(node)
                 && is_no_option(ledger)
                 && is_no_option(file) => {
             let given = NodeFiles {
@@ -228,10 +241,8 @@ fn read_work<'a>(words: &'a [&'a str]) -> Option<Task<'a>>
             if *word == "requeue"
                 && is_no_option(plan)
                 && is_no_option(certificate)
-                && is_no_option(node)
                 && is_no_option(ledger)
-                && is_no_option(uid)
-                && is_no_option(dest) => {
+                && is_no_option(uid) => {
             let given = NodeFiles {
                 plan,
                 certificate,
@@ -255,7 +266,6 @@ fn read_duty<'a>(words: &'a [&'a str]) -> Option<Task<'a>>
             if *word == "list"
                 && is_no_option(plan)
                 && is_no_option(certificate)
-                && is_no_option(node)
                 && is_no_option(ledger) => {
             let given = NodeFiles {
                 plan,
@@ -269,7 +279,6 @@ fn read_duty<'a>(words: &'a [&'a str]) -> Option<Task<'a>>
             if *word == "serve"
                 && is_no_option(plan)
                 && is_no_option(certificate)
-                && is_no_option(node)
                 && is_no_option(ledger) => {
             let given = NodeFiles {
                 plan,
@@ -305,7 +314,6 @@ fn read_route<'a>(words: &'a [&'a str]) -> Option<Task<'a>>
             if *word == "route"
                 && is_no_option(plan)
                 && is_no_option(certificate)
-                && is_no_option(at)
                 && is_no_option(path) => {
             Some(Task::Question(plan, certificate, Question::RouteOfFile(at, path)))
         }
@@ -318,14 +326,7 @@ fn read_route<'a>(words: &'a [&'a str]) -> Option<Task<'a>>
             syntax,
             modality,
             station,
-        ] if *word == "route"
-            && is_no_option(plan)
-            && is_no_option(certificate)
-            && is_no_option(at)
-            && is_no_option(class)
-            && is_no_option(syntax)
-            && is_no_option(modality)
-            && is_no_option(station) => {
+        ] if *word == "route" && is_no_option(plan) && is_no_option(certificate) => {
             let key = KeyWords {
                 class,
                 syntax,
@@ -354,6 +355,52 @@ fn read_question<'a>(words: &'a [&'a str]) -> Option<Task<'a>>
         [word, plan, certificate]
             if *word == "lint" && is_no_option(plan) && is_no_option(certificate) => {
             Some(Task::Question(plan, certificate, Question::Lint))
+        }
+        _ => None,
+    }
+}
+
+/// What words ask of a plan, its certificate and what is expected of it, if they are of that form.
+fn read_expect<'a>(words: &'a [&'a str]) -> Option<Task<'a>>
+    ensures asked { IfSome result (λ asked. Asks words.now asked) }
+    ensures expect { IfNone result
+        ((plan certificate path : Bor (List ℕ))
+        → IsExpectOf words.now plan certificate path
+        → ⊥) }
+{
+    match words {
+        [word, plan, certificate, path]
+            if *word == "expect"
+                && is_no_option(plan)
+                && is_no_option(certificate)
+                && is_no_option(path) => {
+            Some(Task::Question(plan, certificate, Question::Expect(path)))
+        }
+        _ => None,
+    }
+}
+
+/// What words ask of two plans with their certificates, if they are of that form.
+fn read_diff<'a>(words: &'a [&'a str]) -> Option<Task<'a>>
+    ensures asked { IfSome result (λ asked. Asks words.now asked) }
+    ensures diff { IfNone result
+        ((plan certificate : Bor (List ℕ)) (next : NextPlanValue)
+        → IsDiffOf words.now plan certificate next
+        → ⊥) }
+{
+    match words {
+        [word, plan, certificate, next_plan, next_certificate]
+            if *word == "diff"
+                && is_no_option(plan)
+                && is_no_option(certificate)
+                && is_no_option(next_plan)
+                && is_no_option(next_certificate) => {
+            let next = NextPlan {
+                plan: next_plan,
+                certificate: next_certificate,
+                fails_on_lost: false,
+            };
+            Some(Task::Question(plan, certificate, Question::Diff(next)))
         }
         _ => None,
     }
@@ -395,11 +442,9 @@ fn read_pair<'a>(words: &'a [&'a str]) -> Option<Task<'a>>
                 && is_no_option(plan)
                 && is_no_option(certificate)
                 && is_no_option(script) => { Some(Task::Simulate(plan, certificate, script)) }
-        [word, plan, caller, called]
-            if *word == "echo"
-                && is_no_option(plan)
-                && is_no_option(caller)
-                && is_no_option(called) => { Some(Task::Echo(plan, caller, called)) }
+        [word, plan, caller, called] if *word == "echo" && is_no_option(plan) => {
+            Some(Task::Echo(plan, caller, called))
+        }
         _ => None,
     }
 }
@@ -440,6 +485,12 @@ fn read_plain<'a>(words: &'a [&'a str]) -> Option<Task<'a>>
     if let Some(asked) = read_question(words) {
         return Some(asked);
     }
+    if let Some(asked) = read_expect(words) {
+        return Some(asked);
+    }
+    if let Some(asked) = read_diff(words) {
+        return Some(asked);
+    }
     if let Some(asked) = read_route(words) {
         return Some(asked);
     }
@@ -465,12 +516,24 @@ fn route_of<'a>(given: &ArgMatches<'a>) -> Question<'a> {
     Question::RouteOfKey(at, key)
 }
 
+/// The next plan, as clap has read it.
+fn next_of<'a>(given: &ArgMatches<'a>) -> NextPlan<'a> {
+    NextPlan {
+        plan: given.get_str("NEXTPLAN").unwrap_or(""),
+        certificate: given.get_str("NEXTCERT").unwrap_or(""),
+        fails_on_lost: given.get_flag("FAILS"),
+    }
+}
+
 /// The question that a word asks about a plan and its certificate, if it asks one.
 fn question_of<'a>(name: &str, given: &ArgMatches<'a>) -> Option<Question<'a>> {
     match name {
         "route" => Some(route_of(given)),
         "graph" => Some(Question::Graph),
+        "lint" if given.get_flag("STRICT") => Some(Question::StrictLint),
         "lint" => Some(Question::Lint),
+        "diff" => Some(Question::Diff(next_of(given))),
+        "expect" => Some(Question::Expect(given.get_str("FILE").unwrap_or(""))),
         _ => None,
     }
 }

@@ -1,3 +1,6 @@
+pub mod Differing
+pub mod Expecting
 pub mod Keys
 pub mod Replies
 pub mod Runs
+pub mod Unsealing

@@ -1,5 +1,5 @@
 -- What a run on a question does.
-use Rattle.std.specs.Prelude.{◌≡◌, ◌≢◌, ◌⊎◌, ℕ, List, [], Ok}
+use Rattle.std.specs.Prelude.{◌≡◌, ◌≢◌, ◌⊎◌, ℕ, List, [], ◌∷◌, Ok}
 use Rattle.std.specs.Borrow.{Bor}
 use Rattle.std.specs.declared.option.Option.{Option}
 use Rattle.std.specs.Io.KnownBytes.{Appends}
@@ -9,21 +9,24 @@ use Rattle.dr_plan.specs.Reading.{Reads}
 use Rattle.dr_plan_sound.specs.Certificates.{IsCertificateOf}
 use Rattle.dr_plan_sound.specs.Soundness.{IsSound}
 use Rattle.dr_plan_sound.specs.declared.certificate.Certificate.{Certificate}
-use Rattle.dr_cert.specs.declared.fault.CertFault.{CertFault}
-use Rattle.dr_cert.specs.declared.fault.CertFault.TheVariants.{Memory as NoMemory}
 use Rattle.dr_run_open.specs.Answers.{Refuses}
-use Rattle.dr_run_open.specs.Sealings.{IsFaultOf, IsTextOf}
+use Rattle.dr_run_open.specs.Sealings.{IsTextOf}
 use Rattle.dr_run_open.specs.declared.status.Status.{Status}
-use Rattle.dr_run_open.specs.declared.status.Status.TheVariants.{Refused, Memory}
+use Rattle.dr_run_open.specs.declared.status.Status.TheVariants.{Refused as No, Success}
 use Rattle.dr_word_line.specs.declared.words.Question.{Question}
 use Rattle.dr_word_line.specs.declared.words.Question.TheVariants.{RouteOfKey, RouteOfFile, Graph}
-use Rattle.dr_word_line.specs.declared.words.Question.TheVariants.{Lint}
+use Rattle.dr_word_line.specs.declared.words.Question.TheVariants.{Lint, StrictLint, Expect}
+use Rattle.dr_word_line.specs.declared.words.Question.TheVariants.{Diff}
 use Rattle.dr_cert_lint.specs.Graphs.{IsGraphText}
 use Rattle.dr_cert_lint.specs.Findings.{IsLintText}
+use Rattle.dr_word_route.specs.Differing.{Compares}
+use Rattle.dr_word_route.specs.Expecting.{Expects}
 use Rattle.dr_word_route.specs.Keys.{ReadsFileKey, ReadsWords}
 use Rattle.dr_word_route.specs.Replies.{IsRouteReply, IsSiteReply, IsTextReply, printed_for}
 use Rattle.dr_word_route.specs.Replies.{status_for}
+use Rattle.dr_word_route.specs.Unsealing.{Unseals}
 use Rattle.dr_word_route.specs.declared.reply.Response.{Response}
+use Rattle.dr_word_route.specs.declared.reply.Response.TheVariants.{NoLine, Printed, Refused}
 
 -- the reply is printed after what the output held, and the program ends with its status
 pub record IsTold (reply : Response) (old new : Option (List ℕ)) (status : Status) : Type 0 where
@@ -33,6 +36,21 @@ pub record IsTold (reply : Response) (old new : Option (List ℕ)) (status : Sta
 -- a reply of which `May` says that it may be given is told
 abbrev pub Replies : (Response → Type 0) → Option (List ℕ) → Option (List ℕ) → Status → Type 0
 Replies May old new status = (reply : Response) × May reply × IsTold reply old new status
+
+-- the status with which the program ends for a reply that is to say nothing: refused where it says
+-- something
+abbrev pub strict_status : Response → Status
+strict_status (Printed []) = Success
+strict_status (Printed (byte ∷ more)) = No
+strict_status NoLine = status_for NoLine
+strict_status (Refused refusal) = status_for (Refused refusal)
+
+-- a reply of which `May` says that it may be given is told, and is a no where it says something
+abbrev pub RepliesStrictly : (Response → Type 0) → Option (List ℕ) → Option (List ℕ) → Status
+    → Type 0
+RepliesStrictly May old new status =
+    (reply : Response) × May reply × Appends old new (printed_for reply)
+    × (status ≡ strict_status reply)
 
 -- A run on a question about a sealed plan; a file of the path, of which `Holds` says what bytes it
 -- holds, is read only where the node at which its instance would enter is one of the plan.
@@ -48,15 +66,12 @@ Responds Holds plan certificate Graph old new status =
     Replies (IsTextReply (IsGraphText plan certificate)) old new status
 Responds Holds plan certificate Lint old new status =
     Replies (IsTextReply (IsLintText plan)) old new status
-
--- a run in which the text is refused as the plan's certificate, or memory ran out over it: nothing
--- is printed
-pub record Unseals (plan : Network) (text : Text) (old new : Option (List ℕ))
-    (status : Status) : Type 0 where
-  pub fault : CertFault
-  pub right : (fault ≢ NoMemory) → IsFaultOf plan text fault × (status ≡ Refused)
-  pub memory : fault ≡ NoMemory → status ≡ Memory
-  pub nothing : Appends old new []
+Responds Holds plan certificate StrictLint old new status =
+    RepliesStrictly (IsTextReply (IsLintText plan)) old new status
+Responds Holds plan certificate (Expect path) old new status =
+    (text : Text) × Holds path.now text × Expects plan text old new status
+Responds Holds plan certificate (Diff paths) old new status =
+    Compares Holds plan paths old new status
 
 -- a run in which the text is that of the certificate of a sound plan: the question is answered
 pub record Seals (Holds : List ℕ → Text → Type 0) (question : Question) (plan : Network)

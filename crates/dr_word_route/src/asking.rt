@@ -7,8 +7,12 @@ ghost use Rattle.dr_run_open.specs.Answers.{Refuses};
 ghost use Rattle.dr_run_open.specs.declared.status.Status.TheVariants.{Refused, Memory};
 ghost use Rattle.dr_word_route.specs.Keys.{ReadsFileKey, ReadsWords};
 ghost use Rattle.dr_word_route.specs.Replies.{IsRouteReply, IsSiteReply, printed_for};
-ghost use Rattle.dr_word_route.specs.Runs.{Asks, IsTold, Judges, Replies, Responds, Seals, Unseals};
+ghost use Rattle.dr_word_route.specs.Runs.{Asks, IsTold, Judges, Replies, Responds, Seals};
+ghost use Rattle.dr_word_route.specs.Runs.{strict_status};
+ghost use Rattle.dr_word_route.specs.Unsealing.{Unseals};
 
+use crate::differing::ask_diff;
+use crate::expecting::ask_expect;
 use crate::keys::{key_of_file, key_of_words, site_of};
 use crate::reply::Response;
 use crate::replying::{graph_reply, lint_reply, reply_for};
@@ -43,6 +47,20 @@ fn tell<W: Write, E: Write>(reply: &Response, output: &mut W, faults: &mut E) ->
 {
     write_reply(reply, output, faults)?;
     Ok(reply.status())
+}
+
+/// Tells a reply, and ends with a no where it says something.
+fn tell_strictly<W: Write, E: Write>(
+    reply: &Response,
+    output: &mut W,
+    faults: &mut E,
+) -> io::Result<Status>
+    ensures { IfOk result (λ status.
+        Appends (W.contents output.old) (W.contents output.new) (printed_for reply.now)
+        × (status ≡ strict_status reply.now)) }
+{
+    write_reply(reply, output, faults)?;
+    Ok(reply.strict_status())
 }
 
 /// Tells where an instance with these values goes that enters at the node of that name.
@@ -133,11 +151,17 @@ fn respond<'a, F: Files, W: Write, E: Write>(
             let status = tell(&lint_reply(alloc, sealed), output, faults)?;
             Ok(status)
         }
+        Question::StrictLint => {
+            let status = tell_strictly(&lint_reply(alloc, sealed), output, faults)?;
+            Ok(status)
+        }
+        Question::Diff(paths) => ask_diff(alloc, sealed, paths, files, output, faults),
+        Question::Expect(path) => ask_expect(alloc, sealed, files, path, output, faults),
     }
 }
 
 /// Writes why a certificate isn't the plan's.
-fn tell_refusal<E: Write>(fault: CertFault, faults: &mut E) -> io::Result<Status>
+pub fn tell_refusal<E: Write>(fault: CertFault, faults: &mut E) -> io::Result<Status>
     ensures refused { fault ≢ NoMemory → IfOk result (λ status. status ≡ Refused) }
     ensures memory { fault ≡ NoMemory → IfOk result (λ status. status ≡ Memory) }
 {

@@ -1,8 +1,11 @@
 //! The words of the program `dr_router` that ask about a plan with its certificate: `route`,
-//! `graph` and `lint`. And all words for plans: `check` and `verify` (`dr_word_check`), and these.
+//! `graph`, `lint`, `expect` and `diff`. And all words for plans: `check` and `verify`
+//! (`dr_word_check`), and these.
 #![tactic(auto)]
 
 mod asking;
+mod differing;
+mod expecting;
 mod keys;
 mod reply;
 mod replying;

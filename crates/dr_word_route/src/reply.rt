@@ -1,6 +1,8 @@
 //! What is answered to a question.
 ghost use Rattle.std.specs.Prelude.{◌≡◌};
+ghost use Rattle.dr_word_route.specs.declared.reply.Response.TheVariants.{Printed};
 ghost use Rattle.dr_word_route.specs.Replies.{status_for};
+ghost use Rattle.dr_word_route.specs.Runs.{strict_status as strictly};
 
 use dr_base::Text;
 use dr_dataset::FileFault;
@@ -37,6 +39,16 @@ pub enum Response {
     Refused(Unanswered),
 }
 
+/// Success where the text is empty, else refused.
+fn status_of_findings(text: &Text) -> Status
+    ensures { result ≡ strictly (Printed text.now) }
+{
+    match text.as_bytes() {
+        [] => Status::Success,
+        _ => Status::Refused,
+    }
+}
+
 impl Response {
     /// The status with which the program ends, where the reply is told.
     pub fn status(&self) -> Status
@@ -47,6 +59,18 @@ impl Response {
             Response::NoLine => Status::Refused,
             Response::Refused(Unanswered::Memory) => Status::Memory,
             Response::Refused(_) => Status::Refused,
+        }
+    }
+
+    /// The status with which the program ends where a reply is to say nothing: refused where it
+    /// says something.
+    pub fn strict_status(&self) -> Status
+        ensures { result ≡ strictly self.now }
+    {
+        match self {
+            Response::Printed(text) => status_of_findings(text),
+            Response::NoLine => self.status(),
+            Response::Refused(_) => self.status(),
         }
     }
 }

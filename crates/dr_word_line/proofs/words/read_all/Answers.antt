@@ -11,9 +11,8 @@ returns-in-len6-clause-asked c = (
     c.is_no_option.ensures.0 c.if-is_no_option.true,
     c.is_no_option-then-is_no_option.ensures.0 c.if-is_no_option-2.true,
     c.is_no_option-then-is_no_option-2.ensures.0 c.if-is_no_option-3.true,
-    c.is_no_option-then-is_no_option-3.ensures.0 c.if-is_no_option-4.true,
   ),
-  same_word _ _ _ c.eq-then-is_no_option-4.ensures c.if-eq-2.true,
+  same_word _ _ _ c.eq-then-is_no_option-3.ensures c.if-eq-2.true,
 )
 
 pub returns-in-len7-clause-asked : goal.returns-in-len7-clause-asked
@@ -23,11 +22,9 @@ returns-in-len7-clause-asked c = (
     _,
     places_7 _ c.args.words.now c.in-len7.len_at_least c.in-len7.len_below,
     same_word _ _ _ c.eq-then-words-lt8.ensures c.if-eq-3.true,
-    c.is_no_option-then-eq-3.ensures.0 c.if-is_no_option-5.true,
+    c.is_no_option-then-eq-3.ensures.0 c.if-is_no_option-4.true,
+    c.is_no_option-then-is_no_option-4.ensures.0 c.if-is_no_option-5.true,
     c.is_no_option-then-is_no_option-5.ensures.0 c.if-is_no_option-6.true,
-    c.is_no_option-then-is_no_option-6.ensures.0 c.if-is_no_option-7.true,
-    c.is_no_option-then-is_no_option-7.ensures.0 c.if-is_no_option-8.true,
   ),
-  same_word _ _ _ c.eq-then-is_no_option-8.ensures c.if-eq-4.true,
-  c.is_no_option-then-eq-4.ensures.0 c.if-is_no_option-9.true,
+  same_word _ _ _ c.eq-then-is_no_option-6.ensures c.if-eq-4.true,
 )

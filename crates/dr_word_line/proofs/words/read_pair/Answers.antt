@@ -26,6 +26,4 @@ returns-in-len4-2-clause-asked c = (
   places_4 _ c.args.words.now c.in-len4.len_at_least c.in-len4.len_below,
   same_word _ _ _ c.eq-then-words-lt5-2.ensures c.if-eq-3.true,
   c.is_no_option-then-eq-3.ensures.0 c.if-is_no_option-6.true,
-  c.is_no_option-then-is_no_option-6.ensures.0 c.if-is_no_option-7.true,
-  c.is_no_option-then-is_no_option-7.ensures.0 c.if-is_no_option-8.true,
 )

@@ -9,7 +9,6 @@ returns-in-len5-clause-asked c = (
   c.is_no_option.ensures.0 c.if-is_no_option.true,
   c.is_no_option-then-is_no_option.ensures.0 c.if-is_no_option-2.true,
   c.is_no_option-then-is_no_option-2.ensures.0 c.if-is_no_option-3.true,
-  c.is_no_option-then-is_no_option-3.ensures.0 c.if-is_no_option-4.true,
 )
 
 pub returns-in-len8-clause-asked : goal.returns-in-len8-clause-asked
@@ -17,11 +16,6 @@ returns-in-len8-clause-asked c = (
   _,
   places_8 _ c.args.words.now c.in-len8.len_at_least c.in-len8.len_below,
   same_word _ _ _ c.eq-then-words-lt9.ensures c.if-eq-2.true,
-  c.is_no_option-then-eq-2.ensures.0 c.if-is_no_option-5.true,
-  c.is_no_option-then-is_no_option-5.ensures.0 c.if-is_no_option-6.true,
-  c.is_no_option-then-is_no_option-6.ensures.0 c.if-is_no_option-7.true,
-  c.is_no_option-then-is_no_option-7.ensures.0 c.if-is_no_option-8.true,
-  c.is_no_option-then-is_no_option-8.ensures.0 c.if-is_no_option-9.true,
-  c.is_no_option-then-is_no_option-9.ensures.0 c.if-is_no_option-10.true,
-  c.is_no_option-then-is_no_option-10.ensures.0 c.if-is_no_option-11.true,
+  c.is_no_option-then-eq-2.ensures.0 c.if-is_no_option-4.true,
+  c.is_no_option-then-is_no_option-4.ensures.0 c.if-is_no_option-5.true,
 )

@@ -1,0 +1,5 @@
+pub mod Adding
+pub mod Answering
+pub mod Finding
+pub mod Gathering
+pub mod Refining

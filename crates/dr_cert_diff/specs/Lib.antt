@@ -1,0 +1,5 @@
+pub mod Comparing
+pub mod Differing
+pub mod Entering
+pub mod Going
+pub mod Rows

@@ -1,0 +1,114 @@
+//! The parts of modalities and of stations that neither plan tells apart.
+ghost use Rattle.std.specs.Prelude.{◌≡◌, ◌++◌, ◌∷◌, [], IfOk, Contains, map};
+ghost use Rattle.std.specs.Prelude.{◌↔◌, ◌⊎◌};
+ghost use Rattle.dr_base.specs.Texts.{Text as Words};
+ghost use Rattle.dr_route.specs.declared.cell.OwnedField.TheVariants as field;
+ghost use Rattle.dr_route.specs.declared.cell.OwnedStation.TheVariants as station;
+ghost use Rattle.dr_cert_diff.specs.Going.{ArePartsOf};
+
+use dr_base::{Seq, Text};
+use dr_plan_model::Plan;
+use dr_plan_model::literals::literals;
+use dr_route::names::{add_names, names_in_order};
+use dr_route::{OwnedField, OwnedStation};
+use std::alloc::{AllocError, Global};
+use std::collections::BTreeSet;
+
+/// The names of both lists, in byte order and each once.
+fn merged(alloc: Global, one: &[Text], other: &[Text]) -> Result<Seq<Text>, AllocError>
+    ensures { IfOk result (λ seq.
+        (t : Words) → Contains seq t ↔ (Contains one.now t ⊎ Contains other.now t)) }
+{
+    let mut names = BTreeSet::new(alloc);
+    add_names(&mut names, one)?;
+    add_names(&mut names, other)?;
+    let all = names_in_order(alloc, names)?;
+    Ok(all)
+}
+
+/// A copy of a name.
+fn copy_name(name: &Text) -> Result<Text, AllocError>
+    ensures { IfOk result (λ copy. copy ≡ name.now) }
+{
+    let copy = name.clone()?;
+    Ok(copy)
+}
+
+/// The parts of the modalities: each of these values, and all others.
+fn modality_parts(alloc: Global, values: &[Text]) -> Result<Vec<OwnedField>, AllocError>
+    ensures { IfOk result (λ v.
+        v.items ≡ map (λ t. field.Literal t) values.now ++ field.Rest ∷ []) }
+{
+    let mut parts = Vec::new(alloc);
+    for value in values {
+        parts.push(OwnedField::Literal(copy_name(value)?))?;
+    }
+    parts.push(OwnedField::Rest)?;
+    Ok(parts)
+}
+
+/// The parts of the stations that are single values.
+fn single_parts(alloc: Global, values: &[Text]) -> Result<Vec<OwnedStation>, AllocError>
+    ensures { IfOk result (λ v. v.items ≡ map (λ t. station.Literal t) values.now) }
+{
+    let mut parts = Vec::new(alloc);
+    for value in values {
+        parts.push(OwnedStation::Literal(copy_name(value)?))?;
+    }
+    Ok(parts)
+}
+
+/// The parts of the stations: each of these values, what begins with each of these prefixes, and
+/// all others.
+fn station_parts(
+    alloc: Global,
+    values: &[Text],
+    prefixes: &[Text],
+) -> Result<Vec<OwnedStation>, AllocError>
+    ensures { IfOk result (λ v. v.items
+        ≡ map (λ t. station.Literal t) values.now ++ map (λ t. station.Prefix t) prefixes.now
+        ++ station.Rest ∷ []) }
+{
+    let mut parts = single_parts(alloc, values)?;
+    for prefix in prefixes {
+        parts.push(OwnedStation::Prefix(copy_name(prefix)?))?;
+    }
+    parts.push(OwnedStation::Rest)?;
+    Ok(parts)
+}
+
+/// The parts of the modalities and of the stations.
+#[derive(Drop)]
+pub struct Parts {
+    pub modalities: Vec<OwnedField>,
+    pub stations: Vec<OwnedStation>,
+}
+
+/// The parts that neither plan tells apart.
+pub fn parts_of(alloc: Global, old: &Plan, new: &Plan) -> Result<Parts, AllocError>
+    ensures { IfOk result (ArePartsOf old.now new.now) }
+{
+    let one = literals(alloc, old)?;
+    let other = literals(alloc, new)?;
+    let modalities = merged(
+        alloc,
+        one.modalities.literals.as_slice(),
+        other.modalities.literals.as_slice(),
+    )?;
+    let stations = merged(
+        alloc,
+        one.stations.literals.as_slice(),
+        other.stations.literals.as_slice(),
+    )?;
+    let prefixes = merged(
+        alloc,
+        one.stations.prefixes.as_slice(),
+        other.stations.prefixes.as_slice(),
+    )?;
+    let modalities = modality_parts(alloc, modalities.as_slice())?;
+    let stations = station_parts(alloc, stations.as_slice(), prefixes.as_slice())?;
+    Ok(Parts {
+        modalities,
+        stations,
+    })
+}

@@ -1,0 +1,7 @@
+use Rattle.std.proofs.Common.{Contains, take}
+use Rattle.std.specs.Prelude.{All}
+use Rattle.dr_cert_expect.proofs.names.first_outside.Given as goal
+
+-- the names so far are in the set
+abbrev pub invariant-loop-name : goal.invariant-loop-name
+invariant-loop-name l = All (λ name. Contains l.fn.set name) (take l.name-index l.fn.names)

@@ -1,0 +1,5 @@
+pub mod Expected
+pub mod Laws
+pub mod Looking
+pub mod Rows
+pub mod Samples

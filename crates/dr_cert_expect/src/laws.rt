@@ -1,0 +1,12 @@
+//! Laws of expectations: what a reader may take from the definitions.
+ghost use Rattle.dr_cert_expect.specs.Laws.{WhatIsLackingRefutes, OneFirstMiss};
+
+/// A row that lacks something doesn't hold.
+pub fn what_is_lacking_refutes()
+    ensures { WhatIsLackingRefutes }
+{}
+
+/// Of rows that don't all hold, one row is the first that doesn't.
+pub fn rows_have_one_first_miss()
+    ensures { OneFirstMiss }
+{}

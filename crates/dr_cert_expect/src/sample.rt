@@ -1,0 +1,59 @@
+//! One key of a cell, of which a row speaks if it speaks of any.
+ghost use Rattle.std.specs.Prelude.{◌≡◌, ◌++◌, ◌∷◌, [], IfOk};
+ghost use Rattle.dr_cert_expect.specs.Samples.{IsSample, IsSampleStation, sample_value};
+
+use dr_base::Text;
+use dr_plan_expect::Expectation;
+use dr_route::cell::key_in;
+use dr_route::rule::begins;
+use dr_route::{Key, OwnedCell, Pattern, StationPattern};
+use std::alloc::{AllocError, Global};
+
+/// The value that the pattern asks for, and else the cell's own.
+fn sample_modality(pattern: &Pattern, own: &Text) -> Result<Text, AllocError>
+    ensures { IfOk result (λ t. t ≡ sample_value pattern.now own.now) }
+{
+    match pattern {
+        Pattern::Any => own.clone(),
+        Pattern::Literal(literal) => literal.clone(),
+    }
+}
+
+/// The prefix and the byte 128, which no value of a plan has.
+fn under(alloc: Global, prefix: &Text) -> Result<Text, AllocError>
+    ensures { IfOk result (λ t. t ≡ prefix.now ++ (128 ∷ [])) }
+{
+    let mut bytes = Vec::from_slice(alloc, prefix.as_bytes())?;
+    bytes.push(128)?;
+    Ok(Text::from_vec(bytes))
+}
+
+/// The station that the pattern asks for, and else the cell's own; of a prefix the cell's own where
+/// it begins so.
+fn sample_station(alloc: Global, pattern: &StationPattern, own: &Text) -> Result<Text, AllocError>
+    ensures { IfOk result (IsSampleStation pattern.now own.now) }
+{
+    match pattern {
+        StationPattern::Any => own.clone(),
+        StationPattern::Literal(literal) => literal.clone(),
+        StationPattern::Prefix(prefix) => {
+            if begins(prefix, own) {
+                return own.clone();
+            }
+            under(alloc, prefix)
+        }
+    }
+}
+
+/// One key, which is of the cell and of which the row speaks, if there is any.
+pub fn sample(alloc: Global, row: &Expectation, cell: &OwnedCell) -> Result<Key, AllocError>
+    ensures { IfOk result (IsSample row.now cell.now) }
+{
+    let own = key_in(alloc, cell)?;
+    Ok(Key {
+        class: own.class.clone()?,
+        syntax: own.syntax,
+        modality: sample_modality(&row.modality, &own.modality)?,
+        station: sample_station(alloc, &row.station, &own.station)?,
+    })
+}

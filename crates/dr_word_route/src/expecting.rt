@@ -1,0 +1,123 @@
+//! Whether a sealed plan does what a file expects of it.
+ghost use Rattle.std.specs.Prelude.{◌≡◌, IfOk, OnOk};
+ghost use Rattle.std.specs.Io.KnownBytes.{Appends};
+ghost use Rattle.dr_base.specs.Texts.{Text as Words};
+ghost use Rattle.dr_cert_expect.specs.Expected.{IsFirstMiss};
+ghost use Rattle.dr_cert_expect.specs.Rows.{miss_line};
+ghost use Rattle.dr_word_route.specs.Expecting.{Expects, IsTold, IsVerdict, IsVerdictOn, MayMiss};
+ghost use Rattle.dr_word_route.specs.Expecting.{printed_verdict, verdict_status};
+
+use dr_base::Text;
+use dr_cert::Sealed;
+use dr_cert_expect::{Miss, first_miss, miss_text};
+use dr_plan_expect::{ExpectFault, Expectation, read_expectations};
+use dr_run_files::{Failure, Files, read_file};
+use dr_run_open::Status;
+use std::alloc::{AllocError, Global};
+use std::io;
+use std::io::Write;
+
+/// What is answered to a file of expectations.
+#[derive(Debug, Drop)]
+pub enum Verdict {
+    /// All rows hold.
+    Yes,
+    /// The line of the first row that doesn't.
+    Missed(Text),
+    /// The file isn't read.
+    Faulty(ExpectFault),
+}
+
+impl Verdict {
+    /// The status with which the program ends, where the verdict is told.
+    fn status(&self) -> Status
+        ensures { result ≡ verdict_status self.now }
+    {
+        match self {
+            Verdict::Yes => Status::Success,
+            Verdict::Missed(_) => Status::Refused,
+            Verdict::Faulty(ExpectFault::Expect(_)) => Status::Refused,
+            Verdict::Faulty(ExpectFault::Memory) => Status::Memory,
+        }
+    }
+}
+
+/// The verdict on a row that doesn't hold.
+fn missed(alloc: Global, miss: &Miss) -> Verdict
+    ensures { MayMiss miss.now result }
+{
+    match miss_text(alloc, miss) {
+        Ok(text) => Verdict::Missed(text),
+        Err(AllocError) => Verdict::Faulty(ExpectFault::Memory),
+    }
+}
+
+/// The verdict on what is expected.
+fn verdict_on(alloc: Global, sealed: &Sealed, rows: &[Expectation]) -> Verdict
+    ensures { IsVerdictOn sealed.now.plan rows.now result }
+{
+    match first_miss(alloc, sealed, rows) {
+        Ok(None) => Verdict::Yes,
+        Ok(Some(miss)) => missed(alloc, &miss),
+        Err(AllocError) => Verdict::Faulty(ExpectFault::Memory),
+    }
+}
+
+/// The verdict on a file's text.
+fn verdict_for(alloc: Global, sealed: &Sealed, text: &[u8]) -> Verdict
+    ensures { IsVerdict sealed.now.plan text.now result }
+{
+    match read_expectations(alloc, text) {
+        Ok(rows) => verdict_on(alloc, sealed, rows.as_slice()),
+        Err(fault) => Verdict::Faulty(fault),
+    }
+}
+
+/// Writes a verdict: what is answered to the output, and why the file isn't read to the faults.
+fn write_verdict<W: Write, E: Write>(
+    verdict: &Verdict,
+    output: &mut W,
+    faults: &mut E,
+) -> io::Result<()>
+    ensures { OnOk result
+        (Appends (W.contents output.old) (W.contents output.new) (printed_verdict verdict.now)) }
+{
+    match verdict {
+        Verdict::Yes => output.write_all(b"yes\n"),
+        Verdict::Missed(text) => output.write_all(text.as_bytes()),
+        Verdict::Faulty(fault) => writeln!(faults, "dr_router: {fault}"),
+    }
+}
+
+/// Tells a verdict, and ends as it says.
+fn tell_verdict<W: Write, E: Write>(
+    verdict: &Verdict,
+    output: &mut W,
+    faults: &mut E,
+) -> io::Result<Status>
+    ensures { IfOk result (IsTold verdict.now (W.contents output.old) (W.contents output.new)) }
+{
+    write_verdict(verdict, output, faults)?;
+    Ok(verdict.status())
+}
+
+/// Tells whether the sealed plan does what the file expects of it.
+///
+/// Errors: Stream, File.
+pub fn ask_expect<'a, F: Files, W: Write, E: Write>(
+    alloc: Global,
+    sealed: &Sealed,
+    files: &F,
+    path: &'a str,
+    output: &mut W,
+    faults: &mut E,
+) -> Result<Status, Failure<'a>>
+    ensures { IfOk result (λ status. (text : Words)
+        × F.holds files.now path.now text
+        × Expects sealed.now.plan text (W.contents output.old) (W.contents output.new) status) }
+{
+    let text = read_file(alloc, files, path)?;
+    let verdict = verdict_for(alloc, sealed, text.as_slice());
+    let status = tell_verdict(&verdict, output, faults)?;
+    Ok(status)
+}
