@@ -15,4 +15,4 @@ has_some false false true none = let n : 8 ≡ 0 = ap (λ (ts : List Table). len
 has_some false false false none = let n : 8 ≡ 0 = ap (λ (ts : List Table). length ts) none in omega (arith, n)
 
 pub blank_no_older : (schema : Schema) → schema.tables ≡ [] → IsOlder schema → ⊥
-blank_no_older schema none older = has_some older.0.print older.0.target older.0.due (ap (λ (s : Schema). s.tables) (sym older.2) ∙ none)
+blank_no_older schema none older = has_some older.0.print older.0.target older.0.due (ap (λ (s : Schema). s.tables) (sym older.1) ∙ none)
