@@ -6,7 +6,7 @@ for themselves. A library that the gate has made is taken as it is. What was mad
 
 Beside a library its `sources` has the digest of all that it was made from: the kit, and the sources and the lines of `crates.txt` of it
 and of those below it. With DR_PROVED=FOLDER, which is for whoever works in several clones, each library that is proved goes there
-under its digest, and one that is there isn't proved again. The gate never looks there.
+under its digest, and one that is there isn't proved again; what another clone is proving is waited for. The gate never looks there.
 """
 import functools
 import hashlib
@@ -102,11 +102,31 @@ def stale_of(libraries):
     return stale
 
 
+def is_claimed(name):
+    """Whether another clone is proving a library from the same sources."""
+    place = os.environ.get("DR_PROVED")
+    try:
+        with open(f"{place}/{digest_of(name)}.busy", encoding="ascii") as file:
+            os.kill(int(file.read()), 0)
+    except (OSError, ValueError):
+        return False
+    return True
+
+
+def claim(name):
+    """Tells other clones that this one proves the library."""
+    place = os.environ.get("DR_PROVED")
+    if place:
+        with open(f"{place}/{digest_of(name)}.busy", "w", encoding="ascii") as file:
+            file.write(str(os.getpid()))
+
+
 class Library:
     """A library that is being proved."""
 
     def __init__(self, name, jobs):
         self.name, self.jobs, self.began = name, jobs, time.monotonic()
+        claim(name)
         out = os.path.dirname(rlib_of(name))
         os.makedirs(out, exist_ok=True)
         self.room = tempfile.mkdtemp(prefix="proving-", dir=os.path.dirname(out))
@@ -156,19 +176,25 @@ def build_libraries(libraries, log, above=0):
     """Proves those of these libraries (each after those that it uses) that aren't made, first those with the longest chain of others
     above them; whether all are proved. `above`: how many crates the caller will prove over them, for the count that is shown."""
     left = stale_of(libraries)
-    count, cores, running, failed = len(left) + above, lanes(), [], False
+    # Where several clones work side by side each leaves the others their share.
+    cores = min(lanes(), 2) if os.environ.get("DR_PROVED") else lanes()
+    count, running, failed = len(left) + above, [], False
     waiting = set(left)
     chain = {it: work_of(it) for it in libraries}
     for name in reversed(libraries):
         for library in listed()[name][0]:
             chain[library] = max(chain[library], work_of(library) + chain[name])
     while running or (left and not failed):
-        ready = sorted((it for it in left if waiting.isdisjoint(below(it))), key=lambda it: -chain[it])
+        ready = [it for it in left if waiting.isdisjoint(below(it))]
+        for name in [it for it in ready if is_taken(it)]:
+            left.remove(name)
+            waiting.discard(name)
+        ready = sorted((it for it in ready if it in left and not is_claimed(it)), key=lambda it: -chain[it])
         # After a failure nothing more is begun, but what is running ends, so that its work is kept.
         begun = [] if failed else begin(ready, cores - sum(it.jobs for it in running))
         left = [it for it in left if it not in [library.name for library in begun]]
         running += begun
-        time.sleep(0.1)
+        time.sleep(0.1 if running else 1)
         for library in [it for it in running if it.process.poll() is not None]:
             running.remove(library)
             if library.end(log):

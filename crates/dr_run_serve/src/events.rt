@@ -255,3 +255,9 @@ pub fn tell_shut<G: Log>(log: &G) {
 pub fn tell_unaccepted<G: Log>(log: &G, error: &io::Error) {
     error!(log; target: "listener", "failed error=\"{error}\"");
 }
+
+/// Tells that the system gave fewer threads than there should be: those that serve, or those that
+/// send. What they should do is done late, or when the others have ended.
+pub fn tell_threads<G: Log>(log: &G, purpose: &str, wanted: usize, begun: usize) {
+    error!(log; target: "node", "threads purpose={purpose} wanted={wanted} begun={begun}");
+}

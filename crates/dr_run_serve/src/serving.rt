@@ -5,8 +5,9 @@ ghost use Rattle.dr_ledger.specs.Histories.{IsJournalled};
 ghost use Rattle.dr_ledger.specs.SiteRoutes.{site_routing};
 
 use crate::events::tell_unaccepted;
+use crate::keeper::{Crew, keep};
 use crate::monitor::Monitor;
-use crate::rounds::send_all;
+use crate::sender::{HopSender, send_rows};
 use crate::shutting::Wake;
 use crate::signal::{BEGIN, Signal};
 use crate::watch::Watch;
@@ -28,9 +29,10 @@ use std::time::Duration;
 use std::{thread, time};
 use thiserror::Error;
 
-/// How many threads serve associations. Each holds its worker until it ends, also where its peer
-/// says nothing.
-const WORKERS: usize = 32;
+/// How many threads serve associations at most. Each association holds its own until it ends, also
+/// where its peer says nothing; 256 of them are open at a time, and eight threads are left to
+/// reject others.
+const WORKERS: usize = 264;
 
 /// How many connections wait for one of them; others wait to be accepted.
 const QUEUE: usize = 256;
@@ -192,7 +194,39 @@ fn serve_links<
     }
 }
 
-/// Serves and sends, side by side; the passes of those who serve, and that of the one who sends.
+/// Sends to each hop, in a thread of its own, as long as somebody serves.
+fn send_all<
+    R: Threads + Wait + Sync + time::Clock,
+    L: Ledger + Drop + Send,
+    B: Sharing + Send + Sync,
+    N: Network + Sync,
+    C: Clock + Sync,
+    G: Log + Sync,
+>(
+    rt: &R,
+    alloc: Global,
+    desk: &SharedDesk<L, B>,
+    senders: &mut [HopSender<'_, B>],
+    signal: &Signal,
+    network: &N,
+    clock: &C,
+    log: &G,
+) {
+    let count = senders.len();
+    if count > 0 {
+        thread::for_each_mut(
+            rt,
+            senders,
+            count,
+            &|number, sender| {
+                send_rows(rt, alloc, desk, sender, number, signal, network, clock, log)
+            },
+        );
+    }
+    signal.end_sending(rt);
+}
+
+/// Serves, sends and tells of the node, side by side; the passes of those who serve.
 fn serve_all<
     R: Threads + Wait + Sync + time::Clock,
     L: Ledger + Drop + Send,
@@ -206,50 +240,81 @@ fn serve_all<
     rt: &R,
     alloc: Global,
     desk: &SharedDesk<L, B>,
-    own: Pass<B>,
-    hops: Vec<NextHop>,
+    hops: &[NextHop],
+    senders: &mut [HopSender<'_, B>],
     listener: &D,
     links: u64,
     signal: &Signal,
     network: &N,
     clock: &C,
     log: &G,
-) -> (Result<Vec<Pass<B>>, WorkersFault>, Pass<B>) {
+) -> Result<Vec<Pass<B>>, WorkersFault> {
     let wake = Wake { signal, listener };
-    thread::join(
+    let crew = Crew {
+        workers: WORKERS,
+        senders: senders.len(),
+    };
+    let (passes, _) = thread::join(
         rt,
         || serve_links(rt, alloc, desk, listener, links, signal, clock, log),
-        || send_all(rt, alloc, desk, own, hops, &wake, network, clock, log),
-    )
+        || {
+            thread::join(
+                rt,
+                || send_all(rt, alloc, desk, senders, signal, network, clock, log),
+                || keep(rt, alloc, desk, hops, crew, &wake, clock, log),
+            )
+        },
+    );
+    passes
+}
+
+/// One who sends for each hop, each with a pass of its own.
+///
+/// Errors: TooManyPasses, Memory.
+fn senders_of<'a, R: Wait, L: Ledger, B: Sharing>(
+    rt: &R,
+    alloc: Global,
+    desk: &SharedDesk<L, B>,
+    hops: &'a [NextHop],
+) -> Result<Vec<HopSender<'a, B>>, WorkersFault> {
+    let mut senders = Vec::with_capacity(alloc, hops.len())?;
+    for hop in hops {
+        let pass = desk.pass(rt, alloc)?;
+        if senders.push(HopSender::new(pass, hop)).is_err() {
+            return Err(WorkersFault::Memory);
+        }
+    }
+    Ok(senders)
 }
 
 /// All passes, where those of the ones who serve came back, and the store isn't shut.
 fn all_passes<B: Sharing>(
     passes: Result<Vec<Pass<B>>, WorkersFault>,
-    own: Pass<B>,
+    senders: Vec<HopSender<'_, B>>,
     is_shut: bool,
 ) -> Result<Vec<Pass<B>>, ServeFault>
     ensures { IsTrue is_shut → IsErr result }
 {
     if is_shut {
         drop(passes);
-        drop(own);
+        drop(senders);
         return Err(ServeFault::Store);
     }
-    match passes {
-        Ok(passes) => {
-            let mut passes = passes;
-            passes.push(own)?;
-            Ok(passes)
-        }
-        Err(_) => {
-            drop(own);
-            Err(ServeFault::Memory)
-        }
+    let Ok(passes) = passes else {
+        drop(senders);
+        return Err(ServeFault::Memory);
+    };
+    let mut passes = passes;
+    for sender in senders {
+        let HopSender { pass, .. } = sender;
+        passes.push(pass)?;
     }
+    Ok(passes)
 }
 
-/// Serves and sends on a shared desk, of which this pass sends, and ends the sharing.
+/// Serves and sends on a shared desk; all passes that were made of it.
+///
+/// Errors: Store, Memory.
 fn serve_by<
     R: Threads + Wait + Sync + time::Clock,
     L: Ledger + Drop + Send,
@@ -262,32 +327,33 @@ fn serve_by<
 >(
     rt: &R,
     alloc: Global,
-    desk: SharedDesk<L, B>,
-    own: Pass<B>,
-    hops: Vec<NextHop>,
+    desk: &SharedDesk<L, B>,
+    hops: &[NextHop],
     listener: &D,
     links: u64,
     network: &N,
     clock: &C,
     log: &G,
-) -> Result<L, ServeFault>
-    requires { B.all ≡ B.parts }
-    ensures begins { IfOk result (λ l. L.stands l → BeginWith B.first (L.book l).lines) }
-    ensures history { IfOk result (λ l.
-        L.stands l → ∥ IsJournalled (site_routing B.site) (L.book l) ∥₁) }
-    ensures of { IfOk result (λ l. L.site l ≡ B.site) }
-{
-    let signal = Signal::new();
-    let (passes, own) = serve_all(
-        rt, alloc, &desk, own, hops, listener, links, &signal, network, clock, log,
+) -> Result<Vec<Pass<B>>, ServeFault> {
+    let signal = Signal::new(alloc, hops)?;
+    let Ok(senders) = senders_of(rt, alloc, desk, hops) else {
+        return Err(ServeFault::Memory);
+    };
+    let mut senders = senders;
+    let passes = serve_all(
+        rt,
+        alloc,
+        desk,
+        hops,
+        senders.as_mut_slice(),
+        listener,
+        links,
+        &signal,
+        network,
+        clock,
+        log,
     );
-    match all_passes(passes, own, signal.is_shut()) {
-        Ok(passes) => closed(alloc, desk, passes),
-        Err(fault) => {
-            drop(desk);
-            Err(fault)
-        }
-    }
+    all_passes(passes, senders, signal.is_shut())
 }
 
 /// Serves and sends on a shared desk, and ends the sharing.
@@ -317,14 +383,23 @@ fn serve_shared<
         L.stands l → ∥ IsJournalled (site_routing B.site) (L.book l) ∥₁) }
     ensures of { IfOk result (λ l. L.site l ≡ B.site) }
 {
-    match desk.pass(rt, alloc) {
-        Ok(own) => serve_by(
-            rt, alloc, desk, own, hops, listener, links, network, clock, log,
-        ),
-        Err(_) => {
-            drop(hops);
+    let came = serve_by(
+        rt,
+        alloc,
+        &desk,
+        hops.as_slice(),
+        listener,
+        links,
+        network,
+        clock,
+        log,
+    );
+    drop(hops);
+    match came {
+        Ok(passes) => closed(alloc, desk, passes),
+        Err(fault) => {
             drop(desk);
-            Err(ServeFault::Memory)
+            Err(fault)
         }
     }
 }
@@ -396,13 +471,14 @@ fn share<
     serve_shared(rt, alloc, desk, hops, listener, links, network, clock, log)
 }
 
-/// Serves the associations that are asked for at a listener, by 32 workers, and sends what is due,
-/// by one thread: each hop with a due
-/// row is visited once a round. It ends after so many connections (for 0 never), when these are
-/// served and one last round is made, and gives the ledger back: its journal begins with the lines
-/// that it had, and is a history of the node's site. Events are logged as they happen; where
-/// reports are wanted, the one who sends writes one at the start, every ten seconds if something
-/// has changed, and at the end. Where the store of the ledger is shut, that is logged once, and
+/// Serves the associations that are asked for at a listener, each in a thread of its own, 256 at a
+/// time, and sends what is due, in a thread for each hop: a hop that fails or hangs delays no other.
+/// A hop at which a visit failed is left alone, 1 s at first and 300 s at most; where a row was made
+/// for it meanwhile, 5 s at most. It ends after so many connections (for 0 never), when these are
+/// served and each hop was visited a last time, and gives the ledger back: its journal begins with
+/// the lines that it had, and is a history of the node's site. Events are logged as they happen;
+/// where reports are wanted, one is written at the start, every ten seconds if something has
+/// changed, and at the end. Where the store of the ledger is shut, that is logged once, and
 /// serving ends as soon as the sessions do.
 ///
 /// Errors: Receipt, Store, Memory.

@@ -41,7 +41,7 @@ pub fn is_shut<R: Wait, L: Ledger, B: Sharing>(rt: &R, desk: &SharedDesk<L, B>) 
     is_store_fault(desk.has(rt, desk.site().name()))
 }
 
-/// What the one who sends is woken by, and what it ends where the store is shut.
+/// What a node is woken by, and what is ended where its store is shut.
 #[derive(Drop)]
 pub struct Wake<'a, D: Listening> {
     pub signal: &'a Signal,
@@ -62,7 +62,7 @@ impl<'a, D: Listening> Wake<'a, D> {
             return false;
         }
         tell_shut(log);
-        self.signal.shut();
+        self.signal.shut(rt);
         self.listener.close();
         true
     }
