@@ -113,7 +113,7 @@ fn hear_first<K: Link + Drop, C: Clock, G: Gate>(
 ) -> Result<Ahead, AllocError> {
     let mut text = Vec::new(alloc);
     for _ in 0..MOST_PIECES {
-        if gate.is_over() {
+        if gate.is_over() || gate.is_closing() {
             return Ahead::of(alloc, &[], 0, Some(Heard::Fault));
         }
         let heard = link.recv();

@@ -50,4 +50,10 @@ pub trait Gate {
     fn is_over(&self) -> bool {
         false
     }
+
+    /// Whether no association is to begin any more: a connection that hasn't asked for one ends, as
+    /// by a fault of its link, at what it hears next.
+    fn is_closing(&self) -> bool {
+        false
+    }
 }

@@ -1,18 +1,24 @@
 //! The one who tells of a node, and ends it where its store is shut.
 use crate::events::tell_threads;
 use crate::monitor::Monitor;
-use crate::reporting::{LastTold, PERIOD, report_changes};
-use crate::shutting::Wake;
+use crate::reporting::{LastTold, report_changes};
+use crate::shutting::{Stage, Wake};
 use crate::signal::{BEGIN, News};
 use dr_desk::{SharedDesk, Sharing};
 use dr_ledger::Ledger;
-use dr_run_net::Listening;
+use dr_run_net::{Listening, Network};
 use dr_run_open::NextHop;
 use dr_session::Clock;
 use log::Log;
 use std::alloc::Global;
 use std::sync::Wait;
 use std::time;
+
+/// It looks every so many milliseconds.
+const TURN: u64 = 1_000;
+
+/// After so many looks all threads should have begun.
+const PATIENCE: u32 = 10;
 
 /// How many threads serve and send.
 #[derive(Clone, Copy, PartialEq, Eq, Debug)]
@@ -39,6 +45,7 @@ pub fn keep<
     L: Ledger,
     B: Sharing,
     D: Listening,
+    N: Network,
     C: Clock,
     G: Monitor,
 >(
@@ -47,28 +54,29 @@ pub fn keep<
     desk: &SharedDesk<L, B>,
     hops: &[NextHop],
     crew: Crew,
-    wake: &Wake<'_, D>,
+    wake: &Wake<'_, D, N>,
     clock: &C,
     log: &G,
 ) {
     if !wake.signal.has_begun(rt, BEGIN) {
         return;
     }
-    let mut told = report_changes(rt, alloc, desk, hops, LastTold::new(), clock.now(), false, log);
-    let mut is_told = false;
+    let (mut told, mut stage, mut looks) = (LastTold::new(), Stage::Serving, 0u32);
     for _ in rt.forever() {
-        let news = wake.signal.wait(rt, PERIOD);
+        let now = clock.now();
+        stage = wake.stops(rt, stage, now, log);
+        told = report_changes(rt, alloc, desk, hops, told, now, false, log);
+        let news = wake.signal.wait(rt, TURN);
         if news.doubts && wake.ends(rt, desk, log) {
             return;
         }
-        let is_over = news.over && news.sent;
-        if !is_told && !is_over {
-            tell_lacking(log, crew, news);
-            is_told = true;
-        }
-        told = report_changes(rt, alloc, desk, hops, told, clock.now(), is_over, log);
-        if is_over {
+        if news.over && news.sent {
+            report_changes(rt, alloc, desk, hops, told, clock.now(), true, log);
             return;
+        }
+        looks = looks.saturating_add(1);
+        if looks == PATIENCE {
+            tell_lacking(log, crew, news);
         }
     }
 }

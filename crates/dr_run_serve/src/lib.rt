@@ -7,6 +7,8 @@
 //! - `events`: what is logged of associations, instances and visits. `Monitor`: a log that may want
 //!   reports of what the node has too.
 //!
+//! A node that is asked to (`Stop`) ends in order: what is under way has 10 s.
+//!
 //! A node whose store is shut (`shutting`) ends: its log says so once, no more connections are
 //! accepted, and those that are served end.
 //!
@@ -28,6 +30,7 @@ mod sending;
 mod serving;
 mod shutting;
 mod signal;
+mod stop;
 mod tallied;
 mod visit;
 mod watch;
@@ -35,4 +38,5 @@ mod watch;
 pub use monitor::{FileMonitor, Monitor};
 pub use sending::visit_each;
 pub use serving::{ServeFault, serve};
+pub use stop::{Ending, Stop, Terms};
 pub use tallied::OwnPort;

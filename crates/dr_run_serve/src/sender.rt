@@ -76,6 +76,7 @@ fn visit<R: Wait, L: Ledger, B: Sharing, N: Network, C: Clock, G: Log>(
     alloc: Global,
     desk: &SharedDesk<L, B>,
     sender: &mut HopSender<'_, B>,
+    signal: &Signal,
     network: &N,
     clock: &C,
     log: &G,
@@ -88,6 +89,7 @@ fn visit<R: Wait, L: Ledger, B: Sharing, N: Network, C: Clock, G: Log>(
         rt,
         desk,
         pass,
+        signal,
         log,
     };
     let visited = visit_hop(
@@ -115,11 +117,12 @@ fn send<R: Wait, L: Ledger, B: Sharing, N: Network, C: Clock, G: Log>(
     alloc: Global,
     desk: &SharedDesk<L, B>,
     sender: &mut HopSender<'_, B>,
+    signal: &Signal,
     network: &N,
     clock: &C,
     log: &G,
 ) -> Result<(), LedgerFault> {
-    let (visit, settled) = visit(rt, alloc, desk, sender, network, clock, log)?;
+    let (visit, settled) = visit(rt, alloc, desk, sender, signal, network, clock, log)?;
     sender.rest = rest_after(sender.rest, &visit, settled, clock.now());
     sender.due = next_due(rt, desk, &sender.hop.dest)?;
     Ok(())
@@ -137,7 +140,7 @@ fn send_or_rest<R: Wait, L: Ledger, B: Sharing, N: Network, C: Clock, G: Log>(
     clock: &C,
     log: &G,
 ) {
-    if send(rt, alloc, desk, sender, network, clock, log).is_err() {
+    if send(rt, alloc, desk, sender, signal, network, clock, log).is_err() {
         sender.due = 0;
         sender.rest = Rest::none().lengthened(clock.now());
         signal.doubt(rt);
@@ -159,8 +162,8 @@ fn wake<B: Sharing>(sender: &mut HopSender<'_, B>) {
 }
 
 /// Visits the hop as often as there is something to send, until no worker is left; then there is
-/// one last visit. Where no worker ever begins, nothing is sent; where the store is shut, nothing
-/// more.
+/// one last visit. Where no worker ever begins, nothing is sent; where the node ends in order, or its
+/// store is shut, nothing more.
 pub fn send_rows<
     R: Wait + time::Clock,
     L: Ledger,
@@ -189,7 +192,7 @@ pub fn send_rows<
     let mut sleep = 0;
     for _ in rt.forever() {
         let call = bell.wait(rt, sleep);
-        if signal.is_shut() {
+        if signal.is_ending() {
             return;
         }
         if call.rows {

@@ -10,6 +10,7 @@ use crate::monitor::Monitor;
 use crate::sender::{HopSender, send_rows};
 use crate::shutting::Wake;
 use crate::signal::{BEGIN, Signal};
+use crate::stop::Terms;
 use crate::watch::Watch;
 use crossbeam_channel::{Receiver, Sender, bounded};
 use dr_desk::{CloseFault, Desk, Pass, SharedDesk, Sharing};
@@ -28,11 +29,6 @@ use std::thread::Threads;
 use std::time::Duration;
 use std::{thread, time};
 use thiserror::Error;
-
-/// How many threads serve associations at most. Each association holds its own until it ends, also
-/// where its peer says nothing; 256 of them are open at a time, and eight threads are left to
-/// reject others.
-const WORKERS: usize = 264;
 
 /// How many connections wait for one of them; others wait to be accepted.
 const QUEUE: usize = 256;
@@ -78,7 +74,7 @@ impl<'a, C: Clock> Clock for ClockOf<'a, C> {
 }
 
 /// Accepts so many connections, or, for 0, each that comes, and hands them to the workers, until
-/// the store is shut. Of accepts that fail one after the
+/// the node comes to its end. Of accepts that fail one after the
 /// other the first is told. Says whether there were workers: where the system gave no thread for
 /// them it accepts nothing.
 fn accept_links<
@@ -106,7 +102,7 @@ fn accept_links<
             return true;
         }
         let came = listener.accept();
-        if signal.is_shut() {
+        if signal.is_ending() {
             return true;
         }
         let link = match came {
@@ -148,12 +144,13 @@ fn work<
     alloc: Global,
     from: Receiver<Connection<K, C>>,
     desk: &SharedDesk<L, B>,
+    terms: Terms<'_>,
     signal: &Signal,
     log: &G,
 ) -> Result<Vec<Pass<B>>, WorkersFault> {
     signal.begin(rt);
     let watch = Watch { rt, signal, log };
-    let passes = workers(rt, alloc, WORKERS, &from, desk, &watch);
+    let passes = workers(rt, alloc, terms.workers(), &from, desk, &watch);
     drop(from);
     signal.end(rt);
     passes
@@ -173,7 +170,7 @@ fn serve_links<
     alloc: Global,
     desk: &SharedDesk<L, B>,
     listener: &D,
-    links: u64,
+    terms: Terms<'_>,
     signal: &Signal,
     clock: &C,
     log: &G,
@@ -184,8 +181,8 @@ fn serve_links<
     };
     let (passes, has_served) = thread::join(
         rt,
-        || work(rt, alloc, from, desk, signal, log),
-        || accept_links(rt, listener, to, links, signal, clock, log),
+        || work(rt, alloc, from, desk, terms, signal, log),
+        || accept_links(rt, listener, to, terms.links, signal, clock, log),
     );
     if has_served {
         passes
@@ -196,6 +193,7 @@ fn serve_links<
 
 /// Sends to each hop, in a thread of its own, as long as somebody serves.
 fn send_all<
+    'a,
     R: Threads + Wait + Sync + time::Clock,
     L: Ledger + Drop + Send,
     B: Sharing + Send + Sync,
@@ -206,17 +204,18 @@ fn send_all<
     rt: &R,
     alloc: Global,
     desk: &SharedDesk<L, B>,
-    senders: &mut [HopSender<'_, B>],
+    senders: Vec<HopSender<'a, B>>,
     signal: &Signal,
     network: &N,
     clock: &C,
     log: &G,
-) {
+) -> Vec<HopSender<'a, B>> {
+    let mut senders = senders;
     let count = senders.len();
     if count > 0 {
         thread::for_each_mut(
             rt,
-            senders,
+            senders.as_mut_slice(),
             count,
             &|number, sender| {
                 send_rows(rt, alloc, desk, sender, number, signal, network, clock, log)
@@ -224,10 +223,43 @@ fn send_all<
         );
     }
     signal.end_sending(rt);
+    senders
 }
 
-/// Serves, sends and tells of the node, side by side; the passes of those who serve.
+/// Sends, and tells of the node, side by side.
+fn send_and_keep<
+    'a,
+    R: Threads + Wait + Sync + time::Clock,
+    L: Ledger + Drop + Send,
+    B: Sharing + Send + Sync,
+    D: Listening + Sync,
+    N: Network + Sync,
+    C: Clock + Sync,
+    G: Monitor + Sync,
+>(
+    rt: &R,
+    alloc: Global,
+    desk: &SharedDesk<L, B>,
+    hops: &[NextHop],
+    senders: Vec<HopSender<'a, B>>,
+    crew: Crew,
+    wake: &Wake<'_, D, N>,
+    clock: &C,
+    log: &G,
+) -> Vec<HopSender<'a, B>> {
+    let (signal, network) = (wake.signal, wake.network);
+    let (senders, ()) = thread::join(
+        rt,
+        || send_all(rt, alloc, desk, senders, signal, network, clock, log),
+        || keep(rt, alloc, desk, hops, crew, wake, clock, log),
+    );
+    senders
+}
+
+/// Serves, sends and tells of the node, side by side; the passes of those who serve, and those who
+/// send.
 fn serve_all<
+    'a,
     R: Threads + Wait + Sync + time::Clock,
     L: Ledger + Drop + Send,
     B: Sharing + Send + Sync,
@@ -241,31 +273,29 @@ fn serve_all<
     alloc: Global,
     desk: &SharedDesk<L, B>,
     hops: &[NextHop],
-    senders: &mut [HopSender<'_, B>],
+    senders: Vec<HopSender<'a, B>>,
     listener: &D,
-    links: u64,
+    terms: Terms<'_>,
     signal: &Signal,
     network: &N,
     clock: &C,
     log: &G,
-) -> Result<Vec<Pass<B>>, WorkersFault> {
-    let wake = Wake { signal, listener };
+) -> (Result<Vec<Pass<B>>, WorkersFault>, Vec<HopSender<'a, B>>) {
+    let wake = Wake {
+        signal,
+        listener,
+        network,
+        stop: terms.stop,
+    };
     let crew = Crew {
-        workers: WORKERS,
+        workers: terms.workers(),
         senders: senders.len(),
     };
-    let (passes, _) = thread::join(
+    thread::join(
         rt,
-        || serve_links(rt, alloc, desk, listener, links, signal, clock, log),
-        || {
-            thread::join(
-                rt,
-                || send_all(rt, alloc, desk, senders, signal, network, clock, log),
-                || keep(rt, alloc, desk, hops, crew, &wake, clock, log),
-            )
-        },
-    );
-    passes
+        || serve_links(rt, alloc, desk, listener, terms, signal, clock, log),
+        || send_and_keep(rt, alloc, desk, hops, senders, crew, &wake, clock, log),
+    )
 }
 
 /// One who sends for each hop, each with a pass of its own.
@@ -330,7 +360,7 @@ fn serve_by<
     desk: &SharedDesk<L, B>,
     hops: &[NextHop],
     listener: &D,
-    links: u64,
+    terms: Terms<'_>,
     network: &N,
     clock: &C,
     log: &G,
@@ -339,15 +369,14 @@ fn serve_by<
     let Ok(senders) = senders_of(rt, alloc, desk, hops) else {
         return Err(ServeFault::Memory);
     };
-    let mut senders = senders;
-    let passes = serve_all(
+    let (passes, senders) = serve_all(
         rt,
         alloc,
         desk,
         hops,
-        senders.as_mut_slice(),
+        senders,
         listener,
-        links,
+        terms,
         &signal,
         network,
         clock,
@@ -372,7 +401,7 @@ fn serve_shared<
     desk: SharedDesk<L, B>,
     hops: Vec<NextHop>,
     listener: &D,
-    links: u64,
+    terms: Terms<'_>,
     network: &N,
     clock: &C,
     log: &G,
@@ -389,7 +418,7 @@ fn serve_shared<
         &desk,
         hops.as_slice(),
         listener,
-        links,
+        terms,
         network,
         clock,
         log,
@@ -449,7 +478,7 @@ fn share<
     blank: Blank,
     hops: Vec<NextHop>,
     listener: &D,
-    links: u64,
+    terms: Terms<'_>,
     network: &N,
     clock: &C,
     log: &G,
@@ -468,18 +497,19 @@ fn share<
         Err((LedgerFault::Memory, _)) => return Err(ServeFault::Memory),
         Err(_) => return Err(ServeFault::Store),
     };
-    serve_shared(rt, alloc, desk, hops, listener, links, network, clock, log)
+    serve_shared(rt, alloc, desk, hops, listener, terms, network, clock, log)
 }
 
 /// Serves the associations that are asked for at a listener, each in a thread of its own, 256 at a
-/// time, and sends what is due, in a thread for each hop: a hop that fails or hangs delays no other.
+/// time if the terms give 264 threads, and sends what is due, in a thread for each hop: a hop that fails or hangs delays no other.
 /// A hop at which a visit failed is left alone, 1 s at first and 300 s at most; where a row was made
 /// for it meanwhile, 5 s at most. It ends after so many connections (for 0 never), when these are
 /// served and each hop was visited a last time, and gives the ledger back: its journal begins with
 /// the lines that it had, and is a history of the node's site. Events are logged as they happen;
 /// where reports are wanted, one is written at the start, every ten seconds if something has
 /// changed, and at the end. Where the store of the ledger is shut, that is logged once, and
-/// serving ends as soon as the sessions do.
+/// serving ends as soon as the sessions do. Where its end is asked for, no association is begun any
+/// more; what is under way has 10 s, then its connections are cut.
 ///
 /// Errors: Receipt, Store, Memory.
 pub fn serve<
@@ -497,7 +527,7 @@ pub fn serve<
     site: Site,
     hops: Vec<NextHop>,
     listener: &D,
-    links: u64,
+    terms: Terms<'_>,
     network: &N,
     clock: &C,
     log: &G,
@@ -517,7 +547,7 @@ pub fn serve<
         Blank::new(65_536),
         hops,
         listener,
-        links,
+        terms,
         network,
         clock,
         log,

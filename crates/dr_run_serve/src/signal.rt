@@ -98,6 +98,7 @@ pub struct Signal {
     news: Mutex<News>,
     changed: Condvar,
     shut: AtomicBool,
+    stopping: AtomicBool,
     bells: Vec<Bell>,
 }
 
@@ -119,6 +120,7 @@ impl Signal {
             }),
             changed: Condvar::new(),
             shut: AtomicBool::new(false),
+            stopping: AtomicBool::new(false),
             bells,
         })
     }
@@ -183,6 +185,17 @@ impl Signal {
     /// Whether the store is shut.
     pub fn is_shut(&self) -> bool {
         self.shut.load(Ordering::SeqCst)
+    }
+
+    /// The node ends in order.
+    pub fn stop<R: Wait>(&self, rt: &R) {
+        self.stopping.store(true, Ordering::SeqCst);
+        self.end_all(rt);
+    }
+
+    /// Whether the node ends, in order or since its store is shut: nothing is begun any more.
+    pub fn is_ending(&self) -> bool {
+        self.stopping.load(Ordering::SeqCst) || self.is_shut()
     }
 
     /// Those who send come to their end.

@@ -53,6 +53,10 @@ impl<'a, R: Wait, G: Log> Gate for Watch<'a, R, G> {
         self.signal.is_shut()
     }
 
+    fn is_closing(&self) -> bool {
+        self.signal.is_ending()
+    }
+
     fn ended(&self, session: u64, ended: Result<Ended, SessionFault>, tally: Tally) {
         tell_association(self.log, session, ended, tally);
     }
