@@ -8,42 +8,42 @@ const MOST_OPEN: usize = 256;
 /// counted, answered and let in while the lock is held, and no other in between.
 #[derive(Drop)]
 pub struct Door {
-    open: usize,
-    ghost few: { open ≤ 256 },
+    count: usize,
+    ghost few: { count ≤ 256 },
 }
 
 impl Door {
     /// None is open.
     pub fn new() -> Door
-        ensures { result.open ≡ 0 }
+        ensures { result.count ≡ 0 }
     {
-        Door { open: 0 }
+        Door { count: 0 }
     }
 
     /// How many are open.
-    pub fn open(&self) -> usize
-        ensures { result ≡ self.now.open }
+    pub fn count(&self) -> usize
+        ensures { result ≡ self.now.count }
     {
-        self.open
+        self.count
     }
 
     /// Lets one in, where fewer than 256 are; says whether it did.
     pub fn enter(&mut self) -> bool
         ensures { MatchBool result
-            ((self.old.open < 256) × (self.new.open ≡ self.old.open + 1))
-            ((self.old.open ≡ 256) × (self.new.open ≡ self.old.open)) }
+            ((self.old.count < 256) × (self.new.count ≡ self.old.count + 1))
+            ((self.old.count ≡ 256) × (self.new.count ≡ self.old.count)) }
     {
-        if self.open >= MOST_OPEN {
+        if self.count >= MOST_OPEN {
             return false;
         }
-        self.open += 1;
+        self.count += 1;
         true
     }
 
     /// One that was let in has left.
     pub fn leave(&mut self)
-        ensures { self.new.open ≡ self.old.open - 1 }
+        ensures { self.new.count ≡ self.old.count - 1 }
     {
-        self.open = self.open.saturating_sub(1);
+        self.count = self.count.saturating_sub(1);
     }
 }

@@ -117,7 +117,7 @@ impl<'a, K: Link + Drop, G: Gate> GatedLink<'a, K, G> {
 
     /// Whether its association was let in. Its turn is over.
     pub fn was_inside(self) -> bool
-        ensures { result ≡ self.inside }
+        ensures { result ≡ self.entry.inside }
     {
         self.inside
     }

@@ -143,7 +143,7 @@ fn receive_gated<R: Wait, L: Ledger, B: Sharing, K: Link + Drop, C: Clock, G: Ga
     let (mut link, taken) = (link, clock.now());
     let ahead = ahead_of(alloc, &mut link, gate, clock, taken);
     let turn = door.lock(rt);
-    let others = turn.open();
+    let others = turn.count();
     let mut link = GatedLink {
         link,
         ahead,
