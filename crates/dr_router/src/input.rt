@@ -15,7 +15,7 @@ pub struct InputEnd<'a, T: Threads, I: Read + Copy + Send + Drop + 'static> {
 
 /// Reads an input to its end, and lets go of what it reads. One that can't be read any more has
 /// ended, too.
-fn read_out<I: Read>(input: I) {
+fn read_out<I: Read + Drop>(input: I) {
     let (mut input, mut piece) = (input, [0u8; 256]);
     for _ in 0..u64::MAX {
         match input.read(&mut piece) {

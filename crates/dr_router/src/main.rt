@@ -44,7 +44,10 @@ fn run<T: Threads + Wait + Sync + time::Clock>(
         &Sockets::new(rt, &clock, &cut),
         &clock,
         &EventLog { rt, clock: &clock },
-        &InputEnd { rt: threads, input },
+        &InputEnd {
+            rt: threads,
+            input: rt.stdin(),
+        },
     );
     Ok(status)
 }

@@ -23,6 +23,7 @@
 mod clock;
 mod limits;
 mod network;
+mod pacing;
 mod quiet;
 mod socket;
 mod sockets;

@@ -9,7 +9,7 @@ use std::io;
 
 /// Where a program connects and listens, each address as a plan writes it (`host:port`). Its
 /// relation says which links may lead to an address; a system's sockets claim nothing.
-pub trait Network: Sized {
+pub trait Network: Sized + Drop {
     type Socket: Link + Drop;
 
     type Listener: Listening<Socket = Self::Socket> + Drop;

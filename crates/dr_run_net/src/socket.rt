@@ -8,8 +8,9 @@ ghost use Rattle.dr_run_net.specs.Hearing.{Hears, IsAwaited, IsSwift, IsWidened,
 ghost use Rattle.dr_run_net.specs.declared.window.Window.{Window as WindowValue};
 
 use crate::limits::{Cut, Limits};
+use crate::pacing::{is_slow, widen};
 use crate::quiet::is_quiet;
-use crate::window::{Window, is_slow, widen};
+use crate::window::Window;
 use crate::writing::write_in_time;
 use dr_base::Text;
 use dr_session::{Clock, Heard, Link};

@@ -1,6 +1,5 @@
 //! How long a hop is left alone after visits that failed.
-ghost use Rattle.std.specs.Prelude.{◌≡◌, ◌≤◌, ◌+◌, ◌*◌, ◌^◌, false, max, min, true};
-ghost use Rattle.dr_run_serve.specs.Rests.{until_of};
+ghost use Rattle.std.specs.Prelude.{◌≡◌, ◌≤◌, ◌+◌, ◌*◌, ◌^◌, MatchBool, false, max, min, true};
 
 use crate::visit::Visit;
 use dr_session::Ended;
@@ -17,11 +16,11 @@ const SHORT: u64 = 5_000;
 /// The rest of a hop: since when, how long, and whether a row was made meanwhile. One of 0 is none.
 #[derive(Clone, Copy, PartialEq, Eq, Debug)]
 pub struct Rest {
-    since: u64,
-    wait: u64,
-    short: bool,
-    ghost early: { since ≤ 2 ^ 62 },
-    ghost bounded: { wait ≤ 300000 },
+    pub since: u64,
+    pub wait: u64,
+    pub short: bool,
+    pub ghost early: { since ≤ 2 ^ 62 },
+    pub ghost bounded: { wait ≤ 300000 },
 }
 
 impl Rest {
@@ -64,7 +63,9 @@ impl Rest {
 
     /// The moment at which it ends.
     pub fn until(self) -> u64
-        ensures { result ≡ until_of self }
+        ensures { MatchBool self.short
+            (result ≡ self.since + min 5000 self.wait)
+            (result ≡ self.since + self.wait) }
     {
         if self.short {
             self.since + self.wait.min(SHORT)

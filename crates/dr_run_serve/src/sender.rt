@@ -1,6 +1,5 @@
 //! The one who sends to a hop.
-ghost use Rattle.std.specs.Prelude.{◌≡◌, ◌≤◌};
-ghost use Rattle.dr_run_serve.specs.Rests.{until_of};
+ghost use Rattle.std.specs.Prelude.{◌≡◌, ◌≤◌, ◌+◌, MatchBool, min};
 
 use crate::events::tell_visit;
 use crate::rest::{Rest, rest_after};
@@ -150,7 +149,9 @@ fn send_or_rest<R: Wait, L: Ledger, B: Sharing, N: Network, C: Clock, G: Log>(
 /// When the hop is to be visited again: not before a row is due, and not before its rest is over.
 fn next_visit<B: Sharing>(sender: &HopSender<'_, B>) -> u64
     ensures due { sender.now.due ≤ result }
-    ensures rest { until_of sender.now.rest ≤ result }
+    ensures rest { MatchBool sender.now.rest.short
+        (sender.now.rest.since + min 5000 sender.now.rest.wait ≤ result)
+        (sender.now.rest.since + sender.now.rest.wait ≤ result) }
 {
     sender.due.max(sender.rest.until())
 }
