@@ -39,7 +39,8 @@ pub trait Gate {
         answer: Result<Arrived, LedgerFault>,
     );
 
-    /// An arrival was answered, by which there may be new rows for these nodes; None stands for all.
+    /// An arrival was answered, by which there may be new rows for these nodes; None stands for
+    /// all.
     fn queued(&self, _dests: Option<&[Text]>) {}
 
     /// The session is over.

@@ -39,10 +39,10 @@ impl From<TooManyPasses> for WorkersFault {
     }
 }
 
-/// Runs n workers, 1 to 264, on the connections of a channel until it is closed and empty, and gives
-/// back their passes. All passes are made before any connection is taken. Each connection is served
-/// with one session, of which no fault ends another; where a thread can't be started, its part is
-/// served in a running one.
+/// Runs n workers, 1 to 264, on the connections of a channel until it is closed and empty, and
+/// gives back their passes. All passes are made before any connection is taken. Each connection is
+/// served with one session, of which no fault ends another; where a thread can't be started, its
+/// part is served in a running one.
 ///
 /// At most 256 associations are open at a time. A request is answered once it is there whole. The
 /// others that are open are counted, the request is answered, and its association is counted in, in
@@ -118,7 +118,9 @@ fn serve<R: Wait, L: Ledger, B: Sharing, K: Link + Drop, C: Clock + Drop, G: Gat
     gate.at(session, Point::Taken);
     let counts = SessionCounts::new();
     let opened = link.opened();
-    let ended = receive_gated(rt, alloc, desk, gate, session, link, &clock, &counts, door, pass);
+    let ended = receive_gated(
+        rt, alloc, desk, gate, session, link, &clock, &counts, door, pass,
+    );
     gate.ended(
         session,
         ended,

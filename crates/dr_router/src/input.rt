@@ -33,13 +33,10 @@ fn read_out<I: Read + Drop>(input: I) {
 impl<'a, T: Threads, I: Read + Copy + Send + Drop + 'static> Ending for InputEnd<'a, T, I> {
     fn watch(&self, stop: Arc<Stop, Global>) -> io::Result<()> {
         let input = self.input;
-        let _thread = Builder::new().spawn(
-            self.rt,
-            move || {
-                read_out(input);
-                stop.ask();
-            },
-        )?;
+        let _thread = Builder::new().spawn(self.rt, move || {
+            read_out(input);
+            stop.ask();
+        })?;
         Ok(())
     }
 }

@@ -12,6 +12,6 @@ take_split n m xs le = ap (λ (front : List ℕ). front ++ take m (drop n xs)) (
 pub written_more : (a b c : Option (List ℕ)) (bytes : List ℕ) (at count : ℕ) → at ≤ length bytes → Appends a b (take at bytes) → count ≤ length (drop at bytes) → Appends b c (take count (drop at bytes))
     → (at + count ≤ length bytes) × Appends a c (take (at + count) bytes)
 written_more a b c bytes at count inside before within more = (
-      omega (arith, length-drop at bytes),
-      subst (Appends a c) (take_split at count bytes (omega arith)) (Appends-trans a b c (take at bytes) (take count (drop at bytes)) before more),
-    )
+  omega (arith, length-drop at bytes),
+  subst (Appends a c) (take_split at count bytes (omega arith)) (Appends-trans a b c (take at bytes) (take count (drop at bytes)) before more),
+)

@@ -12,8 +12,8 @@
 //!   request, 60 s for an answer). The moment at which a socket counts a connection as open is the
 //!   one at which it was accepted; a worker that takes it later counts from then
 //!   (`dr_desk_workers`).
-//! - A message that has begun has to bring 64 kB in each 30 s, or its end. Between two messages 600 s
-//!   may be silent. Else the link has failed, so that no peer holds a node's workers for ever.
+//! - A message that has begun has to bring 64 kB in each 30 s, or its end. Between two messages 600
+//!   s may be silent. Else the link has failed, so that no peer holds a node's workers for ever.
 //! - These times are its `Limits`. A `Cut` ends all links at once.
 //! - Each failure of a read or a write is counted, and only then a fault is answered.
 //!

@@ -30,9 +30,9 @@ const TURN: u64 = 1_000;
 const PIECE: usize = 65_536;
 
 /// One end of a connection, with the clock by which it counts. `marked` is the moment of its last
-/// late mark, `rested` that since which no message is under way; both begin with the moment at which
-/// it was opened. A message is under way from its first byte until something is written: an end
-/// writes, or closes, as soon as a message is whole.
+/// late mark, `rested` that since which no message is under way; both begin with the moment at
+/// which it was opened. A message is under way from its first byte until something is written: an
+/// end writes, or closes, as soon as a message is whole.
 #[derive(Drop)]
 pub struct Socket<'a, S: Read + Write + OpenStream + Drop, C: Clock> {
     pub(crate) alloc: Global,

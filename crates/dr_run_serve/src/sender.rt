@@ -163,16 +163,9 @@ fn wake<B: Sharing>(sender: &mut HopSender<'_, B>) {
 }
 
 /// Visits the hop as often as there is something to send, until no worker is left; then there is
-/// one last visit. Where no worker ever begins, nothing is sent; where the node ends in order, or its
-/// store is shut, nothing more.
-pub fn send_rows<
-    R: Wait + time::Clock,
-    L: Ledger,
-    B: Sharing,
-    N: Network,
-    C: Clock,
-    G: Log,
->(
+/// one last visit. Where no worker ever begins, nothing is sent; where the node ends in order, or
+/// its store is shut, nothing more.
+pub fn send_rows<R: Wait + time::Clock, L: Ledger, B: Sharing, N: Network, C: Clock, G: Log>(
     rt: &R,
     alloc: Global,
     desk: &SharedDesk<L, B>,

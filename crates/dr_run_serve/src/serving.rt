@@ -370,17 +370,7 @@ fn serve_by<
         return Err(ServeFault::Memory);
     };
     let (passes, senders) = serve_all(
-        rt,
-        alloc,
-        desk,
-        hops,
-        senders,
-        listener,
-        terms,
-        &signal,
-        network,
-        clock,
-        log,
+        rt, alloc, desk, hops, senders, listener, terms, &signal, network, clock, log,
     );
     all_passes(passes, senders, signal.is_shut())
 }
@@ -501,15 +491,15 @@ fn share<
 }
 
 /// Serves the associations that are asked for at a listener, each in a thread of its own, 256 at a
-/// time if the terms give 264 threads, and sends what is due, in a thread for each hop: a hop that fails or hangs delays no other.
-/// A hop at which a visit failed is left alone, 1 s at first and 300 s at most; where a row was made
-/// for it meanwhile, 5 s at most. It ends after so many connections (for 0 never), when these are
-/// served and each hop was visited a last time, and gives the ledger back: its journal begins with
-/// the lines that it had, and is a history of the node's site. Events are logged as they happen;
-/// where reports are wanted, one is written at the start, every ten seconds if something has
-/// changed, and at the end. Where the store of the ledger is shut, that is logged once, and
-/// serving ends as soon as the sessions do. Where its end is asked for, no association is begun any
-/// more; what is under way has 10 s, then its connections are cut.
+/// time if the terms give 264 threads, and sends what is due, in a thread for each hop: a hop that
+/// fails or hangs delays no other. A hop at which a visit failed is left alone, 1 s at first and
+/// 300 s at most; where a row was made for it meanwhile, 5 s at most. It ends after so many
+/// connections (for 0 never), when these are served and each hop was visited a last time, and gives
+/// the ledger back: its journal begins with the lines that it had, and is a history of the node's
+/// site. Events are logged as they happen; where reports are wanted, one is written at the start,
+/// every ten seconds if something has changed, and at the end. Where the store of the ledger is
+/// shut, that is logged once, and serving ends as soon as the sessions do. Where its end is asked
+/// for, no association is begun any more; what is under way has 10 s, then its connections are cut.
 ///
 /// Errors: Receipt, Store, Memory.
 pub fn serve<

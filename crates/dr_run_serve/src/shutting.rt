@@ -83,9 +83,9 @@ impl<'a, D: Listening, N: Network> Wake<'a, D, N> {
         true
     }
 
-    /// Ends the node in order, where that was asked for and from then on: nothing is begun any more.
-    /// What is still under way so many milliseconds later is cut. Given is when it began to end, and
-    /// whether it was cut; so is the answer.
+    /// Ends the node in order, where that was asked for and from then on: nothing is begun any
+    /// more. What is still under way so many milliseconds later is cut. Given is when it began to
+    /// end, and whether it was cut; so is the answer.
     pub fn stops<R: Wait, G: Log>(&self, rt: &R, ending: Stage, now: u64, log: &G) -> Stage {
         match ending {
             Stage::Serving if self.stop.is_asked() => {

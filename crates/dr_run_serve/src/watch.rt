@@ -9,8 +9,8 @@ use dr_session::{Ended, SessionFault};
 use log::{Log, debug};
 use std::sync::Wait;
 
-/// Rings for the hops for which an arrival may have made rows, and logs what happens; doubts the store where it failed. No
-/// session is held.
+/// Rings for the hops for which an arrival may have made rows, and logs what happens; doubts the
+/// store where it failed. No session is held.
 #[derive(Drop)]
 pub struct Watch<'a, R: Wait, G: Log> {
     pub rt: &'a R,

@@ -388,7 +388,10 @@ fn until_input_ends<'a>(alloc: Global) -> Arg<'a> {
 const CONNECT: Choice = Choice::Seconds(("CONNECT", "gives a connect up then (10)"), "connect");
 
 const WRITE: Choice = Choice::Seconds(
-    ("WRITE", "a PDU that isn't taken by then ends an association (60)"),
+    (
+        "WRITE",
+        "a PDU that isn't taken by then ends an association (60)",
+    ),
     "write",
 );
 
@@ -401,7 +404,10 @@ const MESSAGE: Choice = Choice::Seconds(
 );
 
 const IDLE: Choice = Choice::Seconds(
-    ("IDLE", "so much silence between two messages ends an association (600)"),
+    (
+        "IDLE",
+        "so much silence between two messages ends an association (600)",
+    ),
     "idle",
 );
 

@@ -7,4 +7,6 @@
 mod command_line;
 mod words;
 
-pub use words::{Duty, KeyWords, PlanChange, Question, Serving, Task, Verbosity, Waits, read_words};
+pub use words::{
+    Duty, KeyWords, PlanChange, Question, Serving, Task, Verbosity, Waits, read_words,
+};

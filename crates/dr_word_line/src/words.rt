@@ -65,8 +65,8 @@ pub enum Verbosity {
     Everything,
 }
 
-/// How long a node that serves waits for its peers, in seconds: for a connect, for a PDU to be taken,
-/// for 64 kB of a message or its end, and for the next message.
+/// How long a node that serves waits for its peers, in seconds: for a connect, for a PDU to be
+/// taken, for 64 kB of a message or its end, and for the next message.
 #[derive(Clone, Copy, PartialEq, Eq, Debug, Drop)]
 pub struct Waits {
     pub connect: u32,

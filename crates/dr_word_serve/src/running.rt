@@ -155,8 +155,8 @@ fn serve_opened<
     )
 }
 
-/// Tells that a node serves so many associations, by how many threads, and how many seconds it waits
-/// for its peers.
+/// Tells that a node serves so many associations, by how many threads, and how many seconds it
+/// waits for its peers.
 fn tell_serving<G: Monitor>(log: &G, given: NodeFiles<'_>, serving: Serving<'_>, workers: usize) {
     let (node, ledger) = (
         Escaped(given.node.as_bytes()),
@@ -185,9 +185,12 @@ fn milliseconds(seconds: u32) -> u64
 
 /// The limits of a node's links.
 fn limits_of(waits: Waits) -> Limits
-    ensures { result ≡ record { connect = 1000 * max 1 waits.connect;
-        write = 1000 * max 1 waits.write; message = 1000 * max 1 waits.message;
-        idle = 1000 * max 1 waits.idle } }
+    ensures { result ≡ record {
+      connect = 1000 * max 1 waits.connect;
+      write = 1000 * max 1 waits.write;
+      message = 1000 * max 1 waits.message;
+      idle = 1000 * max 1 waits.idle;
+    } }
 {
     Limits {
         connect: milliseconds(waits.connect),
@@ -297,8 +300,9 @@ fn stop_of<'a, U: Ending>(
 /// input has ended, the node's report is printed. Events are logged as they happen; where a file is
 /// named for it, the report is written there too, at most every ten seconds.
 ///
-/// Errors: Stream, also where the system gives no thread for the input; File; File with the node's name where its address can't be listened at, and with
-/// the report's path where no report may be written there.
+/// Errors: Stream, also where the system gives no thread for the input; File; File with the node's
+/// name where its address can't be listened at, and with the report's path where no report may be
+/// written there.
 pub fn serve_files<
     'a,
     R: Threads + Wait + Sync + time::Clock,
