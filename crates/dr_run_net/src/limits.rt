@@ -16,8 +16,12 @@ pub struct Limits {
 impl Limits {
     /// Those that hold where nothing else is asked for: 10, 60, 30 and 600 seconds.
     pub fn usual() -> Limits
-        ensures { result ≡ record { connect = 10000; write = 60000; message = 30000;
-            idle = 600000 } }
+        ensures { result ≡ record {
+          connect = 10000;
+          write = 60000;
+          message = 30000;
+          idle = 600000;
+        } }
     {
         Limits {
             connect: 10_000,

@@ -41,7 +41,10 @@ impl<'a, R: Net<Stream = TcpStream, Listener = TcpListener>, C: Clock> Sockets<'
         // time.
         let begun = self.clock.now();
         for one in addresses {
-            let left = self.limits.connect.saturating_sub(self.clock.now().saturating_sub(begun));
+            let left = self
+                .limits
+                .connect
+                .saturating_sub(self.clock.now().saturating_sub(begun));
             if left == 0 {
                 return Err(io::Error::from(ErrorKind::TimedOut));
             }

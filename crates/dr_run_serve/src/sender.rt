@@ -14,7 +14,7 @@ use dr_run_net::Network;
 use dr_run_open::NextHop;
 use dr_session::Clock;
 use log::Log;
-use std::alloc::Global;
+use std::alloc::{AllocError, Global};
 use std::sync::Wait;
 use std::time;
 
@@ -27,25 +27,31 @@ const LAST: u64 = 1 << 62;
 /// No sleep is longer, in milliseconds.
 const LONGEST: u64 = 60_000;
 
-/// One who sends to a hop, with a pass of its own, from which moment on a row is due, as far as it
-/// knows, and how long it leaves the hop alone.
+/// One who sends to a hop, with a pass of its own, and how long it leaves the hop alone. Its hop has
+/// the moment from which on a row is due, as far as it knows.
 #[derive(Drop)]
-pub struct HopSender<'a, B: Sharing> {
+pub struct HopSender<B: Sharing> {
     pub pass: Pass<B>,
-    pub hop: &'a NextHop,
-    pub due: u64,
+    pub hop: NextHop,
     pub rest: Rest,
 }
 
-impl<'a, B: Sharing> HopSender<'a, B> {
+impl<B: Sharing> HopSender<B> {
     /// One who has not looked yet.
-    pub fn new(pass: Pass<B>, hop: &'a NextHop) -> HopSender<'a, B> {
-        HopSender {
+    ///
+    /// Errors: want of memory.
+    pub fn new(pass: Pass<B>, hop: &NextHop) -> Result<HopSender<B>, AllocError> {
+        let dest = hop.dest.clone()?;
+        let address = hop.address.clone()?;
+        Ok(HopSender {
             pass,
-            hop,
-            due: 0,
+            hop: NextHop {
+                dest,
+                address,
+                due: 0,
+            },
             rest: Rest::none(),
-        }
+        })
     }
 }
 
@@ -74,13 +80,13 @@ fn visit<R: Wait, L: Ledger, B: Sharing, N: Network, C: Clock, G: Log>(
     rt: &R,
     alloc: Global,
     desk: &SharedDesk<L, B>,
-    sender: &mut HopSender<'_, B>,
+    sender: &mut HopSender<B>,
     signal: &Signal,
     network: &N,
     clock: &C,
     log: &G,
 ) -> Result<(Visit, u64), LedgerFault>
-    ensures { (sender.new.due ≡ sender.old.due) × (sender.new.rest ≡ sender.old.rest) }
+    ensures { (sender.new.hop ≡ sender.old.hop) × (sender.new.rest ≡ sender.old.rest) }
 {
     let HopSender { pass, hop, .. } = sender;
     let before = pass.count();
@@ -115,7 +121,7 @@ fn send<R: Wait, L: Ledger, B: Sharing, N: Network, C: Clock, G: Log>(
     rt: &R,
     alloc: Global,
     desk: &SharedDesk<L, B>,
-    sender: &mut HopSender<'_, B>,
+    sender: &mut HopSender<B>,
     signal: &Signal,
     network: &N,
     clock: &C,
@@ -123,7 +129,7 @@ fn send<R: Wait, L: Ledger, B: Sharing, N: Network, C: Clock, G: Log>(
 ) -> Result<(), LedgerFault> {
     let (visit, settled) = visit(rt, alloc, desk, sender, signal, network, clock, log)?;
     sender.rest = rest_after(sender.rest, &visit, settled, clock.now());
-    sender.due = next_due(rt, desk, &sender.hop.dest)?;
+    sender.hop.due = next_due(rt, desk, &sender.hop.dest)?;
     Ok(())
 }
 
@@ -133,32 +139,32 @@ fn send_or_rest<R: Wait, L: Ledger, B: Sharing, N: Network, C: Clock, G: Log>(
     rt: &R,
     alloc: Global,
     desk: &SharedDesk<L, B>,
-    sender: &mut HopSender<'_, B>,
+    sender: &mut HopSender<B>,
     signal: &Signal,
     network: &N,
     clock: &C,
     log: &G,
 ) {
     if send(rt, alloc, desk, sender, signal, network, clock, log).is_err() {
-        sender.due = 0;
+        sender.hop.due = 0;
         sender.rest = Rest::none().lengthened(clock.now());
         signal.doubt(rt);
     }
 }
 
 /// When the hop is to be visited again: not before a row is due, and not before its rest is over.
-fn next_visit<B: Sharing>(sender: &HopSender<'_, B>) -> u64
-    ensures due { sender.now.due ≤ result }
+fn next_visit<B: Sharing>(sender: &HopSender<B>) -> u64
+    ensures due { sender.now.hop.due ≤ result }
     ensures rest { MatchBool sender.now.rest.short
         (sender.now.rest.since + min 5000 sender.now.rest.wait ≤ result)
         (sender.now.rest.since + sender.now.rest.wait ≤ result) }
 {
-    sender.due.max(sender.rest.until())
+    sender.hop.due.max(sender.rest.until())
 }
 
 /// A row may have been made for the hop: that is looked up, and its rest is short.
-fn wake<B: Sharing>(sender: &mut HopSender<'_, B>) {
-    sender.due = 0;
+fn wake<B: Sharing>(sender: &mut HopSender<B>) {
+    sender.hop.due = 0;
     sender.rest = sender.rest.shortened();
 }
 
@@ -169,7 +175,7 @@ pub fn send_rows<R: Wait + time::Clock, L: Ledger, B: Sharing, N: Network, C: Cl
     rt: &R,
     alloc: Global,
     desk: &SharedDesk<L, B>,
-    sender: &mut HopSender<'_, B>,
+    sender: &mut HopSender<B>,
     number: usize,
     signal: &Signal,
     network: &N,

@@ -193,7 +193,6 @@ fn serve_links<
 
 /// Sends to each hop, in a thread of its own, as long as somebody serves.
 fn send_all<
-    'a,
     R: Threads + Wait + Sync + time::Clock,
     L: Ledger + Drop + Send,
     B: Sharing + Send + Sync,
@@ -204,12 +203,12 @@ fn send_all<
     rt: &R,
     alloc: Global,
     desk: &SharedDesk<L, B>,
-    senders: Vec<HopSender<'a, B>>,
+    senders: Vec<HopSender<B>>,
     signal: &Signal,
     network: &N,
     clock: &C,
     log: &G,
-) -> Vec<HopSender<'a, B>> {
+) -> Vec<HopSender<B>> {
     let mut senders = senders;
     let count = senders.len();
     if count > 0 {
@@ -228,7 +227,6 @@ fn send_all<
 
 /// Sends, and tells of the node, side by side.
 fn send_and_keep<
-    'a,
     R: Threads + Wait + Sync + time::Clock,
     L: Ledger + Drop + Send,
     B: Sharing + Send + Sync,
@@ -241,12 +239,12 @@ fn send_and_keep<
     alloc: Global,
     desk: &SharedDesk<L, B>,
     hops: &[NextHop],
-    senders: Vec<HopSender<'a, B>>,
+    senders: Vec<HopSender<B>>,
     crew: Crew,
     wake: &Wake<'_, D, N>,
     clock: &C,
     log: &G,
-) -> Vec<HopSender<'a, B>> {
+) -> Vec<HopSender<B>> {
     let (signal, network) = (wake.signal, wake.network);
     let (senders, ()) = thread::join(
         rt,
@@ -259,7 +257,6 @@ fn send_and_keep<
 /// Serves, sends and tells of the node, side by side; the passes of those who serve, and those who
 /// send.
 fn serve_all<
-    'a,
     R: Threads + Wait + Sync + time::Clock,
     L: Ledger + Drop + Send,
     B: Sharing + Send + Sync,
@@ -273,14 +270,14 @@ fn serve_all<
     alloc: Global,
     desk: &SharedDesk<L, B>,
     hops: &[NextHop],
-    senders: Vec<HopSender<'a, B>>,
+    senders: Vec<HopSender<B>>,
     listener: &D,
     terms: Terms<'_>,
     signal: &Signal,
     network: &N,
     clock: &C,
     log: &G,
-) -> (Result<Vec<Pass<B>>, WorkersFault>, Vec<HopSender<'a, B>>) {
+) -> (Result<Vec<Pass<B>>, WorkersFault>, Vec<HopSender<B>>) {
     let wake = Wake {
         signal,
         listener,
@@ -301,16 +298,17 @@ fn serve_all<
 /// One who sends for each hop, each with a pass of its own.
 ///
 /// Errors: TooManyPasses, Memory.
-fn senders_of<'a, R: Wait, L: Ledger, B: Sharing>(
+fn senders_of<R: Wait, L: Ledger, B: Sharing>(
     rt: &R,
     alloc: Global,
     desk: &SharedDesk<L, B>,
-    hops: &'a [NextHop],
-) -> Result<Vec<HopSender<'a, B>>, WorkersFault> {
+    hops: &[NextHop],
+) -> Result<Vec<HopSender<B>>, WorkersFault> {
     let mut senders = Vec::with_capacity(alloc, hops.len())?;
     for hop in hops {
         let pass = desk.pass(rt, alloc)?;
-        if senders.push(HopSender::new(pass, hop)).is_err() {
+        let sender = HopSender::new(pass, hop)?;
+        if senders.push(sender).is_err() {
             return Err(WorkersFault::Memory);
         }
     }
@@ -320,7 +318,7 @@ fn senders_of<'a, R: Wait, L: Ledger, B: Sharing>(
 /// All passes, where those of the ones who serve came back, and the store isn't shut.
 fn all_passes<B: Sharing>(
     passes: Result<Vec<Pass<B>>, WorkersFault>,
-    senders: Vec<HopSender<'_, B>>,
+    senders: Vec<HopSender<B>>,
     is_shut: bool,
 ) -> Result<Vec<Pass<B>>, ServeFault>
     ensures { IsTrue is_shut → IsErr result }
