@@ -194,7 +194,7 @@ fn serve_links<
 /// Sends to each hop, in a thread of its own, as long as somebody serves.
 fn send_all<
     R: Threads + Wait + Sync + time::Clock,
-    L: Ledger + Drop + Send,
+    L: Ledger + Send,
     B: Sharing + Send + Sync,
     N: Network + Sync,
     C: Clock + Sync,
@@ -208,7 +208,11 @@ fn send_all<
     network: &N,
     clock: &C,
     log: &G,
-) -> Vec<HopSender<B>> {
+) -> Vec<HopSender<B>>
+where
+    N::Socket: Send,
+    N::Listener: Sync,
+{
     let mut senders = senders;
     let count = senders.len();
     if count > 0 {
@@ -244,7 +248,11 @@ fn send_and_keep<
     wake: &Wake<'_, D, N>,
     clock: &C,
     log: &G,
-) -> Vec<HopSender<B>> {
+) -> Vec<HopSender<B>>
+where
+    N::Socket: Send,
+    N::Listener: Sync,
+{
     let (signal, network) = (wake.signal, wake.network);
     let (senders, ()) = thread::join(
         rt,
@@ -277,7 +285,11 @@ fn serve_all<
     network: &N,
     clock: &C,
     log: &G,
-) -> (Result<Vec<Pass<B>>, WorkersFault>, Vec<HopSender<B>>) {
+) -> (Result<Vec<Pass<B>>, WorkersFault>, Vec<HopSender<B>>)
+where
+    N::Socket: Send,
+    N::Listener: Sync,
+{
     let wake = Wake {
         signal,
         listener,
@@ -362,7 +374,11 @@ fn serve_by<
     network: &N,
     clock: &C,
     log: &G,
-) -> Result<Vec<Pass<B>>, ServeFault> {
+) -> Result<Vec<Pass<B>>, ServeFault>
+where
+    N::Socket: Send,
+    N::Listener: Sync,
+{
     let signal = Signal::new(alloc, hops)?;
     let Ok(senders) = senders_of(rt, alloc, desk, hops) else {
         return Err(ServeFault::Memory);
@@ -394,6 +410,9 @@ fn serve_shared<
     clock: &C,
     log: &G,
 ) -> Result<L, ServeFault>
+where
+    N::Socket: Send,
+    N::Listener: Sync,
     requires { B.all ≡ B.parts }
     ensures begins { IfOk result (λ l. L.stands l → BeginWith B.first (L.book l).lines) }
     ensures history { IfOk result (λ l.
@@ -471,6 +490,9 @@ fn share<
     clock: &C,
     log: &G,
 ) -> Result<L, ServeFault>
+where
+    N::Socket: Send,
+    N::Listener: Sync,
     requires blank { (blank.name ≡ B.name) × (blank.parts ≡ B.parts) × (B.all ≡ B.parts)
         × (B.all ≡ 65536) }
     requires first { B.first ≡ (L.book ledger).lines }
@@ -520,6 +542,9 @@ pub fn serve<
     clock: &C,
     log: &G,
 ) -> Result<L, ServeFault>
+where
+    N::Socket: Send,
+    N::Listener: Sync,
     requires { L.site ledger ≡ site }
     ensures begins { IfOk result (λ l.
         L.stands l → BeginWith (L.book ledger).lines (L.book l).lines) }

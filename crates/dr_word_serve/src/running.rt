@@ -89,6 +89,9 @@ fn serve_ledger<
     clock: &C,
     log: &G,
 ) -> Result<Text, Halt<'a>>
+where
+    N::Socket: Send,
+    N::Listener: Sync,
     requires { L.site ledger ≡ site }
     ensures { MatchResult result
         (λ text.
@@ -130,6 +133,9 @@ fn serve_opened<
     clock: &C,
     log: &G,
 ) -> Result<Text, Halt<'a>>
+where
+    N::Socket: Send,
+    N::Listener: Sync,
     requires { L.site opened.ledger ≡ opened.site }
     ensures { MatchResult result
         (λ text. (last : L)
