@@ -80,15 +80,13 @@ fn visit<R: Wait, L: Ledger, B: Sharing, N: Network, C: Clock, G: Log>(
     rt: &R,
     alloc: Global,
     desk: &SharedDesk<L, B>,
-    sender: &mut HopSender<B>,
+    pass: &mut Pass<B>,
+    hop: &NextHop,
     signal: &Signal,
     network: &N,
     clock: &C,
     log: &G,
-) -> Result<(Visit, u64), LedgerFault>
-    ensures { (sender.new.hop ≡ sender.old.hop) × (sender.new.rest ≡ sender.old.rest) }
-{
-    let HopSender { pass, hop, .. } = sender;
+) -> Result<(Visit, u64), LedgerFault> {
     let before = pass.count();
     let mut port = SharedPort {
         rt,
@@ -127,9 +125,10 @@ fn send<R: Wait, L: Ledger, B: Sharing, N: Network, C: Clock, G: Log>(
     clock: &C,
     log: &G,
 ) -> Result<(), LedgerFault> {
-    let (visit, settled) = visit(rt, alloc, desk, sender, signal, network, clock, log)?;
-    sender.rest = rest_after(sender.rest, &visit, settled, clock.now());
-    sender.hop.due = next_due(rt, desk, &sender.hop.dest)?;
+    let HopSender { pass, hop, rest } = sender;
+    let (visit, settled) = visit(rt, alloc, desk, pass, hop, signal, network, clock, log)?;
+    *rest = rest_after(*rest, &visit, settled, clock.now());
+    hop.due = next_due(rt, desk, &hop.dest)?;
     Ok(())
 }
 

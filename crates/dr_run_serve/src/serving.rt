@@ -1,4 +1,5 @@
 //! A node that serves associations and sends what is due.
+ghost use denote.Param.Send.{IsSend, IsSync};
 ghost use Rattle.std.specs.Prelude.{◌≡◌, IfOk, IsErr, IsTrue};
 ghost use Rattle.dr_desk.specs.Growing.{BeginWith};
 ghost use Rattle.dr_ledger.specs.Histories.{IsJournalled};
@@ -256,7 +257,10 @@ where
     let (signal, network) = (wake.signal, wake.network);
     let (senders, ()) = thread::join(
         rt,
-        || send_all(rt, alloc, desk, senders, signal, network, clock, log),
+        ||
+            requires { IsSync R.row × IsSend L.row × IsSend B.row × IsSync B.row × IsSync N.row
+                × IsSend N.Socket.row × IsSync N.Listener.row × IsSync C.row × IsSync G.row }
+        { send_all(rt, alloc, desk, senders, signal, network, clock, log) },
         || keep(rt, alloc, desk, hops, crew, wake, clock, log),
     );
     senders
@@ -302,8 +306,15 @@ where
     };
     thread::join(
         rt,
-        || serve_links(rt, alloc, desk, listener, terms, signal, clock, log),
-        || send_and_keep(rt, alloc, desk, hops, senders, crew, &wake, clock, log),
+        ||
+            requires { IsSync R.row × IsSend L.row × IsSend B.row × IsSync B.row × IsSend K.row
+                × IsSync D.row × IsSync C.row × IsSync G.row }
+        { serve_links(rt, alloc, desk, listener, terms, signal, clock, log) },
+        ||
+            requires { IsSync R.row × IsSend L.row × IsSend B.row × IsSync B.row × IsSync D.row
+                × IsSync N.row × IsSend N.Socket.row × IsSync N.Listener.row × IsSync C.row
+                × IsSync G.row }
+        { send_and_keep(rt, alloc, desk, hops, senders, crew, &wake, clock, log) },
     )
 }
 
