@@ -27,8 +27,8 @@ const LAST: u64 = 1 << 62;
 /// No sleep is longer, in milliseconds.
 const LONGEST: u64 = 60_000;
 
-/// One who sends to a hop, with a pass of its own, and how long it leaves the hop alone. Its hop has
-/// the moment from which on a row is due, as far as it knows.
+/// One who sends to a hop, with a pass of its own, and how long it leaves the hop alone. Its hop
+/// has the moment from which on a row is due, as far as it knows.
 #[derive(Drop)]
 pub struct HopSender<B: Sharing> {
     pub pass: Pass<B>,
