@@ -29,8 +29,8 @@ _dr_router() {
             mapfile -t COMPREPLY < <(compgen -f -- "$current") ;;
         "adopt 6")
             mapfile -t COMPREPLY < <(compgen -d -- "$current") ;;
-        "serve 6" | "serve 8" | "serve 10")
-            mapfile -t COMPREPLY < <(compgen -W "--links --log --report" -- "$current") ;;
+        "serve 6" | "serve 8" | "serve 1"[02468])
+            mapfile -t COMPREPLY < <(compgen -W "--links --log --report --workers --connect --write --message --idle --until-input-ends" -- "$current") ;;
         "list 6")
             mapfile -t COMPREPLY < <(compgen -W "--summary" -- "$current") ;;
         "diff 6")

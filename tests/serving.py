@@ -9,15 +9,15 @@ import os
 import re
 import shutil
 import signal
+import socket
+import subprocess
 import sys
 import threading
 import time
 
 sys.dont_write_bytecode = True
-from lib.requestor import ACCEPTED, RELEASED, Requestor
-from lib.nodes import LIMIT, PROGRAM, Room, data_set, element, ended, lines, part10, run_cases, same, stop, told
-
-WORKERS = 32
+from lib.requestor import ACCEPTED, REJECTED, RELEASED, Acceptor, Requestor, command, hear, values
+from lib.nodes import CT, EXPLICIT, LIMIT, PROGRAM, Room, data_set, element, ended, lines, part10, run_cases, same, stop, told
 
 
 def three_nodes():
@@ -227,15 +227,20 @@ def forged():
         same(told_at_arch, ['refused session=1 caller="A\\nB\\x1b[1m\\" \\\\C" uid=1.2.3.4 fault="G1 NoLine"'])
 
 
-def held_workers():
+def asked_at(room, node='ARCH', caller='GATE'):
+    """An association that was asked for at a node."""
+    return Requestor(room.ports[node], caller, node)
+
+
+def few_workers():
     """Connections that say nothing hold a worker each; who waits for one counts its 30 seconds from when it has one."""
     with Room() as room:
-        arch = room.serve('ARCH', 0)
-        held = [Requestor(room.ports['ARCH'], 'GATE', 'ARCH') for _ in range(WORKERS - 1)]
-        with Requestor(room.ports['ARCH'], 'GATE', 'ARCH') as caller:
+        arch = room.serve('ARCH', 0, '--workers', '2')
+        held = [asked_at(room)]
+        with asked_at(room) as caller:
             same(caller.answer[0], ACCEPTED)
             same(caller.release(), RELEASED)
-        held.append(Requestor(room.ports['ARCH'], 'GATE', 'ARCH'))
+        held.append(asked_at(room))
         begun = time.monotonic()
         def let_go():
             time.sleep(32)
@@ -243,7 +248,7 @@ def held_workers():
             held[0].link.close()
         waits = threading.Thread(target=let_go)
         waits.start()
-        with Requestor(room.ports['ARCH'], 'GATE', 'ARCH') as late:
+        with asked_at(room) as late:
             same(late.answer[0], ACCEPTED)
             assert time.monotonic() - begun > 31, time.monotonic() - begun
             same(late.release(), RELEASED)
@@ -251,6 +256,221 @@ def held_workers():
         for one in held:
             one.link.close()
         stop(arch)
+
+
+def silent_associations():
+    """64 associations that say nothing, and as many connections on which none is asked for, hold up nobody who stores."""
+    with Room() as room:
+        arch = room.serve('ARCH', 0)
+        held = [asked_at(room).link for _ in range(64)]
+        held += [socket.create_connection(('127.0.0.1', room.ports['ARCH'])) for _ in range(64)]
+        begun = time.monotonic()
+        with asked_at(room) as caller:
+            same(caller.answer[0], ACCEPTED)
+            same(caller.store(b'1.2.3.4', data_set(b'1.2.3.4')), 0)
+            same(caller.release(), RELEASED)
+        assert time.monotonic() - begun < 2, time.monotonic() - begun
+        for link in held:
+            link.close()
+        stop(arch)
+
+
+def rejected_callers():
+    """Of 300 callers 256 are served at a time; each one more is rejected by name, until one has left."""
+    with Room() as room:
+        arch = room.serve('ARCH', 0)
+        open_ones = [asked_at(room) for _ in range(256)]
+        same({one.answer[0] for one in open_ones}, {ACCEPTED})
+        for _ in range(44):
+            with asked_at(room) as one:
+                same(one.answer, (REJECTED, b'\0\2\3\2'))
+        # who is rejected for another reason, first, takes nobody's place
+        with asked_at(room, caller='CT1') as stranger:
+            same(stranger.answer, (REJECTED, b'\0\2\3\2'))
+        for number, one in enumerate(open_ones[:8]):
+            same(one.store(b'1.2.3.%d' % number, data_set(b'1.2.3.%d' % number)), 0)
+            same(one.release(), RELEASED)
+            one.link.close()
+            room.wait_for_event('ARCH', f'released session={number + 1} ')
+            with asked_at(room) as other:
+                same(other.answer[0], ACCEPTED)
+                same(other.release(), RELEASED)
+            room.wait_for_event('ARCH', f'released session={302 + number} ')
+        for one in open_ones[8:]:
+            one.link.close()
+        same(len([event for event in room.events('ARCH') if 'why="2 3 2"' in event[3]]), 45)
+        stop(arch)
+
+
+# Instances enter at CT1, and GATE sends each to three nodes.
+THREE_HOPS = """
+[[node]]
+name = "CT1"
+address = "h:1"
+{gate}
+{ends}
+[[flow]]
+at = "CT1"
+to = "GATE"
+class = ["{of}"]
+syntax = ["{syntax}"]
+modality = ["CT"]
+station = ["S1"]
+"""
+
+
+def three_hops(*names):
+    """A plan in which GATE sends what it has from CT1 to nodes of these names."""
+    def node(name, rule):
+        return (f'[[node]]\nname = "{name}"\naddress = "h:1"\n[[node.accept]]\nfrom = "*"\nclass = "{CT.decode()}"\n'
+                f'syntax = ["{EXPLICIT.decode()}"]\n[[node.rule]]\n{rule}\n')
+    to = ', '.join(f'"{name}"' for name in names)
+    return THREE_HOPS.format(gate=node('GATE', f'from = "CT1"\nto = [{to}]'), ends=''.join(node(name, 'keep = true') for name in names),
+                             of=CT.decode(), syntax=EXPLICIT.decode())
+
+
+def hops_alone():
+    """A next node that takes connections and says nothing, one that reads nothing, and one that is down hold up neither the one that takes
+    its rows nor the report; and a dead one is tried ever more seldom."""
+    with Room(three_hops('ARCH', 'HANG', 'DOWN')) as room, socket.create_server(('127.0.0.1', room.ports['HANG'])) as hangs:
+        arch = room.serve('ARCH', 0)
+        gate = room.serve('GATE', 0, '--report', 'report')
+        with Requestor(room.ports['GATE'], 'CT1', 'GATE') as caller:
+            for number in range(40):
+                uid = b'1.2.3.%d' % number
+                same(caller.store(uid, data_set(uid)), 0)
+                time.sleep(0.25)
+            same(caller.release(), RELEASED)
+        deadline = time.monotonic() + 5
+        def rows_done():
+            told_rows = room.text('report').splitlines() if os.path.exists(f'{room.folder}/report') else []
+            return len([line for line in told_rows if line.endswith('ARCH\tdone')])
+        while rows_done() < 20 and time.monotonic() < deadline:
+            time.sleep(0.1)
+        assert rows_done() >= 20, room.text('report')
+        said = [event for event in room.events('GATE') if event[2] == 'visit']
+        down = [event[0] for event in said if event[3].startswith('unreached dest="DOWN"')]
+        # tries at 0, 1, 3 and 7 s and then each 5 s, while rows are made
+        assert 3 <= len(down) <= 5 + (down[-1] - down[0]) / 5, said
+        assert all(later - one > 0.9 for one, later in zip(down, down[1:])), said
+        assert not [event for event in said if 'dest="HANG"' in event[3]], said
+        stop(gate)
+        stop(arch)
+        same(len([line for line in lines(room.at('list', 'ARCH').stdout) if line.startswith('kept')]), 40)
+        hangs.close()
+
+
+def slow_peers():
+    """A message that is begun and not brought, and silence between two messages, end an association in time."""
+    with Room() as room:
+        arch = room.serve('ARCH', 3, '--message', '2', '--idle', '4')
+        with asked_at(room) as slow, asked_at(room) as silent, asked_at(room) as other:
+            begun = time.monotonic()
+            whole = values(3, 1, command((2, CT), (0x100, 1), (0x110, 1), (0x700, 0), (0x800, 1), (0x1000, b'1.2.3.4')))
+            def drip():
+                try:
+                    for at in range(60):
+                        slow.link.sendall(whole[at:at + 1])
+                        time.sleep(0.25)
+                except OSError:
+                    pass
+            drips = threading.Thread(target=drip)
+            drips.start()
+            same(ends_at(slow.link), True)
+            assert 1.5 < time.monotonic() - begun < 4.5, time.monotonic() - begun
+            for _ in range(3):
+                time.sleep(1.5)
+                same(other.echo(), 0)
+            same(ends_at(silent.link), True)
+            assert 3.5 < time.monotonic() - begun < 9, time.monotonic() - begun
+            same(other.release(), RELEASED)
+            drips.join()
+        ended(arch)
+
+
+def deaf_peer():
+    """A next node that reads nothing ends a visit in time."""
+    with Room() as room:
+        body = data_set(b'1.2.3.4', element(0x7fe0, 0x10, b'OW', bytes(8 << 20)))
+        with Acceptor(room.ports['ARCH'], None) as deaf:
+            # what the systems of both sides hold is less than the data set
+            deaf.listener.setsockopt(socket.SOL_SOCKET, socket.SO_RCVBUF, 4096)
+            deaf.serve = lambda link: (hear_request(deaf, link), time.sleep(8))
+            gate = room.serve('GATE', 0, '--write', '2')
+            with Requestor(room.ports['GATE'], 'CT1', 'GATE') as caller:
+                same(caller.store(b'1.2.3.4', body), 0)
+                begun = time.monotonic()
+                room.wait_for_event('GATE', 'failed dest="ARCH" settled=1 fault="Y2 Write"')
+                assert 1.5 < time.monotonic() - begun < 6, time.monotonic() - begun
+            stop(gate)
+
+
+def hear_request(acceptor, link):
+    """Takes the association that is asked for, and reads nothing more."""
+    _, body = hear(link)
+    link.sendall(acceptor.accepted(body))
+
+
+def ends_at(link):
+    """Whether the other side closes, whatever it says before."""
+    try:
+        while link.recv(4096):
+            pass
+    except ConnectionResetError:
+        pass
+    return True
+
+
+def stopped():
+    """At the end of its input a node ends in order: what it has acknowledged is there, and what is open has ten seconds."""
+    with Room() as room:
+        arch = room.serve('ARCH', 0, '--until-input-ends', '--report', 'report', stdin=subprocess.PIPE)
+        acknowledged, is_over = [], threading.Event()
+        def store(number):
+            try:
+                with asked_at(room) as caller:
+                    for count in range(100_000):
+                        uid = b'1.2.%d.%d' % (number, count)
+                        if is_over.is_set():
+                            caller.release()
+                            return
+                        if caller.store(uid, data_set(uid)) == 0:
+                            acknowledged.append(uid.decode())
+            except (OSError, EOFError, AssertionError):
+                pass
+        silent = asked_at(room)
+        callers = [threading.Thread(target=store, args=(number,)) for number in range(4)]
+        for caller in callers:
+            caller.start()
+        time.sleep(2)
+        begun = time.monotonic()
+        arch.stdin.close()
+        arch.stdin = None
+        room.wait_for_event('ARCH', 'stops')
+        time.sleep(1)
+        try:
+            with asked_at(room):
+                raise AssertionError('an association after the stop')
+        except (OSError, EOFError):
+            pass
+        is_over.set()
+        same(ends_at(silent.link), True)
+        printed = ended(arch)
+        assert 8 < time.monotonic() - begun < 15, time.monotonic() - begun
+        for caller in callers:
+            caller.join()
+        kept = {line.split('\t')[1] for line in printed if line.startswith('kept')}
+        assert len(acknowledged) > 10 and set(acknowledged) <= kept, (len(acknowledged), set(acknowledged) - kept)
+        same(room.text('report'), ''.join(f'{line}\n' for line in printed))
+        same(lines(room.at('list', 'ARCH').stdout), printed)
+    with Room() as room:
+        # nobody is open: it ends at once; so does one whose input is over before it begins
+        gate = room.serve('GATE', 0, '--until-input-ends', stdin=subprocess.PIPE)
+        begun = time.monotonic()
+        gate.stdin.close()
+        gate.stdin = None
+        same(ended(gate), ['node\tGATE', 'lines\t0'])
+        assert time.monotonic() - begun < 4, time.monotonic() - begun
 
 
 def killed():
@@ -291,7 +511,8 @@ def killed():
 def main():
     if not os.path.exists(PROGRAM):
         sys.exit(f'{PROGRAM} is not built')
-    run_cases('serving', three_nodes, refusals, dead_hop, held_rows, events, reports, report_paths, forged, held_workers, killed)
+    run_cases('serving', three_nodes, refusals, dead_hop, held_rows, events, reports, report_paths, forged, few_workers, silent_associations,
+              rejected_callers, hops_alone, slow_peers, deaf_peer, stopped, killed)
 
 
 if __name__ == '__main__':

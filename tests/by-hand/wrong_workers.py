@@ -29,8 +29,8 @@ WRONG = {
         (SERVING, "    gate.at(session, Point::Taken);", "    let _whole = desk.whole.lock(rt);\n    gate.at(session, Point::Taken);"),
     ],
     "each_second_connection_dropped": [
-        (SERVING, "        serve(rt, alloc, desk, gate, connection, others, pass);",
-         "        if connection.session % 2 == 1 {\n            serve(rt, alloc, desk, gate, connection, others, pass);\n        }"),
+        (SERVING, "        serve(rt, alloc, desk, gate, connection, door, pass);",
+         "        if connection.session % 2 == 1 {\n            serve(rt, alloc, desk, gate, connection, door, pass);\n        }"),
     ],
 }
 

@@ -138,11 +138,11 @@ class Room:
         self.running.append(process)
         return process
 
-    def serve(self, node, links, *more, ledger=None, plan=PLAN):
+    def serve(self, node, links, *more, ledger=None, plan=PLAN, **settings):
         """A node that serves and listens already. Its events go to a file, so that nobody has to read them while it serves."""
         words = ['serve', *plan, node, ledger or f'{node}.db', '--links', str(links), *more]
         with open(f'{self.folder}/{node}.log', 'ab') as log:
-            process = self.start(PROGRAM, *words, stderr=log)
+            process = self.start(PROGRAM, *words, **{'stdin': subprocess.DEVNULL, **settings, 'stderr': log})
         self.wait_for(node, process)
         return process
 

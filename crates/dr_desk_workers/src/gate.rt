@@ -25,6 +25,9 @@ pub struct Tally {
 
 /// Where a session may be held, and is seen. It is called without the desk's lock, and may wait.
 pub trait Gate {
+    /// A worker has begun; it may have a thread of its own only later, or never.
+    fn began(&self) {}
+
     fn at(&self, session: u64, point: Point);
 
     /// The desk answered the arrival of the instance of this UID from a caller.
@@ -36,12 +39,22 @@ pub trait Gate {
         answer: Result<Arrived, LedgerFault>,
     );
 
+    /// An arrival was answered, by which there may be new rows for these nodes; None stands for
+    /// all.
+    fn queued(&self, _dests: Option<&[Text]>) {}
+
     /// The session is over.
     fn ended(&self, session: u64, ended: Result<Ended, SessionFault>, tally: Tally);
 
     /// Whether all sessions are to end: each ends, as by a fault of its link, at what it hears
     /// next.
     fn is_over(&self) -> bool {
+        false
+    }
+
+    /// Whether no association is to begin any more: a connection that hasn't asked for one ends, as
+    /// by a fault of its link, at what it hears next.
+    fn is_closing(&self) -> bool {
         false
     }
 }

@@ -1,17 +1,30 @@
-//! A link that passes a gate when a reply was sent.
-ghost use Rattle.std.specs.Prelude.{◌≡◌, ◌⊎◌, ◌≤◌, ◌^◌, ◌↔◌, IsTrue, false};
+//! A link that passes a gate when a reply was sent, and a door before an association is accepted.
+ghost use Rattle.std.specs.Prelude.{◌≡◌, ◌⊎◌, ◌≤◌, ◌^◌, ◌↔◌, IsTrue, true, false};
 ghost use Rattle.dr_session.specs.Links.{Counts, HasRisen, IsLinkFault};
+ghost use Rattle.dr_desk_workers.specs.Hearing.{HearsBehind, IsAcceptance};
 
+use crate::ahead::Ahead;
 use crate::counts::SessionCounts;
+use crate::door::Door;
 use crate::gate::{Gate, Point};
 use dr_session::{Heard, Link};
+use std::mem;
+use std::sync::MutexGuard;
 
 /// A connection's link. After a write that was done the gate is passed once for each arrival that
 /// was answered and whose reply wasn't sent before. It counts as open from the moment at which a
 /// worker took it, however long it waited for one. Where the gate is over, a fault is heard.
+///
+/// While it has its turn at the door no other connection has: from when the open associations are
+/// counted, until the request is answered. An acceptance is written only after its association was
+/// let in.
 #[derive(Drop)]
 pub struct GatedLink<'a, K: Link + Drop, G: Gate> {
     pub link: K,
+    pub ahead: Ahead,
+    pub turn: Option<MutexGuard<'a, Door>>,
+    pub asked: bool,
+    pub inside: bool,
     pub gate: &'a G,
     pub session: u64,
     pub counts: &'a SessionCounts,
@@ -27,37 +40,95 @@ fn is_fault(heard: &Heard) -> bool
     matches!(heard, Heard::Fault)
 }
 
+/// Whether the bytes are an A-ASSOCIATE-AC, by their type.
+fn is_acceptance(bytes: &[u8]) -> bool
+    ensures { IsTrue result ↔ IsAcceptance bytes.now }
+{
+    match bytes {
+        [kind, ..] => *kind == 2,
+        [] => false,
+    }
+}
+
+/// Lets an association in, if it is its turn and there is room.
+fn let_in(turn: Option<MutexGuard<'_, Door>>) -> bool {
+    match turn {
+        Some(turn) => {
+            let mut turn = turn;
+            turn.enter()
+        }
+        None => false,
+    }
+}
+
 impl<'a, K: Link + Drop, G: Gate> GatedLink<'a, K, G> {
     /// One failure more.
     fn fail(&mut self)
         ensures counted { HasRisen self.old.failures self.new.failures }
         ensures grows { self.old.failures ≤ self.new.failures }
-        ensures link { self.new.link ≡ self.old.link }
+        ensures link { (self.new.link ≡ self.old.link) × (self.new.ahead ≡ self.old.ahead) }
     {
         self.failures = self.failures.saturating_add(1);
     }
 
-    /// What the link hears.
+    /// What comes next: what was heard ahead, or what the link hears.
     fn hear(&mut self) -> Heard
-        ensures hears { K.hears self.old.link result self.new.link }
+        ensures hears { HearsBehind K.hears self.old.ahead self.old.link result self.new.ahead
+            self.new.link }
         ensures counts { Counts (IsLinkFault result) self.old.failures self.new.failures }
     {
-        let heard = self.link.recv();
+        let heard = match self.ahead.take() {
+            Some(heard) => heard,
+            None => self.link.recv(),
+        };
         if is_fault(&heard) {
             self.fail();
         }
         heard
     }
+
+    /// Its turn at the door ends where more is waited for than the request.
+    fn wait_turn(&mut self)
+        ensures { (self.new.link ≡ self.old.link)
+            × (self.new.ahead ≡ self.old.ahead)
+            × (self.new.failures ≡ self.old.failures) }
+    {
+        if self.asked {
+            drop(mem::replace(&mut self.turn, None));
+        }
+        self.asked = true;
+    }
+
+    /// Ends its turn at the door, and lets the association in, if these bytes accept it; says
+    /// whether they may be written.
+    fn passes_door(&mut self, bytes: &[u8]) -> bool
+        ensures { (result ≡ true → IsAcceptance bytes.now → self.new.inside ≡ true)
+            × (self.new.link ≡ self.old.link)
+            × (self.new.failures ≡ self.old.failures) }
+    {
+        let turn = mem::replace(&mut self.turn, None);
+        if !is_acceptance(bytes) {
+            drop(turn);
+            return true;
+        }
+        self.inside = let_in(turn);
+        self.inside
+    }
+
+    /// Whether its association was let in. Its turn is over.
+    pub fn was_inside(self) -> bool
+        ensures { result ≡ self.entry.inside }
+    {
+        self.inside
+    }
 }
 
 impl<'a, K: Link + Drop, G: Gate> Link for GatedLink<'a, K, G> {
-    ghost use Rattle.std.specs.Prelude.{◌≡◌, ◌⊎◌};
-    ghost use Rattle.dr_session.specs.declared.ends.Heard.TheVariants.{Fault};
+    ghost use Rattle.dr_desk_workers.specs.Hearing.{HearsBehind, SendsInside};
 
-    ghost hears = { λ s heard t. K.hears s.link heard t.link
-        ⊎ ((heard ≡ Fault) × (t.link ≡ s.link)) };
+    ghost hears = { λ s heard t. HearsBehind K.hears s.ahead s.link heard t.ahead t.link };
 
-    ghost sends = { λ s bytes sent t. K.sends s.link bytes sent t.link };
+    ghost sends = { λ s bytes sent t. SendsInside K.sends s.link bytes sent t.link t.inside };
 
     ghost closes = { λ s t. K.closes s.link t.link };
 
@@ -74,10 +145,15 @@ impl<'a, K: Link + Drop, G: Gate> Link for GatedLink<'a, K, G> {
             self.fail();
             return Heard::Fault;
         }
+        self.wait_turn();
         self.hear()
     }
 
     fn send(&mut self, bytes: &[u8]) -> bool {
+        if !self.passes_door(bytes) {
+            self.fail();
+            return false;
+        }
         let sent = self.link.send(bytes);
         if !sent {
             self.fail();

@@ -2,11 +2,13 @@
 //!
 //! `workers` starts threads that take connections from a channel until it is closed and empty,
 //! serve each with a session (`dr_session::receive`) over the shared desk, and give back their
-//! passes.
+//! passes. A `Door` counts the associations that are open, and lets 256 in.
 #![tactic(auto)]
 
+pub mod ahead;
 pub mod connection;
 mod counts;
+pub mod door;
 pub mod gate;
 mod gated;
 mod port;

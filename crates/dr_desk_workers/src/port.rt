@@ -6,8 +6,9 @@ use crate::gate::{Gate, Point};
 use dr_base::Text;
 use dr_desk::{Pass, SharedDesk, Sharing};
 use dr_ledger::{Arrived, Item, Job, Ledger, LedgerFault, Outcome};
+use dr_route::Targets;
 use dr_session::DeskPort;
-use std::alloc::AllocError;
+use std::alloc::{AllocError, Global};
 use std::sync::Wait;
 
 /// The shared desk with the pass of the worker that serves the session. After an arrival that the
@@ -15,6 +16,7 @@ use std::sync::Wait;
 #[derive(Drop)]
 pub struct SessionPort<'a, R: Wait, L: Ledger, B: Sharing, G: Gate> {
     pub rt: &'a R,
+    pub alloc: Global,
     pub desk: &'a SharedDesk<L, B>,
     pub pass: &'a mut Pass<B>,
     pub gate: &'a G,
@@ -34,6 +36,15 @@ impl<'a, R: Wait, L: Ledger, B: Sharing, G: Gate> SessionPort<'a, R, L, B, G> {
             self.gate.arrived(self.session, caller, &uid, answer);
         }
     }
+
+    /// Tells for which nodes there may be rows now; for all, where there was no memory to tell
+    /// which.
+    fn tell_rows(&self, targets: Result<Targets, AllocError>) {
+        match targets {
+            Ok(targets) => self.gate.queued(Some(targets.to.as_slice())),
+            Err(AllocError) => self.gate.queued(None),
+        }
+    }
 }
 
 impl<'a, R: Wait, L: Ledger, B: Sharing, G: Gate> DeskPort for SessionPort<'a, R, L, B, G> {
@@ -44,9 +55,11 @@ impl<'a, R: Wait, L: Ledger, B: Sharing, G: Gate> DeskPort for SessionPort<'a, R
 
     fn arrive(&mut self, caller: &Text, item: Item) -> Result<Arrived, LedgerFault> {
         let uid: Result<Text, AllocError> = item.uid().clone();
+        let targets = self.desk.site().targets(self.alloc, caller, item.key());
         let answer = self.desk.arrive(self.rt, self.pass, caller, item);
         self.counts.note(answer.is_ok());
         self.gate.at(self.session, Point::Stored);
+        self.tell_rows(targets);
         self.tell(caller, uid, answer);
         answer
     }

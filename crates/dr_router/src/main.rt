@@ -4,12 +4,14 @@
 
 mod events;
 mod files;
+mod input;
 mod over;
 
 use crate::events::EventLog;
 use crate::files::{SystemDisk, SystemFiles};
+use crate::input::InputEnd;
 use crate::over::run_stored;
-use dr_run_net::{Sockets, SystemClock};
+use dr_run_net::{Cut, Sockets, SystemClock};
 use dr_run_open::Status;
 use dr_word_check::{given_words, tell_unread_words};
 use std::process::ExitCode;
@@ -29,7 +31,7 @@ fn run<T: Threads + Wait + Sync + time::Clock>(
         words.push(word.as_str())?;
     }
     let (mut input, mut output, mut faults) = (rt.stdin(), rt.stdout(), rt.stderr());
-    let clock = SystemClock::start(rt);
+    let (clock, cut) = (SystemClock::start(rt), Cut::new());
     let status = run_stored(
         threads,
         rt.alloc(),
@@ -39,9 +41,13 @@ fn run<T: Threads + Wait + Sync + time::Clock>(
         &mut faults,
         &SystemDisk::new(rt),
         &SystemFiles(rt),
-        &Sockets::new(rt, &clock),
+        &Sockets::new(rt, &clock, &cut),
         &clock,
         &EventLog { rt, clock: &clock },
+        &InputEnd {
+            rt: threads,
+            input: rt.stdin(),
+        },
     );
     Ok(status)
 }

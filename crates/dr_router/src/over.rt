@@ -4,6 +4,7 @@ use dr_run_files::Files;
 use dr_run_net::Network;
 use dr_run_open::{Ledgers, Status};
 use dr_run_report::Paths;
+use dr_run_serve::Ending;
 use dr_session::Clock;
 use dr_word_all::run_words;
 use log::Log;
@@ -25,6 +26,7 @@ pub fn run_over<
     N: Network + Sync,
     C: Clock + Sync,
     G: Log + Sync,
+    U: Ending,
 >(
     rt: &T,
     alloc: Global,
@@ -37,6 +39,7 @@ pub fn run_over<
     network: &N,
     clock: &C,
     log: &G,
+    ending: &U,
 ) -> Status
 where
     O::Ledger: Send,
@@ -44,7 +47,7 @@ where
     N::Listener: Sync,
 {
     run_words(
-        rt, alloc, words, input, output, faults, files, ledgers, network, clock, log,
+        rt, alloc, words, input, output, faults, files, ledgers, network, clock, log, ending,
     )
 }
 
@@ -59,6 +62,7 @@ pub fn run_stored<
     N: Network + Sync,
     C: Clock + Sync,
     G: Log + Sync,
+    U: Ending,
 >(
     rt: &T,
     alloc: Global,
@@ -71,6 +75,7 @@ pub fn run_stored<
     network: &N,
     clock: &C,
     log: &G,
+    ending: &U,
 ) -> Status
 where
     D::Store: Send,
@@ -79,6 +84,6 @@ where
 {
     let ledgers = StoredLedgers(databases);
     run_over(
-        rt, alloc, words, input, output, faults, files, &ledgers, network, clock, log,
+        rt, alloc, words, input, output, faults, files, &ledgers, network, clock, log, ending,
     )
 }

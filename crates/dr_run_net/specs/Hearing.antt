@@ -1,40 +1,79 @@
 -- What comes over a socket.
-use Rattle.std.specs.Prelude.{◌≡◌, ◌⊎◌, ℕ, ◌+◌, ◌<◌, ◌≤◌, List}
+use Rattle.std.specs.Prelude.{◌≡◌, ◌⊎◌, ℕ, ◌+◌, ◌<◌, ◌≤◌, List, length, Some, None}
 use Rattle.std.specs.declared.option.Option.{Option}
 use Rattle.std.specs.Io.KnownBytes.{Consumes, IsAtEnd, Keeps}
 use Rattle.dr_session.specs.declared.ends.Heard.{Heard}
 use Rattle.dr_session.specs.declared.ends.Heard.TheVariants.{Bytes, End, Late, Fault, Memory}
+use Rattle.dr_run_net.specs.declared.limits.Limits.{Limits}
+use Rattle.dr_run_net.specs.declared.window.Window.{Window}
 
--- the bytes that are still to be read, where they are known, the moment of the last late mark, and
--- that at which something came last
+-- the bytes that are still to be read, where they are known, the moment of the last late mark, that
+-- since which no message is under way, and what came of a message that is
 pub record Ear : Type 0 where
   pub left : Option (List ℕ)
   pub marked : ℕ
-  pub heard : ℕ
+  pub rested : ℕ
+  pub window : Option Window
 
-abbrev pub ear : Option (List ℕ) → ℕ → ℕ → Ear
-ear left marked heard = record { left = left; marked = marked; heard = heard }
+abbrev pub ear : Option (List ℕ) → ℕ → ℕ → Option Window → Ear
+ear left marked rested window =
+    record { left = left; marked = marked; rested = rested; window = window }
+
+-- a message that is under way has brought enough in time, so far
+abbrev pub IsSwift : ℕ → ℕ → Option Window → Type 0
+IsSwift limit now None = Unit {0}
+IsSwift limit now (Some window) = now < window.since + limit
+
+-- the window after so many bytes more at a moment: with 65,536 of them a new one begins
+abbrev pub began : ℕ → Option Window → ℕ
+began now None = now
+began now (Some window) = window.since
+
+abbrev pub brought : Option Window → ℕ
+brought None = 0
+brought (Some window) = window.brought
+
+abbrev pub IsWidened : ℕ → ℕ → Option Window → Window → Type 0
+IsWidened now count old new =
+    ((65536 ≤ brought old + count) × (new.since ≡ now) × (new.brought ≡ 0))
+    ⊎ ((brought old + count < 65536)
+    × (new.since ≡ began now old)
+    × (new.brought ≡ brought old + count))
+
+-- the silence between two messages isn't too long yet
+abbrev pub IsAwaited : ℕ → ℕ → ℕ → Option Window → Type 0
+IsAwaited limit now rested None = now < rested + limit
+IsAwaited limit now rested (Some window) = Unit {0}
 
 -- What is heard at a moment. Bytes and the end come only less than 1,000 ms behind the last late
--- mark, so that a mark comes each second, whatever the other side sends. A mark comes where the
--- last one is so far behind, or where nothing came, and that for less than 600,000 ms; it takes no
--- byte.
-abbrev pub HearsAt : ℕ → Ear → Heard → Ear → Type 0
-HearsAt now old (Bytes piece) new =
+-- mark, so that a mark comes each second, whatever the other side sends; and only where a message
+-- that is under way brought 65,536 bytes within each time that its limit gives. A mark comes where
+-- the last one is so far behind, or where nothing came, and that not for too long between two
+-- messages; it takes no byte.
+abbrev pub HearsAt : Limits → ℕ → Ear → Heard → Ear → Type 0
+HearsAt limits now old (Bytes piece) new =
     (now < old.marked + 1000)
+    × IsSwift limits.message now old.window
     × Consumes old.left new.left piece
     × (new.marked ≡ old.marked)
-    × (new.heard ≡ now)
-HearsAt now old End new = (now < old.marked + 1000) × IsAtEnd new.left
-HearsAt now old Late new =
-    ((old.marked + 1000 ≤ now) ⊎ (now < old.heard + 600000))
-    × Keeps old.left new.left × (new.marked ≡ now) × (new.heard ≡ old.heard)
-HearsAt now old Fault new = ⊥
-HearsAt now old Memory new = ⊥
+    × (new.rested ≡ old.rested)
+    × ((window : Window)
+    × (new.window ≡ Some window)
+    × IsWidened now (length piece) old.window window)
+HearsAt limits now old End new =
+    (now < old.marked + 1000) × IsSwift limits.message now old.window × IsAtEnd new.left
+HearsAt limits now old Late new =
+    ((old.marked + 1000 ≤ now) ⊎ IsAwaited limits.idle now old.rested old.window)
+    × Keeps old.left new.left
+    × (new.marked ≡ now)
+    × (new.rested ≡ old.rested)
+    × (new.window ≡ old.window)
+HearsAt limits now old Fault new = ⊥
+HearsAt limits now old Memory new = ⊥
 
 -- what is heard, at some moment that the clock may tell; of a fault, and of want of memory, nothing
 -- is said
-abbrev pub Hears : (ℕ → Type 0) → Ear → Heard → Ear → Type 0
-Hears tells old Fault new = Unit {0}
-Hears tells old Memory new = Unit {0}
-Hears tells old came new = (now : ℕ) × tells now × HearsAt now old came new
+abbrev pub Hears : (ℕ → Type 0) → Limits → Ear → Heard → Ear → Type 0
+Hears tells limits old Fault new = Unit {0}
+Hears tells limits old Memory new = Unit {0}
+Hears tells limits old came new = (now : ℕ) × tells now × HearsAt limits now old came new

@@ -1,6 +1,7 @@
 //! A network, as a program sees it.
 ghost use Rattle.std.specs.Prelude.{ℕ, List, IfOk};
 
+use crate::limits::Limits;
 use dr_base::Text;
 use dr_session::Link;
 use std::alloc::Global;
@@ -8,12 +9,18 @@ use std::io;
 
 /// Where a program connects and listens, each address as a plan writes it (`host:port`). Its
 /// relation says which links may lead to an address; a system's sockets claim nothing.
-pub trait Network {
+pub trait Network: Sized + Drop {
     type Socket: Link + Drop;
 
     type Listener: Listening<Socket = Self::Socket> + Drop;
 
     ghost reaches: { Self → List ℕ → Self.Socket → Type 0 };
+
+    /// The same network, whose links have these limits.
+    fn within(&self, limits: Limits) -> Self;
+
+    /// Cuts all links: from now on each read and write over one of them fails.
+    fn cut(&self);
 
     /// A link to what listens at the address.
     fn connect(&self, alloc: Global, address: &Text) -> io::Result<Self::Socket>

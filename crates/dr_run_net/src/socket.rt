@@ -1,42 +1,50 @@
 //! One end of a TCP connection, as the link of an association.
-ghost use Rattle.std.specs.Prelude.{◌≡◌, ◌⊎◌, ◌≤◌, ◌<◌, ◌+◌, ◌^◌, IfOk, length, take};
+ghost use Rattle.std.specs.Prelude.{◌≡◌, ◌⊎◌, ◌≤◌, ◌<◌, ◌+◌, ◌^◌, false, IfOk, None, Some, length};
+ghost use Rattle.std.specs.Prelude.{take};
 ghost use Rattle.std.specs.Io.KnownBytes.{ReadConsumes};
 ghost use Rattle.dr_session.specs.Links.{Counts, HasRisen, IsLinkFault};
 ghost use Rattle.dr_session.specs.declared.ends.Heard.TheVariants as came;
-ghost use Rattle.dr_run_net.specs.Hearing.{Hears, ear};
+ghost use Rattle.dr_run_net.specs.Hearing.{Hears, IsAwaited, IsSwift, IsWidened, ear};
+ghost use Rattle.dr_run_net.specs.declared.window.Window.{Window as WindowValue};
 
+use crate::limits::{Cut, Limits};
+use crate::pacing::{is_slow, widen};
+use crate::quiet::is_quiet;
+use crate::window::Window;
+use crate::writing::write_in_time;
 use dr_base::Text;
 use dr_session::{Clock, Heard, Link};
 use std::alloc::{AllocError, Global};
 use std::io;
-use std::io::{ErrorKind, Read, Write};
+use std::io::{Read, Write};
 use std::net::{OpenStream, Shutdown};
 use std::time::Duration;
 
 /// A late mark comes so many milliseconds behind the last one.
 const MARK: u64 = 1_000;
 
-/// A link on which nothing came for so many milliseconds has failed.
-const IDLE: u64 = 600_000;
-
-/// A write that makes no headway for so many milliseconds is given up.
-const BLOCKED: u64 = 60_000;
+/// A call of the system that writes ends after so many milliseconds, also where it took nothing.
+const TURN: u64 = 1_000;
 
 /// The most bytes that one read takes.
 const PIECE: usize = 65_536;
 
 /// One end of a connection, with the clock by which it counts. `marked` is the moment of its last
-/// late mark, `heard` that at which something came last; both begin with the moment at which it was
-/// opened.
+/// late mark, `rested` that since which no message is under way; both begin with the moment at
+/// which it was opened. A message is under way from its first byte until something is written: an
+/// end writes, or closes, as soon as a message is whole.
 #[derive(Drop)]
 pub struct Socket<'a, S: Read + Write + OpenStream + Drop, C: Clock> {
     pub(crate) alloc: Global,
     pub(crate) stream: S,
     pub(crate) clock: &'a C,
+    pub(crate) limits: Limits,
+    pub(crate) cut: &'a Cut,
     pub(crate) piece: Vec<u8>,
     pub(crate) opened: u64,
     pub(crate) marked: u64,
-    pub(crate) heard: u64,
+    pub(crate) rested: u64,
+    pub(crate) window: Option<Window>,
     pub(crate) failures: u64,
     pub ghost early: { opened ≤ 2 ^ 62 },
     pub ghost room: { 0 < length piece.items },
@@ -50,38 +58,40 @@ fn empty_piece(alloc: Global) -> Result<Vec<u8>, AllocError>
     Ok(piece)
 }
 
-/// Whether a read failed since nothing came in time.
-fn is_quiet(error: &io::Error) -> bool {
-    matches!(
-        error.kind(),
-        ErrorKind::WouldBlock | ErrorKind::TimedOut | ErrorKind::Interrupted
-    )
-}
-
 impl<'a, S: Read + Write + OpenStream + Drop, C: Clock> Socket<'a, S, C> {
     /// The end of a connection that is open from now on. What it writes goes out at once; its reads
     /// and writes don't wait for ever.
     ///
     /// Errors: the system refuses one of these settings; want of memory.
-    pub fn new(alloc: Global, stream: S, clock: &'a C) -> io::Result<Socket<'a, S, C>>
+    pub fn new(
+        alloc: Global,
+        stream: S,
+        clock: &'a C,
+        limits: Limits,
+        cut: &'a Cut,
+    ) -> io::Result<Socket<'a, S, C>>
         ensures stream { IfOk result (λ s. s.stream ≡ stream) }
         ensures opened { IfOk result (λ s.
-            C.tells clock.now s.opened × (s.marked ≡ s.opened) × (s.heard ≡ s.opened)) }
+            C.tells clock.now s.opened × (s.marked ≡ s.opened) × (s.rested ≡ s.opened)) }
+        ensures limits { IfOk result (λ s. (s.limits ≡ limits) × (s.window ≡ None)) }
         ensures faultless { IfOk result (λ s. s.failures ≡ 0) }
     {
         stream.set_nodelay(true)?;
         stream.set_read_timeout(Some(Duration::from_millis(MARK)))?;
-        stream.set_write_timeout(Some(Duration::from_millis(BLOCKED)))?;
+        stream.set_write_timeout(Some(Duration::from_millis(TURN)))?;
         let piece = empty_piece(alloc)?;
         let opened = clock.now();
         Ok(Socket {
             alloc,
             stream,
             clock,
+            limits,
+            cut,
             piece,
             opened,
             marked: opened,
-            heard: opened,
+            rested: opened,
+            window: None,
             failures: 0,
         })
     }
@@ -100,7 +110,9 @@ impl<'a, S: Read + Write + OpenStream + Drop, C: Clock> Socket<'a, S, C> {
     fn mark(&mut self, now: u64) -> Heard
         ensures late { result ≡ came.Late }
         ensures marked { self.new.marked ≡ now }
-        ensures stream { (self.new.stream ≡ self.old.stream) × (self.new.heard ≡ self.old.heard) }
+        ensures stream { (self.new.stream ≡ self.old.stream)
+            × (self.new.rested ≡ self.old.rested)
+            × (self.new.window ≡ self.old.window) }
         ensures failures { self.new.failures ≡ self.old.failures }
     {
         self.marked = now;
@@ -109,17 +121,29 @@ impl<'a, S: Read + Write + OpenStream + Drop, C: Clock> Socket<'a, S, C> {
 
     /// Nothing came in time: a late mark, or a fault where nothing came for too long.
     fn wait_on(&mut self) -> Heard
-        ensures hears { Hears (C.tells self.old.clock.now)
-            (ear (S.remaining self.old.stream) self.old.marked self.old.heard) result
-            (ear (S.remaining self.new.stream) self.new.marked self.new.heard) }
+        ensures hears { Hears (C.tells self.old.clock.now) self.old.limits
+            (ear (S.remaining self.old.stream) self.old.marked self.old.rested self.old.window)
+            result
+            (ear (S.remaining self.new.stream) self.new.marked self.new.rested self.new.window) }
         ensures counts { Counts (IsLinkFault result) self.old.failures self.new.failures }
     {
         let now = self.clock.now();
-        if now.saturating_sub(self.heard) >= IDLE {
+        if self.is_idle(now) {
             self.fail();
             return Heard::Fault;
         }
         self.mark(now)
+    }
+
+    /// Whether nothing has come for too long between two messages.
+    fn is_idle(&self, now: u64) -> bool
+        ensures { result ≡ false
+            → IsAwaited self.now.limits.idle now self.now.rested self.now.window }
+    {
+        match self.window {
+            Some(_) => false,
+            None => now.saturating_sub(self.rested) >= self.limits.idle,
+        }
     }
 
     /// One read into the room.
@@ -128,7 +152,9 @@ impl<'a, S: Read + Write + OpenStream + Drop, C: Clock> Socket<'a, S, C> {
         ensures consumed { ReadConsumes (S.remaining self.old.stream) (S.remaining self.new.stream)
             result self.new.piece.items }
         ensures same { (self.new.marked ≡ self.old.marked)
-            × (self.new.heard ≡ self.old.heard)
+            × (self.new.rested ≡ self.old.rested)
+            × (self.new.window ≡ self.old.window)
+            × (self.new.limits ≡ self.old.limits)
             × (self.new.failures ≡ self.old.failures)
             × (self.new.clock ≡ self.old.clock) }
     {
@@ -141,12 +167,15 @@ impl<'a, S: Read + Write + OpenStream + Drop, C: Clock> Socket<'a, S, C> {
         requires { count ≤ length self.old.piece.items }
         ensures heard { (result ≡ came.Bytes (take count self.old.piece.items))
             ⊎ (result ≡ came.Memory) }
-        ensures at { self.new.heard ≡ now }
+        ensures window { (window : WindowValue)
+            × (self.new.window ≡ Some window)
+            × IsWidened now count self.old.window window }
         ensures same { (self.new.stream ≡ self.old.stream)
             × (self.new.marked ≡ self.old.marked)
+            × (self.new.rested ≡ self.old.rested)
             × (self.new.failures ≡ self.old.failures) }
     {
-        self.heard = now;
+        self.window = Some(widen(self.window, count, now));
         match Text::copy_of(self.alloc, &self.piece.as_slice()[..count]) {
             Ok(bytes) => Heard::Bytes(bytes),
             Err(AllocError) => Heard::Memory,
@@ -157,9 +186,11 @@ impl<'a, S: Read + Write + OpenStream + Drop, C: Clock> Socket<'a, S, C> {
     fn hear_next(&mut self, now: u64) -> Heard
         requires told { C.tells self.old.clock.now now }
         requires soon { now < self.old.marked + 1000 }
-        ensures hears { Hears (C.tells self.old.clock.now)
-            (ear (S.remaining self.old.stream) self.old.marked self.old.heard) result
-            (ear (S.remaining self.new.stream) self.new.marked self.new.heard) }
+        requires swift { IsSwift self.old.limits.message now self.old.window }
+        ensures hears { Hears (C.tells self.old.clock.now) self.old.limits
+            (ear (S.remaining self.old.stream) self.old.marked self.old.rested self.old.window)
+            result
+            (ear (S.remaining self.new.stream) self.new.marked self.new.rested self.new.window) }
         ensures counts { Counts (IsLinkFault result) self.old.failures self.new.failures }
     {
         match self.read() {
@@ -171,9 +202,10 @@ impl<'a, S: Read + Write + OpenStream + Drop, C: Clock> Socket<'a, S, C> {
 
     /// A read that failed: since nothing came in time, or else a fault.
     fn miss(&mut self, error: &io::Error) -> Heard
-        ensures hears { Hears (C.tells self.old.clock.now)
-            (ear (S.remaining self.old.stream) self.old.marked self.old.heard) result
-            (ear (S.remaining self.new.stream) self.new.marked self.new.heard) }
+        ensures hears { Hears (C.tells self.old.clock.now) self.old.limits
+            (ear (S.remaining self.old.stream) self.old.marked self.old.rested self.old.window)
+            result
+            (ear (S.remaining self.new.stream) self.new.marked self.new.rested self.new.window) }
         ensures counts { Counts (IsLinkFault result) self.old.failures self.new.failures }
     {
         if is_quiet(error) {
@@ -189,9 +221,9 @@ impl<'a, S: Read + Write + OpenStream + Drop, C: Clock> Link for Socket<'a, S, C
     ghost use Rattle.std.specs.Io.KnownBytes.{Appends, Keeps};
     ghost use Rattle.dr_run_net.specs.Hearing.{Hears, ear};
 
-    ghost hears = { λ s heard t. Hears (C.tells s.clock.now)
-        (ear (S.remaining s.stream) s.marked s.heard) heard
-        (ear (S.remaining t.stream) t.marked t.heard) };
+    ghost hears = { λ s heard t. Hears (C.tells s.clock.now) s.limits
+        (ear (S.remaining s.stream) s.marked s.rested s.window) heard
+        (ear (S.remaining t.stream) t.marked t.rested t.window) };
 
     ghost sends = { λ s bytes sent t.
         sent ≡ true → Appends (S.contents s.stream) (S.contents t.stream) bytes };
@@ -206,9 +238,14 @@ impl<'a, S: Read + Write + OpenStream + Drop, C: Clock> Link for Socket<'a, S, C
         self.opened
     }
 
-    /// A late mark where the last one is a second behind, else what is read.
+    /// A fault where all links are cut, or where a message under way brings too little; a late mark
+    /// where the last one is a second behind; else what is read.
     fn recv(&mut self) -> Heard {
         let now = self.clock.now();
+        if self.cut.is_made() || is_slow(self.window, self.limits.message, now) {
+            self.fail();
+            return Heard::Fault;
+        }
         if now.saturating_sub(self.marked) >= MARK {
             return self.mark(now);
         }
@@ -216,11 +253,13 @@ impl<'a, S: Read + Write + OpenStream + Drop, C: Clock> Link for Socket<'a, S, C
     }
 
     fn send(&mut self, bytes: &[u8]) -> bool {
-        let written = self.stream.write_all(bytes);
-        if written.is_err() {
+        let (limit, cut, clock) = (self.limits.write, self.cut, self.clock);
+        if !write_in_time(&mut self.stream, bytes, limit, cut, clock) {
             self.fail();
             return false;
         }
+        self.window = None;
+        self.rested = self.clock.now();
         true
     }
 

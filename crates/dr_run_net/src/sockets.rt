@@ -1,4 +1,5 @@
 //! The system's network.
+use crate::limits::{Cut, Limits};
 use crate::network::{Listening, Network};
 use crate::socket::Socket;
 use dr_base::Text;
@@ -10,19 +11,25 @@ use std::os::fd::OwnedFd;
 use std::time::Duration;
 use std::{io, str};
 
-/// A connect is given up after so many milliseconds.
-const CONNECT: u64 = 10_000;
-
-/// The network of the system, with the clock by which its sockets count.
+/// The network of the system, with the clock by which its sockets count, their limits, and what
+/// cuts them.
 #[derive(Drop)]
 pub struct Sockets<'a, R: Net<Stream = TcpStream, Listener = TcpListener>, C: Clock> {
     rt: &'a R,
     clock: &'a C,
+    cut: &'a Cut,
+    limits: Limits,
 }
 
 impl<'a, R: Net<Stream = TcpStream, Listener = TcpListener>, C: Clock> Sockets<'a, R, C> {
-    pub fn new(rt: &'a R, clock: &'a C) -> Sockets<'a, R, C> {
-        Sockets { rt, clock }
+    /// With the usual limits.
+    pub fn new(rt: &'a R, clock: &'a C, cut: &'a Cut) -> Sockets<'a, R, C> {
+        Sockets {
+            rt,
+            clock,
+            cut,
+            limits: Limits::usual(),
+        }
     }
 
     /// Connects to one of a name's addresses, each in its turn, until one answers or the time is
@@ -34,7 +41,10 @@ impl<'a, R: Net<Stream = TcpStream, Listener = TcpListener>, C: Clock> Sockets<'
         // time.
         let begun = self.clock.now();
         for one in addresses {
-            let left = CONNECT.saturating_sub(self.clock.now().saturating_sub(begun));
+            let left = self
+                .limits
+                .connect
+                .saturating_sub(self.clock.now().saturating_sub(begun));
             if left == 0 {
                 return Err(io::Error::from(ErrorKind::TimedOut));
             }
@@ -64,15 +74,34 @@ impl<'a, R: Net<Stream = TcpStream, Listener = TcpListener>, C: Clock> Network
 
     ghost reaches = { λ sockets address socket. Unit {0} };
 
-    /// A connect is given up after 10 s.
+    fn within(&self, limits: Limits) -> Sockets<'a, R, C> {
+        Sockets {
+            rt: self.rt,
+            clock: self.clock,
+            cut: self.cut,
+            limits,
+        }
+    }
+
+    fn cut(&self) {
+        self.cut.make();
+    }
+
+    /// A connect is given up after its limit.
     fn connect(&self, alloc: Global, address: &Text) -> io::Result<Socket<'a, TcpStream, C>> {
         let stream = self.connect_by(words_of(address)?)?;
-        Socket::new(alloc, stream, self.clock)
+        Socket::new(alloc, stream, self.clock, self.limits, self.cut)
     }
 
     fn listen(&self, alloc: Global, address: &Text) -> io::Result<SystemListener<'a, C>> {
         let listener = TcpListener::bind(self.rt, words_of(address)?)?;
-        Ok(SystemListener::new(alloc, listener, self.clock))
+        Ok(SystemListener {
+            alloc,
+            listener,
+            clock: self.clock,
+            cut: self.cut,
+            limits: self.limits,
+        })
     }
 }
 
@@ -82,17 +111,8 @@ pub struct SystemListener<'a, C: Clock> {
     alloc: Global,
     listener: TcpListener,
     clock: &'a C,
-}
-
-impl<'a, C: Clock> SystemListener<'a, C> {
-    /// What is bound already.
-    pub fn new(alloc: Global, listener: TcpListener, clock: &'a C) -> SystemListener<'a, C> {
-        SystemListener {
-            alloc,
-            listener,
-            clock,
-        }
-    }
+    cut: &'a Cut,
+    limits: Limits,
 }
 
 impl<'a, C: Clock> Listening for SystemListener<'a, C> {
@@ -100,7 +120,7 @@ impl<'a, C: Clock> Listening for SystemListener<'a, C> {
 
     fn accept(&self) -> io::Result<Socket<'a, TcpStream, C>> {
         let (stream, _) = self.listener.accept()?;
-        Socket::new(self.alloc, stream, self.clock)
+        Socket::new(self.alloc, stream, self.clock, self.limits, self.cut)
     }
 
     /// The listening socket is shut down by a second handle of it, which wakes who waits at the

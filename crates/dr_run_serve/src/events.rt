@@ -255,3 +255,19 @@ pub fn tell_shut<G: Log>(log: &G) {
 pub fn tell_unaccepted<G: Log>(log: &G, error: &io::Error) {
     error!(log; target: "listener", "failed error=\"{error}\"");
 }
+
+/// Tells that the system gave fewer threads than there should be: those that serve, or those that
+/// send. What they should do is done late, or when the others have ended.
+pub fn tell_threads<G: Log>(log: &G, purpose: &str, wanted: usize, begun: usize) {
+    error!(log; target: "node", "threads purpose={purpose} wanted={wanted} begun={begun}");
+}
+
+/// Tells that the node ends in order.
+pub fn tell_stopping<G: Log>(log: &G) {
+    info!(log; target: "node", "stops");
+}
+
+/// Tells that what was still under way was cut.
+pub fn tell_cut<G: Log>(log: &G) {
+    warn!(log; target: "node", "cuts what is under way");
+}

@@ -1,11 +1,13 @@
 //! A node that runs: it serves associations and sends what is due, over any ledger and any network.
 //!
-//! - `serve`: workers serve the associations that others ask for, on a desk that threads share; one
-//!   thread sends. It visits each hop with a due row once a round, and then sleeps until the next
-//!   row is due or until a worker has made one.
+//! - `serve`: workers serve the associations that others ask for, on a desk that threads share. A
+//!   thread for each hop sends: it sleeps until a row is due or until a worker has made one, visits
+//!   the hop, and leaves it alone for a while where that failed. One more tells of the node.
 //! - `visit_each`: each hop with a due row is visited once, in order.
 //! - `events`: what is logged of associations, instances and visits. `Monitor`: a log that may want
 //!   reports of what the node has too.
+//!
+//! A node that is asked to (`Stop`) ends in order: what is under way has 10 s.
 //!
 //! A node whose store is shut (`shutting`) ends: its log says so once, no more connections are
 //! accepted, and those that are served end.
@@ -19,13 +21,16 @@
 #![tactic(auto)]
 
 mod events;
+mod keeper;
 mod monitor;
 mod reporting;
-mod rounds;
+mod rest;
+mod sender;
 mod sending;
 mod serving;
 mod shutting;
 mod signal;
+mod stop;
 mod tallied;
 mod visit;
 mod watch;
@@ -33,4 +38,5 @@ mod watch;
 pub use monitor::{FileMonitor, Monitor};
 pub use sending::visit_each;
 pub use serving::{ServeFault, serve};
+pub use stop::{Ending, Stop, Terms};
 pub use tallied::OwnPort;

@@ -1,14 +1,17 @@
 //! A node that serves associations and sends what is due.
+ghost use denote.Param.Send.{IsSend, IsSync};
 ghost use Rattle.std.specs.Prelude.{◌≡◌, IfOk, IsErr, IsTrue};
 ghost use Rattle.dr_desk.specs.Growing.{BeginWith};
 ghost use Rattle.dr_ledger.specs.Histories.{IsJournalled};
 ghost use Rattle.dr_ledger.specs.SiteRoutes.{site_routing};
 
 use crate::events::tell_unaccepted;
+use crate::keeper::{Crew, keep};
 use crate::monitor::Monitor;
-use crate::rounds::send_all;
+use crate::sender::{HopSender, send_rows};
 use crate::shutting::Wake;
 use crate::signal::{BEGIN, Signal};
+use crate::stop::Terms;
 use crate::watch::Watch;
 use crossbeam_channel::{Receiver, Sender, bounded};
 use dr_desk::{CloseFault, Desk, Pass, SharedDesk, Sharing};
@@ -27,10 +30,6 @@ use std::thread::Threads;
 use std::time::Duration;
 use std::{thread, time};
 use thiserror::Error;
-
-/// How many threads serve associations. Each holds its worker until it ends, also where its peer
-/// says nothing.
-const WORKERS: usize = 32;
 
 /// How many connections wait for one of them; others wait to be accepted.
 const QUEUE: usize = 256;
@@ -76,7 +75,7 @@ impl<'a, C: Clock> Clock for ClockOf<'a, C> {
 }
 
 /// Accepts so many connections, or, for 0, each that comes, and hands them to the workers, until
-/// the store is shut. Of accepts that fail one after the
+/// the node comes to its end. Of accepts that fail one after the
 /// other the first is told. Says whether there were workers: where the system gave no thread for
 /// them it accepts nothing.
 fn accept_links<
@@ -104,7 +103,7 @@ fn accept_links<
             return true;
         }
         let came = listener.accept();
-        if signal.is_shut() {
+        if signal.is_ending() {
             return true;
         }
         let link = match came {
@@ -146,12 +145,13 @@ fn work<
     alloc: Global,
     from: Receiver<Connection<K, C>>,
     desk: &SharedDesk<L, B>,
+    terms: Terms<'_>,
     signal: &Signal,
     log: &G,
 ) -> Result<Vec<Pass<B>>, WorkersFault> {
     signal.begin(rt);
     let watch = Watch { rt, signal, log };
-    let passes = workers(rt, alloc, WORKERS, &from, desk, &watch);
+    let passes = workers(rt, alloc, terms.workers(), &from, desk, &watch);
     drop(from);
     signal.end(rt);
     passes
@@ -171,7 +171,7 @@ fn serve_links<
     alloc: Global,
     desk: &SharedDesk<L, B>,
     listener: &D,
-    links: u64,
+    terms: Terms<'_>,
     signal: &Signal,
     clock: &C,
     log: &G,
@@ -182,8 +182,8 @@ fn serve_links<
     };
     let (passes, has_served) = thread::join(
         rt,
-        || work(rt, alloc, from, desk, signal, log),
-        || accept_links(rt, listener, to, links, signal, clock, log),
+        || work(rt, alloc, from, desk, terms, signal, log),
+        || accept_links(rt, listener, to, terms.links, signal, clock, log),
     );
     if has_served {
         passes
@@ -192,7 +192,82 @@ fn serve_links<
     }
 }
 
-/// Serves and sends, side by side; the passes of those who serve, and that of the one who sends.
+/// Sends to each hop, in a thread of its own, as long as somebody serves.
+fn send_all<
+    R: Threads + Wait + Sync + time::Clock,
+    L: Ledger + Send,
+    B: Sharing + Send + Sync,
+    N: Network + Sync,
+    C: Clock + Sync,
+    G: Log + Sync,
+>(
+    rt: &R,
+    alloc: Global,
+    desk: &SharedDesk<L, B>,
+    senders: Vec<HopSender<B>>,
+    signal: &Signal,
+    network: &N,
+    clock: &C,
+    log: &G,
+) -> Vec<HopSender<B>>
+where
+    N::Socket: Send,
+    N::Listener: Sync,
+{
+    let mut senders = senders;
+    let count = senders.len();
+    if count > 0 {
+        thread::for_each_mut(
+            rt,
+            senders.as_mut_slice(),
+            count,
+            &|number, sender| {
+                send_rows(rt, alloc, desk, sender, number, signal, network, clock, log)
+            },
+        );
+    }
+    signal.end_sending(rt);
+    senders
+}
+
+/// Sends, and tells of the node, side by side.
+fn send_and_keep<
+    R: Threads + Wait + Sync + time::Clock,
+    L: Ledger + Drop + Send,
+    B: Sharing + Send + Sync,
+    D: Listening + Sync,
+    N: Network + Sync,
+    C: Clock + Sync,
+    G: Monitor + Sync,
+>(
+    rt: &R,
+    alloc: Global,
+    desk: &SharedDesk<L, B>,
+    hops: &[NextHop],
+    senders: Vec<HopSender<B>>,
+    crew: Crew,
+    wake: &Wake<'_, D, N>,
+    clock: &C,
+    log: &G,
+) -> Vec<HopSender<B>>
+where
+    N::Socket: Send,
+    N::Listener: Sync,
+{
+    let (signal, network) = (wake.signal, wake.network);
+    let (senders, ()) = thread::join(
+        rt,
+        ||
+            requires { IsSync R.row × IsSend L.row × IsSend B.row × IsSync B.row × IsSync N.row
+                × IsSend N.Socket.row × IsSync N.Listener.row × IsSync C.row × IsSync G.row }
+        { send_all(rt, alloc, desk, senders, signal, network, clock, log) },
+        || keep(rt, alloc, desk, hops, crew, wake, clock, log),
+    );
+    senders
+}
+
+/// Serves, sends and tells of the node, side by side; the passes of those who serve, and those who
+/// send.
 fn serve_all<
     R: Threads + Wait + Sync + time::Clock,
     L: Ledger + Drop + Send,
@@ -206,50 +281,91 @@ fn serve_all<
     rt: &R,
     alloc: Global,
     desk: &SharedDesk<L, B>,
-    own: Pass<B>,
-    hops: Vec<NextHop>,
+    hops: &[NextHop],
+    senders: Vec<HopSender<B>>,
     listener: &D,
-    links: u64,
+    terms: Terms<'_>,
     signal: &Signal,
     network: &N,
     clock: &C,
     log: &G,
-) -> (Result<Vec<Pass<B>>, WorkersFault>, Pass<B>) {
-    let wake = Wake { signal, listener };
+) -> (Result<Vec<Pass<B>>, WorkersFault>, Vec<HopSender<B>>)
+where
+    N::Socket: Send,
+    N::Listener: Sync,
+{
+    let wake = Wake {
+        signal,
+        listener,
+        network,
+        stop: terms.stop,
+    };
+    let crew = Crew {
+        workers: terms.workers(),
+        senders: senders.len(),
+    };
     thread::join(
         rt,
-        || serve_links(rt, alloc, desk, listener, links, signal, clock, log),
-        || send_all(rt, alloc, desk, own, hops, &wake, network, clock, log),
+        ||
+            requires { IsSync R.row × IsSend L.row × IsSend B.row × IsSync B.row × IsSend K.row
+                × IsSync D.row × IsSync C.row × IsSync G.row }
+        { serve_links(rt, alloc, desk, listener, terms, signal, clock, log) },
+        ||
+            requires { IsSync R.row × IsSend L.row × IsSend B.row × IsSync B.row × IsSync D.row
+                × IsSync N.row × IsSend N.Socket.row × IsSync N.Listener.row × IsSync C.row
+                × IsSync G.row }
+        { send_and_keep(rt, alloc, desk, hops, senders, crew, &wake, clock, log) },
     )
+}
+
+/// One who sends for each hop, each with a pass of its own.
+///
+/// Errors: TooManyPasses, Memory.
+fn senders_of<R: Wait, L: Ledger, B: Sharing>(
+    rt: &R,
+    alloc: Global,
+    desk: &SharedDesk<L, B>,
+    hops: &[NextHop],
+) -> Result<Vec<HopSender<B>>, WorkersFault> {
+    let mut senders = Vec::with_capacity(alloc, hops.len())?;
+    for hop in hops {
+        let pass = desk.pass(rt, alloc)?;
+        let sender = HopSender::new(pass, hop)?;
+        if senders.push(sender).is_err() {
+            return Err(WorkersFault::Memory);
+        }
+    }
+    Ok(senders)
 }
 
 /// All passes, where those of the ones who serve came back, and the store isn't shut.
 fn all_passes<B: Sharing>(
     passes: Result<Vec<Pass<B>>, WorkersFault>,
-    own: Pass<B>,
+    senders: Vec<HopSender<B>>,
     is_shut: bool,
 ) -> Result<Vec<Pass<B>>, ServeFault>
     ensures { IsTrue is_shut → IsErr result }
 {
     if is_shut {
         drop(passes);
-        drop(own);
+        drop(senders);
         return Err(ServeFault::Store);
     }
-    match passes {
-        Ok(passes) => {
-            let mut passes = passes;
-            passes.push(own)?;
-            Ok(passes)
-        }
-        Err(_) => {
-            drop(own);
-            Err(ServeFault::Memory)
-        }
+    let Ok(passes) = passes else {
+        drop(senders);
+        return Err(ServeFault::Memory);
+    };
+    let mut passes = passes;
+    for sender in senders {
+        let HopSender { pass, .. } = sender;
+        passes.push(pass)?;
     }
+    Ok(passes)
 }
 
-/// Serves and sends on a shared desk, of which this pass sends, and ends the sharing.
+/// Serves and sends on a shared desk; all passes that were made of it.
+///
+/// Errors: Store, Memory.
 fn serve_by<
     R: Threads + Wait + Sync + time::Clock,
     L: Ledger + Drop + Send,
@@ -262,32 +378,26 @@ fn serve_by<
 >(
     rt: &R,
     alloc: Global,
-    desk: SharedDesk<L, B>,
-    own: Pass<B>,
-    hops: Vec<NextHop>,
+    desk: &SharedDesk<L, B>,
+    hops: &[NextHop],
     listener: &D,
-    links: u64,
+    terms: Terms<'_>,
     network: &N,
     clock: &C,
     log: &G,
-) -> Result<L, ServeFault>
-    requires { B.all ≡ B.parts }
-    ensures begins { IfOk result (λ l. L.stands l → BeginWith B.first (L.book l).lines) }
-    ensures history { IfOk result (λ l.
-        L.stands l → ∥ IsJournalled (site_routing B.site) (L.book l) ∥₁) }
-    ensures of { IfOk result (λ l. L.site l ≡ B.site) }
+) -> Result<Vec<Pass<B>>, ServeFault>
+where
+    N::Socket: Send,
+    N::Listener: Sync,
 {
-    let signal = Signal::new();
-    let (passes, own) = serve_all(
-        rt, alloc, &desk, own, hops, listener, links, &signal, network, clock, log,
+    let signal = Signal::new(alloc, hops)?;
+    let Ok(senders) = senders_of(rt, alloc, desk, hops) else {
+        return Err(ServeFault::Memory);
+    };
+    let (passes, senders) = serve_all(
+        rt, alloc, desk, hops, senders, listener, terms, &signal, network, clock, log,
     );
-    match all_passes(passes, own, signal.is_shut()) {
-        Ok(passes) => closed(alloc, desk, passes),
-        Err(fault) => {
-            drop(desk);
-            Err(fault)
-        }
-    }
+    all_passes(passes, senders, signal.is_shut())
 }
 
 /// Serves and sends on a shared desk, and ends the sharing.
@@ -306,25 +416,37 @@ fn serve_shared<
     desk: SharedDesk<L, B>,
     hops: Vec<NextHop>,
     listener: &D,
-    links: u64,
+    terms: Terms<'_>,
     network: &N,
     clock: &C,
     log: &G,
 ) -> Result<L, ServeFault>
+where
+    N::Socket: Send,
+    N::Listener: Sync,
     requires { B.all ≡ B.parts }
     ensures begins { IfOk result (λ l. L.stands l → BeginWith B.first (L.book l).lines) }
     ensures history { IfOk result (λ l.
         L.stands l → ∥ IsJournalled (site_routing B.site) (L.book l) ∥₁) }
     ensures of { IfOk result (λ l. L.site l ≡ B.site) }
 {
-    match desk.pass(rt, alloc) {
-        Ok(own) => serve_by(
-            rt, alloc, desk, own, hops, listener, links, network, clock, log,
-        ),
-        Err(_) => {
-            drop(hops);
+    let came = serve_by(
+        rt,
+        alloc,
+        &desk,
+        hops.as_slice(),
+        listener,
+        terms,
+        network,
+        clock,
+        log,
+    );
+    drop(hops);
+    match came {
+        Ok(passes) => closed(alloc, desk, passes),
+        Err(fault) => {
             drop(desk);
-            Err(ServeFault::Memory)
+            Err(fault)
         }
     }
 }
@@ -374,11 +496,14 @@ fn share<
     blank: Blank,
     hops: Vec<NextHop>,
     listener: &D,
-    links: u64,
+    terms: Terms<'_>,
     network: &N,
     clock: &C,
     log: &G,
 ) -> Result<L, ServeFault>
+where
+    N::Socket: Send,
+    N::Listener: Sync,
     requires blank { (blank.name ≡ B.name) × (blank.parts ≡ B.parts) × (B.all ≡ B.parts)
         × (B.all ≡ 65536) }
     requires first { B.first ≡ (L.book ledger).lines }
@@ -393,17 +518,19 @@ fn share<
         Err((LedgerFault::Memory, _)) => return Err(ServeFault::Memory),
         Err(_) => return Err(ServeFault::Store),
     };
-    serve_shared(rt, alloc, desk, hops, listener, links, network, clock, log)
+    serve_shared(rt, alloc, desk, hops, listener, terms, network, clock, log)
 }
 
-/// Serves the associations that are asked for at a listener, by 32 workers, and sends what is due,
-/// by one thread: each hop with a due
-/// row is visited once a round. It ends after so many connections (for 0 never), when these are
-/// served and one last round is made, and gives the ledger back: its journal begins with the lines
-/// that it had, and is a history of the node's site. Events are logged as they happen; where
-/// reports are wanted, the one who sends writes one at the start, every ten seconds if something
-/// has changed, and at the end. Where the store of the ledger is shut, that is logged once, and
-/// serving ends as soon as the sessions do.
+/// Serves the associations that are asked for at a listener, each in a thread of its own, 256 at a
+/// time if the terms give 264 threads, and sends what is due, in a thread for each hop: a hop that
+/// fails or hangs delays no other. A hop at which a visit failed is left alone, 1 s at first and
+/// 300 s at most; where a row was made for it meanwhile, 5 s at most. It ends after so many
+/// connections (for 0 never), when these are served and each hop was visited a last time, and gives
+/// the ledger back: its journal begins with the lines that it had, and is a history of the node's
+/// site. Events are logged as they happen; where reports are wanted, one is written at the start,
+/// every ten seconds if something has changed, and at the end. Where the store of the ledger is
+/// shut, that is logged once, and serving ends as soon as the sessions do. Where its end is asked
+/// for, no association is begun any more; what is under way has 10 s, then its connections are cut.
 ///
 /// Errors: Receipt, Store, Memory.
 pub fn serve<
@@ -421,11 +548,14 @@ pub fn serve<
     site: Site,
     hops: Vec<NextHop>,
     listener: &D,
-    links: u64,
+    terms: Terms<'_>,
     network: &N,
     clock: &C,
     log: &G,
 ) -> Result<L, ServeFault>
+where
+    N::Socket: Send,
+    N::Listener: Sync,
     requires { L.site ledger ≡ site }
     ensures begins { IfOk result (λ l.
         L.stands l → BeginWith (L.book ledger).lines (L.book l).lines) }
@@ -441,7 +571,7 @@ pub fn serve<
         Blank::new(65_536),
         hops,
         listener,
-        links,
+        terms,
         network,
         clock,
         log,

@@ -1,14 +1,28 @@
-//! The end of a node whose store is shut.
+//! The end of a node: in order, or since its store is shut.
 ghost use Rattle.std.specs.Prelude.{◌≡◌, ◌↔◌, Err, IsTrue};
 ghost use Rattle.dr_ledger.specs.declared.fault.LedgerFault.TheVariants.{Store};
 
-use crate::events::tell_shut;
+use crate::events::{tell_cut, tell_shut, tell_stopping};
 use crate::signal::Signal;
+use crate::stop::Stop;
 use dr_desk::{SharedDesk, Sharing};
 use dr_ledger::{Ledger, LedgerFault};
-use dr_run_net::Listening;
+use dr_run_net::{Listening, Network};
 use log::Log;
 use std::sync::Wait;
+
+/// What is under way when a node ends in order has so many milliseconds.
+const LEFT: u64 = 10_000;
+
+/// How far the orderly end of a node is.
+#[derive(Clone, Copy, PartialEq, Eq, Debug)]
+pub enum Stage {
+    Serving,
+    /// Nothing is begun since that moment.
+    Ending(u64),
+    /// What was under way then was cut.
+    Cut,
+}
 
 fn is_store(fault: LedgerFault) -> bool
     ensures { IsTrue result ↔ (fault ≡ Store) }
@@ -41,14 +55,16 @@ pub fn is_shut<R: Wait, L: Ledger, B: Sharing>(rt: &R, desk: &SharedDesk<L, B>) 
     is_store_fault(desk.has(rt, desk.site().name()))
 }
 
-/// What the one who sends is woken by, and what it ends where the store is shut.
+/// What a node is woken by, and what is ended where it ends.
 #[derive(Drop)]
-pub struct Wake<'a, D: Listening> {
+pub struct Wake<'a, D: Listening, N: Network> {
     pub signal: &'a Signal,
     pub listener: &'a D,
+    pub network: &'a N,
+    pub stop: &'a Stop,
 }
 
-impl<'a, D: Listening> Wake<'a, D> {
+impl<'a, D: Listening, N: Network> Wake<'a, D, N> {
     /// Ends the node, if its store is shut: that is told, nothing is accepted any more, and the
     /// sessions that are served end at what they hear next. Says whether
     /// it is.
@@ -62,8 +78,28 @@ impl<'a, D: Listening> Wake<'a, D> {
             return false;
         }
         tell_shut(log);
-        self.signal.shut();
+        self.signal.shut(rt);
         self.listener.close();
         true
+    }
+
+    /// Ends the node in order, where that was asked for and from then on: nothing is begun any
+    /// more. What is still under way so many milliseconds later is cut. Given is when it began to
+    /// end, and whether it was cut; so is the answer.
+    pub fn stops<R: Wait, G: Log>(&self, rt: &R, ending: Stage, now: u64, log: &G) -> Stage {
+        match ending {
+            Stage::Serving if self.stop.is_asked() => {
+                tell_stopping(log);
+                self.signal.stop(rt);
+                self.listener.close();
+                Stage::Ending(now)
+            }
+            Stage::Ending(since) if now.saturating_sub(since) >= LEFT => {
+                tell_cut(log);
+                self.network.cut();
+                Stage::Cut
+            }
+            stage => stage,
+        }
     }
 }

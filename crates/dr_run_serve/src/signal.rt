@@ -1,51 +1,151 @@
-//! What wakes the one who sends.
+//! What wakes those who send, and who tells of the node.
+use dr_base::Text;
+use dr_run_open::NextHop;
+use std::alloc::{AllocError, Global};
 use std::sync::atomic::{AtomicBool, Ordering};
 use std::sync::{Condvar, Mutex, MutexGuard, Wait};
 use std::time::{Clock, Duration};
 
-/// What has happened since it was asked last.
+/// For how many milliseconds a thread is awaited that others wait for.
+pub const BEGIN: u64 = 60_000;
+
+/// How far the node is.
 #[derive(Clone, Copy, PartialEq, Eq, Debug)]
 pub struct News {
-    /// The workers' thread runs.
+    /// How many of the threads that serve have begun.
+    pub workers: usize,
+    /// How many of those that send have begun.
+    pub senders: usize,
+    /// The threads' own thread runs: connections may be accepted.
     pub begun: bool,
-    /// A worker may have made a row.
-    pub rows: bool,
-    /// No worker is left: what is due now is sent, and that is all.
+    /// No worker is left.
     pub over: bool,
-    /// The ledger answered a worker that its store failed.
+    /// No sender is left.
+    pub sent: bool,
+    /// The ledger answered somebody that its store failed.
     pub doubts: bool,
 }
 
-/// For how many milliseconds the workers' thread is awaited.
-pub const BEGIN: u64 = 60_000;
+/// What the one who sends to a hop is woken by.
+#[derive(Clone, Copy, PartialEq, Eq, Debug)]
+pub struct Call {
+    /// A row may have been made.
+    pub rows: bool,
+    /// No worker is left: what is due now is sent, and that is all.
+    pub over: bool,
+}
 
-/// Wakes the one who sends.
+/// Wakes the one who sends to a hop.
+#[derive(Drop)]
+pub struct Bell {
+    dest: Text,
+    call: Mutex<Call>,
+    changed: Condvar,
+}
+
+impl Bell {
+    /// Rows may be there from before.
+    fn new(hop: &NextHop) -> Result<Bell, AllocError> {
+        Ok(Bell {
+            dest: hop.dest.clone()?,
+            call: Mutex::new(Call {
+                rows: true,
+                over: false,
+            }),
+            changed: Condvar::new(),
+        })
+    }
+
+    /// A row may have been made for its hop.
+    fn ring<R: Wait>(&self, rt: &R) {
+        self.call.lock(rt).rows = true;
+        self.changed.notify_all();
+    }
+
+    /// No worker is left.
+    fn end<R: Wait>(&self, rt: &R) {
+        self.call.lock(rt).over = true;
+        self.changed.notify_all();
+    }
+
+    /// What has happened since it was asked last; where nothing has, it waits for so many
+    /// milliseconds.
+    pub fn wait<R: Wait + Clock>(&self, rt: &R, milliseconds: u64) -> Call {
+        let held = self.call.lock(rt);
+        let (mut held, _) = self.changed.wait_timeout_while(
+            rt,
+            held,
+            Duration::from_millis(milliseconds),
+            |call| !call.rows && !call.over,
+        );
+        let call = *held;
+        held.rows = false;
+        call
+    }
+}
+
+/// Whether rows for this node may be among those for these nodes; None stands for all.
+fn is_meant(dest: &Text, dests: Option<&[Text]>) -> bool {
+    match dests {
+        Some(dests) => dests.iter().any(|named| *named == *dest),
+        None => true,
+    }
+}
+
+/// How far a node is, and a bell for each hop.
 #[derive(Drop)]
 pub struct Signal {
     news: Mutex<News>,
     changed: Condvar,
     shut: AtomicBool,
+    stopping: AtomicBool,
+    bells: Vec<Bell>,
 }
 
 impl Signal {
     /// Nothing has happened.
-    pub fn new() -> Signal {
-        Signal {
+    pub fn new(alloc: Global, hops: &[NextHop]) -> Result<Signal, AllocError> {
+        let mut bells = Vec::with_capacity(alloc, hops.len())?;
+        for hop in hops {
+            bells.push(Bell::new(hop)?)?;
+        }
+        Ok(Signal {
             news: Mutex::new(News {
+                workers: 0,
+                senders: 0,
                 begun: false,
-                rows: false,
                 over: false,
+                sent: false,
                 doubts: false,
             }),
             changed: Condvar::new(),
             shut: AtomicBool::new(false),
-        }
+            stopping: AtomicBool::new(false),
+            bells,
+        })
+    }
+
+    /// The bell of the hop of that number.
+    pub fn bell(&self, number: usize) -> Option<&Bell> {
+        self.bells.as_slice().get(number)
     }
 
     /// The workers' thread runs.
     pub fn begin<R: Wait>(&self, rt: &R) {
         self.news.lock(rt).begun = true;
         self.changed.notify_all();
+    }
+
+    /// One who serves has begun.
+    pub fn count_worker<R: Wait>(&self, rt: &R) {
+        let mut held = self.news.lock(rt);
+        held.workers = held.workers.saturating_add(1);
+    }
+
+    /// One who sends has begun.
+    pub fn count_sender<R: Wait>(&self, rt: &R) {
+        let mut held = self.news.lock(rt);
+        held.senders = held.senders.saturating_add(1);
     }
 
     /// Whether the workers' thread runs; where it doesn't, it waits for so many milliseconds. Where
@@ -61,10 +161,13 @@ impl Signal {
         held.begun
     }
 
-    /// A row may have been made.
-    pub fn ring<R: Wait>(&self, rt: &R) {
-        self.news.lock(rt).rows = true;
-        self.changed.notify_all();
+    /// Rows may have been made for these nodes; None stands for all.
+    pub fn ring<R: Wait>(&self, rt: &R, dests: Option<&[Text]>) {
+        for bell in self.bells.as_slice() {
+            if is_meant(&bell.dest, dests) {
+                bell.ring(rt);
+            }
+        }
     }
 
     /// The ledger answered that its store failed.
@@ -74,8 +177,9 @@ impl Signal {
     }
 
     /// The store is shut.
-    pub fn shut(&self) {
+    pub fn shut<R: Wait>(&self, rt: &R) {
         self.shut.store(true, Ordering::SeqCst);
+        self.end_all(rt);
     }
 
     /// Whether the store is shut.
@@ -83,24 +187,48 @@ impl Signal {
         self.shut.load(Ordering::SeqCst)
     }
 
+    /// The node ends in order.
+    pub fn stop<R: Wait>(&self, rt: &R) {
+        self.stopping.store(true, Ordering::SeqCst);
+        self.end_all(rt);
+    }
+
+    /// Whether the node ends, in order or since its store is shut: nothing is begun any more.
+    pub fn is_ending(&self) -> bool {
+        self.stopping.load(Ordering::SeqCst) || self.is_shut()
+    }
+
+    /// Those who send come to their end.
+    fn end_all<R: Wait>(&self, rt: &R) {
+        for bell in self.bells.as_slice() {
+            bell.end(rt);
+        }
+    }
+
     /// No worker is left.
     pub fn end<R: Wait>(&self, rt: &R) {
         self.news.lock(rt).over = true;
         self.changed.notify_all();
+        self.end_all(rt);
     }
 
-    /// What has happened since it was asked last; where nothing has, it waits for so many
-    /// milliseconds.
+    /// No sender is left.
+    pub fn end_sending<R: Wait>(&self, rt: &R) {
+        self.news.lock(rt).sent = true;
+        self.changed.notify_all();
+    }
+
+    /// How far the node is; where nobody doubts the store and somebody is left, it waits for so
+    /// many milliseconds.
     pub fn wait<R: Wait + Clock>(&self, rt: &R, milliseconds: u64) -> News {
         let held = self.news.lock(rt);
         let (mut held, _) = self.changed.wait_timeout_while(
             rt,
             held,
             Duration::from_millis(milliseconds),
-            |news| !news.rows && !news.over && !news.doubts,
+            |news| !news.doubts && !(news.over && news.sent),
         );
         let news = *held;
-        held.rows = false;
         held.doubts = false;
         news
     }

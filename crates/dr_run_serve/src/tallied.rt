@@ -3,6 +3,7 @@ ghost use Rattle.std.specs.Prelude.{◌≡◌};
 ghost use Rattle.dr_desk_workers.specs.Passes.{PassStep};
 
 use crate::events::tell_row;
+use crate::signal::Signal;
 use dr_base::Text;
 use dr_desk::{Pass, SharedDesk, Sharing};
 use dr_ledger::{Arrived, Item, Job, Ledger, LedgerFault, Outcome, Progress};
@@ -84,12 +85,13 @@ impl<L: Ledger> Tallied for OwnPort<L> {
 }
 
 /// A shared desk, with the pass of the one who sends. What comes of each row that was sent is
-/// logged.
+/// logged. Where the node ends no row is given out, so that the association is released.
 #[derive(Drop)]
 pub struct SharedPort<'a, R: Wait, L: Ledger, B: Sharing, G: Log> {
     pub rt: &'a R,
     pub desk: &'a SharedDesk<L, B>,
     pub pass: &'a mut Pass<B>,
+    pub signal: &'a Signal,
     pub log: &'a G,
 }
 
@@ -104,6 +106,9 @@ impl<'a, R: Wait, L: Ledger, B: Sharing, G: Log> DeskPort for SharedPort<'a, R, 
     }
 
     fn next(&mut self, dest: &Text, now: u64) -> Result<Option<Job>, LedgerFault> {
+        if self.signal.is_ending() {
+            return Ok(None);
+        }
         self.desk.next(self.rt, dest, now)
     }
 

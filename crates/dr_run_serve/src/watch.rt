@@ -1,4 +1,4 @@
-//! How a node's sessions are seen: they wake the one who sends, and are logged. Where the store is
+//! How a node's sessions are seen: they wake those who send, and are logged. Where the store is
 //! shut, they end.
 use crate::events::{tell_arrival, tell_association};
 use crate::signal::Signal;
@@ -9,8 +9,8 @@ use dr_session::{Ended, SessionFault};
 use log::{Log, debug};
 use std::sync::Wait;
 
-/// Rings where an arrival was answered, and logs what happens; doubts the store where it failed. No
-/// session is held.
+/// Rings for the hops for which an arrival may have made rows, and logs what happens; doubts the
+/// store where it failed. No session is held.
 #[derive(Drop)]
 pub struct Watch<'a, R: Wait, G: Log> {
     pub rt: &'a R,
@@ -19,14 +19,21 @@ pub struct Watch<'a, R: Wait, G: Log> {
 }
 
 impl<'a, R: Wait, G: Log> Gate for Watch<'a, R, G> {
+    fn began(&self) {
+        self.signal.count_worker(self.rt);
+    }
+
     fn at(&self, session: u64, point: Point) {
         match point {
             Point::Taken => {
                 debug!(self.log; target: "association", "taken session={session}");
             }
-            Point::Stored => self.signal.ring(self.rt),
-            Point::Answered => {}
+            Point::Stored | Point::Answered => {}
         }
+    }
+
+    fn queued(&self, dests: Option<&[Text]>) {
+        self.signal.ring(self.rt, dests);
     }
 
     fn arrived(
@@ -44,6 +51,10 @@ impl<'a, R: Wait, G: Log> Gate for Watch<'a, R, G> {
 
     fn is_over(&self) -> bool {
         self.signal.is_shut()
+    }
+
+    fn is_closing(&self) -> bool {
+        self.signal.is_ending()
     }
 
     fn ended(&self, session: u64, ended: Result<Ended, SessionFault>, tally: Tally) {

@@ -22,7 +22,7 @@ use dr_run_files::{Failure, Files};
 use dr_run_net::Network;
 use dr_run_open::{Ledgers, Status};
 use dr_run_report::Paths;
-use dr_run_serve::OwnPort;
+use dr_run_serve::{Ending, OwnPort};
 use dr_session::{Clock, DeskPort};
 use dr_word_adopt::adopt_files;
 use dr_word_check::tell_failure;
@@ -51,6 +51,7 @@ fn run_any<
     N: Network + Sync,
     C: Clock + Sync,
     G: Log + Sync,
+    U: Ending,
 >(
     rt: &T,
     alloc: Global,
@@ -63,6 +64,7 @@ fn run_any<
     network: &N,
     clock: &C,
     log: &G,
+    ending: &U,
 ) -> Result<Status, Failure<'a>>
 where
     O::Ledger: Send,
@@ -121,7 +123,7 @@ where
             )
         }
         Task::AtNode(given, duty) => work_files(
-            rt, alloc, files, ledgers, given, duty, network, clock, log, output, faults,
+            rt, alloc, files, ledgers, given, duty, network, clock, log, ending, output, faults,
         ),
         Task::Adopt(change) => adopt_files(alloc, files, ledgers, change, output, faults),
         other => run_offline(alloc, other, input, output, faults, files),
@@ -140,6 +142,7 @@ pub fn run_words<
     N: Network + Sync,
     C: Clock + Sync,
     G: Log + Sync,
+    U: Ending,
 >(
     rt: &T,
     alloc: Global,
@@ -152,6 +155,7 @@ pub fn run_words<
     network: &N,
     clock: &C,
     log: &G,
+    ending: &U,
 ) -> Status
 where
     O::Ledger: Send,
@@ -216,7 +220,7 @@ where
         ),
     };
     match run_any(
-        rt, alloc, asked, input, output, faults, files, ledgers, network, clock, log,
+        rt, alloc, asked, input, output, faults, files, ledgers, network, clock, log, ending,
     ) {
         Ok(status) => status,
         Err(failure) => tell_failure(&failure, faults),

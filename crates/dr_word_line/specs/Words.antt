@@ -192,9 +192,18 @@ IsRequeueAllOf words given dest =
     × IsAtNode (codes "requeue") words given (option ∷ dest ∷ [])
     × (option.now ≡ codes "--all-held")
 
--- without options a node serves for ever, logs its events, and writes no file of what it has
+-- without options a node serves for ever, by 264 threads, logs its events, and writes no file of
+-- what it has; it waits 10 s for a connect, 60 s for a PDU to be taken, 30 s for 64 kB of a
+-- message, and 600 s for the next message
 abbrev pub plain_serving : Serving
-plain_serving = record { links = 0; verbosity = Events; report = None }
+plain_serving = record {
+  links = 0;
+  verbosity = Events;
+  report = None;
+  workers = 264;
+  waits = record { connect = 10; write = 60; message = 30; idle = 600 };
+  until_input_ends = false;
+}
 
 -- the words ask this of the node with these files; other ways of serving are asked for by options,
 -- of which nothing is said here

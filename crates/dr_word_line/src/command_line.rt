@@ -123,6 +123,9 @@ enum Choice {
     Links,
     Log,
     Report,
+    Workers,
+    Seconds(Value<'static>, &'static str),
+    UntilInputEnds,
 }
 
 impl<'a> Makes<Arg<'a>> for Choice {
@@ -142,6 +145,9 @@ impl<'a> Makes<Arg<'a>> for Choice {
             Choice::Links => Ok(links(alloc)),
             Choice::Log => Ok(log(alloc)),
             Choice::Report => Ok(report(alloc)),
+            Choice::Workers => Ok(workers(alloc)),
+            Choice::Seconds((name, help), option) => Ok(seconds(alloc, name, option, help)),
+            Choice::UntilInputEnds => Ok(until_input_ends(alloc)),
         }
     }
 }
@@ -411,6 +417,61 @@ fn report<'a>(alloc: Global) -> Arg<'a> {
         .help("writes what the node has to that file, at most every ten seconds")
 }
 
+/// How many threads serve.
+fn workers<'a>(alloc: Global) -> Arg<'a> {
+    Arg::new(alloc, "WORKERS")
+        .long("workers")
+        .action(ArgAction::Set)
+        .value_parser(value_parser!(u16))
+        .value_name("N")
+        .help("how many threads serve associations, 1 to 264 (the default)")
+}
+
+/// How long `serve` waits for something.
+fn seconds<'a>(alloc: Global, name: &'a str, option: &'a str, help: &'a str) -> Arg<'a> {
+    Arg::new(alloc, name)
+        .long(option)
+        .action(ArgAction::Set)
+        .value_parser(value_parser!(u32))
+        .value_name("SECONDS")
+        .help(help)
+}
+
+/// Whether `serve` ends with its input.
+fn until_input_ends<'a>(alloc: Global) -> Arg<'a> {
+    Arg::new(alloc, "UNTIL")
+        .long("until-input-ends")
+        .action(ArgAction::SetTrue)
+        .help("ends in order when the standard input ends")
+}
+
+/// The times for which `serve` waits.
+const CONNECT: Choice = Choice::Seconds(("CONNECT", "gives a connect up then (10)"), "connect");
+
+const WRITE: Choice = Choice::Seconds(
+    (
+        "WRITE",
+        "a PDU that isn't taken by then ends an association (60)",
+    ),
+    "write",
+);
+
+const MESSAGE: Choice = Choice::Seconds(
+    (
+        "MESSAGE",
+        "64 kB of a message that has begun, or its end, have to come within that time (30)",
+    ),
+    "message",
+);
+
+const IDLE: Choice = Choice::Seconds(
+    (
+        "IDLE",
+        "so much silence between two messages ends an association (600)",
+    ),
+    "idle",
+);
+
 /// The word `serve`.
 fn serve<'a>(alloc: Global) -> Result<Command<'a>, AllocError> {
     let about =
@@ -420,7 +481,17 @@ fn serve<'a>(alloc: Global) -> Result<Command<'a>, AllocError> {
         "serve",
         about,
         LEDGER,
-        &[Choice::Links, Choice::Log, Choice::Report],
+        &[
+            Choice::Links,
+            Choice::Log,
+            Choice::Report,
+            Choice::Workers,
+            CONNECT,
+            WRITE,
+            MESSAGE,
+            IDLE,
+            Choice::UntilInputEnds,
+        ],
     )
 }
 

@@ -8,5 +8,5 @@ mod command_line;
 mod words;
 
 pub use words::{
-    Duty, KeyWords, NextPlan, PlanChange, Question, Serving, Task, Verbosity, read_words,
+    Duty, KeyWords, NextPlan, PlanChange, Question, Serving, Task, Verbosity, Waits, read_words,
 };

@@ -82,6 +82,27 @@ pub enum Verbosity {
     Everything,
 }
 
+/// How long a node that serves waits for its peers, in seconds: for a connect, for a PDU to be
+/// taken, for 64 kB of a message or its end, and for the next message.
+#[derive(Clone, Copy, PartialEq, Eq, Debug, Drop)]
+pub struct Waits {
+    pub connect: u32,
+    pub write: u32,
+    pub message: u32,
+    pub idle: u32,
+}
+
+/// How long it waits where nothing else is asked for.
+const USUAL_WAITS: Waits = Waits {
+    connect: 10,
+    write: 60,
+    message: 30,
+    idle: 600,
+};
+
+/// How many threads serve where nothing else is asked for.
+const USUAL_WORKERS: u16 = 264;
+
 /// How a node is to serve.
 #[derive(Clone, Copy, Debug, Drop)]
 pub struct Serving<'a> {
@@ -91,6 +112,12 @@ pub struct Serving<'a> {
     pub verbosity: Verbosity,
     /// The path of a file to which it writes what it has, now and then.
     pub report: Option<&'a str>,
+    /// How many threads serve associations.
+    pub workers: u16,
+    /// How long it waits for its peers.
+    pub waits: Waits,
+    /// Whether it ends, in order, when the standard input does.
+    pub until_input_ends: bool,
 }
 
 /// What a node may be asked to do with its ledger.
@@ -290,6 +317,9 @@ fn read_duty<'a>(words: &'a [&'a str]) -> Option<Task<'a>>
                 links: 0,
                 verbosity: Verbosity::Events,
                 report: None,
+                workers: USUAL_WORKERS,
+                waits: USUAL_WAITS,
+                until_input_ends: false,
             };
             Some(Task::AtNode(given, Duty::Serve(serving)))
         }
@@ -538,6 +568,16 @@ fn question_of<'a>(name: &str, given: &ArgMatches<'a>) -> Option<Question<'a>> {
     }
 }
 
+/// How long a node is to wait for its peers, as clap has read it.
+fn waits_of(given: &ArgMatches<'_>) -> Waits {
+    Waits {
+        connect: given.get_one("CONNECT").unwrap_or(USUAL_WAITS.connect),
+        write: given.get_one("WRITE").unwrap_or(USUAL_WAITS.write),
+        message: given.get_one("MESSAGE").unwrap_or(USUAL_WAITS.message),
+        idle: given.get_one("IDLE").unwrap_or(USUAL_WAITS.idle),
+    }
+}
+
 /// How a node is to serve, as clap has read it.
 fn serving_of<'a>(given: &ArgMatches<'a>) -> Serving<'a> {
     let verbosity = match given.get_str("LOG") {
@@ -549,6 +589,9 @@ fn serving_of<'a>(given: &ArgMatches<'a>) -> Serving<'a> {
         links: given.get_one("LINKS").unwrap_or(0),
         verbosity,
         report: given.get_str("REPORT"),
+        workers: given.get_one("WORKERS").unwrap_or(USUAL_WORKERS),
+        waits: waits_of(given),
+        until_input_ends: given.get_flag("UNTIL"),
     }
 }
 

@@ -1,5 +1,5 @@
 //! The word `serve`.
-ghost use Rattle.std.specs.Prelude.{◌≡◌, IfErr, IfOk, MatchResult, Result};
+ghost use Rattle.std.specs.Prelude.{◌≡◌, ◌*◌, max, IfErr, IfOk, MatchResult, Result};
 ghost use Rattle.dr_base.specs.Texts.{Text as Words};
 ghost use Rattle.dr_run_open.specs.Ends.{Ends};
 ghost use Rattle.dr_run_open.specs.declared.halt.Halt.{Halt as HaltValue};
@@ -9,20 +9,20 @@ use dr_base::Text;
 use dr_ledger::{Ledger, LedgerFault};
 use dr_ledger_report::report_of;
 use dr_run_files::{Failure, Files, NodeFiles};
-use dr_run_net::{Listening, Network};
+use dr_run_net::{Limits, Listening, Network};
 use dr_run_open::{Halt, Ledgers, NextHop, Opened, Status, finish, hops_of, open_node};
 use dr_run_report::{OwnPaths, Paths, test_path};
-use dr_run_serve::{FileMonitor, Monitor, ServeFault, serve};
+use dr_run_serve::{Ending, FileMonitor, Monitor, ServeFault, Stop, Terms, serve};
 use dr_run_shown::Escaped;
 use dr_session::{Clock, Link};
 use dr_site::Site;
-use dr_word_line::{Serving, Verbosity};
+use dr_word_line::{Serving, Verbosity, Waits};
 use log::{LevelFilter, Log, Logged, info};
-use std::alloc::Global;
+use std::alloc::{AllocError, Global};
 use std::io::Write;
-use std::sync::Wait;
+use std::sync::{Arc, Wait};
 use std::thread::Threads;
-use std::time;
+use std::{io, time};
 
 /// The events that are logged.
 fn level_of(verbosity: Verbosity) -> LevelFilter {
@@ -84,11 +84,14 @@ fn serve_ledger<
     site: Site,
     hops: Vec<NextHop>,
     listener: &D,
-    links: u64,
+    terms: Terms<'_>,
     network: &N,
     clock: &C,
     log: &G,
 ) -> Result<Text, Halt<'a>>
+where
+    N::Socket: Send,
+    N::Listener: Sync,
     requires { L.site ledger ≡ site }
     ensures { MatchResult result
         (λ text.
@@ -96,7 +99,7 @@ fn serve_ledger<
         IsUnserved }
 {
     let served = serve::<R, L, K, D, N, C, G>(
-        rt, alloc, ledger, site, hops, listener, links, network, clock, log,
+        rt, alloc, ledger, site, hops, listener, terms, network, clock, log,
     );
     let mut ledger = match served {
         Ok(ledger) => ledger,
@@ -125,11 +128,14 @@ fn serve_opened<
     alloc: Global,
     opened: Opened<L>,
     listener: &D,
-    links: u64,
+    terms: Terms<'_>,
     network: &N,
     clock: &C,
     log: &G,
 ) -> Result<Text, Halt<'a>>
+where
+    N::Socket: Send,
+    N::Listener: Sync,
     requires { L.site opened.ledger ≡ opened.site }
     ensures { MatchResult result
         (λ text. (last : L)
@@ -151,17 +157,53 @@ fn serve_opened<
     } = opened;
     drop(sealed);
     serve_ledger::<R, L, K, D, N, C, G>(
-        rt, alloc, &name, ledger, site, hops, listener, links, network, clock, log,
+        rt, alloc, &name, ledger, site, hops, listener, terms, network, clock, log,
     )
 }
 
-/// Tells that a node serves so many associations.
-fn tell_serving<G: Monitor>(log: &G, given: NodeFiles<'_>, links: u64) {
+/// Tells that a node serves so many associations, by how many threads, and how many seconds it
+/// waits for its peers.
+fn tell_serving<G: Monitor>(log: &G, given: NodeFiles<'_>, serving: Serving<'_>, workers: usize) {
     let (node, ledger) = (
         Escaped(given.node.as_bytes()),
         Escaped(given.ledger.as_bytes()),
     );
+    let links = serving.links;
     info!(log; target: "node", "serves node=\"{node}\" ledger=\"{ledger}\" associations={links}");
+    let Waits {
+        connect,
+        write,
+        message,
+        idle,
+    } = serving.waits;
+    info!(
+        log; target: "node",
+        "limits workers={workers} connect={connect} write={write} message={message} idle={idle}"
+    );
+}
+
+/// So many milliseconds, of 1 s at least.
+fn milliseconds(seconds: u32) -> u64
+    ensures { result ≡ 1000 * max 1 seconds }
+{
+    u64::from(seconds.max(1)) * 1_000
+}
+
+/// The limits of a node's links.
+fn limits_of(waits: Waits) -> Limits
+    ensures { result ≡ record {
+      connect = 1000 * max 1 waits.connect;
+      write = 1000 * max 1 waits.write;
+      message = 1000 * max 1 waits.message;
+      idle = 1000 * max 1 waits.idle;
+    } }
+{
+    Limits {
+        connect: milliseconds(waits.connect),
+        write: milliseconds(waits.write),
+        message: milliseconds(waits.message),
+        idle: milliseconds(waits.idle),
+    }
 }
 
 /// Opens a node and serves at its address; the report of what it then has.
@@ -182,7 +224,8 @@ fn serve_node<
     files: &F,
     ledgers: &O,
     given: NodeFiles<'a>,
-    links: u64,
+    serving: Serving<'a>,
+    stop: &Stop,
     network: &N,
     clock: &C,
     log: &G,
@@ -196,16 +239,18 @@ where
         O.Ledger.site O.Ledger.book O.Ledger.stands given.entry.node.now result }
 {
     let opened = open_node(alloc, files, ledgers, given)?;
-    let listener = match listen_at(alloc, &opened, network, given.node) {
+    let network = network.within(limits_of(serving.waits));
+    let listener = match listen_at(alloc, &opened, &network, given.node) {
         Ok(listener) => listener,
         Err(halt) => {
             drop(opened);
             return Err(halt);
         }
     };
-    tell_serving(log, given, links);
+    let terms = Terms::new(u64::from(serving.links), usize::from(serving.workers), stop);
+    tell_serving(log, given, serving, terms.workers());
     serve_opened::<R, O::Ledger, N::Socket, N::Listener, N, C, G>(
-        rt, alloc, opened, &listener, links, network, clock, log,
+        rt, alloc, opened, &listener, terms, &network, clock, log,
     )
 }
 
@@ -233,13 +278,37 @@ fn test_report<'a, P: Paths>(
     }
 }
 
-/// Serves at the address of a node, whose plan, certificate and ledger are in these files, and
-/// sends what is due. After so many connections (for 0 never) the node's report is printed. Events
-/// are logged as they happen; where a file is named for it, the report is written there too, at
-/// most every ten seconds.
+/// What asks the node to end: the end of the input, if that is wanted.
 ///
-/// Errors: Stream, File; File with the node's name where its address can't be listened at, and with
-/// the report's path where no report may be written there.
+/// Errors: Stream, where there is no memory, or no thread for the input.
+fn stop_of<'a, U: Ending>(
+    alloc: Global,
+    serving: Serving<'a>,
+    ending: &U,
+) -> Result<Arc<Stop, Global>, Failure<'a>> {
+    let Ok(stop) = Arc::new(alloc, Stop::new()) else {
+        return Err(Failure::Stream(io::Error::from(AllocError)));
+    };
+    if !serving.until_input_ends {
+        return Ok(stop);
+    }
+    let Ok(watched) = Arc::try_clone(&stop) else {
+        return Err(Failure::Stream(io::Error::from(AllocError)));
+    };
+    match ending.watch(watched) {
+        Ok(()) => Ok(stop),
+        Err(error) => Err(Failure::Stream(error)),
+    }
+}
+
+/// Serves at the address of a node, whose plan, certificate and ledger are in these files, and
+/// sends what is due. After so many connections (for 0 never), or where that is asked for when the
+/// input has ended, the node's report is printed. Events are logged as they happen; where a file is
+/// named for it, the report is written there too, at most every ten seconds.
+///
+/// Errors: Stream, also where the system gives no thread for the input; File; File with the node's
+/// name where its address can't be listened at, and with the report's path where no report may be
+/// written there.
 pub fn serve_files<
     'a,
     R: Threads + Wait + Sync + time::Clock,
@@ -248,6 +317,7 @@ pub fn serve_files<
     N: Network + Sync,
     C: Clock + Sync,
     G: Log + Sync,
+    U: Ending,
     W: Write,
     E: Write,
 >(
@@ -260,6 +330,7 @@ pub fn serve_files<
     network: &N,
     clock: &C,
     log: &G,
+    ending: &U,
     output: &mut W,
     faults: &mut E,
 ) -> Result<Status, Failure<'a>>
@@ -280,9 +351,18 @@ where
         files,
         path: serving.report,
     };
-    let links = u64::from(serving.links);
+    let stop = stop_of(alloc, serving, ending)?;
     let came = serve_node(
-        rt, alloc, files, ledgers, given, links, network, clock, &monitor,
+        rt,
+        alloc,
+        files,
+        ledgers,
+        given,
+        serving,
+        stop.as_ref(),
+        network,
+        clock,
+        &monitor,
     );
     finish(came, output, faults)
 }

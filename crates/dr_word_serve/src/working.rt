@@ -9,7 +9,7 @@ use dr_run_files::{Failure, Files, NodeFiles};
 use dr_run_net::Network;
 use dr_run_open::{Ledgers, Status};
 use dr_run_report::Paths;
-use dr_run_serve::OwnPort;
+use dr_run_serve::{Ending, OwnPort};
 use dr_session::{Clock, DeskPort};
 use dr_word_line::Duty;
 use dr_word_list::{list_files, requeue_all_files, requeue_files, summarize_files};
@@ -31,6 +31,7 @@ pub fn work_files<
     N: Network + Sync,
     C: Clock + Sync,
     G: Log + Sync,
+    U: Ending,
     W: Write,
     E: Write,
 >(
@@ -43,6 +44,7 @@ pub fn work_files<
     network: &N,
     clock: &C,
     log: &G,
+    ending: &U,
     output: &mut W,
     faults: &mut E,
 ) -> Result<Status, Failure<'a>>
@@ -69,7 +71,7 @@ where
             alloc, files, ledgers, given, file, network, clock, output, faults,
         ),
         Duty::Serve(serving) => serve_files(
-            rt, alloc, files, ledgers, given, serving, network, clock, log, output, faults,
+            rt, alloc, files, ledgers, given, serving, network, clock, log, ending, output, faults,
         ),
     }
 }

@@ -1,0 +1,82 @@
+//! The one who tells of a node, and ends it where its store is shut.
+use crate::events::tell_threads;
+use crate::monitor::Monitor;
+use crate::reporting::{LastTold, report_changes};
+use crate::shutting::{Stage, Wake};
+use crate::signal::{BEGIN, News};
+use dr_desk::{SharedDesk, Sharing};
+use dr_ledger::Ledger;
+use dr_run_net::{Listening, Network};
+use dr_run_open::NextHop;
+use dr_session::Clock;
+use log::Log;
+use std::alloc::Global;
+use std::sync::Wait;
+use std::time;
+
+/// It looks every so many milliseconds.
+const TURN: u64 = 1_000;
+
+/// After so many looks all threads should have begun.
+const PATIENCE: u32 = 10;
+
+/// How many threads serve and send.
+#[derive(Clone, Copy, PartialEq, Eq, Debug)]
+pub struct Crew {
+    pub workers: usize,
+    pub senders: usize,
+}
+
+/// Tells, once, where the system gave fewer threads than there should be.
+fn tell_lacking<G: Log>(log: &G, crew: Crew, news: News) {
+    if news.workers < crew.workers {
+        tell_threads(log, "serve", crew.workers, news.workers);
+    }
+    if news.senders < crew.senders {
+        tell_threads(log, "send", crew.senders, news.senders);
+    }
+}
+
+/// Tells what has changed, now and then, until nobody serves or sends any more; then once more.
+/// Where somebody doubts the store and it is shut, it ends the node. It visits no hop and serves
+/// nobody, so that neither holds it up.
+pub fn keep<
+    R: Wait + time::Clock,
+    L: Ledger,
+    B: Sharing,
+    D: Listening,
+    N: Network,
+    C: Clock,
+    G: Monitor,
+>(
+    rt: &R,
+    alloc: Global,
+    desk: &SharedDesk<L, B>,
+    hops: &[NextHop],
+    crew: Crew,
+    wake: &Wake<'_, D, N>,
+    clock: &C,
+    log: &G,
+) {
+    if !wake.signal.has_begun(rt, BEGIN) {
+        return;
+    }
+    let (mut told, mut stage, mut looks) = (LastTold::new(), Stage::Serving, 0u32);
+    for _ in rt.forever() {
+        let now = clock.now();
+        stage = wake.stops(rt, stage, now, log);
+        told = report_changes(rt, alloc, desk, hops, told, now, false, log);
+        let news = wake.signal.wait(rt, TURN);
+        if news.doubts && wake.ends(rt, desk, log) {
+            return;
+        }
+        if news.over && news.sent {
+            report_changes(rt, alloc, desk, hops, told, clock.now(), true, log);
+            return;
+        }
+        looks = looks.saturating_add(1);
+        if looks == PATIENCE {
+            tell_lacking(log, crew, news);
+        }
+    }
+}

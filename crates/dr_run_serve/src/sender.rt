@@ -1,0 +1,208 @@
+//! The one who sends to a hop.
+ghost use Rattle.std.specs.Prelude.{◌≡◌, ◌≤◌, ◌+◌, MatchBool, min};
+
+use crate::events::tell_visit;
+use crate::rest::{Rest, rest_after};
+use crate::shutting::is_shut;
+use crate::signal::{BEGIN, Signal};
+use crate::tallied::{SharedPort, Tallied};
+use crate::visit::{Visit, visit_hop};
+use dr_base::Text;
+use dr_desk::{Pass, SharedDesk, Sharing};
+use dr_ledger::{Ledger, LedgerFault, Progress};
+use dr_run_net::Network;
+use dr_run_open::NextHop;
+use dr_session::Clock;
+use log::Log;
+use std::alloc::{AllocError, Global};
+use std::sync::Wait;
+use std::time;
+
+/// No row waits.
+const NEVER: u64 = u64::MAX;
+
+/// The last moment: whatever waits is due then.
+const LAST: u64 = 1 << 62;
+
+/// No sleep is longer, in milliseconds.
+const LONGEST: u64 = 60_000;
+
+/// One who sends to a hop, with a pass of its own, and how long it leaves the hop alone. Its hop
+/// has the moment from which on a row is due, as far as it knows.
+#[derive(Drop)]
+pub struct HopSender<B: Sharing> {
+    pub pass: Pass<B>,
+    pub hop: NextHop,
+    pub rest: Rest,
+}
+
+impl<B: Sharing> HopSender<B> {
+    /// One who has not looked yet.
+    ///
+    /// Errors: want of memory.
+    pub fn new(pass: Pass<B>, hop: &NextHop) -> Result<HopSender<B>, AllocError> {
+        let dest = hop.dest.clone()?;
+        let address = hop.address.clone()?;
+        Ok(HopSender {
+            pass,
+            hop: NextHop {
+                dest,
+                address,
+                due: 0,
+            },
+            rest: Rest::none(),
+        })
+    }
+}
+
+/// From which moment on the first of the rows that wait for the destination is due.
+///
+/// Errors: Store, Memory.
+fn next_due<R: Wait, L: Ledger, B: Sharing>(
+    rt: &R,
+    desk: &SharedDesk<L, B>,
+    dest: &Text,
+) -> Result<u64, LedgerFault> {
+    let Some(job) = desk.next(rt, dest, LAST)? else {
+        return Ok(NEVER);
+    };
+    match desk.progress(rt, &job.uid, dest)? {
+        Some(Progress::Waiting { due, .. }) => Ok(due),
+        _ => Ok(0),
+    }
+}
+
+/// A visit of the one who sends: what came of it, and how many outcomes were noted. That the store
+/// is shut is told by who ends the node.
+///
+/// Errors: those of a visit.
+fn visit<R: Wait, L: Ledger, B: Sharing, N: Network, C: Clock, G: Log>(
+    rt: &R,
+    alloc: Global,
+    desk: &SharedDesk<L, B>,
+    pass: &mut Pass<B>,
+    hop: &NextHop,
+    signal: &Signal,
+    network: &N,
+    clock: &C,
+    log: &G,
+) -> Result<(Visit, u64), LedgerFault> {
+    let before = pass.count();
+    let mut port = SharedPort {
+        rt,
+        desk,
+        pass,
+        signal,
+        log,
+    };
+    let visited = visit_hop(
+        alloc,
+        desk.site(),
+        &hop.dest,
+        &hop.address,
+        network,
+        &mut port,
+        clock,
+    );
+    let settled = port.tally().saturating_sub(before);
+    if visited.is_err() && is_shut(rt, desk) {
+        return Err(LedgerFault::Store);
+    }
+    tell_visit(log, &hop.dest, &visited, settled);
+    Ok((visited?, settled))
+}
+
+/// Visits the hop, and notes when it is to be visited again.
+///
+/// Errors: those of a visit.
+fn send<R: Wait, L: Ledger, B: Sharing, N: Network, C: Clock, G: Log>(
+    rt: &R,
+    alloc: Global,
+    desk: &SharedDesk<L, B>,
+    sender: &mut HopSender<B>,
+    signal: &Signal,
+    network: &N,
+    clock: &C,
+    log: &G,
+) -> Result<(), LedgerFault> {
+    let HopSender { pass, hop, rest } = sender;
+    let (visit, settled) = visit(rt, alloc, desk, pass, hop, signal, network, clock, log)?;
+    *rest = rest_after(*rest, &visit, settled, clock.now());
+    hop.due = next_due(rt, desk, &hop.dest)?;
+    Ok(())
+}
+
+/// The same, and where that failed the hop is looked at again 1 s later, since it isn't known what
+/// is due.
+fn send_or_rest<R: Wait, L: Ledger, B: Sharing, N: Network, C: Clock, G: Log>(
+    rt: &R,
+    alloc: Global,
+    desk: &SharedDesk<L, B>,
+    sender: &mut HopSender<B>,
+    signal: &Signal,
+    network: &N,
+    clock: &C,
+    log: &G,
+) {
+    if send(rt, alloc, desk, sender, signal, network, clock, log).is_err() {
+        sender.hop.due = 0;
+        sender.rest = Rest::none().lengthened(clock.now());
+        signal.doubt(rt);
+    }
+}
+
+/// When the hop is to be visited again: not before a row is due, and not before its rest is over.
+fn next_visit<B: Sharing>(sender: &HopSender<B>) -> u64
+    ensures due { sender.now.hop.due ≤ result }
+    ensures rest { MatchBool sender.now.rest.short
+        (sender.now.rest.since + min 5000 sender.now.rest.wait ≤ result)
+        (sender.now.rest.since + sender.now.rest.wait ≤ result) }
+{
+    sender.hop.due.max(sender.rest.until())
+}
+
+/// A row may have been made for the hop: that is looked up, and its rest is short.
+fn wake<B: Sharing>(sender: &mut HopSender<B>) {
+    sender.hop.due = 0;
+    sender.rest = sender.rest.shortened();
+}
+
+/// Visits the hop as often as there is something to send, until no worker is left; then there is
+/// one last visit. Where no worker ever begins, nothing is sent; where the node ends in order, or
+/// its store is shut, nothing more.
+pub fn send_rows<R: Wait + time::Clock, L: Ledger, B: Sharing, N: Network, C: Clock, G: Log>(
+    rt: &R,
+    alloc: Global,
+    desk: &SharedDesk<L, B>,
+    sender: &mut HopSender<B>,
+    number: usize,
+    signal: &Signal,
+    network: &N,
+    clock: &C,
+    log: &G,
+) {
+    signal.count_sender(rt);
+    let Some(bell) = signal.bell(number) else {
+        return;
+    };
+    if !signal.has_begun(rt, BEGIN) {
+        return;
+    }
+    let mut sleep = 0;
+    for _ in rt.forever() {
+        let call = bell.wait(rt, sleep);
+        if signal.is_ending() {
+            return;
+        }
+        if call.rows {
+            wake(sender);
+        }
+        if call.over || next_visit(sender) <= clock.now() {
+            send_or_rest(rt, alloc, desk, sender, signal, network, clock, log);
+        }
+        if call.over {
+            return;
+        }
+        sleep = next_visit(sender).saturating_sub(clock.now()).min(LONGEST);
+    }
+}

@@ -1,0 +1,73 @@
+//! The orderly end of a node, and on what terms it serves.
+ghost use Rattle.std.specs.Prelude.{◌≡◌, ◌≤◌};
+
+use std::alloc::Global;
+use std::io;
+use std::sync::Arc;
+use std::sync::atomic::{AtomicBool, Ordering};
+
+/// The most threads that serve: one for each of 256 associations, and eight that reject others.
+const MOST_WORKERS: usize = 264;
+
+/// Whether a node is asked to end in order.
+#[derive(Drop)]
+pub struct Stop {
+    asked: AtomicBool,
+}
+
+impl Stop {
+    /// It isn't.
+    pub fn new() -> Stop {
+        Stop {
+            asked: AtomicBool::new(false),
+        }
+    }
+
+    /// From now on it is.
+    pub fn ask(&self) {
+        self.asked.store(true, Ordering::SeqCst);
+    }
+
+    /// Whether it is.
+    pub fn is_asked(&self) -> bool {
+        self.asked.load(Ordering::SeqCst)
+    }
+}
+
+/// An input whose end may end a node.
+pub trait Ending {
+    /// Asks for the end as soon as the input has ended, in a thread of its own.
+    ///
+    /// Errors: the system gives no thread.
+    fn watch(&self, stop: Arc<Stop, Global>) -> io::Result<()>;
+}
+
+/// On what terms a node serves: after how many connections it ends (for 0 never), by how many
+/// threads, and what may ask for its end before.
+#[derive(Clone, Copy)]
+pub struct Terms<'a> {
+    pub links: u64,
+    workers: usize,
+    pub stop: &'a Stop,
+    ghost some: { (1 ≤ workers) × (workers ≤ 264) },
+}
+
+impl<'a> Terms<'a> {
+    /// So many threads, from 1 to 264; for another number the nearest.
+    pub fn new(links: u64, workers: usize, stop: &'a Stop) -> Terms<'a>
+        ensures { result.links ≡ links }
+    {
+        Terms {
+            links,
+            workers: workers.max(1).min(MOST_WORKERS),
+            stop,
+        }
+    }
+
+    /// By how many threads.
+    pub fn workers(self) -> usize
+        ensures { (1 ≤ result) × (result ≤ 264) }
+    {
+        self.workers
+    }
+}
