@@ -6,6 +6,7 @@ mod change;
 mod comparing;
 mod entries;
 mod going;
+pub mod laws;
 mod parts;
 mod print;
 

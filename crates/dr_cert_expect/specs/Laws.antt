@@ -1,6 +1,10 @@
 -- Laws of expectations.
-use Rattle.std.specs.Prelude.{◌≡◌, List}
+use Rattle.std.specs.Prelude.{◌≡◌, List, [], ◌∷◌}
+use Rattle.dr_base.specs.Texts.{Text}
+use Rattle.dr_route.specs.declared.rule.Pattern.TheVariants.{Any}
+use Rattle.dr_route.specs.declared.rule.StationPattern.TheVariants as station
 use Rattle.dr_plan_model.specs.Networks.{Network}
+use Rattle.dr_plan_sound.specs.Samples.{archive, keep_all, two_nodes}
 use Rattle.dr_plan_expect.specs.declared.words.Expectation.{Expectation}
 use Rattle.dr_cert_expect.specs.declared.answer.Lack.{Lack}
 use Rattle.dr_cert_expect.specs.declared.answer.Miss.{Miss}
@@ -18,3 +22,21 @@ OneFirstMiss =
     → IsFirstMiss plan rows a
     → IsFirstMiss plan rows b
     → a.row ≡ b.row
+
+-- what is expected of all keys: which nodes keep them, and to which they never come
+abbrev pub of_all_keys : List Text → List Text → Expectation
+of_all_keys keep never = record {
+  at = Any;
+  class = Any;
+  syntax = Any;
+  modality = Any;
+  station = station.Any;
+  keep = keep;
+  never = never;
+}
+
+-- in the plan of two nodes the archive keeps whatever enters, and something comes there
+abbrev pub TwoNodesKeep : Type 0
+TwoNodesKeep =
+    Holds (two_nodes (keep_all ∷ [])) (of_all_keys (archive ∷ []) [])
+    × (Holds (two_nodes (keep_all ∷ [])) (of_all_keys [] (archive ∷ [])) → ⊥)
