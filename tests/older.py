@@ -214,12 +214,12 @@ def forgotten():
 
 def not_forgotten():
     """Where something is left of an instance that was forgotten, or something is gone of one that wasn't, or one was forgotten that wasn't over or wasn't
-    there, the file is no ledger's."""
+    there, the file is no ledger's. What refers to an item that isn't there can't be read."""
     with Room() as room:
         prepare(room)
         for left in ('queue',), ('arrival',), ('print',), ('item',), ('print', 'item'), tuple(LEAVE):
             make_other(room, 'other', 'GATE', [*(text for table, text in LEAVE.items() if table not in left), LET_GO])
-            refused(room, 'other')
+            refused(room, 'other', *(() if 'item' in left else (3, 'G3 Store')))
         for statements in ([*LEAVE.values()], [*LEAVE.values(), LET_GO, LET_GO], [LET_GO.replace('1.2.3.4', '1.2.3.5')]):
             make_other(room, 'other', 'GATE', statements)
             refused(room, 'other')
@@ -236,10 +236,10 @@ def other_lines():
         same(room.at('list', 'GATE', ledger='other.db').returncode != 0, True)
 
 
-def refused(room, name):
+def refused(room, name, status=1, why='G6 OtherSite'):
     """GATE's ledger in that file isn't opened, and the file stays as it was."""
     before = all_of(room, name)
-    told(room.at('list', 'GATE', ledger=f'{name}.db'), 1, '', 'dr_router: G6 OtherSite\n')
+    told(room.at('list', 'GATE', ledger=f'{name}.db'), status, '', f'dr_router: {why}\n')
     same(all_of(room, name), before)
 
 
