@@ -269,7 +269,7 @@ def silent_associations():
             same(caller.answer[0], ACCEPTED)
             same(caller.store(b'1.2.3.4', data_set(b'1.2.3.4')), 0)
             same(caller.release(), RELEASED)
-        assert time.monotonic() - begun < 2, time.monotonic() - begun
+        assert time.monotonic() - begun < 10, time.monotonic() - begun
         for link in held:
             link.close()
         stop(arch)
@@ -341,7 +341,7 @@ def hops_alone():
                 same(caller.store(uid, data_set(uid)), 0)
                 time.sleep(0.25)
             same(caller.release(), RELEASED)
-        deadline = time.monotonic() + 5
+        deadline = time.monotonic() + 15
         def rows_done():
             told_rows = room.text('report').splitlines() if os.path.exists(f'{room.folder}/report') else []
             return len([line for line in told_rows if line.endswith('ARCH\tdone')])
@@ -377,12 +377,12 @@ def slow_peers():
             drips = threading.Thread(target=drip)
             drips.start()
             same(ends_at(slow.link), True)
-            assert 1.5 < time.monotonic() - begun < 4.5, time.monotonic() - begun
+            assert 1.5 < time.monotonic() - begun < 12, time.monotonic() - begun
             for _ in range(3):
                 time.sleep(1.5)
                 same(other.echo(), 0)
             same(ends_at(silent.link), True)
-            assert 3.5 < time.monotonic() - begun < 9, time.monotonic() - begun
+            assert 3.5 < time.monotonic() - begun < 20, time.monotonic() - begun
             same(other.release(), RELEASED)
             drips.join()
         ended(arch)
@@ -401,7 +401,7 @@ def deaf_peer():
                 same(caller.store(b'1.2.3.4', body), 0)
                 begun = time.monotonic()
                 room.wait_for_event('GATE', 'failed dest="ARCH" settled=1 fault="Y2 Write"')
-                assert 1.5 < time.monotonic() - begun < 6, time.monotonic() - begun
+                assert 1.5 < time.monotonic() - begun < 20, time.monotonic() - begun
             stop(gate)
 
 
@@ -456,7 +456,7 @@ def stopped():
         is_over.set()
         same(ends_at(silent.link), True)
         printed = ended(arch)
-        assert 8 < time.monotonic() - begun < 15, time.monotonic() - begun
+        assert 8 < time.monotonic() - begun < 30, time.monotonic() - begun
         for caller in callers:
             caller.join()
         kept = {line.split('\t')[1] for line in printed if line.startswith('kept')}
@@ -470,7 +470,7 @@ def stopped():
         gate.stdin.close()
         gate.stdin = None
         same(ended(gate), ['node\tGATE', 'lines\t0'])
-        assert time.monotonic() - begun < 4, time.monotonic() - begun
+        assert time.monotonic() - begun < 9, time.monotonic() - begun
 
 
 def killed():
