@@ -5,4 +5,5 @@ use Rattle.dr_world.proofs.changing.are_nodes.Given as goal
 
 -- those before are nodes
 abbrev pub invariant-loop-name : goal.invariant-loop-name
-invariant-loop-name l = (name : Text) → Contains (take l.name-index l.names) name → HasNode l.plan name
+invariant-loop-name l =
+    (name : Text) → Contains (take l.name-index l.names) name → HasNode l.plan name

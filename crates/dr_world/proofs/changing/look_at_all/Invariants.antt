@@ -7,4 +7,5 @@ use Rattle.dr_world.proofs.changing.look_at_all.Given as goal
 -- the rows of the nodes before are fit
 abbrev pub invariant-loop-name : goal.invariant-loop-name
 invariant-loop-name g l =
-    AreSameNodes l.fn.nodes l.nodes × (AllStandIn l.nodes → AreFit l.next.plan (seats_of l.fn.nodes) (take l.name-index l.names))
+    AreSameNodes l.fn.nodes l.nodes
+    × (AllStandIn l.nodes → AreFit l.next.plan (seats_of l.fn.nodes) (take l.name-index l.names))

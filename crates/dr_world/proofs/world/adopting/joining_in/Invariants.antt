@@ -6,4 +6,6 @@ use Rattle.dr_world.proofs.world.adopting.joining_in.Given as goal
 -- those found so far are the names before that no node has
 abbrev pub invariant-loop-name : goal.invariant-loop-name
 invariant-loop-name g l =
-    (name : Text) → Contains l.names.items name ↔ (Contains (take l.name-index l.name-items) name × (tree.get text_cmp l.nodes name ≡ None))
+    (name : Text)
+    → Contains l.names.items name
+    ↔ (Contains (take l.name-index l.name-items) name × (tree.get text_cmp l.nodes name ≡ None))

@@ -8,14 +8,19 @@ use Rattle.dr_world.proofs.Adopting.{all_took, found_a_row, skipped_on, skipped_
 use Rattle.dr_world.proofs.world.adopting.World+Refusing+L.change.Goals as goal
 
 pub returns-then-some_is_on : goal.returns-then-some_is_on
-returns-then-some_is_on g c =
-    skipped_on c.args.next.now.plan c.args.next.now.certificate c.args.self.now c.args.self.now c.in_ok-names.names.items c.in_ok-names.ensures refl (sym c.some_is_on.ensures ∙ c.if-some_is_on.true)
+returns-then-some_is_on g c = skipped_on c.args.next.now.plan c.args.next.now.certificate
+    c.args.self.now c.args.self.now c.in_ok-names.names.items c.in_ok-names.ensures refl
+    (sym c.some_is_on.ensures ∙ c.if-some_is_on.true)
 
 pub returns-then-not-are_nodes : goal.returns-then-not-are_nodes
-returns-then-not-are_nodes g c =
-    skipped_stranger c.args.next.now.plan c.args.next.now.certificate c.args.self.now c.args.self.now c.in_ok-names.names.items c.in_ok-names.ensures refl
-    (λ each. false≢true (sym c.if-not-are_nodes.true ∙ c.are_nodes.ensures.1
-    (subst (λ (p : Network × List Text). AreNodes p.0 p.1) (λ j. (sym c.plan.ensures.same j, sym c.as_slice.ensures.value j)) each)))
+returns-then-not-are_nodes g c = skipped_stranger c.args.next.now.plan c.args.next.now.certificate
+    c.args.self.now c.args.self.now c.in_ok-names.names.items c.in_ok-names.ensures refl
+    (λ each. false≢true
+    (sym c.if-not-are_nodes.true
+    ∙ c.are_nodes.ensures.1
+    (subst
+    (λ (p : Network × List Text). AreNodes p.0 p.1)
+    (λ j. (sym c.plan.ensures.same j, sym c.as_slice.ensures.value j)) each)))
 
 pub returns-in-Unfit : goal.returns-in-Unfit
 returns-in-Unfit g c =
@@ -28,14 +33,16 @@ returns-in-Unfit g c =
       lost = c.args.self.now.lost;
     } c.in_ok-names.names.items c.in_ok-names.ensures c.in-Unfit.node c.in-Unfit.uid c.in-Unfit.dest
     (sym c.some_is_on.ensures ∙ c.if-some_is_on.false) refl refl refl
-    (subst (λ (p : List Text × Change). Finds c.args.next.now.plan p.0 c.args.self.now.nodes p.1 c.look_at_all.new.nodes)
+    (subst (λ (p : List Text × Change).
+    Finds c.args.next.now.plan p.0 c.args.self.now.nodes p.1 c.look_at_all.new.nodes)
     (λ j. (c.as_slice-2.ensures.value j, c.in-Unfit.is j)) c.in_ok-look_at_all.ensures)
 
 pub returns : goal.returns
 returns g c =
     let plan = c.args.next.now.plan in
     let own = c.args.next.now.certificate in
-    all_took plan own c.args.self.now c.take.new.self c.in_ok-names.names.items c.in_ok-names.ensures record {
+    all_took plan own c.args.self.now c.take.new.self c.in_ok-names.names.items
+    c.in_ok-names.ensures record {
       alloc = c.args.self.now.alloc;
       time = c.args.self.now.time;
       opened = c.args.self.now.opened;
@@ -44,9 +51,15 @@ returns g c =
       lost = c.args.self.now.lost;
     } c.in_ok-joins.joins.items
     (sym c.some_is_on.ensures ∙ c.if-some_is_on.false)
-    (subst (λ (p : Network × List Text). AreNodes p.0 p.1) (λ j. (c.plan.ensures.same j, c.as_slice.ensures.value j)) (c.are_nodes.ensures.0 c.if-not-are_nodes.false))
-    (subst (λ (p : Network). AreJoining p c.look_at_all.new.nodes c.in_ok-joins.joins.items) c.plan-2.ensures.same c.in_ok-joins.ensures)
-    (subst (λ (p : List Text × Change). Finds plan p.0 c.args.self.now.nodes p.1 c.look_at_all.new.nodes)
+    (subst
+    (λ (p : Network × List Text). AreNodes p.0 p.1)
+    (λ j. (c.plan.ensures.same j, c.as_slice.ensures.value j))
+    (c.are_nodes.ensures.0 c.if-not-are_nodes.false))
+    (subst
+    (λ (p : Network). AreJoining p c.look_at_all.new.nodes c.in_ok-joins.joins.items)
+    c.plan-2.ensures.same c.in_ok-joins.ensures)
+    (subst (λ (p : List Text × Change).
+    Finds plan p.0 c.args.self.now.nodes p.1 c.look_at_all.new.nodes)
     (λ j. (c.as_slice-2.ensures.value j, c.in-Adopted.is j)) c.in_ok-look_at_all.ensures)
     refl refl
     (subst (λ (p : List Text × List Text). Took plan own p.0 p.1 record {
