@@ -43,6 +43,9 @@ pub trait Gate {
     /// all.
     fn queued(&self, _dests: Option<&[Text]>) {}
 
+    /// There is no room for the data set that comes: it is let go, and will be answered A700H.
+    fn crowded(&self, _session: u64) {}
+
     /// The session is over.
     fn ended(&self, session: u64, ended: Result<Ended, SessionFault>, tally: Tally);
 

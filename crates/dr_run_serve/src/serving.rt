@@ -151,7 +151,15 @@ fn work<
 ) -> Result<Vec<Pass<B>>, WorkersFault> {
     signal.begin(rt);
     let watch = Watch { rt, signal, log };
-    let passes = workers(rt, alloc, terms.workers(), &from, desk, &watch);
+    let passes = workers(
+        rt,
+        alloc,
+        terms.workers(),
+        terms.memory,
+        &from,
+        desk,
+        &watch,
+    );
     drop(from);
     signal.end(rt);
     passes

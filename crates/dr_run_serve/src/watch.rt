@@ -1,6 +1,6 @@
 //! How a node's sessions are seen: they wake those who send, and are logged. Where the store is
 //! shut, they end.
-use crate::events::{tell_arrival, tell_association};
+use crate::events::{tell_arrival, tell_association, tell_crowded};
 use crate::signal::Signal;
 use dr_base::Text;
 use dr_desk_workers::{Gate, Point, Tally};
@@ -47,6 +47,10 @@ impl<'a, R: Wait, G: Log> Gate for Watch<'a, R, G> {
             self.signal.doubt(self.rt);
         }
         tell_arrival(self.log, session, caller, uid, answer);
+    }
+
+    fn crowded(&self, session: u64) {
+        tell_crowded(self.log, session);
     }
 
     fn is_over(&self) -> bool {

@@ -192,8 +192,8 @@ IsRequeueAllOf words given dest =
     × IsAtNode (codes "requeue") words given (option ∷ dest ∷ [])
     × (option.now ≡ codes "--all-held")
 
--- without options a node serves for ever, by 264 threads, logs its events, and writes no file of
--- what it has; it waits 10 s for a connect, 60 s for a PDU to be taken, 30 s for 64 kB of a
+-- without options a node serves for ever, by 264 threads, holds at most 1,024 MB of data sets, logs
+-- its events, and writes no file of what it has; it waits 10 s for a connect, 60 s for a PDU to be taken, 30 s for 64 kB of a
 -- message, and 600 s for the next message
 abbrev pub plain_serving : Serving
 plain_serving = record {
@@ -201,6 +201,7 @@ plain_serving = record {
   verbosity = Events;
   report = None;
   workers = 264;
+  memory = 1024;
   waits = record { connect = 10; write = 60; message = 30; idle = 600 };
   until_input_ends = false;
 }

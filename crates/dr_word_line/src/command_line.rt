@@ -124,6 +124,7 @@ enum Choice {
     Log,
     Report,
     Workers,
+    Memory,
     Seconds(Value<'static>, &'static str),
     UntilInputEnds,
 }
@@ -146,6 +147,7 @@ impl<'a> Makes<Arg<'a>> for Choice {
             Choice::Log => Ok(log(alloc)),
             Choice::Report => Ok(report(alloc)),
             Choice::Workers => Ok(workers(alloc)),
+            Choice::Memory => Ok(memory(alloc)),
             Choice::Seconds((name, help), option) => Ok(seconds(alloc, name, option, help)),
             Choice::UntilInputEnds => Ok(until_input_ends(alloc)),
         }
@@ -427,6 +429,16 @@ fn workers<'a>(alloc: Global) -> Arg<'a> {
         .help("how many threads serve associations, 1 to 264 (the default)")
 }
 
+/// How much memory data sets take.
+fn memory<'a>(alloc: Global) -> Arg<'a> {
+    Arg::new(alloc, "MEMORY")
+        .long("memory")
+        .action(ArgAction::Set)
+        .value_parser(value_parser!(u32))
+        .value_name("MB")
+        .help("how much all associations hold in memory of data sets, at least 128 (1024)")
+}
+
 /// How long `serve` waits for something.
 fn seconds<'a>(alloc: Global, name: &'a str, option: &'a str, help: &'a str) -> Arg<'a> {
     Arg::new(alloc, name)
@@ -486,6 +498,7 @@ fn serve<'a>(alloc: Global) -> Result<Command<'a>, AllocError> {
             Choice::Log,
             Choice::Report,
             Choice::Workers,
+            Choice::Memory,
             CONNECT,
             WRITE,
             MESSAGE,

@@ -103,6 +103,9 @@ const USUAL_WAITS: Waits = Waits {
 /// How many threads serve where nothing else is asked for.
 const USUAL_WORKERS: u16 = 264;
 
+/// How many megabytes of data sets associations hold where nothing else is asked for.
+const USUAL_MEMORY: u32 = 1024;
+
 /// How a node is to serve.
 #[derive(Clone, Copy, Debug, Drop)]
 pub struct Serving<'a> {
@@ -114,6 +117,8 @@ pub struct Serving<'a> {
     pub report: Option<&'a str>,
     /// How many threads serve associations.
     pub workers: u16,
+    /// How much memory all associations together hold of data sets, in megabytes (10^6 bytes).
+    pub memory: u32,
     /// How long it waits for its peers.
     pub waits: Waits,
     /// Whether it ends, in order, when the standard input does.
@@ -318,6 +323,7 @@ fn read_duty<'a>(words: &'a [&'a str]) -> Option<Task<'a>>
                 verbosity: Verbosity::Events,
                 report: None,
                 workers: USUAL_WORKERS,
+                memory: USUAL_MEMORY,
                 waits: USUAL_WAITS,
                 until_input_ends: false,
             };
@@ -590,6 +596,7 @@ fn serving_of<'a>(given: &ArgMatches<'a>) -> Serving<'a> {
         verbosity,
         report: given.get_str("REPORT"),
         workers: given.get_one("WORKERS").unwrap_or(USUAL_WORKERS),
+        memory: given.get_one("MEMORY").unwrap_or(USUAL_MEMORY),
         waits: waits_of(given),
         until_input_ends: given.get_flag("UNTIL"),
     }

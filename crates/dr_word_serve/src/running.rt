@@ -161,8 +161,8 @@ where
     )
 }
 
-/// Tells that a node serves so many associations, by how many threads, and how many seconds it
-/// waits for its peers.
+/// Tells that a node serves so many associations, by how many threads, with how many megabytes for
+/// data sets, and how many seconds it waits for its peers.
 fn tell_serving<G: Monitor>(log: &G, given: NodeFiles<'_>, serving: Serving<'_>, workers: usize) {
     let (node, ledger) = (
         Escaped(given.node.as_bytes()),
@@ -176,9 +176,10 @@ fn tell_serving<G: Monitor>(log: &G, given: NodeFiles<'_>, serving: Serving<'_>,
         message,
         idle,
     } = serving.waits;
+    let memory = serving.memory;
     info!(
         log; target: "node",
-        "limits workers={workers} connect={connect} write={write} message={message} idle={idle}"
+        "limits workers={workers} memory={memory} connect={connect} write={write} message={message} idle={idle}"
     );
 }
 
@@ -247,7 +248,12 @@ where
             return Err(halt);
         }
     };
-    let terms = Terms::new(u64::from(serving.links), usize::from(serving.workers), stop);
+    let terms = Terms::new(
+        u64::from(serving.links),
+        usize::from(serving.workers),
+        u64::from(serving.memory) * 1_000_000,
+        stop,
+    );
     tell_serving(log, given, serving, terms.workers());
     serve_opened::<R, O::Ledger, N::Socket, N::Listener, N, C, G>(
         rt, alloc, opened, &listener, terms, &network, clock, log,
