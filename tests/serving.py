@@ -16,7 +16,7 @@ import threading
 import time
 
 sys.dont_write_bytecode = True
-from lib.requestor import ACCEPTED, REJECTED, RELEASED, Acceptor, Requestor, command, hear, values
+from lib.requestor import ABORT, ACCEPTED, REJECTED, RELEASED, Acceptor, Requestor, command, hear, values
 from lib.nodes import CT, EXPLICIT, LIMIT, PROGRAM, Room, data_set, element, ended, lines, part10, run_cases, same, stop, told
 
 
@@ -376,12 +376,12 @@ def slow_peers():
                     pass
             drips = threading.Thread(target=drip)
             drips.start()
-            same(ends_at(slow.link), True)
+            same(aborts(slow.link), True)
             assert 1.5 < time.monotonic() - begun < 12, time.monotonic() - begun
             for _ in range(3):
                 time.sleep(1.5)
                 same(other.echo(), 0)
-            same(ends_at(silent.link), True)
+            same(aborts(silent.link), True)
             assert 3.5 < time.monotonic() - begun < 20, time.monotonic() - begun
             same(other.release(), RELEASED)
             drips.join()
@@ -411,14 +411,45 @@ def hear_request(acceptor, link):
     link.sendall(acceptor.accepted(body))
 
 
-def ends_at(link):
-    """Whether the other side closes, whatever it says before."""
-    try:
-        while link.recv(4096):
-            pass
-    except ConnectionResetError:
-        pass
+def aborts(link):
+    """Whether the other side says an A-ABORT before it closes; this side closes behind it."""
+    said = b''
+    while not said.endswith(ABORT):
+        piece = link.recv(4096)
+        if not piece:
+            return False
+        said += piece
+    link.close()
     return True
+
+
+def crowded():
+    """Where there is no room in memory for a data set that comes, it is answered A700H, and comes in later; the others do at once."""
+    with Room() as room:
+        arch = room.serve('ARCH', 0, '--memory', '128')
+        bodies = {uid: data_set(uid, element(0x7fe0, 0x10, b'OW', bytes(48 << 20))) for uid in (b'1.2.3.%d' % number for number in range(4))}
+        answers = {}
+        def store(uid):
+            with asked_at(room) as caller:
+                answers[uid] = caller.store(uid, bodies[uid])
+                same(caller.echo(), 0)
+                same(caller.release(), RELEASED)
+        callers = [threading.Thread(target=store, args=(uid,)) for uid in bodies]
+        for caller in callers:
+            caller.start()
+        for caller in callers:
+            caller.join()
+        # at least one of those that come at a time finds room, and at least one none
+        same(set(answers.values()), {0, 0xa700})
+        refused = [uid for uid in bodies if answers[uid] != 0]
+        same(len([event for event in room.events('ARCH') if event[3].startswith('crowded ')]), len(refused))
+        for uid in refused:
+            store(uid)
+        same(set(answers.values()), {0})
+        peak = int(re.search(r'VmHWM:\s+(\d+) kB', open(f'/proc/{arch.pid}/status').read())[1])
+        assert peak < 500_000, peak
+        stop(arch)
+        same(len([line for line in lines(room.at('list', 'ARCH').stdout) if line.startswith('kept')]), len(bodies))
 
 
 def stopped():
@@ -454,7 +485,7 @@ def stopped():
         except (OSError, EOFError):
             pass
         is_over.set()
-        same(ends_at(silent.link), True)
+        same(aborts(silent.link), True)
         printed = ended(arch)
         assert 8 < time.monotonic() - begun < 30, time.monotonic() - begun
         for caller in callers:
@@ -512,7 +543,7 @@ def main():
     if not os.path.exists(PROGRAM):
         sys.exit(f'{PROGRAM} is not built')
     run_cases('serving', three_nodes, refusals, dead_hop, held_rows, events, reports, report_paths, forged, few_workers, silent_associations,
-              rejected_callers, hops_alone, slow_peers, deaf_peer, stopped, killed)
+              rejected_callers, hops_alone, slow_peers, deaf_peer, crowded, stopped, killed)
 
 
 if __name__ == '__main__':
