@@ -16,8 +16,8 @@ import threading
 import time
 
 sys.dont_write_bytecode = True
-from lib.requestor import ABORT, ACCEPTED, REJECTED, RELEASED, Acceptor, Requestor, command, hear, values
-from lib.nodes import CT, EXPLICIT, LIMIT, PROGRAM, Room, data_set, element, ended, lines, part10, run_cases, same, stop, told
+from lib.requestor import ABORT, ACCEPTED, REJECTED, RELEASED, Acceptor, Requestor, associate, command, context, hear, values
+from lib.nodes import CT, EXPLICIT, IMPLICIT, LIMIT, PROGRAM, Room, data_set, element, ended, lines, part10, run_cases, same, stop, told
 
 
 def three_nodes():
@@ -112,6 +112,7 @@ def events():
         said = [(*event[1:3], re.sub(r' milliseconds=\d+$', ' milliseconds=N', event[3])) for event in told_at_gate]
         for event in [('INFO', 'node', 'serves node="GATE" ledger="GATE.db" associations=5'), ('DEBUG', 'association', 'taken session=1'),
                       ('DEBUG', 'instance', 'new session=1 caller="CT1" uid=1.2.3.0'), ('INFO', 'association', 'released session=5 instances=1 refused=0 milliseconds=N'),
+                      ('INFO', 'contexts', f'asked session=1 caller="CT1" called="GATE" accepted="{CT.decode()}={EXPLICIT.decode()}" refused=""'),
                       ('INFO', 'visit', 'released dest="ARCH" settled=1'), ('INFO', 'node', 'has arrivals=0 kept=0 lines=0'),
                       ('INFO', 'node', 'has arrivals=5 kept=0 lines=10'), ('DEBUG', 'row', 'done dest="ARCH" uid=1.2.3.0 status="0000"'),
                       ('INFO', 'queue', 'has dest="ARCH" waiting=0 held=0 done=5 oldest=-')]:
@@ -225,6 +226,22 @@ def forged():
         ended(arch)
         told_at_arch = [event[3] for event in room.events('ARCH') if event[2] == 'instance']
         same(told_at_arch, ['refused session=1 caller="A\\nB\\x1b[1m\\" \\\\C" uid=1.2.3.4 fault="G1 NoLine"'])
+
+
+def refused_contexts():
+    """Who asked for an association, and which of its contexts were refused, with the result of each; also of one that was rejected."""
+    with Room() as room:
+        arch = room.serve('ARCH', 2)
+        contexts = context(1, b'1.2.840.10008.1.1', IMPLICIT) + context(3, CT, b'1.2.840.10008.1.2.4.50') + context(5, b'1.2.3', EXPLICIT)
+        for called in 'ARCH', 'OTHER':
+            link = socket.create_connection(('127.0.0.1', room.ports['ARCH']))
+            link.sendall(associate(1, called, 'GATE', contexts))
+            hear(link)
+            link.close()
+        ended(arch)
+        same([event[3] for event in room.events('ARCH') if event[2] == 'contexts'],
+             ['asked session=1 caller="GATE" called="ARCH" accepted="1.2.840.10008.1.1=1.2.840.10008.1.2" '
+              f'refused="{CT.decode()}=4 1.2.3=3"', 'none session=2 caller="GATE" called="OTHER"'])
 
 
 def asked_at(room, node='ARCH', caller='GATE'):
@@ -542,7 +559,7 @@ def killed():
 def main():
     if not os.path.exists(PROGRAM):
         sys.exit(f'{PROGRAM} is not built')
-    run_cases('serving', three_nodes, refusals, dead_hop, held_rows, events, reports, report_paths, forged, few_workers, silent_associations,
+    run_cases('serving', three_nodes, refusals, dead_hop, held_rows, events, reports, report_paths, forged, refused_contexts, few_workers, silent_associations,
               rejected_callers, hops_alone, slow_peers, deaf_peer, crowded, stopped, killed)
 
 

@@ -5,15 +5,17 @@ ghost use Rattle.dr_session.specs.Links.{Counts, HasRisen, IsLinkFault};
 ghost use Rattle.dr_desk_workers.specs.Hearing.{HearsBehind, IsAcceptance};
 
 use crate::ahead::Ahead;
+use crate::asked::tell_answer;
 use crate::counts::SessionCounts;
 use crate::door::Door;
 use crate::gate::{Gate, Point};
 use crate::room::Room;
 use crate::share::Share;
+use dr_pdu::AssociateRq;
 use dr_session::{Heard, Link};
-use std::mem;
+use std::alloc::Global;
 use std::sync::{MutexGuard, Wait};
-use std::time;
+use std::{mem, time};
 
 /// A connection's link. After a write that was done the gate is passed once for each arrival that
 /// was answered and whose reply wasn't sent before. It counts as open from the moment at which a
@@ -26,8 +28,10 @@ use std::time;
 #[derive(Drop)]
 pub struct GatedLink<'a, R: Wait + time::Clock, K: Link + Drop, G: Gate> {
     pub rt: &'a R,
+    pub alloc: Global,
     pub link: K,
     pub ahead: Ahead,
+    pub request: Option<AssociateRq>,
     pub turn: Option<MutexGuard<'a, Door>>,
     pub asked: bool,
     pub inside: bool,
@@ -122,6 +126,16 @@ impl<'a, R: Wait + time::Clock, K: Link + Drop, G: Gate> GatedLink<'a, R, K, G> 
         self.warned
     }
 
+    /// Tells, once, how the association was answered that was asked for.
+    fn tell_answer(&mut self, bytes: &[u8])
+        ensures { (self.new.link ≡ self.old.link)
+            × (self.new.failures ≡ self.old.failures)
+            × (self.new.inside ≡ self.old.inside) }
+    {
+        let request = mem::replace(&mut self.request, None);
+        tell_answer(self.alloc, self.gate, self.session, request, bytes);
+    }
+
     /// It has answered: what it held is free again.
     fn clear(&mut self)
         ensures { (self.new.link ≡ self.old.link)
@@ -212,6 +226,7 @@ impl<'a, R: Wait + time::Clock, K: Link + Drop, G: Gate> Link for GatedLink<'a, 
         for _ in 0..self.counts.take_unanswered() {
             self.gate.at(self.session, Point::Answered);
         }
+        self.tell_answer(bytes);
         self.clear();
         true
     }

@@ -2,6 +2,7 @@
 ghost use Rattle.std.specs.Prelude.{◌≤◌, ◌≡◌, IfOk, vec_len};
 
 use crate::ahead::ahead_of;
+use crate::asked::request_in;
 use crate::bounds::Bounds;
 use crate::connection::Connection;
 use crate::counts::SessionCounts;
@@ -15,9 +16,8 @@ use dr_ledger::Ledger;
 use dr_session::{Clock, Ended, Link, SessionFault, receive};
 use std::alloc::{AllocError, Global};
 use std::sync::Wait;
-use std::thread;
 use std::thread::Threads;
-use std::time;
+use std::{thread, time};
 use thiserror::Error;
 
 /// Why no connection was taken.
@@ -90,14 +90,7 @@ pub fn workers<
 }
 
 /// Serves until the channel is closed and empty.
-fn work<
-    R: Wait + time::Clock,
-    L: Ledger,
-    B: Sharing,
-    K: Link + Drop,
-    C: Clock + Drop,
-    G: Gate,
->(
+fn work<R: Wait + time::Clock, L: Ledger, B: Sharing, K: Link + Drop, C: Clock + Drop, G: Gate>(
     rt: &R,
     alloc: Global,
     desk: &SharedDesk<L, B>,
@@ -114,14 +107,7 @@ fn work<
 
 /// Serves one connection to its end, however the session ends. The session counts from this moment,
 /// and its length from that at which the connection came.
-fn serve<
-    R: Wait + time::Clock,
-    L: Ledger,
-    B: Sharing,
-    K: Link + Drop,
-    C: Clock + Drop,
-    G: Gate,
->(
+fn serve<R: Wait + time::Clock, L: Ledger, B: Sharing, K: Link + Drop, C: Clock + Drop, G: Gate>(
     rt: &R,
     alloc: Global,
     desk: &SharedDesk<L, B>,
@@ -150,14 +136,7 @@ fn serve<
 
 /// A session behind a gate. What came first is answered in its turn at the door; who was let in is
 /// counted out when the session has ended.
-fn receive_gated<
-    R: Wait + time::Clock,
-    L: Ledger,
-    B: Sharing,
-    K: Link + Drop,
-    C: Clock,
-    G: Gate,
->(
+fn receive_gated<R: Wait + time::Clock, L: Ledger, B: Sharing, K: Link + Drop, C: Clock, G: Gate>(
     rt: &R,
     alloc: Global,
     desk: &SharedDesk<L, B>,
@@ -171,12 +150,15 @@ fn receive_gated<
 ) -> Result<Ended, SessionFault> {
     let (mut link, taken) = (link, clock.now());
     let ahead = ahead_of(alloc, &mut link, gate, clock, taken);
+    let request = request_in(alloc, &ahead);
     let turn = bounds.door.lock(rt);
     let others = turn.count();
     let mut link = GatedLink {
         rt,
+        alloc,
         link,
         ahead,
+        request,
         turn: Some(turn),
         asked: false,
         inside: false,

@@ -27,10 +27,7 @@ pub struct Share {
 
 /// What a vector holds that has grown to so many bytes.
 fn grown(bytes: u64) -> u64 {
-    bytes
-        .checked_next_power_of_two()
-        .unwrap_or(MOST)
-        .min(MOST)
+    bytes.checked_next_power_of_two().unwrap_or(MOST).min(MOST)
 }
 
 impl Share {

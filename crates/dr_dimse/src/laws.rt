@@ -111,7 +111,8 @@ pub fn after_a_fault_there_is_no_message()
 /// A data set whose bytes were let go is told as one that is too large, whatever comes of it; its
 /// command stays. Between messages, and within a command, nothing is let go.
 pub fn what_was_let_go_is_too_large()
-    ensures told { (id : ℕ) (c : CommandValue) (body : Data) (p : Value) (m : MessageValue) (new : Stage)
+    ensures told { (id : ℕ) (c : CommandValue) (body : Data) (p : Value) (m : MessageValue)
+        (new : Stage)
         → TakesData (let_go (InData id c body)) p (Some m) new
         → (m.command ≡ c) × (m.body ≡ Some TooLarge) }
     ensures stays { (id : ℕ) (c : CommandValue) (body : Data) (p : Value) (new : Stage)

@@ -74,7 +74,8 @@ impl<'a, S: Read + Write + OpenStream + Drop, C: Clock> Socket<'a, S, C> {
         ensures stream { IfOk result (λ s. s.stream ≡ stream) }
         ensures opened { IfOk result (λ s.
             C.tells clock.now s.opened × (s.marked ≡ s.opened) × (s.rested ≡ s.opened)) }
-        ensures limits { IfOk result (λ s. (s.limits ≡ limits) × (s.window ≡ None) × (s.warned ≡ false)) }
+        ensures limits { IfOk result (λ s.
+            (s.limits ≡ limits) × (s.window ≡ None) × (s.warned ≡ false)) }
         ensures faultless { IfOk result (λ s. s.failures ≡ 0) }
     {
         stream.set_nodelay(true)?;

@@ -58,8 +58,8 @@ pub struct Terms<'a> {
 }
 
 impl<'a> Terms<'a> {
-    /// So many threads, from 1 to 264; for another number the nearest. So many bytes, at least 128 MB,
-    /// so that there is always room for one data set.
+    /// So many threads, from 1 to 264; for another number the nearest. So many bytes, at least 128
+    /// MB, so that there is always room for one data set.
     pub fn new(links: u64, workers: usize, memory: u64, stop: &'a Stop) -> Terms<'a>
         ensures links { result.links ≡ links }
         ensures memory { result.memory ≡ max 128000000 memory }

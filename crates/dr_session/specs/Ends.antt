@@ -186,8 +186,8 @@ abbrev pub LosesIn : Option Core → Terminal
 LosesIn None old result new = (result ≡ Ok []) × (new ≡ old)
 LosesIn (Some c) old result new = LosesBy (is_gone (state_of c.phase)) old result new
 
--- There is no room for more of the data set that is under way: its bytes are let go, and it is heard
--- to its end as one that is too large. An end that is over stays as it is.
+-- There is no room for more of the data set that is under way: its bytes are let go, and it is
+-- heard to its end as one that is too large. An end that is over stays as it is.
 abbrev pub CrowdsBy : Bool → Core → Terminal
     → Result (List LinkAction) AllocError
     → Terminal → Type 0
@@ -208,9 +208,9 @@ idle_in Sta2 = input.Late
 idle_in Sta13 = input.Late
 idle_in s = input.AbortAsked
 
--- What comes over the link: bytes, its end, a late mark, silence for too long, that there is no room
--- for more of a data set, or that the link had no memory for it. A fault of the link is heard as its
--- end.
+-- What comes over the link: bytes, its end, a late mark, silence for too long, that there is no
+-- room for more of a data set, or that the link had no memory for it. A fault of the link is heard
+-- as its end.
 abbrev pub HearsOf : {S : Type 0}
     → (S → DeskCall → DeskAnswer → S → Type 0)
     → Heard → Moment → Terminal → S

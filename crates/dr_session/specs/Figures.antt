@@ -301,7 +301,7 @@ IsSilenced c now at places state acts ended =
     Does c (moment now 0) places (told.Plain (idle_in at)) state acts ended
 
 pub record Silences (c : Core) : Type 0 where
-  pub open : IsSilenced c 0 Sta6 established 13 (abort 0 0) Aborted
+  pub agreed : IsSilenced c 0 Sta6 established 13 (abort 0 0) Aborted
   pub asking : IsSilenced c 0 Sta5 (requestor Sta5 ∷ []) 13 (abort 0 0) Aborted
   -- no association is there yet, and none any more: only the timer ends it
   pub fresh : IsSilenced c 29999 Sta2 (acceptor Sta2 ∷ []) 2 [] Closed

@@ -193,8 +193,8 @@ IsRequeueAllOf words given dest =
     × (option.now ≡ codes "--all-held")
 
 -- without options a node serves for ever, by 264 threads, holds at most 1,024 MB of data sets, logs
--- its events, and writes no file of what it has; it waits 10 s for a connect, 60 s for a PDU to be taken, 30 s for 64 kB of a
--- message, and 600 s for the next message
+-- its events, and writes no file of what it has; it waits 10 s for a connect, 60 s for a PDU to be
+-- taken, 30 s for 64 kB of a message, and 600 s for the next message
 abbrev pub plain_serving : Serving
 plain_serving = record {
   links = 0;
