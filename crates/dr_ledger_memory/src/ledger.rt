@@ -11,7 +11,7 @@ ghost use Rattle.dr_ledger.specs.Bodies.{HasBodies, NextsWith, OnlyLetsGo, OnlyT
 ghost use Rattle.dr_ledger.specs.Adopting.{Adopting, Unfits, site_after};
 ghost use Rattle.dr_ledger.specs.Histories.{IsJournalled};
 ghost use Rattle.dr_ledger.specs.Items.{instance_of};
-ghost use Rattle.dr_ledger.specs.Replies.{Admits, AreKept, Arrives, Forgets, IsAdmitted, IsOver};
+ghost use Rattle.dr_ledger.specs.Replies.{Admits, AreKept, Arrives, Dues, Forgets, IsAdmitted, IsOver};
 ghost use Rattle.dr_ledger.specs.Replies.{Lists, Requeues, Settles, entry_of};
 ghost use Rattle.dr_ledger.specs.Pairs.{pair_cmp};
 ghost use Rattle.dr_ledger.specs.SiteRoutes.{site_routing};
@@ -343,6 +343,14 @@ impl MemoryLedger {
         }
     }
 
+    /// The uid of the first row that is due.
+    fn due_row(&self, dest: &Text, now: u64) -> Result<Option<Text>, LedgerFault>
+        ensures { Shows result (Dues (content self.now.parts) dest.now now) }
+    {
+        let uid = first_due(self.alloc, &self.parts.held, &self.parts.waiting, dest, now)?;
+        Ok(uid)
+    }
+
     /// What the uid is about, with its data set.
     fn job(&self, uid: Text) -> Result<Job, AllocError>
         ensures { IfOk result (IsJobOf (at self.now.parts.held uid) uid) }
@@ -550,6 +558,10 @@ impl Ledger for MemoryLedger {
 
     fn next(&mut self, dest: &Text, now: u64) -> Result<Option<Job>, LedgerFault> {
         self.next_job(dest, now)
+    }
+
+    fn due(&mut self, dest: &Text, now: u64) -> Result<Option<Text>, LedgerFault> {
+        self.due_row(dest, now)
     }
 
     fn settle(

@@ -16,7 +16,7 @@ ghost use Rattle.dr_store.specs.Surviving.{Wrote};
 use crate::counting::{counted, next_after};
 use crate::journal::list_lines;
 use crate::listing::{first_unfit, list_arrivals, list_kept, list_rows, list_rows_and_keys};
-use crate::reading::{admit, has_data_set, has_item, next_job};
+use crate::reading::{admit, due_row, has_data_set, has_item, next_job};
 use dr_base::{Seq, Text};
 use dr_cert::Sealed;
 use dr_ledger::{Arrived, Entry, Item, Job, Ledger, LedgerFault, LetsGo, Outcome, Progress};
@@ -213,6 +213,12 @@ impl<S: Alter> Ledger for SqlLedger<S> {
 
     fn next(&mut self, dest: &Text, now: u64) -> Result<Option<Job>, LedgerFault> {
         let answer = next_job(&mut self.conn, self.alloc, dest, now);
+        self.failures = counted(&answer, self.failures);
+        answer
+    }
+
+    fn due(&mut self, dest: &Text, now: u64) -> Result<Option<Text>, LedgerFault> {
+        let answer = due_row(&mut self.conn, self.alloc, dest, now);
         self.failures = counted(&answer, self.failures);
         answer
     }
