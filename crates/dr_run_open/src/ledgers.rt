@@ -1,5 +1,5 @@
 //! Where ledgers are.
-use dr_ledger::Ledger;
+use dr_ledger::{Ledger, LetsGo};
 use dr_site::Site;
 use std::alloc::Global;
 use thiserror::Error;
@@ -25,7 +25,7 @@ pub enum OpenFault {
 pub trait Ledgers {
     ghost use Rattle.std.specs.Prelude.{ℕ, List, ◌≡◌, IfOk};
 
-    type Ledger: Ledger + Drop;
+    type Ledger: Ledger + LetsGo + Drop;
 
     ghost opens: { Self → List ℕ → Self.Ledger → Type 0 };
 

@@ -166,7 +166,7 @@ pub fn tell_row<G: Log>(
         Some(Progress::Waiting { tries, due }) => {
             tell_waiting(log, uid, dest, outcome, tries, due);
         }
-        None => tell_settled(log, "settled", uid, dest, outcome),
+        Some(Progress::Dropped) | None => tell_settled(log, "settled", uid, dest, outcome),
     }
 }
 

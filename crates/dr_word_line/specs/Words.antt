@@ -9,7 +9,7 @@ use Rattle.dr_word_line.specs.declared.words.Task.TheVariants.{Question as AsksQ
 use Rattle.dr_word_line.specs.declared.words.Task.TheVariants.{Adopt, Told}
 use Rattle.dr_word_line.specs.declared.words.Duty.{Duty}
 use Rattle.dr_word_line.specs.declared.words.Duty.TheVariants.{List as ToList, Summary, Requeue}
-use Rattle.dr_word_line.specs.declared.words.Duty.TheVariants.{RequeueAll, Send, Serve}
+use Rattle.dr_word_line.specs.declared.words.Duty.TheVariants.{RequeueAll, GiveUp, Forget, Send, Serve}
 use Rattle.dr_word_line.specs.declared.words.KeyWords.{KeyWords}
 use Rattle.dr_run_files.specs.declared.node.NodeFiles.{NodeFiles}
 use Rattle.dr_word_line.specs.declared.words.PlanChange.{PlanChange}
@@ -184,6 +184,18 @@ abbrev pub IsRequeueOf : List (Bor (List ℕ)) → NodeFiles → Bor (List ℕ) 
 IsRequeueOf words given uid dest =
     IsAtNode (codes "requeue") words given (uid ∷ dest ∷ []) × IsNoOption uid.now
 
+-- the word drop, what names a node and its ledger, a UID and a name: they ask to give up the held
+-- row of that instance to that node
+abbrev pub IsGiveUpOf : List (Bor (List ℕ)) → NodeFiles → Bor (List ℕ) → Bor (List ℕ) → Type 0
+IsGiveUpOf words given uid dest =
+    IsAtNode (codes "drop") words given (uid ∷ dest ∷ []) × IsNoOption uid.now
+
+-- the word forget, what names a node and its ledger, and a UID: they ask the node to forget that
+-- instance
+abbrev pub IsForgetOf : List (Bor (List ℕ)) → NodeFiles → Bor (List ℕ) → Type 0
+IsForgetOf words given uid =
+    IsAtNode (codes "forget") words given (uid ∷ []) × IsNoOption uid.now
+
 -- the word requeue, what names a node and its ledger, the option --all-held and a name: they ask
 -- the node to queue again all held rows to that node
 abbrev pub IsRequeueAllOf : List (Bor (List ℕ)) → NodeFiles → Bor (List ℕ) → Type 0
@@ -213,6 +225,8 @@ IsDutyOf words given ToList = IsListOf words given
 IsDutyOf words given Summary = IsSummaryOf words given
 IsDutyOf words given (Requeue uid dest) = IsRequeueOf words given uid dest
 IsDutyOf words given (RequeueAll dest) = IsRequeueAllOf words given dest
+IsDutyOf words given (GiveUp uid dest) = IsGiveUpOf words given uid dest
+IsDutyOf words given (Forget uid) = IsForgetOf words given uid
 IsDutyOf words given (Send file) = IsSendOf words given file
 IsDutyOf words given (Serve serving) = IsServeOf words given × (serving ≡ plain_serving)
 

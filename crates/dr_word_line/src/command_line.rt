@@ -118,6 +118,8 @@ enum Choice {
     Summary,
     Row,
     Dest,
+    Uid,
+    Next,
     AllHeld,
     File,
     Links,
@@ -141,6 +143,8 @@ impl<'a> Makes<Arg<'a>> for Choice {
             Choice::Summary => Ok(summary(alloc)),
             Choice::Row => row(alloc),
             Choice::Dest => Ok(dest(alloc)),
+            Choice::Uid => Ok(needed(alloc, "UID", "the SOP instance UID")),
+            Choice::Next => Ok(needed(alloc, "DEST", "the node to which it is not to be sent")),
             Choice::AllHeld => all_held(alloc),
             Choice::File => Ok(needed(alloc, "FILE", "a Part 10 file")),
             Choice::Links => Ok(links(alloc)),
@@ -364,6 +368,18 @@ fn requeue<'a>(alloc: Global) -> Result<Command<'a>, AllocError> {
     )
 }
 
+/// The word `drop`.
+fn give_up<'a>(alloc: Global) -> Result<Command<'a>, AllocError> {
+    let about = "Gives up a held row of a node: it is never sent, and the journal says so";
+    word(alloc, "drop", about, LEDGER, &[Choice::Uid, Choice::Next])
+}
+
+/// The word `forget`.
+fn forget<'a>(alloc: Global) -> Result<Command<'a>, AllocError> {
+    let about = "Forgets an instance that a node doesn't keep and has still to send nowhere";
+    word(alloc, "forget", about, LEDGER, &[Choice::Uid])
+}
+
 /// The word `send`.
 fn send<'a>(alloc: Global) -> Result<Command<'a>, AllocError> {
     let about =
@@ -534,6 +550,8 @@ enum Verb {
     Send,
     List,
     Requeue,
+    Drop,
+    Forget,
     Adopt,
 }
 
@@ -551,6 +569,8 @@ const VERBS: &[Verb] = &[
     Verb::Send,
     Verb::List,
     Verb::Requeue,
+    Verb::Drop,
+    Verb::Forget,
     Verb::Adopt,
 ];
 
@@ -570,6 +590,8 @@ impl<'a> Makes<Command<'a>> for Verb {
             Verb::Send => send(alloc),
             Verb::List => list(alloc),
             Verb::Requeue => requeue(alloc),
+            Verb::Drop => give_up(alloc),
+            Verb::Forget => forget(alloc),
             Verb::Adopt => adopt(alloc),
         }
     }

@@ -6,7 +6,8 @@ ghost use Rattle.dr_word_line.specs.Words.{Asks, Reads, IsPlainCheck, IsCheckOf,
 ghost use Rattle.dr_word_line.specs.Words.{IsSimulateOf, IsEchoOf, IsNoOption, IsGraphOf, IsLintOf};
 ghost use Rattle.dr_word_line.specs.Words.{IsFileRouteOf, IsKeyRouteOf, IsQuestionOf, IsListOf};
 ghost use Rattle.dr_word_line.specs.Words.{IsSummaryOf, IsServeOf, IsSendOf, IsRequeueOf};
-ghost use Rattle.dr_word_line.specs.Words.{IsRequeueAllOf, IsDutyOf, IsAdoptOf, IsDiffOf};
+ghost use Rattle.dr_word_line.specs.Words.{IsRequeueAllOf, IsDutyOf, IsAdoptOf, IsDiffOf, IsForgetOf};
+ghost use Rattle.dr_word_line.specs.Words.{IsGiveUpOf};
 ghost use Rattle.dr_word_line.specs.Words.{IsExpectOf};
 ghost use Rattle.dr_word_line.specs.declared.words.Task.{Task as TaskValue};
 ghost use Rattle.dr_word_line.specs.declared.words.Task.TheVariants as asks;
@@ -136,6 +137,10 @@ pub enum Duty<'a> {
     Requeue(&'a str, &'a str),
     /// To queue again all held rows to that node.
     RequeueAll(&'a str),
+    /// To give up the held row of the instance of this UID to that node.
+    GiveUp(&'a str, &'a str),
+    /// To forget the instance of this UID, which is over.
+    Forget(&'a str),
     /// To take in the instance in a Part 10 file, and to send what is due.
     Send(&'a str),
     /// To serve associations and send what is due.
@@ -282,6 +287,49 @@ fn read_work<'a>(words: &'a [&'a str]) -> Option<Task<'a>>
                 ledger,
             };
             Some(Task::AtNode(given, Duty::Requeue(uid, dest)))
+        }
+        _ => None,
+    }
+}
+
+/// What words ask a node to let go, if they are of such a form.
+fn read_letting_go<'a>(words: &'a [&'a str]) -> Option<Task<'a>>
+    ensures asked { IfSome result (λ asked. Asks words.now asked) }
+    ensures give_up { IfNone result
+        ((given : NodeFilesValue) (uid dest : Bor (List ℕ))
+        → IsGiveUpOf words.now given uid dest
+        → ⊥) }
+    ensures forget { IfNone result
+        ((given : NodeFilesValue) (uid : Bor (List ℕ)) → IsForgetOf words.now given uid → ⊥) }
+{
+    match words {
+        [word, plan, certificate, node, ledger, uid]
+            if *word == "forget"
+                && is_no_option(plan)
+                && is_no_option(certificate)
+                && is_no_option(ledger)
+                && is_no_option(uid) => {
+            let given = NodeFiles {
+                plan,
+                certificate,
+                node,
+                ledger,
+            };
+            Some(Task::AtNode(given, Duty::Forget(uid)))
+        }
+        [word, plan, certificate, node, ledger, uid, dest]
+            if *word == "drop"
+                && is_no_option(plan)
+                && is_no_option(certificate)
+                && is_no_option(ledger)
+                && is_no_option(uid) => {
+            let given = NodeFiles {
+                plan,
+                certificate,
+                node,
+                ledger,
+            };
+            Some(Task::AtNode(given, Duty::GiveUp(uid, dest)))
         }
         _ => None,
     }
@@ -499,6 +547,9 @@ fn read_ledger<'a>(words: &'a [&'a str]) -> Option<Task<'a>>
     if let Some(asked) = read_work(words) {
         return Some(asked);
     }
+    if let Some(asked) = read_letting_go(words) {
+        return Some(asked);
+    }
     if let Some(asked) = read_all(words) {
         return Some(asked);
     }
@@ -602,12 +653,21 @@ fn serving_of<'a>(given: &ArgMatches<'a>) -> Serving<'a> {
     }
 }
 
+/// The UID of an instance, as clap has read it.
+fn uid_of<'a>(given: &ArgMatches<'a>) -> &'a str {
+    given.get_str("UID").unwrap_or("")
+}
+
+/// The node to which a row is to be sent, as clap has read it.
+fn dest_of<'a>(given: &ArgMatches<'a>) -> &'a str {
+    given.get_str("DEST").unwrap_or("")
+}
+
 /// Which held rows are to be queued again, as clap has read it.
 fn requeue_of<'a>(given: &ArgMatches<'a>) -> Duty<'a> {
-    let dest = given.get_str("DEST").unwrap_or("");
     match given.get_str("ALL") {
         Some(all) => Duty::RequeueAll(all),
-        None => Duty::Requeue(given.get_str("UID").unwrap_or(""), dest),
+        None => Duty::Requeue(uid_of(given), dest_of(given)),
     }
 }
 
@@ -617,6 +677,8 @@ fn duty_of<'a>(name: &str, given: &ArgMatches<'a>) -> Option<Duty<'a>> {
         "list" if given.get_flag("SUMMARY") => Some(Duty::Summary),
         "list" => Some(Duty::List),
         "requeue" => Some(requeue_of(given)),
+        "drop" => Some(Duty::GiveUp(uid_of(given), dest_of(given))),
+        "forget" => Some(Duty::Forget(uid_of(given))),
         "send" => Some(Duty::Send(given.get_str("FILE").unwrap_or(""))),
         "serve" => Some(Duty::Serve(serving_of(given))),
         _ => None,
