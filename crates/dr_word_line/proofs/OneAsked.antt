@@ -36,7 +36,8 @@ abbrev of_five : List ℕ → Word → Word → Word → Word → Task
 of_five word a b c d =
     cond (initial word == 114) (asks.Question a b (questions.RouteOfFile c d))
     (cond (initial word == 108) (asks.AtNode (files a b c d) duties.List)
-    (cond (initial word == 100) (asks.Question a b (questions.Diff (record { plan = c; certificate = d; fails_on_lost = false }))) (asks.AtNode (files a b c d) (duties.Serve plain_serving))))
+    (cond (initial word == 110) (asks.AtNode (files a b c d) duties.Make)
+    (cond (initial word == 100) (asks.Question a b (questions.Diff (record { plan = c; certificate = d; fails_on_lost = false }))) (asks.AtNode (files a b c d) (duties.Serve plain_serving)))))
 
 -- what a word and five more ask for
 abbrev of_six : List ℕ → NodeFiles → Word → Task
@@ -107,6 +108,9 @@ module _ (words : List Word) where
       (subst (Means (asks.Question a b (questions.Diff (record { plan = next.plan; certificate = next.certificate; fails_on_lost = false })))) (sym h.0.1)
       (subst (λ n. of_five n a b next.plan next.certificate ≡ asks.Question a b (questions.Diff (record { plan = next.plan; certificate = next.certificate; fails_on_lost = false }))) (sym h.0.2) refl))
   is_meant (asks.Question a b (questions.RouteOfKey c key)) h = subst (Means (asks.Question a b (questions.RouteOfKey c key))) (sym h.1) refl
+  is_meant (asks.AtNode given duties.Make) h =
+      subst (Means (asks.AtNode given duties.Make)) (sym h.1)
+      (subst (λ n. of_five n given.plan given.certificate given.node given.ledger ≡ asks.AtNode given duties.Make) (sym h.2) refl)
   is_meant (asks.AtNode given duties.List) h =
       subst (Means (asks.AtNode given duties.List)) (sym h.1)
       (subst (λ n. of_five n given.plan given.certificate given.node given.ledger ≡ asks.AtNode given duties.List) (sym h.2) refl)

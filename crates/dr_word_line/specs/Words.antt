@@ -9,7 +9,7 @@ use Rattle.dr_word_line.specs.declared.words.Task.TheVariants.{Question as AsksQ
 use Rattle.dr_word_line.specs.declared.words.Task.TheVariants.{Adopt, Told}
 use Rattle.dr_word_line.specs.declared.words.Duty.{Duty}
 use Rattle.dr_word_line.specs.declared.words.Duty.TheVariants.{List as ToList, Summary, Requeue}
-use Rattle.dr_word_line.specs.declared.words.Duty.TheVariants.{RequeueAll, GiveUp, Forget, Send, Serve}
+use Rattle.dr_word_line.specs.declared.words.Duty.TheVariants.{RequeueAll, GiveUp, Forget, Make, Send, Serve}
 use Rattle.dr_word_line.specs.declared.words.KeyWords.{KeyWords}
 use Rattle.dr_run_files.specs.declared.node.NodeFiles.{NodeFiles}
 use Rattle.dr_word_line.specs.declared.words.PlanChange.{PlanChange}
@@ -158,6 +158,10 @@ IsAtNode name words given more =
     × IsNoOption given.certificate.now
     × IsNoOption given.ledger.now
 
+-- the word new and what names a node and its ledger: they ask to make it
+abbrev pub IsMakeOf : List (Bor (List ℕ)) → NodeFiles → Type 0
+IsMakeOf words given = IsAtNode (codes "new") words given []
+
 -- the word list and what names a node and its ledger: they ask for what the node has
 abbrev pub IsListOf : List (Bor (List ℕ)) → NodeFiles → Type 0
 IsListOf words given = IsAtNode (codes "list") words given []
@@ -216,11 +220,13 @@ plain_serving = record {
   memory = 1024;
   waits = record { connect = 10; write = 60; message = 30; idle = 600 };
   until_input_ends = false;
+  must_exist = false;
 }
 
 -- the words ask this of the node with these files; other ways of serving are asked for by options,
 -- of which nothing is said here
 abbrev pub IsDutyOf : List (Bor (List ℕ)) → NodeFiles → Duty → Type 0
+IsDutyOf words given Make = IsMakeOf words given
 IsDutyOf words given ToList = IsListOf words given
 IsDutyOf words given Summary = IsSummaryOf words given
 IsDutyOf words given (Requeue uid dest) = IsRequeueOf words given uid dest

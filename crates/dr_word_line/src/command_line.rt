@@ -129,6 +129,7 @@ enum Choice {
     Memory,
     Seconds(Value<'static>, &'static str),
     UntilInputEnds,
+    MustExist,
 }
 
 impl<'a> Makes<Arg<'a>> for Choice {
@@ -154,6 +155,7 @@ impl<'a> Makes<Arg<'a>> for Choice {
             Choice::Memory => Ok(memory(alloc)),
             Choice::Seconds((name, help), option) => Ok(seconds(alloc, name, option, help)),
             Choice::UntilInputEnds => Ok(until_input_ends(alloc)),
+            Choice::MustExist => Ok(must_exist(alloc)),
         }
     }
 }
@@ -368,6 +370,12 @@ fn requeue<'a>(alloc: Global) -> Result<Command<'a>, AllocError> {
     )
 }
 
+/// The word `new`.
+fn make_ledger<'a>(alloc: Global) -> Result<Command<'a>, AllocError> {
+    let about = "Makes the ledger of a node, where there is none";
+    word(alloc, "new", about, LEDGER, &[])
+}
+
 /// The word `drop`.
 fn give_up<'a>(alloc: Global) -> Result<Command<'a>, AllocError> {
     let about = "Gives up a held row of a node: it is never sent, and the journal says so";
@@ -473,6 +481,14 @@ fn until_input_ends<'a>(alloc: Global) -> Arg<'a> {
         .help("ends in order when the standard input ends")
 }
 
+/// Whether `serve` asks for a ledger that is there.
+fn must_exist<'a>(alloc: Global) -> Arg<'a> {
+    Arg::new(alloc, "EXIST")
+        .long("must-exist")
+        .action(ArgAction::SetTrue)
+        .help("refuses a ledger's file that isn't there, where else one is made")
+}
+
 /// The times for which `serve` waits.
 const CONNECT: Choice = Choice::Seconds(("CONNECT", "gives a connect up then (10)"), "connect");
 
@@ -520,6 +536,7 @@ fn serve<'a>(alloc: Global) -> Result<Command<'a>, AllocError> {
             MESSAGE,
             IDLE,
             Choice::UntilInputEnds,
+            Choice::MustExist,
         ],
     )
 }
@@ -546,6 +563,7 @@ enum Verb {
     Diff,
     Simulate,
     Echo,
+    New,
     Serve,
     Send,
     List,
@@ -565,6 +583,7 @@ const VERBS: &[Verb] = &[
     Verb::Diff,
     Verb::Simulate,
     Verb::Echo,
+    Verb::New,
     Verb::Serve,
     Verb::Send,
     Verb::List,
@@ -586,6 +605,7 @@ impl<'a> Makes<Command<'a>> for Verb {
             Verb::Diff => diff(alloc),
             Verb::Simulate => simulate(alloc),
             Verb::Echo => echo(alloc),
+            Verb::New => make_ledger(alloc),
             Verb::Serve => serve(alloc),
             Verb::Send => send(alloc),
             Verb::List => list(alloc),

@@ -7,7 +7,7 @@ ghost use Rattle.dr_word_line.specs.Words.{IsSimulateOf, IsEchoOf, IsNoOption, I
 ghost use Rattle.dr_word_line.specs.Words.{IsFileRouteOf, IsKeyRouteOf, IsQuestionOf, IsListOf};
 ghost use Rattle.dr_word_line.specs.Words.{IsSummaryOf, IsServeOf, IsSendOf, IsRequeueOf};
 ghost use Rattle.dr_word_line.specs.Words.{IsRequeueAllOf, IsDutyOf, IsAdoptOf, IsDiffOf, IsForgetOf};
-ghost use Rattle.dr_word_line.specs.Words.{IsGiveUpOf};
+ghost use Rattle.dr_word_line.specs.Words.{IsGiveUpOf, IsMakeOf};
 ghost use Rattle.dr_word_line.specs.Words.{IsExpectOf};
 ghost use Rattle.dr_word_line.specs.declared.words.Task.{Task as TaskValue};
 ghost use Rattle.dr_word_line.specs.declared.words.Task.TheVariants as asks;
@@ -124,11 +124,15 @@ pub struct Serving<'a> {
     pub waits: Waits,
     /// Whether it ends, in order, when the standard input does.
     pub until_input_ends: bool,
+    /// Whether its ledger's file has to be there.
+    pub must_exist: bool,
 }
 
 /// What a node may be asked to do with its ledger.
 #[derive(Clone, Copy, Drop)]
 pub enum Duty<'a> {
+    /// To make it, where none is.
+    Make,
     /// To print what it has.
     List,
     /// To print how much it has.
@@ -292,6 +296,29 @@ fn read_work<'a>(words: &'a [&'a str]) -> Option<Task<'a>>
     }
 }
 
+/// What words ask of a ledger that isn't there, if they are of such a form.
+fn read_making<'a>(words: &'a [&'a str]) -> Option<Task<'a>>
+    ensures asked { IfSome result (λ asked. Asks words.now asked) }
+    ensures make { IfNone result ((given : NodeFilesValue) → IsMakeOf words.now given → ⊥) }
+{
+    match words {
+        [word, plan, certificate, node, ledger]
+            if *word == "new"
+                && is_no_option(plan)
+                && is_no_option(certificate)
+                && is_no_option(ledger) => {
+            let given = NodeFiles {
+                plan,
+                certificate,
+                node,
+                ledger,
+            };
+            Some(Task::AtNode(given, Duty::Make))
+        }
+        _ => None,
+    }
+}
+
 /// What words ask a node to let go, if they are of such a form.
 fn read_letting_go<'a>(words: &'a [&'a str]) -> Option<Task<'a>>
     ensures asked { IfSome result (λ asked. Asks words.now asked) }
@@ -374,6 +401,7 @@ fn read_duty<'a>(words: &'a [&'a str]) -> Option<Task<'a>>
                 memory: USUAL_MEMORY,
                 waits: USUAL_WAITS,
                 until_input_ends: false,
+                must_exist: false,
             };
             Some(Task::AtNode(given, Duty::Serve(serving)))
         }
@@ -547,6 +575,9 @@ fn read_ledger<'a>(words: &'a [&'a str]) -> Option<Task<'a>>
     if let Some(asked) = read_work(words) {
         return Some(asked);
     }
+    if let Some(asked) = read_making(words) {
+        return Some(asked);
+    }
     if let Some(asked) = read_letting_go(words) {
         return Some(asked);
     }
@@ -650,6 +681,7 @@ fn serving_of<'a>(given: &ArgMatches<'a>) -> Serving<'a> {
         memory: given.get_one("MEMORY").unwrap_or(USUAL_MEMORY),
         waits: waits_of(given),
         until_input_ends: given.get_flag("UNTIL"),
+        must_exist: given.get_flag("EXIST"),
     }
 }
 
@@ -674,6 +706,7 @@ fn requeue_of<'a>(given: &ArgMatches<'a>) -> Duty<'a> {
 /// What a word asks a node to do, as clap has read it, if it asks that.
 fn duty_of<'a>(name: &str, given: &ArgMatches<'a>) -> Option<Duty<'a>> {
     match name {
+        "new" => Some(Duty::Make),
         "list" if given.get_flag("SUMMARY") => Some(Duty::Summary),
         "list" => Some(Duty::List),
         "requeue" => Some(requeue_of(given)),

@@ -10,6 +10,10 @@ use Rattle.dr_run_open.specs.Openings.{HaltsAs, IsAt}
 use Rattle.dr_run_open.specs.declared.halt.Halt.{Halt}
 use Rattle.dr_run_open.specs.declared.halt.Halt.TheVariants.{Refused}
 
+-- the line that is printed where a ledger was made
+abbrev pub made_line : Text
+made_line = codes "made" ++ (10 ∷ [])
+
 -- the line that is printed where a row was given up
 abbrev pub dropped_line : Text
 dropped_line = codes "dropped" ++ (10 ∷ [])
@@ -37,6 +41,11 @@ module _ {L : Type 0} (HoldsPlan HoldsCertificate : Text → Type 0) (MayOpen : 
       (sealed : Certified) × (site : Part) × (old new : L)
       × IsAt HoldsPlan HoldsCertificate MayOpen site_of name sealed site old
       × Becomes sealed site old new
+
+  -- `new`: a ledger of the node was opened, and that is printed; or why it doesn't come to that
+  abbrev pub Made : Result Text Halt → Type 0
+  Made (Ok line) = (line ≡ made_line) × AtNode (λ old new. Unit {0})
+  Made (Err halt) = HaltsAs HoldsPlan HoldsCertificate name halt
 
   -- `list`: the report of the node's book, which stays as it is; or why there is none
   abbrev pub Lists : Result Text Halt → Type 0

@@ -9,7 +9,7 @@ ghost use Rattle.dr_run_open.specs.declared.halt.Halt.{Halt as HaltValue};
 use dr_base::Text;
 use dr_ledger::{LedgerFault, LetsGo};
 use dr_run_files::{Failure, Files, NodeFiles};
-use dr_run_open::{Halt, Ledgers, Status, finish, open_node};
+use dr_run_open::{Halt, Ledgers, Making, Status, finish, open_node};
 use std::alloc::Global;
 use std::io::Write;
 
@@ -66,7 +66,7 @@ fn give_up_at<'a, F: Files, O: Ledgers>(
         O.Ledger.site O.Ledger.book O.Ledger.stands given.entry.node.now row.uid.now row.dest.now
         row.now result }
 {
-    let mut opened = open_node(alloc, files, ledgers, given)?;
+    let mut opened = open_node(alloc, files, ledgers, given, Making::Never)?;
     let came = give_row_up(alloc, &mut opened.ledger, row);
     drop(opened);
     match came {

@@ -3,7 +3,7 @@
 //! - `list_files`, `requeue_files`: the words `list` and `requeue`; `summarize_files`,
 //!   `requeue_all_files`: with the options that count what there is, and that take all held rows to
 //!   a node.
-//! - `give_up_files`, `forget_files`: the words `drop` and `forget`.
+//! - `give_up_files`, `forget_files`: the words `drop` and `forget`. `make_files`: the word `new`.
 //!
 //! Each comes to its ledger by `open_node` of `dr_run_open`.
 #![tactic(auto)]
@@ -11,6 +11,7 @@
 mod dropping;
 mod forgetting;
 mod listing;
+mod making;
 mod requeuing;
 mod requeuing_all;
 mod summary;
@@ -18,6 +19,7 @@ mod summary;
 pub use dropping::{GivenUp, give_up_files};
 pub use forgetting::forget_files;
 pub use listing::list_files;
+pub use making::make_files;
 pub use requeuing::requeue_files;
 pub use requeuing_all::requeue_all_files;
 pub use summary::summarize_files;

@@ -5,13 +5,13 @@ use Rattle.dr_base.specs.Texts.{Text}
 use Rattle.dr_run_open.specs.declared.status.Status.{Status}
 use Rattle.dr_word_line.specs.declared.words.Duty.{Duty}
 use Rattle.dr_word_line.specs.declared.words.Duty.TheVariants.{List as ToList, Summary, Requeue}
-use Rattle.dr_word_line.specs.declared.words.Duty.TheVariants.{RequeueAll, GiveUp, Forget, Send, Serve}
+use Rattle.dr_word_line.specs.declared.words.Duty.TheVariants.{RequeueAll, GiveUp, Forget, Make, Send, Serve}
 use Rattle.dr_run_files.specs.declared.node.NodeFiles.{NodeFiles}
 use Rattle.dr_ledger.specs.Books.{Book}
 use Rattle.dr_run_open.specs.Ends.{Ends}
 use Rattle.dr_word_list.specs.Requeuings.{RequeuedAll}
 use Rattle.dr_word_list.specs.Summaries.{Summarizes}
-use Rattle.dr_word_list.specs.Works.{Forgot, GaveUp, Lists, Requeued}
+use Rattle.dr_word_list.specs.Works.{Forgot, GaveUp, Lists, Made, Requeued}
 use Rattle.dr_run_open.specs.declared.halt.Halt.{Halt}
 use Rattle.dr_run_open.specs.declared.hops.NextHop.{NextHop}
 use Rattle.dr_run_serve.specs.declared.tallied.OwnPort.{OwnPort}
@@ -26,6 +26,11 @@ module _ {L : Type 0} (holds : List ℕ → Text → Type 0) (opens : List ℕ �
   -- The duty is done at the node, whose plan, certificate and ledger these files hold: what the
   -- output had before and after, and the exit status.
   abbrev pub Works : Duty → Option Text → Option Text → Status → Type 0
+  Works Make old new status =
+      (came : Result Text Halt)
+      × Made (holds given.plan.now) (holds given.certificate.now) (opens given.ledger.now) site_of
+      book stands given.node.now came
+      × Ends came old new status
   Works ToList old new status =
       (came : Result Text Halt)
       × Lists (holds given.plan.now) (holds given.certificate.now) (opens given.ledger.now) site_of

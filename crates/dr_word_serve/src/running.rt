@@ -1,4 +1,6 @@
 //! The word `serve`.
+ghost use Rattle.dr_run_open.specs.declared.ledgers.Making.TheVariants.{Allowed, Never};
+ghost use Rattle.std.specs.Prelude.{cond};
 ghost use Rattle.std.specs.Prelude.{◌≡◌, ◌*◌, max, IfErr, IfOk, MatchResult, Result};
 ghost use Rattle.dr_base.specs.Texts.{Text as Words};
 ghost use Rattle.dr_run_open.specs.Ends.{Ends};
@@ -10,7 +12,7 @@ use dr_ledger::{Ledger, LedgerFault};
 use dr_ledger_report::report_of;
 use dr_run_files::{Failure, Files, NodeFiles};
 use dr_run_net::{Limits, Listening, Network};
-use dr_run_open::{Halt, Ledgers, NextHop, Opened, Status, finish, hops_of, open_node};
+use dr_run_open::{Halt, Ledgers, Making, NextHop, Opened, Status, finish, hops_of, open_node};
 use dr_run_report::{OwnPaths, Paths, test_path};
 use dr_run_serve::{Ending, FileMonitor, Monitor, ServeFault, Stop, Terms, serve};
 use dr_run_shown::Escaped;
@@ -183,6 +185,16 @@ fn tell_serving<G: Monitor>(log: &G, given: NodeFiles<'_>, serving: Serving<'_>,
     );
 }
 
+/// Whether a node that serves may make its ledger's file.
+fn making_of(serving: Serving<'_>) -> Making
+    ensures { result ≡ cond serving.must_exist Never Allowed }
+{
+    if serving.must_exist {
+        return Making::Never;
+    }
+    Making::Allowed
+}
+
 /// So many milliseconds, of 1 s at least.
 fn milliseconds(seconds: u32) -> u64
     ensures { result ≡ 1000 * max 1 seconds }
@@ -239,7 +251,7 @@ where
         (F.holds files.now given.entry.certificate.now) (O.opens ledgers.now given.entry.ledger.now)
         O.Ledger.site O.Ledger.book O.Ledger.stands given.entry.node.now result }
 {
-    let opened = open_node(alloc, files, ledgers, given)?;
+    let opened = open_node(alloc, files, ledgers, given, making_of(serving))?;
     let network = network.within(limits_of(serving.waits));
     let listener = match listen_at(alloc, &opened, &network, given.node) {
         Ok(listener) => listener,

@@ -12,7 +12,7 @@ use dr_run_report::Paths;
 use dr_run_serve::{Ending, OwnPort};
 use dr_session::{Clock, DeskPort};
 use dr_word_line::Duty;
-use dr_word_list::{GivenUp, forget_files, give_up_files, list_files};
+use dr_word_list::{GivenUp, forget_files, give_up_files, list_files, make_files};
 use dr_word_list::{requeue_all_files, requeue_files, summarize_files};
 use log::Log;
 use std::alloc::Global;
@@ -60,6 +60,7 @@ where
         (W.contents output.old) (W.contents output.new)) }
 {
     match duty {
+        Duty::Make => make_files(alloc, files, ledgers, given, output, faults),
         Duty::List => list_files(alloc, files, ledgers, given, output, faults),
         Duty::Summary => summarize_files(alloc, files, ledgers, given, output, faults),
         Duty::RequeueAll(dest) => {

@@ -65,3 +65,10 @@ returns-in-GiveUp g c =
     (VisitsBy (g.N.Network.reaches c.args.network.now) g.N.Socket.Link.hears g.N.Socket.Link.sends g.N.Socket.Link.closes (own.step-value g.row.O-Ledger g.O.Ledger.Ledger g.O.Ledger.Ledger-dict).it (g.C.Clock.tells c.args.clock.now)) (g.C.Clock.tells c.args.clock.now)
     c.args.given duty (g.W.Write.contents c.args.output.now) (g.W.Write.contents c.give_up_files.new.output)) in
     subst P (sym c.in-GiveUp.is) (on_ok (λ status e. (c.now-now.result, e.0, c.now-now.ensures.tells, e.1, e.2)) c.give_up_files.result c.give_up_files.ensures)
+
+pub returns-in-Make : goal.returns-in-Make
+returns-in-Make g c =
+    let P : Duty → Type 0 = λ duty. IfOk c.make_files.result (Works (g.F.Files.holds c.args.files.now) (g.O.Ledgers.opens c.args.ledgers.now) g.O.Ledger.Ledger.site g.O.Ledger.Ledger.book g.O.Ledger.Ledger.stands
+    (VisitsBy (g.N.Network.reaches c.args.network.now) g.N.Socket.Link.hears g.N.Socket.Link.sends g.N.Socket.Link.closes (own.step-value g.row.O-Ledger g.O.Ledger.Ledger g.O.Ledger.Ledger-dict).it (g.C.Clock.tells c.args.clock.now)) (g.C.Clock.tells c.args.clock.now)
+    c.args.given duty (g.W.Write.contents c.args.output.now) (g.W.Write.contents c.make_files.new.output)) in
+    subst P (sym c.in-Make.is) c.make_files.ensures
