@@ -1,4 +1,4 @@
-use Rattle.std.proofs.Common.{Option, Some, subst, ap}
+use Rattle.std.proofs.Common.{◌≡◌, Option, Some, subst, ap}
 use Rattle.dr_session.specs.declared.ends.Core.{Core}
 use Rattle.dr_session.specs.Ends.{Terminal, TakesCore}
 use Rattle.dr_session.proofs.Ending.{crowds_live, crowds_over}
