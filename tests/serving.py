@@ -45,7 +45,14 @@ def refusals():
     """What is refused, by which name and with which status."""
     with Room() as room:
         room.put('image.dcm', part10(b'1.2.3.4'))
+        for word in ('list',), ('list', '--summary'), ('requeue', '1.2.3.4', 'GATE'), ('drop', '1.2.3.4', 'GATE'), ('forget', '1.2.3.4'), ('serve', '--must-exist'):
+            told(room.at(word[0], 'ARCH', *word[1:]), 3, '', 'dr_router: G8 NoLedger\n')
+        same(os.path.exists(f'{room.folder}/ARCH.db'), False)
+        told(room.at('new', 'ARCH'), 0, 'made\n', '')
+        told(room.at('new', 'ARCH'), 1, '', 'dr_router: G9 IsThere\n')
         told(room.at('list', 'ARCH'), 0, 'node\tARCH\nlines\t0\n', '')
+        told(room.at('forget', 'ARCH', '1.2.3.4'), 1, '', 'dr_router: G7 NotOver\n')
+        told(room.at('drop', 'ARCH', '1.2.3.4', 'GATE'), 1, '', 'dr_router: G5 NotHeld\n')
         told(room.at('list', 'GATE', ledger='ARCH.db'), 1, '', 'dr_router: G6 OtherSite\n')
         told(room.at('list', 'NONE'), 1, '', 'dr_router: NoNode\n')
         told(room.at('requeue', 'ARCH', '1.2.3.4', 'GATE'), 1, '', 'dr_router: G5 NotHeld\n')
@@ -54,7 +61,7 @@ def refusals():
         told(room.at('list', 'ARCH', ledger='garbage.db'), 3, '', 'dr_router: G3 Store\n')
         room.put('no.dcm', b'no file of the standard')
         told(room.at('send', 'CT1', 'no.dcm'), 1, '', 'dr_router: F1 NotDicom\n')
-        serving = room.serve('ARCH', 1)
+        serving = room.serve('ARCH', 1, '--must-exist')
         told(room.at('list', 'ARCH'), 3, '', 'dr_router: G3 Store: in use\n')
         serving.kill()
         serving.wait()
@@ -182,7 +189,7 @@ def report_paths():
         refused('GATE', own, ledger='GATE.new')
         same(sorted(os.listdir(room.folder)), ['certificate', 'here', 'plan', 'sub'])
         # with a ledger: by its name, by links, and by the other name of a ledger that is named by a link
-        same(room.at('list', 'GATE').returncode, 0)
+        told(room.at('new', 'GATE'), 0, 'made\n', '')
         os.symlink('GATE.db', at('link'))
         os.link(at('GATE.db'), at('hard'))
         for path in [*names, './GATE.db', 'sub/../GATE.db-wal', 'here/GATE.db', at('GATE.db-wal'), 'link', 'hard', 'plan', './certificate', 'sub/../plan']:

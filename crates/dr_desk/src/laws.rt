@@ -1,7 +1,7 @@
 //! Laws of receipts.
 ghost use Rattle.dr_desk.specs.Laws.{ArrivalsAreRecorded, FewAreHeld, FiguresAreRight};
 ghost use Rattle.dr_desk.specs.Laws.{DroppingsAreRecorded, ForgettingsAreRecorded};
-ghost use Rattle.dr_desk.specs.Laws.{ LinesAreOfOneCall, NoMoreAreHeld};
+ghost use Rattle.dr_desk.specs.Laws.{LinesAreOfOneCall, NoMoreAreHeld};
 ghost use Rattle.dr_desk.specs.Laws.{ReceiptsAreOne, RequeuingsAreRecorded, SettlingsAreRecorded};
 
 use dr_ledger::laws::Routed;

@@ -360,10 +360,7 @@ impl<L: LetsGo, B: Sharing> SharedDesk<L, B> {
     {
         pass.make_room()?;
         let call = dropping(uid, dest, now)?;
-        let came = self
-            .held
-            .lock(rt)
-            .give_up(&mut pass.made, uid, dest, now);
+        let came = self.held.lock(rt).give_up(&mut pass.made, uid, dest, now);
         match came {
             Ok(number) => {
                 pass.note(Receipt {

@@ -32,17 +32,20 @@ module _ (part : Part) (p : Parts) (sp : tree.IsOrdered text_cmp p.held) (sound 
   of_key : (key : Due) → its_found ≡ Some key → Dues (content p) dest now (Some key.1.1)
   of_key key is =
       let facts : (passes p.held dest now key ≡ true) × (is_waiting p.held key ≡ true) =
-          found_is p.held dest now (sorted.keys_between due_cmp (Included (start dest)) Unbounded p.waiting) key is in
+      found_is p.held dest now (sorted.keys_between due_cmp (Included (start dest)) Unbounded p.waiting) key is in
       let goes : key.0 ≡ dest = (bytes_eq-Decides key.0 dest).0 (left (bytes_eq key.0 dest) _ facts.0) in
       let w = waits_from (row_in (at p.held key.1.1) key.0) key.1.0 facts.1 in
       let row : map.get (content p).rows (key.1.1, dest) ≡ Some (Waiting w.0 key.1.0) =
-          row_at p sp key.1.1 dest ∙ (ap (row_in (at p.held key.1.1)) (sym goes) ∙ w.1) in
-      let soon = leb-true key.1.0 now (right (bytes_eq key.0 dest) _ facts.0) in
-      (key.1.0, ((w.0, row), soon), λ other moment h greater. ∥∥₁_elim sound (λ x y. absurd x) (λ s.
-          let P : Option Due → Type 0 = λ o. IsFirst o (dest, (moment, other)) in
-          let first : due_cmp key (dest, (moment, other)) ≢ Greater =
-              subst P is (first_for part p sp sound ordered dest now s other moment h) in
-          first (later_too key dest moment other goes greater)))
+      row_at p sp key.1.1 dest ∙ (ap (row_in (at p.held key.1.1)) (sym goes) ∙ w.1) in
+      let soon = leb-true key.1.0 now (right (bytes_eq key.0 dest) _ facts.0) in (
+        key.1.0,
+        ((w.0, row), soon),
+        λ other moment h greater. ∥∥₁_elim sound (λ x y. absurd x) (λ s.
+            let P : Option Due → Type 0 = λ o. IsFirst o (dest, (moment, other)) in
+            let first : due_cmp key (dest, (moment, other)) ≢ Greater =
+            subst P is (first_for part p sp sound ordered dest now s other moment h) in
+            first (later_too key dest moment other goes greater)),
+      )
 
   pub due_is : (uid : Option Text) → uid ≡ option_map (λ (key : Due). key.1.1) its_found → Dues (content p) dest now uid
   due_is None h = none_next part p sp sound ordered dest now (no_key its_found h)

@@ -11,7 +11,8 @@ ghost use Rattle.dr_ledger.specs.Bodies.{HasBodies, NextsWith, OnlyLetsGo, OnlyT
 ghost use Rattle.dr_ledger.specs.Adopting.{Adopting, Unfits, site_after};
 ghost use Rattle.dr_ledger.specs.Histories.{IsJournalled};
 ghost use Rattle.dr_ledger.specs.Items.{instance_of};
-ghost use Rattle.dr_ledger.specs.Replies.{Admits, AreKept, Arrives, Dues, Forgets, IsAdmitted, IsOver};
+ghost use Rattle.dr_ledger.specs.Replies.{Admits, AreKept, Arrives, Dues, Forgets, IsAdmitted};
+ghost use Rattle.dr_ledger.specs.Replies.{IsOver};
 ghost use Rattle.dr_ledger.specs.Replies.{Lists, Requeues, Settles, entry_of};
 ghost use Rattle.dr_ledger.specs.Pairs.{pair_cmp};
 ghost use Rattle.dr_ledger.specs.SiteRoutes.{site_routing};

@@ -64,9 +64,11 @@ module _ (b : Book) (dest : Text) (now : ℕ) (uid : Text) where
       go (Some Done) is h = absurd (impossible (∥∥₁_map h (λ n. let e : Some Done ≡ Some (Waiting n.1.0.0 n.0) = sym is ∙ n.1.0.1 in absurd (let f : ⊥ = cc in f))))
       go (Some Dropped) is h = absurd (impossible (∥∥₁_map h (λ n. let e : Some Dropped ≡ Some (Waiting n.1.0.0 n.0) = sym is ∙ n.1.0.1 in absurd (let f : ⊥ = cc in f))))
       go (Some (Waiting tries due)) is h =
-          let same : (n : Dues b dest now (Some uid)) → n.0 ≡ due = λ n. ap (moment tries due) (sym n.1.0.1 ∙ is) in
-          (due, ((tries, is), of_prop le_prop (∥∥₁_map h (λ n. subst (λ d. d ≤ now) (same n) n.1.1))),
-              λ other soon due_too later. impossible (∥∥₁_map h (λ n. n.2 other soon due_too (subst (λ d. ordering_then (nat_cmp d soon) (text_cmp uid other) ≡ Greater) (sym (same n)) later))))
+          let same : (n : Dues b dest now (Some uid)) → n.0 ≡ due = λ n. ap (moment tries due) (sym n.1.0.1 ∙ is) in (
+            due,
+            ((tries, is), of_prop le_prop (∥∥₁_map h (λ n. subst (λ d. d ≤ now) (same n) n.1.1))),
+            λ other soon due_too later. impossible (∥∥₁_map h (λ n. n.2 other soon due_too (subst (λ d. ordering_then (nat_cmp d soon) (text_cmp uid other) ≡ Greater) (sym (same n)) later))),
+          )
 
 pub dues : (b : Book) (dest : Text) (now : ℕ) (uid : Option Text) → Stable (Dues b dest now uid)
 dues b dest now None = each (λ uid. each (λ due. never))

@@ -9,7 +9,8 @@ use Rattle.dr_word_line.specs.declared.words.Task.TheVariants.{Question as AsksQ
 use Rattle.dr_word_line.specs.declared.words.Task.TheVariants.{Adopt, Told}
 use Rattle.dr_word_line.specs.declared.words.Duty.{Duty}
 use Rattle.dr_word_line.specs.declared.words.Duty.TheVariants.{List as ToList, Summary, Requeue}
-use Rattle.dr_word_line.specs.declared.words.Duty.TheVariants.{RequeueAll, GiveUp, Forget, Make, Send, Serve}
+use Rattle.dr_word_line.specs.declared.words.Duty.TheVariants.{RequeueAll, GiveUp, Forget, Make}
+use Rattle.dr_word_line.specs.declared.words.Duty.TheVariants.{Send, Serve}
 use Rattle.dr_word_line.specs.declared.words.KeyWords.{KeyWords}
 use Rattle.dr_run_files.specs.declared.node.NodeFiles.{NodeFiles}
 use Rattle.dr_word_line.specs.declared.words.PlanChange.{PlanChange}

@@ -64,8 +64,8 @@ module _ {L : Type 0} (HoldsPlan HoldsCertificate : Text → Type 0) (MayOpen : 
       AtNode (λ old new. stands new → Requeues uid dest (book old) (Err fault) (book new))
   Requeued uid dest (Err halt) = HaltsAs HoldsPlan HoldsCertificate name halt
 
-  -- `drop`: the row was given up at that moment, and that is printed; or the ledger's refusal, after
-  -- which the book is as it was; or why it doesn't come to that
+  -- `drop`: the row was given up at that moment, and that is printed; or the ledger's refusal,
+  -- after which the book is as it was; or why it doesn't come to that
   abbrev pub GaveUp : Text → Text → ℕ → Result Text Halt → Type 0
   GaveUp uid dest now (Ok line) =
       (line ≡ dropped_line)

@@ -13,7 +13,10 @@ use dr_base::Text;
 use dr_ledger::{Ledger, LedgerFault};
 use dr_ledger_report::{put_field, put_name, put_number};
 use dr_run_files::{Failure, Files, NodeFiles};
-use dr_run_open::{Halt, Ledgers, Making, NextHop, Opened, Row, RowStage, Status, finish, hops_of, how_many, oldest, open_node};
+use dr_run_open::{
+    Halt, Ledgers, Making, NextHop, Opened, Row, RowStage, Status, finish, hops_of, how_many,
+    oldest, open_node,
+};
 use std::alloc::{AllocError, Global};
 use std::io::Write;
 

@@ -18,8 +18,9 @@ use dr_ledger::{Arrived, Item, Ledger, LedgerFault};
 use dr_ledger_report::report_of;
 use dr_run_files::{Failure, Files, NodeFiles, read_file};
 use dr_run_net::Network;
-use dr_run_open::{Halt, Ledgers, Making, NextHop, Opened};
-use dr_run_open::{Status, finish, hops_of, item_of, open_node};
+use dr_run_open::{
+    Halt, Ledgers, Making, NextHop, Opened, Status, finish, hops_of, item_of, open_node,
+};
 use dr_run_serve::{OwnPort, visit_each};
 use dr_session::{Clock, DeskPort};
 use dr_site::Site;
