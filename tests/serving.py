@@ -84,15 +84,25 @@ def dead_hop():
 
 
 def held_rows():
-    """Other bytes under a known UID are refused (C0F1), which holds the row; what is held is counted, and queued again."""
+    """Other bytes under a known UID are refused (C0F1), which holds the row; what is held is counted, queued again, or given up."""
     with Room() as room:
         room.put('image.dcm', part10(b'1.2.3.4'))
         room.put('other.dcm', part10(b'1.2.3.4', element(0x10, 0x10, b'PN', b'Other')))
-        gate = room.serve('GATE', 2)
+        gate = room.serve('GATE', 3)
         same(room.at('send', 'CT1', 'image.dcm').returncode, 0)
-        sent = room.at('send', 'CT1', 'other.dcm', ledger='second.db')
-        same(lines(sent.stdout)[3:4], ['row\t1.2.3.4\tGATE\theld\tC0F1'])
+        for ledger in 'second.db', 'third.db':
+            sent = room.at('send', 'CT1', 'other.dcm', ledger=ledger)
+            same(lines(sent.stdout)[3:4], ['row\t1.2.3.4\tGATE\theld\tC0F1'])
         ended(gate)
+        # a row that is given up by name, and an instance that is forgotten then
+        told(room.at('forget', 'CT1', '1.2.3.4', ledger='third.db'), 1, '', 'dr_router: G7 NotOver\n')
+        told(room.at('drop', 'CT1', '1.2.3.4', 'ARCH', ledger='third.db'), 1, '', 'dr_router: G5 NotHeld\n')
+        told(room.at('drop', 'CT1', '1.2.3.4', 'GATE', ledger='third.db'), 0, 'dropped\n', '')
+        told(room.at('list', 'CT1', ledger='third.db'), 0, 'node\tCT1\nrow\t1.2.3.4\tGATE\tdropped\nlines\t3\n', '')
+        told(room.at('drop', 'CT1', '1.2.3.4', 'GATE', ledger='third.db'), 1, '', 'dr_router: G5 NotHeld\n')
+        told(room.at('requeue', 'CT1', '1.2.3.4', 'GATE', ledger='third.db'), 1, '', 'dr_router: G5 NotHeld\n')
+        told(room.at('forget', 'CT1', '1.2.3.4', ledger='third.db'), 0, 'forgotten\n', '')
+        told(room.at('list', 'CT1', ledger='third.db'), 0, 'node\tCT1\nlines\t4\n', '')
         counts = 'node\tCT1\narrivals\t1\nkept\t0\nqueue\tGATE\twaiting\t{}\theld\t{}\tdone\t0\toldest\t{}\nlines\t{}\n'
         told(room.at('list', 'CT1', '--summary', ledger='second.db'), 0, counts.format(0, 1, '-', 2), '')
         told(room.at('requeue', 'CT1', '--all-held', 'ARCH', ledger='second.db'), 0, '', '')
