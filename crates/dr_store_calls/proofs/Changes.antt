@@ -12,7 +12,7 @@ use Rattle.dr_ledger.specs.Adopting.{Adopting}
 use Rattle.dr_ledger.specs.Books.{Book, not_done}
 use Rattle.dr_ledger.specs.Replies.{Reads}
 use Rattle.dr_store_schema.specs.Books.{bodies_of, book_of, rows_in}
-use Rattle.dr_store_writes.specs.Effects.{AddsRow, DropsArrivals, DropsDone, GoesOn, HasSite, IsSiteOf, SetsPlan, adopted_line}
+use Rattle.dr_store_writes.specs.Effects.{AddsRow, DropsArrivals, DropsOver, GoesOn, HasSite, IsSiteOf, SetsPlan, adopted_line}
 use Rattle.dr_store_changes.specs.Writing.{IsMade, IsReady, Written}
 use Rattle.dr_store_changes.proofs.Movements.{goes_over}
 use Rattle.dr_store_calls.specs.Calling.{Called, IsKept, IsLedgerOf, IsOwnFault, Looked, Nothing}
@@ -22,7 +22,7 @@ use Rattle.dr_store_calls.proofs.Adoptions.{adopted_ledgers_are_of_the_next, ado
 
 -- ---- the statements
 
-pub cleared : (old mid new : State) → DropsArrivals old mid → DropsDone mid new → GoesOn old new × Clears old.now.trees new.now.trees
+pub cleared : (old mid new : State) → DropsArrivals old mid → DropsOver mid new → GoesOn old new × Clears old.now.trees new.now.trees
 cleared old mid new a d =
     let x = a.others in
     let y = d.others in (

@@ -23,7 +23,7 @@ use Rattle.dr_ledger.proofs.Needs.{forgettings_need_the_same}
 use Rattle.dr_store_schema.specs.Books.{AreBelow, all_kept_in, bodies_of, book_of, instance_by, items_of, names_in, prints_of}
 use Rattle.dr_store_changes.specs.Changes.{TakesOut}
 use Rattle.dr_store_changes.proofs.Forgotten.{forgettings_forget, forgettings_let_no_data_set_go, not_needed}
-use Rattle.dr_store_reads.specs.Queries.{IsKeyOf, IsUndone}
+use Rattle.dr_store_reads.specs.Queries.{IsKeyOf, HasOpen}
 use Rattle.dr_store_calls.specs.Calling.{IsLedgerOf, IsOwnFault, Looked}
 use Rattle.dr_store_calls.specs.Needs.{IsKeptIn}
 use Rattle.dr_store_calls.proofs.Reading.{reads_as}
@@ -49,7 +49,7 @@ there_found found (Some key) by item is there = refl
 
 -- it is over where it is there, isn't kept, and has no row that isn't done
 pub over_by : (base : Trees) (uid : Text) (key : Option Key) (past : Bool) → IsKeyOf uid base key
-    → (IsTrue past ↔ ((is_some key ≡ true) × (IsKeptIn base uid → ⊥) × (IsUndone base uid → ⊥))) → (IsTrue past ↔ IsOver (book_of base) uid)
+    → (IsTrue past ↔ ((is_some key ≡ true) × (IsKeptIn base uid → ⊥) × (HasOpen base uid → ⊥))) → (IsTrue past ↔ IsOver (book_of base) uid)
 over_by base uid key past shown says = (
   λ h.
       let it = says.0 h in
@@ -66,8 +66,8 @@ over_by base uid key past shown says = (
 )
 
 -- what isn't kept, by whether it is
-pub past_by : (base : Trees) (uid : Text) (kept past : Bool) → kept ≡ set.contains (all_kept_in (base 7)) uid → (IsTrue past ↔ ((kept ≡ false) × (IsUndone base uid → ⊥)))
-    → (IsTrue past ↔ ((IsKeptIn base uid → ⊥) × (IsUndone base uid → ⊥)))
+pub past_by : (base : Trees) (uid : Text) (kept past : Bool) → kept ≡ set.contains (all_kept_in (base 7)) uid → (IsTrue past ↔ ((kept ≡ false) × (HasOpen base uid → ⊥)))
+    → (IsTrue past ↔ ((IsKeptIn base uid → ⊥) × (HasOpen base uid → ⊥)))
 past_by base uid kept past shown says = (
   λ h. let it = says.0 h in (λ yes_kept. true≢false (sym yes_kept ∙ sym shown ∙ it.0), it.1),
   λ h. says.1 (is_not kept (λ yes_kept. h.0 (sym shown ∙ yes_kept)), h.1),
