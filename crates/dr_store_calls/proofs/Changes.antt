@@ -9,7 +9,7 @@ use Rattle.dr_site.specs.Parts.{Part}
 use Rattle.dr_ledger.specs.declared.fault.LedgerFault.{LedgerFault}
 use Rattle.dr_ledger.specs.declared.fault.LedgerFault.TheVariants as fault
 use Rattle.dr_ledger.specs.Adopting.{Adopting}
-use Rattle.dr_ledger.specs.Books.{Book, not_done}
+use Rattle.dr_ledger.specs.Books.{Book, not_over}
 use Rattle.dr_ledger.specs.Replies.{Reads}
 use Rattle.dr_store_schema.specs.Books.{bodies_of, book_of, rows_in}
 use Rattle.dr_store_writes.specs.Effects.{AddsRow, DropsArrivals, DropsOver, GoesOn, HasSite, IsSiteOf, SetsPlan, adopted_line}
@@ -29,7 +29,7 @@ cleared old mid new a d =
       goes_over old mid new a.goes_on d.goes_on,
       record {
         arrivals = y.arrivals (omega arith) ∙ a.rows;
-        rows = d.rows ∙ ap (λ rows. not_done (rows_in rows)) (x.queue (omega arith));
+        rows = d.rows ∙ ap (λ rows. not_over (rows_in rows)) (x.queue (omega arith));
         site = y.site (omega arith) ∙ x.site (omega arith);
         items = y.items (omega arith) ∙ x.items (omega arith);
         prints = y.prints (omega arith) ∙ x.prints (omega arith);

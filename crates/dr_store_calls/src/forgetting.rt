@@ -17,7 +17,7 @@ use dr_store_reads::{find_kept, find_key, has_open};
 use sqlite::{Alter, Connection};
 use std::alloc::Global;
 
-/// Whether all rows of an instance are done, where it isn't kept.
+/// Whether no row of an instance is open, where it isn't kept.
 fn is_done_unless_kept<'x, S: Alter>(
     conn: &mut Connection<S>,
     uid: &'x Text,
@@ -37,7 +37,7 @@ fn is_done_unless_kept<'x, S: Alter>(
     }
 }
 
-/// Whether an instance isn't kept, and all rows of it are done.
+/// Whether an instance isn't kept, and no row of it is open.
 fn is_past<'x, S: Alter>(conn: &mut Connection<S>, uid: &'x Text) -> Result<bool, LedgerFault>
     ensures looked { (n : ℕ) (part : Part)
         → Looked n part result (state S.Store conn.old) (state S.Store conn.new)
@@ -71,7 +71,7 @@ fn is_past_if<'x, S: Alter>(
     Ok(false)
 }
 
-/// Whether an instance is over: it is there, isn't kept, and each row of it is done.
+/// Whether an instance is over: it is there, isn't kept, and each row of it is done or dropped.
 pub fn is_over<'x, S: Alter>(
     conn: &mut Connection<S>,
     alloc: Global,

@@ -335,7 +335,8 @@ of_le m n low = go (nat_cmp m n) refl
 waits_by : (state tries due : ℕ) (why : Cause) (t d : ℕ) → progress_by state tries due why ≡ Waiting t d → (state ≡ 0) × (due ≡ d)
 waits_by zero tries due why t d e = (refl, ap due_of e)
 waits_by (suc zero) tries due why t d e = absurd cc
-waits_by (suc (suc more)) tries due why t d e = absurd cc
+waits_by (suc (suc zero)) tries due why t d e = absurd cc
+waits_by (suc (suc (suc more))) tries due why t d e = absurd cc
 
 not_later : {K : Type 0} {R : K → K → Ordering} → IsTotalOrder R → (a b : K) → is_lt (R b a) ≡ false → R a b ≢ Greater
 not_later {R = R} total a b h greater = true≢false (sym (ap is_lt (total.antisymm b a ∙ ap ordering_reverse greater)) ∙ h)
