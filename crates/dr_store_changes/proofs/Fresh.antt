@@ -152,6 +152,14 @@ queued_stays to rows uid at row there queued =
     go true Dropped h = absurd (true≢false (sym h))
     go false r h = refl
 
+-- so does one that is done
+pub ended_stays : (to : List Text) (rows : Rows) (uid : Text) (at : Pair) → map.get rows at ≡ Some Done → map.get (with_rows rows uid to) at ≡ Some Done
+ended_stays to rows uid at there = with_got to rows uid at ∙ ap (λ o. cond (among uid to at) (Some (arrived_row o)) o) there ∙ go (among uid to at)
+  where
+    go : (b : Bool) → cond b (Some (arrived_row (Some Done))) (Some Done) ≡ Some Done
+    go true = refl
+    go false = refl
+
 -- one that was dropped, or none, for a destination to which the arrival goes, waits
 pub waits_anew : (to : List Text) (rows : Rows) (uid dest : Text) → Contains to dest → (map.get rows (uid, dest) ≡ None) ⊎ (map.get rows (uid, dest) ≡ Some Dropped) → map.get (with_rows rows uid to) (uid, dest) ≡ Some (Waiting 0 0)
 waits_anew to rows uid dest goes was =
