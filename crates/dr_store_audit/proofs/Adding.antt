@@ -52,7 +52,7 @@ first_kept k ks q = (
 pub first_open : (r : Pair × Progress) (rs : List (Pair × Progress)) (q : Text) → IsOpenIn (r ∷ rs) q ↔ (((q ≡ r.0.0) × (is_queued r.1 ≡ true)) ⊎ IsOpenIn rs q)
 first_open r rs q = (
   λ h. elim (Contains-cons_cases r rs ((q, h.0), h.1) h.2) [
-    | inl same ↦ inl (sym (ap (λ (x : Pair × Progress). x.0.0) same), λ done. h.3 (sym (ap (λ (x : Pair × Progress). x.1) same) ∙ done))
+    | inl same ↦ inl (sym (ap (λ (x : Pair × Progress). x.0.0) same), ap (λ (x : Pair × Progress). is_queued x.1) same ∙ h.3)
     | inr later ↦ inr (h.0, h.1, later, h.3)
   ],
   λ h. elim h [
