@@ -121,8 +121,9 @@ fn queue<'x, S: Alter>(
     ensures step { Step result (state S.Store tx.old.conn.now) (state S.Store tx.new.conn.now)
         (HasRows uid.now again.now (state S.Store tx.old.conn.now).now.trees
         → GoesOn (state S.Store tx.old.conn.now) (state S.Store tx.new.conn.now)
-        × Then (Then (Renews uid.now again.now) (AddsRows uid.now dests.now)) (KeepsIf uid.now keeps)
-        (state S.Store tx.old.conn.now).now.trees (state S.Store tx.new.conn.now).now.trees) }
+        × Then (Then (Renews uid.now again.now) (AddsRows uid.now dests.now))
+        (KeepsIf uid.now keeps) (state S.Store tx.old.conn.now).now.trees
+        (state S.Store tx.new.conn.now).now.trees) }
 {
     wait_for(tx, uid, again, dests)?;
     keep_if(tx, uid, keeps)?;

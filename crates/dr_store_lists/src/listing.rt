@@ -13,7 +13,8 @@ ghost use Rattle.dr_store_schema.specs.Books.{all_kept_in, arrivals_in, rows_of}
 ghost use Rattle.dr_store_lists.specs.Lists.{IsJournal, goal_cmp, goals_of, keys_of, shown_entry};
 ghost use Rattle.dr_store_lists.specs.Lists.{shown_goal, shown_instance, shown_key_entry};
 ghost use Rattle.dr_store_lists.specs.Lists.{shown_note, shown_note_entry, shown_pair};
-ghost use Rattle.dr_store_lists.specs.Lists.{shown_dropping, shown_print_entry, shown_settling, whole_prints_of};
+ghost use Rattle.dr_store_lists.specs.Lists.{shown_dropping, shown_print_entry, shown_settling};
+ghost use Rattle.dr_store_lists.specs.Lists.{whole_prints_of};
 ghost use Rattle.dr_store_reads.specs.Queries.{Asked, HasTables, shown_text};
 
 use dr_base::Text;

@@ -12,7 +12,8 @@ ghost use Rattle.dr_store_schema.specs.Ledgers.{IsLedger};
 ghost use Rattle.dr_store_reads.specs.Queries.{Asked, IsFirstDue, IsJobOf, IsKeyOf, IsBlobIn};
 ghost use Rattle.dr_store_reads.specs.Queries.{IsOpenElsewhere, IsOwnerAsShown, IsOwnerIn};
 ghost use Rattle.dr_store_reads.specs.Queries.{IsOwnerOf, IsPrintOf, IsTextIn, IsStored};
-ghost use Rattle.dr_store_reads.specs.Queries.{HasOpen, first_of, shown_job, shown_key, shown_print};
+ghost use Rattle.dr_store_reads.specs.Queries.{HasOpen, first_of, shown_job, shown_key};
+ghost use Rattle.dr_store_reads.specs.Queries.{shown_print};
 ghost use Rattle.dr_store_reads.specs.Queries.{shown_progress, shown_text};
 
 use crate::queries::ask;

@@ -57,8 +57,8 @@ abbrev pub mark_of : Syntax → List ℕ
 mark_of Implicit = 73 ∷ []
 mark_of Explicit = 69 ∷ []
 
--- ---- queue: how far an instance is. State 0 waits, 1 is held, 2 is done, 3 is dropped; a held row's
--- cause is a status, or NULL where the association had no presentation context.
+-- ---- queue: how far an instance is. State 0 waits, 1 is held, 2 is done, 3 is dropped; a held
+-- row's cause is a status, or NULL where the association had no presentation context.
 
 abbrev pub cause_in : Value → Cause
 cause_in Null = cause.NoContext

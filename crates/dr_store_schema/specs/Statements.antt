@@ -99,7 +99,6 @@ insert_dropped = codes
 
 -- ---- a forgetting, and a dropping
 
-
 -- its arrivals leave
 abbrev pub drop_arrivals_of : List ℕ
 drop_arrivals_of = codes "DELETE FROM arrival WHERE uid = ?1"

@@ -131,8 +131,8 @@ kept = record {
   is_counted = false;
 }
 
--- how far each instance is on its way to each destination: state 0 waits, 1 is held, 2 is done, 3 is
--- dropped
+-- how far each instance is on its way to each destination: state 0 waits, 1 is held, 2 is done, 3
+-- is dropped
 abbrev pub queue : Table
 queue = record {
   name = codes "queue";
