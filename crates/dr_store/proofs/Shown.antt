@@ -14,7 +14,7 @@ use Rattle.dr_base.specs.Texts.{Text, text_cmp}
 use Rattle.dr_ledger.specs.declared.content.Job.{Job}
 use Rattle.dr_ledger.specs.declared.item.Instance.{Instance}
 use Rattle.dr_ledger.specs.declared.item.Progress.{Progress}
-use Rattle.dr_ledger.specs.declared.item.Progress.TheVariants.{Waiting, Held, Done}
+use Rattle.dr_ledger.specs.declared.item.Progress.TheVariants.{Waiting, Held, Done, Dropped}
 use Rattle.dr_ledger.specs.Bodies.{Bodies, NextsWith}
 use Rattle.dr_ledger.specs.Books.{Book}
 use Rattle.dr_ledger.specs.Items.{instance_of}
@@ -33,6 +33,7 @@ moment tries due None = due
 moment tries due (Some (Waiting t d)) = d
 moment tries due (Some (Held why)) = due
 moment tries due (Some Done) = due
+moment tries due (Some Dropped) = due
 
 is_next : (b : Book) (dest : Text) (now : ℕ) (item : Instance) → Stable (IsNext b dest now item)
 is_next b dest now item = go (map.get b.rows (item.uid, dest)) refl
@@ -41,6 +42,7 @@ is_next b dest now item = go (map.get b.rows (item.uid, dest)) refl
     go None is h = absurd (impossible (∥∥₁_map h (λ n. let e : None ≡ Some (Waiting n.row.0.0 n.due) = sym is ∙ n.row.0.1 in absurd (let f : ⊥ = cc in f))))
     go (Some (Held why)) is h = absurd (impossible (∥∥₁_map h (λ n. let e : Some (Held why) ≡ Some (Waiting n.row.0.0 n.due) = sym is ∙ n.row.0.1 in absurd (let f : ⊥ = cc in f))))
     go (Some Done) is h = absurd (impossible (∥∥₁_map h (λ n. let e : Some Done ≡ Some (Waiting n.row.0.0 n.due) = sym is ∙ n.row.0.1 in absurd (let f : ⊥ = cc in f))))
+    go (Some Dropped) is h = absurd (impossible (∥∥₁_map h (λ n. let e : Some Dropped ≡ Some (Waiting n.row.0.0 n.due) = sym is ∙ n.row.0.1 in absurd (let f : ⊥ = cc in f))))
     go (Some (Waiting tries due)) is h =
         let same : (n : IsNext b dest now item) → n.due ≡ due = λ n. ap (moment tries due) (sym n.row.0.1 ∙ is) in
         record {

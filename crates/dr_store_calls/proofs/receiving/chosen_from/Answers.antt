@@ -6,12 +6,12 @@ use Rattle.dr_base.specs.Texts.{Text}
 use Rattle.dr_ledger.specs.declared.fault.LedgerFault.{LedgerFault}
 use Rattle.dr_ledger.specs.Replies.{Reads}
 use Rattle.dr_store_schema.specs.Books.{rows_of}
-use Rattle.dr_store_changes.specs.Bringing.{missing}
 use Rattle.dr_store_calls.specs.Calling.{Looked, Nothing}
+use Rattle.dr_store_calls.specs.Knowing.{chosen}
 use Rattle.dr_store_calls.proofs.Calls.{looked_then, still_called}
-use Rattle.dr_store_calls.proofs.Fitting.{missing_more}
+use Rattle.dr_store_calls.proofs.Fitting.{chosen_more}
 use Rattle.dr_store_calls.proofs.Reading.{same_fault}
-use Rattle.dr_store_calls.proofs.receiving.missing_from.Goals as goal
+use Rattle.dr_store_calls.proofs.receiving.chosen_from.Goals as goal
 
 pub loop-dest-init : goal.loop-dest-init
 loop-dest-init g c = (
@@ -33,16 +33,16 @@ loop-dest-preserved g c = (
       let more = c.in-Ok.more in
       let old = state g.S.Store c.args.conn.now in
       let mid = state g.S.Store c.loop-dest.conn in
-      let new = state g.S.Store c.missing_one.new.conn in
+      let new = state g.S.Store c.chosen_one.new.conn in
       let e = take_more to i dest c.loop-dest-test.true in
       let grown : take (i + 1) to ≡ take i to ++ dest ∷ [] = rw (← c.dest-item.is) at e in
-      let One : Trees → List Text → Type 0 = λ base ds. ds ≡ missing (rows_of base) uid (take i to) in
-      let Next : Trees → List Text → Type 0 = λ base ds. ds ≡ dests ++ missing (rows_of base) uid (dest ∷ []) in
-      let All : List Text → Trees → List Text → Type 0 = λ xs base ds. ds ≡ missing (rows_of base) uid xs in
+      let One : Trees → List Text → Type 0 = λ base ds. ds ≡ chosen c.args.dropped (rows_of base) uid (take i to) in
+      let Next : Trees → List Text → Type 0 = λ base ds. ds ≡ dests ++ chosen c.args.dropped (rows_of base) uid (dest ∷ []) in
+      let All : List Text → Trees → List Text → Type 0 = λ xs base ds. ds ≡ chosen c.args.dropped (rows_of base) uid xs in
       let P : List Text → Type 0 = λ xs. Looked n part (Ok more) old new (All xs) in
       subst P (sym grown) (looked_then n n part old mid new One dests (Ok more) Nothing Nothing (λ base db. (db ≡ base) × Next base more) (λ base db. ⊥) (λ base db. (db ≡ base) × All (take i to ++ dest ∷ []) base more) (λ base db. ⊥)
       (c.loop-dest.invariant.0 n part) (c.in-Ok.ensures.looked n part) (λ db l any shown. tt)
-      (λ base db any shown it. (it.0, it.1 ∙ ap (λ xs. xs ++ missing (rows_of base) uid (dest ∷ [])) shown ∙ sym (missing_more (rows_of base) uid (take i to) dest))) (λ base db any shown none. none)),
+      (λ base db any shown it. (it.0, it.1 ∙ ap (λ xs. xs ++ chosen c.args.dropped (rows_of base) uid (dest ∷ [])) shown ∙ sym (chosen_more c.args.dropped (rows_of base) uid (take i to) dest))) (λ base db any shown none. none)),
   λ h. c.in-Ok.ensures.idle (c.loop-dest.invariant.1 h),
 )
 
@@ -56,10 +56,10 @@ returns-in-Err-clause-looked g c n part =
     let r : Result (List Text) LedgerFault = Err c.in-Err.fault in
     let old = state g.S.Store c.args.conn.now in
     let mid = state g.S.Store c.loop-dest.conn in
-    let new = state g.S.Store c.missing_one.new.conn in
-    let One : Trees → List Text → Type 0 = λ base ds. ds ≡ missing (rows_of base) uid (take i to) in
-    let Next : Trees → List Text → Type 0 = λ base ds. ds ≡ dests ++ missing (rows_of base) uid (dest ∷ []) in
-    let All : Trees → List Text → Type 0 = λ base ds. ds ≡ missing (rows_of base) uid to in
+    let new = state g.S.Store c.chosen_one.new.conn in
+    let One : Trees → List Text → Type 0 = λ base ds. ds ≡ chosen c.args.dropped (rows_of base) uid (take i to) in
+    let Next : Trees → List Text → Type 0 = λ base ds. ds ≡ dests ++ chosen c.args.dropped (rows_of base) uid (dest ∷ []) in
+    let All : Trees → List Text → Type 0 = λ base ds. ds ≡ chosen c.args.dropped (rows_of base) uid to in
     looked_then n n part old mid new One dests r Nothing Nothing (λ base db. (db ≡ base) × Reads r (Next base)) (λ base db. ⊥) (λ base db. (db ≡ base) × Reads r (All base)) (λ base db. ⊥)
     (c.loop-dest.invariant.0 n part) (c.in-Err.ensures.looked n part) (λ db l any shown. tt)
     (λ base db any shown it. (it.0, same_fault c.in-Err.fault (Next base) (All base) it.1)) (λ base db any shown none. none)
@@ -71,7 +71,7 @@ pub returns-clause-looked : goal.returns-clause-looked
 returns-clause-looked g c n part =
     let to = c.args.to.now in
     let dests = c.loop-dest.dests in
-    let P : List Text → Type 0 = λ xs. Looked n part (Ok dests) (state g.S.Store c.args.conn.now) (state g.S.Store c.loop-dest.conn) (λ base ds. ds ≡ missing (rows_of base) c.args.uid.now xs) in
+    let P : List Text → Type 0 = λ xs. Looked n part (Ok dests) (state g.S.Store c.args.conn.now) (state g.S.Store c.loop-dest.conn) (λ base ds. ds ≡ chosen c.args.dropped (rows_of base) c.args.uid.now xs) in
     subst P (take_all c.loop-dest.dest-index to (omega (arith, c.loop-dest-test.false))) (c.loop-dest.invariant.0 n part)
 
 pub returns-clause-idle : goal.returns-clause-idle
