@@ -1,4 +1,4 @@
-use Rattle.std.proofs.Common.{◌≡◌, ◌+◌, List, [], ◌∷◌, drop, length, refl, subst, arith}
+use Rattle.std.proofs.Common.{◌≡◌, ◌+◌, List, [], ◌∷◌, drop, refl, subst, arith}
 use Rattle.std.proofs.lemmas.List.{drop_all, drop_more}
 use Rattle.dr_ledger_memory.specs.Entries.{Row}
 use Rattle.dr_ledger_memory.proofs.Fitting.{IsLeft, first_left, less_left, none_left}
