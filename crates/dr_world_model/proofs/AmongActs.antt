@@ -28,7 +28,7 @@ use Rattle.dr_world_model.specs.Among.{Ours, ArrivesAtOurs, Doing, Calls, Takes,
 use Rattle.dr_world_model.specs.Worlds.{World, Link, Contexts, Stage, Asking, Answering, Rejecting, Open, Storing, Replying, Gone, start, with_link, with_links, without_caller, at_stage}
 use Rattle.dr_world_model.specs.Calls.{Reply, Answer, Settlement, status_of}
 use Rattle.dr_world_model.specs.Steps.{IsLink, SettlesFirst, OpensLink, pending, SettlesPending, Leaves, LeavesIfOn, LeaveAll, callers_of, links_without, ReadsAnswer, Gives, Receives, ReadsReply}
-use Rattle.dr_world_model.specs.Events.{Event, Take, Ask, AgreeReceiver, AgreeCaller, Give, Receive, Answered, BreakCaller, BreakReceiver, Close, Restart, Requeue, Forget, Refuse, Tick, HasNode, Step}
+use Rattle.dr_world_model.specs.Events.{Event, Take, Ask, AgreeReceiver, AgreeCaller, Give, Receive, Answered, BreakCaller, BreakReceiver, Close, Restart, Requeue, Drop, Forget, Refuse, Tick, HasNode, Step}
 use Rattle.dr_world_model.specs.Claims.{CoversHop, HadArrival, IsKept, IsOpen, IsToGo, IsToSend}
 use Rattle.dr_world_model.proofs.AdoptionsKept.{adopted_right, empty_right, no_row, node_or_not, was_queued}
 use Rattle.dr_world_model.proofs.CallsKept.{one_item, broken_not_done}

@@ -19,7 +19,7 @@ use Rattle.dr_ledger.specs.Replies.{IsNext}
 use Rattle.dr_world_model.specs.Worlds.{World, Link, Contexts, Stage, Asking, Answering, Rejecting, Open, Storing, Replying, Gone, with_link, with_links, without_caller, at_stage}
 use Rattle.dr_world_model.specs.Calls.{Reply, Answer, Arriving, Settlement, status_of}
 use Rattle.dr_world_model.specs.Steps.{IsLink, AcceptsOffered, SettlesFirst, OpensLink, pending, SettlesPending, Leaves, LeavesIfOn, LeaveAll, callers_of, links_without, is_of, ReadsAnswer, Gives, Receives, ReadsReply}
-use Rattle.dr_world_model.specs.Events.{Event, Take, Ask, AgreeReceiver, AgreeCaller, Give, Receive, Answered, BreakCaller, BreakReceiver, Close, Restart, Requeue, Forget, Refuse, Tick, Step}
+use Rattle.dr_world_model.specs.Events.{Event, Take, Ask, AgreeReceiver, AgreeCaller, Give, Receive, Answered, BreakCaller, BreakReceiver, Close, Restart, Requeue, Drop, Forget, Refuse, Tick, Step}
 use Rattle.dr_world_model.specs.Claims.{HadArrival, IsFairStatus, CoversHop}
 use Rattle.dr_ledger.proofs.Maps.{got}
 use Rattle.dr_world_model.proofs.Lookups.{numbers}
