@@ -5,7 +5,7 @@ use Rattle.std.proofs.lemmas.List.Elements.{Contains-append_left, Contains-appen
 use Rattle.dr_base.specs.Texts.{Text}
 use Rattle.dr_plan_model.proofs.Gathered.{nothing_in_nil, Contains-here}
 use Rattle.dr_ledger.specs.declared.item.Instance.{Instance}
-use Rattle.dr_ledger.specs.Books.{Book, Line, Arrival, Repeat, Settling, Requeuing, Forgetting, Adoption, with_line, since_from, since_adoption, after}
+use Rattle.dr_ledger.specs.Books.{Book, Line, Arrival, Repeat, Settling, Requeuing, Dropping, Forgetting, Adoption, with_line, since_from, since_adoption, after}
 use Rattle.dr_ledger.specs.Histories.{IsBeforeAdoption, IsHistory}
 use Rattle.dr_ledger.specs.OneNode.{IsAcknowledged, NothingWasTakenYet, SinceIsTheHistory, WasTaken}
 use Rattle.dr_ledger.specs.Routings.{Routing}
@@ -94,6 +94,8 @@ since_history routing (Settling uid dest outcome now ∷ lines) since b h =
     since_history routing lines (since ++ Settling uid dest outcome now ∷ []) (after (Settling uid dest outcome now) b) h.1 ∙ append_assoc since (Settling uid dest outcome now ∷ []) lines
 since_history routing (Requeuing uid dest ∷ lines) since b h =
     since_history routing lines (since ++ Requeuing uid dest ∷ []) (after (Requeuing uid dest) b) h.1 ∙ append_assoc since (Requeuing uid dest ∷ []) lines
+since_history routing (Dropping uid dest now ∷ lines) since b h =
+    since_history routing lines (since ++ Dropping uid dest now ∷ []) (after (Dropping uid dest now) b) h.1 ∙ append_assoc since (Dropping uid dest now ∷ []) lines
 since_history routing (Forgetting uid ∷ lines) since b h =
     since_history routing lines (since ++ Forgetting uid ∷ []) (after (Forgetting uid) b) h.1 ∙ append_assoc since (Forgetting uid ∷ []) lines
 since_history routing (Adoption ∷ lines) since b h = absurd h.0
