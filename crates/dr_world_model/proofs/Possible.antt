@@ -19,7 +19,7 @@ use Rattle.dr_ledger.specs.declared.item.Instance.{Instance}
 use Rattle.dr_ledger.specs.declared.item.Outcome.TheVariants.{Status}
 use Rattle.dr_ledger.specs.declared.item.Progress.TheVariants.{Waiting, Done}
 use Rattle.dr_ledger.specs.Pairs.{pair_cmp}
-use Rattle.dr_ledger.specs.Books.{Book, Settling, Forgetting, empty_book, after, row_after}
+use Rattle.dr_ledger.specs.Books.{Book, Settling, Forgetting, empty_book, after, is_queued, row_after}
 use Rattle.dr_ledger.specs.PlanRoutes.{plan_routing, targets, keeps}
 use Rattle.dr_ledger.specs.Replies.{IsAdmitted, IsNext, IsNoLater, IsOver, arrival_line}
 use Rattle.dr_ledger.proofs.PlanRouting.{nothing_kept_for_local, targets_are_sent_to}
@@ -118,7 +118,7 @@ module _ (plan : Network) (s m : Text) (item : Instance) (accepted : Contexts) (
   row_there =
       let made = rows_made (targets plan s local item.key) map.empty item.uid m ((targets_are_sent_to plan s local item.key m).1 sends) in
       elim (rows_from (targets plan s local item.key) map.empty item.uid (item.uid, m) made.0 made.1) [
-        | inl was ↦ absurd (no_row made.0 (sym (map.get-empty pair_cmp (item.uid, m)) ∙ was))
+        | inl was ↦ absurd (no_row made.0 (sym (map.get-empty pair_cmp (item.uid, m)) ∙ was.0))
         | inr is ↦ made.1 ∙ ap Some is.2
       ]
 
@@ -134,7 +134,7 @@ module _ (plan : Network) (s m : Text) (item : Instance) (accepted : Contexts) (
     row = ((0, row_there), omega arith);
     has = arrived_has plan s local item empty_book empty_book (empty_right plan s empty_book) (admitted local s reached_s);
     least = λ uid d h. elim (rows_from (targets plan s local item.key) map.empty item.uid (uid, m) (Waiting h.0.0 d) h.0.1) [
-      | inl was ↦ absurd (no_row (Waiting h.0.0 d) (sym (map.get-empty pair_cmp (uid, m)) ∙ was))
+      | inl was ↦ absurd (no_row (Waiting h.0.0 d) (sym (map.get-empty pair_cmp (uid, m)) ∙ was.0))
       | inr is ↦
           (let P : ℕ × Text → Type 0 = λ p. IsNoLater (0, item.uid) p in
           let e = due_of h.0.0 d is.2 in
@@ -288,12 +288,12 @@ module _ (plan : Network) (s m : Text) (item : Instance) (accepted : Contexts) (
     stored_over = record {
       there = (item, arrived_has plan s local item empty_book empty_book (empty_right plan s empty_book) noted);
       unkept = (let kept : Bool → FinSet text_cmp = λ k. cond k (set.insert set.empty item.uid) set.empty in ap (λ (k : Bool). set.contains (kept k) item.uid) (nothing_kept_for_local plan s item.key) ∙ set.contains-empty text_cmp item.uid);
-      done = λ dest row h.
+      unqueued = λ dest row h.
           let P : Book → Type 0 = λ b. map.get b.rows (item.uid, dest) ≡ Some row in
           elim (got text_pairs (brought local s).rows (item.uid, m) (row_after 0 (Status 0) 0) (item.uid, dest) row (subst P (settled_is item.uid m (Status 0) 0 0 0 (brought local s) row_there) h)) [
-            | inl e ↦ e.1 ∙ is_done_after 0 0
+            | inl e ↦ ap is_queued (e.1 ∙ is_done_after 0 0)
             | inr n ↦ elim (rows_from (targets plan s local item.key) map.empty item.uid (item.uid, dest) row n.1) [
-              | inl was ↦ absurd (no_row row (sym (map.get-empty pair_cmp (item.uid, dest)) ∙ was))
+              | inl was ↦ absurd (no_row row (sym (map.get-empty pair_cmp (item.uid, dest)) ∙ was.0))
               | inr made ↦ (
                   let same : dest ≡ m = alone_target dest ((targets_are_sent_to plan s local item.key dest).0 made.1) in
                   let Q : Text → Type 0 = λ d. eq_by_cmp pair_cmp (item.uid, d) (item.uid, m) ≡ false in

@@ -309,7 +309,7 @@ pub record NothingLostAmong (ours : Ours) (plan : Network) (w : World) : Type 0 
       → (dest : Text)
       → IsDestination plan name to item.key dest
       → IsToGo w name item to
-      ⊎ (WasGivenUp plan w name item to
+      ⊎ (WasGivenUp plan name (w.books name).lines item to
       ⊎ (((ours to ≡ true)
       × HadArrival w to name item
       × IsAnsweredAmong ours plan w name to item dest)

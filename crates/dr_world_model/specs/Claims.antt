@@ -185,9 +185,9 @@ IsCovered plan w caller name item dest =
 -- A person gave the item up at the node for the next one: the node's journal says so, by name, since
 -- the plan was adopted. And since then the node has acknowledged this very item to nobody from whom
 -- it goes there: what was given up doesn't give up what is brought later.
-pub record WasGivenUp (plan : Network) (w : World) (name : Text) (item : Instance)
+pub record WasGivenUp (plan : Network) (name : Text) (lines : List Line) (item : Instance)
     (to : Text) : Type 0 where
-  pub dropped : WasDroppedSince (w.books name).lines item to
+  pub dropped : WasDroppedSince lines item to
   pub last : (caller : Text)
       → Sends plan name caller item.key to
       → IsAcknowledged dropped.dropped.later caller item → ⊥
@@ -199,7 +199,8 @@ pub record IsGivenUp (plan : Network) (w : World) (caller name : Text) (item : I
   pub walk : IsWalk plan item.key caller name over
   pub to : Text
   pub sends : Sends plan (last_place caller name over).1 (last_place caller name over).0 item.key to
-  pub given_up : WasGivenUp plan w (last_place caller name over).1 item to
+  pub given_up : WasGivenUp plan (last_place caller name over).1
+      (w.books (last_place caller name over).1).lines item to
   pub goes : IsDestination plan (last_place caller name over).1 to item.key dest
 
 -- the destination keeps the item, or some node has it under way to there, or a person gave it up on
@@ -233,7 +234,7 @@ pub record NothingLost (plan : Network) (w : World) : Type 0 where
       → (dest : Text)
       → IsDestination plan name to item.key dest
       → IsToGo w name item to
-      ⊎ (WasGivenUp plan w name item to
+      ⊎ (WasGivenUp plan name (w.books name).lines item to
       ⊎ (HadArrival w to name item × IsAnswered plan w name to item dest))
 
 -- ---- where nobody gave anything up
