@@ -70,7 +70,7 @@ retried : (tries now : ℕ) → row_after tries (Status 42752) now ≡ tried tri
 unfolding row_after
 retried tries now = refl
 
-conflict_held : (tries now : ℕ) → row_after tries (Status 49393) now ≡ Held (cause.Status 49393)
+pub conflict_held : (tries now : ℕ) → row_after tries (Status 49393) now ≡ Held (cause.Status 49393)
 unfolding row_after
 conflict_held tries now = refl
 

@@ -23,7 +23,8 @@ ghost use Rattle.dr_world_model.specs.Spending.{RequeuingsSpendWell, SettlingsSp
 ghost use Rattle.dr_world_model.specs.Strangers.{StrangersHaveNothing, TimeIsBounded};
 ghost use Rattle.dr_world_model.specs.Theorem.{WhatNobodyGaveUpIsThere};
 ghost use Rattle.dr_world_model.specs.Unchanged.{NothingIsMadeUp, WhatIsThereIsUnchanged};
-ghost use Rattle.dr_world_model.specs.Laws.{AForgettingRuns, StepIsAFunction, AdoptionIsAFunction};
+ghost use Rattle.dr_world_model.specs.Laws.{ADroppingRuns, AForgettingRuns, AdoptionIsAFunction};
+ghost use Rattle.dr_world_model.specs.Laws.{StepIsAFunction};
 ghost use Rattle.dr_world_model.specs.Laws.{OneHopRuns, TwoNodesRun, AcceptedAreTheHops};
 ghost use Rattle.dr_world_model.specs.Laws.{NumbersAreFresh, LinksAreHops, NothingGoesBack};
 ghost use Rattle.dr_world_model.specs.Laws.{ArmedAreNodes, NoneIsArmedAfterAdoption};
@@ -45,6 +46,11 @@ pub fn one_hop_runs()
 /// What was sent on can be forgotten, and its uid comes again, with the same data set or another.
 pub fn a_forgetting_runs()
     ensures { AForgettingRuns }
+{}
+
+/// What the next node refused can be given up, and the instance, brought again, waits anew.
+pub fn a_dropping_runs()
+    ensures { ADroppingRuns }
 {}
 
 /// In the plan of two nodes each image that enters at the scanner comes to the archive, which keeps
