@@ -64,6 +64,17 @@ taken_from lines line caller item plain h =
       ]
     ]
 
+-- a line since the last adoption is among them still after one more, which is among them too
+pub among_since : (lines : List Line) (last line : Line) → IsPlain last → Contains (since_adoption lines) line → Contains (since_adoption (lines ++ last ∷ [])) line
+among_since lines last line plain h =
+    let P : List Line → Type 0 = λ ls. Contains ls line in
+    subst P (sym (since_push lines last ∙ plain (since_adoption lines))) (Contains-append_left (since_adoption lines) (last ∷ []) line h)
+
+pub last_since : (lines : List Line) (last : Line) → IsPlain last → Contains (since_adoption (lines ++ last ∷ [])) last
+last_since lines last plain =
+    let P : List Line → Type 0 = λ ls. Contains ls last in
+    subst P (sym (since_push lines last ∙ plain (since_adoption lines))) (Contains-append_right (since_adoption lines) (last ∷ []) last (Contains-here last []))
+
 -- nothing was acknowledged since an adoption that is the last line
 pub none_taken : (lines : List Line) (caller : Text) (item : Instance) → WasTaken (lines ++ Adoption ∷ []) caller item → ⊥
 none_taken lines caller item h =
