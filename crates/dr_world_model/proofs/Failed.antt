@@ -18,14 +18,14 @@ use Rattle.dr_ledger.specs.declared.item.Outcome.TheVariants.{NoContext, Status}
 use Rattle.dr_ledger.specs.declared.item.Progress.{Progress}
 use Rattle.dr_ledger.specs.declared.item.Progress.TheVariants.{Waiting, Done, Dropped}
 use Rattle.dr_ledger.specs.Books.{Book, Line, Arrival, Repeat, Dropping, Forgetting, Settling, Adoption, Fold, empty_book, is_queued}
-use Rattle.dr_ledger.specs.OneNode.{HasSucceededSince}
+use Rattle.dr_ledger.specs.OneNode.{HasSucceededSince, IsAcknowledged}
 use Rattle.dr_ledger.specs.Pairs.{Pair, pair_cmp}
 use Rattle.dr_ledger.proofs.Growing.{inside}
 use Rattle.dr_ledger.proofs.Maps.{texts, text_pairs, cases_of, same_or_not, ties_itself, contains_new, get_new, got, filled_is}
 use Rattle.dr_world_model.specs.Worlds.{World, Open, Replying, start, same_text}
 use Rattle.dr_world_model.specs.Claims.{Has, HadArrival, HasItems, HasRow, IsGivenUp, IsHonest, IsToSend, IsUnderway, NoneRefused, NothingLost, WasCarriedOver, WasGivenUp, WithinRank}
 use Rattle.dr_world_model.specs.Failing.{ClaimsCanFail, LeadsNowhere, acknowledged, answered_for_nothing, brought_by, brought_for, carried_and_lost, carried_with, come_from_nowhere, done_and_gone, done_for_nothing, forgotten_too_early, given_up_another, given_up_before, given_up_long_ago, given_up_unsaid, given_up_with, keeps_instead, kept_as_another, link_at, noted_without_item, noted_without_line, only, opened_without_pairs, queued_astray, queued_for_nothing, queued_unsaid, settled_strangely, settled_without_context, strange_status, success_for_nothing, under_another_uid}
-use Rattle.dr_ledger.proofs.Since.{nothing_taken}
+use Rattle.dr_ledger.proofs.Since.{IsPlain, nothing_taken, taken_now, taken_still}
 use Rattle.dr_ledger.proofs.Succeeded.{not_empty}
 use Rattle.dr_world_model.proofs.Keeping.{Took}
 use Rattle.dr_world_model.proofs.AdoptionsKept.{no_row}
@@ -137,6 +137,13 @@ none_in_arrival : (plan : Network) (name caller : Text) (one item : Instance) (a
 none_in_arrival plan name caller one item all keep to g =
     let line = has_line plan name (Arrival caller one all keep ∷ []) item to g in
     arrival_no_dropping (only_one (Arrival caller one all keep) (Dropping item.uid to line.0) line.1)
+
+-- what was brought first was taken, whatever a further line says that is no adoption
+took_first : (caller to : Text) (item : Instance) (again : Line) → IsPlain again → Took (given_up_with to item (brought_for caller to item ∷ Dropping item.uid to 0 ∷ again ∷ [])) caller item
+took_first caller to item again plain =
+    let first = brought_for caller to item in
+    taken_still (first ∷ Dropping item.uid to 0 ∷ []) again caller item plain
+    (taken_still (first ∷ []) (Dropping item.uid to 0) caller item (λ since. refl) (taken_now [] first caller item (λ since. refl) (inl (to ∷ [], false, refl))))
 
 -- in the world of one book it is that book's
 given_of : (plan : Network) (name : Text) (b : Book) (at : Text) (item : Instance) (to : Text) → WasGivenUp plan at ((only name b).books at).lines item to → (at ≡ name) × WasGivenUp plan at b.lines item to
@@ -310,15 +317,15 @@ module _ (plan : Network) (caller name to : Text) (item other : Instance) where
             ]
       ]
 
-  -- brought again after it was given up
-  given_before : ((from : Text) → Sends plan name from item.key to → from ≡ caller) → NothingLost plan (given_up_before caller name to item) → ⊥
-  given_before one h =
-      let again = brought_for caller to item in
+  -- acknowledged again after it was given up
+  given_before : (again : Line) → ((uid dest : Text) (now : ℕ) → again ≡ Dropping uid dest now → ⊥) → IsAcknowledged (again ∷ []) caller item →
+      IsPlain again → ((from : Text) → Sends plan name from item.key to → from ≡ caller) → NothingLost plan (given_up_before caller name to item again) → ⊥
+  given_before again no_dropping acknowledges plain one h =
+      let first = brought_for caller to item in
       let line = Dropping item.uid to 0 in
-      let lines : List Line = again ∷ line ∷ again ∷ [] in
+      let lines : List Line = first ∷ line ∷ again ∷ [] in
       let b = given_up_with to item lines in
-      let took : Took b caller item = inl (to ∷ [], false, Contains-here again (line ∷ again ∷ [])) in
-      let a : HadArrival (given_up_before caller name to item) name caller item = subst (λ x. Took x caller item) (sym (at_name name b)) took in
+      let a : HadArrival (given_up_before caller name to item again) name caller item = subst (λ x. Took x caller item) (sym (at_name name b)) (took_first caller to item again plain) in
       let s = h.some caller name item a in
       elim (h.each caller name item a s.0 s.1) [
         | inl (inl kept) ↦ none_in text_cmp item.uid (kept_of name b s.0 item.uid kept.kept)
@@ -333,20 +340,19 @@ module _ (plan : Network) (caller name to : Text) (item other : Instance) where
             let here = given_of plan name b at item g.to g.given_up in
             let d = here.1.dropped.dropped in
             let said = has_line plan at lines item g.to here.1 in
-            let next : g.to ≡ to = elim (Contains-cons_cases again (line ∷ again ∷ []) (Dropping item.uid g.to said.0) said.1) [
-              | inl first ↦ absurd (arrival_no_dropping first)
+            let next : g.to ≡ to = elim (Contains-cons_cases first (line ∷ again ∷ []) (Dropping item.uid g.to said.0) said.1) [
+              | inl here ↦ absurd (arrival_no_dropping here)
               | inr later ↦ elim (Contains-cons_cases line (again ∷ []) (Dropping item.uid g.to said.0) later) [
                 | inl is ↦ destination_of is
-                | inr last ↦ absurd (arrival_no_dropping (only_one again (Dropping item.uid g.to said.0) last))
+                | inr last ↦ absurd (no_dropping item.uid g.to said.0 (only_one again (Dropping item.uid g.to said.0) last))
               ]
             ] in
             let P : Text × Text → Type 0 = λ p. Sends plan p.0 by item.key p.1 in
             let from : by ≡ caller = one by (subst P (λ j. (here.0 j, next j)) g.sends) in
-            let left : d.later ≡ again ∷ [] = third_left d.before d.later again line again (Dropping item.uid g.to d.now) d.at arrival_no_dropping arrival_no_dropping in
-            let Q : List Line → Type 0 = λ ls. Contains ls again in
-            let last : Contains d.later again = subst Q (sym left) (Contains-here again []) in
+            let left : d.later ≡ again ∷ [] = third_left d.before d.later first line again (Dropping item.uid g.to d.now) d.at arrival_no_dropping (no_dropping item.uid g.to d.now) in
+            let last : IsAcknowledged d.later caller item = subst (λ ls. IsAcknowledged ls caller item) (sym left) acknowledges in
             let S : Text → Type 0 = λ c. Sends plan at c item.key g.to in
-            here.1.last caller (subst S from g.sends) (inl (to ∷ [], false, last))
+            here.1.last caller (subst S from g.sends) last
             )
       ]
 
@@ -478,7 +484,9 @@ claims_can_fail plan caller name to item other away apart differ = record {
   success = no_success plan caller name to item other;
   gone = over_unsaid plan caller name to item other Done refl;
   unsaid = over_unsaid plan caller name to item other Dropped refl;
-  before = given_before plan caller name to item other;
+  again = λ one h. given_before plan caller name to item other (brought_for caller to item) (λ uid dest now e. arrival_no_dropping e)
+      (inl (to ∷ [], false, Contains-here (brought_for caller to item) [])) (λ since. refl) one h;
+  repeated = λ one h. given_before plan caller name to item other (Repeat caller item) (λ uid dest now e. let f : ⊥ = cc in f) (inr (Contains-here (Repeat caller item) [])) (λ since. refl) one h;
   long_ago = given_long_ago plan caller name to item other apart;
   another = given_another plan caller name to item other apart differ;
   forgotten = forgotten_soon plan caller name to item other;

@@ -14,8 +14,8 @@ use Rattle.dr_ledger.specs.declared.item.Instance.{Instance}
 use Rattle.dr_ledger.specs.declared.item.Outcome.TheVariants.{NoContext, Status}
 use Rattle.dr_ledger.specs.declared.item.Progress.{Progress}
 use Rattle.dr_ledger.specs.declared.item.Progress.TheVariants.{Waiting, Done, Dropped}
-use Rattle.dr_ledger.specs.Books.{Book, Line, Arrival, Dropping, Forgetting, Settling, Adoption}
-use Rattle.dr_ledger.specs.Books.{empty_book}
+use Rattle.dr_ledger.specs.Books.{Book, Line, Arrival, Repeat, Dropping, Forgetting, Settling}
+use Rattle.dr_ledger.specs.Books.{Adoption, empty_book}
 use Rattle.dr_ledger.specs.Pairs.{pair_cmp}
 use Rattle.dr_world_model.specs.Worlds.{World, Link, Stage, Open, Replying, same_text, start}
 use Rattle.dr_world_model.specs.Worlds.{with_book, with_link}
@@ -198,10 +198,19 @@ given_up_with to item lines = record {
 abbrev pub brought_for : Text → Text → Instance → Line
 brought_for caller to item = Arrival caller item (to ∷ []) false
 
+-- an instance was given up, and what this line says happened afterwards
+abbrev pub given_up_before : Text → Text → Text → Instance → Line → World
+given_up_before caller name to item later = only name (given_up_with to item
+    (brought_for caller to item ∷ Dropping item.uid to 0 ∷ later ∷ []))
+
 -- against claim 4: an instance was given up, and brought again afterwards
-abbrev pub given_up_before : Text → Text → Text → Instance → World
-given_up_before caller name to item = only name (given_up_with to item
-    (brought_for caller to item ∷ Dropping item.uid to 0 ∷ brought_for caller to item ∷ []))
+abbrev pub brought_again : Text → Text → Text → Instance → World
+brought_again caller name to item =
+    given_up_before caller name to item (brought_for caller to item)
+
+-- against claim 4: an instance was given up, and its arrival acknowledged as a repeat afterwards
+abbrev pub repeated_after : Text → Text → Text → Instance → World
+repeated_after caller name to item = given_up_before caller name to item (Repeat caller item)
 
 -- a world in which a row of the one node was carried over for the next, and the node has these lines
 abbrev pub carried_with : Text → Text → Instance → List Line → World
@@ -273,8 +282,11 @@ pub record ClaimsFail (plan : Network) (caller name to : Text)
       → ⊥
   pub carried : NothingLost plan (carried_and_lost name to item) → ⊥
   pub unsaid : NothingLost plan (given_up_unsaid caller name to item) → ⊥
-  pub before : ((from : Text) → Sends plan name from item.key to → from ≡ caller)
-      → NothingLost plan (given_up_before caller name to item)
+  pub again : ((from : Text) → Sends plan name from item.key to → from ≡ caller)
+      → NothingLost plan (brought_again caller name to item)
+      → ⊥
+  pub repeated : ((from : Text) → Sends plan name from item.key to → from ≡ caller)
+      → NothingLost plan (repeated_after caller name to item)
       → ⊥
   pub long_ago : NothingLost plan (given_up_long_ago caller name to item) → ⊥
   pub another : other.uid ≡ item.uid
