@@ -16,7 +16,8 @@ ghost use Rattle.dr_world.specs.Runs.{GoesOn, HoldsAfter, HoldsAfterAll, Leads, 
 ghost use Rattle.dr_world.specs.Reports.{IsReported, ListsBook, bodies_of, books_of, has_in};
 ghost use Rattle.dr_world.specs.Restarted.{AllFarHear, FarHears};
 ghost use Rattle.dr_world.specs.Whole.{AllStand, Calls, GivesUp, HasTicked, IsSameWorld};
-ghost use Rattle.dr_world.specs.Whole.{IsToldToRefuse, LetsGoOf, Meets, Puts, StepsTo, Submits, noted};
+ghost use Rattle.dr_world.specs.Whole.{IsToldToRefuse, LetsGoOf, Meets, Puts, StepsTo, Submits};
+ghost use Rattle.dr_world.specs.Whole.{noted};
 
 mod adopting;
 mod reading;

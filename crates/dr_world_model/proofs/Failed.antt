@@ -11,7 +11,7 @@ use Rattle.dr_base.specs.declared.syntax.Syntax.{Syntax}
 use Rattle.dr_route.specs.Routes.{local}
 use Rattle.dr_plan_model.specs.Networks.{Network}
 use Rattle.dr_plan_model.specs.Walks.{GoesOver, IsDestination, Sends, last_place}
-use Rattle.dr_plan_model.proofs.Gathered.{nothing_in_nil, Contains-cons_cases, Contains-here, Contains-there, only_one}
+use Rattle.dr_plan_model.proofs.Gathered.{nothing_in_nil, Contains-cons_cases, Contains-here, only_one}
 use Rattle.dr_plan_sound.specs.Certificates.{pair_cmp as context_cmp}
 use Rattle.dr_ledger.specs.declared.item.Instance.{Instance}
 use Rattle.dr_ledger.specs.declared.item.Outcome.TheVariants.{NoContext, Status}
@@ -23,8 +23,8 @@ use Rattle.dr_ledger.specs.Pairs.{Pair, pair_cmp}
 use Rattle.dr_ledger.proofs.Growing.{inside}
 use Rattle.dr_ledger.proofs.Maps.{texts, text_pairs, cases_of, same_or_not, ties_itself, contains_new, get_new, got, filled_is}
 use Rattle.dr_world_model.specs.Worlds.{World, Open, Replying, start, same_text}
-use Rattle.dr_world_model.specs.Claims.{Has, HadArrival, HasItems, HasRow, IsGivenUp, IsHonest, IsToSend, IsUnderway, NoneRefused, NothingLost, WasCarriedOver, WasGivenUp, WithinRank}
-use Rattle.dr_world_model.specs.Failing.{ClaimsCanFail, LeadsNowhere, acknowledged, answered_for_nothing, brought_by, brought_for, carried_and_lost, carried_with, come_from_nowhere, done_and_gone, done_for_nothing, forgotten_too_early, given_up_another, given_up_before, given_up_long_ago, given_up_unsaid, given_up_with, keeps_instead, kept_as_another, link_at, noted_without_item, noted_without_line, only, opened_without_pairs, queued_astray, queued_for_nothing, queued_unsaid, settled_strangely, settled_without_context, strange_status, success_for_nothing, under_another_uid}
+use Rattle.dr_world_model.specs.Claims.{Has, HadArrival, HasItems, HasRow, IsHonest, IsToSend, NoneRefused, NothingLost, WasCarriedOver, WasGivenUp, WithinRank}
+use Rattle.dr_world_model.specs.Failing.{ClaimsCanFail, LeadsNowhere, acknowledged, answered_for_nothing, brought_by, brought_for, carried_and_lost, carried_with, come_from_nowhere, done_for_nothing, forgotten_too_early, given_up_another, given_up_before, given_up_long_ago, given_up_with, keeps_instead, kept_as_another, link_at, noted_without_item, noted_without_line, only, opened_without_pairs, queued_astray, queued_for_nothing, queued_unsaid, settled_strangely, settled_without_context, strange_status, success_for_nothing, under_another_uid}
 use Rattle.dr_ledger.proofs.Since.{IsPlain, nothing_taken, taken_now, taken_still}
 use Rattle.dr_ledger.proofs.Succeeded.{not_empty}
 use Rattle.dr_world_model.proofs.Keeping.{Took}

@@ -14,10 +14,10 @@ use Rattle.dr_plan_model.specs.Walks.{Goes, Sends, Keeps, IsReached}
 use Rattle.dr_ledger.specs.declared.item.Instance.{Instance}
 use Rattle.dr_ledger.specs.declared.item.Progress.{Progress}
 use Rattle.dr_ledger.specs.declared.item.Progress.TheVariants.{Waiting, Held, Done, Dropped}
-use Rattle.dr_ledger.specs.Books.{Book, Line, Arrival, Repeat, Dropping, Forgetting, after, is_other, is_queued}
+use Rattle.dr_ledger.specs.Books.{Book, Line, Arrival, Repeat, Dropping, Forgetting, after, is_queued}
 use Rattle.dr_ledger.specs.OneNode.{WasTaken}
 use Rattle.dr_ledger.specs.PlanRoutes.{plan_routing, targets, keeps}
-use Rattle.dr_ledger.specs.Replies.{IsAdmitted, IsHeld, IsOver, arrival_line}
+use Rattle.dr_ledger.specs.Replies.{IsAdmitted, IsOver, arrival_line}
 use Rattle.dr_ledger.specs.Routings.{Routing}
 use Rattle.dr_ledger.proofs.Forgotten.{Apart, item_left, row_left, arrival_left, item_stays, row_stays}
 use Rattle.dr_ledger.proofs.Growing.{rows_stay, rows_made, rows_from, row_put, given_up}

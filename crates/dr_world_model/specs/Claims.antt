@@ -182,9 +182,9 @@ abbrev pub IsCovered : Network → World → Text → Text → Instance → Text
 IsCovered plan w caller name item dest =
     IsKept w item dest ⊎ IsUnderway plan w caller name item dest
 
--- A person gave the item up at the node for the next one: the node's journal says so, by name, since
--- the plan was adopted. And since then the node has acknowledged this very item to nobody from whom
--- it goes there: what was given up doesn't give up what is brought later.
+-- A person gave the item up at the node for the next one: the node's journal says so, by name,
+-- since the plan was adopted. And since then the node has acknowledged this very item to nobody
+-- from whom it goes there: what was given up doesn't give up what is brought later.
 pub record WasGivenUp (plan : Network) (name : Text) (lines : List Line) (item : Instance)
     (to : Text) : Type 0 where
   pub dropped : WasDroppedSince lines item to
@@ -214,9 +214,9 @@ abbrev pub IsToGo : World → Text → Instance → Text → Type 0
 IsToGo w name item to =
     Has w name item × ((row : Progress) × HasRow w name item.uid to row × IsQueued row)
 
--- Whatever was acknowledged has a destination, and for each it is covered, or a person gave it up on
--- the way. So is each row that stood when the plan was adopted: by itself while it is queued or once
--- it was given up, else by the arrival at its node.
+-- Whatever was acknowledged has a destination, and for each it is covered, or a person gave it up
+-- on the way. So is each row that stood when the plan was adopted: by itself while it is queued or
+-- once it was given up, else by the arrival at its node.
 pub record NothingLost (plan : Network) (w : World) : Type 0 where
   pub some : (caller name : Text) (item : Instance)
       → HadArrival w name caller item
@@ -246,9 +246,9 @@ NobodyDropped w uid =
     → Contains (since_adoption (w.books name).lines) (Dropping uid dest now)
     → ⊥
 
--- Whatever was acknowledged is covered for each destination: kept there, unchanged, or queued on the
--- way. So is each row that stood when the plan was adopted, by itself while it is queued, else by
--- the arrival at its node. Nothing is said of what a person gave up.
+-- Whatever was acknowledged is covered for each destination: kept there, unchanged, or queued on
+-- the way. So is each row that stood when the plan was adopted, by itself while it is queued, else
+-- by the arrival at its node. Nothing is said of what a person gave up.
 pub record AllIsThere (plan : Network) (w : World) : Type 0 where
   pub each : (caller name : Text) (item : Instance)
       → NobodyDropped w item.uid

@@ -212,7 +212,8 @@ brought_again caller name to item =
 abbrev pub repeated_after : Text → Text → Text → Instance → World
 repeated_after caller name to item = given_up_before caller name to item (Repeat caller item)
 
--- a world in which a row of the one node was carried over for the next, and the node has these lines
+-- a world in which a row of the one node was carried over for the next, and the node has these
+-- lines
 abbrev pub carried_with : Text → Text → Instance → List Line → World
 carried_with name to item lines = record {
   time = 0;

@@ -154,8 +154,8 @@ pub record StoresHappen (plan : Network) (w : World) : Type 0 where
       → (IsWaiting (w.books link.caller) item.uid link.receiver → ⊥)
       → CanHappen plan w (Answered number (Err fault.NotWaiting))
 
--- a store that fails can refuse what is to be written of a reply, of a caller that leaves, of a held
--- row, and of what is forgotten
+-- a store that fails can refuse what is to be written of a reply, of a caller that leaves, of a
+-- held row, and of what is forgotten
 pub record RefusalsHappen (plan : Network) (w : World) : Type 0 where
   pub answered : (number : ℕ) (link : Link) (accepted : Contexts) (item : Instance) (status : ℕ)
       → IsCallers w number link

@@ -53,5 +53,7 @@ DroppingsSpendWell =
 -- a forgetting spends a refusal only where the store fails and the forgetting would have added a
 -- line
 abbrev pub ForgettingsSpendWell : Type 0
-ForgettingsSpendWell = (old new : World) (name uid : Text) (answer : Answer) →
-    LettingGo old name uid answer new → IsSpentWell (IsOver (old.books name) uid) old name answer new
+ForgettingsSpendWell =
+    (old new : World) (name uid : Text) (answer : Answer)
+    → LettingGo old name uid answer new
+    → IsSpentWell (IsOver (old.books name) uid) old name answer new

@@ -84,8 +84,8 @@ pub fn a_refusal_is_spent()
 {}
 
 /// What nobody gave up is there: of each uid of which no journal has a dropping since the plan was
-/// adopted, whatever was acknowledged is kept at each of its destinations, unchanged, or queued on the
-/// way. Among other makers' products it is that, or was handed over to one of them.
+/// adopted, whatever was acknowledged is kept at each of its destinations, unchanged, or queued on
+/// the way. Among other makers' products it is that, or was handed over to one of them.
 pub fn what_nobody_gave_up_is_there()
     ensures all { WhatNobodyGaveUpIsThere }
     ensures among { WhatNobodyGaveUpIsThereAmong }

@@ -17,8 +17,8 @@ use dr_cert::Sealed;
 /// The headline. Over every sound plan, after every list of events and adoptions from the start:
 /// nothing was refused for want of a presentation context, each arrival lies within its rank of its
 /// source, what was answered with success is there, and each acknowledged instance is kept,
-/// unchanged, at each of its destinations, or queued on the way to it, or a person gave it up there,
-/// by name.
+/// unchanged, at each of its destinations, or queued on the way to it, or a person gave it up
+/// there, by name.
 pub fn headline()
     ensures { HeadlineHolds }
 {}
