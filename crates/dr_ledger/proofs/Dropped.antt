@@ -7,7 +7,7 @@ use Rattle.dr_base.specs.Texts.{Text}
 use Rattle.dr_plan_model.proofs.Gathered.{nothing_in_nil, Contains-cons_cases, Contains-here, Contains-there, only_one}
 use Rattle.dr_ledger.specs.declared.item.Instance.{Instance}
 use Rattle.dr_ledger.specs.Books.{Book, Line, Arrival, Dropping, Adoption, Fold}
-use Rattle.dr_ledger.specs.OneNode.{WasDropped, WasDroppedSince}
+use Rattle.dr_ledger.specs.OneNode.{BroughtAgainIsNotDropped, DroppingsCount, WasDropped, WasDroppedSince}
 use Rattle.dr_ledger.proofs.Ones.{texts_or_not, items_or_not}
 use Rattle.dr_ledger.proofs.Succeeded.{at_end, not_empty}
 
@@ -129,3 +129,15 @@ none_dropped_since lines item dest h =
 
 pub none_dropped_yet : (item : Instance) (dest : Text) → WasDroppedSince [] item dest → ⊥
 none_dropped_yet item dest h = not_empty h.dropped.before h.dropped.later _ (sym h.dropped.at)
+
+-- ---- laws
+pub droppings_count : DroppingsCount
+droppings_count lines item dest now has = dropped_now_since lines (Fold lines) refl item dest now has
+
+pub brought_again : BroughtAgainIsNotDropped
+brought_again lines caller item to keep dest goes d =
+    let line : Line = Arrival caller item to keep in
+    elim (at_end d.before d.later lines (Dropping item.uid dest d.now) line (sym d.at)) [
+      | inl l ↦ (let e : Dropping item.uid dest d.now ≡ Arrival caller item to keep = l.same in let f : ⊥ = cc in f)
+      | inr r ↦ d.last caller to keep (let P : List Line → Type 0 = λ ls. Contains ls line in subst P (sym r.later_is) (Contains-append_right r.rest (line ∷ []) line (Contains-here line []))) goes
+    ]

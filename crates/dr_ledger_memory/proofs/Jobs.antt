@@ -16,7 +16,7 @@ use Rattle.dr_site.specs.Parts.{Part}
 use Rattle.dr_ledger.specs.declared.content.Job.{Job}
 use Rattle.dr_ledger.specs.declared.item.Instance.{Instance}
 use Rattle.dr_ledger.specs.declared.item.Progress.{Progress}
-use Rattle.dr_ledger.specs.declared.item.Progress.TheVariants.{Waiting, Held, Done}
+use Rattle.dr_ledger.specs.declared.item.Progress.TheVariants.{Waiting, Held, Done, Dropped}
 use Rattle.dr_ledger.specs.Bodies.{NextsWith}
 use Rattle.dr_ledger.specs.Items.{instance_of}
 use Rattle.dr_ledger.specs.Replies.{IsDue}
@@ -38,6 +38,7 @@ use Rattle.dr_ledger_memory.proofs.NextDue.{IsFirst, first_of_all, found_is, lef
 waits_from : (o : Option Progress) (moment : ℕ) → waits_since o moment ≡ true → (tries : ℕ) × (o ≡ Some (Waiting tries moment))
 waits_from None moment h = absurd (let e : ⊥ = cc in e)
 waits_from (Some Done) moment h = absurd (let e : ⊥ = cc in e)
+waits_from (Some Dropped) moment h = absurd (let e : ⊥ = cc in e)
 waits_from (Some (Held why)) moment h = absurd (let e : ⊥ = cc in e)
 waits_from (Some (Waiting tries due)) moment h = (tries, ap (λ d. Some (Waiting tries d)) ((unsigned_Decides due moment).0 h))
 

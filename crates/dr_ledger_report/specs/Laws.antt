@@ -17,5 +17,5 @@ ReportOfANode =
     ∷ ((codes "9", codes "C"), Held cause.NoContext) ∷ []) 0
     ≡ codes
     "row\t9\tA\twaiting\t1\t1000\nrow\t9\tB\theld\tC0F1\nrow\t9\tC\theld\tno-context\nlines\t0\n")
-    × (report_of [] [] (((codes "9", codes "D"), Dropped) ∷ []) 0
-    ≡ codes "row\t9\tD\tdropped\nlines\t0\n")
+    × (report_of [] [] (((codes "9", codes "A"), Dropped) ∷ []) 3
+    ≡ codes "row\t9\tA\tdropped\nlines\t3\n")

@@ -26,8 +26,8 @@ abbrev pub cause_field : Cause → Text
 cause_field (cause.Status status) = encode_upper (status / 256 ∷ status % 256 ∷ [])
 cause_field cause.NoContext = codes "no-context"
 
--- how far a row is: done; waiting, how often it was tried, and the moment from which on it is due;
--- or held, and why
+-- how far a row is: done; dropped; waiting, how often it was tried, and the moment from which on it
+-- is due; or held, and why
 abbrev pub progress_fields : Progress → List Text
 progress_fields (Waiting tries due) = codes "waiting" ∷ decimal tries ∷ decimal due ∷ []
 progress_fields (Held why) = codes "held" ∷ cause_field why ∷ []

@@ -1,3 +1,4 @@
+use Rattle.dr_ledger.proofs.Dropped.{brought_again, droppings_count}
 use Rattle.dr_ledger.proofs.Droppings.{adoptions_let_dropped_go, dropped_is_never_next, dropped_is_new, dropped_may_be_forgotten, droppings_give_a_row_up, queued_is_neither}
 use Rattle.dr_ledger.proofs.laws.a_dropping_gives_a_row_up.Goals as goal
 
@@ -18,3 +19,9 @@ returns-clause-forgetting g c = dropped_may_be_forgotten
 
 pub returns-clause-queued : goal.returns-clause-queued
 returns-clause-queued g c = queued_is_neither
+
+pub returns-clause-counts : goal.returns-clause-counts
+returns-clause-counts g c = droppings_count
+
+pub returns-clause-anew : goal.returns-clause-anew
+returns-clause-anew g c = brought_again
