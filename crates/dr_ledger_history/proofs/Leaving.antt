@@ -1,6 +1,6 @@
 -- What leaves where all that is of one uid leaves.
-use Rattle.std.proofs.Common.{◌≡◌, ◌≢◌, ◌⊎◌, inl, inr, ℕ, ◌<◌, ◌≤◌, ◌+◌, Bool, true, false, cond, not, is_some, ◌&&◌, ◌||◌}
-use Rattle.std.proofs.Common.{List, [], ◌∷◌, ◌++◌, Contains, Option, None, Some, IsSome, IfSome, length}
+use Rattle.std.proofs.Common.{◌≡◌, ◌⊎◌, inl, inr, ℕ, ◌<◌, ◌≤◌, ◌+◌, Bool, true, false, cond, not, is_some, ◌&&◌, ◌||◌}
+use Rattle.std.proofs.Common.{List, [], ◌∷◌, ◌++◌, Option, None, Some, IfSome, length}
 use Rattle.std.proofs.Common.{refl, sym, ap, subst, ◌∙◌, arith, slice_get}
 use Rattle.std.specs.declared.cmp.Ordering.{Ordering}
 use Rattle.std.specs.declared.cmp.Ordering.TheVariants.{Less, Equal, Greater}
@@ -21,7 +21,7 @@ use Rattle.dr_base.specs.Texts.{Text, text_cmp}
 use Rattle.dr_ledger.specs.declared.item.Progress.{Progress}
 use Rattle.dr_ledger.specs.Books.{is_other, is_queued}
 use Rattle.dr_ledger.specs.Pairs.{Pair, pair_cmp}
-use Rattle.dr_ledger.proofs.Maps.{cases_of, same_or_not, text_pairs, texts, ties_itself}
+use Rattle.dr_ledger.proofs.Maps.{same_or_not, text_pairs, texts, ties_itself}
 use Rattle.dr_ledger_history.specs.Leaving.{AreLetGo, AreOver, IsCallerFrom, IsRowOf, Rows, is_from}
 use Rattle.dr_ledger_history.specs.Trees.{as_map, as_set}
 use Rattle.dr_ledger_history.proofs.Mapped.{get_at, has_at}
