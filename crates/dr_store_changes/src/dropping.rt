@@ -1,5 +1,5 @@
 //! Rows that a person gives up.
-ghost use Rattle.std.specs.Prelude.{◌≡◌, ◌≤◌, ◌^◌, false, true};
+ghost use Rattle.std.specs.Prelude.{◌≡◌, ◌≤◌, ◌^◌, true};
 ghost use Rattle.sqlite.specs.Held.{state};
 ghost use Rattle.dr_ledger.specs.declared.item.Progress.TheVariants.{Dropped};
 ghost use Rattle.dr_store_writes.specs.Effects.{HasRow, Step, dropped_line};

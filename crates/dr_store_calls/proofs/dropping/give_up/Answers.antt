@@ -19,8 +19,16 @@ returns-in-Ok-clause-called g c part =
     let old = state g.S.Store c.args.conn.now in
     let mid = state g.S.Store c.find_row.new.conn in
     let new = state g.S.Store c.drop_found.new.conn in
-    let Shows : Trees → Option Progress → Type 0 = λ base row. row ≡ map.get (rows_of base) (uid, dest) in
-    let Answers : Trees → Trees → Type 0 = λ base db. Drops uid dest c.args.now (book_of base) r (book_of db) × OnlyLetsGo (bodies_of base) (bodies_of db) in
-    let Makes : Trees → Trees → Type 0 = λ base db. Drops uid dest c.args.now (book_of base) (Ok tt) (book_of db) in
-    looked_then n (advanced r n) part old mid new Shows c.in-Ok.found r Nothing (λ base. Shows base c.in-Ok.found) Answers Makes Answers Makes (asked_looked n part _ old mid Shows c.in-Ok.ensures.asked)
-    (c.drop_found.ensures.called part) (λ db l any shown. shown) (λ base db any shown it. it) (λ base db any shown it. it)
+    let Shows : Trees → Option Progress → Type 0 =
+    λ base row. row ≡ map.get (rows_of base) (uid, dest) in
+    let Answers : Trees → Trees → Type 0 =
+    λ base db. Drops uid dest c.args.now (book_of base) r (book_of db)
+    × OnlyLetsGo (bodies_of base) (bodies_of db) in
+    let Makes : Trees → Trees → Type 0 =
+    λ base db. Drops uid dest c.args.now (book_of base) (Ok tt) (book_of db) in
+    looked_then n (advanced r n) part old mid new Shows c.in-Ok.found r Nothing
+    (λ base. Shows base c.in-Ok.found) Answers Makes Answers Makes
+    (asked_looked n part _ old mid Shows c.in-Ok.ensures.asked) (c.drop_found.ensures.called part)
+    (λ db l any shown. shown)
+    (λ base db any shown it. it)
+    (λ base db any shown it. it)

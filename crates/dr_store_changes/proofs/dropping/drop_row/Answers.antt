@@ -15,6 +15,9 @@ returns-clause-step g c =
     let old = state g.S.Store c.args.tx.now.conn.now in
     let mid = state g.S.Store c.set_row.new.tx.conn.now in
     let new = state g.S.Store c.add_dropped.new.tx.conn.now in
-    one_then old mid new c.in_ok-set_row.field-0 _ (HasRow at old.now.trees) (SetsRow at Dropped old mid) (Unit {0}) (AddsRow 11 line mid new) (Moved at Dropped line old new)
-    c.in_ok-set_row.ensures.step (as_done mid new _ tt _ _ (λ adds any. adds) c.in_ok-add_dropped.ensures.step)
-    (λ there row. row_goes at Dropped old mid row) (λ there row more. moved at Dropped line old mid new row more)
+    one_then old mid new c.in_ok-set_row.field-0 _ (HasRow at old.now.trees)
+    (SetsRow at Dropped old mid) (Unit {0}) (AddsRow 11 line mid new)
+    (Moved at Dropped line old new) c.in_ok-set_row.ensures.step
+    (as_done mid new _ tt _ _ (λ adds any. adds) c.in_ok-add_dropped.ensures.step)
+    (λ there row. row_goes at Dropped old mid row)
+    (λ there row more. moved at Dropped line old mid new row more)

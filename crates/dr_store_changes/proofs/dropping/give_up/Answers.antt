@@ -19,6 +19,9 @@ returns-clause-step g c =
     let old = state g.S.Store c.args.tx.now.conn.now in
     let mid = state g.S.Store c.drop_row.new.tx.conn.now in
     let new = state g.S.Store c.drop_arrivals_of.new.tx.conn.now in
-    one_then old mid new c.in_ok-drop_row.field-0 _ (HasRow at old.now.trees) (Moved at Dropped line old mid) (Unit {0}) (DropsOf 5 2 uid mid new) (GivenUp uid dest now n old new)
-    c.in_ok-drop_row.ensures.step (as_done mid new _ tt _ _ (λ drops any. drops) c.in_ok-drop_arrivals_of.ensures.step)
-    (λ there m. row_moved at line old mid m) (λ there m drops. arrivals_gone uid dest now n old mid new m drops)
+    one_then old mid new c.in_ok-drop_row.field-0 _ (HasRow at old.now.trees)
+    (Moved at Dropped line old mid) (Unit {0}) (DropsOf 5 2 uid mid new)
+    (GivenUp uid dest now n old new) c.in_ok-drop_row.ensures.step
+    (as_done mid new _ tt _ _ (λ drops any. drops) c.in_ok-drop_arrivals_of.ensures.step)
+    (λ there m. row_moved at line old mid m)
+    (λ there m drops. arrivals_gone uid dest now n old mid new m drops)

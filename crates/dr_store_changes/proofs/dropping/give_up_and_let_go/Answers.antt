@@ -16,7 +16,12 @@ returns-clause-step g c =
     let old = state g.S.Store c.args.tx.now.conn.now in
     let mid = state g.S.Store c.give_up.new.tx.conn.now in
     let new = state g.S.Store c.let_go.new.tx.conn.now in
-    one_then old mid new c.in_ok-give_up.field-0 _ (AsksForRow (uid, dest) old.now.trees) (GivenUp uid dest now n old mid) (HasBoth uid mid.now.trees) (GoesOn mid new × LetsGo uid mid.now.trees new.now.trees)
+    one_then old mid new c.in_ok-give_up.field-0 _ (AsksForRow (uid, dest) old.now.trees)
+    (GivenUp uid dest now n old mid) (HasBoth uid mid.now.trees)
+    (GoesOn mid new × LetsGo uid mid.now.trees new.now.trees)
     (IsMade n (GivesUp uid dest now n true) old new)
-    (as_done old mid _ c.in_ok-give_up.field-0 _ _ (λ gives asks. gives asks.0) c.in_ok-give_up.ensures.step) (as_done mid new _ tt _ _ (λ gone. gone) c.in_ok-let_go.ensures.step)
-    (λ asks m. both_still uid dest now n old mid m asks.1) (λ asks m gone. given_up_going uid dest now n old mid m new gone)
+    (as_done old mid _ c.in_ok-give_up.field-0 _ _
+    (λ gives asks. gives asks.0) c.in_ok-give_up.ensures.step)
+    (as_done mid new _ tt _ _ (λ gone. gone) c.in_ok-let_go.ensures.step)
+    (λ asks m. both_still uid dest now n old mid m asks.1)
+    (λ asks m gone. given_up_going uid dest now n old mid m new gone)
