@@ -148,8 +148,8 @@ requeues plan certificate c b seated s name seat is uid dest answer t h arms =
 pub drops : DropIsShown
 drops plan certificate c b seated s name seat is uid dest answer t h arms =
     let here : GivesUpAt seat.desk uid dest c.now answer t = (h, arms) in
-    let then : GivesUpAt seat.desk uid dest b.time answer t = subst (λ (now : ℕ). GivesUpAt seat.desk uid dest now answer t) (sym s.time) here in
-    let at_desk : GivesUpAt (b.desks name) uid dest b.time answer t = subst (λ (d : Desk). GivesUpAt d uid dest b.time answer t) (sym (desk_there c b s name seat is)) then in
+    let timed : GivesUpAt seat.desk uid dest b.time answer t = subst (λ (now : ℕ). GivesUpAt seat.desk uid dest now answer t) (sym s.time) here in
+    let at_desk : GivesUpAt (b.desks name) uid dest b.time answer t = subst (λ (d : Desk). GivesUpAt d uid dest b.time answer t) (sym (desk_there c b s name seat is)) timed in
     (with_call b name t, inl (node_named plan certificate c seated name seat is, (answer, t, at_desk, refl, refl)), called c b s name seat is t)
 
 pub refuses : RefuseIsShown

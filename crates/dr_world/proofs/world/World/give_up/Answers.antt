@@ -30,8 +30,8 @@ returns-in-Ok-clause-calls g c =
     let has = there (tree.get text_cmp old.nodes name) node at in
     let nodes = c.get_mut.follows.lender new in
     let did = c.give_up.ensures in
-    timely old (record { alloc = old.alloc; time = old.time; opened = old.opened; nodes = nodes; wires = old.wires; lost = old.lost }) Done name c.args.uid.now c.args.dest.now c.moment.result c.moment.ensures.same
-    (called (GivesUp c.args.uid.now c.args.dest.now c.moment.result) old nodes name node new Done at
+    timely old (record { alloc = old.alloc; time = old.time; opened = old.opened; nodes = nodes; wires = old.wires; lost = old.lost }) Done name c.args.uid.now c.args.dest.now c.moment-now.result c.moment-now.ensures.same
+    (called (GivesUp c.args.uid.now c.args.dest.now c.moment-now.result) old nodes name node new Done at
     ((c.get_mut.follows.holds new).3 has).0 did.links did.of did.stood
     (λ s. (c.give_up.result, did.reply s, did.armed s, sym (ap note_of c.in-Ok.is))))
 
@@ -45,10 +45,9 @@ returns-in-Ok-clause-step g c =
     let has = there (tree.get text_cmp old.nodes name) node at in
     let nodes = c.get_mut.follows.lender new in
     let did = c.give_up.ensures in
-    let after = record { alloc = old.alloc; time = old.time; opened = old.opened; nodes = nodes; wires = old.wires; lost = old.lost } in
-    given_up old after Done name c.args.uid.now c.args.dest.now
-    (timely old after Done name c.args.uid.now c.args.dest.now c.moment.result c.moment.ensures.same
-    (called (GivesUp c.args.uid.now c.args.dest.now c.moment.result) old nodes name node new Done at
+    given_up old (record { alloc = old.alloc; time = old.time; opened = old.opened; nodes = nodes; wires = old.wires; lost = old.lost }) Done name c.args.uid.now c.args.dest.now
+    (timely old (record { alloc = old.alloc; time = old.time; opened = old.opened; nodes = nodes; wires = old.wires; lost = old.lost }) Done name c.args.uid.now c.args.dest.now c.moment-now.result c.moment-now.ensures.same
+    (called (GivesUp c.args.uid.now c.args.dest.now c.moment-now.result) old nodes name node new Done at
     ((c.get_mut.follows.holds new).3 has).0 did.links did.of did.stood
     (λ s. (c.give_up.result, did.reply s, did.armed s, sym (ap note_of c.in-Ok.is)))))
 
@@ -62,8 +61,8 @@ returns-in-Err-clause-calls g c =
     let has = there (tree.get text_cmp old.nodes name) node at in
     let nodes = c.get_mut.follows.lender new in
     let did = c.give_up.ensures in
-    timely old (record { alloc = old.alloc; time = old.time; opened = old.opened; nodes = nodes; wires = old.wires; lost = old.lost }) (Refused c.in-Err.fault) name c.args.uid.now c.args.dest.now c.moment.result c.moment.ensures.same
-    (called (GivesUp c.args.uid.now c.args.dest.now c.moment.result) old nodes name node new (Refused c.in-Err.fault) at
+    timely old (record { alloc = old.alloc; time = old.time; opened = old.opened; nodes = nodes; wires = old.wires; lost = old.lost }) (Refused c.in-Err.fault) name c.args.uid.now c.args.dest.now c.moment-now.result c.moment-now.ensures.same
+    (called (GivesUp c.args.uid.now c.args.dest.now c.moment-now.result) old nodes name node new (Refused c.in-Err.fault) at
     ((c.get_mut.follows.holds new).3 has).0 did.links did.of did.stood
     (λ s. (c.give_up.result, did.reply s, did.armed s, sym (ap note_of c.in-Err.is))))
 
@@ -77,9 +76,8 @@ returns-in-Err-clause-step g c =
     let has = there (tree.get text_cmp old.nodes name) node at in
     let nodes = c.get_mut.follows.lender new in
     let did = c.give_up.ensures in
-    let after = record { alloc = old.alloc; time = old.time; opened = old.opened; nodes = nodes; wires = old.wires; lost = old.lost } in
-    given_up old after (Refused c.in-Err.fault) name c.args.uid.now c.args.dest.now
-    (timely old after (Refused c.in-Err.fault) name c.args.uid.now c.args.dest.now c.moment.result c.moment.ensures.same
-    (called (GivesUp c.args.uid.now c.args.dest.now c.moment.result) old nodes name node new (Refused c.in-Err.fault) at
+    given_up old (record { alloc = old.alloc; time = old.time; opened = old.opened; nodes = nodes; wires = old.wires; lost = old.lost }) (Refused c.in-Err.fault) name c.args.uid.now c.args.dest.now
+    (timely old (record { alloc = old.alloc; time = old.time; opened = old.opened; nodes = nodes; wires = old.wires; lost = old.lost }) (Refused c.in-Err.fault) name c.args.uid.now c.args.dest.now c.moment-now.result c.moment-now.ensures.same
+    (called (GivesUp c.args.uid.now c.args.dest.now c.moment-now.result) old nodes name node new (Refused c.in-Err.fault) at
     ((c.get_mut.follows.holds new).3 has).0 did.links did.of did.stood
     (λ s. (c.give_up.result, did.reply s, did.armed s, sym (ap note_of c.in-Err.is)))))
