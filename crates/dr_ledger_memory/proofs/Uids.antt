@@ -26,7 +26,7 @@ use Rattle.dr_ledger_memory.proofs.NextDue.{IsFirst, found_is, left, passes, rig
 
 module _ (part : Part) (p : Parts) (sp : tree.IsOrdered text_cmp p.held) (sound : ∥ IsSound part p ∥₁)
     (ordered : sorted.IsOrdered due_cmp p.waiting) (dest : Text) (now : ℕ) where
-  its_found : Option Due
+  abbrev its_found : Option Due
   its_found = found part p sp sound ordered dest now
 
   of_key : (key : Due) → its_found ≡ Some key → Dues (content p) dest now (Some key.1.1)
