@@ -62,7 +62,7 @@ pub record IsHeard {K : Type 0} (hears : K → Heard → K → Type 0) (k : K) (
     (l : K) : Type 0 where
   pub heard : List Heard
   pub ended : Option Heard
-  pub hears : HearsAll hears k (heard ++ listed ended []) l
+  pub all : HearsAll hears k (heard ++ listed ended []) l
   pub waited : AllByRecursion IsWaited heard
   pub puts : Puts (spoken heard) ended ahead
 

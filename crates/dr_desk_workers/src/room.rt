@@ -25,7 +25,10 @@ impl Budget {
         ensures { MatchBool result (self.now.taken + bytes ≤ self.now.limit)
             (self.now.limit < self.now.taken + bytes) }
     {
-        bytes <= self.limit - self.taken
+        if bytes > self.limit - self.taken {
+            return false;
+        }
+        true
     }
 
     /// Takes so many bytes more, if they can be; says whether it did.

@@ -5,7 +5,7 @@ use Rattle.std.specs.declared.option.Option.{Option}
 use Rattle.std.specs.Io.KnownBytes.{Consumes, IsAtEnd, Keeps}
 use Rattle.std.proofs.KnownBytes.{Keeps-trans}
 use Rattle.dr_session.specs.declared.ends.Heard.{Heard}
-use Rattle.dr_session.specs.declared.ends.Heard.TheVariants.{Bytes, End, Late, Idle, Fault, Memory}
+use Rattle.dr_session.specs.declared.ends.Heard.TheVariants.{Bytes, End, Late, Idle, Crowded, Fault, Memory}
 use Rattle.dr_run_net.specs.declared.limits.Limits.{Limits}
 use Rattle.dr_run_net.specs.declared.window.Window.{Window}
 use Rattle.dr_run_net.specs.Hearing.{Ear, Hears, IsSwift, IsWidened, ear}
@@ -22,13 +22,14 @@ module _ (tells : ℕ → Type 0) (limits : Limits) (old mid : Option (List ℕ)
   kept : (came : Heard) (new : Ear) → Keeps old mid
       → Hears tells limits (ear mid marked rested window warned) came new
       → Hears tells limits (ear old marked rested window warned) came new
-  kept (Bytes piece) new keeps (now, told, (soon, swift, takes, marks, rests, more)) =
-      (now, told, (soon, swift, keeps_consumes old mid new.left piece keeps takes, marks, rests, more))
+  kept (Bytes piece) new keeps (now, told, (soon, swift, takes, marks, rests, warns, more)) =
+      (now, told, (soon, swift, keeps_consumes old mid new.left piece keeps takes, marks, rests, warns, more))
   kept End new keeps h = h
-  kept Late new keeps (now, told, (why, stays, marks, rests, same)) =
-      (now, told, (why, Keeps-trans old mid new.left keeps stays, marks, rests, same))
+  kept Late new keeps (now, told, (why, stays, marks, rests, same, warns)) =
+      (now, told, (why, Keeps-trans old mid new.left keeps stays, marks, rests, same, warns))
   kept Idle new keeps (now, told, (why, stays, rests, none)) =
       (now, told, (why, Keeps-trans old mid new.left keeps stays, rests, none))
+  kept Crowded new keeps (now, told, nothing) = absurd nothing
   kept Fault new keeps h = tt
   kept Memory new keeps h = tt
 

@@ -4,7 +4,8 @@ use Rattle.std.specs.Prelude.{None}
 use Rattle.std.specs.declared.option.Option.{Option}
 use Rattle.std.specs.Io.KnownBytes.{Consumes, IsAtEnd, Keeps}
 use Rattle.dr_session.specs.declared.ends.Heard.{Heard}
-use Rattle.dr_session.specs.declared.ends.Heard.TheVariants.{Bytes, End, Late, Idle, Fault, Memory}
+use Rattle.dr_session.specs.declared.ends.Heard.TheVariants.{Bytes, End, Late, Idle, Crowded}
+use Rattle.dr_session.specs.declared.ends.Heard.TheVariants.{Fault, Memory}
 use Rattle.dr_run_net.specs.declared.limits.Limits.{Limits}
 use Rattle.dr_run_net.specs.declared.window.Window.{Window}
 
@@ -97,6 +98,7 @@ HearsAt limits now old Idle new =
     × Keeps old.left new.left
     × (new.rested ≡ now)
     × (new.window ≡ None)
+HearsAt limits now old Crowded new = ⊥
 HearsAt limits now old Fault new = ⊥
 HearsAt limits now old Memory new = ⊥
 

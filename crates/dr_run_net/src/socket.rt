@@ -8,7 +8,7 @@ ghost use Rattle.dr_run_net.specs.Hearing.{Hears, IsAwaited, IsSilent, IsSwift, 
 ghost use Rattle.dr_run_net.specs.declared.window.Window.{Window as WindowValue};
 
 use crate::limits::{Cut, Limits};
-use crate::pacing::{is_slow, widen};
+use crate::pacing::{is_past, is_slow, widen};
 use crate::quiet::is_quiet;
 use crate::window::Window;
 use crate::writing::write_in_time;
@@ -182,7 +182,7 @@ impl<'a, S: Read + Write + OpenStream + Drop, C: Clock> Socket<'a, S, C> {
     {
         match self.window {
             Some(_) => false,
-            None => now.saturating_sub(self.rested) >= self.limits.idle,
+            None => is_past(self.rested, self.limits.idle, now),
         }
     }
 

@@ -17,4 +17,4 @@ pub returns : goal.returns
 returns c =
     let T : Option Core → Type 0 = λ o. TakesCore c.args.self.now o c.take_core.new.self in
     let P : Core → Type 0 = λ d. c.put.new.self ≡ record { ear = c.take_core.new.self.ear; core = Some d } in
-    crowds_live c.in-Some.core c.args.self.now c.take_core.new.self c.put.new.self c.new.result (subst T c.in-Some.is c.take_core.ensures) (subst P c.let_data_go.ensures c.put.ensures) c.new.ensures
+    crowds_live c.in-Some.core c.args.self.now c.take_core.new.self c.put.new.self c.new-2.result (subst T c.in-Some.is c.take_core.ensures) (subst P c.let_data_go.ensures c.put.ensures) c.new-2.ensures
