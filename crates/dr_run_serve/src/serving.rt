@@ -134,7 +134,7 @@ fn accept_links<
 /// Works until the channel is closed and empty. Where the workers can't begin, nobody receives any
 /// more.
 fn work<
-    R: Threads + Wait + Sync,
+    R: Threads + Wait + Sync + time::Clock,
     L: Ledger + Drop + Send,
     B: Sharing + Send + Sync,
     K: Link + Drop + Send,

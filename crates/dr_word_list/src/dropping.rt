@@ -38,9 +38,10 @@ fn give_row_up<L: LetsGo>(
     ensures { MatchResult result
         (λ line. (line ≡ dropped_line)
         × (L.stands ledger.new
-        → Drops row.uid.now row.dest.now row.now (L.book ledger.old) (Ok tt) (L.book ledger.new)))
+        → Drops row.entry.uid.now row.entry.dest.now row.entry.now (L.book ledger.old) (Ok tt)
+        (L.book ledger.new)))
         (λ why. L.stands ledger.new
-        → Drops row.uid.now row.dest.now row.now (L.book ledger.old) (Err why)
+        → Drops row.entry.uid.now row.entry.dest.now row.entry.now (L.book ledger.old) (Err why)
         (L.book ledger.new)) }
 {
     let uid = Text::copy_of(alloc, row.uid.as_bytes())?;
@@ -63,8 +64,8 @@ fn give_up_at<'a, F: Files, O: Ledgers>(
     requires { row.now ≤ 2 ^ 62 }
     ensures { GaveUp (F.holds files.now given.entry.plan.now)
         (F.holds files.now given.entry.certificate.now) (O.opens ledgers.now given.entry.ledger.now)
-        O.Ledger.site O.Ledger.book O.Ledger.stands given.entry.node.now row.uid.now row.dest.now
-        row.now result }
+        O.Ledger.site O.Ledger.book O.Ledger.stands given.entry.node.now row.entry.uid.now
+        row.entry.dest.now row.entry.now result }
 {
     let mut opened = open_node(alloc, files, ledgers, given, Making::Never)?;
     let came = give_row_up(alloc, &mut opened.ledger, row);
@@ -92,8 +93,8 @@ pub fn give_up_files<'a, F: Files, O: Ledgers, W: Write, E: Write>(
     ensures { IfOk result (λ status. (came : Result Words HaltValue)
         × GaveUp (F.holds files.now given.entry.plan.now)
         (F.holds files.now given.entry.certificate.now) (O.opens ledgers.now given.entry.ledger.now)
-        O.Ledger.site O.Ledger.book O.Ledger.stands given.entry.node.now row.uid.now row.dest.now
-        row.now came
+        O.Ledger.site O.Ledger.book O.Ledger.stands given.entry.node.now row.entry.uid.now
+        row.entry.dest.now row.entry.now came
         × Ends came (W.contents output.old) (W.contents output.new) status) }
 {
     let came = give_up_at(alloc, files, ledgers, given, row);
