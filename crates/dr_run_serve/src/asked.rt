@@ -53,7 +53,7 @@ impl<'a> Display for Contexts<'a> {
             if (answer.result == 0) != self.accepted {
                 continue;
             }
-            if shown == MOST {
+            if shown >= MOST {
                 return f.write_str(" ..");
             }
             if shown > 0 {

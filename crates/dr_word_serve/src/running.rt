@@ -187,7 +187,7 @@ fn tell_serving<G: Monitor>(log: &G, given: NodeFiles<'_>, serving: Serving<'_>,
 
 /// Whether a node that serves may make its ledger's file.
 fn making_of(serving: Serving<'_>) -> Making
-    ensures { result ≡ cond serving.must_exist Never Allowed }
+    ensures { result ≡ cond serving.entry.must_exist Never Allowed }
 {
     if serving.must_exist {
         return Making::Never;
