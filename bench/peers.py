@@ -20,7 +20,7 @@ sys.dont_write_bytecode = True
 HERE = os.path.dirname(os.path.abspath(__file__))
 sys.path.insert(0, f'{os.path.dirname(HERE)}/tests')
 from lib.requestor import ACCEPTED, RELEASED, Requestor
-from lib.nodes import PROGRAM, Room, element, part10, stop
+from lib.nodes import PROGRAM, Room, data_set, element, part10, stop
 
 LONG = 600
 SIZES = (('1 kB', 1 << 10, 1000), ('512 kB', 512 << 10, 200), ('32 MB', 32 << 20, 8))
@@ -52,6 +52,14 @@ def send(room, node, name, sender):
 def storescp(room):
     os.makedirs(f'{room.folder}/stored', exist_ok=True)
     process = room.start('storescp', '-aet', 'ARCH', '+B', '-od', 'stored', str(room.ports['ARCH']), env={**os.environ, 'TCP_NODELAY': '1'})
+    room.wait_for('ARCH', process)
+    return process
+
+
+def forking_storescp(room):
+    """One that takes associations side by side, as a node does: a process for each."""
+    os.makedirs(f'{room.folder}/stored', exist_ok=True)
+    process = room.start('storescp', '--fork', '-aet', 'ARCH', '+B', '-od', 'stored', str(room.ports['ARCH']), env={**os.environ, 'TCP_NODELAY': '1'})
     room.wait_for('ARCH', process)
     return process
 
@@ -149,6 +157,70 @@ def associations(count):
         row(f'  {made}, {at_once} at a time', rate(made, spent[ours]), rate(made, spent[storescp]), f'{spent[storescp] / spent[ours]:.2f}')
 
 
+def storing_at_once(count):
+    """Images of 1 kB, over 1, 8 and 64 associations at a time, each of which stores its share one after another."""
+    row('images of 1 kB stored by several at a time, a second', 'node', 'storescp --fork', 'node/storescp')
+    for at_once in 1, 8, 64:
+        spent = {}
+        for start in ours, forking_storescp:
+            with Room() as room:
+                process, pixels = start(room), image(1 << 10)
+                def store_share(share):
+                    with Requestor(room.ports['ARCH'], 'GATE', 'ARCH') as caller:
+                        for number in range(count // at_once):
+                            uid = b'1.2.%d.%d' % (share, number)
+                            assert caller.store(uid, data_set(uid, pixels)) == 0
+                        assert caller.release() == RELEASED
+                spent[start] = timed([lambda share=share: store_share(share) for share in range(at_once)])
+                stop(process)
+        made = count // at_once * at_once
+        row(f'  {made}, {at_once} at a time', rate(made, spent[ours]), rate(made, spent[forking_storescp]),
+            f'{spent[forking_storescp] / spent[ours]:.2f}')
+
+
+def crowd(at_once, size):
+    """So many associations that bring an image of that size at the same time, each again until it is taken: the greatest memory."""
+    with Room() as room:
+        arch, pixels, tries = room.serve('ARCH', 0), image(size), []
+        def store_until_taken(number):
+            uid = b'1.2.3.%d' % number
+            body = data_set(uid, pixels)
+            while True:
+                with Requestor(room.ports['ARCH'], 'GATE', 'ARCH') as caller:
+                    status = caller.store(uid, body)
+                    tries.append(status)
+                    caller.release()
+                if status == 0:
+                    return
+                assert status == 0xA700, status
+                time.sleep(1)
+        spent = timed([lambda number=number: store_until_taken(number) for number in range(at_once)])
+        peak = most_memory(arch)
+        stop(arch)
+        kept = room.at('list', 'ARCH').stdout.decode().count('kept\t')
+        assert kept == at_once, kept
+        row(f'{at_once} x {size >> 20} MB at once: greatest memory, A700H, kept', f'{peak:.0f} MB', len(tries) - at_once, kept)
+        row('  megabytes a second', f'{at_once * size / spent / 1e6:.0f} MB/s')
+
+
+def timed(tasks):
+    """How long these take that run side by side; each has to come to its end."""
+    failed = []
+    def run(task):
+        try:
+            task()
+        except BaseException as error:
+            failed.append(error)
+    threads = [threading.Thread(target=run, args=(task,)) for task in tasks]
+    begun = time.monotonic()
+    for thread in threads:
+        thread.start()
+    for thread in threads:
+        thread.join()
+    assert not failed, failed
+    return time.monotonic() - begun
+
+
 def most_memory(process):
     with open(f'/proc/{process.pid}/status', encoding='ascii') as file:
         return next(int(line.split()[1]) / 1024 for line in file if line.startswith('VmHWM'))
@@ -193,7 +265,9 @@ def main():
     receiving(sizes)
     forwarding(sizes[:2])
     associations(8 if tiny else 400)
+    storing_at_once(64 if tiny else 3200)
     memory(sizes[2][1])
+    crowd(*(4, 1 << 20) if tiny else (64, 60 << 20))
     starting(10 if tiny else 5000)
 
 

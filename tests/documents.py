@@ -18,7 +18,7 @@ import tempfile
 
 TOP = os.path.dirname(os.path.dirname(os.path.abspath(__file__)))
 PROGRAM = f"{TOP}/crates/dr_router/out/dr_router"
-DOCUMENTS = ["docs/PLANS.md", "docs/USAGE.md"]
+DOCUMENTS = ["docs/PLANS.md", "docs/USAGE.md", "docs/NIGHT.md"]
 
 
 def blocks_of(text):

@@ -94,7 +94,13 @@ def told(row):
     kind, *parts = row
     if kind == 'waiting':
         return f'Some(Waiting {{ tries: {parts[0]}, due: {parts[1]} }})'
-    return 'Some(Done)' if kind == 'done' else f'Some(Held({"NoContext" if parts[0] == "no-context" else f"Status({parts[0]})"}))'
+    if kind in ('done', 'dropped'):
+        return f'Some({kind.title()})'
+    return f'Some(Held({"NoContext" if parts[0] == "no-context" else f"Status({parts[0]})"}))'
+
+
+def is_queued(row):
+    return row[0] in ('waiting', 'held')
 
 
 class Ledger:
@@ -110,7 +116,7 @@ class Ledger:
         self.journal.append(line)
 
     def let_go(self):
-        needed = self.kept | {uid for (uid, dest), row in self.rows.items() if row[0] != 'done'}
+        needed = self.kept | {uid for (uid, dest), row in self.rows.items() if is_queued(row)}
         self.bodies &= needed
 
     def admits(self, caller, item):
@@ -134,7 +140,8 @@ class Ledger:
         if keep:
             self.kept.add(uid)
         for dest in to:
-            self.rows.setdefault((uid, dest), ('waiting', 0, 0))
+            if self.rows.get((uid, dest), ('dropped',)) == ('dropped',):
+                self.rows[uid, dest] = ('waiting', 0, 0)
         self.bodies.add(uid)
         self.let_go()
         return 'New'
@@ -167,11 +174,20 @@ class Ledger:
         self.rows[uid, dest] = ('waiting', 0, 0)
         return '()'
 
+    def give_up(self, uid, dest, now):
+        if self.rows.get((uid, dest), ('none',))[0] != 'held':
+            raise Refused('NotHeld')
+        self.add(f'dropping {uid} {dest} {now}')
+        self.rows[uid, dest] = ('dropped',)
+        self.arrivals = {at for at in self.arrivals if at[1] != uid}
+        self.let_go()
+        return '()'
+
     def has(self, uid):
         return str(uid in self.items).lower()
 
     def is_over(self, uid):
-        return str(uid in self.items and uid not in self.kept and all(row[0] == 'done' for (it, _), row in self.rows.items() if it == uid)).lower()
+        return str(uid in self.items and uid not in self.kept and not any(is_queued(row) for (it, _), row in self.rows.items() if it == uid)).lower()
 
     def forget(self, uid):
         if self.is_over(uid) == 'false':
@@ -201,7 +217,7 @@ class Ledger:
         return ''.join(f'\n{it}' for it in self.journal)
 
     def first_unfit(self, following):
-        wrong = [at for at, row in self.rows.items() if row[0] != 'done' and not following.goes_on(self.site.node, self.items[at[0]][1], at[1])]
+        wrong = [at for at, row in self.rows.items() if is_queued(row) and not following.goes_on(self.site.node, self.items[at[0]][1], at[1])]
         return min(wrong, default=None)
 
     def adopt(self, site, following):
@@ -209,7 +225,7 @@ class Ledger:
             return 'false'
         self.add('adoption')
         self.site, self.arrivals = following, set()
-        self.rows = {at: row for at, row in self.rows.items() if row[0] != 'done'}
+        self.rows = {at: row for at, row in self.rows.items() if is_queued(row)}
         return 'true'
 
 

@@ -11,7 +11,7 @@ import random
 import sys
 
 sys.dont_write_bytecode = True
-from lib.message_claims import CONFLICT, Claim, NO_LINE, NO_STORE, SUCCESS, is_honest, lasts, none_refused, nothing_lost, seen
+from lib.message_claims import CONFLICT, Claim, NO_LINE, NO_STORE, SUCCESS, is_honest, is_over, lasts, none_refused, nothing_lost, seen
 from lib.message_plans import KEYS, LOCAL, grown, random_plan
 
 OTHERS = 2  # associations that a receiver takes; 256 in the definitions, few here so that rejections come
@@ -19,12 +19,14 @@ WRONG = {
     'rows_for_new_uids_only', 'kept_for_new_uids_only', 'body_overwritten', 'out_of_resources_is_done',
     'restart_drops_waiting_rows', 'success_without_an_arrival', 'done_rows_stand', 'adoption_forgets_what_is_kept', 'half_the_pairs_accepted',
     'carried_rows_forgotten', 'kept_is_forgotten', 'queued_is_forgotten', 'arrivals_not_forgotten', 'rows_not_forgotten', 'pending_is_forgotten',
+    'dropped_arrivals_stand', 'dropped_rows_stay_dropped', 'dropped_without_a_line', 'dropped_rows_stand', 'every_row_is_dropped',
 }
 # what runs must reach: each event with each reply of its call that a sound plan allows
 REACHED = {
     'take': {'New', 'Again', 'NoLine', 'Conflict', 'Store', 'Memory'}, 'receive': {'New', 'Again', 'Conflict', 'Store', 'Memory'},
     'answered': {'Ok', 'NotWaiting', 'Store', 'Memory'}, 'agree_caller': {'opened', 'Ok', 'Store', 'idle'}, 'agree_receiver': {'accepted', 'rejected'},
     'break_caller': {'Ok', 'Store', 'idle'}, 'close': {'Ok', 'Store', 'idle'}, 'restart': {'Ok', 'Store', 'idle'}, 'requeue': {'Ok', 'NotHeld', 'Store'}, 'forget': {'Ok', 'NotOver', 'Store'},
+    'drop': {'Ok', 'NotHeld', 'Store'}, 'meets': {'an arrival a dropped row', 'an answer a dropped row', 'an adoption a dropped row', 'a forgetting a dropped row'},
     'adopt': {'refused', 'the same', 'another', 'another with a row'}, 'ask': {'-'}, 'give': {'-'}, 'break_receiver': {'-'}, 'refuse': {'-'}, 'tick': {'-'},
 }
 Item = collections.namedtuple('Item', 'uid key body')
@@ -44,8 +46,8 @@ class Link:
 
 
 class World:
-    def __init__(self, plan, dice, wrong):
-        self.plan, self.dice, self.wrong = plan, dice, wrong
+    def __init__(self, plan, dice, wrong, happened):
+        self.plan, self.dice, self.wrong, self.happened = plan, dice, wrong, happened
         self.time, self.links, self.opened, self.armed, self.carried_over = 0, {}, 0, set(), {n: {} for n in plan.rules}
         self.next = None  # the plan to be adopted once no link is open
         self.books = {n: Book() for n in plan.rules}
@@ -81,7 +83,11 @@ class World:
             book.kept.add(item.uid)
         if not (known and 'rows_for_new_uids_only' in self.wrong):
             for to in self.plan.sends(name, caller, item.key):
-                book.rows.setdefault((item.uid, to), ('waiting', 0, 0))
+                row = book.rows.get((item.uid, to))
+                if row == ('dropped',) and 'dropped_rows_stay_dropped' not in self.wrong:
+                    self.happened['meets', 'an arrival a dropped row'] += 1
+                    row = None
+                book.rows[item.uid, to] = row or ('waiting', 0, 0)
         book.journal.append(('arrival', caller, item))
         return 'New'
 
@@ -89,6 +95,7 @@ class World:
         book = self.books[name]
         row = book.rows.get((uid, dest))
         if row is None or row[0] != 'waiting':
+            self.happened['meets', 'an answer a dropped row'] += row == ('dropped',)
             return 'NotWaiting'
         if self.wants_memory():
             return 'Memory'
@@ -186,11 +193,25 @@ class World:
         self.books[name].journal.append(('requeuing', uid, dest))
         return 'Ok'
 
+    def drop(self, name, uid, dest):
+        book = self.books[name]
+        if book.rows.get((uid, dest), ('none',))[0] != 'held':
+            return 'NotHeld'
+        if self.store_fails(name):
+            return 'Store'
+        for at in sorted(at for at in book.rows if at == (uid, dest) or (at[0] == uid and 'every_row_is_dropped' in self.wrong)):
+            book.rows[at] = ('dropped',)
+        if 'dropped_arrivals_stand' not in self.wrong:
+            book.arrivals = {(c, u) for c, u in book.arrivals if u != uid}
+        if 'dropped_without_a_line' not in self.wrong:
+            book.journal.append(('dropping', uid, dest, book.items[uid]))
+        return 'Ok'
+
     def is_over(self, name, uid):
         book = self.books[name]
         rows = [r for (u, _), r in book.rows.items() if u == uid]
         return (uid in book.items and (uid not in book.kept or 'kept_is_forgotten' in self.wrong)
-                and (all(r[0] == 'done' for r in rows) or ('queued_is_forgotten' in self.wrong and any(r[0] == 'done' for r in rows))))
+                and (all(is_over(r) for r in rows) or ('queued_is_forgotten' in self.wrong and any(is_over(r) for r in rows))))
 
     def is_pending(self, name, uid):
         return any(l.caller == name and l.caller_connected and l.item and l.item.uid == uid for l in self.links.values())
@@ -201,6 +222,7 @@ class World:
         if self.store_fails(name):
             return 'Store'
         book = self.books[name]
+        self.happened['meets', 'a forgetting a dropped row'] += any(u == uid and r == ('dropped',) for (u, _), r in book.rows.items())
         del book.items[uid]
         if 'arrivals_not_forgotten' not in self.wrong:
             book.arrivals = {(c, u) for c, u in book.arrivals if u != uid}
@@ -216,9 +238,9 @@ class World:
         self.time = min(self.time + ms, 2 ** 62)
 
     def adopt(self, plan):
-        def queued(row):
-            return row[0] != 'done' or 'done_rows_stand' in self.wrong
-        unfit = any(r[0] != 'done' and key_of(b, uid) not in [k for k in KEYS if (n, to, k) in plan.ranks]
+        def stands(row):
+            return not is_over(row) or f'{row[0]}_rows_stand' in self.wrong
+        unfit = any(not is_over(r) and key_of(b, uid) not in [k for k in KEYS if (n, to, k) in plan.ranks]
                     for n, b in self.books.items() for (uid, to), r in b.rows.items())
         self.next = None
         if any(l.caller_connected or l.receiver_connected for l in self.links.values()) or self.armed or not set(self.books) <= set(plan.rules) or unfit:
@@ -230,7 +252,8 @@ class World:
                 self.books[name], self.carried_over[name] = Book(), {}
                 continue
             book = self.books[name]
-            book.arrivals, book.rows = set(), {at: r for at, r in book.rows.items() if queued(r)}
+            self.happened['meets', 'an adoption a dropped row'] += ('dropped',) in book.rows.values()
+            book.arrivals, book.rows = set(), {at: r for at, r in book.rows.items() if stands(r)}
             if 'adoption_forgets_what_is_kept' in self.wrong:
                 book.kept = set()
             self.carried_over[name] = {} if 'carried_rows_forgotten' in self.wrong else {at: book.items[at[0]] for at in book.rows}
@@ -282,7 +305,7 @@ def random_event(w, dice):
         return w.restart, (dice.choice(names),)
     held = [(n, u, d) for n in names for (u, d), r in sorted(w.books[n].rows.items()) if r[0] == 'held' or dice.random() < 0.02]
     if 0.88 <= choice < 0.92 and held:
-        return w.requeue, dice.choice(held)
+        return dice.choice([w.requeue, w.drop]), dice.choice(held)
     known = [(n, u) for n in names for u in sorted(w.books[n].items) if w.is_over(n, u) or dice.random() < 0.1]
     known = [(n, u) for n, u in known if not w.is_pending(n, u) or 'pending_is_forgotten' in w.wrong]
     if 0.96 <= choice and known:
@@ -295,7 +318,7 @@ def random_event(w, dice):
 def play(seed, wrong, happened):
     """One run. The name of the claim that fails, or None."""
     dice = random.Random(seed)
-    w = World(random_plan(dice), dice, wrong)
+    w = World(random_plan(dice), dice, wrong, happened)
     for _ in range(dice.randint(20, 220)):
         event, told = random_event(w, dice)
         before = seen(w)

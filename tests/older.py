@@ -3,8 +3,8 @@
 targets, or the index of the rows that are due. Each is made of a file of today by the sqlite3 of Python, and is opened by the built
 program, which brings it over; then it is the file of today again, row by row. A file that is refused stays as it was.
 
-Files of today are opened too whose journal and whose items don't agree: an instance that was forgotten is no item any more, and one
-that wasn't is the item that its lines show.
+Files of today are opened too whose journal and whose tables don't agree: an instance that was forgotten is no item any more, one that
+wasn't is the item that its lines show, and a row that was dropped is just that.
 
     tests/older.py
 """
@@ -171,6 +171,7 @@ def refused_files():
             ('GATE', less, ["CREATE TABLE more (id INTEGER PRIMARY KEY)"]),
             ('GATE', (), ["UPDATE journal SET uid = '1.2.3.5' WHERE n = 1"]),
             ('GATE', (), ["INSERT INTO journal SELECT max(n) + 1, 5, NULL, '1.2.3.4', NULL, NULL, NULL FROM journal"]),
+            ('GATE', (), ["INSERT INTO journal SELECT max(n) + 1, 6, NULL, '1.2.3.5', 'ARCH', NULL, 6 FROM journal"]),
             ('GATE', (), ["CREATE INDEX arrival_uid ON arrival (uid)"]),
             ('CT1', less, []),
         )
@@ -225,6 +226,46 @@ def not_forgotten():
             refused(room, 'other')
 
 
+# What makes of 1.2.3.5, which waits at GATE for ARCH, one that ARCH refused, and that a person gave up then.
+REFUSED = "INSERT INTO journal (n, kind, uid, dest, outcome, moment) SELECT max(n) + 1, 2, '1.2.3.5', 'ARCH', 49152, 5 FROM journal"
+GIVEN_UP = "INSERT INTO journal (n, kind, uid, dest, moment) SELECT max(n) + 1, 6, '1.2.3.5', 'ARCH', 6 FROM journal"
+DROPPED = "UPDATE queue SET state = 3, tries = 0, due = 0, cause = NULL WHERE uid = '1.2.3.5'"
+UNNOTED = "DELETE FROM arrival WHERE uid = '1.2.3.5'"
+UNNEEDED = "UPDATE print SET whole = 0 WHERE uid = '1.2.3.5'"
+BODILESS = "UPDATE item SET body = x'' WHERE uid = '1.2.3.5'"
+GIVING_UP = REFUSED, GIVEN_UP, DROPPED, UNNOTED, UNNEEDED, BODILESS
+
+
+def dropped():
+    """1.2.3.5 was given up: its row says so, nobody's arrival of it is noted, and the file is a ledger's. When it comes again it waits anew, and goes on."""
+    with Room() as room:
+        prepare(room)
+        make_other(room, 'other', 'GATE', GIVING_UP)
+        before = all_of(room, 'other')
+        same([it for it in listed(room, 'GATE', 'other').decode().splitlines() if '1.2.3.5' in it], ['row\t1.2.3.5\tARCH\tdropped'])
+        same(all_of(room, 'other'), before)
+        copy(room, 'other', 'GATE')
+        arch, gate = room.serve('ARCH', 1), room.serve('GATE', 1)
+        same(room.at('send', 'CT1', 'second.dcm', ledger='more.db').returncode, 0)
+        ended(gate)
+        ended(arch)
+        rows = all_of(room, 'GATE')[1]
+        same([(row[1], row[2]) for row in rows['queue'] if row[0] == '1.2.3.5'], [('ARCH', 2)])
+        same(kept(room, 'ARCH', PLAN), [f'kept\t{uid.decode()}\t{len(data_set(uid))}' for uid in (FIRST, SECOND)])
+
+
+def not_dropped():
+    """Where a part of that is missing, or the row says something else, the file is no ledger's."""
+    with Room() as room:
+        prepare(room)
+        for missing in GIVING_UP[:-1]:
+            make_other(room, 'other', 'GATE', [it for it in GIVING_UP if it != missing])
+            refused(room, 'other')
+        for state in 0, 1, 2:
+            make_other(room, 'other', 'GATE', [*GIVING_UP, DROPPED.replace('state = 3', f'state = {state}')])
+            refused(room, 'other')
+
+
 def other_lines():
     """A journal whose lines show another instance than the item, or none, is no ledger's, though the item was let go."""
     with Room() as room:
@@ -246,7 +287,7 @@ def refused(room, name, status=1, why='G6 OtherSite'):
 def main():
     if not os.path.exists(PROGRAM):
         sys.exit(f'{PROGRAM} is not built')
-    run_cases('older', older_files, what_is_let_go, goes_on, refused_files, forgotten, not_forgotten, other_lines)
+    run_cases('older', older_files, what_is_let_go, goes_on, refused_files, forgotten, not_forgotten, dropped, not_dropped, other_lines)
 
 
 if __name__ == '__main__':

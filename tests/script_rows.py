@@ -100,8 +100,14 @@ BOTH_FORGOT = [*BOTH, ('forget', 'CT1', UID), ('forget', 'GATE', UID)]
 TWICE = [*submit('CT1', SHORT), *opened('CT1', 'GATE', 1), *opened('CT1', 'GATE', 2), ('push', 1), ('push', 2), *moved(1, 'acceptor', 'acceptor', 'requestor')]
 HEARD_TWICE = 'node GATE|arrival CT1 1.2.3.4|row 1.2.3.4 ARCH waiting 0 0|lines 2|'
 HELD = [*submit('CT2', SHORT), *carried('CT2', 'ARCH', 1), *submit('CT1', LONGER), *carried('CT1', 'GATE', 2), *carried('GATE', 'ARCH', 3)]
-HELD_ROW = ('node ARCH|arrival CT2 1.2.3.4|kept 1.2.3.4 70|lines 1|node CT1|arrival - 1.2.3.4|row 1.2.3.4 GATE done|lines 2|'
-            'node CT2|arrival - 1.2.3.4|row 1.2.3.4 ARCH done|lines 2|node GATE|arrival CT1 1.2.3.4|row 1.2.3.4 ARCH {}|lines {}|')
+HELD_AT_GATE = ('node ARCH|arrival CT2 1.2.3.4|kept 1.2.3.4 70|lines 1|node CT1|arrival - 1.2.3.4|row 1.2.3.4 GATE done|lines {}|'
+                'node CT2|arrival - 1.2.3.4|row 1.2.3.4 ARCH done|lines 2|node GATE|')
+HELD_ROW = HELD_AT_GATE.format(2) + 'arrival CT1 1.2.3.4|row 1.2.3.4 ARCH {}|lines {}|'
+# the row that is held is under way over another link, too
+HELD_TWICE = [*submit('CT2', SHORT), *carried('CT2', 'ARCH', 1), *submit('CT1', LONGER), *carried('CT1', 'GATE', 2), *opened('GATE', 'ARCH', 3),
+              *opened('GATE', 'ARCH', 4), ('push', 3), ('push', 4), *moved(3, 'acceptor', 'acceptor', 'requestor')]
+GIVEN_UP = [*HELD, ('drop', 'GATE', UID, 'ARCH')]
+GIVEN_UP_ROW = HELD_AT_GATE.format(2) + 'row 1.2.3.4 ARCH dropped|lines 3|'
 
 
 def ninth_and_tenth():
@@ -139,6 +145,22 @@ ROWS = [
     ('another body under the same UID', straight, HELD, HELD_ROW.format('held C0F1', 2)),
     ('.. is queued again', straight, [*HELD, ('requeue', 'GATE', '1.2.3.4', 'ARCH')], HELD_ROW.format('waiting 0 0', 3)),
     ('.. and a waiting row is not', straight, [*HELD, *2 * [('requeue', 'GATE', '1.2.3.4', 'ARCH')]], HELD_ROW.format('waiting 0 0', 3)),
+    ('.. is given up', straight, GIVEN_UP, GIVEN_UP_ROW),
+    ('.. once', straight, [*GIVEN_UP, ('drop', 'GATE', UID, 'ARCH')], GIVEN_UP_ROW),
+    ('.. and is not sent any more', straight, [*GIVEN_UP, ('tick', 1_000_000), *carried('GATE', 'ARCH', 4)], GIVEN_UP_ROW),
+    ('.. and waits anew when it is brought again', straight,
+     [*GIVEN_UP, ('forget', 'CT1', UID), *submit('CT1', LONGER), *carried('CT1', 'GATE', 4)],
+     HELD_AT_GATE.format(5) + 'arrival CT1 1.2.3.4|row 1.2.3.4 ARCH waiting 0 0|lines 4|'),
+    ('.. and may be forgotten', straight, [*GIVEN_UP, ('forget', 'GATE', UID)], HELD_AT_GATE.format(2) + 'lines 4|'),
+    ('.. also while an answer is under way, which changes nothing', straight,
+     [*HELD_TWICE, ('drop', 'GATE', UID, 'ARCH'), *moved(4, 'acceptor', 'acceptor', 'requestor')], GIVEN_UP_ROW),
+    ('.. but that the very instance was brought again', straight,
+     [*HELD_TWICE, ('drop', 'GATE', UID, 'ARCH'), ('forget', 'CT1', UID), *submit('CT1', LONGER), *carried('CT1', 'GATE', 5), *moved(4, 'acceptor', 'acceptor', 'requestor')],
+     HELD_AT_GATE.format(5) + 'arrival CT1 1.2.3.4|row 1.2.3.4 ARCH held C0F1|lines 5|'),
+    ('what waits is not given up', three_nodes, [*FIRST, ('drop', 'GATE', UID, 'ARCH')], 'node ARCH|lines 0|' + CT1_SENT + GATE_WAITS),
+    ('nor what is done', three_nodes, [*BOTH, ('drop', 'GATE', UID, 'ARCH')], ARCH_KEEPS + CT1_SENT + GATE_SENT),
+    ('a dropping that is refused', straight, [*HELD, ('refuse', 'GATE'), ('drop', 'GATE', UID, 'ARCH')], HELD_ROW.format('held C0F1', 2)),
+    ('.. and told again', straight, [*HELD, ('refuse', 'GATE'), *2 * [('drop', 'GATE', UID, 'ARCH')]], GIVEN_UP_ROW),
     ('what was sent on is forgotten', three_nodes, BOTH_FORGOT, ARCH_KEEPS + 'node CT1|lines 3|node GATE|lines 3|'),
     ('.. once', three_nodes, [*BOTH_FORGOT, ('forget', 'GATE', UID)], ARCH_KEEPS + 'node CT1|lines 3|node GATE|lines 3|'),
     ('.. and is new when it comes again', three_nodes, [*BOTH_FORGOT, *submit('CT1', SHORT), *carried('CT1', 'GATE', 3), *carried('GATE', 'ARCH', 4)],
@@ -190,7 +212,7 @@ EXACT = [
      'node ARCH|lines 0|' + CT1_SENT + TRIED),
 ]
 # what is no script: the line that is named
-WRONG = [(1, 'forget\tCT1\n'), (1, 'forget\tCT1\t1.2.3.4\tGATE\n'), (2, '# a comment\nmove\t1\tnobody\t1\n'), (1, 'push\n'), (1, 'push\t01\n'), (3, '\n\nfly\n'), (1, 'tick\t18446744073709551616\n'),
+WRONG = [(1, 'forget\tCT1\n'), (1, 'forget\tCT1\t1.2.3.4\tGATE\n'), (1, 'drop\tCT1\t1.2.3.4\n'), (1, 'drop\tCT1\t1.2.3.4\tGATE\t1\n'), (2, '# a comment\nmove\t1\tnobody\t1\n'), (1, 'push\n'), (1, 'push\t01\n'), (3, '\n\nfly\n'), (1, 'tick\t18446744073709551616\n'),
          (1, 'submit\tCT1\tE\t0800\n'), (2, 'tick\t1\nsubmit\tCT1\tE\tXY\n'), (1, ' \n')]
 
 

@@ -16,8 +16,8 @@ import threading
 import time
 
 sys.dont_write_bytecode = True
-from lib.requestor import ACCEPTED, REJECTED, RELEASED, Acceptor, Requestor, command, hear, values
-from lib.nodes import CT, EXPLICIT, LIMIT, PROGRAM, Room, data_set, element, ended, lines, part10, run_cases, same, stop, told
+from lib.requestor import ABORT, ACCEPTED, REJECTED, RELEASED, Acceptor, Requestor, associate, command, context, hear, values
+from lib.nodes import CT, EXPLICIT, IMPLICIT, LIMIT, PROGRAM, Room, data_set, element, ended, lines, part10, run_cases, same, stop, told
 
 
 def three_nodes():
@@ -45,7 +45,14 @@ def refusals():
     """What is refused, by which name and with which status."""
     with Room() as room:
         room.put('image.dcm', part10(b'1.2.3.4'))
+        for word in ('list',), ('list', '--summary'), ('requeue', '1.2.3.4', 'GATE'), ('drop', '1.2.3.4', 'GATE'), ('forget', '1.2.3.4'), ('serve', '--must-exist'):
+            told(room.at(word[0], 'ARCH', *word[1:]), 3, '', 'dr_router: G8 NoLedger\n')
+        same(os.path.exists(f'{room.folder}/ARCH.db'), False)
+        told(room.at('new', 'ARCH'), 0, 'made\n', '')
+        told(room.at('new', 'ARCH'), 1, '', 'dr_router: G9 IsThere\n')
         told(room.at('list', 'ARCH'), 0, 'node\tARCH\nlines\t0\n', '')
+        told(room.at('forget', 'ARCH', '1.2.3.4'), 1, '', 'dr_router: G7 NotOver\n')
+        told(room.at('drop', 'ARCH', '1.2.3.4', 'GATE'), 1, '', 'dr_router: G5 NotHeld\n')
         told(room.at('list', 'GATE', ledger='ARCH.db'), 1, '', 'dr_router: G6 OtherSite\n')
         told(room.at('list', 'NONE'), 1, '', 'dr_router: NoNode\n')
         told(room.at('requeue', 'ARCH', '1.2.3.4', 'GATE'), 1, '', 'dr_router: G5 NotHeld\n')
@@ -54,7 +61,7 @@ def refusals():
         told(room.at('list', 'ARCH', ledger='garbage.db'), 3, '', 'dr_router: G3 Store\n')
         room.put('no.dcm', b'no file of the standard')
         told(room.at('send', 'CT1', 'no.dcm'), 1, '', 'dr_router: F1 NotDicom\n')
-        serving = room.serve('ARCH', 1)
+        serving = room.serve('ARCH', 1, '--must-exist')
         told(room.at('list', 'ARCH'), 3, '', 'dr_router: G3 Store: in use\n')
         serving.kill()
         serving.wait()
@@ -77,15 +84,25 @@ def dead_hop():
 
 
 def held_rows():
-    """Other bytes under a known UID are refused (C0F1), which holds the row; what is held is counted, and queued again."""
+    """Other bytes under a known UID are refused (C0F1), which holds the row; what is held is counted, queued again, or given up."""
     with Room() as room:
         room.put('image.dcm', part10(b'1.2.3.4'))
         room.put('other.dcm', part10(b'1.2.3.4', element(0x10, 0x10, b'PN', b'Other')))
-        gate = room.serve('GATE', 2)
+        gate = room.serve('GATE', 3)
         same(room.at('send', 'CT1', 'image.dcm').returncode, 0)
-        sent = room.at('send', 'CT1', 'other.dcm', ledger='second.db')
-        same(lines(sent.stdout)[3:4], ['row\t1.2.3.4\tGATE\theld\tC0F1'])
+        for ledger in 'second.db', 'third.db':
+            sent = room.at('send', 'CT1', 'other.dcm', ledger=ledger)
+            same(lines(sent.stdout)[3:4], ['row\t1.2.3.4\tGATE\theld\tC0F1'])
         ended(gate)
+        # a row that is given up by name, and an instance that is forgotten then
+        told(room.at('forget', 'CT1', '1.2.3.4', ledger='third.db'), 1, '', 'dr_router: G7 NotOver\n')
+        told(room.at('drop', 'CT1', '1.2.3.4', 'ARCH', ledger='third.db'), 1, '', 'dr_router: G5 NotHeld\n')
+        told(room.at('drop', 'CT1', '1.2.3.4', 'GATE', ledger='third.db'), 0, 'dropped\n', '')
+        told(room.at('list', 'CT1', ledger='third.db'), 0, 'node\tCT1\nrow\t1.2.3.4\tGATE\tdropped\nlines\t3\n', '')
+        told(room.at('drop', 'CT1', '1.2.3.4', 'GATE', ledger='third.db'), 1, '', 'dr_router: G5 NotHeld\n')
+        told(room.at('requeue', 'CT1', '1.2.3.4', 'GATE', ledger='third.db'), 1, '', 'dr_router: G5 NotHeld\n')
+        told(room.at('forget', 'CT1', '1.2.3.4', ledger='third.db'), 0, 'forgotten\n', '')
+        told(room.at('list', 'CT1', ledger='third.db'), 0, 'node\tCT1\nlines\t4\n', '')
         counts = 'node\tCT1\narrivals\t1\nkept\t0\nqueue\tGATE\twaiting\t{}\theld\t{}\tdone\t0\toldest\t{}\nlines\t{}\n'
         told(room.at('list', 'CT1', '--summary', ledger='second.db'), 0, counts.format(0, 1, '-', 2), '')
         told(room.at('requeue', 'CT1', '--all-held', 'ARCH', ledger='second.db'), 0, '', '')
@@ -112,6 +129,7 @@ def events():
         said = [(*event[1:3], re.sub(r' milliseconds=\d+$', ' milliseconds=N', event[3])) for event in told_at_gate]
         for event in [('INFO', 'node', 'serves node="GATE" ledger="GATE.db" associations=5'), ('DEBUG', 'association', 'taken session=1'),
                       ('DEBUG', 'instance', 'new session=1 caller="CT1" uid=1.2.3.0'), ('INFO', 'association', 'released session=5 instances=1 refused=0 milliseconds=N'),
+                      ('INFO', 'contexts', f'asked session=1 caller="CT1" called="GATE" accepted="{CT.decode()}={EXPLICIT.decode()}" refused=""'),
                       ('INFO', 'visit', 'released dest="ARCH" settled=1'), ('INFO', 'node', 'has arrivals=0 kept=0 lines=0'),
                       ('INFO', 'node', 'has arrivals=5 kept=0 lines=10'), ('DEBUG', 'row', 'done dest="ARCH" uid=1.2.3.0 status="0000"'),
                       ('INFO', 'queue', 'has dest="ARCH" waiting=0 held=0 done=5 oldest=-')]:
@@ -181,7 +199,7 @@ def report_paths():
         refused('GATE', own, ledger='GATE.new')
         same(sorted(os.listdir(room.folder)), ['certificate', 'here', 'plan', 'sub'])
         # with a ledger: by its name, by links, and by the other name of a ledger that is named by a link
-        same(room.at('list', 'GATE').returncode, 0)
+        told(room.at('new', 'GATE'), 0, 'made\n', '')
         os.symlink('GATE.db', at('link'))
         os.link(at('GATE.db'), at('hard'))
         for path in [*names, './GATE.db', 'sub/../GATE.db-wal', 'here/GATE.db', at('GATE.db-wal'), 'link', 'hard', 'plan', './certificate', 'sub/../plan']:
@@ -225,6 +243,22 @@ def forged():
         ended(arch)
         told_at_arch = [event[3] for event in room.events('ARCH') if event[2] == 'instance']
         same(told_at_arch, ['refused session=1 caller="A\\nB\\x1b[1m\\" \\\\C" uid=1.2.3.4 fault="G1 NoLine"'])
+
+
+def refused_contexts():
+    """Who asked for an association, and which of its contexts were refused, with the result of each; also of one that was rejected."""
+    with Room() as room:
+        arch = room.serve('ARCH', 2)
+        contexts = context(1, b'1.2.840.10008.1.1', IMPLICIT) + context(3, CT, b'1.2.840.10008.1.2.4.50') + context(5, b'1.2.3', EXPLICIT)
+        for called in 'ARCH', 'OTHER':
+            link = socket.create_connection(('127.0.0.1', room.ports['ARCH']))
+            link.sendall(associate(1, called, 'GATE', contexts))
+            hear(link)
+            link.close()
+        ended(arch)
+        same([event[3] for event in room.events('ARCH') if event[2] == 'contexts'],
+             ['asked session=1 caller="GATE" called="ARCH" accepted="1.2.840.10008.1.1=1.2.840.10008.1.2" '
+              f'refused="{CT.decode()}=4 1.2.3=3"', 'none session=2 caller="GATE" called="OTHER"'])
 
 
 def asked_at(room, node='ARCH', caller='GATE'):
@@ -376,12 +410,12 @@ def slow_peers():
                     pass
             drips = threading.Thread(target=drip)
             drips.start()
-            same(ends_at(slow.link), True)
+            same(aborts(slow.link), True)
             assert 1.5 < time.monotonic() - begun < 12, time.monotonic() - begun
             for _ in range(3):
                 time.sleep(1.5)
                 same(other.echo(), 0)
-            same(ends_at(silent.link), True)
+            same(aborts(silent.link), True)
             assert 3.5 < time.monotonic() - begun < 20, time.monotonic() - begun
             same(other.release(), RELEASED)
             drips.join()
@@ -411,14 +445,45 @@ def hear_request(acceptor, link):
     link.sendall(acceptor.accepted(body))
 
 
-def ends_at(link):
-    """Whether the other side closes, whatever it says before."""
-    try:
-        while link.recv(4096):
-            pass
-    except ConnectionResetError:
-        pass
+def aborts(link):
+    """Whether the other side says an A-ABORT before it closes; this side closes behind it."""
+    said = b''
+    while not said.endswith(ABORT):
+        piece = link.recv(4096)
+        if not piece:
+            return False
+        said += piece
+    link.close()
     return True
+
+
+def crowded():
+    """Where there is no room in memory for a data set that comes, it is answered A700H, and comes in later; the others do at once."""
+    with Room() as room:
+        arch = room.serve('ARCH', 0, '--memory', '128')
+        bodies = {uid: data_set(uid, element(0x7fe0, 0x10, b'OW', bytes(48 << 20))) for uid in (b'1.2.3.%d' % number for number in range(4))}
+        answers = {}
+        def store(uid):
+            with asked_at(room) as caller:
+                answers[uid] = caller.store(uid, bodies[uid])
+                same(caller.echo(), 0)
+                same(caller.release(), RELEASED)
+        callers = [threading.Thread(target=store, args=(uid,)) for uid in bodies]
+        for caller in callers:
+            caller.start()
+        for caller in callers:
+            caller.join()
+        # at least one of those that come at a time finds room, and at least one none
+        same(set(answers.values()), {0, 0xa700})
+        refused = [uid for uid in bodies if answers[uid] != 0]
+        same(len([event for event in room.events('ARCH') if event[3].startswith('crowded ')]), len(refused))
+        for uid in refused:
+            store(uid)
+        same(set(answers.values()), {0})
+        peak = int(re.search(r'VmHWM:\s+(\d+) kB', open(f'/proc/{arch.pid}/status').read())[1])
+        assert peak < 500_000, peak
+        stop(arch)
+        same(len([line for line in lines(room.at('list', 'ARCH').stdout) if line.startswith('kept')]), len(bodies))
 
 
 def stopped():
@@ -454,7 +519,7 @@ def stopped():
         except (OSError, EOFError):
             pass
         is_over.set()
-        same(ends_at(silent.link), True)
+        same(aborts(silent.link), True)
         printed = ended(arch)
         assert 8 < time.monotonic() - begun < 30, time.monotonic() - begun
         for caller in callers:
@@ -511,8 +576,8 @@ def killed():
 def main():
     if not os.path.exists(PROGRAM):
         sys.exit(f'{PROGRAM} is not built')
-    run_cases('serving', three_nodes, refusals, dead_hop, held_rows, events, reports, report_paths, forged, few_workers, silent_associations,
-              rejected_callers, hops_alone, slow_peers, deaf_peer, stopped, killed)
+    run_cases('serving', three_nodes, refusals, dead_hop, held_rows, events, reports, report_paths, forged, refused_contexts, few_workers, silent_associations,
+              rejected_callers, hops_alone, slow_peers, deaf_peer, crowded, stopped, killed)
 
 
 if __name__ == '__main__':

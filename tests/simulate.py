@@ -1,7 +1,8 @@
 #!/usr/bin/env python3
 """Plays random scripts on the built program, over random sound plans, and compares each report with that of a world written
 again from the documents (script_world.py), which counts the bytes of PDUs but writes none: requests, stores and releases in
-random cuts, with aborts, lost connections, late marks, restarts, refused stores, instances that come twice and such as are forgotten.
+random cuts, with aborts, lost connections, late marks, restarts, refused stores, instances that come twice, held rows that are queued again
+or given up, and instances that are forgotten.
 
     tests/simulate.py [RUNS] [SEED]        no report may differ, and each kind of step, of answer and of reason for which a
                                            step is skipped must have come (500 runs: about half a minute; at least 300)
@@ -22,7 +23,8 @@ from lib.script_world import Item, World
 
 TOP = os.path.dirname(os.path.dirname(os.path.abspath(__file__)))
 PROGRAM = f'{TOP}/crates/dr_router/out/dr_router'
-WRONG = ('refusals last', 'whole PDUs move', 'a restart forgets rows', 'what is under way is forgotten', 'arrivals are not forgotten')
+WRONG = ('refusals last', 'whole PDUs move', 'a restart forgets rows', 'what is under way is forgotten', 'arrivals are not forgotten',
+         'what was given up stays so', 'arrivals of what was given up stay')
 REACHED = {
     'submit': {'New', 'Again', 'NoLine', 'Conflict', 'Store', 'no such node'}, 'open': {'done', 'no hop'}, 'tick': {'done'},
     'push': {'done', 'no such link', 'not established', 'a store is pending', 'nothing is due'},
@@ -30,6 +32,7 @@ REACHED = {
     'abort': {'done', 'no such link', 'no cell'}, 'release': {'done', 'no such link', 'a store is pending', 'no cell'},
     'close': {'done', 'no such link', 'both are over'}, 'late': {'no such link', 'ARTIM expired', 'no answer came', 'not late'},
     'restart': {'done', 'no such node'}, 'requeue': {'done', 'NotHeld', 'Store', 'no such node'}, 'refuse': {'done', 'no such node'},
+    'drop': {'done', 'NotHeld', 'Store', 'no such node'}, 'a dropped row met': {'an arrival', 'a forgetting'},
     'forget': {'done', 'NotOver', 'Store', 'under way', 'over, but under way', 'no such node'}, 'new after a forgetting': {'the same', 'another'},
     'heard': {'request', 'acceptance', 'rejection', 'command', 'data', 'response', 'release', 'released', 'abort'},
     'status': {0x0000, 0xA700, 0xC0F1},
@@ -104,6 +107,10 @@ class Play:
     def random_item(self):
         dice = self.dice
         name, cell = dice.choice(self.places)
+        again = self.rows_that(lambda row: row == ('dropped',))
+        if again and dice.random() < 0.3:
+            name, uid, dest = dice.choice(again)
+            return name, self.world.books[name].items[uid]
         if dice.random() < 0.05:
             name = dice.choice([*sorted(self.world.books), 'NOBODY'])
         key = (*cell[:2], *('none of them' if part is REST else part for part in cell[2:]))
@@ -139,14 +146,22 @@ class Play:
         if choice < 0.56:
             return 'tick', dice.choice([0, 1, 999, 1000, 2000, 30_000, 60_000, 300_000])
         if choice < 0.58:
-            return 'refuse', dice.choice([*names, 'NOBODY'])
+            held = [name for name, uid, dest in self.rows_that(lambda row: row[0] == 'held')]
+            return 'refuse', dice.choice(held if held and dice.random() < 0.5 else [*names, 'NOBODY'])
         if choice < 0.62:
             return 'forget', *self.random_uid()
+        if choice < 0.67:
+            return 'drop', *self.random_row()
         return 'move', self.random_link(), dice.choice(['requestor', 'acceptor']), dice.choice([0, 1, 7, 50, 100, 233, 1000, 10 ** 6, 10 ** 6, 10 ** 6])
 
+    def rows_that(self, apt):
+        return [(name, *at) for name, book in sorted(self.world.books.items()) for at, row in sorted(book.rows.items()) if apt(row)]
+
     def random_row(self):
-        rows = [(name, *at) for name, book in sorted(self.world.books.items()) for at, row in sorted(book.rows.items()) if row[0] == 'held' or self.dice.random() < 0.1]
-        return self.dice.choice(rows) if rows else (self.dice.choice([*sorted(self.world.books), 'NOBODY']), '1.2.3', 'NOBODY')
+        """A row to queue again or to give up: most are held."""
+        held = self.rows_that(lambda row: row[0] == 'held')
+        rows = held if held and self.dice.random() < 0.7 else self.rows_that(lambda row: True)
+        return self.dice.choice(rows) if rows and self.dice.random() < 0.95 else (self.dice.choice([*sorted(self.world.books), 'NOBODY']), '1.2.3', 'NOBODY')
 
     def random_uid(self):
         """One to forget: most are over, or under way."""

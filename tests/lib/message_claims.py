@@ -13,12 +13,31 @@ def claim(holds, *what):
         raise Claim(*what)
 
 
+def is_over(row):
+    """Done, or dropped."""
+    return row[0] in ('done', 'dropped')
+
+
+def since_adoption(book):
+    """The lines since the last adoption."""
+    adoptions = [at for at, line in enumerate(book.journal) if line[0] == 'adoption']
+    return book.journal[adoptions[-1] + 1:] if adoptions else book.journal
+
+
+def acknowledged(lines):
+    return {(line[1], line[2]) for line in lines if line[0] in ('arrival', 'repeat')}
+
+
 def had(book):
     """What was acknowledged since the last adoption: callers with items, forgotten or not."""
-    since = []
-    for line in book.journal:
-        since = [] if line[0] == 'adoption' else since + [(line[1], line[2])] if line[0] in ('arrival', 'repeat') else since
-    return set(since)
+    return acknowledged(since_adoption(book))
+
+
+def was_given_up(w, name, item, to):
+    """A person dropped this very item for that node, and nobody from whom it goes there was acknowledged since."""
+    since = since_adoption(w.books[name])
+    drops = [at for at, line in enumerate(since) if line == ('dropping', item.uid, to, item)]
+    return bool(drops) and not any(i == item and to in w.plan.sends(name, c, item.key) for c, i in acknowledged(since[drops[-1]:]))
 
 
 def has_arrival(w, name, caller, item):
@@ -58,9 +77,10 @@ def is_covered(w, caller, name, item, dest):
         return True
     for at in {walk[-1][1] for walk in w.plan.walks(caller, name, item.key)}:
         if w.books[at].items.get(item.uid) == item:
-            if any(uid == item.uid and r[0] != 'done' and dest in w.plan.destinations(at, to, item.key) for (uid, to), r in w.books[at].rows.items()):
+            if any(uid == item.uid and not is_over(r) and dest in w.plan.destinations(at, to, item.key) for (uid, to), r in w.books[at].rows.items()):
                 return True
-    return False
+    return any(was_given_up(w, at, item, to) for walk in w.plan.walks(caller, name, item.key) for by, at in walk[-1:]
+               for to in w.plan.sends(at, by, item.key) if dest in w.plan.destinations(at, to, item.key))
 
 
 def nothing_lost(w):
@@ -80,8 +100,8 @@ def nothing_lost(w):
             dests = w.plan.destinations(name, to, item.key)
             claim(dests, 'NothingLost', 'no destination of a row that stood', name, uid, to)
             for dest in dests:
-                queued = row is not None and row[0] != 'done'
-                claim(queued or (has_arrival(w, to, name, item) and is_covered(w, name, to, item, dest)), 'NothingLost', 'stood', name, uid, to)
+                queued = row is not None and not is_over(row)
+                claim(queued or was_given_up(w, name, item, to) or (has_arrival(w, to, name, item) and is_covered(w, name, to, item, dest)), 'NothingLost', 'stood', name, uid, to)
 
 
 def seen(w):

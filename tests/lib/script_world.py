@@ -65,7 +65,7 @@ class Book:
         def progress(row):
             if row[0] == 'waiting':
                 return f'waiting\t{row[1]}\t{row[2]}'
-            return 'done' if row[0] == 'done' else f'held\t{row[1]:04X}'
+            return f'held\t{row[1]:04X}' if row[0] == 'held' else row[0]
         rows = [f'node\t{name}', *(f'arrival\t{c}\t{u}' for c, u in sorted(self.arrivals)),
                 *(f'kept\t{u}\t{len(self.items[u].body)}' for u in sorted(self.kept)),
                 *(f'row\t{u}\t{d}\t{progress(r)}' for (u, d), r in sorted(self.rows.items())), f'lines\t{self.lines}']
@@ -130,7 +130,11 @@ class World:
         if self.model.keeps(stop):
             book.kept.add(item.uid)
         for to in self.model.sends(stop):
-            book.rows.setdefault((item.uid, to), ('waiting', 0, 0))
+            row = book.rows.get((item.uid, to))
+            if row == ('dropped',) and 'what was given up stays so' not in self.wrong:
+                self.note('a dropped row met', 'an arrival')
+                row = None
+            book.rows[item.uid, to] = row or ('waiting', 0, 0)
         return 'New'
 
     def settle(self, name, uid, dest, outcome):
@@ -368,9 +372,23 @@ class World:
         book.rows[uid, dest] = ('waiting', 0, 0)
         return 'done'
 
+    def drop(self, name, uid, dest):
+        if name not in self.books:
+            return 'no such node'
+        book = self.books[name]
+        if book.rows.get((uid, dest), ('none',))[0] != 'held':
+            return 'NotHeld'
+        if self.store_fails(book):
+            return 'Store'
+        book.lines += 1
+        book.rows[uid, dest] = ('dropped',)
+        if 'arrivals of what was given up stay' not in self.wrong:
+            book.arrivals = {at for at in book.arrivals if at[1] != uid}
+        return 'done'
+
     def is_over(self, name, uid):
         book = self.books[name]
-        return uid in book.items and uid not in book.kept and all(row[0] == 'done' for (it, _), row in book.rows.items() if it == uid)
+        return uid in book.items and uid not in book.kept and all(row[0] in ('done', 'dropped') for (it, _), row in book.rows.items() if it == uid)
 
     def is_under_way(self, name, uid):
         return any(caller.node == name and caller.pending and caller.pending.uid == uid for caller, receiver in self.links.values())
@@ -386,6 +404,8 @@ class World:
         if self.store_fails(book):
             return 'Store'
         book.lines += 1
+        if any(row == ('dropped',) for (it, _), row in book.rows.items() if it == uid):
+            self.note('a dropped row met', 'a forgetting')
         book.forgotten[uid] = book.items.pop(uid)
         if 'arrivals are not forgotten' not in self.wrong:
             book.arrivals = {at for at in book.arrivals if at[1] != uid}

@@ -9,7 +9,7 @@ use Rattle.dr_ledger.specs.Books as books
 use Rattle.dr_ledger.specs.Items.{instance_of}
 use Rattle.dr_ledger.specs.Replies.{arrival_line}
 use Rattle.dr_ledger.specs.Routings.{Routing}
-use Rattle.dr_desk.specs.Laws.{ArrivalsAreRecorded, FewAreHeld, ForgettingsAreRecorded, LinesAreOfOneCall, NoMoreAreHeld, ReceiptsAreOne, RequeuingsAreRecorded, SettlingsAreRecorded}
+use Rattle.dr_desk.specs.Laws.{ArrivalsAreRecorded, DroppingsAreRecorded, FewAreHeld, ForgettingsAreRecorded, LinesAreOfOneCall, NoMoreAreHeld, ReceiptsAreOne, RequeuingsAreRecorded, SettlingsAreRecorded}
 use Rattle.dr_desk.specs.Receipts.{Records, receipt}
 
 abbrev lines_of : Book → List Line
@@ -25,6 +25,9 @@ settlings_are_recorded uid dest outcome now old new h = (books.Settling uid dest
 pub requeuings_are_recorded : RequeuingsAreRecorded
 requeuings_are_recorded uid dest old new h = (books.Requeuing uid dest, ap lines_of h.1, (refl, refl))
 
+pub droppings_are_recorded : DroppingsAreRecorded
+droppings_are_recorded uid dest now old new h = (books.Dropping uid dest now, ap lines_of h.1, (refl, refl))
+
 pub forgettings_are_recorded : ForgettingsAreRecorded
 forgettings_are_recorded uid old new h = (books.Forgetting uid, ap lines_of h.1, (refl, refl))
 
@@ -33,6 +36,7 @@ lines_are_of_one_call (entry.Arrival caller uid key long to keep) call other ans
 lines_are_of_one_call (entry.Repeat caller uid key long) call other answer another h k = (h.0 ∙ sym k.0, h.1 ∙ sym k.1)
 lines_are_of_one_call (entry.Settling uid dest outcome now) call other answer another h k = (h.0 ∙ sym k.0, h.1 ∙ sym k.1)
 lines_are_of_one_call (entry.Requeuing uid dest) call other answer another h k = (h.0 ∙ sym k.0, h.1 ∙ sym k.1)
+lines_are_of_one_call (entry.Dropping uid dest now) call other answer another h k = (h.0 ∙ sym k.0, h.1 ∙ sym k.1)
 lines_are_of_one_call (entry.Forgetting uid) call other answer another h k = (h.0 ∙ sym k.0, h.1 ∙ sym k.1)
 lines_are_of_one_call entry.Adoption call other answer another h k = absurd h
 

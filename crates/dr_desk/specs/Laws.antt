@@ -10,11 +10,11 @@ use Rattle.dr_ledger.specs.declared.item.Entry.TheVariants as entry
 use Rattle.dr_ledger.specs.declared.item.Outcome.{Outcome}
 use Rattle.dr_ledger.specs.Books.{Book, Line}
 use Rattle.dr_ledger.specs.Items.{instance_of}
-use Rattle.dr_ledger.specs.Replies.{Arrives, Forgets, Requeues, Settles, entry_of}
+use Rattle.dr_ledger.specs.Replies.{Arrives, Drops, Forgets, Requeues, Settles, entry_of}
 use Rattle.dr_ledger.specs.Routings.{Routing}
 use Rattle.dr_desk.specs.declared.receipt.Call.{Call}
 use Rattle.dr_desk.specs.declared.receipt.Call.TheVariants.{Arrival, Settling, Requeuing}
-use Rattle.dr_desk.specs.declared.receipt.Call.TheVariants.{Forgetting}
+use Rattle.dr_desk.specs.declared.receipt.Call.TheVariants.{Dropping, Forgetting}
 use Rattle.dr_desk.specs.declared.receipt.Reply.{Reply}
 use Rattle.dr_desk.specs.declared.receipt.Reply.TheVariants as reply
 use Rattle.dr_desk.specs.declared.receipt.Receipt.{Receipt}
@@ -44,6 +44,12 @@ RequeuingsAreRecorded =
     (uid dest : Text) (old new : Book)
     → Requeues uid dest old (Ok tt) new
     → AddsALineOf (Requeuing uid dest) reply.Done old new
+
+abbrev pub DroppingsAreRecorded : Type 0
+DroppingsAreRecorded =
+    (uid dest : Text) (now : ℕ) (old new : Book)
+    → Drops uid dest now old (Ok tt) new
+    → AddsALineOf (Dropping uid dest now) reply.Done old new
 
 abbrev pub ForgettingsAreRecorded : Type 0
 ForgettingsAreRecorded = (uid : Text) (old new : Book) → Forgets uid old (Ok tt) new →

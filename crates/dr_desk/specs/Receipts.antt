@@ -7,7 +7,7 @@ use Rattle.dr_ledger.specs.declared.item.Entry.{Entry}
 use Rattle.dr_ledger.specs.declared.item.Entry.TheVariants as entry
 use Rattle.dr_desk.specs.declared.receipt.Call.{Call}
 use Rattle.dr_desk.specs.declared.receipt.Call.TheVariants.{Arrival, Settling, Requeuing}
-use Rattle.dr_desk.specs.declared.receipt.Call.TheVariants.{Forgetting}
+use Rattle.dr_desk.specs.declared.receipt.Call.TheVariants.{Dropping, Forgetting}
 use Rattle.dr_desk.specs.declared.receipt.Reply.{Reply}
 use Rattle.dr_desk.specs.declared.receipt.Reply.TheVariants.{Arrived, Done}
 use Rattle.dr_desk.specs.declared.receipt.Receipt.{Receipt}
@@ -26,6 +26,8 @@ Records (entry.Repeat caller uid key length) call reply =
 Records (entry.Settling uid dest outcome now) call reply =
     (call ≡ Settling uid dest outcome now) × (reply ≡ Done)
 Records (entry.Requeuing uid dest) call reply = (call ≡ Requeuing uid dest) × (reply ≡ Done)
+Records (entry.Dropping uid dest now) call reply =
+    (call ≡ Dropping uid dest now) × (reply ≡ Done)
 Records (entry.Forgetting uid) call reply = (call ≡ Forgetting uid) × (reply ≡ Done)
 Records entry.Adoption call reply = ⊥
 

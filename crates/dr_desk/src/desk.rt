@@ -66,6 +66,10 @@ impl<L: Ledger> Ledger for Desk<L> {
         self.ledger.next(dest, now)
     }
 
+    fn due(&mut self, dest: &Text, now: u64) -> Result<Option<Text>, LedgerFault> {
+        self.ledger.due(dest, now)
+    }
+
     fn settle(
         &mut self,
         uid: &Text,
@@ -130,6 +134,10 @@ impl<L: Ledger> Ledger for Desk<L> {
 }
 
 impl<L: LetsGo> LetsGo for Desk<L> {
+    fn give_up(&mut self, uid: &Text, dest: &Text, now: u64) -> Result<(), LedgerFault> {
+        self.ledger.give_up(uid, dest, now)
+    }
+
     fn forget(&mut self, uid: &Text) -> Result<(), LedgerFault> {
         self.ledger.forget(uid)
     }

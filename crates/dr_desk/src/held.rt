@@ -5,7 +5,7 @@ ghost use Rattle.std.specs.List.{AllByRecursion, flat_map};
 ghost use Rattle.std.proofs.Props.{props};
 ghost use Rattle.dr_ledger.specs.Items.{instance_of};
 ghost use Rattle.dr_ledger.specs.Histories.{IsJournalled};
-ghost use Rattle.dr_ledger.specs.Replies.{Arrives, Forgets, Requeues, Settles, entry_of};
+ghost use Rattle.dr_ledger.specs.Replies.{Arrives, Drops, Forgets, Requeues, Settles, entry_of};
 ghost use Rattle.dr_ledger.specs.SiteRoutes.{site_routing};
 ghost use Rattle.dr_desk.specs.Agreeing.{AreApart, Fails, IsOfLine, Rises, numbers};
 ghost use Rattle.dr_desk.specs.Growing.{BeginWith, Grows};
@@ -166,6 +166,10 @@ impl<L: Ledger, B: Sharing> Held<L, B> {
         self.desk.next(dest, now)
     }
 
+    pub(crate) fn due(&mut self, dest: &Text, now: u64) -> Result<Option<Text>, LedgerFault> {
+        self.desk.due(dest, now)
+    }
+
     pub(crate) fn admits(&mut self, caller: &Text, item: &Item) -> Result<(), LedgerFault> {
         self.desk.admits(caller, item)
     }
@@ -295,6 +299,36 @@ impl<L: Ledger, B: Sharing> Held<L, B> {
 }
 
 impl<L: LetsGo, B: Sharing> Held<L, B> {
+    /// The ledger's `give_up`, with the number of the line.
+    pub(crate) fn give_up(
+        &mut self,
+        made: &mut Made<B>,
+        uid: &Text,
+        dest: &Text,
+        now: u64,
+    ) -> Result<u64, LedgerFault>
+        requires { now ≤ 2 ^ 62 }
+        ensures count { MatchResult result (λ n. made.new.count ≡ made.old.count + 1)
+            (λ why. made.new.count ≡ made.old.count) }
+        ensures reply { IfOk result (λ n. L.stands self.new.desk.ledger →
+            Drops uid.now dest.now now (L.book self.old.desk.ledger) (Ok tt)
+            (L.book self.new.desk.ledger)) }
+        ensures number { IfOk result (λ n. L.stands self.new.desk.ledger →
+            n ≡ length (L.book self.new.desk.ledger).lines) }
+    {
+        if self.number == u64::MAX {
+            return Err(self.refuse());
+        }
+        let Held {
+            desk,
+            number,
+            tally,
+            ..
+        } = self;
+        desk.give_up(uid, dest, now)?;
+        Ok(made.count_line(tally, number))
+    }
+
     /// The ledger's `forget`, with the number of the line.
     pub(crate) fn forget(&mut self, made: &mut Made<B>, uid: &Text) -> Result<u64, LedgerFault>
         ensures count { MatchResult result (λ n. made.new.count ≡ made.old.count + 1)

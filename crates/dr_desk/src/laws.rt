@@ -1,6 +1,7 @@
 //! Laws of receipts.
 ghost use Rattle.dr_desk.specs.Laws.{ArrivalsAreRecorded, FewAreHeld, FiguresAreRight};
-ghost use Rattle.dr_desk.specs.Laws.{ForgettingsAreRecorded, LinesAreOfOneCall, NoMoreAreHeld};
+ghost use Rattle.dr_desk.specs.Laws.{DroppingsAreRecorded, ForgettingsAreRecorded};
+ghost use Rattle.dr_desk.specs.Laws.{LinesAreOfOneCall, NoMoreAreHeld};
 ghost use Rattle.dr_desk.specs.Laws.{ReceiptsAreOne, RequeuingsAreRecorded, SettlingsAreRecorded};
 
 use dr_ledger::laws::Routed;
@@ -10,6 +11,7 @@ pub fn accepted_calls_are_recorded<R: Routed>()
     ensures arrive { ArrivalsAreRecorded R.routing }
     ensures settle { SettlingsAreRecorded }
     ensures requeue { RequeuingsAreRecorded }
+    ensures drop { DroppingsAreRecorded }
     ensures forget { ForgettingsAreRecorded }
 {}
 

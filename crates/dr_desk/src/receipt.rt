@@ -27,6 +27,11 @@ pub enum Call {
         uid: Text,
         dest: Text,
     },
+    Dropping {
+        uid: Text,
+        dest: Text,
+        now: u64,
+    },
     Forgetting {
         uid: Text,
     },
@@ -36,7 +41,7 @@ pub enum Call {
 #[derive(Clone, Copy, PartialEq, Eq, Debug)]
 pub enum Reply {
     Arrived(Arrived),
-    /// The row was settled, or queued again, or the instance is forgotten.
+    /// The row was settled, queued again or dropped, or the instance is forgotten.
     Done,
 }
 
@@ -93,6 +98,15 @@ pub(crate) fn requeuing(uid: &Text, dest: &Text) -> Result<Call, AllocError>
     Ok(Call::Requeuing { uid, dest })
 }
 
+/// A held row that is given up.
+pub(crate) fn dropping(uid: &Text, dest: &Text, now: u64) -> Result<Call, AllocError>
+    ensures { IfOk result (λ call. call ≡ Call.Dropping uid.now dest.now now) }
+{
+    let uid = uid.clone()?;
+    let dest = dest.clone()?;
+    Ok(Call::Dropping { uid, dest, now })
+}
+
 /// A forgetting.
 pub(crate) fn forgetting(uid: &Text) -> Result<Call, AllocError>
     ensures { IfOk result (λ call. call ≡ Call.Forgetting uid.now) }
@@ -133,6 +147,7 @@ pub(crate) fn records(line: &Entry, receipt: &Receipt) -> bool
             now,
         } => is_settling(uid, dest, *outcome, *now, receipt),
         Entry::Requeuing { uid, dest } => is_requeuing(uid, dest, receipt),
+        Entry::Dropping { uid, dest, now } => is_dropping(uid, dest, *now, receipt),
         Entry::Forgetting { uid } => is_forgetting(uid, receipt),
         Entry::Adoption => false,
     }
@@ -192,6 +207,22 @@ fn is_requeuing(uid: &Text, dest: &Text, receipt: &Receipt) -> bool
         return false;
     };
     of == uid && to == dest && receipt.reply == Reply::Done
+}
+
+fn is_dropping(uid: &Text, dest: &Text, now: u64, receipt: &Receipt) -> bool
+    ensures { IsTrue result
+        ↔ ((receipt.now.call ≡ Call.Dropping uid.now dest.now now)
+        × (receipt.now.reply ≡ Reply.Done)) }
+{
+    let Call::Dropping {
+        uid: of,
+        dest: to,
+        now: at,
+    } = &receipt.call
+    else {
+        return false;
+    };
+    of == uid && to == dest && *at == now && receipt.reply == Reply::Done
 }
 
 fn is_forgetting(uid: &Text, receipt: &Receipt) -> bool

@@ -110,6 +110,20 @@ fn is_requeuing(line: &Entry, uid: &Text, dest: &Text) -> bool
     }
 }
 
+/// Whether the line is this dropping.
+fn is_dropping(line: &Entry, uid: &Text, dest: &Text, now: u64) -> bool
+    ensures { IsTrue result ↔ (line.now ≡ entry.Dropping uid.now dest.now now) }
+{
+    match line {
+        Entry::Dropping {
+            uid: of,
+            dest: towards,
+            now: at,
+        } => of == uid && towards == dest && *at == now,
+        _ => false,
+    }
+}
+
 /// Whether the line is this forgetting.
 fn is_forgetting(line: &Entry, uid: &Text) -> bool
     ensures { IsTrue result ↔ (line.now ≡ entry.Forgetting uid.now) }
@@ -144,6 +158,7 @@ impl Same for Entry {
                 now,
             } => is_settling(other, uid, dest, *outcome, *now),
             Entry::Requeuing { uid, dest } => is_requeuing(other, uid, dest),
+            Entry::Dropping { uid, dest, now } => is_dropping(other, uid, dest, *now),
             Entry::Forgetting { uid } => is_forgetting(other, uid),
             Entry::Adoption => matches!(other, Entry::Adoption),
         }

@@ -14,7 +14,7 @@ use crate::desk::Desk;
 use crate::held::Held;
 use crate::holdings::Holdings;
 use crate::pass::{Pass, TooManyPasses};
-use crate::receipt::{Call, Receipt, Reply, arrival, forgetting, requeuing, settling};
+use crate::receipt::{Call, Receipt, Reply, arrival, dropping, forgetting, requeuing, settling};
 use crate::sharing::Sharing;
 use dr_base::{Seq, Text};
 use dr_cert::Sealed;
@@ -219,6 +219,11 @@ impl<L: Ledger, B: Sharing> SharedDesk<L, B> {
         self.held.lock(rt).next(dest, now)
     }
 
+    /// The ledger's `due`: no data set is read.
+    pub fn due<R: Wait>(&self, rt: &R, dest: &Text, now: u64) -> Result<Option<Text>, LedgerFault> {
+        self.held.lock(rt).due(dest, now)
+    }
+
     /// The ledger's `admits`.
     pub fn admits<R: Wait>(&self, rt: &R, caller: &Text, item: &Item) -> Result<(), LedgerFault> {
         self.held.lock(rt).admits(caller, item)
@@ -334,6 +339,44 @@ impl<L: Ledger, B: Sharing> SharedDesk<L, B> {
 }
 
 impl<L: LetsGo, B: Sharing> SharedDesk<L, B> {
+    /// Gives a held row up.
+    ///
+    /// Errors: as the ledger's `give_up`; Memory may come before NotHeld.
+    pub fn give_up<R: Wait>(
+        &self,
+        rt: &R,
+        pass: &mut Pass<B>,
+        uid: &Text,
+        dest: &Text,
+        now: u64,
+    ) -> Result<(), LedgerFault>
+        requires { now ≤ 2 ^ 62 }
+        ensures { MatchResult result
+            (λ r. Notes (Call.Dropping uid.now dest.now now) Reply.Done
+            pass.old.made.count pass.old.receipts.items
+            pass.new.made.count pass.new.receipts.items)
+            (λ why. Leaves pass.old.made.count pass.old.receipts.items
+            pass.new.made.count pass.new.receipts.items) }
+    {
+        pass.make_room()?;
+        let call = dropping(uid, dest, now)?;
+        let came = self.held.lock(rt).give_up(&mut pass.made, uid, dest, now);
+        match came {
+            Ok(number) => {
+                pass.note(Receipt {
+                    number,
+                    call,
+                    reply: Reply::Done,
+                });
+                Ok(())
+            }
+            Err(fault) => {
+                drop(call);
+                Err(fault)
+            }
+        }
+    }
+
     /// Forgets an instance.
     ///
     /// Errors: as the ledger's `forget`; Memory may come before NotOver.

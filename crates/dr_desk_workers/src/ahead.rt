@@ -1,6 +1,7 @@
 //! What was heard of a connection before its session begins.
-ghost use Rattle.std.specs.Prelude.{◌≡◌, None};
-ghost use Rattle.dr_desk_workers.specs.Hearing.{later};
+ghost use Rattle.std.specs.Prelude.{◌≡◌, ◌∷◌, [], None, IfOk, false};
+ghost use Rattle.dr_session.specs.declared.ends.Heard.TheVariants.{Bytes, Late};
+ghost use Rattle.dr_desk_workers.specs.Hearing.{IsAhead, Puts, TakesIn, later, listed, told};
 
 use crate::gate::Gate;
 use dr_base::Text;
@@ -36,10 +37,23 @@ impl Ahead {
         mem::replace(&mut self.first, second)
     }
 
-    /// Want of memory.
-    fn memory() -> Ahead {
+    /// That alone.
+    fn of_one(heard: Heard) -> Ahead
+        ensures { told result ≡ heard ∷ [] }
+    {
         Ahead {
-            first: Some(Heard::Memory),
+            first: Some(heard),
+            second: None,
+            third: None,
+        }
+    }
+
+    /// What ended the waiting, if anything did; nothing came before it.
+    fn of_nothing(ended: Option<Heard>) -> Ahead
+        ensures { told result ≡ listed ended [] }
+    {
+        Ahead {
+            first: ended,
             second: None,
             third: None,
         }
@@ -53,27 +67,25 @@ impl Ahead {
         text: &[u8],
         whole: usize,
         ended: Option<Heard>,
-    ) -> Result<Ahead, AllocError> {
+    ) -> Result<Ahead, AllocError>
+        ensures { IfOk result (Puts text.now ended) }
+    {
         if text.is_empty() {
-            return Ok(Ahead {
-                first: ended,
-                second: None,
-                third: None,
-            });
+            return Ok(Ahead::of_nothing(ended));
         }
         let (request, behind) = text.split_at(whole.min(text.len()));
-        let first = Some(Heard::Bytes(Text::copy_of(alloc, request)?));
+        let first = Text::copy_of(alloc, request)?;
         if behind.is_empty() {
             return Ok(Ahead {
-                first,
+                first: Some(Heard::Bytes(first)),
                 second: ended,
                 third: None,
             });
         }
-        let second = Some(Heard::Bytes(Text::copy_of(alloc, behind)?));
+        let second = Text::copy_of(alloc, behind)?;
         Ok(Ahead {
-            first,
-            second,
+            first: Some(Heard::Bytes(first)),
+            second: Some(Heard::Bytes(second)),
             third: ended,
         })
     }
@@ -92,13 +104,54 @@ fn whole_length(text: &[u8]) -> Option<usize> {
     Some(length + 6)
 }
 
-/// Whether a mark ends the waiting: so long behind the moment at which a worker took the
-/// connection.
-fn is_over<C: Clock>(heard: &Heard, taken: u64, clock: &C) -> bool {
+/// Whether it ends the waiting: a late mark does so long behind the moment at which a worker took
+/// the connection.
+fn is_over<C: Clock>(heard: &Heard, taken: u64, clock: &C) -> bool
+    ensures { result ≡ false → heard.now ≡ Late }
+{
     match heard {
         Heard::Late => clock.now().saturating_sub(taken) >= REQUEST,
         Heard::Bytes(_) | Heard::End | Heard::Fault | Heard::Memory => true,
+        Heard::Idle | Heard::Crowded => true,
     }
+}
+
+/// More bytes; what is put ahead, once the first PDU is there whole.
+///
+/// Errors: want of memory.
+fn take_bytes(alloc: Global, piece: &[u8], text: &mut Vec<u8>) -> Result<Option<Ahead>, AllocError>
+    ensures { IfOk result (λ ahead.
+        TakesIn (Bytes piece.now) text.old.items ahead text.new.items) }
+{
+    text.extend_from_slice(piece)?;
+    let whole = whole_length(text.as_slice()).unwrap_or(usize::MAX);
+    if whole > text.len() {
+        return Ok(None);
+    }
+    let ahead = Ahead::of(alloc, text.as_slice(), whole, None)?;
+    Ok(Some(ahead))
+}
+
+/// What was heard; what is put ahead, where it ends the waiting.
+///
+/// Errors: want of memory.
+fn take_in<C: Clock>(
+    alloc: Global,
+    heard: Heard,
+    text: &mut Vec<u8>,
+    clock: &C,
+    taken: u64,
+) -> Result<Option<Ahead>, AllocError>
+    ensures { IfOk result (λ ahead. TakesIn heard text.old.items ahead text.new.items) }
+{
+    if let Heard::Bytes(piece) = &heard {
+        return take_bytes(alloc, piece.as_bytes(), text);
+    }
+    if !is_over(&heard, taken, clock) {
+        return Ok(None);
+    }
+    let ahead = Ahead::of(alloc, text.as_slice(), text.len(), Some(heard))?;
+    Ok(Some(ahead))
 }
 
 /// Waits until the first PDU is there whole, or can't be any more.
@@ -110,40 +163,36 @@ fn hear_first<K: Link + Drop, C: Clock, G: Gate>(
     gate: &G,
     clock: &C,
     taken: u64,
-) -> Result<Ahead, AllocError> {
+) -> Result<Ahead, AllocError>
+    ensures { IfOk result (λ ahead. IsAhead K.hears link.old ahead link.new) }
+{
     let mut text = Vec::new(alloc);
-    for _ in 0..MOST_PIECES {
+    for _piece in 0..MOST_PIECES {
         if gate.is_over() || gate.is_closing() {
-            return Ahead::of(alloc, &[], 0, Some(Heard::Fault));
+            return Ok(Ahead::of_one(Heard::Fault));
         }
         let heard = link.recv();
-        if let Heard::Bytes(bytes) = &heard {
-            text.extend_from_slice(bytes.as_bytes())?;
-            match whole_length(text.as_slice()) {
-                Some(whole) if whole <= text.len() => {
-                    return Ahead::of(alloc, text.as_slice(), whole, None);
-                }
-                _ => continue,
-            }
-        }
-        if is_over(&heard, taken, clock) {
-            return Ahead::of(alloc, text.as_slice(), text.len(), Some(heard));
+        if let Some(ahead) = take_in(alloc, heard, &mut text, clock, taken)? {
+            return Ok(ahead);
         }
     }
-    Ahead::of(alloc, &[], 0, Some(Heard::Fault))
+    Ok(Ahead::of_one(Heard::Fault))
 }
 
-/// What comes on a connection until its first PDU is there whole, or can't be any more. Nobody is
-/// counted while it is awaited.
+/// What comes on a connection until its first PDU is there whole, or can't be any more: what the
+/// link hears, in its order. Nobody is counted while it is awaited. Where the node ends it is a
+/// fault.
 pub fn ahead_of<K: Link + Drop, C: Clock, G: Gate>(
     alloc: Global,
     link: &mut K,
     gate: &G,
     clock: &C,
     taken: u64,
-) -> Ahead {
+) -> Ahead
+    ensures { IsAhead K.hears link.old result link.new }
+{
     match hear_first(alloc, link, gate, clock, taken) {
         Ok(ahead) => ahead,
-        Err(AllocError) => Ahead::memory(),
+        Err(AllocError) => Ahead::of_one(Heard::Memory),
     }
 }

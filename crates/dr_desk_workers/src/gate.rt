@@ -1,6 +1,7 @@
 //! What a session's worker tells of it, and points at which the session may be held.
 use dr_base::Text;
 use dr_ledger::{Arrived, LedgerFault};
+use dr_pdu::{AssociateAc, AssociateRq};
 use dr_session::{Ended, SessionFault};
 
 /// How far a session is.
@@ -42,6 +43,12 @@ pub trait Gate {
     /// An arrival was answered, by which there may be new rows for these nodes; None stands for
     /// all.
     fn queued(&self, _dests: Option<&[Text]>) {}
+
+    /// An association was asked for, and accepted by this answer, or not.
+    fn asked(&self, _session: u64, _request: &AssociateRq, _answer: Option<&AssociateAc>) {}
+
+    /// There is no room for the data set that comes: it is let go, and will be answered A700H.
+    fn crowded(&self, _session: u64) {}
 
     /// The session is over.
     fn ended(&self, session: u64, ended: Result<Ended, SessionFault>, tally: Tally);

@@ -1,15 +1,21 @@
-//! A link that passes a gate when a reply was sent, and a door before an association is accepted.
+//! A link that passes a gate when a reply was sent, and a door before an association is accepted,
+//! and that asks for room before it reads.
 ghost use Rattle.std.specs.Prelude.{◌≡◌, ◌⊎◌, ◌≤◌, ◌^◌, ◌↔◌, IsTrue, true, false};
 ghost use Rattle.dr_session.specs.Links.{Counts, HasRisen, IsLinkFault};
 ghost use Rattle.dr_desk_workers.specs.Hearing.{HearsBehind, IsAcceptance};
 
 use crate::ahead::Ahead;
+use crate::asked::tell_answer;
 use crate::counts::SessionCounts;
 use crate::door::Door;
 use crate::gate::{Gate, Point};
+use crate::room::Room;
+use crate::share::Share;
+use dr_pdu::AssociateRq;
 use dr_session::{Heard, Link};
-use std::mem;
-use std::sync::MutexGuard;
+use std::alloc::Global;
+use std::sync::{MutexGuard, Wait};
+use std::{mem, time};
 
 /// A connection's link. After a write that was done the gate is passed once for each arrival that
 /// was answered and whose reply wasn't sent before. It counts as open from the moment at which a
@@ -17,17 +23,24 @@ use std::sync::MutexGuard;
 ///
 /// While it has its turn at the door no other connection has: from when the open associations are
 /// counted, until the request is answered. An acceptance is written only after its association was
-/// let in.
+/// let in. Where there is no room for what comes, this is heard before each read, until it is
+/// answered.
 #[derive(Drop)]
-pub struct GatedLink<'a, K: Link + Drop, G: Gate> {
+pub struct GatedLink<'a, R: Wait + time::Clock, K: Link + Drop, G: Gate> {
+    pub rt: &'a R,
+    pub alloc: Global,
     pub link: K,
     pub ahead: Ahead,
+    pub request: Option<AssociateRq>,
     pub turn: Option<MutexGuard<'a, Door>>,
     pub asked: bool,
     pub inside: bool,
     pub gate: &'a G,
     pub session: u64,
     pub counts: &'a SessionCounts,
+    pub room: &'a Room,
+    pub share: Share,
+    pub warned: bool,
     pub taken: u64,
     pub failures: u64,
     pub ghost early: { taken ≤ 2 ^ 62 },
@@ -61,7 +74,7 @@ fn let_in(turn: Option<MutexGuard<'_, Door>>) -> bool {
     }
 }
 
-impl<'a, K: Link + Drop, G: Gate> GatedLink<'a, K, G> {
+impl<'a, R: Wait + time::Clock, K: Link + Drop, G: Gate> GatedLink<'a, R, K, G> {
     /// One failure more.
     fn fail(&mut self)
         ensures counted { HasRisen self.old.failures self.new.failures }
@@ -84,7 +97,53 @@ impl<'a, K: Link + Drop, G: Gate> GatedLink<'a, K, G> {
         if is_fault(&heard) {
             self.fail();
         }
+        self.note(&heard);
         heard
+    }
+
+    /// Counts the bytes that were heard.
+    fn note(&mut self, heard: &Heard)
+        ensures { (self.new.link ≡ self.old.link)
+            × (self.new.ahead ≡ self.old.ahead)
+            × (self.new.failures ≡ self.old.failures) }
+    {
+        if let Heard::Bytes(bytes) = heard {
+            self.share.note(bytes.as_bytes().len());
+        }
+    }
+
+    /// Whether it has to be told, before the next read, that there is no room for it.
+    fn is_crowded(&mut self) -> bool
+        ensures { (self.new.link ≡ self.old.link)
+            × (self.new.ahead ≡ self.old.ahead)
+            × (self.new.failures ≡ self.old.failures) }
+    {
+        let (known, warned) = (self.share.is_crowded(), self.warned);
+        self.warned = !warned && !self.share.has_room(self.rt, self.room);
+        if self.warned && !known {
+            self.gate.crowded(self.session);
+        }
+        self.warned
+    }
+
+    /// Tells, once, how the association was answered that was asked for.
+    fn tell_answer(&mut self, bytes: &[u8])
+        ensures { (self.new.link ≡ self.old.link)
+            × (self.new.failures ≡ self.old.failures)
+            × (self.new.inside ≡ self.old.inside) }
+    {
+        let request = mem::replace(&mut self.request, None);
+        tell_answer(self.alloc, self.gate, self.session, request, bytes);
+    }
+
+    /// It has answered: what it held is free again.
+    fn clear(&mut self)
+        ensures { (self.new.link ≡ self.old.link)
+            × (self.new.failures ≡ self.old.failures)
+            × (self.new.inside ≡ self.old.inside) }
+    {
+        self.share.clear(self.rt, self.room);
+        self.warned = false;
     }
 
     /// Its turn at the door ends where more is waited for than the request.
@@ -115,15 +174,17 @@ impl<'a, K: Link + Drop, G: Gate> GatedLink<'a, K, G> {
         self.inside
     }
 
-    /// Whether its association was let in. Its turn is over.
-    pub fn was_inside(self) -> bool
+    /// It is over: all that it held is free again. Whether its association was let in.
+    pub fn leave(self) -> bool
         ensures { result ≡ self.entry.inside }
     {
-        self.inside
+        let mut link = self;
+        link.clear();
+        link.inside
     }
 }
 
-impl<'a, K: Link + Drop, G: Gate> Link for GatedLink<'a, K, G> {
+impl<'a, R: Wait + time::Clock, K: Link + Drop, G: Gate> Link for GatedLink<'a, R, K, G> {
     ghost use Rattle.dr_desk_workers.specs.Hearing.{HearsBehind, SendsInside};
 
     ghost hears = { λ s heard t. HearsBehind K.hears s.ahead s.link heard t.ahead t.link };
@@ -146,6 +207,9 @@ impl<'a, K: Link + Drop, G: Gate> Link for GatedLink<'a, K, G> {
             return Heard::Fault;
         }
         self.wait_turn();
+        if self.is_crowded() {
+            return Heard::Crowded;
+        }
         self.hear()
     }
 
@@ -162,6 +226,8 @@ impl<'a, K: Link + Drop, G: Gate> Link for GatedLink<'a, K, G> {
         for _ in 0..self.counts.take_unanswered() {
             self.gate.at(self.session, Point::Answered);
         }
+        self.tell_answer(bytes);
+        self.clear();
         true
     }
 

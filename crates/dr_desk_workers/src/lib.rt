@@ -2,17 +2,22 @@
 //!
 //! `workers` starts threads that take connections from a channel until it is closed and empty,
 //! serve each with a session (`dr_session::receive`) over the shared desk, and give back their
-//! passes. A `Door` counts the associations that are open, and lets 256 in.
+//! passes. A `Door` counts the associations that are open, and lets 256 in. A `Room` counts what
+//! all of them hold in memory of data sets.
 #![tactic(auto)]
 
 pub mod ahead;
+mod asked;
+mod bounds;
 pub mod connection;
 mod counts;
 pub mod door;
 pub mod gate;
 mod gated;
 mod port;
+pub mod room;
 pub mod serving;
+mod share;
 
 pub use connection::Connection;
 pub use gate::{Gate, Point, Tally};

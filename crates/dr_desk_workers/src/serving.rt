@@ -2,20 +2,22 @@
 ghost use Rattle.std.specs.Prelude.{◌≤◌, ◌≡◌, IfOk, vec_len};
 
 use crate::ahead::ahead_of;
+use crate::asked::request_in;
+use crate::bounds::Bounds;
 use crate::connection::Connection;
 use crate::counts::SessionCounts;
-use crate::door::Door;
 use crate::gate::{Gate, Point};
 use crate::gated::GatedLink;
 use crate::port::SessionPort;
+use crate::share::Share;
 use crossbeam_channel::Receiver;
 use dr_desk::{Pass, SharedDesk, Sharing, TooManyPasses};
 use dr_ledger::Ledger;
 use dr_session::{Clock, Ended, Link, SessionFault, receive};
 use std::alloc::{AllocError, Global};
-use std::sync::{Mutex, Wait};
-use std::thread;
+use std::sync::Wait;
 use std::thread::Threads;
+use std::{thread, time};
 use thiserror::Error;
 
 /// Why no connection was taken.
@@ -49,9 +51,12 @@ impl From<TooManyPasses> for WorkersFault {
 /// one step under the lock of a `Door`; it is counted out when its session has ended. So with more
 /// than 256 workers one is left that rejects what is too much.
 ///
+/// All associations together hold at most `memory` bytes of data sets. One for which there is no
+/// room waits for it for a second; then what it brought is let go, and it is answered A700H.
+///
 /// Errors: TooManyPasses, Memory; then no connection was taken.
 pub fn workers<
-    R: Threads + Wait + Sync,
+    R: Threads + Wait + Sync + time::Clock,
     L: Ledger + Send,
     B: Sharing + Send + Sync,
     K: Link + Drop + Send,
@@ -61,6 +66,7 @@ pub fn workers<
     rt: &R,
     alloc: Global,
     n: usize,
+    memory: u64,
     connections: &Receiver<Connection<K, C>>,
     desk: &SharedDesk<L, B>,
     gate: &G,
@@ -73,41 +79,41 @@ pub fn workers<
         let pass = desk.pass(rt, alloc)?;
         passes.push_reserved(pass);
     }
-    let door = Mutex::new(Door::new());
+    let bounds = Bounds::new(memory);
     thread::for_each_mut(
         rt,
         passes.as_mut_slice(),
         n,
-        &|_, pass| { work(rt, alloc, desk, gate, connections, &door, pass) },
+        &|_, pass| { work(rt, alloc, desk, gate, connections, &bounds, pass) },
     );
     Ok(passes)
 }
 
 /// Serves until the channel is closed and empty.
-fn work<R: Wait, L: Ledger, B: Sharing, K: Link + Drop, C: Clock + Drop, G: Gate>(
+fn work<R: Wait + time::Clock, L: Ledger, B: Sharing, K: Link + Drop, C: Clock + Drop, G: Gate>(
     rt: &R,
     alloc: Global,
     desk: &SharedDesk<L, B>,
     gate: &G,
     connections: &Receiver<Connection<K, C>>,
-    door: &Mutex<Door>,
+    bounds: &Bounds,
     pass: &mut Pass<B>,
 ) {
     gate.began();
     for connection in connections.iter(rt) {
-        serve(rt, alloc, desk, gate, connection, door, pass);
+        serve(rt, alloc, desk, gate, connection, bounds, pass);
     }
 }
 
 /// Serves one connection to its end, however the session ends. The session counts from this moment,
 /// and its length from that at which the connection came.
-fn serve<R: Wait, L: Ledger, B: Sharing, K: Link + Drop, C: Clock + Drop, G: Gate>(
+fn serve<R: Wait + time::Clock, L: Ledger, B: Sharing, K: Link + Drop, C: Clock + Drop, G: Gate>(
     rt: &R,
     alloc: Global,
     desk: &SharedDesk<L, B>,
     gate: &G,
     connection: Connection<K, C>,
-    door: &Mutex<Door>,
+    bounds: &Bounds,
     pass: &mut Pass<B>,
 ) {
     let Connection {
@@ -119,7 +125,7 @@ fn serve<R: Wait, L: Ledger, B: Sharing, K: Link + Drop, C: Clock + Drop, G: Gat
     let counts = SessionCounts::new();
     let opened = link.opened();
     let ended = receive_gated(
-        rt, alloc, desk, gate, session, link, &clock, &counts, door, pass,
+        rt, alloc, desk, gate, session, link, &clock, &counts, bounds, pass,
     );
     gate.ended(
         session,
@@ -130,7 +136,7 @@ fn serve<R: Wait, L: Ledger, B: Sharing, K: Link + Drop, C: Clock + Drop, G: Gat
 
 /// A session behind a gate. What came first is answered in its turn at the door; who was let in is
 /// counted out when the session has ended.
-fn receive_gated<R: Wait, L: Ledger, B: Sharing, K: Link + Drop, C: Clock, G: Gate>(
+fn receive_gated<R: Wait + time::Clock, L: Ledger, B: Sharing, K: Link + Drop, C: Clock, G: Gate>(
     rt: &R,
     alloc: Global,
     desk: &SharedDesk<L, B>,
@@ -139,22 +145,29 @@ fn receive_gated<R: Wait, L: Ledger, B: Sharing, K: Link + Drop, C: Clock, G: Ga
     link: K,
     clock: &C,
     counts: &SessionCounts,
-    door: &Mutex<Door>,
+    bounds: &Bounds,
     pass: &mut Pass<B>,
 ) -> Result<Ended, SessionFault> {
     let (mut link, taken) = (link, clock.now());
     let ahead = ahead_of(alloc, &mut link, gate, clock, taken);
-    let turn = door.lock(rt);
+    let request = request_in(alloc, &ahead);
+    let turn = bounds.door.lock(rt);
     let others = turn.count();
     let mut link = GatedLink {
+        rt,
+        alloc,
         link,
         ahead,
+        request,
         turn: Some(turn),
         asked: false,
         inside: false,
         gate,
         session,
         counts,
+        room: &bounds.room,
+        share: Share::new(),
+        warned: false,
         taken,
         failures: 0,
     };
@@ -168,8 +181,8 @@ fn receive_gated<R: Wait, L: Ledger, B: Sharing, K: Link + Drop, C: Clock, G: Ga
         counts,
     };
     let ended = receive(alloc, &mut link, desk.site(), &mut port, clock, others);
-    if link.was_inside() {
-        door.lock(rt).leave();
+    if link.leave() {
+        bounds.door.lock(rt).leave();
     }
     ended
 }

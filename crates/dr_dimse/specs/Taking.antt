@@ -76,6 +76,11 @@ abbrev pub kept : Body → List ℕ → Body
 kept (Whole text) more = body_of (text ++ more)
 kept TooLarge more = TooLarge
 
+-- The bytes of the data set that is under way are let go: from now on it counts as too large.
+abbrev pub let_go : Stage → Stage
+let_go (InData id c body) = InData id c TooLarge
+let_go s = s
+
 -- an acceptor awaits requests; a requestor the answer to its message of that id, or nothing as it
 -- has asked nothing
 abbrev pub IsAwaited : Awaited → Command → Type 0

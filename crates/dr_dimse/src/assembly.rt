@@ -3,7 +3,7 @@ ghost use Rattle.std.specs.Prelude.{◌≡◌, ◌%◌, ◌/◌, ◌==◌, true,
 ghost use Rattle.dr_dimse.specs.Messages.{is_command as starts_command, is_last as ends};
 ghost use Rattle.dr_dimse.specs.Stages.{so_far, text_held, shown_of, ReadsAwaited};
 ghost use Rattle.dr_dimse.specs.Taking.{Begins, Idle, data_of, data_so_far, IsAwaited, InPlace};
-ghost use Rattle.dr_dimse.specs.Taking.{Takes, kept, wants_command};
+ghost use Rattle.dr_dimse.specs.Taking.{Takes, kept, let_go, wants_command};
 
 use crate::command::Command;
 use crate::fault::DimseFault;
@@ -115,6 +115,16 @@ impl Assembly {
             return self.take_command(pdv);
         }
         self.take_data(pdv)
+    }
+
+    /// Lets the bytes of the data set that is under way go, if one is: its message has `TooLarge`.
+    /// It frees their memory.
+    pub fn let_data_go(&mut self)
+        ensures { self.new
+            ≡ record { awaited = self.old.awaited; stage = let_go self.old.stage } }
+    {
+        self.body = Vec::new(self.alloc);
+        self.is_too_large = true;
     }
 
     /// The command whose data set is under way, and its presentation context: None between messages

@@ -1,12 +1,15 @@
 //! Laws of the definitions.
 ghost use Rattle.std.specs.Prelude.{◌≡◌, ◌≢◌, ◌<◌, ◌≤◌, ◌+◌, ◌^◌, ◌∷◌, ◌++◌, [], List, ℕ, Bool};
-ghost use Rattle.std.specs.Prelude.{Option, Some, Result, Ok, Err, length};
+ghost use Rattle.std.specs.Prelude.{Option, Some, None, Result, Ok, Err, length};
 ghost use Rattle.std.specs.List.{AllByRecursion};
 ghost use Rattle.dr_pdu.specs.declared.pdu.Pdv.{Pdv as Value};
 ghost use Rattle.dr_dimse.specs.Commands.{IsCommand};
 ghost use Rattle.dr_dimse.specs.Messages.{IsMessage, AreMessages};
 ghost use Rattle.dr_dimse.specs.Taking.{Stage, Idle, Leaves, IsAwaited, Takes, Call, Took, taken};
 ghost use Rattle.dr_dimse.specs.Taking.{given, Waits, Gives, ended_by, since};
+ghost use Rattle.dr_dimse.specs.Taking.{InCommand, InData, TakesData, let_go};
+ghost use Rattle.dr_dimse.specs.declared.message.Body.{Body as Data};
+ghost use Rattle.dr_dimse.specs.declared.message.Body.TheVariants.{TooLarge};
 ghost use Rattle.dr_dimse.specs.declared.message.Awaited.{Awaited as Waiting};
 ghost use Rattle.dr_dimse.specs.declared.message.Message.{Message as MessageValue};
 ghost use Rattle.dr_dimse.specs.Written.{written, Fits};
@@ -103,6 +106,20 @@ pub fn after_a_fault_there_is_no_message()
         → IsMessage (ps ++ p ∷ more) m
         → IsAwaited awaited m.command
         → ⊥ }
+{}
+
+/// A data set whose bytes were let go is told as one that is too large, whatever comes of it; its
+/// command stays. Between messages, and within a command, nothing is let go.
+pub fn what_was_let_go_is_too_large()
+    ensures told { (id : ℕ) (c : CommandValue) (body : Data) (p : Value) (m : MessageValue)
+        (new : Stage)
+        → TakesData (let_go (InData id c body)) p (Some m) new
+        → (m.command ≡ c) × (m.body ≡ Some TooLarge) }
+    ensures stays { (id : ℕ) (c : CommandValue) (body : Data) (p : Value) (new : Stage)
+        → TakesData (let_go (InData id c body)) p None new
+        → new ≡ let_go (InData id c body) }
+    ensures idle { let_go Idle ≡ Idle }
+    ensures command { (id : ℕ) (text : List ℕ) → let_go (InCommand id text) ≡ InCommand id text }
 {}
 
 /// What is written is a spelling of its command.

@@ -3,7 +3,7 @@ ghost use Rattle.std.specs.Prelude.{◌≡◌, ◌≢◌, ◌<◌, List, ℕ, le
 ghost use Rattle.std.specs.Bool.{MatchBool};
 ghost use Rattle.dr_base.specs.declared.syntax.Syntax.{Syntax as SyntaxName};
 ghost use Rattle.dr_dimse.specs.Stages.{shown_of};
-ghost use Rattle.dr_dimse.specs.Taking.{Idle, Takes, data_of, data_so_far};
+ghost use Rattle.dr_dimse.specs.Taking.{Idle, Takes, data_of, data_so_far, let_go};
 ghost use Rattle.dr_dataset.specs.Hearing.{Hears};
 ghost use Rattle.dr_dimse_scan.specs.Stores.{HasScan, IsScanOf, message_of, store_in, store_text};
 ghost use Rattle.dr_dimse_scan.specs.Following.{HasHeard, HasHeardFirst, is_storing, store_of};
@@ -96,6 +96,16 @@ impl Hearing {
             }
             Err(fault) => Err(fault),
         }
+    }
+
+    /// Lets the bytes of the data set that is under way go, as `Assembly::let_data_go` does, and
+    /// its scan.
+    pub fn let_data_go(&mut self)
+        ensures { self.new
+            ≡ record { awaited = self.old.awaited; stage = let_go self.old.stage } }
+    {
+        drop(mem::replace(&mut self.reading, None));
+        self.assembly.let_data_go();
     }
 
     /// The command whose data set is under way, and its presentation context: None between messages

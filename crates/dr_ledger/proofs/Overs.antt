@@ -8,8 +8,8 @@ use Rattle.dr_ledger.specs.declared.fault.LedgerFault.TheVariants as fault
 use Rattle.dr_ledger.specs.declared.item.Arrived.TheVariants.{New, Again}
 use Rattle.dr_ledger.specs.declared.item.Instance.{Instance}
 use Rattle.dr_ledger.specs.declared.item.Progress.{Progress}
-use Rattle.dr_ledger.specs.declared.item.Progress.TheVariants.{Waiting, Held, Done}
-use Rattle.dr_ledger.specs.Books.{Book, Forgetting, after}
+use Rattle.dr_ledger.specs.declared.item.Progress.TheVariants.{Waiting, Held, Done, Dropped}
+use Rattle.dr_ledger.specs.Books.{Book, Forgetting, after, is_queued}
 use Rattle.dr_ledger.specs.Laws.{ForgettingsHaveAnswers, ForgettingsTakeTheirUid, ForgottenIsNew, HasAnswer, NothingOwedIsForgotten}
 use Rattle.dr_ledger.specs.Pairs.{Pair}
 use Rattle.dr_ledger.specs.Replies.{Forgets}
@@ -20,22 +20,23 @@ use Rattle.dr_ledger.proofs.Maps.{texts, cases_of, same_or_not, ties_itself}
 
 -- ---- answers
 abbrev IsOwed : Book → Text → Type 0
-IsOwed b uid = (dest : Text) × (row : Progress) × (map.get b.rows (uid, dest) ≡ Some row) × (row ≢ Done)
+IsOwed b uid = (dest : Text) × (row : Progress) × (map.get b.rows (uid, dest) ≡ Some row) × (is_queued row ≡ true)
 
-abbrev AreDone : Book → Text → List Pair → Type 0
-AreDone b uid ks = (dest : Text) (row : Progress) → Contains ks (uid, dest) → map.get b.rows (uid, dest) ≡ Some row → row ≡ Done
+abbrev AreOver : Book → Text → List Pair → Type 0
+AreOver b uid ks = (dest : Text) (row : Progress) → Contains ks (uid, dest) → map.get b.rows (uid, dest) ≡ Some row → is_queued row ≡ false
 
 inside : (x y : Progress) → Some x ≡ Some y → x ≡ y
 inside x y e = cc
 
 -- a row of the uid at that key is owed, or is none that is
-owed_or_not : (b : Book) (uid dest : Text) (found : Option Progress) → map.get b.rows (uid, dest) ≡ found → IsOwed b uid ⊎ ((row : Progress) → map.get b.rows (uid, dest) ≡ Some row → row ≡ Done)
+owed_or_not : (b : Book) (uid dest : Text) (found : Option Progress) → map.get b.rows (uid, dest) ≡ found → IsOwed b uid ⊎ ((row : Progress) → map.get b.rows (uid, dest) ≡ Some row → is_queued row ≡ false)
 owed_or_not b uid dest None at = inr (λ row h. absurd (let e : None ≡ Some row = sym at ∙ h in cc e))
-owed_or_not b uid dest (Some Done) at = inr (λ row h. sym (inside Done row (sym at ∙ h)))
-owed_or_not b uid dest (Some (Held why)) at = inl (dest, Held why, at, λ e. cc)
-owed_or_not b uid dest (Some (Waiting tries due)) at = inl (dest, Waiting tries due, at, λ e. cc)
+owed_or_not b uid dest (Some Done) at = inr (λ row h. sym (ap is_queued (inside Done row (sym at ∙ h))))
+owed_or_not b uid dest (Some Dropped) at = inr (λ row h. sym (ap is_queued (inside Dropped row (sym at ∙ h))))
+owed_or_not b uid dest (Some (Held why)) at = inl (dest, Held why, at, refl)
+owed_or_not b uid dest (Some (Waiting tries due)) at = inl (dest, Waiting tries due, at, refl)
 
-owed_among : (b : Book) (uid : Text) (ks : List Pair) → IsOwed b uid ⊎ AreDone b uid ks
+owed_among : (b : Book) (uid : Text) (ks : List Pair) → IsOwed b uid ⊎ AreOver b uid ks
 owed_among b uid [] = inr (λ dest row among h. absurd (nothing_in_nil (uid, dest) among))
 owed_among b uid (k ∷ ks) = elim (owed_among b uid ks) [
   | inl owed ↦ inl owed
@@ -56,13 +57,13 @@ there_at uid b None at = (Err fault.NotOver, b, tt, ((λ over. let e : None ≡ 
 there_at uid b (Some item) at = elim (cases_of (set.contains b.kept uid)) [
   | inl kept ↦ (Err fault.NotOver, b, tt, ((λ over. no_way (set.contains b.kept uid) kept over.unkept), refl))
   | inr unkept ↦ elim (owed_among b uid (map.keys b.rows)) [
-    | inl owed ↦ (Err fault.NotOver, b, tt, ((λ over. owed.3 (over.done owed.0 owed.1 owed.2)), refl))
+    | inl owed ↦ (Err fault.NotOver, b, tt, ((λ over. no_way (is_queued owed.1) owed.3 (over.unqueued owed.0 owed.1 owed.2)), refl))
     | inr done ↦ (
       Ok tt,
       after (Forgetting uid) b,
       tt,
       (
-        record { there = (item, at); unkept = unkept; done = λ dest row h. done dest row (among_keys b uid dest row h) h },
+        record { there = (item, at); unkept = unkept; unqueued = λ dest row h. done dest row (among_keys b uid dest row h) h },
         refl,
       ),
     )
@@ -98,7 +99,7 @@ forgettings_take_their_uid uid b = record {
 }
 
 pub nothing_owed_is_forgotten : NothingOwedIsForgotten
-nothing_owed_is_forgotten uid b over = ((λ kept. no_way (set.contains b.kept uid) kept over.unkept), λ dest row h n. n (over.done dest row h))
+nothing_owed_is_forgotten uid b over = ((λ kept. no_way (set.contains b.kept uid) kept over.unkept), λ dest row h n. no_way (is_queued row) n (over.unqueued dest row h))
 
 pub forgotten_is_new : (routing : Routing) → ForgottenIsNew routing
 forgotten_is_new routing uid caller item old mid new New same f a = refl

@@ -8,7 +8,7 @@ use Rattle.dr_ledger.specs.Showing.{FailuresAreCounted, FiguresRise, KeptAreMeas
 use Rattle.dr_ledger.proofs.Growing.{inside}
 
 pub lines_are_shown : LinesAreShown
-lines_are_shown = record { arrival = refl; repeat = refl; settling = refl; requeuing = refl; forgetting = refl; adoption = refl }
+lines_are_shown = record { arrival = refl; repeat = refl; settling = refl; requeuing = refl; dropping = refl; forgetting = refl; adoption = refl }
 
 abbrev uid_of : Text × ℕ → Text
 uid_of e = e.0

@@ -5,7 +5,7 @@ use Rattle.std.proofs.lemmas.List.Elements.{Contains-append_left, Contains-appen
 use Rattle.dr_base.specs.Texts.{Text}
 use Rattle.dr_plan_model.proofs.Gathered.{nothing_in_nil, Contains-here}
 use Rattle.dr_ledger.specs.declared.item.Instance.{Instance}
-use Rattle.dr_ledger.specs.Books.{Book, Line, Arrival, Repeat, Settling, Requeuing, Forgetting, Adoption, with_line, since_from, since_adoption, after}
+use Rattle.dr_ledger.specs.Books.{Book, Line, Arrival, Repeat, Settling, Requeuing, Dropping, Forgetting, Adoption, with_line, since_from, since_adoption, after}
 use Rattle.dr_ledger.specs.Histories.{IsBeforeAdoption, IsHistory}
 use Rattle.dr_ledger.specs.OneNode.{IsAcknowledged, NothingWasTakenYet, SinceIsTheHistory, WasTaken}
 use Rattle.dr_ledger.specs.Routings.{Routing}
@@ -64,6 +64,17 @@ taken_from lines line caller item plain h =
       ]
     ]
 
+-- a line since the last adoption is among them still after one more, which is among them too
+pub among_since : (lines : List Line) (last line : Line) → IsPlain last → Contains (since_adoption lines) line → Contains (since_adoption (lines ++ last ∷ [])) line
+among_since lines last line plain h =
+    let P : List Line → Type 0 = λ ls. Contains ls line in
+    subst P (sym (since_push lines last ∙ plain (since_adoption lines))) (Contains-append_left (since_adoption lines) (last ∷ []) line h)
+
+pub last_since : (lines : List Line) (last : Line) → IsPlain last → Contains (since_adoption (lines ++ last ∷ [])) last
+last_since lines last plain =
+    let P : List Line → Type 0 = λ ls. Contains ls last in
+    subst P (sym (since_push lines last ∙ plain (since_adoption lines))) (Contains-append_right (since_adoption lines) (last ∷ []) last (Contains-here last []))
+
 -- nothing was acknowledged since an adoption that is the last line
 pub none_taken : (lines : List Line) (caller : Text) (item : Instance) → WasTaken (lines ++ Adoption ∷ []) caller item → ⊥
 none_taken lines caller item h =
@@ -94,6 +105,8 @@ since_history routing (Settling uid dest outcome now ∷ lines) since b h =
     since_history routing lines (since ++ Settling uid dest outcome now ∷ []) (after (Settling uid dest outcome now) b) h.1 ∙ append_assoc since (Settling uid dest outcome now ∷ []) lines
 since_history routing (Requeuing uid dest ∷ lines) since b h =
     since_history routing lines (since ++ Requeuing uid dest ∷ []) (after (Requeuing uid dest) b) h.1 ∙ append_assoc since (Requeuing uid dest ∷ []) lines
+since_history routing (Dropping uid dest now ∷ lines) since b h =
+    since_history routing lines (since ++ Dropping uid dest now ∷ []) (after (Dropping uid dest now) b) h.1 ∙ append_assoc since (Dropping uid dest now ∷ []) lines
 since_history routing (Forgetting uid ∷ lines) since b h =
     since_history routing lines (since ++ Forgetting uid ∷ []) (after (Forgetting uid) b) h.1 ∙ append_assoc since (Forgetting uid ∷ []) lines
 since_history routing (Adoption ∷ lines) since b h = absurd h.0

@@ -11,15 +11,15 @@ use Rattle.dr_ledger.specs.Books.{Line, Settling, Adoption, is_success, Fold}
 use Rattle.dr_ledger.specs.OneNode.{HasSucceededSince}
 
 -- ---- where a line stands in a list with one more at its end
-record IsLast (before later lines : List Line) (line last : Line) : Type 0 where
-  none : later ≡ []
-  same : line ≡ last
-  all : before ≡ lines
+pub record IsLast (before later lines : List Line) (line last : Line) : Type 0 where
+  pub none : later ≡ []
+  pub same : line ≡ last
+  pub all : before ≡ lines
 
-record IsEarlier (before later lines : List Line) (line last : Line) : Type 0 where
-  rest : List Line
-  later_is : later ≡ rest ++ last ∷ []
-  lines_are : lines ≡ before ++ line ∷ rest
+pub record IsEarlier (before later lines : List Line) (line last : Line) : Type 0 where
+  pub rest : List Line
+  pub later_is : later ≡ rest ++ last ∷ []
+  pub lines_are : lines ≡ before ++ line ∷ rest
 
 head_of : (x y : Line) (xs ys : List Line) → ◌≡◌ {A = List Line} (x ∷ xs) (y ∷ ys) → x ≡ y
 head_of x y xs ys e = cc
@@ -31,7 +31,7 @@ pub not_empty : (before later : List Line) (line : Line) → before ++ line ∷ 
 not_empty [] later line e = cc
 not_empty (first ∷ before) later line e = cc
 
-at_end : (before later lines : List Line) (line last : Line) → before ++ line ∷ later ≡ lines ++ last ∷ [] → IsLast before later lines line last ⊎ IsEarlier before later lines line last
+pub at_end : (before later lines : List Line) (line last : Line) → before ++ line ∷ later ≡ lines ++ last ∷ [] → IsLast before later lines line last ⊎ IsEarlier before later lines line last
 at_end [] later [] line last e = inl (record { none = tail_of line last later [] e; same = head_of line last later [] e; all = refl })
 at_end (first ∷ before) later [] line last e = absurd (not_empty before later line (tail_of first last (before ++ line ∷ later) [] e))
 at_end [] later (one ∷ lines) line last e = inr (record {

@@ -11,7 +11,8 @@ use Rattle.dr_ledger.specs.declared.fault.LedgerFault.TheVariants as fault
 use Rattle.dr_ledger.specs.declared.item.Entry.TheVariants as entry
 use Rattle.dr_ledger.specs.declared.item.Instance.{Instance}
 use Rattle.dr_ledger.specs.declared.item.Outcome.TheVariants.{Status}
-use Rattle.dr_ledger.specs.Books.{Book, Arrival, Repeat, Settling, Requeuing, Forgetting, Adoption}
+use Rattle.dr_ledger.specs.Books.{Book, Arrival, Repeat, Settling, Requeuing, Dropping, Forgetting}
+use Rattle.dr_ledger.specs.Books.{Adoption}
 use Rattle.dr_ledger.specs.Replies.{AreKept, Counts, HasRisen, entry_of}
 
 -- the key of a CT image in the explicit syntax, of station S1
@@ -38,6 +39,8 @@ pub record LinesAreShown : Type 0 where
       ≡ entry.Settling (codes "1.2.3.4") (codes "ARCH") (Status 0xA700) 5
   pub requeuing : entry_of (Requeuing (codes "1.2.3.4") (codes "ARCH"))
       ≡ entry.Requeuing (codes "1.2.3.4") (codes "ARCH")
+  pub dropping : entry_of (Dropping (codes "1.2.3.4") (codes "ARCH") 5)
+      ≡ entry.Dropping (codes "1.2.3.4") (codes "ARCH") 5
   pub forgetting : entry_of (Forgetting (codes "1.2.3.4")) ≡ entry.Forgetting (codes "1.2.3.4")
   pub adoption : entry_of Adoption ≡ entry.Adoption
 

@@ -1,6 +1,6 @@
 -- What leaves where all that is of one uid leaves.
-use Rattle.std.proofs.Common.{◌≡◌, ◌≢◌, ◌⊎◌, inl, inr, ℕ, ◌<◌, ◌≤◌, ◌+◌, Bool, true, false, cond, not, is_some, ◌&&◌, ◌||◌}
-use Rattle.std.proofs.Common.{List, [], ◌∷◌, ◌++◌, Contains, Option, None, Some, IsSome, IfSome, length}
+use Rattle.std.proofs.Common.{◌≡◌, ◌⊎◌, inl, inr, ℕ, ◌<◌, ◌≤◌, ◌+◌, Bool, true, false, cond, not, is_some, ◌&&◌, ◌||◌}
+use Rattle.std.proofs.Common.{List, [], ◌∷◌, ◌++◌, Option, None, Some, IfSome, length}
 use Rattle.std.proofs.Common.{refl, sym, ap, subst, ◌∙◌, arith, slice_get}
 use Rattle.std.specs.declared.cmp.Ordering.{Ordering}
 use Rattle.std.specs.declared.cmp.Ordering.TheVariants.{Less, Equal, Greater}
@@ -19,11 +19,10 @@ use Rattle.std.proofs.lemmas.Map.Views.{tells_apart}
 use Rattle.std.proofs.lemmas.Cmp.{ranked}
 use Rattle.dr_base.specs.Texts.{Text, text_cmp}
 use Rattle.dr_ledger.specs.declared.item.Progress.{Progress}
-use Rattle.dr_ledger.specs.declared.item.Progress.TheVariants.{Waiting, Held, Done}
-use Rattle.dr_ledger.specs.Books.{is_done, is_other}
+use Rattle.dr_ledger.specs.Books.{is_other, is_queued}
 use Rattle.dr_ledger.specs.Pairs.{Pair, pair_cmp}
-use Rattle.dr_ledger.proofs.Maps.{cases_of, same_or_not, text_pairs, texts, ties_itself}
-use Rattle.dr_ledger_history.specs.Leaving.{AreDone, AreLetGo, IsCallerFrom, IsRowOf, Rows, is_from}
+use Rattle.dr_ledger.proofs.Maps.{same_or_not, text_pairs, texts, ties_itself}
+use Rattle.dr_ledger_history.specs.Leaving.{AreLetGo, AreOver, IsCallerFrom, IsRowOf, Rows, is_from}
 use Rattle.dr_ledger_history.specs.Trees.{as_map, as_set}
 use Rattle.dr_ledger_history.proofs.Mapped.{get_at, has_at}
 
@@ -37,9 +36,13 @@ inside : (x y : Progress) → Some x ≡ Some y → x ≡ y
 inside x y e = cc
 
 -- ---- rows
+-- a row stood at the key, and was done or dropped
+abbrev pub WasOver : Rows → Pair → Type 0
+WasOver rows at = (row : Progress) × (map.get rows at ≡ Some row) × (is_queued row ≡ false)
+
 abbrev pub HaveLeft : Text → Rows → Rows → Type 0
 HaveLeft uid old new = (at : Pair) → (map.get new at ≡ map.get old at)
-    ⊎ ((at.0 ≡ uid) × (map.get new at ≡ None) × (map.get old at ≡ Some Done))
+    ⊎ ((at.0 ≡ uid) × (map.get new at ≡ None) × WasOver old at)
 
 pub none_has_left : (uid : Text) (m : Rows) → HaveLeft uid m m
 none_has_left uid m at = inl refl
@@ -53,12 +56,12 @@ module _ (uid : Text) (old : Rows) where
     | inr went ↦ absurd (no_row row (sym h ∙ went.1))
   ]
 
-  -- one more done row leaves
-  pub one_more_leaves : (m n : tree.BTreeMap Pair Progress) (at : Pair) → HaveLeft uid old (as_map pair_cmp m) →
-      at.0 ≡ uid → map.get (as_map pair_cmp m) at ≡ Some Done →
+  -- one more row leaves that is done or dropped
+  pub one_more_leaves : (m n : tree.BTreeMap Pair Progress) (at : Pair) (row : Progress) → HaveLeft uid old (as_map pair_cmp m) →
+      at.0 ≡ uid → map.get (as_map pair_cmp m) at ≡ Some row → is_queued row ≡ false →
       ((q : Pair) → tree.get pair_cmp n q ≡ cond (is_at (pair_cmp at) q) None (tree.get pair_cmp m q)) →
       HaveLeft uid old (as_map pair_cmp n)
-  one_more_leaves m n at left own done u q = by_case (is_at (pair_cmp at) q) refl
+  one_more_leaves m n at row left own there over u q = by_case (is_at (pair_cmp at) q) refl
     where
       now_is : map.get (as_map pair_cmp n) q ≡ cond (is_at (pair_cmp at) q) None (map.get (as_map pair_cmp m) q)
       now_is = get_at text_pairs n q
@@ -66,13 +69,13 @@ module _ (uid : Text) (old : Rows) where
 
       by_case : (b : Bool) → is_at (pair_cmp at) q ≡ b →
           (map.get (as_map pair_cmp n) q ≡ map.get old q)
-          ⊎ ((q.0 ≡ uid) × (map.get (as_map pair_cmp n) q ≡ None) × (map.get old q ≡ Some Done))
+          ⊎ ((q.0 ≡ uid) × (map.get (as_map pair_cmp n) q ≡ None) × WasOver old q)
       by_case true t =
           let same : at ≡ q = tells_apart text_pairs.exact at q t in
-          let was = stood (as_map pair_cmp m) at Done left done in inr (
+          let was = stood (as_map pair_cmp m) at row left there in inr (
             ap (λ (p : Pair). p.0) (sym same) ∙ own,
             now_is ∙ ap (λ (b : Bool). cond b None (map.get (as_map pair_cmp m) q)) t,
-            subst (λ (p : Pair). map.get old p ≡ Some Done) same was,
+            (row, subst (λ (p : Pair). map.get old p ≡ Some row) same was, over),
           )
       by_case false f =
           let stays = now_is ∙ ap (λ (b : Bool). cond b None (map.get (as_map pair_cmp m) q)) f in
@@ -81,25 +84,23 @@ module _ (uid : Text) (old : Rows) where
             | inr went ↦ inr (went.0, stays ∙ went.1, went.2)
           ]
 
-  -- a row that isn't done
+  -- a row that waits or is held
   pub one_is_open : (new : Rows) (last : Rows) (at : Pair) (row : Progress) → HaveLeft uid old new →
-      at.0 ≡ uid → map.get new at ≡ Some row → not (is_done (Some row)) ≡ true →
+      at.0 ≡ uid → map.get new at ≡ Some row → is_queued row ≡ true →
       AreLetGo uid old false last
-  one_is_open new last at row left own there undone = λ done.
+  one_is_open new last at row left own there queued = λ over.
       let h = stood new at row left there in
-      let is : row ≡ Done =
-      done at.1 row (subst (λ (u : Text). map.get old (u, at.1) ≡ Some row) own h) in
-      no_both _ undone (ap (λ (r : Progress). not (is_done (Some r))) is)
+      no_both _ queued (over at.1 row (subst (λ (u : Text). map.get old (u, at.1) ≡ Some row) own h))
 
   -- none is left
   pub all_have_left : (new : Rows) → HaveLeft uid old new → IsRowOf uid new None →
       AreLetGo uid old true new
-  all_have_left new left none = (were_done, map.same_map text_pairs.total text_pairs.exact new _ same)
+  all_have_left new left none = (were_over, map.same_map text_pairs.total text_pairs.exact new _ same)
     where
-      were_done : AreDone uid old
-      were_done dest row h = elim (left (uid, dest)) [
+      were_over : AreOver uid old
+      were_over dest row h = elim (left (uid, dest)) [
         | inl stays ↦ absurd (no_row row (sym h ∙ (sym stays ∙ none dest)))
-        | inr went ↦ inside row Done (sym h ∙ went.2)
+        | inr went ↦ ap is_queued (inside row went.2.0 (sym h ∙ went.2.1)) ∙ went.2.2
       ]
 
       left_is : (q : Pair) → map.get (map.retain_keys old (λ at. is_other uid at.0)) q
@@ -528,11 +529,6 @@ fewer_left from caller m n u is gone =
     let now = ap (λ (ks : List Pair). length (filter p ks)) gone in omega (arith, less, few, now)
 
 -- ---- what a loop over rows finds
-pub done_of : (row : Progress) → not (is_done (Some row)) ≡ false → row ≡ Done
-done_of (Waiting tries due) h = absurd (let e : ⊥ = cc in e)
-done_of (Held why) h = absurd (let e : ⊥ = cc in e)
-done_of Done h = refl
-
 pub one_less : (n m : ℕ) (b : Bool) → b ≡ true → n + cond b 1 0 ≡ m → n < m
 one_less n m true h e = omega (arith, e)
 one_less n m false h e = absurd (let f : ⊥ = cc in f)

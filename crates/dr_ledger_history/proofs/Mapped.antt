@@ -17,12 +17,12 @@ use Rattle.std.specs.FinSet as set
 use Rattle.std.proofs.lemmas.Map.Views.{tells_apart}
 use Rattle.dr_base.specs.Texts.{Text}
 use Rattle.dr_ledger.specs.declared.item.Progress.{Progress}
-use Rattle.dr_ledger.specs.declared.item.Progress.TheVariants.{Waiting}
-use Rattle.dr_ledger.specs.Books.{is_done, not_done, with_rows}
+use Rattle.dr_ledger.specs.declared.item.Progress.TheVariants.{Waiting, Held, Done, Dropped}
+use Rattle.dr_ledger.specs.Books.{arrived_row, is_over_row, is_queued, not_over, with_rows}
 use Rattle.dr_ledger.specs.Pairs.{Pair, pair_cmp}
-use Rattle.dr_ledger.proofs.Growing.{not_done_is}
+use Rattle.dr_ledger.proofs.Growing.{not_over_is}
 use Rattle.dr_ledger.proofs.Maps.{IsExact, text_pairs}
-use Rattle.dr_ledger_history.specs.Trees.{as_map, as_set}
+use Rattle.dr_ledger_history.specs.Trees.{as_map, as_set, stands}
 
 some_of : {X : Type 0} (o : Option X) (d : X) → is_some o ≡ true → o ≡ Some (unwrap_or o d)
 some_of None d h = absurd (let e : ⊥ = cc in e)
@@ -66,17 +66,17 @@ module _ {K : Type 0} {R : K → K → Ordering} (e : IsExact R) where
         nothing None h = refl
         nothing (Some x) h = absurd (let f : ⊥ = cc in f)
 
+    -- what stands at a key is put there
+    pub stays : (m : tree.BTreeMap K X) (k : K) (had : X) → map.get (as_map R m) k ≡ Some had → as_map R m ≡ map.insert (as_map R m) k had
+    stays m k had is = map.same_map e.total e.exact (as_map R m) (map.insert (as_map R m) k had) (λ q. by_case q (eq_by_cmp R q k) refl ∙ sym (map.get-insert e.total (as_map R m) k had q))
+      where
+        by_case : (q : K) (b : Bool) → eq_by_cmp R q k ≡ b → map.get (as_map R m) q ≡ cond (eq_by_cmp R q k) (Some had) (map.get (as_map R m) q)
+        by_case q true t = ap (map.get (as_map R m)) (tells_apart e.exact q k t) ∙ (is ∙ sym (ap (λ b. cond b (Some had) (map.get (as_map R m) q)) t))
+        by_case q false t = sym (ap (λ b. cond b (Some had) (map.get (as_map R m) q)) t)
+
     -- and nothing is done where there was one
     pub full : (m : tree.BTreeMap K X) (k : K) (v : X) → is_some (tree.get R m k) ≡ true → as_map R m ≡ map.insert (as_map R m) k (unwrap_or (map.get (as_map R m) k) v)
-    full m k v some = map.same_map e.total e.exact (as_map R m) (map.insert (as_map R m) k had) (λ q. by_case q (eq_by_cmp R q k) refl ∙ sym (map.get-insert e.total (as_map R m) k had q))
-      where
-        had : X
-        had = unwrap_or (map.get (as_map R m) k) v
-
-        by_case : (q : K) (b : Bool) → eq_by_cmp R q k ≡ b → map.get (as_map R m) q ≡ cond (eq_by_cmp R q k) (Some had) (map.get (as_map R m) q)
-        by_case q true t = ap (map.get (as_map R m)) (tells_apart e.exact q k t) ∙ (some_of (map.get (as_map R m) k) v (ap is_some (get_at m k) ∙ some)
-            ∙ sym (ap (λ b. cond b (Some had) (map.get (as_map R m) q)) t))
-        by_case q false t = sym (ap (λ b. cond b (Some had) (map.get (as_map R m) q)) t)
+    full m k v some = stays m k (unwrap_or (map.get (as_map R m) k) v) (some_of (map.get (as_map R m) k) v (ap is_some (get_at m k) ∙ some))
 
     -- a key that is below all others stands at none of them
     below : (x : K) (es : List (K × X)) → AllByRecursion (λ y. R x y ≡ Less) (keys_of es) → lookup (is_at (R x)) es ≡ None
@@ -102,7 +102,31 @@ module _ {K : Type 0} {R : K → K → Ordering} (e : IsExact R) where
   no_keys s h = set.same_set e.total e.exact (as_set R s) set.empty (λ q. has_at s q ∙ (ap (list_any (is_at (R q))) h ∙ sym (set.contains-empty R q)))
 
 -- ---- rows of an arrival
-pub row_filled : (m n : FinMap pair_cmp Progress) (uid to : Text) (more : List Text) → n ≡ map.insert m (uid, to) (unwrap_or (map.get m (uid, to)) (Waiting 0 0)) → with_rows n uid more ≡ with_rows m uid (to ∷ more)
+anew : (o : Option Progress) → stands o ≡ false → arrived_row o ≡ Waiting 0 0
+anew None h = refl
+anew (Some Dropped) h = refl
+anew (Some Done) h = absurd (let e : ⊥ = cc in e)
+anew (Some (Held why)) h = absurd (let e : ⊥ = cc in e)
+anew (Some (Waiting tries due)) h = absurd (let e : ⊥ = cc in e)
+
+as_it_was : (o : Option Progress) → stands o ≡ true → o ≡ Some (arrived_row o)
+as_it_was None h = absurd (let e : ⊥ = cc in e)
+as_it_was (Some Dropped) h = absurd (let e : ⊥ = cc in e)
+as_it_was (Some Done) h = refl
+as_it_was (Some (Held why)) h = refl
+as_it_was (Some (Waiting tries due)) h = refl
+
+-- a row that an arrival leaves, and one that it makes
+pub row_stands : (m : tree.BTreeMap Pair Progress) (k : Pair) → stands (map.get (as_map pair_cmp m) k) ≡ true →
+    as_map pair_cmp m ≡ map.insert (as_map pair_cmp m) k (arrived_row (map.get (as_map pair_cmp m) k))
+row_stands m k some = stays text_pairs m k (arrived_row (map.get (as_map pair_cmp m) k)) (as_it_was (map.get (as_map pair_cmp m) k) some)
+
+pub row_made : (m n : tree.BTreeMap Pair Progress) (k : Pair) → stands (map.get (as_map pair_cmp m) k) ≡ false →
+    ((q : Pair) → tree.get pair_cmp n q ≡ cond (is_at (pair_cmp k) q) (Some (Waiting 0 0)) (tree.get pair_cmp m q)) →
+    as_map pair_cmp n ≡ map.insert (as_map pair_cmp m) k (arrived_row (map.get (as_map pair_cmp m) k))
+row_made m n k none u = put_at text_pairs m n k (Waiting 0 0) u ∙ ap (map.insert (as_map pair_cmp m) k) (sym (anew (map.get (as_map pair_cmp m) k) none))
+
+pub row_filled : (m n : FinMap pair_cmp Progress) (uid to : Text) (more : List Text) → n ≡ map.insert m (uid, to) (arrived_row (map.get m (uid, to))) → with_rows n uid more ≡ with_rows m uid (to ∷ more)
 unfolding with_rows
 row_filled m n uid to more h = ap (λ x. with_rows x uid more) h
 
@@ -110,9 +134,13 @@ pub rows_filled : (m : FinMap pair_cmp Progress) (uid : Text) (to : List Text) �
 unfolding with_rows
 rows_filled m uid to h = ap (with_rows m uid) h
 
--- ---- done rows leave
+-- ---- rows that are done or dropped leave
 abbrev opened : Option Progress → Option Progress
-opened o = cond (not (is_done o)) o None
+opened o = cond (not (is_over_row o)) o None
+
+twice : (b : Bool) → b ≡ not (not b)
+twice true = refl
+twice false = refl
 
 head_of : (x : Pair × Progress) (es : List (Pair × Progress)) → IsStrictlySortedBy pair_cmp (keys_of (x ∷ es)) → AllByRecursion (λ y. pair_cmp x.0 y ≡ Less) (keys_of es)
 unfolding IsStrictlySortedBy
@@ -122,19 +150,19 @@ rest_of : (x : Pair × Progress) (es : List (Pair × Progress)) → IsStrictlySo
 unfolding IsStrictlySortedBy
 rest_of x es h = h.1
 
-retained : {F : Type 0} (T : F → Pair → Progress → Bool → Progress → F → Type 0) → ((f : F) (k : Pair) (v : Progress) (b : Bool) (w : Progress) (g : F) → T f k v b w g → (b ≡ not (is_done (Some v))) × (w ≡ v)) →
+retained : {F : Type 0} (T : F → Pair → Progress → Bool → Progress → F → Type 0) → ((f : F) (k : Pair) (v : Progress) (b : Bool) (w : Progress) (g : F) → T f k v b w g → (b ≡ is_queued v) × (w ≡ v)) →
     (f : F) (es kept : List (Pair × Progress)) → IsStrictlySortedBy pair_cmp (keys_of es) → RetainsPairs T f es kept → (q : Pair) → lookup (is_at (pair_cmp q)) kept ≡ opened (lookup (is_at (pair_cmp q)) es)
 retained T each f [] kept order r q = ap (lookup (is_at (pair_cmp q))) r
 retained T each f (x ∷ es) kept order r q =
     let w = r.1 in
     let rest = r.3 in
     let call = each f x.0 x.1 r.0 w r.2 r.4 in
-    let stays = not (is_done (Some x.1)) in
-    let is : kept ≡ cond stays ((x.0, w) ∷ rest) rest = r.6 ∙ ap (λ b. cond b ((x.0, w) ∷ rest) rest) call.0 in
+    let goes_on = not (is_over_row (Some x.1)) in
+    let is : kept ≡ cond goes_on ((x.0, w) ∷ rest) rest = r.6 ∙ ap (λ b. cond b ((x.0, w) ∷ rest) rest) (call.0 ∙ twice (is_queued x.1)) in
     ap (lookup (is_at (pair_cmp q))) is
-    ∙ by_case stays refl (is_at (pair_cmp q) x.0) refl w call.1 rest (retained T each r.2 es rest (rest_of x es order) r.5 q)
+    ∙ by_case goes_on refl (is_at (pair_cmp q) x.0) refl w call.1 rest (retained T each r.2 es rest (rest_of x es order) r.5 q)
   where
-    by_case : (b : Bool) → not (is_done (Some x.1)) ≡ b → (t : Bool) → is_at (pair_cmp q) x.0 ≡ t → (w : Progress) → w ≡ x.1 → (rest : List (Pair × Progress)) →
+    by_case : (b : Bool) → not (is_over_row (Some x.1)) ≡ b → (t : Bool) → is_at (pair_cmp q) x.0 ≡ t → (w : Progress) → w ≡ x.1 → (rest : List (Pair × Progress)) →
         lookup (is_at (pair_cmp q)) rest ≡ opened (lookup (is_at (pair_cmp q)) es) →
         lookup (is_at (pair_cmp q)) (cond b ((x.0, w) ∷ rest) rest) ≡ opened (cond t (Some x.1) (lookup (is_at (pair_cmp q)) es))
     by_case true o true t w is rest later = ap (λ b. cond b (Some w) (lookup (is_at (pair_cmp q)) rest)) t ∙ (ap Some is ∙ sym (ap (λ b. cond b (Some x.1) None) o))
@@ -142,7 +170,7 @@ retained T each f (x ∷ es) kept order r q =
     by_case false o true t w is rest later = later ∙ (ap opened (not_later text_pairs q x.0 es t (head_of x es order)) ∙ sym (ap (λ b. cond b (Some x.1) None) o))
     by_case false o false t w is rest later = later
 
-pub pruned : {F : Type 0} (T : F → Pair → Progress → Bool → Progress → F → Type 0) → ((f : F) (k : Pair) (v : Progress) (b : Bool) (w : Progress) (g : F) → T f k v b w g → (b ≡ not (is_done (Some v))) × (w ≡ v)) →
-    (f : F) (m n : tree.BTreeMap Pair Progress) → tree.IsOrdered pair_cmp m → RetainsPairs T f m.entries n.entries → as_map pair_cmp n ≡ not_done (as_map pair_cmp m)
-pruned T each f m n order r = map.same_map text_pairs.total text_pairs.exact (as_map pair_cmp n) (not_done (as_map pair_cmp m)) (λ q.
-    get_at text_pairs n q ∙ (retained T each f m.entries n.entries order r q ∙ (ap opened (sym (get_at text_pairs m q)) ∙ sym (not_done_is (as_map pair_cmp m) q))))
+pub pruned : {F : Type 0} (T : F → Pair → Progress → Bool → Progress → F → Type 0) → ((f : F) (k : Pair) (v : Progress) (b : Bool) (w : Progress) (g : F) → T f k v b w g → (b ≡ is_queued v) × (w ≡ v)) →
+    (f : F) (m n : tree.BTreeMap Pair Progress) → tree.IsOrdered pair_cmp m → RetainsPairs T f m.entries n.entries → as_map pair_cmp n ≡ not_over (as_map pair_cmp m)
+pruned T each f m n order r = map.same_map text_pairs.total text_pairs.exact (as_map pair_cmp n) (not_over (as_map pair_cmp m)) (λ q.
+    get_at text_pairs n q ∙ (retained T each f m.entries n.entries order r q ∙ (ap opened (sym (get_at text_pairs m q)) ∙ sym (not_over_is (as_map pair_cmp m) q))))

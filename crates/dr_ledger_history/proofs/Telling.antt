@@ -8,8 +8,8 @@ use Rattle.dr_ledger.specs.declared.item.Cause.{Cause}
 use Rattle.dr_ledger.specs.declared.item.Instance.{Instance}
 use Rattle.dr_ledger.specs.declared.item.Outcome.{Outcome}
 use Rattle.dr_ledger.specs.declared.item.Progress.{Progress}
-use Rattle.dr_ledger.specs.declared.item.Progress.TheVariants.{Waiting, Held}
-use Rattle.dr_ledger.specs.Books.{Book, Line, Arrival, Repeat, Settling, Requeuing, Forgetting, Adoption, Fold, after, empty_book, folded, requeued_row, row_after, settled_row}
+use Rattle.dr_ledger.specs.declared.item.Progress.TheVariants.{Waiting, Held, Dropped}
+use Rattle.dr_ledger.specs.Books.{Book, Line, Arrival, Repeat, Settling, Requeuing, Dropping, Forgetting, Adoption, Fold, after, dropped_row, empty_book, folded, is_other, requeued_row, row_after, settled_row}
 use Rattle.dr_ledger.specs.Histories.{IsCall, IsHistory, IsPast, IsSomeCall}
 use Rattle.dr_ledger.specs.Routings.{Routing}
 use Rattle.dr_ledger.proofs.Folding.{folded_append, folded_push, folds_have_their_lines, history_push, some_call}
@@ -27,6 +27,7 @@ after_content (Arrival caller item to keep) b = refl
 after_content (Repeat caller item) b = refl
 after_content (Settling uid dest outcome now) b = refl
 after_content (Requeuing uid dest) b = refl
+after_content (Dropping uid dest now) b = refl
 after_content (Forgetting uid) b = refl
 after_content Adoption b = refl
 
@@ -35,7 +36,8 @@ asked (Arrival caller item to keep) b h = h
 asked (Repeat caller item) b h = h
 asked (Settling uid dest outcome now) b h = h
 asked (Requeuing uid dest) b h = h
-asked (Forgetting uid) b h = record { there = h.there; unkept = h.unkept; done = h.done }
+asked (Dropping uid dest now) b h = h
+asked (Forgetting uid) b h = record { there = h.there; unkept = h.unkept; unqueued = h.unqueued }
 asked Adoption b h = h
 
 asks : (line : Line) (b : Book) → IsSomeCall line b → IsSomeCall line (book_of (content_of b))
@@ -43,7 +45,8 @@ asks (Arrival caller item to keep) b h = h
 asks (Repeat caller item) b h = h
 asks (Settling uid dest outcome now) b h = h
 asks (Requeuing uid dest) b h = h
-asks (Forgetting uid) b h = record { there = h.there; unkept = h.unkept; done = h.done }
+asks (Dropping uid dest now) b h = h
+asks (Forgetting uid) b h = record { there = h.there; unkept = h.unkept; unqueued = h.unqueued }
 asks Adoption b h = h
 
 -- ---- one line more
@@ -86,6 +89,7 @@ call_by routing (Arrival caller item to keep) b by call = (record { line = by.0;
 call_by routing (Repeat caller item) b by call = (record { line = by; same = call.0 }, call.1)
 call_by routing (Settling uid dest outcome now) b by call = call
 call_by routing (Requeuing uid dest) b by call = call
+call_by routing (Dropping uid dest now) b by call = call
 call_by routing (Forgetting uid) b by call = call
 call_by routing Adoption b by call = absurd by
 
@@ -94,6 +98,7 @@ by_call routing (Arrival caller item to keep) b call = (call.0.line, call.2, cal
 by_call routing (Repeat caller item) b call = call.0.line
 by_call routing (Settling uid dest outcome now) b call = tt
 by_call routing (Requeuing uid dest) b call = tt
+by_call routing (Dropping uid dest now) b call = tt
 by_call routing (Forgetting uid) b call = tt
 by_call routing Adoption b call = absurd call
 
@@ -192,3 +197,14 @@ not_waiting c uid dest o is none outcome now new = λ h. none h.0.0 h.0.1 (sym i
 pub not_held : (c : Content) (uid dest : Text) (o : Option Progress) → map.get c.rows (uid, dest) ≡ o → ((why : Cause) → o ≡ Some (Held why) → ⊥) →
     (new : Content) → Takes (Requeuing uid dest) c (Err fault.NoCall) new
 not_held c uid dest o is none new = λ h. none h.0 (sym is ∙ h.1)
+
+pub dropped : (c new : Content) (uid dest : Text) (now : ℕ) (why : Cause) → map.get c.rows (uid, dest) ≡ Some (Held why) → now ≤ 2 ^ 62 →
+    new.items ≡ c.items → new.arrivals ≡ set.retain c.arrivals (λ at. is_other uid at.1) → new.kept ≡ c.kept → new.rows ≡ map.insert c.rows (uid, dest) Dropped → Takes (Dropping uid dest now) c (Ok tt) new
+dropped c new uid dest now why held early items arrivals kept rows = (
+  ((why, held), early),
+  λ j. record { items = items j; arrivals = arrivals j; kept = kept j; rows = (rows ∙ sym (ap (λ o. dropped_row c.rows (uid, dest) o) held)) j },
+)
+
+pub not_dropped : (c : Content) (uid dest : Text) (o : Option Progress) → map.get c.rows (uid, dest) ≡ o → ((why : Cause) → o ≡ Some (Held why) → ⊥) →
+    (now : ℕ) (new : Content) → Takes (Dropping uid dest now) c (Err fault.NoCall) new
+not_dropped c uid dest o is none now new = λ h. none h.0.0 (sym is ∙ h.0.1)

@@ -6,8 +6,7 @@ use Rattle.std.specs.FinMap.{FinMap}
 use Rattle.std.specs.Ordering.{is_le}
 use Rattle.dr_base.specs.Texts.{Text, text_cmp}
 use Rattle.dr_ledger.specs.declared.item.Progress.{Progress}
-use Rattle.dr_ledger.specs.declared.item.Progress.TheVariants.{Done}
-use Rattle.dr_ledger.specs.Books.{is_other}
+use Rattle.dr_ledger.specs.Books.{is_other, is_queued}
 use Rattle.dr_ledger.specs.Pairs.{Pair, pair_cmp}
 
 abbrev pub Rows : Type 0
@@ -18,16 +17,19 @@ abbrev pub IsRowOf : Text → Rows → Option (Pair × Progress) → Type 0
 IsRowOf uid rows None = (dest : Text) → map.get rows (uid, dest) ≡ None
 IsRowOf uid rows (Some found) = (found.0.0 ≡ uid) × (map.get rows found.0 ≡ Some found.1)
 
--- each row of the uid is done
-abbrev pub AreDone : Text → Rows → Type 0
-AreDone uid rows = (dest : Text) (row : Progress) → map.get rows (uid, dest) ≡ Some row → row ≡ Done
+-- each row of the uid is done or dropped
+abbrev pub AreOver : Text → Rows → Type 0
+AreOver uid rows =
+    (dest : Text) (row : Progress)
+    → map.get rows (uid, dest) ≡ Some row
+    → is_queued row ≡ false
 
--- the rows of the uid have left, and all were done; or one isn't, and nothing is said of what is
--- left
+-- the rows of the uid have left, and all were done or dropped; or one isn't, and nothing is said of
+-- what is left
 abbrev pub AreLetGo : Text → Rows → Bool → Rows → Type 0
 AreLetGo uid old true new =
-    AreDone uid old × (new ≡ map.retain_keys old (λ at. is_other uid at.0))
-AreLetGo uid old false new = AreDone uid old → ⊥
+    AreOver uid old × (new ≡ map.retain_keys old (λ at. is_other uid at.0))
+AreLetGo uid old false new = AreOver uid old → ⊥
 
 -- the text is that one or a later one
 abbrev pub is_from : Text → Text → Bool

@@ -1,5 +1,6 @@
 -- Lines of a journal, as books know them.
-use Rattle.dr_ledger.specs.Books.{Line, Arrival, Repeat, Settling, Requeuing, Forgetting, Adoption}
+use Rattle.dr_ledger.specs.Books.{Line, Arrival, Repeat, Settling, Requeuing, Dropping, Forgetting}
+use Rattle.dr_ledger.specs.Books.{Adoption}
 use Rattle.dr_ledger_history.specs.declared.line.JournalLine.{JournalLine}
 use Rattle.dr_ledger_history.specs.declared.line.JournalLine.TheVariants as told
 
@@ -9,5 +10,6 @@ line_of (told.Arrival caller instance to keep) = Arrival caller instance to keep
 line_of (told.Repeat caller instance) = Repeat caller instance
 line_of (told.Settling uid dest outcome now) = Settling uid dest outcome now
 line_of (told.Requeuing uid dest) = Requeuing uid dest
+line_of (told.Dropping uid dest now) = Dropping uid dest now
 line_of (told.Forgetting uid) = Forgetting uid
 line_of told.Adoption = Adoption

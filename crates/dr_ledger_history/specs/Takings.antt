@@ -1,7 +1,7 @@
 -- One line more.
 use Rattle.std.specs.Prelude.{◌≡◌, Result, Ok, Err}
-use Rattle.dr_ledger.specs.Books.{Line, Arrival, Repeat, Settling, Requeuing, Forgetting, Adoption}
-use Rattle.dr_ledger.specs.Books.{after}
+use Rattle.dr_ledger.specs.Books.{Line, Arrival, Repeat, Settling, Requeuing, Dropping, Forgetting}
+use Rattle.dr_ledger.specs.Books.{Adoption, after}
 use Rattle.dr_ledger.specs.Histories.{IsSomeCall}
 use Rattle.dr_ledger.specs.Routings.{Routing}
 use Rattle.dr_ledger_history.specs.Contents.{Content, book_of, content_of}
@@ -17,6 +17,7 @@ IsBy routing (Arrival caller item to keep) =
 IsBy routing (Repeat caller item) = routing.HasLine caller item.key
 IsBy routing (Settling uid dest outcome now) = Unit {0}
 IsBy routing (Requeuing uid dest) = Unit {0}
+IsBy routing (Dropping uid dest now) = Unit {0}
 IsBy routing (Forgetting uid) = Unit {0}
 IsBy routing Adoption = ⊥
 

@@ -43,7 +43,7 @@ fn is_of(at: &(Text, Text), uid: &Text) -> bool
     at.0 == *uid
 }
 
-/// Takes the rows of the uid out until one isn't done; whether all were.
+/// Takes the rows of the uid out until one waits or is held; whether none did.
 pub fn let_rows_go(
     alloc: Global,
     rows: &mut BTreeMap<(Text, Text), Progress>,

@@ -30,6 +30,12 @@ pub enum JournalLine {
         uid: Text,
         dest: Text,
     },
+    /// A person gave the row up at the moment `now` (milliseconds).
+    Dropping {
+        uid: Text,
+        dest: Text,
+        now: u64,
+    },
     /// The instance was let go, with its arrivals and its rows.
     Forgetting {
         uid: Text,

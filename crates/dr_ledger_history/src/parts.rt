@@ -2,8 +2,8 @@
 ghost use Rattle.std.specs.Prelude.{◌≡◌, ◌↔◌, ◌<◌, ◌≤◌, ◌^◌, IsTrue, OnOk, Some, option_copied};
 ghost use Rattle.std.specs.FinMap as map;
 ghost use Rattle.std.specs.FinSet as set;
-ghost use Rattle.dr_ledger.specs.Books.{Arrival, Adoption, Forgetting, Repeat, Requeuing, Settling};
-ghost use Rattle.dr_ledger.specs.Books.{after, empty_book};
+ghost use Rattle.dr_ledger.specs.Books.{Arrival, Adoption, Dropping, Forgetting, Repeat, Requeuing};
+ghost use Rattle.dr_ledger.specs.Books.{Settling, after, empty_book};
 ghost use Rattle.dr_ledger.specs.Histories.{IsSame};
 ghost use Rattle.dr_ledger_history.specs.Contents.{all_of, book_of, content, content_of};
 ghost use Rattle.dr_ledger_history.specs.Lines.{line_of};
@@ -16,11 +16,11 @@ use crate::letting::{let_callers_go, let_rows_go, take_item};
 use crate::line::{HistoryFault, JournalLine};
 use crate::trees::{clear, fill, prune, put_arrival, put_item, put_kept, put_row};
 use dr_base::{Seq, Text};
-use dr_ledger::{Instance, Outcome, Progress, moved};
+use dr_ledger::{Cause, Instance, Outcome, Progress, moved};
 use std::alloc::{AllocError, Global};
 use std::collections::{BTreeMap, BTreeSet};
 
-/// The last moment at which a try may end, in milliseconds.
+/// The last moment at which a try may end, or a row be dropped, in milliseconds.
 const LAST_MOMENT: u64 = 1 << 62;
 
 /// Instances by uid, who brought which uid, the kept uids, and how far each (uid, destination) is.
@@ -64,6 +64,7 @@ impl Parts {
                 now,
             } => self.settle((uid, dest), outcome, now),
             JournalLine::Requeuing { uid, dest } => self.requeue((uid, dest)),
+            JournalLine::Dropping { uid, dest, now } => self.give_up(alloc, (uid, dest), now),
             JournalLine::Forgetting { uid } => self.forget(alloc, &uid),
             JournalLine::Adoption => {
                 self.adopt();
@@ -139,6 +140,7 @@ impl Parts {
             Some(Progress::Waiting { tries, due }) => self.move_on(at, (tries, due), outcome, now),
             Some(Progress::Held(_)) => Err(HistoryFault::NoCall),
             Some(Progress::Done) => Err(HistoryFault::NoCall),
+            Some(Progress::Dropped) => Err(HistoryFault::NoCall),
             None => Err(HistoryFault::NoCall),
         }
     }
@@ -173,8 +175,41 @@ impl Parts {
             }
             Some(Progress::Waiting { .. }) => Err(HistoryFault::NoCall),
             Some(Progress::Done) => Err(HistoryFault::NoCall),
+            Some(Progress::Dropped) => Err(HistoryFault::NoCall),
             None => Err(HistoryFault::NoCall),
         }
+    }
+
+    /// A held row is dropped.
+    fn give_up(&mut self, alloc: Global, at: (Text, Text), now: u64) -> Result<(), HistoryFault>
+        ensures { Takes (Dropping at.0 at.1 now) (content self.old) result (content self.new) }
+    {
+        match self.row(&at) {
+            Some(Progress::Held(why)) => self.drop_row(alloc, at, now, why),
+            Some(Progress::Waiting { .. }) => Err(HistoryFault::NoCall),
+            Some(Progress::Done) => Err(HistoryFault::NoCall),
+            Some(Progress::Dropped) => Err(HistoryFault::NoCall),
+            None => Err(HistoryFault::NoCall),
+        }
+    }
+
+    /// A row that is held for this cause is dropped, and who brought the uid is let go.
+    fn drop_row(
+        &mut self,
+        alloc: Global,
+        at: (Text, Text),
+        now: u64,
+        why: Cause,
+    ) -> Result<(), HistoryFault>
+        requires { map.get (content self.old).rows at ≡ Some (Progress.Held why) }
+        ensures { Takes (Dropping at.0 at.1 now) (content self.old) result (content self.new) }
+    {
+        if now > LAST_MOMENT {
+            return Err(HistoryFault::NoCall);
+        }
+        let_callers_go(alloc, &mut self.arrivals, &at.0)?;
+        put_row(&mut self.rows, at, Progress::Dropped)?;
+        Ok(())
     }
 
     /// What is over is let go. Of the rows and the arrivals only those of the uid are looked for,
@@ -196,7 +231,7 @@ impl Parts {
         Ok(())
     }
 
-    /// Arrivals and done rows leave.
+    /// Arrivals and rows that are done or dropped leave.
     fn adopt(&mut self)
         ensures { content self.new ≡ content_of (after Adoption (book_of (content self.old))) }
     {

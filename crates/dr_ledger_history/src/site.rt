@@ -26,6 +26,7 @@ pub fn is_by(alloc: Global, site: &Site, line: &JournalLine) -> Result<bool, All
         JournalLine::Repeat { caller, instance } => Ok(site.has_line(caller, &instance.key)),
         JournalLine::Settling { .. } => Ok(true),
         JournalLine::Requeuing { .. } => Ok(true),
+        JournalLine::Dropping { .. } => Ok(true),
         JournalLine::Forgetting { .. } => Ok(true),
         JournalLine::Adoption => Ok(false),
     }

@@ -1,11 +1,11 @@
 //! Changes of a book's maps and sets, each held in a tree.
-ghost use Rattle.std.specs.Prelude.{◌≡◌, OnOk, not, Some, unwrap_or};
+ghost use Rattle.std.specs.Prelude.{◌≡◌, OnOk, unwrap_or};
 ghost use Rattle.std.specs.FinMap as map;
 ghost use Rattle.std.specs.FinSet as set;
 ghost use Rattle.dr_base.specs.Texts.{text_cmp};
-ghost use Rattle.dr_ledger.specs.Books.{is_done, not_done, with_rows};
+ghost use Rattle.dr_ledger.specs.Books.{arrived_row, is_queued, not_over, with_rows};
 ghost use Rattle.dr_ledger.specs.Pairs.{pair_cmp};
-ghost use Rattle.dr_ledger_history.specs.Trees.{as_map, as_set};
+ghost use Rattle.dr_ledger_history.specs.Trees.{as_map, as_set, stands as does_stand};
 
 use dr_base::Text;
 use dr_ledger::{Instance, Progress};
@@ -64,7 +64,20 @@ pub fn put_row(
     Ok(())
 }
 
-/// Puts a waiting row in, where the uid has none to that destination.
+/// Whether a row is there that an arrival leaves as it is.
+fn stands(found: Option<Progress>) -> bool
+    ensures { result ≡ does_stand found }
+{
+    match found {
+        None => false,
+        Some(Progress::Dropped) => false,
+        Some(Progress::Done) => true,
+        Some(Progress::Held(_)) => true,
+        Some(Progress::Waiting { .. }) => true,
+    }
+}
+
+/// Puts a waiting row in, where the uid has none to that destination, or one that was dropped.
 fn fill_one(
     rows: &mut BTreeMap<(Text, Text), Progress>,
     uid: &Text,
@@ -73,18 +86,17 @@ fn fill_one(
     ensures { OnOk result
         (as_map pair_cmp rows.new
         ≡ map.insert (as_map pair_cmp rows.old) (uid.now, dest.now)
-        (unwrap_or (map.get (as_map pair_cmp rows.old) (uid.now, dest.now))
-        (Progress.Waiting 0 0))) }
+        (arrived_row (map.get (as_map pair_cmp rows.old) (uid.now, dest.now)))) }
 {
     let at = (uid.clone()?, dest.clone()?);
-    if rows.contains_key(&at) {
+    if stands(rows.get(&at).copied()) {
         return Ok(());
     }
     rows.insert(at, Progress::Waiting { tries: 0, due: 0 })?;
     Ok(())
 }
 
-/// Puts a waiting row in for each destination to which the uid has none.
+/// Puts a waiting row in for each destination to which the uid has none, or one that was dropped.
 pub fn fill(
     rows: &mut BTreeMap<(Text, Text), Progress>,
     uid: &Text,
@@ -99,20 +111,21 @@ pub fn fill(
     Ok(())
 }
 
-/// Whether the row isn't done.
+/// Whether the row waits or is held.
 pub fn is_open(row: Progress) -> bool
-    ensures { result ≡ not (is_done (Some row)) }
+    ensures { result ≡ is_queued row }
 {
     match row {
         Progress::Waiting { .. } => true,
         Progress::Held(_) => true,
         Progress::Done => false,
+        Progress::Dropped => false,
     }
 }
 
-/// Lets done rows go.
+/// Lets rows go that are done or dropped.
 pub fn prune(rows: &mut BTreeMap<(Text, Text), Progress>)
-    ensures { as_map pair_cmp rows.new ≡ not_done (as_map pair_cmp rows.old) }
+    ensures { as_map pair_cmp rows.new ≡ not_over (as_map pair_cmp rows.old) }
 {
     rows.retain(|_, row| is_open(*row));
 }

@@ -8,27 +8,27 @@ use Rattle.std.specs.FinMap as map
 use Rattle.std.specs.FinMap.{FinMap, find, is_sorted, put}
 use Rattle.std.specs.FinMap.Entries.{below_all, find-put}
 use Rattle.std.specs.FinSet as set
+use Rattle.std.specs.FinSet.{FinSet}
 use Rattle.std.proofs.lemmas.Map.Views.{tells_apart}
 use Rattle.dr_base.specs.Texts.{Text, text_cmp}
 use Rattle.dr_ledger.specs.declared.item.Cause.{Cause}
 use Rattle.dr_ledger.specs.declared.item.Instance.{Instance}
 use Rattle.dr_ledger.specs.declared.item.Outcome.{Outcome}
 use Rattle.dr_ledger.specs.declared.item.Progress.{Progress}
-use Rattle.dr_ledger.specs.declared.item.Progress.TheVariants.{Waiting, Held, Done}
-use Rattle.dr_ledger.specs.Books.{Line, Arrival, Repeat, Settling, Requeuing, Forgetting, Adoption, after, not_done, row_after, with_rows}
-use Rattle.dr_ledger.specs.Books.{is_done as is_done_at}
+use Rattle.dr_ledger.specs.declared.item.Progress.TheVariants.{Waiting, Held, Done, Dropped}
+use Rattle.dr_ledger.specs.Books.{Line, Arrival, Repeat, Settling, Requeuing, Dropping, Forgetting, Adoption, after, arrived_row, is_other, is_over_row, is_queued, not_over, row_after, with_rows}
 use Rattle.dr_ledger.specs.Pairs.{Pair, pair_cmp}
 use Rattle.dr_ledger.proofs.Forgotten.{arrival_is, item_is, row_is}
 use Rattle.std.specs.Cmp.{eq_by_cmp_equiv}
-use Rattle.dr_ledger.proofs.Growing.{not_done_is, requeued_is, settled_is}
+use Rattle.dr_ledger.proofs.Growing.{dropped_is, not_over_is, requeued_is, settled_is}
 use Rattle.dr_ledger.proofs.Maps.{texts, text_pairs, ties_itself}
 use Rattle.dr_ledger_memory.specs.declared.held.Held.{Held as Entry}
 use Rattle.dr_ledger_memory.specs.declared.note.Note.{Note}
 use Rattle.dr_ledger_memory.specs.declared.note.Note.TheVariants as note
 use Rattle.dr_ledger_memory.specs.declared.parts.Parts.{Parts}
-use Rattle.dr_ledger_memory.specs.Changes.{IsAdopted, IsForgotten, IsMoved, IsNoted, IsPrunedIn, IsPutAt, IsSame, at}
+use Rattle.dr_ledger_memory.specs.Changes.{IsAdopted, IsDropped, IsForgotten, IsMoved, IsNoted, IsPrunedIn, IsPutAt, IsSame, MovesAt, at}
 use Rattle.dr_ledger_memory.specs.Contents.{all_rows, collected, content, data_sets, kept_mark, keys}
-use Rattle.dr_ledger_memory.specs.Entries.{Row, filled, filled_at, instance_in, is_done, is_kept_in, is_open, row_in, rows_in}
+use Rattle.dr_ledger_memory.specs.Entries.{Row, filled, filled_at, instance_in, is_kept_in, is_open, row_in, rows_in}
 use Rattle.dr_ledger_memory.specs.Notes.{line_of, lines_of}
 use Rattle.dr_ledger_memory.proofs.Lookups.{arrival_at, item_at, kept_at, pair_ties, row_at}
 use Rattle.dr_ledger_memory.proofs.Whole.{above, nothing_found, no_both, t_left, t_right}
@@ -91,14 +91,20 @@ own_row : (o : Option Entry) (dest : Text) → row_in o dest ≡ find text_cmp d
 own_row None dest = refl
 own_row (Some entry) dest = refl
 
-filled_find : (rows : List Row) (to dest : Text) (o : Option Progress) → find text_cmp to rows ≡ o →
-    find text_cmp dest (filled_at rows to o) ≡ cond (eq_by_cmp text_cmp dest to) (Some (unwrap_or o (Waiting 0 0))) (find text_cmp dest rows)
-filled_find rows to dest None h = find-put text_cmp texts.total dest to (Waiting 0 0) rows
-filled_find rows to dest (Some row) h = by_case (eq_by_cmp text_cmp dest to) refl
+stood : (rows : List Row) (to dest : Text) (row : Progress) → find text_cmp to rows ≡ Some row → find text_cmp dest rows ≡ cond (eq_by_cmp text_cmp dest to) (Some row) (find text_cmp dest rows)
+stood rows to dest row h = by_case (eq_by_cmp text_cmp dest to) refl
   where
     by_case : (b : Bool) → eq_by_cmp text_cmp dest to ≡ b → find text_cmp dest rows ≡ cond b (Some row) (find text_cmp dest rows)
     by_case true t = ap (λ d. find text_cmp d rows) (tells_apart texts.exact dest to t) ∙ h
     by_case false t = refl
+
+filled_find : (rows : List Row) (to dest : Text) (o : Option Progress) → find text_cmp to rows ≡ o →
+    find text_cmp dest (filled_at rows to o) ≡ cond (eq_by_cmp text_cmp dest to) (Some (arrived_row o)) (find text_cmp dest rows)
+filled_find rows to dest None h = find-put text_cmp texts.total dest to (Waiting 0 0) rows
+filled_find rows to dest (Some Dropped) h = find-put text_cmp texts.total dest to (Waiting 0 0) rows
+filled_find rows to dest (Some Done) h = stood rows to dest Done h
+filled_find rows to dest (Some (Held why)) h = stood rows to dest (Held why) h
+filled_find rows to dest (Some (Waiting tries due)) h = stood rows to dest (Waiting tries due) h
 
 three : {X : Type 0} (a b : Bool) (x f g : X) → cond (a && b) x (cond a f g) ≡ cond a (cond b x f) g
 three true b x f g = refl
@@ -111,12 +117,12 @@ unfolding with_rows
 rows_fill [] m rows g uid has u d = has u d
 rows_fill (to ∷ tos) m rows g uid has u d =
     let own : map.get m (uid, to) ≡ find text_cmp to rows = has uid to ∙ ap (λ b. cond b (find text_cmp to rows) (g uid to)) (ties_itself texts uid) in
-    let value : Progress = unwrap_or (map.get m (uid, to)) (Waiting 0 0) in
+    let value : Progress = arrived_row (map.get m (uid, to)) in
     rows_fill tos (map.insert m (uid, to) value) (filled_at rows to (find text_cmp to rows)) g uid (λ u d.
     map.get-insert text_pairs.total m (uid, to) value (u, d)
     ∙ (ap (λ b. cond b (Some value) (map.get m (u, d))) (pair_ties (text_cmp u uid) (text_cmp d to))
-    ∙ ((λ j. cond (eq_by_cmp text_cmp u uid && eq_by_cmp text_cmp d to) (Some (unwrap_or (own j) (Waiting 0 0))) (has u d j))
-    ∙ (three (eq_by_cmp text_cmp u uid) (eq_by_cmp text_cmp d to) (Some (unwrap_or (find text_cmp to rows) (Waiting 0 0))) (find text_cmp d rows) (g u d)
+    ∙ ((λ j. cond (eq_by_cmp text_cmp u uid && eq_by_cmp text_cmp d to) (Some (arrived_row (own j))) (has u d j))
+    ∙ (three (eq_by_cmp text_cmp u uid) (eq_by_cmp text_cmp d to) (Some (arrived_row (find text_cmp to rows))) (find text_cmp d rows) (g u d)
     ∙ ap (λ x. cond (eq_by_cmp text_cmp u uid) x (g u d)) (sym (filled_find rows to d (find text_cmp to rows) refl)))))) u d
 
 module _ (p q : Parts) (sp : tree.IsOrdered text_cmp p.held) (sq : tree.IsOrdered text_cmp q.held) where
@@ -187,39 +193,44 @@ two : {X : Type 0} (a b : Bool) (x f g : X) → cond a (cond b x f) g ≡ cond (
 two true b x f g = refl
 two false b x f g = refl
 
-module _ (p q : Parts) (sp : tree.IsOrdered text_cmp p.held) (sq : tree.IsOrdered text_cmp q.held) (uid dest : Text) (progress : Progress) (note : Note) (m : IsMoved p uid dest progress note q) where
-  was_put : (t : Bool) (u : Text) → eq_by_cmp text_cmp u uid ≡ t → {X : Type 0} (f : Option Entry → X) → f (Some m.held.1) ≡ f (Some m.held.0) → f (cond t (Some m.held.1) (at p.held u)) ≡ f (at p.held u)
-  was_put true u e f same = same ∙ (ap f (sym m.held.2) ∙ ap (λ x. f (at p.held x)) (sym (tells_apart texts.exact u uid e)))
+module _ (p q : Parts) (sp : tree.IsOrdered text_cmp p.held) (sq : tree.IsOrdered text_cmp q.held) (uid dest : Text) (progress : Progress) (m : MovesAt p.held uid dest progress q.held) where
+  was_put : (t : Bool) (u : Text) → eq_by_cmp text_cmp u uid ≡ t → {X : Type 0} (f : Option Entry → X) → f (Some m.1) ≡ f (Some m.0) → f (cond t (Some m.1) (at p.held u)) ≡ f (at p.held u)
+  was_put true u e f same = same ∙ (ap f (sym m.2) ∙ ap (λ x. f (at p.held x)) (sym (tells_apart texts.exact u uid e)))
   was_put false u e f same = refl
 
-  same_in : {X : Type 0} (f : Option Entry → X) → f (Some m.held.1) ≡ f (Some m.held.0) → (u : Text) → f (at q.held u) ≡ f (at p.held u)
-  same_in f same u = ap f (m.held.4 u) ∙ was_put (eq_by_cmp text_cmp u uid) u refl f same
+  same_in : {X : Type 0} (f : Option Entry → X) → f (Some m.1) ≡ f (Some m.0) → (u : Text) → f (at q.held u) ≡ f (at p.held u)
+  same_in f same u = ap f (m.4 u) ∙ was_put (eq_by_cmp text_cmp u uid) u refl f same
 
   moved_rows : (u d : Text) → row_in (at q.held u) d ≡ cond (eq_by_cmp pair_cmp (u, d) (uid, dest)) (Some progress) (row_in (at p.held u) d)
   moved_rows u d =
-      ap (λ o. row_in o d) (m.held.4 u) ∙ (row_put (eq_by_cmp text_cmp u uid) m.held.1 (at p.held u) d
-      ∙ (ap (λ rs. cond (eq_by_cmp text_cmp u uid) (find text_cmp d rs) (row_in (at p.held u) d)) m.held.3.rows_are
-      ∙ (ap (λ x. cond (eq_by_cmp text_cmp u uid) x (row_in (at p.held u) d)) (find-put text_cmp texts.total d dest progress m.held.0.rows.items)
-      ∙ (two (eq_by_cmp text_cmp u uid) (eq_by_cmp text_cmp d dest) (Some progress) (find text_cmp d m.held.0.rows.items) (row_in (at p.held u) d)
+      ap (λ o. row_in o d) (m.4 u) ∙ (row_put (eq_by_cmp text_cmp u uid) m.1 (at p.held u) d
+      ∙ (ap (λ rs. cond (eq_by_cmp text_cmp u uid) (find text_cmp d rs) (row_in (at p.held u) d)) m.3.rows_are
+      ∙ (ap (λ x. cond (eq_by_cmp text_cmp u uid) x (row_in (at p.held u) d)) (find-put text_cmp texts.total d dest progress m.0.rows.items)
+      ∙ (two (eq_by_cmp text_cmp u uid) (eq_by_cmp text_cmp d dest) (Some progress) (find text_cmp d m.0.rows.items) (row_in (at p.held u) d)
       ∙ (ap (cond (eq_by_cmp text_cmp u uid && eq_by_cmp text_cmp d dest) (Some progress)) (was (eq_by_cmp text_cmp u uid) refl)
       ∙ ap (λ b. cond b (Some progress) (row_in (at p.held u) d)) (sym (pair_ties (text_cmp u uid) (text_cmp d dest))))))))
     where
-      was : (t : Bool) → eq_by_cmp text_cmp u uid ≡ t → cond t (find text_cmp d m.held.0.rows.items) (row_in (at p.held u) d) ≡ row_in (at p.held u) d
-      was true e = ap (λ o. row_in o d) (sym m.held.2) ∙ ap (λ x. row_in (at p.held x) d) (sym (tells_apart texts.exact u uid e))
+      was : (t : Bool) → eq_by_cmp text_cmp u uid ≡ t → cond t (find text_cmp d m.0.rows.items) (row_in (at p.held u) d) ≡ row_in (at p.held u) d
+      was true e = ap (λ o. row_in o d) (sym m.2) ∙ ap (λ x. row_in (at p.held x) d) (sym (tells_apart texts.exact u uid e))
       was false e = refl
 
-  moved_is : (line : Line) → line_of note ≡ line →
-      content q ≡ record { items = (content p).items; arrivals = (content p).arrivals; kept = (content p).kept; rows = map.insert (content p).rows (uid, dest) progress; lines = (content p).lines ++ line ∷ [] }
-  moved_is line is = λ j. record {
+  moved_as : (arrivals : FinSet pair_cmp) (note : Note) (line : Line) → (content q).arrivals ≡ arrivals → q.notes.items ≡ p.notes.items ++ note ∷ [] → line_of note ≡ line →
+      content q ≡ record { items = (content p).items; arrivals = arrivals; kept = (content p).kept; rows = map.insert (content p).rows (uid, dest) progress; lines = (content p).lines ++ line ∷ [] }
+  moved_as arrivals note line alike notes is = λ j. record {
     items = map.same_map texts.total texts.exact (content q).items (content p).items (λ u.
-        item_at q sq u ∙ (same_in instance_in (ap Some m.held.3.instance_is) u ∙ sym (item_at p sp u))) j;
-    arrivals = arrivals_alike p q m.arrivals j;
-    kept = set.same_set texts.total texts.exact (content q).kept (content p).kept (λ u. kept_at q sq u ∙ (same_in is_kept_in m.held.3.kept u ∙ sym (kept_at p sp u))) j;
+        item_at q sq u ∙ (same_in instance_in (ap Some m.3.instance_is) u ∙ sym (item_at p sp u))) j;
+    arrivals = alike j;
+    kept = set.same_set texts.total texts.exact (content q).kept (content p).kept (λ u. kept_at q sq u ∙ (same_in is_kept_in m.3.kept u ∙ sym (kept_at p sp u))) j;
     rows = map.same_map text_pairs.total text_pairs.exact (content q).rows (map.insert (content p).rows (uid, dest) progress) (λ k.
         row_at q sq k.0 k.1 ∙ (moved_rows k.0 k.1 ∙ (ap (cond (eq_by_cmp pair_cmp k (uid, dest)) (Some progress)) (sym (row_at p sp k.0 k.1))
         ∙ sym (map.get-insert text_pairs.total (content p).rows (uid, dest) progress k)))) j;
-    lines = lines_with p q note line m.notes is j;
+    lines = lines_with p q note line notes is j;
   }
+
+module _ (p q : Parts) (sp : tree.IsOrdered text_cmp p.held) (sq : tree.IsOrdered text_cmp q.held) (uid dest : Text) (progress : Progress) (note : Note) (m : IsMoved p uid dest progress note q) where
+  moved_is : (line : Line) → line_of note ≡ line →
+      content q ≡ record { items = (content p).items; arrivals = (content p).arrivals; kept = (content p).kept; rows = map.insert (content p).rows (uid, dest) progress; lines = (content p).lines ++ line ∷ [] }
+  moved_is line is = moved_as p q sp sq uid dest progress m.held (content p).arrivals note line (arrivals_alike p q m.arrivals) m.notes is
 
   pub settled_so : (outcome : Outcome) (now tries due : ℕ) → map.get (content p).rows (uid, dest) ≡ Some (Waiting tries due) → progress ≡ row_after tries outcome now →
       line_of note ≡ Settling uid dest outcome now → content q ≡ after (Settling uid dest outcome now) (content p)
@@ -235,10 +246,21 @@ module _ (p q : Parts) (sp : tree.IsOrdered text_cmp p.held) (sq : tree.IsOrdere
       ∙ (ap (λ (x : Progress). record { items = (content p).items; arrivals = (content p).arrivals; kept = (content p).kept; rows = map.insert (content p).rows (uid, dest) x; lines = (content p).lines ++ Requeuing uid dest ∷ [] }) is
       ∙ sym (requeued_is uid dest why (content p) held))
 
+-- ---- a dropping
+pub dropped_so : (p q : Parts) (sp : tree.IsOrdered text_cmp p.held) (sq : tree.IsOrdered text_cmp q.held) (uid dest : Text) (note : Note) → IsDropped p uid dest note q → (now : ℕ) (why : Cause) →
+    map.get (content p).rows (uid, dest) ≡ Some (Held why) → line_of note ≡ Dropping uid dest now → content q ≡ after (Dropping uid dest now) (content p)
+dropped_so p q sp sq uid dest note d now why held line =
+    let left : FinSet pair_cmp = set.retain (content p).arrivals (λ at. is_other uid at.1) in
+    moved_as p q sp sq uid dest Dropped d.held left note (Dropping uid dest now)
+    (set.same_set text_pairs.total text_pairs.exact (content q).arrivals left (λ k.
+    arrival_at q k ∙ (d.arrivals k ∙ (ap (λ b. b && not (eq_by_cmp text_cmp k.1 uid)) (sym (arrival_at p k)) ∙ sym (arrival_is (content p) uid k)))))
+    d.notes line
+    ∙ sym (dropped_is uid dest now why (content p) held)
+
 -- ---- an adoption
 abbrev opened : Option Progress → Option Progress
 opened None = None
-opened (Some row) = cond (not (is_done row)) (Some row) None
+opened (Some row) = cond (is_queued row) (Some row) None
 
 none_below : (k x : Text) (es : List Row) → T (below_all text_cmp x es) → eq_by_cmp text_cmp k x ≡ true → find text_cmp k es ≡ None
 none_below k x es h t = at_found (find text_cmp k es) refl
@@ -267,20 +289,19 @@ find_open dest (e ∷ es) h = by_case (find_open dest es (t_right _ _ h)) (eq_by
 
 pub opened_some : (o : Option Progress) (row : Progress) → opened o ≡ Some row → o ≡ Some row
 opened_some None row h = absurd (nothing_found row h)
-opened_some (Some had) row h = by_case (not (is_done had)) h
+opened_some (Some had) row h = by_case (is_queued had) h
   where
     by_case : (b : Bool) → cond b (Some had) None ≡ Some row → Some had ≡ Some row
     by_case true e = e
     by_case false e = absurd (nothing_found row e)
 
-done_alike : (row : Progress) → is_done_at (Some row) ≡ is_done row
-done_alike Done = refl
-done_alike (Waiting tries due) = refl
-done_alike (Held why) = refl
+twice : (b : Bool) → b ≡ not (not b)
+twice true = refl
+twice false = refl
 
-opened_is : (o : Option Progress) → opened o ≡ cond (not (is_done_at o)) o None
+opened_is : (o : Option Progress) → opened o ≡ cond (not (is_over_row o)) o None
 opened_is None = refl
-opened_is (Some row) = ap (λ b. cond (not b) (Some row) None) (sym (done_alike row))
+opened_is (Some row) = ap (λ b. cond b (Some row) None) (twice (is_queued row))
 
 pub pruned_row : (old new : Option Entry) (dest : Text) → IsPrunedIn old new → row_in new dest ≡ opened (row_in old dest)
 pruned_row None new dest h = ap (λ o. row_in o dest) h
@@ -299,8 +320,8 @@ adopted_is p q sp sq a = λ j. record {
   items = map.same_map texts.total texts.exact (content q).items (content p).items (λ u. item_at q sq u ∙ (pruned_instance (at p.held u) (at q.held u) (a.held u) ∙ sym (item_at p sp u))) j;
   arrivals = set.same_set text_pairs.total text_pairs.exact (content q).arrivals set.empty (λ k. set.contains-from_list text_pairs.total q.arrivals.keys k ∙ (ap (list_any (eq_by_cmp pair_cmp k)) a.arrivals ∙ sym (set.contains-empty pair_cmp k))) j;
   kept = set.same_set texts.total texts.exact (content q).kept (content p).kept (λ u. kept_at q sq u ∙ (pruned_kept (at p.held u) (at q.held u) (a.held u) ∙ sym (kept_at p sp u))) j;
-  rows = map.same_map text_pairs.total text_pairs.exact (content q).rows (not_done (content p).rows) (λ k.
-      row_at q sq k.0 k.1 ∙ (pruned_row (at p.held k.0) (at q.held k.0) k.1 (a.held k.0) ∙ (ap opened (sym (row_at p sp k.0 k.1)) ∙ (opened_is (map.get (content p).rows k) ∙ sym (not_done_is (content p).rows k))))) j;
+  rows = map.same_map text_pairs.total text_pairs.exact (content q).rows (not_over (content p).rows) (λ k.
+      row_at q sq k.0 k.1 ∙ (pruned_row (at p.held k.0) (at q.held k.0) k.1 (a.held k.0) ∙ (ap opened (sym (row_at p sp k.0 k.1)) ∙ (opened_is (map.get (content p).rows k) ∙ sym (not_over_is (content p).rows k))))) j;
   lines = lines_with p q note.Adoption Adoption a.notes refl j;
 }
 

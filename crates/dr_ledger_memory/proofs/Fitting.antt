@@ -1,13 +1,11 @@
 -- The first row that is unfit.
-use Rattle.std.proofs.Common.{◌≡◌, ◌≢◌, ◌⊎◌, T, ℕ, Bool, true, false, cond, ◌&&◌, List, [], ◌∷◌, Option, None, Some, refl, sym, ap, subst, ◌∙◌, inl, inr}
+use Rattle.std.proofs.Common.{◌≡◌, ◌≢◌, ◌⊎◌, T, Bool, true, false, cond, List, [], ◌∷◌, Option, None, Some, refl, sym, ap, subst, ◌∙◌, inl, inr}
 use Rattle.std.specs.declared.cmp.Ordering.{Ordering}
 use Rattle.std.specs.declared.cmp.Ordering.TheVariants.{Less, Equal, Greater}
 use Rattle.std.specs.Ordering.{eq_by_cmp, is_eq, is_lt, ordering_reverse, ordering_then}
 use Rattle.std.specs.List.{AllByRecursion}
-use Rattle.std.specs.List.Sorted.{IsStrictlySortedBy}
-use Rattle.std.specs.Map.{keys_of, lookup}
+use Rattle.std.specs.Map.{keys_of}
 use Rattle.std.specs.BTreeMap as tree
-use Rattle.std.specs.BTreeMap.{is_at}
 use Rattle.std.specs.FinMap as map
 use Rattle.std.specs.FinMap.{find, is_sorted}
 use Rattle.std.specs.FinMap.Entries.{below_all}
@@ -17,8 +15,7 @@ use Rattle.dr_plan_model.specs.Networks.{Network}
 use Rattle.dr_plan_model.specs.Walks.{IsReached}
 use Rattle.dr_ledger.specs.declared.item.Instance.{Instance}
 use Rattle.dr_ledger.specs.declared.item.Progress.{Progress}
-use Rattle.dr_ledger.specs.declared.item.Progress.TheVariants.{Done}
-use Rattle.dr_ledger.specs.Adopting.{IsUnfit, Unfits}
+use Rattle.dr_ledger.specs.Adopting.{Unfits}
 use Rattle.dr_ledger.specs.Pairs.{Pair, pair_cmp}
 use Rattle.dr_ledger.proofs.Growing.{inside}
 use Rattle.dr_ledger.proofs.Maps.{texts, cases_of, ties_itself}
@@ -29,7 +26,7 @@ use Rattle.dr_ledger_memory.specs.Contents.{content}
 use Rattle.dr_ledger_memory.specs.Entries.{Row, instance_in, row_in}
 use Rattle.dr_ledger_memory.specs.Unfits.{AllFit, Fits, IsUnfitRow, UnfitsIn}
 use Rattle.dr_ledger_memory.proofs.Lookups.{Es, In, IsInOrder, head_of, item_at, rest_of, row_at}
-use Rattle.dr_ledger_memory.proofs.Whole.{above, no_both, nothing_found, t_left, t_right}
+use Rattle.dr_ledger_memory.proofs.Whole.{above, nothing_found, t_left, t_right}
 
 not_greater : (r : Ordering) → r ≡ Less → r ≢ Greater
 not_greater r h e = let f : ⊥ = cc in f

@@ -16,7 +16,7 @@ use Rattle.dr_site.specs.Parts.{Part}
 use Rattle.dr_ledger.specs.declared.content.Job.{Job}
 use Rattle.dr_ledger.specs.declared.item.Instance.{Instance}
 use Rattle.dr_ledger.specs.declared.item.Progress.{Progress}
-use Rattle.dr_ledger.specs.declared.item.Progress.TheVariants.{Waiting, Held, Done}
+use Rattle.dr_ledger.specs.declared.item.Progress.TheVariants.{Waiting, Held, Done, Dropped}
 use Rattle.dr_ledger.specs.Bodies.{NextsWith}
 use Rattle.dr_ledger.specs.Items.{instance_of}
 use Rattle.dr_ledger.specs.Replies.{IsDue}
@@ -35,17 +35,18 @@ use Rattle.dr_ledger_memory.specs.Sound.{IsSound}
 use Rattle.dr_ledger_memory.proofs.Lookups.{body_at, item_at, row_at}
 use Rattle.dr_ledger_memory.proofs.NextDue.{IsFirst, first_of_all, found_is, left, passes, right, start, ties, waits_so}
 
-waits_from : (o : Option Progress) (moment : ℕ) → waits_since o moment ≡ true → (tries : ℕ) × (o ≡ Some (Waiting tries moment))
+pub waits_from : (o : Option Progress) (moment : ℕ) → waits_since o moment ≡ true → (tries : ℕ) × (o ≡ Some (Waiting tries moment))
 waits_from None moment h = absurd (let e : ⊥ = cc in e)
 waits_from (Some Done) moment h = absurd (let e : ⊥ = cc in e)
+waits_from (Some Dropped) moment h = absurd (let e : ⊥ = cc in e)
 waits_from (Some (Held why)) moment h = absurd (let e : ⊥ = cc in e)
 waits_from (Some (Waiting tries due)) moment h = (tries, ap (λ d. Some (Waiting tries d)) ((unsigned_Decides due moment).0 h))
 
-abbrev IsAfter : ℕ × Text → ℕ × Text → Type 0
+abbrev pub IsAfter : ℕ × Text → ℕ × Text → Type 0
 IsAfter a b = ordering_then (nat_cmp a.0 b.0) (text_cmp a.1 b.1) ≡ Greater
 
 -- among keys of one destination the moment and the uid decide
-later_too : (key : Due) (dest : Text) (other : ℕ) (uid : Text) → key.0 ≡ dest → IsAfter (key.1.0, key.1.1) (other, uid) → due_cmp key (dest, (other, uid)) ≡ Greater
+pub later_too : (key : Due) (dest : Text) (other : ℕ) (uid : Text) → key.0 ≡ dest → IsAfter (key.1.0, key.1.1) (other, uid) → due_cmp key (dest, (other, uid)) ≡ Greater
 later_too key dest other uid goes h =
     let P : Text → Type 0 = λ d. text_cmp d dest ≡ Equal in
     ap (λ r. ordering_then r (ordering_then (nat_cmp key.1.0 other) (text_cmp key.1.1 uid))) (subst P (sym goes) (ties dest)) ∙ h
@@ -55,7 +56,7 @@ module _ (part : Part) (p : Parts) (sp : tree.IsOrdered text_cmp p.held) (sound 
   found = first_waiting p.held dest now (sorted.keys_between due_cmp (Included (start dest)) Unbounded p.waiting)
 
   -- a row that is due has its key, and what is found comes first
-  first_for : IsSound part p → (uid : Text) (due : ℕ) → IsDue (content p) dest now uid due → IsFirst found (dest, (due, uid))
+  pub first_for : IsSound part p → (uid : Text) (due : ℕ) → IsDue (content p) dest now uid due → IsFirst found (dest, (due, uid))
   first_for s uid due h =
       let row : row_in (at p.held uid) dest ≡ Some (Waiting h.0.0 due) = sym (row_at p sp uid dest) ∙ h.0.1 in
       first_of_all p.held dest now (dest, (due, uid)) refl h.1 (waits_so p.held uid dest h.0.0 due row) p.waiting ordered (s.covered uid dest h.0.0 due row)

@@ -1,6 +1,6 @@
 -- What a ledger in memory keeps.
 use Rattle.std.specs.Prelude.{◌↔◌, IsSome, IsTrue}
-use Rattle.std.proofs.Common.{◌≡◌, ◌≢◌, ◌⊎◌, ℕ, ◌≤◌, ◌^◌, Bool, true, false, cond, not, ◌||◌, List, [], ◌∷◌, ◌++◌, Contains, Option, None, Some, Ok, unwrap_or, refl, sym, ap, subst, ◌∙◌, inl, inr}
+use Rattle.std.proofs.Common.{◌≡◌, ◌⊎◌, ℕ, ◌≤◌, ◌^◌, Bool, true, false, cond, not, ◌||◌, List, [], ◌∷◌, ◌++◌, Contains, Option, None, Some, Ok, unwrap_or, refl, sym, ap, subst, ◌∙◌, inl, inr}
 use mathlib.Core.Logic.{∥∥₁_map}
 use Rattle.std.specs.Ordering.{eq_by_cmp}
 use Rattle.std.specs.Cmp.{both_ways}
@@ -23,9 +23,9 @@ use Rattle.dr_ledger.specs.declared.item.Cause.{Cause}
 use Rattle.dr_ledger.specs.declared.item.Instance.{Instance}
 use Rattle.dr_ledger.specs.declared.item.Outcome.{Outcome}
 use Rattle.dr_ledger.specs.declared.item.Progress.{Progress}
-use Rattle.dr_ledger.specs.declared.item.Progress.TheVariants.{Waiting, Held, Done}
+use Rattle.dr_ledger.specs.declared.item.Progress.TheVariants.{Waiting, Held, Dropped}
 use Rattle.dr_ledger.specs.Bodies.{Bodies, OnlyLetsGo, OnlyTakes}
-use Rattle.dr_ledger.specs.Books.{Book, Line, Adoption, Arrival, Repeat, Settling, Requeuing, Forgetting, after, empty_book, row_after}
+use Rattle.dr_ledger.specs.Books.{Book, Line, Adoption, Arrival, Repeat, Settling, Requeuing, Dropping, Forgetting, after, empty_book, is_queued, row_after}
 use Rattle.dr_ledger.specs.Histories.{IsJournalled, IsSince}
 use Rattle.dr_ledger.specs.Items.{instance_of}
 use Rattle.dr_ledger.specs.Pairs.{pair_cmp}
@@ -33,7 +33,7 @@ use Rattle.dr_ledger.specs.PlanRoutes.{keeps_by, targets_by}
 use Rattle.dr_ledger.specs.Replies.{Arrives, HasConflict, IsAdmitted, IsOver, arrival_line}
 use Rattle.dr_ledger.specs.Routings.{Routing}
 use Rattle.dr_ledger.specs.SiteRoutes.{site_routing}
-use Rattle.dr_ledger.proofs.Folding.{adoptions_are_journalled, arrivals_are_journalled, empty_is_journalled, forgettings_are_journalled, requeuings_are_journalled, settlings_are_journalled}
+use Rattle.dr_ledger.proofs.Folding.{adoptions_are_journalled, arrivals_are_journalled, droppings_are_journalled, empty_is_journalled, forgettings_are_journalled, requeuings_are_journalled, settlings_are_journalled}
 use Rattle.dr_ledger.proofs.Growing.{inside}
 use Rattle.dr_ledger.proofs.Maps.{texts, cases_of}
 use Rattle.dr_ledger.proofs.PlanRouting.{keeps_by_where_kept, one_list, targets_by_are_in_order, targets_by_are_sent_to}
@@ -42,13 +42,13 @@ use Rattle.dr_ledger_memory.specs.declared.note.Note.{Note}
 use Rattle.dr_ledger_memory.specs.declared.parts.Bringing.{Bringing}
 use Rattle.dr_ledger_memory.specs.declared.parts.Parts.{Parts}
 use Rattle.dr_ledger_memory.specs.Bringings.{IsFor}
-use Rattle.dr_ledger_memory.specs.Changes.{IsAdopted, IsBrought, IsForgotten, IsMoved, IsNoted, IsPrunedIn, IsPutAt, IsSame, PrunesAll, Tree, at}
+use Rattle.dr_ledger_memory.specs.Changes.{IsAdopted, IsBrought, IsDropped, IsForgotten, IsMoved, IsNoted, IsPrunedIn, IsPutAt, IsSame, MovesAt, PrunesAll, Tree, at}
 use Rattle.dr_ledger_memory.specs.Contents.{all_rows, collected, content, data_sets, kept_mark, keys}
 use Rattle.dr_ledger_memory.specs.Dues.{Covers, Due, due_cmp}
 use Rattle.dr_ledger_memory.specs.Entries.{IsTaken, body_in, instance_in, is_kept_in, needs, let_go, row_in, rows_in}
 use Rattle.dr_ledger_memory.specs.Notes.{line_of, lines_of}
 use Rattle.dr_ledger_memory.specs.Sound.{AreWhole, IsSound}
-use Rattle.dr_ledger_memory.proofs.Content.{adopted_is, forgotten_is, left_at, brought_is, opened_some, pruned_row, repeated_is, requeued_so, same_content, same_data_sets, settled_so}
+use Rattle.dr_ledger_memory.proofs.Content.{adopted_is, dropped_so, forgotten_is, left_at, brought_is, opened_some, pruned_row, repeated_is, requeued_so, same_content, same_data_sets, settled_so}
 use Rattle.dr_ledger_memory.proofs.Lookups.{body_at, item_at, row_at}
 use Rattle.dr_ledger_memory.proofs.Whole.{all_pruned_whole, moved_whole, needed_so, needs_in, nothing_found, of_book, put_whole, so_needed, taken_whole, to_book}
 
@@ -169,13 +169,13 @@ module _ (part : Part) (p q : Parts) (sp : tree.IsOrdered text_cmp p.held) (sq :
   ]
 
 -- ---- a row that moves
-module _ (part : Part) (p q : Parts) (sp : tree.IsOrdered text_cmp p.held) (sq : tree.IsOrdered text_cmp q.held) (uid dest : Text) (progress was : Progress) (note : Note)
-    (row : map.get (content p).rows (uid, dest) ≡ Some was) (undone : was ≢ Done) (m : IsMoved p uid dest progress note q) where
-  before_row : find text_cmp dest m.held.0.rows.items ≡ Some was
-  before_row = sym (ap (λ o. row_in o dest) m.held.2) ∙ (sym (row_at p sp uid dest) ∙ row)
+module _ (part : Part) (p q : Parts) (sp : tree.IsOrdered text_cmp p.held) (sq : tree.IsOrdered text_cmp q.held) (uid dest : Text) (progress was : Progress)
+    (row : map.get (content p).rows (uid, dest) ≡ Some was) (queued : is_queued was ≡ true) (m : MovesAt p.held uid dest progress q.held) where
+  before_row : find text_cmp dest m.0.rows.items ≡ Some was
+  before_row = sym (ap (λ o. row_in o dest) m.2) ∙ (sym (row_at p sp uid dest) ∙ row)
 
   moved_all_whole : AreWhole p.held → AreWhole q.held
-  moved_all_whole whole = put_whole p.held q.held uid m.held.1 m.held.4 (moved_whole m.held.0 m.held.1 dest progress was m.held.3 before_row undone (whole uid m.held.0 m.held.2)) whole
+  moved_all_whole whole = put_whole p.held q.held uid m.1 m.4 (moved_whole m.0 m.1 dest progress was m.3 before_row queued (whole uid m.0 m.2)) whole
 
   went : (n : Bool) (o : Option (List ℕ)) (body : List ℕ) → let_go n o ≡ Some body → o ≡ Some body
   went true o body h = h
@@ -185,9 +185,9 @@ module _ (part : Part) (p q : Parts) (sp : tree.IsOrdered text_cmp p.held) (sq :
   only_lets_go u body h = body_at p sp u ∙ elim (cases_of (eq_by_cmp text_cmp u uid)) [
     | inl t ↦
         (let same : u ≡ uid = tells_apart texts.exact u uid t in
-        let has : m.held.1.body ≡ Some body = sym (ap body_in (m.held.4 u ∙ ap (λ x. cond x (Some m.held.1) (at p.held u)) t)) ∙ (sym (body_at q sq u) ∙ h) in
-        ap (λ x. body_in (at p.held x)) same ∙ (ap body_in m.held.2 ∙ went (needs m.held.1.is_kept m.held.1.rows.items) m.held.0.body body (sym m.held.3.body_is ∙ has)))
-    | inr n ↦ sym (ap body_in (m.held.4 u ∙ ap (λ x. cond x (Some m.held.1) (at p.held u)) n)) ∙ (sym (body_at q sq u) ∙ h)
+        let has : m.1.body ≡ Some body = sym (ap body_in (m.4 u ∙ ap (λ x. cond x (Some m.1) (at p.held u)) t)) ∙ (sym (body_at q sq u) ∙ h) in
+        ap (λ x. body_in (at p.held x)) same ∙ (ap body_in m.2 ∙ went (needs m.1.is_kept m.1.rows.items) m.0.body body (sym m.3.body_is ∙ has)))
+    | inr n ↦ sym (ap body_in (m.4 u ∙ ap (λ x. cond x (Some m.1) (at p.held u)) n)) ∙ (sym (body_at q sq u) ∙ h)
   ]
 
 pub same_lets_go : (p q : Parts) → q.held.entries ≡ p.held.entries → OnlyLetsGo (data_sets p) (data_sets q)
@@ -199,7 +199,7 @@ pub settled_sound : (part : Part) (p q : Parts) (sp : tree.IsOrdered text_cmp p.
 settled_sound part p q sp sq uid dest progress note outcome now tries due row early is line m covers h = record {
   journalled = journal_on (site_routing part) (content p) (content q) (λ past j. settlings_are_journalled (site_routing part) past uid dest outcome now (content p) (content q) (Ok tt) early j
       ((tries, due, row), settled_so p q sp sq uid dest progress note m outcome now tries due row is line)) h.journalled;
-  whole = moved_all_whole part p q sp sq uid dest progress (Waiting tries due) note row (λ e. let f : ⊥ = cc in f) m h.whole;
+  whole = moved_all_whole part p q sp sq uid dest progress (Waiting tries due) row refl m.held h.whole;
   covered = covers h.covered;
 }
 
@@ -209,7 +209,17 @@ pub requeued_sound : (part : Part) (p q : Parts) (sp : tree.IsOrdered text_cmp p
 requeued_sound part p q sp sq uid dest progress note why row is line m covers h = record {
   journalled = journal_on (site_routing part) (content p) (content q) (λ past j. requeuings_are_journalled (site_routing part) past uid dest (content p) (content q) (Ok tt) j
       ((why, row), requeued_so p q sp sq uid dest progress note m why row is line)) h.journalled;
-  whole = moved_all_whole part p q sp sq uid dest progress (Held why) note row (λ e. let f : ⊥ = cc in f) m h.whole;
+  whole = moved_all_whole part p q sp sq uid dest progress (Held why) row refl m.held h.whole;
+  covered = covers h.covered;
+}
+
+pub dropped_sound : (part : Part) (p q : Parts) (sp : tree.IsOrdered text_cmp p.held) (sq : tree.IsOrdered text_cmp q.held) (uid dest : Text) (note : Note) (now : ℕ) (why : Cause) →
+    map.get (content p).rows (uid, dest) ≡ Some (Held why) → now ≤ 2 ^ 62 → line_of note ≡ Dropping uid dest now → IsDropped p uid dest note q →
+    (Covers p.waiting p.held → Covers q.waiting q.held) → IsSound part p → IsSound part q
+dropped_sound part p q sp sq uid dest note now why row early line d covers h = record {
+  journalled = journal_on (site_routing part) (content p) (content q) (λ past j. droppings_are_journalled (site_routing part) past uid dest now (content p) (content q) (Ok tt) early j
+      ((why, row), dropped_so p q sp sq uid dest note d now why row line)) h.journalled;
+  whole = moved_all_whole part p q sp sq uid dest Dropped (Held why) row refl d.held h.whole;
   covered = covers h.covered;
 }
 
@@ -280,6 +290,14 @@ requeue_kept part p q sp sq uid dest progress note why row is line change covers
   | inr s ↦ ∥∥₁_map h (same_sound part p q s covers)
 ]
 
+pub drop_kept : (part : Part) (p q : Parts) (sp : tree.IsOrdered text_cmp p.held) (sq : tree.IsOrdered text_cmp q.held) (uid dest : Text) (note : Note) (now : ℕ) (why : Cause) →
+    map.get (content p).rows (uid, dest) ≡ Some (Held why) → now ≤ 2 ^ 62 → line_of note ≡ Dropping uid dest now →
+    IsDropped p uid dest note q ⊎ IsSame p q → (Covers p.waiting p.held → Covers q.waiting q.held) → ∥ IsSound part p ∥₁ → ∥ IsSound part q ∥₁
+drop_kept part p q sp sq uid dest note now why row early line change covers h = elim change [
+  | inl d ↦ ∥∥₁_map h (dropped_sound part p q sp sq uid dest note now why row early line d covers)
+  | inr s ↦ ∥∥₁_map h (same_sound part p q s covers)
+]
+
 pub adopt_kept : (part next : Part) (p q : Parts) (sp : tree.IsOrdered text_cmp p.held) (sq : tree.IsOrdered text_cmp q.held) → IsAdopted p q → q.waiting ≡ p.waiting → ∥ IsSound part p ∥₁ → ∥ IsSound next q ∥₁
 adopt_kept part next p q sp sq a waiting h = ∥∥₁_map h (adopted_sound part next p q sp sq a waiting)
 
@@ -343,11 +361,6 @@ pub so_not : (b : Bool) → (b ≡ true → ⊥) → IsTrue (not b)
 so_not true h = absurd (h refl)
 so_not false h = refl
 
-done_or : (row : Progress) → (row ≡ Done) ⊎ (row ≢ Done)
-done_or Done = inl refl
-done_or (Held why) = inr (λ e. cc)
-done_or (Waiting tries due) = inr (λ e. cc)
-
 module _ (p : Parts) (sp : tree.IsOrdered text_cmp p.held) (uid : Text) where
   pub over_there : (entry : Entry) → at p.held uid ≡ Some entry → needs entry.is_kept entry.rows.items ≡ false → IsOver (content p) uid
   over_there entry there unneeded = record {
@@ -356,16 +369,16 @@ module _ (p : Parts) (sp : tree.IsOrdered text_cmp p.held) (uid : Text) where
       | inr none ↦ none
       | inl kept ↦ found_none _ _ unneeded (sym (ap needs_in there) ∙ needed_so p sp (at p.held uid) (of_book p sp uid (inl kept)))
     ];
-    done = λ dest row h. elim (done_or row) [
-      | inl done ↦ done
-      | inr owed ↦ found_none _ _ unneeded (sym (ap needs_in there) ∙ needed_so p sp (at p.held uid) (of_book p sp uid (inr (dest, row, h, owed))))
+    unqueued = λ dest row h. elim (cases_of (is_queued row)) [
+      | inr over ↦ over
+      | inl owed ↦ found_none _ _ unneeded (sym (ap needs_in there) ∙ needed_so p sp (at p.held uid) (of_book p sp uid (inr (dest, row, h, owed))))
     ];
   }
 
   pub needed_not_over : (entry : Entry) → at p.held uid ≡ Some entry → IsOver (content p) uid → needs entry.is_kept entry.rows.items ≡ true → ⊥
   needed_not_over entry there over needed = elim (to_book p sp uid (so_needed p sp (at p.held uid) (ap needs_in there ∙ needed))) [
     | inl kept ↦ found_none (set.contains (content p).kept uid) ⊥ over.unkept kept
-    | inr row ↦ row.3 (over.done row.0 row.1 row.2)
+    | inr row ↦ found_none (is_queued row.1) ⊥ (over.unqueued row.0 row.1 row.2) row.3
   ]
 
   pub none_not_over : at p.held uid ≡ None → IsOver (content p) uid → ⊥

@@ -10,4 +10,5 @@ pub mod NextDue
 pub mod Searching
 pub mod Steps
 pub mod Trees
+pub mod Uids
 pub mod Whole

@@ -1,5 +1,5 @@
 -- Data sets that are there exactly where they are needed.
-use Rattle.std.proofs.Common.{◌≡◌, ◌≢◌, ◌⊎◌, T, ℕ, Bool, true, false, cond, not, ◌&&◌, ◌||◌, List, [], ◌∷◌, Option, None, Some, is_some, unwrap_or, refl, sym, ap, subst, ◌∙◌, inl, inr}
+use Rattle.std.proofs.Common.{◌≡◌, ◌⊎◌, T, ℕ, Bool, true, false, cond, ◌&&◌, ◌||◌, List, [], ◌∷◌, Option, None, Some, is_some, unwrap_or, refl, sym, ap, subst, ◌∙◌, inl, inr}
 use Rattle.std.specs.declared.cmp.Ordering.{Ordering}
 use Rattle.std.specs.declared.cmp.Ordering.TheVariants.{Less, Equal, Greater}
 use Rattle.std.specs.Ordering.{eq_by_cmp, is_eq, is_lt, ordering_reverse}
@@ -11,8 +11,8 @@ use Rattle.std.proofs.lemmas.Map.Views.{tells_apart}
 use Rattle.dr_base.specs.Texts.{Text, text_cmp}
 use Rattle.dr_ledger.specs.declared.content.Job.{Job}
 use Rattle.dr_ledger.specs.declared.item.Progress.{Progress}
-use Rattle.dr_ledger.specs.declared.item.Progress.TheVariants.{Waiting, Held, Done}
 use Rattle.dr_ledger.specs.Bodies.{HasBodies, IsNeeded}
+use Rattle.dr_ledger.specs.Books.{is_queued}
 use Rattle.dr_ledger.specs.Items.{IsItem, instance_of}
 use Rattle.dr_ledger.proofs.Growing.{inside}
 use Rattle.dr_ledger.proofs.Maps.{texts, cases_of, ties_itself}
@@ -20,7 +20,7 @@ use Rattle.dr_ledger_memory.specs.declared.held.Held.{Held as Entry}
 use Rattle.dr_ledger_memory.specs.declared.parts.Parts.{Parts}
 use Rattle.dr_ledger_memory.specs.Changes.{IsPrunedIn, IsPutAt, PrunesAll, Tree, at}
 use Rattle.dr_ledger_memory.specs.Contents.{content, data_sets}
-use Rattle.dr_ledger_memory.specs.Entries.{IsMovedOn, IsPruned, IsTaken, Row, body_in, instance_in, is_done, is_kept_in, is_open, let_go, needs, row_in}
+use Rattle.dr_ledger_memory.specs.Entries.{IsMovedOn, IsPruned, IsTaken, Row, body_in, instance_in, is_kept_in, is_open, let_go, needs, row_in}
 use Rattle.dr_ledger_memory.specs.Sound.{AreWhole, IsWhole}
 use Rattle.dr_ledger_memory.proofs.Lookups.{body_at, item_at, kept_at, row_at}
 
@@ -56,15 +56,7 @@ less Less h = refl
 less Equal h = absurd h
 less Greater h = absurd h
 
--- ---- rows that aren't done
-undone : (row : Progress) → row ≢ Done → not (is_done row) ≡ true
-undone Done h = absurd (h refl)
-undone (Waiting tries due) h = refl
-undone (Held why) h = refl
-
-not_done : (row : Progress) → not (is_done row) ≡ true → row ≢ Done
-not_done row h e = let f : not (is_done row) ≡ false = ap (λ r. not (is_done r)) e in no_both _ h f
-
+-- ---- rows that are still queued
 -- a key that is found among keys above x is above x
 pub above : (x k : Text) (v : Progress) (es : List Row) → T (below_all text_cmp x es) → find text_cmp k es ≡ Some v → eq_by_cmp text_cmp k x ≡ false
 above x k v [] h f = absurd (nothing_found v f)
@@ -77,21 +69,21 @@ above x k v (e ∷ es) h f = elim (cases_of (eq_by_cmp text_cmp k e.0)) [
   | inr t ↦ above x k v es (t_right _ _ h) (sym (ap (λ b. cond b (Some e.1) (find text_cmp k es)) t) ∙ f)
 ]
 
-some_row : (rows : List Row) → T (is_sorted text_cmp rows) → list_any is_open rows ≡ true → (dest : Text) × (row : Progress) × (find text_cmp dest rows ≡ Some row) × (row ≢ Done)
+some_row : (rows : List Row) → T (is_sorted text_cmp rows) → list_any is_open rows ≡ true → (dest : Text) × (row : Progress) × (find text_cmp dest rows ≡ Some row) × (is_queued row ≡ true)
 some_row [] h a = absurd (let e : ⊥ = cc in e)
 some_row (e ∷ es) h a = elim (one_of (is_open e) (list_any is_open es) a) [
-  | inl now ↦ (e.0, e.1, ap (λ b. cond b (Some e.1) (find text_cmp e.0 es)) (ties_itself texts e.0), not_done e.1 now)
+  | inl now ↦ (e.0, e.1, ap (λ b. cond b (Some e.1) (find text_cmp e.0 es)) (ties_itself texts e.0), now)
   | inr later ↦
       (let r = some_row es (t_right _ _ h) later in
       (r.0, r.1, ap (λ b. cond b (Some e.1) (find text_cmp r.0 es)) (above e.0 r.0 r.1 es (t_left _ _ h) r.2) ∙ r.2, r.3))
 ]
 
-pub row_some : (dest : Text) (row : Progress) (rows : List Row) → find text_cmp dest rows ≡ Some row → row ≢ Done → list_any is_open rows ≡ true
+pub row_some : (dest : Text) (row : Progress) (rows : List Row) → find text_cmp dest rows ≡ Some row → is_queued row ≡ true → list_any is_open rows ≡ true
 row_some dest row [] f n = absurd (nothing_found row f)
 row_some dest row (e ∷ es) f n = elim (cases_of (eq_by_cmp text_cmp dest e.0)) [
   | inl t ↦
       (let is : e.1 ≡ row = inside e.1 row (sym (ap (λ b. cond b (Some e.1) (find text_cmp dest es)) t) ∙ f) in
-      or_now (is_open e) (list_any is_open es) (undone e.1 (λ d. n (sym is ∙ d))))
+      or_now (is_open e) (list_any is_open es) (ap is_queued is ∙ n))
   | inr t ↦ or_later (is_open e) _ (row_some dest row es (sym (ap (λ b. cond b (Some e.1) (find text_cmp dest es)) t) ∙ f) n)
 ]
 
@@ -102,7 +94,7 @@ needs_in (Some entry) = needs entry.is_kept entry.rows.items
 
 module _ (p : Parts) (order : tree.IsOrdered text_cmp p.held) where
   abbrev pub IsNeededIn : Option Entry → Type 0
-  IsNeededIn o = (is_kept_in o ≡ true) ⊎ ((dest : Text) × (row : Progress) × (row_in o dest ≡ Some row) × (row ≢ Done))
+  IsNeededIn o = (is_kept_in o ≡ true) ⊎ ((dest : Text) × (row : Progress) × (row_in o dest ≡ Some row) × (is_queued row ≡ true))
 
   pub so_needed : (o : Option Entry) → needs_in o ≡ true → IsNeededIn o
   so_needed None h = absurd (let e : ⊥ = cc in e)
@@ -190,7 +182,7 @@ moved_body : (n : Bool) (o : Option (List ℕ)) (body : List ℕ) → let_go n o
 moved_body true o body h = h
 moved_body false o body h = absurd (nothing_found body h)
 
-pub moved_whole : (before after : Entry) (dest : Text) (progress was : Progress) → IsMovedOn before dest progress after → find text_cmp dest before.rows.items ≡ Some was → was ≢ Done → IsWhole before → IsWhole after
+pub moved_whole : (before after : Entry) (dest : Text) (progress was : Progress) → IsMovedOn before dest progress after → find text_cmp dest before.rows.items ≡ Some was → is_queued was ≡ true → IsWhole before → IsWhole after
 moved_whole before after dest progress was m is isnt w = record {
   there = ap is_some m.body_is ∙ moved_there (needs after.is_kept after.rows.items) before.body (w.there ∙ or_later before.is_kept _ (row_some dest was before.rows.items is isnt));
   own = λ body h. (let i = w.own body (moved_body (needs after.is_kept after.rows.items) before.body body (sym m.body_is ∙ h)) in (i.0, i.1, i.2, m.instance_is ∙ i.3));

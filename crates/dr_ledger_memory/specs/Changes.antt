@@ -7,6 +7,7 @@ use Rattle.std.specs.BTreeMap as tree
 use Rattle.std.specs.BTreeSet as sorted
 use Rattle.dr_base.specs.Texts.{Text, text_cmp}
 use Rattle.dr_ledger.specs.declared.item.Progress.{Progress}
+use Rattle.dr_ledger.specs.declared.item.Progress.TheVariants.{Dropped}
 use Rattle.dr_ledger.specs.Pairs.{Pair, pair_cmp}
 use Rattle.dr_ledger_memory.specs.declared.held.Held.{Held as Entry}
 use Rattle.dr_ledger_memory.specs.declared.note.Note.{Note}
@@ -49,7 +50,7 @@ MovesAt old uid dest progress new =
     × IsMovedOn before dest progress after
     × IsPutAt old uid after new
 
--- done rows leave
+-- rows that are done or dropped leave
 abbrev pub IsPrunedIn : Option Entry → Option Entry → Type 0
 IsPrunedIn None new = new ≡ None
 IsPrunedIn (Some before) new = (after : Entry) × (new ≡ Some after) × IsPruned before after
@@ -118,11 +119,19 @@ pub record IsMoved (p : Parts) (uid dest : Text) (progress : Progress) (note : N
   pub arrivals : AreAlike p.arrivals q.arrivals
   pub notes : q.notes.items ≡ p.notes.items ++ note ∷ []
 
--- arrivals and done rows leave
+-- arrivals and the rows that are done or dropped leave
 pub record IsAdopted (p q : Parts) : Type 0 where
   pub held : PrunesAll p.held q.held
   pub arrivals : q.arrivals.keys ≡ []
   pub notes : q.notes.items ≡ p.notes.items ++ note.Adoption ∷ []
+
+-- one row is dropped, those who brought the uid have left, and there is a line more
+pub record IsDropped (p : Parts) (uid dest : Text) (note : Note) (q : Parts) : Type 0 where
+  pub held : MovesAt p.held uid dest Dropped q.held
+  pub arrivals : (key : Pair)
+      → sorted.contains pair_cmp q.arrivals key
+      ≡ (sorted.contains pair_cmp p.arrivals key && not (eq_by_cmp text_cmp key.1 uid))
+  pub notes : q.notes.items ≡ p.notes.items ++ note ∷ []
 
 -- what stood at the uid has left with those who brought it, and there is a line more
 pub record IsForgotten (p : Parts) (uid : Text) (note : Note) (q : Parts) : Type 0 where

@@ -8,7 +8,7 @@ use Rattle.std.specs.BTreeMap as tree
 use Rattle.std.specs.BTreeSet as sorted
 use Rattle.dr_base.specs.Texts.{Text, text_cmp}
 use Rattle.dr_ledger.specs.declared.item.Progress.{Progress}
-use Rattle.dr_ledger.specs.declared.item.Progress.TheVariants.{Waiting, Held, Done}
+use Rattle.dr_ledger.specs.declared.item.Progress.TheVariants.{Waiting, Held, Done, Dropped}
 use Rattle.dr_ledger_memory.specs.declared.held.Held.{Held as Entry}
 use Rattle.dr_ledger_memory.specs.Entries.{Row, row_in}
 
@@ -26,6 +26,7 @@ abbrev pub waits_since : Option Progress → ℕ → Bool
 waits_since (Some (Waiting tries due)) moment = due == moment
 waits_since (Some (Held why)) moment = false
 waits_since (Some Done) moment = false
+waits_since (Some Dropped) moment = false
 waits_since None moment = false
 
 -- whether the row of that key waits since that moment

@@ -1,28 +1,24 @@
 -- What a uid has, and how that changes.
-use Rattle.std.specs.Prelude.{◌≡◌, ℕ, Bool, true, false, not, cond, ◌||◌, List, [], ◌∷◌, Option}
+use Rattle.std.specs.Prelude.{◌≡◌, ℕ, Bool, true, false, cond, ◌||◌, List, [], ◌∷◌, Option}
 use Rattle.std.specs.Prelude.{None, Some, unwrap_or}
 use Rattle.std.specs.List.{filter, list_any}
 use Rattle.std.specs.FinMap.{find, put}
 use Rattle.dr_base.specs.Texts.{Text, text_cmp}
 use Rattle.dr_ledger.specs.declared.item.Instance.{Instance}
 use Rattle.dr_ledger.specs.declared.item.Progress.{Progress}
-use Rattle.dr_ledger.specs.declared.item.Progress.TheVariants.{Waiting, Held, Done}
+use Rattle.dr_ledger.specs.declared.item.Progress.TheVariants.{Waiting, Held, Done, Dropped}
+use Rattle.dr_ledger.specs.Books.{is_queued}
 use Rattle.dr_ledger_memory.specs.declared.held.Held.{Held as Entry}
 
 -- a destination, and how far the instance is on its way to it
 abbrev pub Row : Type 0
 Row = Text × Progress
 
--- it is done
-abbrev pub is_done : Progress → Bool
-is_done Done = true
-is_done (Waiting tries due) = false
-is_done (Held why) = false
-
+-- it waits or is held
 abbrev pub is_open : Row → Bool
-is_open row = not (is_done row.1)
+is_open row = is_queued row.1
 
--- whether the data set is needed: the uid is kept, or a row of it isn't done
+-- whether the data set is needed: the uid is kept, or a row of it waits or is held
 abbrev pub needs : Bool → List Row → Bool
 needs kept rows = kept || list_any is_open rows
 
@@ -51,12 +47,19 @@ abbrev pub rows_in : Option Entry → List Row
 rows_in None = []
 rows_in (Some entry) = entry.rows.items
 
--- a waiting row, where the destination has none
-abbrev pub filled_at : List Row → Text → Option Progress → List Row
-filled_at rows to None = put text_cmp to (Waiting 0 0) rows
-filled_at rows to (Some row) = rows
+-- a row is there that an arrival leaves as it is
+abbrev pub stands : Option Progress → Bool
+stands None = false
+stands (Some Dropped) = false
+stands (Some Done) = true
+stands (Some (Held why)) = true
+stands (Some (Waiting tries due)) = true
 
--- a waiting row for each destination that has none
+-- a waiting row, where the destination has none, or one that was dropped
+abbrev pub filled_at : List Row → Text → Option Progress → List Row
+filled_at rows to found = cond (stands found) rows (put text_cmp to (Waiting 0 0) rows)
+
+-- a waiting row for each destination that has none, or one that was dropped
 abbrev pub filled : List Row → List Text → List Row
 filled rows [] = rows
 filled rows (to ∷ more) = filled (filled_at rows to (find text_cmp to rows)) more
@@ -82,7 +85,7 @@ pub record IsMovedOn (old : Entry) (dest : Text) (progress : Progress) (new : En
   pub rows_are : new.rows.items ≡ put text_cmp dest progress old.rows.items
   pub body_is : new.body ≡ let_go (needs new.is_kept new.rows.items) old.body
 
--- done rows leave
+-- rows that are done or dropped leave
 pub record IsPruned (old new : Entry) : Type 0 where
   pub instance_is : new.instance ≡ old.instance
   pub kept : new.is_kept ≡ old.is_kept

@@ -1,6 +1,7 @@
 -- Lines of the journal, as books know them.
 use Rattle.std.specs.Prelude.{List, map as mapped}
-use Rattle.dr_ledger.specs.Books.{Line, Arrival, Repeat, Settling, Requeuing, Forgetting, Adoption}
+use Rattle.dr_ledger.specs.Books.{Line, Arrival, Repeat, Settling, Requeuing, Dropping, Forgetting}
+use Rattle.dr_ledger.specs.Books.{Adoption}
 use Rattle.dr_ledger_memory.specs.declared.note.Note.{Note}
 use Rattle.dr_ledger_memory.specs.declared.note.Note.TheVariants as note
 
@@ -10,6 +11,7 @@ line_of (note.Arrival caller instance to keep) = Arrival caller instance to keep
 line_of (note.Repeat caller instance) = Repeat caller instance
 line_of (note.Settling uid dest outcome now) = Settling uid dest outcome now
 line_of (note.Requeuing uid dest) = Requeuing uid dest
+line_of (note.Dropping uid dest now) = Dropping uid dest now
 line_of (note.Forgetting uid) = Forgetting uid
 line_of note.Adoption = Adoption
 

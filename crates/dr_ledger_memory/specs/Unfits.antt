@@ -1,22 +1,23 @@
 -- Rows with which the next plan doesn't go on.
-use Rattle.std.specs.Prelude.{◌≡◌, ◌≢◌, Option, None, Some}
+use Rattle.std.specs.Prelude.{◌≡◌, ◌≢◌, true, Option, None, Some}
 use Rattle.std.specs.declared.cmp.Ordering.TheVariants.{Greater}
 use Rattle.std.specs.FinMap.{find}
 use Rattle.dr_base.specs.Texts.{Text, text_cmp}
 use Rattle.dr_plan_model.specs.Networks.{Network}
 use Rattle.dr_plan_model.specs.Walks.{IsReached}
 use Rattle.dr_ledger.specs.declared.item.Progress.{Progress}
-use Rattle.dr_ledger.specs.declared.item.Progress.TheVariants.{Done}
+use Rattle.dr_ledger.specs.Books.{is_queued}
 use Rattle.dr_ledger_memory.specs.declared.held.Held.{Held as Entry}
 
--- the row is done, or the plan goes on with it
+-- the row is done or dropped, or the plan goes on with it
 abbrev pub Fits : Network → Text → Entry → Text → Progress → Type 0
-Fits next name entry dest row = row ≢ Done → IsReached next entry.instance.key name dest
+Fits next name entry dest row =
+    is_queued row ≡ true → IsReached next entry.instance.key name dest
 
--- the row isn't done, and the plan doesn't go on with it
+-- the row waits or is held, and the plan doesn't go on with it
 abbrev pub IsUnfitRow : Network → Text → Entry → Text → Progress → Type 0
 IsUnfitRow next name entry dest row =
-    (row ≢ Done) × (IsReached next entry.instance.key name dest → ⊥)
+    (is_queued row ≡ true) × (IsReached next entry.instance.key name dest → ⊥)
 
 -- all rows fit
 abbrev pub AllFit : Network → Text → Entry → Type 0

@@ -5,8 +5,8 @@ ghost use Rattle.std.specs.FinMap.{find, is_sorted};
 ghost use Rattle.dr_base.specs.Texts.{text_cmp};
 ghost use Rattle.dr_ledger_memory.specs.Entries.{IsMovedOn, IsPruned, IsTaken, let_go};
 ghost use Rattle.dr_ledger_memory.specs.Entries.{filled as filled_rows, filled_at};
-ghost use Rattle.dr_ledger_memory.specs.Entries.{is_done as is_done_row, is_open as is_open_row};
-ghost use Rattle.dr_ledger_memory.specs.Entries.{needs, row_in};
+ghost use Rattle.dr_ledger_memory.specs.Entries.{is_open as is_open_row, needs, row_in};
+ghost use Rattle.dr_ledger_memory.specs.Entries.{stands as does_stand};
 
 use crate::held::Held;
 use crate::table::{get, put, set};
@@ -72,7 +72,7 @@ impl Held {
         }
     }
 
-    /// Lets done rows go.
+    /// Lets rows go that are done or dropped.
     pub fn prune(&mut self)
         ensures { IsPruned self.old self.new }
     {
@@ -95,7 +95,7 @@ pub fn first(instance: Instance, rows: Vec<(Text, Progress)>, keep: bool, body: 
     held
 }
 
-/// Whether the row isn't done.
+/// Whether the row waits or is held.
 pub fn is_open(row: &(Text, Progress)) -> bool
     ensures { result ≡ is_open_row row.now }
 {
@@ -103,10 +103,11 @@ pub fn is_open(row: &(Text, Progress)) -> bool
         Progress::Waiting { .. } => true,
         Progress::Held(_) => true,
         Progress::Done => false,
+        Progress::Dropped => false,
     }
 }
 
-/// Whether some row isn't done.
+/// Whether some row waits or is held.
 fn some_is_open(rows: &[(Text, Progress)]) -> bool
     ensures { result ≡ list_any is_open_row rows.now }
 {
@@ -124,14 +125,27 @@ fn copies(alloc: Global, rows: &[(Text, Progress)]) -> Result<Vec<(Text, Progres
     Ok(copy)
 }
 
-/// A waiting row, where the destination has none.
+/// Whether a row is there that an arrival leaves as it is.
+fn stands(found: Option<Progress>) -> bool
+    ensures { result ≡ does_stand found }
+{
+    match found {
+        None => false,
+        Some(Progress::Dropped) => false,
+        Some(Progress::Done) => true,
+        Some(Progress::Held(_)) => true,
+        Some(Progress::Waiting { .. }) => true,
+    }
+}
+
+/// A waiting row, where the destination has none, or one that was dropped.
 fn fill_one(rows: &mut Vec<(Text, Progress)>, to: &Text) -> Result<(), AllocError>
     requires { T (is_sorted text_cmp rows.old.items) }
     ensures items { OnOk result
         (rows.new.items ≡ filled_at rows.old.items to.now (find text_cmp to.now rows.old.items)) }
     ensures sorted { OnOk result (T (is_sorted text_cmp rows.new.items)) }
 {
-    if get(rows.as_slice(), to).is_some() {
+    if stands(get(rows.as_slice(), to).copied()) {
         return Ok(());
     }
     let key = to.clone()?;
@@ -140,7 +154,7 @@ fn fill_one(rows: &mut Vec<(Text, Progress)>, to: &Text) -> Result<(), AllocErro
     Ok(())
 }
 
-/// The rows, with a waiting one for each destination that has none.
+/// The rows, with a waiting one for each destination that has none, or one that was dropped.
 pub fn filled(
     alloc: Global,
     rows: &[(Text, Progress)],

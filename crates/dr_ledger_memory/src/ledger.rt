@@ -11,7 +11,8 @@ ghost use Rattle.dr_ledger.specs.Bodies.{HasBodies, NextsWith, OnlyLetsGo, OnlyT
 ghost use Rattle.dr_ledger.specs.Adopting.{Adopting, Unfits, site_after};
 ghost use Rattle.dr_ledger.specs.Histories.{IsJournalled};
 ghost use Rattle.dr_ledger.specs.Items.{instance_of};
-ghost use Rattle.dr_ledger.specs.Replies.{Admits, AreKept, Arrives, Forgets, IsAdmitted, IsOver};
+ghost use Rattle.dr_ledger.specs.Replies.{Admits, AreKept, Arrives, Drops, Dues, Forgets};
+ghost use Rattle.dr_ledger.specs.Replies.{IsAdmitted, IsOver};
 ghost use Rattle.dr_ledger.specs.Replies.{Lists, Requeues, Settles, entry_of};
 ghost use Rattle.dr_ledger.specs.Pairs.{pair_cmp};
 ghost use Rattle.dr_ledger.specs.SiteRoutes.{site_routing};
@@ -250,6 +251,7 @@ impl MemoryLedger {
             }
             Some(Progress::Held(_)) => Err(LedgerFault::NotWaiting),
             Some(Progress::Done) => Err(LedgerFault::NotWaiting),
+            Some(Progress::Dropped) => Err(LedgerFault::NotWaiting),
             None => Err(LedgerFault::NotWaiting),
         }
     }
@@ -266,6 +268,43 @@ impl MemoryLedger {
             Some(Progress::Held(why)) => self.requeue_row(uid, dest, why),
             Some(Progress::Waiting { .. }) => Err(LedgerFault::NotHeld),
             Some(Progress::Done) => Err(LedgerFault::NotHeld),
+            Some(Progress::Dropped) => Err(LedgerFault::NotHeld),
+            None => Err(LedgerFault::NotHeld),
+        }
+    }
+
+    /// Gives a held row up.
+    fn drop_row(&mut self, uid: &Text, dest: &Text, now: u64, why: Cause) -> Result<(), LedgerFault>
+        requires held { map.get (content self.old.parts).rows (uid.now, dest.now)
+            ≡ Some (Progress.Held why) }
+        requires early { now ≤ 2 ^ 62 }
+        ensures reply { Drops uid.now dest.now now (content self.old.parts) result
+            (content self.new.parts) }
+        ensures bodies { OnlyLetsGo (data_sets self.old.parts) (data_sets self.new.parts) }
+        ensures site { self.new.site ≡ self.old.site }
+        ensures never { NeverFails result }
+    {
+        let note = dropping(uid, dest, now)?;
+        match self.parts.try_drop(uid, dest, note) {
+            Ok(()) => Ok(()),
+            Err(_) => Err(LedgerFault::Memory),
+        }
+    }
+
+    /// Drops the row, if it is held.
+    fn drop_at(&mut self, uid: &Text, dest: &Text, now: u64) -> Result<(), LedgerFault>
+        requires { now ≤ 2 ^ 62 }
+        ensures reply { Drops uid.now dest.now now (content self.old.parts) result
+            (content self.new.parts) }
+        ensures bodies { OnlyLetsGo (data_sets self.old.parts) (data_sets self.new.parts) }
+        ensures site { self.new.site ≡ self.old.site }
+        ensures never { NeverFails result }
+    {
+        match self.row(uid, dest) {
+            Some(Progress::Held(why)) => self.drop_row(uid, dest, now, why),
+            Some(Progress::Waiting { .. }) => Err(LedgerFault::NotHeld),
+            Some(Progress::Done) => Err(LedgerFault::NotHeld),
+            Some(Progress::Dropped) => Err(LedgerFault::NotHeld),
             None => Err(LedgerFault::NotHeld),
         }
     }
@@ -343,6 +382,14 @@ impl MemoryLedger {
         }
     }
 
+    /// The uid of the first row that is due.
+    fn due_row(&self, dest: &Text, now: u64) -> Result<Option<Text>, LedgerFault>
+        ensures { Shows result (Dues (content self.now.parts) dest.now now) }
+    {
+        let uid = first_due(self.alloc, &self.parts.held, &self.parts.waiting, dest, now)?;
+        Ok(uid)
+    }
+
     /// What the uid is about, with its data set.
     fn job(&self, uid: Text) -> Result<Job, AllocError>
         ensures { IfOk result (IsJobOf (at self.now.parts.held uid) uid) }
@@ -404,7 +451,7 @@ impl MemoryLedger {
         Ok(all)
     }
 
-    /// The first row that isn't done and that the next plan doesn't go on with.
+    /// The first row that waits or is held and that the next plan doesn't go on with.
     fn first_unfit(&self, next: &Sealed) -> Result<Option<(Text, Text)>, LedgerFault>
         ensures { Shows result (Unfits next.now.plan self.now.site.name (content self.now.parts)) }
     {
@@ -417,7 +464,7 @@ impl MemoryLedger {
         Ok(None)
     }
 
-    /// Lets arrivals and done rows go, and goes on by the next site.
+    /// Lets arrivals and rows that are done or dropped go, and goes on by the next site.
     fn go_over(&mut self, own: Site) -> Result<(), LedgerFault>
         ensures reply { Adopting (content self.old.parts) result (content self.new.parts) }
         ensures bodies { OnlyLetsGo (data_sets self.old.parts) (data_sets self.new.parts) }
@@ -456,8 +503,8 @@ fn push_rows(
     Ok(())
 }
 
-/// The destination of the uid's first row that isn't done and that the next plan doesn't go on
-/// with.
+/// The destination of the uid's first row that waits or is held and that the next plan doesn't go
+/// on with.
 fn unfit_row<'a>(next: &Sealed, name: &Text, entry: &'a Held) -> Option<&'a Text>
     ensures { UnfitsIn next.now.plan name.now entry.now (option_copied result) }
 {
@@ -469,7 +516,7 @@ fn unfit_row<'a>(next: &Sealed, name: &Text, entry: &'a Held) -> Option<&'a Text
     None
 }
 
-/// Whether the row isn't done and the next plan doesn't go on with it.
+/// Whether the row waits or is held and the next plan doesn't go on with it.
 fn is_unfit(next: &Sealed, name: &Text, entry: &Held, row: &(Text, Progress)) -> bool
     ensures unfit { IsTrue result
         → IsUnfitRow next.now.plan name.now entry.now row.now.0 row.now.1 }
@@ -503,6 +550,14 @@ fn requeuing(uid: &Text, dest: &Text) -> Result<Note, AllocError>
     let uid = uid.clone()?;
     let dest = dest.clone()?;
     Ok(Note::Requeuing { uid, dest })
+}
+
+fn dropping(uid: &Text, dest: &Text, now: u64) -> Result<Note, AllocError>
+    ensures { IfOk result (λ note. note ≡ Note.Dropping uid.now dest.now now) }
+{
+    let uid = uid.clone()?;
+    let dest = dest.clone()?;
+    Ok(Note::Dropping { uid, dest, now })
 }
 
 fn forgetting(uid: &Text) -> Result<Note, AllocError>
@@ -550,6 +605,10 @@ impl Ledger for MemoryLedger {
 
     fn next(&mut self, dest: &Text, now: u64) -> Result<Option<Job>, LedgerFault> {
         self.next_job(dest, now)
+    }
+
+    fn due(&mut self, dest: &Text, now: u64) -> Result<Option<Text>, LedgerFault> {
+        self.due_row(dest, now)
     }
 
     fn settle(
@@ -616,6 +675,10 @@ impl Ledger for MemoryLedger {
 }
 
 impl LetsGo for MemoryLedger {
+    fn give_up(&mut self, uid: &Text, dest: &Text, now: u64) -> Result<(), LedgerFault> {
+        self.drop_at(uid, dest, now)
+    }
+
     fn forget(&mut self, uid: &Text) -> Result<(), LedgerFault> {
         self.forget_at(uid)
     }

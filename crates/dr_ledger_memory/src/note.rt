@@ -31,6 +31,11 @@ pub enum Note {
         uid: Text,
         dest: Text,
     },
+    Dropping {
+        uid: Text,
+        dest: Text,
+        now: u64,
+    },
     Forgetting {
         uid: Text,
     },
@@ -67,6 +72,10 @@ impl Note {
             }
             Note::Requeuing { uid, dest } => {
                 let entry = requeuing_entry(uid, dest)?;
+                Ok(entry)
+            }
+            Note::Dropping { uid, dest, now } => {
+                let entry = dropping_entry(uid, dest, *now)?;
                 Ok(entry)
             }
             Note::Forgetting { uid } => {
@@ -129,6 +138,17 @@ fn requeuing_entry(uid: &Text, dest: &Text) -> Result<Entry, AllocError>
     let entry = Entry::Requeuing {
         uid: uid.clone()?,
         dest: dest.clone()?,
+    };
+    Ok(entry)
+}
+
+fn dropping_entry(uid: &Text, dest: &Text, now: u64) -> Result<Entry, AllocError>
+    ensures { IfOk result (λ e. e ≡ entry_of (line_of (Note.Dropping uid.now dest.now now))) }
+{
+    let entry = Entry::Dropping {
+        uid: uid.clone()?,
+        dest: dest.clone()?,
+        now,
     };
     Ok(entry)
 }

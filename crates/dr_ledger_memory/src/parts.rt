@@ -54,8 +54,9 @@ struct Rest {
 }
 
 impl Parts {
-    ghost use Rattle.dr_ledger_memory.specs.Changes.{HasArrived, IsAdopted, IsBrought, IsForgotten};
-    ghost use Rattle.dr_ledger_memory.specs.Changes.{IsMoved, IsNoted, IsSame, IsTakenOut};
+    ghost use Rattle.dr_ledger_memory.specs.Changes.{HasArrived, IsAdopted, IsBrought, IsDropped};
+    ghost use Rattle.dr_ledger_memory.specs.Changes.{IsForgotten, IsMoved, IsNoted, IsSame};
+    ghost use Rattle.dr_ledger_memory.specs.Changes.{IsTakenOut};
 
     /// An empty book.
     pub fn new(alloc: Global) -> Parts
@@ -279,6 +280,26 @@ impl Parts {
         write(&mut self.notes, note);
     }
 
+    /// Drops a row that is there, with a line, and lets those go who brought the uid; without
+    /// memory nothing changes, but for keys that nobody misses.
+    pub fn try_drop(&mut self, uid: &Text, dest: &Text, note: Note) -> Result<(), AllocError>
+        requires there { IsSome (row_in (tree.get text_cmp self.old.held uid.now) dest.now) }
+        ensures ok { OnOk result (IsDropped self.old uid.now dest.now note self.new) }
+        ensures err { OnErr result (IsSame self.old self.new) }
+        ensures ordered { tree.IsOrdered text_cmp self.old.held
+            → tree.IsOrdered text_cmp self.new.held }
+        ensures covers { Covers self.old.waiting self.old.held
+            → Covers self.new.waiting self.new.held }
+    {
+        match self.try_move(uid, dest, 0, Progress::Dropped, note) {
+            Ok(()) => {
+                let_callers_go(&mut self.arrivals, uid);
+                Ok(())
+            }
+            Err(fault) => Err(fault),
+        }
+    }
+
     /// Lets all that a uid has go, with a line; without memory nothing changes.
     pub fn try_forget(&mut self, uid: &Text, note: Note) -> Result<(), AllocError>
         ensures ok { OnOk result (IsForgotten self.old uid.now note self.new) }
@@ -294,7 +315,8 @@ impl Parts {
         Ok(())
     }
 
-    /// Lets arrivals and done rows go, with a line; without memory nothing changes.
+    /// Lets arrivals and rows that are done or dropped go, with a line; without memory nothing
+    /// changes.
     pub fn try_adopt(&mut self) -> Result<(), AllocError>
         ensures ok { OnOk result (IsAdopted self.old self.new) }
         ensures err { OnErr result (IsSame self.old self.new) }
@@ -412,7 +434,7 @@ fn move_row(held: &mut BTreeMap<Text, Held>, uid: &Text, dest: &Text, progress: 
     }
 }
 
-/// Lets the done rows of all uids go.
+/// Lets the rows of all uids go that are done or dropped.
 fn prune_all(held: &mut BTreeMap<Text, Held>)
     ensures pruned { PrunesAll held.old held.new }
     ensures ordered { tree.IsOrdered text_cmp held.new }

@@ -73,6 +73,7 @@ fn waits(row: Option<Progress>, moment: u64) -> bool
         Some(Progress::Waiting { due, .. }) => due == moment,
         Some(Progress::Held(_)) => false,
         Some(Progress::Done) => false,
+        Some(Progress::Dropped) => false,
         None => false,
     }
 }

@@ -6,4 +6,4 @@ use Rattle.dr_ledger_report.specs.Laws.{ReportOfANode}
 
 pub reported : ReportOfANode
 unfolding digits hex_on_literals
-reported = (refl, refl, refl)
+reported = (refl, refl, refl, refl)

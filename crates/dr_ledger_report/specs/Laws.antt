@@ -1,7 +1,7 @@
 -- Laws and figures of reports.
 use Rattle.std.specs.Prelude.{◌≡◌, [], ◌∷◌, ◌++◌, codes}
 use Rattle.dr_ledger.specs.declared.item.Cause.TheVariants as cause
-use Rattle.dr_ledger.specs.declared.item.Progress.TheVariants.{Waiting, Held, Done}
+use Rattle.dr_ledger.specs.declared.item.Progress.TheVariants.{Waiting, Held, Done, Dropped}
 use Rattle.dr_ledger_report.specs.Reports.{name_line, report_of}
 
 -- the report of a node to which one instance came, which went on, and of the rows that may be
@@ -17,3 +17,5 @@ ReportOfANode =
     ∷ ((codes "9", codes "C"), Held cause.NoContext) ∷ []) 0
     ≡ codes
     "row\t9\tA\twaiting\t1\t1000\nrow\t9\tB\theld\tC0F1\nrow\t9\tC\theld\tno-context\nlines\t0\n")
+    × (report_of [] [] (((codes "9", codes "A"), Dropped) ∷ []) 3
+    ≡ codes "row\t9\tA\tdropped\nlines\t3\n")

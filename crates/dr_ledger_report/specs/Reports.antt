@@ -10,7 +10,7 @@ use Rattle.dr_ledger.specs.Replies.{AreKept, Lists}
 use Rattle.dr_ledger.specs.declared.item.Cause.{Cause}
 use Rattle.dr_ledger.specs.declared.item.Cause.TheVariants as cause
 use Rattle.dr_ledger.specs.declared.item.Progress.{Progress}
-use Rattle.dr_ledger.specs.declared.item.Progress.TheVariants.{Waiting, Held, Done}
+use Rattle.dr_ledger.specs.declared.item.Progress.TheVariants.{Waiting, Held, Done, Dropped}
 
 -- a field behind the one before it
 abbrev pub next_field : Text → Text
@@ -26,12 +26,13 @@ abbrev pub cause_field : Cause → Text
 cause_field (cause.Status status) = encode_upper (status / 256 ∷ status % 256 ∷ [])
 cause_field cause.NoContext = codes "no-context"
 
--- how far a row is: done; waiting, how often it was tried, and the moment from which on it is due;
--- or held, and why
+-- how far a row is: done; dropped; waiting, how often it was tried, and the moment from which on it
+-- is due; or held, and why
 abbrev pub progress_fields : Progress → List Text
 progress_fields (Waiting tries due) = codes "waiting" ∷ decimal tries ∷ decimal due ∷ []
 progress_fields (Held why) = codes "held" ∷ cause_field why ∷ []
 progress_fields Done = codes "done" ∷ []
+progress_fields Dropped = codes "dropped" ∷ []
 
 -- the line of an arrival: from whom which instance came
 abbrev pub arrival_line : Pair → Text

@@ -58,6 +58,7 @@ fn put_progress(out: &mut Vec<u8>, progress: Progress) -> Result<(), AllocError>
             put_cause(out, cause)
         }
         Progress::Done => put_field(out, b"done"),
+        Progress::Dropped => put_field(out, b"dropped"),
     }
 }
 

@@ -15,7 +15,7 @@ use Rattle.dr_session.specs.declared.ends.Input.TheVariants as input
 use Rattle.dr_session.specs.declared.ends.LinkAction.{LinkAction}
 use Rattle.dr_session.specs.declared.ends.Moment.{Moment}
 use Rattle.dr_session.specs.Desks.{DeskCall, DeskAnswer}
-use Rattle.dr_session.specs.Ends.{Terminal, MeetsBy, MeetsIn, HearsPiece, HearsBytes, LosesBy, LosesIn, IsOver, is_gone}
+use Rattle.dr_session.specs.Ends.{Terminal, MeetsBy, MeetsIn, HearsPiece, HearsBytes, LosesBy, LosesIn, CrowdsBy, CrowdsIn, IsOver, is_gone, idle_in, state_in}
 use Rattle.dr_node.specs.declared.event.LinkEvent.{LinkEvent}
 use Rattle.dr_node.specs.declared.event.LinkEvent.TheVariants as event
 use Rattle.dr_node.specs.declared.fault.NodeFault.{NodeFault}
@@ -93,12 +93,18 @@ module _ {S : Type 0} (step : S → DeskCall → DeskAnswer → S → Type 0) wh
   loses_over None old new result over h = h
   loses_over (Some c) old new result over h = let P : Bool → Type 0 = λ b. LosesBy b old result new in subst P over h
 
+  crowds_over : (o : Option Core) (old new : Terminal) (result : Acts) → IsOver o → CrowdsIn o old result new → (result ≡ Ok []) × (new ≡ old)
+  crowds_over None old new result over h = h
+  crowds_over (Some c) old new result over h = let P : Bool → Type 0 = λ b. CrowdsBy b c old result new in subst P over h
+
   event_over : (what : LinkEvent) (at : Moment) (old new : Terminal) (s t : S) (result : Acts) → IsOver old.core → MeetsEvent step what at old s result new t →
       (result ≡ Ok []) × (new ≡ old) × (t ≡ s)
   event_over (event.Heard (heard.Bytes piece)) at old new s t result over h = hears_over old.core at piece old new s t result over h
   event_over (event.Heard heard.End) at old new s t result over h = meets_over old.core at input.Ended old new s t result over h
   event_over (event.Heard heard.Fault) at old new s t result over h = meets_over old.core at input.Ended old new s t result over h
   event_over (event.Heard heard.Late) at old new s t result over h = meets_over old.core at input.Late old new s t result over h
+  event_over (event.Heard heard.Crowded) at old new s t result over h = let still = crowds_over old.core old new result over h.1 in (still.0, still.1, h.0)
+  event_over (event.Heard heard.Idle) at old new s t result over h = meets_over old.core at (idle_in (state_in old.core)) old new s t result over h
   event_over (event.Heard heard.Memory) at old new s t result over h = let still = loses_over old.core old new result over h.1 in (still.0, still.1, h.0)
   event_over event.Abort at old new s t result over h = meets_over old.core at input.AbortAsked old new s t result over h
   event_over event.Release at old new s t result over h = meets_over old.core at input.ReleaseAsked old new s t result over h

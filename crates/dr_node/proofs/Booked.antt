@@ -16,7 +16,7 @@ use Rattle.dr_session.specs.declared.ends.Input.TheVariants as input
 use Rattle.dr_session.specs.declared.ends.LinkAction.{LinkAction}
 use Rattle.dr_session.specs.declared.ends.Moment.{Moment}
 use Rattle.dr_session.specs.Desks.{DeskCall, DeskAnswer}
-use Rattle.dr_session.specs.Ends.{Terminal, MeetsBy, MeetsIn, Meets, HearsPiece, HearsBytes, HearsOf, is_gone}
+use Rattle.dr_session.specs.Ends.{Terminal, MeetsBy, MeetsIn, Meets, HearsPiece, HearsBytes, HearsOf, is_gone, idle_in, state_in}
 use Rattle.dr_session.specs.Ledgers.{Desk, RoutedStep, desk}
 use Rattle.dr_session.specs.Plays.{At, Reacts, Stops, Plays, BreaksOff, PlaysBytes, BreaksBytes, at_moment}
 use Rattle.dr_session.specs.Reactions.{Reaction}
@@ -111,6 +111,8 @@ module _ {S T : Type 0} (step : S → DeskCall → DeskAnswer → S → Type 0) 
   hears heard.End at old s t result new h k = meets at input.Ended old s t result new h k
   hears heard.Fault at old s t result new h k = meets at input.Ended old s t result new h k
   hears heard.Late at old s t result new h k = meets at input.Late old s t result new h k
+  hears heard.Crowded at old s t result new h k = (ap shows h.0, h.1)
+  hears heard.Idle at old s t result new h k = meets at (idle_in (state_in old.core)) old s t result new h k
   hears heard.Memory at old s t result new h k = (ap shows h.0, h.1)
 
   events : (what : LinkEvent) (at : Moment) (old : Terminal) (s t : S) (result : Acts) (new : Terminal) → MeetsEvent step what at old s result new t → Holds t → MeetsEvent shown what at old (shows s) result new (shows t)

@@ -11,7 +11,7 @@ use Rattle.dr_session.specs.declared.ends.Input.TheVariants as input
 use Rattle.dr_session.specs.declared.ends.LinkAction.{LinkAction}
 use Rattle.dr_session.specs.declared.ends.Moment.{Moment}
 use Rattle.dr_session.specs.Desks.{DeskCall, DeskAnswer}
-use Rattle.dr_session.specs.Ends.{Terminal, MeetsBy, MeetsIn, Meets, HearsPiece, HearsBytes, HearsOf, is_gone}
+use Rattle.dr_session.specs.Ends.{Terminal, MeetsBy, MeetsIn, Meets, HearsPiece, HearsBytes, HearsOf, is_gone, idle_in, state_in}
 use Rattle.dr_session.specs.Plays.{At, Reacts, Stops, Plays, BreaksOff, PlaysBytes, BreaksBytes, at_moment}
 use Rattle.dr_session.specs.Reactions.{Reaction}
 use Rattle.dr_session.specs.Turns.{Turn, Turns, Broke, Ends, Asks, Fails}
@@ -96,6 +96,8 @@ module _ {S : Type 0} (step : S → DeskCall → DeskAnswer → S → Type 0) (R
   hears heard.End at old s t result new h = meets at input.Ended old s t result new h
   hears heard.Fault at old s t result new h = meets at input.Ended old s t result new h
   hears heard.Late at old s t result new h = meets at input.Late old s t result new h
+  hears heard.Crowded at old s t result new h = as_it_was s t h.0
+  hears heard.Idle at old s t result new h = meets at (idle_in (state_in old.core)) old s t result new h
   hears heard.Memory at old s t result new h = as_it_was s t h.0
 
   events : (what : LinkEvent) (at : Moment) (old : Terminal) (s t : S) (result : Acts) (new : Terminal) → MeetsEvent step what at old s result new t → R s t

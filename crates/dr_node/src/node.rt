@@ -8,8 +8,8 @@ ghost use Rattle.dr_ledger.specs.Bodies.{OnlyLetsGo, OnlyTakes};
 ghost use Rattle.dr_ledger.specs.Items.{instance_of};
 ghost use Rattle.dr_ledger.specs.Pairs.{pair_cmp};
 ghost use Rattle.dr_ledger.specs.Refusals.{Arms};
-ghost use Rattle.dr_ledger.specs.Replies.{AreKept, Arrives, Counts, Forgets, IsAdmitted, IsHeld};
-ghost use Rattle.dr_ledger.specs.Replies.{IsOver};
+ghost use Rattle.dr_ledger.specs.Replies.{AreKept, Arrives, Counts, Drops, Forgets, IsAdmitted};
+ghost use Rattle.dr_ledger.specs.Replies.{IsHeld, IsOver};
 ghost use Rattle.dr_ledger.specs.Replies.{Lasts, Lists, Reads, Requeues, entry_of};
 ghost use Rattle.dr_ledger.specs.SiteRoutes.{site_routing};
 ghost use Rattle.std.proofs.Props.{props};
@@ -206,8 +206,8 @@ impl<L: Ledger> Node<L> {
         self.links = Links::new(self.alloc);
     }
 
-    /// The first row, by (uid, destination), that isn't done and that the next plan doesn't go on
-    /// with; None where there is no such row.
+    /// The first row, by (uid, destination), that is still queued and that the next plan doesn't go
+    /// on with; None where there is no such row.
     ///
     /// Errors: Store, Memory.
     pub fn unfit(&mut self, next: &Sealed) -> Result<Option<(Text, Text)>, LedgerFault>
@@ -391,6 +391,33 @@ impl<L: Ledger> Node<L> {
 }
 
 impl<L: LetsGo> Node<L> {
+    /// A held row is given up at the moment `now` (milliseconds): it is over, and who brings its
+    /// instance again brings it anew. A store of it that still awaits its response does no harm: it
+    /// finds no waiting row, or one of the very same instance.
+    ///
+    /// Errors: as the ledger's `give_up`.
+    pub fn give_up(&mut self, uid: &Text, dest: &Text, now: u64) -> Result<(), LedgerFault>
+        requires { now ≤ 2 ^ 62 }
+        ensures reply { L.stands self.new.desk.ledger
+            → Drops uid.now dest.now now (L.book self.old.desk.ledger) result
+            (L.book self.new.desk.ledger) }
+        ensures bodies { L.stands self.new.desk.ledger
+            → OnlyLetsGo (L.bodies self.old.desk.ledger) (L.bodies self.new.desk.ledger) }
+        ensures counts { Counts result (L.failed self.old.desk.ledger)
+            (L.failed self.new.desk.ledger) }
+        ensures armed { L.stands self.new.desk.ledger
+            → Arms (IsHeld (L.book self.old.desk.ledger) uid.now dest.now)
+            (L.armed self.old.desk.ledger) result (L.armed self.new.desk.ledger) }
+        ensures stood { L.stands self.new.desk.ledger → L.stands self.old.desk.ledger }
+        ensures lasts { Lasts result (L.trusts self.old.desk.ledger) (L.trusts self.new.desk.ledger)
+            (L.stands self.old.desk.ledger) (L.stands self.new.desk.ledger) }
+        ensures of { L.site self.new.desk.ledger ≡ L.site self.old.desk.ledger }
+        ensures links { self.new.links ≡ self.old.links }
+        ensures site { self.new.site ≡ self.old.site }
+    {
+        self.desk.ledger.give_up(uid, dest, now)
+    }
+
     /// What is over is forgotten: the instance of the uid, with its arrivals and its rows. A store
     /// of it that still awaits its response would settle a row of a later instance of that uid: who
     /// calls this looks at the sides first.

@@ -2,7 +2,7 @@
 ghost use Rattle.std.specs.Prelude.{◌≡◌, IfOk, false};
 
 use dr_run_files::Files;
-use dr_run_open::{Ledgers, OpenFault};
+use dr_run_open::{Ledgers, Making, OpenFault};
 use dr_run_report::{FileId, Paths, ReportPlace, SystemPaths};
 use dr_site::Site;
 use dr_store::SqlLedger;
@@ -10,7 +10,8 @@ use dr_store_open::{OpeningFault, ledger_on};
 use dr_word_check::Disk;
 use sqlite::{Alter, Connection, Error, ErrorCode, File, FileStore};
 use std::alloc::Global;
-use std::io;
+use std::io::ErrorKind;
+use std::{fs, io};
 
 /// Where databases are opened by a path.
 pub trait Databases {
@@ -18,6 +19,9 @@ pub trait Databases {
 
     fn open_database(&self, path: &str) -> Result<Connection<Self::Store>, Error>
         ensures { IfOk result (λ conn. conn.in_transaction ≡ false) };
+
+    /// Whether something is there, or it can't be told.
+    fn is_there(&self, path: &str) -> bool;
 }
 
 /// The system's files.
@@ -30,6 +34,13 @@ impl<'a> Databases for SystemFiles<'a> {
     /// A file that isn't there is made.
     fn open_database(&self, path: &str) -> Result<Connection<FileStore<File>>, Error> {
         Connection::open(self.0, path)
+    }
+
+    fn is_there(&self, path: &str) -> bool {
+        match fs::metadata(self.0, path) {
+            Ok(_) => true,
+            Err(error) => !matches!(error.kind(), ErrorKind::NotFound | ErrorKind::NotADirectory),
+        }
     }
 }
 
@@ -125,7 +136,11 @@ impl<'a, D: Databases> Ledgers for StoredLedgers<'a, D> {
         alloc: Global,
         path: &str,
         site: Site,
+        making: Making,
     ) -> Result<SqlLedger<D::Store>, OpenFault> {
+        if let Some(fault) = making.refusal(self.0.is_there(path)) {
+            return Err(fault);
+        }
         match self.0.open_database(path) {
             Ok(conn) => ledger_over(alloc, conn, site),
             Err(error) => Err(file_fault(&error)),

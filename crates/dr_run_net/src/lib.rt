@@ -13,8 +13,10 @@
 //!   one at which it was accepted; a worker that takes it later counts from then
 //!   (`dr_desk_workers`).
 //! - A message that has begun has to bring 64 kB in each 30 s, or its end. Between two messages 600
-//!   s may be silent. Else the link has failed, so that no peer holds a node's workers for ever.
-//! - These times are its `Limits`. A `Cut` ends all links at once.
+//!   s may be silent. Else the end hears silence (`Heard::Idle`), at which it aborts, so that no
+//!   peer holds a node's workers for ever.
+//! - These times are its `Limits`. A `Cut` ends all links: each end hears silence once, then a
+//!   fault.
 //! - Each failure of a read or a write is counted, and only then a fault is answered.
 //!
 //! `SystemClock` tells moments since 1970, and never goes back while the program runs.

@@ -32,7 +32,8 @@ impl Limits {
     }
 }
 
-/// Whether all links are cut: then each read and write fails, within a second where one waits.
+/// Whether all links are cut: then each end hears silence once, at which it aborts, and then a
+/// fault, within a second where it waits; and no write waits any more.
 #[derive(Drop)]
 pub struct Cut {
     is_done: AtomicBool,

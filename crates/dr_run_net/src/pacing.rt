@@ -1,6 +1,6 @@
 //! How fast a message has to come that is under way.
-ghost use Rattle.std.specs.Prelude.{◌≡◌, false};
-ghost use Rattle.dr_run_net.specs.Hearing.{IsSwift, IsWidened};
+ghost use Rattle.std.specs.Prelude.{◌≤◌, ◌<◌, ◌+◌, MatchBool};
+ghost use Rattle.dr_run_net.specs.Hearing.{IsSwift, IsTooSlow, IsWidened};
 
 use crate::window::Window;
 
@@ -30,10 +30,20 @@ pub fn widen(window: Option<Window>, count: usize, now: u64) -> Window
 
 /// Whether a message that is under way has brought too little for so many milliseconds.
 pub fn is_slow(window: Option<Window>, limit: u64, now: u64) -> bool
-    ensures { result ≡ false → IsSwift limit now window }
+    ensures { MatchBool result (IsTooSlow limit now window) (IsSwift limit now window) }
 {
     match window {
-        Some(window) => now.saturating_sub(window.since) >= limit,
+        Some(window) => is_past(window.since, limit, now),
         None => false,
     }
+}
+
+/// Whether so many milliseconds have passed since a moment.
+pub fn is_past(since: u64, limit: u64, now: u64) -> bool
+    ensures { MatchBool result (since + limit ≤ now) (now < since + limit) }
+{
+    if now < since || now - since < limit {
+        return false;
+    }
+    true
 }

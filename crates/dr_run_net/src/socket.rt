@@ -1,14 +1,14 @@
 //! One end of a TCP connection, as the link of an association.
 ghost use Rattle.std.specs.Prelude.{◌≡◌, ◌⊎◌, ◌≤◌, ◌<◌, ◌+◌, ◌^◌, false, IfOk, None, Some, length};
-ghost use Rattle.std.specs.Prelude.{take};
+ghost use Rattle.std.specs.Prelude.{MatchBool, take};
 ghost use Rattle.std.specs.Io.KnownBytes.{ReadConsumes};
 ghost use Rattle.dr_session.specs.Links.{Counts, HasRisen, IsLinkFault};
 ghost use Rattle.dr_session.specs.declared.ends.Heard.TheVariants as came;
-ghost use Rattle.dr_run_net.specs.Hearing.{Hears, IsAwaited, IsSwift, IsWidened, ear};
+ghost use Rattle.dr_run_net.specs.Hearing.{Hears, IsAwaited, IsSilent, IsSwift, IsWidened, ear};
 ghost use Rattle.dr_run_net.specs.declared.window.Window.{Window as WindowValue};
 
 use crate::limits::{Cut, Limits};
-use crate::pacing::{is_slow, widen};
+use crate::pacing::{is_past, is_slow, widen};
 use crate::quiet::is_quiet;
 use crate::window::Window;
 use crate::writing::write_in_time;
@@ -45,6 +45,7 @@ pub struct Socket<'a, S: Read + Write + OpenStream + Drop, C: Clock> {
     pub(crate) marked: u64,
     pub(crate) rested: u64,
     pub(crate) window: Option<Window>,
+    pub(crate) warned: bool,
     pub(crate) failures: u64,
     pub ghost early: { opened ≤ 2 ^ 62 },
     pub ghost room: { 0 < length piece.items },
@@ -73,7 +74,8 @@ impl<'a, S: Read + Write + OpenStream + Drop, C: Clock> Socket<'a, S, C> {
         ensures stream { IfOk result (λ s. s.stream ≡ stream) }
         ensures opened { IfOk result (λ s.
             C.tells clock.now s.opened × (s.marked ≡ s.opened) × (s.rested ≡ s.opened)) }
-        ensures limits { IfOk result (λ s. (s.limits ≡ limits) × (s.window ≡ None)) }
+        ensures limits { IfOk result (λ s.
+            (s.limits ≡ limits) × (s.window ≡ None) × (s.warned ≡ false)) }
         ensures faultless { IfOk result (λ s. s.failures ≡ 0) }
     {
         stream.set_nodelay(true)?;
@@ -92,6 +94,7 @@ impl<'a, S: Read + Write + OpenStream + Drop, C: Clock> Socket<'a, S, C> {
             marked: opened,
             rested: opened,
             window: None,
+            warned: false,
             failures: 0,
         })
     }
@@ -112,37 +115,74 @@ impl<'a, S: Read + Write + OpenStream + Drop, C: Clock> Socket<'a, S, C> {
         ensures marked { self.new.marked ≡ now }
         ensures stream { (self.new.stream ≡ self.old.stream)
             × (self.new.rested ≡ self.old.rested)
-            × (self.new.window ≡ self.old.window) }
+            × (self.new.window ≡ self.old.window)
+            × (self.new.warned ≡ self.old.warned) }
         ensures failures { self.new.failures ≡ self.old.failures }
     {
         self.marked = now;
         Heard::Late
     }
 
-    /// Nothing came in time: a late mark, or a fault where nothing came for too long.
+    /// The other side was silent for too long at that moment, or brought too little: both begin to
+    /// count anew.
+    fn tire(&mut self, now: u64) -> Heard
+        ensures idle { result ≡ came.Idle }
+        ensures anew { (self.new.rested ≡ now) × (self.new.window ≡ None) }
+        ensures stream { self.new.stream ≡ self.old.stream }
+        ensures warned { self.new.warned ≡ self.old.warned }
+        ensures failures { self.new.failures ≡ self.old.failures }
+    {
+        self.rested = now;
+        self.window = None;
+        Heard::Idle
+    }
+
+    /// All links are cut: the end is warned once, and then hears a fault.
+    fn cut_off(&mut self, now: u64) -> Heard
+        requires told { C.tells self.old.clock.now now }
+        ensures hears { Hears (C.tells self.old.clock.now) self.old.limits
+            (ear (S.remaining self.old.stream) self.old.marked self.old.rested self.old.window
+            self.old.warned)
+            result
+            (ear (S.remaining self.new.stream) self.new.marked self.new.rested self.new.window
+            self.new.warned) }
+        ensures counts { Counts (IsLinkFault result) self.old.failures self.new.failures }
+    {
+        if self.warned {
+            self.fail();
+            return Heard::Fault;
+        }
+        let heard = self.tire(now);
+        self.warned = true;
+        heard
+    }
+
+    /// Nothing came in time: a late mark, or silence where nothing came for too long.
     fn wait_on(&mut self) -> Heard
         ensures hears { Hears (C.tells self.old.clock.now) self.old.limits
-            (ear (S.remaining self.old.stream) self.old.marked self.old.rested self.old.window)
+            (ear (S.remaining self.old.stream) self.old.marked self.old.rested self.old.window
+            self.old.warned)
             result
-            (ear (S.remaining self.new.stream) self.new.marked self.new.rested self.new.window) }
+            (ear (S.remaining self.new.stream) self.new.marked self.new.rested self.new.window
+            self.new.warned) }
         ensures counts { Counts (IsLinkFault result) self.old.failures self.new.failures }
     {
         let now = self.clock.now();
         if self.is_idle(now) {
-            self.fail();
-            return Heard::Fault;
+            return self.tire(now);
         }
         self.mark(now)
     }
 
     /// Whether nothing has come for too long between two messages.
     fn is_idle(&self, now: u64) -> bool
-        ensures { result ≡ false
-            → IsAwaited self.now.limits.idle now self.now.rested self.now.window }
+        ensures { MatchBool result
+            (IsSilent self.now.limits.idle now self.now.rested self.now.window)
+            (IsAwaited self.now.limits.idle now self.now.rested self.now.window) }
     {
         match self.window {
             Some(_) => false,
-            None => now.saturating_sub(self.rested) >= self.limits.idle,
+            None => is_past(self.rested, self.limits.idle, now),
         }
     }
 
@@ -154,6 +194,7 @@ impl<'a, S: Read + Write + OpenStream + Drop, C: Clock> Socket<'a, S, C> {
         ensures same { (self.new.marked ≡ self.old.marked)
             × (self.new.rested ≡ self.old.rested)
             × (self.new.window ≡ self.old.window)
+            × (self.new.warned ≡ self.old.warned)
             × (self.new.limits ≡ self.old.limits)
             × (self.new.failures ≡ self.old.failures)
             × (self.new.clock ≡ self.old.clock) }
@@ -173,6 +214,7 @@ impl<'a, S: Read + Write + OpenStream + Drop, C: Clock> Socket<'a, S, C> {
         ensures same { (self.new.stream ≡ self.old.stream)
             × (self.new.marked ≡ self.old.marked)
             × (self.new.rested ≡ self.old.rested)
+            × (self.new.warned ≡ self.old.warned)
             × (self.new.failures ≡ self.old.failures) }
     {
         self.window = Some(widen(self.window, count, now));
@@ -188,9 +230,11 @@ impl<'a, S: Read + Write + OpenStream + Drop, C: Clock> Socket<'a, S, C> {
         requires soon { now < self.old.marked + 1000 }
         requires swift { IsSwift self.old.limits.message now self.old.window }
         ensures hears { Hears (C.tells self.old.clock.now) self.old.limits
-            (ear (S.remaining self.old.stream) self.old.marked self.old.rested self.old.window)
+            (ear (S.remaining self.old.stream) self.old.marked self.old.rested self.old.window
+            self.old.warned)
             result
-            (ear (S.remaining self.new.stream) self.new.marked self.new.rested self.new.window) }
+            (ear (S.remaining self.new.stream) self.new.marked self.new.rested self.new.window
+            self.new.warned) }
         ensures counts { Counts (IsLinkFault result) self.old.failures self.new.failures }
     {
         match self.read() {
@@ -203,9 +247,11 @@ impl<'a, S: Read + Write + OpenStream + Drop, C: Clock> Socket<'a, S, C> {
     /// A read that failed: since nothing came in time, or else a fault.
     fn miss(&mut self, error: &io::Error) -> Heard
         ensures hears { Hears (C.tells self.old.clock.now) self.old.limits
-            (ear (S.remaining self.old.stream) self.old.marked self.old.rested self.old.window)
+            (ear (S.remaining self.old.stream) self.old.marked self.old.rested self.old.window
+            self.old.warned)
             result
-            (ear (S.remaining self.new.stream) self.new.marked self.new.rested self.new.window) }
+            (ear (S.remaining self.new.stream) self.new.marked self.new.rested self.new.window
+            self.new.warned) }
         ensures counts { Counts (IsLinkFault result) self.old.failures self.new.failures }
     {
         if is_quiet(error) {
@@ -222,8 +268,8 @@ impl<'a, S: Read + Write + OpenStream + Drop, C: Clock> Link for Socket<'a, S, C
     ghost use Rattle.dr_run_net.specs.Hearing.{Hears, ear};
 
     ghost hears = { λ s heard t. Hears (C.tells s.clock.now) s.limits
-        (ear (S.remaining s.stream) s.marked s.rested s.window) heard
-        (ear (S.remaining t.stream) t.marked t.rested t.window) };
+        (ear (S.remaining s.stream) s.marked s.rested s.window s.warned) heard
+        (ear (S.remaining t.stream) t.marked t.rested t.window t.warned) };
 
     ghost sends = { λ s bytes sent t.
         sent ≡ true → Appends (S.contents s.stream) (S.contents t.stream) bytes };
@@ -238,13 +284,15 @@ impl<'a, S: Read + Write + OpenStream + Drop, C: Clock> Link for Socket<'a, S, C
         self.opened
     }
 
-    /// A fault where all links are cut, or where a message under way brings too little; a late mark
-    /// where the last one is a second behind; else what is read.
+    /// Silence where a message under way brings too little, or, once, where all links are cut, and
+    /// then a fault; a late mark where the last one is a second behind; else what is read.
     fn recv(&mut self) -> Heard {
         let now = self.clock.now();
-        if self.cut.is_made() || is_slow(self.window, self.limits.message, now) {
-            self.fail();
-            return Heard::Fault;
+        if self.cut.is_made() {
+            return self.cut_off(now);
+        }
+        if is_slow(self.window, self.limits.message, now) {
+            return self.tire(now);
         }
         if now.saturating_sub(self.marked) >= MARK {
             return self.mark(now);

@@ -52,7 +52,7 @@ impl Current {
 }
 
 /// One call of the system: how many bytes it took; none where it has time left. None where the
-/// write has failed, or took so many milliseconds already.
+/// write has failed, or took so many milliseconds already; where all links are cut nothing waits.
 fn write_some<S: Write, C: Clock>(
     stream: &mut S,
     bytes: &[u8],
@@ -64,14 +64,12 @@ fn write_some<S: Write, C: Clock>(
     ensures { IfSome result (λ count. (count ≤ length bytes.now)
         × Appends (S.contents stream.old) (S.contents stream.new) (take count bytes.now)) }
 {
-    if cut.is_made() {
-        return None;
-    }
     match stream.write(bytes) {
         Ok(0) => None,
         Ok(count) => Some(count),
         Err(error) => {
-            if is_quiet(&error) && clock.now().saturating_sub(since) < limit {
+            let has_time = clock.now().saturating_sub(since) < limit && !cut.is_made();
+            if is_quiet(&error) && has_time {
                 Some(0)
             } else {
                 None

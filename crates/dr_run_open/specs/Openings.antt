@@ -1,5 +1,5 @@
 -- How a word comes to a node: the plan, its certificate, the node's site and its ledger.
-use Rattle.std.specs.Prelude.{◌≡◌, ◌≢◌, Result, Ok, Err}
+use Rattle.std.specs.Prelude.{◌≡◌, ◌≢◌, Bool, true, false, Option, None, Some, Result, Ok, Err}
 use Rattle.dr_base.specs.Texts.{Text}
 use Rattle.dr_cert.specs.Sealing.{Certified}
 use Rattle.dr_cert.specs.declared.fault.CertFault.{CertFault}
@@ -12,6 +12,10 @@ use Rattle.dr_plan.specs.Reading.{Reads}
 use Rattle.dr_site.specs.Parts.{Part, IsPartOf}
 use Rattle.dr_plan_sound.specs.Certificates.{IsCertificateOf}
 use Rattle.dr_plan_sound.specs.Soundness.{IsSound}
+use Rattle.dr_run_open.specs.declared.ledgers.Making.{Making}
+use Rattle.dr_run_open.specs.declared.ledgers.Making.TheVariants as making
+use Rattle.dr_run_open.specs.declared.ledgers.OpenFault.{OpenFault}
+use Rattle.dr_run_open.specs.declared.ledgers.OpenFault.TheVariants as opening
 use Rattle.dr_run_open.specs.declared.halt.Halt.{Halt}
 use Rattle.dr_run_open.specs.declared.halt.Halt.TheVariants.{NoPlan, NoCertificate, NoNode}
 use Rattle.dr_run_open.specs.declared.halt.Halt.TheVariants.{NotOpened, NoInstance, Refused}
@@ -65,6 +69,15 @@ Sites sealed name (Ok site) = (site.name ≡ name) × IsPartOf sealed.plan seale
 Sites sealed name (Err NoNode) = NamesNoNode sealed.plan name
 Sites sealed name (Err Memory) = Unit {0}
 Sites sealed name (Err halt) = ⊥
+
+-- why a ledger isn't opened by a path at which something is there, or isn't: none may be made, or
+-- one must be
+abbrev pub refusal_of : Making → Bool → Option OpenFault
+refusal_of making.Allowed there = None
+refusal_of making.Never true = None
+refusal_of making.Never false = Some opening.NoLedger
+refusal_of making.Wanted true = Some opening.IsThere
+refusal_of making.Wanted false = None
 
 -- why a site's ledger isn't opened
 abbrev pub IsUnopened : Halt → Type 0

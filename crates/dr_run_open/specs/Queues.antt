@@ -5,7 +5,7 @@ use Rattle.std.specs.Str.{bytes_eq}
 use Rattle.dr_base.specs.Texts.{Text}
 use Rattle.dr_ledger.specs.Pairs.{Pair}
 use Rattle.dr_ledger.specs.declared.item.Progress.{Progress}
-use Rattle.dr_ledger.specs.declared.item.Progress.TheVariants.{Waiting, Held, Done}
+use Rattle.dr_ledger.specs.declared.item.Progress.TheVariants.{Waiting, Held, Done, Dropped}
 use Rattle.dr_run_open.specs.declared.queues.RowStage.{RowStage}
 use Rattle.dr_run_open.specs.declared.queues.RowStage.TheVariants as stages
 
@@ -18,12 +18,15 @@ abbrev pub is_so : RowStage → Progress → Bool
 is_so stages.Waiting (Waiting tries due) = true
 is_so stages.Waiting (Held why) = false
 is_so stages.Waiting Done = false
+is_so stages.Waiting Dropped = false
 is_so stages.Held (Waiting tries due) = false
 is_so stages.Held (Held why) = true
 is_so stages.Held Done = false
+is_so stages.Held Dropped = false
 is_so stages.Done (Waiting tries due) = false
 is_so stages.Done (Held why) = false
 is_so stages.Done Done = true
+is_so stages.Done Dropped = false
 
 -- the row is for that node, and at this stage
 abbrev pub is_queued : Text → RowStage → Row → Bool
@@ -38,6 +41,7 @@ abbrev pub due_of : Progress → Option ℕ
 due_of (Waiting tries due) = Some due
 due_of (Held why) = None
 due_of Done = None
+due_of Dropped = None
 
 -- the same, where the row is for that node
 abbrev pub due_for : Text → Row → Option ℕ

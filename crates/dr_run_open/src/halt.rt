@@ -99,8 +99,8 @@ fn status_of_opening(fault: OpenFault) -> Status
     ensures { result ≡ status_by (halts.NotOpened fault) }
 {
     match fault {
-        OpenFault::OtherSite => Status::Refused,
-        OpenFault::InUse | OpenFault::Store => Status::InputOutput,
+        OpenFault::OtherSite | OpenFault::IsThere => Status::Refused,
+        OpenFault::InUse | OpenFault::Store | OpenFault::NoLedger => Status::InputOutput,
         OpenFault::Memory => Status::Memory,
     }
 }

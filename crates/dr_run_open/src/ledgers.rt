@@ -1,5 +1,8 @@
 //! Where ledgers are.
-use dr_ledger::Ledger;
+ghost use Rattle.std.specs.Prelude.{◌≡◌};
+ghost use Rattle.dr_run_open.specs.Openings.{refusal_of};
+
+use dr_ledger::{Ledger, LetsGo};
 use dr_site::Site;
 use std::alloc::Global;
 use thiserror::Error;
@@ -16,8 +19,48 @@ pub enum OpenFault {
     /// Its store failed.
     #[error("G3 Store")]
     Store,
+    /// There is no file, and none is to be made.
+    #[error("G8 NoLedger")]
+    NoLedger,
+    /// There is a file already, and a new one is to be made.
+    #[error("G9 IsThere")]
+    IsThere,
     #[error("Memory")]
     Memory,
+}
+
+/// Whether a ledger's file may be made.
+#[derive(Clone, Copy, PartialEq, Eq, Debug)]
+pub enum Making {
+    /// One is made where none is.
+    Allowed,
+    /// None is made: it has to be there.
+    Never,
+    /// One is made: none may be there.
+    Wanted,
+}
+
+impl Making {
+    /// Why a ledger isn't opened by a path at which something is there, or isn't.
+    pub fn refusal(self, is_there: bool) -> Option<OpenFault>
+        ensures { result ≡ refusal_of self is_there }
+    {
+        match self {
+            Making::Allowed => None,
+            Making::Never => {
+                if is_there {
+                    return None;
+                }
+                Some(OpenFault::NoLedger)
+            }
+            Making::Wanted => {
+                if is_there {
+                    return Some(OpenFault::IsThere);
+                }
+                None
+            }
+        }
+    }
 }
 
 /// What opens a node's ledger by a path, or makes an empty one there. Its relation says which
@@ -25,12 +68,18 @@ pub enum OpenFault {
 pub trait Ledgers {
     ghost use Rattle.std.specs.Prelude.{ℕ, List, ◌≡◌, IfOk};
 
-    type Ledger: Ledger + Drop;
+    type Ledger: Ledger + LetsGo + Drop;
 
     ghost opens: { Self → List ℕ → Self.Ledger → Type 0 };
 
     /// The ledger of that site.
-    fn open(&self, alloc: Global, path: &str, site: Site) -> Result<Self::Ledger, OpenFault>
+    fn open(
+        &self,
+        alloc: Global,
+        path: &str,
+        site: Site,
+        making: Making,
+    ) -> Result<Self::Ledger, OpenFault>
         ensures opened { IfOk result (λ l. opens self.now path.now l) }
         ensures of { IfOk result (λ l. Self.Ledger.site l ≡ site) };
 }

@@ -29,7 +29,7 @@ pub use ending::finish;
 pub use halt::{Halt, code_of, tell_halt};
 pub use hops::{NextHop, hops_of};
 pub use instance::item_of;
-pub use ledgers::{Ledgers, OpenFault};
+pub use ledgers::{Ledgers, Making, OpenFault};
 pub use opening::{Opened, ledger_of, open_node, seal_files};
 pub use queues::{Row, RowStage, how_many, is_queued, oldest};
 pub use sealing::{plan_of, seal_text};

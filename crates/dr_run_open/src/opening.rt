@@ -5,7 +5,7 @@ ghost use Rattle.dr_run_open.specs.Openings.{HaltsAs, IsAt, IsNotThere, IsUnopen
 ghost use Rattle.dr_run_open.specs.Openings.{SealsFiles, Sites};
 
 use crate::halt::Halt;
-use crate::ledgers::Ledgers;
+use crate::ledgers::{Ledgers, Making};
 use crate::sealing::{plan_of, seal_text};
 use dr_base::Text;
 use dr_cert::Sealed;
@@ -85,12 +85,13 @@ pub fn ledger_of<'a, O: Ledgers>(
     ledgers: &O,
     path: &str,
     site: &Site,
+    making: Making,
 ) -> Result<O::Ledger, Halt<'a>>
     ensures { MatchResult result
         (λ l. O.opens ledgers.now path.now l × (O.Ledger.site l ≡ site.now)) IsUnopened }
 {
     let own = site.copy()?;
-    match ledgers.open(alloc, path, own) {
+    match ledgers.open(alloc, path, own, making) {
         Ok(ledger) => Ok(ledger),
         Err(fault) => Err(Halt::NotOpened(fault)),
     }
@@ -102,6 +103,7 @@ fn open_site<'a, O: Ledgers>(
     ledgers: &O,
     sealed: &Sealed,
     given: NodeFiles<'a>,
+    making: Making,
 ) -> Result<(Site, O::Ledger), Halt<'a>>
     ensures { MatchResult result
         (λ o. IsPartOf sealed.now.plan sealed.now.certificate o.0
@@ -110,7 +112,7 @@ fn open_site<'a, O: Ledgers>(
         × (O.Ledger.site o.1 ≡ o.0)) (IsNotThere sealed.now given.entry.node.now) }
 {
     let site = site_of(alloc, sealed, given.node)?;
-    match ledger_of(alloc, ledgers, given.ledger, &site) {
+    match ledger_of(alloc, ledgers, given.ledger, &site, making) {
         Ok(ledger) => Ok((site, ledger)),
         Err(halt) => {
             drop(site);
@@ -125,6 +127,7 @@ fn open_sealed<'a, O: Ledgers>(
     ledgers: &O,
     sealed: Sealed,
     given: NodeFiles<'a>,
+    making: Making,
 ) -> Result<Opened<O::Ledger>, Halt<'a>>
     ensures { MatchResult result
         (λ o. (o.sealed ≡ sealed)
@@ -133,7 +136,7 @@ fn open_sealed<'a, O: Ledgers>(
         × O.opens ledgers.now given.entry.ledger.now o.ledger
         × (O.Ledger.site o.ledger ≡ o.site)) (IsNotThere sealed given.entry.node.now) }
 {
-    match open_site(alloc, ledgers, &sealed, given) {
+    match open_site(alloc, ledgers, &sealed, given, making) {
         Ok((site, ledger)) => Ok(Opened {
             sealed,
             site,
@@ -147,7 +150,7 @@ fn open_sealed<'a, O: Ledgers>(
 }
 
 /// Opens a node: its plan and certificate are read and tested, then its site is taken, and then its
-/// ledger is opened. The first fault is the answer.
+/// ledger is opened, or made where that may be. The first fault is the answer.
 ///
 /// Errors: all but Refused.
 pub fn open_node<'a, F: Files, O: Ledgers>(
@@ -155,6 +158,7 @@ pub fn open_node<'a, F: Files, O: Ledgers>(
     files: &F,
     ledgers: &O,
     given: NodeFiles<'a>,
+    making: Making,
 ) -> Result<Opened<O::Ledger>, Halt<'a>>
     ensures { MatchResult result
         (λ o. IsAt (F.holds files.now given.entry.plan.now)
@@ -164,5 +168,5 @@ pub fn open_node<'a, F: Files, O: Ledgers>(
         (F.holds files.now given.entry.certificate.now) given.entry.node.now) }
 {
     let sealed = seal_files(alloc, files, given.plan, given.certificate)?;
-    open_sealed(alloc, ledgers, sealed, given)
+    open_sealed(alloc, ledgers, sealed, given, making)
 }

@@ -56,6 +56,7 @@ fn due_of(progress: Progress) -> Option<u64>
         Progress::Waiting { tries: _, due } => Some(due),
         Progress::Held(_) => None,
         Progress::Done => None,
+        Progress::Dropped => None,
     }
 }
 

@@ -100,6 +100,11 @@ pub fn tell_arrival<G: Log>(
     }
 }
 
+/// Tells that there is no room for a data set that comes.
+pub fn tell_crowded<G: Log>(log: &G, session: u64) {
+    warn!(log; target: "association", "crowded session={session} status=\"A700\"");
+}
+
 /// What came of a try to send an instance, as an event shows it.
 #[derive(Drop)]
 struct Answer(Outcome);
@@ -161,7 +166,7 @@ pub fn tell_row<G: Log>(
         Some(Progress::Waiting { tries, due }) => {
             tell_waiting(log, uid, dest, outcome, tries, due);
         }
-        None => tell_settled(log, "settled", uid, dest, outcome),
+        Some(Progress::Dropped) | None => tell_settled(log, "settled", uid, dest, outcome),
     }
 }
 

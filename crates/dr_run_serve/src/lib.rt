@@ -20,6 +20,7 @@
 //! loopback shows it.
 #![tactic(auto)]
 
+mod asked;
 mod events;
 mod keeper;
 mod monitor;

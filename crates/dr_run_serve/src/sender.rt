@@ -55,7 +55,8 @@ impl<B: Sharing> HopSender<B> {
     }
 }
 
-/// From which moment on the first of the rows that wait for the destination is due.
+/// From which moment on the first of the rows that wait for the destination is due. No data set is
+/// read.
 ///
 /// Errors: Store, Memory.
 fn next_due<R: Wait, L: Ledger, B: Sharing>(
@@ -63,10 +64,10 @@ fn next_due<R: Wait, L: Ledger, B: Sharing>(
     desk: &SharedDesk<L, B>,
     dest: &Text,
 ) -> Result<u64, LedgerFault> {
-    let Some(job) = desk.next(rt, dest, LAST)? else {
+    let Some(uid) = desk.due(rt, dest, LAST)? else {
         return Ok(NEVER);
     };
-    match desk.progress(rt, &job.uid, dest)? {
+    match desk.progress(rt, &uid, dest)? {
         Some(Progress::Waiting { due, .. }) => Ok(due),
         _ => Ok(0),
     }

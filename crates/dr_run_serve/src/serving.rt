@@ -134,7 +134,7 @@ fn accept_links<
 /// Works until the channel is closed and empty. Where the workers can't begin, nobody receives any
 /// more.
 fn work<
-    R: Threads + Wait + Sync,
+    R: Threads + Wait + Sync + time::Clock,
     L: Ledger + Drop + Send,
     B: Sharing + Send + Sync,
     K: Link + Drop + Send,
@@ -151,7 +151,15 @@ fn work<
 ) -> Result<Vec<Pass<B>>, WorkersFault> {
     signal.begin(rt);
     let watch = Watch { rt, signal, log };
-    let passes = workers(rt, alloc, terms.workers(), &from, desk, &watch);
+    let passes = workers(
+        rt,
+        alloc,
+        terms.workers(),
+        terms.memory,
+        &from,
+        desk,
+        &watch,
+    );
     drop(from);
     signal.end(rt);
     passes

@@ -1,5 +1,5 @@
 //! The orderly end of a node, and on what terms it serves.
-ghost use Rattle.std.specs.Prelude.{◌≡◌, ◌≤◌};
+ghost use Rattle.std.specs.Prelude.{◌≡◌, ◌≤◌, max};
 
 use std::alloc::Global;
 use std::io;
@@ -8,6 +8,9 @@ use std::sync::atomic::{AtomicBool, Ordering};
 
 /// The most threads that serve: one for each of 256 associations, and eight that reject others.
 const MOST_WORKERS: usize = 264;
+
+/// The least memory for data sets, in bytes: one of 64 MiB, and what each thread holds unasked.
+const LEAST_MEMORY: u64 = 128_000_000;
 
 /// Whether a node is asked to end in order.
 #[derive(Drop)]
@@ -43,23 +46,28 @@ pub trait Ending {
 }
 
 /// On what terms a node serves: after how many connections it ends (for 0 never), by how many
-/// threads, and what may ask for its end before.
+/// threads, with how much memory, and what may ask for its end before.
 #[derive(Clone, Copy)]
 pub struct Terms<'a> {
     pub links: u64,
     workers: usize,
+    /// What all associations together may hold in memory of data sets, in bytes.
+    pub memory: u64,
     pub stop: &'a Stop,
     ghost some: { (1 ≤ workers) × (workers ≤ 264) },
 }
 
 impl<'a> Terms<'a> {
-    /// So many threads, from 1 to 264; for another number the nearest.
-    pub fn new(links: u64, workers: usize, stop: &'a Stop) -> Terms<'a>
-        ensures { result.links ≡ links }
+    /// So many threads, from 1 to 264; for another number the nearest. So many bytes, at least 128
+    /// MB, so that there is always room for one data set.
+    pub fn new(links: u64, workers: usize, memory: u64, stop: &'a Stop) -> Terms<'a>
+        ensures links { result.links ≡ links }
+        ensures memory { result.memory ≡ max 128000000 memory }
     {
         Terms {
             links,
             workers: workers.max(1).min(MOST_WORKERS),
+            memory: memory.max(LEAST_MEMORY),
             stop,
         }
     }

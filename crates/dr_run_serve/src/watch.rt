@@ -1,10 +1,12 @@
 //! How a node's sessions are seen: they wake those who send, and are logged. Where the store is
 //! shut, they end.
-use crate::events::{tell_arrival, tell_association};
+use crate::asked::tell_asked;
+use crate::events::{tell_arrival, tell_association, tell_crowded};
 use crate::signal::Signal;
 use dr_base::Text;
 use dr_desk_workers::{Gate, Point, Tally};
 use dr_ledger::{Arrived, LedgerFault};
+use dr_pdu::{AssociateAc, AssociateRq};
 use dr_session::{Ended, SessionFault};
 use log::{Log, debug};
 use std::sync::Wait;
@@ -47,6 +49,14 @@ impl<'a, R: Wait, G: Log> Gate for Watch<'a, R, G> {
             self.signal.doubt(self.rt);
         }
         tell_arrival(self.log, session, caller, uid, answer);
+    }
+
+    fn asked(&self, session: u64, request: &AssociateRq, answer: Option<&AssociateAc>) {
+        tell_asked(self.log, session, request, answer);
+    }
+
+    fn crowded(&self, session: u64) {
+        tell_crowded(self.log, session);
     }
 
     fn is_over(&self) -> bool {

@@ -10,7 +10,7 @@ use Rattle.dr_nego.specs.Proposing.{Proposes}
 use Rattle.std.proofs.lemmas.Bool.{false≢true}
 use Rattle.dr_pdu.specs.Feeding.{Feeding, fresh}
 use Rattle.dr_session.specs.declared.ends.Effect.{Effect}
-use Rattle.dr_session.specs.Plays.{Reacts, Stops, PlaysBytes, BreaksBytes, at_moment}
+use Rattle.dr_session.specs.Plays.{Reacts, Stops, PlaysBytes, BreaksBytes, at_moment, without_data}
 use Rattle.std.specs.declared.alloc.AllocError.{AllocError}
 use Rattle.dr_ulstate.specs.Phases.{state_of}
 use Rattle.dr_session.specs.declared.ends.Core.{Core}
@@ -18,7 +18,7 @@ use Rattle.dr_session.specs.declared.ends.Input.{Input}
 use Rattle.dr_session.specs.declared.ends.LinkAction.{LinkAction}
 use Rattle.dr_session.specs.declared.ends.Moment.{Moment}
 use Rattle.dr_session.specs.Desks.{DeskCall, DeskAnswer}
-use Rattle.dr_session.specs.Ends.{Terminal, IsOver, TakesCore, TakesFree, EchoesBy, EchoesIn, echoes_by, is_free, is_free_in, OpensTo, begins, requesting, is_gone, MeetsBy, MeetsIn, Meets, HearsPiece, HearsBytes, LosesBy, LosesIn}
+use Rattle.dr_session.specs.Ends.{Terminal, IsOver, TakesCore, TakesFree, EchoesBy, EchoesIn, echoes_by, is_free, is_free_in, OpensTo, begins, requesting, is_gone, MeetsBy, MeetsIn, Meets, HearsPiece, HearsBytes, LosesBy, LosesIn, CrowdsBy, CrowdsIn}
 
 module _ {S : Type 0} (step : S → DeskCall → DeskAnswer → S → Type 0) (at : Moment) where
   meets_none : (core : Option Core) (i : Input) (old : Terminal) (s : S) → IsOver core → MeetsIn step core at i old s (Ok []) old s
@@ -151,3 +151,20 @@ takes_free old ear core None after same none view free =
 takes_free old ear core (Some c) after same none view free =
     let is : old.core ≡ Some c = ap (λ (y : Terminal). y.core) (sym view) ∙ sym same in
     (is, subst (λ (o : Option Core). is_free_in o ≡ true) is free, ap (λ (o : Option Core). terminal ear o) none ∙ ap (λ (y : Terminal). terminal y.ear None) view)
+
+-- ---- no room
+
+crowds_none : (core : Option Core) (old : Terminal) → IsOver core → CrowdsIn core old (Ok []) old
+crowds_none None old over = (refl, refl)
+crowds_none (Some c) old over = rw over (refl, refl)
+
+pub crowds_over : (old new : Terminal) (acts : List LinkAction) → IsOver old.core × (new ≡ old) → acts ≡ [] → CrowdsIn old.core old (Ok acts) new
+crowds_over old new acts (over, same) none =
+    subst (λ (l : List LinkAction). CrowdsIn old.core old (Ok l) new) (sym none) (subst (λ (x : Terminal). CrowdsIn old.core old (Ok []) x) (sym same) (crowds_none old.core old over))
+
+pub crowds_live : (c : Core) (old mid new : Terminal) (acts : List LinkAction) → TakesCore old (Some c) mid → new ≡ record { ear = mid.ear; core = Some (without_data c) } → acts ≡ []
+    → CrowdsIn old.core old (Ok acts) new
+crowds_live c old mid new acts (is, live, taken) put none =
+    let same : new ≡ record { ear = old.ear; core = Some (without_data c) } = put ∙ ap (λ (y : Terminal). let z : Terminal = record { ear = y.ear; core = Some (without_data c) } in z) taken in
+    subst (λ (o : Option Core). CrowdsIn o old (Ok acts) new) (sym is)
+    (subst (λ (b : Bool). CrowdsBy b c old (Ok acts) new) (sym live) (ap (λ (l : List LinkAction). let r : Result (List LinkAction) AllocError = Ok l in r) none, same))

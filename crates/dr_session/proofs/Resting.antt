@@ -19,7 +19,7 @@ use Rattle.dr_session.specs.declared.ends.Told.{Told}
 use Rattle.dr_session.specs.declared.ends.Told.TheVariants.{Plain, Quiet, Fault, Strange, Store, Whole, Agreement}
 use Rattle.dr_session.specs.declared.ends.Heard.{Heard}
 use Rattle.dr_session.specs.declared.ends.Heard.TheVariants as heard
-use Rattle.dr_session.specs.Ends.{Terminal, IsOver, is_gone, MeetsIn, MeetsBy, HearsOf, HearsBytes, HearsPiece, LosesBy, LosesIn}
+use Rattle.dr_session.specs.Ends.{Terminal, IsOver, is_gone, MeetsIn, MeetsBy, HearsOf, HearsBytes, HearsPiece, LosesBy, LosesIn, CrowdsBy, CrowdsIn, idle_in, state_in}
 use Rattle.dr_session.specs.Reactions.{turn, quiet, occurs, moves, event_of, event_of_plain}
 use Rattle.dr_session.specs.Laws.{RestsWhenOver, IsStill, StaysOver, HearsNothing}
 use Rattle.dr_session.specs.Desks.{DeskCall, DeskAnswer}
@@ -138,11 +138,18 @@ module _ {S : Type 0} (step : S → DeskCall → DeskAnswer → S → Type 0) (a
   loses_still (Some c) over same h =
       let still : LosesBy true old result new = subst (λ (b : Bool). LosesBy b old result new) over h in (still.0, still.1, same)
 
+  crowds_still : (o : Option Core) → IsOver o → t ≡ s → CrowdsIn o old result new → IsStill old s result new t
+  crowds_still None over same h = (h.0, h.1, same)
+  crowds_still (Some c) over same h =
+      let still : CrowdsBy true c old result new = subst (λ (b : Bool). CrowdsBy b c old result new) over h in (still.0, still.1, same)
+
   hears_over : (came : Heard) → IsOver old.core → HearsOf step came at old s result new t → IsStill old s result new t
   hears_over (heard.Bytes piece) over h = hears_still old.core piece over h
   hears_over heard.End over h = meets_still old.core Ended over h
   hears_over heard.Fault over h = meets_still old.core Ended over h
   hears_over heard.Late over h = meets_still old.core Late over h
+  hears_over heard.Idle over h = meets_still old.core (idle_in (state_in old.core)) over h
+  hears_over heard.Crowded over h = crowds_still old.core over h.0 h.1
   hears_over heard.Memory over h = loses_still old.core over h.0 h.1
 
 pub stays_over : {S : Type 0} (step : S → DeskCall → DeskAnswer → S → Type 0) → StaysOver step

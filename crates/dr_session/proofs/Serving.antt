@@ -100,6 +100,8 @@ module _ {L S : Type 0} (hears : L → Heard → L → Type 0) (sends : L → Li
   performed_hears at heard.Fault mid new acts other h = absurd (other refl)
   performed_hears at heard.End mid new acts other h = h
   performed_hears at heard.Late mid new acts other h = h
+  performed_hears at heard.Crowded mid new acts other h = h
+  performed_hears at heard.Idle mid new acts other h = h
   performed_hears at heard.Memory mid new acts other h = h
   performed_hears at (heard.Bytes piece) mid new acts other h = h
 

@@ -47,7 +47,7 @@ use Rattle.dr_session.specs.Turns.{Ends, Asks, Fails, Turns}
 use Rattle.dr_session.specs.Laws.{IsSpelled, WritesPdus, GivesPdus, AsksPdus}
 use Rattle.dr_session.specs.declared.ends.Heard.{Heard}
 use Rattle.dr_session.specs.declared.ends.Heard.TheVariants as heard
-use Rattle.dr_session.specs.Ends.{Terminal, is_gone, MeetsIn, MeetsBy, HearsOf, HearsBytes, HearsPiece, LosesBy, LosesIn}
+use Rattle.dr_session.specs.Ends.{Terminal, is_gone, MeetsIn, MeetsBy, HearsOf, HearsBytes, HearsPiece, LosesBy, LosesIn, CrowdsBy, CrowdsIn, idle_in, state_in}
 use Rattle.dr_session.specs.Plays.{At, Plays, with_stage, at_moment}
 use Rattle.dr_ulstate.specs.Phases.{state_of}
 use Rattle.std.specs.declared.alloc.AllocError.{AllocError}
@@ -351,11 +351,21 @@ module _ {S : Type 0} (step : S → DeskCall → DeskAnswer → S → Type 0) (a
   loses_in None h = nothing_spelled (Ok done) refl h.0
   loses_in (Some c) h = loses_by (is_gone (state_of c.phase)) h
 
+  crowds_by : (over : Bool) (c : Core) → CrowdsBy over c old (Ok done) new → AllByRecursion IsSpelled done
+  crowds_by true c h = nothing_spelled (Ok done) refl h.0
+  crowds_by false c h = nothing_spelled (Ok done) refl h.0
+
+  crowds_in : (o : Option Core) → CrowdsIn o old (Ok done) new → AllByRecursion IsSpelled done
+  crowds_in None h = nothing_spelled (Ok done) refl h.0
+  crowds_in (Some c) h = crowds_by (is_gone (state_of c.phase)) c h
+
   hears_of : (heard : Heard) → HearsOf step heard at old s (Ok done) new t → AllByRecursion IsSpelled done
   hears_of (heard.Bytes piece) h = hears_in old.core piece h
   hears_of heard.End h = meets_in old.core input.Ended h
   hears_of heard.Late h = meets_in old.core input.Late h
+  hears_of heard.Idle h = meets_in old.core (idle_in (state_in old.core)) h
   hears_of heard.Fault h = meets_in old.core input.Ended h
+  hears_of heard.Crowded h = crowds_in old.core h.1
   hears_of heard.Memory h = loses_in old.core h.1
 
 pub gives_pdus : {S : Type 0} (step : S → DeskCall → DeskAnswer → S → Type 0) → GivesPdus step

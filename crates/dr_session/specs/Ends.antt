@@ -4,7 +4,7 @@ use Rattle.std.specs.Prelude.{Some, None, Result, Ok, Err}
 use Rattle.std.specs.declared.alloc.AllocError.{AllocError}
 use Rattle.dr_base.specs.Texts.{Text}
 use Rattle.dr_ulstate.specs.declared.table.State.{State}
-use Rattle.dr_ulstate.specs.declared.table.State.TheVariants.{Sta1, Sta2, Sta5}
+use Rattle.dr_ulstate.specs.declared.table.State.TheVariants.{Sta1, Sta2, Sta5, Sta13}
 use Rattle.dr_ulstate.specs.declared.phase.Next.{Next}
 use Rattle.dr_ulstate.specs.declared.phase.Next.TheVariants.{Opening, Asked}
 use Rattle.dr_ulstate.specs.Phases.{state_of}
@@ -43,6 +43,7 @@ use Rattle.dr_session.specs.declared.ends.Over.TheVariants as over
 use Rattle.dr_session.specs.declared.ends.Pending.{Pending}
 use Rattle.dr_session.specs.Desks.{DeskCall, DeskAnswer}
 use Rattle.dr_session.specs.Plays.{At, Reacts, Stops, PlaysBytes, BreaksBytes, at_moment}
+use Rattle.dr_session.specs.Plays.{without_data}
 use Rattle.dr_session.specs.Messages.{command_pdus}
 use Rattle.dr_session.specs.Reactions.{assembling, effect, write, awaiting, id_after}
 pub use Rattle.dr_session.specs.Reactions.{is_free}
@@ -185,8 +186,31 @@ abbrev pub LosesIn : Option Core → Terminal
 LosesIn None old result new = (result ≡ Ok []) × (new ≡ old)
 LosesIn (Some c) old result new = LosesBy (is_gone (state_of c.phase)) old result new
 
--- What comes over the link: bytes, its end, a late mark, or that the link had no memory for it. A
--- fault of the link is heard as its end.
+-- There is no room for more of the data set that is under way: its bytes are let go, and it is
+-- heard to its end as one that is too large. An end that is over stays as it is.
+abbrev pub CrowdsBy : Bool → Core → Terminal
+    → Result (List LinkAction) AllocError
+    → Terminal → Type 0
+CrowdsBy true c old result new = (result ≡ Ok []) × (new ≡ old)
+CrowdsBy false c old result new =
+    (result ≡ Ok []) × (new ≡ record { ear = old.ear; core = Some (without_data c) })
+
+abbrev pub CrowdsIn : Option Core → Terminal
+    → Result (List LinkAction) AllocError
+    → Terminal → Type 0
+CrowdsIn None old result new = (result ≡ Ok []) × (new ≡ old)
+CrowdsIn (Some c) old result new = CrowdsBy (is_gone (state_of c.phase)) c old result new
+
+-- What silence for too long asks of an end in a state: that the local user aborts. Without an
+-- association (states 2 and 13) there is nothing to abort, and only the timer is looked at.
+abbrev pub idle_in : State → Input
+idle_in Sta2 = input.Late
+idle_in Sta13 = input.Late
+idle_in s = input.AbortAsked
+
+-- What comes over the link: bytes, its end, a late mark, silence for too long, that there is no
+-- room for more of a data set, or that the link had no memory for it. A fault of the link is heard
+-- as its end.
 abbrev pub HearsOf : {S : Type 0}
     → (S → DeskCall → DeskAnswer → S → Type 0)
     → Heard → Moment → Terminal → S
@@ -197,6 +221,9 @@ HearsOf step (heard.Bytes piece) at old s result new t =
 HearsOf step heard.End at old s result new t = Meets step at input.Ended old s result new t
 HearsOf step heard.Fault at old s result new t = Meets step at input.Ended old s result new t
 HearsOf step heard.Late at old s result new t = Meets step at input.Late old s result new t
+HearsOf step heard.Idle at old s result new t =
+    Meets step at (idle_in (state_in old.core)) old s result new t
+HearsOf step heard.Crowded at old s result new t = (t ≡ s) × CrowdsIn old.core old result new
 HearsOf step heard.Memory at old s result new t = (t ≡ s) × LosesIn old.core old result new
 
 -- ---- sending

@@ -35,7 +35,7 @@ use Rattle.dr_session.specs.declared.ends.Pending.{Pending}
 use Rattle.dr_session.specs.declared.ends.Told.{Told}
 use Rattle.dr_session.specs.declared.ends.Told.TheVariants as told
 use Rattle.dr_session.specs.Desks.{DeskCall, Next, Settle}
-use Rattle.dr_session.specs.Ends.{unmarked, ended_by}
+use Rattle.dr_session.specs.Ends.{unmarked, ended_by, idle_in}
 use Rattle.dr_session.specs.Reactions.{Reaction, turn, rj, write}
 use Rattle.dr_session.specs.Turns.{Ends, Asks, Fails}
 
@@ -292,6 +292,21 @@ pub record LateMarks (c : Core) : Type 0 where
       Aborted
   -- an acceptor awaits no answer
   pub accepting : Waits c 60000 (acceptor Sta6 ∷ []) 6 [] Closed
+
+-- ---- silence for too long (event 15, or the timer's)
+
+-- what silence does at each of the places, which are in one state
+abbrev pub IsSilenced : Core → ℕ → State → List Place → ℕ → List LinkAction → Ended → Type 0
+IsSilenced c now at places state acts ended =
+    Does c (moment now 0) places (told.Plain (idle_in at)) state acts ended
+
+pub record Silences (c : Core) : Type 0 where
+  pub agreed : IsSilenced c 0 Sta6 established 13 (abort 0 0) Aborted
+  pub asking : IsSilenced c 0 Sta5 (requestor Sta5 ∷ []) 13 (abort 0 0) Aborted
+  -- no association is there yet, and none any more: only the timer ends it
+  pub fresh : IsSilenced c 29999 Sta2 (acceptor Sta2 ∷ []) 2 [] Closed
+  pub over : IsSilenced c 29999 Sta13 closing 13 [] Closed
+  pub expired : IsSilenced c 30000 Sta2 (acceptor Sta2 ∷ []) 1 closes Closed
 
 -- ---- event 19: what is no PDU
 

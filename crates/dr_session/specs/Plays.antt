@@ -10,7 +10,7 @@ use Rattle.dr_pdu.specs.declared.fault.PduFault.TheVariants.{More, UnknownType, 
 use Rattle.dr_pdu.specs.declared.fault.PduFault.TheVariants.{BadContextId, Memory, Failed}
 use Rattle.dr_pdu.specs.Grammar.{Shows}
 use Rattle.dr_pdu.specs.Feeding.{StartsPdu, Feeding}
-use Rattle.dr_dimse.specs.Taking.{Stage, Assembling}
+use Rattle.dr_dimse.specs.Taking.{Stage, Assembling, let_go}
 use Rattle.dr_session.specs.declared.ends.Input.{Input}
 use Rattle.dr_session.specs.declared.ends.Input.TheVariants.{Request, Acceptance, Rejection, Value}
 use Rattle.dr_session.specs.declared.ends.Input.TheVariants.{NoValue, ReleaseRq, ReleaseRp, Abort}
@@ -32,6 +32,10 @@ pub record At : Type 0 where
 
 abbrev pub with_stage : Stage → Core → Core
 with_stage stage c = record c { assembly = assembling c.assembly.awaited stage }
+
+-- the bytes of the data set that an end is hearing are let go, as those of one that is too large
+abbrev pub without_data : Core → Core
+without_data c = with_stage (let_go c.assembly.stage) c
 
 -- what an input comes to, and the end after it
 abbrev pub TellsTo : Core → Input → Told → Core → Type 0

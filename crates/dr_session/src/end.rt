@@ -7,8 +7,9 @@ ghost use Rattle.dr_pdu.specs.Written.{Fits};
 ghost use Rattle.dr_pdu.specs.declared.pdu.Pdu.TheVariants as pdus;
 ghost use Rattle.dr_session.specs.Ends.{accepting, requesting, requesting_echo, begins};
 ghost use Rattle.dr_session.specs.Ends.{unmarked as no_marks, OpensTo, Meets, HearsOf, HearsBytes};
-ghost use Rattle.dr_session.specs.Ends.{LosesIn, TakesCore, TakesFree, EchoesIn, is_free_in};
-ghost use Rattle.dr_session.specs.Ends.{is_dry_in, state_in, over_of, ended_by};
+ghost use Rattle.dr_session.specs.Ends.{CrowdsIn, LosesIn, TakesCore, TakesFree, EchoesIn};
+ghost use Rattle.dr_session.specs.Ends.{is_free_in};
+ghost use Rattle.dr_session.specs.Ends.{is_dry_in, state_in, over_of, ended_by, idle_in};
 ghost use Rattle.dr_session.specs.Pendings.{pending_in};
 ghost use Rattle.dr_session.specs.Reactions.{write};
 
@@ -197,7 +198,9 @@ impl End {
     }
 
     /// What comes over the link at a moment (of at most 2^62 milliseconds), while the node has so
-    /// many other associations open.
+    /// many other associations open. Where the other side was silent for too long, an A-ABORT is
+    /// written (PS3.8 9.3.8). Where there is no room for more of a data set, what came of it is let
+    /// go, and it will be answered as one that is too large (A700H, PS3.4 B.2.3).
     ///
     /// Errors: AllocError, after which it is over; some of the first calls may have been made.
     pub fn hear<P: DeskPort>(
@@ -214,7 +217,20 @@ impl End {
             Heard::End => self.meet(Input::Ended, port, at),
             Heard::Fault => self.meet(Input::Ended, port, at),
             Heard::Late => self.meet(Input::Late, port, at),
+            Heard::Idle => self.meet(self.idle_input(), port, at),
+            Heard::Crowded => Ok(self.let_data_go()),
             Heard::Memory => self.lose(),
+        }
+    }
+
+    /// What it does where the other side was silent for too long: the local user aborts; where
+    /// there is no association to abort, it only looks at its timer.
+    fn idle_input(&self) -> Input
+        ensures { result ≡ idle_in (state_in self.now.core) }
+    {
+        match self.state() {
+            State::Sta2 | State::Sta13 => Input::Late,
+            _ => Input::AbortAsked,
         }
     }
 
@@ -304,6 +320,17 @@ impl End {
             return None;
         }
         self.core.take()
+    }
+
+    /// There is no room for more of the data set that is under way.
+    fn let_data_go(&mut self) -> Seq<LinkAction>
+        ensures { CrowdsIn self.old.core self.old (Ok result) self.new }
+    {
+        let Some(core) = self.take_core() else {
+            return Seq::new(self.alloc);
+        };
+        self.put(core.let_data_go());
+        Seq::new(self.alloc)
     }
 
     /// The link had no memory for what came.

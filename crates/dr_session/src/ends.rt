@@ -88,6 +88,10 @@ pub enum Heard {
     End,
     /// Nothing came for as long as the link waits.
     Late,
+    /// The other side was silent for too long, or brought too little of what it had begun.
+    Idle,
+    /// There is no room for more of the data set that is under way.
+    Crowded,
     /// The link failed.
     Fault,
     /// There was no memory for what came.

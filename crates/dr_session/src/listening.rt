@@ -1,6 +1,6 @@
 //! The messages that an end is hearing, with the scans of their data sets.
 ghost use Rattle.std.specs.Prelude.{◌≡◌, IfOk, IfSome};
-ghost use Rattle.dr_dimse.specs.Taking.{Idle, Takes};
+ghost use Rattle.dr_dimse.specs.Taking.{Idle, Takes, let_go};
 ghost use Rattle.dr_dimse.specs.Written.{Fits};
 ghost use Rattle.dr_dimse_scan.specs.Stores.{HasScan, message_of};
 
@@ -45,6 +45,14 @@ impl Listener {
         ensures { self.new ≡ record { awaited = awaited; stage = self.old.stage } }
     {
         self.hearing.set_awaited(awaited);
+    }
+
+    /// Lets the bytes of the data set that is under way go, if one is.
+    pub fn let_data_go(&mut self)
+        ensures { self.new
+            ≡ record { awaited = self.old.awaited; stage = let_go self.old.stage } }
+    {
+        self.hearing.let_data_go();
     }
 
     /// One more value, as the assembly takes it, of a context with that transfer syntax. The

@@ -169,6 +169,7 @@ module _ (base : Trees) (goals : List Goal) (listed : Lists goal_cmp (goals_of b
   line_is n (note.Repeat caller instance) line is = is
   line_is n (note.Settling uid dest outcome now) line is = is
   line_is n (note.Requeuing uid dest) line is = is
+  line_is n (note.Dropping uid dest now) line is = is
   line_is n (note.Forgetting uid) line is = is
   line_is n note.Adoption line is = is
 

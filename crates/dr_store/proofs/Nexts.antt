@@ -8,7 +8,7 @@ use Rattle.dr_site.specs.Parts.{Part}
 use Rattle.dr_ledger.specs.declared.content.Job.{Job}
 use Rattle.dr_ledger.specs.declared.item.Instance.{Instance}
 use Rattle.dr_ledger.specs.declared.item.Progress.{Progress}
-use Rattle.dr_ledger.specs.declared.item.Progress.TheVariants.{Waiting, Done}
+use Rattle.dr_ledger.specs.declared.item.Progress.TheVariants.{Waiting}
 use Rattle.dr_ledger.specs.Bodies.{IsNeeded, NextsWith}
 use Rattle.dr_ledger.specs.Items.{instance_of}
 use Rattle.dr_ledger.specs.Replies.{IsDue, IsNoLater}
@@ -17,9 +17,6 @@ use Rattle.dr_store_schema.specs.Books.{bodies_of, book_of, contents_in, instanc
 use Rattle.dr_store_changes.proofs.LettingGo.{body_at}
 use Rattle.dr_store_reads.specs.Queries.{IsFirstDue, IsJobOf}
 use Rattle.dr_store_calls.specs.Calling.{IsLedgerOf}
-
-waits_still : (tries due : ℕ) → Waiting tries due ≢ Done
-waits_still tries due e = let f : ⊥ = cc in f
 
 the_body : (w : Bool) (o : Option (List ℕ)) (body content : List ℕ) → o ≡ Some content → cond w o None ≡ Some body → body ≡ content
 the_body true o body content is h = inside body content (sym h ∙ is)
@@ -30,7 +27,7 @@ pub next_is : (n : ℕ) (part : Part) (db : Trees) (dest : Text) (now : ℕ) (ui
 next_is n part db dest now uid job l first (uid_is, has, content) =
     let due = first.0 in
     let row = first.1.0 in
-    let needed : IsNeeded (book_of db) uid = inr (dest, Waiting row.0 due, row.1, waits_still row.0 due) in
+    let needed : IsNeeded (book_of db) uid = inr (dest, Waiting row.0 due, row.1, refl) in
     let there = (l.bodied.there uid).1 needed in
     let body : there.0 ≡ job.body = the_body (is_whole (map.get (wholes_in (db 3)) uid)) (map.get (contents_in (db 1)) uid) there.0 job.body content (sym (body_at (contents_in (db 1)) (wholes_in (db 3)) uid) ∙ there.1) in
     let own = l.bodied.own uid there.0 there.1 in

@@ -29,11 +29,11 @@ use Rattle.dr_ledger.specs.declared.item.Arrived.TheVariants.{New, Again}
 use Rattle.dr_ledger.specs.declared.item.Instance.{Instance}
 use Rattle.dr_ledger.specs.declared.item.Outcome.{Outcome}
 use Rattle.dr_ledger.specs.declared.item.Progress.{Progress}
-use Rattle.dr_ledger.specs.declared.item.Progress.TheVariants.{Waiting, Held, Done}
+use Rattle.dr_ledger.specs.declared.item.Progress.TheVariants.{Waiting, Held, Done, Dropped}
 use Rattle.dr_ledger.specs.Adopting.{Adopting}
 use Rattle.dr_ledger.specs.Bodies.{Bodies, OnlyLetsGo, OnlyTakes}
 use Rattle.dr_ledger.specs.Books.{Book}
-use Rattle.dr_ledger.specs.Replies.{Admits, Arrives, Forgets, HasConflict, IsAdmitted, IsHeld, IsOver, IsWaiting, Requeues, Settles}
+use Rattle.dr_ledger.specs.Replies.{Admits, Arrives, Drops, Forgets, HasConflict, IsAdmitted, IsHeld, IsOver, IsWaiting, Requeues, Settles}
 use Rattle.dr_ledger.specs.SiteRoutes.{site_routing}
 use Rattle.dr_ledger.proofs.Growing.{inside}
 use Rattle.dr_store_calls.specs.Knowing.{IsAccepted}
@@ -204,6 +204,7 @@ module _ (b : Book) (uid dest : Text) where
       go (Some (Waiting tries due)) is h = (tries, due, is)
       go (Some (Held why)) is h = absurd (nothing impossible h (λ w. absurd (let e : Some (Held why) ≡ Some (Waiting w.0 w.1) = sym is ∙ w.2 in cc)))
       go (Some Done) is h = absurd (nothing impossible h (λ w. absurd (let e : Some Done ≡ Some (Waiting w.0 w.1) = sym is ∙ w.2 in cc)))
+      go (Some Dropped) is h = absurd (nothing impossible h (λ w. absurd (let e : Some Dropped ≡ Some (Waiting w.0 w.1) = sym is ∙ w.2 in cc)))
 
   pub is_held : Stable (IsHeld b uid dest)
   is_held = go (map.get b.rows (uid, dest)) refl
@@ -213,6 +214,7 @@ module _ (b : Book) (uid dest : Text) where
       go (Some (Waiting tries due)) is h = absurd (nothing impossible h (λ w. absurd (let e : Some (Waiting tries due) ≡ Some (Held w.0) = sym is ∙ w.1 in cc)))
       go (Some (Held why)) is h = (why, is)
       go (Some Done) is h = absurd (nothing impossible h (λ w. absurd (let e : Some Done ≡ Some (Held w.0) = sym is ∙ w.1 in cc)))
+      go (Some Dropped) is h = absurd (nothing impossible h (λ w. absurd (let e : Some Dropped ≡ Some (Held w.0) = sym is ∙ w.1 in cc)))
 
 pub settles : (uid dest : Text) (outcome : Outcome) (now : ℕ) (old : Book) (r : Result (Unit {0}) LedgerFault) (new : Book) → Stable (Settles uid dest outcome now old r new)
 settles uid dest outcome now old (Ok done) new = both (waits old uid dest) (same_book _ _)
@@ -234,6 +236,16 @@ requeues uid dest old (Err fault.NoLine) new = impossible
 requeues uid dest old (Err fault.Conflict) new = impossible
 requeues uid dest old (Err fault.NotWaiting) new = impossible
 
+pub drops : (uid dest : Text) (now : ℕ) (old : Book) (r : Result (Unit {0}) LedgerFault) (new : Book) → Stable (Drops uid dest now old r new)
+drops uid dest now old (Ok done) new = both (is_held old uid dest) (same_book _ _)
+drops uid dest now old (Err fault.NotHeld) new = both never (same_book _ _)
+drops uid dest now old (Err fault.NotOver) new = impossible
+drops uid dest now old (Err fault.Store) new = same_book _ _
+drops uid dest now old (Err fault.Memory) new = same_book _ _
+drops uid dest now old (Err fault.NoLine) new = impossible
+drops uid dest now old (Err fault.Conflict) new = impossible
+drops uid dest now old (Err fault.NotWaiting) new = impossible
+
 -- ---- what is over
 
 module _ (b : Book) (uid : Text) where
@@ -241,16 +253,11 @@ module _ (b : Book) (uid : Text) where
   item_there None is h = absurd (nothing impossible h (λ t. absurd (let e : None ≡ Some t.0 = sym is ∙ t.1 in cc)))
   item_there (Some item) is h = (item, is)
 
-  row_done : (row : Progress) → Stable (row ≡ Done)
-  row_done (Waiting tries due) h = absurd (nothing impossible h (λ e. absurd (let f : ⊥ = cc in f)))
-  row_done (Held why) h = absurd (nothing impossible h (λ e. absurd (let f : ⊥ = cc in f)))
-  row_done Done h = refl
-
   is_over : Stable (IsOver b uid)
   is_over h = record {
     there = item_there (map.get b.items uid) refl (∥∥₁_map h (λ o. o.there));
     unkept = of_prop (Bool-set _ _) (∥∥₁_map h (λ o. o.unkept));
-    done = each (λ dest. each (λ row. each (λ at. row_done row))) (∥∥₁_map h (λ o. o.done));
+    unqueued = each (λ dest. each (λ row. each (λ at. of_prop (Bool-set _ _)))) (∥∥₁_map h (λ o. o.unqueued));
   }
 
   -- whether it is

@@ -18,7 +18,7 @@ use Rattle.dr_ledger.specs.contracts.item.Instance as instance_row
 use Rattle.dr_ledger.specs.contracts.item.Outcome as outcome_row
 use Rattle.dr_ledger.specs.contracts.item.Progress as progress_row
 use Rattle.dr_ledger.specs.Bodies.{Bodies}
-use Rattle.dr_ledger.specs.Books.{Book, Line, Arrival, Repeat, Settling, Requeuing, Forgetting, Adoption}
+use Rattle.dr_ledger.specs.Books.{Book, Line, Arrival, Repeat, Settling, Requeuing, Dropping, Forgetting, Adoption}
 use Rattle.dr_ledger.specs.Pairs.{Pair, pair_cmp}
 
 pub coded_text : Coded Text
@@ -45,36 +45,39 @@ coded_pair = coded× coded_text coded_text
 -- ---- lines
 
 abbrev Parts : Type 0
-Parts = (Text × (Instance × (List Text × Bool))) ⊎ ((Text × Instance) ⊎ ((Text × (Text × (Outcome × ℕ))) ⊎ ((Text × Text) ⊎ (Text ⊎ Unit {0}))))
+Parts = (Text × (Instance × (List Text × Bool))) ⊎ ((Text × Instance) ⊎ ((Text × (Text × (Outcome × ℕ))) ⊎ ((Text × Text) ⊎ ((Text × (Text × ℕ)) ⊎ (Text ⊎ Unit {0})))))
 
 abbrev split : Line → Parts
 split (Arrival caller item to keep) = inl (caller, (item, (to, keep)))
 split (Repeat caller item) = inr (inl (caller, item))
 split (Settling uid dest outcome now) = inr (inr (inl (uid, (dest, (outcome, now)))))
 split (Requeuing uid dest) = inr (inr (inr (inl (uid, dest))))
-split (Forgetting uid) = inr (inr (inr (inr (inl uid))))
-split Adoption = inr (inr (inr (inr (inr tt))))
+split (Dropping uid dest now) = inr (inr (inr (inr (inl (uid, (dest, now))))))
+split (Forgetting uid) = inr (inr (inr (inr (inr (inl uid)))))
+split Adoption = inr (inr (inr (inr (inr (inr tt)))))
 
 abbrev join : Parts → Line
 join (inl p) = Arrival p.0 p.1.0 p.1.1.0 p.1.1.1
 join (inr (inl p)) = Repeat p.0 p.1
 join (inr (inr (inl p))) = Settling p.0 p.1.0 p.1.1.0 p.1.1.1
 join (inr (inr (inr (inl p)))) = Requeuing p.0 p.1
-join (inr (inr (inr (inr (inl uid))))) = Forgetting uid
-join (inr (inr (inr (inr (inr p))))) = Adoption
+join (inr (inr (inr (inr (inl p))))) = Dropping p.0 p.1.0 p.1.1
+join (inr (inr (inr (inr (inr (inl uid)))))) = Forgetting uid
+join (inr (inr (inr (inr (inr (inr p)))))) = Adoption
 
 back : (line : Line) → join (split line) ≡ line
 back (Arrival caller item to keep) = refl
 back (Repeat caller item) = refl
 back (Settling uid dest outcome now) = refl
 back (Requeuing uid dest) = refl
+back (Dropping uid dest now) = refl
 back (Forgetting uid) = refl
 back Adoption = refl
 
 pub coded_line : Coded Line
 coded_line = code_by Parts
     (coded⊎ (coded× coded_text (coded× coded_instance (coded× (coded_list coded_text) coded_bool)))
-    (coded⊎ (coded× coded_text coded_instance) (coded⊎ (coded× coded_text (coded× coded_text (coded× coded_outcome coded_ℕ))) (coded⊎ (coded× coded_text coded_text) (coded⊎ coded_text coded_unit)))))
+    (coded⊎ (coded× coded_text coded_instance) (coded⊎ (coded× coded_text (coded× coded_text (coded× coded_outcome coded_ℕ))) (coded⊎ (coded× coded_text coded_text) (coded⊎ (coded× coded_text (coded× coded_text coded_ℕ)) (coded⊎ coded_text coded_unit))))))
     split join back
 
 -- ---- books

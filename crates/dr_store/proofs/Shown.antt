@@ -14,11 +14,11 @@ use Rattle.dr_base.specs.Texts.{Text, text_cmp}
 use Rattle.dr_ledger.specs.declared.content.Job.{Job}
 use Rattle.dr_ledger.specs.declared.item.Instance.{Instance}
 use Rattle.dr_ledger.specs.declared.item.Progress.{Progress}
-use Rattle.dr_ledger.specs.declared.item.Progress.TheVariants.{Waiting, Held, Done}
+use Rattle.dr_ledger.specs.declared.item.Progress.TheVariants.{Waiting, Held, Done, Dropped}
 use Rattle.dr_ledger.specs.Bodies.{Bodies, NextsWith}
 use Rattle.dr_ledger.specs.Books.{Book}
 use Rattle.dr_ledger.specs.Items.{instance_of}
-use Rattle.dr_ledger.specs.Replies.{AreKept, IsDue, IsNext, Lists}
+use Rattle.dr_ledger.specs.Replies.{AreKept, Dues, IsDue, IsNext, Lists}
 use Rattle.dr_ledger.proofs.Growing.{inside}
 use Rattle.dr_store.proofs.Sets.{coded_instance, coded_text}
 use Rattle.dr_store.proofs.Stable.{Stable, both, by_code, each, is_in, never, of_dec, of_prop, tested}
@@ -33,6 +33,7 @@ moment tries due None = due
 moment tries due (Some (Waiting t d)) = d
 moment tries due (Some (Held why)) = due
 moment tries due (Some Done) = due
+moment tries due (Some Dropped) = due
 
 is_next : (b : Book) (dest : Text) (now : ℕ) (item : Instance) → Stable (IsNext b dest now item)
 is_next b dest now item = go (map.get b.rows (item.uid, dest)) refl
@@ -41,6 +42,7 @@ is_next b dest now item = go (map.get b.rows (item.uid, dest)) refl
     go None is h = absurd (impossible (∥∥₁_map h (λ n. let e : None ≡ Some (Waiting n.row.0.0 n.due) = sym is ∙ n.row.0.1 in absurd (let f : ⊥ = cc in f))))
     go (Some (Held why)) is h = absurd (impossible (∥∥₁_map h (λ n. let e : Some (Held why) ≡ Some (Waiting n.row.0.0 n.due) = sym is ∙ n.row.0.1 in absurd (let f : ⊥ = cc in f))))
     go (Some Done) is h = absurd (impossible (∥∥₁_map h (λ n. let e : Some Done ≡ Some (Waiting n.row.0.0 n.due) = sym is ∙ n.row.0.1 in absurd (let f : ⊥ = cc in f))))
+    go (Some Dropped) is h = absurd (impossible (∥∥₁_map h (λ n. let e : Some Dropped ≡ Some (Waiting n.row.0.0 n.due) = sym is ∙ n.row.0.1 in absurd (let f : ⊥ = cc in f))))
     go (Some (Waiting tries due)) is h =
         let same : (n : IsNext b dest now item) → n.due ≡ due = λ n. ap (moment tries due) (sym n.row.0.1 ∙ is) in
         record {
@@ -53,6 +55,26 @@ is_next b dest now item = go (map.get b.rows (item.uid, dest)) refl
 pub nexts : (b : Book) (bodies : Bodies) (dest : Text) (now : ℕ) (job : Option Job) → Stable (NextsWith b bodies dest now job)
 nexts b bodies dest now None = each (λ uid. each (λ due. never))
 nexts b bodies dest now (Some job) = both (is_next b dest now (instance_of job)) (by_code (coded_option (coded_list coded_ℕ)) (map.get bodies job.uid) (Some job.body))
+
+module _ (b : Book) (dest : Text) (now : ℕ) (uid : Text) where
+  is_first : Stable (Dues b dest now (Some uid))
+  is_first = go (map.get b.rows (uid, dest)) refl
+    where
+      go : (o : Option Progress) → map.get b.rows (uid, dest) ≡ o → Stable (Dues b dest now (Some uid))
+      go None is h = absurd (impossible (∥∥₁_map h (λ n. let e : None ≡ Some (Waiting n.1.0.0 n.0) = sym is ∙ n.1.0.1 in absurd (let f : ⊥ = cc in f))))
+      go (Some (Held why)) is h = absurd (impossible (∥∥₁_map h (λ n. let e : Some (Held why) ≡ Some (Waiting n.1.0.0 n.0) = sym is ∙ n.1.0.1 in absurd (let f : ⊥ = cc in f))))
+      go (Some Done) is h = absurd (impossible (∥∥₁_map h (λ n. let e : Some Done ≡ Some (Waiting n.1.0.0 n.0) = sym is ∙ n.1.0.1 in absurd (let f : ⊥ = cc in f))))
+      go (Some Dropped) is h = absurd (impossible (∥∥₁_map h (λ n. let e : Some Dropped ≡ Some (Waiting n.1.0.0 n.0) = sym is ∙ n.1.0.1 in absurd (let f : ⊥ = cc in f))))
+      go (Some (Waiting tries due)) is h =
+          let same : (n : Dues b dest now (Some uid)) → n.0 ≡ due = λ n. ap (moment tries due) (sym n.1.0.1 ∙ is) in (
+            due,
+            ((tries, is), of_prop le_prop (∥∥₁_map h (λ n. subst (λ d. d ≤ now) (same n) n.1.1))),
+            λ other soon due_too later. impossible (∥∥₁_map h (λ n. n.2 other soon due_too (subst (λ d. ordering_then (nat_cmp d soon) (text_cmp uid other) ≡ Greater) (sym (same n)) later))),
+          )
+
+pub dues : (b : Book) (dest : Text) (now : ℕ) (uid : Option Text) → Stable (Dues b dest now uid)
+dues b dest now None = each (λ uid. each (λ due. never))
+dues b dest now (Some uid) = is_first b dest now uid
 
 -- ---- lists
 

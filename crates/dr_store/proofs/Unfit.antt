@@ -1,5 +1,5 @@
 -- The first unfit row of a book, by its rows and keys.
-use Rattle.std.proofs.Common.{◌≡◌, ◌≢◌, ◌⊎◌, inl, inr, ℕ, ◌+◌, ◌<◌, List, length, get_or, take, All, None, Some, Option, option_map, Bool, true, false, T, Result, Ok, Err, get_or-take, length-take-le, refl, sym, ap, subst, ◌∙◌, arith}
+use Rattle.std.proofs.Common.{◌≡◌, ◌≢◌, ◌⊎◌, inl, inr, ℕ, ◌+◌, ◌<◌, List, length, get_or, take, All, None, Some, Option, option_map, Bool, true, false, T, Result, Ok, Err, get_or-take, length-take-le, refl, sym, ap, subst, ◌∙◌, true≢false, arith}
 use Rattle.std.specs.declared.cmp.Ordering.{Ordering}
 use Rattle.std.specs.declared.cmp.Ordering.TheVariants.{Less, Equal, Greater}
 use Rattle.std.specs.FinMap as map
@@ -14,7 +14,7 @@ use Rattle.dr_ledger.specs.declared.fault.LedgerFault.{LedgerFault}
 use Rattle.dr_ledger.specs.declared.fault.LedgerFault.TheVariants as fault
 use Rattle.dr_ledger.specs.declared.item.Instance.{Instance}
 use Rattle.dr_ledger.specs.declared.item.Progress.{Progress}
-use Rattle.dr_ledger.specs.declared.item.Progress.TheVariants.{Waiting, Held, Done}
+use Rattle.dr_ledger.specs.Books.{is_queued}
 use Rattle.dr_ledger.specs.Adopting.{IsUnfit, Unfits}
 use Rattle.dr_ledger.specs.Pairs.{Pair, pair_cmp}
 use Rattle.dr_ledger.specs.Replies.{LastsAfter, Reads}
@@ -24,20 +24,10 @@ use Rattle.dr_store_schema.specs.Books.{book_of, instance_by, items_of, prints_o
 use Rattle.dr_store_lists.specs.Lists.{keys_of}
 use Rattle.dr_store_lists.proofs.Alike.{keys_and_prints}
 use Rattle.dr_store_calls.proofs.Reading.{reads_as, same_fault}
-use Rattle.dr_store.specs.Listing.{FitsAmong, IsOfKey, IsUnfitRow, UnfitsAmong, UnfitsOf, is_open_at}
+use Rattle.dr_store.specs.Listing.{FitsAmong, IsOfKey, IsUnfitRow, UnfitsAmong, UnfitsOf}
 use Rattle.dr_store.proofs.Among.{order_of, place_of, rise_at}
 use Rattle.dr_store.proofs.Found.{found_at}
 use Rattle.dr_store.proofs.Looks.{lasts_any}
-
-is_undone : (row : Progress) → is_open_at row ≡ true → row ≢ Done
-is_undone (Waiting tries due) h e = let f : ⊥ = cc in f
-is_undone (Held why) h e = let f : ⊥ = cc in f
-is_undone Done h e = let f : ⊥ = cc in f
-
-not_closed : (row : Progress) → row ≢ Done → is_open_at row ≡ false → ⊥
-not_closed (Waiting tries due) undone h = let f : ⊥ = cc in f
-not_closed (Held why) undone h = let f : ⊥ = cc in f
-not_closed Done undone h = undone refl
 
 key_in : (o : Option Key) (key : Key) (item : Instance) (by : Key → Instance) → ((k : Key) → (by k).key ≡ k) → o ≡ Some key → option_map by o ≡ Some item → item.key ≡ key
 key_in None key item by own is h = absurd (let f : ⊥ = cc in f)
@@ -71,9 +61,9 @@ module _ (next : Network) (name : Text) (base : Trees) where
   stands at row there = place_of text_pairs at row Rows (sym (map.get-entries (rows_of base) at) ∙ there)
 
   -- where the row at a place fits, the plan goes on with it
-  goes_on : (at : Pair) (row : Progress) (item : Instance) → FitsAmong next name Keys (at, row) → row ≢ Done → map.get (items_of base) at.0 ≡ Some item → IsReached next item.key name at.1
-  goes_on at row item (inl done) undone there = absurd (not_closed row undone done)
-  goes_on at row item (inr (key, (of, reached))) undone there = subst (λ k. IsReached next k name at.1) (sym (its_key at.0 key item of there)) reached
+  goes_on : (at : Pair) (row : Progress) (item : Instance) → FitsAmong next name Keys (at, row) → is_queued row ≡ true → map.get (items_of base) at.0 ≡ Some item → IsReached next item.key name at.1
+  goes_on at row item (inl over) queued there = absurd (true≢false (sym queued ∙ over))
+  goes_on at row item (inr (key, (of, reached))) queued there = subst (λ k. IsReached next k name at.1) (sym (its_key at.0 key item of there)) reached
 
   none_unfit : All (FitsAmong next name Keys) Rows → Unfits next name (book_of base) None
   none_unfit all at row item there undone has =
@@ -108,7 +98,7 @@ module _ (next : Network) (name : Text) (base : Trees) where
     its_item = (keys_and_prints base).items at.0 ∙ ap (option_map (instance_by (prints_of base) at.0)) (found_key at.0 unfit.1.0 unfit.1.1.0)
 
     is_unfit : IsUnfit next name (book_of base) at
-    is_unfit = (Its, instance_by (prints_of base) at.0 unfit.1.0, its_row, is_undone Its unfit.0, its_item, unfit.1.1.1)
+    is_unfit = (Its, instance_by (prints_of base) at.0 unfit.1.0, its_row, unfit.0, its_item, unfit.1.1.1)
 
     least : (other : Pair) → IsUnfit next name (book_of base) other → pair_cmp at other ≢ Greater
     least other v =
@@ -124,7 +114,7 @@ module _ (next : Network) (name : Text) (base : Trees) where
         by_place row j lt is misfit (inr (inl same)) = not_above (pair_cmp at other) (subst (λ p. pair_cmp at p ≡ Equal) (ap (λ (e : Pair × Progress). e.0) (sym (here (at, Its)) ∙ ap (λ n. get_or Rows n (at, Its)) (sym same) ∙ is (at, Its))) (tied_itself text_pairs.total at))
         by_place row j lt is misfit (inr (inr later)) = not_greater (pair_cmp at other) (subst (λ (e : Pair × Progress). pair_cmp at e.0 ≡ Less) (is (at, Its)) (subst (λ (e : Pair × Progress). pair_cmp e.0 (get_or Rows j (at, Its)).0 ≡ Less) (here (at, Its)) (rise_at pair_cmp Rows Place j (at, Its) rows_sorted later lt)))
 
-        go : (row : Progress) (item : Instance) (j : ℕ) → j < length Rows → ((d : Pair × Progress) → get_or Rows j d ≡ (other, row)) → row ≢ Done → map.get (items_of base) other.0 ≡ Some item → (IsReached next item.key name other.1 → ⊥) → pair_cmp at other ≢ Greater
+        go : (row : Progress) (item : Instance) (j : ℕ) → j < length Rows → ((d : Pair × Progress) → get_or Rows j d ≡ (other, row)) → is_queued row ≡ true → map.get (items_of base) other.0 ≡ Some item → (IsReached next item.key name other.1 → ⊥) → pair_cmp at other ≢ Greater
         go row item j lt is undone there away = by_place row j lt is (λ fits. away (goes_on other row item fits undone there)) (order_of j Place)
 
     pub some_unfit : Unfits next name (book_of base) (Some at)

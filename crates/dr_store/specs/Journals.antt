@@ -47,6 +47,7 @@ IsEntry goals n (note.Repeat caller instance) line =
 IsEntry goals n (note.Settling uid dest outcome now) line =
     line ≡ entry.Settling uid dest outcome now
 IsEntry goals n (note.Requeuing uid dest) line = line ≡ entry.Requeuing uid dest
+IsEntry goals n (note.Dropping uid dest now) line = line ≡ entry.Dropping uid dest now
 IsEntry goals n (note.Forgetting uid) line = line ≡ entry.Forgetting uid
 IsEntry goals n note.Adoption line = line ≡ entry.Adoption
 

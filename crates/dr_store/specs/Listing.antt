@@ -10,7 +10,7 @@ use Rattle.dr_plan_model.specs.Walks.{IsReached}
 use Rattle.dr_route.specs.declared.key.Key.{Key}
 use Rattle.dr_ledger.specs.declared.fault.LedgerFault.{LedgerFault}
 use Rattle.dr_ledger.specs.declared.item.Progress.{Progress}
-use Rattle.dr_ledger.specs.declared.item.Progress.TheVariants.{Waiting, Held, Done}
+use Rattle.dr_ledger.specs.Books.{is_queued}
 use Rattle.dr_ledger.specs.Pairs.{Pair}
 use Rattle.dr_ledger.specs.Replies.{Reads}
 use Rattle.dr_store_reads.specs.declared.finding.Print.{Print}
@@ -38,26 +38,20 @@ AreSized prints = AllZip (IsSized prints)
 
 -- ---- unfit rows
 
--- whether what is at this point of its way isn't done
-abbrev pub is_open_at : Progress → Bool
-is_open_at (Waiting tries due) = true
-is_open_at (Held why) = true
-is_open_at Done = false
-
 -- the instance of the uid is known by this key, where keys rise by their uids
 abbrev pub IsOfKey : List (Text × Key) → Text → Key → Type 0
 IsOfKey keys uid key = T (is_sorted text_cmp keys) → find text_cmp uid keys ≡ Some key
 
--- the row is done, or the next plan goes on with it
+-- the row is over, or the next plan goes on with it
 abbrev pub FitsAmong : Network → Text → List (Text × Key) → Pair × Progress → Type 0
 FitsAmong next name keys row =
-    (is_open_at row.1 ≡ false)
+    (is_queued row.1 ≡ false)
     ⊎ ((key : Key) × (IsOfKey keys row.0.0 key × IsReached next key name row.0.1))
 
--- the row isn't done, and the next plan doesn't go on with it
+-- the row is still queued, and the next plan doesn't go on with it
 abbrev pub IsUnfitRow : Network → Text → List (Text × Key) → Pair × Progress → Type 0
 IsUnfitRow next name keys row =
-    (is_open_at row.1 ≡ true)
+    (is_queued row.1 ≡ true)
     × ((key : Key) × (IsOfKey keys row.0.0 key × (IsReached next key name row.0.1 → ⊥)))
 
 abbrev pub IsUnfitAmong : Network → Text → List (Text × Key) → Pair × Progress → Bool → Type 0

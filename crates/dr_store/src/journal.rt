@@ -13,7 +13,7 @@ ghost use Rattle.dr_store_calls.specs.Calling.{Looked};
 ghost use Rattle.dr_store.specs.Journals.{AreEntries, AreGoalsOf, AreTargets, IsEntry, is_mark};
 
 use dr_base::{Seq, Text};
-use dr_ledger::{Entry, Instance, LedgerFault};
+use dr_ledger::{Entry, Instance, LedgerFault, Outcome};
 use dr_route::Key;
 use dr_store_lists::{Note, all_notes, all_targets};
 use sqlite::{Alter, Connection};
@@ -162,6 +162,29 @@ fn repeat_line(caller: &Text, instance: &Instance) -> Result<Entry, AllocError>
     })
 }
 
+/// The line of a settling.
+fn settling_line(uid: &Text, dest: &Text, outcome: Outcome, now: u64) -> Result<Entry, AllocError>
+    ensures { IfOk result (λ line. line ≡ Entry.Settling uid.now dest.now outcome now) }
+{
+    let uid = uid.clone()?;
+    let dest = dest.clone()?;
+    Ok(Entry::Settling {
+        uid,
+        dest,
+        outcome,
+        now,
+    })
+}
+
+/// The line of a dropping.
+fn dropping_line(uid: &Text, dest: &Text, now: u64) -> Result<Entry, AllocError>
+    ensures { IfOk result (λ line. line ≡ Entry.Dropping uid.now dest.now now) }
+{
+    let uid = uid.clone()?;
+    let dest = dest.clone()?;
+    Ok(Entry::Dropping { uid, dest, now })
+}
+
 /// The line of a note, with where it goes on to.
 fn line_of_note(
     alloc: Global,
@@ -184,19 +207,17 @@ fn line_of_note(
             outcome,
             now,
         } => {
-            let uid = uid.clone()?;
-            let dest = dest.clone()?;
-            Ok(Entry::Settling {
-                uid,
-                dest,
-                outcome: *outcome,
-                now: *now,
-            })
+            let line = settling_line(uid, dest, *outcome, *now)?;
+            Ok(line)
         }
         Note::Requeuing { uid, dest } => {
             let uid = uid.clone()?;
             let dest = dest.clone()?;
             Ok(Entry::Requeuing { uid, dest })
+        }
+        Note::Dropping { uid, dest, now } => {
+            let line = dropping_line(uid, dest, *now)?;
+            Ok(line)
         }
         Note::Forgetting { uid } => {
             let uid = uid.clone()?;

@@ -5,7 +5,7 @@ ghost use Rattle.sqlite.specs.State.{HasCleanDisk};
 ghost use Rattle.dr_ledger.specs.Adopting.{Adopting, site_after};
 ghost use Rattle.dr_ledger.specs.Bodies.{OnlyLetsGo, OnlyTakes};
 ghost use Rattle.dr_ledger.specs.Items.{instance_of};
-ghost use Rattle.dr_ledger.specs.Replies.{Arrives, Counts, Forgets, Requeues, Settles};
+ghost use Rattle.dr_ledger.specs.Replies.{Arrives, Counts, Drops, Forgets, Requeues, Settles};
 ghost use Rattle.dr_ledger.specs.SiteRoutes.{site_routing};
 ghost use Rattle.dr_store_schema.specs.Books.{bodies_of, book_of};
 ghost use Rattle.dr_store_calls.specs.Calling.{IsKept, IsSafe};
@@ -16,12 +16,12 @@ ghost use Rattle.dr_store.specs.Surviving.{Wrote};
 use crate::counting::{counted, next_after};
 use crate::journal::list_lines;
 use crate::listing::{first_unfit, list_arrivals, list_kept, list_rows, list_rows_and_keys};
-use crate::reading::{admit, has_data_set, has_item, next_job};
+use crate::reading::{admit, due_row, has_data_set, has_item, next_job};
 use dr_base::{Seq, Text};
 use dr_cert::Sealed;
 use dr_ledger::{Arrived, Entry, Item, Job, Ledger, LedgerFault, LetsGo, Outcome, Progress};
 use dr_site::Site;
-use dr_store_calls::{adopt, arrive, forget, is_over, requeue, settle};
+use dr_store_calls::{adopt, arrive, forget, give_up, is_over, requeue, settle};
 use dr_store_reads::find_row;
 use sqlite::{Alter, Connection};
 use std::alloc::Global;
@@ -135,6 +135,23 @@ impl<S: Alter> SqlLedger<S> {
         answer
     }
 
+    /// Drops a held row, as `LetsGo::give_up` says, and survives a crash at any moment.
+    pub fn give_up_in(&mut self, uid: &Text, dest: &Text, now: u64) -> Result<(), LedgerFault>
+        requires { now ≤ 2 ^ 62 }
+        ensures wrote { Wrote result (state S.Store self.old.conn) (state S.Store self.new.conn)
+            (λ base db. Drops uid.now dest.now now (book_of base) result (book_of db)
+            × OnlyLetsGo (bodies_of base) (bodies_of db))
+            (λ old new. Drops uid.now dest.now now old (Ok tt) new) }
+        ensures counted { self.new.failures ≡ failures_after result self.old.failures }
+        ensures counts { Counts result self.old.failures self.new.failures }
+        ensures site { self.new.site ≡ self.old.site }
+    {
+        let answer = give_up(&mut self.conn, self.next, uid, dest, now);
+        self.next = next_after(&answer, self.next);
+        self.failures = counted(&answer, self.failures);
+        answer
+    }
+
     /// Forgets an instance that is over, as `LetsGo::forget` says, and survives a crash at any
     /// moment.
     pub fn forget_in(&mut self, uid: &Text) -> Result<(), LedgerFault>
@@ -213,6 +230,12 @@ impl<S: Alter> Ledger for SqlLedger<S> {
 
     fn next(&mut self, dest: &Text, now: u64) -> Result<Option<Job>, LedgerFault> {
         let answer = next_job(&mut self.conn, self.alloc, dest, now);
+        self.failures = counted(&answer, self.failures);
+        answer
+    }
+
+    fn due(&mut self, dest: &Text, now: u64) -> Result<Option<Text>, LedgerFault> {
+        let answer = due_row(&mut self.conn, self.alloc, dest, now);
         self.failures = counted(&answer, self.failures);
         answer
     }
@@ -300,6 +323,10 @@ impl<S: Alter> Ledger for SqlLedger<S> {
 }
 
 impl<S: Alter> LetsGo for SqlLedger<S> {
+    fn give_up(&mut self, uid: &Text, dest: &Text, now: u64) -> Result<(), LedgerFault> {
+        self.give_up_in(uid, dest, now)
+    }
+
     fn forget(&mut self, uid: &Text) -> Result<(), LedgerFault> {
         self.forget_in(uid)
     }

@@ -5,13 +5,13 @@ ghost use Rattle.std.specs.FinMap.{is_sorted};
 ghost use Rattle.sqlite.specs.Held.{state};
 ghost use Rattle.dr_site.specs.Parts.{Part};
 ghost use Rattle.dr_base.specs.Texts.{text_cmp};
+ghost use Rattle.dr_ledger.specs.Books.{is_queued};
 ghost use Rattle.dr_ledger.specs.Pairs.{pair_cmp};
 ghost use Rattle.dr_ledger.specs.Replies.{AreKept, Lists, Reads};
 ghost use Rattle.dr_store_schema.specs.Books.{all_kept_in, arrivals_in, book_of, rows_of};
 ghost use Rattle.dr_store_calls.specs.Calling.{Looked};
 ghost use Rattle.dr_store_lists.specs.Lists.{keys_of, whole_prints_of};
 ghost use Rattle.dr_store.specs.Listing.{AreSized, IsSized, IsUnfitAmong, UnfitsAmong, UnfitsOf};
-ghost use Rattle.dr_store.specs.Listing.{is_open_at};
 
 use crate::lookup::get;
 use dr_base::{Seq, Text};
@@ -158,16 +158,17 @@ pub fn list_rows_and_keys<S: Alter>(
 
 /// Whether the instance has still to go on.
 fn is_open(progress: Progress) -> bool
-    ensures { result ≡ is_open_at progress }
+    ensures { result ≡ is_queued progress }
 {
     match progress {
         Progress::Waiting { .. } => true,
         Progress::Held(_) => true,
         Progress::Done => false,
+        Progress::Dropped => false,
     }
 }
 
-/// Whether a row isn't done, and the next plan doesn't go on with it.
+/// Whether a row waits or is held, and the next plan doesn't go on with it.
 fn is_unfit(
     next: &Sealed,
     name: &Text,
@@ -188,7 +189,7 @@ fn is_unfit(
     }
 }
 
-/// The first of these rows that isn't done and that the next plan doesn't go on with.
+/// The first of these rows that waits or is held and that the next plan doesn't go on with.
 fn unfit_among(
     next: &Sealed,
     name: &Text,
@@ -206,8 +207,8 @@ fn unfit_among(
     Ok(None)
 }
 
-/// The first row that isn't done and that the next plan doesn't go on with, among those that were
-/// listed.
+/// The first row that waits or is held and that the next plan doesn't go on with, among those that
+/// were listed.
 pub fn first_unfit(
     next: &Sealed,
     name: &Text,

@@ -5,7 +5,7 @@ ghost use Rattle.sqlite.specs.Held.{state};
 ghost use Rattle.dr_site.specs.Parts.{Part};
 ghost use Rattle.dr_ledger.specs.Bodies.{NextsWith};
 ghost use Rattle.dr_ledger.specs.Items.{instance_of};
-ghost use Rattle.dr_ledger.specs.Replies.{Admits};
+ghost use Rattle.dr_ledger.specs.Replies.{Admits, Dues};
 ghost use Rattle.dr_ledger.specs.SiteRoutes.{site_routing};
 ghost use Rattle.dr_site.specs.Routing.{HasLineFor};
 ghost use Rattle.dr_store_schema.specs.Books.{bodies_of, book_of, items_of};
@@ -89,6 +89,24 @@ pub fn next_job<S: Alter>(
     match find_next(conn, alloc, dest, now) {
         Ok(Some(uid)) => job_of(conn, alloc, &uid),
         Ok(None) => Ok(None),
+        Err(fault) => Err(fault),
+    }
+}
+
+/// The uid of that row. No data set is read.
+pub fn due_row<S: Alter>(
+    conn: &mut Connection<S>,
+    alloc: Global,
+    dest: &Text,
+    now: u64,
+) -> Result<Option<Text>, LedgerFault>
+    ensures looked { (n : ℕ) (part : Part)
+        → Looked n part result (state S.Store conn.old) (state S.Store conn.new)
+        (λ base uid. Dues (book_of base) dest.now now uid) }
+    ensures idle { conn.old.in_transaction ≡ false → conn.new.in_transaction ≡ false }
+{
+    match find_next(conn, alloc, dest, now) {
+        Ok(uid) => Ok(uid),
         Err(fault) => Err(fault),
     }
 }

@@ -1,12 +1,12 @@
 -- Uids that are added.
-use Rattle.std.proofs.Common.{◌≡◌, ◌≢◌, ◌⊎◌, inl, inr, List, ◌∷◌, Contains, Result, Ok, Err, OnOk, true, sym, ap, subst, ◌∙◌}
+use Rattle.std.proofs.Common.{◌≡◌, ◌⊎◌, inl, inr, List, ◌∷◌, Contains, Result, Ok, Err, OnOk, true, sym, ap, subst, ◌∙◌}
 use Rattle.std.specs.Prelude.{◌↔◌}
 use Rattle.std.specs.FinSet as set
 use Rattle.std.specs.FinSet.{FinSet}
 use Rattle.dr_base.specs.Texts.{Text, text_cmp}
 use Rattle.dr_plan_model.proofs.Gathered.{Contains-cons_cases, Contains-here, Contains-there}
 use Rattle.dr_ledger.specs.declared.item.Progress.{Progress}
-use Rattle.dr_ledger.specs.declared.item.Progress.TheVariants.{Done}
+use Rattle.dr_ledger.specs.Books.{is_queued}
 use Rattle.dr_ledger.specs.Pairs.{Pair}
 use Rattle.dr_ledger.proofs.Maps.{contained, contains_new, still_contains, texts}
 use Rattle.dr_store_audit.specs.Needs.{IsOpenIn}
@@ -21,8 +21,8 @@ one_more s n k is q = (
   ],
 )
 
-pub added_open : {E : Type 0} (r : Result (Unit {0}) E) (s n : FinSet text_cmp) (row : Pair × Progress) → row.1 ≢ Done → OnOk r (n ≡ set.insert s row.0.0)
-    → OnOk r ((uid : Text) → (set.contains n uid ≡ true) ↔ ((set.contains s uid ≡ true) ⊎ ((uid ≡ row.0.0) × (row.1 ≢ Done))))
+pub added_open : {E : Type 0} (r : Result (Unit {0}) E) (s n : FinSet text_cmp) (row : Pair × Progress) → is_queued row.1 ≡ true → OnOk r (n ≡ set.insert s row.0.0)
+    → OnOk r ((uid : Text) → (set.contains n uid ≡ true) ↔ ((set.contains s uid ≡ true) ⊎ ((uid ≡ row.0.0) × (is_queued row.1 ≡ true))))
 added_open (Ok done) s n row unfinished is = λ uid.
     let it = one_more s n row.0.0 is uid in (
       λ h. elim (it.0 h) [ inl was ↦ inl was | inr same ↦ inr (same, unfinished) ],
@@ -49,10 +49,10 @@ first_kept k ks q = (
   λ h. elim h [ inl same ↦ subst (Contains (k ∷ ks)) (sym same) (Contains-here k ks) | inr later ↦ Contains-there k ks q later ],
 )
 
-pub first_open : (r : Pair × Progress) (rs : List (Pair × Progress)) (q : Text) → IsOpenIn (r ∷ rs) q ↔ (((q ≡ r.0.0) × (r.1 ≢ Done)) ⊎ IsOpenIn rs q)
+pub first_open : (r : Pair × Progress) (rs : List (Pair × Progress)) (q : Text) → IsOpenIn (r ∷ rs) q ↔ (((q ≡ r.0.0) × (is_queued r.1 ≡ true)) ⊎ IsOpenIn rs q)
 first_open r rs q = (
   λ h. elim (Contains-cons_cases r rs ((q, h.0), h.1) h.2) [
-    | inl same ↦ inl (sym (ap (λ (x : Pair × Progress). x.0.0) same), λ done. h.3 (sym (ap (λ (x : Pair × Progress). x.1) same) ∙ done))
+    | inl same ↦ inl (sym (ap (λ (x : Pair × Progress). x.0.0) same), ap (λ (x : Pair × Progress). is_queued x.1) same ∙ h.3)
     | inr later ↦ inr (h.0, h.1, later, h.3)
   ],
   λ h. elim h [

@@ -23,6 +23,7 @@ module _ (db : Trees) (goals : List Goal) (are : Lists goal_cmp (goals_of db) go
   line_is n (note.Repeat caller item) = refl
   line_is n (note.Settling uid dest what now) = refl
   line_is n (note.Requeuing uid dest) = refl
+  line_is n (note.Dropping uid dest now) = refl
   line_is n (note.Forgetting uid) = refl
   line_is n note.Adoption = refl
 

@@ -1,6 +1,7 @@
 -- The lines of a journal, as notes and goals tell them.
 use Rattle.std.specs.Prelude.{◌≡◌, ℕ, List, [], ◌∷◌, ◌+◌, map as mapped}
-use Rattle.dr_ledger.specs.Books.{Line, Arrival, Repeat, Settling, Requeuing, Forgetting, Adoption}
+use Rattle.dr_ledger.specs.Books.{Line, Arrival, Repeat, Settling, Requeuing, Dropping, Forgetting}
+use Rattle.dr_ledger.specs.Books.{Adoption}
 use Rattle.dr_store_lists.specs.Lists.{Goal}
 use Rattle.dr_store_lists.specs.declared.listing.Note.{Note}
 use Rattle.dr_store_lists.specs.declared.listing.Note.TheVariants as note
@@ -14,6 +15,7 @@ line_told goals n (note.Arrival caller item) =
 line_told goals n (note.Repeat caller item) = Repeat caller item
 line_told goals n (note.Settling uid dest what now) = Settling uid dest what now
 line_told goals n (note.Requeuing uid dest) = Requeuing uid dest
+line_told goals n (note.Dropping uid dest now) = Dropping uid dest now
 line_told goals n (note.Forgetting uid) = Forgetting uid
 line_told goals n note.Adoption = Adoption
 

@@ -80,6 +80,11 @@ pub fn line_for(
             uid: uid.clone()?,
             dest: dest.clone()?,
         }),
+        Note::Dropping { uid, dest, now } => Ok(JournalLine::Dropping {
+            uid: uid.clone()?,
+            dest: dest.clone()?,
+            now: *now,
+        }),
         Note::Forgetting { uid } => Ok(JournalLine::Forgetting { uid: uid.clone()? }),
         Note::Adoption => Ok(JournalLine::Adoption),
     }

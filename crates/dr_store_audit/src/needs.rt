@@ -1,9 +1,9 @@
 //! Which data sets are needed.
-ghost use Rattle.std.specs.Prelude.{◌≡◌, ◌≢◌, ◌⊎◌, ◌↔◌, Contains, IfOk, IsTrue, OnOk, not, true};
+ghost use Rattle.std.specs.Prelude.{◌≡◌, ◌⊎◌, ◌↔◌, Contains, IfOk, IsTrue, OnOk, not, true};
 ghost use Rattle.std.specs.FinSet as set;
 ghost use Rattle.std.specs.List.{AllByRecursion};
 ghost use Rattle.dr_base.specs.Texts.{text_cmp};
-ghost use Rattle.dr_ledger.specs.declared.item.Progress.TheVariants.{Done};
+ghost use Rattle.dr_ledger.specs.Books.{is_queued};
 ghost use Rattle.dr_ledger_history.specs.Trees.{as_set};
 ghost use Rattle.dr_store_audit.specs.Needs.{IsOpenIn};
 
@@ -16,12 +16,13 @@ use std::collections::BTreeSet;
 
 /// Whether the instance has still to go on.
 fn is_open(row: Progress) -> bool
-    ensures { IsTrue result ↔ (row ≢ Done) }
+    ensures { IsTrue result ↔ (is_queued row ≡ true) }
 {
     match row {
         Progress::Waiting { .. } => true,
         Progress::Held(_) => true,
         Progress::Done => false,
+        Progress::Dropped => false,
     }
 }
 
@@ -34,13 +35,13 @@ fn add(uids: &mut BTreeSet<Text>, uid: &Text) -> Result<(), AllocError>
     Ok(())
 }
 
-/// Adds the uid of a row that isn't done.
+/// Adds the uid of a row that waits or is held.
 fn add_open(uids: &mut BTreeSet<Text>, row: &((Text, Text), Progress)) -> Result<(), AllocError>
     ensures { OnOk result
         ((uid : _)
         → (set.contains (as_set text_cmp uids.new) uid ≡ true)
         ↔ ((set.contains (as_set text_cmp uids.old) uid ≡ true)
-        ⊎ ((uid ≡ row.now.0.0) × (row.now.1 ≢ Done)))) }
+        ⊎ ((uid ≡ row.now.0.0) × (is_queued row.now.1 ≡ true)))) }
 {
     if is_open(row.1) {
         return add(uids, &row.0.0);
@@ -48,7 +49,7 @@ fn add_open(uids: &mut BTreeSet<Text>, row: &((Text, Text), Progress)) -> Result
     Ok(())
 }
 
-/// The uids that are kept, or have a row that isn't done.
+/// The uids that are kept, or have a row that waits or is held.
 pub fn needed(
     alloc: Global,
     kept: &[Text],

@@ -9,10 +9,10 @@ use Rattle.dr_site.specs.Parts.{Part}
 use Rattle.dr_ledger.specs.declared.fault.LedgerFault.{LedgerFault}
 use Rattle.dr_ledger.specs.declared.fault.LedgerFault.TheVariants as fault
 use Rattle.dr_ledger.specs.Adopting.{Adopting}
-use Rattle.dr_ledger.specs.Books.{Book, not_done}
+use Rattle.dr_ledger.specs.Books.{Book, not_over}
 use Rattle.dr_ledger.specs.Replies.{Reads}
 use Rattle.dr_store_schema.specs.Books.{bodies_of, book_of, rows_in}
-use Rattle.dr_store_writes.specs.Effects.{AddsRow, DropsArrivals, DropsDone, GoesOn, HasSite, IsSiteOf, SetsPlan, adopted_line}
+use Rattle.dr_store_writes.specs.Effects.{AddsRow, DropsArrivals, DropsOver, GoesOn, HasSite, IsSiteOf, SetsPlan, adopted_line}
 use Rattle.dr_store_changes.specs.Writing.{IsMade, IsReady, Written}
 use Rattle.dr_store_changes.proofs.Movements.{goes_over}
 use Rattle.dr_store_calls.specs.Calling.{Called, IsKept, IsLedgerOf, IsOwnFault, Looked, Nothing}
@@ -22,14 +22,14 @@ use Rattle.dr_store_calls.proofs.Adoptions.{adopted_ledgers_are_of_the_next, ado
 
 -- ---- the statements
 
-pub cleared : (old mid new : State) → DropsArrivals old mid → DropsDone mid new → GoesOn old new × Clears old.now.trees new.now.trees
+pub cleared : (old mid new : State) → DropsArrivals old mid → DropsOver mid new → GoesOn old new × Clears old.now.trees new.now.trees
 cleared old mid new a d =
     let x = a.others in
     let y = d.others in (
       goes_over old mid new a.goes_on d.goes_on,
       record {
         arrivals = y.arrivals (omega arith) ∙ a.rows;
-        rows = d.rows ∙ ap (λ rows. not_done (rows_in rows)) (x.queue (omega arith));
+        rows = d.rows ∙ ap (λ rows. not_over (rows_in rows)) (x.queue (omega arith));
         site = y.site (omega arith) ∙ x.site (omega arith);
         items = y.items (omega arith) ∙ x.items (omega arith);
         prints = y.prints (omega arith) ∙ x.prints (omega arith);

@@ -13,24 +13,25 @@ use Rattle.dr_ledger.specs.declared.fault.LedgerFault.TheVariants as fault
 use Rattle.dr_ledger.specs.declared.item.Cause.{Cause}
 use Rattle.dr_ledger.specs.declared.item.Outcome.{Outcome}
 use Rattle.dr_ledger.specs.declared.item.Progress.{Progress}
-use Rattle.dr_ledger.specs.declared.item.Progress.TheVariants.{Waiting, Held, Done}
+use Rattle.dr_ledger.specs.declared.item.Progress.TheVariants.{Waiting, Held, Done, Dropped}
 use Rattle.dr_ledger.specs.Bodies.{Bodies, HasBodies, IsNeeded, OnlyLetsGo}
-use Rattle.dr_ledger.specs.Books.{Book, row_after}
+use Rattle.dr_ledger.specs.Books.{Book, is_queued, row_after}
 use Rattle.dr_ledger.specs.Histories.{IsJournalled}
 use Rattle.dr_ledger.specs.Pairs.{Pair, pair_cmp}
-use Rattle.dr_ledger.specs.Replies.{Requeues, Settles}
+use Rattle.dr_ledger.specs.Replies.{Drops, Requeues, Settles}
 use Rattle.dr_ledger.specs.SiteRoutes.{site_routing}
-use Rattle.dr_ledger.proofs.Folding.{requeuings_are_journalled, settlings_are_journalled}
+use Rattle.dr_ledger.proofs.Folding.{droppings_are_journalled, requeuings_are_journalled, settlings_are_journalled}
 use Rattle.dr_ledger.proofs.Maps.{get_new, get_other, got, text_pairs, ties_itself, same_or_not}
 use Rattle.dr_ledger.proofs.Wholes.{settled_fits}
 use Rattle.dr_store_schema.specs.Books.{AreBelow, all_kept_in, bodies_by, bodies_of, book_of, contents_in, is_whole, names_in, rows_in, rows_of, wholes_in}
 use Rattle.dr_store_schema.specs.Cells.{due_of}
-use Rattle.dr_store_writes.specs.Effects.{HasRow, requeued_line, settled_line}
+use Rattle.dr_store_writes.specs.Effects.{HasRow, dropped_line, requeued_line, settled_line}
 use Rattle.dr_store_changes.specs.Bringing.{GoNowhere}
-use Rattle.dr_store_changes.specs.Changes.{AsksForRow, HasBoth, MovesOn}
+use Rattle.dr_store_changes.specs.Changes.{AsksForRow, GivesUp, HasBoth, MovesOn}
 use Rattle.dr_store_changes.specs.Laws.{GoesWhereNeededNoMore}
 use Rattle.dr_store_changes.specs.Writing.{IsReady}
 use Rattle.dr_store_changes.proofs.Bookings.{body_was, requeuings_requeue, settlings_settle, what_is_needed_stays}
+use Rattle.dr_store_changes.proofs.Dropped.{but_arrivals, droppings_drop, goes_as_well, moves_on, what_is_needed_stays_at_a_dropping}
 use Rattle.dr_store_changes.proofs.LettingGo.{body_at}
 use Rattle.dr_store_reads.specs.Queries.{IsOpenElsewhere}
 use Rattle.dr_store_calls.specs.Calling.{IsLedgerOf}
@@ -53,11 +54,11 @@ both_there db uid has needed =
     let parts = split (is_whole (map.get (wholes_in (db 3)) uid)) (map.get (contents_in (db 1)) uid) body.0 (sym (body_at (contents_in (db 1)) (wholes_in (db 3)) uid) ∙ body.1) in
     (ap is_some parts.1, there_whole (map.get (wholes_in (db 3)) uid) parts.0)
 
-row_needed : (db : Trees) (uid dest : Text) (row : Progress) → map.get (rows_of db) (uid, dest) ≡ Some row → row ≢ Done → IsNeeded (book_of db) uid
+row_needed : (db : Trees) (uid dest : Text) (row : Progress) → map.get (rows_of db) (uid, dest) ≡ Some row → is_queued row ≡ true → IsNeeded (book_of db) uid
 row_needed db uid dest row there unfinished = inr (dest, row, there, unfinished)
 
--- a row that isn't done may move on
-pub row_asks : (db : Trees) (uid dest : Text) (row : Progress) → HasBodies (book_of db) (bodies_of db) → map.get (rows_of db) (uid, dest) ≡ Some row → row ≢ Done → AsksForRow (uid, dest) db
+-- an open row may move on
+pub row_asks : (db : Trees) (uid dest : Text) (row : Progress) → HasBodies (book_of db) (bodies_of db) → map.get (rows_of db) (uid, dest) ≡ Some row → is_queued row ≡ true → AsksForRow (uid, dest) db
 row_asks db uid dest row has there unfinished = (ap is_some there, both_there db uid has (row_needed db uid dest row there unfinished))
 
 module _ (base db : Trees) (uid dest : Text) (to : Progress) (line : Row) (lets_go : Bool) (w : MovesOn (uid, dest) to line lets_go base db) where
@@ -76,7 +77,7 @@ module _ (base db : Trees) (uid dest : Text) (to : Progress) (line : Row) (lets_
   only_needed : IsNeeded (book_of db) uid → IsNeededStill base uid dest to
   only_needed (inl kept) = inr (inr (sym (ap (λ rows. set.contains (all_kept_in rows) uid) w.kept) ∙ kept))
   only_needed (inr row) = elim (got text_pairs (rows_of base) (uid, dest) to (uid, row.0) row.1 (sym (ap (λ rows. map.get rows (uid, row.0)) w.rows) ∙ row.2)) [
-    | inl is ↦ inl (λ done. row.3 (is.1 ∙ done))
+    | inl is ↦ inl (ap is_queued (sym is.1) ∙ row.3)
     | inr was ↦ inr (inl (row.0, row.1, (λ same. true≢false (sym (ties_itself text_pairs (uid, dest)) ∙ ap (λ d. eq_by_cmp pair_cmp (uid, d) (uid, dest)) (sym same) ∙ was.0)), was.1, row.3))
   ]
 
@@ -96,7 +97,7 @@ settles n part base db uid dest tries due to what now needed early below l waits
     let P : Progress → Type 0 = λ p. MovesOn (uid, dest) p line (not needed) base db in
     let book = settlings_settle base db n uid dest tries due what now (not needed) below waits (subst P is w) in
     let answer : Settles uid dest what now (book_of base) (Ok tt) (book_of db) = ((tries, due, waits), book) in
-    let unfinished : Waiting tries due ≢ Done = λ e. cc in (
+    let unfinished : is_queued (Waiting tries due) ≡ true = refl in (
       record {
         ahead = moved_ahead base db uid dest to line (not needed) w n l.ahead;
         journalled = (l.journalled.0, settlings_are_journalled (site_routing part) l.journalled.0 uid dest what now (book_of base) (book_of db) (Ok tt) early l.journalled.1 answer);
@@ -112,8 +113,8 @@ requeues n part base db uid dest why below l held w =
     let line : Row = requeued_line n uid dest in
     let book = requeuings_requeue base db n uid dest why false below held w in
     let answer : Requeues uid dest (book_of base) (Ok tt) (book_of db) = ((why, held), book) in
-    let unfinished : Held why ≢ Done = λ e. cc in
-    let again : Waiting 0 0 ≢ Done = λ e. cc in (
+    let unfinished : is_queued (Held why) ≡ true = refl in
+    let again : is_queued (Waiting 0 0) ≡ true = refl in (
       record {
         ahead = moved_ahead base db uid dest (Waiting 0 0) line false w n l.ahead;
         journalled = (l.journalled.0, requeuings_are_journalled (site_routing part) l.journalled.0 uid dest (book_of base) (book_of db) (Ok tt) l.journalled.1 answer);
@@ -122,12 +123,31 @@ requeues n part base db uid dest why below l held w =
       (answer, λ q body h. body_was base db (uid, dest) (Waiting 0 0) line false q body w h),
     )
 
+pub drops : (n : ℕ) (part : Part) (base db : Trees) (uid dest : Text) (why : Cause) (now : ℕ) (needed : Bool) → now ≤ 2 ^ 62 → AreBelow n (base 11) → IsLedgerOf n part base
+    → map.get (rows_of base) (uid, dest) ≡ Some (Held why) → (IsTrue needed ↔ IsNeededStill base uid dest Dropped) → GivesUp uid dest now n (not needed) base db
+    → IsLedgerOf (n + 1) part db × (Drops uid dest now (book_of base) (Ok tt) (book_of db) × OnlyLetsGo (bodies_of base) (bodies_of db))
+drops n part base db uid dest why now needed early below l held says w =
+    let line : Row = dropped_line n uid dest now in
+    let mid = but_arrivals base db in
+    let m = moves_on uid dest now n (not needed) base db w in
+    let book = droppings_drop base db n uid dest why now (not needed) below held w in
+    let answer : Drops uid dest now (book_of base) (Ok tt) (book_of db) = ((why, held), book) in (
+      record {
+        ahead = moved_ahead base mid uid dest Dropped line (not needed) m n l.ahead;
+        journalled = (l.journalled.0, droppings_are_journalled (site_routing part) l.journalled.0 uid dest now (book_of base) (book_of db) (Ok tt) early l.journalled.1 answer);
+        bodied = what_is_needed_stays_at_a_dropping base db n uid dest now (not needed) l.bodied (row_needed base uid dest (Held why) held refl) w
+            (goes_as_well base db uid (not needed) (goes base mid uid dest Dropped line (not needed) m needed says));
+      },
+      (answer, λ q body h. body_was base mid (uid, dest) Dropped line (not needed) q body m h),
+    )
+
 -- ---- how late a row is due
 
 due_low : (p : Progress) → ((tries due : ℕ) → p ≡ Waiting tries due → (tries ≤ 1000000) × (due ≤ 2 ^ 62 + 300000)) → due_of p ≤ 2 ^ 62 + 300000
 due_low (Waiting tries due) f = (f tries due refl).1
 due_low (Held why) f = omega arith
 due_low Done f = omega arith
+due_low Dropped f = omega arith
 
 pub moved_low : (tries : ℕ) (what : Outcome) (now : ℕ) → now ≤ 2 ^ 62 → due_of (row_after tries what now) ≤ 2 ^ 62 + 300000
 moved_low tries what now early = due_low (row_after tries what now) (λ t d is. settled_fits tries what now early t d is)
@@ -141,6 +161,10 @@ settles_own e uid dest what now b (inr is) = subst (λ x. Settles uid dest what 
 pub requeues_own : (e : LedgerFault) (uid dest : Text) (b : Book) → (e ≡ fault.Store) ⊎ (e ≡ fault.Memory) → Requeues uid dest b (Err e) b
 requeues_own e uid dest b (inl is) = subst (λ x. Requeues uid dest b (Err x) b) (sym is) refl
 requeues_own e uid dest b (inr is) = subst (λ x. Requeues uid dest b (Err x) b) (sym is) refl
+
+pub drops_own : (e : LedgerFault) (uid dest : Text) (now : ℕ) (b : Book) → (e ≡ fault.Store) ⊎ (e ≡ fault.Memory) → Drops uid dest now b (Err e) b
+drops_own e uid dest now b (inl is) = subst (λ x. Drops uid dest now b (Err x) b) (sym is) refl
+drops_own e uid dest now b (inr is) = subst (λ x. Drops uid dest now b (Err x) b) (sym is) refl
 
 pub all_stay : (bodies : Bodies) → OnlyLetsGo bodies bodies
 all_stay bodies uid body h = h

@@ -9,10 +9,8 @@ use Rattle.dr_route.specs.declared.key.Key.{Key}
 use Rattle.dr_site.specs.Parts.{Part}
 use Rattle.dr_ledger.specs.declared.fault.LedgerFault.{LedgerFault}
 use Rattle.dr_ledger.specs.declared.item.Instance.{Instance}
-use Rattle.dr_ledger.specs.declared.item.Progress.{Progress}
-use Rattle.dr_ledger.specs.declared.item.Progress.TheVariants.{Waiting, Held, Done}
 use Rattle.dr_ledger.specs.Bodies.{Bodies, HasBodies, IsNeeded, OnlyLetsGo}
-use Rattle.dr_ledger.specs.Books.{Book, Forgetting, after}
+use Rattle.dr_ledger.specs.Books.{Book, Forgetting, after, is_queued}
 use Rattle.dr_ledger.specs.Items.{instance_of}
 use Rattle.dr_ledger.specs.Replies.{Forgets, IsOver}
 use Rattle.dr_ledger.specs.SiteRoutes.{site_routing}
@@ -23,17 +21,12 @@ use Rattle.dr_ledger.proofs.Needs.{forgettings_need_the_same}
 use Rattle.dr_store_schema.specs.Books.{AreBelow, all_kept_in, bodies_of, book_of, instance_by, items_of, names_in, prints_of}
 use Rattle.dr_store_changes.specs.Changes.{TakesOut}
 use Rattle.dr_store_changes.proofs.Forgotten.{forgettings_forget, forgettings_let_no_data_set_go, not_needed}
-use Rattle.dr_store_reads.specs.Queries.{IsKeyOf, IsUndone}
+use Rattle.dr_store_reads.specs.Queries.{HasOpen, IsKeyOf}
 use Rattle.dr_store_calls.specs.Calling.{IsLedgerOf, IsOwnFault, Looked}
 use Rattle.dr_store_calls.specs.Needs.{IsKeptIn}
 use Rattle.dr_store_calls.proofs.Reading.{reads_as}
 
 -- ---- what is over
-
-done_or_not : (p : Progress) → (p ≡ Done) ⊎ (p ≢ Done)
-done_or_not (Waiting tries due) = inr (λ e. cc)
-done_or_not (Held why) = inr (λ e. cc)
-done_or_not Done = inl refl
 
 is_not : (b : Bool) → (b ≡ true → ⊥) → b ≡ false
 is_not true h = absurd (h refl)
@@ -47,27 +40,27 @@ there_found : (found : Option Instance) (key : Option Key) (by : Key → Instanc
 there_found found None by item is there = absurd (let e : None ≡ Some item = sym is ∙ there in cc)
 there_found found (Some key) by item is there = refl
 
--- it is over where it is there, isn't kept, and has no row that isn't done
+-- it is over where it is there, isn't kept, and has no open row
 pub over_by : (base : Trees) (uid : Text) (key : Option Key) (past : Bool) → IsKeyOf uid base key
-    → (IsTrue past ↔ ((is_some key ≡ true) × (IsKeptIn base uid → ⊥) × (IsUndone base uid → ⊥))) → (IsTrue past ↔ IsOver (book_of base) uid)
+    → (IsTrue past ↔ ((is_some key ≡ true) × (IsKeptIn base uid → ⊥) × (HasOpen base uid → ⊥))) → (IsTrue past ↔ IsOver (book_of base) uid)
 over_by base uid key past shown says = (
   λ h.
       let it = says.0 h in
       record {
         there = found_there (map.get (items_of base) uid) key (instance_by (prints_of base) uid) shown it.0;
         unkept = is_not (set.contains (all_kept_in (base 7)) uid) it.1;
-        done = λ dest row at. elim (done_or_not row) [ inl done ↦ done | inr other ↦ absurd (it.2 (dest, row, at, other)) ];
+        unqueued = λ dest row at. is_not (is_queued row) (λ queued. it.2 (dest, row, at, queued));
       },
   λ over. says.1 (
     there_found (map.get (items_of base) uid) key (instance_by (prints_of base) uid) over.there.0 shown over.there.1,
     λ kept. true≢false (sym kept ∙ over.unkept),
-    λ undone. undone.3 (over.done undone.0 undone.1 undone.2),
+    λ row. true≢false (sym row.3 ∙ over.unqueued row.0 row.1 row.2),
   ),
 )
 
 -- what isn't kept, by whether it is
-pub past_by : (base : Trees) (uid : Text) (kept past : Bool) → kept ≡ set.contains (all_kept_in (base 7)) uid → (IsTrue past ↔ ((kept ≡ false) × (IsUndone base uid → ⊥)))
-    → (IsTrue past ↔ ((IsKeptIn base uid → ⊥) × (IsUndone base uid → ⊥)))
+pub past_by : (base : Trees) (uid : Text) (kept past : Bool) → kept ≡ set.contains (all_kept_in (base 7)) uid → (IsTrue past ↔ ((kept ≡ false) × (HasOpen base uid → ⊥)))
+    → (IsTrue past ↔ ((IsKeptIn base uid → ⊥) × (HasOpen base uid → ⊥)))
 past_by base uid kept past shown says = (
   λ h. let it = says.0 h in (λ yes_kept. true≢false (sym yes_kept ∙ sym shown ∙ it.0), it.1),
   λ h. says.1 (is_not kept (λ yes_kept. h.0 (sym shown ∙ yes_kept)), h.1),

@@ -29,7 +29,7 @@ use Rattle.dr_store_schema.specs.Books.{AreBelow, arrivals_in, bodies_of, book_o
 use Rattle.dr_store_writes.specs.Effects.{arrived_line}
 use Rattle.dr_store_changes.specs.declared.first.Taking.{Taking}
 use Rattle.dr_store_changes.specs.declared.first.Taking.TheVariants as taking
-use Rattle.dr_store_changes.specs.Bringing.{AreNames, Brings, GoNowhere, IsKnownFor, bodies_taken, missing, names_for}
+use Rattle.dr_store_changes.specs.Bringing.{AreNames, Brings, GoNowhere, IsKnownFor, bodies_taken, given_up, missing, names_for}
 use Rattle.dr_store_changes.specs.Changes.{AddsOnlyLine, with_names}
 use Rattle.dr_store_changes.proofs.Bookings.{repeats_repeat}
 use Rattle.dr_store_changes.proofs.Joins.{arrivals_arrive, data_sets_come}
@@ -52,17 +52,19 @@ known_same taking.Bare item found known held is = absurd (let e : None ≡ Some 
 known_same taking.Again item found known held is = sym (inside item held (sym known ∙ is))
 known_same taking.Nothing item found known held is = sym (inside item held (sym known ∙ is))
 
-module _ (n : ℕ) (part : Part) (how : Taking) (caller : Text) (item : Job) (to : List Text) (keep : Bool) (dests : List Text) (keeps : Bool) (base db : Trees) (is_item : IsItem item)
+module _ (n : ℕ) (part : Part) (how : Taking) (caller : Text) (item : Job) (to : List Text) (keep : Bool) (again dests : List Text) (keeps : Bool) (base db : Trees) (is_item : IsItem item)
     (line : HasLineFor part caller item.key) (to_is : to ≡ (site_routing part).targets caller item.key) (keep_is : keep ≡ (site_routing part).keeps caller item.key) (names : AreNames to)
-    (below : AreBelow n (base 11)) (l : IsLedgerOf n part base) (f : Fits how caller item to keep dests keeps base)
-    (w : Brings how caller (instance_of item) item.body dests keeps (names_for keep to) n base db) where
+    (below : AreBelow n (base 11)) (l : IsLedgerOf n part base) (f : Fits how caller item to keep again dests keeps base)
+    (w : Brings how caller (instance_of item) item.body again dests keeps (names_for keep to) n base db) where
   abbrev instance : Instance
   instance = instance_of item
 
   book : book_of db ≡ after (Arrival caller instance to keep) (book_of base)
   book =
-      let P : List Text → Bool → Type 0 = λ ds ks. Brings how caller instance item.body ds ks (names_for keep to) n base db in
-      arrivals_arrive how base db n caller instance item.body to keep below l.ahead f.known names (subst (λ ks. P (missing (rows_of base) item.uid to) ks) f.keeps_is (subst (λ ds. P ds keeps) f.missing_are w))
+      let P : List Text → List Text → Bool → Type 0 = λ again' ds ks. Brings how caller instance item.body again' ds ks (names_for keep to) n base db in
+      arrivals_arrive how base db n caller instance item.body to keep below l.ahead f.known names
+      (subst (λ ks. P (given_up (rows_of base) item.uid to) (missing (rows_of base) item.uid to) ks) f.keeps_is
+      (subst (λ ds. P (given_up (rows_of base) item.uid to) ds keeps) f.missing_are (subst (λ again'. P again' dests keeps) f.again_are w)))
 
   same : (held : Instance) → map.get (items_of base) item.uid ≡ Some held → held ≡ instance
   same held is = known_same how instance (map.get (items_of base) item.uid) f.known held is

@@ -7,7 +7,7 @@ use Rattle.dr_base.specs.Texts.{Text}
 use Rattle.dr_site.specs.Parts.{Part}
 use Rattle.dr_ledger.specs.declared.fault.LedgerFault.{LedgerFault}
 use Rattle.dr_ledger.specs.Adopting.{Adopting, site_after}
-use Rattle.dr_ledger.specs.Books.{Adoption, after, not_done}
+use Rattle.dr_ledger.specs.Books.{Adoption, after, not_over}
 use Rattle.dr_ledger.specs.Replies.{LastsAfter}
 use Rattle.dr_store_schema.specs.Books.{bodies_of, book_of, rows_of}
 use Rattle.dr_store_writes.specs.Effects.{IsSiteOf, adopted_line}
@@ -15,10 +15,10 @@ use Rattle.dr_store_calls.specs.Calling.{IsKept, advanced}
 
 -- ---- the tables
 
--- no arrival and no done row is left; all other tables stay
+-- no arrival is left, and no row that is over; all other tables stay
 pub record Clears (old new : Trees) : Type 0 where
   pub arrivals : new 5 ≡ []
-  pub rows : rows_of new ≡ not_done (rows_of old)
+  pub rows : rows_of new ≡ not_over (rows_of old)
   pub site : new 0 ≡ old 0
   pub items : new 1 ≡ old 1
   pub prints : new 3 ≡ old 3
@@ -38,15 +38,15 @@ pub record NotesPlan (plan : List ℕ) (n : ℕ) (old new : Trees) : Type 0 wher
   pub queue : new 9 ≡ old 9
   pub targets : new 12 ≡ old 12
 
--- An adoption of the plan with this SHA-256 as line n: arrivals and done rows have left, the line
--- stands in the journal, and the plan is in force for the same node. All else stays.
+-- An adoption of the plan with this SHA-256 as line n: arrivals and rows that are over have left,
+-- the line stands in the journal, and the plan is in force for the same node. All else stays.
 pub record Adopts (plan : List ℕ) (n : ℕ) (old new : Trees) : Type 0 where
   pub site : (node : Text) (was : List ℕ) → IsSiteOf node was old → IsSiteOf node plan new
   pub items : new 1 ≡ old 1
   pub prints : new 3 ≡ old 3
   pub arrivals : new 5 ≡ []
   pub kept : new 7 ≡ old 7
-  pub rows : rows_of new ≡ not_done (rows_of old)
+  pub rows : rows_of new ≡ not_over (rows_of old)
   pub journal : new 11 ≡ put_row (adopted_line n) (old 11)
   pub targets : new 12 ≡ old 12
 

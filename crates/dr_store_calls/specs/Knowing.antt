@@ -1,6 +1,8 @@
 -- What the tables have of what arrives.
-use Rattle.std.specs.Prelude.{◌≡◌, ◌&&◌, ◌||◌, Bool, cond, not, false, List, Some, Ok}
+use Rattle.std.specs.Prelude.{◌≡◌, ◌&&◌, ◌||◌, Bool, cond, filter, is_some, not, true, false, List}
+use Rattle.std.specs.Prelude.{Option, Some, Ok}
 use Rattle.std.specs.FinMap as map
+use Rattle.std.specs.FinMap.{FinMap}
 use Rattle.std.specs.FinSet as set
 use Rattle.sqlite.specs.Tree.{Trees}
 use Rattle.dr_base.specs.Texts.{Text}
@@ -8,15 +10,17 @@ use Rattle.dr_site.specs.Parts.{Part}
 use Rattle.dr_ledger.specs.declared.content.Job.{Job}
 use Rattle.dr_ledger.specs.declared.item.Arrived.{Arrived}
 use Rattle.dr_ledger.specs.declared.item.Instance.{Instance}
+use Rattle.dr_ledger.specs.declared.item.Progress.{Progress}
 use Rattle.dr_ledger.specs.Books.{Arrival, Book, after}
 use Rattle.dr_ledger.specs.Items.{instance_of}
+use Rattle.dr_ledger.specs.Pairs.{pair_cmp}
 use Rattle.dr_ledger.specs.Replies.{Arrives, HasConflict}
 use Rattle.dr_ledger.specs.SiteRoutes.{site_routing}
 use Rattle.dr_store_schema.specs.Books.{all_kept_in, arrivals_in, bodies_of, book_of, items_of}
 use Rattle.dr_store_schema.specs.Books.{rows_of}
 use Rattle.dr_store_changes.specs.declared.first.Taking.{Taking}
 use Rattle.dr_store_changes.specs.declared.first.Taking.TheVariants.{New, Bare, Again, Nothing}
-use Rattle.dr_store_changes.specs.Bringing.{AsksToTake, IsKnownFor, missing}
+use Rattle.dr_store_changes.specs.Bringing.{AsksToTake, IsKnownFor, given_up, is_dropped, missing}
 use Rattle.dr_store_changes.specs.Changes.{HasBoth, HasNeither}
 use Rattle.dr_store_changes.specs.Laws.{ComesWhereNeeded}
 use Rattle.dr_store_calls.specs.declared.knowing.Known.{Known}
@@ -34,14 +38,26 @@ IsKnown db item known.No = HasNeither item.uid db
 IsKnown db item known.Other = HasConflict (book_of db) item
 IsKnown db item (known.Same whole) = IsThere db item whole
 
--- A first arrival, of an item that is taken so, fits the tables: these are the destinations to
--- which it has no row, and it is to be kept from now on just if it wasn't.
+-- a destination with this row is one of those that are looked for: those for which the row was
+-- dropped, or else those to which there is none
+abbrev pub is_chosen : Bool → Option Progress → Bool
+is_chosen true row = is_dropped row
+is_chosen false row = not (is_some row)
+
+-- of these destinations those that are looked for
+abbrev pub chosen : Bool → FinMap pair_cmp Progress → Text → List Text → List Text
+chosen dropped rows uid to = filter (λ dest. is_chosen dropped (map.get rows (uid, dest))) to
+
+-- A first arrival, of an item that is taken so, fits the tables: `again` are the destinations for
+-- which its row was dropped, `dests` those to which it has none, and it is to be kept from now on
+-- just if it wasn't.
 pub record Fits (how : Taking) (caller : Text) (item : Job) (to : List Text) (keep : Bool)
-    (dests : List Text) (keeps : Bool) (db : Trees) : Type 0 where
+    (again dests : List Text) (keeps : Bool) (db : Trees) : Type 0 where
   pub asks : AsksToTake how item.uid db
   pub known : IsKnownFor how (instance_of item) (map.get (items_of db) item.uid)
   pub comes : ComesWhereNeeded how (after (Arrival caller (instance_of item) to keep) (book_of db))
       (bodies_of db) item.uid
+  pub again_are : again ≡ given_up (rows_of db) item.uid to
   pub missing_are : dests ≡ missing (rows_of db) item.uid to
   pub keeps_is : keeps ≡ (keep && not (set.contains (all_kept_in (db 7)) item.uid))
   pub first : set.contains (arrivals_in (db 5)) (caller, item.uid) ≡ false
@@ -52,7 +68,7 @@ IsAccepted part caller item old new =
     (answer : Arrived) × Arrives (site_routing part) caller item old (Ok answer) new
 
 -- how an instance is taken in that is there: its data set comes again where it isn't there, and the
--- instance is to be kept or lacks a row
+-- instance is to be kept, lacks a row or has one that was dropped
 abbrev pub taking_there : Bool → Bool → Bool → Taking
 taking_there whole keep none = cond (whole || (not keep && none)) Nothing Again
 

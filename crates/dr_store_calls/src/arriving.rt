@@ -93,6 +93,7 @@ fn bring<'x, S: Alter>(
     names: &'x [Text],
     instance: &'x Instance,
     taking: Taking,
+    again: &'x [Text],
     dests: &'x [Text],
     keeps: bool,
 ) -> Result<Arrived, LedgerFault>
@@ -107,7 +108,8 @@ fn bring<'x, S: Alter>(
     ensures called { Called n (advanced result n) site.now result (state S.Store conn.old)
         (state S.Store conn.new)
         (λ base.
-        Fits taking caller.now item.now targets.now.to targets.now.keep dests.now keeps base)
+        Fits taking caller.now item.now targets.now.to targets.now.keep again.now dests.now keeps
+        base)
         (λ base db. Arrives (site_routing site.now) caller.now (instance_of item.now) (book_of base)
         result (book_of db)
         × OnlyTakes item.now (bodies_of base) (bodies_of db))
@@ -121,6 +123,7 @@ fn bring<'x, S: Alter>(
         item: instance,
         body: item.body.as_bytes(),
         taking,
+        again,
         dests,
         keeps,
         names,
@@ -142,6 +145,7 @@ pub fn bring_item<'x, S: Alter>(
     targets: &'x Targets,
     instance: &'x Instance,
     taking: Taking,
+    again: &'x [Text],
     dests: &'x [Text],
     keeps: bool,
 ) -> Result<Arrived, LedgerFault>
@@ -155,7 +159,8 @@ pub fn bring_item<'x, S: Alter>(
     ensures called { Called n (advanced result n) site.now result (state S.Store conn.old)
         (state S.Store conn.new)
         (λ base.
-        Fits taking caller.now item.now targets.now.to targets.now.keep dests.now keeps base)
+        Fits taking caller.now item.now targets.now.to targets.now.keep again.now dests.now keeps
+        base)
         (λ base db. Arrives (site_routing site.now) caller.now (instance_of item.now) (book_of base)
         result (book_of db)
         × OnlyTakes item.now (bodies_of base) (bodies_of db))
@@ -175,6 +180,7 @@ pub fn bring_item<'x, S: Alter>(
             names.as_slice(),
             instance,
             taking,
+            again,
             dests,
             keeps,
         ),
@@ -223,6 +229,8 @@ pub fn bring_new<'x, S: Alter>(
     ensures idle { conn.new.in_transaction ≡ false }
 {
     let to = targets.to.as_slice();
+    let none = Seq::new(alloc);
+    let again = none.as_slice();
     let taking = taking_of(targets.keep, to.is_empty());
     bring_item(
         conn,
@@ -234,6 +242,7 @@ pub fn bring_new<'x, S: Alter>(
         targets,
         instance,
         taking,
+        again,
         to,
         targets.keep,
     )

@@ -4,7 +4,7 @@ ghost use Rattle.sqlite.specs.Held.{state};
 ghost use Rattle.dr_site.specs.Parts.{Part};
 ghost use Rattle.dr_ledger.specs.Bodies.{OnlyLetsGo};
 ghost use Rattle.dr_ledger.specs.Replies.{Forgets, IsOver};
-ghost use Rattle.dr_store_reads.specs.Queries.{IsUndone};
+ghost use Rattle.dr_store_reads.specs.Queries.{HasOpen};
 ghost use Rattle.dr_store_schema.specs.Books.{bodies_of, book_of};
 ghost use Rattle.dr_store_calls.specs.Calling.{Called, Looked, Nothing, advanced};
 ghost use Rattle.dr_store_calls.specs.Needs.{IsKeptIn};
@@ -13,11 +13,11 @@ use crate::writing::written;
 use dr_base::Text;
 use dr_ledger::LedgerFault;
 use dr_store_changes::Forgetting;
-use dr_store_reads::{find_kept, find_key, is_undone};
+use dr_store_reads::{find_kept, find_key, has_open};
 use sqlite::{Alter, Connection};
 use std::alloc::Global;
 
-/// Whether all rows of an instance are done, where it isn't kept.
+/// Whether no row of an instance is open, where it isn't kept.
 fn is_done_unless_kept<'x, S: Alter>(
     conn: &mut Connection<S>,
     uid: &'x Text,
@@ -25,24 +25,24 @@ fn is_done_unless_kept<'x, S: Alter>(
 ) -> Result<bool, LedgerFault>
     ensures looked { (n : ℕ) (part : Part)
         → Looked n part result (state S.Store conn.old) (state S.Store conn.new)
-        (λ base done. IsTrue done ↔ ((kept ≡ false) × (IsUndone base uid.now → ⊥))) }
+        (λ base done. IsTrue done ↔ ((kept ≡ false) × (HasOpen base uid.now → ⊥))) }
     ensures idle { conn.old.in_transaction ≡ false → conn.new.in_transaction ≡ false }
 {
     if kept {
         return Ok(false);
     }
-    match is_undone(conn, uid) {
+    match has_open(conn, uid) {
         Ok(undone) => Ok(!undone),
         Err(fault) => Err(fault),
     }
 }
 
-/// Whether an instance isn't kept, and all rows of it are done.
+/// Whether an instance isn't kept, and no row of it is open.
 fn is_past<'x, S: Alter>(conn: &mut Connection<S>, uid: &'x Text) -> Result<bool, LedgerFault>
     ensures looked { (n : ℕ) (part : Part)
         → Looked n part result (state S.Store conn.old) (state S.Store conn.new)
         (λ base past.
-        IsTrue past ↔ ((IsKeptIn base uid.now → ⊥) × (IsUndone base uid.now → ⊥))) }
+        IsTrue past ↔ ((IsKeptIn base uid.now → ⊥) × (HasOpen base uid.now → ⊥))) }
     ensures idle { conn.old.in_transaction ≡ false → conn.new.in_transaction ≡ false }
 {
     match find_kept(conn, uid) {
@@ -62,7 +62,7 @@ fn is_past_if<'x, S: Alter>(
         (λ base past. IsTrue past
         ↔ ((there ≡ true)
         × (IsKeptIn base uid.now → ⊥)
-        × (IsUndone base uid.now → ⊥))) }
+        × (HasOpen base uid.now → ⊥))) }
     ensures idle { conn.old.in_transaction ≡ false → conn.new.in_transaction ≡ false }
 {
     if there {
@@ -71,7 +71,7 @@ fn is_past_if<'x, S: Alter>(
     Ok(false)
 }
 
-/// Whether an instance is over: it is there, isn't kept, and each row of it is done.
+/// Whether an instance is over: it is there, isn't kept, and each row of it is done or dropped.
 pub fn is_over<'x, S: Alter>(
     conn: &mut Connection<S>,
     alloc: Global,

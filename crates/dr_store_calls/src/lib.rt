@@ -9,6 +9,7 @@
 pub mod adopting;
 pub mod adoption_laws;
 pub mod arriving;
+pub mod dropping;
 pub mod forgetting;
 pub mod knowing;
 pub mod laws;
@@ -20,6 +21,7 @@ mod writing;
 
 pub use adopting::adopt;
 pub use arriving::{bring_item, bring_new, repeat};
+pub use dropping::give_up;
 pub use forgetting::{forget, is_over};
 pub use knowing::{Known, know};
 pub use plan::NewPlan;

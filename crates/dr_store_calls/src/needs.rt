@@ -1,8 +1,8 @@
 //! Whether a data set is needed still.
-ghost use Rattle.std.specs.Prelude.{◌≡◌, ◌↔◌, ◌⊎◌, ◌≢◌, ℕ, IsTrue, true, false};
+ghost use Rattle.std.specs.Prelude.{◌≡◌, ◌↔◌, ◌⊎◌, ℕ, IsTrue, true, false};
 ghost use Rattle.sqlite.specs.Held.{state};
 ghost use Rattle.dr_site.specs.Parts.{Part};
-ghost use Rattle.dr_ledger.specs.declared.item.Progress.TheVariants.{Done};
+ghost use Rattle.dr_ledger.specs.Books.{is_queued};
 ghost use Rattle.dr_store_calls.specs.Calling.{Looked};
 ghost use Rattle.dr_store_calls.specs.Needs.{IsKeptIn, IsNeededStill};
 
@@ -13,12 +13,13 @@ use sqlite::{Alter, Connection};
 
 /// Whether the instance has still to go on.
 fn is_open(to: Progress) -> bool
-    ensures { IsTrue result ↔ (to ≢ Done) }
+    ensures { IsTrue result ↔ (is_queued to ≡ true) }
 {
     match to {
         Progress::Waiting { .. } => true,
         Progress::Held(_) => true,
         Progress::Done => false,
+        Progress::Dropped => false,
     }
 }
 

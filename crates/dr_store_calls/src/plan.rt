@@ -5,10 +5,10 @@ ghost use Rattle.dr_store_writes.specs.Effects.{GoesOn, HasSite, Step};
 ghost use Rattle.dr_store_calls.specs.Adoptions.{Clears, NotesPlan};
 
 use dr_store_changes::Change;
-use dr_store_writes::{add_adopted, drop_arrivals, drop_done, set_plan};
+use dr_store_writes::{add_adopted, drop_arrivals, drop_over, set_plan};
 use sqlite::{Alter, Error, Transaction};
 
-/// Lets arrivals and done rows go.
+/// Lets arrivals go, and the rows that are over.
 fn clear<S: Alter>(tx: &mut Transaction<'_, S>) -> Result<(), Error>
     ensures same_reference { tx.new.conn.ghost_name ≡ tx.old.conn.ghost_name }
     ensures step { Step result (state S.Store tx.old.conn.now) (state S.Store tx.new.conn.now)
@@ -18,7 +18,7 @@ fn clear<S: Alter>(tx: &mut Transaction<'_, S>) -> Result<(), Error>
         (state S.Store tx.new.conn.now).now.trees) }
 {
     drop_arrivals(tx)?;
-    drop_done(tx)?;
+    drop_over(tx)?;
     Ok(())
 }
 

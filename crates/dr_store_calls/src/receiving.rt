@@ -1,6 +1,6 @@
 //! Arrivals, whatever the tables have of them.
-ghost use Rattle.std.specs.Prelude.{◌≡◌, ◌≤◌, ◌^◌, ◌++◌, ◌∷◌, [], ◌&&◌, cond, not, is_some, IfOk};
-ghost use Rattle.std.specs.Prelude.{OnOk, ℕ, false, true};
+ghost use Rattle.std.specs.Prelude.{◌≡◌, ◌≤◌, ◌==◌, ◌^◌, ◌++◌, ◌∷◌, [], ◌&&◌, cond, length, not};
+ghost use Rattle.std.specs.Prelude.{IfOk, OnOk, ℕ, false, true};
 ghost use Rattle.std.specs.FinSet as set;
 ghost use Rattle.sqlite.specs.Held.{state};
 ghost use Rattle.dr_ledger.specs.Bodies.{OnlyTakes};
@@ -11,10 +11,11 @@ ghost use Rattle.dr_site.specs.Parts.{Part};
 ghost use Rattle.dr_site.specs.Routing.{HasLineFor};
 ghost use Rattle.dr_store_schema.specs.Books.{all_kept_in, arrivals_in, bodies_of, book_of};
 ghost use Rattle.dr_store_schema.specs.Books.{rows_of};
-ghost use Rattle.dr_store_changes.specs.Bringing.{AreNames, missing};
+ghost use Rattle.dr_store_changes.specs.Bringing.{AreNames, given_up, missing};
 ghost use Rattle.dr_store_changes.specs.Changes.{HasNeither};
 ghost use Rattle.dr_store_calls.specs.Calling.{Called, Looked, Nothing, advanced};
-ghost use Rattle.dr_store_calls.specs.Knowing.{IsAccepted, IsKnown, IsThere, taking_there};
+ghost use Rattle.dr_store_calls.specs.Knowing.{IsAccepted, IsKnown, IsThere, chosen, is_chosen};
+ghost use Rattle.dr_store_calls.specs.Knowing.{taking_there};
 
 use crate::arriving::{bring_item, bring_new, repeat};
 use crate::knowing::{Known, know};
@@ -41,57 +42,68 @@ fn targets_of(alloc: Global, site: &Site, caller: &Text, key: &Key) -> Result<Ta
     }
 }
 
-/// These destinations, and this one if the instance has no row for it.
-fn with_missing(
-    dests: Seq<Text>,
-    dest: &Text,
-    row: Option<Progress>,
-) -> Result<Seq<Text>, LedgerFault>
-    ensures { Reads result (λ all. all ≡ dests ++ cond (is_some row) [] (dest.now ∷ [])) }
+/// Whether a destination with this row is one of those that are looked for: those for which the row
+/// was dropped, or else those to which there is none.
+fn is_such(dropped: bool, row: Option<Progress>) -> bool
+    ensures { result ≡ is_chosen dropped row }
 {
-    let mut all = dests;
     match row {
-        Some(_) => Ok(all),
-        None => {
-            all.push(dest.clone()?)?;
-            Ok(all)
-        }
+        Some(Progress::Dropped) => dropped,
+        Some(Progress::Done) => false,
+        Some(Progress::Held(_)) => false,
+        Some(Progress::Waiting { .. }) => false,
+        None => !dropped,
     }
 }
 
+/// These destinations, and this one if it is one of those that are looked for.
+fn with_chosen(dests: Seq<Text>, dest: &Text, is_one: bool) -> Result<Seq<Text>, LedgerFault>
+    ensures { Reads result (λ all. all ≡ dests ++ cond is_one (dest.now ∷ []) []) }
+{
+    let mut all = dests;
+    if !is_one {
+        return Ok(all);
+    }
+    all.push(dest.clone()?)?;
+    Ok(all)
+}
+
 /// The same, where the row is looked up.
-fn missing_one<'x, S: Alter>(
+fn chosen_one<'x, S: Alter>(
     conn: &mut Connection<S>,
     uid: &'x Text,
     dest: &'x Text,
     dests: Seq<Text>,
+    dropped: bool,
 ) -> Result<Seq<Text>, LedgerFault>
     ensures looked { (n : ℕ) (part : Part)
         → Looked n part result (state S.Store conn.old) (state S.Store conn.new) (λ base all.
-        all ≡ dests ++ missing (rows_of base) uid.now (dest.now ∷ [])) }
+        all ≡ dests ++ chosen dropped (rows_of base) uid.now (dest.now ∷ [])) }
     ensures idle { conn.old.in_transaction ≡ false → conn.new.in_transaction ≡ false }
 {
     match find_row(conn, uid, dest) {
-        Ok(row) => with_missing(dests, dest, row),
+        Ok(row) => with_chosen(dests, dest, is_such(dropped, row)),
         Err(fault) => Err(fault),
     }
 }
 
-/// Of these destinations those to which the instance has no row.
-fn missing_from<'x, S: Alter>(
+/// Of these destinations those for which the instance's row was dropped, or else those to which it
+/// has none.
+fn chosen_from<'x, S: Alter>(
     conn: &mut Connection<S>,
     alloc: Global,
     uid: &'x Text,
     to: &'x [Text],
+    dropped: bool,
 ) -> Result<Seq<Text>, LedgerFault>
     ensures looked { (n : ℕ) (part : Part)
         → Looked n part result (state S.Store conn.old) (state S.Store conn.new)
-        (λ base dests. dests ≡ missing (rows_of base) uid.now to.now) }
+        (λ base dests. dests ≡ chosen dropped (rows_of base) uid.now to.now) }
     ensures idle { conn.old.in_transaction ≡ false → conn.new.in_transaction ≡ false }
 {
     let mut dests = Seq::new(alloc);
     for dest in to {
-        match missing_one(conn, uid, dest, dests) {
+        match chosen_one(conn, uid, dest, dests, dropped) {
             Ok(more) => dests = more,
             Err(fault) => return Err(fault),
         }
@@ -100,18 +112,19 @@ fn missing_from<'x, S: Alter>(
 }
 
 /// The same, of a site's targets.
-fn missing_of<'x, S: Alter>(
+fn chosen_of<'x, S: Alter>(
     conn: &mut Connection<S>,
     alloc: Global,
     uid: &'x Text,
     targets: &'x Targets,
+    dropped: bool,
 ) -> Result<Seq<Text>, LedgerFault>
     ensures looked { (n : ℕ) (part : Part)
         → Looked n part result (state S.Store conn.old) (state S.Store conn.new)
-        (λ base dests. dests ≡ missing (rows_of base) uid.now targets.now.to) }
+        (λ base dests. dests ≡ chosen dropped (rows_of base) uid.now targets.now.to) }
     ensures idle { conn.old.in_transaction ≡ false → conn.new.in_transaction ≡ false }
 {
-    missing_from(conn, alloc, uid, targets.to.as_slice())
+    chosen_from(conn, alloc, uid, targets.to.as_slice(), dropped)
 }
 
 /// Whether what is to be kept is kept from now on: it is, where it wasn't before.
@@ -121,8 +134,15 @@ fn keeps_now(keep: bool, kept: bool) -> bool
     keep && !kept
 }
 
+/// Whether there is neither a destination of the one kind nor of the other.
+fn are_none(again: &[Text], dests: &[Text]) -> bool
+    ensures { result ≡ ((length again.now == 0) && (length dests.now == 0)) }
+{
+    again.is_empty() && dests.is_empty()
+}
+
 /// How an instance that is there is taken in: where its data set isn't there, it comes again for an
-/// instance that is to be kept or has a new row.
+/// instance that is to be kept, has a new row, or one that waits anew.
 fn taking_of(whole: bool, keep: bool, none: bool) -> Taking
     ensures { result ≡ taking_there whole keep none }
 {
@@ -143,6 +163,7 @@ fn bring_kept<'x, S: Alter>(
     instance: &'x Instance,
     targets: &'x Targets,
     whole: bool,
+    again: &'x Seq<Text>,
     dests: &'x Seq<Text>,
     kept: bool,
 ) -> Result<Arrived, LedgerFault>
@@ -157,6 +178,7 @@ fn bring_kept<'x, S: Alter>(
         (state S.Store conn.new)
         (λ base. IsThere base (instance_of item.now) whole
         × (set.contains (arrivals_in (base 5)) (caller.now, item.now.uid) ≡ false)
+        × (again.now ≡ given_up (rows_of base) item.now.uid targets.now.to)
         × (dests.now ≡ missing (rows_of base) item.now.uid targets.now.to)
         × (kept ≡ set.contains (all_kept_in (base 7)) item.now.uid))
         (λ base db. Arrives (site_routing site.now) caller.now (instance_of item.now) (book_of base)
@@ -168,15 +190,60 @@ fn bring_kept<'x, S: Alter>(
     ensures idle { conn.new.in_transaction ≡ false }
 {
     let keeps = keeps_now(targets.keep, kept);
+    let anew = again.as_slice();
     let all = dests.as_slice();
-    let taking = taking_of(whole, targets.keep, all.is_empty());
+    let none = are_none(anew, all);
+    let taking = taking_of(whole, targets.keep, none);
     bring_item(
-        conn, alloc, site, n, caller, item, targets, instance, taking, all, keeps,
+        conn, alloc, site, n, caller, item, targets, instance, taking, anew, all, keeps,
     )
 }
 
 /// The same; whether it is kept is looked up.
 fn bring_missing<'x, S: Alter>(
+    conn: &mut Connection<S>,
+    alloc: Global,
+    site: &Site,
+    n: u64,
+    caller: &'x Text,
+    item: &'x Job,
+    instance: &'x Instance,
+    targets: &'x Targets,
+    whole: bool,
+    again: &'x Seq<Text>,
+    dests: &'x Seq<Text>,
+) -> Result<Arrived, LedgerFault>
+    requires idle { conn.old.in_transaction ≡ false }
+    requires line { HasLineFor site.now caller.now item.now.key }
+    requires instance { instance.now ≡ instance_of item.now }
+    requires is_item { IsItem item.now }
+    requires to { targets.now.to ≡ (site_routing site.now).targets caller.now item.now.key }
+    requires keep { targets.now.keep ≡ (site_routing site.now).keeps caller.now item.now.key }
+    requires formed { AreNames targets.now.to }
+    ensures called { Called n (advanced result n) site.now result (state S.Store conn.old)
+        (state S.Store conn.new)
+        (λ base. IsThere base (instance_of item.now) whole
+        × (set.contains (arrivals_in (base 5)) (caller.now, item.now.uid) ≡ false)
+        × (again.now ≡ given_up (rows_of base) item.now.uid targets.now.to)
+        × (dests.now ≡ missing (rows_of base) item.now.uid targets.now.to))
+        (λ base db. Arrives (site_routing site.now) caller.now (instance_of item.now) (book_of base)
+        result (book_of db)
+        × OnlyTakes item.now (bodies_of base) (bodies_of db))
+        (λ base db.
+        IsAccepted site.now caller.now (instance_of item.now) (book_of base) (book_of db)) }
+    ensures number { OnOk result (n ≤ 2 ^ 62) }
+    ensures idle { conn.new.in_transaction ≡ false }
+{
+    match find_kept(conn, &item.uid) {
+        Ok(kept) => bring_kept(
+            conn, alloc, site, n, caller, item, instance, targets, whole, again, dests, kept,
+        ),
+        Err(fault) => Err(fault),
+    }
+}
+
+/// The same; the rows that were dropped are looked up.
+fn bring_lacking<'x, S: Alter>(
     conn: &mut Connection<S>,
     alloc: Global,
     site: &Site,
@@ -208,9 +275,9 @@ fn bring_missing<'x, S: Alter>(
     ensures number { OnOk result (n ≤ 2 ^ 62) }
     ensures idle { conn.new.in_transaction ≡ false }
 {
-    match find_kept(conn, &item.uid) {
-        Ok(kept) => bring_kept(
-            conn, alloc, site, n, caller, item, instance, targets, whole, dests, kept,
+    match chosen_of(conn, alloc, &item.uid, targets, true) {
+        Ok(again) => bring_missing(
+            conn, alloc, site, n, caller, item, instance, targets, whole, &again, dests,
         ),
         Err(fault) => Err(fault),
     }
@@ -247,8 +314,8 @@ fn bring_known<'x, S: Alter>(
     ensures number { OnOk result (n ≤ 2 ^ 62) }
     ensures idle { conn.new.in_transaction ≡ false }
 {
-    match missing_of(conn, alloc, &item.uid, targets) {
-        Ok(dests) => bring_missing(
+    match chosen_of(conn, alloc, &item.uid, targets, false) {
+        Ok(dests) => bring_lacking(
             conn, alloc, site, n, caller, item, instance, targets, whole, &dests,
         ),
         Err(fault) => Err(fault),

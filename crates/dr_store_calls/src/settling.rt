@@ -81,6 +81,7 @@ fn settle_found<'x, S: Alter>(
         }
         Some(Progress::Held(_)) => Err(LedgerFault::NotWaiting),
         Some(Progress::Done) => Err(LedgerFault::NotWaiting),
+        Some(Progress::Dropped) => Err(LedgerFault::NotWaiting),
         None => Err(LedgerFault::NotWaiting),
     }
 }
@@ -162,6 +163,7 @@ fn requeue_found<'x, S: Alter>(
         Some(Progress::Held(why)) => requeue_row(conn, n, uid, dest, why),
         Some(Progress::Waiting { .. }) => Err(LedgerFault::NotHeld),
         Some(Progress::Done) => Err(LedgerFault::NotHeld),
+        Some(Progress::Dropped) => Err(LedgerFault::NotHeld),
         None => Err(LedgerFault::NotHeld),
     }
 }

@@ -1,5 +1,5 @@
 -- First arrivals, one part after another.
-use Rattle.std.proofs.Common.{◌≡◌, ◌==◌, ℕ, pos, List, [], ◌∷◌, Bool, true, false, cond, Option, Some, None, Ok, Result, refl, sym, ap, subst, ◌∙◌}
+use Rattle.std.proofs.Common.{◌≡◌, ◌==◌, ℕ, pos, List, [], ◌∷◌, Bool, true, false, cond, Option, Some, None, IsSome, Ok, Result, refl, sym, ap, subst, ◌∙◌}
 use Rattle.std.specs.Cmp.Lexicographic.{nat_list_cmp_total}
 use Rattle.std.specs.FinMap as map
 use Rattle.std.specs.FinMap.{FinMap}
@@ -21,7 +21,7 @@ use Rattle.dr_store_writes.proofs.Maps.{equal}
 use Rattle.dr_store_changes.specs.declared.first.Taking.{Taking}
 use Rattle.dr_store_changes.specs.declared.first.Taking.TheVariants as taking
 use Rattle.dr_store_changes.specs.Bringing.{AsksToTake, Brings, KeepsIf, TakesIn, Then}
-use Rattle.dr_store_changes.specs.Changes.{AddsOnlyLine, AddsRows, AddsTargets, HasBoth, HasNeither, KeepsOne, NotesArrival, Stores, TakesBack, with_names}
+use Rattle.dr_store_changes.specs.Changes.{AddsOnlyLine, AddsRows, AddsTargets, HasBoth, HasNeither, HasRows, KeepsOne, NotesArrival, Renews, Stores, TakesBack, with_names, with_waiting}
 use Rattle.dr_store_changes.specs.Writing.{IsMade}
 use Rattle.dr_store_changes.proofs.Arrivals.{only_line}
 use Rattle.dr_store_changes.proofs.LettingGo.{back_body, body_at, gone_body}
@@ -112,41 +112,50 @@ line_added n caller item old new adds = let m = only_line n (arrived_line n 0 ca
 -- ---- all of it
 
 -- all but the line
-abbrev pub Filled : Taking → Text → Instance → List ℕ → List Text → Bool → Trees → Trees → Type 0
-Filled how caller item body dests keeps = Then (Then (TakesIn how item body) (NotesArrival (caller, item.uid))) (Then (AddsRows item.uid dests) (KeepsIf item.uid keeps))
+abbrev pub Filled : Taking → Text → Instance → List ℕ → List Text → List Text → Bool → Trees → Trees → Type 0
+Filled how caller item body again dests keeps = Then (Then (TakesIn how item body) (NotesArrival (caller, item.uid))) (Then (Then (Renews item.uid again) (AddsRows item.uid dests)) (KeepsIf item.uid keeps))
+
+-- what is taken in changes no row
+pub rows_untouched : (how : Taking) (caller : Text) (item : Instance) (body : List ℕ) (again : List Text) (old new : Trees) → Then (TakesIn how item body) (NotesArrival (caller, item.uid)) old new → HasRows item.uid again old → HasRows item.uid again new
+rows_untouched how caller item body again old new taken has dest goes =
+    let t = taken.1 in
+    let a = taken.2 in
+    subst (λ rows. IsSome (map.get (rows_in rows) (item.uid, dest))) (sym (a.queue ∙ t.queue)) (has dest goes)
 
 abbrev pub LineWritten : Text → Instance → List Text → ℕ → Trees → Trees → Type 0
 LineWritten caller item names n = Then (AddsOnlyLine (arrived_line n 0 caller item)) (AddsTargets n names)
 
-pub brought : (how : Taking) (caller : Text) (item : Instance) (body : List ℕ) (dests : List Text) (keeps : Bool) (names : List Text) (n : ℕ) (old new : Trees)
-    → Then (Filled how caller item body dests keeps) (LineWritten caller item names n) old new → Brings how caller item body dests keeps names n old new
-brought how caller item body dests keeps names n old new all =
+pub brought : (how : Taking) (caller : Text) (item : Instance) (body : List ℕ) (again dests : List Text) (keeps : Bool) (names : List Text) (n : ℕ) (old new : Trees)
+    → Then (Filled how caller item body again dests keeps) (LineWritten caller item names n) old new → Brings how caller item body again dests keeps names n old new
+brought how caller item body again dests keeps names n old new all =
     let at : Pair = (caller, item.uid) in
     let line : Row = arrived_line n 0 caller item in
     let filled = all.1 in
     let written = all.2 in
     let t = filled.1.1 in
     let a = filled.1.2 in
-    let r = filled.2.1 in
+    let w = filled.2.1.1 in
+    let r = filled.2.1.2 in
     let k = filled.2.2 in
     let l = written.1 in
     let g = written.2 in
-    let items = g.items ∙ l.items ∙ k.items ∙ r.items ∙ a.items in
-    let prints = g.prints ∙ l.prints ∙ k.prints ∙ r.prints ∙ a.prints in
+    let items = g.items ∙ l.items ∙ k.items ∙ r.items ∙ w.items ∙ a.items in
+    let prints = g.prints ∙ l.prints ∙ k.prints ∙ r.prints ∙ w.prints ∙ a.prints in
     record {
       items = (λ i. items_in (prints_in (prints i)) (items i)) ∙ t.items;
       bodies = (λ i. bodies_by (contents_in (items i)) (wholes_in (prints i))) ∙ t.bodies;
-      arrivals = ap arrivals_in (g.arrivals ∙ l.arrivals ∙ k.arrivals ∙ r.arrivals) ∙ a.arrivals ∙ ap (λ rows. set.insert (arrivals_in rows) at) t.arrivals;
-      rows = ap rows_in (g.queue ∙ l.queue ∙ k.queue) ∙ r.rows ∙ ap (λ rows. with_rows (rows_in rows) item.uid dests) (a.queue ∙ t.queue);
-      kept = ap all_kept_in (g.kept ∙ l.kept) ∙ k.kept ∙ ap (λ rows. cond keeps (set.insert (all_kept_in rows) item.uid) (all_kept_in rows)) (r.kept ∙ a.kept ∙ t.kept);
-      journal = g.journal ∙ l.journal ∙ ap (put_row line) (k.journal ∙ r.journal ∙ a.journal ∙ t.journal);
-      targets = λ m. g.targets m ∙ ap (λ rows. cond (n == m) (with_names (names_in rows m) names) (names_in rows m)) (l.targets ∙ k.targets ∙ r.targets ∙ a.targets ∙ t.targets);
-      site = g.site ∙ l.site ∙ k.site ∙ r.site ∙ a.site ∙ t.site;
+      arrivals = ap arrivals_in (g.arrivals ∙ l.arrivals ∙ k.arrivals ∙ r.arrivals ∙ w.arrivals) ∙ a.arrivals ∙ ap (λ rows. set.insert (arrivals_in rows) at) t.arrivals;
+      rows = ap rows_in (g.queue ∙ l.queue ∙ k.queue) ∙ r.rows
+          ∙ ap (λ rows. with_rows rows item.uid dests) (w.rows ∙ ap (λ rows. with_waiting (rows_in rows) item.uid again) (a.queue ∙ t.queue));
+      kept = ap all_kept_in (g.kept ∙ l.kept) ∙ k.kept ∙ ap (λ rows. cond keeps (set.insert (all_kept_in rows) item.uid) (all_kept_in rows)) (r.kept ∙ w.kept ∙ a.kept ∙ t.kept);
+      journal = g.journal ∙ l.journal ∙ ap (put_row line) (k.journal ∙ r.journal ∙ w.journal ∙ a.journal ∙ t.journal);
+      targets = λ m. g.targets m ∙ ap (λ rows. cond (n == m) (with_names (names_in rows m) names) (names_in rows m)) (l.targets ∙ k.targets ∙ r.targets ∙ w.targets ∙ a.targets ∙ t.targets);
+      site = g.site ∙ l.site ∙ k.site ∙ r.site ∙ w.site ∙ a.site ∙ t.site;
     }
 
-pub arrival_made : (how : Taking) (caller : Text) (item : Instance) (body : List ℕ) (dests : List Text) (keeps : Bool) (names : List Text) (n : ℕ) (old new : State)
-    → GoesOn old new × Then (Filled how caller item body dests keeps) (LineWritten caller item names n) old.now.trees new.now.trees
-    → IsMade n (Brings how caller item body dests keeps names n) old new
-arrival_made how caller item body dests keeps names n old new all =
-    let made = brought how caller item body dests keeps names n old.now.trees new.now.trees all.1 in
+pub arrival_made : (how : Taking) (caller : Text) (item : Instance) (body : List ℕ) (again dests : List Text) (keeps : Bool) (names : List Text) (n : ℕ) (old new : State)
+    → GoesOn old new × Then (Filled how caller item body again dests keeps) (LineWritten caller item names n) old.now.trees new.now.trees
+    → IsMade n (Brings how caller item body again dests keeps names n) old new
+arrival_made how caller item body again dests keeps names n old new all =
+    let made = brought how caller item body again dests keeps names n old.now.trees new.now.trees all.1 in
     record { goes_on = all.0; line = record { row = arrived_line n 0 caller item; numbered = refl; journal = made.journal }; made = made }

@@ -165,7 +165,7 @@ forgettings_forget old new n uid below w = λ i. record {
 pub not_needed : (b : Book) (uid : Text) → IsOver b uid → IsNeeded b uid → ⊥
 not_needed b uid over needed = elim needed [
   | inl kept ↦ true≢false (sym kept ∙ over.unkept)
-  | inr open_row ↦ open_row.3 (over.done open_row.0 open_row.1 open_row.2)
+  | inr open_row ↦ true≢false (sym open_row.3 ∙ over.unqueued open_row.0 open_row.1 open_row.2)
 ]
 
 pub forgettings_let_no_data_set_go : ForgettingsLetNoDataSetGo

@@ -22,34 +22,27 @@ use Rattle.dr_base.specs.Texts.{IsInByteOrder, Text, text_cmp}
 use Rattle.dr_plan_model.proofs.Gathered.{Contains-cons_cases, nothing_in_nil}
 use Rattle.dr_ledger.specs.declared.content.Job.{Job}
 use Rattle.dr_ledger.specs.declared.item.Instance.{Instance}
-use Rattle.dr_ledger.specs.declared.item.Progress.{Progress}
-use Rattle.dr_ledger.specs.declared.item.Progress.TheVariants.{Waiting}
 use Rattle.dr_ledger.specs.Bodies.{Bodies, HasBodies, IsNeeded}
-use Rattle.dr_ledger.specs.Books.{Book, Arrival, after, with_rows}
+use Rattle.dr_ledger.specs.Books.{Book, Arrival, after}
 use Rattle.dr_ledger.specs.Items.{IsItem, instance_of}
-use Rattle.dr_ledger.specs.Pairs.{Pair, pair_cmp}
-use Rattle.dr_ledger.proofs.Growing.{inside, kept_from, rows_from, rows_stay, still_kept}
+use Rattle.dr_ledger.proofs.Growing.{inside, kept_from, still_kept}
 use Rattle.dr_ledger.proofs.Maps.{filled_is, filled_keeps, get_new, get_other, same_or_not, texts, ties_itself}
 use Rattle.dr_ledger.proofs.PlanRouting.{any_from, one_list, or_right}
 use Rattle.dr_store_schema.specs.Books.{AreBelow, Names, all_kept_in, arrivals_in, bodies_of, book_of, instance_in, items_of, keep_mark, line_by, line_in, lines_in, lines_of, names_in, numbered_line, rows_of}
 use Rattle.dr_store_schema.specs.Cells.{number_in, outcome_in, text_in}
 use Rattle.dr_store_writes.specs.Effects.{arrived_line}
-use Rattle.dr_store_writes.proofs.Keys.{pairs_exact, pairs_total}
 use Rattle.dr_store_writes.proofs.Maps.{equal}
 use Rattle.dr_store_changes.specs.declared.first.Taking.{Taking}
 use Rattle.dr_store_changes.specs.declared.first.Taking.TheVariants as taking
-use Rattle.dr_store_changes.specs.Bringing.{AreNames, Brings, IsKnownFor, bodies_taken, items_taken, missing, names_for}
+use Rattle.dr_store_changes.specs.Bringing.{AreNames, Brings, IsKnownFor, bodies_taken, items_taken, names_for}
 use Rattle.dr_store_changes.specs.Changes.{with_names}
 use Rattle.dr_store_changes.specs.Laws.{ArrivalsArrive, ComesWhereNeeded, DataSetsCome}
 use Rattle.dr_store_changes.proofs.Bookings.{came}
+use Rattle.dr_store_changes.proofs.Fresh.{queued_stays, row_came, rows_fresh}
 use Rattle.dr_store_changes.proofs.Numbers.{lines_put}
 use Rattle.dr_store_changes.proofs.Sets.{present}
 
 -- ---- a map that gets what it has
-
-there_still : {X : Type 0} (b : Bool) (v : X) (o : Option X) → is_some o ≡ true → is_some (cond b (Some v) o) ≡ true
-there_still true v o h = refl
-there_still false v o h = h
 
 -- to insert what is there changes nothing
 same_put : (items : FinMap text_cmp Instance) (uid : Text) (item : Instance) → map.get items uid ≡ Some item → map.insert items uid item ≡ items
@@ -58,56 +51,6 @@ same_put items uid item there = map.same_map nat_list_cmp_total exact_bytes _ _ 
     go : (q : Text) (b : Bool) → eq_by_cmp text_cmp q uid ≡ b → cond b (Some item) (map.get items q) ≡ map.get items q
     go q true is = sym (ap (map.get items) (exact_bytes q uid (equal _ is)) ∙ there)
     go q false is = refl
-
--- ---- rows for destinations that have none
-
-Grows : FinMap pair_cmp Progress → FinMap pair_cmp Progress → Type 0
-Grows base rows = (at : Pair) → map.contains_key base at ≡ true → map.contains_key rows at ≡ true
-
-abbrev row_put : FinMap pair_cmp Progress → Pair → FinMap pair_cmp Progress
-row_put rows at = map.insert rows at (unwrap_or (map.get rows at) (Waiting 0 0))
-
-with_first : (rows : FinMap pair_cmp Progress) (uid dest : Text) (more : List Text) → with_rows rows uid (dest ∷ more) ≡ with_rows (row_put rows (uid, dest)) uid more
-unfolding with_rows
-with_first rows uid dest more = refl
-
-row_there : (rows : FinMap pair_cmp Progress) (at : Pair) → map.contains_key rows at ≡ true → row_put rows at ≡ rows
-row_there rows at has = map.same_map pairs_total pairs_exact _ _ (λ q. map.get-insert pairs_total rows at (unwrap_or (map.get rows at) (Waiting 0 0)) q ∙ go q (eq_by_cmp pair_cmp q at) refl)
-  where
-    some : (o : Option Progress) → is_some o ≡ true → Some (unwrap_or o (Waiting 0 0)) ≡ o
-    some None h = absurd (true≢false (sym h))
-    some (Some row) h = refl
-
-    go : (q : Pair) (b : Bool) → eq_by_cmp pair_cmp q at ≡ b → cond b (Some (unwrap_or (map.get rows at) (Waiting 0 0))) (map.get rows q) ≡ map.get rows q
-    go q true is = some (map.get rows at) has ∙ sym (ap (map.get rows) (pairs_exact q at (equal _ is)))
-    go q false is = refl
-
-put_grows : (base rows : FinMap pair_cmp Progress) (at : Pair) → Grows base rows → Grows base (row_put rows at)
-unfolding Grows
-put_grows base rows at grows q h =
-    ap is_some (map.get-insert pairs_total rows at (unwrap_or (map.get rows at) (Waiting 0 0)) q)
-    ∙ there_still (eq_by_cmp pair_cmp q at) (unwrap_or (map.get rows at) (Waiting 0 0)) (map.get rows q) (grows q h)
-
-missing_first : (base rows : FinMap pair_cmp Progress) (uid dest : Text) (more : List Text) (b : Bool) → map.contains_key base (uid, dest) ≡ b → Grows base rows
-    → ((rs : FinMap pair_cmp Progress) → Grows base rs → with_rows rs uid (missing base uid more) ≡ with_rows rs uid more)
-    → with_rows rows uid (cond (not b) (dest ∷ missing base uid more) (missing base uid more)) ≡ with_rows rows uid (dest ∷ more)
-unfolding Grows
-missing_first base rows uid dest more true is grows later =
-    later rows grows ∙ ap (λ rs. with_rows rs uid more) (sym (row_there rows (uid, dest) (grows (uid, dest) is))) ∙ sym (with_first rows uid dest more)
-missing_first base rows uid dest more false is grows later =
-    with_first rows uid dest (missing base uid more) ∙ later (row_put rows (uid, dest)) (put_grows base rows (uid, dest) grows) ∙ sym (with_first rows uid dest more)
-
-with_missing : (base : FinMap pair_cmp Progress) (uid : Text) (to : List Text) (rows : FinMap pair_cmp Progress) → Grows base rows → with_rows rows uid (missing base uid to) ≡ with_rows rows uid to
-with_missing base uid [] rows grows = refl
-with_missing base uid (dest ∷ more) rows grows = missing_first base rows uid dest more (map.contains_key base (uid, dest)) refl grows (λ rs g. with_missing base uid more rs g)
-
-itself_grows : (rows : FinMap pair_cmp Progress) → Grows rows rows
-unfolding Grows
-itself_grows rows at h = h
-
--- the rows for those that have none are those for all
-pub rows_missing : (rows : FinMap pair_cmp Progress) (uid : Text) (to : List Text) → with_rows rows uid (missing rows uid to) ≡ with_rows rows uid to
-rows_missing rows uid to = with_missing rows uid to rows (itself_grows rows)
 
 -- ---- kept, where it isn't
 
@@ -275,7 +218,7 @@ arrivals_arrive how old new n caller item body to keep below ahead known names w
       items = (w.items ∙ taken_is how (items_of old) item known) i;
       arrivals = w.arrivals i;
       kept = (w.kept ∙ kept_once (all_kept_in (old 7)) item.uid keep) i;
-      rows = (w.rows ∙ rows_missing (rows_of old) item.uid to) i;
+      rows = (w.rows ∙ rows_fresh (rows_of old) item.uid to) i;
       lines = lines i;
     }
 
@@ -288,7 +231,7 @@ module _ (b : Book) (caller : Text) (job : Job) (to : List Text) (keep : Bool) w
   needed_still : (uid : Text) → IsNeeded b uid → IsNeeded made uid
   needed_still uid needed = elim needed [
     | inl kept ↦ inl (still_kept keep b.kept job.uid uid kept)
-    | inr row ↦ inr (row.0, row.1, rows_stay to b.rows job.uid (uid, row.0) row.1 row.2, row.3)
+    | inr row ↦ inr (row.0, row.1, queued_stays to b.rows job.uid (uid, row.0) row.1 row.2 row.3, row.3)
   ]
 
   needed_before : (uid : Text) → (uid ≡ job.uid → ⊥) → IsNeeded made uid → IsNeeded b uid
@@ -297,7 +240,7 @@ module _ (b : Book) (caller : Text) (job : Job) (to : List Text) (keep : Bool) w
       | inl was ↦ inl was
       | inr is ↦ absurd (other is.0)
     ]
-    | inr row ↦ elim (rows_from to b.rows job.uid (uid, row.0) row.1 row.2) [
+    | inr row ↦ elim (row_came to b.rows job.uid (uid, row.0) row.1 row.2) [
       | inl was ↦ inr (row.0, row.1, was, row.3)
       | inr is ↦ absurd (other is.0)
     ]

@@ -1,7 +1,9 @@
 pub mod Arrivals
 pub mod Bookings
+pub mod Dropped
 pub mod FirstOnes
 pub mod Forgotten
+pub mod Fresh
 pub mod Joins
 pub mod LettingGo
 pub mod Movements

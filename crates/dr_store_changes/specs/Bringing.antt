@@ -1,6 +1,6 @@
 -- First arrivals: what each makes of the tables.
 use Rattle.std.specs.Prelude.{◌≡◌, ◌≤◌, ◌==◌, ◌&&◌, ℕ, Bool, cond, not, List, [], ◌∷◌, Contains}
-use Rattle.std.specs.Prelude.{filter, Option, None, Some}
+use Rattle.std.specs.Prelude.{filter, true, false, Option, None, Some}
 use Rattle.std.specs.FinMap as map
 use Rattle.std.specs.FinMap.{FinMap}
 use Rattle.std.specs.FinSet as set
@@ -8,6 +8,7 @@ use Rattle.sqlite.specs.Tree.{Trees, put_row}
 use Rattle.dr_base.specs.Texts.{IsInByteOrder, Text, text_cmp}
 use Rattle.dr_ledger.specs.declared.item.Instance.{Instance}
 use Rattle.dr_ledger.specs.declared.item.Progress.{Progress}
+use Rattle.dr_ledger.specs.declared.item.Progress.TheVariants.{Waiting, Held, Done, Dropped}
 use Rattle.dr_ledger.specs.Bodies.{Bodies}
 use Rattle.dr_ledger.specs.Books.{with_rows}
 use Rattle.dr_ledger.specs.Pairs.{Pair, pair_cmp}
@@ -16,7 +17,7 @@ use Rattle.dr_store_schema.specs.Books.{names_in, rows_of}
 use Rattle.dr_store_writes.specs.Effects.{arrived_line}
 use Rattle.dr_store_changes.specs.declared.first.Taking.{Taking}
 use Rattle.dr_store_changes.specs.declared.first.Taking.TheVariants as taking
-use Rattle.dr_store_changes.specs.Changes.{HasBoth, HasNeither, with_names}
+use Rattle.dr_store_changes.specs.Changes.{HasBoth, HasNeither, with_names, with_waiting}
 
 -- one change of the tables, and then another
 abbrev pub Then : (Trees → Trees → Type 0) → (Trees → Trees → Type 0) → Trees → Trees → Type 0
@@ -71,14 +72,16 @@ pub record KeepsIf (uid : Text) (keeps : Bool) (old new : Trees) : Type 0 where
 -- ---- all of it
 
 -- A first arrival with line n: the item is there, and its data set if it comes; the caller has
--- brought it; it waits for each of these destinations, and is kept if it is to be; and the line
--- goes on to these names, `-` standing for keeping.
+-- brought it; it waits anew for each destination of `again`, and from now on for each of `dests`;
+-- it is kept if it is to be; and the line goes on to these names, `-` standing for keeping.
 pub record Brings (how : Taking) (caller : Text) (item : Instance) (body : List ℕ)
-    (dests : List Text) (keeps : Bool) (names : List Text) (n : ℕ) (old new : Trees) : Type 0 where
+    (again dests : List Text) (keeps : Bool) (names : List Text) (n : ℕ)
+    (old new : Trees) : Type 0 where
   pub items : items_of new ≡ items_taken how (items_of old) item
   pub bodies : bodies_of new ≡ bodies_taken how (bodies_of old) item.uid body
   pub arrivals : arrivals_in (new 5) ≡ set.insert (arrivals_in (old 5)) (caller, item.uid)
-  pub rows : rows_of new ≡ with_rows (rows_of old) item.uid dests
+  pub rows : rows_of new
+      ≡ with_rows (with_waiting (rows_of old) item.uid again) item.uid dests
   pub kept : all_kept_in (new 7)
       ≡ cond keeps (set.insert (all_kept_in (old 7)) item.uid) (all_kept_in (old 7))
   pub journal : new 11 ≡ put_row (arrived_line n 0 caller item) (old 11)
@@ -92,6 +95,18 @@ pub record Brings (how : Taking) (caller : Text) (item : Instance) (body : List 
 -- of these destinations those to which the instance has no row
 abbrev pub missing : FinMap pair_cmp Progress → Text → List Text → List Text
 missing rows uid to = filter (λ dest. not (map.contains_key rows (uid, dest))) to
+
+-- a row is there, and was dropped
+abbrev pub is_dropped : Option Progress → Bool
+is_dropped (Some Dropped) = true
+is_dropped (Some Done) = false
+is_dropped (Some (Held why)) = false
+is_dropped (Some (Waiting tries due)) = false
+is_dropped None = false
+
+-- of these destinations those for which the instance's row was dropped
+abbrev pub given_up : FinMap pair_cmp Progress → Text → List Text → List Text
+given_up rows uid to = filter (λ dest. is_dropped (map.get rows (uid, dest))) to
 
 -- where the line goes on to, with `-` where the instance is kept
 abbrev pub names_for : Bool → List Text → List Text

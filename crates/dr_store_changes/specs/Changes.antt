@@ -1,19 +1,21 @@
 -- What the calls that write make of the tables.
-use Rattle.std.specs.Prelude.{◌≡◌, ◌==◌, ℕ, Bool, cond, filter, List, [], ◌∷◌, None}
+use Rattle.std.specs.Prelude.{◌≡◌, ◌==◌, ℕ, Bool, cond, filter, Contains, List, [], ◌∷◌, None}
 use Rattle.std.specs.FinSet as set
 use Rattle.std.specs.FinMap as map
+use Rattle.std.specs.FinMap.{FinMap}
 use Rattle.sqlite.specs.Order.{Row}
 use Rattle.sqlite.specs.State.{State}
 use Rattle.sqlite.specs.Tree.{Trees, put_row}
 use Rattle.dr_base.specs.Texts.{Text, text_cmp}
 use Rattle.dr_ledger.specs.declared.item.Instance.{Instance}
 use Rattle.dr_ledger.specs.declared.item.Progress.{Progress}
+use Rattle.dr_ledger.specs.declared.item.Progress.TheVariants.{Waiting, Dropped}
 use Rattle.dr_ledger.specs.Books.{with_rows}
-use Rattle.dr_ledger.specs.Pairs.{Pair}
+use Rattle.dr_ledger.specs.Pairs.{Pair, pair_cmp}
 use Rattle.dr_store_schema.specs.Books.{Names, all_kept_in, arrivals_in, bodies_of, contents_in}
 use Rattle.dr_store_schema.specs.Books.{items_of, names_in, rows_of, wholes_in}
-use Rattle.dr_store_writes.specs.Effects.{GoesOn, HasItem, HasPrint, HasRow, forgotten_line}
-use Rattle.dr_store_writes.specs.Effects.{is_of_other}
+use Rattle.dr_store_writes.specs.Effects.{GoesOn, HasItem, HasPrint, HasRow, dropped_line}
+use Rattle.dr_store_writes.specs.Effects.{forgotten_line, is_of_other}
 
 -- ---- a data set is let go
 
@@ -76,6 +78,34 @@ pub record MovesOn (at : Pair) (to : Progress) (line : Row) (lets_go : Bool)
 abbrev pub AsksForRow : Pair → Trees → Type 0
 AsksForRow at db = HasRow at db × HasBoth at.0 db
 
+-- ---- a row is dropped
+
+-- inside a transaction a row was dropped, the line stands in the journal, and the arrivals of the
+-- instance have left, whoever brought it; all other tables are as they were
+pub record GivenUp (uid dest : Text) (now n : ℕ) (old new : State) : Type 0 where
+  pub goes_on : GoesOn old new
+  pub rows : rows_of new.now.trees ≡ map.insert (rows_of old.now.trees) (uid, dest) Dropped
+  pub journal : new.now.trees 11 ≡ put_row (dropped_line n uid dest now) (old.now.trees 11)
+  pub arrivals : new.now.trees 5 ≡ filter (is_of_other 2 uid) (old.now.trees 5)
+  pub site : new.now.trees 0 ≡ old.now.trees 0
+  pub items : new.now.trees 1 ≡ old.now.trees 1
+  pub prints : new.now.trees 3 ≡ old.now.trees 3
+  pub kept : new.now.trees 7 ≡ old.now.trees 7
+  pub targets : new.now.trees 12 ≡ old.now.trees 12
+
+-- A dropping with line n, at a moment: the row is dropped, the arrivals of the instance have left,
+-- whoever brought it, the line stands in the journal, and the data set goes if it is to go. All
+-- else stays.
+pub record GivesUp (uid dest : Text) (now n : ℕ) (lets_go : Bool) (old new : Trees) : Type 0 where
+  pub rows : rows_of new ≡ map.insert (rows_of old) (uid, dest) Dropped
+  pub arrivals : new 5 ≡ filter (is_of_other 2 uid) (old 5)
+  pub journal : new 11 ≡ put_row (dropped_line n uid dest now) (old 11)
+  pub items : items_of new ≡ items_of old
+  pub bodies : bodies_of new ≡ cond lets_go (map.remove (bodies_of old) uid) (bodies_of old)
+  pub site : new 0 ≡ old 0
+  pub kept : new 7 ≡ old 7
+  pub targets : new 12 ≡ old 12
+
 -- ---- an arrival
 
 -- a line more, and nothing else
@@ -111,6 +141,27 @@ pub record Stores (item : Instance) (body : List ℕ) (whole : ℕ) (old new : T
 -- refuse it. All other tables stay.
 pub record AddsRows (uid : Text) (dests : List Text) (old new : Trees) : Type 0 where
   pub rows : rows_of new ≡ with_rows (rows_of old) uid dests
+  pub site : new 0 ≡ old 0
+  pub items : new 1 ≡ old 1
+  pub prints : new 3 ≡ old 3
+  pub arrivals : new 5 ≡ old 5
+  pub kept : new 7 ≡ old 7
+  pub journal : new 11 ≡ old 11
+  pub targets : new 12 ≡ old 12
+
+-- queue has a row for each of the destinations
+abbrev pub HasRows : Text → List Text → Trees → Type 0
+HasRows uid dests db = (dest : Text) → Contains dests dest → HasRow (uid, dest) db
+
+-- the rows where those for these destinations wait, untried
+abbrev pub with_waiting : FinMap pair_cmp Progress → Text → List Text → FinMap pair_cmp Progress
+with_waiting rows uid [] = rows
+with_waiting rows uid (dest ∷ more) =
+    with_waiting (map.insert rows (uid, dest) (Waiting 0 0)) uid more
+
+-- queue's rows for these destinations wait anew, untried. All other tables stay.
+pub record Renews (uid : Text) (dests : List Text) (old new : Trees) : Type 0 where
+  pub rows : rows_of new ≡ with_waiting (rows_of old) uid dests
   pub site : new 0 ≡ old 0
   pub items : new 1 ≡ old 1
   pub prints : new 3 ≡ old 3

@@ -13,8 +13,8 @@ use Rattle.dr_ledger.specs.declared.item.Outcome.{Outcome}
 use Rattle.dr_ledger.specs.declared.item.Progress.{Progress}
 use Rattle.dr_ledger.specs.declared.item.Progress.TheVariants.{Waiting, Held}
 use Rattle.dr_ledger.specs.Bodies.{Bodies, HasBodies, IsNeeded}
-use Rattle.dr_ledger.specs.Books.{Book, Arrival, Repeat, Settling, Requeuing, Forgetting, after}
-use Rattle.dr_ledger.specs.Books.{row_after}
+use Rattle.dr_ledger.specs.Books.{Book, Arrival, Repeat, Settling, Requeuing, Dropping, Forgetting}
+use Rattle.dr_ledger.specs.Books.{after, row_after}
 use Rattle.dr_ledger.specs.Items.{IsItem, instance_of}
 use Rattle.dr_ledger.specs.Replies.{IsOver}
 use Rattle.dr_store_schema.specs.Books.{AreBelow, all_kept_in, bodies_of, book_of, items_of}
@@ -23,8 +23,8 @@ use Rattle.dr_store_writes.specs.Effects.{arrived_line, requeued_line, settled_l
 use Rattle.dr_store_changes.specs.declared.first.Taking.{Taking}
 use Rattle.dr_store_changes.specs.declared.first.Taking.TheVariants as taking
 use Rattle.dr_store_changes.specs.Bringing.{AreNames, Brings, GoNowhere, IsKnownFor, bodies_taken}
-use Rattle.dr_store_changes.specs.Bringing.{missing, names_for}
-use Rattle.dr_store_changes.specs.Changes.{AddsOnlyLine, TakesOut, MovesOn}
+use Rattle.dr_store_changes.specs.Bringing.{given_up, missing, names_for}
+use Rattle.dr_store_changes.specs.Changes.{AddsOnlyLine, GivesUp, MovesOn, TakesOut}
 
 -- Where a row waits, to move it on by an outcome with the line of its settling is to settle it.
 abbrev pub SettlingsSettle : Type 0
@@ -46,6 +46,16 @@ RequeuingsRequeue =
     → MovesOn (uid, dest) (Waiting 0 0) (requeued_line n uid dest) lets_go old new
     → book_of new ≡ after (Requeuing uid dest) (book_of old)
 
+-- Where a row is held, to drop it and the arrivals of its instance, with the line of its dropping,
+-- is to drop it.
+abbrev pub DroppingsDrop : Type 0
+DroppingsDrop =
+    (old new : Trees) (n : ℕ) (uid dest : Text) (why : Cause) (now : ℕ) (lets_go : Bool)
+    → AreBelow n (old 11)
+    → map.get (rows_of old) (uid, dest) ≡ Some (Held why)
+    → GivesUp uid dest now n lets_go old new
+    → book_of new ≡ after (Dropping uid dest now) (book_of old)
+
 -- the data set goes just where the book that is made needs it no more
 abbrev pub GoesWhereNeededNoMore : Bool → Trees → Text → Type 0
 GoesWhereNeededNoMore true new uid = IsNeeded (book_of new) uid → ⊥
@@ -62,6 +72,16 @@ WhatIsNeededStays =
     → GoesWhereNeededNoMore lets_go new uid
     → HasBodies (book_of new) (bodies_of new)
 
+-- The same of a row that is dropped.
+abbrev pub WhatIsNeededStaysAtADropping : Type 0
+WhatIsNeededStaysAtADropping =
+    (old new : Trees) (n : ℕ) (uid dest : Text) (now : ℕ) (lets_go : Bool)
+    → HasBodies (book_of old) (bodies_of old)
+    → IsNeeded (book_of old) uid
+    → GivesUp uid dest now n lets_go old new
+    → GoesWhereNeededNoMore lets_go new uid
+    → HasBodies (book_of new) (bodies_of new)
+
 -- The line of a repeat, with what came, is all that a repeat adds to the book.
 abbrev pub RepeatsRepeat : Type 0
 RepeatsRepeat =
@@ -71,8 +91,8 @@ RepeatsRepeat =
     → (book_of new ≡ after (Repeat caller item) (book_of old)) × (bodies_of new ≡ bodies_of old)
 
 -- An instance that comes from a caller for the first time, with rows for those of its destinations
--- that have none, kept if it is to be and isn't, and with the line and its names: that is its
--- arrival.
+-- that have none, and with those that were dropped waiting anew, kept if it is to be and isn't, and
+-- with the line and its names: that is its arrival.
 abbrev pub ArrivalsArrive : Type 0
 ArrivalsArrive =
     (how : Taking) (old new : Trees) (n : ℕ) (caller : Text) (item : Instance) (body : List ℕ)
@@ -80,7 +100,8 @@ ArrivalsArrive =
     → AreBelow n (old 11) → GoNowhere n old
     → IsKnownFor how item (map.get (items_of old) item.uid)
     → AreNames to
-    → Brings how caller item body (missing (rows_of old) item.uid to)
+    → Brings how caller item body (given_up (rows_of old) item.uid to)
+    (missing (rows_of old) item.uid to)
     (keep && not (set.contains (all_kept_in (old 7)) item.uid)) (names_for keep to) n old new
     → book_of new ≡ after (Arrival caller item to keep) (book_of old)
 

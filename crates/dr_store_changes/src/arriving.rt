@@ -2,14 +2,14 @@
 ghost use Rattle.std.specs.Prelude.{◌≡◌, ◌≤◌, ◌^◌};
 ghost use Rattle.sqlite.specs.Held.{state};
 ghost use Rattle.dr_store_writes.specs.Effects.{GoesOn, Step};
-ghost use Rattle.dr_store_changes.specs.Changes.{AddsRows, AddsTargets, HasNeither, KeepsOne};
-ghost use Rattle.dr_store_changes.specs.Changes.{NotesArrival, Stores};
+ghost use Rattle.dr_store_changes.specs.Changes.{AddsRows, AddsTargets, HasNeither, HasRows};
+ghost use Rattle.dr_store_changes.specs.Changes.{KeepsOne, NotesArrival, Renews, Stores};
 
 use crate::writing::Change;
 use dr_base::Text;
-use dr_ledger::Instance;
+use dr_ledger::{Instance, Progress};
 use dr_store_writes::{
-    add_arrival, add_arrived, add_item, add_kept, add_print, add_row, add_target,
+    add_arrival, add_arrived, add_item, add_kept, add_print, add_row, add_target, set_row,
 };
 use sqlite::{Alter, Error, Transaction};
 
@@ -50,6 +50,25 @@ pub fn add_rows<'x, S: Alter>(
 {
     for dest in dests {
         add_row(tx, uid, dest)?;
+    }
+    Ok(())
+}
+
+/// An instance waits anew, untried, for each of these destinations, to which it has a row.
+pub fn renew_rows<'x, S: Alter>(
+    tx: &mut Transaction<'_, S>,
+    uid: &'x Text,
+    dests: &'x [Text],
+) -> Result<(), Error>
+    ensures same_reference { tx.new.conn.ghost_name ≡ tx.old.conn.ghost_name }
+    ensures step { Step result (state S.Store tx.old.conn.now) (state S.Store tx.new.conn.now)
+        (HasRows uid.now dests.now (state S.Store tx.old.conn.now).now.trees
+        → GoesOn (state S.Store tx.old.conn.now) (state S.Store tx.new.conn.now)
+        × Renews uid.now dests.now (state S.Store tx.old.conn.now).now.trees
+        (state S.Store tx.new.conn.now).now.trees) }
+{
+    for dest in dests {
+        set_row(tx, uid, dest, Progress::Waiting { tries: 0, due: 0 })?;
     }
     Ok(())
 }

@@ -3,9 +3,10 @@ ghost use Rattle.std.specs.Prelude.{◌≡◌, ◌≤◌, ◌^◌};
 ghost use Rattle.sqlite.specs.Held.{state};
 ghost use Rattle.dr_store_writes.specs.Effects.{GoesOn, Step, arrived_line};
 ghost use Rattle.dr_store_changes.specs.Bringing.{AsksToTake, KeepsIf, TakesIn, Then};
-ghost use Rattle.dr_store_changes.specs.Changes.{AddsOnlyLine, AddsRows, AddsTargets, NotesArrival};
+ghost use Rattle.dr_store_changes.specs.Changes.{AddsOnlyLine, AddsRows, AddsTargets, HasRows};
+ghost use Rattle.dr_store_changes.specs.Changes.{NotesArrival, Renews};
 
-use crate::arriving::{add_rows, add_targets, keep, note_arrival, store};
+use crate::arriving::{add_rows, add_targets, keep, note_arrival, renew_rows, store};
 use crate::bodies::take_back;
 use crate::writing::Change;
 use dr_base::Text;
@@ -88,21 +89,43 @@ fn keep_if<'x, S: Alter>(
     Ok(())
 }
 
-/// An instance waits for these destinations, and is kept if it is to be.
+/// An instance waits anew for the destinations of `again`, whose rows were dropped, and from now on
+/// for these others.
+fn wait_for<'x, S: Alter>(
+    tx: &mut Transaction<'_, S>,
+    uid: &'x Text,
+    again: &'x [Text],
+    dests: &'x [Text],
+) -> Result<(), Error>
+    ensures same_reference { tx.new.conn.ghost_name ≡ tx.old.conn.ghost_name }
+    ensures step { Step result (state S.Store tx.old.conn.now) (state S.Store tx.new.conn.now)
+        (HasRows uid.now again.now (state S.Store tx.old.conn.now).now.trees
+        → GoesOn (state S.Store tx.old.conn.now) (state S.Store tx.new.conn.now)
+        × Then (Renews uid.now again.now) (AddsRows uid.now dests.now)
+        (state S.Store tx.old.conn.now).now.trees (state S.Store tx.new.conn.now).now.trees) }
+{
+    renew_rows(tx, uid, again)?;
+    add_rows(tx, uid, dests)?;
+    Ok(())
+}
+
+/// The same, and it is kept if it is to be.
 fn queue<'x, S: Alter>(
     tx: &mut Transaction<'_, S>,
     uid: &'x Text,
+    again: &'x [Text],
     dests: &'x [Text],
     keeps: bool,
 ) -> Result<(), Error>
     ensures same_reference { tx.new.conn.ghost_name ≡ tx.old.conn.ghost_name }
     ensures step { Step result (state S.Store tx.old.conn.now) (state S.Store tx.new.conn.now)
-        (Unit {0}
+        (HasRows uid.now again.now (state S.Store tx.old.conn.now).now.trees
         → GoesOn (state S.Store tx.old.conn.now) (state S.Store tx.new.conn.now)
-        × Then (AddsRows uid.now dests.now) (KeepsIf uid.now keeps)
-        (state S.Store tx.old.conn.now).now.trees (state S.Store tx.new.conn.now).now.trees) }
+        × Then (Then (Renews uid.now again.now) (AddsRows uid.now dests.now))
+        (KeepsIf uid.now keeps) (state S.Store tx.old.conn.now).now.trees
+        (state S.Store tx.new.conn.now).now.trees) }
 {
-    add_rows(tx, uid, dests)?;
+    wait_for(tx, uid, again, dests)?;
     keep_if(tx, uid, keeps)?;
     Ok(())
 }
@@ -157,6 +180,9 @@ pub struct Arriving<'x> {
     pub body: &'x [u8],
     /// What is done with the instance and its data set.
     pub taking: Taking,
+    /// The destinations for which it waits anew: those of its targets for which its row was
+    /// dropped.
+    pub again: &'x [Text],
     /// The destinations for which it waits from now on: those of its targets to which it has no
     /// row.
     pub dests: &'x [Text],
@@ -174,27 +200,33 @@ impl Arriving<'_> {
         ensures step { Step result (state S.Store tx.old.conn.now) (state S.Store tx.new.conn.now)
             (AsksToTake self.now.taking self.now.item.now.uid
             (state S.Store tx.old.conn.now).now.trees
+            × HasRows self.now.item.now.uid self.now.again.now
+            (state S.Store tx.old.conn.now).now.trees
             → GoesOn (state S.Store tx.old.conn.now) (state S.Store tx.new.conn.now)
             × Then
             (Then (TakesIn self.now.taking self.now.item.now self.now.body.now)
             (NotesArrival (self.now.caller.now, self.now.item.now.uid)))
-            (Then (AddsRows self.now.item.now.uid self.now.dests.now)
+            (Then
+            (Then (Renews self.now.item.now.uid self.now.again.now)
+            (AddsRows self.now.item.now.uid self.now.dests.now))
             (KeepsIf self.now.item.now.uid self.now.keeps))
             (state S.Store tx.old.conn.now).now.trees (state S.Store tx.new.conn.now).now.trees) }
     {
         take_from(tx, self.caller, self.item, self.body, self.taking)?;
-        queue(tx, &self.item.uid, self.dests, self.keeps)?;
+        queue(tx, &self.item.uid, self.again, self.dests, self.keeps)?;
         Ok(())
     }
 }
 
 impl Change for Arriving<'_> {
     ghost use Rattle.dr_store_changes.specs.Bringing.{AsksToTake, Brings};
+    ghost use Rattle.dr_store_changes.specs.Changes.{HasRows};
 
-    ghost asks = { λ s db. AsksToTake s.taking s.item.now.uid db };
+    ghost asks = { λ s db.
+        AsksToTake s.taking s.item.now.uid db × HasRows s.item.now.uid s.again.now db };
 
-    ghost makes = { λ s n.
-        Brings s.taking s.caller.now s.item.now s.body.now s.dests.now s.keeps s.names.now n };
+    ghost makes = { λ s n. Brings s.taking s.caller.now s.item.now s.body.now s.again.now
+        s.dests.now s.keeps s.names.now n };
 
     fn run<S: Alter>(&self, tx: &mut Transaction<'_, S>, n: u64) -> Result<(), Error> {
         self.fill(tx)?;

@@ -1,8 +1,8 @@
 //! What the calls that write make of the book.
-ghost use Rattle.dr_store_changes.specs.Laws.{ArrivalsArrive, DataSetsCome, ForgettingsForget};
-ghost use Rattle.dr_store_changes.specs.Laws.{ForgettingsLetNoDataSetGo, RepeatsRepeat};
-ghost use Rattle.dr_store_changes.specs.Laws.{RequeuingsRequeue, SettlingsSettle};
-ghost use Rattle.dr_store_changes.specs.Laws.{WhatIsNeededStays};
+ghost use Rattle.dr_store_changes.specs.Laws.{ArrivalsArrive, DataSetsCome, DroppingsDrop};
+ghost use Rattle.dr_store_changes.specs.Laws.{ForgettingsForget, ForgettingsLetNoDataSetGo};
+ghost use Rattle.dr_store_changes.specs.Laws.{RepeatsRepeat, RequeuingsRequeue, SettlingsSettle};
+ghost use Rattle.dr_store_changes.specs.Laws.{WhatIsNeededStays, WhatIsNeededStaysAtADropping};
 
 /// To move a waiting row on with the line of its settling is to settle it.
 pub fn settlings_settle()
@@ -18,6 +18,17 @@ pub fn requeuings_requeue()
 /// needed.
 pub fn what_is_needed_stays()
     ensures { WhatIsNeededStays }
+{}
+
+/// To drop a held row, with the arrivals of its instance and the line of its dropping, is to drop
+/// it.
+pub fn droppings_drop()
+    ensures { DroppingsDrop }
+{}
+
+/// The same of a dropping: the data sets that are there are those that are needed.
+pub fn what_is_needed_stays_at_a_dropping()
+    ensures { WhatIsNeededStaysAtADropping }
 {}
 
 /// The line of a repeat is all that a repeat adds.

@@ -3,14 +3,16 @@
 
 pub mod arriving;
 pub mod bodies;
+pub mod dropping;
 pub mod first;
 pub mod forgetting;
 pub mod laws;
 pub mod moving;
 pub mod writing;
 
-pub use arriving::{Repeating, add_rows, add_targets, keep, note_arrival, store};
+pub use arriving::{Repeating, add_rows, add_targets, keep, note_arrival, renew_rows, store};
 pub use bodies::{let_go, take_back};
+pub use dropping::Dropping;
 pub use first::{Arriving, Taking};
 pub use forgetting::Forgetting;
 pub use moving::{Requeuing, Settling};

@@ -141,7 +141,8 @@ noted targets n (suc (suc zero)) caller item uid dest what now = refl
 noted targets n (suc (suc (suc zero))) caller item uid dest what now = refl
 noted targets n (suc (suc (suc (suc zero)))) caller item uid dest what now = refl
 noted targets n (suc (suc (suc (suc (suc zero))))) caller item uid dest what now = refl
-noted targets n (suc (suc (suc (suc (suc (suc more)))))) caller item uid dest what now = refl
+noted targets n (suc (suc (suc (suc (suc (suc zero)))))) caller item uid dest what now = refl
+noted targets n (suc (suc (suc (suc (suc (suc (suc more))))))) caller item uid dest what now = refl
 
 pub notes_are_lines : NotesAreLines
 notes_are_lines targets row = noted targets (number_in (rowid row)) (number_in (column row 2)) (text_in (column row 3)) (instance_in row) (text_in (column row 4)) (text_in (column row 5)) (outcome_in (column row 6)) (number_in (column row 7))

@@ -16,7 +16,7 @@ use Rattle.dr_ledger.specs.declared.item.Instance.{Instance}
 use Rattle.dr_ledger.specs.declared.item.Outcome.{Outcome}
 use Rattle.dr_ledger.specs.declared.item.Progress.{Progress}
 use Rattle.dr_ledger.specs.Pairs.{Pair}
-use Rattle.dr_ledger.specs.Books.{Line, Arrival, Repeat, Settling, Requeuing, Forgetting}
+use Rattle.dr_ledger.specs.Books.{Line, Arrival, Repeat, Settling, Requeuing, Dropping, Forgetting}
 use Rattle.dr_ledger.specs.Books.{Adoption}
 use Rattle.dr_store_schema.specs.Books.{instance_by, instance_in, items_of, key_in, keeps_in}
 use Rattle.dr_store_schema.specs.Books.{line_in, lines_in, names_in, prints_of, targets_in}
@@ -67,7 +67,9 @@ note_by (suc (suc zero)) caller item uid dest what now = note.Settling uid dest 
 note_by (suc (suc (suc zero))) caller item uid dest what now = note.Requeuing uid dest
 note_by (suc (suc (suc (suc zero)))) caller item uid dest what now = note.Adoption
 note_by (suc (suc (suc (suc (suc zero))))) caller item uid dest what now = note.Forgetting uid
-note_by (suc (suc (suc (suc (suc (suc more)))))) caller item uid dest what now = note.Adoption
+note_by (suc (suc (suc (suc (suc (suc zero)))))) caller item uid dest what now =
+    note.Dropping uid dest now
+note_by (suc (suc (suc (suc (suc (suc (suc more))))))) caller item uid dest what now = note.Adoption
 
 abbrev pub note_in : Row → Note
 note_in row = note_by (number_in (column row 2)) (text_in (column row 3)) (instance_in row)
@@ -86,6 +88,7 @@ line_of targets n (note.Arrival caller item) =
 line_of targets n (note.Repeat caller item) = Repeat caller item
 line_of targets n (note.Settling uid dest what now) = Settling uid dest what now
 line_of targets n (note.Requeuing uid dest) = Requeuing uid dest
+line_of targets n (note.Dropping uid dest now) = Dropping uid dest now
 line_of targets n (note.Forgetting uid) = Forgetting uid
 line_of targets n note.Adoption = Adoption
 
@@ -159,6 +162,10 @@ shown_entry row = (
 abbrev pub shown_settling : Row → Note
 shown_settling row = note.Settling (text_in (column row 3)) (text_in (column row 4))
     (outcome_in (column row 5)) (number_in (column row 6))
+
+abbrev pub shown_dropping : Row → Note
+shown_dropping row =
+    note.Dropping (text_in (column row 3)) (text_in (column row 4)) (number_in (column row 6))
 
 -- the instance of a line, which its last six columns have
 abbrev pub shown_instance : Row → Instance

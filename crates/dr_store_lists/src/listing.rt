@@ -13,7 +13,8 @@ ghost use Rattle.dr_store_schema.specs.Books.{all_kept_in, arrivals_in, rows_of}
 ghost use Rattle.dr_store_lists.specs.Lists.{IsJournal, goal_cmp, goals_of, keys_of, shown_entry};
 ghost use Rattle.dr_store_lists.specs.Lists.{shown_goal, shown_instance, shown_key_entry};
 ghost use Rattle.dr_store_lists.specs.Lists.{shown_note, shown_note_entry, shown_pair};
-ghost use Rattle.dr_store_lists.specs.Lists.{shown_print_entry, shown_settling, whole_prints_of};
+ghost use Rattle.dr_store_lists.specs.Lists.{shown_dropping, shown_print_entry, shown_settling};
+ghost use Rattle.dr_store_lists.specs.Lists.{whole_prints_of};
 ghost use Rattle.dr_store_reads.specs.Queries.{Asked, HasTables, shown_text};
 
 use dr_base::Text;
@@ -48,6 +49,11 @@ pub enum Note {
     Requeuing {
         uid: Text,
         dest: Text,
+    },
+    Dropping {
+        uid: Text,
+        dest: Text,
+        now: u64,
     },
     Forgetting {
         uid: Text,
@@ -182,6 +188,7 @@ fn read_note(alloc: Global, row: &Row) -> Result<Note, LedgerFault>
             let uid = read_text(alloc, row, 3)?;
             Ok(Note::Forgetting { uid })
         }
+        6 => read_dropping(alloc, row),
         _ => Ok(Note::Adoption),
     }
 }
@@ -215,6 +222,15 @@ fn read_settling(alloc: Global, row: &Row) -> Result<Note, LedgerFault>
         outcome,
         now,
     })
+}
+
+fn read_dropping(alloc: Global, row: &Row) -> Result<Note, LedgerFault>
+    ensures { Reads result (λ note. note ≡ shown_dropping row.now) }
+{
+    let uid = read_text(alloc, row, 3)?;
+    let dest = read_text(alloc, row, 4)?;
+    let now = read_number(row, 6)?;
+    Ok(Note::Dropping { uid, dest, now })
 }
 
 /// What all rows say.

@@ -100,7 +100,7 @@ pub fn test_queue_rowids<S: Alter>(
 
 // ---- the numbers in queue
 
-/// Whether a state is one of the three, and the moment when the row is due has 63 bits.
+/// Whether a state is one of the four, and the moment when the row is due has 63 bits.
 fn is_counted(row: &Row) -> bool
     ensures { IsTrue result → IsCountedAsShown row.now }
 {
@@ -110,7 +110,7 @@ fn is_counted(row: &Row) -> bool
     let Some(due) = row.get::<u64>(1).ok() else {
         return false;
     };
-    state < 3 && due < 9_223_372_036_854_775_808
+    state < 4 && due < 9_223_372_036_854_775_808
 }
 
 fn are_counted(rows: &[Row]) -> bool

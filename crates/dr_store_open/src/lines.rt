@@ -32,7 +32,7 @@ fn instance_at<'x>(
 }
 
 /// The instance that a line is of: that of its uid, where it is an arrival or a repeat. No file
-/// from before has a forgetting.
+/// from before has a forgetting or a dropping, which are kinds 5 and 6.
 fn instance_of<'x>(
     alloc: Global,
     items: &'x BTreeMap<Text, Instance>,
@@ -46,7 +46,7 @@ fn instance_of<'x>(
         let instance = instance_at(alloc, items, line)?;
         return Ok(Some(instance));
     }
-    if kind == 5 {
+    if kind > 4 {
         return Err(OpeningFault::OtherSite);
     }
     Ok(None)

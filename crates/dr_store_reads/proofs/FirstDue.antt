@@ -26,7 +26,7 @@ use Rattle.sqlite.specs.Collation.TheVariants.{Binary}
 use Rattle.sqlite_sql.specs.Ops.{binary, is_true, test}
 use Rattle.sqlite_sql.specs.declared.ops.BinaryOp.TheVariants.{Compare}
 use Rattle.sqlite_sql.specs.declared.ops.CompareOp.{CompareOp}
-use Rattle.sqlite_sql.specs.declared.ops.CompareOp.TheVariants.{Eq, Le, Ne}
+use Rattle.sqlite_sql.specs.declared.ops.CompareOp.TheVariants.{Eq, Le, Lt, Ne}
 use Rattle.sqlite_sql.proofs.QueryLemmas.{output_cmp_total}
 use Rattle.sqlite_trees.proofs.ListLemmas.{all_weaker}
 use Rattle.sqlite_trees.proofs.TreeLemmas.{above, not_true}
@@ -34,7 +34,8 @@ use Rattle.sqlite_value.proofs.OrderLemmas.{value_cmp-Int, value_cmp-Text, then-
 use Rattle.dr_base.specs.Texts.{Text, text_cmp}
 use Rattle.dr_ledger.specs.declared.item.Cause.{Cause}
 use Rattle.dr_ledger.specs.declared.item.Progress.{Progress}
-use Rattle.dr_ledger.specs.declared.item.Progress.TheVariants.{Waiting, Done}
+use Rattle.dr_ledger.specs.declared.item.Progress.TheVariants.{Waiting}
+use Rattle.dr_ledger.specs.Books.{is_queued}
 use Rattle.dr_ledger.specs.Pairs.{Pair, pair_cmp}
 use Rattle.dr_ledger.specs.Replies.{IsDue}
 use Rattle.dr_store_schema.specs.Books.{book_of, entry_in, rows_of}
@@ -47,7 +48,7 @@ use Rattle.dr_store_writes.proofs.Keys.{IsQueueRow, all_both, both, int_test, ke
 use Rattle.dr_store_writes.proofs.Maps as maps
 use Rattle.dr_store_writes.proofs.Maps.{AreApart}
 use Rattle.dr_store_writes.proofs.Updated.{hits, matched}
-use Rattle.dr_store_reads.specs.Queries.{IsFirstDue, IsOpenElsewhere, IsUndone, first_of, shown_text}
+use Rattle.dr_store_reads.specs.Queries.{HasOpen, IsFirstDue, IsOpenElsewhere, first_of, shown_text}
 use Rattle.dr_store_reads.proofs.Points.{map_twice, none_shown}
 use Rattle.dr_store_reads.proofs.Selects as select
 
@@ -138,16 +139,18 @@ one_passes p (y ∷ xs) x (inr later) passes = ap (λ b. p y || b) (one_passes p
 
 -- ---- rows that are open
 
-is_open_by : (state tries due : ℕ) (why : Cause) → state < 3 → is_ne (int_cmp (pos state) (pos 2)) ≡ true → progress_by state tries due why ≢ Done
-is_open_by zero tries due why known other = λ e. absurd cc
-is_open_by (suc zero) tries due why known other = λ e. absurd cc
-is_open_by (suc (suc zero)) tries due why known other = absurd cc
-is_open_by (suc (suc (suc more))) tries due why known other = absurd (omega (arith, known))
+is_open_by : (state tries due : ℕ) (why : Cause) → state < 4 → is_lt (int_cmp (pos state) (pos 2)) ≡ true → is_queued (progress_by state tries due why) ≡ true
+is_open_by zero tries due why known less = refl
+is_open_by (suc zero) tries due why known less = refl
+is_open_by (suc (suc zero)) tries due why known less = absurd cc
+is_open_by (suc (suc (suc zero))) tries due why known less = absurd cc
+is_open_by (suc (suc (suc (suc more)))) tries due why known less = absurd (omega (arith, known))
 
-open_by : (state tries due : ℕ) (why : Cause) → progress_by state tries due why ≢ Done → is_ne (int_cmp (pos state) (pos 2)) ≡ true
-open_by zero tries due why other = refl
-open_by (suc zero) tries due why other = refl
-open_by (suc (suc more)) tries due why other = absurd (other refl)
+open_by : (state tries due : ℕ) (why : Cause) → is_queued (progress_by state tries due why) ≡ true → is_lt (int_cmp (pos state) (pos 2)) ≡ true
+open_by zero tries due why queued = refl
+open_by (suc zero) tries due why queued = refl
+open_by (suc (suc zero)) tries due why queued = absurd (true≢false (sym queued))
+open_by (suc (suc (suc more))) tries due why queued = absurd (true≢false (sym queued))
 
 not_itself : (s t : List ℕ) → is_ne (slice_cmp nat_cmp s t) ≡ true → s ≢ t
 not_itself s t h same = true≢false (sym h ∙ ap (λ x. is_ne (slice_cmp nat_cmp s x)) (sym same) ∙ ap is_ne (tied_itself nat_list_cmp_total s))
@@ -168,9 +171,9 @@ module _ (k : Pair) where
   hits_open = hits select.open_elsewhere open_params
 
   open_test : (row : Row) (is : IsOurs row)
-      → hits_open row ≡ (is_eq (slice_cmp nat_cmp is.queue.at.0 k.0) && (is_ne (slice_cmp nat_cmp is.queue.at.1 k.1) && (is_ne (int_cmp (pos is.counted.state) (pos 2)) && true)))
+      → hits_open row ≡ (is_eq (slice_cmp nat_cmp is.queue.at.0 k.0) && (is_ne (slice_cmp nat_cmp is.queue.at.1 k.1) && (is_lt (int_cmp (pos is.counted.state) (pos 2)) && true)))
   open_test row is =
-      rw (is.queue.uid, is.queue.dest, is.counted.state_is, same_text is.queue.at.0 k.0, text_test Ne is.queue.at.1 k.1, int_test Ne (pos is.counted.state) (pos 2))
+      rw (is.queue.uid, is.queue.dest, is.counted.state_is, same_text is.queue.at.0 k.0, text_test Ne is.queue.at.1 k.1, int_test Lt (pos is.counted.state) (pos 2))
 
   module _ (old new : State) (rows : List Row) (has : IsLedger old.now) (h : Shown text.find_open open_params old new rows) where
     is_open_row : (row : Row) → Has (old.now.trees 9) row → IsOurs row
@@ -187,12 +190,12 @@ module _ (k : Pair) where
         let is = is_open_row row there in
         let a = both (is_eq (slice_cmp nat_cmp is.queue.at.0 k.0)) _ (sym (open_test row is) ∙ hit) in
         let b = both (is_ne (slice_cmp nat_cmp is.queue.at.1 k.1)) _ a.1 in
-        let d = both (is_ne (int_cmp (pos is.counted.state) (pos 2))) true b.1 in (
+        let d = both (is_lt (int_cmp (pos is.counted.state) (pos 2))) true b.1 in (
           is.queue.at.1,
           (entry_in row).1,
           not_itself is.queue.at.1 k.1 b.0,
           found_at old has row there is k.0 is.queue.at.1 (exact_bytes is.queue.at.0 k.0 (maps.equal _ a.0)) refl,
-          λ done. is_open_by is.counted.state _ _ _ is.counted.known d.0 (sym (progress_of row is) ∙ done),
+          ap is_queued (progress_of row is) ∙ is_open_by is.counted.state _ _ _ is.counted.known d.0,
         )
 
     to_row : IsOpenElsewhere old.now.trees k.0 k.1 → list_any hits_open (old.now.trees 9) ≡ true
@@ -202,7 +205,7 @@ module _ (k : Pair) where
         let at : is.queue.at ≡ (k.0, it.0) = sym (key_of row.0 is.queue) ∙ row.2 in
         let uid : is_eq (slice_cmp nat_cmp is.queue.at.0 k.0) ≡ true = ap (λ (q : Pair). is_eq (slice_cmp nat_cmp q.0 k.0)) at ∙ ap is_eq (tied_itself nat_list_cmp_total k.0) in
         let dest : is_ne (slice_cmp nat_cmp is.queue.at.1 k.1) ≡ true = ap (λ (q : Pair). is_ne (slice_cmp nat_cmp q.1 k.1)) at ∙ differs it.0 k.1 it.2 in
-        let state : is_ne (int_cmp (pos is.counted.state) (pos 2)) ≡ true = open_by is.counted.state _ _ _ (λ done. it.4 (sym row.3 ∙ progress_of row.0 is ∙ done)) in
+        let state : is_lt (int_cmp (pos is.counted.state) (pos 2)) ≡ true = open_by is.counted.state _ _ _ (ap is_queued (sym (progress_of row.0 is) ∙ row.3) ∙ it.4) in
         one_passes hits_open (old.now.trees 9) row.0 row.1 (open_test row.0 is ∙ (λ i. uid i && (dest i && (state i && true))))
 
     pub open_found : IsTrue (not (length rows == 0)) ↔ IsOpenElsewhere old.now.trees k.0 k.1
@@ -211,47 +214,47 @@ module _ (k : Pair) where
 -- ---- rows of one instance that are open, to whatever destination
 
 module _ (uid : Text) where
-  abbrev undone_params : Row
-  undone_params = TextCell uid ∷ []
+  abbrev any_open_params : Row
+  any_open_params = TextCell uid ∷ []
 
-  abbrev hits_undone : Row → Bool
-  hits_undone = hits select.undone undone_params
+  abbrev hits_any_open : Row → Bool
+  hits_any_open = hits select.any_open any_open_params
 
-  undone_test : (row : Row) (is : IsOurs row) → hits_undone row ≡ (is_eq (slice_cmp nat_cmp is.queue.at.0 uid) && (is_ne (int_cmp (pos is.counted.state) (pos 2)) && true))
-  undone_test row is = rw (is.queue.uid, is.counted.state_is, same_text is.queue.at.0 uid, int_test Ne (pos is.counted.state) (pos 2))
+  any_open_test : (row : Row) (is : IsOurs row) → hits_any_open row ≡ (is_eq (slice_cmp nat_cmp is.queue.at.0 uid) && (is_lt (int_cmp (pos is.counted.state) (pos 2)) && true))
+  any_open_test row is = rw (is.queue.uid, is.counted.state_is, same_text is.queue.at.0 uid, int_test Lt (pos is.counted.state) (pos 2))
 
-  module _ (old new : State) (rows : List Row) (has : IsLedger old.now) (h : Shown text.find_undone undone_params old new rows) where
+  module _ (old new : State) (rows : List Row) (has : IsLedger old.now) (h : Shown text.find_any_open any_open_params old new rows) where
     is_its_row : (row : Row) → Has (old.now.trees 9) row → IsOurs row
     is_its_row row there = all_has IsOurs (old.now.trees 9) row (are_ours old has) there
 
-    any_undone : not (length rows == 0) ≡ list_any hits_undone (old.now.trees 9)
-    any_undone =
-        let answer : IsAnswer (over 9 select.undone select.open_shown) (overlay old.now.trees []) undone_params rows =
-        (reads_as text.find_undone undone_params old new tables has.schema _ select.find_undone.command select.find_undone.plain select.find_undone.listing rows h).answer Null in
-        none_shown 9 select.undone select.open_shown old.now.trees undone_params rows answer answer.grouped
+    any_one_open : not (length rows == 0) ≡ list_any hits_any_open (old.now.trees 9)
+    any_one_open =
+        let answer : IsAnswer (over 9 select.any_open select.open_shown) (overlay old.now.trees []) any_open_params rows =
+        (reads_as text.find_any_open any_open_params old new tables has.schema _ select.find_any_open.command select.find_any_open.plain select.find_any_open.listing rows h).answer Null in
+        none_shown 9 select.any_open select.open_shown old.now.trees any_open_params rows answer answer.grouped
 
-    by_row : (row : Row) → Has (old.now.trees 9) row → hits_undone row ≡ true → IsUndone old.now.trees uid
+    by_row : (row : Row) → Has (old.now.trees 9) row → hits_any_open row ≡ true → HasOpen old.now.trees uid
     by_row row there hit =
         let is = is_its_row row there in
-        let a = both (is_eq (slice_cmp nat_cmp is.queue.at.0 uid)) _ (sym (undone_test row is) ∙ hit) in
-        let d = both (is_ne (int_cmp (pos is.counted.state) (pos 2))) true a.1 in (
+        let a = both (is_eq (slice_cmp nat_cmp is.queue.at.0 uid)) _ (sym (any_open_test row is) ∙ hit) in
+        let d = both (is_lt (int_cmp (pos is.counted.state) (pos 2))) true a.1 in (
           is.queue.at.1,
           (entry_in row).1,
           found_at old has row there is uid is.queue.at.1 (exact_bytes is.queue.at.0 uid (maps.equal _ a.0)) refl,
-          λ done. is_open_by is.counted.state _ _ _ is.counted.known d.0 (sym (progress_of row is) ∙ done),
+          ap is_queued (progress_of row is) ∙ is_open_by is.counted.state _ _ _ is.counted.known d.0,
         )
 
-    of_row : IsUndone old.now.trees uid → list_any hits_undone (old.now.trees 9) ≡ true
+    of_row : HasOpen old.now.trees uid → list_any hits_any_open (old.now.trees 9) ≡ true
     of_row it =
         let row = found_row (uid, it.0) it.1 (old.now.trees 9) (sym (in_map old.now.trees (uid, it.0)) ∙ it.2) in
         let is = is_its_row row.0 row.1 in
         let at : is.queue.at ≡ (uid, it.0) = sym (key_of row.0 is.queue) ∙ row.2 in
         let its : is_eq (slice_cmp nat_cmp is.queue.at.0 uid) ≡ true = ap (λ (q : Pair). is_eq (slice_cmp nat_cmp q.0 uid)) at ∙ ap is_eq (tied_itself nat_list_cmp_total uid) in
-        let state : is_ne (int_cmp (pos is.counted.state) (pos 2)) ≡ true = open_by is.counted.state _ _ _ (λ done. it.3 (sym row.3 ∙ progress_of row.0 is ∙ done)) in
-        one_passes hits_undone (old.now.trees 9) row.0 row.1 (undone_test row.0 is ∙ (λ i. its i && (state i && true)))
+        let state : is_lt (int_cmp (pos is.counted.state) (pos 2)) ≡ true = open_by is.counted.state _ _ _ (ap is_queued (sym (progress_of row.0 is) ∙ row.3) ∙ it.3) in
+        one_passes hits_any_open (old.now.trees 9) row.0 row.1 (any_open_test row.0 is ∙ (λ i. its i && (state i && true)))
 
-    pub undone_found : IsTrue (not (length rows == 0)) ↔ IsUndone old.now.trees uid
-    undone_found = (λ shown. let row = some_passes hits_undone (old.now.trees 9) (sym any_undone ∙ shown) in by_row row.0 row.1 row.2, λ it. any_undone ∙ of_row it)
+    pub any_open_found : IsTrue (not (length rows == 0)) ↔ HasOpen old.now.trees uid
+    any_open_found = (λ shown. let row = some_passes hits_any_open (old.now.trees 9) (sym any_one_open ∙ shown) in by_row row.0 row.1 row.2, λ it. any_one_open ∙ of_row it)
 
 -- ---- the first of an order that ORDER BY allows
 
@@ -332,7 +335,8 @@ of_le m n low = go (nat_cmp m n) refl
 waits_by : (state tries due : ℕ) (why : Cause) (t d : ℕ) → progress_by state tries due why ≡ Waiting t d → (state ≡ 0) × (due ≡ d)
 waits_by zero tries due why t d e = (refl, ap due_of e)
 waits_by (suc zero) tries due why t d e = absurd cc
-waits_by (suc (suc more)) tries due why t d e = absurd cc
+waits_by (suc (suc zero)) tries due why t d e = absurd cc
+waits_by (suc (suc (suc more))) tries due why t d e = absurd cc
 
 not_later : {K : Type 0} {R : K → K → Ordering} → IsTotalOrder R → (a b : K) → is_lt (R b a) ≡ false → R a b ≢ Greater
 not_later {R = R} total a b h greater = true≢false (sym (ap is_lt (total.antisymm b a ∙ ap ordering_reverse greater)) ∙ h)

@@ -8,7 +8,7 @@ use Rattle.sqlite.specs.Query.{Query, inner, end}
 use Rattle.sqlite.specs.Term.{Term, lit, col, op2}
 use Rattle.sqlite.proofs.Callers.{IsPlain, command_of}
 use Rattle.sqlite_sql.specs.declared.ops.BinaryOp.TheVariants.{Compare}
-use Rattle.sqlite_sql.specs.declared.ops.CompareOp.TheVariants.{Eq, Le, Ne}
+use Rattle.sqlite_sql.specs.declared.ops.CompareOp.TheVariants.{Eq, Le, Lt, Ne}
 use Rattle.sqlite_tied.specs.Compute.{everything}
 use Rattle.sqlite_value.specs.Keys.{ascending}
 use Rattle.dr_store_schema.specs.Statements as text
@@ -69,10 +69,10 @@ pub find_row : Is text.find_row (over 9 by_key row_shown) (codes "state" ∷ cod
 unfolding understood everything
 find_row = record { command = refl; listing = refl; plain = (refl, refl) }
 
--- WHERE uid = ?1 AND dest <> ?2 AND state <> 2
+-- WHERE uid = ?1 AND dest <> ?2 AND state < 2
 abbrev pub open_elsewhere : List Term
 open_elsewhere =
-    op2 (Compare Eq Binary) (col 1 1) (col 0 0) ∷ op2 (Compare Ne Binary) (col 1 2) (col 0 1) ∷ op2 (Compare Ne Binary) (col 1 3) (lit (Int (pos 2))) ∷ []
+    op2 (Compare Eq Binary) (col 1 1) (col 0 0) ∷ op2 (Compare Ne Binary) (col 1 2) (col 0 1) ∷ op2 (Compare Lt Binary) (col 1 3) (lit (Int (pos 2))) ∷ []
 
 abbrev pub open_shown : List Term
 open_shown = col 1 2 ∷ []
@@ -81,13 +81,13 @@ pub find_open : Is text.find_open (over 9 open_elsewhere open_shown) (codes "des
 unfolding understood everything
 find_open = record { command = refl; listing = refl; plain = (refl, refl) }
 
--- WHERE uid = ?1 AND state <> 2
-abbrev pub undone : List Term
-undone = op2 (Compare Eq Binary) (col 1 1) (col 0 0) ∷ op2 (Compare Ne Binary) (col 1 3) (lit (Int (pos 2))) ∷ []
+-- WHERE uid = ?1 AND state < 2
+abbrev pub any_open : List Term
+any_open = op2 (Compare Eq Binary) (col 1 1) (col 0 0) ∷ op2 (Compare Lt Binary) (col 1 3) (lit (Int (pos 2))) ∷ []
 
-pub find_undone : Is text.find_undone (over 9 undone open_shown) (codes "dest" ∷ [])
+pub find_any_open : Is text.find_any_open (over 9 any_open open_shown) (codes "dest" ∷ [])
 unfolding understood everything
-find_undone = record { command = refl; listing = refl; plain = (refl, refl) }
+find_any_open = record { command = refl; listing = refl; plain = (refl, refl) }
 
 -- WHERE dest = ?1 AND state = 0 AND due <= ?2
 abbrev pub due_at_dest : List Term

@@ -1,5 +1,6 @@
 -- What queries answer, and what they leave.
-use Rattle.std.specs.Prelude.{◌≡◌, ◌≢◌, ◌≤◌, ◌<◌, ◌^◌, ◌⊎◌, ℕ, pos, false, not, ◌==◌, IsTrue, List}
+use Rattle.std.specs.Prelude.{◌≡◌, ◌≢◌, ◌≤◌, ◌<◌, ◌^◌, ◌⊎◌, ℕ, pos, true, false, not, ◌==◌, IsTrue}
+use Rattle.std.specs.Prelude.{List}
 use Rattle.std.specs.Prelude.{[], ◌∷◌, Option, Some, None, option_map, unwrap_or, Result, OnOk}
 use Rattle.std.specs.FinMap as map
 use Rattle.sqlite.specs.declared.types.Value.TheVariants.{Blob, Int, Text as TextCell}
@@ -14,7 +15,7 @@ use Rattle.dr_route.specs.declared.key.Key.{Key}
 use Rattle.dr_ledger.specs.declared.content.Job.{Job}
 use Rattle.dr_ledger.specs.declared.fault.LedgerFault.{LedgerFault}
 use Rattle.dr_ledger.specs.declared.item.Progress.{Progress}
-use Rattle.dr_ledger.specs.declared.item.Progress.TheVariants.{Done}
+use Rattle.dr_ledger.specs.Books.{is_queued}
 use Rattle.dr_ledger.specs.Replies.{IsDue, IsNoLater, Reads}
 use Rattle.dr_store_schema.specs.Books.{bodies_of, book_of, contents_in, instance_by, is_whole}
 use Rattle.dr_store_schema.specs.Books.{items_of, prints_of, rows_of, wholes_in}
@@ -81,17 +82,19 @@ IsJobOf uid db (Some job) =
 
 -- ---- rows of an instance, and of a destination
 
--- the instance has a row that isn't done, to another destination than this one
+-- the instance has an open row, which waits or is held, to another destination than this one
 abbrev pub IsOpenElsewhere : Trees → Text → Text → Type 0
 IsOpenElsewhere db uid dest =
     (other : Text) × (row : Progress) × (other ≢ dest)
     × (map.get (rows_of db) (uid, other) ≡ Some row)
-    × (row ≢ Done)
+    × (is_queued row ≡ true)
 
--- the instance has a row that isn't done, to whatever destination
-abbrev pub IsUndone : Trees → Text → Type 0
-IsUndone db uid =
-    (dest : Text) × (row : Progress) × (map.get (rows_of db) (uid, dest) ≡ Some row) × (row ≢ Done)
+-- the instance has an open row, to whatever destination
+abbrev pub HasOpen : Trees → Text → Type 0
+HasOpen db uid =
+    (dest : Text) × (row : Progress)
+    × (map.get (rows_of db) (uid, dest) ≡ Some row)
+    × (is_queued row ≡ true)
 
 -- The uid of the first row for the destination, by (due, uid), that waits and is due; or that no
 -- row is due.
@@ -148,7 +151,7 @@ pub record IsCountedAsShown (row : Row) : Type 0 where
   pub due : ℕ
   pub state_is : column row 0 ≡ Int (pos state)
   pub due_is : column row 1 ≡ Int (pos due)
-  pub known : state < 3
+  pub known : state < 4
   pub fits : due < 2 ^ 63
 
 -- a row of a line's number says a lower one

@@ -11,8 +11,9 @@ ghost use Rattle.dr_store_schema.specs.Books.{all_kept_in, arrivals_in, rows_of}
 ghost use Rattle.dr_store_schema.specs.Ledgers.{IsLedger};
 ghost use Rattle.dr_store_reads.specs.Queries.{Asked, IsFirstDue, IsJobOf, IsKeyOf, IsBlobIn};
 ghost use Rattle.dr_store_reads.specs.Queries.{IsOpenElsewhere, IsOwnerAsShown, IsOwnerIn};
-ghost use Rattle.dr_store_reads.specs.Queries.{IsOwnerOf, IsPrintOf, IsTextIn, IsStored, IsUndone};
-ghost use Rattle.dr_store_reads.specs.Queries.{first_of, shown_job, shown_key, shown_print};
+ghost use Rattle.dr_store_reads.specs.Queries.{IsOwnerOf, IsPrintOf, IsTextIn, IsStored};
+ghost use Rattle.dr_store_reads.specs.Queries.{HasOpen, first_of, shown_job, shown_key};
+ghost use Rattle.dr_store_reads.specs.Queries.{shown_print};
 ghost use Rattle.dr_store_reads.specs.Queries.{shown_progress, shown_text};
 
 use crate::queries::ask;
@@ -298,7 +299,7 @@ pub fn is_open_elsewhere<'x, S: Alter>(
 {
     let rows = ask(
         conn,
-        "SELECT dest FROM queue WHERE uid = ?1 AND dest <> ?2 AND state <> 2",
+        "SELECT dest FROM queue WHERE uid = ?1 AND dest <> ?2 AND state < 2",
         &[
             ValueRef::Text(uid.as_bytes()),
             ValueRef::Text(dest.as_bytes()),
@@ -308,13 +309,13 @@ pub fn is_open_elsewhere<'x, S: Alter>(
 }
 
 /// Whether an instance waits or is held for any destination, so that it isn't over.
-pub fn is_undone<'x, S: Alter>(conn: &mut Connection<S>, uid: &'x Text) -> Result<bool, LedgerFault>
+pub fn has_open<'x, S: Alter>(conn: &mut Connection<S>, uid: &'x Text) -> Result<bool, LedgerFault>
     ensures asked { Asked IsLedger result (state S.Store conn.old) (state S.Store conn.new)
-        (λ undone. IsTrue undone ↔ IsUndone (state S.Store conn.old).now.trees uid.now) }
+        (λ open_row. IsTrue open_row ↔ HasOpen (state S.Store conn.old).now.trees uid.now) }
 {
     let rows = ask(
         conn,
-        "SELECT dest FROM queue WHERE uid = ?1 AND state <> 2",
+        "SELECT dest FROM queue WHERE uid = ?1 AND state < 2",
         &[ValueRef::Text(uid.as_bytes())],
     )?;
     Ok(!rows.as_slice().is_empty())

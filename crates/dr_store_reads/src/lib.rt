@@ -11,6 +11,6 @@ pub mod reading;
 
 pub use finding::{
     Owner, Print, Stored, find_arrival, find_item, find_job, find_kept, find_key, find_next,
-    find_owner, find_print, find_row, is_open_elsewhere, is_undone,
+    find_owner, find_print, find_row, has_open, is_open_elsewhere,
 };
 pub use queries::{ask, fault_of};

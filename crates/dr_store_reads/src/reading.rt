@@ -136,6 +136,7 @@ pub fn read_progress(row: &Row, first: usize) -> Option<Progress>
                 }
             }
         }
-        _ => Some(Progress::Done),
+        2 => Some(Progress::Done),
+        _ => Some(Progress::Dropped),
     }
 }

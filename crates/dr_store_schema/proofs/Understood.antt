@@ -93,6 +93,10 @@ pub insert_requeued_plain : IsPlain (understood tables text.insert_requeued)
 unfolding understood everything
 insert_requeued_plain = (refl, refl)
 
+pub insert_dropped_plain : IsPlain (understood tables text.insert_dropped)
+unfolding understood everything
+insert_dropped_plain = (refl, refl)
+
 pub set_body_plain : IsPlain (understood tables text.set_body)
 unfolding understood everything
 set_body_plain = (refl, refl)
@@ -105,9 +109,9 @@ pub drop_arrivals_plain : IsPlain (understood tables text.drop_arrivals)
 unfolding understood everything
 drop_arrivals_plain = (refl, refl)
 
-pub drop_done_plain : IsPlain (understood tables text.drop_done)
+pub drop_over_plain : IsPlain (understood tables text.drop_over)
 unfolding understood everything
-drop_done_plain = (refl, refl)
+drop_over_plain = (refl, refl)
 
 pub insert_adopted_plain : IsPlain (understood tables text.insert_adopted)
 unfolding understood everything
@@ -173,9 +177,9 @@ pub find_open_plain : IsPlain (understood tables text.find_open)
 unfolding understood everything
 find_open_plain = (refl, refl)
 
-pub find_undone_plain : IsPlain (understood tables text.find_undone)
+pub find_any_open_plain : IsPlain (understood tables text.find_any_open)
 unfolding understood everything
-find_undone_plain = (refl, refl)
+find_any_open_plain = (refl, refl)
 
 pub find_next_plain : IsPlain (understood tables text.find_next)
 unfolding understood everything
@@ -245,10 +249,11 @@ statements_are_understood = record {
   set_row = set_row_plain;
   insert_settled = insert_settled_plain;
   insert_requeued = insert_requeued_plain;
+  insert_dropped = insert_dropped_plain;
   set_body = set_body_plain;
   set_whole = set_whole_plain;
   drop_arrivals = drop_arrivals_plain;
-  drop_done = drop_done_plain;
+  drop_over = drop_over_plain;
   insert_adopted = insert_adopted_plain;
   drop_arrivals_of = drop_arrivals_of_plain;
   drop_rows_of = drop_rows_of_plain;
@@ -265,7 +270,7 @@ statements_are_understood = record {
   find_kept = find_kept_plain;
   find_row = find_row_plain;
   find_open = find_open_plain;
-  find_undone = find_undone_plain;
+  find_any_open = find_any_open_plain;
   find_next = find_next_plain;
   all_items = all_items_plain;
   all_prints = all_prints_plain;

@@ -14,7 +14,7 @@ use Rattle.dr_ledger.specs.declared.item.Cause.TheVariants as cause
 use Rattle.dr_ledger.specs.declared.item.Outcome.{Outcome}
 use Rattle.dr_ledger.specs.declared.item.Outcome.TheVariants as outcome
 use Rattle.dr_ledger.specs.declared.item.Progress.{Progress}
-use Rattle.dr_ledger.specs.declared.item.Progress.TheVariants.{Waiting, Held, Done}
+use Rattle.dr_ledger.specs.declared.item.Progress.TheVariants.{Waiting, Held, Done, Dropped}
 use Rattle.dr_base.specs.Texts.{text_cmp}
 use Rattle.dr_ledger.specs.Books.{Line}
 use Rattle.dr_store_schema.specs.Books.{bodies_by, is_whole}
@@ -26,6 +26,7 @@ progress_back (Waiting tries due) = refl
 progress_back (Held (cause.Status status)) = refl
 progress_back (Held cause.NoContext) = refl
 progress_back Done = refl
+progress_back Dropped = refl
 
 pub outcome_back : (what : Outcome) → outcome_in (outcome_value what) ≡ what
 outcome_back (outcome.Status status) = refl

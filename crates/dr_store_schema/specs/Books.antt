@@ -19,8 +19,8 @@ use Rattle.dr_ledger.specs.declared.item.Instance.{Instance}
 use Rattle.dr_ledger.specs.declared.item.Outcome.{Outcome}
 use Rattle.dr_ledger.specs.declared.item.Progress.{Progress}
 use Rattle.dr_ledger.specs.Bodies.{Bodies}
-use Rattle.dr_ledger.specs.Books.{Book, Line, Arrival, Repeat, Settling, Requeuing, Forgetting}
-use Rattle.dr_ledger.specs.Books.{Adoption}
+use Rattle.dr_ledger.specs.Books.{Book, Line, Arrival, Repeat, Settling, Requeuing, Dropping}
+use Rattle.dr_ledger.specs.Books.{Forgetting, Adoption}
 use Rattle.dr_ledger.specs.Pairs.{Pair, pair_cmp}
 use Rattle.dr_store_schema.specs.Cells.{text_in, bytes_in, number_in, syntax_marked, progress_in}
 use Rattle.dr_store_schema.specs.Cells.{outcome_in}
@@ -152,8 +152,8 @@ instance_in row = record {
   digest = bytes_in (column row 13);
 }
 
--- 0 is a first arrival, 1 a repeat, 2 a settling, 3 a requeuing, 5 a forgetting, and all else an
--- adoption
+-- 0 is a first arrival, 1 a repeat, 2 a settling, 3 a requeuing, 5 a forgetting, 6 a dropping, and
+-- all else an adoption
 abbrev pub line_by : ℕ → Text → Instance → Text → Text → Outcome → ℕ → List Text → Bool → Line
 line_by zero caller item uid dest what now to keep = Arrival caller item to keep
 line_by (suc zero) caller item uid dest what now to keep = Repeat caller item
@@ -161,7 +161,10 @@ line_by (suc (suc zero)) caller item uid dest what now to keep = Settling uid de
 line_by (suc (suc (suc zero))) caller item uid dest what now to keep = Requeuing uid dest
 line_by (suc (suc (suc (suc zero)))) caller item uid dest what now to keep = Adoption
 line_by (suc (suc (suc (suc (suc zero))))) caller item uid dest what now to keep = Forgetting uid
-line_by (suc (suc (suc (suc (suc (suc more)))))) caller item uid dest what now to keep = Adoption
+line_by (suc (suc (suc (suc (suc (suc zero)))))) caller item uid dest what now to keep =
+    Dropping uid dest now
+line_by (suc (suc (suc (suc (suc (suc (suc more))))))) caller item uid dest what now to keep =
+    Adoption
 
 -- the line of a row of journal, with its rows of target
 abbrev pub line_in : List Row → Row → Line

@@ -11,7 +11,7 @@ use Rattle.dr_ledger.specs.declared.item.Cause.TheVariants as cause
 use Rattle.dr_ledger.specs.declared.item.Outcome.{Outcome}
 use Rattle.dr_ledger.specs.declared.item.Outcome.TheVariants as outcome
 use Rattle.dr_ledger.specs.declared.item.Progress.{Progress}
-use Rattle.dr_ledger.specs.declared.item.Progress.TheVariants.{Waiting, Held, Done}
+use Rattle.dr_ledger.specs.declared.item.Progress.TheVariants.{Waiting, Held, Done, Dropped}
 
 -- ---- cells. A strict table has in each column only values of the column's type, so that the other
 -- cases don't occur.
@@ -57,8 +57,8 @@ abbrev pub mark_of : Syntax → List ℕ
 mark_of Implicit = 73 ∷ []
 mark_of Explicit = 69 ∷ []
 
--- ---- queue: how far an instance is. State 0 waits, 1 is held, 2 is done; a held row's cause is a
--- status, or NULL where the association had no presentation context.
+-- ---- queue: how far an instance is. State 0 waits, 1 is held, 2 is done, 3 is dropped; a held
+-- row's cause is a status, or NULL where the association had no presentation context.
 
 abbrev pub cause_in : Value → Cause
 cause_in Null = cause.NoContext
@@ -70,7 +70,8 @@ cause_in (Blob b) = cause.NoContext
 abbrev pub progress_by : ℕ → ℕ → ℕ → Cause → Progress
 progress_by zero tries due why = Waiting tries due
 progress_by (suc zero) tries due why = Held why
-progress_by (suc (suc more)) tries due why = Done
+progress_by (suc (suc zero)) tries due why = Done
+progress_by (suc (suc (suc more))) tries due why = Dropped
 
 -- what the cells state, tries, due and cause say
 abbrev pub progress_in : Value → Value → Value → Value → Progress
@@ -81,16 +82,19 @@ abbrev pub state_of : Progress → ℕ
 state_of (Waiting tries due) = 0
 state_of (Held why) = 1
 state_of Done = 2
+state_of Dropped = 3
 
 abbrev pub tries_of : Progress → ℕ
 tries_of (Waiting tries due) = tries
 tries_of (Held why) = 0
 tries_of Done = 0
+tries_of Dropped = 0
 
 abbrev pub due_of : Progress → ℕ
 due_of (Waiting tries due) = due
 due_of (Held why) = 0
 due_of Done = 0
+due_of Dropped = 0
 
 abbrev pub cause_value : Cause → Value
 cause_value (cause.Status status) = Int (pos status)
@@ -100,6 +104,7 @@ abbrev pub why_of : Progress → Value
 why_of (Waiting tries due) = Null
 why_of (Held why) = cause_value why
 why_of Done = Null
+why_of Dropped = Null
 
 -- the four cells of a row
 abbrev pub cells : Progress → Row

@@ -13,14 +13,14 @@ pub record AreRows (rows : List Row) : Type 0 where
   pub apart : IsAscending (λ a b. rowid a ≢ rowid b) rows
   pub ints : AllByRecursion (λ r. IsTrue (is_int (rowid r))) rows
 
--- the numbers of a row of queue that has come from a ledger: its state is one of the three, and it
+-- the numbers of a row of queue that has come from a ledger: its state is one of the four, and it
 -- is due at a moment of 63 bits
 pub record IsCounted (row : Row) : Type 0 where
   pub state : ℕ
   pub due : ℕ
   pub state_is : column row 3 ≡ Int (pos state)
   pub due_is : column row 5 ≡ Int (pos due)
-  pub known : state < 3
+  pub known : state < 4
   pub fits : due < 2 ^ 63
 
 -- The tables are those of a ledger, each row obeys them, and the rowids of the tables in which rows

@@ -92,7 +92,12 @@ abbrev pub insert_requeued : List ℕ
 insert_requeued = codes
     "INSERT INTO journal (n, kind, caller, uid, dest, outcome, moment) VALUES (?1, 3, NULL, ?2, ?3, NULL, NULL)"
 
--- ---- a forgetting
+-- the line of a dropping
+abbrev pub insert_dropped : List ℕ
+insert_dropped = codes
+    "INSERT INTO journal (n, kind, caller, uid, dest, outcome, moment) VALUES (?1, 6, NULL, ?2, ?3, NULL, ?4)"
+
+-- ---- a forgetting, and a dropping
 
 -- its arrivals leave
 abbrev pub drop_arrivals_of : List ℕ
@@ -131,9 +136,9 @@ set_whole = codes "UPDATE print SET whole = ?2 WHERE uid = ?1"
 abbrev pub drop_arrivals : List ℕ
 drop_arrivals = codes "DELETE FROM arrival"
 
--- rows that are done leave
-abbrev pub drop_done : List ℕ
-drop_done = codes "DELETE FROM queue WHERE state = 2"
+-- rows that are over leave: those that are done or dropped
+abbrev pub drop_over : List ℕ
+drop_over = codes "DELETE FROM queue WHERE state >= 2"
 
 -- the line of an adoption
 abbrev pub insert_adopted : List ℕ
@@ -174,13 +179,13 @@ find_kept = codes "SELECT uid FROM kept WHERE uid = ?1"
 abbrev pub find_row : List ℕ
 find_row = codes "SELECT state, tries, due, cause FROM queue WHERE uid = ?1 AND dest = ?2"
 
--- the rows of an instance that aren't done, but for one destination
+-- the open rows of an instance, which wait or are held, but for one destination
 abbrev pub find_open : List ℕ
-find_open = codes "SELECT dest FROM queue WHERE uid = ?1 AND dest <> ?2 AND state <> 2"
+find_open = codes "SELECT dest FROM queue WHERE uid = ?1 AND dest <> ?2 AND state < 2"
 
--- the rows of an instance that aren't done
-abbrev pub find_undone : List ℕ
-find_undone = codes "SELECT dest FROM queue WHERE uid = ?1 AND state <> 2"
+-- the open rows of an instance
+abbrev pub find_any_open : List ℕ
+find_any_open = codes "SELECT dest FROM queue WHERE uid = ?1 AND state < 2"
 
 -- the first row of a destination that waits and is due
 abbrev pub find_next : List ℕ

@@ -131,7 +131,8 @@ kept = record {
   is_counted = false;
 }
 
--- how far each instance is on its way to each destination: state 0 waits, 1 is held, 2 is done
+-- how far each instance is on its way to each destination: state 0 waits, 1 is held, 2 is done, 3
+-- is dropped
 abbrev pub queue : Table
 queue = record {
   name = codes "queue";
@@ -152,8 +153,9 @@ queue = record {
 }
 
 -- the accepted calls, numbered from 1; kind 0 is a first arrival, 1 a repeat, 2 a settling, 3 a
--- requeuing, 4 an adoption, 5 a forgetting. The line of an arrival has the instance itself, which
--- may have been forgotten since: what rules read of it, and its data set's length and SHA-256.
+-- requeuing, 4 an adoption, 5 a forgetting, 6 a dropping. The line of an arrival has the instance
+-- itself, which may have been forgotten since: what rules read of it, and its data set's length and
+-- SHA-256.
 abbrev pub journal : Table
 journal = record {
   name = codes "journal";

@@ -14,7 +14,7 @@ use Rattle.dr_store_schema.specs.Cells.{outcome_value}
 use Rattle.dr_store_schema.specs.Ledgers.{IsCounted, IsLedger}
 use Rattle.dr_store_schema.specs.Statements as text
 use Rattle.dr_store_schema.specs.Tables as table
-use Rattle.dr_store_writes.specs.Effects.{AddsRow, AddsCells, item_cells, print_cells, arrival_cells, kept_cells, new_cells, target_cells, arrived_line, settled_line, requeued_line, adopted_line, forgotten_line, instance_cells, site_row}
+use Rattle.dr_store_writes.specs.Effects.{AddsRow, AddsCells, item_cells, print_cells, arrival_cells, kept_cells, new_cells, target_cells, arrived_line, dropped_line, settled_line, requeued_line, adopted_line, forgotten_line, instance_cells, site_row}
 use Rattle.dr_store_writes.proofs.Casts.{cast_null, cast_int, cast_outcome}
 use Rattle.dr_store_writes.proofs.Commands as command
 use Rattle.dr_store_writes.proofs.Inserted.{adds}
@@ -70,6 +70,10 @@ settled_added old new n uid dest what now r has = under_its_number 11 (settled_l
 pub requeued_added : (old new : State) (n : ℕ) (uid dest : texts.Text) (r : Result ℕ Error) → IsLedger old.now → ExecutesInside 0 text.insert_requeued (Int (pos n) ∷ Text uid ∷ Text dest ∷ []) old new r → OnOk r (AddsRow 11 (requeued_line n uid dest) old new)
 requeued_added old new n uid dest r has = under_its_number 11 (requeued_line n uid dest) old new text.insert_requeued (Int (pos n) ∷ Text uid ∷ Text dest ∷ []) r (λ count h.
     adds old new text.insert_requeued (Int (pos n) ∷ Text uid ∷ Text dest ∷ []) 6 command.requeued_terms 14 table.journal_table (requeued_line n uid dest) count has command.insert_requeued.0 command.insert_requeued.1 refl (rw (cast_null, cast_int (pos n), cast_int (pos 3))) refl refl (inl (omega arith)) (inl (omega arith)) (inl (omega arith)) (inl (omega arith)) (λ e. absurd (omega (arith, e))) h)
+
+pub dropped_added : (old new : State) (n : ℕ) (uid dest : texts.Text) (now : ℕ) (r : Result ℕ Error) → IsLedger old.now → ExecutesInside 0 text.insert_dropped (Int (pos n) ∷ Text uid ∷ Text dest ∷ Int (pos now) ∷ []) old new r → OnOk r (AddsRow 11 (dropped_line n uid dest now) old new)
+dropped_added old new n uid dest now r has = under_its_number 11 (dropped_line n uid dest now) old new text.insert_dropped (Int (pos n) ∷ Text uid ∷ Text dest ∷ Int (pos now) ∷ []) r (λ count h.
+    adds old new text.insert_dropped (Int (pos n) ∷ Text uid ∷ Text dest ∷ Int (pos now) ∷ []) 6 command.dropped_terms 14 table.journal_table (dropped_line n uid dest now) count has command.insert_dropped.0 command.insert_dropped.1 refl (rw (cast_null, cast_int (pos n), cast_int (pos 6), cast_int (pos now))) refl refl (inl (omega arith)) (inl (omega arith)) (inl (omega arith)) (inl (omega arith)) (λ e. absurd (omega (arith, e))) h)
 
 pub adopted_added : (old new : State) (n : ℕ) (r : Result ℕ Error) → IsLedger old.now → ExecutesInside 0 text.insert_adopted (Int (pos n) ∷ []) old new r → OnOk r (AddsRow 11 (adopted_line n) old new)
 adopted_added old new n r has = under_its_number 11 (adopted_line n) old new text.insert_adopted (Int (pos n) ∷ []) r (λ count h.

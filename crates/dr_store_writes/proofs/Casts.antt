@@ -10,7 +10,7 @@ use Rattle.dr_ledger.specs.declared.item.Cause.TheVariants as cause
 use Rattle.dr_ledger.specs.declared.item.Outcome.{Outcome}
 use Rattle.dr_ledger.specs.declared.item.Outcome.TheVariants as outcome
 use Rattle.dr_ledger.specs.declared.item.Progress.{Progress}
-use Rattle.dr_ledger.specs.declared.item.Progress.TheVariants.{Waiting, Held, Done}
+use Rattle.dr_ledger.specs.declared.item.Progress.TheVariants.{Waiting, Held, Done, Dropped}
 use Rattle.dr_store_schema.specs.Cells.{outcome_value, why_of}
 
 either : (b : Bool) (x : Value) → cond b x x ≡ x
@@ -30,6 +30,7 @@ cast_why (Waiting tries due) = cast_null
 cast_why (Held (cause.Status status)) = cast_int (pos status)
 cast_why (Held cause.NoContext) = cast_null
 cast_why Done = cast_null
+cast_why Dropped = cast_null
 
 pub cast_outcome : (what : Outcome) → cast Integer (outcome_value what) ≡ outcome_value what
 cast_outcome (outcome.Status status) = cast_int (pos status)
@@ -41,6 +42,7 @@ bound_why (Waiting tries due) = refl
 bound_why (Held (cause.Status status)) = refl
 bound_why (Held cause.NoContext) = refl
 bound_why Done = refl
+bound_why Dropped = refl
 
 pub bound_outcome : (what : Outcome) → bound_value (outcome_value what) ≡ outcome_value what
 bound_outcome (outcome.Status status) = refl

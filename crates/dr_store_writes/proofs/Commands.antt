@@ -10,7 +10,7 @@ use Rattle.sqlite.specs.Source.TheVariants.{Values}
 use Rattle.sqlite.specs.Term.{Term, lit, col, op2}
 use Rattle.sqlite.proofs.Callers.{IsPlain, command_of}
 use Rattle.sqlite_sql.specs.declared.ops.BinaryOp.TheVariants.{Compare}
-use Rattle.sqlite_sql.specs.declared.ops.CompareOp.TheVariants.{Eq}
+use Rattle.sqlite_sql.specs.declared.ops.CompareOp.TheVariants.{Eq, Ge}
 use Rattle.sqlite_tied.specs.Compute.{everything}
 use Rattle.dr_store_schema.specs.Statements as text
 use Rattle.dr_store_schema.specs.Tables.{tables}
@@ -80,6 +80,13 @@ requeued_terms = col 0 0 ∷ lit Null ∷ lit (Int (pos 3)) ∷ lit Null ∷ col
 pub insert_requeued : Is text.insert_requeued (Insert 6 (Values requeued_terms 14))
 unfolding understood everything
 insert_requeued = (refl, (refl, refl))
+
+abbrev pub dropped_terms : List Term
+dropped_terms = col 0 0 ∷ lit Null ∷ lit (Int (pos 6)) ∷ lit Null ∷ col 0 1 ∷ col 0 2 ∷ lit Null ∷ col 0 3 ∷ nothing_came
+
+pub insert_dropped : Is text.insert_dropped (Insert 6 (Values dropped_terms 14))
+unfolding understood everything
+insert_dropped = (refl, (refl, refl))
 
 abbrev pub adopted_terms : List Term
 adopted_terms = col 0 0 ∷ lit Null ∷ lit (Int (pos 4)) ∷ lit Null ∷ lit Null ∷ lit Null ∷ lit Null ∷ lit Null ∷ nothing_came
@@ -178,12 +185,12 @@ pub drop_arrivals : Is text.drop_arrivals (Delete 3 (record { lets = []; body = 
 unfolding understood everything
 drop_arrivals = (refl, (refl, refl))
 
-abbrev pub is_done : List Term
-is_done = op2 (Compare Eq Binary) (col 1 3) (lit (Int (pos 2))) ∷ []
+abbrev pub is_over : List Term
+is_over = op2 (Compare Ge Binary) (col 1 3) (lit (Int (pos 2))) ∷ []
 
-pub drop_done : Is text.drop_done (Delete 5 (record { lets = []; body = over 9 is_done dropped_shown }))
+pub drop_over : Is text.drop_over (Delete 5 (record { lets = []; body = over 9 is_over dropped_shown }))
 unfolding understood everything
-drop_done = (refl, (refl, refl))
+drop_over = (refl, (refl, refl))
 
 pub drop_arrivals_of : Is text.drop_arrivals_of (Delete 3 (record { lets = []; body = over 5 (by_uid_at 2) dropped_shown }))
 unfolding understood everything

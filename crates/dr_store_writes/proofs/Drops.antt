@@ -19,18 +19,18 @@ use Rattle.sqlite_rules.specs.Calls.{ids_of}
 use Rattle.sqlite_rules.specs.Edit.{id_in, without_all}
 use Rattle.sqlite_rules.specs.Lists.{Has}
 use Rattle.sqlite_rules.proofs.ListLemmas.{all_has}
-use Rattle.sqlite_sql.specs.declared.ops.CompareOp.TheVariants.{Eq}
+use Rattle.sqlite_sql.specs.declared.ops.CompareOp.TheVariants.{Ge}
 use Rattle.sqlite_trees.specs.View.{is_int}
 use Rattle.sqlite_trees.proofs.ListLemmas.{all-filter, all-map, all-permutation, all_from_map, all_of, all_weaker, filter_all, filter_none}
 use Rattle.sqlite_value.proofs.OrderLemmas.{value_cmp_total}
 use Rattle.dr_ledger.specs.declared.item.Progress.{Progress}
-use Rattle.dr_ledger.specs.Books.{is_done, not_done}
+use Rattle.dr_ledger.specs.Books.{is_over_row, not_over}
 use Rattle.dr_ledger.specs.Pairs.{Pair, pair_cmp}
 use Rattle.dr_store_schema.specs.Books.{entry_in, rows_in}
 use Rattle.dr_store_schema.specs.Ledgers.{AreRows, IsCounted, IsLedger}
 use Rattle.dr_store_schema.specs.Statements as text
 use Rattle.dr_store_schema.specs.Tables as table
-use Rattle.dr_store_writes.specs.Effects.{DropsArrivals, DropsDone}
+use Rattle.dr_store_writes.specs.Effects.{DropsArrivals, DropsOver}
 use Rattle.dr_store_writes.proofs.Commands as command
 use Rattle.dr_store_writes.proofs.Commands.{over}
 use Rattle.dr_store_writes.proofs.Inserted.{ledger_of}
@@ -204,21 +204,22 @@ pub arrivals_dropped_all : (old new : State) (r : Result ℕ Error) → IsLedger
 arrivals_dropped_all old new (Ok count) has h = drops_arrivals old new count has h
 arrivals_dropped_all old new (Err e) has h = tt
 
-abbrev hits_done : Row → Bool
-hits_done = hits command.is_done []
+abbrev hits_over : Row → Bool
+hits_over = hits command.is_over []
 
--- of a row with a ledger's numbers the test says whether it is done
-done_hit : (row : Row) → IsCounted row → hits_done row ≡ is_done (Some (entry_in row).1)
-done_hit row is = go is.state is.known is.state_is
+-- of a row with a ledger's numbers the test says whether it is over
+over_hit : (row : Row) → IsCounted row → hits_over row ≡ is_over_row (Some (entry_in row).1)
+over_hit row is = go is.state is.known is.state_is
   where
-    go : (n : ℕ) → n < 3 → column row 3 ≡ Int (pos n) → hits_done row ≡ is_done (Some (entry_in row).1)
-    go zero known e = rw (e, int_test Eq (pos 0) (pos 2))
-    go (suc zero) known e = rw (e, int_test Eq (pos 1) (pos 2))
-    go (suc (suc zero)) known e = rw (e, int_test Eq (pos 2) (pos 2))
-    go (suc (suc (suc more))) known e = absurd (omega (arith, known))
+    go : (n : ℕ) → n < 4 → column row 3 ≡ Int (pos n) → hits_over row ≡ is_over_row (Some (entry_in row).1)
+    go zero known e = rw (e, int_test Ge (pos 0) (pos 2))
+    go (suc zero) known e = rw (e, int_test Ge (pos 1) (pos 2))
+    go (suc (suc zero)) known e = rw (e, int_test Ge (pos 2) (pos 2))
+    go (suc (suc (suc zero))) known e = rw (e, int_test Ge (pos 3) (pos 2))
+    go (suc (suc (suc (suc more)))) known e = absurd (omega (arith, known))
 
 abbrev kept_row : Row → Bool
-kept_row r = not (hits_done r)
+kept_row r = not (hits_over r)
 
 cond_none : (b : Bool) → ◌≡◌ {A = Option Progress} (cond (not b) None None) None
 cond_none true = refl
@@ -226,13 +227,13 @@ cond_none false = refl
 
 -- what is found among the rows that stay
 found_left : (q : Pair) (rows : List Row) → AllByRecursion IsCounted rows → maps.AreApart entry_in rows
-    → find pair_cmp q (map entry_in (filter kept_row rows)) ≡ cond (not (is_done (find pair_cmp q (map entry_in rows)))) (find pair_cmp q (map entry_in rows)) None
+    → find pair_cmp q (map entry_in (filter kept_row rows)) ≡ cond (not (is_over_row (find pair_cmp q (map entry_in rows)))) (find pair_cmp q (map entry_in rows)) None
 found_left q [] counted apart = refl
-found_left q (r ∷ rows) counted apart = go (eq_by_cmp pair_cmp q (entry_in r).0) refl (hits_done r) refl (found_left q rows counted.1 apart.1)
+found_left q (r ∷ rows) counted apart = go (eq_by_cmp pair_cmp q (entry_in r).0) refl (hits_over r) refl (found_left q rows counted.1 apart.1)
   where
     Goal : Bool → Bool → Type 0
     Goal same done = find pair_cmp q (map entry_in (cond (not done) (r ∷ filter kept_row rows) (filter kept_row rows)))
-        ≡ cond (not (is_done (cond same (Some (entry_in r).1) (find pair_cmp q (map entry_in rows))))) (cond same (Some (entry_in r).1) (find pair_cmp q (map entry_in rows))) None
+        ≡ cond (not (is_over_row (cond same (Some (entry_in r).1) (find pair_cmp q (map entry_in rows))))) (cond same (Some (entry_in r).1) (find pair_cmp q (map entry_in rows))) None
 
     -- no later row has its key
     none_later : eq_by_cmp pair_cmp q (entry_in r).0 ≡ true → find pair_cmp q (map entry_in rows) ≡ None
@@ -246,38 +247,38 @@ found_left q (r ∷ rows) counted apart = go (eq_by_cmp pair_cmp q (entry_in r).
         none_found [] h = refl
         none_found (x ∷ xs) h = ap (λ b. cond b (Some (entry_in x).1) (find pair_cmp q (map entry_in xs))) h.0 ∙ none_found xs h.1
 
-    go : (same : Bool) → eq_by_cmp pair_cmp q (entry_in r).0 ≡ same → (done : Bool) → hits_done r ≡ done
-        → find pair_cmp q (map entry_in (filter kept_row rows)) ≡ cond (not (is_done (find pair_cmp q (map entry_in rows)))) (find pair_cmp q (map entry_in rows)) None
+    go : (same : Bool) → eq_by_cmp pair_cmp q (entry_in r).0 ≡ same → (done : Bool) → hits_over r ≡ done
+        → find pair_cmp q (map entry_in (filter kept_row rows)) ≡ cond (not (is_over_row (find pair_cmp q (map entry_in rows)))) (find pair_cmp q (map entry_in rows)) None
         → Goal same done
     go true same true done later =
-        later ∙ ap (λ f. cond (not (is_done f)) f None) (none_later same)
-        ∙ sym (ap (λ b. cond (not b) (Some (entry_in r).1) None) (sym (done_hit r counted.0) ∙ done))
+        later ∙ ap (λ f. cond (not (is_over_row f)) f None) (none_later same)
+        ∙ sym (ap (λ b. cond (not b) (Some (entry_in r).1) None) (sym (over_hit r counted.0) ∙ done))
     go true same false done later =
         ap (λ b. cond b (Some (entry_in r).1) (find pair_cmp q (map entry_in (filter kept_row rows)))) same
-        ∙ sym (ap (λ b. cond (not b) (Some (entry_in r).1) None) (sym (done_hit r counted.0) ∙ done))
+        ∙ sym (ap (λ b. cond (not b) (Some (entry_in r).1) None) (sym (over_hit r counted.0) ∙ done))
     go false same true done later = later
     go false same false done later = ap (λ b. cond b (Some (entry_in r).1) (find pair_cmp q (map entry_in (filter kept_row rows)))) same ∙ later
 
-stays_undone : (rows : List Row) → AllByRecursion IsCounted rows → maps.AreApart entry_in rows → rows_in (filter kept_row rows) ≡ not_done (rows_in rows)
-stays_undone rows counted apart = fin.same_map pairs_total pairs_exact _ _ (λ q.
+stays_open : (rows : List Row) → AllByRecursion IsCounted rows → maps.AreApart entry_in rows → rows_in (filter kept_row rows) ≡ not_over (rows_in rows)
+stays_open rows counted apart = fin.same_map pairs_total pairs_exact _ _ (λ q.
     fin.get-from_entries pairs_total (map entry_in (filter kept_row rows)) q ∙ found_left q rows counted apart
-    ∙ ap (λ f. cond (not (is_done f)) f None) (sym (fin.get-from_entries pairs_total (map entry_in rows) q))
-    ∙ sym (fin.get-retain_keys (rows_in rows) (λ at. not (is_done (fin.get (rows_in rows) at))) q (λ x same. ap (λ at. not (is_done (fin.get (rows_in rows) at))) (sym (pairs_exact q x same)))))
+    ∙ ap (λ f. cond (not (is_over_row f)) f None) (sym (fin.get-from_entries pairs_total (map entry_in rows) q))
+    ∙ sym (fin.get-retain_keys (rows_in rows) (λ at. not (is_over_row (fin.get (rows_in rows) at))) q (λ x same. ap (λ at. not (is_over_row (fin.get (rows_in rows) at))) (sym (pairs_exact q x same)))))
 
-drops_done : (old new : State) (count : ℕ) → IsLedger old.now → ExecutesInside 0 text.drop_done [] old new (Ok count) → DropsDone old new
-drops_done old new count has h =
+drops_over : (old new : State) (count : ℕ) → IsLedger old.now → ExecutesInside 0 text.drop_over [] old new (Ok count) → DropsOver old new
+drops_over old new count has h =
     let db = old.now.trees in
-    let d = deleted old new text.drop_done [] 5 9 command.is_done command.dropped_shown table.queue_table count has.schema command.drop_done.0 command.drop_done.1 refl h in
-    let staged = d.1.grouped ∙ matched hits_done (λ r. [] ∷ r ∷ []) (db 9) in
+    let d = deleted old new text.drop_over [] 5 9 command.is_over command.dropped_shown table.queue_table count has.schema command.drop_over.0 command.drop_over.1 refl h in
+    let staged = d.1.grouped ∙ matched hits_over (λ r. [] ∷ r ∷ []) (db 9) in
     let it = rows_dropped old new (ids_of d.0) d.2 in
-    let stay : new.now.trees 9 ≡ filter kept_row (db 9) = it.0 ∙ left_alone hits_done (db 9) has.queue (ids_of d.0) (dropped_ids 9 command.is_done db [] d.0 d.1 staged) in
+    let stay : new.now.trees 9 ≡ filter kept_row (db 9) = it.0 ∙ left_alone hits_over (db 9) has.queue (ids_of d.0) (dropped_ids 9 command.is_over db [] d.0 d.1 staged) in
     record {
       goes_on = ledger_of 9 old new has d.2.schema d.2.sound d.2.shown it.1 (inl (omega arith)) (inl (omega arith)) (inl (omega arith)) (inr refl)
           (λ was. subst AreRows (sym stay) (rows_without kept_row (db 9) was)) (λ nine was. subst (AllByRecursion IsCounted) (sym stay) (all-filter IsCounted kept_row (db 9) was));
-      rows = ap rows_in stay ∙ stays_undone (db 9) has.counted (queue_apart old.now has);
+      rows = ap rows_in stay ∙ stays_open (db 9) has.counted (queue_apart old.now has);
       others = it.1;
     }
 
-pub done_dropped : (old new : State) (r : Result ℕ Error) → IsLedger old.now → ExecutesInside 0 text.drop_done [] old new r → OnOk r (DropsDone old new)
-done_dropped old new (Ok count) has h = drops_done old new count has h
-done_dropped old new (Err e) has h = tt
+pub over_dropped : (old new : State) (r : Result ℕ Error) → IsLedger old.now → ExecutesInside 0 text.drop_over [] old new r → OnOk r (DropsOver old new)
+over_dropped old new (Ok count) has h = drops_over old new count has h
+over_dropped old new (Err e) has h = tt

@@ -20,7 +20,7 @@ use Rattle.sqlite_rules.specs.Calls.{ids_of}
 use Rattle.sqlite_rules.proofs.ListLemmas.{all_has}
 use Rattle.dr_ledger.specs.declared.item.Cause.TheVariants as cause
 use Rattle.dr_ledger.specs.declared.item.Progress.{Progress}
-use Rattle.dr_ledger.specs.declared.item.Progress.TheVariants.{Waiting, Held, Done}
+use Rattle.dr_ledger.specs.declared.item.Progress.TheVariants.{Waiting, Held, Done, Dropped}
 use Rattle.dr_ledger.specs.Pairs.{Pair}
 use Rattle.dr_store_schema.specs.Books.{content_in, contents_in, entry_in, item_in, items_in, print_in, prints_in, rows_in, whole_in, wholes_in}
 use Rattle.dr_store_schema.specs.Cells.{cells, state_of, text_in, tries_of, due_of}
@@ -53,11 +53,13 @@ stored_back id at (Waiting tries due) = refl
 stored_back id at (Held (cause.Status status)) = refl
 stored_back id at (Held cause.NoContext) = refl
 stored_back id at Done = refl
+stored_back id at Dropped = refl
 
-known_state : (p : Progress) → state_of p < 3
+known_state : (p : Progress) → state_of p < 4
 known_state (Waiting tries due) = omega arith
 known_state (Held why) = omega arith
 known_state Done = omega arith
+known_state Dropped = omega arith
 
 row_counted : (id : ℤ) (at : Pair) (p : Progress) → due_of p ≤ 2 ^ 62 + 300000 → IsCounted (stored_row id at p)
 row_counted id at p fits = record { state = state_of p; due = due_of p; state_is = refl; due_is = refl; known = known_state p; fits = omega (arith, fits) }

@@ -13,7 +13,7 @@ use Rattle.dr_base.specs.Texts.{text_cmp}
 use Rattle.dr_ledger.specs.declared.item.Instance.{Instance}
 use Rattle.dr_ledger.specs.declared.item.Outcome.{Outcome}
 use Rattle.dr_ledger.specs.declared.item.Progress.{Progress}
-use Rattle.dr_ledger.specs.Books.{is_other, not_done}
+use Rattle.dr_ledger.specs.Books.{is_other, not_over}
 use Rattle.dr_ledger.specs.Pairs.{Pair}
 use Rattle.dr_route.specs.declared.key.Key.{Key}
 use Rattle.dr_store_schema.specs.Books.{Print, contents_in, items_in, prints_in, rows_in, wholes_in}
@@ -115,6 +115,11 @@ abbrev pub requeued_line : ℕ → texts.Text → texts.Text → Row
 requeued_line n uid dest =
     Int (pos n) ∷ Null ∷ Int (pos 3) ∷ Null ∷ Text uid ∷ Text dest ∷ Null ∷ Null ∷ no_instance
 
+abbrev pub dropped_line : ℕ → texts.Text → texts.Text → ℕ → Row
+dropped_line n uid dest now =
+    Int (pos n) ∷ Null ∷ Int (pos 6) ∷ Null ∷ Text uid ∷ Text dest ∷ Null ∷ Int (pos now)
+    ∷ no_instance
+
 abbrev pub adopted_line : ℕ → Row
 adopted_line n = Int (pos n) ∷ Null ∷ Int (pos 4) ∷ Null ∷ Null ∷ Null ∷ Null ∷ Null ∷ no_instance
 
@@ -179,10 +184,10 @@ pub record DropsArrivals (old new : State) : Type 0 where
   pub rows : new.now.trees 5 ≡ []
   pub others : LeavesOthers 5 old.now.trees new.now.trees
 
--- the rows that are done have left
-pub record DropsDone (old new : State) : Type 0 where
+-- the rows that are over have left
+pub record DropsOver (old new : State) : Type 0 where
   pub goes_on : GoesOn old new
-  pub rows : rows_in (new.now.trees 9) ≡ not_done (rows_in (old.now.trees 9))
+  pub rows : rows_in (new.now.trees 9) ≡ not_over (rows_in (old.now.trees 9))
   pub others : LeavesOthers 9 old.now.trees new.now.trees
 
 -- the row is of another instance than that of this uid, by its uid in that column

@@ -2,7 +2,8 @@
 ghost use Rattle.std.specs.Prelude.{◌≡◌, ◌≤◌, ◌^◌};
 ghost use Rattle.sqlite.specs.Held.{state};
 ghost use Rattle.dr_store_writes.specs.Effects.{AddsCells, AddsRow, Step, adopted_line};
-ghost use Rattle.dr_store_writes.specs.Effects.{arrival_cells, arrived_line, forgotten_line};
+ghost use Rattle.dr_store_writes.specs.Effects.{arrival_cells, arrived_line, dropped_line};
+ghost use Rattle.dr_store_writes.specs.Effects.{forgotten_line};
 ghost use Rattle.dr_store_writes.specs.Effects.{item_cells, kept_cells, new_cells, print_cells};
 ghost use Rattle.dr_store_writes.specs.Effects.{requeued_line};
 ghost use Rattle.dr_store_writes.specs.Effects.{settled_line, site_row, target_cells};
@@ -227,6 +228,33 @@ pub fn add_requeued<'x, S: Alter>(
             number_cell(n),
             ValueRef::Text(uid.as_bytes()),
             ValueRef::Text(dest.as_bytes()),
+        ],
+    )
+}
+
+/// The line of a dropping at the moment `now` (milliseconds).
+pub fn add_dropped<'x, S: Alter>(
+    tx: &mut Transaction<'_, S>,
+    n: u64,
+    uid: &'x Text,
+    dest: &'x Text,
+    now: u64,
+) -> Result<usize, Error>
+    requires n { n ≤ 2 ^ 62 }
+    requires now { now ≤ 2 ^ 62 }
+    ensures same_reference { tx.new.conn.ghost_name ≡ tx.old.conn.ghost_name }
+    ensures step { Step result (state S.Store tx.old.conn.now) (state S.Store tx.new.conn.now)
+        (AddsRow 11 (dropped_line n uid.now dest.now now) (state S.Store tx.old.conn.now)
+        (state S.Store tx.new.conn.now)) }
+{
+    run(
+        tx,
+        "INSERT INTO journal (n, kind, caller, uid, dest, outcome, moment) VALUES (?1, 6, NULL, ?2, ?3, NULL, ?4)",
+        &[
+            number_cell(n),
+            ValueRef::Text(uid.as_bytes()),
+            ValueRef::Text(dest.as_bytes()),
+            number_cell(now),
         ],
     )
 }

@@ -34,6 +34,7 @@ pub fn state_cell(progress: Progress) -> ValueRef<'static>
         Progress::Waiting { .. } => ValueRef::Int(0),
         Progress::Held(_) => ValueRef::Int(1),
         Progress::Done => ValueRef::Int(2),
+        Progress::Dropped => ValueRef::Int(3),
     }
 }
 
@@ -42,7 +43,7 @@ pub fn tries_cell(progress: Progress) -> ValueRef<'static>
 {
     match progress {
         Progress::Waiting { tries, .. } => ValueRef::Int(i64::from(tries)),
-        Progress::Held(_) | Progress::Done => ValueRef::Int(0),
+        Progress::Held(_) | Progress::Done | Progress::Dropped => ValueRef::Int(0),
     }
 }
 
@@ -53,7 +54,7 @@ pub fn due_cell(progress: Progress) -> ValueRef<'static>
 {
     match progress {
         Progress::Waiting { due, .. } => ValueRef::Int(due as i64),
-        Progress::Held(_) | Progress::Done => ValueRef::Int(0),
+        Progress::Held(_) | Progress::Done | Progress::Dropped => ValueRef::Int(0),
     }
 }
 
@@ -62,9 +63,10 @@ pub fn why_cell(progress: Progress) -> ValueRef<'static>
 {
     match progress {
         Progress::Held(Cause::Status(status)) => ValueRef::Int(i64::from(status)),
-        Progress::Held(Cause::NoContext) | Progress::Waiting { .. } | Progress::Done => {
-            ValueRef::Null
-        }
+        Progress::Held(Cause::NoContext)
+        | Progress::Waiting { .. }
+        | Progress::Done
+        | Progress::Dropped => ValueRef::Null,
     }
 }
 

@@ -1,7 +1,7 @@
-//! Rows that leave, at an adoption and at a forgetting.
+//! Rows that leave, at an adoption, at a forgetting and at a dropping.
 ghost use Rattle.std.specs.Prelude.{◌≡◌};
 ghost use Rattle.sqlite.specs.Held.{state};
-ghost use Rattle.dr_store_writes.specs.Effects.{DropsArrivals, DropsDone, DropsOf, Step};
+ghost use Rattle.dr_store_writes.specs.Effects.{DropsArrivals, DropsOf, DropsOver, Step};
 
 use crate::running::run;
 use dr_base::Text;
@@ -17,13 +17,13 @@ pub fn drop_arrivals<S: Alter>(tx: &mut Transaction<'_, S>) -> Result<usize, Err
     run(tx, "DELETE FROM arrival", &[])
 }
 
-/// The rows that are done leave, and nothing else.
-pub fn drop_done<S: Alter>(tx: &mut Transaction<'_, S>) -> Result<usize, Error>
+/// The rows that are over leave, those that are done or dropped, and nothing else.
+pub fn drop_over<S: Alter>(tx: &mut Transaction<'_, S>) -> Result<usize, Error>
     ensures same_reference { tx.new.conn.ghost_name ≡ tx.old.conn.ghost_name }
     ensures step { Step result (state S.Store tx.old.conn.now) (state S.Store tx.new.conn.now)
-        (DropsDone (state S.Store tx.old.conn.now) (state S.Store tx.new.conn.now)) }
+        (DropsOver (state S.Store tx.old.conn.now) (state S.Store tx.new.conn.now)) }
 {
-    run(tx, "DELETE FROM queue WHERE state = 2", &[])
+    run(tx, "DELETE FROM queue WHERE state >= 2", &[])
 }
 
 /// The arrivals of an instance leave, whoever brought it.

@@ -11,7 +11,7 @@ use crate::standing::{FoundLedger, Looked, LookedAt, Standing};
 use dr_base::Text;
 use dr_cert::Sealed;
 use dr_ledger::{Ledger, LedgerFault};
-use dr_run_open::{Halt, Ledgers, OpenFault, ledger_of};
+use dr_run_open::{Halt, Ledgers, Making, OpenFault, ledger_of};
 use dr_site::{Site, SiteFault};
 use std::alloc::{AllocError, Global};
 
@@ -65,12 +65,12 @@ fn find<'a, O: Ledgers>(
     ensures { MatchResult result
         (IsFound (O.opens ledgers.now) O.Ledger.site path.now site.now own.now) IsUnopened }
 {
-    match ledger_of(alloc, ledgers, path, site) {
+    match ledger_of(alloc, ledgers, path, site, Making::Allowed) {
         Ok(ledger) => return Ok(FoundLedger::InForce(ledger)),
         Err(Halt::NotOpened(OpenFault::OtherSite)) => {}
         Err(halt) => return Err(halt),
     }
-    let ledger = ledger_of(alloc, ledgers, path, own)?;
+    let ledger = ledger_of(alloc, ledgers, path, own, Making::Allowed)?;
     Ok(FoundLedger::Next(ledger))
 }
 

@@ -108,7 +108,7 @@ where
         → IfOk result
         (Works (F.holds files.now) (O.opens ledgers.now) O.Ledger.site O.Ledger.book O.Ledger.stands
         (VisitsBy (N.reaches network.now) N.Socket.hears N.Socket.sends N.Socket.closes
-        ⟦<OwnPort<O::Ledger> as DeskPort>⟧.step (C.tells clock.now)) given duty
+        ⟦<OwnPort<O::Ledger> as DeskPort>⟧.step (C.tells clock.now)) (C.tells clock.now) given duty
         (W.contents output.old) (W.contents output.new)) }
     ensures adopted { (change : PlanChangeValue)
         → asked.entry ≡ asks.Adopt change
@@ -204,7 +204,7 @@ where
         → Works (F.holds files.now) (O.opens ledgers.now) O.Ledger.site O.Ledger.book
         O.Ledger.stands
         (VisitsBy (N.reaches network.now) N.Socket.hears N.Socket.sends N.Socket.closes
-        ⟦<OwnPort<O::Ledger> as DeskPort>⟧.step (C.tells clock.now)) given duty
+        ⟦<OwnPort<O::Ledger> as DeskPort>⟧.step (C.tells clock.now)) (C.tells clock.now) given duty
         (W.contents output.old) (W.contents output.new) result }
     ensures adopted { (change : PlanChangeValue)
         → IsAdoptOf words.now change

@@ -10,7 +10,7 @@ use Rattle.dr_run_files.specs.declared.node.NodeFiles.{NodeFiles}
 use Rattle.dr_word_line.specs.declared.words.PlanChange.{PlanChange}
 use Rattle.dr_word_line.specs.declared.words.NextPlan.{NextPlan}
 use Rattle.dr_word_line.specs.declared.words.Question.TheVariants as questions
-use Rattle.dr_word_line.specs.Words.{Asks, IsAdoptOf, IsCheckOf, IsDiffOf, IsDutyOf, IsEchoOf, IsExpectOf, IsFileRouteOf, IsGraphOf, IsKeyRouteOf, IsLintOf, IsListOf, IsPlainCheck, IsRequeueAllOf, IsRequeueOf, IsSendOf, IsServeOf, IsSimulateOf, IsSummaryOf, IsVerifyOf}
+use Rattle.dr_word_line.specs.Words.{Asks, IsAdoptOf, IsCheckOf, IsDiffOf, IsDutyOf, IsEchoOf, IsExpectOf, IsFileRouteOf, IsForgetOf, IsGiveUpOf, IsGraphOf, IsKeyRouteOf, IsLintOf, IsListOf, IsMakeOf, IsPlainCheck, IsRequeueAllOf, IsRequeueOf, IsSendOf, IsServeOf, IsSimulateOf, IsSummaryOf, IsVerifyOf}
 
 -- no duty is asked for, where none of each kind is
 module _ (words : List (Bor (List ℕ)))
@@ -19,12 +19,18 @@ module _ (words : List (Bor (List ℕ)))
     (requeue : (given : NodeFiles) (uid dest : Bor (List ℕ)) → IsRequeueOf words given uid dest → ⊥)
     (send : (given : NodeFiles) (file : Bor (List ℕ)) → IsSendOf words given file → ⊥)
     (summary : (given : NodeFiles) → IsSummaryOf words given → ⊥)
-    (requeue_all : (given : NodeFiles) (dest : Bor (List ℕ)) → IsRequeueAllOf words given dest → ⊥) where
+    (requeue_all : (given : NodeFiles) (dest : Bor (List ℕ)) → IsRequeueAllOf words given dest → ⊥)
+    (give_up : (given : NodeFiles) (uid dest : Bor (List ℕ)) → IsGiveUpOf words given uid dest → ⊥)
+    (forget : (given : NodeFiles) (uid : Bor (List ℕ)) → IsForgetOf words given uid → ⊥)
+    (make : (given : NodeFiles) → IsMakeOf words given → ⊥) where
   pub no_duty : (given : NodeFiles) (duty : Duty) → IsDutyOf words given duty → ⊥
+  no_duty given duties.Make h = make given h
   no_duty given duties.List h = list given h
   no_duty given duties.Summary h = summary given h
   no_duty given (duties.RequeueAll dest) h = requeue_all given dest h
   no_duty given (duties.Requeue uid dest) h = requeue given uid dest h
+  no_duty given (duties.GiveUp uid dest) h = give_up given uid dest h
+  no_duty given (duties.Forget uid) h = forget given uid h
   no_duty given (duties.Send file) h = send given file h
   no_duty given (duties.Serve serving) h = serve given h.0
 

@@ -36,7 +36,24 @@ abbrev of_five : List ℕ → Word → Word → Word → Word → Task
 of_five word a b c d =
     cond (initial word == 114) (asks.Question a b (questions.RouteOfFile c d))
     (cond (initial word == 108) (asks.AtNode (files a b c d) duties.List)
-    (cond (initial word == 100) (asks.Question a b (questions.Diff (record { plan = c; certificate = d; fails_on_lost = false }))) (asks.AtNode (files a b c d) (duties.Serve plain_serving))))
+    (cond (initial word == 110) (asks.AtNode (files a b c d) duties.Make)
+    (cond (initial word == 100) (asks.Question a b (questions.Diff (record { plan = c; certificate = d; fails_on_lost = false }))) (asks.AtNode (files a b c d) (duties.Serve plain_serving)))))
+
+-- what a word and five more ask for
+abbrev of_six : List ℕ → NodeFiles → Word → Task
+of_six word given e =
+    cond (initial word == 108) (asks.AtNode given duties.Summary)
+    (cond (initial word == 115) (asks.AtNode given (duties.Send e))
+    (cond (initial word == 102) (asks.AtNode given (duties.Forget e))
+    (asks.Adopt (record { plan = given.plan; certificate = given.certificate; next_plan = given.node; next_certificate = given.ledger; folder = e }))))
+
+-- what requeue, or a word and six more ask for
+abbrev of_held : List ℕ → NodeFiles → Word → Word → Task
+of_held option given e f =
+    cond (initial option == 45) (asks.AtNode given (duties.RequeueAll f)) (asks.AtNode given (duties.Requeue e f))
+
+abbrev of_seven : List ℕ → List ℕ → NodeFiles → Word → Word → Task
+of_seven word option given e f = cond (initial word == 100) (asks.AtNode given (duties.GiveUp e f)) (of_held option given e f)
 
 -- what words of a plain form ask for: their number says nearly all, and then the first byte of the first word or of the option
 abbrev meant : List Word → Task
@@ -47,12 +64,8 @@ meant (word ∷ a ∷ b ∷ []) =
     cond (initial word.now == 118) (asks.Verify a b) (cond (initial word.now == 103) (asks.Question a b questions.Graph) (asks.Question a b questions.Lint))
 meant (word ∷ a ∷ b ∷ c ∷ []) = of_four word.now a b c
 meant (word ∷ a ∷ b ∷ c ∷ d ∷ []) = of_five word.now a b c d
-meant (word ∷ a ∷ b ∷ c ∷ d ∷ e ∷ []) =
-    cond (initial word.now == 108) (asks.AtNode (files a b c d) duties.Summary)
-    (cond (initial word.now == 115) (asks.AtNode (files a b c d) (duties.Send e))
-    (asks.Adopt (record { plan = a; certificate = b; next_plan = c; next_certificate = d; folder = e })))
-meant (word ∷ a ∷ b ∷ c ∷ d ∷ e ∷ f ∷ []) =
-    cond (initial e.now == 45) (asks.AtNode (files a b c d) (duties.RequeueAll f)) (asks.AtNode (files a b c d) (duties.Requeue e f))
+meant (word ∷ a ∷ b ∷ c ∷ d ∷ e ∷ []) = of_six word.now (files a b c d) e
+meant (word ∷ a ∷ b ∷ c ∷ d ∷ e ∷ f ∷ []) = of_seven word.now e.now (files a b c d) e f
 meant (word ∷ a ∷ b ∷ c ∷ d ∷ e ∷ f ∷ g ∷ more) =
     asks.Question a b (questions.RouteOfKey c (record { class = d; syntax = e; modality = f; station = g }))
 
@@ -95,6 +108,9 @@ module _ (words : List Word) where
       (subst (Means (asks.Question a b (questions.Diff (record { plan = next.plan; certificate = next.certificate; fails_on_lost = false })))) (sym h.0.1)
       (subst (λ n. of_five n a b next.plan next.certificate ≡ asks.Question a b (questions.Diff (record { plan = next.plan; certificate = next.certificate; fails_on_lost = false }))) (sym h.0.2) refl))
   is_meant (asks.Question a b (questions.RouteOfKey c key)) h = subst (Means (asks.Question a b (questions.RouteOfKey c key))) (sym h.1) refl
+  is_meant (asks.AtNode given duties.Make) h =
+      subst (Means (asks.AtNode given duties.Make)) (sym h.1)
+      (subst (λ n. of_five n given.plan given.certificate given.node given.ledger ≡ asks.AtNode given duties.Make) (sym h.2) refl)
   is_meant (asks.AtNode given duties.List) h =
       subst (Means (asks.AtNode given duties.List)) (sym h.1)
       (subst (λ n. of_five n given.plan given.certificate given.node given.ledger ≡ asks.AtNode given duties.List) (sym h.2) refl)
@@ -104,26 +120,27 @@ module _ (words : List Word) where
       (subst (λ n. of_five n given.plan given.certificate given.node given.ledger ≡ asks.AtNode given (duties.Serve plain_serving)) (sym h.0.2) refl))
   is_meant (asks.AtNode given duties.Summary) h =
       subst (Means (asks.AtNode given duties.Summary)) (sym h.1.1)
-      (subst (λ n. cond (initial n == 108) (asks.AtNode given duties.Summary) (cond (initial n == 115) (asks.AtNode given (duties.Send h.0))
-      (asks.Adopt (record { plan = given.plan; certificate = given.certificate; next_plan = given.node; next_certificate = given.ledger; folder = h.0 }))) ≡ asks.AtNode given duties.Summary)
-      (sym h.1.2) refl)
+      (subst (λ n. of_six n given h.0 ≡ asks.AtNode given duties.Summary) (sym h.1.2) refl)
   is_meant (asks.AtNode given (duties.Send file)) h =
       subst (Means (asks.AtNode given (duties.Send file))) (sym h.0.1)
-      (subst (λ n. cond (initial n == 108) (asks.AtNode given duties.Summary) (cond (initial n == 115) (asks.AtNode given (duties.Send file))
-      (asks.Adopt (record { plan = given.plan; certificate = given.certificate; next_plan = given.node; next_certificate = given.ledger; folder = file }))) ≡ asks.AtNode given (duties.Send file))
-      (sym h.0.2) refl)
+      (subst (λ n. of_six n given file ≡ asks.AtNode given (duties.Send file)) (sym h.0.2) refl)
+  is_meant (asks.AtNode given (duties.Forget uid)) h =
+      subst (Means (asks.AtNode given (duties.Forget uid))) (sym h.0.1)
+      (subst (λ n. of_six n given uid ≡ asks.AtNode given (duties.Forget uid)) (sym h.0.2) refl)
   is_meant (asks.AtNode given (duties.RequeueAll dest)) h =
       subst (Means (asks.AtNode given (duties.RequeueAll dest))) (sym h.1.1)
-      (subst (λ n. cond (initial n == 45) (asks.AtNode given (duties.RequeueAll dest)) (asks.AtNode given (duties.Requeue h.0 dest)) ≡ asks.AtNode given (duties.RequeueAll dest))
-      (sym h.2) refl)
+      (subst (λ n. of_seven n h.0.now given h.0 dest ≡ asks.AtNode given (duties.RequeueAll dest)) (sym h.1.2)
+      (subst (λ n. of_held n given h.0 dest ≡ asks.AtNode given (duties.RequeueAll dest)) (sym h.2) refl))
   is_meant (asks.AtNode given (duties.Requeue uid dest)) h =
       subst (Means (asks.AtNode given (duties.Requeue uid dest))) (sym h.0.1)
-      (ap (λ b. cond b (asks.AtNode given (duties.RequeueAll dest)) (asks.AtNode given (duties.Requeue uid dest))) (no_hyphen uid.now h.1))
+      (subst (λ n. of_seven n uid.now given uid dest ≡ asks.AtNode given (duties.Requeue uid dest)) (sym h.0.2)
+      (ap (λ b. cond b (asks.AtNode given (duties.RequeueAll dest)) (asks.AtNode given (duties.Requeue uid dest))) (no_hyphen uid.now h.1)))
+  is_meant (asks.AtNode given (duties.GiveUp uid dest)) h =
+      subst (Means (asks.AtNode given (duties.GiveUp uid dest))) (sym h.0.1)
+      (subst (λ n. of_seven n uid.now given uid dest ≡ asks.AtNode given (duties.GiveUp uid dest)) (sym h.0.2) refl)
   is_meant (asks.Adopt change) h =
       subst (Means (asks.Adopt change)) (sym h.1)
-      (subst (λ n. cond (initial n == 108) (asks.AtNode (files change.plan change.certificate change.next_plan change.next_certificate) duties.Summary)
-      (cond (initial n == 115) (asks.AtNode (files change.plan change.certificate change.next_plan change.next_certificate) (duties.Send change.folder))
-      (asks.Adopt change)) ≡ asks.Adopt change) (sym h.2) refl)
+      (subst (λ n. of_six n (files change.plan change.certificate change.next_plan change.next_certificate) change.folder ≡ asks.Adopt change) (sym h.2) refl)
   is_meant (asks.Told error) h = absurd h
 
   -- words of a plain form ask for one thing

@@ -9,7 +9,8 @@ use Rattle.dr_word_line.specs.declared.words.Task.TheVariants.{Question as AsksQ
 use Rattle.dr_word_line.specs.declared.words.Task.TheVariants.{Adopt, Told}
 use Rattle.dr_word_line.specs.declared.words.Duty.{Duty}
 use Rattle.dr_word_line.specs.declared.words.Duty.TheVariants.{List as ToList, Summary, Requeue}
-use Rattle.dr_word_line.specs.declared.words.Duty.TheVariants.{RequeueAll, Send, Serve}
+use Rattle.dr_word_line.specs.declared.words.Duty.TheVariants.{RequeueAll, GiveUp, Forget, Make}
+use Rattle.dr_word_line.specs.declared.words.Duty.TheVariants.{Send, Serve}
 use Rattle.dr_word_line.specs.declared.words.KeyWords.{KeyWords}
 use Rattle.dr_run_files.specs.declared.node.NodeFiles.{NodeFiles}
 use Rattle.dr_word_line.specs.declared.words.PlanChange.{PlanChange}
@@ -158,6 +159,10 @@ IsAtNode name words given more =
     × IsNoOption given.certificate.now
     × IsNoOption given.ledger.now
 
+-- the word new and what names a node and its ledger: they ask to make it
+abbrev pub IsMakeOf : List (Bor (List ℕ)) → NodeFiles → Type 0
+IsMakeOf words given = IsAtNode (codes "new") words given []
+
 -- the word list and what names a node and its ledger: they ask for what the node has
 abbrev pub IsListOf : List (Bor (List ℕ)) → NodeFiles → Type 0
 IsListOf words given = IsAtNode (codes "list") words given []
@@ -184,6 +189,18 @@ abbrev pub IsRequeueOf : List (Bor (List ℕ)) → NodeFiles → Bor (List ℕ) 
 IsRequeueOf words given uid dest =
     IsAtNode (codes "requeue") words given (uid ∷ dest ∷ []) × IsNoOption uid.now
 
+-- the word drop, what names a node and its ledger, a UID and a name: they ask to give up the held
+-- row of that instance to that node
+abbrev pub IsGiveUpOf : List (Bor (List ℕ)) → NodeFiles → Bor (List ℕ) → Bor (List ℕ) → Type 0
+IsGiveUpOf words given uid dest =
+    IsAtNode (codes "drop") words given (uid ∷ dest ∷ []) × IsNoOption uid.now
+
+-- the word forget, what names a node and its ledger, and a UID: they ask the node to forget that
+-- instance
+abbrev pub IsForgetOf : List (Bor (List ℕ)) → NodeFiles → Bor (List ℕ) → Type 0
+IsForgetOf words given uid =
+    IsAtNode (codes "forget") words given (uid ∷ []) × IsNoOption uid.now
+
 -- the word requeue, what names a node and its ledger, the option --all-held and a name: they ask
 -- the node to queue again all held rows to that node
 abbrev pub IsRequeueAllOf : List (Bor (List ℕ)) → NodeFiles → Bor (List ℕ) → Type 0
@@ -192,26 +209,31 @@ IsRequeueAllOf words given dest =
     × IsAtNode (codes "requeue") words given (option ∷ dest ∷ [])
     × (option.now ≡ codes "--all-held")
 
--- without options a node serves for ever, by 264 threads, logs its events, and writes no file of
--- what it has; it waits 10 s for a connect, 60 s for a PDU to be taken, 30 s for 64 kB of a
--- message, and 600 s for the next message
+-- without options a node serves for ever, by 264 threads, holds at most 1,024 MB of data sets, logs
+-- its events, and writes no file of what it has; it waits 10 s for a connect, 60 s for a PDU to be
+-- taken, 30 s for 64 kB of a message, and 600 s for the next message
 abbrev pub plain_serving : Serving
 plain_serving = record {
   links = 0;
   verbosity = Events;
   report = None;
   workers = 264;
+  memory = 1024;
   waits = record { connect = 10; write = 60; message = 30; idle = 600 };
   until_input_ends = false;
+  must_exist = false;
 }
 
 -- the words ask this of the node with these files; other ways of serving are asked for by options,
 -- of which nothing is said here
 abbrev pub IsDutyOf : List (Bor (List ℕ)) → NodeFiles → Duty → Type 0
+IsDutyOf words given Make = IsMakeOf words given
 IsDutyOf words given ToList = IsListOf words given
 IsDutyOf words given Summary = IsSummaryOf words given
 IsDutyOf words given (Requeue uid dest) = IsRequeueOf words given uid dest
 IsDutyOf words given (RequeueAll dest) = IsRequeueAllOf words given dest
+IsDutyOf words given (GiveUp uid dest) = IsGiveUpOf words given uid dest
+IsDutyOf words given (Forget uid) = IsForgetOf words given uid
 IsDutyOf words given (Send file) = IsSendOf words given file
 IsDutyOf words given (Serve serving) = IsServeOf words given × (serving ≡ plain_serving)
 

@@ -118,14 +118,18 @@ enum Choice {
     Summary,
     Row,
     Dest,
+    Uid,
+    Next,
     AllHeld,
     File,
     Links,
     Log,
     Report,
     Workers,
+    Memory,
     Seconds(Value<'static>, &'static str),
     UntilInputEnds,
+    MustExist,
 }
 
 impl<'a> Makes<Arg<'a>> for Choice {
@@ -140,14 +144,18 @@ impl<'a> Makes<Arg<'a>> for Choice {
             Choice::Summary => Ok(summary(alloc)),
             Choice::Row => row(alloc),
             Choice::Dest => Ok(dest(alloc)),
+            Choice::Uid => Ok(needed(alloc, "UID", "the SOP instance UID")),
+            Choice::Next => Ok(needed(alloc, "DEST", "the node to which it is not to be sent")),
             Choice::AllHeld => all_held(alloc),
             Choice::File => Ok(needed(alloc, "FILE", "a Part 10 file")),
             Choice::Links => Ok(links(alloc)),
             Choice::Log => Ok(log(alloc)),
             Choice::Report => Ok(report(alloc)),
             Choice::Workers => Ok(workers(alloc)),
+            Choice::Memory => Ok(memory(alloc)),
             Choice::Seconds((name, help), option) => Ok(seconds(alloc, name, option, help)),
             Choice::UntilInputEnds => Ok(until_input_ends(alloc)),
+            Choice::MustExist => Ok(must_exist(alloc)),
         }
     }
 }
@@ -362,6 +370,24 @@ fn requeue<'a>(alloc: Global) -> Result<Command<'a>, AllocError> {
     )
 }
 
+/// The word `new`.
+fn make_ledger<'a>(alloc: Global) -> Result<Command<'a>, AllocError> {
+    let about = "Makes the ledger of a node, where there is none";
+    word(alloc, "new", about, LEDGER, &[])
+}
+
+/// The word `drop`.
+fn give_up<'a>(alloc: Global) -> Result<Command<'a>, AllocError> {
+    let about = "Gives up a held row of a node: it is never sent, and the journal says so";
+    word(alloc, "drop", about, LEDGER, &[Choice::Uid, Choice::Next])
+}
+
+/// The word `forget`.
+fn forget<'a>(alloc: Global) -> Result<Command<'a>, AllocError> {
+    let about = "Forgets an instance that a node doesn't keep and has still to send nowhere";
+    word(alloc, "forget", about, LEDGER, &[Choice::Uid])
+}
+
 /// The word `send`.
 fn send<'a>(alloc: Global) -> Result<Command<'a>, AllocError> {
     let about =
@@ -427,6 +453,16 @@ fn workers<'a>(alloc: Global) -> Arg<'a> {
         .help("how many threads serve associations, 1 to 264 (the default)")
 }
 
+/// How much memory data sets take.
+fn memory<'a>(alloc: Global) -> Arg<'a> {
+    Arg::new(alloc, "MEMORY")
+        .long("memory")
+        .action(ArgAction::Set)
+        .value_parser(value_parser!(u32))
+        .value_name("MB")
+        .help("how much all associations hold in memory of data sets, at least 128 (1024)")
+}
+
 /// How long `serve` waits for something.
 fn seconds<'a>(alloc: Global, name: &'a str, option: &'a str, help: &'a str) -> Arg<'a> {
     Arg::new(alloc, name)
@@ -443,6 +479,14 @@ fn until_input_ends<'a>(alloc: Global) -> Arg<'a> {
         .long("until-input-ends")
         .action(ArgAction::SetTrue)
         .help("ends in order when the standard input ends")
+}
+
+/// Whether `serve` asks for a ledger that is there.
+fn must_exist<'a>(alloc: Global) -> Arg<'a> {
+    Arg::new(alloc, "EXIST")
+        .long("must-exist")
+        .action(ArgAction::SetTrue)
+        .help("refuses a ledger's file that isn't there, where else one is made")
 }
 
 /// The times for which `serve` waits.
@@ -486,11 +530,13 @@ fn serve<'a>(alloc: Global) -> Result<Command<'a>, AllocError> {
             Choice::Log,
             Choice::Report,
             Choice::Workers,
+            Choice::Memory,
             CONNECT,
             WRITE,
             MESSAGE,
             IDLE,
             Choice::UntilInputEnds,
+            Choice::MustExist,
         ],
     )
 }
@@ -517,10 +563,13 @@ enum Verb {
     Diff,
     Simulate,
     Echo,
+    New,
     Serve,
     Send,
     List,
     Requeue,
+    Drop,
+    Forget,
     Adopt,
 }
 
@@ -534,10 +583,13 @@ const VERBS: &[Verb] = &[
     Verb::Diff,
     Verb::Simulate,
     Verb::Echo,
+    Verb::New,
     Verb::Serve,
     Verb::Send,
     Verb::List,
     Verb::Requeue,
+    Verb::Drop,
+    Verb::Forget,
     Verb::Adopt,
 ];
 
@@ -553,10 +605,13 @@ impl<'a> Makes<Command<'a>> for Verb {
             Verb::Diff => diff(alloc),
             Verb::Simulate => simulate(alloc),
             Verb::Echo => echo(alloc),
+            Verb::New => make_ledger(alloc),
             Verb::Serve => serve(alloc),
             Verb::Send => send(alloc),
             Verb::List => list(alloc),
             Verb::Requeue => requeue(alloc),
+            Verb::Drop => give_up(alloc),
+            Verb::Forget => forget(alloc),
             Verb::Adopt => adopt(alloc),
         }
     }

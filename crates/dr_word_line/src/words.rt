@@ -7,6 +7,8 @@ ghost use Rattle.dr_word_line.specs.Words.{IsSimulateOf, IsEchoOf, IsNoOption, I
 ghost use Rattle.dr_word_line.specs.Words.{IsFileRouteOf, IsKeyRouteOf, IsQuestionOf, IsListOf};
 ghost use Rattle.dr_word_line.specs.Words.{IsSummaryOf, IsServeOf, IsSendOf, IsRequeueOf};
 ghost use Rattle.dr_word_line.specs.Words.{IsRequeueAllOf, IsDutyOf, IsAdoptOf, IsDiffOf};
+ghost use Rattle.dr_word_line.specs.Words.{IsForgetOf};
+ghost use Rattle.dr_word_line.specs.Words.{IsGiveUpOf, IsMakeOf};
 ghost use Rattle.dr_word_line.specs.Words.{IsExpectOf};
 ghost use Rattle.dr_word_line.specs.declared.words.Task.{Task as TaskValue};
 ghost use Rattle.dr_word_line.specs.declared.words.Task.TheVariants as asks;
@@ -103,6 +105,9 @@ const USUAL_WAITS: Waits = Waits {
 /// How many threads serve where nothing else is asked for.
 const USUAL_WORKERS: u16 = 264;
 
+/// How many megabytes of data sets associations hold where nothing else is asked for.
+const USUAL_MEMORY: u32 = 1024;
+
 /// How a node is to serve.
 #[derive(Clone, Copy, Debug, Drop)]
 pub struct Serving<'a> {
@@ -114,15 +119,21 @@ pub struct Serving<'a> {
     pub report: Option<&'a str>,
     /// How many threads serve associations.
     pub workers: u16,
+    /// How much memory all associations together hold of data sets, in megabytes (10^6 bytes).
+    pub memory: u32,
     /// How long it waits for its peers.
     pub waits: Waits,
     /// Whether it ends, in order, when the standard input does.
     pub until_input_ends: bool,
+    /// Whether its ledger's file has to be there.
+    pub must_exist: bool,
 }
 
 /// What a node may be asked to do with its ledger.
 #[derive(Clone, Copy, Drop)]
 pub enum Duty<'a> {
+    /// To make it, where none is.
+    Make,
     /// To print what it has.
     List,
     /// To print how much it has.
@@ -131,6 +142,10 @@ pub enum Duty<'a> {
     Requeue(&'a str, &'a str),
     /// To queue again all held rows to that node.
     RequeueAll(&'a str),
+    /// To give up the held row of the instance of this UID to that node.
+    GiveUp(&'a str, &'a str),
+    /// To forget the instance of this UID, which is over.
+    Forget(&'a str),
     /// To take in the instance in a Part 10 file, and to send what is due.
     Send(&'a str),
     /// To serve associations and send what is due.
@@ -282,6 +297,72 @@ fn read_work<'a>(words: &'a [&'a str]) -> Option<Task<'a>>
     }
 }
 
+/// What words ask of a ledger that isn't there, if they are of such a form.
+fn read_making<'a>(words: &'a [&'a str]) -> Option<Task<'a>>
+    ensures asked { IfSome result (λ asked. Asks words.now asked) }
+    ensures make { IfNone result ((given : NodeFilesValue) → IsMakeOf words.now given → ⊥) }
+{
+    match words {
+        [word, plan, certificate, node, ledger]
+            if *word == "new"
+                && is_no_option(plan)
+                && is_no_option(certificate)
+                && is_no_option(ledger) => {
+            let given = NodeFiles {
+                plan,
+                certificate,
+                node,
+                ledger,
+            };
+            Some(Task::AtNode(given, Duty::Make))
+        }
+        _ => None,
+    }
+}
+
+/// What words ask a node to let go, if they are of such a form.
+fn read_letting_go<'a>(words: &'a [&'a str]) -> Option<Task<'a>>
+    ensures asked { IfSome result (λ asked. Asks words.now asked) }
+    ensures give_up { IfNone result
+        ((given : NodeFilesValue) (uid dest : Bor (List ℕ))
+        → IsGiveUpOf words.now given uid dest
+        → ⊥) }
+    ensures forget { IfNone result
+        ((given : NodeFilesValue) (uid : Bor (List ℕ)) → IsForgetOf words.now given uid → ⊥) }
+{
+    match words {
+        [word, plan, certificate, node, ledger, uid]
+            if *word == "forget"
+                && is_no_option(plan)
+                && is_no_option(certificate)
+                && is_no_option(ledger)
+                && is_no_option(uid) => {
+            let given = NodeFiles {
+                plan,
+                certificate,
+                node,
+                ledger,
+            };
+            Some(Task::AtNode(given, Duty::Forget(uid)))
+        }
+        [word, plan, certificate, node, ledger, uid, dest]
+            if *word == "drop"
+                && is_no_option(plan)
+                && is_no_option(certificate)
+                && is_no_option(ledger)
+                && is_no_option(uid) => {
+            let given = NodeFiles {
+                plan,
+                certificate,
+                node,
+                ledger,
+            };
+            Some(Task::AtNode(given, Duty::GiveUp(uid, dest)))
+        }
+        _ => None,
+    }
+}
+
 /// What words ask a node to do with its ledger, if they have no more than what names them.
 fn read_duty<'a>(words: &'a [&'a str]) -> Option<Task<'a>>
     ensures asked { IfSome result (λ asked. Asks words.now asked) }
@@ -318,8 +399,10 @@ fn read_duty<'a>(words: &'a [&'a str]) -> Option<Task<'a>>
                 verbosity: Verbosity::Events,
                 report: None,
                 workers: USUAL_WORKERS,
+                memory: USUAL_MEMORY,
                 waits: USUAL_WAITS,
                 until_input_ends: false,
+                must_exist: false,
             };
             Some(Task::AtNode(given, Duty::Serve(serving)))
         }
@@ -493,6 +576,12 @@ fn read_ledger<'a>(words: &'a [&'a str]) -> Option<Task<'a>>
     if let Some(asked) = read_work(words) {
         return Some(asked);
     }
+    if let Some(asked) = read_making(words) {
+        return Some(asked);
+    }
+    if let Some(asked) = read_letting_go(words) {
+        return Some(asked);
+    }
     if let Some(asked) = read_all(words) {
         return Some(asked);
     }
@@ -590,26 +679,40 @@ fn serving_of<'a>(given: &ArgMatches<'a>) -> Serving<'a> {
         verbosity,
         report: given.get_str("REPORT"),
         workers: given.get_one("WORKERS").unwrap_or(USUAL_WORKERS),
+        memory: given.get_one("MEMORY").unwrap_or(USUAL_MEMORY),
         waits: waits_of(given),
         until_input_ends: given.get_flag("UNTIL"),
+        must_exist: given.get_flag("EXIST"),
     }
+}
+
+/// The UID of an instance, as clap has read it.
+fn uid_of<'a>(given: &ArgMatches<'a>) -> &'a str {
+    given.get_str("UID").unwrap_or("")
+}
+
+/// The node to which a row is to be sent, as clap has read it.
+fn dest_of<'a>(given: &ArgMatches<'a>) -> &'a str {
+    given.get_str("DEST").unwrap_or("")
 }
 
 /// Which held rows are to be queued again, as clap has read it.
 fn requeue_of<'a>(given: &ArgMatches<'a>) -> Duty<'a> {
-    let dest = given.get_str("DEST").unwrap_or("");
     match given.get_str("ALL") {
         Some(all) => Duty::RequeueAll(all),
-        None => Duty::Requeue(given.get_str("UID").unwrap_or(""), dest),
+        None => Duty::Requeue(uid_of(given), dest_of(given)),
     }
 }
 
 /// What a word asks a node to do, as clap has read it, if it asks that.
 fn duty_of<'a>(name: &str, given: &ArgMatches<'a>) -> Option<Duty<'a>> {
     match name {
+        "new" => Some(Duty::Make),
         "list" if given.get_flag("SUMMARY") => Some(Duty::Summary),
         "list" => Some(Duty::List),
         "requeue" => Some(requeue_of(given)),
+        "drop" => Some(Duty::GiveUp(uid_of(given), dest_of(given))),
+        "forget" => Some(Duty::Forget(uid_of(given))),
         "send" => Some(Duty::Send(given.get_str("FILE").unwrap_or(""))),
         "serve" => Some(Duty::Serve(serving_of(given))),
         _ => None,

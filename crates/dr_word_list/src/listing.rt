@@ -10,7 +10,7 @@ use dr_base::Text;
 use dr_ledger::{Ledger, LedgerFault};
 use dr_ledger_report::report_of;
 use dr_run_files::{Failure, Files, NodeFiles};
-use dr_run_open::{Halt, Ledgers, Opened, Status, finish, open_node};
+use dr_run_open::{Halt, Ledgers, Making, Opened, Status, finish, open_node};
 use std::alloc::Global;
 use std::io::Write;
 
@@ -39,7 +39,7 @@ fn list_node<'a, F: Files, O: Ledgers>(
         (F.holds files.now given.entry.certificate.now) (O.opens ledgers.now given.entry.ledger.now)
         O.Ledger.site O.Ledger.book O.Ledger.stands given.entry.node.now result }
 {
-    let mut opened = open_node(alloc, files, ledgers, given)?;
+    let mut opened = open_node(alloc, files, ledgers, given, Making::Never)?;
     let came = list_opened(alloc, &mut opened);
     drop(opened);
     match came {

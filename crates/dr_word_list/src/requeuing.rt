@@ -9,7 +9,7 @@ ghost use Rattle.dr_run_open.specs.declared.halt.Halt.{Halt as HaltValue};
 use dr_base::Text;
 use dr_ledger::{Ledger, LedgerFault};
 use dr_run_files::{Failure, Files, NodeFiles};
-use dr_run_open::{Halt, Ledgers, Status, finish, open_node};
+use dr_run_open::{Halt, Ledgers, Making, Status, finish, open_node};
 use std::alloc::Global;
 use std::io::Write;
 
@@ -55,7 +55,7 @@ fn requeue_node<'a, F: Files, O: Ledgers>(
         (F.holds files.now given.entry.certificate.now) (O.opens ledgers.now given.entry.ledger.now)
         O.Ledger.site O.Ledger.book O.Ledger.stands given.entry.node.now uid.now dest.now result }
 {
-    let mut opened = open_node(alloc, files, ledgers, given)?;
+    let mut opened = open_node(alloc, files, ledgers, given, Making::Never)?;
     let came = requeue_row(alloc, &mut opened.ledger, uid, dest);
     drop(opened);
     match came {

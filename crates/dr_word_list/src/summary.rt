@@ -14,8 +14,8 @@ use dr_ledger::{Ledger, LedgerFault};
 use dr_ledger_report::{put_field, put_name, put_number};
 use dr_run_files::{Failure, Files, NodeFiles};
 use dr_run_open::{
-    Halt, Ledgers, NextHop, Opened, Row, RowStage, Status, finish, hops_of, how_many, oldest,
-    open_node,
+    Halt, Ledgers, Making, NextHop, Opened, Row, RowStage, Status, finish, hops_of, how_many,
+    oldest, open_node,
 };
 use std::alloc::{AllocError, Global};
 use std::io::Write;
@@ -191,7 +191,7 @@ fn summarize_node<'a, F: Files, O: Ledgers>(
         (F.holds files.now given.entry.certificate.now) (O.opens ledgers.now given.entry.ledger.now)
         O.Ledger.site O.Ledger.book O.Ledger.stands given.entry.node.now result }
 {
-    let mut opened = open_node(alloc, files, ledgers, given)?;
+    let mut opened = open_node(alloc, files, ledgers, given, Making::Never)?;
     let came = summarize_opened(alloc, &mut opened);
     drop(opened);
     match came {

@@ -1,4 +1,6 @@
 //! The word `serve`.
+ghost use Rattle.dr_run_open.specs.declared.ledgers.Making.TheVariants.{Allowed, Never};
+ghost use Rattle.std.specs.Prelude.{cond};
 ghost use Rattle.std.specs.Prelude.{◌≡◌, ◌*◌, max, IfErr, IfOk, MatchResult, Result};
 ghost use Rattle.dr_base.specs.Texts.{Text as Words};
 ghost use Rattle.dr_run_open.specs.Ends.{Ends};
@@ -10,7 +12,7 @@ use dr_ledger::{Ledger, LedgerFault};
 use dr_ledger_report::report_of;
 use dr_run_files::{Failure, Files, NodeFiles};
 use dr_run_net::{Limits, Listening, Network};
-use dr_run_open::{Halt, Ledgers, NextHop, Opened, Status, finish, hops_of, open_node};
+use dr_run_open::{Halt, Ledgers, Making, NextHop, Opened, Status, finish, hops_of, open_node};
 use dr_run_report::{OwnPaths, Paths, test_path};
 use dr_run_serve::{Ending, FileMonitor, Monitor, ServeFault, Stop, Terms, serve};
 use dr_run_shown::Escaped;
@@ -161,8 +163,8 @@ where
     )
 }
 
-/// Tells that a node serves so many associations, by how many threads, and how many seconds it
-/// waits for its peers.
+/// Tells that a node serves so many associations, by how many threads, with how many megabytes for
+/// data sets, and how many seconds it waits for its peers.
 fn tell_serving<G: Monitor>(log: &G, given: NodeFiles<'_>, serving: Serving<'_>, workers: usize) {
     let (node, ledger) = (
         Escaped(given.node.as_bytes()),
@@ -176,10 +178,21 @@ fn tell_serving<G: Monitor>(log: &G, given: NodeFiles<'_>, serving: Serving<'_>,
         message,
         idle,
     } = serving.waits;
+    let memory = serving.memory;
     info!(
         log; target: "node",
-        "limits workers={workers} connect={connect} write={write} message={message} idle={idle}"
+        "limits workers={workers} memory={memory} connect={connect} write={write} message={message} idle={idle}"
     );
+}
+
+/// Whether a node that serves may make its ledger's file.
+fn making_of(serving: Serving<'_>) -> Making
+    ensures { result ≡ cond serving.entry.must_exist Never Allowed }
+{
+    if serving.must_exist {
+        return Making::Never;
+    }
+    Making::Allowed
 }
 
 /// So many milliseconds, of 1 s at least.
@@ -238,7 +251,7 @@ where
         (F.holds files.now given.entry.certificate.now) (O.opens ledgers.now given.entry.ledger.now)
         O.Ledger.site O.Ledger.book O.Ledger.stands given.entry.node.now result }
 {
-    let opened = open_node(alloc, files, ledgers, given)?;
+    let opened = open_node(alloc, files, ledgers, given, making_of(serving))?;
     let network = network.within(limits_of(serving.waits));
     let listener = match listen_at(alloc, &opened, &network, given.node) {
         Ok(listener) => listener,
@@ -247,7 +260,12 @@ where
             return Err(halt);
         }
     };
-    let terms = Terms::new(u64::from(serving.links), usize::from(serving.workers), stop);
+    let terms = Terms::new(
+        u64::from(serving.links),
+        usize::from(serving.workers),
+        u64::from(serving.memory) * 1_000_000,
+        stop,
+    );
     tell_serving(log, given, serving, terms.workers());
     serve_opened::<R, O::Ledger, N::Socket, N::Listener, N, C, G>(
         rt, alloc, opened, &listener, terms, &network, clock, log,

@@ -18,7 +18,9 @@ use dr_ledger::{Arrived, Item, Ledger, LedgerFault};
 use dr_ledger_report::report_of;
 use dr_run_files::{Failure, Files, NodeFiles, read_file};
 use dr_run_net::Network;
-use dr_run_open::{Halt, Ledgers, NextHop, Opened, Status, finish, hops_of, item_of, open_node};
+use dr_run_open::{
+    Halt, Ledgers, Making, NextHop, Opened, Status, finish, hops_of, item_of, open_node,
+};
 use dr_run_serve::{OwnPort, visit_each};
 use dr_session::{Clock, DeskPort};
 use dr_site::Site;
@@ -200,7 +202,7 @@ fn send_node<'a, F: Files, O: Ledgers, N: Network, C: Clock, W: Write>(
         ⟦<OwnPort<O::Ledger> as DeskPort>⟧.step (C.tells clock.now)) given.entry.node.now result
         (W.contents output.old) (W.contents output.new) }
 {
-    let opened = open_node(alloc, files, ledgers, given)?;
+    let opened = open_node(alloc, files, ledgers, given, Making::Allowed)?;
     let item = match read_instance(alloc, files, file) {
         Ok(item) => item,
         Err(halt) => {

@@ -12,7 +12,10 @@ use dr_run_report::Paths;
 use dr_run_serve::{Ending, OwnPort};
 use dr_session::{Clock, DeskPort};
 use dr_word_line::Duty;
-use dr_word_list::{list_files, requeue_all_files, requeue_files, summarize_files};
+use dr_word_list::{
+    GivenUp, forget_files, give_up_files, list_files, make_files, requeue_all_files, requeue_files,
+    summarize_files,
+};
 use log::Log;
 use std::alloc::Global;
 use std::io::Write;
@@ -55,10 +58,11 @@ where
     ensures { IfOk result
         (Works (F.holds files.now) (O.opens ledgers.now) O.Ledger.site O.Ledger.book O.Ledger.stands
         (VisitsBy (N.reaches network.now) N.Socket.hears N.Socket.sends N.Socket.closes
-        ⟦<OwnPort<O::Ledger> as DeskPort>⟧.step (C.tells clock.now)) given.entry duty.entry
-        (W.contents output.old) (W.contents output.new)) }
+        ⟦<OwnPort<O::Ledger> as DeskPort>⟧.step (C.tells clock.now)) (C.tells clock.now) given.entry
+        duty.entry (W.contents output.old) (W.contents output.new)) }
 {
     match duty {
+        Duty::Make => make_files(alloc, files, ledgers, given, output, faults),
         Duty::List => list_files(alloc, files, ledgers, given, output, faults),
         Duty::Summary => summarize_files(alloc, files, ledgers, given, output, faults),
         Duty::RequeueAll(dest) => {
@@ -67,6 +71,12 @@ where
         Duty::Requeue(uid, dest) => {
             requeue_files(alloc, files, ledgers, given, uid, dest, output, faults)
         }
+        Duty::GiveUp(uid, dest) => {
+            let now = clock.now();
+            let row = GivenUp { uid, dest, now };
+            give_up_files(alloc, files, ledgers, given, row, output, faults)
+        }
+        Duty::Forget(uid) => forget_files(alloc, files, ledgers, given, uid, output, faults),
         Duty::Send(file) => send_files(
             alloc, files, ledgers, given, file, network, clock, output, faults,
         ),

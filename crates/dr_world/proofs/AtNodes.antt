@@ -15,13 +15,13 @@ use Rattle.dr_world_model.specs.Worlds.{same_text}
 use Rattle.dr_world_model.specs.Events.{HasNode}
 use Rattle.dr_world_tie.specs.Channels.{Channel}
 use Rattle.dr_world_tie.specs.Desks.{LedgerStep}
-use Rattle.dr_world_tie.specs.Nodes.{RequeuesAt}
+use Rattle.dr_world_tie.specs.Nodes.{RequeuesAt, GivesUpAt}
 use Rattle.dr_world_tie.specs.ByteWorlds.{ByteWorld, Submit, Open, Push, Move, Abort, Release, Close}
-use Rattle.dr_world_tie.specs.ByteWorlds.{Late, Restart, Requeue, Forget, Tick, Refuse, with_call}
+use Rattle.dr_world_tie.specs.ByteWorlds.{Late, Restart, Requeue, Drop, Forget, Tick, Refuse, with_call}
 use Rattle.dr_world_tie.proofs.Sites.{site_steps}
 use Rattle.dr_world.specs.declared.wires.Wires.{Wires}
 use Rattle.dr_world.specs.Shows.{Contents, Seat, Seats, ShowsBytes, IsSeated, HasSide, LinkedAt, desk_at, with_seat, with_desk_of}
-use Rattle.dr_world.specs.Laws.{TickIsShown, StrangerIsSkipped, SubmitIsShown, RequeueIsShown, RefuseIsShown, with_seats}
+use Rattle.dr_world.specs.Laws.{TickIsShown, StrangerIsSkipped, SubmitIsShown, RequeueIsShown, DropIsShown, RefuseIsShown, with_seats}
 
 pub ticks : TickIsShown
 ticks plan certificate c b s ms = (
@@ -112,6 +112,7 @@ pub strangers : StrangerIsSkipped
 strangers plan certificate c b seated s name none (Submit node item) same = (b, inr (λ has. no_node plan certificate c seated name none (subst (λ (n : Text). HasNode plan n) same has), (refl, refl)), s)
 strangers plan certificate c b seated s name none (Restart node) same = (b, inr (λ has. no_node plan certificate c seated name none (subst (λ (n : Text). HasNode plan n) same has), (refl, refl)), s)
 strangers plan certificate c b seated s name none (Requeue node uid dest) same = (b, inr (λ has. no_node plan certificate c seated name none (subst (λ (n : Text). HasNode plan n) same has), (refl, refl)), s)
+strangers plan certificate c b seated s name none (Drop node uid dest) same = (b, inr (λ has. no_node plan certificate c seated name none (subst (λ (n : Text). HasNode plan n) same has), (refl, refl)), s)
 strangers plan certificate c b seated s name none (Forget node uid) same =
     let P : Text → Type 0 = λ n. HasNode plan n in
     let no = no_node plan certificate c seated name none in
@@ -142,6 +143,13 @@ pub requeues : RequeueIsShown
 requeues plan certificate c b seated s name seat is uid dest answer t h arms =
     let here : RequeuesAt seat.desk uid dest answer t = (h, arms) in
     let at_desk : RequeuesAt (b.desks name) uid dest answer t = subst (λ (d : Desk). RequeuesAt d uid dest answer t) (sym (desk_there c b s name seat is)) here in
+    (with_call b name t, inl (node_named plan certificate c seated name seat is, (answer, t, at_desk, refl, refl)), called c b s name seat is t)
+
+pub drops : DropIsShown
+drops plan certificate c b seated s name seat is uid dest answer t h arms =
+    let here : GivesUpAt seat.desk uid dest c.now answer t = (h, arms) in
+    let timed : GivesUpAt seat.desk uid dest b.time answer t = subst (λ (now : ℕ). GivesUpAt seat.desk uid dest now answer t) (sym s.time) here in
+    let at_desk : GivesUpAt (b.desks name) uid dest b.time answer t = subst (λ (d : Desk). GivesUpAt d uid dest b.time answer t) (sym (desk_there c b s name seat is)) timed in
     (with_call b name t, inl (node_named plan certificate c seated name seat is, (answer, t, at_desk, refl, refl)), called c b s name seat is t)
 
 pub refuses : RefuseIsShown

@@ -16,11 +16,12 @@ use Rattle.dr_session.specs.Desks.{DeskCall, DeskAnswer, Arrive, Arrival}
 use Rattle.dr_session.specs.Plays.{At, Reacts}
 use Rattle.dr_session.specs.Ledgers.{Desk, RoutedStep, desk}
 use Rattle.dr_ledger.specs.Refusals.{Arms}
-use Rattle.dr_ledger.specs.Replies.{Forgets, Requeues, IsHeld, IsOver}
+use Rattle.dr_ledger.specs.Replies.{Drops, Forgets, Requeues, IsHeld, IsOver}
 use Rattle.dr_node.specs.Sides.{others}
 use Rattle.dr_world_model.specs.Calls.{Reply, Answer}
 use Rattle.dr_world_tie.specs.ByteWorlds.{ByteWorld, beginning, WorldStep, Side}
-use Rattle.dr_world_tie.specs.ByteWorlds.{Submit, Move, Restart, Requeue, Forget, Tick, Refuse}
+use Rattle.dr_world_tie.specs.ByteWorlds.{Submit, Move, Restart, Requeue, Drop, Forget, Tick}
+use Rattle.dr_world_tie.specs.ByteWorlds.{Refuse}
 use Rattle.dr_world_tie.specs.ByteWorlds.{Done, Skipped, UnderWay, AreOthers, IsMoved, note_of}
 use Rattle.dr_session.specs.declared.ends.Heard.TheVariants as heard
 use Rattle.dr_session.specs.declared.ends.LinkAction.{LinkAction}
@@ -78,6 +79,7 @@ abbrev pub IsAtNode : WorldStep → Text → Type 0
 IsAtNode (Submit node item) name = node ≡ name
 IsAtNode (Restart node) name = node ≡ name
 IsAtNode (Requeue node uid dest) name = node ≡ name
+IsAtNode (Drop node uid dest) name = node ≡ name
 IsAtNode (Forget node uid) name = node ≡ name
 IsAtNode (Refuse node) name = node ≡ name
 IsAtNode step name = ⊥
@@ -117,6 +119,20 @@ RequeueIsShown =
     → Requeues uid dest seat.desk.book answer t.book
     → Arms (IsHeld seat.desk.book uid dest) seat.desk.armed answer t.armed
     → Becomes plan certificate b (Requeue name uid dest) (note_of answer)
+    (with_seats c name (with_desk_of seat t))
+
+-- a held row is given up, at the moment that the world has come to
+abbrev pub DropIsShown : Type 0
+DropIsShown =
+    (plan : Network) (certificate : Certificate) (c : Contents) (b : ByteWorld)
+    → IsSeated plan certificate c.seats
+    → ShowsBytes c b
+    → (name : Text) (seat : Seat)
+    → c.seats name ≡ Some seat
+    → (uid dest : Text) (answer : Answer) (t : Desk)
+    → Drops uid dest c.now seat.desk.book answer t.book
+    → Arms (IsHeld seat.desk.book uid dest) seat.desk.armed answer t.armed
+    → Becomes plan certificate b (Drop name uid dest) (note_of answer)
     (with_seats c name (with_desk_of seat t))
 
 -- a node is told to forget what is under way from it over no link

@@ -15,7 +15,8 @@ use Rattle.dr_world_tie.specs.Shown.{ComesAbout, RunsOf}
 use Rattle.dr_world_script.specs.declared.step.Step.{Step}
 use Rattle.dr_world_script.specs.declared.step.Step.TheVariants.{Submit, Open, Push, Move, Abort}
 use Rattle.dr_world_script.specs.declared.step.Step.TheVariants.{Release, Close, Late, Restart}
-use Rattle.dr_world_script.specs.declared.step.Step.TheVariants.{Requeue, Forget, Tick, RefuseStore}
+use Rattle.dr_world_script.specs.declared.step.Step.TheVariants.{Requeue, Drop, Forget, Tick}
+use Rattle.dr_world_script.specs.declared.step.Step.TheVariants.{RefuseStore}
 use Rattle.dr_world.specs.declared.world.World.{World}
 use Rattle.dr_world.specs.Shows.{ShowsBytes, IsSeated}
 use Rattle.dr_world.specs.Ends.{named}
@@ -33,6 +34,7 @@ step_of (Close link) = bytes.Close link
 step_of (Late link side) = bytes.Late link (named side)
 step_of (Restart node) = bytes.Restart node
 step_of (Requeue node uid dest) = bytes.Requeue node uid dest
+step_of (Drop node uid dest) = bytes.Drop node uid dest
 step_of (Forget node uid) = bytes.Forget node uid
 step_of (Tick ms) = bytes.Tick ms
 step_of (RefuseStore node) = bytes.Refuse node

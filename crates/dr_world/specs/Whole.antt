@@ -10,7 +10,7 @@ use Rattle.dr_plan_sound.specs.declared.certificate.Certificate.{Certificate}
 use Rattle.dr_site.specs.Sites.{IsCertified}
 use Rattle.dr_ledger.specs.declared.content.Job.{Job}
 use Rattle.dr_ledger.specs.Refusals.{Arms}
-use Rattle.dr_ledger.specs.Replies.{Forgets, Requeues, IsHeld, IsOver}
+use Rattle.dr_ledger.specs.Replies.{Drops, Forgets, Requeues, IsHeld, IsOver}
 use Rattle.dr_ledger.specs.SiteRoutes.{site_routing}
 use Rattle.dr_site.specs.Parts.{Part}
 use Rattle.dr_node.specs.declared.node.Node.{Node}
@@ -93,8 +93,15 @@ Puts uid dest seat note t =
     × Arms (IsHeld seat.desk.book uid dest) seat.desk.armed answer t.armed
     × (noted note ≡ bytes.note_of answer)
 
-abbrev pub Drops : Text → Seat → StepNote → Desk → Type 0
-Drops uid seat note t = (answer : Answer) × Forgets uid seat.desk.book answer t.book
+abbrev pub GivesUp : Text → Text → ℕ → Seat → StepNote → Desk → Type 0
+GivesUp uid dest now seat note t =
+    (answer : Answer)
+    × Drops uid dest now seat.desk.book answer t.book
+    × Arms (IsHeld seat.desk.book uid dest) seat.desk.armed answer t.armed
+    × (noted note ≡ bytes.note_of answer)
+
+abbrev pub LetsGoOf : Text → Seat → StepNote → Desk → Type 0
+LetsGoOf uid seat note t = (answer : Answer) × Forgets uid seat.desk.book answer t.book
     × Arms (IsOver seat.desk.book uid) seat.desk.armed answer t.armed
     × (noted note ≡ bytes.note_of answer)
 

@@ -1,6 +1,7 @@
 //! Laws: what is done to a world's contents is a step of the world of bytes beside it.
 ghost use Rattle.dr_world.specs.Ended.{MoveEndsPdu};
-ghost use Rattle.dr_world.specs.Laws.{EndStaysOfItsSite, ForgetIsShown, MoveIsShown};
+ghost use Rattle.dr_world.specs.Laws.{DropIsShown, EndStaysOfItsSite, ForgetIsShown};
+ghost use Rattle.dr_world.specs.Laws.{MoveIsShown};
 ghost use Rattle.dr_world.specs.Laws.{NewIsBeginning, OthersAreCounted, RefuseIsShown};
 ghost use Rattle.dr_world.specs.Laws.{RequeueIsShown, StrangerIsSkipped, SubmitIsShown};
 ghost use Rattle.dr_world.specs.Laws.{TickIsShown, UnderWayStays};
@@ -30,6 +31,7 @@ pub fn acts_at_nodes()
     ensures stranger { StrangerIsSkipped }
     ensures submit { SubmitIsShown }
     ensures requeue { RequeueIsShown }
+    ensures drop { DropIsShown }
     ensures forget { ForgetIsShown }
     ensures under_way { UnderWayStays }
     ensures refuse { RefuseIsShown }

@@ -4,7 +4,8 @@ ghost use Rattle.std.specs.BTreeMap as tree;
 ghost use Rattle.dr_base.specs.Texts.{text_cmp};
 ghost use Rattle.dr_session.specs.declared.ends.Heard.TheVariants as heard;
 ghost use Rattle.dr_node.specs.declared.event.LinkEvent.TheVariants as event_of;
-ghost use Rattle.dr_world_tie.specs.ByteWorlds.{Abort, Close as CloseStep, Forget, Late, Open};
+ghost use Rattle.dr_world_tie.specs.ByteWorlds.{Abort, Close as CloseStep, Drop as DropStep};
+ghost use Rattle.dr_world_tie.specs.ByteWorlds.{Forget, Late, Open};
 ghost use Rattle.dr_world_tie.specs.ByteWorlds.{Push, Refuse, Release, Requestor, Requeue, Restart};
 ghost use Rattle.dr_world_tie.specs.ByteWorlds.{Submit, Tick};
 ghost use Rattle.dr_world.specs.declared.steps.StepNote.TheVariants.{Done as WasDone};
@@ -14,8 +15,9 @@ ghost use Rattle.dr_world.specs.declared.fault.WorldFault.TheVariants.{Memory as
 ghost use Rattle.dr_world.specs.Runs.{GoesOn, HoldsAfter, HoldsAfterAll, Leads, step_of};
 ghost use Rattle.dr_world.specs.Reports.{IsReported, ListsBook, bodies_of, books_of, has_in};
 ghost use Rattle.dr_world.specs.Restarted.{AllFarHear, FarHears};
-ghost use Rattle.dr_world.specs.Whole.{AllStand, Calls, Drops, HasTicked, IsSameWorld};
-ghost use Rattle.dr_world.specs.Whole.{IsToldToRefuse, Meets, Puts, StepsTo, Submits, noted};
+ghost use Rattle.dr_world.specs.Whole.{AllStand, Calls, GivesUp, HasTicked, IsSameWorld};
+ghost use Rattle.dr_world.specs.Whole.{IsToldToRefuse, LetsGoOf, Meets, Puts, StepsTo, Submits};
+ghost use Rattle.dr_world.specs.Whole.{noted};
 
 mod adopting;
 mod reading;
@@ -307,7 +309,7 @@ impl<L: Ledger> World<L> {
     }
 
     /// Whether the node of that name has the data set of that uid: it does while the uid is kept or
-    /// a row of it isn't done. None where no node has that name.
+    /// a row of it is still queued. None where no node has that name.
     ///
     /// Errors: Store, where the ledger's store fails; Memory.
     pub fn has_body(&mut self, name: &Text, uid: &Text) -> Result<Option<bool>, WorldFault>
@@ -332,9 +334,25 @@ impl<L: Ledger> World<L> {
 }
 
 impl<L: LetsGo> World<L> {
+    /// A held row of a node is given up; skipped where no node has that name.
+    fn give_up(&mut self, name: &Text, uid: &Text, dest: &Text) -> StepNote
+        ensures calls { Calls (GivesUp uid.now dest.now self.old.time.passed) name.now self.old
+            result self.new }
+        ensures step { StepsTo (DropStep name.now uid.now dest.now) self.old result self.new }
+    {
+        let now = self.time.moment();
+        let Some(node) = self.nodes.get_mut(name) else {
+            return StepNote::Skipped;
+        };
+        match node.give_up(uid, dest, now) {
+            Ok(_) => StepNote::Done,
+            Err(fault) => StepNote::Refused(fault),
+        }
+    }
+
     /// A node's ledger is told to forget an instance; skipped where no node has that name.
     fn let_go_of(&mut self, name: &Text, uid: &Text) -> StepNote
-        ensures { Calls (Drops uid.now) name.now self.old result self.new }
+        ensures { Calls (LetsGoOf uid.now) name.now self.old result self.new }
     {
         let Some(node) = self.nodes.get_mut(name) else {
             return StepNote::Skipped;
@@ -408,6 +426,7 @@ impl<L: LetsGo> World<Refusing<L>> {
             Step::Close { link } => self.close(*link),
             Step::Late { link, side } => self.late(*link, *side),
             Step::Requeue { node, uid, dest } => Ok(self.requeue(node, uid, dest)),
+            Step::Drop { node, uid, dest } => Ok(self.give_up(node, uid, dest)),
             Step::Forget { node, uid } => Ok(self.forget(node, uid)),
             Step::Tick { milliseconds } => {
                 self.tick(*milliseconds);

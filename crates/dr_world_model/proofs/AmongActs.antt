@@ -15,8 +15,9 @@ use Rattle.dr_plan_sound.specs.Soundness.{IsSound}
 use Rattle.dr_plan_sound.proofs.Ranks.{sound_has_rank}
 use Rattle.dr_ledger.specs.declared.item.Instance.{Instance}
 use Rattle.dr_ledger.specs.declared.item.Outcome.TheVariants.{Status, Broken, NoContext}
+use Rattle.dr_ledger.specs.declared.item.Progress.{Progress}
 use Rattle.dr_ledger.specs.declared.item.Progress.TheVariants.{Waiting, Done}
-use Rattle.dr_ledger.specs.Books.{Book, Line, Settling, Adoption, after, empty_book, Fold}
+use Rattle.dr_ledger.specs.Books.{Book, Line, Settling, Adoption, after, empty_book, is_queued, Fold}
 use Rattle.dr_ledger.specs.Pairs.{pair_cmp}
 use Rattle.dr_ledger.proofs.Folding.{fold_after}
 use Rattle.dr_ledger.proofs.Growing.{inside as some_inside}
@@ -24,22 +25,22 @@ use Rattle.dr_ledger.proofs.Maps.{cases_of, got}
 use Rattle.dr_ledger.proofs.Succeeded.{none_since, none_yet}
 use Rattle.dr_ledger.proofs.Since.{none_taken, nothing_taken}
 use Rattle.dr_ledger.specs.OneNode.{HasSucceededSince}
-use Rattle.dr_world_model.specs.Among.{Ours, ArrivesAtOurs, Doing, Calls, Takes, Agrees, Stores, Replies, answered_link, Does, Turns, Act, Own, Other, Turn, RunsAmong, Entered, HasEntry, IsCoveredAmong, HeadlineAmong, HeadlineHoldsAmong}
+use Rattle.dr_world_model.specs.Among.{Ours, ArrivesAtOurs, Doing, Calls, Takes, Agrees, Stores, Replies, answered_link, Does, Turns, Act, Own, Other, Turn, RunsAmong, Entered, HasEntry, AllIsThereAmong, IsAnsweredAmong, IsCoveredAmong, HeadlineAmong, HeadlineHoldsAmong, WhatNobodyGaveUpIsThereAmong}
 use Rattle.dr_world_model.specs.Worlds.{World, Link, Contexts, Stage, Asking, Answering, Rejecting, Open, Storing, Replying, Gone, start, with_link, with_links, without_caller, at_stage}
 use Rattle.dr_world_model.specs.Calls.{Reply, Answer, Settlement, status_of}
 use Rattle.dr_world_model.specs.Steps.{IsLink, SettlesFirst, OpensLink, pending, SettlesPending, Leaves, LeavesIfOn, LeaveAll, callers_of, links_without, ReadsAnswer, Gives, Receives, ReadsReply}
-use Rattle.dr_world_model.specs.Events.{Event, Take, Ask, AgreeReceiver, AgreeCaller, Give, Receive, Answered, BreakCaller, BreakReceiver, Close, Restart, Requeue, Forget, Refuse, Tick, HasNode, Step}
-use Rattle.dr_world_model.specs.Claims.{CoversHop, HadArrival, IsKept, IsOpen, IsToGo, IsToSend}
-use Rattle.dr_world_model.proofs.AdoptionsKept.{adopted_right, empty_right, no_row, node_or_not, was_queued}
+use Rattle.dr_world_model.specs.Events.{Event, Take, Ask, AgreeReceiver, AgreeCaller, Give, Receive, Answered, BreakCaller, BreakReceiver, Close, Restart, Requeue, Drop, Forget, Refuse, Tick, HasNode, Step}
+use Rattle.dr_world_model.specs.Claims.{CoversHop, HadArrival, IsKept, IsOpen, IsToGo, IsToSend, NobodyDropped, WasGivenUp}
+use Rattle.dr_world_model.proofs.AdoptionsKept.{adopted_right, empty_right, no_row, node_or_not, queued_not_done, was_queued}
 use Rattle.dr_world_model.proofs.CallsKept.{one_item, broken_not_done}
 use Rattle.dr_world_model.proofs.EventsKept.{covers_of, fair_status_of, not_refused, status_inside, success_of, was_link}
-use Rattle.dr_world_model.proofs.FromSafety.{reaches_keeper}
-use Rattle.dr_world_model.proofs.Keeping.{IsRight, Noted, Took, done_or_queued}
+use Rattle.dr_world_model.proofs.FromSafety.{given_before, none_given, none_given_here, reaches_keeper}
+use Rattle.dr_world_model.proofs.Keeping.{IsRight, Noted, Took}
 use Rattle.dr_world_model.proofs.Lookups.{numbers}
 use Rattle.dr_world_model.proofs.Safety.{WorldGrows, world_same, world_on, same_grows}
 use Rattle.dr_world_model.proofs.Walking.{goes_reached}
 use Rattle.dr_world_model.proofs.AmongSafe.{IsSafeAmong, IsFairFor, IsFairLinkAmong, IsFairAmong, PassedBy, among_still, entry_still, fair_among, put_link_among, same_among}
-use Rattle.dr_world_model.proofs.AmongCalls.{KeptAmong, arriving_among, forgetting_among, not_both, requeue_among, sent_among, settlement_among, unchanged_among}
+use Rattle.dr_world_model.proofs.AmongCalls.{KeptAmong, arriving_among, forgetting_among, giving_up_among, not_both, requeue_among, sent_among, settlement_among, unchanged_among}
 
 -- the new world is safe, and what is kept and was acknowledged stays so
 pub record LivesAmong (ours : Ours) (plan : Network) (old new : World) : Type 0 where
@@ -210,6 +211,7 @@ module _ (ours : Ours) (plan : Network) where
       let last = same_lives s.0 (with_links s.0 (links_without s.0.links node)) kept.safe refl refl (λ number link h. kept.safe.links number link (was_link s.0.links node number link h)) in
       subst (LivesAmong ours plan w) (sym s.2) (lives_on w s.0 (with_links s.0 (links_without s.0.links node)) kept last)
   step_among sound (Requeue node uid dest answer) w new safe own s = lives w new (requeue_among ours plan w safe node uid dest answer new s.1)
+  step_among sound (Drop node uid dest answer) w new safe own s = lives w new (giving_up_among ours plan w safe node uid dest answer new s.1)
   step_among sound (Forget node uid answer) w new safe own s = lives w new (forgetting_among ours plan w safe node uid answer new s.1 s.2)
   step_among sound (Refuse node) w new safe own s =
       same_lives w new safe (ap (λ v. v.books) s.1) (ap (λ v. v.stood) s.1) (λ number link h. safe.links number link (ap (λ (v : World). map.get v.links number) (sym s.1) ∙ h))
@@ -242,16 +244,21 @@ module _ (ours : Ours) (plan : Network) where
   among_before w caller name to item dest sends (inr (inl u)) = inr (inl (record { over = to ∷ u.over; walk = (sends, u.walk); to = u.to; row = u.row; queued = u.queued; at = u.at; has = u.has; goes = u.goes }))
   among_before w caller name to item dest sends (inr (inr h)) = inr (inr (record { over = to ∷ h.over; walk = (sends, h.walk); to = h.to; sends = h.sends; other = h.other; taken = h.taken; goes = h.goes }))
 
+  answered_before : (w : World) (caller name to : Text) (item : Instance) (dest : Text) → Sends plan name caller item.key to → IsAnsweredAmong ours plan w name to item dest → IsAnsweredAmong ours plan w caller name item dest
+  answered_before w caller name to item dest sends (inl c) = inl (among_before w caller name to item dest sends c)
+  answered_before w caller name to item dest sends (inr g) = inr (given_before plan w caller name to item dest sends g)
+
   covered_among : (over : List Text) (w : World) → IsSafeAmong ours plan w → (caller name : Text) (item : Instance) (dest : Text) → HadArrival w name caller item →
-      IsWalk plan item.key caller name over → (last_place caller name over).1 ≡ dest → Keeps plan dest (last_place caller name over).0 item.key → IsCoveredAmong ours plan w caller name item dest
+      IsWalk plan item.key caller name over → (last_place caller name over).1 ≡ dest → Keeps plan dest (last_place caller name over).0 item.key → IsAnsweredAmong ours plan w caller name item dest
   covered_among [] w safe caller name item dest a walk here keeps =
       let k = (safe.books name).kept caller item a (subst (λ (d : Text). Keeps plan d caller item.key) (sym here) keeps) in
-      inl (subst (IsKept w item) here (record { kept = k.0; has = k.1 }))
+      inl (inl (subst (IsKept w item) here (record { kept = k.0; has = k.1 })))
   covered_among (to ∷ over) w safe caller name item dest a walk last keeps = elim (safe.sent name caller to item a walk.0) [
-    | inl g ↦ inr (inl (record { over = []; walk = tt; to = to; row = g.row; queued = g.queued; at = g.at; has = g.has; goes = (over, walk.1, last, keeps) }))
-    | inr r ↦ elim r [
-      | inl own ↦ among_before w caller name to item dest walk.0 (covered_among over w safe name to item dest own.1 walk.1 last keeps)
-      | inr away ↦ inr (inr (record { over = []; walk = tt; to = to; sends = walk.0; other = away.0; taken = away.1; goes = (over, walk.1, last, keeps) }))
+    | inl g ↦ inl (inr (inl (record { over = []; walk = tt; to = to; row = g.row; queued = g.queued; at = g.at; has = g.has; goes = (over, walk.1, last, keeps) })))
+    | inr (inl given) ↦ inr (record { over = []; walk = tt; to = to; sends = walk.0; given_up = given; goes = (over, walk.1, last, keeps) })
+    | inr (inr r) ↦ elim r [
+      | inl own ↦ answered_before w caller name to item dest walk.0 (covered_among over w safe name to item dest own.1 walk.1 last keeps)
+      | inr away ↦ inl (inr (inr (record { over = []; walk = tt; to = to; sends = walk.0; other = away.0; taken = away.1; goes = (over, walk.1, last, keeps) })))
     ]
   ]
 
@@ -260,11 +267,13 @@ module _ (ours : Ours) (plan : Network) where
   entry_reached w safe caller name item (inr (inl other)) = (safe.books name).reached caller item other.1
   entry_reached w safe caller name item (inr (inr r)) = goes_reached plan item.key caller name (safe.carried caller name item r).0
 
-  stood_among : (w : World) → IsSafeAmong ours plan w → (name to : Text) (item : Instance) (dest : Text) → IsDestination plan name to item.key dest → PassedBy ours w name (w.books name) item to →
-      IsToGo w name item to ⊎ (((ours to ≡ true) × HadArrival w to name item × IsCoveredAmong ours plan w name to item dest) ⊎ ((ours to ≡ false) × HasSucceededSince (w.books name).lines item to))
+  stood_among : (w : World) → IsSafeAmong ours plan w → (name to : Text) (item : Instance) (dest : Text) → IsDestination plan name to item.key dest → PassedBy ours plan w name (w.books name) item to →
+      IsToGo w name item to ⊎ (WasGivenUp plan name (w.books name).lines item to
+      ⊎ (((ours to ≡ true) × HadArrival w to name item × IsAnsweredAmong ours plan w name to item dest) ⊎ ((ours to ≡ false) × HasSucceededSince (w.books name).lines item to)))
   stood_among w safe name to item dest d (inl g) = inl (g.has, (g.row, g.at, g.queued))
-  stood_among w safe name to item dest d (inr (inl own)) = inr (inl (own.0, own.1, covered_among d.0 w safe name to item dest own.1 d.1 d.2 d.3))
-  stood_among w safe name to item dest d (inr (inr away)) = inr (inr away)
+  stood_among w safe name to item dest d (inr (inl given)) = inr (inl given)
+  stood_among w safe name to item dest d (inr (inr (inl own))) = inr (inr (inl (own.0, own.1, covered_among d.0 w safe name to item dest own.1 d.1 d.2 d.3)))
+  stood_among w safe name to item dest d (inr (inr (inr away))) = inr (inr (inr away))
 
   agreed_open : (w : World) (caller receiver : Text) (connected : Bool) (stage : Stage) (accepted : Contexts) → IsFairFor ours plan w caller receiver connected stage → ours caller ≡ true → ours receiver ≡ true → IsOpen stage accepted → CoversHop plan caller receiver accepted
   agreed_open w caller receiver connected Asking accepted fair c r opened = absurd opened
@@ -338,12 +347,12 @@ module _ (ours : Ours) (plan : Network) where
   }
 
 -- ---- a next plan
--- a book in which nothing was acknowledged and no row is done
+-- a book in which nothing was acknowledged and each row is queued
 record IsFresh (ours : Ours) (next : Network) (name : Text) (b : Book) : Type 0 where
   right : IsRight next name b b
   fold : b ≡ Fold b.lines
   none : (caller : Text) (item : Instance) → Took b caller item → ⊥
-  undone : (at : Text × Text) → map.get b.rows at ≡ Some Done → ⊥
+  queued : (at : Text × Text) (row : Progress) → map.get b.rows at ≡ Some row → is_queued row ≡ true
   lines : (line : Line) → Contains b.lines line → IsFairAmong ours line
   unanswered : (item : Instance) (to : Text) → HasSucceededSince b.lines item to → ⊥
 
@@ -356,7 +365,7 @@ module _ (ours : Ours) (plan next : Network) (w new : World) (safe : IsSafeAmong
     right = adopted_right next name plan (w.stood name) (w.books name) (safe.books name) (a.may.fit name);
     fold = fold_after Adoption (w.books name) (after Adoption (w.books name)) (safe.folds name) refl;
     none = λ caller item h. none_taken (w.books name).lines caller item h;
-    undone = λ at h. (was_queued (w.books name).rows at Done h).1 refl;
+    queued = λ at row h. (was_queued (w.books name).rows at row h).1;
     lines = λ line h. elim (fair_among ours (w.books name).lines Adoption (adoption_fair ours) line h) [ inl was ↦ safe.lines name line was | inr is ↦ is ];
     unanswered = λ item to h. none_since (w.books name).lines item to h;
   })
@@ -366,7 +375,7 @@ module _ (ours : Ours) (plan next : Network) (w new : World) (safe : IsSafeAmong
     right = empty_right next name empty_book;
     fold = refl;
     none = λ caller item h. nothing_taken caller item h;
-    undone = λ at h. no_row Done (sym (map.get-empty pair_cmp at) ∙ h);
+    queued = λ at row h. absurd (no_row row (sym (map.get-empty pair_cmp at) ∙ h));
     lines = λ line h. absurd (nothing_in_nil line h);
     unanswered = λ item to h. none_yet item to h;
   })
@@ -377,21 +386,18 @@ module _ (ours : Ours) (plan next : Network) (w new : World) (safe : IsSafeAmong
     | inl is ↦ elim (cases_of (ours name)) [ inl own ↦ fresh_node name is own | inr other ↦ fresh_empty name (a.others name other) ]
   ]
 
-  stands : (name to : Text) (item : Instance) → IsToSend (new.books name) item to → Goes next item.key name to × PassedBy ours new name (new.books name) item to
+  stands : (name to : Text) (item : Instance) → IsToSend (new.books name) item to → Goes next item.key name to × PassedBy ours next new name (new.books name) item to
   stands name to item s =
       let f = (fresh name).right.from item.uid to s.row s.at in
       let same : f.item ≡ item = some_inside f.item item (sym f.has ∙ (ap (map.get (new.books name).items) f.named ∙ s.has)) in (
         subst (λ (i : Instance). Goes next i.key name to) same f.goes,
-        elim (done_or_queued s.row) [
-          | inl done ↦ absurd ((fresh name).undone (item.uid, to) (s.at ∙ ap Some done))
-          | inr queued ↦ inl (record { row = s.row; queued = queued; at = s.at; has = s.has })
-        ],
+        inl (record { row = s.row; queued = (fresh name).queued (item.uid, to) s.row s.at; at = s.at; has = s.has }),
       )
 
   pub turn_among : IsSafeAmong ours next new
   turn_among =
       let P : (Text → Book) → Type 0 = λ stood. (name : Text) → IsRight next name (stood name) (new.books name) in
-      let Q : (Text → Book) → Type 0 = λ stood. (name to : Text) (item : Instance) → IsToSend (stood name) item to → Goes next item.key name to × PassedBy ours new name (new.books name) item to in
+      let Q : (Text → Book) → Type 0 = λ stood. (name to : Text) (item : Instance) → IsToSend (stood name) item to → Goes next item.key name to × PassedBy ours next new name (new.books name) item to in
       record {
         books = subst P (sym a.stood) (λ name. (fresh name).right);
         folds = λ name. (fresh name).fold;
@@ -401,7 +407,7 @@ module _ (ours : Ours) (plan next : Network) (w new : World) (safe : IsSafeAmong
         sources = λ name caller item h. absurd ((fresh name).none caller item h);
         sent = λ name caller to item h s. absurd ((fresh name).none caller item h);
         carried = subst Q (sym a.stood) stands;
-        done = λ name to item h i. absurd ((fresh name).undone (item.uid, to) h);
+        done = λ name to item h i. absurd (queued_not_done Done ((fresh name).queued (item.uid, to) Done h) refl);
         links = λ number link h. absurd (no_row link (sym (map.get-empty nat_cmp number) ∙ subst (λ (ls : FinMap nat_cmp Link). map.get ls number ≡ Some link) a.links h));
       }
 
@@ -414,3 +420,22 @@ run_among ours (Turn next ∷ acts) plan last sound w new safe r = run_among our
 
 pub headline_holds_among : HeadlineHoldsAmong
 headline_holds_among ours plan sound acts last w r = (let k = run_among ours acts plan last sound start w (start_among ours plan) r in safe_among ours last w k.1 k.0)
+
+-- ---- what nobody gave up
+undropped : (ours : Ours) (plan : Network) (w : World) (caller name : Text) (item : Instance) (dest : Text) → NobodyDropped w item.uid → IsAnsweredAmong ours plan w caller name item dest → IsCoveredAmong ours plan w caller name item dest
+undropped ours plan w caller name item dest none (inl c) = c
+undropped ours plan w caller name item dest none (inr g) = absurd (none_given plan w caller name item dest none g)
+
+all_is_there : (ours : Ours) (plan : Network) (w : World) → HeadlineAmong ours plan w → AllIsThereAmong ours plan w
+all_is_there ours plan w h = record {
+  each = λ caller name item none a dest d. undropped ours plan w caller name item dest none (h.nothing_lost.each caller name item a dest d);
+  carried_each = λ name to item none stood dest d. elim (h.nothing_lost.carried_each name to item stood dest d) [
+    | inl go ↦ inl go
+    | inr (inl given) ↦ absurd (none_given_here plan w name to item none given)
+    | inr (inr (inl own)) ↦ inr (inl (own.0, own.1, undropped ours plan w name to item dest none own.2))
+    | inr (inr (inr away)) ↦ inr (inr away)
+  ];
+}
+
+pub what_nobody_gave_up_is_there_among : WhatNobodyGaveUpIsThereAmong
+what_nobody_gave_up_is_there_among ours plan sound acts last w r = all_is_there ours last w (headline_holds_among ours plan sound acts last w r)

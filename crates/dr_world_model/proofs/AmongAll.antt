@@ -5,12 +5,12 @@ use mathlib.Core.Logic.{inl, inr}
 use Rattle.dr_base.specs.Texts.{Text}
 use Rattle.dr_plan_model.specs.Networks.{Network}
 use Rattle.dr_ledger.specs.declared.item.Instance.{Instance}
-use Rattle.dr_ledger.specs.Books.{Line, Arrival, Repeat, Settling, Requeuing, Forgetting, Adoption}
-use Rattle.dr_world_model.specs.Among.{all_ours, acts_of, AllOursIsTheHeadline, OthersCanDo, ArrivesAtOurs, Doing, Calls, Takes, Agrees, Stores, Replies, Does, Turns, RunsAmong, HasEntry, IsCoveredAmong, HeadlineAmong}
+use Rattle.dr_ledger.specs.Books.{Line, Arrival, Repeat, Settling, Requeuing, Dropping, Forgetting, Adoption}
+use Rattle.dr_world_model.specs.Among.{all_ours, acts_of, AllOursIsTheHeadline, OthersCanDo, ArrivesAtOurs, Doing, Calls, Takes, Agrees, Stores, Replies, Does, Turns, RunsAmong, HasEntry, IsAnsweredAmong, IsCoveredAmong, HeadlineAmong}
 use Rattle.dr_world_model.specs.Worlds.{World}
-use Rattle.dr_world_model.specs.Events.{Event, Take, Ask, AgreeReceiver, AgreeCaller, Give, Receive, Answered, BreakCaller, BreakReceiver, Close, Restart, Requeue, Forget, Refuse, Tick}
+use Rattle.dr_world_model.specs.Events.{Event, Take, Ask, AgreeReceiver, AgreeCaller, Give, Receive, Answered, BreakCaller, BreakReceiver, Close, Restart, Requeue, Drop, Forget, Refuse, Tick}
 use Rattle.dr_world_model.specs.Runs.{Action, Occurs, Adopt, Adopts, Runs}
-use Rattle.dr_world_model.specs.Claims.{HasSource, Headline, IsCovered, IsFairLine}
+use Rattle.dr_world_model.specs.Claims.{HasSource, Headline, IsAnswered, IsCovered, IsFairLine}
 
 no_other : {P : Type 0} → true ≡ false → P
 no_other e = absurd (let f : ⊥ = cc in f)
@@ -28,6 +28,7 @@ at_ours w (BreakReceiver link) = tt
 at_ours w (Close link answer) = tt
 at_ours w (Restart node answers) = tt
 at_ours w (Requeue node uid dest answer) = tt
+at_ours w (Drop node uid dest answer) = tt
 at_ours w (Forget node uid answer) = tt
 at_ours w (Refuse node) = tt
 at_ours w (Tick ms) = tt
@@ -93,6 +94,7 @@ module _ (plan : Network) (w : World) (h : HeadlineAmong all_ours plan w) where
   line_fair name (Repeat caller item) in' = tt
   line_fair name (Settling uid dest outcome now) in' = h.none_refused.lines name uid dest outcome now refl refl in'
   line_fair name (Requeuing uid dest) in' = tt
+  line_fair name (Dropping uid dest now) in' = tt
   line_fair name (Forgetting uid) in' = tt
   line_fair name Adoption in' = tt
 
@@ -111,6 +113,10 @@ module _ (plan : Network) (w : World) (h : HeadlineAmong all_ours plan w) where
   covered caller name item dest (inr (inl u)) = inr u
   covered caller name item dest (inr (inr o)) = no_other o.other
 
+  answered : (caller name : Text) (item : Instance) (dest : Text) → IsAnsweredAmong all_ours plan w caller name item dest → IsAnswered plan w caller name item dest
+  answered caller name item dest (inl c) = inl (covered caller name item dest c)
+  answered caller name item dest (inr g) = inr g
+
   claims : Headline plan w
   claims = record {
     items = h.items;
@@ -124,11 +130,12 @@ module _ (plan : Network) (w : World) (h : HeadlineAmong all_ours plan w) where
     };
     nothing_lost = record {
       some = h.nothing_lost.some;
-      each = λ caller name item a dest d. covered caller name item dest (h.nothing_lost.each caller name item a dest d);
+      each = λ caller name item a dest d. answered caller name item dest (h.nothing_lost.each caller name item a dest d);
       carried_some = h.nothing_lost.carried_some;
       carried_each = λ name to item stood dest d. elim (h.nothing_lost.carried_each name to item stood dest d) [
         | inl go ↦ inl go
-        | inr r ↦ elim r [ inl own ↦ inr (own.1, covered name to item dest own.2) | inr away ↦ no_other away.0 ]
+        | inr (inl given_up) ↦ inr (inl given_up)
+        | inr (inr r) ↦ elim r [ inl own ↦ inr (inr (own.1, answered name to item dest own.2)) | inr away ↦ no_other away.0 ]
       ];
     };
   }

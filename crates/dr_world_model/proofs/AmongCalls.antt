@@ -10,34 +10,34 @@ use Rattle.dr_plan_model.specs.Walks.{Sends, Goes}
 use Rattle.dr_plan_model.proofs.Gathered.{nothing_in_nil}
 use Rattle.dr_ledger.specs.declared.fault.LedgerFault.TheVariants as fault
 use Rattle.dr_ledger.specs.declared.item.Arrived.TheVariants.{New, Again}
-use Rattle.dr_ledger.specs.declared.item.Cause.{Cause}
 use Rattle.dr_ledger.specs.declared.item.Instance.{Instance}
 use Rattle.dr_ledger.specs.declared.item.Outcome.{Outcome}
 use Rattle.dr_ledger.specs.declared.item.Outcome.TheVariants.{Status}
 use Rattle.dr_ledger.specs.declared.item.Progress.{Progress}
-use Rattle.dr_ledger.specs.declared.item.Progress.TheVariants.{Waiting, Held, Done}
-use Rattle.dr_ledger.specs.Books.{Book, Line, Arrival, Repeat, Settling, Requeuing, Forgetting, Adoption, empty_book, after, row_after, Fold}
+use Rattle.dr_ledger.specs.declared.item.Progress.TheVariants.{Waiting, Held, Done, Dropped}
+use Rattle.dr_ledger.specs.Books.{Book, Line, Arrival, Repeat, Settling, Requeuing, Dropping, Forgetting, Adoption, empty_book, after, row_after, Fold}
 use Rattle.dr_ledger.specs.Pairs.{pair_cmp}
-use Rattle.dr_ledger.specs.PlanRoutes.{plan_routing}
+use Rattle.dr_ledger.specs.PlanRoutes.{plan_routing, keeps}
 use Rattle.dr_ledger.specs.Replies.{IsAdmitted, IsHeld, IsOver, IsWaiting, arrival_line}
 use Rattle.dr_ledger.proofs.Answering.{succeeds_now}
 use Rattle.dr_ledger.proofs.Folding.{fold_after}
 use Rattle.dr_ledger.proofs.Forgotten.{Apart, item_left, item_stays, row_left}
-use Rattle.dr_ledger.proofs.Growing.{row_put, settled_is, requeued_is}
+use Rattle.dr_ledger.proofs.Growing.{row_put, given_up, settled_is, requeued_is, dropped_is}
 use Rattle.dr_ledger.proofs.Maps.{texts, same_or_not, cases_of}
 use Rattle.dr_ledger.proofs.Succeeded.{NotesSuccess, succeeded_from}
 use Rattle.dr_ledger.proofs.Since.{Acknowledges, IsPlain}
 use Rattle.dr_ledger.specs.OneNode.{HasSucceededSince}
 use Rattle.dr_world_model.specs.Among.{Ours, AreOurs, HasEntry}
 use Rattle.dr_world_model.specs.Worlds.{World, with_book, with_armed}
-use Rattle.dr_world_model.specs.Calls.{Reply, Answer, Arriving, Settlement, Requeueing, Dropping}
+use Rattle.dr_world_model.specs.Calls.{Reply, Answer, Arriving, Settlement, Requeueing, GivingUp, LettingGo}
 use Rattle.dr_world_model.specs.Steps.{NoneIsPending}
-use Rattle.dr_world_model.specs.Claims.{Has, HadArrival, IsFairOutcome, WasCarriedOver}
+use Rattle.dr_world_model.specs.Claims.{Has, HadArrival, IsFairOutcome, WasCarriedOver, WasGivenUp}
 use Rattle.dr_world_model.proofs.AdoptionsKept.{no_row}
+use Rattle.dr_world_model.proofs.GivenUp.{given_up_arrived, given_up_now, given_up_on, given_up_repeated}
 use Rattle.dr_world_model.proofs.Walking.{walk_on, last_on}
-use Rattle.dr_world_model.proofs.Keeping.{IsRight, Grows, GoesOn, Noted, Took, grows_same, done_or_queued, arrived_grows, arrived_holds, arrived_has, arrived_took, arrived_from, arrived_done, arrived_had, arrived_row, arrived_goes_on, arrived_right, line_right, line_grows, line_from, line_took, row_set_grows, row_set_from, row_set_done, row_set_goes_on, row_set_right, forgotten_grows, forgotten_from, forgotten_goes_on, forgotten_right}
+use Rattle.dr_world_model.proofs.Keeping.{IsRight, Grows, GoesOn, Noted, Took, grows_same, done_or_queued, arrived_grows, arrived_holds, arrived_has, arrived_took, arrived_from, arrived_done, arrived_had, arrived_row, arrived_goes_on, arrived_right, line_right, line_grows, line_from, line_took, row_set_grows, row_set_from, row_set_done, row_set_goes_on, row_set_right, given_silent, given_grows, given_from, given_done, given_goes_on, given_right, forgotten_grows, forgotten_from, forgotten_goes_on, forgotten_right}
 use Rattle.dr_world_model.proofs.Safety.{KeepsPending, WorldGrows, world_same, book_here, book_there}
-use Rattle.dr_world_model.proofs.CallsKept.{IsSuccess, fair_success, one_item, done_only, settling_is}
+use Rattle.dr_world_model.proofs.CallsKept.{IsSuccess, fair_success, one_item, done_only, settled_not_dropped, settling_is}
 use Rattle.dr_world_model.proofs.AmongSafe.{IsSafeAmong, IsSentAmong, IsFairAmong, PassedBy, ReachedBy, fair_among, put_among, put_among_grows, pends_among, same_among, taken_push}
 
 -- the new world is safe, and has what the old one had
@@ -56,8 +56,8 @@ own_push ours (next ∷ over) to own is = (own.0, own_push ours over to own.1 is
 waiting_not_done : (tries due : ℕ) → Waiting tries due ≢ Done
 waiting_not_done tries due e = cc
 
-held_not_done : (cause : Cause) → Held cause ≢ Done
-held_not_done cause e = cc
+waiting_not_dropped : (tries due : ℕ) → Waiting tries due ≢ Dropped
+waiting_not_dropped tries due e = cc
 
 -- lines that aren't settlings are fair
 arrival_fair : (ours : Ours) (c : Text) (i : Instance) (ts : List Text) (k : Bool) → IsFairAmong ours (Arrival c i ts k)
@@ -68,6 +68,9 @@ repeat_fair ours c i uid dest outcome now own e = absurd (let f : Repeat c i ≡
 
 requeuing_fair : (ours : Ours) (u d : Text) → IsFairAmong ours (Requeuing u d)
 requeuing_fair ours u d uid dest outcome now own e = absurd (let f : Requeuing u d ≡ Settling uid dest outcome now = e in cc f)
+
+dropping_fair : (ours : Ours) (u d : Text) (n : ℕ) → IsFairAmong ours (Dropping u d n)
+dropping_fair ours u d n uid dest outcome now own e = absurd (let f : Dropping u d n ≡ Settling uid dest outcome now = e in cc f)
 
 forgetting_fair : (ours : Ours) (u : Text) → IsFairAmong ours (Forgetting u)
 forgetting_fair ours u uid dest outcome now own e = absurd (let f : Forgetting u ≡ Settling uid dest outcome now = e in cc f)
@@ -87,6 +90,10 @@ settling_silent uid dest outcome now c i (inr r) = (let e : Settling uid dest ou
 requeuing_silent : (uid dest c : Text) (i : Instance) → Acknowledges (Requeuing uid dest) c i → ⊥
 requeuing_silent uid dest c i (inl a) = (let e : Requeuing uid dest ≡ Arrival c i a.0 a.1 = a.2 in cc e)
 requeuing_silent uid dest c i (inr r) = (let e : Requeuing uid dest ≡ Repeat c i = r in cc e)
+
+forgetting_silent : (uid c : Text) (i : Instance) → Acknowledges (Forgetting uid) c i → ⊥
+forgetting_silent uid c i (inl a) = (let e : Forgetting uid ≡ Arrival c i a.0 a.1 = a.2 in cc e)
+forgetting_silent uid c i (inr r) = (let e : Forgetting uid ≡ Repeat c i = r in cc e)
 
 -- the success that a settling notes
 taken_now : (lines : List Line) (b : Book) → b ≡ Fold lines → (uid dest : Text) (outcome : Outcome) (now tries : ℕ) (item : Instance) → item.uid ≡ uid → row_after tries outcome now ≡ Done →
@@ -133,20 +140,21 @@ module _ (ours : Ours) (plan : Network) (w : World) (safe : IsSafeAmong ours pla
   kept_line : (name : Text) (b : Book) (line : Line) (new : World) → ours name ≡ true → b ≡ after line (w.books name) → b.lines ≡ (w.books name).lines ++ line ∷ [] → line ≢ Adoption → IsFairAmong ours line →
       Grows (w.books name) b → IsRight plan name (w.stood name) b →
       ((caller : Text) (item : Instance) → Took b caller item → Took (w.books name) caller item
-      ⊎ (HasEntry ours plan (with_book w name b) caller name item × ((to : Text) → Sends plan name caller item.key to → PassedBy ours w name b item to))) →
-      ((item : Instance) (to : Text) → GoesOn (w.books name) item to → PassedBy ours w name b item to) →
+      ⊎ (HasEntry ours plan (with_book w name b) caller name item × ((to : Text) → Sends plan name caller item.key to → PassedBy ours plan w name b item to))) →
+      ((item : Instance) (to : Text) → GoesOn (w.books name) item to → PassedBy ours plan w name b item to) →
+      ((item : Instance) (to : Text) → WasGivenUp plan name (w.books name).lines item to → PassedBy ours plan w name b item to) →
       ((to : Text) (item : Instance) → map.get b.rows (item.uid, to) ≡ Some Done → map.get b.items item.uid ≡ Some item →
       ((map.get (w.books name).rows (item.uid, to) ≡ Some Done) × Has w name item) ⊎ ReachedBy ours w name b item to) →
       KeepsPending w (with_book w name b) →
       ((to : Text) (item : Instance) → ours to ≡ true → NotesSuccess (w.books name).lines line item to → HadArrival w to name item) →
       (armed : FinSet text_cmp) → new ≡ with_armed (with_book w name b) armed → KeptAmong ours plan w new
-  kept_line name b line new own is_after lines plain fair grows right news on dones pends answers armed is =
+  kept_line name b line new own is_after lines plain fair grows right news on gives dones pends answers armed is =
       let old = w.books name in
       let T : List Line → Instance → Text → Type 0 = λ ls item to. HasSucceededSince ls item to in
       let F : List Line → Type 0 = λ ls. (l : Line) → Contains ls l → Contains old.lines l ⊎ IsFairAmong ours l in
       subst (KeptAmong ours plan w) (sym is) (rearmed (with_book w name b) armed (record {
         safe = put_among ours plan w name b safe grows right (fold_after line old b (safe.folds name) is_after) (λ other. absurd (not_both (ours name) own other))
-            (λ item to t. subst (λ ls. T ls item to) (sym lines) (taken_push old.lines line item to plain t)) news on dones pends
+            (λ item to t. subst (λ ls. T ls item to) (sym lines) (taken_push old.lines line item to plain t)) news on gives dones pends
             (subst F (sym lines) (fair_among ours old.lines line fair))
             (let S : List Line → Type 0 = λ ls. (to : Text) (item : Instance) → ours to ≡ true → HasSucceededSince ls item to → HasSucceededSince old.lines item to ⊎ HadArrival w to name item in
             subst S (sym lines) (λ to item near h. elim (succeeded_from old.lines line item to h) [ inl was ↦ inl was | inr noted ↦ inr (answers to item near noted) ]));
@@ -163,12 +171,13 @@ module _ (ours : Ours) (plan : Network) (w : World) (safe : IsSafeAmong ours pla
       let P : Book → Type 0 = λ x. x ≡ Fold x.lines in
       let Q : Book → Type 0 = λ x. ours name ≡ false → x ≡ empty_book in
       let T : Book → Type 0 = λ x. (item : Instance) (to : Text) → HasSucceededSince old.lines item to → HasSucceededSince x.lines item to in
-      let G : Book → Type 0 = λ x. (item : Instance) (to : Text) → GoesOn old item to → PassedBy ours w name x item to in
+      let G : Book → Type 0 = λ x. (item : Instance) (to : Text) → GoesOn old item to → PassedBy ours plan w name x item to in
       subst (KeptAmong ours plan w) (sym is) (rearmed (with_book w name b) armed (record {
         safe = put_among ours plan w name b safe grows (subst (IsRight plan name (w.stood name)) (sym same) (safe.books name)) (subst P (sym same) (safe.folds name)) (subst Q (sym same) (safe.others name))
             (subst T (sym same) (λ item to t. t))
             (λ caller item h. inl (subst (λ x. Took x caller item) same h))
             (subst G (sym same) (λ item to g. inl g))
+            (λ item to g. inr (inl (subst (λ (x : Book). WasGivenUp plan name x.lines item to) (sym same) g)))
             (λ to item h i. inl (subst (λ (x : Book). map.get x.rows (item.uid, to) ≡ Some Done) same h, subst (λ (x : Book). map.get x.items item.uid ≡ Some item) same i))
             pends
             (λ line h. inl (subst (λ (x : Book). Contains x.lines line) same h))
@@ -192,13 +201,13 @@ module _ (ours : Ours) (plan : Network) (w : World) (safe : IsSafeAmong ours pla
       let there : HadArrival (with_book w name book) name caller item = subst (λ x. Took x caller item) (sym (book_here w.books name book)) (arrived_took plan name caller item stood old right admitted) in
       let taken : (i : Instance) (to : Text) → ReachedBy ours w name old i to → ReachedBy ours w name book i to = λ i to r.
       elim r [ inl o ↦ inl o | inr away ↦ inr (away.0, taken_push old.lines line i to (λ e. cc) away.1) ] in
-      let passes : (to : Text) → Sends plan name caller item.key to → PassedBy ours w name book item to = λ to sends.
+      let passes : (to : Text) → Sends plan name caller item.key to → PassedBy ours plan w name book item to = λ to sends.
       (let row = arrived_row plan name caller item stood old right admitted to sends in
-      elim (done_or_queued row.0) [
+      elim (done_or_queued row.0 row.2) [
         | inr queued ↦ inl (record { row = row.0; queued = queued; at = row.1; has = arrived_has plan name caller item stood old right admitted })
         | inl done ↦ (
             let was = arrived_done plan name caller item stood old right admitted (item.uid, to) (row.1 ∙ ap Some done) in
-            inr (taken item to (safe.done name to item was (arrived_had plan name caller item stood old right admitted item to Done was (arrived_has plan name caller item stood old right admitted))))
+            inr (inr (taken item to (safe.done name to item was (arrived_had plan name caller item stood old right admitted item to Done was (arrived_has plan name caller item stood old right admitted)))))
             )
       ]) in
       let source : HasEntry ours plan (with_book w name book) caller name item = sourced (with_book w name book) world there in
@@ -206,11 +215,19 @@ module _ (ours : Ours) (plan : Network) (w : World) (safe : IsSafeAmong ours pla
       (λ c i h. elim (arrived_from plan name caller item stood old right admitted c i h) [
         | inl was ↦ inl was
         | inr e ↦ inr (
-            let P : Text × Instance → Type 0 = λ p. HasEntry ours plan (with_book w name book) p.0 name p.1 × ((to : Text) → Sends plan name p.0 p.1.key to → PassedBy ours w name book p.1 to) in
+            let P : Text × Instance → Type 0 = λ p. HasEntry ours plan (with_book w name book) p.0 name p.1 × ((to : Text) → Sends plan name p.0 p.1.key to → PassedBy ours plan w name book p.1 to) in
             subst P (λ j. (sym e.0 j, sym e.1 j)) (source, passes)
             )
       ])
       (λ i to g. inl (arrived_goes_on plan name caller item stood old right admitted i to g))
+      (λ i to g. elim (given_up_arrived plan name caller item (keeps plan name caller item.key) old.lines i to g) [
+        | inl e ↦ (
+            let P : Instance → Type 0 = λ x. PassedBy ours plan w name book x to in
+            let S : Instance → Type 0 = λ x. Sends plan name caller x.key to in
+            subst P (sym e.0) (passes to (subst S e.0 e.1))
+            )
+        | inr still ↦ inr (inl still)
+      ])
       (λ to i h g. (let was = arrived_done plan name caller item stood old right admitted (i.uid, to) h in inl (was, arrived_had plan name caller item stood old right admitted i to Done was g)))
       (pends_among ours plan w name book safe grows (arrived_holds plan name caller item stood old right admitted))
       (λ to i near noted. absurd (let e : line ≡ Settling i.uid to (Status noted.status) noted.now = noted.is in let f : ⊥ = cc in f))
@@ -226,9 +243,23 @@ module _ (ours : Ours) (plan : Network) (w : World) (safe : IsSafeAmong ours pla
       let book = after (Repeat caller item) old in
       let grows = line_grows plan name caller item stood old right noted in
       let there : HadArrival (with_book w name book) name caller item = subst (λ x. Took x caller item) (sym (book_here w.books name book)) (line_took plan name caller item stood old right noted) in
+      let taken : (i : Instance) (to : Text) → ReachedBy ours w name old i to → ReachedBy ours w name book i to = λ i to r.
+      elim r [ inl o ↦ inl o | inr away ↦ inr (away.0, taken_push old.lines (Repeat caller item) i to (λ e. cc) away.1) ] in
       let kept = kept_line name book (Repeat caller item) (with_book w name book) own refl refl (λ e. cc) (repeat_fair ours caller item) grows (line_right plan name caller item stood old right noted)
       (λ c i h. inl (line_from plan name caller item stood old right noted c i h))
       (λ i to g. inl (record { row = g.row; queued = g.queued; at = g.at; has = g.has }))
+      (λ i to g. elim (given_up_repeated plan name caller item old.lines i to g) [
+        | inl e ↦ (
+            let S : Instance → Type 0 = λ x. Sends plan name caller x.key to in
+            let row = right.undropped caller to item noted (subst S e.0 e.1) in
+            let P : Instance → Type 0 = λ x. PassedBy ours plan w name book x to in
+            subst P (sym e.0) (elim (done_or_queued row.0 row.2) [
+              | inl done ↦ inr (inr (taken item to (safe.done name to item (row.1 ∙ ap Some done) noted.item_is)))
+              | inr queued ↦ inl (record { row = row.0; queued = queued; at = row.1; has = noted.item_is })
+            ])
+            )
+        | inr still ↦ inr (inl still)
+      ])
       (λ to i h g. inl (h, g))
       (pends_among ours plan w name book safe grows (λ i h. h))
       (λ to i near noted. absurd (let e : Repeat caller item ≡ Settling i.uid to (Status noted.status) noted.now = noted.is in let f : ⊥ = cc in f))
@@ -256,26 +287,27 @@ module _ (ours : Ours) (plan : Network) (w : World) (safe : IsSafeAmong ours pla
   arriving_among name caller item (Err fault.NotOver) new own sourced a = absurd a.call
 
   -- ---- one row changes
-  kept_row : (name uid dest : Text) (old row : Progress) (line : Line) (new : World) → ours name ≡ true → map.get (w.books name).rows (uid, dest) ≡ Some old → old ≢ Done →
+  kept_row : (name uid dest : Text) (old row : Progress) (line : Line) (new : World) → ours name ≡ true → map.get (w.books name).rows (uid, dest) ≡ Some old → row ≢ Dropped →
       row_put (w.books name) (uid, dest) row line ≡ after line (w.books name) → line ≢ Adoption → IsFairAmong ours line → IsPlain line →
       ((c : Text) (i : Instance) → Acknowledges line c i → ⊥) → (row ≡ Done → (item : Instance) → item.uid ≡ uid → Has w name item → ReachedBy ours w name (row_put (w.books name) (uid, dest) row line) item dest) →
       ((to : Text) (item : Instance) → ours to ≡ true → NotesSuccess (w.books name).lines line item to → HadArrival w to name item) →
       (armed : FinSet text_cmp) → new ≡ with_armed (with_book w name (row_put (w.books name) (uid, dest) row line)) armed → KeptAmong ours plan w new
-  kept_row name uid dest old row line new own was queued is_after no_adoption fair plain silent honest answers armed is =
+  kept_row name uid dest old row line new own was fresh is_after no_adoption fair plain silent honest answers armed is =
       let b = w.books name in
       let stood = w.stood name in
       let right = safe.books name in
       let book = row_put b (uid, dest) row line in
-      let grows = row_set_grows plan name stood b (uid, dest) old row line right was queued plain silent in
+      let grows = row_set_grows plan name stood b (uid, dest) old row line right was fresh plain silent in
       let reached : (i : Instance) (to : Text) → ◌≡◌ {A = Text × Text} (i.uid, to) (uid, dest) → row ≡ Done → Has w name i → ReachedBy ours w name book i to = λ i to e done has.
       subst (λ t. ReachedBy ours w name book i t) (sym (ap (λ (p : Text × Text). p.1) e)) (honest done i (ap (λ (p : Text × Text). p.0) e) has) in
-      kept_line name book line new own is_after refl no_adoption fair grows (row_set_right plan name stood b (uid, dest) old row line right was queued plain silent)
-      (λ c i h. inl (row_set_from plan name stood b (uid, dest) old row line right was queued plain silent c i h))
-      (λ i to g. elim (row_set_goes_on plan name stood b (uid, dest) old row line right was queued plain silent i to g) [
+      kept_line name book line new own is_after refl no_adoption fair grows (row_set_right plan name stood b (uid, dest) old row line right was fresh plain silent)
+      (λ c i h. inl (row_set_from plan name stood b (uid, dest) old row line right was fresh plain silent c i h))
+      (λ i to g. elim (row_set_goes_on plan name stood b (uid, dest) old row line right was fresh plain silent i to g) [
         | inl still ↦ inl still
-        | inr e ↦ inr (reached i to e.0 e.1 g.has)
+        | inr e ↦ inr (inr (reached i to e.0 e.1 g.has))
       ])
-      (λ to i h g. elim (row_set_done plan name stood b (uid, dest) old row line right was queued plain silent (i.uid, to) h) [
+      (λ i to g. inr (inl (given_up_on plan name b.lines line i to no_adoption silent g)))
+      (λ to i h g. elim (row_set_done plan name stood b (uid, dest) old row line right was fresh plain silent (i.uid, to) h) [
         | inl done ↦ inl (done, g)
         | inr e ↦ inr (reached i to e.0 e.1 g)
       ])
@@ -306,7 +338,7 @@ module _ (ours : Ours) (plan : Network) (w : World) (safe : IsSafeAmong ours pla
         let line = Settling uid dest outcome w.time in
         let put = settled_is uid dest outcome w.time waits.0 waits.1 old waits.2 in
         let is_book : s.book ≡ row_put old (uid, dest) row line = s.call.1 ∙ put in
-        kept_row name uid dest (Waiting waits.0 waits.1) row line new own waits.2 (waiting_not_done waits.0 waits.1) (sym put) (λ e. cc) (settling_fair ours uid dest outcome w.time (fair own)) (λ since. refl) (settling_silent uid dest outcome w.time)
+        kept_row name uid dest (Waiting waits.0 waits.1) row line new own waits.2 (settled_not_dropped waits.0 outcome w.time) (sym put) (λ e. cc) (settling_fair ours uid dest outcome w.time (fair own)) (λ since. refl) (settling_silent uid dest outcome w.time)
         (λ is item same has. elim (cases_of (ours dest)) [
           | inl near ↦ inl (near, honest own near (done_only outcome (fair own near) waits.0 w.time is) item same has)
           | inr far ↦ inr (far, taken_now old.lines old (safe.folds name) uid dest outcome w.time waits.0 item same is has)
@@ -337,7 +369,7 @@ module _ (ours : Ours) (plan : Network) (w : World) (safe : IsSafeAmong ours pla
         let old = w.books name in
         let held = Held r.call.0.0 in
         let put = requeued_is uid dest r.call.0.0 old r.call.0.1 in
-        kept_row name uid dest held (Waiting 0 0) (Requeuing uid dest) new own r.call.0.1 (held_not_done r.call.0.0) (sym put) (λ e. cc) (requeuing_fair ours uid dest) (λ since. refl) (requeuing_silent uid dest)
+        kept_row name uid dest held (Waiting 0 0) (Requeuing uid dest) new own r.call.0.1 (waiting_not_dropped 0 0) (sym put) (λ e. cc) (requeuing_fair ours uid dest) (λ since. refl) (requeuing_silent uid dest)
         (λ is item same has. absurd (waiting_not_done 0 0 is))
         (λ to i near noted. absurd (let e : Requeuing uid dest ≡ Settling i.uid to (Status noted.status) noted.now = noted.is in let f : ⊥ = cc in f))
         r.called.armed (r.called.is ∙ ap (λ x. with_armed (with_book w name x) r.called.armed) (r.call.1 ∙ put))
@@ -350,6 +382,40 @@ module _ (ours : Ours) (plan : Network) (w : World) (safe : IsSafeAmong ours pla
   requeue_among name uid dest (Err fault.Conflict) new r = absurd r.call
   requeue_among name uid dest (Err fault.NotWaiting) new r = absurd r.call
   requeue_among name uid dest (Err fault.NotOver) new r = absurd r.call
+
+  -- ---- drop
+  pub giving_up_among : (name uid dest : Text) (answer : Answer) (new : World) → GivingUp w name uid dest answer new → KeptAmong ours plan w new
+  giving_up_among name uid dest (Ok done) new d = elim (cases_of (ours name)) [
+    | inr other ↦ absurd (none_held name uid dest other d.call.0)
+    | inl own ↦ (
+        let b = w.books name in
+        let stood = w.stood name in
+        let right = safe.books name in
+        let line = Dropping uid dest w.time in
+        let book = given_up b uid dest w.time in
+        let held = d.call.0 in
+        let is_after = dropped_is uid dest w.time held.0 b held.1 in
+        let grows = given_grows plan name uid dest w.time stood b right in
+        kept_line name book line new own (sym is_after) refl (λ e. cc) (dropping_fair ours uid dest w.time) grows (given_right plan name uid dest w.time stood b right (Held held.0, held.1))
+        (λ c i h. inl (given_from plan name uid dest w.time stood b right c i h))
+        (λ i to g. elim (given_goes_on plan name uid dest w.time stood b right i to g) [
+          | inl still ↦ inl still
+          | inr e ↦ inr (inl (given_up_now plan name b.lines b (safe.folds name) uid dest w.time i to (ap (λ (p : Text × Text). p.0) e) (ap (λ (p : Text × Text). p.1) e) g.has))
+        ])
+        (λ i to g. inr (inl (given_up_on plan name b.lines line i to (λ e. cc) (given_silent plan name uid dest w.time stood b right) g)))
+        (λ to i h g. inl (given_done plan name uid dest w.time stood b right (i.uid, to) h, g))
+        (pends_among ours plan w name book safe grows (λ i h. h))
+        (λ to i near noted. absurd (let e : Dropping uid dest w.time ≡ Settling i.uid to (Status noted.status) noted.now = noted.is in let f : ⊥ = cc in f))
+        d.called.armed (d.called.is ∙ ap (λ x. with_armed (with_book w name x) d.called.armed) (d.call.1 ∙ is_after))
+        )
+  ]
+  giving_up_among name uid dest (Err fault.NotHeld) new d = kept_same name d.book new d.call.1 d.called.armed d.called.is
+  giving_up_among name uid dest (Err fault.Store) new d = kept_same name d.book new d.call d.called.armed d.called.is
+  giving_up_among name uid dest (Err fault.Memory) new d = kept_same name d.book new d.call d.called.armed d.called.is
+  giving_up_among name uid dest (Err fault.NoLine) new d = absurd d.call
+  giving_up_among name uid dest (Err fault.Conflict) new d = absurd d.call
+  giving_up_among name uid dest (Err fault.NotWaiting) new d = absurd d.call
+  giving_up_among name uid dest (Err fault.NotOver) new d = absurd d.call
 
   -- ---- forget
   pends_forgotten : (name uid : Text) → NoneIsPending w name uid → KeepsPending w (with_book w name (after (Forgetting uid) (w.books name)))
@@ -365,7 +431,7 @@ module _ (ours : Ours) (plan : Network) (w : World) (safe : IsSafeAmong ours pla
         )
   ]
 
-  pub forgetting_among : (name uid : Text) (answer : Answer) (new : World) → NoneIsPending w name uid → Dropping w name uid answer new → KeptAmong ours plan w new
+  pub forgetting_among : (name uid : Text) (answer : Answer) (new : World) → NoneIsPending w name uid → LettingGo w name uid answer new → KeptAmong ours plan w new
   forgetting_among name uid (Ok done) new none d = elim (cases_of (ours name)) [
     | inr other ↦ absurd (none_over name uid other d.call.0)
     | inl own ↦ (
@@ -377,6 +443,7 @@ module _ (ours : Ours) (plan : Network) (w : World) (safe : IsSafeAmong ours pla
         kept_line name book (Forgetting uid) new own refl refl (λ e. cc) (forgetting_fair ours uid) (forgotten_grows plan name uid stood b right over) (forgotten_right plan name uid stood b right over)
         (λ c i h. inl (forgotten_from plan name uid stood b right over c i h))
         (λ i to g. inl (forgotten_goes_on plan name uid stood b right over i to g))
+        (λ i to g. inr (inl (given_up_on plan name b.lines (Forgetting uid) i to (λ e. cc) (forgetting_silent uid) g)))
         (λ to i h g. inl ((row_left b uid (i.uid, to) Done h).1, (item_left b uid i.uid i g).1))
         (pends_forgotten name uid none)
         (λ to i near noted. absurd (let e : Forgetting uid ≡ Settling i.uid to (Status noted.status) noted.now = noted.is in let f : ⊥ = cc in f))

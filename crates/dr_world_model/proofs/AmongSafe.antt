@@ -17,7 +17,7 @@ use Rattle.dr_ledger.proofs.Maps.{texts, same_or_not, got}
 use Rattle.dr_ledger.specs.OneNode.{HasSucceededSince}
 use Rattle.dr_world_model.specs.Among.{Ours, HasEntry}
 use Rattle.dr_world_model.specs.Worlds.{World, Link, Contexts, Stage, Asking, Answering, Rejecting, Open, Storing, Replying, Gone, with_book, with_link}
-use Rattle.dr_world_model.specs.Claims.{Has, HadArrival, IsToSend, WasCarriedOver, IsFairOutcome, IsFairStatus, CoversHop}
+use Rattle.dr_world_model.specs.Claims.{Has, HadArrival, IsToSend, WasCarriedOver, WasGivenUp, IsFairOutcome, IsFairStatus, CoversHop}
 use Rattle.dr_world_model.specs.Steps.{IsLink, pending}
 use Rattle.dr_world_model.proofs.Lookups.{numbers}
 use Rattle.dr_world_model.proofs.Keeping.{IsRight, Grows, GoesOn, Took, grows_same}
@@ -39,9 +39,10 @@ pub fair_among : (ours : Ours) (lines : List Line) (last : Line) → IsFairAmong
 fair_among ours lines last is line h = elim (Contains-push_cases lines last line h) [ inl i ↦ inl i | inr e ↦ inr (subst (IsFairAmong ours) e is) ]
 
 -- ---- what holds
--- where one of ours has the item queued, or passed it on: the next node had it, or, where it isn't ours, answered with success
-abbrev pub PassedBy : Ours → World → Text → Book → Instance → Text → Type 0
-PassedBy ours w name b item to = GoesOn b item to ⊎ (((ours to ≡ true) × HadArrival w to name item) ⊎ ((ours to ≡ false) × HasSucceededSince b.lines item to))
+-- where one of ours has the item queued, or passed it on: the next node had it, or, where it isn't ours, answered with success; or a person gave it up
+abbrev pub PassedBy : Ours → Network → World → Text → Book → Instance → Text → Type 0
+PassedBy ours plan w name b item to =
+    GoesOn b item to ⊎ (WasGivenUp plan name b.lines item to ⊎ (((ours to ≡ true) × HadArrival w to name item) ⊎ ((ours to ≡ false) × HasSucceededSince b.lines item to)))
 
 abbrev pub ReachedBy : Ours → World → Text → Book → Instance → Text → Type 0
 ReachedBy ours w name b item to = ((ours to ≡ true) × HadArrival w to name item) ⊎ ((ours to ≡ false) × HasSucceededSince b.lines item to)
@@ -78,8 +79,8 @@ pub record IsSafeAmong (ours : Ours) (plan : Network) (w : World) : Type 0 where
   pub others : (name : Text) → ours name ≡ false → w.books name ≡ empty_book
   pub lines : (name : Text) (line : Line) → Contains (w.books name).lines line → IsFairAmong ours line
   pub sources : (name caller : Text) (item : Instance) → HadArrival w name caller item → HasEntry ours plan w caller name item
-  pub sent : (name caller to : Text) (item : Instance) → HadArrival w name caller item → Sends plan name caller item.key to → PassedBy ours w name (w.books name) item to
-  pub carried : (name to : Text) (item : Instance) → WasCarriedOver w name item to → Goes plan item.key name to × PassedBy ours w name (w.books name) item to
+  pub sent : (name caller to : Text) (item : Instance) → HadArrival w name caller item → Sends plan name caller item.key to → PassedBy ours plan w name (w.books name) item to
+  pub carried : (name to : Text) (item : Instance) → WasCarriedOver w name item to → Goes plan item.key name to × PassedBy ours plan w name (w.books name) item to
   pub done : (name to : Text) (item : Instance) → map.get (w.books name).rows (item.uid, to) ≡ Some Done → Has w name item → ReachedBy ours w name (w.books name) item to
   pub answered : (name to : Text) (item : Instance) → ours to ≡ true → HasSucceededSince (w.books name).lines item to → HadArrival w to name item
   pub links : (number : ℕ) (link : Link) → map.get w.links number ≡ Some link → IsFairLinkAmong ours plan w link
@@ -121,10 +122,11 @@ module _ (ours : Ours) (plan : Network) (old new : World) (g : WorldGrows old ne
       (h.0, own_still caller receiver connected item (λ on had. has item on refl had) h.1, λ own. ((h.2 own).0, λ z. (g.books receiver).took caller item ((h.2 own).1 z)))
 
   -- what was passed on is so still, where the book is the same
-  pub passed_still : (n : Text) (b : Book) (item : Instance) (to : Text) → PassedBy ours old n b item to → PassedBy ours new n b item to
+  pub passed_still : (n : Text) (b : Book) (item : Instance) (to : Text) → PassedBy ours plan old n b item to → PassedBy ours plan new n b item to
   passed_still n b item to h = elim h [
     | inl goes ↦ inl goes
-    | inr r ↦ inr (elim r [ inl own ↦ inl (own.0, (g.books to).took n item own.1) | inr other ↦ inr other ])
+    | inr (inl given) ↦ inr (inl given)
+    | inr (inr r) ↦ inr (inr (elim r [ inl own ↦ inl (own.0, (g.books to).took n item own.1) | inr other ↦ inr other ]))
   ]
 
   pub reached_still : (n : Text) (b : Book) (item : Instance) (to : Text) → ReachedBy ours old n b item to → ReachedBy ours new n b item to
@@ -141,20 +143,21 @@ module _ (ours : Ours) (plan : Network) (w : World) (name : Text) (b : Book) (sa
   pub put_among : IsRight plan name (w.stood name) b → b ≡ Fold b.lines → (ours name ≡ false → b ≡ empty_book) →
       ((item : Instance) (to : Text) → HasSucceededSince (w.books name).lines item to → HasSucceededSince b.lines item to) →
       ((caller : Text) (item : Instance) → Took b caller item → Took (w.books name) caller item
-      ⊎ (HasEntry ours plan put caller name item × ((to : Text) → Sends plan name caller item.key to → PassedBy ours w name b item to))) →
-      ((item : Instance) (to : Text) → GoesOn (w.books name) item to → PassedBy ours w name b item to) →
+      ⊎ (HasEntry ours plan put caller name item × ((to : Text) → Sends plan name caller item.key to → PassedBy ours plan w name b item to))) →
+      ((item : Instance) (to : Text) → GoesOn (w.books name) item to → PassedBy ours plan w name b item to) →
+      ((item : Instance) (to : Text) → WasGivenUp plan name (w.books name).lines item to → PassedBy ours plan w name b item to) →
       ((to : Text) (item : Instance) → map.get b.rows (item.uid, to) ≡ Some Done → map.get b.items item.uid ≡ Some item →
       ((map.get (w.books name).rows (item.uid, to) ≡ Some Done) × Has w name item) ⊎ ReachedBy ours w name b item to) →
       KeepsPending w put →
       ((line : Line) → Contains b.lines line → Contains (w.books name).lines line ⊎ IsFairAmong ours line) →
       ((to : Text) (item : Instance) → ours to ≡ true → HasSucceededSince b.lines item to → HasSucceededSince (w.books name).lines item to ⊎ HadArrival w to name item) →
       IsSafeAmong ours plan put
-  put_among right fold other still news on dones pends fair successes =
+  put_among right fold other still news on gives dones pends fair successes =
       let g = put_among_grows in
       let reached : (item : Instance) (to : Text) → ReachedBy ours w name (w.books name) item to → ReachedBy ours w name b item to = λ item to r.
       elim r [ inl own ↦ inl own | inr away ↦ inr (away.0, still item to away.1) ] in
-      let passed : (item : Instance) (to : Text) → PassedBy ours w name (w.books name) item to → PassedBy ours put name b item to = λ item to h.
-      passed_still ours plan w put g name b item to (elim h [ inl goes ↦ on item to goes | inr r ↦ inr (reached item to r) ]) in
+      let passed : (item : Instance) (to : Text) → PassedBy ours plan w name (w.books name) item to → PassedBy ours plan put name b item to = λ item to h.
+      passed_still ours plan w put g name b item to (elim h [ inl goes ↦ on item to goes | inr (inl given) ↦ gives item to given | inr (inr r) ↦ inr (inr (reached item to r)) ]) in
       record {
         books = each_book w name b (λ n x. IsRight plan n (w.stood n) x) right safe.books;
         folds = each_book w name b (λ n x. x ≡ Fold x.lines) fold safe.folds;
@@ -166,13 +169,13 @@ module _ (ours : Ours) (plan : Network) (w : World) (name : Text) (b : Book) (sa
               | inr s ↦ s.0
             ])
             (λ n caller item h. entry_still ours plan w put g caller n item (safe.sources n caller item h));
-        sent = each_book w name b (λ n x. (caller to : Text) (item : Instance) → Took x caller item → Sends plan n caller item.key to → PassedBy ours put n x item to)
+        sent = each_book w name b (λ n x. (caller to : Text) (item : Instance) → Took x caller item → Sends plan n caller item.key to → PassedBy ours plan put n x item to)
             (λ caller to item h s. elim (news caller item h) [
               | inl was ↦ passed item to (safe.sent name caller to item was s)
               | inr new ↦ passed_still ours plan w put g name b item to (new.1 to s)
             ])
             (λ n caller to item h s. passed_still ours plan w put g n (w.books n) item to (safe.sent n caller to item h s));
-        carried = each_book w name b (λ n x. (to : Text) (item : Instance) → WasCarriedOver w n item to → Goes plan item.key n to × PassedBy ours put n x item to)
+        carried = each_book w name b (λ n x. (to : Text) (item : Instance) → WasCarriedOver w n item to → Goes plan item.key n to × PassedBy ours plan put n x item to)
             (λ to item h. (let c = safe.carried name to item h in (c.0, passed item to c.1)))
             (λ n to item h. (let c = safe.carried n to item h in (c.0, passed_still ours plan w put g n (w.books n) item to c.1)));
         done = each_book w name b (λ n x. (to : Text) (item : Instance) → map.get x.rows (item.uid, to) ≡ Some Done → map.get x.items item.uid ≡ Some item → ReachedBy ours put n x item to)
@@ -214,8 +217,8 @@ same_among ours plan old new safe same stood links =
     let Ls : Books → Type 0 = λ books. (name : Text) (line : Line) → Contains (books name).lines line → IsFairAmong ours line in
     let A : Books → Type 0 = λ books. (name to : Text) (item : Instance) → ours to ≡ true → HasSucceededSince (books name).lines item to → Took (books to) name item in
     let R : Books → Text → Instance → Text → Type 0 = λ books name item to. ((ours to ≡ true) × Took (books to) name item) ⊎ ((ours to ≡ false) × HasSucceededSince (books name).lines item to) in
-    let S : Books → Type 0 = λ books. (name caller to : Text) (item : Instance) → Took (books name) caller item → Sends plan name caller item.key to → GoesOn (books name) item to ⊎ R books name item to in
-    let C : Books → Books → Type 0 = λ stood books. (name to : Text) (item : Instance) → IsToSend (stood name) item to → Goes plan item.key name to × (GoesOn (books name) item to ⊎ R books name item to) in
+    let S : Books → Type 0 = λ books. (name caller to : Text) (item : Instance) → Took (books name) caller item → Sends plan name caller item.key to → GoesOn (books name) item to ⊎ (WasGivenUp plan name (books name).lines item to ⊎ R books name item to) in
+    let C : Books → Books → Type 0 = λ stood books. (name to : Text) (item : Instance) → IsToSend (stood name) item to → Goes plan item.key name to × (GoesOn (books name) item to ⊎ (WasGivenUp plan name (books name).lines item to ⊎ R books name item to)) in
     let D : Books → Type 0 = λ books. (name to : Text) (item : Instance) → map.get (books name).rows (item.uid, to) ≡ Some Done → map.get (books name).items item.uid ≡ Some item → R books name item to in
     let H : Books → Text → Instance → Type 0 = λ books caller item. map.get (books caller).items item.uid ≡ Some item in
     record {

@@ -14,12 +14,12 @@ use Rattle.dr_ledger.specs.declared.item.Instance.{Instance}
 use Rattle.dr_ledger.specs.declared.item.Progress.{Progress}
 use Rattle.dr_ledger.specs.declared.item.Progress.TheVariants.{Waiting}
 use Rattle.dr_ledger.specs.Pairs.{pair_cmp}
-use Rattle.dr_ledger.specs.Books.{Book, after, empty_book, is_done, not_done}
+use Rattle.dr_ledger.specs.Books.{Book, after, empty_book, is_over_row, not_over}
 use Rattle.dr_ledger.specs.PlanRoutes.{plan_routing, targets}
 use Rattle.dr_ledger.specs.Replies.{IsAdmitted, arrival_line}
 use Rattle.dr_ledger.proofs.PlanRouting.{targets_are_sent_to}
 use Rattle.dr_ledger.proofs.Maps.{texts, same_or_not}
-use Rattle.dr_ledger.proofs.Growing.{inside, rows_made, rows_from, not_done_is}
+use Rattle.dr_ledger.proofs.Growing.{inside, rows_made, rows_from, not_over_is}
 use Rattle.dr_world_model.specs.Worlds.{World, start, same_text, with_book, with_armed}
 use Rattle.dr_world_model.specs.Events.{HasNode}
 use Rattle.dr_world_model.specs.Runs.{MayAdopt}
@@ -56,7 +56,7 @@ module _ (plan next : Network) (stay : (name : Text) → HasNode plan name → H
 
   new_row : (uid dest : Text) (row : Progress) → map.get brought.rows (uid, dest) ≡ Some row → (uid ≡ item.uid) × Goes next item.key node dest × (row ≡ Waiting 0 0)
   new_row uid dest row h = elim (rows_from (targets plan node local item.key) map.empty item.uid (uid, dest) row h) [
-    | inl was ↦ absurd (no_row row (sym (map.get-empty pair_cmp (uid, dest)) ∙ was))
+    | inl was ↦ absurd (no_row row (sym (map.get-empty pair_cmp (uid, dest)) ∙ was.0))
     | inr made ↦ (made.0, goes_on dest ((targets_are_sent_to plan node local item.key dest).0 made.1), made.2)
   ]
 
@@ -89,10 +89,10 @@ module _ (plan next : Network) (stay : (name : Text) → HasNode plan name → H
   }
 
   -- a waiting row stands
-  stands : (book : Book) → book ≡ brought → map.get (not_done book.rows) (item.uid, to) ≡ Some (Waiting 0 0)
+  stands : (book : Book) → book ≡ brought → map.get (not_over book.rows) (item.uid, to) ≡ Some (Waiting 0 0)
   stands book e =
       let row : map.get book.rows (item.uid, to) ≡ Some (Waiting 0 0) = ap (λ (b : Book). map.get b.rows (item.uid, to)) e ∙ row_there in
-      not_done_is book.rows (item.uid, to) ∙ ap (λ (o : Option Progress). cond (not (is_done o)) o None) row
+      not_over_is book.rows (item.uid, to) ∙ ap (λ (o : Option Progress). cond (not (is_over_row o)) o None) row
 
 pub an_adoption_runs : AnAdoptionRuns
 an_adoption_runs plan next adoptable stay node to item here sends goes_on =

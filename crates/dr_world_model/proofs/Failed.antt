@@ -1,5 +1,6 @@
 -- Worlds of which a claim of the headline is false.
-use Rattle.std.proofs.Common.{◌≡◌, ◌≢◌, refl, sym, ap, subst, ◌∙◌, inl, inr, ℕ, zero, suc, ◌-◌, Bool, true, false, cond, List, [], ◌∷◌, Contains, Some}
+use Rattle.std.proofs.Common.{◌≡◌, ◌≢◌, refl, sym, ap, subst, ◌∙◌, inl, inr, ℕ, zero, suc, ◌-◌, Bool, true, false, cond, List, [], ◌∷◌, ◌++◌, Contains, Some}
+use Rattle.std.proofs.lemmas.List.Elements.{Contains-append_right}
 use Rattle.std.specs.declared.cmp.Ordering.{Ordering}
 use Rattle.std.specs.FinMap as map
 use Rattle.std.specs.FinMap.{FinMap}
@@ -9,22 +10,23 @@ use Rattle.dr_base.specs.Texts.{Text, text_cmp}
 use Rattle.dr_base.specs.declared.syntax.Syntax.{Syntax}
 use Rattle.dr_route.specs.Routes.{local}
 use Rattle.dr_plan_model.specs.Networks.{Network}
-use Rattle.dr_plan_model.specs.Walks.{GoesOver, IsDestination, last_place}
-use Rattle.dr_plan_model.proofs.Gathered.{Contains-here, only_one}
+use Rattle.dr_plan_model.specs.Walks.{GoesOver, IsDestination, Sends, last_place}
+use Rattle.dr_plan_model.proofs.Gathered.{nothing_in_nil, Contains-cons_cases, Contains-here, only_one}
 use Rattle.dr_plan_sound.specs.Certificates.{pair_cmp as context_cmp}
 use Rattle.dr_ledger.specs.declared.item.Instance.{Instance}
 use Rattle.dr_ledger.specs.declared.item.Outcome.TheVariants.{NoContext, Status}
 use Rattle.dr_ledger.specs.declared.item.Progress.{Progress}
-use Rattle.dr_ledger.specs.declared.item.Progress.TheVariants.{Waiting, Done}
-use Rattle.dr_ledger.specs.Books.{Book, Line, Arrival, Repeat, Forgetting, Settling, Adoption, empty_book}
-use Rattle.dr_ledger.specs.OneNode.{HasSucceededSince}
+use Rattle.dr_ledger.specs.declared.item.Progress.TheVariants.{Waiting, Done, Dropped}
+use Rattle.dr_ledger.specs.Books.{Book, Line, Arrival, Repeat, Dropping, Forgetting, Settling, Adoption, Fold, empty_book, is_queued}
+use Rattle.dr_ledger.specs.OneNode.{HasSucceededSince, IsAcknowledged}
 use Rattle.dr_ledger.specs.Pairs.{Pair, pair_cmp}
 use Rattle.dr_ledger.proofs.Growing.{inside}
 use Rattle.dr_ledger.proofs.Maps.{texts, text_pairs, cases_of, same_or_not, ties_itself, contains_new, get_new, got, filled_is}
 use Rattle.dr_world_model.specs.Worlds.{World, Open, Replying, start, same_text}
-use Rattle.dr_world_model.specs.Claims.{Has, HadArrival, HasItems, HasRow, IsQueued, IsHonest, IsToSend, NoneRefused, NothingLost, WasCarriedOver, WithinRank}
-use Rattle.dr_world_model.specs.Failing.{ClaimsCanFail, LeadsNowhere, acknowledged, answered_for_nothing, brought_by, carried_and_lost, come_from_nowhere, done_and_gone, done_for_nothing, forgotten_too_early, keeps_instead, kept_as_another, link_at, noted_without_item, noted_without_line, only, opened_without_pairs, queued_astray, queued_for_nothing, queued_unsaid, settled_strangely, settled_without_context, strange_status, success_for_nothing, under_another_uid}
-use Rattle.dr_ledger.proofs.Since.{nothing_taken}
+use Rattle.dr_world_model.specs.Claims.{Has, HadArrival, HasItems, HasRow, IsHonest, IsToSend, NoneRefused, NothingLost, WasCarriedOver, WasGivenUp, WithinRank}
+use Rattle.dr_world_model.specs.Failing.{ClaimsCanFail, LeadsNowhere, acknowledged, answered_for_nothing, brought_by, brought_for, carried_and_lost, carried_with, come_from_nowhere, done_for_nothing, forgotten_too_early, given_up_another, given_up_before, given_up_long_ago, given_up_with, keeps_instead, kept_as_another, link_at, noted_without_item, noted_without_line, only, opened_without_pairs, queued_astray, queued_for_nothing, queued_unsaid, settled_strangely, settled_without_context, strange_status, success_for_nothing, under_another_uid}
+use Rattle.dr_ledger.proofs.Since.{IsPlain, nothing_taken, taken_now, taken_still}
+use Rattle.dr_ledger.proofs.Succeeded.{not_empty}
 use Rattle.dr_world_model.proofs.Keeping.{Took}
 use Rattle.dr_world_model.proofs.AdoptionsKept.{no_row}
 use Rattle.dr_world_model.proofs.Lookups.{numbers}
@@ -92,8 +94,63 @@ abbrev is_nothing : ℕ → Bool
 is_nothing zero = true
 is_nothing (suc n) = false
 
-queued_not_done : (row : Progress) → row ≡ Done → IsQueued row → ⊥
-queued_not_done row e q = subst IsQueued e q
+not_queued : (row other : Progress) → is_queued other ≡ false → row ≡ other → is_queued row ≡ true → ⊥
+not_queued row other n e q = (let f : true ≡ false = sym q ∙ (ap is_queued e ∙ n) in cc f)
+
+-- ---- where a dropping stands among a few lines
+head_of : {x y : Line} {xs ys : List Line} → ◌≡◌ {A = List Line} (x ∷ xs) (y ∷ ys) → x ≡ y
+head_of e = cc
+
+tail_of : {x y : Line} {xs ys : List Line} → ◌≡◌ {A = List Line} (x ∷ xs) (y ∷ ys) → xs ≡ ys
+tail_of e = cc
+
+-- it is neither the first of three nor the last: so it is the second, and the third follows
+third_left : (before later : List Line) (x y z line : Line) → x ∷ y ∷ z ∷ [] ≡ before ++ line ∷ later → (x ≡ line → ⊥) → (z ≡ line → ⊥) → later ≡ z ∷ []
+third_left [] later x y z line e first last = absurd (first (head_of e))
+third_left (p ∷ []) later x y z line e first last = sym (tail_of (tail_of e))
+third_left (p ∷ q ∷ []) later x y z line e first last = absurd (last (head_of (tail_of (tail_of e))))
+third_left (p ∷ q ∷ r ∷ more) later x y z line e first last = absurd (not_empty more later line (sym (tail_of (tail_of (tail_of e)))))
+
+-- it isn't the first of two: so that one comes before it
+first_left : (before later : List Line) (x y line : Line) → x ∷ y ∷ [] ≡ before ++ line ∷ later → (x ≡ line → ⊥) → before ≡ x ∷ []
+first_left [] later x y line e first = absurd (first (head_of e))
+first_left (p ∷ []) later x y line e first = (λ j. sym (head_of e) j ∷ [])
+first_left (p ∷ q ∷ more) later x y line e first = absurd (not_empty more later line (sym (tail_of (tail_of e))))
+
+arrival_no_dropping : {caller uid dest : Text} {item : Instance} {to : List Text} {keep : Bool} {now : ℕ} → Arrival caller item to keep ≡ Dropping uid dest now → ⊥
+arrival_no_dropping e = cc
+
+destination_of : {uid dest u d : Text} {now n : ℕ} → Dropping uid dest now ≡ Dropping u d n → d ≡ dest
+destination_of e = cc
+
+-- what was given up has its line
+has_line : (plan : Network) (name : Text) (lines : List Line) (item : Instance) (to : Text) → WasGivenUp plan name lines item to → (now : ℕ) × Contains lines (Dropping item.uid to now)
+has_line plan name lines item to g =
+    let d = g.dropped.dropped in
+    let line = Dropping item.uid to d.now in
+    (d.now, subst (λ ls. Contains ls line) (sym d.at) (Contains-append_right d.before (line ∷ d.later) line (Contains-here line d.later)))
+
+none_in_nil : (plan : Network) (name : Text) (item : Instance) (to : Text) → WasGivenUp plan name [] item to → ⊥
+none_in_nil plan name item to g = (let line = has_line plan name [] item to g in nothing_in_nil (Dropping item.uid to line.0) line.1)
+
+none_in_arrival : (plan : Network) (name caller : Text) (one item : Instance) (all : List Text) (keep : Bool) (to : Text) → WasGivenUp plan name (Arrival caller one all keep ∷ []) item to → ⊥
+none_in_arrival plan name caller one item all keep to g =
+    let line = has_line plan name (Arrival caller one all keep ∷ []) item to g in
+    arrival_no_dropping (only_one (Arrival caller one all keep) (Dropping item.uid to line.0) line.1)
+
+-- what was brought first was taken, whatever a further line says that is no adoption
+took_first : (caller to : Text) (item : Instance) (again : Line) → IsPlain again → Took (given_up_with to item (brought_for caller to item ∷ Dropping item.uid to 0 ∷ again ∷ [])) caller item
+took_first caller to item again plain =
+    let first = brought_for caller to item in
+    taken_still (first ∷ Dropping item.uid to 0 ∷ []) again caller item plain
+    (taken_still (first ∷ []) (Dropping item.uid to 0) caller item (λ since. refl) (taken_now [] first caller item (λ since. refl) (inl (to ∷ [], false, refl))))
+
+-- in the world of one book it is that book's
+given_of : (plan : Network) (name : Text) (b : Book) (at : Text) (item : Instance) (to : Text) → WasGivenUp plan at ((only name b).books at).lines item to → (at ≡ name) × WasGivenUp plan at b.lines item to
+given_of plan name b at item to g = elim (same_or_not texts at name) [
+  | inl same ↦ (same, subst (λ (x : Book). WasGivenUp plan at x.lines item to) (at_same name b at same) g)
+  | inr other ↦ absurd (none_in_nil plan at item to (subst (λ (x : Book). WasGivenUp plan at x.lines item to) (elsewhere name b at other) g))
+]
 
 module _ (plan : Network) (caller name to : Text) (item other : Instance) where
   no_context : NoneRefused plan (settled_without_context name item.uid to) → ⊥
@@ -163,8 +220,9 @@ module _ (plan : Network) (caller name to : Text) (item other : Instance) where
       let a = arrived caller name item rows set.empty in
       let s = h.some caller name item a in
       elim (h.each caller name item a s.0 s.1) [
-        | inl kept ↦ none_in text_cmp item.uid (kept_of name b s.0 item.uid kept.kept)
-        | inr under ↦ elim (same_or_not texts (last_place caller name under.over).1 name) [
+        | inr g ↦ none_in_arrival plan (last_place caller name g.over).1 caller item item [] false g.to (given_of plan name b (last_place caller name g.over).1 item g.to g.given_up).1
+        | inl (inl kept) ↦ none_in text_cmp item.uid (kept_of name b s.0 item.uid kept.kept)
+        | inl (inr under) ↦ elim (same_or_not texts (last_place caller name under.over).1 name) [
           | inl here ↦ elim (got text_pairs map.empty (item.uid, to) (Waiting 0 0) (item.uid, under.to) under.row
               (rows_of name b (last_place caller name under.over).1 (item.uid, under.to) under.row under.at)) [
                 | inl is ↦ (let next : under.to ≡ to = ap (λ (q : Pair). q.1) is.0 in
@@ -191,7 +249,8 @@ module _ (plan : Network) (caller name to : Text) (item other : Instance) where
       let s = h.carried_some name to item carried in
       elim (h.carried_each name to item carried s.0 s.1) [
         | inl still ↦ no_row item (sym (map.get-empty text_cmp item.uid) ∙ still.0)
-        | inr went ↦ nothing_taken name item went.0
+        | inr (inl given) ↦ none_in_nil plan name item to given
+        | inr (inr went) ↦ nothing_taken name item went.0
       ]
 
   no_pairs : (pair : Text × Syntax) → GoesOver plan caller name pair → NoneRefused plan (opened_without_pairs caller name) → ⊥
@@ -241,20 +300,114 @@ module _ (plan : Network) (caller name to : Text) (item other : Instance) where
       let link = link_at caller name (Replying set.empty item 0) in
       nothing_taken caller item (h.replies 1 link set.empty item (get_new numbers start.links 1 link) refl)
 
-  all_gone : NothingLost plan (done_and_gone caller name to item) → ⊥
-  all_gone h =
-      let rows : FinMap pair_cmp Progress = map.insert map.empty (item.uid, to) Done in
+  -- the one row of an arrival is over, and no line says why
+  over_unsaid : (row : Progress) → is_queued row ≡ false → NothingLost plan (only name (brought_by caller item (map.insert map.empty (item.uid, to) row) set.empty)) → ⊥
+  over_unsaid row over h =
+      let rows : FinMap pair_cmp Progress = map.insert map.empty (item.uid, to) row in
       let b = brought_by caller item rows set.empty in
       let a = arrived caller name item rows set.empty in
       let s = h.some caller name item a in
       elim (h.each caller name item a s.0 s.1) [
-        | inl kept ↦ none_in text_cmp item.uid (kept_of name b s.0 item.uid kept.kept)
-        | inr under ↦ elim (got text_pairs map.empty (item.uid, to) Done (item.uid, under.to) under.row
+        | inr g ↦ none_in_arrival plan (last_place caller name g.over).1 caller item item [] false g.to (given_of plan name b (last_place caller name g.over).1 item g.to g.given_up).1
+        | inl (inl kept) ↦ none_in text_cmp item.uid (kept_of name b s.0 item.uid kept.kept)
+        | inl (inr under) ↦ elim (got text_pairs map.empty (item.uid, to) row (item.uid, under.to) under.row
             (rows_of name b (last_place caller name under.over).1 (item.uid, under.to) under.row under.at)) [
-              | inl is ↦ queued_not_done under.row is.1 under.queued
+              | inl is ↦ not_queued under.row row over is.1 under.queued
               | inr was ↦ no_row under.row (sym (map.get-empty pair_cmp (item.uid, under.to)) ∙ was.1)
             ]
       ]
+
+  -- acknowledged again after it was given up
+  given_before : (again : Line) → ((uid dest : Text) (now : ℕ) → again ≡ Dropping uid dest now → ⊥) → IsAcknowledged (again ∷ []) caller item →
+      IsPlain again → ((from : Text) → Sends plan name from item.key to → from ≡ caller) → NothingLost plan (given_up_before caller name to item again) → ⊥
+  given_before again no_dropping acknowledges plain one h =
+      let first = brought_for caller to item in
+      let line = Dropping item.uid to 0 in
+      let lines : List Line = first ∷ line ∷ again ∷ [] in
+      let b = given_up_with to item lines in
+      let a : HadArrival (given_up_before caller name to item again) name caller item = subst (λ x. Took x caller item) (sym (at_name name b)) (took_first caller to item again plain) in
+      let s = h.some caller name item a in
+      elim (h.each caller name item a s.0 s.1) [
+        | inl (inl kept) ↦ none_in text_cmp item.uid (kept_of name b s.0 item.uid kept.kept)
+        | inl (inr under) ↦ elim (got text_pairs map.empty (item.uid, to) Dropped (item.uid, under.to) under.row
+            (rows_of name b (last_place caller name under.over).1 (item.uid, under.to) under.row under.at)) [
+              | inl is ↦ not_queued under.row Dropped refl is.1 under.queued
+              | inr was ↦ no_row under.row (sym (map.get-empty pair_cmp (item.uid, under.to)) ∙ was.1)
+            ]
+        | inr g ↦ (
+            let at = (last_place caller name g.over).1 in
+            let by = (last_place caller name g.over).0 in
+            let here = given_of plan name b at item g.to g.given_up in
+            let d = here.1.dropped.dropped in
+            let said = has_line plan at lines item g.to here.1 in
+            let next : g.to ≡ to = elim (Contains-cons_cases first (line ∷ again ∷ []) (Dropping item.uid g.to said.0) said.1) [
+              | inl here ↦ absurd (arrival_no_dropping here)
+              | inr later ↦ elim (Contains-cons_cases line (again ∷ []) (Dropping item.uid g.to said.0) later) [
+                | inl is ↦ destination_of is
+                | inr last ↦ absurd (no_dropping item.uid g.to said.0 (only_one again (Dropping item.uid g.to said.0) last))
+              ]
+            ] in
+            let P : Text × Text → Type 0 = λ p. Sends plan p.0 by item.key p.1 in
+            let from : by ≡ caller = one by (subst P (λ j. (here.0 j, next j)) g.sends) in
+            let left : d.later ≡ again ∷ [] = third_left d.before d.later first line again (Dropping item.uid g.to d.now) d.at arrival_no_dropping (no_dropping item.uid g.to d.now) in
+            let last : IsAcknowledged d.later caller item = subst (λ ls. IsAcknowledged ls caller item) (sym left) acknowledges in
+            let S : Text → Type 0 = λ c. Sends plan at c item.key g.to in
+            here.1.last caller (subst S from g.sends) last
+            )
+      ]
+
+  -- ---- a row was carried over, and the node has these lines
+  module _ (lines : List Line) where
+    stands : WasCarriedOver (carried_with name to item lines) name item to
+    stands =
+        let b = queued_unsaid item.uid to item in
+        let is : (carried_with name to item lines).stood name ≡ b = ap (λ same. cond same b empty_book) (ties_itself texts name) in
+        subst (λ x. IsToSend x item to) (sym is) (record {
+          row = Waiting 0 0;
+          at = get_new text_pairs map.empty (item.uid, to) (Waiting 0 0);
+          has = get_new texts map.empty item.uid item;
+        })
+
+    at_carried : (carried_with name to item lines).books name ≡ given_up_with to item lines
+    at_carried = ap (λ same. cond same (given_up_with to item lines) empty_book) (ties_itself texts name)
+
+    -- only where its lines say so was it given up
+    given_there : name ≢ to → NothingLost plan (carried_with name to item lines) → WasGivenUp plan name lines item to
+    given_there apart h =
+        let s = h.carried_some name to item stands in
+        let b = given_up_with to item lines in
+        elim (h.carried_each name to item stands s.0 s.1) [
+          | inl still ↦ absurd (
+              let at : map.get b.rows (item.uid, to) ≡ Some still.1.0 = ap (λ (x : Book). map.get x.rows (item.uid, to)) (sym at_carried) ∙ still.1.1 in
+              let row : still.1.0 ≡ Dropped = inside still.1.0 Dropped (sym at ∙ get_new text_pairs map.empty (item.uid, to) Dropped) in
+              not_queued still.1.0 Dropped refl row still.1.2
+              )
+          | inr (inl given) ↦ subst (λ (x : Book). WasGivenUp plan name x.lines item to) at_carried given
+          | inr (inr went) ↦ absurd (elim (same_or_not texts to name) [
+            | inl same ↦ apart (sym same)
+            | inr other ↦ nothing_taken name item (subst (λ x. Took x name item) (ap (λ same. cond same b empty_book) other) went.0)
+          ])
+        ]
+
+  given_long_ago : name ≢ to → NothingLost plan (given_up_long_ago caller name to item) → ⊥
+  given_long_ago apart h =
+      let first = brought_for caller to item in
+      let line = Dropping item.uid to 0 in
+      let g = given_there (first ∷ line ∷ Adoption ∷ []) apart h in
+      let d = g.dropped.dropped in
+      let no_adoption : Adoption ≡ Dropping item.uid to d.now → ⊥ = λ e. cc in
+      let left : d.later ≡ Adoption ∷ [] = third_left d.before d.later first line Adoption (Dropping item.uid to d.now) d.at arrival_no_dropping no_adoption in
+      g.dropped.since (subst (λ ls. Contains ls Adoption) (sym left) (Contains-here Adoption []))
+
+  given_another : name ≢ to → other ≢ item → other.uid ≡ item.uid → NothingLost plan (given_up_another caller name to item other) → ⊥
+  given_another apart differ uid h =
+      let first = brought_for caller to other in
+      let line = Dropping item.uid to 0 in
+      let d = (given_there (first ∷ line ∷ []) apart h).dropped.dropped in
+      let P : List Line → Type 0 = λ ls. map.get (Fold ls).items item.uid ≡ Some item in
+      let had : map.get (Fold (first ∷ [])).items item.uid ≡ Some item = subst P (first_left d.before d.later first line (Dropping item.uid to d.now) d.at arrival_no_dropping) d.had in
+      let is : map.get (Fold (first ∷ [])).items other.uid ≡ Some other = filled_is texts map.empty other.uid other (λ y e. absurd (no_row y (sym (map.get-empty text_cmp other.uid) ∙ e))) in
+      differ (inside other item (sym is ∙ (ap (map.get (Fold (first ∷ [])).items) uid ∙ had)))
 
   forgotten_soon : NothingLost plan (forgotten_too_early caller name item) → ⊥
   forgotten_soon h =
@@ -264,8 +417,16 @@ module _ (plan : Network) (caller name to : Text) (item other : Instance) where
       let a : HadArrival (forgotten_too_early caller name item) name caller item = subst (λ x. Took x caller item) (sym (at_name name b)) took in
       let s = h.some caller name item a in
       elim (h.each caller name item a s.0 s.1) [
-        | inl kept ↦ none_in text_cmp item.uid (kept_of name b s.0 item.uid kept.kept)
-        | inr under ↦ no_row under.row (sym (map.get-empty pair_cmp (item.uid, under.to)) ∙ rows_of name b (last_place caller name under.over).1 (item.uid, under.to) under.row under.at)
+        | inr g ↦ (
+            let at = (last_place caller name g.over).1 in
+            let said = has_line plan at lines item g.to (given_of plan name b at item g.to g.given_up).1 in
+            elim (Contains-cons_cases (Arrival caller item [] false) (Forgetting item.uid ∷ []) (Dropping item.uid g.to said.0) said.1) [
+              | inl first ↦ arrival_no_dropping first
+              | inr later ↦ (let e : Forgetting item.uid ≡ Dropping item.uid g.to said.0 = only_one (Forgetting item.uid) (Dropping item.uid g.to said.0) later in let f : ⊥ = cc in f)
+            ]
+            )
+        | inl (inl kept) ↦ none_in text_cmp item.uid (kept_of name b s.0 item.uid kept.kept)
+        | inl (inr under) ↦ no_row under.row (sym (map.get-empty pair_cmp (item.uid, under.to)) ∙ rows_of name b (last_place caller name under.over).1 (item.uid, under.to) under.row under.at)
       ]
 
   abbrev here : Book
@@ -292,13 +453,20 @@ module _ (plan : Network) (caller name to : Text) (item other : Instance) where
     | inr apart ↦ differ (inside other item (sym (get_new texts map.empty item.uid other) ∙ (ap (λ b. map.get (cond b here there).items item.uid) (sym apart) ∙ has)))
   ]
 
+  none_given : (at next : Text) → WasGivenUp plan at (w.books at).lines item next → ⊥
+  none_given at next g = elim (cases_of (same_text at name)) [
+    | inl same ↦ none_in_arrival plan at caller item item [] false next (subst (λ (x : Bool). WasGivenUp plan at (cond x here there).lines item next) same g)
+    | inr apart ↦ none_in_nil plan at item next (subst (λ (x : Bool). WasGivenUp plan at (cond x here there).lines item next) apart g)
+  ]
+
   another_kept : other ≢ item → NothingLost plan (kept_as_another caller name item other) → ⊥
   another_kept differ h =
       let a : HadArrival w name caller item = subst (λ b. Took b caller item) (sym at_node) (brought caller name item map.empty set.empty) in
       let s = h.some caller name item a in
       elim (h.each caller name item a s.0 s.1) [
-        | inl kept ↦ not_kept differ s.0 kept.kept kept.has
-        | inr under ↦ no_rows (last_place caller name under.over).1 (item.uid, under.to) under.row under.at
+        | inr g ↦ none_given (last_place caller name g.over).1 g.to g.given_up
+        | inl (inl kept) ↦ not_kept differ s.0 kept.kept kept.has
+        | inl (inr under) ↦ no_rows (last_place caller name under.over).1 (item.uid, under.to) under.row under.at
       ]
 
 pub claims_can_fail : ClaimsCanFail
@@ -314,7 +482,13 @@ claims_can_fail plan caller name to item other away apart differ = record {
   no_line = no_line_there plan caller name to item other;
   misnamed = another_uid plan caller name to item other;
   success = no_success plan caller name to item other;
-  gone = all_gone plan caller name to item other;
+  gone = over_unsaid plan caller name to item other Done refl;
+  unsaid = over_unsaid plan caller name to item other Dropped refl;
+  again = λ one h. given_before plan caller name to item other (brought_for caller to item) (λ uid dest now e. arrival_no_dropping e)
+      (inl (to ∷ [], false, Contains-here (brought_for caller to item) [])) (λ since. refl) one h;
+  repeated = λ one h. given_before plan caller name to item other (Repeat caller item) (λ uid dest now e. let f : ⊥ = cc in f) (inr (Contains-here (Repeat caller item) [])) (λ since. refl) one h;
+  long_ago = given_long_ago plan caller name to item other apart;
+  another = given_another plan caller name to item other apart differ;
   forgotten = forgotten_soon plan caller name to item other;
   no_destination = leads_nowhere plan caller name to item other;
   astray = gone_astray plan caller name to item other;

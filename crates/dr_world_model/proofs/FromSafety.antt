@@ -17,13 +17,14 @@ use Rattle.dr_ledger.specs.declared.item.Progress.TheVariants.{Done}
 use Rattle.dr_ledger.specs.Pairs.{pair_cmp}
 use Rattle.dr_world_model.specs.Worlds.{World, Contexts, Stage, Asking, Answering, Rejecting, Open, Storing, Replying, Gone, start}
 use Rattle.dr_world_model.specs.Runs.{Action, Occurs, Adopt, Runs}
-use Rattle.dr_world_model.specs.Claims.{HadArrival, CoversHop, IsOpen, IsOrigin, IsKept, IsCovered, IsToGo, Headline}
-use Rattle.dr_world_model.specs.Theorem.{HeadlineHolds}
+use Rattle.dr_world_model.specs.Claims.{AllIsThere, HadArrival, CoversHop, IsAnswered, IsOpen, IsOrigin, IsKept, IsCovered, IsGivenUp, IsToGo, Headline, NobodyDropped, WasGivenUp}
+use Rattle.dr_world_model.specs.Theorem.{HeadlineHolds, WhatNobodyGaveUpIsThere}
 use Rattle.dr_world_model.proofs.Walking.{goes_reached, reached_on, destination_before}
 use Rattle.dr_ledger.specs.Books.{empty_book}
 use Rattle.dr_ledger.proofs.Since.{nothing_taken}
 use Rattle.dr_ledger.proofs.Succeeded.{none_yet}
 use Rattle.dr_plan_model.proofs.Gathered.{nothing_in_nil}
+use Rattle.dr_world_model.proofs.GivenUp.{dropped_since}
 use Rattle.dr_world_model.proofs.Keeping.{Noted}
 use Rattle.dr_world_model.proofs.Safety.{IsPassedOn, IsSafe, IsFairStage}
 use Rattle.dr_world_model.proofs.EventsKept.{step_kept}
@@ -76,15 +77,25 @@ covered_before plan w caller name to item dest sends (inr u) = inr (record {
   goes = u.goes;
 })
 
--- by the walk to the destination: a queued row covers it, or the next node had the arrival
+-- what was given up on the way from the next node, was so on the way from this one
+pub given_before : (plan : Network) (w : World) (caller name to : Text) (item : Instance) (dest : Text) → Sends plan name caller item.key to → IsGivenUp plan w name to item dest → IsGivenUp plan w caller name item dest
+given_before plan w caller name to item dest sends g = record { over = to ∷ g.over; walk = (sends, g.walk); to = g.to; sends = g.sends; given_up = g.given_up; goes = g.goes }
+
+-- what answers for the next node's arrival answers for this one's
+answered_before : (plan : Network) (w : World) (caller name to : Text) (item : Instance) (dest : Text) → Sends plan name caller item.key to → IsAnswered plan w name to item dest → IsAnswered plan w caller name item dest
+answered_before plan w caller name to item dest sends (inl c) = inl (covered_before plan w caller name to item dest sends c)
+answered_before plan w caller name to item dest sends (inr g) = inr (given_before plan w caller name to item dest sends g)
+
+-- by the walk to the destination: a queued row covers it, or a person gave it up, or the next node had the arrival
 covered : (over : List Text) (plan : Network) (w : World) → IsSafe plan w → (caller name : Text) (item : Instance) (dest : Text) → HadArrival w name caller item →
-    IsWalk plan item.key caller name over → (last_place caller name over).1 ≡ dest → Keeps plan dest (last_place caller name over).0 item.key → IsCovered plan w caller name item dest
+    IsWalk plan item.key caller name over → (last_place caller name over).1 ≡ dest → Keeps plan dest (last_place caller name over).0 item.key → IsAnswered plan w caller name item dest
 covered [] plan w safe caller name item dest a walk here keeps =
     let k = (safe.books name).kept caller item a (subst (λ (d : Text). Keeps plan d caller item.key) (sym here) keeps) in
-    inl (subst (IsKept w item) here (record { kept = k.0; has = k.1 }))
+    inl (inl (subst (IsKept w item) here (record { kept = k.0; has = k.1 })))
 covered (to ∷ over) plan w safe caller name item dest a walk last keeps = elim (safe.sent name caller to item a walk.0) [
-  | inl g ↦ inr (record { over = []; walk = tt; to = to; row = g.row; queued = g.queued; at = g.at; has = g.has; goes = (over, walk.1, last, keeps) })
-  | inr had ↦ covered_before plan w caller name to item dest walk.0 (covered over plan w safe name to item dest had walk.1 last keeps)
+  | inl g ↦ inl (inr (record { over = []; walk = tt; to = to; row = g.row; queued = g.queued; at = g.at; has = g.has; goes = (over, walk.1, last, keeps) }))
+  | inr (inr given) ↦ inr (record { over = []; walk = tt; to = to; sends = walk.0; given_up = given; goes = (over, walk.1, last, keeps) })
+  | inr (inl had) ↦ answered_before plan w caller name to item dest walk.0 (covered over plan w safe name to item dest had walk.1 last keeps)
 ]
 
 origin_reached : (plan : Network) (w : World) → IsSafe plan w → (caller name : Text) (item : Instance) → IsOrigin w caller name item → IsReached plan item.key caller name
@@ -92,10 +103,11 @@ origin_reached plan w safe caller name item (inl a) = subst (λ c. IsReached pla
 origin_reached plan w safe caller name item (inr r) = goes_reached plan item.key caller name (safe.carried caller name item r).0
 
 -- a row that stood is queued, or its node had the arrival
-stood_covered : (plan : Network) (w : World) → IsSafe plan w → (name to : Text) (item : Instance) (dest : Text) → IsDestination plan name to item.key dest → IsPassedOn w name item to →
-    IsToGo w name item to ⊎ (HadArrival w to name item × IsCovered plan w name to item dest)
+stood_covered : (plan : Network) (w : World) → IsSafe plan w → (name to : Text) (item : Instance) (dest : Text) → IsDestination plan name to item.key dest → IsPassedOn plan w name item to →
+    IsToGo w name item to ⊎ (WasGivenUp plan name (w.books name).lines item to ⊎ (HadArrival w to name item × IsAnswered plan w name to item dest))
 stood_covered plan w safe name to item dest d (inl g) = inl (g.has, (g.row, g.at, g.queued))
-stood_covered plan w safe name to item dest d (inr had) = inr (had, covered d.0 plan w safe name to item dest had d.1 d.2 d.3)
+stood_covered plan w safe name to item dest d (inr (inr given)) = inr (inl given)
+stood_covered plan w safe name to item dest d (inr (inl had)) = inr (inr (had, covered d.0 plan w safe name to item dest had d.1 d.2 d.3))
 
 pub safe_headline : (plan : Network) (w : World) → IsSound plan → IsSafe plan w → Headline plan w
 safe_headline plan w sound safe = record {
@@ -156,3 +168,30 @@ run_kept (Adopt next ∷ actions) plan last sound w new safe r = run_kept action
 
 pub headline_holds : HeadlineHolds
 headline_holds plan sound actions last w r = let k = run_kept actions plan last sound start w (start_safe plan) r in safe_headline last w k.1 k.0
+
+-- ---- what nobody gave up
+pub none_given : (plan : Network) (w : World) (caller name : Text) (item : Instance) (dest : Text) → NobodyDropped w item.uid → IsGivenUp plan w caller name item dest → ⊥
+none_given plan w caller name item dest none g =
+    let at = (last_place caller name g.over).1 in
+    let line = dropped_since plan at (w.books at).lines item g.to g.given_up in
+    none at g.to line.0 line.1
+
+pub none_given_here : (plan : Network) (w : World) (name to : Text) (item : Instance) → NobodyDropped w item.uid → WasGivenUp plan name (w.books name).lines item to → ⊥
+none_given_here plan w name to item none g = (let line = dropped_since plan name (w.books name).lines item to g in none name to line.0 line.1)
+
+undropped : (plan : Network) (w : World) (caller name : Text) (item : Instance) (dest : Text) → NobodyDropped w item.uid → IsAnswered plan w caller name item dest → IsCovered plan w caller name item dest
+undropped plan w caller name item dest none (inl c) = c
+undropped plan w caller name item dest none (inr g) = absurd (none_given plan w caller name item dest none g)
+
+all_is_there : (plan : Network) (w : World) → Headline plan w → AllIsThere plan w
+all_is_there plan w h = record {
+  each = λ caller name item none a dest d. undropped plan w caller name item dest none (h.nothing_lost.each caller name item a dest d);
+  carried_each = λ name to item none stood dest d. elim (h.nothing_lost.carried_each name to item stood dest d) [
+    | inl go ↦ inl go
+    | inr (inl given) ↦ absurd (none_given_here plan w name to item none given)
+    | inr (inr went) ↦ inr (went.0, undropped plan w name to item dest none went.1)
+  ];
+}
+
+pub what_nobody_gave_up_is_there : WhatNobodyGaveUpIsThere
+what_nobody_gave_up_is_there plan sound actions last w r = all_is_there last w (headline_holds plan sound actions last w r)

@@ -1,9 +1,10 @@
 -- What holds of each book, and what an accepted call keeps of it.
-use Rattle.std.specs.Prelude.{◌≡◌, ◌≢◌, ◌⊎◌, Bool, true, false, cond, List, [], ◌∷◌, ◌++◌, Contains, Some}
+use Rattle.std.specs.Prelude.{◌≡◌, ◌≢◌, ◌⊎◌, ℕ, Bool, true, false, cond, List, [], ◌∷◌, ◌++◌, Contains, Some}
 use Rattle.std.proofs.Common.{refl, sym, ap, subst, ◌∙◌}
 use Rattle.std.proofs.lemmas.List.{append-nil, append_assoc}
 use Rattle.std.proofs.lemmas.List.Elements.{Contains-push_cases}
 use mathlib.Core.Logic.{inl, inr}
+use Rattle.std.specs.Ordering.{eq_by_cmp}
 use Rattle.std.specs.FinMap as map
 use Rattle.std.specs.FinSet as set
 use Rattle.std.specs.FinSet.{FinSet}
@@ -12,18 +13,19 @@ use Rattle.dr_plan_model.specs.Networks.{Network}
 use Rattle.dr_plan_model.specs.Walks.{Goes, Sends, Keeps, IsReached}
 use Rattle.dr_ledger.specs.declared.item.Instance.{Instance}
 use Rattle.dr_ledger.specs.declared.item.Progress.{Progress}
-use Rattle.dr_ledger.specs.declared.item.Progress.TheVariants.{Waiting, Held, Done}
-use Rattle.dr_ledger.specs.Books.{Book, Line, Arrival, Repeat, Settling, Requeuing, Forgetting, Adoption, after}
+use Rattle.dr_ledger.specs.declared.item.Progress.TheVariants.{Waiting, Held, Done, Dropped}
+use Rattle.dr_ledger.specs.Books.{Book, Line, Arrival, Repeat, Dropping, Forgetting, after, is_queued}
 use Rattle.dr_ledger.specs.OneNode.{WasTaken}
 use Rattle.dr_ledger.specs.PlanRoutes.{plan_routing, targets, keeps}
 use Rattle.dr_ledger.specs.Replies.{IsAdmitted, IsOver, arrival_line}
 use Rattle.dr_ledger.specs.Routings.{Routing}
 use Rattle.dr_ledger.proofs.Forgotten.{Apart, item_left, row_left, arrival_left, item_stays, row_stays}
-use Rattle.dr_ledger.proofs.Growing.{rows_stay, rows_made, rows_from, row_put}
+use Rattle.dr_ledger.proofs.Growing.{rows_stay, rows_made, rows_from, row_put, given_up}
 use Rattle.dr_ledger.proofs.Since.{Acknowledges, IsPlain, taken_still, taken_now, taken_from}
 use Rattle.dr_world_model.specs.Claims.{IsFairLine, IsQueued, IsToSend}
-use Rattle.dr_ledger.proofs.Maps.{texts, text_pairs, same_or_not, contains_new, still_contains, contained, get_new, get_other, got, filled_keeps, filled_is, filled_got}
+use Rattle.dr_ledger.proofs.Maps.{texts, text_pairs, same_or_not, ties_itself, contains_new, still_contains, contained, get_new, get_other, got, filled_keeps, filled_is, filled_got}
 use Rattle.dr_ledger.proofs.PlanRouting.{targets_are_sent_to as targets_sent, keeps_where_it_keeps as keeps_kept}
+use Rattle.dr_world_model.proofs.GivenUp.{arrival_to}
 
 -- the node acknowledged the item to the caller under the plan in force
 abbrev pub Took : Book → Text → Instance → Type 0
@@ -57,6 +59,8 @@ pub record IsRight (plan : Network) (name : Text) (stood : Book) (b : Book) : Ty
   pub reached : (caller : Text) (item : Instance) → Took b caller item → IsReached plan item.key caller name
   pub kept : (caller : Text) (item : Instance) → Took b caller item → Keeps plan name caller item.key → (set.contains b.kept item.uid ≡ true) × (map.get b.items item.uid ≡ Some item)
   pub from : (uid to : Text) (row : Progress) → map.get b.rows (uid, to) ≡ Some row → HasReason plan name stood b uid to
+  -- of what is noted no row was given up
+  pub undropped : (caller to : Text) (item : Instance) → Noted b caller item → Sends plan name caller item.key to → (row : Progress) × (map.get b.rows (item.uid, to) ≡ Some row) × (row ≢ Dropped)
 
 -- what is kept and what was acknowledged stays so
 pub record Grows (old new : Book) : Type 0 where
@@ -91,16 +95,22 @@ reason_still plan name stood old new uid to g r has = record {
   why = elim r.why [ inl a ↦ inl (a.0, g.took a.0 r.item a.1, a.2) | inr s ↦ inr s ];
 }
 
--- a row is done, or is queued
-pub done_or_queued : (row : Progress) → (row ≡ Done) ⊎ IsQueued row
-done_or_queued Done = inl refl
-done_or_queued (Waiting tries due) = inr tt
-done_or_queued (Held why) = inr tt
+-- a row is done, was given up, or is queued
+pub which_row : (row : Progress) → (row ≡ Done) ⊎ ((row ≡ Dropped) ⊎ IsQueued row)
+which_row Done = inl refl
+which_row Dropped = inr (inl refl)
+which_row (Waiting tries due) = inr (inr refl)
+which_row (Held why) = inr (inr refl)
 
-pub queued_not_done : (row : Progress) → IsQueued row → row ≢ Done
-queued_not_done Done q e = q
-queued_not_done (Waiting tries due) q e = cc
-queued_not_done (Held why) q e = cc
+-- a row that wasn't given up is done, or is queued
+pub done_or_queued : (row : Progress) → row ≢ Dropped → (row ≡ Done) ⊎ IsQueued row
+done_or_queued row kept = elim (which_row row) [ inl done ↦ inl done | inr (inl given) ↦ absurd (kept given) | inr (inr queued) ↦ inr queued ]
+
+queued_not_dropped : (row : Progress) → IsQueued row → row ≢ Dropped
+queued_not_dropped row q e = (let f : false ≡ true = ap is_queued (sym e) ∙ q in cc f)
+
+queued_not_over : (row : Progress) → IsQueued row → is_queued row ≡ false → ⊥
+queued_not_over row q n = (let f : true ≡ false = sym q ∙ n in cc f)
 
 -- of a book with a further line, each line was there, or is fair
 pub fair_push : (lines : List Line) (last : Line) → IsFairLine last → (line : Line) → Contains (lines ++ last ∷ []) line → Contains lines line ⊎ IsFairLine line
@@ -119,24 +129,7 @@ now_kept true kept new h = contains_new texts kept new
 now_kept false kept new h = absurd (let e : ⊥ = cc in e)
 
 acknowledged : (routing : Routing) (c caller : Text) (i item : Instance) → Acknowledges (arrival_line routing caller item) c i → (c ≡ caller) × (i ≡ item)
-acknowledged routing c caller i item h = elim h [
-  | inl a ↦ (sym (ap caller_of a.2), inside_line a.2)
-  | inr r ↦ absurd (no_repeat r)
-]
-  where
-    caller_of : Line → Text
-    caller_of (Arrival at x to keep) = at
-    caller_of (Repeat at x) = at
-    caller_of (Settling uid dest outcome now) = uid
-    caller_of (Requeuing uid dest) = uid
-    caller_of (Forgetting uid) = uid
-    caller_of Adoption = caller
-
-    inside_line : {to : List Text} {keep : Bool} → arrival_line routing caller item ≡ Arrival c i to keep → i ≡ item
-    inside_line e = cc
-
-    no_repeat : arrival_line routing caller item ≡ Repeat c i → ⊥
-    no_repeat e = cc
+acknowledged routing c caller i item h = arrival_to c caller i item (routing.targets caller item.key) (routing.keeps caller item.key) h
 
 module _ (plan : Network) (name caller : Text) (item : Instance) (stood : Book) (b : Book) (right : IsRight plan name stood b) (admitted : IsAdmitted (plan_routing plan name) caller item b) where
   abbrev pub arrived : Book
@@ -171,15 +164,15 @@ module _ (plan : Network) (name caller : Text) (item : Instance) (stood : Book) 
 
   pub arrived_done : (at : Text × Text) → map.get arrived.rows at ≡ Some Done → map.get b.rows at ≡ Some Done
   arrived_done at h = elim (rows_from (targets plan name caller item.key) b.rows item.uid at Done h) [
-    | inl was ↦ was
+    | inl was ↦ was.0
     | inr made ↦ absurd (let e : Done ≡ Waiting 0 0 = made.2 in cc)
   ]
 
   pub arrived_goes_on : (i : Instance) (to : Text) → GoesOn b i to → GoesOn arrived i to
-  arrived_goes_on i to g = record { row = g.row; queued = g.queued; at = rows_stay (targets plan name caller item.key) b.rows item.uid (i.uid, to) g.row g.at; has = arrived_holds i g.has }
+  arrived_goes_on i to g = record { row = g.row; queued = g.queued; at = rows_stay (targets plan name caller item.key) b.rows item.uid (i.uid, to) g.row g.at (queued_not_dropped g.row g.queued); has = arrived_holds i g.has }
 
-  -- each target has a row
-  pub arrived_row : (to : Text) → Sends plan name caller item.key to → (row : Progress) × (map.get arrived.rows (item.uid, to) ≡ Some row)
+  -- each target has a row, which isn't given up
+  pub arrived_row : (to : Text) → Sends plan name caller item.key to → (row : Progress) × (map.get arrived.rows (item.uid, to) ≡ Some row) × (row ≢ Dropped)
   arrived_row to sent = rows_made (targets plan name caller item.key) b.rows item.uid to ((targets_sent plan name caller item.key to).1 sent)
 
   -- an item that the book has now, and whose row it had, it had
@@ -223,7 +216,7 @@ module _ (plan : Network) (name caller : Text) (item : Instance) (stood : Book) 
           subst P (sym is.1) (now_kept (keeps plan name caller item.key) b.kept item.uid ((keeps_kept plan name caller item.key).1 keeping), arrived_has)
     ];
     from = λ uid to row h. elim (rows_from (targets plan name caller item.key) b.rows item.uid (uid, to) row h) [
-      | inl was ↦ (let r = right.from uid to row was in reason_still plan name stood b arrived uid to arrived_grows r (arrived_holds r.item r.has))
+      | inl was ↦ (let r = right.from uid to row was.0 in reason_still plan name stood b arrived uid to arrived_grows r (arrived_holds r.item r.has))
       | inr made ↦ record {
         item = item;
         named = sym made.0;
@@ -232,10 +225,24 @@ module _ (plan : Network) (name caller : Text) (item : Instance) (stood : Book) 
         why = inl (caller, arrived_took, (targets_sent plan name caller item.key to).0 made.1);
       }
     ];
+    undropped = λ c to i h sends. elim (contained text_pairs b.arrivals (caller, item.uid) (c, i.uid) h.arrival) [
+      | inl e ↦ (
+          let same : i ≡ item = some_inside i item (sym h.item_is ∙ (ap (λ (p : Text × Text). map.get arrived.items p.1) e ∙ arrived_has)) in
+          let P : Text × Instance → Type 0 = λ p. Sends plan name p.0 p.1.key to in
+          let Q : Instance → Type 0 = λ x. (row : Progress) × (map.get arrived.rows (x.uid, to) ≡ Some row) × (row ≢ Dropped) in
+          subst Q (sym same) (arrived_row to (subst P (λ j. (ap (λ (p : Text × Text). p.0) e j, same j)) sends))
+          )
+      | inr was ↦ (
+          let old = right.known c i.uid was in
+          let same : old.0 ≡ i = some_inside old.0 i (sym (filled_keeps texts b.items item.uid item i.uid old.0 old.1) ∙ h.item_is) in
+          let there = right.undropped c to i (record { arrival = was; item_is = old.1 ∙ ap Some same }) sends in
+          (there.0, rows_stay (targets plan name caller item.key) b.rows item.uid (i.uid, to) there.0 there.1 there.2, there.2)
+          )
+    ];
   }
 
 -- ---- one row changes
-module _ (plan : Network) (name : Text) (stood : Book) (b : Book) (at : Text × Text) (old row : Progress) (line : Line) (right : IsRight plan name stood b) (was : map.get b.rows at ≡ Some old) (queued : old ≢ Done) (plain : IsPlain line) (silent : (c : Text) (i : Instance) → Acknowledges line c i → ⊥) where
+module _ (plan : Network) (name : Text) (stood : Book) (b : Book) (at : Text × Text) (old row : Progress) (line : Line) (right : IsRight plan name stood b) (was : map.get b.rows at ≡ Some old) (fresh : row ≢ Dropped) (plain : IsPlain line) (silent : (c : Text) (i : Instance) → Acknowledges line c i → ⊥) where
   pub row_set_grows : Grows b (row_put b at row line)
   row_set_grows = record { items = λ u i k h. h; kept = λ u h. h; took = λ c i h. taken_still b.lines line c i plain h; lines = (line ∷ [], refl) }
 
@@ -249,7 +256,7 @@ module _ (plan : Network) (name : Text) (stood : Book) (b : Book) (at : Text × 
   pub row_set_goes_on : (i : Instance) (to : Text) → GoesOn b i to → GoesOn (row_put b at row line) i to ⊎ (((i.uid, to) ≡ at) × (row ≡ Done))
   row_set_goes_on i to g = elim (same_or_not text_pairs (i.uid, to) at) [
     | inr n ↦ inl (record { row = g.row; queued = g.queued; at = get_other text_pairs b.rows at row (i.uid, to) n ∙ g.at; has = g.has })
-    | inl e ↦ elim (done_or_queued row) [
+    | inl e ↦ elim (done_or_queued row fresh) [
       | inl done ↦ inr (e, done)
       | inr still ↦ inl (record { row = row; queued = still; at = ap (map.get (map.insert b.rows at row)) e ∙ get_new text_pairs b.rows at row; has = g.has })
     ]
@@ -269,6 +276,12 @@ module _ (plan : Network) (name : Text) (stood : Book) (b : Book) (at : Text × 
         ] in
         let f = right.from uid to there.0 there.1 in
         reason_still plan name stood b (row_put b at row line) uid to row_set_grows f f.has;
+    undropped = λ c to i h sends.
+        let there = right.undropped c to i (record { arrival = h.arrival; item_is = h.item_is }) sends in
+        elim (same_or_not text_pairs (i.uid, to) at) [
+          | inl e ↦ (row, ap (map.get (map.insert b.rows at row)) e ∙ get_new text_pairs b.rows at row, fresh)
+          | inr n ↦ (there.0, get_other text_pairs b.rows at row (i.uid, to) n ∙ there.1, there.2)
+        ];
   }
 
 -- ---- a line alone
@@ -306,6 +319,63 @@ module _ (plan : Network) (name caller : Text) (item : Instance) (stood : Book) 
     reached = λ c i h. right.reached c i (line_from c i h);
     kept = λ c i h k. right.kept c i (line_from c i h) k;
     from = λ uid to r h. (let f = right.from uid to r h in reason_still plan name stood b (after (Repeat caller item) b) uid to line_grows f f.has);
+    undropped = λ c to i h sends. right.undropped c to i (record { arrival = h.arrival; item_is = h.item_is }) sends;
+  }
+
+-- ---- a dropping
+module _ (plan : Network) (name uid dest : Text) (now : ℕ) (stood : Book) (b : Book) (right : IsRight plan name stood b) where
+  abbrev line_of : Line
+  line_of = Dropping uid dest now
+
+  pub given_silent : (c : Text) (i : Instance) → Acknowledges line_of c i → ⊥
+  given_silent c i (inl a) = (let e : Dropping uid dest now ≡ Arrival c i a.0 a.1 = a.2 in cc e)
+  given_silent c i (inr r) = (let e : Dropping uid dest now ≡ Repeat c i = r in cc e)
+
+  pub given_grows : Grows b (given_up b uid dest now)
+  given_grows = record { items = λ u i k h. h; kept = λ u h. h; took = λ c i h. taken_still b.lines line_of c i (λ since. refl) h; lines = (line_of ∷ [], refl) }
+
+  pub given_from : (c : Text) (i : Instance) → Took (given_up b uid dest now) c i → Took b c i
+  given_from c i h = elim (taken_from b.lines line_of c i (λ since. refl) h) [ inl is ↦ is | inr said ↦ absurd (given_silent c i said) ]
+
+  -- a row that is done was so before
+  pub given_done : (q : Text × Text) → map.get (given_up b uid dest now).rows q ≡ Some Done → map.get b.rows q ≡ Some Done
+  given_done q h = elim (got text_pairs b.rows (uid, dest) Dropped q Done h) [
+    | inl e ↦ absurd (let f : Done ≡ Dropped = e.1 in cc f)
+    | inr n ↦ n.1
+  ]
+
+  -- what is queued stays so, or is this row
+  pub given_goes_on : (i : Instance) (to : Text) → GoesOn b i to → GoesOn (given_up b uid dest now) i to ⊎ ◌≡◌ {A = Text × Text} (i.uid, to) (uid, dest)
+  given_goes_on i to g = elim (same_or_not text_pairs (i.uid, to) (uid, dest)) [
+    | inr n ↦ inl (record { row = g.row; queued = g.queued; at = get_other text_pairs b.rows (uid, dest) Dropped (i.uid, to) n ∙ g.at; has = g.has })
+    | inl e ↦ inr e
+  ]
+
+  -- what is noted still is of another uid
+  given_left : (q : Text × Text) → set.contains (given_up b uid dest now).arrivals q ≡ true → Apart q.1 uid × (set.contains b.arrivals q ≡ true)
+  given_left q h = arrival_left b uid q h
+
+  pub given_right : (was : (row : Progress) × (map.get b.rows (uid, dest) ≡ Some row)) → IsRight plan name stood (given_up b uid dest now)
+  given_right was = record {
+    named = right.named;
+    known = λ c u h. right.known c u (given_left (c, u) h).1;
+    noted = λ c i h. given_grows.took c i (right.noted c i (record { arrival = (given_left (c, i.uid) h.arrival).1; item_is = h.item_is }));
+    reached = λ c i h. right.reached c i (given_from c i h);
+    kept = λ c i h k. right.kept c i (given_from c i h) k;
+    from = λ u to r h.
+        let there : (r' : Progress) × (map.get b.rows (u, to) ≡ Some r') = elim (got text_pairs b.rows (uid, dest) Dropped (u, to) r h) [
+          | inl e ↦ (was.0, ap (map.get b.rows) e.0 ∙ was.1)
+          | inr n ↦ (r, n.1)
+        ] in
+        let f = right.from u to there.0 there.1 in
+        reason_still plan name stood b (given_up b uid dest now) u to given_grows f f.has;
+    undropped = λ c to i h sends.
+        let left = given_left (c, i.uid) h.arrival in
+        let there = right.undropped c to i (record { arrival = left.1; item_is = h.item_is }) sends in
+        elim (same_or_not text_pairs (i.uid, to) (uid, dest)) [
+          | inl e ↦ absurd (let f : true ≡ false = sym (ties_itself texts uid) ∙ (ap (λ (p : Text × Text). eq_by_cmp text_cmp p.0 uid) (sym e) ∙ left.0) in cc f)
+          | inr n ↦ (there.0, get_other text_pairs b.rows (uid, dest) Dropped (i.uid, to) n ∙ there.1, there.2)
+        ];
   }
 
 -- ---- a forgetting
@@ -343,7 +413,7 @@ module _ (plan : Network) (name uid : Text) (stood : Book) (b : Book) (right : I
   -- what is queued is of another uid, and stays
   pub forgotten_goes_on : (i : Instance) (to : Text) → GoesOn b i to → GoesOn forgotten i to
   forgotten_goes_on i to g = elim (same_or_not texts i.uid uid) [
-    | inl same ↦ absurd (queued_not_done g.row g.queued (over.done to g.row (ap (λ (u : Text). map.get b.rows (u, to)) (sym same) ∙ g.at)))
+    | inl same ↦ absurd (queued_not_over g.row g.queued (over.unqueued to g.row (ap (λ (u : Text). map.get b.rows (u, to)) (sym same) ∙ g.at)))
     | inr apart ↦ record { row = g.row; queued = g.queued; at = row_stays b uid (i.uid, to) g.row apart g.at; has = item_stays b uid i.uid i apart g.has }
   ]
 
@@ -359,5 +429,10 @@ module _ (plan : Network) (name uid : Text) (stood : Book) (b : Book) (right : I
         let f = right.from u to row was.1 in
         let P : Text → Type 0 = λ x. Apart x uid in
         reason_still plan name stood b forgotten u to forgotten_grows f (item_stays b uid f.item.uid f.item (subst P (sym f.named) was.0) f.has)
+        );
+    undropped = λ c to i h sends. (
+        let left = arrival_left b uid (c, i.uid) h.arrival in
+        let there = right.undropped c to i (record { arrival = left.1; item_is = (item_left b uid i.uid i h.item_is).1 }) sends in
+        (there.0, row_stays b uid (i.uid, to) there.0 left.0 there.1, there.2)
         );
   }

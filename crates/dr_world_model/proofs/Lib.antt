@@ -10,6 +10,7 @@ pub mod EventsKept
 pub mod Failed
 pub mod Fits
 pub mod FromSafety
+pub mod GivenUp
 pub mod Keeping
 pub mod Lasting
 pub mod Local

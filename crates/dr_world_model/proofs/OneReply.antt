@@ -18,11 +18,11 @@ use Rattle.dr_ledger.specs.declared.item.Instance.{Instance}
 use Rattle.dr_ledger.specs.declared.item.Outcome.{Outcome}
 use Rattle.dr_ledger.specs.Books.{Book}
 use Rattle.dr_ledger.specs.PlanRoutes.{plan_routing}
-use Rattle.dr_ledger.specs.Replies.{Arrives, Settles, Requeues, Forgets, IsNext}
+use Rattle.dr_ledger.specs.Replies.{Arrives, Settles, Requeues, Drops, Forgets, IsNext}
 use Rattle.dr_ledger.proofs.Growing.{inside as some_inside}
 use Rattle.dr_ledger.proofs.Ones.{next_is_one}
 use Rattle.dr_world_model.specs.Worlds.{World, Link, Contexts, with_armed, with_book, with_link}
-use Rattle.dr_world_model.specs.Calls.{Reply, Answer, StoreOutcome, Called, Arriving, Settlement, Requeueing, Dropping}
+use Rattle.dr_world_model.specs.Calls.{Reply, Answer, StoreOutcome, Called, Arriving, Settlement, Requeueing, GivingUp, LettingGo}
 use Rattle.dr_world_model.specs.Steps.{IsLink, AcceptsOffered}
 
 -- ---- orders
@@ -81,6 +81,16 @@ requeues_same uid dest old a b (Err fault.Conflict) p q = absurd p
 requeues_same uid dest old a b (Err fault.NotWaiting) p q = absurd p
 requeues_same uid dest old a b (Err fault.NotOver) p q = absurd p
 
+drops_same : (uid dest : Text) (now : ℕ) (old a b : Book) (answer : Answer) → Drops uid dest now old answer a → Drops uid dest now old answer b → a ≡ b
+drops_same uid dest now old a b (Ok done) p q = p.1 ∙ sym q.1
+drops_same uid dest now old a b (Err fault.NotHeld) p q = p.1 ∙ sym q.1
+drops_same uid dest now old a b (Err fault.Store) p q = p ∙ sym q
+drops_same uid dest now old a b (Err fault.Memory) p q = p ∙ sym q
+drops_same uid dest now old a b (Err fault.NoLine) p q = absurd p
+drops_same uid dest now old a b (Err fault.Conflict) p q = absurd p
+drops_same uid dest now old a b (Err fault.NotWaiting) p q = absurd p
+drops_same uid dest now old a b (Err fault.NotOver) p q = absurd p
+
 forgets_same : (uid : Text) (old a b : Book) (answer : Answer) → Forgets uid old answer a → Forgets uid old answer b → a ≡ b
 forgets_same uid old a b (Ok done) p q = p.1 ∙ sym q.1
 forgets_same uid old a b (Err fault.NotOver) p q = p.1 ∙ sym q.1
@@ -123,5 +133,8 @@ module _ (w : World) (armed : FinSet text_cmp) (a b : World) where
   pub requeueing_alike : (name uid dest : Text) (answer : Answer) → Requeueing (with_armed w armed) name uid dest answer a → Requeueing w name uid dest answer b → Alike a b
   requeueing_alike name uid dest answer p q = called_alike _ _ name _ p.book q.book (requeues_same uid dest (w.books name) p.book q.book answer p.call q.call) p.called q.called
 
-  pub dropping_alike : (name uid : Text) (answer : Answer) → Dropping (with_armed w armed) name uid answer a → Dropping w name uid answer b → Alike a b
-  dropping_alike name uid answer p q = called_alike _ _ name _ p.book q.book (forgets_same uid (w.books name) p.book q.book answer p.call q.call) p.called q.called
+  pub giving_up_alike : (name uid dest : Text) (answer : Answer) → GivingUp (with_armed w armed) name uid dest answer a → GivingUp w name uid dest answer b → Alike a b
+  giving_up_alike name uid dest answer p q = called_alike _ _ name _ p.book q.book (drops_same uid dest w.time (w.books name) p.book q.book answer p.call q.call) p.called q.called
+
+  pub letting_go_alike : (name uid : Text) (answer : Answer) → LettingGo (with_armed w armed) name uid answer a → LettingGo w name uid answer b → Alike a b
+  letting_go_alike name uid answer p q = called_alike _ _ name _ p.book q.book (forgets_same uid (w.books name) p.book q.book answer p.call q.call) p.called q.called

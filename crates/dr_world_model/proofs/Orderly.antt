@@ -12,7 +12,7 @@ use Rattle.dr_plan_model.specs.Networks.{Network}
 use Rattle.dr_ledger.specs.Books.{Book, Line, Adoption, empty_book, after, Fold}
 use Rattle.dr_ledger.specs.Histories.{IsSince}
 use Rattle.dr_ledger.specs.PlanRoutes.{plan_routing}
-use Rattle.dr_ledger.proofs.Folding.{folded_push, empty_is_journalled, arrivals_are_journalled, settlings_are_journalled, requeuings_are_journalled, forgettings_are_journalled, adoptions_are_journalled}
+use Rattle.dr_ledger.proofs.Folding.{folded_push, empty_is_journalled, arrivals_are_journalled, settlings_are_journalled, requeuings_are_journalled, droppings_are_journalled, forgettings_are_journalled, adoptions_are_journalled}
 use Rattle.dr_world_model.specs.Worlds.{World, Link, start, with_book}
 use Rattle.dr_world_model.specs.Calls.{StoreOutcome, Written, Untried, Failed, ArmedAfter, Called}
 use Rattle.dr_world_model.specs.Steps.{IsHop, IsLink}
@@ -58,7 +58,8 @@ numbered_closed plan = record {
   arriving = λ w v name caller item reply a p. stays _ w v name _ a.book a.called Numbered (λ armed. p);
   settling = λ w v name uid dest outcome answer s p. stays _ w v name _ s.book s.called Numbered (λ armed. p);
   requeueing = λ w v name uid dest answer r p. stays _ w v name _ r.book r.called Numbered (λ armed. p);
-  dropping = λ w v name uid answer r p. stays _ w v name _ r.book r.called Numbered (λ armed. p);
+  giving_up = λ w v name uid dest answer r p. stays _ w v name _ r.book r.called Numbered (λ armed. p);
+  letting_go = λ w v name uid answer r p. stays _ w v name _ r.book r.called Numbered (λ armed. p);
   linked = λ w number was is at ends p n l h. elim (got numbers w.links number is n l h) [
     | inl e ↦ subst (λ k. k ≤ w.opened) (sym e.0) (p number was at)
     | inr f ↦ p n l f.1
@@ -92,7 +93,8 @@ hops_closed plan = record {
   arriving = λ w v name caller item reply a p. stays _ w v name _ a.book a.called (AreHops plan) (λ armed. p);
   settling = λ w v name uid dest outcome answer s p. stays _ w v name _ s.book s.called (AreHops plan) (λ armed. p);
   requeueing = λ w v name uid dest answer r p. stays _ w v name _ r.book r.called (AreHops plan) (λ armed. p);
-  dropping = λ w v name uid answer r p. stays _ w v name _ r.book r.called (AreHops plan) (λ armed. p);
+  giving_up = λ w v name uid dest answer r p. stays _ w v name _ r.book r.called (AreHops plan) (λ armed. p);
+  letting_go = λ w v name uid answer r p. stays _ w v name _ r.book r.called (AreHops plan) (λ armed. p);
   linked = λ w number was is at ends p n l h. elim (got numbers w.links number is n l h) [
     | inl e ↦
         (let H : Link → Type 0 = λ x. IsHop plan x.caller x.receiver in
@@ -132,7 +134,8 @@ later_closed plan count moment = record {
   arriving = λ w v name caller item reply a p. stays _ w v name _ a.book a.called (IsLater count moment) (λ armed. p);
   settling = λ w v name uid dest outcome answer s p. stays _ w v name _ s.book s.called (IsLater count moment) (λ armed. p);
   requeueing = λ w v name uid dest answer r p. stays _ w v name _ r.book r.called (IsLater count moment) (λ armed. p);
-  dropping = λ w v name uid answer r p. stays _ w v name _ r.book r.called (IsLater count moment) (λ armed. p);
+  giving_up = λ w v name uid dest answer r p. stays _ w v name _ r.book r.called (IsLater count moment) (λ armed. p);
+  letting_go = λ w v name uid answer r p. stays _ w v name _ r.book r.called (IsLater count moment) (λ armed. p);
   linked = λ w number was is at ends p. p;
   opened = λ w caller receiver hop p. (one_more count w.opened p.0, p.1);
   forgot = λ w name p. p;
@@ -166,7 +169,8 @@ armed_closed plan = record {
   arriving = λ w v name caller item reply a p. called_armed plan _ w v name _ a.book a.called p;
   settling = λ w v name uid dest outcome answer s p. called_armed plan _ w v name _ s.book s.called p;
   requeueing = λ w v name uid dest answer r p. called_armed plan _ w v name _ r.book r.called p;
-  dropping = λ w v name uid answer r p. called_armed plan _ w v name _ r.book r.called p;
+  giving_up = λ w v name uid dest answer r p. called_armed plan _ w v name _ r.book r.called p;
+  letting_go = λ w v name uid answer r p. called_armed plan _ w v name _ r.book r.called p;
   linked = λ w number was is at ends p. p;
   opened = λ w caller receiver hop p. p;
   forgot = λ w name p. p;
@@ -221,7 +225,10 @@ journalled_closed plan = record {
   requeueing = λ w v name uid dest answer r p.
       let was = p.1 name in
       called_journalled plan _ w v name _ r.book r.called (was.0, requeuings_are_journalled (plan_routing plan name) was.0 uid dest (w.books name) r.book answer was.1 r.call, was.2) p;
-  dropping = λ w v name uid answer r p.
+  giving_up = λ w v name uid dest answer r p.
+      let was = p.1 name in
+      called_journalled plan _ w v name _ r.book r.called (was.0, droppings_are_journalled (plan_routing plan name) was.0 uid dest w.time (w.books name) r.book answer p.0 was.1 r.call, was.2) p;
+  letting_go = λ w v name uid answer r p.
       let was = p.1 name in
       called_journalled plan _ w v name _ r.book r.called (was.0, forgettings_are_journalled (plan_routing plan name) was.0 uid (w.books name) r.book answer was.1 r.call, was.2) p;
   linked = λ w number was is at ends p. p;

@@ -15,24 +15,30 @@ use Rattle.dr_plan_model.specs.Walks.{Sends, Accepts, IsReached, Goes, IsEntry}
 use Rattle.dr_plan_model.proofs.Gathered.{Contains-here}
 use Rattle.dr_plan_model.proofs.WalksAlike.{no_rule_sends}
 use Rattle.dr_plan_sound.proofs.Hopping.{reached_entry}
+use Rattle.dr_ledger.specs.declared.item.Cause.TheVariants as cause
 use Rattle.dr_ledger.specs.declared.item.Instance.{Instance}
 use Rattle.dr_ledger.specs.declared.item.Outcome.TheVariants.{Status}
-use Rattle.dr_ledger.specs.declared.item.Progress.TheVariants.{Waiting, Done}
+use Rattle.dr_ledger.specs.declared.item.Progress.TheVariants.{Waiting, Held, Done, Dropped}
 use Rattle.dr_ledger.specs.Pairs.{pair_cmp}
-use Rattle.dr_ledger.specs.Books.{Book, Settling, Forgetting, empty_book, after, row_after}
+use Rattle.dr_ledger.specs.Books.{Book, Settling, Dropping, Forgetting, empty_book, after, is_queued, row_after, Fold}
 use Rattle.dr_ledger.specs.PlanRoutes.{plan_routing, targets, keeps}
 use Rattle.dr_ledger.specs.Replies.{IsAdmitted, IsNext, IsNoLater, IsOver, arrival_line}
 use Rattle.dr_ledger.proofs.PlanRouting.{nothing_kept_for_local, targets_are_sent_to}
 use Rattle.dr_world_model.specs.Worlds.{World, Link, Contexts, Stage, Asking, Answering, Open, Storing, Replying, start, same_text, with_book, with_armed, with_link}
 use Rattle.dr_world_model.specs.Steps.{AcceptsOffered, IsLink, NoneIsPending, others, others_of, asked, pending}
+use Rattle.dr_world_model.specs.Claims.{WasGivenUp}
 use Rattle.dr_world_model.specs.Events.{HasNode}
 use Rattle.dr_world_model.specs.Runs.{Action, Occurs, Adopt, Runs}
-use Rattle.dr_world_model.specs.Laws.{AForgettingRuns, IsBack, forgotten_and_back, one_store, IsStored, OneHopRuns}
-use Rattle.dr_ledger.proofs.Maps.{texts, text_pairs, same_or_not, get_new, got, ties_itself, filled_is}
+use Rattle.dr_world_model.specs.Laws.{ADroppingRuns, AForgettingRuns, IsBack, IsGivenUpAndBack, forgotten_and_back, one_refusal, one_store, IsStored, OneHopRuns}
+use Rattle.dr_ledger.proofs.Maps.{texts, text_pairs, cases_of, same_or_not, get_new, got, ties_itself, filled_is}
+use Rattle.dr_world_model.proofs.CallsKept.{conflict_held}
+use Rattle.dr_world_model.proofs.GivenUp.{given_up_now}
 use Rattle.dr_world_model.proofs.Lookups.{numbers}
 use Rattle.dr_world_model.proofs.Counted.{others_are_counted}
 use Rattle.dr_world_model.proofs.Walking.{reached_on}
-use Rattle.dr_ledger.proofs.Growing.{inside, rows_made, rows_from, settled_is}
+use Rattle.dr_ledger.proofs.Growing.{inside, rows_made, rows_from, settled_is, dropped_is, given_up}
+use Rattle.dr_ledger.proofs.Folding.{fold_after}
+use Rattle.dr_ledger.proofs.Forgotten.{arrival_left}
 use Rattle.dr_ledger.proofs.Overs.{forgettings_take_their_uid}
 use Rattle.dr_ledger.proofs.Since.{taken_now, taken_still}
 use Rattle.dr_world_model.proofs.Keeping.{Took, arrived_has, arrived_took}
@@ -118,7 +124,7 @@ module _ (plan : Network) (s m : Text) (item : Instance) (accepted : Contexts) (
   row_there =
       let made = rows_made (targets plan s local item.key) map.empty item.uid m ((targets_are_sent_to plan s local item.key m).1 sends) in
       elim (rows_from (targets plan s local item.key) map.empty item.uid (item.uid, m) made.0 made.1) [
-        | inl was ↦ absurd (no_row made.0 (sym (map.get-empty pair_cmp (item.uid, m)) ∙ was))
+        | inl was ↦ absurd (no_row made.0 (sym (map.get-empty pair_cmp (item.uid, m)) ∙ was.0))
         | inr is ↦ made.1 ∙ ap Some is.2
       ]
 
@@ -134,7 +140,7 @@ module _ (plan : Network) (s m : Text) (item : Instance) (accepted : Contexts) (
     row = ((0, row_there), omega arith);
     has = arrived_has plan s local item empty_book empty_book (empty_right plan s empty_book) (admitted local s reached_s);
     least = λ uid d h. elim (rows_from (targets plan s local item.key) map.empty item.uid (uid, m) (Waiting h.0.0 d) h.0.1) [
-      | inl was ↦ absurd (no_row (Waiting h.0.0 d) (sym (map.get-empty pair_cmp (uid, m)) ∙ was))
+      | inl was ↦ absurd (no_row (Waiting h.0.0 d) (sym (map.get-empty pair_cmp (uid, m)) ∙ was.0))
       | inr is ↦
           (let P : ℕ × Text → Type 0 = λ p. IsNoLater (0, item.uid) p in
           let e = due_of h.0.0 d is.2 in
@@ -288,12 +294,12 @@ module _ (plan : Network) (s m : Text) (item : Instance) (accepted : Contexts) (
     stored_over = record {
       there = (item, arrived_has plan s local item empty_book empty_book (empty_right plan s empty_book) noted);
       unkept = (let kept : Bool → FinSet text_cmp = λ k. cond k (set.insert set.empty item.uid) set.empty in ap (λ (k : Bool). set.contains (kept k) item.uid) (nothing_kept_for_local plan s item.key) ∙ set.contains-empty text_cmp item.uid);
-      done = λ dest row h.
+      unqueued = λ dest row h.
           let P : Book → Type 0 = λ b. map.get b.rows (item.uid, dest) ≡ Some row in
           elim (got text_pairs (brought local s).rows (item.uid, m) (row_after 0 (Status 0) 0) (item.uid, dest) row (subst P (settled_is item.uid m (Status 0) 0 0 0 (brought local s) row_there) h)) [
-            | inl e ↦ e.1 ∙ is_done_after 0 0
+            | inl e ↦ ap is_queued (e.1 ∙ is_done_after 0 0)
             | inr n ↦ elim (rows_from (targets plan s local item.key) map.empty item.uid (item.uid, dest) row n.1) [
-              | inl was ↦ absurd (no_row row (sym (map.get-empty pair_cmp (item.uid, dest)) ∙ was))
+              | inl was ↦ absurd (no_row row (sym (map.get-empty pair_cmp (item.uid, dest)) ∙ was.0))
               | inr made ↦ (
                   let same : dest ≡ m = alone_target dest ((targets_are_sent_to plan s local item.key dest).0 made.1) in
                   let Q : Text → Type 0 = λ d. eq_by_cmp pair_cmp (item.uid, d) (item.uid, m) ≡ false in
@@ -375,6 +381,254 @@ module _ (plan : Network) (s m : Text) (item : Instance) (accepted : Contexts) (
         passed_on = subst (λ (b : Book). Took b s item) (sym there_9) stored_run.1.1;
       },
     )
+
+  -- ---- it is refused, given up, and comes again
+  module _ (there : HasNode plan m) (other : Instance) (uid : other.uid ≡ item.uid) (distinct : other ≢ item) (entered : IsReached plan other.key local m) where
+    abbrev has_another : Book
+    has_another = after (arrival_line (plan_routing plan m) local other) empty_book
+
+    other_admitted : IsAdmitted (plan_routing plan m) local other empty_book
+    other_admitted = record { line = entered; same = λ held h. absurd (no_row held (sym (map.get-empty text_cmp other.uid) ∙ h)) }
+
+    abbrev d0 : World
+    d0 = with_armed (with_book start m has_another) set.empty
+
+    abbrev d1 : World
+    d1 = with_armed (with_book d0 s (brought local s)) set.empty
+
+    abbrev d2 : World
+    d2 = asked d1 s m
+
+    abbrev d3 : World
+    d3 = with_link d2 1 (l (Answering accepted))
+
+    abbrev d4 : World
+    d4 = with_link d3 1 (l (Open accepted))
+
+    abbrev d5 : World
+    d5 = with_link d4 1 (l (Storing accepted item))
+
+    abbrev e6 : World
+    e6 = with_armed (with_book d5 m (d5.books m)) set.empty
+
+    abbrev d6 : World
+    d6 = with_link e6 1 (l (Replying accepted item 0xC0F1))
+
+    abbrev b7 : Book
+    b7 = after (Settling item.uid m (Status 0xC0F1) 0) (d6.books s)
+
+    abbrev e7 : World
+    e7 = with_armed (with_book d6 s b7) set.empty
+
+    abbrev d7 : World
+    d7 = with_link e7 1 (l (Open accepted))
+
+    abbrev b8 : Book
+    b8 = after (Dropping item.uid m 0) (d7.books s)
+
+    abbrev d8 : World
+    d8 = with_armed (with_book d7 s b8) set.empty
+
+    abbrev b9 : Book
+    b9 = after (arrival_line (plan_routing plan s) local item) (d8.books s)
+
+    abbrev d9 : World
+    d9 = with_armed (with_book d8 s b9) set.empty
+
+    none_s : d0.books s ≡ empty_book
+    none_s = book_there start.books m has_another s (apart s m differ)
+
+    s_1 : d1.books s ≡ brought local s
+    s_1 = book_here d0.books s (brought local s)
+
+    m_1 : d1.books m ≡ has_another
+    m_1 = book_there d0.books s (brought local s) m (apart m s (λ e. differ (sym e))) ∙ book_here start.books m has_another
+
+    has_other : map.get (d5.books m).items item.uid ≡ Some other
+    has_other = ap (λ (b : Book). map.get b.items item.uid) m_1 ∙ (ap (map.get has_another.items) (sym uid) ∙ arrived_has plan m local other empty_book empty_book (empty_right plan m empty_book) other_admitted)
+
+    s_6 : d6.books s ≡ brought local s
+    s_6 = book_there d5.books m (d5.books m) s (apart s m differ) ∙ s_1
+
+    row_6 : map.get (d6.books s).rows (item.uid, m) ≡ Some (Waiting 0 0)
+    row_6 = ap (λ (b : Book). map.get b.rows (item.uid, m)) s_6 ∙ row_there
+
+    s_7 : d7.books s ≡ b7
+    s_7 = book_here d6.books s b7
+
+    row_7 : map.get (d7.books s).rows (item.uid, m) ≡ Some (Held (cause.Status 0xC0F1))
+    row_7 = ap (λ (b : Book). map.get b.rows (item.uid, m)) (s_7 ∙ settled_is item.uid m (Status 0xC0F1) 0 0 0 (d6.books s) row_6)
+        ∙ (get_new text_pairs (d6.books s).rows (item.uid, m) (row_after 0 (Status 0xC0F1) 0) ∙ ap Some (conflict_held 0 0))
+
+    has_7 : map.get (d7.books s).items item.uid ≡ Some item
+    has_7 = ap (λ (b : Book). map.get b.items item.uid) s_7 ∙ (ap (λ (b : Book). map.get b.items item.uid) s_6 ∙ arrived_has plan s local item empty_book empty_book (empty_right plan s empty_book) (admitted local s reached_s))
+
+    fold_7 : d7.books s ≡ Fold (d7.books s).lines
+    fold_7 =
+        let P : Book → Type 0 = λ b. b ≡ Fold b.lines in
+        subst P (sym s_7) (fold_after (Settling item.uid m (Status 0xC0F1) 0) (d6.books s) b7 (subst P (sym s_6) refl) refl)
+
+    s_8 : d8.books s ≡ b8
+    s_8 = book_here d7.books s b8
+
+    given_8 : b8 ≡ given_up (d7.books s) item.uid m 0
+    given_8 = dropped_is item.uid m 0 (cause.Status 0xC0F1) (d7.books s) row_7
+
+    row_8 : map.get (d8.books s).rows (item.uid, m) ≡ Some Dropped
+    row_8 = ap (λ (b : Book). map.get b.rows (item.uid, m)) (s_8 ∙ given_8) ∙ get_new text_pairs (d7.books s).rows (item.uid, m) Dropped
+
+    said_8 : WasGivenUp plan s (d8.books s).lines item m
+    said_8 = subst (λ (b : Book). WasGivenUp plan s b.lines item m) (sym s_8) (given_up_now plan s (d7.books s).lines (d7.books s) fold_7 item.uid m 0 item m refl refl has_7)
+
+    has_8 : map.get (d8.books s).items item.uid ≡ Some item
+    has_8 = ap (λ (b : Book). map.get b.items item.uid) s_8 ∙ has_7
+
+    admitted_again : IsAdmitted (plan_routing plan s) local item (d8.books s)
+    admitted_again = record { line = reached_s; same = λ held h. inside held item (sym h ∙ has_8) }
+
+    -- nobody is noted any more
+    first_again : set.contains (d8.books s).arrivals (local, item.uid) ≡ false
+    first_again = elim (cases_of (set.contains (d8.books s).arrivals (local, item.uid))) [
+      | inr none ↦ none
+      | inl noted ↦ absurd (
+          let left = arrival_left (d7.books s) item.uid (local, item.uid) (ap (λ (b : Book). set.contains b.arrivals (local, item.uid)) (sym s_8) ∙ noted) in
+          let e : true ≡ false = sym (ties_itself texts item.uid) ∙ left.0 in cc e
+          )
+    ]
+
+    waits_9 : map.get b9.rows (item.uid, m) ≡ Some (Waiting 0 0)
+    waits_9 =
+        let made = rows_made (targets plan s local item.key) (d8.books s).rows item.uid m ((targets_are_sent_to plan s local item.key m).1 sends) in
+        elim (rows_from (targets plan s local item.key) (d8.books s).rows item.uid (item.uid, m) made.0 made.1) [
+          | inl was ↦ absurd (made.2 (inside made.0 Dropped (sym was.0 ∙ row_8)))
+          | inr is ↦ made.1 ∙ ap Some is.2
+        ]
+
+    nobody_else : (number : ℕ) → Contains (others_of d2 1 m) number → ⊥
+    nobody_else number h =
+        let o = (others_are_counted d2 1 m).1 number in
+        let c = o.0 h in
+        elim (got numbers d1.links 1 (l Asking) number c.1.0 c.1.1) [
+          | inl same ↦ c.0 same.0
+          | inr was ↦ no_row c.1.0 (sym (map.get-empty nat_cmp number) ∙ was.1)
+        ]
+
+    none_else : others d2 1 m < 256
+    none_else = let none = none_long (others_of d2 1 m) nobody_else in omega (arith, none)
+
+    refused_run : Runs plan start (one_refusal s m item other accepted) plan d7
+    refused_run = (
+      d0,
+      (
+        there,
+        record {
+          book = has_another;
+          call = (other_admitted, set.contains-empty pair_cmp (local, other.uid), refl);
+          called = record { armed = set.empty; store = (set.contains-empty text_cmp m, refl); is = refl };
+        },
+      ),
+      (
+        d1,
+        (
+          here,
+          record {
+            book = brought local s;
+            call = subst (λ (old : Book). IsAdmitted (plan_routing plan s) local item old × (set.contains old.arrivals (local, item.uid) ≡ false)
+                × (brought local s ≡ after (arrival_line (plan_routing plan s) local item) old)) (sym none_s)
+                (admitted local s reached_s, set.contains-empty pair_cmp (local, item.uid), refl);
+            called = record { armed = set.empty; store = (set.contains-empty text_cmp s, refl); is = refl };
+          },
+        ),
+        (
+          d2,
+          ((item.key, goes), refl),
+          (
+            d3,
+            record { link = l Asking; at = get_new numbers d1.links 1 (l Asking); on = refl; stage = refl; then = (none_else, offered, refl) },
+            (
+              d4,
+              record { link = l (Answering accepted); at = at d2 (l (Answering accepted)); on = refl; then = inl (accepted, refl, refl) },
+              (
+                d5,
+                record {
+                  link = l (Open accepted);
+                  accepted = accepted;
+                  item = item;
+                  at = at d3 (l (Open accepted));
+                  on = refl;
+                  stage = refl;
+                  first = subst (λ b. IsNext b m 0 item) (sym s_1) next;
+                  then = ((offered (item.key.class, item.key.syntax)).1 ((item.key, refl, goes), taken), refl);
+                },
+                (
+                  d6,
+                  record {
+                    link = l (Storing accepted item);
+                    accepted = accepted;
+                    item = item;
+                    at = at d4 (l (Storing accepted item));
+                    on = refl;
+                    stage = refl;
+                    mid = e6;
+                    call = record {
+                      book = d5.books m;
+                      call = (reached_m, (other, has_other, distinct), refl);
+                      called = record { armed = set.empty; store = refl; is = refl };
+                    };
+                    is = refl;
+                  },
+                  (
+                    d7,
+                    record {
+                      link = l (Replying accepted item 0xC0F1);
+                      accepted = accepted;
+                      item = item;
+                      status = 0xC0F1;
+                      at = at e6 (l (Replying accepted item 0xC0F1));
+                      on = refl;
+                      stage = refl;
+                      mid = e7;
+                      call = record {
+                        book = b7;
+                        call = ((0, 0, row_6), refl);
+                        called = record { armed = set.empty; store = (set.contains-empty text_cmp s, refl); is = refl };
+                      };
+                      is = refl;
+                    },
+                    (refl, refl),
+                  ),
+                ),
+              ),
+            ),
+          ),
+        ),
+      ),
+    )
+
+    pub given_up_and_back : IsGivenUpAndBack plan s m item other accepted
+    given_up_and_back = record {
+      refused = d7;
+      refuses = refused_run;
+      held = (cause.Status 0xC0F1, row_7);
+      given = d8;
+      gives_up = (
+        d8,
+        (here, record { book = b8; call = ((cause.Status 0xC0F1, row_7), refl); called = record { armed = set.empty; store = (set.contains-empty text_cmp s, refl); is = refl } }),
+        (refl, refl),
+      );
+      dropped = row_8;
+      said = said_8;
+      back = d9;
+      comes = (
+        d9,
+        (here, record { book = b9; call = (admitted_again, first_again, refl); called = record { armed = set.empty; store = (set.contains-empty text_cmp s, refl); is = refl } }),
+        (refl, refl),
+      );
+      waits = ap (λ (b : Book). map.get b.rows (item.uid, m)) (book_here d8.books s b9) ∙ waits_9;
+    }
+
+pub a_dropping_runs : ADroppingRuns
+a_dropping_runs plan from to item other accepted here there differ sends offered taken uid distinct entered = given_up_and_back plan from to item accepted here differ sends offered taken there other uid distinct entered
 
 pub one_hop_runs : OneHopRuns
 one_hop_runs plan from to item accepted here differ sends offered taken = one_hop plan from to item accepted here differ sends offered taken

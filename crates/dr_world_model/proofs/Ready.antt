@@ -15,7 +15,7 @@ use Rattle.dr_ledger.specs.declared.item.Instance.{Instance}
 use Rattle.dr_ledger.specs.declared.item.Outcome.{Outcome}
 use Rattle.dr_ledger.specs.declared.item.Outcome.TheVariants.{Status, Broken, NoContext}
 use Rattle.dr_ledger.specs.declared.item.Arrived.TheVariants.{Again}
-use Rattle.dr_ledger.specs.Books.{Book, Repeat, Settling, Requeuing, Forgetting, after, empty_book}
+use Rattle.dr_ledger.specs.Books.{Book, Repeat, Settling, Requeuing, Dropping, Forgetting, after, empty_book}
 use Rattle.dr_ledger.specs.PlanRoutes.{plan_routing}
 use Rattle.dr_ledger.specs.Replies.{IsAdmitted, IsWaiting, arrival_line}
 use Rattle.dr_world_model.specs.Worlds.{World, Link, Contexts, Storing, Replying, start, with_book, with_armed, with_link, without_caller, at_stage}
@@ -218,6 +218,8 @@ module _ (plan : Network) (w : World) where
     );
     requeue = λ node uid dest is.
         (unwritten node, (is, record { book = w.books node; call = refl; called = record { armed = w.armed; store = inl refl; is = refl } }));
+    drop = λ node uid dest is.
+        (unwritten node, (is, record { book = w.books node; call = refl; called = record { armed = w.armed; store = inl refl; is = refl } }));
     forget = λ node uid is none.
         (unwritten node, (is, none, record { book = w.books node; call = refl; called = record { armed = w.armed; store = inl refl; is = refl } }));
   }
@@ -257,6 +259,11 @@ module _ (plan : Network) (w : World) where
         let book = after (Requeuing uid dest) (w.books node) in
         (with_armed (with_book w node book) w.armed, (is, record { book = book; call = (held, refl); called = record { armed = w.armed; store = (writes, refl); is = refl } }));
     requeue_not_held = λ node uid dest is held_not.
+        (unwritten node, (is, record { book = w.books node; call = (held_not, refl); called = record { armed = w.armed; store = refl; is = refl } }));
+    drop = λ node uid dest is writes held.
+        let book = after (Dropping uid dest w.time) (w.books node) in
+        (with_armed (with_book w node book) w.armed, (is, record { book = book; call = (held, refl); called = record { armed = w.armed; store = (writes, refl); is = refl } }));
+    drop_not_held = λ node uid dest is held_not.
         (unwritten node, (is, record { book = w.books node; call = (held_not, refl); called = record { armed = w.armed; store = refl; is = refl } }));
     forget = λ node uid is writes none over.
         let book = after (Forgetting uid) (w.books node) in

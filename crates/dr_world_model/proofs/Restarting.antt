@@ -17,7 +17,7 @@ use Rattle.dr_ledger.specs.declared.item.Instance.{Instance}
 use Rattle.dr_ledger.specs.declared.item.Outcome.{Outcome}
 use Rattle.dr_ledger.specs.declared.item.Outcome.TheVariants.{Broken}
 use Rattle.dr_ledger.specs.declared.item.Progress.{Progress}
-use Rattle.dr_ledger.specs.declared.item.Progress.TheVariants.{Waiting, Held, Done}
+use Rattle.dr_ledger.specs.declared.item.Progress.TheVariants.{Waiting, Held, Done, Dropped}
 use Rattle.dr_ledger.specs.Books.{Book, Adoption, after, empty_book}
 use Rattle.dr_ledger.specs.Replies.{IsWaiting}
 use Rattle.dr_world_model.specs.Worlds.{World, Link, same_text, with_book, with_armed, with_link, without_caller}
@@ -46,6 +46,7 @@ none_waits None = inl (λ tries due e. let f : ⊥ = cc in f)
 none_waits (Some (Waiting tries due)) = inr (tries, due, refl)
 none_waits (Some (Held why)) = inl (λ tries due e. let f : ⊥ = cc in f)
 none_waits (Some Done) = inl (λ tries due e. let f : ⊥ = cc in f)
+none_waits (Some Dropped) = inl (λ tries due e. let f : ⊥ = cc in f)
 
 module _ (w : World) (name uid dest : Text) (outcome : Outcome) where
   refused : IsWaiting (w.books name) uid dest → set.contains w.armed name ≡ true → Settled w name uid dest outcome

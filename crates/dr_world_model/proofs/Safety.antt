@@ -12,7 +12,7 @@ use Rattle.dr_ledger.specs.declared.item.Progress.TheVariants.{Done}
 use Rattle.dr_ledger.specs.Books.{Book, Line, Fold}
 use Rattle.dr_ledger.specs.OneNode.{HasSucceededSince}
 use Rattle.dr_world_model.specs.Worlds.{World, Link, Stage, Asking, Answering, Rejecting, Open, Storing, Replying, Gone, same_text, books_with, with_book, with_link}
-use Rattle.dr_world_model.specs.Claims.{Has, HadArrival, IsToSend, WasCarriedOver, HasSource, IsFairLine, IsFairStatus, CoversHop}
+use Rattle.dr_world_model.specs.Claims.{Has, HadArrival, IsToSend, WasCarriedOver, WasGivenUp, HasSource, IsFairLine, IsFairStatus, CoversHop}
 use Rattle.dr_world_model.specs.Steps.{IsLink, pending}
 use Rattle.dr_ledger.proofs.Maps.{texts, same_or_not, ties_itself, got}
 use Rattle.dr_world_model.proofs.Lookups.{numbers}
@@ -40,17 +40,20 @@ IsFairStage plan w caller receiver connected (Replying accepted item status) =
 abbrev pub IsFairLink : Network → World → Link → Type 0
 IsFairLink plan w link = IsFairStage plan w link.caller link.receiver link.caller_connected link.stage
 
--- the item is still queued at the node for the next one, or that one had it
-abbrev pub IsPassedOn : World → Text → Instance → Text → Type 0
-IsPassedOn w name item to = GoesOn (w.books name) item to ⊎ HadArrival w to name item
+-- by this book of the node the item is still queued for the next one, or that one had it, or a person gave it up
+abbrev pub PassesBy : Network → World → Text → Book → Instance → Text → Type 0
+PassesBy plan w name b item to = GoesOn b item to ⊎ (HadArrival w to name item ⊎ WasGivenUp plan name b.lines item to)
+
+abbrev pub IsPassedOn : Network → World → Text → Instance → Text → Type 0
+IsPassedOn plan w name item to = PassesBy plan w name (w.books name) item to
 
 -- what each event keeps
 pub record IsSafe (plan : Network) (w : World) : Type 0 where
   pub books : (name : Text) → IsRight plan name (w.stood name) (w.books name)
   pub lines : (name : Text) (line : Line) → Contains (w.books name).lines line → IsFairLine line
   pub sources : (name caller : Text) (item : Instance) → HadArrival w name caller item → HasSource plan w caller name item
-  pub sent : (name caller to : Text) (item : Instance) → HadArrival w name caller item → Sends plan name caller item.key to → IsPassedOn w name item to
-  pub carried : (name to : Text) (item : Instance) → WasCarriedOver w name item to → Goes plan item.key name to × IsPassedOn w name item to
+  pub sent : (name caller to : Text) (item : Instance) → HadArrival w name caller item → Sends plan name caller item.key to → IsPassedOn plan w name item to
+  pub carried : (name to : Text) (item : Instance) → WasCarriedOver w name item to → Goes plan item.key name to × IsPassedOn plan w name item to
   pub done : (name to : Text) (item : Instance) → map.get (w.books name).rows (item.uid, to) ≡ Some Done → Has w name item → HadArrival w to name item
   pub folds : (name : Text) → w.books name ≡ Fold (w.books name).lines
   pub answered : (name to : Text) (item : Instance) → HasSucceededSince (w.books name).lines item to → HadArrival w to name item
@@ -135,28 +138,33 @@ module _ (w : World) (name : Text) (b : Book) where
 
     -- what was passed on is so still
     abbrev PassesOn : Type 0
-    PassesOn = (item : Instance) (to : Text) → GoesOn (w.books name) item to → GoesOn b item to ⊎ HadArrival w to name item
+    PassesOn = (item : Instance) (to : Text) → GoesOn (w.books name) item to → PassesBy plan w name b item to
 
-    passed_here : PassesOn → (item : Instance) (to : Text) → IsPassedOn w name item to → GoesOn b item to ⊎ HadArrival put to name item
-    passed_here on item to h = elim h [
-      | inl g ↦ elim (on item to g) [ inl still ↦ inl still | inr had ↦ inr ((put_grows.books to).took name item had) ]
-      | inr had ↦ inr ((put_grows.books to).took name item had)
+    -- what was given up is so still, or is passed on
+    abbrev GivesOn : Type 0
+    GivesOn = (item : Instance) (to : Text) → WasGivenUp plan name (w.books name).lines item to → PassesBy plan w name b item to
+
+    passed_there : (n : Text) (x : Book) (item : Instance) (to : Text) → PassesBy plan w n x item to → PassesBy plan put n x item to
+    passed_there n x item to h = elim h [
+      | inl g ↦ inl g
+      | inr (inl had) ↦ inr (inl ((put_grows.books to).took n item had))
+      | inr (inr given) ↦ inr (inr given)
     ]
 
-    passed_there : (n : Text) (item : Instance) (to : Text) → IsPassedOn w n item to → GoesOn (w.books n) item to ⊎ HadArrival put to n item
-    passed_there n item to h = elim h [ inl g ↦ inl g | inr had ↦ inr ((put_grows.books to).took n item had) ]
+    passed_here : PassesOn → GivesOn → (item : Instance) (to : Text) → IsPassedOn plan w name item to → PassesBy plan put name b item to
+    passed_here on gives item to h = passed_there name b item to (elim h [ inl g ↦ on item to g | inr (inl had) ↦ inr (inl had) | inr (inr given) ↦ gives item to given ])
 
     pub put_book :
         ((caller : Text) (item : Instance) → Took b caller item → Took (w.books name) caller item
-        ⊎ (HasSource plan put caller name item × ((to : Text) → Sends plan name caller item.key to → GoesOn b item to ⊎ HadArrival w to name item))) →
-        PassesOn →
+        ⊎ (HasSource plan put caller name item × ((to : Text) → Sends plan name caller item.key to → PassesBy plan w name b item to))) →
+        PassesOn → GivesOn →
         ((to : Text) (item : Instance) → map.get b.rows (item.uid, to) ≡ Some Done → map.get b.items item.uid ≡ Some item →
         ((map.get (w.books name).rows (item.uid, to) ≡ Some Done) × Has w name item) ⊎ HadArrival w to name item) →
         KeepsPending w put →
         ((line : Line) → Contains b.lines line → Contains (w.books name).lines line ⊎ IsFairLine line) →
         b ≡ Fold b.lines → ((to : Text) (item : Instance) → HasSucceededSince b.lines item to → HasSucceededSince (w.books name).lines item to ⊎ HadArrival w to name item) →
         IsSafe plan put
-    put_book news on dones pends fair fold successes = record {
+    put_book news on gives dones pends fair fold successes = record {
       folds = each_book (λ n x. x ≡ Fold x.lines) fold safe.folds;
       answered = each_book (λ n x. (to : Text) (item : Instance) → HasSucceededSince x.lines item to → HadArrival put to n item)
           (λ to item h. elim (successes to item h) [
@@ -172,15 +180,15 @@ module _ (w : World) (name : Text) (b : Book) where
             | inr s ↦ s.0
           ])
           (λ n caller item h. source_still plan w _ caller n item put_grows (safe.sources n caller item h));
-      sent = each_book (λ n x. (caller to : Text) (item : Instance) → Took x caller item → Sends plan n caller item.key to → GoesOn x item to ⊎ HadArrival put to n item)
+      sent = each_book (λ n x. (caller to : Text) (item : Instance) → Took x caller item → Sends plan n caller item.key to → PassesBy plan put n x item to)
           (λ caller to item h s. elim (news caller item h) [
-            | inl was ↦ passed_here on item to (safe.sent name caller to item was s)
-            | inr new ↦ elim (new.1 to s) [ inl g ↦ inl g | inr had ↦ inr ((put_grows.books to).took name item had) ]
+            | inl was ↦ passed_here on gives item to (safe.sent name caller to item was s)
+            | inr new ↦ passed_there name b item to (new.1 to s)
           ])
-          (λ n caller to item h s. passed_there n item to (safe.sent n caller to item h s));
-      carried = each_book (λ n x. (to : Text) (item : Instance) → WasCarriedOver w n item to → Goes plan item.key n to × (GoesOn x item to ⊎ HadArrival put to n item))
-          (λ to item h. (let c = safe.carried name to item h in (c.0, passed_here on item to c.1)))
-          (λ n to item h. (let c = safe.carried n to item h in (c.0, passed_there n item to c.1)));
+          (λ n caller to item h s. passed_there n (w.books n) item to (safe.sent n caller to item h s));
+      carried = each_book (λ n x. (to : Text) (item : Instance) → WasCarriedOver w n item to → Goes plan item.key n to × PassesBy plan put n x item to)
+          (λ to item h. (let c = safe.carried name to item h in (c.0, passed_here on gives item to c.1)))
+          (λ n to item h. (let c = safe.carried n to item h in (c.0, passed_there n (w.books n) item to c.1)));
       done = each_book (λ n x. (to : Text) (item : Instance) → map.get x.rows (item.uid, to) ≡ Some Done → map.get x.items item.uid ≡ Some item → HadArrival put to n item)
           (λ to item h i. elim (dones to item h i) [
             | inl was ↦ (put_grows.books to).took name item (safe.done name to item was.0 was.1)
@@ -215,8 +223,8 @@ pub same_books : (plan : Network) (old new : World) → IsSafe plan old → new.
 same_books plan old new safe same stood links =
     let g = same_grows old new same stood in
     let P : (Text → Book) → (Text → Book) → Type 0 = λ stood books. (name : Text) → IsRight plan name (stood name) (books name) in
-    let S : (Text → Book) → Type 0 = λ books. (name caller to : Text) (item : Instance) → Took (books name) caller item → Sends plan name caller item.key to → GoesOn (books name) item to ⊎ Took (books to) name item in
-    let C : (Text → Book) → (Text → Book) → Type 0 = λ stood books. (name to : Text) (item : Instance) → IsToSend (stood name) item to → Goes plan item.key name to × (GoesOn (books name) item to ⊎ Took (books to) name item) in
+    let S : (Text → Book) → Type 0 = λ books. (name caller to : Text) (item : Instance) → Took (books name) caller item → Sends plan name caller item.key to → GoesOn (books name) item to ⊎ (Took (books to) name item ⊎ WasGivenUp plan name (books name).lines item to) in
+    let C : (Text → Book) → (Text → Book) → Type 0 = λ stood books. (name to : Text) (item : Instance) → IsToSend (stood name) item to → Goes plan item.key name to × (GoesOn (books name) item to ⊎ (Took (books to) name item ⊎ WasGivenUp plan name (books name).lines item to)) in
     let D : (Text → Book) → Type 0 = λ books. (name to : Text) (item : Instance) → map.get (books name).rows (item.uid, to) ≡ Some Done → map.get (books name).items item.uid ≡ Some item → Took (books to) name item in
     let F : (Text → Book) → Type 0 = λ books. (name : Text) → books name ≡ Fold (books name).lines in
     let A : (Text → Book) → Type 0 = λ books. (name to : Text) (item : Instance) → HasSucceededSince (books name).lines item to → Took (books to) name item in

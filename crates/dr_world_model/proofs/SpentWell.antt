@@ -8,7 +8,7 @@ use Rattle.dr_ledger.specs.declared.fault.LedgerFault.TheVariants as fault
 use Rattle.dr_ledger.specs.Books.{Book}
 use Rattle.dr_world_model.specs.Worlds.{World}
 use Rattle.dr_world_model.specs.Calls.{Called, store_outcome_of}
-use Rattle.dr_world_model.specs.Spending.{IsSpentWell, ArrivalsSpendWell, SettlingsSpendWell, RequeuingsSpendWell, ForgettingsSpendWell}
+use Rattle.dr_world_model.specs.Spending.{IsSpentWell, ArrivalsSpendWell, SettlingsSpendWell, RequeuingsSpendWell, DroppingsSpendWell, ForgettingsSpendWell}
 
 module _ {A : Type 0} (Would : Type 0) (old new : World) (name : Text) (book : Book) where
   unspent : (reply : Result A LedgerFault) → ((value : A) → reply ≡ Ok value → set.contains old.armed name ≡ false) → new.armed ≡ old.armed →
@@ -38,6 +38,9 @@ settlings_spend_well old new name uid dest outcome answer s = spent_well _ old n
 
 pub requeuings_spend_well : RequeuingsSpendWell
 requeuings_spend_well old new name uid dest answer r = spent_well _ old new name r.book answer r.called
+
+pub droppings_spend_well : DroppingsSpendWell
+droppings_spend_well old new name uid dest answer d = spent_well _ old new name d.book answer d.called
 
 pub forgettings_spend_well : ForgettingsSpendWell
 forgettings_spend_well old new name uid answer d = spent_well _ old new name d.book answer d.called

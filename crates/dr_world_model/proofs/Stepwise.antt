@@ -14,16 +14,17 @@ use Rattle.dr_ledger.proofs.Maps.{get_new}
 use Rattle.dr_world_model.proofs.Lookups.{numbers}
 use Rattle.dr_world_model.proofs.OneReply.{same_link}
 use Rattle.dr_world_model.specs.Worlds.{World, Link, with_link, with_links, with_armed, without_caller}
-use Rattle.dr_world_model.specs.Calls.{Reply, Answer, Arriving, Settlement, Requeueing, Dropping}
+use Rattle.dr_world_model.specs.Calls.{Reply, Answer, Arriving, Settlement, Requeueing, GivingUp, LettingGo}
 use Rattle.dr_world_model.specs.Steps.{IsHop, IsLink, SettlesFirst, OpensLink, pending, SettlesPending, Leaves, LeavesIfOn, LeaveAll, callers_of, links_without, asked, passed, Gives}
-use Rattle.dr_world_model.specs.Events.{HasNode, Event, Take, Ask, AgreeReceiver, AgreeCaller, Give, Receive, Answered, BreakCaller, BreakReceiver, Close, Restart, Requeue, Forget, Refuse, Tick, Step}
+use Rattle.dr_world_model.specs.Events.{HasNode, Event, Take, Ask, AgreeReceiver, AgreeCaller, Give, Receive, Answered, BreakCaller, BreakReceiver, Close, Restart, Requeue, Drop, Forget, Refuse, Tick, Step}
 
 -- P is kept by what events are made of
 pub record Closed (plan : Network) (P : World → Type 0) : Type 0 where
   pub arriving : (w v : World) (name caller : Text) (item : Instance) (reply : Reply) → Arriving plan w name caller item reply v → P w → P v
   pub settling : (w v : World) (name uid dest : Text) (outcome : Outcome) (answer : Answer) → Settlement w name uid dest outcome answer v → P w → P v
   pub requeueing : (w v : World) (name uid dest : Text) (answer : Answer) → Requeueing w name uid dest answer v → P w → P v
-  pub dropping : (w v : World) (name uid : Text) (answer : Answer) → Dropping w name uid answer v → P w → P v
+  pub giving_up : (w v : World) (name uid dest : Text) (answer : Answer) → GivingUp w name uid dest answer v → P w → P v
+  pub letting_go : (w v : World) (name uid : Text) (answer : Answer) → LettingGo w name uid answer v → P w → P v
   pub linked : (w : World) (number : ℕ) (was is : Link) → IsLink w number was → (is.caller ≡ was.caller) × (is.receiver ≡ was.receiver) → P w → P (with_link w number is)
   pub opened : (w : World) (caller receiver : Text) → IsHop plan caller receiver → P w → P (asked w caller receiver)
   pub forgot : (w : World) (name : Text) → P w → P (with_links w (links_without w.links name))
@@ -111,6 +112,7 @@ module _ (plan : Network) (P : World → Type 0) (closed : Closed plan P) where
   step_keeps w (Close number answer) v s p = closes w v s.mid number s.link _ answer (refl, refl) s.at s.left s.is p
   step_keeps w (Restart node answers) v s p = subst P (sym s.2) (closed.forgot s.0 node (all_leave (callers_of w node) answers w s.0 s.1 p))
   step_keeps w (Requeue node uid dest answer) v s p = closed.requeueing w v node uid dest answer s.1 p
-  step_keeps w (Forget node uid answer) v s p = closed.dropping w v node uid answer s.2 p
+  step_keeps w (Drop node uid dest answer) v s p = closed.giving_up w v node uid dest answer s.1 p
+  step_keeps w (Forget node uid answer) v s p = closed.letting_go w v node uid answer s.2 p
   step_keeps w (Refuse node) v s p = subst P (sym s.1) (closed.told w node s.0 p)
   step_keeps w (Tick ms) v s p = subst P (sym s) (closed.waited w ms p)

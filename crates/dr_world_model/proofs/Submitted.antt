@@ -16,14 +16,14 @@ use Rattle.dr_ledger.specs.declared.item.Outcome.{Outcome}
 use Rattle.dr_ledger.specs.declared.item.Outcome.TheVariants.{Status, Broken, NoContext}
 use Rattle.dr_ledger.specs.Books.{Book}
 use Rattle.dr_ledger.specs.Items.{instance_of}
-use Rattle.dr_ledger.specs.Replies.{Arrives, Requeues, Forgets, Settles}
+use Rattle.dr_ledger.specs.Replies.{Arrives, Requeues, Drops, Forgets, Settles}
 use Rattle.dr_ledger.specs.Routings.{Routing}
 use Rattle.dr_ledger.proofs.Maps.{texts, got, filled_got}
 use Rattle.dr_ledger.proofs.Needs.{one_instance_is_one_item}
 use Rattle.dr_world_model.specs.Worlds.{World, Link, start, with_link}
 use Rattle.dr_world_model.specs.Calls.{Reply, Answer, StoreOutcome, Called, Arriving, Settlement}
 use Rattle.dr_world_model.specs.Steps.{IsLink, SettlesFirst, OpensLink, pending, SettlesPending, Leaves, LeavesIfOn, LeaveAll, callers_of, Gives}
-use Rattle.dr_world_model.specs.Events.{Event, Take, Ask, AgreeReceiver, AgreeCaller, Give, Receive, Answered, BreakCaller, BreakReceiver, Close, Restart, Requeue, Forget, Refuse, Tick, Step}
+use Rattle.dr_world_model.specs.Events.{Event, Take, Ask, AgreeReceiver, AgreeCaller, Give, Receive, Answered, BreakCaller, BreakReceiver, Close, Restart, Requeue, Drop, Forget, Refuse, Tick, Step}
 use Rattle.dr_world_model.specs.Runs.{Adopts, Action, Occurs, Adopt, Runs}
 use Rattle.dr_world_model.specs.Unchanged.{IsSubmitted, NothingIsMadeUp, WasSubmitted, WhatIsThereIsUnchanged}
 use Rattle.dr_ledger.proofs.Forgotten.{item_left}
@@ -65,6 +65,16 @@ requeued_items uid dest old new (Err fault.NoLine) r = absurd r
 requeued_items uid dest old new (Err fault.Conflict) r = absurd r
 requeued_items uid dest old new (Err fault.NotWaiting) r = absurd r
 requeued_items uid dest old new (Err fault.NotOver) r = absurd r
+
+dropped_items : (uid dest : Text) (now : ℕ) (old new : Book) (answer : Answer) → Drops uid dest now old answer new → new.items ≡ old.items
+dropped_items uid dest now old new (Ok done) d = ap (λ (b : Book). b.items) d.1
+dropped_items uid dest now old new (Err fault.NotHeld) d = ap (λ (b : Book). b.items) d.1
+dropped_items uid dest now old new (Err fault.Store) d = ap (λ (b : Book). b.items) d
+dropped_items uid dest now old new (Err fault.Memory) d = ap (λ (b : Book). b.items) d
+dropped_items uid dest now old new (Err fault.NoLine) d = absurd d
+dropped_items uid dest now old new (Err fault.Conflict) d = absurd d
+dropped_items uid dest now old new (Err fault.NotWaiting) d = absurd d
+dropped_items uid dest now old new (Err fault.NotOver) d = absurd d
 
 forgotten_items : (uid : Text) (old new : Book) (answer : Answer) → Forgets uid old answer new → (u : Text) (i : Instance) → map.get new.items u ≡ Some i → map.get old.items u ≡ Some i
 forgotten_items uid old new (Ok done) f u i h = (item_left old uid u i (ap (λ (b : Book). map.get b.items u) (sym f.1) ∙ h)).1
@@ -202,6 +212,8 @@ module _ (T : Instance → Type 0) where
       subst Known (sym s.2) (left.0, λ n l h. left.1 n l (was_link s.0.links node n l h))
   step_known plan w (Requeue node uid dest answer) v s t k =
       called _ w v node _ s.1.book s.1.called (λ u i h. k.0 node u i (ap (λ (items : FinMap text_cmp Instance). map.get items u) (sym (requeued_items uid dest (w.books node) s.1.book answer s.1.call)) ∙ h)) k
+  step_known plan w (Drop node uid dest answer) v s t k =
+      called _ w v node _ s.1.book s.1.called (λ u i h. k.0 node u i (ap (λ (items : FinMap text_cmp Instance). map.get items u) (sym (dropped_items uid dest w.time (w.books node) s.1.book answer s.1.call)) ∙ h)) k
   step_known plan w (Forget node uid answer) v s t k =
       called _ w v node _ s.2.book s.2.called (λ u i h. k.0 node u i (forgotten_items uid (w.books node) s.2.book answer s.2.call u i h)) k
   step_known plan w (Refuse node) v s t k = subst Known (sym s.1) k

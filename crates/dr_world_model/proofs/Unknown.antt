@@ -15,7 +15,7 @@ use Rattle.dr_ledger.specs.declared.item.Progress.TheVariants.{Waiting, Held}
 use Rattle.dr_ledger.specs.Books.{Book, empty_book}
 use Rattle.dr_ledger.specs.Pairs.{pair_cmp}
 use Rattle.dr_ledger.specs.PlanRoutes.{plan_routing}
-use Rattle.dr_ledger.specs.Replies.{Arrives, Forgets, IsHeld, IsOver, IsWaiting, Requeues, Settles}
+use Rattle.dr_ledger.specs.Replies.{Arrives, Drops, Forgets, IsHeld, IsOver, IsWaiting, Requeues, Settles}
 use Rattle.dr_world_model.specs.Worlds.{World, start}
 use Rattle.dr_world_model.specs.Calls.{Answer, Called, StoreOutcome, Reply}
 use Rattle.dr_world_model.specs.Events.{HasNode}
@@ -70,6 +70,16 @@ module _ (plan : Network) (formed : IsWellFormed plan) where
   requeued_empty uid dest old new (Err fault.NotWaiting) e r = absurd r
   requeued_empty uid dest old new (Err fault.NotOver) e r = absurd r
 
+  dropped_empty : (uid dest : Text) (now : ℕ) (old new : Book) (answer : Answer) → old ≡ empty_book → Drops uid dest now old answer new → new ≡ empty_book
+  dropped_empty uid dest now old new (Ok done) e d = absurd (none_held uid dest old e d.0)
+  dropped_empty uid dest now old new (Err fault.NotHeld) e d = d.1 ∙ e
+  dropped_empty uid dest now old new (Err fault.Store) e d = d ∙ e
+  dropped_empty uid dest now old new (Err fault.Memory) e d = d ∙ e
+  dropped_empty uid dest now old new (Err fault.NoLine) e d = absurd d
+  dropped_empty uid dest now old new (Err fault.Conflict) e d = absurd d
+  dropped_empty uid dest now old new (Err fault.NotWaiting) e d = absurd d
+  dropped_empty uid dest now old new (Err fault.NotOver) e d = absurd d
+
   none_there : (uid : Text) (b : Book) → b ≡ empty_book → IsOver b uid → ⊥
   none_there uid b e over = no_row over.there.0 (sym (map.get-empty text_cmp uid) ∙ (ap (λ (x : Book). map.get x.items uid) (sym e) ∙ over.there.1))
 
@@ -95,7 +105,9 @@ module _ (plan : Network) (formed : IsWellFormed plan) where
         called_empty _ w v name _ s.book s.called (λ stranger. settled_empty uid dest outcome w.time (w.books name) s.book answer (p name stranger) s.call) p;
     requeueing = λ w v name uid dest answer r p.
         called_empty _ w v name _ r.book r.called (λ stranger. requeued_empty uid dest (w.books name) r.book answer (p name stranger) r.call) p;
-    dropping = λ w v name uid answer d p.
+    giving_up = λ w v name uid dest answer d p.
+        called_empty _ w v name _ d.book d.called (λ stranger. dropped_empty uid dest w.time (w.books name) d.book answer (p name stranger) d.call) p;
+    letting_go = λ w v name uid answer d p.
         called_empty _ w v name _ d.book d.called (λ stranger. forgotten_empty uid (w.books name) d.book answer (p name stranger) d.call) p;
     linked = λ w number was is at ends p. p;
     opened = λ w caller receiver hop p. p;

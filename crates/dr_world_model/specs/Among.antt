@@ -1,6 +1,6 @@
 -- Networks in which some nodes are other makers' products: those do what they want, and own no book
 -- of which anything is claimed.
-use Rattle.std.specs.Prelude.{◌≡◌, ◌≢◌, ◌↔◌, ℕ, ◌≤◌, ◌⊎◌, Bool, true, false, List, [], ◌∷◌, length}
+use Rattle.std.specs.Prelude.{◌≡◌, ◌↔◌, ℕ, ◌≤◌, ◌⊎◌, Bool, true, false, List, [], ◌∷◌, length}
 use Rattle.std.specs.Prelude.{Contains, Option, None, Some}
 use Rattle.std.specs.FinMap as map
 use Rattle.std.specs.FinSet as set
@@ -15,7 +15,7 @@ use Rattle.dr_ledger.specs.declared.item.Instance.{Instance}
 use Rattle.dr_ledger.specs.declared.item.Outcome.{Outcome}
 use Rattle.dr_ledger.specs.declared.item.Progress.{Progress}
 use Rattle.dr_ledger.specs.declared.item.Progress.TheVariants.{Done}
-use Rattle.dr_ledger.specs.Books.{Settling, Adoption, after, empty_book}
+use Rattle.dr_ledger.specs.Books.{Settling, Adoption, after, empty_book, is_queued}
 use Rattle.dr_ledger.specs.OneNode.{HasSucceededSince}
 use Rattle.dr_world_model.specs.Worlds.{World, Link, Contexts, Stage, Asking, Answering, Rejecting}
 use Rattle.dr_world_model.specs.Worlds.{Open, Storing, Replying, start, with_link, without_receiver}
@@ -23,11 +23,12 @@ use Rattle.dr_world_model.specs.Worlds.{at_stage}
 use Rattle.dr_world_model.specs.Steps.{IsLink, asked}
 use Rattle.dr_world_model.specs.Events.{Event, Take, Ask, AgreeReceiver, AgreeCaller, Give, Receive}
 use Rattle.dr_world_model.specs.Events.{Answered, BreakCaller, BreakReceiver, Close, Restart}
-use Rattle.dr_world_model.specs.Events.{Requeue, Forget, Refuse, Tick, HasNode, Step}
+use Rattle.dr_world_model.specs.Events.{Requeue, Drop, Forget, Refuse, Tick, HasNode}
+use Rattle.dr_world_model.specs.Events.{Step}
 use Rattle.dr_world_model.specs.Runs.{IsAdoptable, Action, Occurs, Adopt, Runs}
 use Rattle.dr_world_model.specs.Claims.{CoversHop, Has, HadArrival, Headline, HasItems, HasRow}
-use Rattle.dr_world_model.specs.Claims.{IsFairOutcome, IsKept, IsOpen, IsToGo, IsUnderway}
-use Rattle.dr_world_model.specs.Claims.{WasCarriedOver}
+use Rattle.dr_world_model.specs.Claims.{IsFairOutcome, IsGivenUp, IsKept, IsOpen, IsToGo}
+use Rattle.dr_world_model.specs.Claims.{IsUnderway, NobodyDropped, WasCarriedOver, WasGivenUp}
 
 -- which names are those of our nodes: any set of them
 abbrev pub Ours : Type 0
@@ -52,6 +53,7 @@ ArrivesAtOurs ours w (BreakReceiver link) = Unit {0}
 ArrivesAtOurs ours w (Close link answer) = Unit {0}
 ArrivesAtOurs ours w (Restart node answers) = Unit {0}
 ArrivesAtOurs ours w (Requeue node uid dest answer) = Unit {0}
+ArrivesAtOurs ours w (Drop node uid dest answer) = Unit {0}
 ArrivesAtOurs ours w (Forget node uid answer) = Unit {0}
 ArrivesAtOurs ours w (Refuse node) = Unit {0}
 ArrivesAtOurs ours w (Tick ms) = Unit {0}
@@ -139,7 +141,7 @@ Does ours plan old (Stores number item) new = OtherStores ours old number item n
 Does ours plan old (Replies number status) new = OtherReplies ours old number status new
 
 -- All of ours may take the next plan: none of them is connected or armed, each stays a node, and
--- each row that isn't done is of a hop of the next plan.
+-- each row that is still queued is of a hop of the next plan.
 pub record MayTurn (ours : Ours) (plan : Network) (old : World) (next : Network) : Type 0 where
   pub callers : (number : ℕ) (link : Link)
       → IsLink old number link → ours link.caller ≡ true
@@ -153,7 +155,7 @@ pub record MayTurn (ours : Ours) (plan : Network) (old : World) (next : Network)
   pub stay : (name : Text) → HasNode plan name → ours name ≡ true → HasNode next name
   pub fit : (name uid to : Text) (row : Progress) (item : Instance)
       → map.get (old.books name).rows (uid, to) ≡ Some row
-      → row ≢ Done
+      → is_queued row ≡ true
       → map.get (old.books name).items uid ≡ Some item
       → Goes next item.key name to
   pub strangers : (name : Text) → (HasNode plan name → ⊥) → old.books name ≡ empty_book
@@ -283,7 +285,13 @@ IsCoveredAmong ours plan w caller name item dest =
     IsKept w item dest
     ⊎ (IsUnderway plan w caller name item dest ⊎ IsHandedOver ours plan w caller name item dest)
 
--- 4. Each arrival has a destination, and is covered for each. So is each row that was carried over.
+-- the item is covered for the destination, or a person gave it up at one of ours on the way
+abbrev pub IsAnsweredAmong : Ours → Network → World → Text → Text → Instance → Text → Type 0
+IsAnsweredAmong ours plan w caller name item dest =
+    IsCoveredAmong ours plan w caller name item dest ⊎ IsGivenUp plan w caller name item dest
+
+-- 4. Each arrival has a destination, and for each it is covered, or a person gave it up at one of
+--    ours on the way. So is each row that was carried over.
 pub record NothingLostAmong (ours : Ours) (plan : Network) (w : World) : Type 0 where
   pub some : (caller name : Text) (item : Instance)
       → HadArrival w name caller item
@@ -292,11 +300,32 @@ pub record NothingLostAmong (ours : Ours) (plan : Network) (w : World) : Type 0 
       → HadArrival w name caller item
       → (dest : Text)
       → IsDestination plan caller name item.key dest
-      → IsCoveredAmong ours plan w caller name item dest
+      → IsAnsweredAmong ours plan w caller name item dest
   pub carried_some : (name to : Text) (item : Instance)
       → WasCarriedOver w name item to
       → (dest : Text) × IsDestination plan name to item.key dest
   pub carried_each : (name to : Text) (item : Instance)
+      → WasCarriedOver w name item to
+      → (dest : Text)
+      → IsDestination plan name to item.key dest
+      → IsToGo w name item to
+      ⊎ (WasGivenUp plan name (w.books name).lines item to
+      ⊎ (((ours to ≡ true)
+      × HadArrival w to name item
+      × IsAnsweredAmong ours plan w name to item dest)
+      ⊎ ((ours to ≡ false) × HasSucceededSince (w.books name).lines item to)))
+
+-- What was acknowledged is covered for each destination, of each uid of which no journal has a
+-- dropping since the plan was adopted. So is each row that was carried over.
+pub record AllIsThereAmong (ours : Ours) (plan : Network) (w : World) : Type 0 where
+  pub each : (caller name : Text) (item : Instance)
+      → NobodyDropped w item.uid
+      → HadArrival w name caller item
+      → (dest : Text)
+      → IsDestination plan caller name item.key dest
+      → IsCoveredAmong ours plan w caller name item dest
+  pub carried_each : (name to : Text) (item : Instance)
+      → NobodyDropped w item.uid
       → WasCarriedOver w name item to
       → (dest : Text)
       → IsDestination plan name to item.key dest
@@ -324,6 +353,15 @@ HeadlineHoldsAmong =
     → (acts : List Act) (last : Network) (w : World)
     → RunsAmong ours plan start acts last w
     → HeadlineAmong ours last w
+
+-- What nobody gave up is covered among other makers' products, too.
+abbrev pub WhatNobodyGaveUpIsThereAmong : Type 0
+WhatNobodyGaveUpIsThereAmong =
+    (ours : Ours) (plan : Network)
+    → IsSound plan
+    → (acts : List Act) (last : Network) (w : World)
+    → RunsAmong ours plan start acts last w
+    → AllIsThereAmong ours last w
 
 -- ---- laws
 

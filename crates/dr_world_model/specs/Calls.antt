@@ -13,14 +13,14 @@ use Rattle.dr_ledger.specs.declared.item.Outcome.{Outcome}
 use Rattle.dr_ledger.specs.Books.{Book}
 use Rattle.dr_ledger.specs.PlanRoutes.{plan_routing}
 use Rattle.dr_ledger.specs.Replies.{IsAdmitted, IsWaiting, IsHeld, IsOver, Arrives, Settles}
-use Rattle.dr_ledger.specs.Replies.{Requeues, Forgets}
+use Rattle.dr_ledger.specs.Replies.{Requeues, Drops, Forgets}
 use Rattle.dr_world_model.specs.Worlds.{World, with_book, with_armed}
 
 -- what `arrive` answers to a C-STORE request in the message world
 abbrev pub Reply : Type 0
 Reply = Result Arrived LedgerFault
 
--- what `settle`, `requeue` and `forget` answer in the message world
+-- what `settle`, `requeue`, `drop` and `forget` answer in the message world
 abbrev pub Answer : Type 0
 Answer = Result (Unit {0}) LedgerFault
 
@@ -81,8 +81,15 @@ pub record Requeueing (old : World) (name uid dest : Text) (answer : Answer)
   pub call : Requeues uid dest (old.books name) answer book
   pub called : Called (IsHeld (old.books name) uid dest) old name (store_outcome_of answer) book new
 
+-- a person gives up the held row of the instance and the destination
+pub record GivingUp (old : World) (name uid dest : Text) (answer : Answer)
+    (new : World) : Type 0 where
+  pub book : Book
+  pub call : Drops uid dest old.time (old.books name) answer book
+  pub called : Called (IsHeld (old.books name) uid dest) old name (store_outcome_of answer) book new
+
 -- the node forgets the instance of the uid
-pub record Dropping (old : World) (name uid : Text) (answer : Answer) (new : World) : Type 0 where
+pub record LettingGo (old : World) (name uid : Text) (answer : Answer) (new : World) : Type 0 where
   pub book : Book
   pub call : Forgets uid (old.books name) answer book
   pub called : Called (IsOver (old.books name) uid) old name (store_outcome_of answer) book new

@@ -1,6 +1,6 @@
 -- What holds of the message world over a sound plan, after any events: nothing is refused for want
 -- of a presentation context, each arrival lies within its rank of its source, what was answered
--- with success is there, and nothing acknowledged is lost.
+-- with success is there, and nothing acknowledged is lost, but for what a person gave up by name.
 use Rattle.std.specs.Prelude.{◌≡◌, ℕ, ◌≤◌, ◌⊎◌, true, List, length, Contains, Some}
 use Rattle.std.specs.FinMap as map
 use Rattle.std.specs.FinSet as set
@@ -14,10 +14,10 @@ use Rattle.dr_ledger.specs.declared.item.Instance.{Instance}
 use Rattle.dr_ledger.specs.declared.item.Outcome.{Outcome}
 use Rattle.dr_ledger.specs.declared.item.Outcome.TheVariants.{Status, Broken, NoContext}
 use Rattle.dr_ledger.specs.declared.item.Progress.{Progress}
-use Rattle.dr_ledger.specs.declared.item.Progress.TheVariants.{Waiting, Held, Done}
-use Rattle.dr_ledger.specs.Books.{Book, Line, Arrival, Repeat, Settling, Requeuing, Forgetting}
-use Rattle.dr_ledger.specs.Books.{Adoption}
-use Rattle.dr_ledger.specs.OneNode.{HasSucceededSince, WasTaken}
+use Rattle.dr_ledger.specs.declared.item.Progress.TheVariants.{Done}
+use Rattle.dr_ledger.specs.Books.{Book, Line, Arrival, Repeat, Settling, Requeuing, Dropping}
+use Rattle.dr_ledger.specs.Books.{Forgetting, Adoption, is_queued, since_adoption}
+use Rattle.dr_ledger.specs.OneNode.{HasSucceededSince, IsAcknowledged, WasDroppedSince, WasTaken}
 use Rattle.dr_world_model.specs.Worlds.{World, Link, Contexts, Stage, Asking, Answering, Rejecting}
 use Rattle.dr_world_model.specs.Worlds.{Open, Storing, Replying, Gone}
 use Rattle.dr_world_model.specs.Steps.{IsLink}
@@ -76,6 +76,7 @@ IsFairLine (Arrival caller item to keep) = Unit {0}
 IsFairLine (Repeat caller item) = Unit {0}
 IsFairLine (Settling uid dest outcome now) = IsFairOutcome outcome
 IsFairLine (Requeuing uid dest) = Unit {0}
+IsFairLine (Dropping uid dest now) = Unit {0}
 IsFairLine (Forgetting uid) = Unit {0}
 IsFairLine Adoption = Unit {0}
 
@@ -155,11 +156,9 @@ pub record IsHonest (plan : Network) (w : World) : Type 0 where
 
 -- ---- 4. nothing acknowledged is lost
 
--- a row that isn't done: it waits, or is held
+-- a row that isn't over: it waits, or is held
 abbrev pub IsQueued : Progress → Type 0
-IsQueued (Waiting tries due) = Unit {0}
-IsQueued (Held cause) = Unit {0}
-IsQueued Done = ⊥
+IsQueued row = is_queued row ≡ true
 
 -- some node on a walk has the item queued, on its way to the destination
 pub record IsUnderway (plan : Network) (w : World) (caller name : Text) (item : Instance)
@@ -183,13 +182,41 @@ abbrev pub IsCovered : Network → World → Text → Text → Instance → Text
 IsCovered plan w caller name item dest =
     IsKept w item dest ⊎ IsUnderway plan w caller name item dest
 
+-- A person gave the item up at the node for the next one: the node's journal says so, by name,
+-- since the plan was adopted. And since then the node has acknowledged this very item to nobody
+-- from whom it goes there: what was given up doesn't give up what is brought later.
+pub record WasGivenUp (plan : Network) (name : Text) (lines : List Line) (item : Instance)
+    (to : Text) : Type 0 where
+  pub dropped : WasDroppedSince lines item to
+  pub last : (caller : Text)
+      → Sends plan name caller item.key to
+      → IsAcknowledged dropped.dropped.later caller item → ⊥
+
+-- at some node on a walk a person gave the item up for the next one, on its way to the destination
+pub record IsGivenUp (plan : Network) (w : World) (caller name : Text) (item : Instance)
+    (dest : Text) : Type 0 where
+  pub over : List Text
+  pub walk : IsWalk plan item.key caller name over
+  pub to : Text
+  pub sends : Sends plan (last_place caller name over).1 (last_place caller name over).0 item.key to
+  pub given_up : WasGivenUp plan (last_place caller name over).1
+      (w.books (last_place caller name over).1).lines item to
+  pub goes : IsDestination plan (last_place caller name over).1 to item.key dest
+
+-- the destination keeps the item, or some node has it under way to there, or a person gave it up on
+-- the way
+abbrev pub IsAnswered : Network → World → Text → Text → Instance → Text → Type 0
+IsAnswered plan w caller name item dest =
+    IsCovered plan w caller name item dest ⊎ IsGivenUp plan w caller name item dest
+
 -- the node still has the item, and its row for the next node is queued
 abbrev pub IsToGo : World → Text → Instance → Text → Type 0
 IsToGo w name item to =
     Has w name item × ((row : Progress) × HasRow w name item.uid to row × IsQueued row)
 
--- Whatever was acknowledged has a destination and is covered for each. So is each row that stood
--- when the plan was adopted: by itself while it is queued, else by the arrival at its node.
+-- Whatever was acknowledged has a destination, and for each it is covered, or a person gave it up
+-- on the way. So is each row that stood when the plan was adopted: by itself while it is queued or
+-- once it was given up, else by the arrival at its node.
 pub record NothingLost (plan : Network) (w : World) : Type 0 where
   pub some : (caller name : Text) (item : Instance)
       → HadArrival w name caller item
@@ -198,11 +225,39 @@ pub record NothingLost (plan : Network) (w : World) : Type 0 where
       → HadArrival w name caller item
       → (dest : Text)
       → IsDestination plan caller name item.key dest
-      → IsCovered plan w caller name item dest
+      → IsAnswered plan w caller name item dest
   pub carried_some : (name to : Text) (item : Instance)
       → WasCarriedOver w name item to
       → (dest : Text) × IsDestination plan name to item.key dest
   pub carried_each : (name to : Text) (item : Instance)
+      → WasCarriedOver w name item to
+      → (dest : Text)
+      → IsDestination plan name to item.key dest
+      → IsToGo w name item to
+      ⊎ (WasGivenUp plan name (w.books name).lines item to
+      ⊎ (HadArrival w to name item × IsAnswered plan w name to item dest))
+
+-- ---- where nobody gave anything up
+
+-- no node's journal says that a person gave anything of that uid up since the plan was adopted
+abbrev pub NobodyDropped : World → Text → Type 0
+NobodyDropped w uid =
+    (name dest : Text) (now : ℕ)
+    → Contains (since_adoption (w.books name).lines) (Dropping uid dest now)
+    → ⊥
+
+-- Whatever was acknowledged is covered for each destination: kept there, unchanged, or queued on
+-- the way. So is each row that stood when the plan was adopted, by itself while it is queued, else
+-- by the arrival at its node. Nothing is said of what a person gave up.
+pub record AllIsThere (plan : Network) (w : World) : Type 0 where
+  pub each : (caller name : Text) (item : Instance)
+      → NobodyDropped w item.uid
+      → HadArrival w name caller item
+      → (dest : Text)
+      → IsDestination plan caller name item.key dest
+      → IsCovered plan w caller name item dest
+  pub carried_each : (name to : Text) (item : Instance)
+      → NobodyDropped w item.uid
       → WasCarriedOver w name item to
       → (dest : Text)
       → IsDestination plan name to item.key dest

@@ -9,7 +9,8 @@ use Rattle.dr_plan_model.specs.Plans.{IsNode}
 use Rattle.dr_plan_model.specs.declared.plan.Node.{Node}
 use Rattle.dr_ledger.specs.declared.item.Instance.{Instance}
 use Rattle.dr_world_model.specs.Worlds.{World, Contexts, with_armed}
-use Rattle.dr_world_model.specs.Calls.{Reply, Answer, Arriving, Requeueing, Dropping}
+use Rattle.dr_world_model.specs.Calls.{Reply, Answer, Arriving, Requeueing, GivingUp}
+use Rattle.dr_world_model.specs.Calls.{LettingGo}
 use Rattle.dr_world_model.specs.Steps.{IsHop, asked, AnswersRequest, ReadsAnswer, Gives, Receives}
 use Rattle.dr_world_model.specs.Steps.{ReadsReply, Leaves, Drops, Closes, Restarts, NoneIsPending}
 use Rattle.dr_world_model.specs.Steps.{passed}
@@ -32,6 +33,8 @@ pub data Event : Type 0 where
   Restart : (node : Text) → (answers : List (Option Answer)) → Event
   -- a held row is put back
   Requeue : (node : Text) → (uid : Text) → (dest : Text) → (answer : Answer) → Event
+  -- a held row is given up, by name
+  Drop : (node : Text) → (uid : Text) → (dest : Text) → (answer : Answer) → Event
   -- a node forgets what it has sent on everywhere and doesn't keep
   Forget : (node : Text) → (uid : Text) → (answer : Answer) → Event
   Refuse : (node : Text) → Event  -- a node's store is to refuse the next line
@@ -58,8 +61,10 @@ Step plan old (Close link answer) new = Closes old link answer new
 Step plan old (Restart node answers) new = Restarts old node answers new
 Step plan old (Requeue node uid dest answer) new =
     HasNode plan node × Requeueing old node uid dest answer new
+Step plan old (Drop node uid dest answer) new =
+    HasNode plan node × GivingUp old node uid dest answer new
 Step plan old (Forget node uid answer) new =
-    HasNode plan node × NoneIsPending old node uid × Dropping old node uid answer new
+    HasNode plan node × NoneIsPending old node uid × LettingGo old node uid answer new
 Step plan old (Refuse node) new =
     HasNode plan node × (new ≡ with_armed old (set.insert old.armed node))
 Step plan old (Tick ms) new = new ≡ passed old ms

@@ -1,6 +1,6 @@
 -- For each claim of the headline a world of which it is false, so that none of them is said of
 -- every world.
-use Rattle.std.specs.Prelude.{◌≢◌, ℕ, true, false, [], ◌∷◌, cond}
+use Rattle.std.specs.Prelude.{◌≡◌, ◌≢◌, ℕ, true, false, List, [], ◌∷◌, cond}
 use Rattle.std.specs.FinMap as map
 use Rattle.std.specs.FinMap.{FinMap}
 use Rattle.std.specs.FinSet as set
@@ -9,12 +9,13 @@ use Rattle.dr_base.specs.Texts.{Text, text_cmp}
 use Rattle.dr_base.specs.declared.syntax.Syntax.{Syntax}
 use Rattle.dr_route.specs.Routes.{local}
 use Rattle.dr_plan_model.specs.Networks.{Network}
-use Rattle.dr_plan_model.specs.Walks.{GoesOver, IsDestination}
+use Rattle.dr_plan_model.specs.Walks.{GoesOver, IsDestination, Sends}
 use Rattle.dr_ledger.specs.declared.item.Instance.{Instance}
 use Rattle.dr_ledger.specs.declared.item.Outcome.TheVariants.{NoContext, Status}
 use Rattle.dr_ledger.specs.declared.item.Progress.{Progress}
-use Rattle.dr_ledger.specs.declared.item.Progress.TheVariants.{Waiting, Done}
-use Rattle.dr_ledger.specs.Books.{Book, Arrival, Forgetting, Settling, empty_book}
+use Rattle.dr_ledger.specs.declared.item.Progress.TheVariants.{Waiting, Done, Dropped}
+use Rattle.dr_ledger.specs.Books.{Book, Line, Arrival, Repeat, Dropping, Forgetting, Settling}
+use Rattle.dr_ledger.specs.Books.{Adoption, empty_book}
 use Rattle.dr_ledger.specs.Pairs.{pair_cmp}
 use Rattle.dr_world_model.specs.Worlds.{World, Link, Stage, Open, Replying, same_text, start}
 use Rattle.dr_world_model.specs.Worlds.{with_book, with_link}
@@ -178,6 +179,61 @@ forgotten_too_early caller name item = only name
       lines = Arrival caller item [] false ∷ Forgetting item.uid ∷ [];
     })
 
+-- against claim 4: the one row of an arrival was given up, and no line says so
+abbrev pub given_up_unsaid : Text → Text → Text → Instance → World
+given_up_unsaid caller name to item =
+    only name (brought_by caller item (map.insert map.empty (item.uid, to) Dropped) set.empty)
+
+-- a book with that item, whose one row was given up, and these lines
+abbrev pub given_up_with : Text → Instance → List Line → Book
+given_up_with to item lines = record {
+  items = map.insert map.empty item.uid item;
+  arrivals = set.empty;
+  kept = set.empty;
+  rows = map.insert map.empty (item.uid, to) Dropped;
+  lines = lines;
+}
+
+-- the arrival of the item from the caller, for that node
+abbrev pub brought_for : Text → Text → Instance → Line
+brought_for caller to item = Arrival caller item (to ∷ []) false
+
+-- an instance was given up, and what this line says happened afterwards
+abbrev pub given_up_before : Text → Text → Text → Instance → Line → World
+given_up_before caller name to item later = only name (given_up_with to item
+    (brought_for caller to item ∷ Dropping item.uid to 0 ∷ later ∷ []))
+
+-- against claim 4: an instance was given up, and brought again afterwards
+abbrev pub brought_again : Text → Text → Text → Instance → World
+brought_again caller name to item =
+    given_up_before caller name to item (brought_for caller to item)
+
+-- against claim 4: an instance was given up, and its arrival acknowledged as a repeat afterwards
+abbrev pub repeated_after : Text → Text → Text → Instance → World
+repeated_after caller name to item = given_up_before caller name to item (Repeat caller item)
+
+-- a world in which a row of the one node was carried over for the next, and the node has these
+-- lines
+abbrev pub carried_with : Text → Text → Instance → List Line → World
+carried_with name to item lines = record {
+  time = 0;
+  books = λ at. cond (same_text at name) (given_up_with to item lines) empty_book;
+  stood = λ at. cond (same_text at name) (queued_unsaid item.uid to item) empty_book;
+  armed = set.empty;
+  links = map.empty;
+  opened = 0;
+}
+
+-- against claim 4: a row that was carried over was given up under an earlier plan
+abbrev pub given_up_long_ago : Text → Text → Text → Instance → World
+given_up_long_ago caller name to item = carried_with name to item
+    (brought_for caller to item ∷ Dropping item.uid to 0 ∷ Adoption ∷ [])
+
+-- against claim 4: a row was carried over, and what was given up is another instance of its uid
+abbrev pub given_up_another : Text → Text → Text → Instance → Instance → World
+given_up_another caller name to item other = carried_with name to item
+    (brought_for caller to other ∷ Dropping item.uid to 0 ∷ [])
+
 -- a book that keeps another item under the uid
 abbrev pub keeps_instead : Text → Instance → Book
 keeps_instead uid other = record {
@@ -226,6 +282,17 @@ pub record ClaimsFail (plan : Network) (caller name to : Text)
       → NothingLost plan (queued_astray caller name to item)
       → ⊥
   pub carried : NothingLost plan (carried_and_lost name to item) → ⊥
+  pub unsaid : NothingLost plan (given_up_unsaid caller name to item) → ⊥
+  pub again : ((from : Text) → Sends plan name from item.key to → from ≡ caller)
+      → NothingLost plan (brought_again caller name to item)
+      → ⊥
+  pub repeated : ((from : Text) → Sends plan name from item.key to → from ≡ caller)
+      → NothingLost plan (repeated_after caller name to item)
+      → ⊥
+  pub long_ago : NothingLost plan (given_up_long_ago caller name to item) → ⊥
+  pub another : other.uid ≡ item.uid
+      → NothingLost plan (given_up_another caller name to item other)
+      → ⊥
   pub kept : NothingLost plan (kept_as_another caller name item other) → ⊥
 
 -- each claim is false of some world, over every plan, where the caller is no local one and nodes

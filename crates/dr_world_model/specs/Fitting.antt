@@ -11,21 +11,20 @@ use Rattle.dr_plan_model.specs.Networks.{Network}
 use Rattle.dr_plan_model.specs.Walks.{Goes}
 use Rattle.dr_ledger.specs.declared.item.Instance.{Instance}
 use Rattle.dr_ledger.specs.declared.item.Progress.{Progress}
-use Rattle.dr_ledger.specs.declared.item.Progress.TheVariants.{Done}
 use Rattle.dr_ledger.specs.Adopting.{IsFit, IsUnfit, Unfits}
-use Rattle.dr_ledger.specs.Books.{empty_book}
+use Rattle.dr_ledger.specs.Books.{empty_book, is_queued}
 use Rattle.dr_ledger.specs.Pairs.{Pair, pair_cmp}
 use Rattle.dr_world_model.specs.Worlds.{World, Link}
 use Rattle.dr_world_model.specs.Steps.{IsLink}
 use Rattle.dr_world_model.specs.Events.{HasNode}
 use Rattle.dr_world_model.specs.Runs.{MayAdopt}
 
--- each row that isn't done is of a hop of the next plan
+-- each row that is still queued is of a hop of the next plan
 abbrev pub RowsAreOfHops : World → Network → Type 0
 RowsAreOfHops w next =
     (name uid to : Text) (row : Progress) (item : Instance)
     → map.get (w.books name).rows (uid, to) ≡ Some row
-    → row ≢ Done
+    → is_queued row ≡ true
     → map.get (w.books name).items uid ≡ Some item
     → Goes next item.key name to
 

@@ -19,7 +19,8 @@ use Rattle.dr_world_model.specs.Steps.{IsHop, IsLink, AcceptsOffered, NoneIsPend
 use Rattle.dr_world_model.specs.Steps.{pending}
 use Rattle.dr_world_model.specs.Events.{Event, Take, Ask, AgreeReceiver, AgreeCaller, Give, Receive}
 use Rattle.dr_world_model.specs.Events.{Answered, BreakCaller, BreakReceiver, Close, Restart}
-use Rattle.dr_world_model.specs.Events.{Requeue, Forget, Refuse, Tick, HasNode, Step}
+use Rattle.dr_world_model.specs.Events.{Requeue, Drop, Forget, Refuse, Tick}
+use Rattle.dr_world_model.specs.Events.{HasNode, Step}
 use Rattle.dr_world_model.specs.Runs.{IsAdoptable, MayAdopt, Adopts, Occurs, Adopt, Runs}
 use Rattle.dr_world_model.specs.Claims.{HadArrival, HasRow, WasCarriedOver}
 
@@ -153,8 +154,8 @@ pub record StoresHappen (plan : Network) (w : World) : Type 0 where
       → (IsWaiting (w.books link.caller) item.uid link.receiver → ⊥)
       → CanHappen plan w (Answered number (Err fault.NotWaiting))
 
--- a store that fails can refuse what is to be written of a reply, of a caller that leaves, and of a
--- held row
+-- a store that fails can refuse what is to be written of a reply, of a caller that leaves, of a
+-- held row, and of what is forgotten
 pub record RefusalsHappen (plan : Network) (w : World) : Type 0 where
   pub answered : (number : ℕ) (link : Link) (accepted : Contexts) (item : Instance) (status : ℕ)
       → IsCallers w number link
@@ -166,10 +167,13 @@ pub record RefusalsHappen (plan : Network) (w : World) : Type 0 where
       → CanHappen plan w (BreakCaller number (Some (Err fault.Store)))
   pub requeue : (node uid dest : Text) → HasNode plan node
       → CanHappen plan w (Requeue node uid dest (Err fault.Store))
+  pub drop : (node uid dest : Text) → HasNode plan node
+      → CanHappen plan w (Drop node uid dest (Err fault.Store))
   pub forget : (node uid : Text) → HasNode plan node → NoneIsPending w node uid
       → CanHappen plan w (Forget node uid (Err fault.Store))
 
--- links end, nodes restart, held rows are put back, stores are told to refuse, and time passes
+-- links end, nodes restart, held rows are put back or given up, stores are told to refuse, and time
+-- passes
 pub record EndingsHappen (plan : Network) (w : World) : Type 0 where
   pub idle_caller : (number : ℕ) (link : Link)
       → IsCallers w number link
@@ -204,6 +208,12 @@ pub record EndingsHappen (plan : Network) (w : World) : Type 0 where
   pub requeue_not_held : (node uid dest : Text) → HasNode plan node
       → (IsHeld (w.books node) uid dest → ⊥)
       → CanHappen plan w (Requeue node uid dest (Err fault.NotHeld))
+  pub drop : (node uid dest : Text) → HasNode plan node → Writes w node
+      → IsHeld (w.books node) uid dest
+      → CanHappen plan w (Drop node uid dest (Ok tt))
+  pub drop_not_held : (node uid dest : Text) → HasNode plan node
+      → (IsHeld (w.books node) uid dest → ⊥)
+      → CanHappen plan w (Drop node uid dest (Err fault.NotHeld))
   pub forget : (node uid : Text) → HasNode plan node → Writes w node → NoneIsPending w node uid
       → IsOver (w.books node) uid
       → CanHappen plan w (Forget node uid (Ok tt))

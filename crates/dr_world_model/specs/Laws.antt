@@ -1,6 +1,6 @@
 -- Laws of the message world.
-use Rattle.std.specs.Prelude.{◌≡◌, ◌≢◌, ◌↔◌, ℕ, ◌≤◌, List, [], ◌∷◌, ◌++◌, None, Some, Ok, true}
-use Rattle.std.specs.Prelude.{false}
+use Rattle.std.specs.Prelude.{◌≡◌, ◌≢◌, ◌↔◌, ℕ, ◌≤◌, List, [], ◌∷◌, ◌++◌, None, Some, Ok, Err}
+use Rattle.std.specs.Prelude.{true, false}
 use Rattle.std.specs.FinMap as map
 use Rattle.std.specs.FinSet as set
 use Rattle.dr_base.specs.Texts.{Text}
@@ -12,17 +12,19 @@ use Rattle.dr_plan_sound.specs.Soundness.{IsSound}
 use Rattle.dr_plan_sound.specs.Samples.{scanner, archive, image, keep_all, two_nodes}
 use Rattle.dr_ledger.specs.declared.item.Arrived.TheVariants.{New}
 use Rattle.dr_ledger.specs.declared.item.Instance.{Instance}
-use Rattle.dr_ledger.specs.declared.item.Progress.TheVariants.{Done}
+use Rattle.dr_ledger.specs.declared.fault.LedgerFault.TheVariants as fault
+use Rattle.dr_ledger.specs.declared.item.Progress.TheVariants.{Waiting, Done, Dropped}
 use Rattle.dr_plan_model.specs.Networks.{Network}
 use Rattle.dr_ledger.specs.Books.{Line, Fold}
 use Rattle.dr_ledger.specs.Histories.{IsSince}
 use Rattle.dr_ledger.specs.PlanRoutes.{plan_routing}
+use Rattle.dr_ledger.specs.Replies.{IsHeld}
 use Rattle.dr_world_model.specs.Worlds.{World, Link, Contexts, start}
 use Rattle.dr_world_model.specs.Steps.{IsHop, IsLink, AcceptsOffered}
 use Rattle.dr_world_model.specs.Events.{Event, Take, Ask, AgreeReceiver, AgreeCaller, Give, Receive}
-use Rattle.dr_world_model.specs.Events.{Answered, Forget, HasNode, Step}
+use Rattle.dr_world_model.specs.Events.{Answered, Drop, Forget, HasNode, Step}
 use Rattle.dr_world_model.specs.Runs.{Adopts, Action, Occurs, Runs}
-use Rattle.dr_world_model.specs.Claims.{HadArrival, HasRow}
+use Rattle.dr_world_model.specs.Claims.{HadArrival, HasRow, WasGivenUp}
 
 -- A step is a function of the plan, the world, the event and its replies; but where a store failed,
 -- whether it spent a refusal isn't said by them.
@@ -90,6 +92,42 @@ AForgettingRuns =
     → (w : World)
     × Runs plan start (one_store from to item accepted ++ forgotten_and_back from item other) plan w
     × IsBack w from to item other
+
+-- another instance of the same uid entered at the next node: that refuses what goes over the hop
+abbrev pub one_refusal : Text → Text → Instance → Instance → Contexts → List Action
+one_refusal from to item other accepted =
+    Occurs (Take to other (Ok New)) ∷ Occurs (Take from item (Ok New)) ∷ Occurs (Ask from to)
+    ∷ Occurs (AgreeReceiver 1 (Some accepted)) ∷ Occurs (AgreeCaller 1 None) ∷ Occurs (Give 1 None)
+    ∷ Occurs (Receive 1 (Err fault.Conflict)) ∷ Occurs (Answered 1 (Ok tt)) ∷ []
+
+-- From the start: the row is held; then it is given up, and the journal says so; and then the very
+-- instance enters again: it is new, and its row waits.
+pub record IsGivenUpAndBack (plan : Network) (from to : Text) (item other : Instance)
+    (accepted : Contexts) : Type 0 where
+  pub refused : World
+  pub refuses : Runs plan start (one_refusal from to item other accepted) plan refused
+  pub held : IsHeld (refused.books from) item.uid to
+  pub given : World
+  pub gives_up : Runs plan refused (Occurs (Drop from item.uid to (Ok tt)) ∷ []) plan given
+  pub dropped : HasRow given from item.uid to Dropped
+  pub said : WasGivenUp plan from (given.books from).lines item to
+  pub back : World
+  pub comes : Runs plan given (Occurs (Take from item (Ok New)) ∷ []) plan back
+  pub waits : HasRow back from item.uid to (Waiting 0 0)
+
+-- Where the next node has another instance of the uid, a person can give the held row up, and the
+-- instance, brought again, waits anew.
+abbrev pub ADroppingRuns : Type 0
+ADroppingRuns =
+    (plan : Network) (from to : Text) (item other : Instance) (accepted : Contexts)
+    → HasNode plan from → HasNode plan to
+    → from ≢ to
+    → Sends plan from local item.key to
+    → AcceptsOffered plan from to accepted
+    → Accepts plan to from item.key.class item.key.syntax
+    → other.uid ≡ item.uid → other ≢ item
+    → IsReached plan other.key local to
+    → IsGivenUpAndBack plan from to item other accepted
 
 -- In the plan of two nodes, which is sound, each image that enters at the scanner comes to the
 -- archive.

@@ -1,5 +1,5 @@
 -- Adoptions of a new plan, and lists of events and adoptions.
-use Rattle.std.specs.Prelude.{◌≡◌, ◌≢◌, ℕ, false, List, [], ◌∷◌, Some}
+use Rattle.std.specs.Prelude.{◌≡◌, ℕ, true, false, List, [], ◌∷◌, Some}
 use Rattle.std.specs.FinMap as map
 use Rattle.std.specs.FinSet as set
 use Rattle.dr_base.specs.Texts.{Text}
@@ -9,15 +9,14 @@ use Rattle.dr_plan_model.specs.Walks.{Goes}
 use Rattle.dr_plan_sound.specs.Soundness.{IsSound}
 use Rattle.dr_ledger.specs.declared.item.Instance.{Instance}
 use Rattle.dr_ledger.specs.declared.item.Progress.{Progress}
-use Rattle.dr_ledger.specs.declared.item.Progress.TheVariants.{Done}
-use Rattle.dr_ledger.specs.Books.{Adoption, after, empty_book}
+use Rattle.dr_ledger.specs.Books.{Adoption, after, empty_book, is_queued}
 use Rattle.dr_world_model.specs.Worlds.{World, Link}
 use Rattle.dr_world_model.specs.Events.{Event, HasNode, Step}
 use Rattle.dr_world_model.specs.Steps.{IsLink}
 
 -- All nodes may take the next plan: no link is connected at either end, no node is armed, each node
--- stays one, each row that isn't done is of a hop of the next plan, and what names no node has an
--- empty book.
+-- stays one, each row that is still queued is of a hop of the next plan, and what names no node has
+-- an empty book.
 pub record MayAdopt (plan : Network) (old : World) (next : Network) : Type 0 where
   pub off : (number : ℕ) (link : Link)
       → IsLink old number link
@@ -26,13 +25,13 @@ pub record MayAdopt (plan : Network) (old : World) (next : Network) : Type 0 whe
   pub stay : (name : Text) → HasNode plan name → HasNode next name
   pub fit : (name uid to : Text) (row : Progress) (item : Instance)
       → map.get (old.books name).rows (uid, to) ≡ Some row
-      → row ≢ Done
+      → is_queued row ≡ true
       → map.get (old.books name).items uid ≡ Some item
       → Goes next item.key name to
   pub strangers : (name : Text) → (HasNode plan name → ⊥) → old.books name ≡ empty_book
 
--- All nodes take the next plan at once: arrivals and done rows leave the books, a node that joins
--- has an empty one, and links are gone. What is in the books then, stands.
+-- All nodes take the next plan at once: arrivals and the rows that are over leave the books, a node
+-- that joins has an empty one, and links are gone. What is in the books then, stands.
 pub record Adopts (plan : Network) (old : World) (next : Network) (new : World) : Type 0 where
   pub may : MayAdopt plan old next
   pub books : (name : Text) → HasNode plan name → new.books name ≡ after Adoption (old.books name)

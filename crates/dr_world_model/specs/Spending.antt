@@ -10,7 +10,8 @@ use Rattle.dr_ledger.specs.declared.item.Outcome.{Outcome}
 use Rattle.dr_ledger.specs.PlanRoutes.{plan_routing}
 use Rattle.dr_ledger.specs.Replies.{IsAdmitted, IsWaiting, IsHeld, IsOver}
 use Rattle.dr_world_model.specs.Worlds.{World}
-use Rattle.dr_world_model.specs.Calls.{Answer, Reply, Arriving, Settlement, Requeueing, Dropping}
+use Rattle.dr_world_model.specs.Calls.{Answer, Reply, Arriving, Settlement, Requeueing}
+use Rattle.dr_world_model.specs.Calls.{GivingUp, LettingGo}
 
 -- An armed node adds no line. Only a store that fails spends a refusal, and only where the call
 -- would have added a line.
@@ -42,8 +43,17 @@ RequeuingsSpendWell =
     → Requeueing old name uid dest answer new
     → IsSpentWell (IsHeld (old.books name) uid dest) old name answer new
 
+-- a dropping spends a refusal only where the store fails and the dropping would have added a line
+abbrev pub DroppingsSpendWell : Type 0
+DroppingsSpendWell =
+    (old new : World) (name uid dest : Text) (answer : Answer)
+    → GivingUp old name uid dest answer new
+    → IsSpentWell (IsHeld (old.books name) uid dest) old name answer new
+
 -- a forgetting spends a refusal only where the store fails and the forgetting would have added a
 -- line
 abbrev pub ForgettingsSpendWell : Type 0
-ForgettingsSpendWell = (old new : World) (name uid : Text) (answer : Answer) →
-    Dropping old name uid answer new → IsSpentWell (IsOver (old.books name) uid) old name answer new
+ForgettingsSpendWell =
+    (old new : World) (name uid : Text) (answer : Answer)
+    → LettingGo old name uid answer new
+    → IsSpentWell (IsOver (old.books name) uid) old name answer new

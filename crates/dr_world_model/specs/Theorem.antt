@@ -9,7 +9,7 @@ use Rattle.dr_ledger.specs.declared.item.Instance.{Instance}
 use Rattle.dr_ledger.specs.Books.{Line}
 use Rattle.dr_world_model.specs.Worlds.{World, start}
 use Rattle.dr_world_model.specs.Runs.{Action, Runs}
-use Rattle.dr_world_model.specs.Claims.{Headline}
+use Rattle.dr_world_model.specs.Claims.{AllIsThere, Headline}
 
 -- For every sound plan and every list of events and adoptions from the start: the four claims hold
 -- of the plan in force.
@@ -19,6 +19,15 @@ HeadlineHolds =
     → (actions : List Action) (last : Network) (w : World)
     → Runs plan start actions last w
     → Headline last w
+
+-- What nobody gave up is there: of each uid of which no journal has a dropping since the plan was
+-- adopted, whatever was acknowledged is kept at each destination, unchanged, or queued on the way.
+abbrev pub WhatNobodyGaveUpIsThere : Type 0
+WhatNobodyGaveUpIsThere =
+    (plan : Network) → IsSound plan
+    → (actions : List Action) (last : Network) (w : World)
+    → Runs plan start actions last w
+    → AllIsThere last w
 
 -- the headline of one plan at hand
 abbrev pub HeadlineHoldsOf : Network → Type 0

@@ -1,5 +1,6 @@
 //! Laws of the message world: what a reader may take from its definitions.
 ghost use Rattle.dr_world_model.specs.Among.{AllOursIsTheHeadline, OthersCanDo};
+ghost use Rattle.dr_world_model.specs.Among.{WhatNobodyGaveUpIsThereAmong};
 ghost use Rattle.dr_world_model.specs.Endings.{LeavingTriesAgain, LeavingSettles, LeftIsOff};
 ghost use Rattle.dr_world_model.specs.Endings.{DroppedIsOff, RefusedCallersLeave};
 ghost use Rattle.dr_world_model.specs.Endings.{SettledBeforeStays, ClosedIsGone};
@@ -16,11 +17,14 @@ ghost use Rattle.dr_world_model.specs.Pinning.{DropsLeaveTheCaller, EventsAreLoc
 ghost use Rattle.dr_world_model.specs.Pinning.{OthersAreCounted, ReceivedIsReplied};
 ghost use Rattle.dr_world_model.specs.Pinning.{RejectedSettles, RejectedTriesAgain, RestartsAskAll};
 ghost use Rattle.dr_world_model.specs.Pinning.{RestartsInOrder};
-ghost use Rattle.dr_world_model.specs.Spending.{ArrivalsSpendWell, ForgettingsSpendWell};
+ghost use Rattle.dr_world_model.specs.Spending.{ArrivalsSpendWell, DroppingsSpendWell};
+ghost use Rattle.dr_world_model.specs.Spending.{ForgettingsSpendWell};
 ghost use Rattle.dr_world_model.specs.Spending.{RequeuingsSpendWell, SettlingsSpendWell};
 ghost use Rattle.dr_world_model.specs.Strangers.{StrangersHaveNothing, TimeIsBounded};
+ghost use Rattle.dr_world_model.specs.Theorem.{WhatNobodyGaveUpIsThere};
 ghost use Rattle.dr_world_model.specs.Unchanged.{NothingIsMadeUp, WhatIsThereIsUnchanged};
-ghost use Rattle.dr_world_model.specs.Laws.{AForgettingRuns, StepIsAFunction, AdoptionIsAFunction};
+ghost use Rattle.dr_world_model.specs.Laws.{ADroppingRuns, AForgettingRuns, AdoptionIsAFunction};
+ghost use Rattle.dr_world_model.specs.Laws.{StepIsAFunction};
 ghost use Rattle.dr_world_model.specs.Laws.{OneHopRuns, TwoNodesRun, AcceptedAreTheHops};
 ghost use Rattle.dr_world_model.specs.Laws.{NumbersAreFresh, LinksAreHops, NothingGoesBack};
 ghost use Rattle.dr_world_model.specs.Laws.{ArmedAreNodes, NoneIsArmedAfterAdoption};
@@ -42,6 +46,11 @@ pub fn one_hop_runs()
 /// What was sent on can be forgotten, and its uid comes again, with the same data set or another.
 pub fn a_forgetting_runs()
     ensures { AForgettingRuns }
+{}
+
+/// What the next node refused can be given up, and the instance, brought again, waits anew.
+pub fn a_dropping_runs()
+    ensures { ADroppingRuns }
 {}
 
 /// In the plan of two nodes each image that enters at the scanner comes to the archive, which keeps
@@ -70,7 +79,16 @@ pub fn a_refusal_is_spent()
     ensures arrivals { ArrivalsSpendWell }
     ensures settlings { SettlingsSpendWell }
     ensures requeuings { RequeuingsSpendWell }
+    ensures droppings { DroppingsSpendWell }
     ensures forgettings { ForgettingsSpendWell }
+{}
+
+/// What nobody gave up is there: of each uid of which no journal has a dropping since the plan was
+/// adopted, whatever was acknowledged is kept at each of its destinations, unchanged, or queued on
+/// the way. Among other makers' products it is that, or was handed over to one of them.
+pub fn what_nobody_gave_up_is_there()
+    ensures all { WhatNobodyGaveUpIsThere }
+    ensures among { WhatNobodyGaveUpIsThereAmong }
 {}
 
 /// For each claim of the headline there are worlds of which it is false.

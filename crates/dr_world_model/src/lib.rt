@@ -17,7 +17,8 @@ use dr_cert::Sealed;
 /// The headline. Over every sound plan, after every list of events and adoptions from the start:
 /// nothing was refused for want of a presentation context, each arrival lies within its rank of its
 /// source, what was answered with success is there, and each acknowledged instance is kept,
-/// unchanged, at each of its destinations, or queued on the way to it.
+/// unchanged, at each of its destinations, or queued on the way to it, or a person gave it up
+/// there, by name.
 pub fn headline()
     ensures { HeadlineHolds }
 {}
@@ -39,8 +40,8 @@ pub fn kept_stays_kept()
 /// they want: nothing was refused for want of a presentation context between two of ours, each
 /// arrival at one of ours lies within its rank of where it entered our nodes, what one of ours
 /// answered with success it had, and each instance that one of ours acknowledged is kept,
-/// unchanged, at each of its destinations, or queued at one of ours on the way to it, or another
-/// product on the way answered with success.
+/// unchanged, at each of its destinations, or queued at one of ours on the way to it, or a person
+/// gave it up there, by name, or another product on the way answered with success.
 pub fn headline_among()
     ensures { HeadlineHoldsAmong }
 {}

@@ -16,7 +16,7 @@ use Rattle.dr_ledger.proofs.Reading.{items_are_one}
 use Rattle.dr_world_script.specs.declared.step.Side.{Side}
 use Rattle.dr_world_script.specs.declared.step.Side.TheVariants.{Requestor, Acceptor}
 use Rattle.dr_world_script.specs.declared.step.Step.{Step}
-use Rattle.dr_world_script.specs.declared.step.Step.TheVariants.{Submit, Open, Push, Move, Abort, Release, Close, Late, Restart, Requeue, Forget, Tick, RefuseStore}
+use Rattle.dr_world_script.specs.declared.step.Step.TheVariants.{Submit, Open, Push, Move, Abort, Release, Close, Late, Restart, Requeue, Drop, Forget, Tick, RefuseStore}
 use Rattle.dr_world_script.specs.declared.step.Word.{Word}
 use Rattle.dr_world_script.specs.declared.step.Word.TheVariants as word
 use Rattle.dr_world_script.specs.Laws.{OneStepForALine, OneScriptForAText}
@@ -79,6 +79,9 @@ follow_one word.Close fields a b (n, e, is) (m, f, also) = e ∙ ap Close (only_
 follow_one word.Late fields a b (n, s, e, is) (m, t, f, also) = let h = end_one n m s t fields is also in e ∙ (rw (h.0, h.1) refl) ∙ sym f
 follow_one word.Restart fields a b (x, e, d) (u, f, g) = let h : x ∷ [] ≡ u ∷ [] = sym d ∙ g in let p : x ≡ u = cc in e ∙ ap Restart p ∙ sym f
 follow_one word.Requeue fields a b (x, y, z, e, d) (u, v, w, f, g) =
+    let h : x ∷ y ∷ z ∷ [] ≡ u ∷ v ∷ w ∷ [] = sym d ∙ g in
+    let p : x ≡ u = cc in let q : y ≡ v = cc in let r : z ≡ w = cc in e ∙ (rw (p, q, r) refl) ∙ sym f
+follow_one word.Drop fields a b (x, y, z, e, d) (u, v, w, f, g) =
     let h : x ∷ y ∷ z ∷ [] ≡ u ∷ v ∷ w ∷ [] = sym d ∙ g in
     let p : x ≡ u = cc in let q : y ≡ v = cc in let r : z ≡ w = cc in e ∙ (rw (p, q, r) refl) ∙ sym f
 follow_one word.Forget fields a b (x, y, e, d) (u, v, f, g) =

@@ -4,7 +4,7 @@ use Rattle.std.specs.Prelude.{codes, if◌then◌else◌, Option, Some, None}
 use Rattle.std.specs.Str.{bytes_eq}
 use Rattle.dr_base.specs.Texts.{Text}
 use Rattle.dr_world_script.specs.declared.step.Word.{Word}
-use Rattle.dr_world_script.specs.declared.step.Word.TheVariants.{Submit, Open, Push, Move, Abort, Release, Close, Late, Restart, Requeue, Forget, Tick, Refuse}
+use Rattle.dr_world_script.specs.declared.step.Word.TheVariants.{Submit, Open, Push, Move, Abort, Release, Close, Late, Restart, Requeue, Drop, Forget, Tick, Refuse}
 use Rattle.dr_world_script.specs.Scripts.{spelled}
 
 word_in : Text → Option Word
@@ -19,6 +19,7 @@ word_in text =
     if bytes_eq text (codes "late") then Some Late else
     if bytes_eq text (codes "restart") then Some Restart else
     if bytes_eq text (codes "requeue") then Some Requeue else
+    if bytes_eq text (codes "drop") then Some Drop else
     if bytes_eq text (codes "forget") then Some Forget else
     if bytes_eq text (codes "tick") then Some Tick else
     Some Refuse
@@ -35,6 +36,7 @@ known Close = refl
 known Late = refl
 known Restart = refl
 known Requeue = refl
+known Drop = refl
 known Forget = refl
 known Tick = refl
 known Refuse = refl

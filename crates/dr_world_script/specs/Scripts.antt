@@ -15,7 +15,8 @@ use Rattle.dr_world_script.specs.declared.step.Side.TheVariants.{Requestor, Acce
 use Rattle.dr_world_script.specs.declared.step.Step.{Step}
 use Rattle.dr_world_script.specs.declared.step.Step.TheVariants.{Submit, Open, Push, Move, Abort}
 use Rattle.dr_world_script.specs.declared.step.Step.TheVariants.{Release, Close, Late, Restart}
-use Rattle.dr_world_script.specs.declared.step.Step.TheVariants.{Requeue, Forget, Tick, RefuseStore}
+use Rattle.dr_world_script.specs.declared.step.Step.TheVariants.{Requeue, Drop, Forget, Tick}
+use Rattle.dr_world_script.specs.declared.step.Step.TheVariants.{RefuseStore}
 use Rattle.dr_world_script.specs.declared.step.Word.{Word}
 use Rattle.dr_world_script.specs.declared.step.Word.TheVariants as word
 use Rattle.dr_world_script.specs.declared.fault.LineFault.{LineFault}
@@ -35,6 +36,7 @@ spelled word.Close = codes "close"
 spelled word.Late = codes "late"
 spelled word.Restart = codes "restart"
 spelled word.Requeue = codes "requeue"
+spelled word.Drop = codes "drop"
 spelled word.Forget = codes "forget"
 spelled word.Tick = codes "tick"
 spelled word.Refuse = codes "refuse"
@@ -94,6 +96,8 @@ Follows word.Late fields step =
 Follows word.Restart fields step = (node : Text) × (step ≡ Restart node) × (fields ≡ node ∷ [])
 Follows word.Requeue fields step =
     (node uid dest : Text) × (step ≡ Requeue node uid dest) × (fields ≡ node ∷ uid ∷ dest ∷ [])
+Follows word.Drop fields step =
+    (node uid dest : Text) × (step ≡ Drop node uid dest) × (fields ≡ node ∷ uid ∷ dest ∷ [])
 Follows word.Forget fields step =
     (node uid : Text) × (step ≡ Forget node uid) × (fields ≡ node ∷ uid ∷ [])
 Follows word.Tick fields step =

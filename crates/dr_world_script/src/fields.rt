@@ -55,6 +55,7 @@ pub fn read_word(field: &[u8]) -> Option<Word>
         b"late" => Some(Word::Late),
         b"restart" => Some(Word::Restart),
         b"requeue" => Some(Word::Requeue),
+        b"drop" => Some(Word::Drop),
         b"forget" => Some(Word::Forget),
         b"tick" => Some(Word::Tick),
         b"refuse" => Some(Word::Refuse),

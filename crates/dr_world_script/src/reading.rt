@@ -170,6 +170,18 @@ fn read_requeue(alloc: Global, fields: &[&[u8]]) -> Result<Step, LineFault>
     Ok(Step::Requeue { node, uid, dest })
 }
 
+fn read_drop(alloc: Global, fields: &[&[u8]]) -> Result<Step, LineFault>
+    ensures { ReadsFields words.Drop (map (λ f. f.now) fields.now) result }
+{
+    let [first, second, third] = fields else {
+        return Err(LineFault::NoStep);
+    };
+    let node = Text::copy_of(alloc, first)?;
+    let uid = Text::copy_of(alloc, second)?;
+    let dest = Text::copy_of(alloc, third)?;
+    Ok(Step::Drop { node, uid, dest })
+}
+
 fn read_forget(alloc: Global, fields: &[&[u8]]) -> Result<Step, LineFault>
     ensures { ReadsFields words.Forget (map (λ f. f.now) fields.now) result }
 {
@@ -232,6 +244,7 @@ fn read_fields(alloc: Global, word: Word, fields: &[&[u8]]) -> Result<Step, Line
         Word::Late => read_late(fields),
         Word::Restart => read_restart(alloc, fields),
         Word::Requeue => read_requeue(alloc, fields),
+        Word::Drop => read_drop(alloc, fields),
         Word::Forget => read_forget(alloc, fields),
         Word::Tick => read_tick(fields),
         Word::Refuse => read_refuse(alloc, fields),

@@ -35,6 +35,8 @@ pub enum Step {
     Restart { node: Text },
     /// A held row of the node's queue is queued again.
     Requeue { node: Text, uid: Text, dest: Text },
+    /// A held row of the node's queue is given up.
+    Drop { node: Text, uid: Text, dest: Text },
     /// The node forgets what it has of an instance that is over.
     Forget { node: Text, uid: Text },
     /// So many milliseconds pass.
@@ -56,6 +58,7 @@ pub enum Word {
     Late,
     Restart,
     Requeue,
+    Drop,
     Forget,
     Tick,
     Refuse,

@@ -22,9 +22,8 @@ use Rattle.dr_ulstate.specs.declared.table.State.TheVariants.{Sta2, Sta5, Sta6}
 use Rattle.dr_ulstate.specs.Phases.{state_of}
 use Rattle.dr_ledger.specs.declared.item.Instance.{Instance}
 use Rattle.dr_ledger.specs.declared.item.Progress.{Progress}
-use Rattle.dr_ledger.specs.declared.item.Progress.TheVariants.{Done}
 use Rattle.dr_ledger.specs.Adopting.{IsFit}
-use Rattle.dr_ledger.specs.Books.{Book, Adoption, after, empty_book}
+use Rattle.dr_ledger.specs.Books.{Book, Adoption, after, empty_book, is_queued}
 use Rattle.dr_ledger.specs.Pairs.{pair_cmp}
 use Rattle.dr_session.specs.declared.ends.Core.{Core}
 use Rattle.dr_session.specs.Ends.{is_gone}
@@ -125,11 +124,11 @@ module _ (plan next : Network) (certificate own : Certificate) (certified : IsCe
   unarmed : (name : Text) → HasNode plan name → set.contains w.armed name ≡ false
   unarmed name is = sym (s.desks name).1 ∙ t.may.unarmed name is
 
-  fit : (name uid to : Text) (row : Progress) (item : Instance) → map_of.get (w.books name).rows (uid, to) ≡ Some row → (row ≡ Done → ⊥) → map_of.get (w.books name).items uid ≡ Some item → Goes next item.key name to
-  fit name uid to row item at undone has = elim (node_or_not plan name) [
+  fit : (name uid to : Text) (row : Progress) (item : Instance) → map_of.get (w.books name).rows (uid, to) ≡ Some row → is_queued row ≡ true → map_of.get (w.books name).items uid ≡ Some item → Goes next item.key name to
+  fit name uid to row item at queued has = elim (node_or_not plan name) [
     | inl is ↦
         let fits = subst (IsFit next name) (s.desks name).0 (t.may.fit name is) in
-        reached_goes next item.key name to (node_apart next name certified.formed (t.may.stay name is)) (fits (uid, to) row item at undone has)
+        reached_goes next item.key name to (node_apart next name certified.formed (t.may.stay name is)) (fits (uid, to) row item at queued has)
     | inr none ↦ absurd (no_row row (sym (map_of.get-empty pair_cmp (uid, to)) ∙ (sym (ap (λ (k : Book). map_of.get k.rows (uid, to)) (stranger name none)) ∙ at)))
   ]
 

@@ -6,14 +6,14 @@ use Rattle.dr_route.specs.Routes.{local}
 use Rattle.dr_ledger.specs.Books.{Book}
 use Rattle.dr_ledger.specs.Items.{instance_of}
 use Rattle.dr_ledger.specs.PlanRoutes.{plan_routing}
-use Rattle.dr_ledger.specs.Replies.{Arrives, Forgets, Requeues, IsAdmitted, IsHeld, IsOver}
+use Rattle.dr_ledger.specs.Replies.{Arrives, Drops, Forgets, Requeues, IsAdmitted, IsHeld, IsOver}
 use Rattle.dr_ledger.proofs.Maps.{texts, contains_new}
 use Rattle.dr_world_model.specs.Worlds.{with_book, with_armed}
 use Rattle.dr_world_model.specs.Calls.{store_outcome_of}
 use Rattle.dr_world_model.specs.Steps.{passed}
 use Rattle.dr_world_model.proofs.Safety.{book_here, book_there}
 use Rattle.dr_world_tie.specs.Desks.{ArmedBy}
-use Rattle.dr_world_tie.specs.Nodes.{SubmittingTakes, RequeueingIsRequeue, ForgettingIsForget}
+use Rattle.dr_world_tie.specs.Nodes.{SubmittingTakes, RequeueingIsRequeue, GivingUpIsDrop, ForgettingIsForget}
 use Rattle.dr_world_tie.specs.Nodes.{RefusingIsRefuse, TimePasses}
 use Rattle.dr_world_tie.proofs.CallerLeaving.{armed_after}
 use Rattle.dr_world_tie.proofs.Sites.{armed_by}
@@ -54,6 +54,30 @@ requeueing_is_requeue plan w name uid dest s t answer node at h =
         record {
           book = t.book;
           call = subst (λ (b : Book). Requeues uid dest b answer t.book) at.0 h.0;
+          called = record { armed = a.0; store = a.1; is = refl };
+        },
+      );
+      desk_is = (sym (book_here w.books name t.book), a.2);
+      only = record {
+        books = λ other apart. book_there w.books name t.book other apart;
+        armed = a.3;
+        links = refl;
+        rest = (refl, refl, refl);
+      };
+    }
+
+pub giving_up_is_drop : GivingUpIsDrop
+giving_up_is_drop plan w name uid dest s t answer node at h =
+    let by : ArmedBy (IsHeld s.book uid dest) s.armed (store_outcome_of answer) t.armed = armed_by (IsHeld s.book uid dest) (IsHeld s.book uid dest) s.armed t.armed answer (λ y. y) h.1 in
+    let would : ArmedBy (IsHeld (w.books name) uid dest) s.armed (store_outcome_of answer) t.armed = subst (λ (b : Book). ArmedBy (IsHeld b uid dest) s.armed (store_outcome_of answer) t.armed) at.0 by in
+    let a = armed_after (IsHeld (w.books name) uid dest) w.armed name (store_outcome_of answer) s.armed t.armed at.1 would in
+    record {
+      after = with_armed (with_book w name t.book) a.0;
+      step = (
+        node,
+        record {
+          book = t.book;
+          call = subst (λ (b : Book). Drops uid dest w.time b answer t.book) at.0 h.0;
           called = record { armed = a.0; store = a.1; is = refl };
         },
       );

@@ -35,7 +35,7 @@ use Rattle.dr_world_tie.specs.Desks.{Desk, LedgerStep}
 use Rattle.dr_world_tie.specs.Channels.{Terminal, Channel, ShowsLink, IsCaller, IsReceiver, IsAt, IsOff, site_of}
 use Rattle.dr_world_tie.specs.Ties.{IsData, IsDeskOf, Happens, caller_did, receiver_did, caller_read, receiver_read, is_late}
 use Rattle.dr_world_tie.specs.Nodes.{HappensAt}
-use Rattle.dr_world_tie.specs.ByteWorlds.{ByteWorld, WorldStep, Submit, Open, Push, Move, Abort, Release, Close, Late, Restart, Requeue, Forget, Tick, Refuse, Side, Requestor, Acceptor, StepNote, Done, Skipped, Skips, DoesIf, ReadsIf, LinkStep, NodeStep, Steps, CallerMeets, CallerPushes, PushesIf, ReceiverMeets, Meets, CallerHears, ReceiverHears, CallerReads, ReceiverReads, Moves, Closes, IsMoment, IsMoved, caller_of, receiver_of, with_done, with_call, has_cell, acts_late, is_over}
+use Rattle.dr_world_tie.specs.ByteWorlds.{ByteWorld, WorldStep, Submit, Open, Push, Move, Abort, Release, Close, Late, Restart, Requeue, Drop, Forget, Tick, Refuse, Side, Requestor, Acceptor, StepNote, Done, Skipped, Skips, DoesIf, ReadsIf, LinkStep, NodeStep, Steps, CallerMeets, CallerPushes, PushesIf, ReceiverMeets, Meets, CallerHears, ReceiverHears, CallerReads, ReceiverReads, Moves, Closes, IsMoment, IsMoved, caller_of, receiver_of, with_done, with_call, has_cell, acts_late, is_over}
 use Rattle.dr_world_tie.specs.Shown.{Shows, ShowsAt, IsNamed, Comes, IsOffAt, IsSilent}
 use Rattle.dr_world_tie.proofs.Others.{same_others, state_is}
 use Rattle.dr_world_tie.proofs.Restarting.{desks_after}

@@ -32,15 +32,16 @@ use Rattle.dr_world_tie.specs.Desks.{Desk, LedgerStep}
 use Rattle.dr_world_tie.specs.Channels.{Channel, ShowsLink}
 use Rattle.dr_world_tie.specs.Ties.{IsDeskOf, IsOpened, with_desk}
 use Rattle.dr_world_tie.specs.Closing.{IsEnded, closed}
-use Rattle.dr_world_tie.specs.ByteWorlds.{ByteWorld, beginning, WorldStep, Submit, Open, Push, Move, Abort, Release, Close, Late, Restart, Requeue, Forget, Tick, Refuse, StepNote, DoesIf, LinkStep, Steps, Opens, Closes, is_over, caller_of, receiver_of, with_done, with_call, opened_between}
+use Rattle.dr_world_tie.specs.ByteWorlds.{ByteWorld, beginning, WorldStep, Submit, Open, Push, Move, Abort, Release, Close, Late, Restart, Requeue, Drop, Forget, Tick, Refuse, StepNote, DoesIf, LinkStep, Steps, Opens, Closes, is_over, caller_of, receiver_of, with_done, with_call, opened_between}
 use Rattle.dr_world_tie.specs.Shown.{ComesAbout, Shows, ShowsAt, Comes, WorldStepsAreEvents, RunsOf, RunsKeepTheHeadline, WhatIsKeptStaysKept}
+use Rattle.dr_world_tie.specs.Nodes.{GivesUpAt}
 use Rattle.dr_world_tie.proofs.Others.{shown_link}
 use Rattle.dr_site.proofs.Assembled.{is_site}
 use Rattle.dr_world_tie.proofs.Restarted.{restarted}
 use Rattle.dr_world_tie.proofs.Restarting.{desks_after}
 use Rattle.dr_world_tie.proofs.Opening.{opens_are_asks}
 use Rattle.dr_world_tie.proofs.Nodes.{submitting_takes, requeueing_is_requeue}
-use Rattle.dr_world_tie.proofs.Nodes.{forgetting_is_forget, refusing_is_refuse}
+use Rattle.dr_world_tie.proofs.Nodes.{forgetting_is_forget, giving_up_is_drop, refusing_is_refuse}
 use Rattle.dr_world_tie.proofs.Pendings.{some_is_pending, none_is_pending}
 use Rattle.dr_world_tie.proofs.Closing.{closing_is_close}
 use Rattle.dr_world_tie.proofs.Shown.{Result_of, after, at_node, skips, moved, pushed, released, aborted, delayed}
@@ -137,6 +138,12 @@ module _ (plan : Network) (certificate : Certificate) (certified : IsCertified p
   each (Requeue node uid dest) (inl (is_node, (answer, t, call, noted, is))) =
       let h = requeueing_is_requeue plan w node uid dest (b.desks node) t answer is_node (s.desks node) call in
       ∣ (h.after, inr (event.Requeue node uid dest answer, (refl, refl, refl), h.step), subst (λ (z : ByteWorld). Shows plan certificate z h.after) (sym is) (at_node plan certificate b w (event.Requeue node uid dest answer) node t s h)) ∣₁
+  each (Drop node uid dest) (inr h) = ∣ skips plan certificate (Drop node uid dest) b new w note s h.1 ∣₁
+  each (Drop node uid dest) (inl (is_node, (answer, t, call, noted, is))) =
+      let now = subst (λ (time : ℕ). GivesUpAt (b.desks node) uid dest time answer t) (sym s.time) call in
+      let h = giving_up_is_drop plan w node uid dest (b.desks node) t answer is_node (s.desks node) now in
+      let it : Event = event.Drop node uid dest answer in
+      ∣ (h.after, inr (it, (refl, refl, refl), h.step), subst (λ (z : ByteWorld). Shows plan certificate z h.after) (sym is) (at_node plan certificate b w it node t s h)) ∣₁
   each (Forget node uid) (inr h) = ∣ skips plan certificate (Forget node uid) b new w note s h.1 ∣₁
   each (Forget node uid) (inl (is_node, inl (under_way, noted, is))) =
       let silent = some_is_pending plan certificate b w s node uid under_way in

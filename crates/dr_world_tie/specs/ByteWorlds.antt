@@ -46,7 +46,7 @@ use Rattle.dr_world_tie.specs.Desks.{Desk, LedgerStep}
 use Rattle.dr_world_tie.specs.Channels.{Terminal, Channel, site_of}
 use Rattle.dr_world_tie.specs.Ties.{with_desk, caller_did, receiver_did, caller_read, receiver_read}
 use Rattle.dr_world_tie.specs.Moves.{IsLeft}
-use Rattle.dr_world_tie.specs.Nodes.{RequeuesAt, ForgetsAt}
+use Rattle.dr_world_tie.specs.Nodes.{RequeuesAt, GivesUpAt, ForgetsAt}
 use Rattle.dr_world_tie.specs.Closing.{IsEnded, closed}
 
 pub record ByteWorld : Type 0 where
@@ -119,6 +119,7 @@ pub data WorldStep : Type 0 where
   Late : (link : ℕ) → (side : Side) → WorldStep
   Restart : (node : Text) → WorldStep
   Requeue : (node : Text) → (uid : Text) → (dest : Text) → WorldStep
+  Drop : (node : Text) → (uid : Text) → (dest : Text) → WorldStep
   Forget : (node : Text) → (uid : Text) → WorldStep
   Tick : (ms : ℕ) → WorldStep
   Refuse : (node : Text) → WorldStep
@@ -410,6 +411,11 @@ Steps plan certificate b (Restart node) note new =
 Steps plan certificate b (Requeue node uid dest) note new = NodeStep plan node b note new
     ((answer : Answer) × (t : Desk)
     × RequeuesAt (b.desks node) uid dest answer t
+    × (note ≡ note_of answer)
+    × (new ≡ with_call b node t))
+Steps plan certificate b (Drop node uid dest) note new = NodeStep plan node b note new
+    ((answer : Answer) × (t : Desk)
+    × GivesUpAt (b.desks node) uid dest b.time answer t
     × (note ≡ note_of answer)
     × (new ≡ with_call b node t))
 Steps plan certificate b (Forget node uid) note new =

@@ -7,13 +7,14 @@ use Rattle.dr_plan_model.specs.Networks.{Network}
 use Rattle.dr_ledger.specs.declared.content.Job.{Job}
 use Rattle.dr_ledger.specs.Items.{instance_of}
 use Rattle.dr_ledger.specs.Refusals.{Arms}
-use Rattle.dr_ledger.specs.Replies.{Forgets, Requeues, IsHeld, IsOver}
+use Rattle.dr_ledger.specs.Replies.{Drops, Forgets, Requeues, IsHeld, IsOver}
 use Rattle.dr_session.specs.Desks.{Arrive, Arrival}
 use Rattle.dr_session.specs.Ledgers.{desk}
 use Rattle.dr_world_model.specs.Worlds.{World, same_text}
 use Rattle.dr_world_model.specs.Calls.{Reply, Answer}
 use Rattle.dr_world_model.specs.Steps.{NoneIsPending}
-use Rattle.dr_world_model.specs.Events.{Event, Step, HasNode, Take, Requeue, Forget, Refuse, Tick}
+use Rattle.dr_world_model.specs.Events.{Event, Step, HasNode, Take, Requeue, Drop}
+use Rattle.dr_world_model.specs.Events.{Forget, Refuse, Tick}
 use Rattle.dr_world_tie.specs.Desks.{Desk, LedgerStep}
 use Rattle.dr_world_tie.specs.Ties.{IsDeskOf}
 
@@ -55,6 +56,20 @@ RequeueingIsRequeue =
     → HasNode plan name → IsDeskOf w name s
     → RequeuesAt s uid dest answer t
     → HappensAt plan w (Requeue name uid dest answer) name t
+
+-- what a ledger's `give_up` does at a moment
+abbrev pub GivesUpAt : Desk → Text → Text → ℕ → Answer → Desk → Type 0
+GivesUpAt old uid dest now answer new =
+    Drops uid dest now old.book answer new.book
+    × Arms (IsHeld old.book uid dest) old.armed answer new.armed
+
+-- A row that is given up at the world's moment, whatever the ledger answers.
+abbrev pub GivingUpIsDrop : Type 0
+GivingUpIsDrop =
+    (plan : Network) (w : World) (name uid dest : Text) (s t : Desk) (answer : Answer)
+    → HasNode plan name → IsDeskOf w name s
+    → GivesUpAt s uid dest w.time answer t
+    → HappensAt plan w (Drop name uid dest answer) name t
 
 -- what a ledger's `forget` does
 abbrev pub ForgetsAt : Desk → Text → Answer → Desk → Type 0

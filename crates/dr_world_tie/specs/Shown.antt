@@ -22,8 +22,8 @@ use Rattle.dr_world_tie.specs.Channels.{Terminal, Channel, ShowsLink}
 use Rattle.dr_world_tie.specs.Ties.{IsDeskOf, IsData}
 use Rattle.dr_world_tie.specs.Moves.{IsLeft, IsOfReceiver, IsOfCaller}
 use Rattle.dr_world_tie.specs.ByteWorlds.{ByteWorld, beginning, WorldStep, Submit, Open, Push, Move}
-use Rattle.dr_world_tie.specs.ByteWorlds.{Abort, Release, Close, Late, Restart, Requeue, Forget}
-use Rattle.dr_world_tie.specs.ByteWorlds.{Tick, Refuse, Side, Requestor, Acceptor, StepNote}
+use Rattle.dr_world_tie.specs.ByteWorlds.{Abort, Release, Close, Late, Restart, Requeue, Drop}
+use Rattle.dr_world_tie.specs.ByteWorlds.{Forget, Tick, Refuse, Side, Requestor, Acceptor, StepNote}
 use Rattle.dr_world_tie.specs.ByteWorlds.{Skipped, Steps}
 
 -- a number has a channel and the link that it is, or neither
@@ -59,6 +59,8 @@ IsNamed (Late link Requestor) (BreakCaller number answer) = number ≡ link
 IsNamed (Late link Acceptor) (BreakReceiver number) = number ≡ link
 IsNamed (Restart node) (event.Restart name answers) = name ≡ node
 IsNamed (Requeue node uid dest) (event.Requeue name row to answer) =
+    (name ≡ node) × (row ≡ uid) × (to ≡ dest)
+IsNamed (Drop node uid dest) (event.Drop name row to answer) =
     (name ≡ node) × (row ≡ uid) × (to ≡ dest)
 IsNamed (Forget node uid) (event.Forget name item answer) = (name ≡ node) × (item ≡ uid)
 IsNamed (Tick ms) (event.Tick passed) = passed ≡ ms

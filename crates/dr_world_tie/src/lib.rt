@@ -16,7 +16,7 @@ ghost use Rattle.dr_world_tie.specs.Changes.{WhatIsTakenIsOne};
 ghost use Rattle.dr_world_tie.specs.Closing.{ClosingIsClose};
 ghost use Rattle.dr_world_tie.specs.Desks.{SiteStepsArePlanSteps};
 ghost use Rattle.dr_world_tie.specs.Moves.{CallerMoves, ReceiverMoves};
-ghost use Rattle.dr_world_tie.specs.Nodes.{ForgettingIsForget, RefusingIsRefuse};
+ghost use Rattle.dr_world_tie.specs.Nodes.{ForgettingIsForget, GivingUpIsDrop, RefusingIsRefuse};
 ghost use Rattle.dr_world_tie.specs.Nodes.{RequeueingIsRequeue};
 ghost use Rattle.dr_world_tie.specs.Nodes.{SubmittingTakes, TimePasses};
 ghost use Rattle.dr_world_tie.specs.Shown.{RunsKeepTheHeadline, WhatIsKeptStaysKept};
@@ -157,6 +157,7 @@ pub fn restarts()
 pub fn nodes_act()
     ensures submitting { SubmittingTakes }
     ensures requeueing { RequeueingIsRequeue }
+    ensures giving_up { GivingUpIsDrop }
     ensures forgetting { ForgettingIsForget }
     ensures refusing { RefusingIsRefuse }
     ensures time { TimePasses }

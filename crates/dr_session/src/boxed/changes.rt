@@ -1,5 +1,6 @@
 //! What changes of a core but for its phase.
 ghost use Rattle.std.specs.Prelude.{◌≡◌, Some, None};
+ghost use Rattle.dr_session.specs.Plays.{without_data};
 ghost use Rattle.dr_session.specs.Reactions.{aborted, awaiting, desk_failed, dried, left};
 ghost use Rattle.dr_session.specs.Reactions.{rejected as rejected_with, released, settled_with};
 
@@ -56,6 +57,15 @@ impl BoxedCore {
     {
         let mut core = self.core;
         set_dry(core.as_mut());
+        BoxedCore { core }
+    }
+
+    /// The bytes of the data set that is under way are let go.
+    pub fn let_data_go(self) -> BoxedCore
+        ensures { result ≡ without_data self }
+    {
+        let mut core = self.core;
+        let_data_go(core.as_mut());
         BoxedCore { core }
     }
 
@@ -154,6 +164,12 @@ fn await_other(core: &mut Core, awaited: Awaited)
         } }
 {
     core.assembly.await_other(awaited);
+}
+
+fn let_data_go(core: &mut Core)
+    ensures { core.new ≡ without_data core.old }
+{
+    core.assembly.let_data_go();
 }
 
 fn set_awaits(core: &mut Core, now: u64)

@@ -12,7 +12,7 @@ ghost use Rattle.dr_session.specs.declared.ends.Moment.{Moment};
 ghost use Rattle.dr_session.specs.declared.ends.Pending.{Pending};
 ghost use Rattle.dr_session.specs.Figures.{Acceptances, Rejections, Requests, Values, Pushes};
 ghost use Rattle.dr_session.specs.Figures.{Responses, Releases, ReleaseAnswers, Aborts, Endings};
-ghost use Rattle.dr_session.specs.Figures.{LateMarks, NoPdus};
+ghost use Rattle.dr_session.specs.Figures.{LateMarks, NoPdus, Silences};
 
 /// An A-ASSOCIATE-AC and an A-ASSOCIATE-RJ (events 3 and 4).
 pub fn answers()
@@ -48,5 +48,6 @@ pub fn breaks()
     ensures aborts { (c : Core) (at : Moment) (a : Abort) (p : Pending) → Aborts c at a p }
     ensures endings { (c : Core) (at : Moment) (p : Pending) → Endings c at p }
     ensures late { (c : Core) → LateMarks c }
+    ensures silences { (c : Core) → Silences c }
     ensures no_pdus { (c : Core) (at : Moment) → NoPdus c at }
 {}

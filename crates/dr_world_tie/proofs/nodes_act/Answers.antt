@@ -1,4 +1,4 @@
-use Rattle.dr_world_tie.proofs.Nodes.{submitting_takes, requeueing_is_requeue, forgetting_is_forget}
+use Rattle.dr_world_tie.proofs.Nodes.{submitting_takes, requeueing_is_requeue, giving_up_is_drop, forgetting_is_forget}
 use Rattle.dr_world_tie.proofs.Nodes.{refusing_is_refuse, time_passes}
 use Rattle.dr_world_tie.proofs.nodes_act.Goals as goal
 
@@ -7,6 +7,9 @@ returns-clause-submitting c = submitting_takes
 
 pub returns-clause-requeueing : goal.returns-clause-requeueing
 returns-clause-requeueing c = requeueing_is_requeue
+
+pub returns-clause-giving_up : goal.returns-clause-giving_up
+returns-clause-giving_up c = giving_up_is_drop
 
 pub returns-clause-forgetting : goal.returns-clause-forgetting
 returns-clause-forgetting c = forgetting_is_forget

@@ -1,4 +1,4 @@
-use Rattle.std.proofs.Common.{◌≡◌, ◌++◌, ◌∷◌, ◌<◌, [], cond, false, subst, sym}
+use Rattle.std.proofs.Common.{◌≡◌, ◌<◌, cond, false, subst, sym}
 use Rattle.std.specs.BTreeMap.{is_at}
 use Rattle.std.specs.BTreeSet as sorted
 use Rattle.dr_base.specs.Texts.{Text}

@@ -1,10 +1,10 @@
-use Rattle.std.proofs.Common.{◌∙◌, ap, is_some, subst, sym, Some}
+use Rattle.std.proofs.Common.{◌∙◌, ap, is_some, subst, sym}
 use Rattle.std.specs.BTreeMap.{btree_map_len}
 use Rattle.dr_ledger.specs.Pairs.{pair_cmp}
 use Rattle.dr_ledger.proofs.Maps.{text_pairs}
 use Rattle.dr_ledger_history.specs.Leaving.{IsRowOf}
 use Rattle.dr_ledger_history.specs.Trees.{as_map}
-use Rattle.dr_ledger_history.proofs.Leaving.{all_have_left, done_of, one_less, one_more_leaves}
+use Rattle.dr_ledger_history.proofs.Leaving.{all_have_left, one_less, one_more_leaves}
 use Rattle.dr_ledger_history.proofs.Mapped.{get_at}
 use Rattle.dr_ledger_history.proofs.letting.let_rows_go.Goals as goal
 
@@ -25,6 +25,6 @@ pub rows-preserved : goal.rows-preserved
 rows-preserved c =
     let m = c.rows.rows in
     let found = subst (IsRowOf c.args.uid.now (as_map pair_cmp m)) c.in-Some.is c.in_ok-at.ensures in
-    let done = done_of c.in-Some.row (sym c.is_open.ensures ∙ c.if-is_open.false) in
-    one_more_leaves c.args.uid.now (as_map pair_cmp c.args.rows.now) m c.remove.new.self c.in-Some.at
-    c.rows.invariant found.0 (found.1 ∙ ap Some done) c.remove.ensures.updates.0
+    let over = sym c.is_open.ensures ∙ c.if-is_open.false in
+    one_more_leaves c.args.uid.now (as_map pair_cmp c.args.rows.now) m c.remove.new.self c.in-Some.at c.in-Some.row
+    c.rows.invariant found.0 found.1 over c.remove.ensures.updates.0

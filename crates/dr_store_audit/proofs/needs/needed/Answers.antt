@@ -1,7 +1,7 @@
-use Rattle.std.proofs.Common.{◌≡◌, ◌≢◌, ◌+◌, ◌⊎◌, ◌∷◌, drop, subst, sym}
+use Rattle.std.proofs.Common.{◌≡◌, ◌+◌, ◌⊎◌, ◌∷◌, drop, subst, sym, true}
 use Rattle.std.specs.Prelude.{◌↔◌}
 use Rattle.std.proofs.lemmas.List.{drop_more}
-use Rattle.dr_ledger.specs.declared.item.Progress.TheVariants.{Done}
+use Rattle.dr_ledger.specs.Books.{is_queued}
 use Rattle.dr_store_audit.specs.Needs.{IsOpenIn}
 use Rattle.dr_store_audit.proofs.Adding.{first_open, moved_over}
 use Rattle.dr_store_audit.proofs.needs.needed.Goals as goal
@@ -13,4 +13,4 @@ loop-row-preserved c = λ q.
     let row = c.row-item.result in
     let e = drop_more rows i row c.loop-row-test.true in
     let more : drop i rows ≡ row ∷ drop (i + 1) rows = rw (← c.row-item.is) at e in
-    moved_over (c.loop-row.invariant q) (c.in_ok-add_open.ensures q) (subst (λ xs. IsOpenIn xs q ↔ (((q ≡ row.0.0) × (row.1 ≢ Done)) ⊎ IsOpenIn (drop (i + 1) rows) q)) (sym more) (first_open row (drop (i + 1) rows) q))
+    moved_over (c.loop-row.invariant q) (c.in_ok-add_open.ensures q) (subst (λ xs. IsOpenIn xs q ↔ (((q ≡ row.0.0) × (is_queued row.1 ≡ true)) ⊎ IsOpenIn (drop (i + 1) rows) q)) (sym more) (first_open row (drop (i + 1) rows) q))

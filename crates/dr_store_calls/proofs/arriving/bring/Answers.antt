@@ -12,9 +12,11 @@ use Rattle.dr_ledger.specs.Replies.{Arrives}
 use Rattle.dr_ledger.specs.SiteRoutes.{site_routing}
 use Rattle.dr_store_schema.specs.Books.{bodies_of, book_of}
 use Rattle.dr_store_changes.specs.Bringing.{AsksToTake, Brings, names_for}
+use Rattle.dr_store_changes.specs.Changes.{HasRows}
 use Rattle.dr_store_changes.specs.Writing.{Written}
 use Rattle.dr_store_calls.specs.Knowing.{Fits}
 use Rattle.dr_store_calls.proofs.Calls.{below_of, made_called, unmade_called}
+use Rattle.dr_store_calls.proofs.Fitting.{rows_there}
 use Rattle.dr_store_calls.proofs.Takings.{arrives, arrives_own, takes_none}
 use Rattle.dr_store_calls.proofs.arriving.bring.Goals as goal
 
@@ -30,20 +32,22 @@ returns-in-Ok-clause-called g c =
     let how = c.args.taking in
     let to = c.args.targets.now.to in
     let keep = c.args.targets.now.keep in
+    let again = c.args.again.now in
     let dests = c.args.dests.now in
     let keeps = c.args.keeps in
     let old = state g.S.Store c.args.conn.now in
     let new = state g.S.Store c.written.new.conn in
-    let Made : Instance → List ℕ → List Text → Trees → Trees → Type 0 = λ instance body names. Brings how caller instance body dests keeps names n in
-    let Asks : Trees → Type 0 = λ base. Fits how caller item to keep dests keeps base in
+    let Made : Instance → List ℕ → List Text → Trees → Trees → Type 0 = λ instance body names. Brings how caller instance body again dests keeps names n in
+    let Asks : Trees → Type 0 = λ base. Fits how caller item to keep again dests keeps base in
     let Makes : Trees → Trees → Type 0 = λ base db. Arrives (site_routing part) caller (instance_of item) (book_of base) (Ok New) (book_of db) in
     let Answers : Trees → Trees → Type 0 = λ base db. Arrives (site_routing part) caller (instance_of item) (book_of base) (Ok New) (book_of db) × OnlyTakes item (bodies_of base) (bodies_of db) in
-    let W : Instance → List ℕ → List Text → Type 0 = λ instance body names. Written {E = LedgerFault} n (AsksToTake how instance.uid) (Made instance body names) (Ok tt) old new in
-    made_called n part (AsksToTake how item.uid) Asks (Made (instance_of item) item.body (names_for keep to)) Answers Makes old new (λ h. c.written.ensures.idle) (λ ready l fits. fits.asks) New
+    let Wants : List ℕ → Trees → Type 0 = λ uid db. AsksToTake how uid db × HasRows uid again db in
+    let W : Instance → List ℕ → List Text → Type 0 = λ instance body names. Written {E = LedgerFault} n (Wants instance.uid) (Made instance body names) (Ok tt) old new in
+    made_called n part (Wants item.uid) Asks (Made (instance_of item) item.body (names_for keep to)) Answers Makes old new (λ h. c.written.ensures.idle) (λ ready l fits. (fits.asks, rows_there old.committed.trees item.uid to again fits.again_are)) New
     (subst (λ names. W (instance_of item) item.body names) c.requires.names (subst (λ body. W (instance_of item) body c.args.names.now) c.as_bytes.ensures
     (subst (λ i. W i c.as_bytes.result.now c.args.names.now) c.requires.instance c.in-Ok.ensures.written)))
     (λ ready l fits db w.
-    let it = arrives n part how caller item to keep dests keeps old.committed.trees db c.requires.is_item c.requires.line c.requires.to c.requires.keep c.requires.formed (below_of n old ready) l fits w in
+    let it = arrives n part how caller item to keep again dests keeps old.committed.trees db c.requires.is_item c.requires.line c.requires.to c.requires.keep c.requires.formed (below_of n old ready) l fits w in
     (it.0, it.1, it.1.0))
 
 pub returns-in-Err-clause-called : goal.returns-in-Err-clause-called
@@ -55,20 +59,22 @@ returns-in-Err-clause-called g c =
     let how = c.args.taking in
     let to = c.args.targets.now.to in
     let keep = c.args.targets.now.keep in
+    let again = c.args.again.now in
     let dests = c.args.dests.now in
     let keeps = c.args.keeps in
     let old = state g.S.Store c.args.conn.now in
     let new = state g.S.Store c.written.new.conn in
-    let Made : Instance → List ℕ → List Text → Trees → Trees → Type 0 = λ instance body names. Brings how caller instance body dests keeps names n in
-    let Asks : Trees → Type 0 = λ base. Fits how caller item to keep dests keeps base in
+    let Made : Instance → List ℕ → List Text → Trees → Trees → Type 0 = λ instance body names. Brings how caller instance body again dests keeps names n in
+    let Asks : Trees → Type 0 = λ base. Fits how caller item to keep again dests keeps base in
     let Makes : Trees → Trees → Type 0 = λ base db. Arrives (site_routing part) caller (instance_of item) (book_of base) (Ok New) (book_of db) in
     let e = c.in-Err.fault in
     let Answers : Trees → Trees → Type 0 = λ base db. Arrives (site_routing part) caller (instance_of item) (book_of base) (Err e) (book_of db) × OnlyTakes item (bodies_of base) (bodies_of db) in
-    let W : Instance → List ℕ → List Text → Type 0 = λ instance body names. Written {E = LedgerFault} n (AsksToTake how instance.uid) (Made instance body names) (Err e) old new in
-    unmade_called {A = Arrived} n part (AsksToTake how item.uid) Asks (Made (instance_of item) item.body (names_for keep to)) Answers Makes old new (λ h. c.written.ensures.idle) (λ ready l fits. fits.asks) e
+    let Wants : List ℕ → Trees → Type 0 = λ uid db. AsksToTake how uid db × HasRows uid again db in
+    let W : Instance → List ℕ → List Text → Type 0 = λ instance body names. Written {E = LedgerFault} n (Wants instance.uid) (Made instance body names) (Err e) old new in
+    unmade_called {A = Arrived} n part (Wants item.uid) Asks (Made (instance_of item) item.body (names_for keep to)) Answers Makes old new (λ h. c.written.ensures.idle) (λ ready l fits. (fits.asks, rows_there old.committed.trees item.uid to again fits.again_are)) e
     c.in-Err.ensures.fault
     (subst (λ names. W (instance_of item) item.body names) c.requires.names (subst (λ body. W (instance_of item) body c.args.names.now) c.as_bytes.ensures
     (subst (λ i. W i c.as_bytes.result.now c.args.names.now) c.requires.instance c.in-Err.ensures.written)))
     (λ ready l fits db w.
-    (arrives n part how caller item to keep dests keeps old.committed.trees db c.requires.is_item c.requires.line c.requires.to c.requires.keep c.requires.formed (below_of n old ready) l fits w).1.0)
+    (arrives n part how caller item to keep again dests keeps old.committed.trees db c.requires.is_item c.requires.line c.requires.to c.requires.keep c.requires.formed (below_of n old ready) l fits w).1.0)
     (λ fits. (arrives_own part caller (instance_of item) (book_of old.committed.trees) e c.requires.line c.in-Err.ensures.fault, takes_none item (bodies_of old.committed.trees)))

@@ -4,7 +4,7 @@ use Rattle.sqlite.specs.Tree.{Trees}
 use Rattle.dr_route.specs.declared.key.Key.{Key}
 use Rattle.dr_ledger.specs.Replies.{IsOver, Reads}
 use Rattle.dr_store_schema.specs.Books.{book_of}
-use Rattle.dr_store_reads.specs.Queries.{IsKeyOf, IsUndone}
+use Rattle.dr_store_reads.specs.Queries.{IsKeyOf, HasOpen}
 use Rattle.dr_store_calls.specs.Calling.{Nothing}
 use Rattle.dr_store_calls.specs.Needs.{IsKeptIn}
 use Rattle.dr_store_calls.proofs.Calls.{asked_looked, looked_then}
@@ -20,7 +20,7 @@ returns-in-Ok-clause-looked g c n part =
     let old = state g.S.Store c.args.conn.now in
     let mid = state g.S.Store c.find_key.new.conn in
     let new = state g.S.Store c.is_past_if.new.conn in
-    let Past : Bool → Trees → Bool → Type 0 = λ there base b. IsTrue b ↔ ((there ≡ true) × (IsKeptIn base uid → ⊥) × (IsUndone base uid → ⊥)) in
+    let Past : Bool → Trees → Bool → Type 0 = λ there base b. IsTrue b ↔ ((there ≡ true) × (IsKeptIn base uid → ⊥) × (HasOpen base uid → ⊥)) in
     let Shows : Trees → Option Key → Type 0 = λ base. IsKeyOf uid base in
     let Then : Trees → Bool → Type 0 = Past c.is_some.result in
     let Says : Trees → Bool → Type 0 = λ base b. IsTrue b ↔ IsOver (book_of base) uid in

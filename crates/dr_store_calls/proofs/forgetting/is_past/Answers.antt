@@ -4,7 +4,7 @@ use Rattle.sqlite.specs.Held.{state}
 use Rattle.sqlite.specs.Tree.{Trees}
 use Rattle.dr_ledger.specs.Replies.{Reads}
 use Rattle.dr_store_schema.specs.Books.{all_kept_in}
-use Rattle.dr_store_reads.specs.Queries.{IsUndone}
+use Rattle.dr_store_reads.specs.Queries.{HasOpen}
 use Rattle.dr_store_calls.specs.Calling.{Nothing}
 use Rattle.dr_store_calls.specs.Needs.{IsKeptIn}
 use Rattle.dr_store_calls.proofs.Calls.{asked_looked, looked_then}
@@ -21,8 +21,8 @@ returns-in-Ok-clause-looked g c n part =
     let mid = state g.S.Store c.find_kept.new.conn in
     let new = state g.S.Store c.is_done_unless_kept.new.conn in
     let Shows : Trees → Bool → Type 0 = λ base b. b ≡ set.contains (all_kept_in (base 7)) uid in
-    let Then : Trees → Bool → Type 0 = λ base b. IsTrue b ↔ ((kept ≡ false) × (IsUndone base uid → ⊥)) in
-    let Says : Trees → Bool → Type 0 = λ base b. IsTrue b ↔ ((IsKeptIn base uid → ⊥) × (IsUndone base uid → ⊥)) in
+    let Then : Trees → Bool → Type 0 = λ base b. IsTrue b ↔ ((kept ≡ false) × (HasOpen base uid → ⊥)) in
+    let Says : Trees → Bool → Type 0 = λ base b. IsTrue b ↔ ((IsKeptIn base uid → ⊥) × (HasOpen base uid → ⊥)) in
     looked_then n n part old mid new Shows kept r Nothing Nothing (λ base db. (db ≡ base) × Reads r (Then base)) (λ base db. ⊥) (λ base db. (db ≡ base) × Reads r (Says base)) (λ base db. ⊥)
     (asked_looked n part _ old mid Shows c.in-Ok.ensures.asked) (c.is_done_unless_kept.ensures.looked n part)
     (λ db l any shown. tt) (λ base db any shown it. (it.0, reads_as r (Then base) (Says base) (λ b says. past_by base uid kept b shown says) it.1)) (λ base db any shown none. none)

@@ -8,7 +8,7 @@ use Rattle.dr_ledger.specs.Items.{instance_of}
 use Rattle.dr_ledger.specs.Replies.{Arrives}
 use Rattle.dr_ledger.specs.SiteRoutes.{site_routing}
 use Rattle.dr_store_schema.specs.Books.{all_kept_in, arrivals_in, book_of, rows_of}
-use Rattle.dr_store_changes.specs.Bringing.{missing}
+use Rattle.dr_store_changes.specs.Bringing.{given_up, missing}
 use Rattle.dr_store_changes.specs.declared.first.Taking.{Taking}
 use Rattle.dr_store_calls.specs.Calling.{advanced}
 use Rattle.dr_store_calls.specs.Knowing.{Fits, IsThere, taking_there}
@@ -27,18 +27,24 @@ returns-clause-called g c =
     let keep = c.args.targets.now.keep in
     let whole = c.args.whole in
     let kept = c.args.kept in
+    let again = c.args.again.now in
     let dests = c.args.dests.now in
+    let anew = c.as_slice-anew.result.now in
     let ds = c.as_slice-all.result.now in
     let ks = c.keeps_now-keeps.result in
     let t = c.taking_of-taking.result in
     let r = c.bring_item.result in
+    let news : anew ≡ again = c.as_slice-anew.ensures in
     let all : ds ≡ dests = c.as_slice-all.ensures in
     let keeps : ks ≡ (keep && not kept) = c.keeps_now-keeps.ensures in
-    let how : t ≡ taking_there whole keep (length dests == 0) = c.taking_of-taking.ensures ∙ ap (λ none. taking_there whole keep none) (c.is_empty.ensures ∙ ap (λ xs. length xs == 0) all) in
-    let Wants : Taking → List Text → Bool → Trees → Type 0 = λ how xs k base. Fits how caller item to keep xs k base in
-    let Asks : Trees → Type 0 = λ base. IsThere base (instance_of item) whole × (set.contains (arrivals_in (base 5)) (caller, item.uid) ≡ false) × (dests ≡ missing (rows_of base) item.uid to) × (kept ≡ set.contains (all_kept_in (base 7)) item.uid) in
+    let how : t ≡ taking_there whole keep ((length again == 0) && (length dests == 0)) =
+    c.taking_of-taking.ensures ∙ ap (λ none. taking_there whole keep none) (c.are_none-none.ensures ∙ (λ i. (length (news i) == 0) && (length (all i) == 0))) in
+    let Wants : Taking → List Text → List Text → Bool → Trees → Type 0 = λ how ys xs k base. Fits how caller item to keep ys xs k base in
+    let it_is = taking_there whole keep ((length again == 0) && (length dests == 0)) in
+    let Asks : Trees → Type 0 = λ base. IsThere base (instance_of item) whole × (set.contains (arrivals_in (base 5)) (caller, item.uid) ≡ false) × (again ≡ given_up (rows_of base) item.uid to) × (dests ≡ missing (rows_of base) item.uid to) × (kept ≡ set.contains (all_kept_in (base 7)) item.uid) in
     let Makes : Trees → Trees → Type 0 = λ base db. Arrives (site_routing part) caller (instance_of item) (book_of base) (Ok New) (book_of db) in
-    called_as n (advanced r n) part r (state g.S.Store c.args.conn.now) (state g.S.Store c.bring_item.new.conn) (Wants t ds ks) Asks (AnswersTo part caller item r) Makes (Accepts part caller item)
-    (λ base l it. subst (λ x. Wants x ds ks base) (sym how) (subst (λ k. Wants (taking_there whole keep (length dests == 0)) ds k base) (sym keeps)
-    (subst (λ xs. Wants (taking_there whole keep (length dests == 0)) xs (keep && not kept) base) (sym all) (fits_there n part caller item to keep whole kept dests base l it.0 it.1 it.2 it.3))))
+    called_as n (advanced r n) part r (state g.S.Store c.args.conn.now) (state g.S.Store c.bring_item.new.conn) (Wants t anew ds ks) Asks (AnswersTo part caller item r) Makes (Accepts part caller item)
+    (λ base l it. subst (λ x. Wants x anew ds ks base) (sym how) (subst (λ k. Wants it_is anew ds k base) (sym keeps)
+    (subst (λ xs. Wants it_is anew xs (keep && not kept) base) (sym all) (subst (λ ys. Wants it_is ys dests (keep && not kept) base) (sym news)
+    (fits_there n part caller item to keep whole kept again dests base l it.0 it.1 it.2 it.3 it.4)))))
     (λ base db is. (New, is)) c.bring_item.ensures.called

@@ -19,14 +19,14 @@ returns-in-Ok-clause-called g c =
     let caller = c.args.caller.now in
     let item = c.args.item.now in
     let old = state g.S.Store c.args.conn.now in
-    let r = c.bring_missing.result in
-    let mid = state g.S.Store c.missing_of.new.conn in
-    let new = state g.S.Store c.bring_missing.new.conn in
+    let r = c.bring_lacking.result in
+    let mid = state g.S.Store c.chosen_of.new.conn in
+    let new = state g.S.Store c.bring_lacking.new.conn in
     let Shows : Trees → List Text → Type 0 = λ base dests. dests ≡ missing (rows_of base) item.uid c.args.targets.now.to in
     let Asks : Trees → Type 0 = λ base. IsThere base (instance_of item) c.args.whole × (set.contains (arrivals_in (base 5)) (caller, item.uid) ≡ false) in
     let Given : Trees → Type 0 = λ base. IsThere base (instance_of item) c.args.whole × (set.contains (arrivals_in (base 5)) (caller, item.uid) ≡ false) × (c.in-Ok.dests ≡ missing (rows_of base) item.uid c.args.targets.now.to) in
     looked_then n (advanced r n) part old mid new Shows c.in-Ok.dests r Asks Given (AnswersTo part caller item r) (Accepts part caller item) (AnswersTo part caller item r) (Accepts part caller item)
-    (c.in-Ok.ensures.looked n part) c.bring_missing.ensures.called
+    (c.in-Ok.ensures.looked n part) c.bring_lacking.ensures.called
     (λ db l asks shown. (asks.0, asks.1, shown)) (λ base db asks shown it. it) (λ base db asks shown it. it)
 
 pub returns-in-Err-clause-called : goal.returns-in-Err-clause-called
@@ -36,7 +36,7 @@ returns-in-Err-clause-called g c =
     let caller = c.args.caller.now in
     let item = c.args.item.now in
     let old = state g.S.Store c.args.conn.now in
-    let mid = state g.S.Store c.missing_of.new.conn in
+    let mid = state g.S.Store c.chosen_of.new.conn in
     let Shows : Trees → List Text → Type 0 = λ base dests. dests ≡ missing (rows_of base) item.uid c.args.targets.now.to in
     let Asks : Trees → Type 0 = λ base. IsThere base (instance_of item) c.args.whole × (set.contains (arrivals_in (base 5)) (caller, item.uid) ≡ false) in
     not_read n part old mid Shows c.in-Err.fault Asks caller item c.requires.line (c.in-Err.ensures.looked n part)

@@ -4,7 +4,7 @@ use Rattle.sqlite.specs.Held.{state}
 use Rattle.sqlite.specs.Tree.{Trees}
 use Rattle.dr_ledger.specs.Items.{instance_of}
 use Rattle.dr_store_schema.specs.Books.{all_kept_in, arrivals_in, rows_of}
-use Rattle.dr_store_changes.specs.Bringing.{missing}
+use Rattle.dr_store_changes.specs.Bringing.{given_up, missing}
 use Rattle.dr_store_calls.specs.Calling.{advanced}
 use Rattle.dr_store_calls.specs.Knowing.{IsThere}
 use Rattle.dr_store_calls.proofs.Calls.{asked_looked, looked_then}
@@ -22,11 +22,11 @@ returns-in-Ok-clause-called g c =
     let mid = state g.S.Store c.find_kept.new.conn in
     let new = state g.S.Store c.bring_kept.new.conn in
     let Shows : Trees → Bool → Type 0 = λ base kept. kept ≡ set.contains (all_kept_in (base 7)) item.uid in
-    let Asks : Trees → Type 0 = λ base. IsThere base (instance_of item) c.args.whole × (set.contains (arrivals_in (base 5)) (caller, item.uid) ≡ false) × (c.args.dests.now ≡ missing (rows_of base) item.uid c.args.targets.now.to) in
-    let Given : Trees → Type 0 = λ base. IsThere base (instance_of item) c.args.whole × (set.contains (arrivals_in (base 5)) (caller, item.uid) ≡ false) × (c.args.dests.now ≡ missing (rows_of base) item.uid c.args.targets.now.to) × (c.in-Ok.kept ≡ set.contains (all_kept_in (base 7)) item.uid) in
+    let Asks : Trees → Type 0 = λ base. IsThere base (instance_of item) c.args.whole × (set.contains (arrivals_in (base 5)) (caller, item.uid) ≡ false) × (c.args.again.now ≡ given_up (rows_of base) item.uid c.args.targets.now.to) × (c.args.dests.now ≡ missing (rows_of base) item.uid c.args.targets.now.to) in
+    let Given : Trees → Type 0 = λ base. IsThere base (instance_of item) c.args.whole × (set.contains (arrivals_in (base 5)) (caller, item.uid) ≡ false) × (c.args.again.now ≡ given_up (rows_of base) item.uid c.args.targets.now.to) × (c.args.dests.now ≡ missing (rows_of base) item.uid c.args.targets.now.to) × (c.in-Ok.kept ≡ set.contains (all_kept_in (base 7)) item.uid) in
     looked_then n (advanced r n) part old mid new Shows c.in-Ok.kept r Asks Given (AnswersTo part caller item r) (Accepts part caller item) (AnswersTo part caller item r) (Accepts part caller item)
     (asked_looked n part _ old mid Shows c.in-Ok.ensures.asked) c.bring_kept.ensures.called
-    (λ db l asks shown. (asks.0, asks.1, asks.2, shown)) (λ base db asks shown it. it) (λ base db asks shown it. it)
+    (λ db l asks shown. (asks.0, asks.1, asks.2, asks.3, shown)) (λ base db asks shown it. it) (λ base db asks shown it. it)
 
 pub returns-in-Err-clause-called : goal.returns-in-Err-clause-called
 returns-in-Err-clause-called g c =
@@ -37,5 +37,5 @@ returns-in-Err-clause-called g c =
     let old = state g.S.Store c.args.conn.now in
     let mid = state g.S.Store c.find_kept.new.conn in
     let Shows : Trees → Bool → Type 0 = λ base kept. kept ≡ set.contains (all_kept_in (base 7)) item.uid in
-    let Asks : Trees → Type 0 = λ base. IsThere base (instance_of item) c.args.whole × (set.contains (arrivals_in (base 5)) (caller, item.uid) ≡ false) × (c.args.dests.now ≡ missing (rows_of base) item.uid c.args.targets.now.to) in
+    let Asks : Trees → Type 0 = λ base. IsThere base (instance_of item) c.args.whole × (set.contains (arrivals_in (base 5)) (caller, item.uid) ≡ false) × (c.args.again.now ≡ given_up (rows_of base) item.uid c.args.targets.now.to) × (c.args.dests.now ≡ missing (rows_of base) item.uid c.args.targets.now.to) in
     not_read n part old mid Shows c.in-Err.fault Asks caller item c.requires.line (asked_looked n part _ old mid Shows c.in-Err.ensures.asked)

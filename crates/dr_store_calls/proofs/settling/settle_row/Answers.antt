@@ -1,4 +1,4 @@
-use Rattle.std.proofs.Common.{◌≡◌, ◌↔◌, ◌≤◌, ◌+◌, ◌^◌, ℕ, Bool, not, IsTrue, Some, Ok, Err, Result, subst, sym}
+use Rattle.std.proofs.Common.{◌≡◌, ◌↔◌, ◌≤◌, ◌+◌, ◌^◌, ℕ, Bool, not, IsTrue, Some, Ok, Err, Result, refl, subst, sym}
 use Rattle.std.specs.FinMap as map
 use Rattle.sqlite.specs.Effect.{Database}
 use Rattle.sqlite.specs.Held.{state}
@@ -58,7 +58,7 @@ returns-in-Ok-clause-called g c part =
     let Makes : Trees → Trees → Type 0 = λ base db. Settles uid dest what now (book_of base) (Ok tt) (book_of db) in
     looked_then n (advanced r n) part old mid new Shows needed r Waits Given (Answers r) Makes (Answers r) Makes (c.in-Ok.ensures.looked n part)
     (written_called n part (AsksForRow (uid, dest)) Given (MovesOn (uid, dest) to (settled_line n uid dest what now) (not needed)) Answers r mid new (λ h. c.written.ensures.idle)
-    (λ ready l given. row_asks mid.committed.trees uid dest (Waiting tries due) l.bodied given.0 (λ e. cc)) c.written.ensures.fault c.written.ensures.written
+    (λ ready l given. row_asks mid.committed.trees uid dest (Waiting tries due) l.bodied given.0 refl) c.written.ensures.fault c.written.ensures.written
     (λ ready l given db w. settles n part mid.committed.trees db uid dest tries due to what now needed c.requires.early (below_of n mid ready) l given.0 c.moved-to.ensures given.1 w)
     (λ e own. (settles_own e uid dest what now (book_of mid.committed.trees) own, all_stay (bodies_of mid.committed.trees))) Makes (λ base db it. it.0))
     (λ db l waits shown. (waits, shown)) (λ base db waits shown it. it) (λ base db waits shown it. it)

@@ -1,14 +1,16 @@
 use Rattle.sqlite.specs.Held.{state}
-use Rattle.dr_store_changes.specs.Bringing.{KeepsIf}
-use Rattle.dr_store_changes.specs.Changes.{AddsRows}
+use Rattle.dr_store_changes.specs.Bringing.{KeepsIf, Then}
+use Rattle.dr_store_changes.specs.Changes.{AddsRows, HasRows, Renews}
 use Rattle.dr_store_changes.proofs.FirstOnes.{step_then}
 use Rattle.dr_store_changes.proofs.Steps.{as_done}
 use Rattle.dr_store_changes.proofs.first.queue.Goals as goal
 
 pub returns-clause-step : goal.returns-clause-step
 returns-clause-step g c =
+    let uid = c.args.uid.now in
+    let again = c.args.again.now in
     let old = state g.S.Store c.args.tx.now.conn.now in
-    let mid = state g.S.Store c.add_rows.new.tx.conn.now in
+    let mid = state g.S.Store c.wait_for.new.tx.conn.now in
     let new = state g.S.Store c.keep_if.new.tx.conn.now in
-    step_then old mid new c.in_ok-add_rows.field-0 _ (Unit {0}) (AddsRows c.args.uid.now c.args.dests.now) (KeepsIf c.args.uid.now c.args.keeps)
-    (as_done old mid _ c.in_ok-add_rows.field-0 _ _ (λ m. m) c.in_ok-add_rows.ensures.step) (as_done mid new _ tt _ _ (λ m any. m) c.in_ok-keep_if.ensures.step)
+    step_then old mid new c.in_ok-wait_for.field-0 _ (HasRows uid again old.now.trees) (Then (Renews uid again) (AddsRows uid c.args.dests.now)) (KeepsIf uid c.args.keeps)
+    (as_done old mid _ c.in_ok-wait_for.field-0 _ _ (λ m. m) c.in_ok-wait_for.ensures.step) (as_done mid new _ tt _ _ (λ m any. m) c.in_ok-keep_if.ensures.step)

@@ -1,4 +1,4 @@
-use Rattle.dr_world.proofs.AtNodes.{strangers, submits, requeues, refuses}
+use Rattle.dr_world.proofs.AtNodes.{strangers, submits, requeues, drops, refuses}
 use Rattle.dr_world.proofs.LettingGo.{forgets, under_way_stays}
 use Rattle.dr_world.proofs.laws.acts_at_nodes.Goals as goal
 
@@ -10,6 +10,9 @@ returns-clause-submit c = submits
 
 pub returns-clause-requeue : goal.returns-clause-requeue
 returns-clause-requeue c = requeues
+
+pub returns-clause-drop : goal.returns-clause-drop
+returns-clause-drop c = drops
 
 pub returns-clause-forget : goal.returns-clause-forget
 returns-clause-forget c = forgets

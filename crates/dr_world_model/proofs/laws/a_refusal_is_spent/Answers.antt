@@ -1,5 +1,5 @@
 use Rattle.dr_world_model.proofs.Ready.{a_refusal_is_spent as once}
-use Rattle.dr_world_model.proofs.SpentWell.{arrivals_spend_well, settlings_spend_well, requeuings_spend_well, forgettings_spend_well}
+use Rattle.dr_world_model.proofs.SpentWell.{arrivals_spend_well, settlings_spend_well, requeuings_spend_well, droppings_spend_well, forgettings_spend_well}
 use Rattle.dr_world_model.proofs.laws.a_refusal_is_spent.Goals as goal
 
 pub returns-clause-once : goal.returns-clause-once
@@ -13,6 +13,9 @@ returns-clause-settlings c = settlings_spend_well
 
 pub returns-clause-requeuings : goal.returns-clause-requeuings
 returns-clause-requeuings c = requeuings_spend_well
+
+pub returns-clause-droppings : goal.returns-clause-droppings
+returns-clause-droppings c = droppings_spend_well
 
 pub returns-clause-forgettings : goal.returns-clause-forgettings
 returns-clause-forgettings c = forgettings_spend_well

@@ -1,4 +1,4 @@
-use Rattle.std.proofs.Common.{◌≡◌, List, ◌∷◌, None, Some, sym, subst}
+use Rattle.std.proofs.Common.{List, None, Some, sym, subst}
 use Rattle.dr_base.specs.Texts.{Text}
 use Rattle.dr_ledger.specs.Adopting.{Unfits}
 use Rattle.dr_ledger.specs.Pairs.{Pair}

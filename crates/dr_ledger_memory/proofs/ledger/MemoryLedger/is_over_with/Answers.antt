@@ -1,4 +1,4 @@
-use Rattle.std.proofs.Common.{◌∙◌, ap, sym}
+use Rattle.std.proofs.Common.{◌∙◌, sym}
 use Rattle.dr_ledger_memory.proofs.Ledgers.{needed_not_over, none_not_over, not_false, over_there, so_not}
 use Rattle.dr_ledger_memory.proofs.ledger.MemoryLedger.is_over_with.Goals as goal
 

@@ -32,8 +32,8 @@ pub returns-in-Ok-clause-bodies : goal.returns-in-Ok-clause-bodies
 returns-in-Ok-clause-bodies c =
     let l = c.args.self.now in
     let e = c.in-Ok.ensures in
-    only_lets_go l.site l.parts c.try_move.new.self l.ordered (e.ordered l.ordered) c.args.uid.now c.args.dest.now (Waiting 0 0) (Held c.args.why) c.in_ok-note.note
-    c.requires (λ w. let f : ⊥ = cc in f) e.ok
+    only_lets_go l.site l.parts c.try_move.new.self l.ordered (e.ordered l.ordered) c.args.uid.now c.args.dest.now (Waiting 0 0) (Held c.args.why)
+    c.requires refl e.ok.held
 
 pub returns-in-Err-clause-reply : goal.returns-in-Err-clause-reply
 returns-in-Err-clause-reply c = same_content c.args.self.now.parts c.try_move.new.self c.in-Err.ensures.err

@@ -1,4 +1,4 @@
-use Rattle.std.proofs.Common.{ap}
+use Rattle.std.proofs.Common.{ap, refl}
 use Rattle.dr_ledger.specs.declared.item.Progress.TheVariants.{Waiting}
 use Rattle.dr_ledger_memory.specs.Notes.{line_of}
 use Rattle.dr_ledger_memory.proofs.Content.{same_content, settled_so}
@@ -32,8 +32,8 @@ pub returns-in-Ok-clause-bodies : goal.returns-in-Ok-clause-bodies
 returns-in-Ok-clause-bodies c =
     let l = c.args.self.now in
     let e = c.in-Ok.ensures in
-    only_lets_go l.site l.parts c.try_move.new.self l.ordered (e.ordered l.ordered) c.args.uid.now c.args.dest.now c.moved-progress.result (Waiting c.args.was.0 c.args.was.1) c.in_ok-note.note
-    c.requires.waits (λ w. let f : ⊥ = cc in f) e.ok
+    only_lets_go l.site l.parts c.try_move.new.self l.ordered (e.ordered l.ordered) c.args.uid.now c.args.dest.now c.moved-progress.result (Waiting c.args.was.0 c.args.was.1)
+    c.requires.waits refl e.ok.held
 
 pub returns-in-Err-clause-reply : goal.returns-in-Err-clause-reply
 returns-in-Err-clause-reply c = same_content c.args.self.now.parts c.try_move.new.self c.in-Err.ensures.err

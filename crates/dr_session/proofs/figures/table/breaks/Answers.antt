@@ -12,3 +12,6 @@ returns-clause-late c = λ core. record { fresh = refl; waiting = refl; expired 
 
 pub returns-clause-no_pdus : goal.returns-clause-no_pdus
 returns-clause-no_pdus c = λ core at. record { before = refl; unknown = refl; invalid = refl; late = refl }
+
+pub returns-clause-silences : goal.returns-clause-silences
+returns-clause-silences c = λ core. record { agreed = refl; asking = refl; fresh = refl; over = refl; expired = refl }

@@ -1,4 +1,4 @@
-use Rattle.dr_world_script.specs.declared.step.Step.TheVariants.{Submit, Open, Push, Move, Abort, Release, Close, Late, Restart, Requeue, Forget, Tick, RefuseStore}
+use Rattle.dr_world_script.specs.declared.step.Step.TheVariants.{Submit, Open, Push, Move, Abort, Release, Close, Late, Restart, Requeue, Drop, Forget, Tick, RefuseStore}
 use Rattle.dr_world.specs.declared.steps.StepNote.TheVariants.{Done}
 use Rattle.dr_world.proofs.Running.{as_if, as_it, copied}
 use Rattle.dr_world.proofs.world.World+Refusing+L.perform.Goals as goal
@@ -23,6 +23,12 @@ returns-in-Late g c = as_if c.args.self.now c.late.new.self c.args.step.now (Lat
 pub returns-in-Requeue : goal.returns-in-Requeue
 returns-in-Requeue g c =
     as_it c.args.self.now c.requeue.new.self c.args.step.now (Requeue c.in-Requeue.node c.in-Requeue.uid c.in-Requeue.dest) c.in-Requeue.is c.requeue.result c.requeue.ensures.step
+
+pub returns-in-Drop : goal.returns-in-Drop
+returns-in-Drop g c =
+    let told = Drop c.in-Drop.node c.in-Drop.uid c.in-Drop.dest in
+    let new = c.give_up.new.self in
+    as_it c.args.self.now new c.args.step.now told c.in-Drop.is c.give_up.result c.give_up.ensures.step
 
 pub returns-in-Forget : goal.returns-in-Forget
 returns-in-Forget g c =

@@ -3,7 +3,7 @@ use Rattle.std.specs.BTreeMap as tree
 use Rattle.dr_base.specs.Texts.{text_cmp}
 use Rattle.dr_world_tie.specs.ByteWorlds.{note_of}
 use Rattle.dr_world.specs.declared.steps.StepNote.TheVariants.{Done, Refused}
-use Rattle.dr_world.specs.Whole.{Drops}
+use Rattle.dr_world.specs.Whole.{LetsGoOf}
 use Rattle.dr_world.proofs.Calling.{called, uncalled, there}
 use Rattle.dr_world.proofs.world.World.let_go_of.Goals as goal
 
@@ -12,7 +12,7 @@ returns-in_default g c =
     let nodes = c.get_mut.follows.lender-at-none in
     let none = c.in_default.ensures.value in
     let same = c.get_mut.follows.holds-at-none in
-    uncalled (Drops c.args.uid.now) c.args.self.now nodes c.args.name.now none same
+    uncalled (LetsGoOf c.args.uid.now) c.args.self.now nodes c.args.name.now none same
 
 pub returns-in-Ok : goal.returns-in-Ok
 returns-in-Ok g c =
@@ -24,7 +24,7 @@ returns-in-Ok g c =
     let has = there (tree.get text_cmp old.nodes name) node at in
     let nodes = c.get_mut.follows.lender new in
     let did = c.forget.ensures in
-    called (Drops c.args.uid.now) old nodes name node new Done at
+    called (LetsGoOf c.args.uid.now) old nodes name node new Done at
     ((c.get_mut.follows.holds new).3 has).0 did.links did.of did.stood
     (λ s. (c.forget.result, did.reply s, did.armed s, sym (ap note_of c.in-Ok.is)))
 
@@ -38,6 +38,6 @@ returns-in-Err g c =
     let has = there (tree.get text_cmp old.nodes name) node at in
     let nodes = c.get_mut.follows.lender new in
     let did = c.forget.ensures in
-    called (Drops c.args.uid.now) old nodes name node new (Refused c.in-Err.fault) at
+    called (LetsGoOf c.args.uid.now) old nodes name node new (Refused c.in-Err.fault) at
     ((c.get_mut.follows.holds new).3 has).0 did.links did.of did.stood
     (λ s. (c.forget.result, did.reply s, did.armed s, sym (ap note_of c.in-Err.is)))

@@ -1,0 +1,60 @@
+use Rattle.std.proofs.Common.{Ok, sym, subst}
+use Rattle.sqlite.specs.Held.{state}
+use Rattle.sqlite.specs.Tree.{Trees}
+use Rattle.dr_ledger.specs.Bodies.{OnlyLetsGo}
+use Rattle.dr_ledger.specs.Books.{Book}
+use Rattle.dr_ledger.specs.Replies.{Drops}
+use Rattle.dr_store_schema.specs.Books.{bodies_of, book_of}
+use Rattle.dr_store_calls.specs.Calling.{IsKept, IsSafe, advanced}
+use Rattle.dr_store.proofs.Replies.{drops, lets_go}
+use Rattle.dr_store.proofs.Stable.{both}
+use Rattle.dr_store.proofs.Writes.{called, still_kept, wrote}
+use Rattle.dr_store.proofs.ledger.SqlLedger.give_up_in.Goals as goal
+
+pub invariant_of-self : goal.invariant_of-self
+invariant_of-self g c =
+    let n = c.args.self.now.next in
+    let part = c.args.self.now.site in
+    let uid = c.args.uid.now in
+    let dest = c.args.dest.now in
+    let now = c.args.now in
+    let r = c.give_up-answer.result in
+    let old = state g.S.Store c.args.self.now.conn in
+    let new = state g.S.Store c.give_up-answer.new.conn in
+    let Answers : Trees → Trees → Type 0 =
+    λ base db.
+    Drops uid dest now (book_of base) r (book_of db) × OnlyLetsGo (bodies_of base) (bodies_of db) in
+    let Makes : Book → Book → Type 0 = λ b d. Drops uid dest now b (Ok tt) d in
+    let Made : Trees → Trees → Type 0 = λ base db. Makes (book_of base) (book_of db) in
+    let done =
+    called n (advanced r n) part r old new Answers Made (c.give_up-answer.ensures.called part) in
+    record {
+      idle = c.give_up-answer.ensures.idle;
+      kept = subst
+          (λ m. IsSafe new → ∥ IsKept m part new ∥₁) (sym c.next_after-self.ensures)
+          (still_kept n (advanced r n) part part r old new Answers Made c.args.self.now.kept done);
+    }
+
+pub returns-clause-wrote : goal.returns-clause-wrote
+returns-clause-wrote g c =
+    let n = c.args.self.now.next in
+    let part = c.args.self.now.site in
+    let uid = c.args.uid.now in
+    let dest = c.args.dest.now in
+    let now = c.args.now in
+    let r = c.give_up-answer.result in
+    let old = state g.S.Store c.args.self.now.conn in
+    let new = state g.S.Store c.give_up-answer.new.conn in
+    let Answers : Trees → Trees → Type 0 =
+    λ base db.
+    Drops uid dest now (book_of base) r (book_of db) × OnlyLetsGo (bodies_of base) (bodies_of db) in
+    let Makes : Book → Book → Type 0 = λ b d. Drops uid dest now b (Ok tt) d in
+    let Made : Trees → Trees → Type 0 = λ base db. Makes (book_of base) (book_of db) in
+    let done =
+    called n (advanced r n) part r old new Answers Made (c.give_up-answer.ensures.called part) in
+    wrote n (advanced r n) part part r old new Answers Makes c.args.self.now.kept done
+    (λ db is_open left. g.met.S.Store.settled c.args.self.now.conn.store db is_open left)
+    (λ db is_open left. g.met.S.Store.settled c.give_up-answer.new.conn.store db is_open left)
+    (both (drops uid dest now (book_of old.committed.trees) r (book_of new.committed.trees))
+    (lets_go (bodies_of old.committed.trees) (bodies_of new.committed.trees)))
+    (λ b d. drops uid dest now b (Ok tt) d)

@@ -1,0 +1,28 @@
+use Rattle.dr_word_line.proofs.Places.{places_6, places_7, same_word}
+use Rattle.dr_word_line.proofs.words.read_letting_go.Goals as goal
+
+pub returns-in-len6-clause-asked : goal.returns-in-len6-clause-asked
+returns-in-len6-clause-asked c = (
+  (
+    _,
+    places_6 _ c.args.words.now c.in-len6.len_at_least c.in-len6.len_below,
+    same_word _ _ _ c.eq.ensures c.if-eq.true,
+    c.is_no_option.ensures.0 c.if-is_no_option.true,
+    c.is_no_option-then-is_no_option.ensures.0 c.if-is_no_option-2.true,
+    c.is_no_option-then-is_no_option-2.ensures.0 c.if-is_no_option-3.true,
+  ),
+  c.is_no_option-then-is_no_option-3.ensures.0 c.if-is_no_option-4.true,
+)
+
+pub returns-in-len7-clause-asked : goal.returns-in-len7-clause-asked
+returns-in-len7-clause-asked c = (
+  (
+    _,
+    places_7 _ c.args.words.now c.in-len7.len_at_least c.in-len7.len_below,
+    same_word _ _ _ c.eq-then-words-lt8.ensures c.if-eq-2.true,
+    c.is_no_option-then-eq-2.ensures.0 c.if-is_no_option-5.true,
+    c.is_no_option-then-is_no_option-5.ensures.0 c.if-is_no_option-6.true,
+    c.is_no_option-then-is_no_option-6.ensures.0 c.if-is_no_option-7.true,
+  ),
+  c.is_no_option-then-is_no_option-7.ensures.0 c.if-is_no_option-8.true,
+)
