@@ -375,13 +375,13 @@ def hops_alone():
                 same(caller.store(uid, data_set(uid)), 0)
                 time.sleep(0.25)
             same(caller.release(), RELEASED)
-        deadline = time.monotonic() + 15
+        deadline = time.monotonic() + 60
         def rows_done():
             told_rows = room.text('report').splitlines() if os.path.exists(f'{room.folder}/report') else []
             return len([line for line in told_rows if line.endswith('ARCH\tdone')])
-        while rows_done() < 20 and time.monotonic() < deadline:
+        while rows_done() < 40 and time.monotonic() < deadline:
             time.sleep(0.1)
-        assert rows_done() >= 20, room.text('report')
+        assert rows_done() == 40, room.text('report')
         said = [event for event in room.events('GATE') if event[2] == 'visit']
         down = [event[0] for event in said if event[3].startswith('unreached dest="DOWN"')]
         # tries at 0, 1, 3 and 7 s and then each 5 s, while rows are made
