@@ -20,4 +20,4 @@ mod testing;
 
 pub use fault::OpeningFault;
 pub use ledger::ledger_on;
-pub use opening::on;
+pub use opening::{on, open};
