@@ -3,5 +3,6 @@ mod Blank
 mod Chains
 mod Emptied
 mod Filling
+mod Left
 mod Queried
 mod Wholly

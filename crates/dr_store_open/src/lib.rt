@@ -9,6 +9,7 @@ mod asking;
 pub mod bodies;
 mod fault;
 pub mod finding;
+pub mod laws;
 mod ledger;
 mod lines;
 pub mod making;
