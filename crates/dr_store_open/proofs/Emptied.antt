@@ -1,5 +1,5 @@
 -- A ledger's tables without a row.
-use Rattle.std.proofs.Common.{◌≡◌, ◌∙◌, [], sym, subst}
+use Rattle.std.proofs.Common.{◌≡◌, [], sym, subst}
 use Rattle.sqlite.specs.Effect.{Database}
 use Rattle.dr_store_schema.specs.Statements as text
 use Rattle.dr_store_open.specs.declared.sheets.Sheets.{Sheets}

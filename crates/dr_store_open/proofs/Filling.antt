@@ -4,7 +4,7 @@ use Rattle.sqlite.specs.State.{State, HasCleanDisk, KeepsCounts, Shows, Survives
 use Rattle.sqlite.specs.declared.error.Error.{Error}
 use Rattle.sqlite.specs.Effect.{Database}
 use Rattle.sqlite.proofs.StateLemmas.{survives_then}
-use Rattle.dr_store_open.specs.Opening.{LeavesFile, LeavesOldOr, LeavesOldOrCommitted, MayMake}
+use Rattle.dr_store_open.specs.Opening.{LeavesFile, LeavesOldOr, LeavesOldOrCommitted}
 
 -- where nothing is run
 pub survives_still : (s : State) → Survives s s (λ _. ⊥)

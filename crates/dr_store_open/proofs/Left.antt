@@ -1,6 +1,5 @@
 -- What is left of a file, by its kind.
-use Rattle.std.proofs.Common.{◌≡◌, ◌∙◌, ◌⊎◌, [], List, inl, inr, length, sym, ap, arith}
-use Rattle.sqlite.specs.Effect.{Database}
+use Rattle.std.proofs.Common.{◌≡◌, ◌∙◌, List, inl, inr, length, sym, ap, arith}
 use Rattle.sqlite.specs.Schema.{Schema}
 use Rattle.sqlite.specs.Table.{Table}
 use Rattle.sqlite.specs.State.{State}
@@ -8,7 +7,7 @@ use Rattle.sqlite.specs.Tree.{Trees}
 use Rattle.dr_store_schema.specs.Tables.{tables}
 use Rattle.dr_store_audit.specs.Older.{IsOlder}
 use Rattle.dr_store_audit.proofs.Less.{no_older_is_new}
-use Rattle.dr_store_open.specs.Opening.{IsBlank, LeavesFile, LeavesOldOr, MayMake}
+use Rattle.dr_store_open.specs.Opening.{IsBlank, LeavesOldOr, MayMake}
 use Rattle.dr_store_open.specs.Renewing.{HasNoRows, KeepsRows}
 use Rattle.dr_store_open.proofs.Blank.{blank_no_older}
 
@@ -30,9 +29,9 @@ pub kept_or_before : (old new : State) → LeavesOldOr (MayMake old.now) old new
 kept_or_before old new left older db h = elim (left db h) [
   | inl before ↦ inl before
   | inr made ↦ elim made.2 [
-      | inl new_one ↦ absurd (blank_no_older old.now.schema new_one.0.tables older)
-      | inr renewed ↦ inr (made.0, made.1, renewed.1)
-    ]
+    | inl new_one ↦ absurd (blank_no_older old.now.schema new_one.0.tables older)
+    | inr renewed ↦ inr (made.0, made.1, renewed.1)
+  ]
 ]
 
 pub empty_or_before : (old new : State) → LeavesOldOr (MayMake old.now) old new → IsBlank old.now.schema
@@ -40,9 +39,9 @@ pub empty_or_before : (old new : State) → LeavesOldOr (MayMake old.now) old ne
 empty_or_before old new left blank db h = elim (left db h) [
   | inl before ↦ inl before
   | inr made ↦ elim made.2 [
-      | inl new_one ↦ inr (made.0, made.1, new_one.1)
-      | inr renewed ↦ absurd (blank_no_older old.now.schema blank.tables renewed.0)
-    ]
+    | inl new_one ↦ inr (made.0, made.1, new_one.1)
+    | inr renewed ↦ absurd (blank_no_older old.now.schema blank.tables renewed.0)
+  ]
 ]
 
 pub ledger_is_neither : (schema : Schema) → schema ≡ tables → (IsBlank schema → ⊥) × (IsOlder schema → ⊥)

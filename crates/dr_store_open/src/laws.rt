@@ -20,8 +20,7 @@ pub fn a_ledger_stays<S: Alter>(before: &Connection<S>, after: &Connection<S>)
         → (state S.Store before.now).now.schema ≡ tables
         → IsTrue (state S.Store after.now).is_open
         → (state S.Store after.now).committed ≡ (state S.Store before.now).committed }
-{
-}
+{}
 
 /// Of a file that has other tables, or a view alone, it makes nothing either.
 pub fn another_file_stays<S: Alter>(before: &Connection<S>, after: &Connection<S>)
@@ -30,8 +29,7 @@ pub fn another_file_stays<S: Alter>(before: &Connection<S>, after: &Connection<S
         → (IsOlder (state S.Store before.now).now.schema → ⊥)
         → (db : Trees) → (state S.Store after.now).may_leave db
         → (state S.Store before.now).may_leave db }
-{
-}
+{}
 
 /// Of a file from before it leaves what there was, or, where the tables are those of today, all
 /// that it had.
@@ -40,8 +38,7 @@ pub fn an_older_file_keeps_its_rows<S: Alter>(before: &Connection<S>, after: &Co
         → IsOlder (state S.Store before.now).now.schema
         → LeavesOldOr (λ d. d.schema ≡ tables → KeepsRows (state S.Store before.now).now d)
         (state S.Store before.now) (state S.Store after.now) }
-{
-}
+{}
 
 /// Of a file without tables it leaves what there was, or, where the tables are those of today, a
 /// ledger without an instance, an arrival, a row or a line.
@@ -50,8 +47,7 @@ pub fn a_new_file_has_no_rows<S: Alter>(before: &Connection<S>, after: &Connecti
         → IsBlank (state S.Store before.now).now.schema
         → LeavesOldOr (λ d. d.schema ≡ tables → HasNoRows d) (state S.Store before.now)
         (state S.Store after.now) }
-{
-}
+{}
 
 /// What stays as it was found is committed as it was, and a crash leaves no more than before.
 pub fn what_was_found_stays<S: Alter>(before: &Connection<S>, after: &Connection<S>)
@@ -60,5 +56,4 @@ pub fn what_was_found_stays<S: Alter>(before: &Connection<S>, after: &Connection
     ensures crash { StaysAsFound (state S.Store before.now) (state S.Store after.now)
         → (db : Trees) → (state S.Store after.now).may_leave db
         → (state S.Store before.now).may_leave db }
-{
-}
+{}

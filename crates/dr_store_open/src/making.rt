@@ -33,10 +33,7 @@ pub const LATER: [&str; 8] = [
 ];
 
 /// Puts in whose ledger it is.
-fn put_owner<'x, S: Alter>(
-    tx: &mut Transaction<'_, S>,
-    site: &'x Site,
-) -> Result<(), OpeningFault>
+fn put_owner<'x, S: Alter>(tx: &mut Transaction<'_, S>, site: &'x Site) -> Result<(), OpeningFault>
     ensures same_reference { tx.new.conn.ghost_name ≡ tx.old.conn.ghost_name }
     ensures survives { Survives (state S.Store tx.old.conn.now) (state S.Store tx.new.conn.now)
         (λ _. ⊥) }

@@ -5,8 +5,8 @@ use Rattle.dr_store_open.proofs.Emptied.{emptied}
 use Rattle.dr_store_open.proofs.Queried.{new_queries}
 use Rattle.dr_store_open.proofs.making.test_empty.Goals as goal
 
-pub returns-else-not-has_no_rows-clause-empty : goal.returns-else-not-has_no_rows-clause-empty
-returns-else-not-has_no_rows-clause-empty g c clean named =
+pub returns-clause-empty : goal.returns-clause-empty
+returns-clause-empty g c clean named =
     let old = state g.S.Store c.args.tx.now.conn.now in
     let new = state g.S.Store c.ask_sheets.new.tx.conn.now in
     let queries : AreQueries old.now.schema = subst AreQueries (sym (sym (c.in_ok-sheets.ensures.schema clean) ∙ named)) new_queries in
