@@ -4,7 +4,7 @@ use Rattle.sqlite.specs.State.{State, HasCleanDisk, KeepsCounts, Shows, Survives
 use Rattle.sqlite.specs.declared.error.Error.{Error}
 use Rattle.sqlite.specs.Effect.{Database}
 use Rattle.sqlite.proofs.StateLemmas.{survives_then}
-use Rattle.dr_store_open.specs.Opening.{LeavesOldOrCommitted}
+use Rattle.dr_store_open.specs.Opening.{LeavesFile, LeavesOldOr, LeavesOldOrCommitted}
 
 -- where nothing is run
 pub survives_still : (s : State) → Survives s s (λ _. ⊥)
@@ -22,4 +22,39 @@ leaves_made old mid new (Err e) filled done survives clean = tt
 leaves_made old mid new (Ok x) filled done survives clean = λ db left. elim (survives.crash clean db left) [
   | inl earlier ↦ elim (filled.crash (omega (arith, survives.clean, clean)) db earlier) [ inl before ↦ inl before | inr none ↦ absurd none ]
   | inr is ↦ inr (is ∙ ap (λ (d : Database). d.trees) (sym (done clean).1.committed_is))
+]
+
+-- where the commit was tried, whatever came of it
+pub leaves_tried : (old mid new : State) (Makes : Database → Type 0)
+    → Survives (record old { in_transaction = true }) mid (λ _. ⊥)
+    → (HasCleanDisk mid → Makes mid.now)
+    → Survives mid new (λ db. db ≡ mid.now.trees) → HasCleanDisk new → LeavesOldOr Makes old new
+leaves_tried old mid new Makes filled made survives clean =
+    let early : HasCleanDisk mid = omega (arith, survives.clean, clean) in
+    λ db left. elim (survives.crash clean db left) [
+      | inl earlier ↦ elim (filled.crash early db earlier) [ inl before ↦ inl before | inr none ↦ absurd none ]
+      | inr is ↦ inr (mid.now, sym is, made early)
+    ]
+
+-- where a statement failed, and the transaction was let go
+pub leaves_failed : (old mid new : State) (Makes : Database → Type 0)
+    → Survives (record old { in_transaction = true }) mid (λ _. ⊥)
+    → Survives mid new (λ _. ⊥) → HasCleanDisk new → LeavesOldOr Makes old new
+leaves_failed old mid new Makes filled survives clean =
+    let early : HasCleanDisk mid = omega (arith, survives.clean, clean) in
+    λ db left. elim (survives.crash clean db left) [
+      | inl earlier ↦ elim (filled.crash early db earlier) [ inl before ↦ inl before | inr none ↦ absurd none ]
+      | inr none ↦ absurd none
+    ]
+
+-- where nothing is done
+pub file_still : (s : State) → LeavesFile s s
+file_still s = record { crash = λ db left. inl left; stays = λ blank older is_open. refl }
+
+-- what is made of a file of this kind
+pub leaves_more : (old new : State) (One Two : Database → Type 0) → ((d : Database) → One d → Two d)
+    → LeavesOldOr One old new → LeavesOldOr Two old new
+leaves_more old new One Two says left = λ db h. elim (left db h) [
+  | inl before ↦ inl before
+  | inr made ↦ inr (made.0, made.1, says made.0 made.2)
 ]

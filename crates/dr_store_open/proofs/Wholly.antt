@@ -27,7 +27,7 @@ use Rattle.dr_store_audit.specs.Found.{IsFound}
 use Rattle.dr_store_audit.proofs.Needed.{both_parts, found_listed, whole_is, whole_print}
 use Rattle.dr_store_schema.specs.Tables.{tables}
 use Rattle.dr_store_open.specs.Renewing.{KeepsRows}
-use Rattle.dr_store_open.specs.Opening.{AreOwnUnder, AreReadIf, AreTested, HasNewLedger, IfFound, IsBroughtOver, IsAgreedIf, IsLedgerFound, IsNext, IsOpened, IsOwn, IsOwnedBy, IsSpelled, IsWholeIf, LeavesOldOrCommitted, StaysAsFound}
+use Rattle.dr_store_open.specs.Opening.{AreOwnUnder, AreReadIf, AreTested, HasNewLedger, IfFound, IsBroughtOver, IsAgreedIf, IsLedgerFound, IsNext, IsOpened, IsOwn, IsOwnedBy, IsSpelled, IsWholeIf, LeavesFile, LeavesOldOrCommitted, StaysAsFound}
 
 -- a data set that was read again is the instance's
 pub own_job : (db : Trees) (uid : Text) (job : Job) (print : Print) → IsJobOf uid db (Some job) → IsItem job → IsSpelled job print → map.get (prints_of db) uid ≡ Some (print.size, print.digest) → IsOwn uid db
@@ -78,7 +78,7 @@ whole_if part db (Some n) agrees owned = (agrees, owned)
 -- ---- an opening
 
 pub none_opened : (part : Part) (s : State) → IsOpened part (Ok None) s s
-none_opened part s = record { has = tt; kept = λ clean. tt; leaves = λ clean db left. left; clean = omega arith; idle = λ h. h }
+none_opened part s = record { has = tt; kept = λ clean. tt; stays = λ clean is_open. (is_open, refl); leaves = λ clean db left. left; clean = omega arith; idle = λ h. h }
 
 module _ (part : Part) (old new : State) (has : HasTables old.now) (live : IsLive old) (settled : IsTrue old.is_open → old.now ≡ old.committed) where
   -- what the tables showed, and what of them was tested
@@ -86,7 +86,7 @@ module _ (part : Part) (old new : State) (has : HasTables old.now) (live : IsLiv
   ShowsAll db found = AreTested db.trees × IsWholeIf part db.trees found
 
   pub opened : (r : Result (Option ℕ) LedgerFault) → Asked HasTables r old new (ShowsAll old.now) → IsOpened part r old new
-  opened r a = record { has = named r; kept = λ clean. found clean r a; leaves = λ clean db left. a.leaves clean has db left; clean = a.clean; idle = a.idle }
+  opened r a = record { has = named r; kept = λ clean. found clean r a; stays = λ clean is_open. (a.was_open clean is_open, (a.stays clean is_open has).committed); leaves = λ clean db left. a.leaves clean has db left; clean = a.clean; idle = a.idle }
     where
       named : (r : Result (Option ℕ) LedgerFault) → IfFound r (λ n. HasTables old.now)
       named (Ok None) = tt
@@ -151,6 +151,18 @@ brought_over n part old mid new is leaves left kept = record {
   keeps = subst (KeepsRows old.now) (sym is.same) (kept (ap (λ (d : Database). d.schema) (sym (is.kept.ready.settled ∙ is.same)) ∙ is.kept.ready.ledger.schema));
   leaves = found_left n part old mid new is leaves left;
 }
+
+-- whatever was found, nothing was done to the file since
+pub file_found : (part : Part) (r : Result (Option ℕ) LedgerFault) (old mid new : State)
+    → (HasCleanDisk mid → LeavesFile old mid) → IsOpened part r mid new
+    → HasCleanDisk new → LeavesFile old new
+file_found part r old mid new left is clean =
+    let early : HasCleanDisk mid = omega (arith, is.clean, clean) in
+    record {
+      crash = λ db h. (left early).crash db (is.leaves clean db h);
+      stays = λ blank older is_open.
+          let was = is.stays clean is_open in was.1 ∙ (left early).stays blank older was.0;
+    }
 
 -- where nothing is done
 pub stays_still : (s : State) → StaysAsFound s s

@@ -24,7 +24,8 @@ use Rattle.dr_store_reads.specs.Queries.{Stays}
 use Rattle.dr_store_reads.specs.declared.finding.Print.{Print}
 use Rattle.dr_store_calls.specs.Calling.{IsKept}
 use Rattle.dr_store_audit.specs.Found.{IsFound}
-use Rattle.dr_store_open.specs.Renewing.{KeepsRows}
+use Rattle.dr_store_audit.specs.Older.{IsOlder}
+use Rattle.dr_store_open.specs.Renewing.{HasNoRows, KeepsRows}
 
 -- ---- what is tested of rows
 
@@ -128,6 +129,8 @@ pub record IsOpened (part : Part) (result : Result (Option ℕ) LedgerFault)
     (old new : State) : Type 0 where
   pub has : IfFound result (λ n. old.now.schema ≡ tables)
   pub kept : HasCleanDisk new → IfFound result (λ n. IsLedgerFound n part old new)
+  pub stays : HasCleanDisk new → IsTrue new.is_open
+      → IsTrue old.is_open × (new.committed ≡ old.committed)
   pub leaves : HasCleanDisk new → (db : Trees) → new.may_leave db → old.may_leave db
   pub clean : doubt old.is_clean ≤ doubt new.is_clean
   pub idle : old.in_transaction ≡ false → new.in_transaction ≡ false
@@ -159,3 +162,28 @@ pub record HasNewLedger (old new : State) : Type 0 where
 pub record IsBroughtOver (old new : State) : Type 0 where
   pub keeps : KeepsRows old.now new.committed
   pub leaves : LeavesOldOrCommitted old new
+
+-- ---- a file that is refused
+
+-- A crash leaves what it could leave before, or a database of which this holds.
+abbrev pub LeavesOldOr : (Database → Type 0) → State → State → Type 0
+LeavesOldOr Makes old new =
+    (db : Trees) → new.may_leave db → old.may_leave db ⊎ ((d : Database) × (d.trees ≡ db) × Makes d)
+
+-- What an opening may make of a file. One without tables gets those of a ledger, and no row but the
+-- owner's; one from before gets the tables of today, and keeps what it had. Of any other file it
+-- makes nothing.
+abbrev pub MayMake : Database → Database → Type 0
+MayMake was d =
+    (IsBlank was.schema × (d.schema ≡ tables → HasNoRows d))
+    ⊎ (IsOlder was.schema × (d.schema ≡ tables → KeepsRows was d))
+
+-- What an opening leaves, whatever it answers, also where the file is refused. A crash leaves what
+-- it could leave before, or what an opening makes of the file, whole. Where that is nothing, what
+-- was committed stays, as far as the connection is open still.
+pub record LeavesFile (old new : State) : Type 0 where
+  pub crash : LeavesOldOr (MayMake old.now) old new
+  pub stays : (IsBlank old.now.schema → ⊥)
+      → (IsOlder old.now.schema → ⊥)
+      → IsTrue new.is_open
+      → new.committed ≡ old.committed

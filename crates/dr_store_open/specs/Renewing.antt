@@ -40,6 +40,14 @@ pub record KeepsRows (old new : Database) : Type 0 where
   pub rows : AnswersTheSame old new text.all_rows
   pub lines : AnswersTheSame old new all_calls
 
+-- No table has a row, but for the owner's: the queries that ask for all else answer nothing.
+pub record HasNoRows (db : Database) : Type 0 where
+  pub items : IsAnswer text.all_items db []
+  pub arrivals : IsAnswer text.all_arrivals db []
+  pub kept : IsAnswer text.all_kept db []
+  pub rows : IsAnswer text.all_rows db []
+  pub lines : IsAnswer all_calls db []
+
 -- these are queries over the tables
 pub record AreQueries (schema : Schema) : Type 0 where
   pub site : IsQuery schema text.the_site

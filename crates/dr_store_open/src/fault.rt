@@ -1,6 +1,8 @@
 //! Why a file's ledger isn't opened.
 use dr_ledger::LedgerFault;
 use dr_store_audit::FindingFault;
+use dr_store_reads::fault_of;
+use sqlite::Error as SqlError;
 use std::alloc::{AllocError, AllocFailed};
 use thiserror::Error;
 
@@ -45,6 +47,11 @@ pub fn opening_fault(fault: LedgerFault) -> OpeningFault {
         LedgerFault::Memory => OpeningFault::Memory,
         _ => OpeningFault::Store,
     }
+}
+
+/// The fault of an opening where the database answers this.
+pub fn of_error(error: &SqlError) -> OpeningFault {
+    opening_fault(fault_of(error))
 }
 
 /// The fault of an opening where tables that were found aren't taken.

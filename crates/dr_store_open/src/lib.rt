@@ -9,6 +9,7 @@ mod asking;
 pub mod bodies;
 mod fault;
 pub mod finding;
+pub mod laws;
 mod ledger;
 mod lines;
 pub mod making;
@@ -20,4 +21,4 @@ mod testing;
 
 pub use fault::OpeningFault;
 pub use ledger::ledger_on;
-pub use opening::on;
+pub use opening::{on, open};

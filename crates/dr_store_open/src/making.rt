@@ -1,13 +1,18 @@
 //! The tables of a new ledger.
-ghost use Rattle.std.specs.Prelude.{◌≡◌, ◌≤◌, OnOk, false};
+ghost use Rattle.std.specs.Prelude.{◌≡◌, ◌≤◌, OnOk, [], IsTrue, false};
 ghost use Rattle.sqlite.specs.Held.{state};
 ghost use Rattle.sqlite.specs.State.{HasCleanDisk, Survives};
 ghost use Rattle.sqlite_trees.specs.View.{doubt};
-ghost use Rattle.dr_store_open.specs.Opening.{LeavesOldOrCommitted};
+ghost use Rattle.dr_store_schema.specs.Tables.{tables};
+ghost use Rattle.dr_store_open.specs.Opening.{LeavesOldOr, LeavesOldOrCommitted};
+ghost use Rattle.dr_store_open.specs.Renewing.{HasNoRows};
 
+use crate::asking::run_texts;
+use crate::fault::{OpeningFault, of_error};
+use crate::sheets::{Sheets, ask_sheets};
 use dr_site::Site;
 use dr_store_writes::add_site;
-use sqlite::{Alter, Connection, Error, Transaction};
+use sqlite::{Alter, Connection, Transaction};
 
 /// The tables whose place no other one changes.
 const FIRST: [&str; 2] = [
@@ -27,40 +32,81 @@ pub const LATER: [&str; 8] = [
     "CREATE INDEX arrival_uid ON arrival (uid)",
 ];
 
-/// Runs these statements.
-fn run_all<S: Alter>(tx: &mut Transaction<'_, S>, texts: &[&str]) -> Result<(), Error>
+/// Puts in whose ledger it is.
+fn put_owner<'x, S: Alter>(tx: &mut Transaction<'_, S>, site: &'x Site) -> Result<(), OpeningFault>
     ensures same_reference { tx.new.conn.ghost_name ≡ tx.old.conn.ghost_name }
     ensures survives { Survives (state S.Store tx.old.conn.now) (state S.Store tx.new.conn.now)
         (λ _. ⊥) }
 {
-    for text in texts {
-        tx.execute(text, &[])?;
+    match add_site(tx, site.name(), site.digest()) {
+        Ok(_) => Ok(()),
+        Err(error) => Err(of_error(&error)),
+    }
+}
+
+/// Whether no table has a row, but for the owner's.
+fn has_no_rows(sheets: &Sheets) -> bool
+    ensures { IsTrue result
+        → (sheets.now.items.items ≡ []) × (sheets.now.arrivals.items ≡ [])
+        × (sheets.now.kept.items ≡ []) × (sheets.now.rows.items ≡ [])
+        × (sheets.now.lines.items ≡ []) }
+{
+    if !sheets.items.is_empty() || !sheets.arrivals.is_empty() {
+        return false;
+    }
+    sheets.kept.is_empty() && sheets.rows.is_empty() && sheets.lines.is_empty()
+}
+
+/// Tests that no table has a row, but for the owner's.
+fn test_empty<S: Alter>(tx: &mut Transaction<'_, S>) -> Result<(), OpeningFault>
+    ensures same_reference { tx.new.conn.ghost_name ≡ tx.old.conn.ghost_name }
+    ensures survives { Survives (state S.Store tx.old.conn.now) (state S.Store tx.new.conn.now)
+        (λ _. ⊥) }
+    ensures empty { HasCleanDisk (state S.Store tx.new.conn.now)
+        → (state S.Store tx.new.conn.now).now.schema ≡ tables
+        → OnOk result (HasNoRows (state S.Store tx.new.conn.now).now) }
+{
+    let sheets = ask_sheets(tx)?;
+    if !has_no_rows(&sheets) {
+        return Err(OpeningFault::Store);
     }
     Ok(())
 }
 
-/// All statements that make the tables of a new ledger of this site.
-fn fill<S: Alter>(tx: &mut Transaction<'_, S>, site: &Site) -> Result<(), Error>
+/// All statements that make the tables of a new ledger of this site, and a look at what they made.
+fn fill<'x, S: Alter>(tx: &mut Transaction<'_, S>, site: &'x Site) -> Result<(), OpeningFault>
     ensures same_reference { tx.new.conn.ghost_name ≡ tx.old.conn.ghost_name }
     ensures survives { Survives (state S.Store tx.old.conn.now) (state S.Store tx.new.conn.now)
         (λ _. ⊥) }
+    ensures empty { HasCleanDisk (state S.Store tx.new.conn.now)
+        → (state S.Store tx.new.conn.now).now.schema ≡ tables
+        → OnOk result (HasNoRows (state S.Store tx.new.conn.now).now) }
 {
-    run_all(tx, FIRST.as_slice())?;
-    run_all(tx, LATER.as_slice())?;
-    add_site(tx, site.name(), site.digest())?;
-    Ok(())
+    run_texts(tx, FIRST.as_slice())?;
+    run_texts(tx, LATER.as_slice())?;
+    put_owner(tx, site)?;
+    test_empty(tx)
 }
 
-/// Makes the tables of a new ledger of this site, as one transaction.
-pub fn make<S: Alter>(conn: &mut Connection<S>, site: &Site) -> Result<(), Error>
+/// Makes the tables of a new ledger of this site, as one transaction. Whatever it answers, a crash
+/// leaves what it could leave before, or all of the tables.
+///
+/// Errors: Store, Memory.
+pub fn make<S: Alter>(conn: &mut Connection<S>, site: &Site) -> Result<(), OpeningFault>
     requires { conn.old.in_transaction ≡ false }
     ensures idle { conn.new.in_transaction ≡ false }
     ensures clean { doubt (state S.Store conn.old).is_clean
         ≤ doubt (state S.Store conn.new).is_clean }
     ensures made { HasCleanDisk (state S.Store conn.new)
         → OnOk result (LeavesOldOrCommitted (state S.Store conn.old) (state S.Store conn.new)) }
+    ensures crash { HasCleanDisk (state S.Store conn.new)
+        → LeavesOldOr (λ d. d.schema ≡ tables → HasNoRows d) (state S.Store conn.old)
+        (state S.Store conn.new) }
 {
     let mut tx = conn.transaction();
     fill(&mut tx, site)?;
-    tx.commit()
+    match tx.commit() {
+        Ok(()) => Ok(()),
+        Err(error) => Err(of_error(&error)),
+    }
 }

@@ -8,7 +8,8 @@ ghost use Rattle.dr_store_calls.specs.Calling.{IsKept};
 ghost use Rattle.dr_store_audit.specs.Older.{IsOlder};
 ghost use Rattle.dr_store_open.specs.Renewing.{KeepsRows};
 ghost use Rattle.dr_store_open.specs.Opening.{HasNewLedger, IsBlank, IsBroughtOver, IsNext};
-ghost use Rattle.dr_store_open.specs.Opening.{IsOpened, IsOwnedBy, LeavesOldOrCommitted};
+ghost use Rattle.dr_store_open.specs.Opening.{IsOpened, IsOwnedBy, LeavesFile};
+ghost use Rattle.dr_store_open.specs.Opening.{LeavesOldOrCommitted};
 ghost use Rattle.dr_store_open.specs.Opening.{StaysAsFound};
 
 use crate::fault::{OpeningFault, opening_fault};
@@ -19,7 +20,6 @@ use crate::testing::test_tables;
 use dr_ledger::LedgerFault;
 use dr_site::Site;
 use dr_store_audit::is_ours;
-use dr_store_reads::fault_of;
 use sqlite::{Alter, Connection};
 use sqlite_schema::schema::Schema;
 use std::alloc::Global;
@@ -78,6 +78,8 @@ pub fn find<S: Alter>(
 }
 
 /// Makes the tables of a new ledger, where the file has no table, and says whether it did.
+///
+/// Errors: Store, Memory.
 fn make_new<S: Alter>(conn: &mut Connection<S>, site: &Site) -> Result<bool, OpeningFault>
     requires { conn.old.in_transaction ≡ false }
     ensures idle { conn.new.in_transaction ≡ false }
@@ -89,13 +91,15 @@ fn make_new<S: Alter>(conn: &mut Connection<S>, site: &Site) -> Result<bool, Ope
         → IsBlank (state S.Store conn.old).now.schema
         × (HasCleanDisk (state S.Store conn.new)
         → LeavesOldOrCommitted (state S.Store conn.old) (state S.Store conn.new))) }
+    ensures file { HasCleanDisk (state S.Store conn.new)
+        → LeavesFile (state S.Store conn.old) (state S.Store conn.new) }
 {
     if !is_blank(conn.schema()) {
         return Ok(false);
     }
     match make(conn, site) {
         Ok(()) => Ok(true),
-        Err(error) => Err(opening_fault(fault_of(&error))),
+        Err(fault) => Err(fault),
     }
 }
 
@@ -123,6 +127,8 @@ fn prepare<S: Alter>(
         → (state S.Store conn.new).committed.schema ≡ tables
         → IfOk result (λ made.
         made ≡ false → KeepsRows (state S.Store conn.old).now (state S.Store conn.new).committed) }
+    ensures file { HasCleanDisk (state S.Store conn.new)
+        → LeavesFile (state S.Store conn.old) (state S.Store conn.new) }
 {
     if make_new(conn, site)? {
         return Ok(true);
@@ -143,10 +149,56 @@ fn is_as_made(made: bool, next: u64) -> bool
     true
 }
 
-/// The ledger of this site in a file, with the number of its next line: its tables are made where
-/// the file has none, and else they are found, and compared with what the journal's lines make; a
-/// file from before, which lacks some of them, is brought over first, as one transaction. A refusal
-/// closes the connection and gives nothing back.
+/// The number of the next line of this site's ledger in a file: its tables are made where the file
+/// has none, and else they are found, and compared with what the journal's lines make; a file from
+/// before, which lacks some of them, is brought over first, as one transaction.
+///
+/// Whatever it answers, a crash leaves what it could leave before, or what an opening makes of the
+/// file, whole. A file that has other tables than none or those of before stays as it was.
+///
+/// Errors: OtherSite; Store; Memory.
+pub fn open<S: Alter>(
+    conn: &mut Connection<S>,
+    alloc: Global,
+    site: &Site,
+) -> Result<u64, OpeningFault>
+    requires { conn.old.in_transaction ≡ false }
+    ensures kept { IfOk result (λ next. HasCleanDisk (state S.Store conn.new)
+        → IsKept next site.now (state S.Store conn.new)
+        × IsOwnedBy site.now (state S.Store conn.new).committed.trees) }
+    ensures next { IfOk result (λ next. HasCleanDisk (state S.Store conn.new)
+        → IsNext next (state S.Store conn.new).committed.trees) }
+    ensures found { IfOk result (λ next. HasCleanDisk (state S.Store conn.new)
+        → (IsBlank (state S.Store conn.old).now.schema → ⊥)
+        → (IsOlder (state S.Store conn.old).now.schema → ⊥)
+        → StaysAsFound (state S.Store conn.old) (state S.Store conn.new)) }
+    ensures older { IfOk result (λ next. HasCleanDisk (state S.Store conn.new)
+        → IsOlder (state S.Store conn.old).now.schema
+        → IsBroughtOver (state S.Store conn.old) (state S.Store conn.new)) }
+    ensures made { IfOk result (λ next. HasCleanDisk (state S.Store conn.new)
+        → IsBlank (state S.Store conn.old).now.schema
+        → HasNewLedger (state S.Store conn.old) (state S.Store conn.new)) }
+    ensures file { HasCleanDisk (state S.Store conn.new)
+        → LeavesFile (state S.Store conn.old) (state S.Store conn.new) }
+    ensures idle { conn.new.in_transaction ≡ false }
+    ensures clean { doubt (state S.Store conn.old).is_clean
+        ≤ doubt (state S.Store conn.new).is_clean }
+{
+    let made = prepare(conn, alloc, site)?;
+    match find(conn, alloc, site) {
+        Ok(Some(next)) => {
+            if !is_as_made(made, next) {
+                return Err(OpeningFault::OtherSite);
+            }
+            Ok(next)
+        }
+        Ok(None) => Err(OpeningFault::OtherSite),
+        Err(fault) => Err(opening_fault(fault)),
+    }
+}
+
+/// The ledger of this site in a file, with the number of its next line, as `open` finds it. A
+/// refusal closes the connection and gives nothing back.
 ///
 /// Errors: OtherSite; Store; Memory.
 pub fn on<S: Alter + Drop>(
@@ -175,15 +227,8 @@ pub fn on<S: Alter + Drop>(
         doubt (state S.Store conn).is_clean ≤ doubt (state S.Store opened.0).is_clean) }
 {
     let mut conn = conn;
-    let made = prepare(&mut conn, alloc, site)?;
-    match find(&mut conn, alloc, site) {
-        Ok(Some(next)) => {
-            if !is_as_made(made, next) {
-                return Err(OpeningFault::OtherSite);
-            }
-            Ok((conn, next))
-        }
-        Ok(None) => Err(OpeningFault::OtherSite),
-        Err(fault) => Err(opening_fault(fault)),
+    match open(&mut conn, alloc, site) {
+        Ok(next) => Ok((conn, next)),
+        Err(fault) => Err(fault),
     }
 }

@@ -4,12 +4,13 @@ ghost use Rattle.sqlite.specs.Held.{state};
 ghost use Rattle.sqlite.specs.State.{HasCleanDisk, Survives};
 ghost use Rattle.sqlite_trees.specs.View.{doubt};
 ghost use Rattle.dr_store_audit.specs.Older.{IsOlder};
-ghost use Rattle.dr_store_open.specs.Opening.{LeavesOldOrCommitted, StaysAsFound};
+ghost use Rattle.dr_store_open.specs.Opening.{LeavesFile, LeavesOldOr, LeavesOldOrCommitted};
+ghost use Rattle.dr_store_open.specs.Opening.{StaysAsFound};
 ghost use Rattle.dr_store_open.specs.Renewing.{AreQueries, KeepsRows};
 ghost use Rattle.dr_store_schema.specs.Tables.{tables};
 
 use crate::asking::{add_rows, run_texts};
-use crate::fault::{OpeningFault, of_finding, opening_fault};
+use crate::fault::{OpeningFault, of_error, of_finding};
 use crate::lines::{notes_in, put_lines};
 use crate::making::LATER;
 use crate::older::{Told, found_goals, made_goals, prints_for, told_of};
@@ -20,9 +21,9 @@ use dr_site::Site;
 use dr_store_audit::stock::stock_all;
 use dr_store_audit::{Lacks, agree, lacking};
 use dr_store_lists::Note;
-use dr_store_reads::{Print, fault_of};
+use dr_store_reads::Print;
 use dr_store_writes::{add_print, add_target, set_body};
-use sqlite::{Alter, Connection, Error, Transaction};
+use sqlite::{Alter, Connection, Transaction};
 use std::alloc::Global;
 use std::collections::BTreeMap;
 
@@ -39,11 +40,6 @@ const LEAVE: [&str; 6] = [
     "DROP TABLE arrival",
     "DROP TABLE IF EXISTS print",
 ];
-
-/// The fault of an opening where the database answers this.
-fn of_error(error: &Error) -> OpeningFault {
-    opening_fault(fault_of(error))
-}
 
 /// Tests that what the file says, with these prints, lines and goals, is a ledger's of the site.
 fn test(
@@ -348,6 +344,10 @@ fn bring_over<S: Alter>(
         → AreQueries (state S.Store conn.old).now.schema
         → AreQueries (state S.Store conn.new).committed.schema
         → OnOk result (KeepsRows (state S.Store conn.old).now (state S.Store conn.new).committed) }
+    ensures crash { HasCleanDisk (state S.Store conn.new)
+        → AreQueries (state S.Store conn.old).now.schema
+        → LeavesOldOr (λ d. AreQueries d.schema → KeepsRows (state S.Store conn.old).now d)
+        (state S.Store conn.old) (state S.Store conn.new) }
 {
     let mut tx = conn.transaction();
     renew(&mut tx, alloc, site, lacks)?;
@@ -357,7 +357,8 @@ fn bring_over<S: Alter>(
     }
 }
 
-/// Brings a file from before over to the tables of today; another file stays as it is.
+/// Brings a file from before over to the tables of today; another file stays as it is. Whatever it
+/// answers, a crash leaves what it could leave before, or the file that was brought over.
 ///
 /// Errors: OtherSite, where it isn't this site's or has rows that its journal doesn't make; Store;
 /// Memory.
@@ -380,6 +381,8 @@ pub fn renew_older<S: Alter>(
         → (state S.Store conn.new).now.schema ≡ tables
         → (state S.Store conn.new).committed.schema ≡ tables
         → OnOk result (KeepsRows (state S.Store conn.old).now (state S.Store conn.new).committed) }
+    ensures file { HasCleanDisk (state S.Store conn.new)
+        → LeavesFile (state S.Store conn.old) (state S.Store conn.new) }
 {
     match lacking(conn.schema()) {
         Some(lacks) => bring_over(conn, alloc, site, lacks),

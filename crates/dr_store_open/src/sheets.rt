@@ -30,6 +30,9 @@ fn ask_stock<S: Alter>(
     ensures same_reference { tx.new.conn.ghost_name ≡ tx.old.conn.ghost_name }
     ensures survives { Survives (state S.Store tx.old.conn.now) (state S.Store tx.new.conn.now)
         (λ _. ⊥) }
+    ensures schema { HasCleanDisk (state S.Store tx.new.conn.now)
+        → IfOk result (λ r.
+        (state S.Store tx.new.conn.now).now.schema ≡ (state S.Store tx.old.conn.now).now.schema) }
     ensures answers { HasCleanDisk (state S.Store tx.new.conn.now)
         → AreQueries (state S.Store tx.old.conn.now).now.schema
         → IfOk result (λ r. IsAnswer the_site (state S.Store tx.old.conn.now).now r.0.items
@@ -53,6 +56,9 @@ fn ask_moves<S: Alter>(
     ensures same_reference { tx.new.conn.ghost_name ≡ tx.old.conn.ghost_name }
     ensures survives { Survives (state S.Store tx.old.conn.now) (state S.Store tx.new.conn.now)
         (λ _. ⊥) }
+    ensures schema { HasCleanDisk (state S.Store tx.new.conn.now)
+        → IfOk result (λ r.
+        (state S.Store tx.new.conn.now).now.schema ≡ (state S.Store tx.old.conn.now).now.schema) }
     ensures answers { HasCleanDisk (state S.Store tx.new.conn.now)
         → AreQueries (state S.Store tx.old.conn.now).now.schema
         → IfOk result (λ r. IsAnswer all_kept (state S.Store tx.old.conn.now).now r.0.items
@@ -77,9 +83,13 @@ pub fn ask_sheets<S: Alter>(tx: &mut Transaction<'_, S>) -> Result<Sheets, Openi
     ensures same_reference { tx.new.conn.ghost_name ≡ tx.old.conn.ghost_name }
     ensures survives { Survives (state S.Store tx.old.conn.now) (state S.Store tx.new.conn.now)
         (λ _. ⊥) }
+    ensures schema { HasCleanDisk (state S.Store tx.new.conn.now)
+        → IfOk result (λ sheets.
+        (state S.Store tx.new.conn.now).now.schema ≡ (state S.Store tx.old.conn.now).now.schema) }
     ensures answers { HasCleanDisk (state S.Store tx.new.conn.now)
         → AreQueries (state S.Store tx.old.conn.now).now.schema
-        → IfOk result (λ sheets. IsTold (state S.Store tx.old.conn.now).now sheets) }
+        → IfOk result (λ sheets. IsTold (state S.Store tx.old.conn.now).now sheets
+        × ((state S.Store tx.new.conn.now).now ≡ (state S.Store tx.old.conn.now).now)) }
 {
     let (site, items, arrivals) = ask_stock(tx)?;
     let (kept, rows, lines) = ask_moves(tx)?;

@@ -1,10 +1,12 @@
-use Rattle.std.proofs.Common.{sym, subst, ◌∙◌}
+use Rattle.std.proofs.Common.{inr, sym, subst, ◌∙◌}
 use Rattle.sqlite.specs.Held.{state}
 use Rattle.dr_store_audit.specs.Older.{IsOlder}
 use Rattle.dr_store_audit.proofs.Less.{no_older_is_new}
-use Rattle.dr_store_open.specs.Opening.{StaysAsFound}
-use Rattle.dr_store_open.specs.Renewing.{AreQueries}
+use Rattle.sqlite.specs.Effect.{Database}
+use Rattle.dr_store_open.specs.Opening.{MayMake, StaysAsFound}
+use Rattle.dr_store_open.specs.Renewing.{AreQueries, KeepsRows}
 use Rattle.dr_store_open.proofs.Answered.{if_older}
+use Rattle.dr_store_open.proofs.Filling.{leaves_more}
 use Rattle.dr_store_open.proofs.Queried.{new_queries, queries_of}
 use Rattle.dr_store_open.proofs.Wholly.{left_still, stays_still}
 use Rattle.dr_store_open.proofs.renewing.renew_older.Goals as goal
@@ -26,3 +28,15 @@ returns-in-None-clause-leaves g c clean = left_still (state g.S.Store c.args.con
 
 pub returns-in-None-clause-kept : goal.returns-in-None-clause-kept
 returns-in-None-clause-kept g c clean older named committed = absurd (no_older_is_new (state g.S.Store c.args.conn.now).now.schema older named)
+
+pub returns-in-Some-clause-file : goal.returns-in-Some-clause-file
+returns-in-Some-clause-file g c clean =
+    let old = state g.S.Store c.args.conn.now in
+    let new = state g.S.Store c.bring_over.new.conn in
+    let older : IsOlder old.now.schema = (c.in-Some.lacks, sym c.schema.ensures.value ∙ c.in-Some.ensures) in
+    let One : Database → Type 0 = λ d. AreQueries d.schema → KeepsRows old.now d in
+    record {
+      crash = leaves_more old new One (MayMake old.now) (λ d kept. inr (older, λ named. kept (subst AreQueries (sym named) new_queries)))
+          (c.bring_over.ensures.crash clean (queries_of old.now.schema older));
+      stays = λ blank other is_open. absurd (other older);
+    }

@@ -6,13 +6,13 @@ use Rattle.dr_store_open.specs.Opening.{IfFound, IsLedgerFound}
 use Rattle.dr_store_schema.specs.Tables.{tables}
 use Rattle.dr_store_open.proofs.Blank.{blank_no_older}
 use Rattle.dr_store_open.proofs.Wholly.{as_found, brought_over, new_ledger}
-use Rattle.dr_store_open.proofs.opening.on.Goals as goal
+use Rattle.dr_store_open.proofs.opening.open.Goals as goal
 
 pub returns-else-not-is_as_made-clause-found : goal.returns-else-not-is_as_made-clause-found
 returns-else-not-is_as_made-clause-found g c clean not_blank not_older =
     let part = c.args.site.now in
     let next = c.in-Ok-Some.next in
-    let old = state g.S.Store c.args.conn in
+    let old = state g.S.Store c.args.conn.now in
     let mid = state g.S.Store c.prepare.new.conn in
     let new = state g.S.Store c.find.new.conn in
     let If : Option ℕ → Type 0 = λ found. IfFound (Ok found) (λ n. IsLedgerFound n part mid new) in
@@ -26,7 +26,7 @@ pub returns-else-not-is_as_made-clause-older : goal.returns-else-not-is_as_made-
 returns-else-not-is_as_made-clause-older g c clean older =
     let part = c.args.site.now in
     let next = c.in-Ok-Some.next in
-    let old = state g.S.Store c.args.conn in
+    let old = state g.S.Store c.args.conn.now in
     let mid = state g.S.Store c.prepare.new.conn in
     let new = state g.S.Store c.find.new.conn in
     let early : HasCleanDisk mid = omega (arith, c.in-Ok-Some.ensures.clean, clean) in
@@ -34,7 +34,7 @@ returns-else-not-is_as_made-clause-older g c clean older =
     let is : IsLedgerFound next part mid new = subst If c.in-Ok-Some.field-0-is (c.in-Ok-Some.ensures.kept clean) in
     let named : mid.now.schema ≡ tables = subst (λ found. IfFound (Ok found) (λ n. mid.now.schema ≡ tables)) c.in-Ok-Some.field-0-is c.in-Ok-Some.ensures.has in
     elim (cases_Bool c.in_ok-made.made) [
-      | inl was_made ↦ absurd (blank_no_older (state g.S.Store c.args.conn).now.schema (c.in_ok-made.ensures.made was_made).tables older)
+      | inl was_made ↦ absurd (blank_no_older (state g.S.Store c.args.conn.now).now.schema (c.in_ok-made.ensures.made was_made).tables older)
       | inr stood ↦ brought_over next part old mid new is (c.in-Ok-Some.ensures.leaves clean) (c.in_ok-made.ensures.leaves early) (λ committed. c.in_ok-made.ensures.kept early older named committed stood)
     ]
 
@@ -42,7 +42,7 @@ pub returns-else-not-is_as_made-clause-made : goal.returns-else-not-is_as_made-c
 returns-else-not-is_as_made-clause-made g c clean blank =
     let part = c.args.site.now in
     let next = c.in-Ok-Some.next in
-    let old = state g.S.Store c.args.conn in
+    let old = state g.S.Store c.args.conn.now in
     let mid = state g.S.Store c.prepare.new.conn in
     let new = state g.S.Store c.find.new.conn in
     let early : HasCleanDisk mid = omega (arith, c.in-Ok-Some.ensures.clean, clean) in

@@ -1,0 +1,48 @@
+-- What is left of a file, by its kind.
+use Rattle.std.proofs.Common.{◌≡◌, ◌∙◌, List, inl, inr, length, sym, ap, arith}
+use Rattle.sqlite.specs.Schema.{Schema}
+use Rattle.sqlite.specs.Table.{Table}
+use Rattle.sqlite.specs.State.{State}
+use Rattle.sqlite.specs.Tree.{Trees}
+use Rattle.dr_store_schema.specs.Tables.{tables}
+use Rattle.dr_store_audit.specs.Older.{IsOlder}
+use Rattle.dr_store_audit.proofs.Less.{no_older_is_new}
+use Rattle.dr_store_open.specs.Opening.{IsBlank, LeavesOldOr, MayMake}
+use Rattle.dr_store_open.specs.Renewing.{HasNoRows, KeepsRows}
+use Rattle.dr_store_open.proofs.Blank.{blank_no_older}
+
+-- a ledger's tables are some
+pub tables_not_blank : (schema : Schema) → schema ≡ tables → IsBlank schema → ⊥
+tables_not_blank schema is blank =
+    let n : 8 ≡ 0 = ap (λ (ts : List Table). length ts) (sym (ap (λ (s : Schema). s.tables) is) ∙ blank.tables) in omega (arith, n)
+
+pub nothing_made : (old new : State) → LeavesOldOr (MayMake old.now) old new
+    → (IsBlank old.now.schema → ⊥) → (IsOlder old.now.schema → ⊥)
+    → (db : Trees) → new.may_leave db → old.may_leave db
+nothing_made old new left blank older db h = elim (left db h) [
+  | inl before ↦ before
+  | inr made ↦ elim made.2 [ inl new_one ↦ absurd (blank new_one.0) | inr renewed ↦ absurd (older renewed.0) ]
+]
+
+pub kept_or_before : (old new : State) → LeavesOldOr (MayMake old.now) old new → IsOlder old.now.schema
+    → LeavesOldOr (λ d. d.schema ≡ tables → KeepsRows old.now d) old new
+kept_or_before old new left older db h = elim (left db h) [
+  | inl before ↦ inl before
+  | inr made ↦ elim made.2 [
+    | inl new_one ↦ absurd (blank_no_older old.now.schema new_one.0.tables older)
+    | inr renewed ↦ inr (made.0, made.1, renewed.1)
+  ]
+]
+
+pub empty_or_before : (old new : State) → LeavesOldOr (MayMake old.now) old new → IsBlank old.now.schema
+    → LeavesOldOr (λ d. d.schema ≡ tables → HasNoRows d) old new
+empty_or_before old new left blank db h = elim (left db h) [
+  | inl before ↦ inl before
+  | inr made ↦ elim made.2 [
+    | inl new_one ↦ inr (made.0, made.1, new_one.1)
+    | inr renewed ↦ absurd (blank_no_older old.now.schema blank.tables renewed.0)
+  ]
+]
+
+pub ledger_is_neither : (schema : Schema) → schema ≡ tables → (IsBlank schema → ⊥) × (IsOlder schema → ⊥)
+ledger_is_neither schema is = (tables_not_blank schema is, λ older. no_older_is_new schema older is)
