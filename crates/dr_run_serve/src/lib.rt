@@ -40,4 +40,4 @@ pub use monitor::{FileMonitor, Monitor};
 pub use sending::visit_each;
 pub use serving::{ServeFault, serve};
 pub use stop::{Ending, Stop, Terms};
-pub use tallied::OwnPort;
+pub use tallied::{OwnPort, Tallied};
