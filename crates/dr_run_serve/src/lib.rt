@@ -32,6 +32,8 @@ mod serving;
 mod shutting;
 mod signal;
 mod stop;
+mod sweep;
+mod sweeper;
 mod tallied;
 mod visit;
 mod watch;

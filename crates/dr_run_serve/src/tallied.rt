@@ -144,7 +144,11 @@ impl<'a, R: Wait, L: Ledger, B: Sharing, G: Log> DeskPort for SharedPort<'a, R, 
             .settle(self.rt, self.pass, uid, dest, outcome, now);
         if settled.is_ok() {
             let came = came_of(self.rt, self.desk, uid, dest, outcome);
+            let is_done = matches!(came, Some(Progress::Done));
             tell_row(self.log, uid, dest, outcome, came);
+            if is_done {
+                self.signal.note_over(self.rt, uid, now);
+            }
         }
         settled
     }
