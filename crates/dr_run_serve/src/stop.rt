@@ -84,8 +84,11 @@ impl<'a> Terms<'a> {
         ensures forget_after { result.forget_after ≡ after }
     {
         Terms {
+            links: self.links,
+            workers: self.workers,
+            memory: self.memory,
             forget_after: after,
-            ..self
+            stop: self.stop,
         }
     }
 
