@@ -79,8 +79,8 @@ impl<'a> Terms<'a> {
     /// The same, but that it forgets what has been over for so many milliseconds, or, for None,
     /// nothing.
     pub fn forgetting(self, after: Option<u64>) -> Terms<'a>
-        ensures links { result.links ≡ self.links }
-        ensures memory { result.memory ≡ self.memory }
+        ensures links { result.links ≡ self.entry.links }
+        ensures memory { result.memory ≡ self.entry.memory }
         ensures forget_after { result.forget_after ≡ after }
     {
         Terms {
