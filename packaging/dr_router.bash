@@ -30,7 +30,7 @@ _dr_router() {
         "adopt 6")
             mapfile -t COMPREPLY < <(compgen -d -- "$current") ;;
         "serve 6" | "serve 8" | "serve 1"[02468])
-            mapfile -t COMPREPLY < <(compgen -W "--links --log --report --workers --memory --connect --write --message --idle --until-input-ends --must-exist" -- "$current") ;;
+            mapfile -t COMPREPLY < <(compgen -W "--links --log --report --workers --memory --connect --write --message --idle --until-input-ends --must-exist --forget-after --forget-never" -- "$current") ;;
         "list 6")
             mapfile -t COMPREPLY < <(compgen -W "--summary" -- "$current") ;;
         "diff 6")

@@ -538,6 +538,50 @@ def stopped():
         assert time.monotonic() - begun < 9, time.monotonic() - begun
 
 
+def forgotten():
+    """What was sent on everywhere is forgotten when its time has come, and comes again as new; what waits, and what is kept, stays."""
+    with Room() as room:
+        uid = b'1.2.3.4'
+        def bring():
+            with Requestor(room.ports['GATE'], 'CT1', 'GATE') as caller:
+                same(caller.store(uid, data_set(uid)), 0)
+                same(caller.release(), RELEASED)
+        def times_forgotten(node):
+            return len([event for event in room.events(node) if event[3] == 'forgets instances=1'])
+        gate = room.serve('GATE', 0, '--forget-after', '0')
+        bring()
+        time.sleep(2.5)
+        same(times_forgotten('GATE'), 0)
+        arch = room.serve('ARCH', 0, '--forget-after', '0')
+        for times in 1, 2:
+            end = time.monotonic() + LIMIT
+            while times_forgotten('GATE') < times and time.monotonic() < end:
+                time.sleep(0.1)
+            same(times_forgotten('GATE'), times)
+            if times == 1:
+                bring()
+        stop(gate)
+        same(lines(room.at('list', 'GATE').stdout)[:-1], ['node\tGATE'])
+        time.sleep(2)
+        same(times_forgotten('ARCH'), 0)
+        # what was over before a node began is found in its journal
+        gate = room.serve('GATE', 0, '--forget-never')
+        bring()
+        room.wait_for_event('GATE', 'released dest="ARCH" settled=1')
+        time.sleep(2)
+        stop(gate)
+        same(len(lines(room.at('list', 'GATE').stdout)), 4)
+        gate = room.serve('GATE', 0, '--forget-after', '0')
+        end = time.monotonic() + LIMIT
+        while times_forgotten('GATE') < 3 and time.monotonic() < end:
+            time.sleep(0.1)
+        stop(gate)
+        same(lines(room.at('list', 'GATE').stdout)[:-1], ['node\tGATE'])
+        stop(arch)
+        same([line.partition('\t')[0] for line in lines(room.at('list', 'ARCH').stdout)], ['node', 'arrival', 'kept', 'lines'])
+        same(room.at('serve', 'GATE', '--forget-after', '1', '--forget-never').returncode, 2)
+
+
 def killed():
     """ARCH is killed again and again while CT1 and GATE send; in the end each instance that was sent is kept at ARCH, once."""
     with Room() as room:
@@ -577,7 +621,7 @@ def main():
     if not os.path.exists(PROGRAM):
         sys.exit(f'{PROGRAM} is not built')
     run_cases('serving', three_nodes, refusals, dead_hop, held_rows, events, reports, report_paths, forged, refused_contexts, few_workers, silent_associations,
-              rejected_callers, hops_alone, slow_peers, deaf_peer, crowded, stopped, killed)
+              rejected_callers, hops_alone, slow_peers, deaf_peer, crowded, stopped, forgotten, killed)
 
 
 if __name__ == '__main__':

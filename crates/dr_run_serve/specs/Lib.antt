@@ -1,2 +1,4 @@
+pub mod Dues
 pub mod Rounds
+pub mod Sweeps
 pub mod Visits

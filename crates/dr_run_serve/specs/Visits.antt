@@ -2,12 +2,11 @@
 use Rattle.std.specs.Prelude.{◌≡◌, ◌≢◌, ◌⊎◌, ℕ, Bool, List, Some, None, Result, Ok, Err}
 use Rattle.std.specs.declared.option.Option.{Option}
 use Rattle.dr_base.specs.Texts.{Text}
-use Rattle.dr_ledger.specs.declared.content.Job.{Job}
 use Rattle.dr_ledger.specs.declared.fault.LedgerFault.{LedgerFault}
 use Rattle.dr_ledger.specs.declared.fault.LedgerFault.TheVariants as refused
 use Rattle.dr_ledger.specs.declared.item.Outcome.TheVariants.{Broken}
 use Rattle.dr_site.specs.Parts.{Part}
-use Rattle.dr_session.specs.Desks.{DeskCall, DeskAnswer, Next, Settle, Upcoming, Settling}
+use Rattle.dr_session.specs.Desks.{DeskCall, DeskAnswer, Settle, Settling}
 use Rattle.dr_session.specs.Links.{DeliversAs}
 use Rattle.dr_session.specs.declared.ends.Ended.{Ended}
 use Rattle.dr_session.specs.declared.ends.Heard.{Heard}
@@ -19,26 +18,14 @@ use Rattle.dr_run_serve.specs.declared.visit.Visit.TheVariants.{Failed}
 
 -- ---- on the desk
 
-module _ {S : Type 0} (step : S → DeskCall → DeskAnswer → S → Type 0) (tells : ℕ → Type 0) where
-  -- the first row that is due for the destination was asked for at some moment that the clock may
-  -- tell: its uid, if there is one
-  abbrev pub FindsAs : Text → S
-      → Result (Option Text) LedgerFault
-      → S
-      → Result (Option Job) LedgerFault
-      → Type 0
-  FindsAs dest s (Ok None) t due = due ≡ Ok None
-  FindsAs dest s (Ok (Some uid)) t due = (job : Job) × (due ≡ Ok (Some job)) × (uid ≡ job.uid)
-  FindsAs dest s (Err why) t due = due ≡ Err why
-
+module _ {S : Type 0} (finds : S → Text → ℕ → Result (Option Text) LedgerFault → S → Type 0)
+    (tells : ℕ → Type 0) where
+  -- what is due for the destination was asked for at some moment that the clock may tell: the uid
+  -- of the first row, if there is one, and not its data set
   abbrev pub Finds : Text → S → Result (Option Text) LedgerFault → S → Type 0
-  Finds dest s result t =
-      (now : ℕ)
-      × (due : Result (Option Job) LedgerFault)
-      × tells now
-      × step s (Next dest now) (Upcoming due) t
-      × FindsAs dest s result t due
+  Finds dest s result t = (now : ℕ) × tells now × finds s dest now result t
 
+module _ {S : Type 0} (step : S → DeskCall → DeskAnswer → S → Type 0) (tells : ℕ → Type 0) where
   -- the row was settled as broken at such a moment; that it isn't waiting any more is no fault
   abbrev pub GivesUp : Text → Text → S → Result (Unit {0}) LedgerFault → S → Type 0
   GivesUp uid dest s (Ok done) t =
@@ -62,8 +49,9 @@ IsToldAs (Err why) result = result ≡ Ok (Failed why)
 
 module _ {L S : Type 0} (reaches : Text → L → Type 0) (hears : L → Heard → L → Type 0)
     (sends : L → List ℕ → Bool → L → Type 0) (closes : L → L → Type 0)
-    (step : S → DeskCall → DeskAnswer → S → Type 0) (tells : ℕ → Type 0) (site : Part)
-    (dest address : Text) where
+    (step : S → DeskCall → DeskAnswer → S → Type 0)
+    (finds : S → Text → ℕ → Result (Option Text) LedgerFault → S → Type 0)
+    (tells : ℕ → Type 0) (site : Part) (dest address : Text) where
   -- There was no link: the row is given up.
   abbrev pub StaysAway : Text → S → Result Visit LedgerFault → S → Type 0
   StaysAway uid s (Ok (Unreached error)) t = GivesUp step tells uid dest s (Ok tt) t
@@ -79,7 +67,8 @@ module _ {L S : Type 0} (reaches : Text → L → Type 0) (hears : L → Heard �
       × DeliversAs hears sends closes step tells 0 site dest came link s after mid
       × (((mid ≡ t) × IsToldAs came result)
       ⊎ (GivesUp step tells uid dest mid (Ok tt) t × IsToldAs came result)
-      ⊎ ((why : LedgerFault) × (result ≡ Err why) × GivesUp step tells uid dest mid (Err why) t))
+      ⊎ ((why : LedgerFault) × (result ≡ Err why)
+      × GivesUp step tells uid dest mid (Err why) t))
 
   -- the row, which is due, is sent with all others that are
   abbrev pub SendsDue : Text → S → Result Visit LedgerFault → S → Type 0
@@ -88,8 +77,8 @@ module _ {L S : Type 0} (reaches : Text → L → Type 0) (hears : L → Heard �
   -- A visit: nothing is due, or the desk can't tell, or what is due is sent.
   abbrev pub Visits : S → Result Visit LedgerFault → S → Type 0
   Visits s result t =
-      (Finds step tells dest s (Ok None) t × (result ≡ Ok Idle))
-      ⊎ ((why : LedgerFault) × Finds step tells dest s (Err why) t × (result ≡ Err why))
+      (Finds finds tells dest s (Ok None) t × (result ≡ Ok Idle))
+      ⊎ ((why : LedgerFault) × Finds finds tells dest s (Err why) t × (result ≡ Err why))
       ⊎ ((uid : Text) × (mid : S)
-      × Finds step tells dest s (Ok (Some uid)) mid
+      × Finds finds tells dest s (Ok (Some uid)) mid
       × SendsDue uid mid result t)

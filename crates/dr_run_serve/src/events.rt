@@ -249,6 +249,17 @@ pub fn tell_unwritten<G: Log>(log: &G, error: &io::Error) {
     error!(log; target: "report", "unwritten error=\"{error}\"");
 }
 
+/// Tells that so many instances were forgotten, which had been over for long.
+pub fn tell_forgotten<G: Log>(log: &G, count: u64) {
+    info!(log; target: "node", "forgets instances={count}");
+}
+
+/// Tells that the ledger refused to forget what is over.
+pub fn tell_unswept<G: Log>(log: &G, fault: LedgerFault) {
+    let fault = code_of(fault);
+    error!(log; target: "node", "unswept fault=\"{fault}\"");
+}
+
 /// Tells that the store of the node's ledger is shut: nothing can be read or written any more, and
 /// the node ends.
 pub fn tell_shut<G: Log>(log: &G) {

@@ -1,11 +1,12 @@
-//! The one who tells of a node, and ends it where its store is shut.
+//! The one who tells of a node, has it forget what is over, and ends it where its store is shut.
 use crate::events::tell_threads;
 use crate::monitor::Monitor;
 use crate::reporting::{LastTold, report_changes};
 use crate::shutting::{Stage, Wake};
 use crate::signal::{BEGIN, News};
+use crate::sweeper::Sweeper;
 use dr_desk::{SharedDesk, Sharing};
-use dr_ledger::Ledger;
+use dr_ledger::LetsGo;
 use dr_run_net::{Listening, Network};
 use dr_run_open::NextHop;
 use dr_session::Clock;
@@ -37,12 +38,12 @@ fn tell_lacking<G: Log>(log: &G, crew: Crew, news: News) {
     }
 }
 
-/// Tells what has changed, now and then, until nobody serves or sends any more; then once more.
-/// Where somebody doubts the store and it is shut, it ends the node. It visits no hop and serves
-/// nobody, so that neither holds it up.
+/// Tells what has changed, now and then, until nobody serves or sends any more; then once more. It
+/// has the node forget what has been over for long. Where somebody doubts the store and it is shut,
+/// it ends the node. It visits no hop and serves nobody, so that neither holds it up.
 pub fn keep<
     R: Wait + time::Clock,
-    L: Ledger,
+    L: LetsGo,
     B: Sharing,
     D: Listening,
     N: Network,
@@ -54,29 +55,35 @@ pub fn keep<
     desk: &SharedDesk<L, B>,
     hops: &[NextHop],
     crew: Crew,
+    sweeper: Sweeper<B>,
     wake: &Wake<'_, D, N>,
     clock: &C,
     log: &G,
-) {
+) -> Sweeper<B> {
+    let mut sweeper = sweeper;
     if !wake.signal.has_begun(rt, BEGIN) {
-        return;
+        return sweeper;
     }
     let (mut told, mut stage, mut looks) = (LastTold::new(), Stage::Serving, 0u32);
     for _ in rt.forever() {
         let now = clock.now();
         stage = wake.stops(rt, stage, now, log);
         told = report_changes(rt, alloc, desk, hops, told, now, false, log);
+        if stage == Stage::Serving {
+            sweeper.turn(rt, alloc, desk, wake.signal, now, log);
+        }
         let news = wake.signal.wait(rt, TURN);
         if news.doubts && wake.ends(rt, desk, log) {
-            return;
+            return sweeper;
         }
         if news.over && news.sent {
             report_changes(rt, alloc, desk, hops, told, clock.now(), true, log);
-            return;
+            return sweeper;
         }
         looks = looks.saturating_add(1);
         if looks == PATIENCE {
             tell_lacking(log, crew, news);
         }
     }
+    sweeper
 }

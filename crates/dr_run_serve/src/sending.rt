@@ -24,8 +24,8 @@ pub fn visit_each<N: Network, P: Tallied, C: Clock>(
 ) -> Result<(), LedgerFault>
     ensures { VisitsEach
         (λ hop s came t. Visits (N.reaches network.now) N.Socket.hears N.Socket.sends
-        N.Socket.closes P.step (C.tells clock.now) site.now hop.dest hop.address s came t) hops.now
-        port.old result port.new }
+        N.Socket.closes P.step P.finds (C.tells clock.now) site.now hop.dest hop.address s came t)
+        hops.now port.old result port.new }
 {
     for hop in hops {
         let _visited = visit_hop(alloc, site, &hop.dest, &hop.address, network, port, clock)?;

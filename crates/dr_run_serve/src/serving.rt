@@ -12,11 +12,12 @@ use crate::sender::{HopSender, send_rows};
 use crate::shutting::Wake;
 use crate::signal::{BEGIN, Signal};
 use crate::stop::Terms;
+use crate::sweeper::Sweeper;
 use crate::watch::Watch;
 use crossbeam_channel::{Receiver, Sender, bounded};
 use dr_desk::{CloseFault, Desk, Pass, SharedDesk, Sharing};
 use dr_desk_workers::{Connection, WorkersFault, workers};
-use dr_ledger::{Ledger, LedgerFault};
+use dr_ledger::{Ledger, LedgerFault, LetsGo};
 use dr_run_net::{Listening, Network};
 use dr_run_open::NextHop;
 use dr_session::{Clock, Link};
@@ -241,7 +242,7 @@ where
 /// Sends, and tells of the node, side by side.
 fn send_and_keep<
     R: Threads + Wait + Sync + time::Clock,
-    L: Ledger + Drop + Send,
+    L: LetsGo + Drop + Send,
     B: Sharing + Send + Sync,
     D: Listening + Sync,
     N: Network + Sync,
@@ -254,31 +255,34 @@ fn send_and_keep<
     hops: &[NextHop],
     senders: Vec<HopSender<B>>,
     crew: Crew,
+    sweeper: Sweeper<B>,
     wake: &Wake<'_, D, N>,
     clock: &C,
     log: &G,
-) -> Vec<HopSender<B>>
+) -> (Vec<HopSender<B>>, Sweeper<B>)
 where
     N::Socket: Send,
     N::Listener: Sync,
 {
     let (signal, network) = (wake.signal, wake.network);
-    let (senders, ()) = thread::join(
+    thread::join(
         rt,
         ||
             requires { IsSync R.row × IsSend L.row × IsSend B.row × IsSync B.row × IsSync N.row
                 × IsSend N.Socket.row × IsSync N.Listener.row × IsSync C.row × IsSync G.row }
         { send_all(rt, alloc, desk, senders, signal, network, clock, log) },
-        || keep(rt, alloc, desk, hops, crew, wake, clock, log),
-    );
-    senders
+        || keep(rt, alloc, desk, hops, crew, sweeper, wake, clock, log),
+    )
 }
 
-/// Serves, sends and tells of the node, side by side; the passes of those who serve, and those who
-/// send.
+/// What those who serve, send and sweep come back with: their passes.
+type Came<B> = (Result<Vec<Pass<B>>, WorkersFault>, (Vec<HopSender<B>>, Sweeper<B>));
+
+/// Serves, sends and tells of the node, side by side; the passes of those who serve, those who
+/// send, and the one who sweeps.
 fn serve_all<
     R: Threads + Wait + Sync + time::Clock,
-    L: Ledger + Drop + Send,
+    L: LetsGo + Drop + Send,
     B: Sharing + Send + Sync,
     K: Link + Drop + Send,
     D: Listening<Socket = K> + Sync,
@@ -291,13 +295,14 @@ fn serve_all<
     desk: &SharedDesk<L, B>,
     hops: &[NextHop],
     senders: Vec<HopSender<B>>,
+    sweeper: Sweeper<B>,
     listener: &D,
     terms: Terms<'_>,
     signal: &Signal,
     network: &N,
     clock: &C,
     log: &G,
-) -> (Result<Vec<Pass<B>>, WorkersFault>, Vec<HopSender<B>>)
+) -> Came<B>
 where
     N::Socket: Send,
     N::Listener: Sync,
@@ -322,7 +327,7 @@ where
             requires { IsSync R.row × IsSend L.row × IsSend B.row × IsSync B.row × IsSync D.row
                 × IsSync N.row × IsSend N.Socket.row × IsSync N.Listener.row × IsSync C.row
                 × IsSync G.row }
-        { send_and_keep(rt, alloc, desk, hops, senders, crew, &wake, clock, log) },
+        { send_and_keep(rt, alloc, desk, hops, senders, crew, sweeper, &wake, clock, log) },
     )
 }
 
@@ -347,23 +352,24 @@ fn senders_of<R: Wait, L: Ledger, B: Sharing>(
 }
 
 /// All passes, where those of the ones who serve came back, and the store isn't shut.
-fn all_passes<B: Sharing>(
-    passes: Result<Vec<Pass<B>>, WorkersFault>,
-    senders: Vec<HopSender<B>>,
-    is_shut: bool,
-) -> Result<Vec<Pass<B>>, ServeFault>
+fn all_passes<B: Sharing>(came: Came<B>, is_shut: bool) -> Result<Vec<Pass<B>>, ServeFault>
     ensures { IsTrue is_shut → IsErr result }
 {
+    let (passes, (senders, sweeper)) = came;
     if is_shut {
         drop(passes);
         drop(senders);
+        drop(sweeper);
         return Err(ServeFault::Store);
     }
     let Ok(passes) = passes else {
         drop(senders);
+        drop(sweeper);
         return Err(ServeFault::Memory);
     };
     let mut passes = passes;
+    let Sweeper { pass, .. } = sweeper;
+    passes.push(pass)?;
     for sender in senders {
         let HopSender { pass, .. } = sender;
         passes.push(pass)?;
@@ -376,7 +382,7 @@ fn all_passes<B: Sharing>(
 /// Errors: Store, Memory.
 fn serve_by<
     R: Threads + Wait + Sync + time::Clock,
-    L: Ledger + Drop + Send,
+    L: LetsGo + Drop + Send,
     B: Sharing + Send + Sync,
     K: Link + Drop + Send,
     D: Listening<Socket = K> + Sync,
@@ -398,20 +404,25 @@ where
     N::Socket: Send,
     N::Listener: Sync,
 {
-    let signal = Signal::new(alloc, hops)?;
+    let signal = Signal::new(alloc, hops, terms.forget_after.is_some())?;
     let Ok(senders) = senders_of(rt, alloc, desk, hops) else {
         return Err(ServeFault::Memory);
     };
-    let (passes, senders) = serve_all(
-        rt, alloc, desk, hops, senders, listener, terms, &signal, network, clock, log,
+    let Ok(pass) = desk.pass(rt, alloc) else {
+        drop(senders);
+        return Err(ServeFault::Memory);
+    };
+    let sweeper = Sweeper::new(pass, terms.forget_after);
+    let came = serve_all(
+        rt, alloc, desk, hops, senders, sweeper, listener, terms, &signal, network, clock, log,
     );
-    all_passes(passes, senders, signal.is_shut())
+    all_passes(came, signal.is_shut())
 }
 
 /// Serves and sends on a shared desk, and ends the sharing.
 fn serve_shared<
     R: Threads + Wait + Sync + time::Clock,
-    L: Ledger + Drop + Send,
+    L: LetsGo + Drop + Send,
     B: Sharing + Send + Sync,
     K: Link + Drop + Send,
     D: Listening<Socket = K> + Sync,
@@ -489,7 +500,7 @@ fn fault_of(fault: CloseFault) -> ServeFault {
 /// Shares a ledger's desk, and serves and sends on it.
 fn share<
     R: Threads + Wait + Sync + time::Clock,
-    L: Ledger + Drop + Send,
+    L: LetsGo + Drop + Send,
     B: Sharing + Send + Sync,
     K: Link + Drop + Send,
     D: Listening<Socket = K> + Sync,
@@ -537,13 +548,14 @@ where
 /// the ledger back: its journal begins with the lines that it had, and is a history of the node's
 /// site. Events are logged as they happen; where reports are wanted, one is written at the start,
 /// every ten seconds if something has changed, and at the end. Where the store of the ledger is
-/// shut, that is logged once, and serving ends as soon as the sessions do. Where its end is asked
+/// shut, that is logged once, and serving ends as soon as the sessions do. What has been over for
+/// as long as the terms say is forgotten. Where its end is asked
 /// for, no association is begun any more; what is under way has 10 s, then its connections are cut.
 ///
 /// Errors: Receipt, Store, Memory.
 pub fn serve<
     R: Threads + Wait + Sync + time::Clock,
-    L: Ledger + Drop + Send,
+    L: LetsGo + Drop + Send,
     K: Link + Drop + Send,
     D: Listening<Socket = K> + Sync,
     N: Network + Sync,

@@ -1,7 +1,9 @@
 //! What wakes those who send, and who tells of the node.
+use crate::sweep::Over;
 use dr_base::Text;
 use dr_run_open::NextHop;
 use std::alloc::{AllocError, Global};
+use std::collections::VecDeque;
 use std::sync::atomic::{AtomicBool, Ordering};
 use std::sync::{Condvar, Mutex, MutexGuard, Wait};
 use std::time::{Clock, Duration};
@@ -100,11 +102,13 @@ pub struct Signal {
     shut: AtomicBool,
     stopping: AtomicBool,
     bells: Vec<Bell>,
+    sweeps: bool,
+    over: Mutex<VecDeque<Over>>,
 }
 
 impl Signal {
-    /// Nothing has happened.
-    pub fn new(alloc: Global, hops: &[NextHop]) -> Result<Signal, AllocError> {
+    /// Nothing has happened. Whether somebody sweeps: who wants to know what came to be over.
+    pub fn new(alloc: Global, hops: &[NextHop], sweeps: bool) -> Result<Signal, AllocError> {
         let mut bells = Vec::with_capacity(alloc, hops.len())?;
         for hop in hops {
             bells.push(Bell::new(hop)?)?;
@@ -122,7 +126,26 @@ impl Signal {
             shut: AtomicBool::new(false),
             stopping: AtomicBool::new(false),
             bells,
+            sweeps,
+            over: Mutex::new(VecDeque::new(alloc)),
         })
+    }
+
+    /// The last row of an instance may be over, at that moment. Where there is no memory to note it,
+    /// that is found at the next start.
+    pub fn note_over<R: Wait>(&self, rt: &R, uid: &Text, at: u64) {
+        if !self.sweeps {
+            return;
+        }
+        let Ok(uid) = uid.clone() else {
+            return;
+        };
+        let _noted = self.over.lock(rt).push_back(Over { uid, at });
+    }
+
+    /// The first instance that was noted, which is noted no more.
+    pub fn next_over<R: Wait>(&self, rt: &R) -> Option<Over> {
+        self.over.lock(rt).pop_front()
     }
 
     /// The bell of the hop of that number.

@@ -1,5 +1,5 @@
 //! The orderly end of a node, and on what terms it serves.
-ghost use Rattle.std.specs.Prelude.{◌≡◌, ◌≤◌, max};
+ghost use Rattle.std.specs.Prelude.{◌≡◌, ◌≤◌, None, max};
 
 use std::alloc::Global;
 use std::io;
@@ -46,29 +46,49 @@ pub trait Ending {
 }
 
 /// On what terms a node serves: after how many connections it ends (for 0 never), by how many
-/// threads, with how much memory, and what may ask for its end before.
+/// threads, with how much memory, when it forgets, and what may ask for its end before.
 #[derive(Clone, Copy)]
 pub struct Terms<'a> {
     pub links: u64,
     workers: usize,
     /// What all associations together may hold in memory of data sets, in bytes.
     pub memory: u64,
+    /// After how many milliseconds it forgets what is over; None for never.
+    pub forget_after: Option<u64>,
     pub stop: &'a Stop,
     ghost some: { (1 ≤ workers) × (workers ≤ 264) },
 }
 
 impl<'a> Terms<'a> {
     /// So many threads, from 1 to 264; for another number the nearest. So many bytes, at least 128
-    /// MB, so that there is always room for one data set.
+    /// MB, so that there is always room for one data set. It forgets nothing.
     pub fn new(links: u64, workers: usize, memory: u64, stop: &'a Stop) -> Terms<'a>
         ensures links { result.links ≡ links }
         ensures memory { result.memory ≡ max 128000000 memory }
+        ensures forget_after { result.forget_after ≡ None }
     {
         Terms {
             links,
             workers: workers.max(1).min(MOST_WORKERS),
             memory: memory.max(LEAST_MEMORY),
+            forget_after: None,
             stop,
+        }
+    }
+
+    /// The same, but that it forgets what has been over for so many milliseconds, or, for None,
+    /// nothing.
+    pub fn forgetting(self, after: Option<u64>) -> Terms<'a>
+        ensures links { result.links ≡ self.entry.links }
+        ensures memory { result.memory ≡ self.entry.memory }
+        ensures forget_after { result.forget_after ≡ after }
+    {
+        Terms {
+            links: self.links,
+            workers: self.workers,
+            memory: self.memory,
+            forget_after: after,
+            stop: self.stop,
         }
     }
 

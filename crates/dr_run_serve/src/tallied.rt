@@ -1,6 +1,8 @@
 //! Desks that count what they took.
 ghost use Rattle.std.specs.Prelude.{◌≡◌};
+ghost use Rattle.dr_desk.specs.Receipts.{Leaves};
 ghost use Rattle.dr_desk_workers.specs.Passes.{PassStep};
+ghost use Rattle.dr_run_serve.specs.Dues.{FindsIn};
 
 use crate::events::tell_row;
 use crate::signal::Signal;
@@ -12,9 +14,20 @@ use dr_session::desk::LedgerDesk;
 use log::Log;
 use std::sync::Wait;
 
-/// A desk that tells how many of its calls were accepted; the count stays at its greatest value.
+/// A desk that tells how many of its calls were accepted, and what is due.
 pub trait Tallied: DeskPort {
+    ghost use Rattle.std.specs.Prelude.{ℕ, List, Result, Option};
+    ghost use Rattle.dr_ledger.specs.declared.fault.LedgerFault.{LedgerFault};
+
+    // What the first row that is due was answered to be, for a destination at a moment.
+    ghost finds: { Self → List ℕ → ℕ → Result (Option (List ℕ)) LedgerFault → Self → Type 0 };
+
+    /// How many of its calls were accepted; the count stays at its greatest value.
     fn tally(&self) -> u64;
+
+    /// The uid of the row that `next` is about. No data set is read.
+    fn due(&mut self, dest: &Text, now: u64) -> Result<Option<Text>, LedgerFault>
+        ensures { finds self.old dest.now now result self.new };
 }
 
 /// How far a row is after an outcome; None where that can't be read. That a row is done after a
@@ -79,8 +92,15 @@ impl<L: Ledger> DeskPort for OwnPort<L> {
 }
 
 impl<L: Ledger> Tallied for OwnPort<L> {
+    ghost finds = { λ old dest now answer new. FindsIn L.site L.book L.bodies L.armed L.trusts
+        L.stands old.desk.ledger dest now answer new.desk.ledger };
+
     fn tally(&self) -> u64 {
         self.taken
+    }
+
+    fn due(&mut self, dest: &Text, now: u64) -> Result<Option<Text>, LedgerFault> {
+        self.desk.ledger.due(dest, now)
     }
 }
 
@@ -124,14 +144,28 @@ impl<'a, R: Wait, L: Ledger, B: Sharing, G: Log> DeskPort for SharedPort<'a, R, 
             .settle(self.rt, self.pass, uid, dest, outcome, now);
         if settled.is_ok() {
             let came = came_of(self.rt, self.desk, uid, dest, outcome);
+            let is_done = matches!(came, Some(Progress::Done));
             tell_row(self.log, uid, dest, outcome, came);
+            if is_done {
+                self.signal.note_over(self.rt, uid, now);
+            }
         }
         settled
     }
 }
 
 impl<'a, R: Wait, L: Ledger, B: Sharing, G: Log> Tallied for SharedPort<'a, R, L, B, G> {
+    ghost finds = { λ s dest now answer t. Leaves s.pass.now.made.count s.pass.now.receipts.items
+        t.pass.now.made.count t.pass.now.receipts.items };
+
     fn tally(&self) -> u64 {
         self.pass.count()
+    }
+
+    fn due(&mut self, dest: &Text, now: u64) -> Result<Option<Text>, LedgerFault> {
+        if self.signal.is_ending() {
+            return Ok(None);
+        }
+        self.desk.due(self.rt, dest, now)
     }
 }

@@ -1,10 +1,9 @@
 //! One visit to a hop.
-ghost use Rattle.std.specs.Prelude.{◌≡◌};
 ghost use Rattle.dr_run_serve.specs.Visits.{Finds, GivesUp, IsToldAs, SendsDue, Visits};
 
 use crate::tallied::Tallied;
 use dr_base::Text;
-use dr_ledger::{Job, LedgerFault, Outcome};
+use dr_ledger::{LedgerFault, Outcome};
 use dr_run_net::Network;
 use dr_session::{Clock, Ended, SessionFault, deliver};
 use dr_site::Site;
@@ -24,26 +23,15 @@ pub enum Visit {
     Failed(SessionFault),
 }
 
-/// The uid of what is to be sent; its data set isn't needed any more.
-fn uid_of(job: Job) -> Text
-    ensures { result ≡ job.uid }
-{
-    let Job { uid, .. } = job;
-    uid
-}
-
-/// The first due row.
+/// The first due row. No data set is read.
 fn first_due<P: Tallied, C: Clock>(
     dest: &Text,
     port: &mut P,
     clock: &C,
 ) -> Result<Option<Text>, LedgerFault>
-    ensures { Finds P.step (C.tells clock.now) dest.now port.old result port.new }
+    ensures { Finds P.finds (C.tells clock.now) dest.now port.old result port.new }
 {
-    match port.next(dest, clock.now())? {
-        Some(job) => Ok(Some(uid_of(job))),
-        None => Ok(None),
-    }
+    port.due(dest, clock.now())
 }
 
 /// The row is due later. That it isn't waiting any more is no fault.
@@ -89,7 +77,7 @@ fn send_due<N: Network, P: Tallied, C: Clock>(
     clock: &C,
 ) -> Result<Visit, LedgerFault>
     ensures { SendsDue (N.reaches network.now) N.Socket.hears N.Socket.sends N.Socket.closes P.step
-        (C.tells clock.now) site.now dest.now address.now uid.now port.old result port.new }
+        P.finds (C.tells clock.now) site.now dest.now address.now uid.now port.old result port.new }
 {
     let mut link = match network.connect(alloc, address) {
         Ok(link) => link,
@@ -119,7 +107,7 @@ pub fn visit_hop<N: Network, P: Tallied, C: Clock>(
     clock: &C,
 ) -> Result<Visit, LedgerFault>
     ensures { Visits (N.reaches network.now) N.Socket.hears N.Socket.sends N.Socket.closes P.step
-        (C.tells clock.now) site.now dest.now address.now port.old result port.new }
+        P.finds (C.tells clock.now) site.now dest.now address.now port.old result port.new }
 {
     let Some(uid) = first_due(dest, port, clock)? else {
         return Ok(Visit::Idle);

@@ -22,7 +22,7 @@ use dr_run_files::{Failure, Files};
 use dr_run_net::Network;
 use dr_run_open::{Ledgers, Status};
 use dr_run_report::Paths;
-use dr_run_serve::{Ending, OwnPort};
+use dr_run_serve::{Ending, OwnPort, Tallied};
 use dr_session::{Clock, DeskPort};
 use dr_word_adopt::adopt_files;
 use dr_word_check::tell_failure;
@@ -108,8 +108,9 @@ where
         → IfOk result
         (Works (F.holds files.now) (O.opens ledgers.now) O.Ledger.site O.Ledger.book O.Ledger.stands
         (VisitsBy (N.reaches network.now) N.Socket.hears N.Socket.sends N.Socket.closes
-        ⟦<OwnPort<O::Ledger> as DeskPort>⟧.step (C.tells clock.now)) (C.tells clock.now) given duty
-        (W.contents output.old) (W.contents output.new)) }
+        ⟦<OwnPort<O::Ledger> as DeskPort>⟧.step ⟦<OwnPort<O::Ledger> as Tallied>⟧.finds
+        (C.tells clock.now)) (C.tells clock.now) given duty (W.contents output.old)
+        (W.contents output.new)) }
     ensures adopted { (change : PlanChangeValue)
         → asked.entry ≡ asks.Adopt change
         → IfOk result
@@ -204,8 +205,9 @@ where
         → Works (F.holds files.now) (O.opens ledgers.now) O.Ledger.site O.Ledger.book
         O.Ledger.stands
         (VisitsBy (N.reaches network.now) N.Socket.hears N.Socket.sends N.Socket.closes
-        ⟦<OwnPort<O::Ledger> as DeskPort>⟧.step (C.tells clock.now)) (C.tells clock.now) given duty
-        (W.contents output.old) (W.contents output.new) result }
+        ⟦<OwnPort<O::Ledger> as DeskPort>⟧.step ⟦<OwnPort<O::Ledger> as Tallied>⟧.finds
+        (C.tells clock.now)) (C.tells clock.now) given duty (W.contents output.old)
+        (W.contents output.new) result }
     ensures adopted { (change : PlanChangeValue)
         → IsAdoptOf words.now change
         → (result ≡ Success) ⊎ (result ≡ Refused)

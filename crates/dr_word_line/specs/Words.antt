@@ -1,6 +1,6 @@
 -- The words of the command line.
 use Rattle.std.specs.Prelude.{◌≡◌, ◌≢◌, ℕ, List, [], ◌∷◌, ◌++◌, ◌⊎◌, codes, false, Option, None}
-use Rattle.std.specs.Prelude.{MatchOption}
+use Rattle.std.specs.Prelude.{MatchOption, Some}
 use Rattle.std.specs.Borrow.{Bor}
 use Rattle.dr_word_line.specs.declared.words.Task.{Task}
 use Rattle.dr_word_line.specs.declared.words.Task.TheVariants.{CheckInput, CheckFile, Verify}
@@ -209,9 +209,10 @@ IsRequeueAllOf words given dest =
     × IsAtNode (codes "requeue") words given (option ∷ dest ∷ [])
     × (option.now ≡ codes "--all-held")
 
--- without options a node serves for ever, by 264 threads, holds at most 1,024 MB of data sets, logs
--- its events, and writes no file of what it has; it waits 10 s for a connect, 60 s for a PDU to be
--- taken, 30 s for 64 kB of a message, and 600 s for the next message
+-- without options a node serves for ever, by 264 threads, holds at most 1,024 MB of data sets,
+-- forgets what has been over for 30 days, logs its events, and writes no file of what it has; it
+-- waits 10 s for a connect, 60 s for a PDU to be taken, 30 s for 64 kB of a message, and 600 s for
+-- the next message
 abbrev pub plain_serving : Serving
 plain_serving = record {
   links = 0;
@@ -219,6 +220,7 @@ plain_serving = record {
   report = None;
   workers = 264;
   memory = 1024;
+  forget_after = Some 30;
   waits = record { connect = 10; write = 60; message = 30; idle = 600 };
   until_input_ends = false;
   must_exist = false;

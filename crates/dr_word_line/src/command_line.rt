@@ -130,6 +130,8 @@ enum Choice {
     Seconds(Value<'static>, &'static str),
     UntilInputEnds,
     MustExist,
+    ForgetAfter,
+    ForgetNever,
 }
 
 impl<'a> Makes<Arg<'a>> for Choice {
@@ -156,6 +158,8 @@ impl<'a> Makes<Arg<'a>> for Choice {
             Choice::Seconds((name, help), option) => Ok(seconds(alloc, name, option, help)),
             Choice::UntilInputEnds => Ok(until_input_ends(alloc)),
             Choice::MustExist => Ok(must_exist(alloc)),
+            Choice::ForgetAfter => forget_after(alloc),
+            Choice::ForgetNever => Ok(forget_never(alloc)),
         }
     }
 }
@@ -489,6 +493,25 @@ fn must_exist<'a>(alloc: Global) -> Arg<'a> {
         .help("refuses a ledger's file that isn't there, where else one is made")
 }
 
+/// After how many days `serve` forgets.
+fn forget_after<'a>(alloc: Global) -> Result<Arg<'a>, AllocError> {
+    Arg::new(alloc, "DAYS")
+        .long("forget-after")
+        .action(ArgAction::Set)
+        .value_parser(value_parser!(u32))
+        .value_name("DAYS")
+        .help("forgets what was sent on everywhere and isn't kept after so many days (30)")
+        .conflicts_with("NEVER")
+}
+
+/// The option of `serve` to forget nothing.
+fn forget_never<'a>(alloc: Global) -> Arg<'a> {
+    Arg::new(alloc, "NEVER")
+        .long("forget-never")
+        .action(ArgAction::SetTrue)
+        .help("forgets nothing")
+}
+
 /// The times for which `serve` waits.
 const CONNECT: Choice = Choice::Seconds(("CONNECT", "gives a connect up then (10)"), "connect");
 
@@ -537,6 +560,8 @@ fn serve<'a>(alloc: Global) -> Result<Command<'a>, AllocError> {
             IDLE,
             Choice::UntilInputEnds,
             Choice::MustExist,
+            Choice::ForgetAfter,
+            Choice::ForgetNever,
         ],
     )
 }

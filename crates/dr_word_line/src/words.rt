@@ -108,6 +108,9 @@ const USUAL_WORKERS: u16 = 264;
 /// How many megabytes of data sets associations hold where nothing else is asked for.
 const USUAL_MEMORY: u32 = 1024;
 
+/// After how many days what is over is forgotten where nothing else is asked for.
+const USUAL_DAYS: u32 = 30;
+
 /// How a node is to serve.
 #[derive(Clone, Copy, Debug, Drop)]
 pub struct Serving<'a> {
@@ -121,6 +124,8 @@ pub struct Serving<'a> {
     pub workers: u16,
     /// How much memory all associations together hold of data sets, in megabytes (10^6 bytes).
     pub memory: u32,
+    /// After how many days it forgets what is over; None for never.
+    pub forget_after: Option<u32>,
     /// How long it waits for its peers.
     pub waits: Waits,
     /// Whether it ends, in order, when the standard input does.
@@ -400,6 +405,7 @@ fn read_duty<'a>(words: &'a [&'a str]) -> Option<Task<'a>>
                 report: None,
                 workers: USUAL_WORKERS,
                 memory: USUAL_MEMORY,
+                forget_after: Some(USUAL_DAYS),
                 waits: USUAL_WAITS,
                 until_input_ends: false,
                 must_exist: false,
@@ -667,6 +673,14 @@ fn waits_of(given: &ArgMatches<'_>) -> Waits {
     }
 }
 
+/// After how many days a node is to forget what is over, as clap has read it.
+fn days_of(given: &ArgMatches<'_>) -> Option<u32> {
+    if given.get_flag("NEVER") {
+        return None;
+    }
+    Some(given.get_one("DAYS").unwrap_or(USUAL_DAYS))
+}
+
 /// How a node is to serve, as clap has read it.
 fn serving_of<'a>(given: &ArgMatches<'a>) -> Serving<'a> {
     let verbosity = match given.get_str("LOG") {
@@ -680,6 +694,7 @@ fn serving_of<'a>(given: &ArgMatches<'a>) -> Serving<'a> {
         report: given.get_str("REPORT"),
         workers: given.get_one("WORKERS").unwrap_or(USUAL_WORKERS),
         memory: given.get_one("MEMORY").unwrap_or(USUAL_MEMORY),
+        forget_after: days_of(given),
         waits: waits_of(given),
         until_input_ends: given.get_flag("UNTIL"),
         must_exist: given.get_flag("EXIST"),

@@ -8,6 +8,7 @@ use Rattle.dr_ledger.specs.Items.{instance_of}
 use Rattle.dr_ledger.specs.Replies.{Arrives}
 use Rattle.dr_ledger.specs.SiteRoutes.{site_routing}
 use Rattle.dr_ledger.specs.declared.content.Job.{Job}
+use Rattle.dr_ledger.specs.declared.fault.LedgerFault.{LedgerFault}
 use Rattle.dr_ledger.specs.declared.item.Arrived.{Arrived}
 use Rattle.dr_ledger.specs.declared.item.Arrived.TheVariants.{New, Again}
 use Rattle.dr_run_open.specs.Hops.{hops_from}
@@ -53,12 +54,13 @@ IsUnsent halt = ⊥
 -- address
 abbrev pub VisitsBy : {K S : Type 0} (reaches : Text → K → Type 0) (hears : K → Heard → K → Type 0)
     (sends : K → List ℕ → Bool → K → Type 0) (closes : K → K → Type 0)
-    (step : S → DeskCall → DeskAnswer → S → Type 0) (tells : ℕ → Type 0)
+    (step : S → DeskCall → DeskAnswer → S → Type 0)
+    (finds : S → Text → ℕ → Result (Option Text) LedgerFault → S → Type 0) (tells : ℕ → Type 0)
     → Part → List NextHop → S → S → Type 0
-VisitsBy reaches hears sends closes step tells site hops s t = VisitsEach
+VisitsBy reaches hears sends closes step finds tells site hops s t = VisitsEach
     (λ hop a came b.
-    Visits reaches hears sends closes step tells site hop.dest hop.address a came b) hops s (Ok tt)
-    t
+    Visits reaches hears sends closes step finds tells site hop.dest hop.address a came b) hops s
+    (Ok tt) t
 
 module _ {L : Type 0} (book : L → Book) (stands : L → Type 0)
     (VisitsAll : Part → List NextHop → OwnPort L → OwnPort L → Type 0) where

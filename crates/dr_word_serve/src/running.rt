@@ -1,6 +1,6 @@
 //! The word `serve`.
 ghost use Rattle.dr_run_open.specs.declared.ledgers.Making.TheVariants.{Allowed, Never};
-ghost use Rattle.std.specs.Prelude.{cond};
+ghost use Rattle.std.specs.Prelude.{cond, option_map};
 ghost use Rattle.std.specs.Prelude.{◌≡◌, ◌*◌, max, IfErr, IfOk, MatchResult, Result};
 ghost use Rattle.dr_base.specs.Texts.{Text as Words};
 ghost use Rattle.dr_run_open.specs.Ends.{Ends};
@@ -8,7 +8,7 @@ ghost use Rattle.dr_run_open.specs.declared.halt.Halt.{Halt as HaltValue};
 ghost use Rattle.dr_word_serve.specs.Serving.{Grew, IsUnheard, IsUnserved, Serves};
 
 use dr_base::Text;
-use dr_ledger::{Ledger, LedgerFault};
+use dr_ledger::{LedgerFault, LetsGo};
 use dr_ledger_report::report_of;
 use dr_run_files::{Failure, Files, NodeFiles};
 use dr_run_net::{Limits, Listening, Network};
@@ -49,7 +49,7 @@ fn unserved<'a>(fault: ServeFault) -> Halt<'a>
 /// Where the site's node listens, by the sealed plan.
 ///
 /// Errors: NoNode; Failed with the node's name where its address can't be listened at.
-fn listen_at<'a, L: Ledger + Drop, N: Network>(
+fn listen_at<'a, L: LetsGo + Drop, N: Network>(
     alloc: Global,
     opened: &Opened<L>,
     network: &N,
@@ -72,7 +72,7 @@ fn listen_at<'a, L: Ledger + Drop, N: Network>(
 fn serve_ledger<
     'a,
     R: Threads + Wait + Sync + time::Clock,
-    L: Ledger + Drop + Send,
+    L: LetsGo + Drop + Send,
     K: Link + Drop + Send,
     D: Listening<Socket = K> + Sync,
     N: Network + Sync,
@@ -119,7 +119,7 @@ where
 fn serve_opened<
     'a,
     R: Threads + Wait + Sync + time::Clock,
-    L: Ledger + Drop + Send,
+    L: LetsGo + Drop + Send,
     K: Link + Drop + Send,
     D: Listening<Socket = K> + Sync,
     N: Network + Sync,
@@ -164,7 +164,7 @@ where
 }
 
 /// Tells that a node serves so many associations, by how many threads, with how many megabytes for
-/// data sets, and how many seconds it waits for its peers.
+/// data sets, how many seconds it waits for its peers, and when it forgets.
 fn tell_serving<G: Monitor>(log: &G, given: NodeFiles<'_>, serving: Serving<'_>, workers: usize) {
     let (node, ledger) = (
         Escaped(given.node.as_bytes()),
@@ -183,6 +183,10 @@ fn tell_serving<G: Monitor>(log: &G, given: NodeFiles<'_>, serving: Serving<'_>,
         log; target: "node",
         "limits workers={workers} memory={memory} connect={connect} write={write} message={message} idle={idle}"
     );
+    match serving.forget_after {
+        Some(days) => info!(log; target: "node", "forgets after={days} unit=days"),
+        None => info!(log; target: "node", "forgets nothing"),
+    }
 }
 
 /// Whether a node that serves may make its ledger's file.
@@ -216,6 +220,16 @@ fn limits_of(waits: Waits) -> Limits
         write: milliseconds(waits.write),
         message: milliseconds(waits.message),
         idle: milliseconds(waits.idle),
+    }
+}
+
+/// So many days in milliseconds; None for ever.
+fn span_of(days: Option<u32>) -> Option<u64>
+    ensures { result ≡ option_map (λ n. 86400000 * n) days }
+{
+    match days {
+        Some(days) => Some(u64::from(days) * 86_400_000),
+        None => None,
     }
 }
 
@@ -265,7 +279,8 @@ where
         usize::from(serving.workers),
         u64::from(serving.memory) * 1_000_000,
         stop,
-    );
+    )
+    .forgetting(span_of(serving.forget_after));
     tell_serving(log, given, serving, terms.workers());
     serve_opened::<R, O::Ledger, N::Socket, N::Listener, N, C, G>(
         rt, alloc, opened, &listener, terms, &network, clock, log,

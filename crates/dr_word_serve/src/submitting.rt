@@ -21,7 +21,7 @@ use dr_run_net::Network;
 use dr_run_open::{
     Halt, Ledgers, Making, NextHop, Opened, Status, finish, hops_of, item_of, open_node,
 };
-use dr_run_serve::{OwnPort, visit_each};
+use dr_run_serve::{OwnPort, Tallied, visit_each};
 use dr_session::{Clock, DeskPort};
 use dr_site::Site;
 use std::alloc::Global;
@@ -102,7 +102,8 @@ fn send_due<L: Ledger, N: Network, C: Clock>(
     ensures { IfOk result
         (ReportsVisited L.book L.stands
         (VisitsBy (N.reaches network.now) N.Socket.hears N.Socket.sends N.Socket.closes
-        ⟦<OwnPort<L> as DeskPort>⟧.step (C.tells clock.now)) site.now hops.now port.old) }
+        ⟦<OwnPort<L> as DeskPort>⟧.step ⟦<OwnPort<L> as Tallied>⟧.finds (C.tells clock.now))
+        site.now hops.now port.old) }
 {
     visit_each(alloc, site, hops, network, port, clock)?;
     let report = report_of(alloc, site.name(), &mut port.desk.ledger)?;
@@ -127,8 +128,9 @@ fn send_ledger<'a, L: Ledger + Drop, N: Network, C: Clock, W: Write>(
     ensures { MatchResult result
         (λ report. SentFrom L.book L.stands
         (VisitsBy (N.reaches network.now) N.Socket.hears N.Socket.sends N.Socket.closes
-        ⟦<OwnPort<L> as DeskPort>⟧.step (C.tells clock.now)) site.now hops.now item ledger report
-        (W.contents output.old) (W.contents output.new)) IsUnsent }
+        ⟦<OwnPort<L> as DeskPort>⟧.step ⟦<OwnPort<L> as Tallied>⟧.finds (C.tells clock.now))
+        site.now hops.now item ledger report (W.contents output.old) (W.contents output.new))
+        IsUnsent }
 {
     let mut port = OwnPort::new(ledger);
     take_in(alloc, &mut port.desk.ledger, item, output)?;
@@ -153,8 +155,8 @@ fn send_opened<'a, L: Ledger + Drop, N: Network, C: Clock, W: Write>(
     ensures { MatchResult result
         (λ report. SentFrom L.book L.stands
         (VisitsBy (N.reaches network.now) N.Socket.hears N.Socket.sends N.Socket.closes
-        ⟦<OwnPort<L> as DeskPort>⟧.step (C.tells clock.now)) opened.site
-        (hops_from opened.site opened.sealed.plan.nodes) item opened.ledger report
+        ⟦<OwnPort<L> as DeskPort>⟧.step ⟦<OwnPort<L> as Tallied>⟧.finds (C.tells clock.now))
+        opened.site (hops_from opened.site opened.sealed.plan.nodes) item opened.ledger report
         (W.contents output.old) (W.contents output.new)) IsUnsent }
 {
     let Ok(hops) = hops_of(alloc, &opened.site, opened.sealed.plan()) else {
@@ -199,8 +201,9 @@ fn send_node<'a, F: Files, O: Ledgers, N: Network, C: Clock, W: Write>(
         (F.holds files.now given.entry.certificate.now) (F.holds files.now file.now)
         (O.opens ledgers.now given.entry.ledger.now) O.Ledger.site O.Ledger.book O.Ledger.stands
         (VisitsBy (N.reaches network.now) N.Socket.hears N.Socket.sends N.Socket.closes
-        ⟦<OwnPort<O::Ledger> as DeskPort>⟧.step (C.tells clock.now)) given.entry.node.now result
-        (W.contents output.old) (W.contents output.new) }
+        ⟦<OwnPort<O::Ledger> as DeskPort>⟧.step ⟦<OwnPort<O::Ledger> as Tallied>⟧.finds
+        (C.tells clock.now)) given.entry.node.now result (W.contents output.old)
+        (W.contents output.new) }
 {
     let opened = open_node(alloc, files, ledgers, given, Making::Allowed)?;
     let item = match read_instance(alloc, files, file) {
@@ -235,8 +238,8 @@ pub fn send_files<'a, F: Files, O: Ledgers, N: Network, C: Clock, W: Write, E: W
         (F.holds files.now given.entry.certificate.now) (F.holds files.now file.now)
         (O.opens ledgers.now given.entry.ledger.now) O.Ledger.site O.Ledger.book O.Ledger.stands
         (VisitsBy (N.reaches network.now) N.Socket.hears N.Socket.sends N.Socket.closes
-        ⟦<OwnPort<O::Ledger> as DeskPort>⟧.step (C.tells clock.now)) given.entry.node.now came
-        (W.contents output.old) mid
+        ⟦<OwnPort<O::Ledger> as DeskPort>⟧.step ⟦<OwnPort<O::Ledger> as Tallied>⟧.finds
+        (C.tells clock.now)) given.entry.node.now came (W.contents output.old) mid
         × Ends came mid (W.contents output.new) status) }
 {
     let came = send_node(alloc, files, ledgers, given, file, network, clock, output);

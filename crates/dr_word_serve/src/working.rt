@@ -9,7 +9,7 @@ use dr_run_files::{Failure, Files, NodeFiles};
 use dr_run_net::Network;
 use dr_run_open::{Ledgers, Status};
 use dr_run_report::Paths;
-use dr_run_serve::{Ending, OwnPort};
+use dr_run_serve::{Ending, OwnPort, Tallied};
 use dr_session::{Clock, DeskPort};
 use dr_word_line::Duty;
 use dr_word_list::{
@@ -58,8 +58,9 @@ where
     ensures { IfOk result
         (Works (F.holds files.now) (O.opens ledgers.now) O.Ledger.site O.Ledger.book O.Ledger.stands
         (VisitsBy (N.reaches network.now) N.Socket.hears N.Socket.sends N.Socket.closes
-        ⟦<OwnPort<O::Ledger> as DeskPort>⟧.step (C.tells clock.now)) (C.tells clock.now) given.entry
-        duty.entry (W.contents output.old) (W.contents output.new)) }
+        ⟦<OwnPort<O::Ledger> as DeskPort>⟧.step ⟦<OwnPort<O::Ledger> as Tallied>⟧.finds
+        (C.tells clock.now)) (C.tells clock.now) given.entry duty.entry (W.contents output.old)
+        (W.contents output.new)) }
 {
     match duty {
         Duty::Make => make_files(alloc, files, ledgers, given, output, faults),

@@ -7,6 +7,7 @@ use Rattle.dr_word_line.specs.declared.words.Duty.{Duty}
 use Rattle.dr_run_files.specs.declared.node.NodeFiles.{NodeFiles}
 use Rattle.dr_word_line.specs.declared.words.PlanChange.{PlanChange}
 use Rattle.dr_run_serve.specs.contracts.tallied.OwnPortDeskPort.TheImpl as own
+use Rattle.dr_run_serve.specs.contracts.tallied.OwnPortTallied.TheImpl as tallied
 use Rattle.dr_word_serve.specs.Sending.{VisitsBy}
 use Rattle.dr_word_serve.specs.Working.{Works}
 use Rattle.dr_word_all.proofs.run.run_any.Goals as goal
@@ -26,7 +27,7 @@ unfolding duty_of given_of
 returns-in-AtNode-clause-worked g c = λ given duty asked.
     let same : asks.AtNode c.in-AtNode.given c.in-AtNode.duty ≡ asks.AtNode given duty = sym c.in-AtNode.is ∙ asked in
     let P : NodeFiles → Duty → Type 0 = λ at what. IfOk c.work_files.result (Works (g.F.Files.holds c.args.files.now) (g.O.Ledgers.opens c.args.ledgers.now) g.O.Ledger.Ledger.site g.O.Ledger.Ledger.book g.O.Ledger.Ledger.stands
-    (VisitsBy (g.N.Network.reaches c.args.network.now) g.N.Socket.Link.hears g.N.Socket.Link.sends g.N.Socket.Link.closes (own.step-value g.row.O-Ledger g.O.Ledger.Ledger g.O.Ledger.Ledger-dict).it (g.C.Clock.tells c.args.clock.now)) (g.C.Clock.tells c.args.clock.now)
+    (VisitsBy (g.N.Network.reaches c.args.network.now) g.N.Socket.Link.hears g.N.Socket.Link.sends g.N.Socket.Link.closes (own.step-value g.row.O-Ledger g.O.Ledger.Ledger g.O.Ledger.Ledger-dict).it (tallied.finds-value g.row.O-Ledger g.O.Ledger.Ledger g.O.Ledger.Ledger-dict).it (g.C.Clock.tells c.args.clock.now)) (g.C.Clock.tells c.args.clock.now)
     at what (g.W.Write.contents c.args.output.now) (g.W.Write.contents c.work_files.new.output)) in
     subst (λ (at : NodeFiles). P at duty) (ap (given_of given) same)
     (subst (λ (what : Duty). P c.in-AtNode.given what) (ap (duty_of duty) same) c.work_files.ensures)
