@@ -22,8 +22,8 @@ use Rattle.dr_word_simulate.specs.declared.outcome.PlayOutcome.TheVariants.{Unse
 use Rattle.dr_word_simulate.specs.declared.outcome.PlayOutcome.TheVariants.{HalfAdopted, Memory}
 
 -- The text is a script, its files have the plans that it names, and this is the report of the nodes
--- of a world to which it leads from the beginning of the plan's world; the headline's claims hold of
--- that world.
+-- of a world to which it leads from the beginning of the plan's world; the headline's claims hold
+-- of that world.
 pub record IsSimulated (Holds : Text → Text → Type 0) (plan : Network) (certificate : Certificate)
     (text report : Text) : Type 0 where
   pub acts : List Act

@@ -171,11 +171,7 @@ fn add_deed<F: Files>(
 
 /// What is to be done by the lines of a script, up to the first by which nothing can be: then
 /// nothing is.
-pub fn deeds_of<F: Files>(
-    alloc: Global,
-    files: &F,
-    acts: Vec<Act>,
-) -> Result<Vec<Deed>, Stop>
+pub fn deeds_of<F: Files>(alloc: Global, files: &F, acts: Vec<Act>) -> Result<Vec<Deed>, Stop>
     ensures { MatchResult result
         (λ deeds. AllZip (IsDeedOf (F.holds files.now)) acts.items deeds.items)
         (λ stop. StopsAt (F.holds files.now) acts.items stop.place stop.fault) }

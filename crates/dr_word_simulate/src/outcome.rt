@@ -10,7 +10,7 @@ use dr_base::Text;
 use dr_cert::Sealed;
 use dr_run_files::Files;
 use dr_run_open::Status;
-use dr_world::{Deed, Run, WorldFault, run};
+use dr_world::{Deed, PlayedWorld, WorldFault, run};
 use dr_world_script::{ScriptFault, line_of, read_script};
 use std::alloc::Global;
 use std::io;
@@ -58,7 +58,7 @@ impl PlayOutcome {
 fn report_after(alloc: Global, sealed: &Sealed, deeds: &[Deed]) -> Result<Text, WorldFault>
     ensures { IfOk result (IsReportAfter sealed.now.plan sealed.now.certificate deeds.now) }
 {
-    let Run { world, changes } = run(alloc, sealed, deeds)?;
+    let PlayedWorld { world, changes } = run(alloc, sealed, deeds)?;
     let mut world = world;
     let mut report = Vec::new(alloc);
     tell_changes(changes.as_slice(), &mut report)?;
@@ -88,12 +88,7 @@ fn outcome_of_stop(alloc: Global, text: &[u8], stop: Stop) -> PlayOutcome
 
 /// What comes of the text of a script, played in a world of the plan's nodes: each begins with
 /// nothing. The plans that it names are read before anything is done.
-pub fn outcome_of<F: Files>(
-    alloc: Global,
-    files: &F,
-    sealed: &Sealed,
-    text: &[u8],
-) -> PlayOutcome
+pub fn outcome_of<F: Files>(alloc: Global, files: &F, sealed: &Sealed, text: &[u8]) -> PlayOutcome
     ensures { IsOutcomeOf (F.holds files.now) sealed.now.plan sealed.now.certificate text.now
         result }
 {

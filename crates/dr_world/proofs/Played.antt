@@ -115,9 +115,12 @@ module _ {L : Type 0} {l : Ghosts L} (old new : World L l) where
   changes_go_on next proper change h first its certified deeds changes played all = ∥∥₁_elim (played (h.0 all)) ∥∥₁_prop (λ r.
       let now = certified_played deeds changes first r.0 its r.1 beginning r.3.0 certified r.3.1 in
       ∥∥₁_map (h.1 r.0 r.1 now r.3.0 r.2 r.3.2 all) (λ z.
-      let c = change_came next proper r.0 r.1 r.3.0 r.2 r.3.2 change z in
-      (plan_after next.plan change r.0, certificate_after next.certificate change r.1, c.2.0,
-      (c.0, change_behind deeds changes first r.0 its r.1 beginning r.3.0 c.0 next change r.3.1 c.1, c.2.1))))
+      let c = change_came next proper r.0 r.1 r.3.0 r.2 r.3.2 change z in (
+        plan_after next.plan change r.0,
+        certificate_after next.certificate change r.1,
+        c.2.0,
+        (c.0, change_behind deeds changes first r.0 its r.1 beginning r.3.0 c.0 next change r.3.1 c.1, c.2.1),
+      )))
 
 -- ---- the headline
 
@@ -149,10 +152,15 @@ adopted_from : (first : Network) (taken : List Network) (plan : Network) (certif
     → IsFrom first taken plan certificate b → IsFrom first (taken ++ next.plan ∷ []) next.plan next.certificate mid
 adopted_from first taken plan certificate b mid next proper h f =
     let a = plans_are_adopted plan next.plan certificate next.certificate proper b mid f.0 f.1 h in
-    let by = f.2 in
-    (a.0, a.2, (by.0 ++ Adopting next.plan ∷ [],
-    adopted_behind by.0 (Adopting next.plan ∷ []) ∙ ap (λ (ps : List Network). ps ++ next.plan ∷ []) by.1,
-    runs_then by.0 (Adopting next.plan ∷ []) first plan next.plan start f.0 a.0 by.2 ((proper.formed, proper.sound), (a.0, a.1, (refl, refl)))))
+    let by = f.2 in (
+      a.0,
+      a.2,
+      (
+        by.0 ++ Adopting next.plan ∷ [],
+        adopted_behind by.0 (Adopting next.plan ∷ []) ∙ ap (λ (ps : List Network). ps ++ next.plan ∷ []) by.1,
+        runs_then by.0 (Adopting next.plan ∷ []) first plan next.plan start f.0 a.0 by.2 ((proper.formed, proper.sound), (a.0, a.1, (refl, refl))),
+      ),
+    )
 
 held : (deeds : List Deed) (changes : List Change) (first : Network) (before : List Network) (plan last : Network) (certificate its : Certificate) (b new : ByteWorld)
     → IsCertified plan certificate → ∥ IsFrom first before plan certificate b ∥₁ → PlaysThrough plan certificate b deeds changes last its new

@@ -31,7 +31,7 @@ pub use deed::Deed;
 pub use dr_world_script::{Side, Step};
 pub use fault::WorldFault;
 pub use listing::Listing;
-pub use playing::{Run, run};
+pub use playing::{PlayedWorld, run};
 pub use steps::StepNote;
 pub use time::Time;
 pub use wires::Wires;

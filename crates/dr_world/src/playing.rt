@@ -18,7 +18,7 @@ use std::alloc::Global;
 
 /// A world after what was done to it, and what the changes of plan among that came to, in order.
 #[derive(Drop)]
-pub struct Run {
+pub struct PlayedWorld {
     pub world: World<Refusing<MemoryLedger>>,
     pub changes: Seq<Change>,
 }
@@ -99,7 +99,7 @@ fn do_all(
 /// memory, which can be told to refuse.
 ///
 /// Errors: HalfAdopted, where a node that was told to refuse is to take another plan; Memory.
-pub fn run(alloc: Global, sealed: &Sealed, deeds: &[Deed]) -> Result<Run, WorldFault>
+pub fn run(alloc: Global, sealed: &Sealed, deeds: &[Deed]) -> Result<PlayedWorld, WorldFault>
     ensures { IfOk result (λ run.
         IsRunOf sealed.now.plan sealed.now.certificate deeds.now run.changes run.world) }
 {
@@ -109,5 +109,5 @@ pub fn run(alloc: Global, sealed: &Sealed, deeds: &[Deed]) -> Result<Run, WorldF
     let ledgers = ledgers_of(alloc, sealed, names.as_slice())?;
     let mut world = World::with(alloc, sealed, ledgers)?;
     let changes = do_all(alloc, &mut world, deeds)?;
-    Ok(Run { world, changes })
+    Ok(PlayedWorld { world, changes })
 }

@@ -5,8 +5,8 @@ use thiserror::Error;
 /// Why a script isn't read.
 #[derive(Clone, Copy, PartialEq, Eq, Debug, Error)]
 pub enum ScriptFault {
-    /// The line, counted from 1, that isn't one of a script: its word or one of its fields isn't one,
-    /// its data set has no item, or its files have no plan with its certificate.
+    /// The line, counted from 1, that isn't one of a script: its word or one of its fields isn't
+    /// one, its data set has no item, or its files have no plan with its certificate.
     #[error("K1 Script {0}")]
     Line(u64),
     #[error("Memory")]

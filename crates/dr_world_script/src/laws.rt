@@ -1,6 +1,6 @@
 //! Laws of scripts.
-ghost use Rattle.dr_world_script.specs.Laws.{LinesAreInOrder, LinesTellNone, LinesTellSteps, OneScriptForAText};
-ghost use Rattle.dr_world_script.specs.Laws.{OneActForALine};
+ghost use Rattle.dr_world_script.specs.Laws.{LinesAreInOrder, LinesTellNone, LinesTellSteps};
+ghost use Rattle.dr_world_script.specs.Laws.{OneActForALine, OneScriptForAText};
 
 /// A line tells one thing, and a text is the script of one list.
 pub fn a_script_has_one_reading()
