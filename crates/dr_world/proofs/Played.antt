@@ -1,6 +1,5 @@
 -- Steps and changes of plan, one after the other.
-use Rattle.std.proofs.Common.{◌≡◌, ℕ, ◌+◌, ◌<◌, ◌≤◌, List, [], ◌∷◌, ◌++◌, length, get_or, take, append_assoc, map as mapped, Option, Result, Ok, Err, inl, inr, refl, sym, ap, subst, ◌∙◌}
-use Rattle.std.specs.Prelude.{IfOk}
+use Rattle.std.proofs.Common.{◌≡◌, ℕ, ◌+◌, ◌<◌, ◌≤◌, List, [], ◌∷◌, ◌++◌, length, get_or, take, append_assoc, map as mapped, Option, inl, inr, refl, sym, ap, subst, ◌∙◌}
 use Rattle.std.proofs.Math.Logic.{∥∥₁_map, ∥∥₁_elim, ∥∥₁_prop}
 use Rattle.std.proofs.lemmas.List.{append-nil, take_more, take_all}
 use Rattle.std.specs.Option.{option_map}
@@ -19,7 +18,7 @@ use Rattle.dr_world_model.specs.Runs.{Action, Adopt as Adopting, Occurs, Runs}
 use Rattle.dr_world_model.proofs.FromSafety.{headline_holds}
 use Rattle.dr_world_tie.specs.ByteWorlds.{ByteWorld, StepNote, Steps, WorldStep, beginning}
 use Rattle.dr_world_tie.specs.Changes.{TakesPlan}
-use Rattle.dr_world_tie.specs.Shown.{ComesAbout, Comes, RunsOf, Shows}
+use Rattle.dr_world_tie.specs.Shown.{Comes, Shows}
 use Rattle.dr_world_tie.proofs.Changes.{plans_are_adopted}
 use Rattle.dr_world_tie.proofs.World.{world_steps, beside_beginning}
 use Rattle.dr_world_script.specs.declared.step.Step.{Step}
@@ -27,12 +26,11 @@ use Rattle.dr_world.specs.declared.changing.Change.{Change}
 use Rattle.dr_world.specs.declared.changing.Change.TheVariants.{Adopted, Skipped, Unfit}
 use Rattle.dr_world.specs.declared.deed.Deed.{Deed}
 use Rattle.dr_world.specs.declared.deed.Deed.TheVariants as deed
-use Rattle.dr_world.specs.declared.fault.WorldFault.{WorldFault}
 use Rattle.dr_world.specs.declared.steps.StepNote.{StepNote as Note}
 use Rattle.dr_world.specs.declared.world.World.{World}
 use Rattle.dr_world.specs.Adopted.{ChangesTo, ComesTo}
 use Rattle.dr_world.specs.Nodes.{seat_of}
-use Rattle.dr_world.specs.Played.{Changes, ChangesGoOn, ComesBy, DeedsKeepTheHeadline, EventsAloneLead, HoldsBy, HoldsThrough, IsPlayed, IsRunOf, PlaysAll, PlaysOn, PlaysThrough, StepsAloneRun, StepsGoOn, WasPlayed}
+use Rattle.dr_world.specs.Played.{Changes, ChangesGoOn, DeedsKeepTheHeadline, EventsAloneLead, HoldsThrough, IsPlayed, IsRunOf, PlaysAll, PlaysOn, PlaysThrough, StepsAloneRun, StepsGoOn}
 use Rattle.dr_world.specs.Played.{adopted_in, certificate_after, in_force, plan_after, taken_in}
 use Rattle.dr_world.specs.Runs.{IsReached, step_of}
 use Rattle.dr_world.specs.Shows.{Contents, IsSeated, ShowsBytes, desk_at}

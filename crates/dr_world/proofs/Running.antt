@@ -7,7 +7,6 @@ use Rattle.dr_base.specs.Texts.{Text}
 use Rattle.dr_ledger.specs.declared.ledger.Ledger.{Ghosts}
 use Rattle.dr_plan_model.specs.Networks.{Network}
 use Rattle.dr_plan_sound.specs.declared.certificate.Certificate.{Certificate}
-use Rattle.dr_site.specs.Sites.{IsCertified}
 use Rattle.dr_node.specs.declared.node.Node.{Node}
 use Rattle.dr_world_tie.specs.ByteWorlds as bytes
 use Rattle.dr_world_tie.specs.ByteWorlds.{ByteWorld, beginning, Steps}
@@ -20,7 +19,7 @@ use Rattle.dr_world.specs.declared.steps.StepNote.{StepNote}
 use Rattle.dr_world.specs.declared.world.World.{World}
 use Rattle.dr_world.specs.Shows.{desk_at}
 use Rattle.dr_world.specs.Nodes.{seat_of}
-use Rattle.dr_world.specs.Whole.{AllStand, StepsTo, noted}
+use Rattle.dr_world.specs.Whole.{StepsTo, noted}
 use Rattle.dr_ledger.specs.declared.content.Job.{Job}
 use Rattle.dr_world_script.specs.declared.step.Step.{Step}
 use Rattle.dr_world.specs.Runs.{IsReached, GoesOn, HoldsAfter, HoldsAfterAll, HoldsWhereReached, Leads, step_of}
