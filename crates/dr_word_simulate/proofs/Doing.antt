@@ -1,5 +1,5 @@
 -- What a script tells, and what can be done of it.
-use Rattle.std.proofs.Common.{◌≡◌, ℕ, ◌+◌, ◌<◌, List, [], ◌∷◌, ◌++◌, length, Result, Ok, Err, refl, sym, ap, subst, ◌∙◌, arith, length-append}
+use Rattle.std.proofs.Common.{◌≡◌, ℕ, suc, ◌<◌, List, [], ◌∷◌, ◌++◌, length, refl, sym, ap, subst, ◌∙◌, arith, length-append}
 use Rattle.std.specs.List.{AllZip}
 use Rattle.std.proofs.lemmas.List.{nil_from_length}
 use Rattle.dr_base.specs.Texts.{Text}
@@ -8,7 +8,6 @@ use Rattle.dr_plan_sound.specs.declared.certificate.Certificate.{Certificate}
 use Rattle.dr_world.specs.declared.deed.Deed.{Deed}
 use Rattle.dr_world_script.specs.declared.act.Act.{Act}
 use Rattle.dr_world_script.specs.declared.act.Act.TheVariants as act
-use Rattle.dr_world_script.specs.Laws.{IsLineOf}
 use Rattle.dr_world_script.specs.Scripts.{IsLineAt, IsScriptOf, Tells, told_lines}
 use Rattle.dr_world_script.proofs.Placing.{lines_in_order}
 use Rattle.dr_word_simulate.specs.declared.deeds.ActFault.{ActFault}
@@ -23,7 +22,7 @@ zip_length : {X Y : Type 0} (P : X → Y → Type 0) (xs : List X) (ys : List Y)
 zip_length P [] [] h = refl
 zip_length P [] (y ∷ ys) h = absurd h
 zip_length P (x ∷ xs) [] h = absurd h
-zip_length P (x ∷ xs) (y ∷ ys) h = ap (λ n. n + 1) (zip_length P xs ys h.1)
+zip_length P (x ∷ xs) (y ∷ ys) h = ap suc (zip_length P xs ys h.1)
 
 zip_push : {X Y : Type 0} (P : X → Y → Type 0) (xs : List X) (ys : List Y) (x : X) (y : Y) → AllZip P xs ys → P x y → AllZip P (xs ++ x ∷ []) (ys ++ y ∷ [])
 zip_push P [] [] x y h one = (one, tt)

@@ -10,7 +10,6 @@ use Rattle.std.specs.BTreeMap as tree
 use Rattle.dr_base.specs.Texts.{Text, text_cmp}
 use Rattle.dr_ledger.specs.Books.{Book}
 use Rattle.dr_ledger.specs.declared.ledger.Ledger.{Ghosts}
-use Rattle.dr_world_model.specs.Events.{HasNode}
 use Rattle.dr_plan_model.specs.Networks.{Network}
 use Rattle.dr_plan_model.specs.Plans.{IsNode}
 use Rattle.dr_node.specs.declared.node.Node.{Node}
@@ -19,13 +18,13 @@ use Rattle.dr_site.specs.Parts.{IsPartOf}
 use Rattle.dr_world.specs.declared.changing.Change.{Change}
 use Rattle.dr_world.specs.declared.deed.Deed.{Deed}
 use Rattle.dr_world.specs.declared.world.World.{World}
-use Rattle.dr_world.specs.Nodes.{seat_of, seats_of}
-use Rattle.dr_world.specs.Reports.{IsReportOfAll, IsReported, books_of}
+use Rattle.dr_world.specs.Nodes.{seat_of}
+use Rattle.dr_world.specs.Reports.{IsReported, books_of}
 use Rattle.dr_world.specs.Played.{IsRunOf}
 use Rattle.dr_world.proofs.Played.{last_in_force}
 use Rattle.dr_world.specs.Shows.{Seat, desk_at}
 use Rattle.dr_world_tie.specs.ByteWorlds.{beginning}
-use Rattle.dr_word_simulate.specs.Reported.{AreBooksAfter, HoldsOfBooks, IsReportAfter, note_of, notes_of}
+use Rattle.dr_word_simulate.specs.Reported.{IsReportAfter, note_of, notes_of}
 
 -- a node that has a book is there
 seated_book : {L : Type 0} {l : Ghosts L} (o : Option (Node L l)) (book : Book) → option_map (λ (n : Node L l). l.book n.desk.ledger) o ≡ Some book → (n : Node L l) × (o ≡ Some n) × (l.book n.desk.ledger ≡ book)

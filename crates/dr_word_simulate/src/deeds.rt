@@ -1,7 +1,6 @@
 //! What a script tells, with the plans that it names.
 ghost use Rattle.std.specs.Prelude.{◌≡◌, ◌∷◌, ◌++◌, [], MatchResult};
 ghost use Rattle.std.specs.List.{AllZip};
-ghost use Rattle.dr_run_open.specs.Ends.{status_by};
 ghost use Rattle.dr_run_open.specs.Openings.{IsSealedBy};
 ghost use Rattle.dr_run_open.specs.declared.status.Status.TheVariants.{Refused as RefusedStatus};
 ghost use Rattle.dr_word_simulate.specs.Deeds.{AddsDeed, IsDeedOf, IsUndone, IsUnsealedBy, StopsAt};
@@ -68,17 +67,6 @@ fn fault_for(status: Status) -> ActFault
     }
 }
 
-/// Why a plan isn't sealed.
-fn fault_of(alloc: Global, halt: Halt<'_>) -> ActFault
-    ensures { result ≡ Unsealed → status_by halt.entry ≡ RefusedStatus }
-{
-    let status = halt.status();
-    match halt {
-        Halt::Failed(failure) => unread_for(alloc, failure),
-        _ => fault_for(status),
-    }
-}
-
 /// The path of a file of this name.
 ///
 /// Errors: Unread, where the name isn't UTF-8, since no path is; Memory.
@@ -105,7 +93,12 @@ fn seal_at<F: Files>(
 {
     match seal_files(alloc, files, plan, certificate) {
         Ok(sealed) => Ok(sealed),
-        Err(halt) => Err(fault_of(alloc, halt)),
+        Err(Halt::Failed(failure)) => Err(unread_for(alloc, failure)),
+        Err(halt) => {
+            let status = halt.status();
+            drop(halt);
+            Err(fault_for(status))
+        }
     }
 }
 
