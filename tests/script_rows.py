@@ -67,6 +67,25 @@ def straight():
     return ''.join((*nodes, flow('CT1', 'GATE'), flow('CT2', 'ARCH'))).encode()
 
 
+def before_hub(*rules):
+    """The three nodes, where GATE has these rules, and HUB, which keeps, too."""
+    nodes = node('CT1'), node('GATE', TAKES, *rules), node('ARCH', TAKES, KEEPS), node('HUB', TAKES, KEEPS)
+    return ''.join((*nodes, flow('CT1', 'GATE'))).encode()
+
+
+def to_hub_alone():
+    return before_hub(on('CT1', 'HUB'))
+
+
+def to_both():
+    return before_hub(on('CT1', 'ARCH', 'HUB'))
+
+
+def without_arch():
+    """CT1 and GATE, which keeps."""
+    return ''.join((node('CT1'), node('GATE', TAKES, KEEPS), flow('CT1', 'GATE'))).encode()
+
+
 # ---- scripts
 
 def submit(node, body):
@@ -108,6 +127,13 @@ HELD_TWICE = [*submit('CT2', SHORT), *carried('CT2', 'ARCH', 1), *submit('CT1', 
               *opened('GATE', 'ARCH', 4), ('push', 3), ('push', 4), *moved(3, 'acceptor', 'acceptor', 'requestor')]
 GIVEN_UP = [*HELD, ('drop', 'GATE', UID, 'ARCH')]
 GIVEN_UP_ROW = HELD_AT_GATE.format(2) + 'row 1.2.3.4 ARCH dropped|lines 3|'
+# no link is open, and GATE has still to send
+CLOSED = [*FIRST, ('close', 1)]
+CLOSED_REPORT = 'node ARCH|lines 0|' + CT1_SENT + GATE_WAITS
+ADOPTED = [*CLOSED, ('adopt', to_both)]
+HUB_IS_NEW = 'node HUB|lines 0|'
+ADOPTED_REPORT = 'node ARCH|lines 1|node CT1|lines 3|node GATE|row 1.2.3.4 ARCH waiting 0 0|lines 2|' + HUB_IS_NEW
+SENT_ON = ('node ARCH|arrival GATE 1.2.3.4|kept 1.2.3.4 70|lines 2|node CT1|lines 3|node GATE|row 1.2.3.4 ARCH done|lines 3|' + HUB_IS_NEW)
 
 
 def ninth_and_tenth():
@@ -189,6 +215,28 @@ ROWS = [
     ('an acceptor that is', three_nodes,
      [*submit('CT1', SHORT), ('open', 'CT1', 'GATE'), ('tick', 30_000), ('late', 1, 'acceptor'), *moved(1, 'acceptor', 'requestor'), ('push', 1)],
      'node ARCH|lines 0|node CT1|arrival - 1.2.3.4|row 1.2.3.4 GATE waiting 0 0|lines 1|node GATE|lines 0|'),
+    ('a plan that does not go on with a row', three_nodes, [*CLOSED, ('adopt', to_hub_alone)], 'Unfit GATE 1.2.3.4 ARCH|' + CLOSED_REPORT),
+    ('one that does, with a node more', three_nodes, ADOPTED, ADOPTED_REPORT),
+    ('.. and the row goes on by it', three_nodes, [*ADOPTED, *carried('GATE', 'ARCH', 2)], SENT_ON),
+    ('.. and what enters then goes both ways', three_nodes,
+     [*ADOPTED, *carried('GATE', 'ARCH', 2), *submit('CT1', SHORT), *carried('CT1', 'GATE', 3), *carried('GATE', 'HUB', 4)],
+     'node ARCH|arrival GATE 1.2.3.4|kept 1.2.3.4 70|lines 2|node CT1|arrival - 1.2.3.4|row 1.2.3.4 GATE done|lines 5|'
+     'node GATE|arrival CT1 1.2.3.4|row 1.2.3.4 ARCH done|row 1.2.3.4 HUB done|lines 5|node HUB|arrival GATE 1.2.3.4|kept 1.2.3.4 70|lines 1|'),
+    ('.. and then the plan before it, which lacks a node', three_nodes, [*ADOPTED, ('adopt', three_nodes)], 'Skipped|' + ADOPTED_REPORT),
+    ('.. and then one that does not go on with the row', three_nodes, [*ADOPTED, ('adopt', to_hub_alone)], 'Unfit GATE 1.2.3.4 ARCH|' + ADOPTED_REPORT),
+    ('.. but does when it is done', three_nodes, [*ADOPTED, *carried('GATE', 'ARCH', 2), ('close', 2), ('adopt', to_hub_alone)],
+     'node ARCH|kept 1.2.3.4 70|lines 3|node CT1|lines 4|node GATE|lines 4|node HUB|lines 1|'),
+    ('a change of plan while a link is open', three_nodes, [*FIRST, ('adopt', to_both)], 'Skipped|' + CLOSED_REPORT),
+    ('.. is made when it is closed', three_nodes, [*FIRST, ('adopt', to_both), ('close', 1), ('adopt', to_both)], 'Skipped|' + ADOPTED_REPORT),
+    ('a plan that lacks a node', three_nodes, [*CLOSED, ('adopt', without_arch)], 'Skipped|' + CLOSED_REPORT),
+    ('the same plan again', three_nodes, [*BOTH, ('close', 1), ('close', 2), ('adopt', three_nodes)],
+     'node ARCH|kept 1.2.3.4 70|lines 2|node CT1|lines 3|node GATE|lines 3|'),
+    ('.. and what was sent comes again', three_nodes,
+     [*BOTH, ('close', 1), ('close', 2), ('adopt', three_nodes), *submit('CT1', SHORT), *carried('CT1', 'GATE', 3)],
+     'node ARCH|kept 1.2.3.4 70|lines 2|node CT1|arrival - 1.2.3.4|row 1.2.3.4 GATE done|lines 5|'
+     'node GATE|arrival CT1 1.2.3.4|row 1.2.3.4 ARCH waiting 0 0|lines 4|'),
+    ('a held row that goes on', straight, [*HELD, *(('close', it) for it in (1, 2, 3)), ('adopt', straight)],
+     'node ARCH|kept 1.2.3.4 70|lines 2|node CT1|lines 3|node CT2|lines 3|node GATE|row 1.2.3.4 ARCH held C0F1|lines 3|'),
     *((f'{tries} refused stores', three_nodes, steps, 'node ARCH|lines 0|' + CT1_SENT
        + f'node GATE|arrival CT1 1.2.3.4|row 1.2.3.4 ARCH waiting {tries} {due_after(tries)}|lines {tries + 1}|')
       for steps, tries in ninth_and_tenth() if tries in (9, 10)),
@@ -212,12 +260,8 @@ EXACT = [
      'node ARCH|lines 0|' + CT1_SENT + TRIED),
 ]
 # what is no script: the line that is named
-WRONG = [(1, 'forget\tCT1\n'), (1, 'forget\tCT1\t1.2.3.4\tGATE\n'), (1, 'drop\tCT1\t1.2.3.4\n'), (1, 'drop\tCT1\t1.2.3.4\tGATE\t1\n'), (2, '# a comment\nmove\t1\tnobody\t1\n'), (1, 'push\n'), (1, 'push\t01\n'), (3, '\n\nfly\n'), (1, 'tick\t18446744073709551616\n'),
+WRONG = [(1, 'adopt\tplan\n'), (1, 'adopt\tplan\tcertificate\tmore\n'), (1, 'forget\tCT1\n'), (1, 'forget\tCT1\t1.2.3.4\tGATE\n'), (1, 'drop\tCT1\t1.2.3.4\n'), (1, 'drop\tCT1\t1.2.3.4\tGATE\t1\n'), (2, '# a comment\nmove\t1\tnobody\t1\n'), (1, 'push\n'), (1, 'push\t01\n'), (3, '\n\nfly\n'), (1, 'tick\t18446744073709551616\n'),
          (1, 'submit\tCT1\tE\t0800\n'), (2, 'tick\t1\nsubmit\tCT1\tE\tXY\n'), (1, ' \n')]
-
-
-def text_of(steps):
-    return ''.join('\t'.join(map(str, step)) + '\n' for step in steps)
 
 
 def cut(steps, size):
@@ -255,6 +299,11 @@ class Room:
     def play(self, make, script):
         return self.run('simulate', *self.plan(make), self.put('script', script.encode()))
 
+    def text_of(self, steps):
+        """The script of these steps; a plan is named by its two files."""
+        told = [('adopt', *self.plan(step[1])) if step[0] == 'adopt' else step for step in steps]
+        return ''.join('\t'.join(map(str, step)) + '\n' for step in told)
+
 
 def compare(what, got, wanted):
     if got != wanted:
@@ -270,18 +319,25 @@ def main():
             printed = report.replace(' ', '\t').replace('|', '\n')
             for size in (ALL, 7, 1) if (what, make, steps, report) in ROWS else (ALL,):
                 played = steps if size == ALL else list(cut(steps, size))
-                compare(f'{what}, moves of {size}', room.play(make, text_of(played)), (printed, '', 0))
+                compare(f'{what}, moves of {size}', room.play(make, room.text_of(played)), (printed, '', 0))
         for line, script in WRONG:
             compare(repr(script), room.play(three_nodes, script), ('', f'dr_router: K1 Script {line}\n', 1))
         plan, certificate = room.plan(three_nodes)
         with open(certificate) as it:
             wrong = room.put('wrong', it.read().replace('S1\t2\n', 'S1\t3\n').encode())
-        script = room.put('script', text_of(BOTH).encode())
+        both = room.plan(to_both)
+        compare('a refused store', room.play(three_nodes, room.text_of([*CLOSED, ('refuse', 'GATE'), ('adopt', to_both)])), ('', 'dr_router: U2 Store\n', 3))
+        for what, names in (('a certificate of another plan', (both[0], certificate)), ('files in the wrong order', both[::-1]), ('a wrong rank', (plan, wrong))):
+            compare(what, room.play(three_nodes, f'tick\t1\n# a plan\nadopt\t{names[0]}\t{names[1]}\n'), ('', 'dr_router: K1 Script 3\n', 1))
+        for names in (('none', certificate), (plan, 'none')):
+            out, faults, status = room.play(three_nodes, 'adopt\t' + '\t'.join(names) + '\n')
+            compare('no file', (out, faults.startswith('dr_router: none: '), status), ('', True, 3))
+        script = room.put('script', room.text_of(BOTH).encode())
         compare('a wrong rank', room.run('simulate', plan, wrong, script), ('', 'dr_router: C4 WrongRank\n', 1))
         compare('another plan', room.run('simulate', room.plan(straight)[0], certificate, script), ('', 'dr_router: C2 OtherPlan\n', 1))
         compare('no plan', room.run('simulate', script, certificate, script), ('', 'dr_router: L1 NotToml\n', 1))
         compare('no file', room.run('simulate', plan, certificate, 'none')[2], 3)
-    print(f'script_rows.py: {3 * len(ROWS) + len(EXACT) + len(WRONG) + 4} runs, each as it should be')
+    print(f'script_rows.py: {3 * len(ROWS) + len(EXACT) + len(WRONG) + 10} runs, each as it should be')
 
 
 main()

@@ -2,7 +2,7 @@
 """Plays random scripts on the built program, over random sound plans, and compares each report with that of a world written
 again from the documents (script_world.py), which counts the bytes of PDUs but writes none: requests, stores and releases in
 random cuts, with aborts, lost connections, late marks, restarts, refused stores, instances that come twice, held rows that are queued again
-or given up, and instances that are forgotten.
+or given up, instances that are forgotten, and changes of plan.
 
     tests/simulate.py [RUNS] [SEED]        no report may differ, and each kind of step, of answer and of reason for which a
                                            step is skipped must have come (500 runs: about half a minute; at least 300)
@@ -24,7 +24,7 @@ from lib.script_world import Item, World
 TOP = os.path.dirname(os.path.dirname(os.path.abspath(__file__)))
 PROGRAM = f'{TOP}/crates/dr_router/out/dr_router'
 WRONG = ('refusals last', 'whole PDUs move', 'a restart forgets rows', 'what is under way is forgotten', 'arrivals are not forgotten',
-         'what was given up stays so', 'arrivals of what was given up stay')
+         'what was given up stays so', 'arrivals of what was given up stay', 'rows that are unfit are taken', 'arrivals stay when a plan is taken')
 REACHED = {
     'submit': {'New', 'Again', 'NoLine', 'Conflict', 'Store', 'no such node'}, 'open': {'done', 'no hop'}, 'tick': {'done'},
     'push': {'done', 'no such link', 'not established', 'a store is pending', 'nothing is due'},
@@ -32,6 +32,7 @@ REACHED = {
     'abort': {'done', 'no such link', 'no cell'}, 'release': {'done', 'no such link', 'a store is pending', 'no cell'},
     'close': {'done', 'no such link', 'both are over'}, 'late': {'no such link', 'ARTIM expired', 'no answer came', 'not late'},
     'restart': {'done', 'no such node'}, 'requeue': {'done', 'NotHeld', 'Store', 'no such node'}, 'refuse': {'done', 'no such node'},
+    'adopt': {'done', 'an end is on', 'a node is missing', 'a row is unfit', 'Store'},
     'drop': {'done', 'NotHeld', 'Store', 'no such node'}, 'a dropped row met': {'an arrival', 'a forgetting'},
     'forget': {'done', 'NotOver', 'Store', 'under way', 'over, but under way', 'no such node'}, 'new after a forgetting': {'the same', 'another'},
     'heard': {'request', 'acceptance', 'rejection', 'command', 'data', 'response', 'release', 'released', 'abort'},
@@ -79,14 +80,37 @@ def sound_plan(dice):
             return text, certificate, model
 
 
-class Play:
-    """A script that is made as it is played in the world."""
+def has_entries(model):
+    return any(stop[0] == '-' for stop in model.reached())
 
-    def __init__(self, model, dice, happened, wrong):
+
+def next_plan(dice, text):
+    """A sound plan to change to: the same with another text, with a node more, or without its last flow; or any."""
+    choice = dice.random()
+    if choice < 0.4:
+        text = text + b'# again\n'
+    elif choice < 0.6:
+        text = text + b'[[node]]\nname = "NEW %d"\naddress = "h:1"\n' % len(text)
+    elif choice < 0.9 and b'[[flow]]' in text:
+        text = text[:text.rindex(b'[[flow]]')]
+    else:
+        return sound_plan(dice)
+    model = Model(text, *read_plan(text))
+    certificate, is_yes = model.check()
+    return (text, certificate, model) if is_yes and has_entries(model) else sound_plan(dice)
+
+
+class Play:
+    """A script that is made as it is played in the world; the files that it names are made with it."""
+
+    def __init__(self, text, model, dice, happened, wrong):
         self.world, self.dice, self.happened, self.lines = World(model, model.reached()), dice, happened, []
+        self.text, self.files = text, {}
         self.world.wrong = wrong
-        self.places = [(stop[1], stop[2]) for stop in sorted(self.world.reached, key=repr) if stop[0] == '-']
         self.world.note = self.note
+
+    def places(self):
+        return [(stop[1], stop[2]) for stop in sorted(self.world.reached, key=repr) if stop[0] == '-']
 
     def note(self, kind, what):
         """What became of a step, or which PDU was heard, or which status was answered."""
@@ -106,7 +130,7 @@ class Play:
 
     def random_item(self):
         dice = self.dice
-        name, cell = dice.choice(self.places)
+        name, cell = dice.choice(self.places())
         again = self.rows_that(lambda row: row == ('dropped',))
         if again and dice.random() < 0.3:
             name, uid, dest = dice.choice(again)
@@ -184,20 +208,39 @@ class Play:
                 if self.dice.random() < 0.02:
                     self.do(*self.random_step())
 
+    def change(self):
+        """A change of plan, mostly when each link is closed."""
+        if self.dice.random() < 0.8:
+            for link in sorted(self.world.links):
+                self.do('close', link)
+        text, certificate, model = next_plan(self.dice, self.text)
+        plan, sealed = f'plan{len(self.files)}', f'certificate{len(self.files)}'
+        self.files |= {plan: text, sealed: certificate}
+        self.tell('adopt', plan, sealed)
+        came = self.world.adopt(model)
+        self.note('adopt', came)
+        if came == 'done':
+            self.text = text
+
     def play(self, steps):
         for _ in range(steps):
-            if self.dice.random() < 0.06 and self.world.hops:
+            if self.world.stopped:
+                break
+            choice = self.dice.random()
+            if choice < 0.06 and self.world.hops:
                 self.deliver()
+            elif choice < 0.09:
+                self.change()
             else:
                 self.do(*self.random_step())
         return self
 
 
-def run(room, plan, certificate, script):
-    for name, text in (('plan', plan), ('certificate', certificate), ('script', script)):
+def run(room, files):
+    for name, text in files.items():
         with open(f'{room}/{name}', 'wb') as it:
             it.write(text)
-    ended = subprocess.run([PROGRAM, 'simulate', f'{room}/plan', f'{room}/certificate', f'{room}/script'], capture_output=True)
+    ended = subprocess.run([PROGRAM, 'simulate', 'plan', 'certificate', 'script'], cwd=room, capture_output=True)
     return ended.stdout, ended.stderr, ended.returncode
 
 
@@ -205,7 +248,7 @@ def full_node(happened):
     """One association more than a node takes: the last is rejected."""
     text = plan_text([('CT1', [], []), ('ARCH', taking(['1.2']), [KEEP])], [flow_of('CT1', 'ARCH', ['1.2'], ['CT'], ['S1'])])
     model = Model(text, *read_plan(text))
-    play = Play(model, random.Random(0), happened, frozenset())
+    play = Play(text, model, random.Random(0), happened, frozenset())
     key = ('1.2', EXPLICIT, 'CT', 'S1')
     play.do('submit', 'CT1', Item('9', key, data_set('9', key, b'')))
     for link in range(1, 258):
@@ -219,13 +262,14 @@ def tried(room, made):
     """Whether the program's report is the world's."""
     text, certificate, play = made
     script = '\n'.join(['# a script', '', *play.lines]).encode()
-    return run(room, text, certificate, script) == (play.world.report().encode(), b'', 0)
+    wanted = (b'', b'dr_router: U2 Store\n', 3) if play.world.stopped else (play.world.report().encode(), b'', 0)
+    return run(room, {'plan': text, 'certificate': certificate, 'script': script} | play.files) == wanted
 
 
 def random_play(seed, happened, wrong):
     dice = random.Random(seed)
     text, certificate, model = sound_plan(dice)
-    return text, certificate, Play(model, dice, happened, wrong).play(dice.randint(10, 150))
+    return text, certificate, Play(text, model, dice, happened, wrong).play(dice.randint(10, 150))
 
 
 def main():

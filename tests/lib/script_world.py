@@ -54,6 +54,12 @@ def data_pdus(limit, size, kind, said):
     return [Pdu(kind, said if i == len(sizes) - 1 else None, 12 + it) for i, it in enumerate(sizes)]
 
 
+def part_of(value, parts):
+    """The value itself where a plan names it, else the longest of its prefixes with which it begins, else the rest."""
+    begins = [it for it in parts if it is not REST and it[-1:] == '*' and value.startswith(it[:-1])]
+    return value if value in parts and value[-1:] != '*' else max(begins, key=len, default=REST)
+
+
 # ---- books
 
 class Book:
@@ -97,15 +103,21 @@ class World:
     wrong = frozenset()
 
     def __init__(self, model, reached):
+        self.time, self.opened, self.links, self.books, self.notes, self.stopped = 0, 0, {}, {}, [], False
+        self.take(model, reached)
+
+    def take(self, model, reached):
+        """The plan is in force; its nodes that weren't there have nothing."""
         self.model, self.reached = model, reached
         self.hops = {hop: sorted(pairs) for hop, pairs in model.hops_of(reached).items()}
-        self.time, self.opened, self.links, self.books = 0, 0, {}, {name: Book() for name in model.nodes}
+        for name in model.nodes:
+            self.books.setdefault(name, Book())
 
-    def cell(self, key):
-        return (*key[:2], *(part if part in self.model.parts[field] else REST for field, part in zip(('modality', 'station'), key[2:])))
+    def cell(self, key, model=None):
+        return (*key[:2], *(part_of(value, (model or self.model).parts[field]) for field, value in zip(('modality', 'station'), key[2:])))
 
     def report(self):
-        return ''.join(self.books[name].report(name) for name in sorted(self.books))
+        return ''.join(self.notes) + ''.join(self.books[name].report(name) for name in sorted(self.books))
 
     # calls of books; each gives what it answers
     def store_fails(self, book):
@@ -410,6 +422,38 @@ class World:
         if 'arrivals are not forgotten' not in self.wrong:
             book.arrivals = {at for at in book.arrivals if at[1] != uid}
         book.rows = {at: row for at, row in book.rows.items() if at[0] != uid}
+        return 'done'
+
+    def first_unfit(self, model, reached):
+        for name, book in sorted(self.books.items()):
+            for (uid, dest), row in sorted(book.rows.items()):
+                if row[0] in ('waiting', 'held') and (name, dest, self.cell(book.items[uid].key, model)) not in reached:
+                    return name, uid, dest
+        return None
+
+    def adopt(self, model):
+        """All nodes take the plan at once; after a store that fails nothing more is done."""
+        if any(not end.is_over() for link in self.links.values() for end in link):
+            self.notes.append('Skipped\n')
+            return 'an end is on'
+        if any(name not in model.nodes for name in self.books):
+            self.notes.append('Skipped\n')
+            return 'a node is missing'
+        reached = model.reached()
+        unfit = self.first_unfit(model, reached)
+        if unfit and 'rows that are unfit are taken' not in self.wrong:
+            self.notes.append('\t'.join(('Unfit', *unfit)) + '\n')
+            return 'a row is unfit'
+        if any(book.armed for book in self.books.values()):
+            self.stopped = True
+            return 'Store'
+        for book in self.books.values():
+            book.lines += 1
+            book.rows = {at: row for at, row in book.rows.items() if row[0] in ('waiting', 'held')}
+            if 'arrivals stay when a plan is taken' not in self.wrong:
+                book.arrivals = set()
+        self.links = {}
+        self.take(model, reached)
         return 'done'
 
     def tick(self, milliseconds):

@@ -94,8 +94,8 @@ where
         → asked.entry ≡ asks.Simulate plan certificate script
         → IfOk result (λ status. (text : Text)
         × F.holds files.now plan.now text
-        × Simulates (F.holds files.now certificate.now) (F.holds files.now script.now) text
-        (W.contents output.old) (W.contents output.new) status) }
+        × Simulates (F.holds files.now) certificate.now script.now text (W.contents output.old)
+        (W.contents output.new) status) }
     ensures echoed { (plan caller called : Bor (List ℕ))
         → asked.entry ≡ asks.Echo plan caller called
         → IfOk result (λ status. (text : Text)
@@ -189,8 +189,8 @@ where
         → (result ≡ Success) ⊎ (result ≡ Refused)
         → (text : Text)
         × F.holds files.now plan.now text
-        × Simulates (F.holds files.now certificate.now) (F.holds files.now script.now) text
-        (W.contents output.old) (W.contents output.new) result }
+        × Simulates (F.holds files.now) certificate.now script.now text (W.contents output.old)
+        (W.contents output.new) result }
     ensures echoed { (plan caller called : Bor (List ℕ))
         → IsEchoOf words.now plan caller called
         → (result ≡ Success) ⊎ (result ≡ Refused)

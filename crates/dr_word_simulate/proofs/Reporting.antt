@@ -1,7 +1,7 @@
 -- What a world has after a run is what its report is of.
-use Rattle.std.proofs.Common.{◌≡◌, ◌∙◌, ℕ, refl, sym, ap, subst, List, [], Option, Some, None}
+use Rattle.std.proofs.Common.{◌≡◌, ◌∙◌, ℕ, ◌+◌, ◌<◌, ◌≤◌, refl, sym, ap, subst, List, [], ◌∷◌, ◌++◌, Option, Some, None, append_assoc, get_or, length, take}
 use Rattle.std.proofs.Math.Logic.{∥∥₁_map}
-use Rattle.std.proofs.lemmas.List.{append-nil}
+use Rattle.std.proofs.lemmas.List.{append-nil, take_all, take_more}
 use Rattle.std.proofs.lemmas.Option.{none-some}
 use Rattle.std.specs.Io.KnownBytes.{Appends}
 use Rattle.std.specs.Prelude.{unwrap_or}
@@ -10,19 +10,21 @@ use Rattle.std.specs.BTreeMap as tree
 use Rattle.dr_base.specs.Texts.{Text, text_cmp}
 use Rattle.dr_ledger.specs.Books.{Book}
 use Rattle.dr_ledger.specs.declared.ledger.Ledger.{Ghosts}
-use Rattle.dr_world_model.specs.Events.{HasNode}
 use Rattle.dr_plan_model.specs.Networks.{Network}
 use Rattle.dr_plan_model.specs.Plans.{IsNode}
 use Rattle.dr_node.specs.declared.node.Node.{Node}
 use Rattle.dr_plan_sound.specs.declared.certificate.Certificate.{Certificate}
-use Rattle.dr_world_script.specs.declared.step.Step.{Step}
 use Rattle.dr_site.specs.Parts.{IsPartOf}
+use Rattle.dr_world.specs.declared.changing.Change.{Change}
+use Rattle.dr_world.specs.declared.deed.Deed.{Deed}
 use Rattle.dr_world.specs.declared.world.World.{World}
-use Rattle.dr_world.specs.Nodes.{seat_of, seats_of}
-use Rattle.dr_world.specs.Reports.{IsReportOfAll, IsReported, books_of}
-use Rattle.dr_world.specs.Runs.{IsRunOf}
+use Rattle.dr_world.specs.Nodes.{seat_of}
+use Rattle.dr_world.specs.Reports.{IsReported, books_of}
+use Rattle.dr_world.specs.Played.{IsRunOf}
+use Rattle.dr_world.proofs.Played.{last_in_force}
 use Rattle.dr_world.specs.Shows.{Seat, desk_at}
-use Rattle.dr_word_simulate.specs.Reported.{AreBooksAfter, HoldsOfBooks, IsReportAfter}
+use Rattle.dr_world_tie.specs.ByteWorlds.{beginning}
+use Rattle.dr_word_simulate.specs.Reported.{IsReportAfter, note_of, notes_of}
 
 -- a node that has a book is there
 seated_book : {L : Type 0} {l : Ghosts L} (o : Option (Node L l)) (book : Book) → option_map (λ (n : Node L l). l.book n.desk.ledger) o ≡ Some book → (n : Node L l) × (o ≡ Some n) × (l.book n.desk.ledger ≡ book)
@@ -34,28 +36,49 @@ booked : {L : Type 0} {l : Ghosts L} (o : Option (Node L l)) (seat : Seat) → o
 booked None seat of = absurd (none-some seat of)
 booked {L} {l} (Some n) seat of = (l.book n.desk.ledger, refl)
 
-pub reported_after : {L : Type 0} {l : Ghosts L} (plan : Network) (certificate : Certificate) (steps : List Step) (w : World L l) (text : Text) →
-    IsRunOf plan certificate steps w → IsReported (books_of w.nodes) [] text → IsReportAfter plan certificate steps text
-reported_after {L} {l} plan certificate steps w text run reported =
+pub reported_after : {L : Type 0} {l : Ghosts L} (plan : Network) (certificate : Certificate) (deeds : List Deed) (changes : List Change) (w : World L l) (text : Text) →
+    IsRunOf plan certificate deeds changes w → IsReported (books_of w.nodes) (notes_of changes) text → IsReportAfter plan certificate deeds text
+reported_after {L} {l} plan certificate deeds changes w text run reported =
     let find : (name : Text) (book : Book) → books_of w.nodes name ≡ Some book → (n : Node L l) × (tree.get text_cmp w.nodes name ≡ Some n) × (l.book n.desk.ledger ≡ book) =
     λ name book of. seated_book (tree.get text_cmp w.nodes name) book of in
     record {
+      changes = changes;
       books = books_of w.nodes;
-      reported = subst (IsReportOfAll (books_of w.nodes)) (sym reported.1) reported.2;
+      lines = reported.0;
+      told = reported.1;
+      reported = reported.2;
       after = ∥∥₁_map run.0 (λ r. record {
-        nodes = λ name has. booked (tree.get text_cmp w.nodes name) (r.0.all name has).0 (r.0.all name has).1;
+        last = r.0;
+        own = r.1;
+        is_in_force = last_in_force deeds changes plan r.0 certificate r.1 beginning r.3.0 r.3.1;
+        nodes = λ name has. booked (tree.get text_cmp w.nodes name) (r.2.all name has).0 (r.2.all name has).1;
         only = λ name book of.
             let h : (n : Node L l) × (tree.get text_cmp w.nodes name ≡ Some n) × (l.book n.desk.ledger ≡ book) = find name book of in
-            let seated : ((seat_of h.0).site.name ≡ name) × IsPartOf plan certificate (seat_of h.0).site = r.0.each name (seat_of h.0) (ap (option_map seat_of) h.1) in
-            (seated.1.node.0, subst (λ of. IsNode plan of seated.1.node.0) seated.0 seated.1.node.1.0);
-        world = r.1.0;
-        leads = r.1.1;
+            let seated : ((seat_of h.0).site.name ≡ name) × IsPartOf r.0 r.1 (seat_of h.0).site = r.2.each name (seat_of h.0) (ap (option_map seat_of) h.1) in
+            (seated.1.node.0, subst (λ of. IsNode r.0 of seated.1.node.0) seated.0 seated.1.node.1.0);
+        world = r.3.0;
+        leads = r.3.1;
         shown = λ name book of.
             let h : (n : Node L l) × (tree.get text_cmp w.nodes name ≡ Some n) × (l.book n.desk.ledger ≡ book) = find name book of in
-            ap (λ d. d.book) (r.1.2.desks name ∙ ap (λ o. desk_at (option_map seat_of o)) h.1) ∙ h.2;
+            ap (λ d. d.book) (r.3.2.desks name ∙ ap (λ o. desk_at (option_map seat_of o)) h.1) ∙ h.2;
       });
       holds = ∥∥₁_map run.1 (λ v. (v.0, (λ name book of. v.1 name (find name book of).0 (find name book of).1 ∙ (find name book of).2), v.2, v.3));
     }
+
+-- one more change is told
+pub notes_behind : (changes : List Change) (change : Change) → notes_of (changes ++ change ∷ []) ≡ notes_of changes ++ note_of change
+notes_behind [] change = append-nil (note_of change)
+notes_behind (other ∷ changes) change = ap (λ (text : Text). note_of other ++ text) (notes_behind changes change) ∙ sym (append_assoc (note_of other) (notes_of changes) (note_of change))
+
+pub note_more : (changes : List Change) (i : ℕ) (change : Change) (out now new : Text) → i < length changes → change ≡ get_or changes i change
+    → now ≡ out ++ notes_of (take i changes) → new ≡ now ++ note_of change → new ≡ out ++ notes_of (take (i + 1) changes)
+note_more changes i change out now new less is so_far told =
+    let further : take (i + 1) changes ≡ take i changes ++ change ∷ [] = take_more changes i change less ∙ ap (λ (x : Change). take i changes ++ x ∷ []) (sym is) in
+    told ∙ ap (λ (text : Text). text ++ note_of change) so_far ∙ append_assoc out (notes_of (take i changes)) (note_of change)
+    ∙ ap (λ (text : Text). out ++ text) (sym (notes_behind (take i changes) change) ∙ ap notes_of (sym further))
+
+pub notes_all : (changes : List Change) (i : ℕ) (out new : Text) → length changes ≤ i → new ≡ out ++ notes_of (take i changes) → new ≡ out ++ notes_of changes
+notes_all changes i out new all so_far = so_far ∙ ap (λ (cs : List Change). out ++ notes_of cs) (take_all i changes all)
 
 -- an output to which nothing is written has what it had
 pub nothing_added : (o : Option (List ℕ)) → Appends o o []

@@ -1,3 +1,4 @@
+pub mod Deeds
 pub mod Reported
 pub mod Outcomes
 pub mod Runs

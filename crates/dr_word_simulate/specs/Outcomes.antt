@@ -1,43 +1,81 @@
 -- What comes of a script that is played in a world of a plan's nodes.
-use Rattle.std.specs.Prelude.{List, [], Ok, Err}
+use Rattle.std.specs.Prelude.{ℕ, List, []}
+use Rattle.std.specs.List.{AllZip}
 use Rattle.dr_base.specs.Texts.{Text}
 use Rattle.dr_plan_model.specs.Networks.{Network}
 use Rattle.dr_plan_sound.specs.declared.certificate.Certificate.{Certificate}
 use Rattle.dr_run_open.specs.declared.status.Status.{Status}
 use Rattle.dr_run_open.specs.declared.status.Status.TheVariants.{Success, Refused, InputOutput}
 use Rattle.dr_run_open.specs.declared.status.Status.TheVariants.{Memory as OutOfMemory}
-use Rattle.dr_world_script.specs.Scripts.{IsFirstWrong, IsScriptOf}
-use Rattle.dr_world_script.specs.declared.step.Step.{Step}
+use Rattle.dr_world.specs.declared.deed.Deed.{Deed}
+use Rattle.dr_world_script.specs.Laws.{IsLineOf}
+use Rattle.dr_world_script.specs.Scripts.{IsFirstWrong, IsLineAt, IsScriptOf}
+use Rattle.dr_world_script.specs.declared.act.Act.{Act}
+use Rattle.dr_world_script.specs.declared.act.Act.TheVariants.{Adopt}
+use Rattle.dr_word_simulate.specs.Deeds.{IsDeedOf, IsUnsealedBy}
 use Rattle.dr_word_simulate.specs.Reported.{IsReportAfter}
+use Rattle.dr_word_simulate.specs.declared.deeds.ActFault.{ActFault}
+use Rattle.dr_word_simulate.specs.declared.deeds.ActFault.TheVariants as stop
 use Rattle.dr_word_simulate.specs.declared.outcome.PlayOutcome.{PlayOutcome}
-use Rattle.dr_word_simulate.specs.declared.outcome.PlayOutcome.TheVariants.{Report, NoScript, Store}
-use Rattle.dr_word_simulate.specs.declared.outcome.PlayOutcome.TheVariants.{Memory}
+use Rattle.dr_word_simulate.specs.declared.outcome.PlayOutcome.TheVariants.{Report, NoScript}
+use Rattle.dr_word_simulate.specs.declared.outcome.PlayOutcome.TheVariants.{Unsealed, Unread, Store}
+use Rattle.dr_word_simulate.specs.declared.outcome.PlayOutcome.TheVariants.{HalfAdopted, Memory}
 
--- The text is a script, and this is the report of the nodes of a world to which its steps lead from
--- the beginning of the plan's world; the headline's claims hold of that world.
-pub record IsSimulated (plan : Network) (certificate : Certificate)
+-- The text is a script, its files have the plans that it names, and this is the report of the nodes
+-- of a world to which it leads from the beginning of the plan's world; the headline's claims hold
+-- of that world.
+pub record IsSimulated (Holds : Text → Text → Type 0) (plan : Network) (certificate : Certificate)
     (text report : Text) : Type 0 where
-  pub steps : List Step
-  pub told : IsScriptOf text steps
-  pub reported : IsReportAfter plan certificate steps report
+  pub acts : List Act
+  pub told : IsScriptOf text acts
+  pub deeds : List Deed
+  pub done : AllZip (IsDeedOf Holds) acts deeds
+  pub reported : IsReportAfter plan certificate deeds report
 
--- what may come of a text; want of memory, and a store that fails, may come of any
-abbrev pub IsOutcomeOf : Network → Certificate → Text → PlayOutcome → Type 0
-IsOutcomeOf plan certificate text (Report report) = IsSimulated plan certificate text report
-IsOutcomeOf plan certificate text (NoScript line) = IsFirstWrong text line
-IsOutcomeOf plan certificate text Store = Unit {0}
-IsOutcomeOf plan certificate text Memory = Unit {0}
+-- the n-th line, counted from 1, is that of a change to a plan whose files have no sound plan with
+-- its certificate
+abbrev pub IsUnsealedAt : (Text → Text → Type 0) → Text → ℕ → Type 0
+IsUnsealedAt Holds text n =
+    (plan certificate : Text)
+    × IsLineOf text n (Adopt plan certificate)
+    × IsUnsealedBy (Holds plan) (Holds certificate)
+
+-- what may come of a text; want of memory, a store that fails, and a file that isn't read, may come
+-- of any
+abbrev pub IsOutcomeOf : (Text → Text → Type 0) → Network → Certificate → Text → PlayOutcome
+    → Type 0
+IsOutcomeOf Holds plan certificate text (Report report) =
+    IsSimulated Holds plan certificate text report
+IsOutcomeOf Holds plan certificate text (NoScript line) = IsFirstWrong text line
+IsOutcomeOf Holds plan certificate text (Unsealed line) = IsUnsealedAt Holds text line
+IsOutcomeOf Holds plan certificate text (Unread path error) = Unit {0}
+IsOutcomeOf Holds plan certificate text Store = Unit {0}
+IsOutcomeOf Holds plan certificate text HalfAdopted = Unit {0}
+IsOutcomeOf Holds plan certificate text Memory = Unit {0}
+
+-- why a script isn't done, by the place of what can't be
+abbrev pub StopsAs : Text → ℕ → ActFault → PlayOutcome → Type 0
+StopsAs text place stop.Unsealed (Unsealed line) = IsLineAt text place line
+StopsAs text place (stop.Unread path error) (Unread named why) = Unit {0}
+StopsAs text place fault Memory = Unit {0}
+StopsAs text place fault outcome = ⊥
 
 -- what is printed: the report, else nothing
 abbrev pub printed_for : PlayOutcome → Text
 printed_for (Report report) = report
 printed_for (NoScript line) = []
+printed_for (Unsealed line) = []
+printed_for (Unread path error) = []
 printed_for Store = []
+printed_for HalfAdopted = []
 printed_for Memory = []
 
 -- the status with which the program ends for an outcome
 abbrev pub status_for : PlayOutcome → Status
 status_for (Report report) = Success
 status_for (NoScript line) = Refused
+status_for (Unsealed line) = Refused
+status_for (Unread path error) = InputOutput
 status_for Store = InputOutput
+status_for HalfAdopted = InputOutput
 status_for Memory = OutOfMemory

@@ -1,5 +1,5 @@
--- The report of the nodes of a plan after some steps.
-use Rattle.std.specs.Prelude.{◌≡◌, List, map as mapped, Option, Some}
+-- The report of the nodes of a plan after a script was played.
+use Rattle.std.specs.Prelude.{◌≡◌, List, [], ◌∷◌, ◌++◌, codes, Option, Some}
 use Rattle.dr_base.specs.Texts.{Text}
 use Rattle.dr_plan_model.specs.Networks.{Network}
 use Rattle.dr_plan_sound.specs.declared.certificate.Certificate.{Certificate}
@@ -7,38 +7,58 @@ use Rattle.dr_ledger.specs.Books.{Book}
 use Rattle.dr_world_model.specs.Claims.{Headline}
 use Rattle.dr_world_model.specs.Events.{HasNode}
 use Rattle.dr_world_model.specs.Worlds as model
-use Rattle.dr_world_script.specs.declared.step.Step.{Step}
 use Rattle.dr_world_tie.specs.ByteWorlds.{ByteWorld, beginning}
-use Rattle.dr_world_tie.specs.Shown.{ComesAbout, RunsOf}
+use Rattle.dr_world.specs.declared.changing.Change.{Change}
+use Rattle.dr_world.specs.declared.changing.Change.TheVariants.{Adopted, Skipped, Unfit}
+use Rattle.dr_world.specs.declared.deed.Deed.{Deed}
+use Rattle.dr_world.specs.Played.{ComesBy, PlaysThrough, in_force, taken_in}
 use Rattle.dr_world.specs.Reports.{IsReportOfAll}
-use Rattle.dr_world.specs.Runs.{step_of}
 
 -- the books of the nodes by name; another name has none
 abbrev pub Books : Type 0
 Books = Text → Option Book
 
--- The steps lead, from the beginning, to a world of bytes in which the plan's nodes have these
--- books, and no other node has one.
-pub record AreBooksAfter (plan : Network) (certificate : Certificate) (steps : List Step)
-    (books : Books) : Type 0 where
-  pub nodes : (name : Text) → HasNode plan name → (book : Book) × (books name ≡ Some book)
-  pub only : (name : Text) (book : Book) → books name ≡ Some book → HasNode plan name
+-- The deeds lead, from the beginning, to a world of bytes in which the nodes of the plan in force
+-- have these books, and no other node has one; each change of plan came to what stands for it.
+pub record AreBooksAfter (plan : Network) (certificate : Certificate) (deeds : List Deed)
+    (changes : List Change) (books : Books) : Type 0 where
+  pub last : Network
+  pub own : Certificate
+  pub is_in_force : last ≡ in_force plan (taken_in deeds changes)
+  pub nodes : (name : Text) → HasNode last name → (book : Book) × (books name ≡ Some book)
+  pub only : (name : Text) (book : Book) → books name ≡ Some book → HasNode last name
   pub world : ByteWorld
-  pub leads : RunsOf plan certificate beginning (mapped step_of steps) world
+  pub leads : PlaysThrough plan certificate beginning deeds changes last own world
   pub shown : (name : Text) (book : Book) → books name ≡ Some book → (world.desks name).book ≡ book
 
--- the headline's four claims hold of the nodes' books: of a world of messages that has them, and to
--- which events of the plan lead from the start
-abbrev pub HoldsOfBooks : Network → Books → Type 0
-HoldsOfBooks plan books = (world : model.World)
+-- the headline's four claims hold of the nodes' books by the plan in force: of a world of messages
+-- that has them, and to which events and the adoptions of just these plans lead from the start
+abbrev pub HoldsOfBooks : Network → List Network → Books → Type 0
+HoldsOfBooks plan taken books =
+    (world : model.World)
     × ((name : Text) (book : Book) → books name ≡ Some book → world.books name ≡ book)
-    × ComesAbout plan world × Headline plan world
+    × ComesBy plan taken world
+    × Headline (in_force plan taken) world
 
--- The text is the report of the nodes' books after the steps, in byte order of the nodes' names;
--- the headline holds of them.
-pub record IsReportAfter (plan : Network) (certificate : Certificate) (steps : List Step)
+-- what is told of a change of plan: why it wasn't made, a line
+abbrev pub note_of : Change → Text
+note_of Adopted = []
+note_of Skipped = codes "Skipped\n"
+note_of (Unfit node uid dest) =
+    codes "Unfit" ++ (9 ∷ node) ++ (9 ∷ uid) ++ (9 ∷ dest) ++ (10 ∷ [])
+
+abbrev pub notes_of : List Change → Text
+notes_of [] = []
+notes_of (change ∷ changes) = note_of change ++ notes_of changes
+
+-- The text is what is told of the changes, and behind it the report of the nodes' books after the
+-- deeds, in byte order of the nodes' names; the headline holds of them.
+pub record IsReportAfter (plan : Network) (certificate : Certificate) (deeds : List Deed)
     (report : Text) : Type 0 where
+  pub changes : List Change
   pub books : Books
-  pub reported : IsReportOfAll books report
-  pub after : ∥ AreBooksAfter plan certificate steps books ∥₁
-  pub holds : ∥ HoldsOfBooks plan books ∥₁
+  pub lines : Text
+  pub told : report ≡ notes_of changes ++ lines
+  pub reported : IsReportOfAll books lines
+  pub after : ∥ AreBooksAfter plan certificate deeds changes books ∥₁
+  pub holds : ∥ HoldsOfBooks plan (taken_in deeds changes) books ∥₁

@@ -19,10 +19,10 @@ use Rattle.dr_word_simulate.specs.declared.outcome.PlayOutcome.{PlayOutcome}
 
 -- a run for a sealed plan: the outcome of the script is printed after what the output held, and the
 -- program ends with its status
-pub record Plays (plan : Network) (certificate : Certificate) (script : Text)
-    (old new : Option (List ℕ)) (status : Status) : Type 0 where
+pub record Plays (Holds : Text → Text → Type 0) (plan : Network) (certificate : Certificate)
+    (script : Text) (old new : Option (List ℕ)) (status : Status) : Type 0 where
   pub outcome : PlayOutcome
-  pub right : IsOutcomeOf plan certificate script outcome
+  pub right : IsOutcomeOf Holds plan certificate script outcome
   pub printed : Appends old new (printed_for outcome)
   pub ends : status ≡ status_for outcome
 
@@ -35,30 +35,31 @@ pub record Unseals (plan : Network) (text : Text) (old new : Option (List ℕ))
   pub memory : fault ≡ NoMemory → status ≡ Memory
   pub nothing : Appends old new []
 
--- a run in which the text is that of the certificate of a sound plan: a script, of which `Holds`
--- holds, is played
-pub record Seals (Holds : Text → Type 0) (plan : Network) (text : Text) (old new : Option (List ℕ))
-    (status : Status) : Type 0 where
+-- a run in which the text is that of the certificate of a sound plan: the script that the file of
+-- this path holds is played
+pub record Seals (Holds : Text → Text → Type 0) (path : Text) (plan : Network) (text : Text)
+    (old new : Option (List ℕ)) (status : Status) : Type 0 where
   pub certificate : Certificate
   pub written : IsTextOf text certificate
   pub sound : IsSound plan
   pub own : IsCertificateOf plan certificate
   pub script : Text
-  pub held : Holds script
-  pub plays : Plays plan certificate script old new status
+  pub held : Holds path script
+  pub plays : Plays Holds plan certificate script old new status
 
--- a run for a text that has a plan: another text, of which `Holds` holds, is refused as its
+-- a run for a text that has a plan: the text that the second file holds is refused as its
 -- certificate or is it
-pub record Judges (Holds HoldsScript : Text → Type 0) (text : Text) (old new : Option (List ℕ))
-    (status : Status) : Type 0 where
+pub record Judges (Holds : Text → Text → Type 0) (path script text : Text)
+    (old new : Option (List ℕ)) (status : Status) : Type 0 where
   pub plan : Network
   pub reads : Reads text (Ok plan)
   pub second : Text
-  pub held : Holds second
-  pub judged : Unseals plan second old new status ⊎ Seals HoldsScript plan second old new status
+  pub held : Holds path second
+  pub judged : Unseals plan second old new status ⊎ Seals Holds script plan second old new status
 
--- a run of `simulate`: the first text has no plan, or it goes on to the certificate and the script
-abbrev pub Simulates : (Text → Type 0) → (Text → Type 0) → Text → Option (List ℕ) → Option (List ℕ)
-    → Status → Type 0
-Simulates Holds HoldsScript text old new status =
-    Refuses text old new status ⊎ Judges Holds HoldsScript text old new status
+-- A run of `simulate`: the first text has no plan, or it goes on to the certificate and the script.
+-- `Holds` says of a path and a text that the file of this path holds it.
+abbrev pub Simulates : (Text → Text → Type 0) → Text → Text → Text → Option (List ℕ)
+    → Option (List ℕ) → Status → Type 0
+Simulates Holds certificate script text old new status =
+    Refuses text old new status ⊎ Judges Holds certificate script text old new status

@@ -1,24 +1,36 @@
 //! What comes of a script.
-ghost use Rattle.std.specs.Prelude.{◌≡◌, IfOk};
+ghost use Rattle.std.specs.Prelude.{◌≡◌, ◌<◌, IfOk, length};
 ghost use Rattle.dr_word_simulate.specs.Reported.{IsReportAfter};
-ghost use Rattle.dr_word_simulate.specs.Outcomes.{IsOutcomeOf, status_for};
+ghost use Rattle.dr_word_simulate.specs.Outcomes.{IsOutcomeOf, StopsAs, status_for};
+ghost use Rattle.dr_world_script.specs.Scripts.{told_lines};
 
+use crate::deeds::{ActFault, Stop, deeds_of};
+use crate::telling::tell_changes;
 use dr_base::Text;
 use dr_cert::Sealed;
+use dr_run_files::Files;
 use dr_run_open::Status;
-use dr_world::{WorldFault, run};
-use dr_world_script::{ScriptFault, Step, read_script};
+use dr_world::{Deed, PlayedWorld, WorldFault, run};
+use dr_world_script::{ScriptFault, line_of, read_script};
 use std::alloc::Global;
+use std::io;
 
 /// What comes of a script, played in a world of a sealed plan's nodes.
 #[derive(Debug, Drop)]
 pub enum PlayOutcome {
-    /// The report of all nodes after the script's steps.
+    /// What came of the changes of plan that weren't made, and the report of all nodes after what
+    /// the script tells.
     Report(Text),
-    /// The text is no script: the first line that tells no step, counted from 1.
+    /// The text is no script: the first line that tells nothing, counted from 1.
     NoScript(u64),
+    /// The files that this line names, counted from 1, have no sound plan with its certificate.
+    Unsealed(u64),
+    /// A file of this path, which the script names, wasn't read.
+    Unread(String, io::Error),
     /// A ledger's store failed.
     Store,
+    /// A ledger's store failed in a change of plan.
+    HalfAdopted,
     /// There was no memory.
     Memory,
 }
@@ -30,21 +42,26 @@ impl PlayOutcome {
     {
         match self {
             PlayOutcome::Report(_) => Status::Success,
-            PlayOutcome::NoScript(_) => Status::Refused,
-            PlayOutcome::Store => Status::InputOutput,
+            PlayOutcome::NoScript(_) | PlayOutcome::Unsealed(_) => Status::Refused,
+            PlayOutcome::Unread(_, _) | PlayOutcome::Store | PlayOutcome::HalfAdopted => {
+                Status::InputOutput
+            }
             PlayOutcome::Memory => Status::Memory,
         }
     }
 }
 
-/// The report of all nodes after these steps, from the beginning of the plan's world.
+/// What the changes of plan came to that weren't made, and the report of all nodes after these
+/// deeds, from the beginning of the plan's world.
 ///
-/// Errors: Store, Memory.
-fn report_after(alloc: Global, sealed: &Sealed, steps: &[Step]) -> Result<Text, WorldFault>
-    ensures { IfOk result (IsReportAfter sealed.now.plan sealed.now.certificate steps.now) }
+/// Errors: HalfAdopted, Store, Memory.
+fn report_after(alloc: Global, sealed: &Sealed, deeds: &[Deed]) -> Result<Text, WorldFault>
+    ensures { IfOk result (IsReportAfter sealed.now.plan sealed.now.certificate deeds.now) }
 {
-    let mut world = run(alloc, sealed, steps)?;
+    let PlayedWorld { world, changes } = run(alloc, sealed, deeds)?;
+    let mut world = world;
     let mut report = Vec::new(alloc);
+    tell_changes(changes.as_slice(), &mut report)?;
     let told = world.report(&mut report);
     drop(world);
     match told {
@@ -53,19 +70,41 @@ fn report_after(alloc: Global, sealed: &Sealed, steps: &[Step]) -> Result<Text, 
     }
 }
 
-/// What comes of the text of a script, played in a world of the plan's nodes: each begins with
-/// nothing.
-pub fn outcome_of(alloc: Global, sealed: &Sealed, text: &[u8]) -> PlayOutcome
-    ensures { IsOutcomeOf sealed.now.plan sealed.now.certificate text.now result }
+/// What comes of a script, where something in it can't be done.
+fn outcome_of_stop(alloc: Global, text: &[u8], stop: Stop) -> PlayOutcome
+    requires { stop.place < length (told_lines text.now) }
+    ensures { StopsAs text.now stop.place stop.fault result }
 {
-    let steps = match read_script(alloc, text) {
-        Ok(steps) => steps,
+    let Stop { place, fault } = stop;
+    match fault {
+        ActFault::Unsealed => match line_of(alloc, text, place) {
+            Ok(line) => PlayOutcome::Unsealed(line),
+            Err(_) => PlayOutcome::Memory,
+        },
+        ActFault::Unread(path, error) => PlayOutcome::Unread(path, error),
+        ActFault::Memory => PlayOutcome::Memory,
+    }
+}
+
+/// What comes of the text of a script, played in a world of the plan's nodes: each begins with
+/// nothing. The plans that it names are read before anything is done.
+pub fn outcome_of<F: Files>(alloc: Global, files: &F, sealed: &Sealed, text: &[u8]) -> PlayOutcome
+    ensures { IsOutcomeOf (F.holds files.now) sealed.now.plan sealed.now.certificate text.now
+        result }
+{
+    let acts = match read_script(alloc, text) {
+        Ok(acts) => acts,
         Err(ScriptFault::Line(line)) => return PlayOutcome::NoScript(line),
         Err(ScriptFault::Memory) => return PlayOutcome::Memory,
     };
-    match report_after(alloc, sealed, steps.as_slice()) {
+    let deeds = match deeds_of(alloc, files, acts.into_vec()) {
+        Ok(deeds) => deeds,
+        Err(stop) => return outcome_of_stop(alloc, text, stop),
+    };
+    match report_after(alloc, sealed, deeds.as_slice()) {
         Ok(report) => PlayOutcome::Report(report),
         Err(WorldFault::Memory) => PlayOutcome::Memory,
+        Err(WorldFault::HalfAdopted) => PlayOutcome::HalfAdopted,
         Err(_) => PlayOutcome::Store,
     }
 }

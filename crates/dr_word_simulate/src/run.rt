@@ -52,8 +52,8 @@ pub fn run_offline<'a, R: Read, W: Write, E: Write, F: Files>(
         → asked.entry ≡ asks.Simulate plan certificate script
         → IfOk result (λ status. (text : Text)
         × F.holds files.now plan.now text
-        × Simulates (F.holds files.now certificate.now) (F.holds files.now script.now) text
-        (W.contents output.old) (W.contents output.new) status) }
+        × Simulates (F.holds files.now) certificate.now script.now text (W.contents output.old)
+        (W.contents output.new) status) }
 {
     match asked {
         Task::Simulate(plan, certificate, script) => {

@@ -12,6 +12,7 @@ use dr_cert::{CertFault, Sealed};
 use dr_plan::Plan;
 use dr_run_files::{Failure, Files, read_file};
 use dr_run_open::{Status, plan_of, seal_text, tell_answer};
+use dr_world::WorldFault;
 use dr_world_script::ScriptFault;
 use std::alloc::Global;
 use std::io;
@@ -28,8 +29,12 @@ fn tell_outcome<W: Write, E: Write>(
 {
     match outcome {
         PlayOutcome::Report(report) => output.write_all(report.as_bytes()),
-        PlayOutcome::NoScript(line) => writeln!(faults, "dr_router: {}", ScriptFault::Line(*line)),
-        PlayOutcome::Store => writeln!(faults, "dr_router: Store"),
+        PlayOutcome::NoScript(line) | PlayOutcome::Unsealed(line) => {
+            writeln!(faults, "dr_router: {}", ScriptFault::Line(*line))
+        }
+        PlayOutcome::Unread(path, error) => writeln!(faults, "dr_router: {path}: {error}"),
+        PlayOutcome::Store => writeln!(faults, "dr_router: {}", WorldFault::Store),
+        PlayOutcome::HalfAdopted => writeln!(faults, "dr_router: {}", WorldFault::HalfAdopted),
         PlayOutcome::Memory => writeln!(faults, "dr_router: Memory"),
     }
 }
@@ -57,11 +62,11 @@ fn play_file<'a, F: Files, W: Write, E: Write>(
 ) -> Result<Status, Failure<'a>>
     ensures { IfOk result (λ status. (script : Text)
         × F.holds files.now path.now script
-        × Plays sealed.now.plan sealed.now.certificate script (W.contents output.old)
-        (W.contents output.new) status) }
+        × Plays (F.holds files.now) sealed.now.plan sealed.now.certificate script
+        (W.contents output.old) (W.contents output.new) status) }
 {
     let text = read_file(alloc, files, path)?;
-    let outcome = outcome_of(alloc, sealed, text.as_slice());
+    let outcome = outcome_of(alloc, files, sealed, text.as_slice());
     tell_outcome(&outcome, output, faults)?;
     Ok(outcome.status())
 }
@@ -79,7 +84,7 @@ fn play_sealed<'a, F: Files, W: Write, E: Write>(
 ) -> Result<Status, Failure<'a>>
     ensures { IfOk result
         (λ status. Unseals plan text.now (W.contents output.old) (W.contents output.new) status
-        ⊎ Seals (F.holds files.now script.now) plan text.now (W.contents output.old)
+        ⊎ Seals (F.holds files.now) script.now plan text.now (W.contents output.old)
         (W.contents output.new) status) }
 {
     let sealed = match seal_text(alloc, plan, text) {
@@ -106,8 +111,8 @@ fn play_text<'a, F: Files, W: Write, E: Write>(
     faults: &mut E,
 ) -> Result<Status, Failure<'a>>
     ensures { IfOk result
-        (Simulates (F.holds files.now certificate.now) (F.holds files.now script.now) text.now
-        (W.contents output.old) (W.contents output.new)) }
+        (Simulates (F.holds files.now) certificate.now script.now text.now (W.contents output.old)
+        (W.contents output.new)) }
 {
     let plan = match plan_of(alloc, text) {
         Ok(plan) => plan,
@@ -148,8 +153,8 @@ pub fn simulate_files<'a, F: Files, W: Write, E: Write>(
 ) -> Result<Status, Failure<'a>>
     ensures { IfOk result (λ status. (text : Text)
         × F.holds files.now plan.now text
-        × Simulates (F.holds files.now certificate.now) (F.holds files.now script.now) text
-        (W.contents output.old) (W.contents output.new) status) }
+        × Simulates (F.holds files.now) certificate.now script.now text (W.contents output.old)
+        (W.contents output.new) status) }
 {
     let text = read_file(alloc, files, plan)?;
     play_text(

@@ -48,7 +48,8 @@ use Rattle.dr_world.specs.declared.fault.WorldFault.{WorldFault}
 use Rattle.dr_world.specs.declared.wires.Wires.{Wires}
 use Rattle.dr_world.specs.declared.world.World.{World}
 use Rattle.dr_world.specs.declared.changing.Change.TheVariants.{Adopted, Skipped, Unfit}
-use Rattle.dr_world.specs.Adopted.{AddsAbsent, AddsIn, AllJoin, AllTake, AreFit, AreJoining}
+use Rattle.dr_world.specs.Adopted.{AddsAbsent, AddsIn, AllJoin, AllStay, AllTake, AreFit}
+use Rattle.dr_world.specs.Adopted.{AreJoining}
 use Rattle.dr_world.specs.Adopted.{AreNodes, ChangesTo, ComesTo, Finds, HasGoneOver, IsFirstUnfit}
 use Rattle.dr_world.specs.Adopted.{LooksAt, TakesAt, Took, is_on, is_on_at, some_is_on}
 use Rattle.dr_world.specs.Founding.{AreNames, Founds, IsFounded}
@@ -762,6 +763,9 @@ module _ {L : Type 0} {l : Ghosts L} (plan next : Network) (certificate : Certif
       (are.1 q).1
       (l.book at.0.desk.ledger, ap (option_map (λ (z : Node L l). l.book z.desk.ledger)) at.1)
 
+  pub all_stay : AreNodes next names → AllStay plan next
+  all_stay stay q is_node = stay q (among_names q is_node)
+
   pub first_unfit : IsFirstUnfit plan next b.desks node (uid, dest)
   first_unfit = record {
     of = node_named plan certificate (contents old) seated node seat has;
@@ -1103,16 +1107,19 @@ module _ {L : Type 0} {l : Ghosts L} (next : Network) (own : Certificate) (old n
   -- nothing is changed where a row doesn't fit
   pub found_a_row : (node uid dest : Text)
       → some_is_on old.nodes old.wires ≡ false
+      → AreNodes next names
       → new.wires ≡ old.wires → new.time ≡ old.time → new.opened ≡ old.opened
       → Finds next names old.nodes (Unfit node uid dest) new.nodes
       → ChangesTo next own old (Unfit node uid dest) new
-  found_a_row node uid dest none wires time opened found = (
+  found_a_row node uid dest none stay wires time opened found = (
     found.0.0,
     λ plan certificate certified b seated shown all.
         let f = found.1 all in
         ∣ (
           same_all old new found.0 wires time opened all,
           all_over old b shown none,
+          all_stay plan next certificate old names are b seated shown node uid dest f.0 f.1 f.2
+              f.3 f.4.0 f.4.1 f.4.2 stay,
           first_unfit plan next certificate old names are b seated shown node uid dest f.0 f.1 f.2
               f.3 f.4.0 f.4.1 f.4.2,
         ) ∣₁,

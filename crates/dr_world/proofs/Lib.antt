@@ -27,4 +27,4 @@ pub mod Listed
 pub mod FrontBytes
 pub mod Arriving
 pub mod Finishing
-pub mod Through
+pub mod Played

@@ -7,7 +7,6 @@ use Rattle.dr_base.specs.Texts.{Text}
 use Rattle.dr_ledger.specs.declared.ledger.Ledger.{Ghosts}
 use Rattle.dr_plan_model.specs.Networks.{Network}
 use Rattle.dr_plan_sound.specs.declared.certificate.Certificate.{Certificate}
-use Rattle.dr_site.specs.Sites.{IsCertified}
 use Rattle.dr_node.specs.declared.node.Node.{Node}
 use Rattle.dr_world_tie.specs.ByteWorlds as bytes
 use Rattle.dr_world_tie.specs.ByteWorlds.{ByteWorld, beginning, Steps}
@@ -20,10 +19,10 @@ use Rattle.dr_world.specs.declared.steps.StepNote.{StepNote}
 use Rattle.dr_world.specs.declared.world.World.{World}
 use Rattle.dr_world.specs.Shows.{desk_at}
 use Rattle.dr_world.specs.Nodes.{seat_of}
-use Rattle.dr_world.specs.Whole.{AllStand, StepsTo, noted}
+use Rattle.dr_world.specs.Whole.{StepsTo, noted}
 use Rattle.dr_ledger.specs.declared.content.Job.{Job}
 use Rattle.dr_world_script.specs.declared.step.Step.{Step}
-use Rattle.dr_world.specs.Runs.{IsReached, GoesOn, HoldsAfter, HoldsAfterAll, HoldsWhereReached, IsRunOf, Leads, step_of}
+use Rattle.dr_world.specs.Runs.{IsReached, GoesOn, HoldsAfter, HoldsAfterAll, HoldsWhereReached, Leads, step_of}
 
 -- one step behind others
 one_more : (plan : Network) (certificate : Certificate) (steps : List bytes.WorldStep) (step : bytes.WorldStep) (note : bytes.StepNote) (a b c : ByteWorld) → RunsOf plan certificate a steps b → Steps plan certificate b step note c → RunsOf plan certificate a (steps ++ step ∷ []) c
@@ -84,10 +83,3 @@ module _ {L : Type 0} {l : Ghosts L} where
 
   pub holds_after_all : (first new : World L l) (steps : List bytes.WorldStep) → Leads steps first new → HoldsAfterAll first new
   holds_after_all first new steps h plan certificate certified before reached all = holds new plan certificate certified (before ++ steps) (h plan certificate certified before reached) all
-
--- ---- from the beginning
-
--- where each ledger's premise stands anyway
-pub run_of : {L : Type 0} {l : Ghosts L} (plan : Network) (certificate : Certificate) → IsCertified plan certificate → (first last : World L l) (steps : List Step) → IsReached plan certificate [] first → Leads (mapped step_of steps) first last → HoldsAfterAll first last → AllStand last
-    → IsRunOf plan certificate steps last
-run_of plan certificate certified first last steps reached leads headline all = (leads plan certificate certified [] reached all, headline plan certificate certified [] reached all)

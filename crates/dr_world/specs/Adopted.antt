@@ -127,6 +127,10 @@ Took {L} {l} next own names joins old new =
 abbrev pub AreNodes : Network → List Text → Type 0
 AreNodes plan names = (name : Text) → Contains names name → HasNode plan name
 
+-- each node of the plan is one of the next
+abbrev pub AllStay : Network → Network → Type 0
+AllStay plan next = (name : Text) → HasNode plan name → HasNode next name
+
 -- ---- rows
 
 -- the node's rows are fit for the next plan, or its first unfit row is this; nothing has changed
@@ -182,7 +186,7 @@ ComesTo plan next own b Skipped old new =
     × ((AllAreOver b → ⊥)
     ⊎ ((name : Text) × HasNode plan name × (HasNode next name → ⊥)))
 ComesTo plan next own b (Unfit node uid dest) old new =
-    (contents new ≡ contents old) × AllAreOver b
+    (contents new ≡ contents old) × AllAreOver b × AllStay plan next
     × IsFirstUnfit plan next b.desks node (uid, dest)
 
 -- It comes to that beside each world of bytes that stood beside the old contents. The ledgers' own

@@ -11,6 +11,6 @@ pub mod Closed
 pub mod Founding
 pub mod Reports
 pub mod Restarted
-pub mod Through
+pub mod Played
 pub mod Moved
 pub mod Ended

@@ -1,5 +1,5 @@
 -- Lists of steps, and what holds after them.
-use Rattle.std.specs.Prelude.{◌≡◌, List, [], ◌∷◌, ◌++◌, Some, map as mapped}
+use Rattle.std.specs.Prelude.{◌≡◌, List, [], ◌∷◌, ◌++◌, Some}
 use Rattle.std.specs.BTreeMap as tree
 use Rattle.dr_base.specs.Texts.{Text, text_cmp}
 use Rattle.dr_ledger.specs.declared.ledger.Ledger.{Ghosts}
@@ -109,10 +109,3 @@ HoldsAfterAll old new =
     → (before : List bytes.WorldStep)
     → IsReached plan certificate before old
     → AllStand new → HoldsOf plan new
-
--- A world that just these steps have made of the plan, and nothing else is asked: they lead to it
--- from the beginning, and the headline's four claims hold of its nodes' books.
-abbrev pub IsRunOf : {L : Type 0} {l : Ghosts L}
-    → Network → Certificate → List Step → World L l → Type 0
-IsRunOf plan certificate steps w =
-    WasReached plan certificate (mapped step_of steps) w × HoldsOf plan w

@@ -5,7 +5,8 @@ ghost use Rattle.dr_world.specs.Laws.{MoveIsShown};
 ghost use Rattle.dr_world.specs.Laws.{NewIsBeginning, OthersAreCounted, RefuseIsShown};
 ghost use Rattle.dr_world.specs.Laws.{RequeueIsShown, StrangerIsSkipped, SubmitIsShown};
 ghost use Rattle.dr_world.specs.Laws.{TickIsShown, UnderWayStays};
-ghost use Rattle.dr_world.specs.Through.{ChangesGoOn, DeedsKeepTheHeadline, StepsGoOn};
+ghost use Rattle.dr_world.specs.Played.{ChangesGoOn, DeedsKeepTheHeadline, EventsAloneLead};
+ghost use Rattle.dr_world.specs.Played.{StepsAloneRun, StepsGoOn};
 
 use crate::world::World;
 use dr_ledger::Ledger;
@@ -63,4 +64,11 @@ pub fn steps_and_changes_go_on<L: Ledger>(_old: &World<L>, _new: &World<L>)
 /// Wherever they have led to, the four claims hold by the plan in force.
 pub fn changes_keep_the_headline<L: Ledger>(_world: &World<L>)
     ensures { DeedsKeepTheHeadline _world.now }
+{}
+
+/// Without a change of plan deeds are steps of the world of bytes, and events lead to the world of
+/// messages.
+pub fn steps_alone_are_events()
+    ensures steps { StepsAloneRun }
+    ensures events { EventsAloneLead }
 {}

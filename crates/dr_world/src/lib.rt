@@ -5,12 +5,14 @@
 //! that step of the world of bytes beside it (`World::step`), so the headline's four claims hold of
 //! its nodes' books after it.
 //!
-//! A world begins by `World::with`, over a new ledger for each node of a sealed plan; `run` plays
-//! steps from there over ledgers in memory.
+//! A world begins by `World::with`, over a new ledger for each node of a sealed plan. Another plan
+//! is taken by all nodes at once (`World::adopt`). `run` plays steps and changes of plan from the
+//! beginning, over ledgers in memory.
 #![tactic(auto)]
 
 mod calls;
 pub mod changing;
+pub mod deed;
 pub mod fault;
 mod forgetting;
 pub mod founding;
@@ -25,10 +27,11 @@ pub mod wires;
 pub mod world;
 
 pub use changing::Change;
+pub use deed::Deed;
 pub use dr_world_script::{Side, Step};
 pub use fault::WorldFault;
 pub use listing::Listing;
-pub use playing::run;
+pub use playing::{PlayedWorld, run};
 pub use steps::StepNote;
 pub use time::Time;
 pub use wires::Wires;

@@ -1,17 +1,27 @@
-//! Steps played from the beginning, over ledgers in memory.
-ghost use Rattle.std.specs.Prelude.{IfOk};
-ghost use Rattle.dr_world.specs.Runs.{IsRunOf};
+//! Steps and changes of plan played from the beginning, over ledgers in memory.
+ghost use Rattle.std.specs.Prelude.{◌≡◌, ◌∷◌, ◌++◌, [], IfOk, List, OnOk};
+ghost use Rattle.dr_world.specs.Played.{IsRunOf, PlaysAll, PlaysOn};
+ghost use Rattle.dr_world.specs.declared.changing.Change.{Change as ChangeValue};
+ghost use Rattle.dr_world.specs.declared.deed.Deed.TheVariants as deeds_of;
 
+use crate::changing::Change;
+use crate::deed::Deed;
 use crate::fault::WorldFault;
 use crate::founding::names_of;
 use crate::world::World;
-use dr_base::Text;
+use dr_base::{Seq, Text};
 use dr_cert::Sealed;
 use dr_ledger::Refusing;
 use dr_ledger_memory::MemoryLedger;
 use dr_site::{Site, SiteFault};
-use dr_world_script::Step;
 use std::alloc::Global;
+
+/// A world after what was done to it, and what the changes of plan among that came to, in order.
+#[derive(Drop)]
+pub struct PlayedWorld {
+    pub world: World<Refusing<MemoryLedger>>,
+    pub changes: Seq<Change>,
+}
 
 /// A ledger in memory for each of these nodes.
 fn ledgers_of(
@@ -31,22 +41,73 @@ fn ledgers_of(
     Ok(ledgers)
 }
 
-/// The world of a sealed plan after these steps, from the beginning: each node over a ledger in
+/// All nodes are to take this plan; one that joins begins with nothing.
+fn change_to(
+    alloc: Global,
+    world: &mut World<Refusing<MemoryLedger>>,
+    next: &Sealed,
+) -> Result<Change, WorldFault>
+    ensures { IfOk result (λ change.
+        PlaysOn (deeds_of.Adopt next.now) (change ∷ []) world.old world.new) }
+{
+    let names = world.joining(next.plan())?;
+    let ledgers = ledgers_of(alloc, next, names.as_slice())?;
+    world.adopt(next, ledgers)
+}
+
+/// One deed; what a change of plan comes to is added.
+fn do_deed(
+    alloc: Global,
+    world: &mut World<Refusing<MemoryLedger>>,
+    deed: &Deed,
+    changes: &mut Seq<Change>,
+) -> Result<(), WorldFault>
+    ensures { OnOk result
+        ((told : List ChangeValue)
+        × (changes.new ≡ changes.old ++ told)
+        × PlaysOn deed.now told world.old world.new) }
+{
+    match deed {
+        Deed::Step(step) => {
+            let _note = world.step(step)?;
+            Ok(())
+        }
+        Deed::Adopt(next) => {
+            let change = change_to(alloc, world, next)?;
+            changes.push(change)?;
+            Ok(())
+        }
+    }
+}
+
+/// These deeds, one after the other, and what the changes of plan among them come to.
+fn do_all(
+    alloc: Global,
+    world: &mut World<Refusing<MemoryLedger>>,
+    deeds: &[Deed],
+) -> Result<Seq<Change>, WorldFault>
+    ensures { IfOk result (λ changes. PlaysAll deeds.now changes world.old world.new) }
+{
+    let mut changes = Seq::new(alloc);
+    for deed in deeds {
+        do_deed(alloc, world, deed, &mut changes)?;
+    }
+    Ok(changes)
+}
+
+/// The world of a sealed plan after these deeds, from the beginning: each node over a ledger in
 /// memory, which can be told to refuse.
 ///
-/// Errors: Memory.
-pub fn run(
-    alloc: Global,
-    sealed: &Sealed,
-    steps: &[Step],
-) -> Result<World<Refusing<MemoryLedger>>, WorldFault>
-    ensures { IfOk result (IsRunOf sealed.now.plan sealed.now.certificate steps.now) }
+/// Errors: HalfAdopted, where a node that was told to refuse is to take another plan; Memory.
+pub fn run(alloc: Global, sealed: &Sealed, deeds: &[Deed]) -> Result<PlayedWorld, WorldFault>
+    ensures { IfOk result (λ run.
+        IsRunOf sealed.now.plan sealed.now.certificate deeds.now run.changes run.world) }
 {
     let plan = sealed.plan();
     let _certificate = sealed.certificate();
     let names = names_of(alloc, plan)?;
     let ledgers = ledgers_of(alloc, sealed, names.as_slice())?;
     let mut world = World::with(alloc, sealed, ledgers)?;
-    world.play(steps)?;
-    Ok(world)
+    let changes = do_all(alloc, &mut world, deeds)?;
+    Ok(PlayedWorld { world, changes })
 }

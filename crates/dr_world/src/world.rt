@@ -1,5 +1,5 @@
 //! The simulated world: each node over its own ledger, and the wires of each link.
-ghost use Rattle.std.specs.Prelude.{◌≡◌, ◌&&◌, [], IfOk, IsErr, OnOk, map as mapped, true, false};
+ghost use Rattle.std.specs.Prelude.{◌≡◌, ◌&&◌, [], Err, IfOk, None, OnOk, Some, map as mapped};
 ghost use Rattle.std.specs.BTreeMap as tree;
 ghost use Rattle.dr_base.specs.Texts.{text_cmp};
 ghost use Rattle.dr_session.specs.declared.ends.Heard.TheVariants as heard;
@@ -11,7 +11,9 @@ ghost use Rattle.dr_world_tie.specs.ByteWorlds.{Submit, Tick};
 ghost use Rattle.dr_world.specs.declared.steps.StepNote.TheVariants.{Done as WasDone};
 ghost use Rattle.dr_world.specs.Ends.{named, note_by};
 ghost use Rattle.dr_world.specs.Nodes.{event_at, over_at, push_at as pushed_at};
-ghost use Rattle.dr_world.specs.declared.fault.WorldFault.TheVariants.{Memory as MemoryFault};
+ghost use Rattle.dr_world.specs.declared.deed.Deed.TheVariants as deeds;
+ghost use Rattle.dr_world.specs.declared.fault.WorldFault.{WorldFault as FaultValue};
+ghost use Rattle.dr_world.specs.Played.{HoldsThrough, PlaysOn};
 ghost use Rattle.dr_world.specs.Runs.{GoesOn, HoldsAfter, HoldsAfterAll, Leads, step_of};
 ghost use Rattle.dr_world.specs.Reports.{IsReported, ListsBook, bodies_of, books_of, has_in};
 ghost use Rattle.dr_world.specs.Restarted.{AllFarHear, FarHears};
@@ -47,8 +49,8 @@ pub struct World<L: Ledger> {
     opened: u64,
     nodes: BTreeMap<Text, Node<L>>,
     wires: BTreeMap<u64, Wires>,
-    /// Memory ended in a step; no further one is taken.
-    lost: bool,
+    /// The fault that ended an earlier call; no further one is taken.
+    lost: Option<WorldFault>,
 }
 
 impl<L: Ledger> World<L> {
@@ -58,7 +60,7 @@ impl<L: Ledger> World<L> {
         ensures time { result.time.passed ≡ 0 }
         ensures opened { result.opened ≡ 0 }
         ensures wires { result.wires.entries ≡ [] }
-        ensures lost { result.lost ≡ false }
+        ensures lost { result.lost ≡ None }
     {
         World {
             alloc,
@@ -66,7 +68,7 @@ impl<L: Ledger> World<L> {
             opened: 0,
             nodes,
             wires: BTreeMap::new(alloc),
-            lost: false,
+            lost: None,
         }
     }
 
@@ -377,21 +379,25 @@ impl<L: LetsGo> World<L> {
 }
 
 impl<L: LetsGo> World<Refusing<L>> {
-    /// One step. After want of memory each further step answers Memory.
+    /// One step. After a fault, also of a change of plan, each further step answers that fault.
     ///
     /// Errors: Memory.
     pub fn step(&mut self, step: &Step) -> Result<StepNote, WorldFault>
         ensures steps { IfOk result (λ note. StepsTo (step_of step.now) self.old note self.new) }
         ensures goes_on { IfOk result (λ note. GoesOn (step_of step.now) self.old self.new) }
         ensures headline { IfOk result (λ note. HoldsAfter (step_of step.now) self.old self.new) }
-        ensures lost { self.old.lost ≡ true → (result ≡ Err MemoryFault) × (self.new ≡ self.old) }
-        ensures after { IsErr result → self.new.lost ≡ true }
+        ensures plays { IfOk result (λ note. PlaysOn (deeds.Step step.now) [] self.old self.new) }
+        ensures holds { IfOk result (λ note.
+            HoldsThrough (deeds.Step step.now) [] self.old self.new) }
+        ensures lost { (fault : FaultValue) → self.old.lost ≡ Some fault
+            → (result ≡ Err fault) × (self.new ≡ self.old) }
+        ensures after { (fault : FaultValue) → result ≡ Err fault → self.new.lost ≡ Some fault }
     {
-        if self.lost {
-            return Err(WorldFault::Memory);
+        if let Some(fault) = self.lost {
+            return Err(fault);
         }
         let Ok(note) = self.perform(step) else {
-            self.lost = true;
+            self.lost = Some(WorldFault::Memory);
             return Err(WorldFault::Memory);
         };
         Ok(note)

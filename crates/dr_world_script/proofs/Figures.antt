@@ -1,11 +1,13 @@
--- Lines that tell steps, and lines that tell none.
-use Rattle.std.proofs.Common.{◌≡◌, ℕ, ◌<◌, ◌^◌, List, [], ◌∷◌, refl, ap, sym, subst, ◌∙◌, arith}
+-- Lines that tell steps and a change of plan, and lines that tell nothing.
+use Rattle.std.proofs.Common.{◌≡◌, List, [], ◌∷◌, refl, ap, sym, subst, ◌∙◌, arith}
 use mathlib.Core.Bool.{true≢false}
 use Rattle.std.specs.Prelude.{codes}
 use Rattle.std.specs.Str.{bytes_eq}
 use Rattle.std.specs.Fmt.{digits}
 use Rattle.dr_base.specs.Texts.{Text}
 use Rattle.dr_cert_text.specs.Cuts.{cuts, grown}
+use Rattle.dr_world_script.specs.declared.act.Act.{Act}
+use Rattle.dr_world_script.specs.declared.act.Act.TheVariants as act
 use Rattle.dr_world_script.specs.declared.step.Side.{Side}
 use Rattle.dr_world_script.specs.declared.step.Side.TheVariants.{Requestor, Acceptor}
 use Rattle.dr_world_script.specs.declared.step.Step.{Step}
@@ -13,24 +15,24 @@ use Rattle.dr_world_script.specs.declared.step.Step.TheVariants.{Open, Move}
 use Rattle.dr_world_script.specs.declared.step.Word.{Word}
 use Rattle.dr_world_script.specs.declared.step.Word.TheVariants as word
 use Rattle.dr_world_script.specs.Laws.{LinesTellSteps, LinesTellNone, open_line, move_line}
-use Rattle.dr_world_script.specs.Scripts.{Follows, Tells, told_lines, is_skipped, side_word, spelled}
-use Rattle.dr_world_script.proofs.Spelling.{spelled_one}
+use Rattle.dr_world_script.specs.Scripts.{Follows, Tells, TellsStep, adopt_word, side_word, spelled}
+use Rattle.dr_world_script.proofs.Spelling.{spelled_apart, spelled_one}
 
-opens : Tells open_line (Open (codes "CT1") (codes "GATE"))
+opens : Tells open_line (act.Step (Open (codes "CT1") (codes "GATE")))
 unfolding cuts grown
 opens = (word.Open, codes "CT1" ∷ codes "GATE" ∷ [], refl, (codes "CT1", codes "GATE", refl, refl))
 
-moves : Tells move_line (Move 1 Acceptor 1000000)
+moves : Tells move_line (act.Step (Move 1 Acceptor 1000000))
 unfolding cuts grown digits
 moves = (word.Move, codes "1" ∷ codes "acceptor" ∷ codes "1000000" ∷ [], refl, (1, 1000000, Acceptor, refl, (codes "1", codes "1000000", refl, (refl, omega arith), (refl, omega arith))))
 
 pub told : LinesTellSteps
 unfolding cuts grown
-told = (opens, moves, (opens, (moves, tt)), refl)
+told = (opens, moves, refl, (opens, (moves, tt)), refl)
 
 -- the fields behind the word, where the first field is that word
-behind : (line : Text) (w : Word) (fields : List Text) (step : Step) → cuts 9 line ≡ spelled w ∷ fields → Tells line step → Follows w fields step
-behind line w fields step cut (v, others, e, f) =
+behind : (parts : List Text) (w : Word) (fields : List Text) (step : Step) → parts ≡ spelled w ∷ fields → TellsStep parts step → Follows w fields step
+behind parts w fields step cut (v, others, e, f) =
     let h : spelled v ∷ others ≡ spelled w ∷ fields = sym e ∙ cut in
     let same : v ≡ w = spelled_one v w (cc) in
     let rest : others ≡ fields = cc in
@@ -42,28 +44,48 @@ nobody : (side : Side) → codes "nobody" ≡ side_word side → ⊥
 nobody Requestor e = true≢false (ap (λ t. bytes_eq t (codes "nobody")) e)
 nobody Acceptor e = true≢false (ap (λ t. bytes_eq t (codes "nobody")) e)
 
-no_end : (step : Step) → Tells (codes "move\t1\tnobody\t1") step → ⊥
+-- parts with the word of a step tell no change of plan
+no_change : (parts : List Text) (w : Word) (fields : List Text) (plan certificate : Text) → parts ≡ spelled w ∷ fields → parts ≡ adopt_word ∷ plan ∷ certificate ∷ [] → ⊥
+no_change parts w fields plan certificate cut e =
+    let h : spelled w ∷ fields ≡ adopt_word ∷ plan ∷ certificate ∷ [] = sym cut ∙ e in
+    let same : spelled w ≡ adopt_word = cc in
+    spelled_apart w same
+
+no_end : (a : Act) → Tells (codes "move\t1\tnobody\t1") a → ⊥
 unfolding cuts grown
-no_end step tells =
-    let f = behind (codes "move\t1\tnobody\t1") word.Move (codes "1" ∷ codes "nobody" ∷ codes "1" ∷ []) step refl tells in
+no_end (act.Adopt plan certificate) tells = no_change (cuts 9 (codes "move\t1\tnobody\t1")) word.Move (codes "1" ∷ codes "nobody" ∷ codes "1" ∷ []) plan certificate refl tells
+no_end (act.Step step) tells =
+    let f = behind (cuts 9 (codes "move\t1\tnobody\t1")) word.Move (codes "1" ∷ codes "nobody" ∷ codes "1" ∷ []) step refl tells in
     third f
   where
     third : Follows word.Move (codes "1" ∷ codes "nobody" ∷ codes "1" ∷ []) step → ⊥
     third (link, most, side, e, (field, count, h, a, b)) = nobody side (cc)
 
-word_alone : (step : Step) → Tells (codes "push") step → ⊥
+word_alone : (a : Act) → Tells (codes "push") a → ⊥
 unfolding cuts grown
-word_alone step tells = none (behind (codes "push") word.Push [] step refl tells)
+word_alone (act.Adopt plan certificate) tells = no_change (cuts 9 (codes "push")) word.Push [] plan certificate refl tells
+word_alone (act.Step step) tells = none (behind (cuts 9 (codes "push")) word.Push [] step refl tells)
   where
     none : Follows word.Push [] step → ⊥
     none (link, e, (field, h, rest)) = absurd (cc)
 
-one_too_many : (step : Step) → Tells (codes "open\tCT1\tGATE\t") step → ⊥
+one_too_many : (a : Act) → Tells (codes "open\tCT1\tGATE\t") a → ⊥
 unfolding cuts grown
-one_too_many step tells = none (behind (codes "open\tCT1\tGATE\t") word.Open (codes "CT1" ∷ codes "GATE" ∷ [] ∷ []) step refl tells)
+one_too_many (act.Adopt plan certificate) tells = no_change (cuts 9 (codes "open\tCT1\tGATE\t")) word.Open (codes "CT1" ∷ codes "GATE" ∷ [] ∷ []) plan certificate refl tells
+one_too_many (act.Step step) tells = none (behind (cuts 9 (codes "open\tCT1\tGATE\t")) word.Open (codes "CT1" ∷ codes "GATE" ∷ [] ∷ []) step refl tells)
   where
     none : Follows word.Open (codes "CT1" ∷ codes "GATE" ∷ [] ∷ []) step → ⊥
     none (x, y, e, h) = absurd (cc)
 
+no_certificate : (a : Act) → Tells (codes "adopt\tnext.toml") a → ⊥
+unfolding cuts grown
+no_certificate (act.Adopt plan certificate) tells =
+    let h : adopt_word ∷ codes "next.toml" ∷ [] ≡ adopt_word ∷ plan ∷ certificate ∷ [] = tells in
+    absurd (cc)
+no_certificate (act.Step step) (w, fields, e, f) =
+    let h : adopt_word ∷ codes "next.toml" ∷ [] ≡ spelled w ∷ fields = e in
+    let same : spelled w ≡ adopt_word = cc in
+    spelled_apart w same
+
 pub told_none : LinesTellNone
-told_none step = (no_end step, word_alone step, one_too_many step)
+told_none a = (no_end a, word_alone a, one_too_many a, no_certificate a)

@@ -1,28 +1,56 @@
--- Words and what follows them.
-use Rattle.std.proofs.Common.{◌≡◌, ◌≢◌, ℕ, List, [], ◌∷◌, ◌++◌, Result, Ok, Err, refl, sym, ap, subst, ◌∙◌}
+-- What parts tell, by their first word.
+use Rattle.std.proofs.Common.{◌≡◌, List, [], ◌∷◌, Result, Ok, Err, sym, ap, subst, ◌∙◌}
 use Rattle.dr_base.specs.Texts.{Text}
-use Rattle.dr_cert_text.specs.Cuts.{cuts}
-use Rattle.dr_world_script.specs.declared.step.Word.{Word}
-use Rattle.dr_world_script.specs.declared.step.Step.{Step}
+use Rattle.dr_world_script.specs.declared.act.Act.{Act}
+use Rattle.dr_world_script.specs.declared.act.Act.TheVariants as act
 use Rattle.dr_world_script.specs.declared.fault.LineFault.{LineFault}
-use Rattle.dr_world_script.specs.declared.fault.LineFault.TheVariants.{NoStep, Memory}
-use Rattle.dr_world_script.specs.Scripts.{Follows, ReadsFields, ReadsLine, Tells, spelled}
-use Rattle.dr_world_script.proofs.Spelling.{spelled_one}
+use Rattle.dr_world_script.specs.declared.fault.LineFault.TheVariants as lines
+use Rattle.dr_world_script.specs.declared.step.Step.{Step}
+use Rattle.dr_world_script.specs.declared.step.Word.{Word}
+use Rattle.dr_world_script.specs.Scripts.{Follows, ReadsAdoption, ReadsFields, ReadsParts, ReadsStep, TellsBy, TellsStep, adopt_word, spelled}
+use Rattle.dr_world_script.proofs.Spelling.{spelled_apart, spelled_one}
 
--- a line whose first field is the word, read by its other fields
-pub line_read : (line : Text) (w : Word) (fields : List Text) (result : Result Step LineFault) → cuts 9 line ≡ spelled w ∷ fields → ReadsFields w fields result → ReadsLine line result
-line_read line w fields (Ok step) cut told = (w, fields, cut, told)
-line_read line w fields (Err NoStep) cut told = λ step t.
-    let both : spelled t.0 ∷ t.1 ≡ spelled w ∷ fields = sym t.2 ∙ cut in
-    let same : t.0 ≡ w = spelled_one t.0 w (cc) in
-    let rest : t.1 ≡ fields = cc in
-    let P : Word → Type 0 = λ x. Follows x fields step in
-    let Q : List Text → Type 0 = λ fs. Follows t.0 fs step in
-    told step (subst P same (subst Q rest t.3))
-line_read line w fields (Err Memory) cut told = told
+-- a change of plan, where the word is that of one
+pub adoption : (first : Text) (fields : List Text) (answer : Result Act LineFault) → adopt_word ≡ first → ReadsAdoption fields answer → ReadsParts (first ∷ fields) answer
+adoption first fields (Ok (act.Step step)) is h = absurd h
+adoption first fields (Ok (act.Adopt plan certificate)) is h = (let P : Text → Type 0 = λ t. t ∷ fields ≡ adopt_word ∷ plan ∷ certificate ∷ [] in subst P is (ap (λ fs. adopt_word ∷ fs) h))
+adoption first fields (Err lines.NoStep) is h = λ a. none a
+  where
+    none : (a : Act) → TellsBy (first ∷ fields) a → ⊥
+    none (act.Step step) (w, others, e, f) =
+        let same : spelled w ≡ adopt_word = (let both : spelled w ∷ others ≡ first ∷ fields = sym e in cc) in
+        spelled_apart w same
+    none (act.Adopt plan certificate) e = h plan certificate (cc)
+adoption first fields (Err lines.Memory) is h = tt
 
--- a line whose first field is no word
-pub no_word : (line : Text) (first : Text) (fields : List Text) → cuts 9 line ≡ first ∷ fields → ((w : Word) → spelled w ≡ first → ⊥) → (step : Step) → Tells line step → ⊥
-no_word line first fields cut none step t =
-    let both : spelled t.0 ∷ t.1 ≡ first ∷ fields = sym t.2 ∙ cut in
-    none t.0 (cc)
+-- a step, where it isn't
+pub stepping : (first : Text) (fields : List Text) (step : Step) → ReadsStep (first ∷ fields) (Ok step) → ReadsParts (first ∷ fields) (Ok (act.Step step))
+stepping first fields step h = h
+
+pub failing : (first : Text) (fields : List Text) (fault : LineFault) → (adopt_word ≡ first → ⊥) → ReadsStep (first ∷ fields) (Err fault) → ReadsParts (first ∷ fields) (Err fault)
+failing first fields lines.NoStep isnt h = λ a. none a
+  where
+    none : (a : Act) → TellsBy (first ∷ fields) a → ⊥
+    none (act.Step step) told = h step told
+    none (act.Adopt plan certificate) e = isnt (cc)
+failing first fields lines.Memory isnt h = tt
+
+-- what follows a word
+pub following : (first : Text) (w : Word) (fields : List Text) (answer : Result Step LineFault) → spelled w ≡ first → ReadsFields w fields answer → ReadsStep (first ∷ fields) answer
+following first w fields (Ok step) is h = (w, fields, ap (λ (t : Text). t ∷ fields) (sym is), h)
+following first w fields (Err lines.NoStep) is h = λ step told. none step told
+  where
+    none : (step : Step) → TellsStep (first ∷ fields) step → ⊥
+    none step (v, others, e, f) =
+        let both : spelled v ∷ others ≡ spelled w ∷ fields = sym e ∙ ap (λ (t : Text). t ∷ fields) (sym is) in
+        let same : v ≡ w = spelled_one v w (cc) in
+        let rest : others ≡ fields = cc in
+        let P : Word → Type 0 = λ x. Follows x fields step in
+        let Q : List Text → Type 0 = λ fs. Follows v fs step in
+        h step (subst P same (subst Q rest f))
+following first w fields (Err lines.Memory) is h = tt
+
+pub nothing_follows : (first : Text) (fields : List Text) → ((w : Word) → spelled w ≡ first → ⊥) → (step : Step) → TellsStep (first ∷ fields) step → ⊥
+nothing_follows first fields none step (v, others, e, f) =
+    let same : spelled v ≡ first = (let both : spelled v ∷ others ≡ first ∷ fields = sym e in cc) in
+    none v same

@@ -1,5 +1,5 @@
--- A line tells one step.
-use Rattle.std.proofs.Common.{◌≡◌, ◌≢◌, ℕ, List, [], ◌∷◌, Result, Ok, decimal, refl, sym, ap, subst, ◌∙◌}
+-- A line tells one thing.
+use Rattle.std.proofs.Common.{◌≡◌, ℕ, List, [], ◌∷◌, Result, Ok, refl, sym, ap, subst, ◌∙◌}
 use mathlib.Core.Bool.{true≢false}
 use Rattle.std.specs.Prelude.{codes}
 use Rattle.std.specs.Str.{bytes_eq}
@@ -7,21 +7,24 @@ use Rattle.std.specs.List.{AllZip}
 use Rattle.std.proofs.lemmas.Fmt.{decimal_injective}
 use Rattle.hex.specs.Hex.{decode_of}
 use Rattle.dr_base.specs.Texts.{Text}
+use Rattle.dr_cert_text.specs.Cuts.{cuts}
 use Rattle.dr_base.specs.declared.syntax.Syntax.{Syntax}
 use Rattle.dr_base.specs.declared.syntax.Syntax.TheVariants.{Implicit, Explicit}
 use Rattle.dr_ledger.specs.declared.content.Job.{Job}
 use Rattle.dr_ledger.specs.declared.content.ItemFault.{ItemFault}
 use Rattle.dr_ledger.specs.Items.{IsItem}
 use Rattle.dr_ledger.proofs.Reading.{items_are_one}
+use Rattle.dr_world_script.specs.declared.act.Act.{Act}
+use Rattle.dr_world_script.specs.declared.act.Act.TheVariants as act
 use Rattle.dr_world_script.specs.declared.step.Side.{Side}
 use Rattle.dr_world_script.specs.declared.step.Side.TheVariants.{Requestor, Acceptor}
 use Rattle.dr_world_script.specs.declared.step.Step.{Step}
-use Rattle.dr_world_script.specs.declared.step.Step.TheVariants.{Submit, Open, Push, Move, Abort, Release, Close, Late, Restart, Requeue, Drop, Forget, Tick, RefuseStore}
+use Rattle.dr_world_script.specs.declared.step.Step.TheVariants.{Push, Release, Close, Restart, Tick, RefuseStore}
 use Rattle.dr_world_script.specs.declared.step.Word.{Word}
 use Rattle.dr_world_script.specs.declared.step.Word.TheVariants as word
-use Rattle.dr_world_script.specs.Laws.{OneStepForALine, OneScriptForAText}
-use Rattle.dr_world_script.specs.Scripts.{AreEnd, AreMove, AreNumber, Follows, IsNumber, Tells, side_word, spelled, syntax_letter, told_lines}
-use Rattle.dr_world_script.proofs.Spelling.{spelled_one}
+use Rattle.dr_world_script.specs.Laws.{OneActForALine, OneScriptForAText}
+use Rattle.dr_world_script.specs.Scripts.{AreEnd, AreMove, AreNumber, Follows, IsNumber, Tells, TellsBy, TellsStep, adopt_word, side_word, spelled, syntax_letter, told_lines}
+use Rattle.dr_world_script.proofs.Spelling.{spelled_apart, spelled_one}
 
 number_one : (n m : ℕ) (field other : Text) → IsNumber n field → IsNumber m other → field ≡ other → n ≡ m
 number_one n m field other a b e = decimal_injective n m a.1 b.1 (a.0 ∙ e ∙ sym b.0)
@@ -90,8 +93,8 @@ follow_one word.Forget fields a b (x, y, e, d) (u, v, f, g) =
 follow_one word.Tick fields a b (n, e, is) (m, f, also) = e ∙ ap Tick (only_number n m fields is also) ∙ sym f
 follow_one word.Refuse fields a b (x, e, d) (u, f, g) = let h : x ∷ [] ≡ u ∷ [] = sym d ∙ g in let p : x ≡ u = cc in e ∙ ap RefuseStore p ∙ sym f
 
-pub step_one : OneStepForALine
-step_one line a b (v, fields, e, s) (w, others, d, t) =
+step_one : (parts : List Text) (a b : Step) → TellsStep parts a → TellsStep parts b → a ≡ b
+step_one parts a b (v, fields, e, s) (w, others, d, t) =
     let h : spelled v ∷ fields ≡ spelled w ∷ others = sym e ∙ d in
     let same : v ≡ w = spelled_one v w (cc) in
     let rest : fields ≡ others = cc in
@@ -99,13 +102,33 @@ step_one line a b (v, fields, e, s) (w, others, d, t) =
     let Q : List Text → Type 0 = λ fs. Follows v fs b in
     follow_one v fields a b s (subst Q (sym rest) (subst P (sym same) t))
 
-steps_one : (lines : List Text) (some others : List Step) → AllZip Tells lines some → AllZip Tells lines others → some ≡ others
-steps_one [] [] [] a b = refl
-steps_one [] [] (y ∷ ys) a b = absurd b
-steps_one [] (x ∷ xs) ys a b = absurd a
-steps_one (l ∷ ls) [] ys a b = absurd a
-steps_one (l ∷ ls) (x ∷ xs) [] a b = absurd b
-steps_one (l ∷ ls) (x ∷ xs) (y ∷ ys) a b = let p = step_one l x y a.0 b.0 in let q = steps_one ls xs ys a.1 b.1 in rw (p, q) refl
+-- a step is no change of plan
+pub apart : (parts : List Text) (step : Step) (plan certificate : Text) → TellsStep parts step → parts ≡ adopt_word ∷ plan ∷ certificate ∷ [] → ⊥
+apart parts step plan certificate (w, fields, e, f) d =
+    let h : spelled w ∷ fields ≡ adopt_word ∷ plan ∷ certificate ∷ [] = sym e ∙ d in
+    let same : spelled w ≡ adopt_word = cc in
+    spelled_apart w same
+
+parts_one : (parts : List Text) (a b : Act) → TellsBy parts a → TellsBy parts b → a ≡ b
+parts_one parts (act.Step one) (act.Step other) s t = ap act.Step (step_one parts one other s t)
+parts_one parts (act.Step one) (act.Adopt plan certificate) s t = absurd (apart parts one plan certificate s t)
+parts_one parts (act.Adopt plan certificate) (act.Step other) s t = absurd (apart parts other plan certificate t s)
+parts_one parts (act.Adopt plan certificate) (act.Adopt next own) s t =
+    let h : adopt_word ∷ plan ∷ certificate ∷ [] ≡ adopt_word ∷ next ∷ own ∷ [] = sym s ∙ t in
+    let p : plan ≡ next = cc in
+    let q : certificate ≡ own = cc in
+    rw (p, q) refl
+
+pub line_one : OneActForALine
+line_one line a b s t = parts_one (cuts 9 line) a b s t
+
+acts_one : (lines : List Text) (some others : List Act) → AllZip Tells lines some → AllZip Tells lines others → some ≡ others
+acts_one [] [] [] a b = refl
+acts_one [] [] (y ∷ ys) a b = absurd b
+acts_one [] (x ∷ xs) ys a b = absurd a
+acts_one (l ∷ ls) [] ys a b = absurd a
+acts_one (l ∷ ls) (x ∷ xs) [] a b = absurd b
+acts_one (l ∷ ls) (x ∷ xs) (y ∷ ys) a b = let p = line_one l x y a.0 b.0 in let q = acts_one ls xs ys a.1 b.1 in rw (p, q) refl
 
 pub script_one : OneScriptForAText
-script_one text some others a b = steps_one (told_lines text) some others a b
+script_one text some others a b = acts_one (told_lines text) some others a b

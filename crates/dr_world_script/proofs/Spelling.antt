@@ -1,11 +1,12 @@
 -- The words are told apart by how they are spelled.
-use Rattle.std.proofs.Common.{◌≡◌, ℕ, List, refl, sym, ap, ◌∙◌}
-use Rattle.std.specs.Prelude.{codes, if◌then◌else◌, Option, Some, None}
+use Rattle.std.proofs.Common.{◌≡◌, Bool, true, false, refl, sym, ap, ◌∙◌}
+use Rattle.std.proofs.lemmas.Bool.{false≢true}
+use Rattle.std.specs.Prelude.{codes, if◌then◌else◌, Option, Some}
 use Rattle.std.specs.Str.{bytes_eq}
 use Rattle.dr_base.specs.Texts.{Text}
 use Rattle.dr_world_script.specs.declared.step.Word.{Word}
 use Rattle.dr_world_script.specs.declared.step.Word.TheVariants.{Submit, Open, Push, Move, Abort, Release, Close, Late, Restart, Requeue, Drop, Forget, Tick, Refuse}
-use Rattle.dr_world_script.specs.Scripts.{spelled}
+use Rattle.dr_world_script.specs.Scripts.{adopt_word, spelled}
 
 word_in : Text → Option Word
 word_in text =
@@ -43,3 +44,28 @@ known Refuse = refl
 
 pub spelled_one : (a b : Word) → spelled a ≡ spelled b → a ≡ b
 spelled_one a b e = let same : ◌≡◌ {A = Option Word} (Some a) (Some b) = sym (known a) ∙ ap word_in e ∙ known b in cc
+
+-- and none as that of a change of plan
+abbrev is_adopting : Text → Bool
+is_adopting text = bytes_eq text (codes "adopt")
+
+no_adoption : (w : Word) → is_adopting (spelled w) ≡ false
+no_adoption Submit = refl
+no_adoption Open = refl
+no_adoption Push = refl
+no_adoption Move = refl
+no_adoption Abort = refl
+no_adoption Release = refl
+no_adoption Close = refl
+no_adoption Late = refl
+no_adoption Restart = refl
+no_adoption Requeue = refl
+no_adoption Drop = refl
+no_adoption Forget = refl
+no_adoption Tick = refl
+no_adoption Refuse = refl
+
+pub spelled_apart : (w : Word) → spelled w ≡ adopt_word → ⊥
+spelled_apart w e =
+    let is : is_adopting adopt_word ≡ true = refl in
+    false≢true (sym (no_adoption w) ∙ (ap is_adopting e ∙ is))

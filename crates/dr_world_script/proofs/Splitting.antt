@@ -1,7 +1,6 @@
 -- Texts split at the first mark, and into parts.
-use Rattle.std.proofs.Common.{◌≡◌, ◌≢◌, ℕ, ◌+◌, ◌<◌, ◌==◌, Bool, true, false, List, [], ◌∷◌, ◌++◌, length, map, take, drop, get_or, refl, sym, ap, ◌∙◌, arith, Some, None, Option}
+use Rattle.std.proofs.Common.{◌≡◌, ℕ, List, [], ◌∷◌, ◌++◌, map, sym, ap, ◌∙◌}
 use Rattle.std.proofs.lemmas.List.{map_push}
-use Rattle.std.proofs.Math.Seq.{append_snoc}
 use Rattle.std.proofs.Common.{append_assoc}
 use Rattle.std.specs.Borrow.{Bor}
 use Rattle.dr_cert_text.specs.Cuts.{Lacks, SplitsAt, cuts}

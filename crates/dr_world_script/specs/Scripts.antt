@@ -1,8 +1,7 @@
--- Scripts: a step a line, its fields joined by tabs.
+-- Scripts: a step or a change of plan a line, its fields joined by tabs.
 use Rattle.std.specs.Prelude.{◌≡◌, ◌⊎◌, ℕ, ◌+◌, ◌<◌, ◌^◌, ◌==◌, Bool, true, false, List, [], ◌∷◌}
 use Rattle.std.specs.Prelude.{◌++◌, All, length, codes, decimal, filter, not, Result, Ok, Err}
 use Rattle.std.specs.List.{AllZip}
-use Rattle.std.specs.Borrow.{Bor}
 use Rattle.hex.specs.Hex.{decode_of}
 use Rattle.dr_base.specs.Texts.{Text}
 use Rattle.dr_base.specs.declared.syntax.Syntax.{Syntax}
@@ -10,6 +9,8 @@ use Rattle.dr_base.specs.declared.syntax.Syntax.TheVariants.{Implicit, Explicit}
 use Rattle.dr_cert_text.specs.Cuts.{cuts}
 use Rattle.dr_ledger.specs.Items.{IsItem}
 use Rattle.dr_ledger.specs.declared.content.Job.{Job}
+use Rattle.dr_world_script.specs.declared.act.Act.{Act}
+use Rattle.dr_world_script.specs.declared.act.Act.TheVariants as act
 use Rattle.dr_world_script.specs.declared.step.Side.{Side}
 use Rattle.dr_world_script.specs.declared.step.Side.TheVariants.{Requestor, Acceptor}
 use Rattle.dr_world_script.specs.declared.step.Step.{Step}
@@ -24,7 +25,7 @@ use Rattle.dr_world_script.specs.declared.fault.LineFault.TheVariants as lines
 use Rattle.dr_world_script.specs.declared.fault.ScriptFault.{ScriptFault}
 use Rattle.dr_world_script.specs.declared.fault.ScriptFault.TheVariants as script
 
--- how a word is spelled
+-- how the word of a step is spelled
 abbrev pub spelled : Word → Text
 spelled word.Submit = codes "submit"
 spelled word.Open = codes "open"
@@ -40,6 +41,10 @@ spelled word.Drop = codes "drop"
 spelled word.Forget = codes "forget"
 spelled word.Tick = codes "tick"
 spelled word.Refuse = codes "refuse"
+
+-- the word of a change of plan
+abbrev pub adopt_word : Text
+adopt_word = codes "adopt"
 
 -- the word for an end of a link
 abbrev pub side_word : Side → Text
@@ -104,10 +109,20 @@ Follows word.Tick fields step =
     (milliseconds : ℕ) × (step ≡ Tick milliseconds) × AreNumber milliseconds fields
 Follows word.Refuse fields step = (node : Text) × (step ≡ RefuseStore node) × (fields ≡ node ∷ [])
 
--- the line tells the step: a word, and what follows, parted by tabs
-abbrev pub Tells : Text → Step → Type 0
-Tells line step =
-    (w : Word) × (fields : List Text) × (cuts 9 line ≡ spelled w ∷ fields) × Follows w fields step
+-- the parts tell the step: a word, and what follows
+abbrev pub TellsStep : List Text → Step → Type 0
+TellsStep parts step =
+    (w : Word) × (fields : List Text) × (parts ≡ spelled w ∷ fields) × Follows w fields step
+
+-- what parts tell: a step; or that all nodes take another plan, by the names of two files: the
+-- plan's and its certificate's
+abbrev pub TellsBy : List Text → Act → Type 0
+TellsBy parts (act.Step step) = TellsStep parts step
+TellsBy parts (act.Adopt plan certificate) = parts ≡ adopt_word ∷ plan ∷ certificate ∷ []
+
+-- what the line tells, whose parts are joined by tabs
+abbrev pub Tells : Text → Act → Type 0
+Tells line a = TellsBy (cuts 9 line) a
 
 -- a line that tells nothing: one without a byte, or with `#` first
 abbrev pub is_skipped : Text → Bool
@@ -118,11 +133,29 @@ is_skipped (byte ∷ line) = byte == 35
 abbrev pub told_lines : Text → List Text
 told_lines text = filter (λ line. not (is_skipped line)) (cuts 10 text)
 
--- what reading a line answers: the step that it tells, or that it tells none; or memory ran out
-abbrev pub ReadsLine : Text → Result Step LineFault → Type 0
-ReadsLine line (Ok step) = Tells line step
-ReadsLine line (Err lines.NoStep) = (step : Step) → Tells line step → ⊥
-ReadsLine line (Err lines.Memory) = Unit {0}
+-- what reading parts answers: what they tell, or that they tell nothing; or memory ran out
+abbrev pub ReadsParts : List Text → Result Act LineFault → Type 0
+ReadsParts parts (Ok a) = TellsBy parts a
+ReadsParts parts (Err lines.NoStep) = (a : Act) → TellsBy parts a → ⊥
+ReadsParts parts (Err lines.Memory) = Unit {0}
+
+-- what reading a line answers
+abbrev pub ReadsLine : Text → Result Act LineFault → Type 0
+ReadsLine line answer = ReadsParts (cuts 9 line) answer
+
+-- what reading parts as a step answers
+abbrev pub ReadsStep : List Text → Result Step LineFault → Type 0
+ReadsStep parts (Ok step) = TellsStep parts step
+ReadsStep parts (Err lines.NoStep) = (step : Step) → TellsStep parts step → ⊥
+ReadsStep parts (Err lines.Memory) = Unit {0}
+
+-- what reading the names of two files answers
+abbrev pub ReadsAdoption : List Text → Result Act LineFault → Type 0
+ReadsAdoption fields (Ok (act.Step step)) = ⊥
+ReadsAdoption fields (Ok (act.Adopt plan certificate)) = fields ≡ plan ∷ certificate ∷ []
+ReadsAdoption fields (Err lines.NoStep) =
+    (plan certificate : Text) → fields ≡ plan ∷ certificate ∷ [] → ⊥
+ReadsAdoption fields (Err lines.Memory) = Unit {0}
 
 -- what reading the fields behind a word answers
 abbrev pub ReadsFields : Word → List Text → Result Step LineFault → Type 0
@@ -130,22 +163,29 @@ ReadsFields w fields (Ok step) = Follows w fields step
 ReadsFields w fields (Err lines.NoStep) = (step : Step) → Follows w fields step → ⊥
 ReadsFields w fields (Err lines.Memory) = Unit {0}
 
--- the text is a script of these steps: a line each, in order, but for lines that tell nothing
-abbrev pub IsScriptOf : Text → List Step → Type 0
-IsScriptOf text steps = AllZip Tells (told_lines text) steps
+-- the text is a script of these: a line each, in order, but for lines that are skipped
+abbrev pub IsScriptOf : Text → List Act → Type 0
+IsScriptOf text acts = AllZip Tells (told_lines text) acts
 
--- the n-th line, counted from 1, is the first that isn't skipped and tells no step
+-- the n-th line, counted from 1, is the first that isn't skipped and tells nothing
 abbrev pub IsFirstWrong : Text → ℕ → Type 0
 IsFirstWrong text n = (before : List Text) × (line : Text) × (later : List Text)
     × (cuts 10 text ≡ before ++ line ∷ later) × (n ≡ length before + 1)
-    × (is_skipped line ≡ false) × ((step : Step) → Tells line step → ⊥)
-    × All (λ earlier. (is_skipped earlier ≡ true) ⊎ ((step : Step) × Tells earlier step)) before
+    × (is_skipped line ≡ false) × ((a : Act) → Tells line a → ⊥)
+    × All (λ earlier. (is_skipped earlier ≡ true) ⊎ ((a : Act) × Tells earlier a)) before
 
 -- what reading a script answers
-abbrev pub ReadsScript : Text → Result (List Step) ScriptFault → Type 0
-ReadsScript text (Ok steps) = IsScriptOf text steps
+abbrev pub ReadsScript : Text → Result (List Act) ScriptFault → Type 0
+ReadsScript text (Ok acts) = IsScriptOf text acts
 ReadsScript text (Err (script.Line n)) = IsFirstWrong text n
 ReadsScript text (Err script.Memory) = Unit {0}
+
+-- the n-th line, counted from 1, isn't skipped, and so many lines before it aren't
+abbrev pub IsLineAt : Text → ℕ → ℕ → Type 0
+IsLineAt text place n = (before : List Text) × (line : Text) × (later : List Text)
+    × (cuts 10 text ≡ before ++ line ∷ later) × (n ≡ length before + 1)
+    × (is_skipped line ≡ false)
+    × (length (filter (λ earlier. not (is_skipped earlier)) before) ≡ place)
 
 -- what reading hex digits answers: their bytes, or that they are none; or memory ran out
 abbrev pub DecodesBody : Text → Result (List ℕ) LineFault → Type 0

@@ -5,8 +5,8 @@ use thiserror::Error;
 /// Why a script isn't read.
 #[derive(Clone, Copy, PartialEq, Eq, Debug, Error)]
 pub enum ScriptFault {
-    /// The first line that tells no step, counted from 1: its word or one of its fields isn't one,
-    /// or its data set has no item.
+    /// The line, counted from 1, that isn't one of a script: its word or one of its fields isn't
+    /// one, its data set has no item, or its files have no plan with its certificate.
     #[error("K1 Script {0}")]
     Line(u64),
     #[error("Memory")]
@@ -35,7 +35,7 @@ impl<T: Drop> From<AllocFailed<T>> for ScriptFault {
     }
 }
 
-/// Why a line tells no step.
+/// Why a line tells nothing.
 #[derive(Clone, Copy, PartialEq, Eq, Debug)]
 pub enum LineFault {
     NoStep,

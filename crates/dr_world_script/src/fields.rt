@@ -1,10 +1,11 @@
 //! Lines, fields and what is written in one field.
-ghost use Rattle.std.specs.Prelude.{◌≡◌, ◌<◌, ◌^◌, ℕ, IfOk, MatchOption, map, decimal, Result, Ok};
+ghost use Rattle.std.specs.Prelude.{◌≡◌, ◌↔◌, ◌<◌, ◌^◌, ℕ, IfOk, IsTrue, MatchOption, map, decimal};
+ghost use Rattle.std.specs.Prelude.{Result, Ok};
 ghost use Rattle.hex.specs.Hex.{decode_of};
 ghost use Rattle.dr_base.specs.declared.syntax.Syntax.{Syntax as SyntaxValue};
 ghost use Rattle.dr_cert_text.specs.Cuts.{Lacks, SplitsAt, cuts};
 ghost use Rattle.dr_world_script.specs.Scripts.{IsNumber, side_word, spelled, syntax_letter};
-ghost use Rattle.dr_world_script.specs.Scripts.{DecodesBody};
+ghost use Rattle.dr_world_script.specs.Scripts.{DecodesBody, adopt_word};
 ghost use Rattle.dr_world_script.specs.declared.step.Side.{Side as SideValue};
 ghost use Rattle.dr_world_script.specs.declared.step.Word.{Word as WordValue};
 
@@ -39,7 +40,17 @@ pub fn parts_of<'a>(alloc: Global, text: &'a [u8], mark: u8) -> Result<Vec<&'a [
     Ok(parts)
 }
 
-/// The word that is spelled so.
+/// Whether the word is that of a change of plan.
+pub fn is_adopt(field: &[u8]) -> bool
+    ensures { IsTrue result ↔ (adopt_word ≡ field.now) }
+{
+    match field {
+        b"adopt" => true,
+        _ => false,
+    }
+}
+
+/// The word of a step that is spelled so.
 pub fn read_word(field: &[u8]) -> Option<Word>
     ensures { MatchOption result ((word : WordValue) → spelled word ≡ field.now → ⊥)
         (λ word. spelled word ≡ field.now) }

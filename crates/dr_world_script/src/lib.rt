@@ -1,6 +1,8 @@
-//! What is told to the simulator: the steps of a world of nodes, and scripts of them as text.
+//! What is told to the simulator: the steps of a world of nodes and changes of their plan, and
+//! scripts of them as text.
 #![tactic(auto)]
 
+pub mod act;
 pub mod fault;
 mod fields;
 pub mod laws;
@@ -8,6 +10,7 @@ mod reading;
 pub mod script;
 pub mod step;
 
+pub use act::Act;
 pub use fault::ScriptFault;
-pub use script::read_script;
+pub use script::{line_of, read_script};
 pub use step::{Side, Step};

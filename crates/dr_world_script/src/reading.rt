@@ -2,12 +2,15 @@
 ghost use Rattle.std.specs.Prelude.{◌≡◌, ◌∷◌, [], ℕ, map, MatchOption};
 ghost use Rattle.dr_base.specs.Texts.{Text as TextValue};
 ghost use Rattle.dr_world_script.specs.Scripts.{AreNumber, AreEnd, ReadsFields, ReadsLine};
-ghost use Rattle.dr_world_script.specs.Scripts.{TakesItem};
+ghost use Rattle.dr_world_script.specs.Scripts.{ReadsAdoption, ReadsParts, ReadsStep, TakesItem};
 ghost use Rattle.dr_world_script.specs.declared.step.Side.{Side as SideValue};
 ghost use Rattle.dr_world_script.specs.declared.step.Word.TheVariants as words;
 
+use crate::act::Act;
 use crate::fault::LineFault;
-use crate::fields::{parts_of, read_bytes, read_number, read_side, read_syntax, read_word};
+use crate::fields::{
+    is_adopt, parts_of, read_bytes, read_number, read_side, read_syntax, read_word,
+};
 use crate::step::{Side, Step, Word};
 use dr_base::{Octets, Syntax, Text};
 use dr_ledger::{Item, ItemFault};
@@ -251,16 +254,48 @@ fn read_fields(alloc: Global, word: Word, fields: &[&[u8]]) -> Result<Step, Line
     }
 }
 
-/// The step that the line tells.
-pub fn read_line(alloc: Global, line: &[u8]) -> Result<Step, LineFault>
+/// The change of plan whose files these fields name.
+fn read_adoption(alloc: Global, fields: &[&[u8]]) -> Result<Act, LineFault>
+    ensures { ReadsAdoption (map (λ f. f.now) fields.now) result }
+{
+    let [first, second] = fields else {
+        return Err(LineFault::NoStep);
+    };
+    let plan = Text::copy_of(alloc, first)?;
+    let certificate = Text::copy_of(alloc, second)?;
+    Ok(Act::Adopt { plan, certificate })
+}
+
+/// The step whose word is spelled as the first part, and whose other fields these are.
+fn read_step(alloc: Global, first: &[u8], fields: &[&[u8]]) -> Result<Step, LineFault>
+    ensures { ReadsStep (first.now ∷ map (λ f. f.now) fields.now) result }
+{
+    match read_word(first) {
+        Some(word) => read_fields(alloc, word, fields),
+        None => Err(LineFault::NoStep),
+    }
+}
+
+/// What the line tells whose parts these are.
+fn read_parts(alloc: Global, first: &[u8], fields: &[&[u8]]) -> Result<Act, LineFault>
+    ensures { ReadsParts (first.now ∷ map (λ f. f.now) fields.now) result }
+{
+    if is_adopt(first) {
+        return read_adoption(alloc, fields);
+    }
+    match read_step(alloc, first, fields) {
+        Ok(step) => Ok(Act::Step(step)),
+        Err(fault) => Err(fault),
+    }
+}
+
+/// What the line tells.
+pub fn read_line(alloc: Global, line: &[u8]) -> Result<Act, LineFault>
     ensures { ReadsLine line.now result }
 {
     let parts = parts_of(alloc, line, TAB)?;
     let Some((first, fields)) = parts.as_slice().split_first() else {
         return Err(LineFault::NoStep);
     };
-    match read_word(first) {
-        Some(word) => read_fields(alloc, word, fields),
-        None => Err(LineFault::NoStep),
-    }
+    read_parts(alloc, first, fields)
 }

@@ -1,8 +1,10 @@
 //! A plan that all nodes of a world take at once.
-ghost use Rattle.std.specs.Prelude.{◌≡◌, Err, IfOk, IsErr, OnOk, length, true};
+ghost use Rattle.std.specs.Prelude.{◌≡◌, ◌∷◌, [], Err, IfOk, OnOk, Some, length};
 ghost use Rattle.std.specs.Vec.{vec_len};
 ghost use Rattle.dr_world.specs.Adopted.{AddsAbsent, AllJoin, AreJoining, ChangesTo, Took};
-ghost use Rattle.dr_world.specs.declared.fault.WorldFault.TheVariants.{Memory as MemoryFault};
+ghost use Rattle.dr_world.specs.Played.{HoldsThrough, PlaysOn};
+ghost use Rattle.dr_world.specs.declared.deed.Deed.TheVariants as deeds;
+ghost use Rattle.dr_world.specs.declared.fault.WorldFault.{WorldFault as FaultValue};
 
 use crate::changing::{Change, are_nodes, look_at_all, some_is_on, take_all};
 use crate::fault::WorldFault;
@@ -70,30 +72,48 @@ fn join_all<L: Ledger + Drop>(
     Ok(())
 }
 
+impl<L: Ledger> World<L> {
+    /// The names of the nodes that join where all nodes take this plan, in byte order.
+    ///
+    /// Errors: Memory.
+    pub fn joining(&self, next: &Plan) -> Result<Vec<Text>, AllocError>
+        ensures { IfOk result (λ names. AreJoining next.now self.now.nodes names.items) }
+    {
+        joining_in(self.alloc, next, &self.nodes)
+    }
+}
+
 impl<L: Ledger + Drop> World<Refusing<L>> {
     /// All nodes take the next plan at once (its site for each): arrivals and rows that are done
     /// leave the books, and the links are gone. A node that joins is founded over the ledger at its
     /// place, by the byte order of the names of those that join. Skipped where an end of a link
     /// isn't over, or a node isn't one of the next plan. Where the next plan doesn't go on with a
-    /// row, that row is answered, and nothing has changed. After want of memory each further step
-    /// answers Memory, and so it does after each fault of this.
+    /// row, that row is answered, and nothing has changed. After a fault, also of a step, each
+    /// further call answers that fault.
     ///
     /// Errors: WrongLedgers, where there is another number of ledgers than of nodes that join, one
     /// that isn't empty, or one of another site; HalfAdopted, where a store fails; Memory.
     pub fn adopt(&mut self, next: &Sealed, joining: Vec<L>) -> Result<Change, WorldFault>
         ensures changes { IfOk result (λ change.
             ChangesTo next.now.plan next.now.certificate self.old change self.new) }
-        ensures lost { self.old.lost ≡ true → (result ≡ Err MemoryFault) × (self.new ≡ self.old) }
-        ensures after { IsErr result → self.new.lost ≡ true }
+        ensures plays { IfOk result (λ change.
+            PlaysOn (deeds.Adopt next.now) (change ∷ []) self.old self.new) }
+        ensures holds { IfOk result (λ change.
+            HoldsThrough (deeds.Adopt next.now) (change ∷ []) self.old self.new) }
+        ensures lost { (fault : FaultValue) → self.old.lost ≡ Some fault
+            → (result ≡ Err fault) × (self.new ≡ self.old) }
+        ensures after { (fault : FaultValue) → result ≡ Err fault → self.new.lost ≡ Some fault }
     {
-        if self.lost {
+        let _plan = next.plan();
+        let _certificate = next.certificate();
+        if let Some(fault) = self.lost {
             drop(joining);
-            return Err(WorldFault::Memory);
+            return Err(fault);
         }
         match self.change(next, joining) {
             Ok(change) => Ok(change),
             Err(fault) => {
-                self.lost = true;
+                self.lost = Some(fault);
                 Err(fault)
             }
         }

@@ -1,4 +1,4 @@
-use Rattle.dr_world.proofs.Through.{deeds_keep_the_headline}
+use Rattle.dr_world.proofs.Played.{deeds_keep_the_headline}
 use Rattle.dr_world.proofs.laws.changes_keep_the_headline.Goals as goal
 
 pub returns : goal.returns

@@ -1,4 +1,4 @@
-use Rattle.dr_world.proofs.Through.{changes_go_on, steps_go_on}
+use Rattle.dr_world.proofs.Played.{changes_go_on, steps_go_on}
 use Rattle.dr_world.proofs.laws.steps_and_changes_go_on.Goals as goal
 
 pub returns-clause-steps : goal.returns-clause-steps

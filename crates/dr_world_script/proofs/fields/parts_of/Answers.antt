@@ -1,5 +1,3 @@
-use Rattle.std.proofs.Common.{◌∙◌, ap, sym, map, ◌++◌}
-use Rattle.dr_cert_text.specs.Cuts.{cuts}
 use Rattle.dr_world_script.proofs.Splitting.{one_more, last_one}
 use Rattle.dr_world_script.proofs.fields.parts_of.Goals as goal
 

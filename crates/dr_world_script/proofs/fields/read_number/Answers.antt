@@ -1,7 +1,7 @@
-use Rattle.std.proofs.Common.{decimal, subst, sym, ◌∙◌, arith}
+use Rattle.std.proofs.Common.{decimal, ◌∙◌, arith}
 use Rattle.std.proofs.lemmas.Fmt.{IsAscii-decimal}
 use Rattle.std.proofs.lemmas.Str.{IsUtf8-from_ascii}
-use Rattle.dr_cert_text.proofs.Numerals.{differ_from, same_from}
+use Rattle.dr_cert_text.proofs.Numerals.{differ_from}
 use Rattle.dr_world_script.proofs.Numerals.{not_a_number, not_this_number}
 use Rattle.dr_world_script.proofs.fields.read_number.Goals as goal
 

@@ -1,4 +1,4 @@
-use Rattle.dr_ledger.specs.declared.content.ItemFault.TheVariants.{Data, NoUid, TooLarge}
+use Rattle.dr_ledger.specs.declared.content.ItemFault.TheVariants.{Data, NoUid}
 use Rattle.dr_world_script.proofs.Items.{no_item}
 use Rattle.dr_world_script.proofs.reading.item_of.Goals as goal
 

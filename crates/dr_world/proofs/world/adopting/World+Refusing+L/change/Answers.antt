@@ -32,7 +32,11 @@ returns-in-Unfit g c =
       wires = c.args.self.now.wires;
       lost = c.args.self.now.lost;
     } c.in_ok-names.names.items c.in_ok-names.ensures c.in-Unfit.node c.in-Unfit.uid c.in-Unfit.dest
-    (sym c.some_is_on.ensures ∙ c.if-some_is_on.false) refl refl refl
+    (sym c.some_is_on.ensures ∙ c.if-some_is_on.false)
+    (subst
+    (λ (p : Network × List Text). AreNodes p.0 p.1)
+    (λ j. (c.plan.ensures.same j, c.as_slice.ensures.value j))
+    (c.are_nodes.ensures.0 c.if-not-are_nodes.false)) refl refl refl
     (subst (λ (p : List Text × Change).
     Finds c.args.next.now.plan p.0 c.args.self.now.nodes p.1 c.look_at_all.new.nodes)
     (λ j. (c.as_slice-2.ensures.value j, c.in-Unfit.is j)) c.in_ok-look_at_all.ensures)

@@ -1,0 +1,93 @@
+-- What a script tells, and what can be done of it.
+use Rattle.std.proofs.Common.{◌≡◌, ℕ, suc, ◌<◌, List, [], ◌∷◌, ◌++◌, length, refl, sym, ap, subst, ◌∙◌, arith, length-append}
+use Rattle.std.specs.List.{AllZip}
+use Rattle.std.proofs.lemmas.List.{nil_from_length}
+use Rattle.dr_base.specs.Texts.{Text}
+use Rattle.dr_plan_model.specs.Networks.{Network}
+use Rattle.dr_plan_sound.specs.declared.certificate.Certificate.{Certificate}
+use Rattle.dr_world.specs.declared.deed.Deed.{Deed}
+use Rattle.dr_world_script.specs.declared.act.Act.{Act}
+use Rattle.dr_world_script.specs.declared.act.Act.TheVariants as act
+use Rattle.dr_world_script.specs.Scripts.{IsLineAt, IsScriptOf, Tells, told_lines}
+use Rattle.dr_world_script.proofs.Placing.{lines_in_order}
+use Rattle.dr_word_simulate.specs.declared.deeds.ActFault.{ActFault}
+use Rattle.dr_word_simulate.specs.declared.deeds.ActFault.TheVariants as stop
+use Rattle.dr_word_simulate.specs.declared.outcome.PlayOutcome.{PlayOutcome}
+use Rattle.dr_word_simulate.specs.declared.outcome.PlayOutcome.TheVariants.{Report, NoScript, Unsealed, Unread, Store, HalfAdopted, Memory}
+use Rattle.dr_word_simulate.specs.Deeds.{AddsDeed, IsDeedOf, IsUndone, StopsAt}
+use Rattle.dr_word_simulate.specs.Outcomes.{IsOutcomeOf, StopsAs}
+
+-- lists that are told or done one by one are as long
+zip_length : {X Y : Type 0} (P : X → Y → Type 0) (xs : List X) (ys : List Y) → AllZip P xs ys → length xs ≡ length ys
+zip_length P [] [] h = refl
+zip_length P [] (y ∷ ys) h = absurd h
+zip_length P (x ∷ xs) [] h = absurd h
+zip_length P (x ∷ xs) (y ∷ ys) h = ap suc (zip_length P xs ys h.1)
+
+zip_push : {X Y : Type 0} (P : X → Y → Type 0) (xs : List X) (ys : List Y) (x : X) (y : Y) → AllZip P xs ys → P x y → AllZip P (xs ++ x ∷ []) (ys ++ y ∷ [])
+zip_push P [] [] x y h one = (one, tt)
+zip_push P [] (z ∷ ys) x y h one = absurd h
+zip_push P (w ∷ xs) [] x y h one = absurd h
+zip_push P (w ∷ xs) (z ∷ ys) x y h one = (h.0, zip_push P xs ys x y h.1 one)
+
+-- what is left moves over to what was done
+pub goes_on : {X : Type 0} (all done : List X) (x : X) (left rest : List X) → all ≡ done ++ left → left ≡ x ∷ rest → all ≡ (done ++ x ∷ []) ++ rest
+goes_on {X} all done x left rest so_far next = so_far ∙ ap (λ (ys : List X). done ++ ys) next ∙ sym (pushed done)
+  where
+    pushed : (ys : List X) → (ys ++ x ∷ []) ++ rest ≡ ys ++ x ∷ rest
+    pushed [] = refl
+    pushed (y ∷ ys) = ap (λ (zs : List X). y ∷ zs) (pushed ys)
+
+-- nothing is left
+pub comes_to_end : {X : Type 0} (all done left : List X) → all ≡ done ++ left → length left ≡ 0 → all ≡ done
+comes_to_end {X} all done left so_far none = so_far ∙ ap (λ (ys : List X). done ++ ys) (nil_from_length left none) ∙ alone done
+  where
+    alone : (ys : List X) → ys ++ [] ≡ ys
+    alone [] = refl
+    alone (y ∷ ys) = ap (λ (zs : List X). y ∷ zs) (alone ys)
+
+module _ (Holds : Text → Text → Type 0) where
+  pub done_more : (acts : List Act) (a : Act) (old new : List Deed) → AllZip (IsDeedOf Holds) acts old → AddsDeed Holds a old new → AllZip (IsDeedOf Holds) (acts ++ a ∷ []) new
+  done_more acts a old new so_far (done, is, e) =
+      let P : List Deed → Type 0 = λ ds. AllZip (IsDeedOf Holds) (acts ++ a ∷ []) ds in
+      subst P (sym e) (zip_push (IsDeedOf Holds) acts old a done so_far is)
+
+  pub stops : (all before : List Act) (a : Act) (left later : List Act) (deeds : List Deed) (place : ℕ) (fault : ActFault)
+      → all ≡ before ++ left → left ≡ a ∷ later → AllZip (IsDeedOf Holds) before deeds → place ≡ length deeds → IsUndone Holds a fault → StopsAt Holds all place fault
+  stops all before a left later deeds place fault so_far next done at why =
+      (before, a, later, so_far ∙ ap (λ (ys : List Act). before ++ ys) next, zip_length (IsDeedOf Holds) before deeds done ∙ sym at, why, (deeds, done))
+
+  -- a stop is at a line
+  pub stops_at_line : (text : Text) (acts : List Act) (place : ℕ) (fault : ActFault) → IsScriptOf text acts → StopsAt Holds acts place fault → place < length (told_lines text)
+  stops_at_line text acts place fault script (before, a, later, e, at, why, rest) =
+      let lines = zip_length Tells (told_lines text) acts script in
+      let many = ap (λ (xs : List Act). length xs) e ∙ length-append before (a ∷ later) in
+      omega (arith, lines, many, at)
+
+  pub stopped : (plan : Network) (certificate : Certificate) (text : Text) (acts : List Act) (place : ℕ) (fault : ActFault) (outcome : PlayOutcome)
+      → IsScriptOf text acts → StopsAt Holds acts place fault → StopsAs text place fault outcome → IsOutcomeOf Holds plan certificate text outcome
+  stopped plan certificate text acts place stop.Unsealed (Unsealed line) script (before, act.Step step, later, e, at, why, rest) came = absurd why
+  stopped plan certificate text acts place stop.Unsealed (Unsealed line) script (before, act.Adopt next own, later, e, at, why, rest) came =
+      let P : List Act → Type 0 = λ xs. IsScriptOf text xs in
+      let Q : ℕ → Type 0 = λ n. IsLineAt text n line in
+      (next, own, lines_in_order text before later (act.Adopt next own) line (subst P e script) (subst Q (sym at) came), why)
+  stopped plan certificate text acts place stop.Unsealed (Report report) script at came = absurd came
+  stopped plan certificate text acts place stop.Unsealed (NoScript line) script at came = absurd came
+  stopped plan certificate text acts place stop.Unsealed (Unread path error) script at came = tt
+  stopped plan certificate text acts place stop.Unsealed Store script at came = tt
+  stopped plan certificate text acts place stop.Unsealed HalfAdopted script at came = tt
+  stopped plan certificate text acts place stop.Unsealed Memory script at came = tt
+  stopped plan certificate text acts place (stop.Unread named why) (Report report) script at came = absurd came
+  stopped plan certificate text acts place (stop.Unread named why) (NoScript line) script at came = absurd came
+  stopped plan certificate text acts place (stop.Unread named why) (Unsealed line) script at came = absurd came
+  stopped plan certificate text acts place (stop.Unread named why) (Unread path error) script at came = tt
+  stopped plan certificate text acts place (stop.Unread named why) Store script at came = tt
+  stopped plan certificate text acts place (stop.Unread named why) HalfAdopted script at came = tt
+  stopped plan certificate text acts place (stop.Unread named why) Memory script at came = tt
+  stopped plan certificate text acts place stop.Memory (Report report) script at came = absurd came
+  stopped plan certificate text acts place stop.Memory (NoScript line) script at came = absurd came
+  stopped plan certificate text acts place stop.Memory (Unsealed line) script at came = absurd came
+  stopped plan certificate text acts place stop.Memory (Unread path error) script at came = tt
+  stopped plan certificate text acts place stop.Memory Store script at came = tt
+  stopped plan certificate text acts place stop.Memory HalfAdopted script at came = tt
+  stopped plan certificate text acts place stop.Memory Memory script at came = tt

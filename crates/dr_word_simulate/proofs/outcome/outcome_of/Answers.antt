@@ -1,0 +1,33 @@
+use Rattle.std.proofs.Common.{List, subst}
+use Rattle.std.specs.List.{AllZip}
+use Rattle.dr_world.specs.declared.deed.Deed.{Deed}
+use Rattle.dr_world_script.specs.declared.act.Act.{Act}
+use Rattle.dr_word_simulate.specs.Deeds.{IsDeedOf, StopsAt}
+use Rattle.dr_word_simulate.specs.Reported.{IsReportAfter}
+use Rattle.dr_word_simulate.proofs.Doing.{stopped, stops_at_line}
+use Rattle.dr_word_simulate.proofs.outcome.outcome_of.Goals as goal
+
+pub outcome_of_stop-requires : goal.outcome_of_stop-requires
+outcome_of_stop-requires g c =
+    let stop = c.in-Err.stop in
+    let P : List Act → Type 0 = λ acts. StopsAt (g.F.Files.holds c.args.files.now) acts stop.place stop.fault in
+    stops_at_line (g.F.Files.holds c.args.files.now) c.args.text.now c.in-Ok.acts stop.place stop.fault c.in-Ok.ensures (subst P c.into_vec.ensures c.in-Err.ensures)
+
+pub returns-in-Err : goal.returns-in-Err
+returns-in-Err g c =
+    let stop = c.in-Err.stop in
+    let P : List Act → Type 0 = λ acts. StopsAt (g.F.Files.holds c.args.files.now) acts stop.place stop.fault in
+    stopped (g.F.Files.holds c.args.files.now) c.args.sealed.now.plan c.args.sealed.now.certificate c.args.text.now c.in-Ok.acts stop.place stop.fault c.outcome_of_stop.result c.in-Ok.ensures
+    (subst P c.into_vec.ensures c.in-Err.ensures) c.outcome_of_stop.ensures
+
+pub returns-in-Ok-report_after : goal.returns-in-Ok-report_after
+returns-in-Ok-report_after g c =
+    let P : List Act → Type 0 = λ acts. AllZip (IsDeedOf (g.F.Files.holds c.args.files.now)) acts c.in-Ok-deeds_of.deeds.items in
+    let Q : List Deed → Type 0 = λ deeds. IsReportAfter c.args.sealed.now.plan c.args.sealed.now.certificate deeds c.in-Ok-report_after.report in
+    record {
+      acts = c.in-Ok.acts;
+      told = c.in-Ok.ensures;
+      deeds = c.in-Ok-deeds_of.deeds.items;
+      done = subst P c.into_vec.ensures c.in-Ok-deeds_of.ensures;
+      reported = subst Q c.as_slice.ensures.value c.in-Ok-report_after.ensures;
+    }

@@ -1,0 +1,209 @@
+-- Steps and changes of plan, one after the other, and what holds after them.
+use Rattle.std.specs.Prelude.{◌≡◌, ◌⊎◌, List, [], ◌∷◌, ◌++◌, Some, map as mapped}
+use Rattle.std.specs.BTreeMap as tree
+use Rattle.dr_base.specs.Texts.{Text, text_cmp}
+use Rattle.dr_ledger.specs.declared.ledger.Ledger.{Ghosts}
+use Rattle.dr_plan_model.specs.Networks.{Network}
+use Rattle.dr_plan_sound.specs.declared.certificate.Certificate.{Certificate}
+use Rattle.dr_cert.specs.Sealing.{Certified}
+use Rattle.dr_site.specs.Sites.{IsCertified}
+use Rattle.dr_node.specs.declared.node.Node.{Node}
+use Rattle.dr_world_model.specs.Worlds as model
+use Rattle.dr_world_model.specs.Claims.{Headline}
+use Rattle.dr_world_model.specs.Events.{HasNode}
+use Rattle.dr_world_model.specs.Runs.{Action, Adopt as Adopting, Occurs, Runs}
+use Rattle.dr_world_tie.specs.ByteWorlds.{ByteWorld, StepNote, Steps, beginning}
+use Rattle.dr_world_tie.specs.Changes.{AllAreOver, TakesPlan}
+use Rattle.dr_world_tie.specs.Shown.{ComesAbout, RunsOf}
+use Rattle.dr_world_script.specs.declared.step.Step.{Step}
+use Rattle.dr_world.specs.declared.changing.Change.{Change}
+use Rattle.dr_world.specs.declared.changing.Change.TheVariants.{Adopted, Skipped, Unfit}
+use Rattle.dr_world.specs.declared.deed.Deed.{Deed}
+use Rattle.dr_world.specs.declared.deed.Deed.TheVariants as deed
+use Rattle.dr_world.specs.declared.steps.StepNote.{StepNote as Note}
+use Rattle.dr_world.specs.declared.world.World.{World}
+use Rattle.dr_world.specs.Adopted.{AllStay, ChangesTo, IsFirstUnfit}
+use Rattle.dr_world.specs.Runs.{step_of}
+use Rattle.dr_world.specs.Shows.{IsSeated, ShowsBytes}
+use Rattle.dr_world.specs.Whole.{AllStand, StepsTo, contents}
+
+-- ---- in the world of bytes
+
+-- What a change of plan comes to: all nodes take the next plan; or an end is on, or a node isn't
+-- one of the next plan; or a row doesn't fit. But in the first case nothing has changed.
+abbrev pub Changes : Network → ByteWorld → Network → Certificate → Change → ByteWorld → Type 0
+Changes plan b next own Adopted new = IsCertified next own × TakesPlan plan b next new
+Changes plan b next own Skipped new =
+    (new ≡ b)
+    × ((AllAreOver b → ⊥) ⊎ ((name : Text) × HasNode plan name × (HasNode next name → ⊥)))
+Changes plan b next own (Unfit node uid dest) new =
+    (new ≡ b) × AllAreOver b × AllStay plan next
+    × IsFirstUnfit plan next b.desks node (uid, dest)
+
+-- the plan in force and its certificate after a change
+abbrev pub plan_after : Network → Change → Network → Network
+plan_after next Adopted plan = next
+plan_after next Skipped plan = plan
+plan_after next (Unfit node uid dest) plan = plan
+
+abbrev pub certificate_after : Certificate → Change → Certificate → Certificate
+certificate_after own Adopted certificate = own
+certificate_after own Skipped certificate = certificate
+certificate_after own (Unfit node uid dest) certificate = certificate
+
+-- Deeds one after the other, from one plan and world of bytes to another; each change among them
+-- comes to what stands for it, in their order.
+abbrev pub PlaysThrough : Network → Certificate → ByteWorld → List Deed → List Change → Network
+    → Certificate → ByteWorld → Type 0
+PlaysThrough plan certificate b [] changes last its new =
+    (changes ≡ []) × (last ≡ plan) × (its ≡ certificate) × (new ≡ b)
+PlaysThrough plan certificate b (deed.Step step ∷ deeds) changes last its new =
+    (note : StepNote) × (mid : ByteWorld)
+    × Steps plan certificate b (step_of step) note mid
+    × PlaysThrough plan certificate mid deeds changes last its new
+PlaysThrough plan certificate b (deed.Adopt next ∷ deeds) [] last its new = ⊥
+PlaysThrough plan certificate b (deed.Adopt next ∷ deeds) (change ∷ changes) last its new =
+    (mid : ByteWorld)
+    × Changes plan b next.plan next.certificate change mid
+    × PlaysThrough (plan_after next.plan change plan)
+    (certificate_after next.certificate change certificate) mid deeds changes last its new
+
+-- ---- in the world of messages
+
+-- the plans that were taken, in their order
+abbrev pub taken_in : List Deed → List Change → List Network
+taken_in [] changes = []
+taken_in (deed.Step step ∷ deeds) changes = taken_in deeds changes
+taken_in (deed.Adopt next ∷ deeds) [] = []
+taken_in (deed.Adopt next ∷ deeds) (Adopted ∷ changes) = next.plan ∷ taken_in deeds changes
+taken_in (deed.Adopt next ∷ deeds) (Skipped ∷ changes) = taken_in deeds changes
+taken_in (deed.Adopt next ∷ deeds) (Unfit node uid dest ∷ changes) = taken_in deeds changes
+
+abbrev pub adopted_in : List Action → List Network
+adopted_in [] = []
+adopted_in (Occurs event ∷ actions) = adopted_in actions
+adopted_in (Adopting next ∷ actions) = next ∷ adopted_in actions
+
+-- the plan in force after these, where it was that one at first
+abbrev pub in_force : Network → List Network → Network
+in_force plan [] = plan
+in_force plan (next ∷ more) = in_force next more
+
+-- events, and the adoptions of just these plans, lead from the start to the world
+abbrev pub ComesBy : Network → List Network → model.World → Type 0
+ComesBy first taken v =
+    (actions : List Action)
+    × (adopted_in actions ≡ taken)
+    × Runs first model.start actions (in_force first taken) v
+
+-- ---- of code
+
+-- These deeds, with what the changes among them come to, lead from the beginning of the world of
+-- bytes to one that stands beside the contents. Each node is one of the plan in force.
+abbrev pub WasPlayed : {L : Type 0} {l : Ghosts L}
+    → Network → Certificate → List Deed → List Change → World L l → Type 0
+WasPlayed first its deeds changes w =
+    ∥ ((plan : Network) × (certificate : Certificate)
+    × IsSeated plan certificate (contents w).seats
+    × ((b : ByteWorld)
+    × PlaysThrough first its beginning deeds changes plan certificate b
+    × ShowsBytes (contents w) b)) ∥₁
+
+-- the same, under the ledgers' own premise
+abbrev pub IsPlayed : {L : Type 0} {l : Ghosts L}
+    → Network → Certificate → List Deed → List Change → World L l → Type 0
+IsPlayed first its deeds changes w = AllStand w → WasPlayed first its deeds changes w
+
+-- The headline's four claims hold of the nodes' books by the plan in force: of a world of messages
+-- that has just these, and to which events and the adoptions of just these plans lead.
+abbrev pub HoldsBy : {L : Type 0} {l : Ghosts L} → Network → List Network → World L l → Type 0
+HoldsBy {L} {l} first taken w =
+    ∥ ((v : model.World)
+    × ((name : Text) (n : Node L l)
+    → tree.get text_cmp w.nodes name ≡ Some n
+    → v.books name ≡ l.book n.desk.ledger)
+    × ComesBy first taken v
+    × Headline (in_force first taken) v) ∥₁
+
+-- a deed more, from any world to which some deeds have led; it has come to what is told
+abbrev pub PlaysOn : {L : Type 0} {l : Ghosts L}
+    → Deed → List Change → World L l → World L l → Type 0
+PlaysOn done told old new =
+    (first : Network) (its : Certificate)
+    → IsCertified first its
+    → (deeds : List Deed) (changes : List Change)
+    → IsPlayed first its deeds changes old
+    → IsPlayed first its (deeds ++ done ∷ []) (changes ++ told) new
+
+-- The four claims hold after it, whatever deeds have led to where it was done, under the ledgers'
+-- own premise.
+abbrev pub HoldsThrough : {L : Type 0} {l : Ghosts L}
+    → Deed → List Change → World L l → World L l → Type 0
+HoldsThrough done told old new =
+    (first : Network) (its : Certificate)
+    → IsCertified first its
+    → (deeds : List Deed) (changes : List Change)
+    → IsPlayed first its deeds changes old
+    → AllStand new
+    → HoldsBy first (taken_in (deeds ++ done ∷ []) (changes ++ told)) new
+
+-- several deeds more
+abbrev pub PlaysAll : {L : Type 0} {l : Ghosts L}
+    → List Deed → List Change → World L l → World L l → Type 0
+PlaysAll done told old new =
+    (first : Network) (its : Certificate)
+    → IsCertified first its
+    → (deeds : List Deed) (changes : List Change)
+    → IsPlayed first its deeds changes old
+    → IsPlayed first its (deeds ++ done) (changes ++ told) new
+
+-- A world that just these deeds have made of the plan, and nothing else is asked: they lead to it
+-- from the beginning, each change came to what stands for it, and the headline's four claims hold
+-- of its nodes' books by the plan in force.
+abbrev pub IsRunOf : {L : Type 0} {l : Ghosts L}
+    → Network → Certificate → List Deed → List Change → World L l → Type 0
+IsRunOf plan certificate deeds changes w =
+    WasPlayed plan certificate deeds changes w × HoldsBy plan (taken_in deeds changes) w
+
+-- ---- laws
+
+-- From wherever deeds have led to, a step of a simulator's world goes on, and so does a change of
+-- plan.
+abbrev pub StepsGoOn : {L : Type 0} {l : Ghosts L} → World L l → World L l → Type 0
+StepsGoOn old new =
+    (step : Step) (note : Note)
+    → StepsTo (step_of step) old note new
+    → PlaysOn (deed.Step step) [] old new
+
+abbrev pub ChangesGoOn : {L : Type 0} {l : Ghosts L} → World L l → World L l → Type 0
+ChangesGoOn old new =
+    (next : Certified)
+    → IsCertified next.plan next.certificate
+    → (change : Change)
+    → ChangesTo next.plan next.certificate old change new
+    → PlaysOn (deed.Adopt next) (change ∷ []) old new
+
+-- Wherever they have led to, the four claims hold by the plan in force.
+abbrev pub DeedsKeepTheHeadline : {L : Type 0} {l : Ghosts L} → World L l → Type 0
+DeedsKeepTheHeadline w =
+    (first : Network) (its : Certificate)
+    → IsCertified first its
+    → (deeds : List Deed) (changes : List Change)
+    → IsPlayed first its deeds changes w
+    → AllStand w
+    → HoldsBy first (taken_in deeds changes) w
+
+-- Steps alone are played as before there were changes: by the steps of the world of bytes, with no
+-- change to tell, and the plan stays in force.
+abbrev pub StepsAloneRun : Type 0
+StepsAloneRun =
+    (plan last : Network) (certificate its : Certificate) (b new : ByteWorld)
+    → (steps : List Step) (changes : List Change)
+    → PlaysThrough plan certificate b (mapped deed.Step steps) changes last its new
+    → (changes ≡ []) × (last ≡ plan)
+    × RunsOf plan certificate b (mapped step_of steps) new
+    × (taken_in (mapped deed.Step steps) changes ≡ [])
+
+-- And where no plan was taken, events alone have led to the world of messages.
+abbrev pub EventsAloneLead : Type 0
+EventsAloneLead = (plan : Network) (v : model.World) → ComesBy plan [] v → ComesAbout plan v
