@@ -12,4 +12,5 @@ IsFirstDue queue since uid =
 -- there is none, or the first one came to be over later
 abbrev pub IsNotDue : List Over → ℕ → Type 0
 IsNotDue queue since =
-    (queue ≡ []) ⊎ ((first : Over) × (rest : List Over) × (queue ≡ first ∷ rest) × (since < first.at))
+    (queue ≡ [])
+    ⊎ ((first : Over) × (rest : List Over) × (queue ≡ first ∷ rest) × (since < first.at))

@@ -276,7 +276,10 @@ where
 }
 
 /// What those who serve, send and sweep come back with: their passes.
-type Came<B> = (Result<Vec<Pass<B>>, WorkersFault>, (Vec<HopSender<B>>, Sweeper<B>));
+type Came<B> = (
+    Result<Vec<Pass<B>>, WorkersFault>,
+    (Vec<HopSender<B>>, Sweeper<B>),
+);
 
 /// Serves, sends and tells of the node, side by side; the passes of those who serve, those who
 /// send, and the one who sweeps.
@@ -327,7 +330,11 @@ where
             requires { IsSync R.row × IsSend L.row × IsSend B.row × IsSync B.row × IsSync D.row
                 × IsSync N.row × IsSend N.Socket.row × IsSync N.Listener.row × IsSync C.row
                 × IsSync G.row }
-        { send_and_keep(rt, alloc, desk, hops, senders, crew, sweeper, &wake, clock, log) },
+        {
+            send_and_keep(
+                rt, alloc, desk, hops, senders, crew, sweeper, &wake, clock, log,
+            )
+        },
     )
 }
 

@@ -131,8 +131,8 @@ impl Signal {
         })
     }
 
-    /// The last row of an instance may be over, at that moment. Where there is no memory to note it,
-    /// that is found at the next start.
+    /// The last row of an instance may be over, at that moment. Where there is no memory to note
+    /// it, that is found at the next start.
     pub fn note_over<R: Wait>(&self, rt: &R, uid: &Text, at: u64) {
         if !self.sweeps {
             return;

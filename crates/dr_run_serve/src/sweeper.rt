@@ -50,10 +50,7 @@ fn some_over(
 }
 
 /// Those of them of which no row is to be sent still.
-fn all_over(
-    found: BTreeMap<Text, u64>,
-    rows: &[((Text, Text), Progress)],
-) -> BTreeMap<Text, u64> {
+fn all_over(found: BTreeMap<Text, u64>, rows: &[((Text, Text), Progress)]) -> BTreeMap<Text, u64> {
     let mut found = found;
     for row in rows {
         if !is_over(&row.1) {
