@@ -130,6 +130,10 @@ enum Choice {
     Seconds(Value<'static>, &'static str),
     UntilInputEnds,
     MustExist,
+    Control,
+    Token,
+    Host,
+    Anyone,
 }
 
 impl<'a> Makes<Arg<'a>> for Choice {
@@ -156,6 +160,10 @@ impl<'a> Makes<Arg<'a>> for Choice {
             Choice::Seconds((name, help), option) => Ok(seconds(alloc, name, option, help)),
             Choice::UntilInputEnds => Ok(until_input_ends(alloc)),
             Choice::MustExist => Ok(must_exist(alloc)),
+            Choice::Control => Ok(control(alloc)),
+            Choice::Token => with_control(token(alloc)),
+            Choice::Host => with_control(host(alloc)),
+            Choice::Anyone => with_control(anyone(alloc)),
         }
     }
 }
@@ -489,6 +497,46 @@ fn must_exist<'a>(alloc: Global) -> Arg<'a> {
         .help("refuses a ledger's file that isn't there, where else one is made")
 }
 
+/// Where `serve` may be asked and told to act.
+fn control<'a>(alloc: Global) -> Arg<'a> {
+    Arg::new(alloc, "CONTROL")
+        .long("control")
+        .action(ArgAction::Set)
+        .value_name("HOST:PORT")
+        .help("may be asked there what it has, and told to act, by HTTP")
+}
+
+/// Who may tell it to act.
+fn token<'a>(alloc: Global) -> Arg<'a> {
+    Arg::new(alloc, "TOKEN")
+        .long("control-token")
+        .action(ArgAction::Set)
+        .value_name("FILE")
+        .help("the file with the token that an act needs; without it nothing can be acted")
+}
+
+/// By which name it may be called there, too.
+fn host<'a>(alloc: Global) -> Arg<'a> {
+    Arg::new(alloc, "HOST")
+        .long("control-host")
+        .action(ArgAction::Set)
+        .value_name("HOST")
+        .help("one name more by which a request may call it")
+}
+
+/// Whether it may be asked from other machines.
+fn anyone<'a>(alloc: Global) -> Arg<'a> {
+    Arg::new(alloc, "ANYONE")
+        .long("control-anyone")
+        .action(ArgAction::SetTrue)
+        .help("allows an address that other machines reach; to read needs the token then, too")
+}
+
+/// Such an option says nothing without an address.
+fn with_control<'a>(option: Arg<'a>) -> Result<Arg<'a>, AllocError> {
+    option.requires_arg("CONTROL")
+}
+
 /// The times for which `serve` waits.
 const CONNECT: Choice = Choice::Seconds(("CONNECT", "gives a connect up then (10)"), "connect");
 
@@ -537,6 +585,10 @@ fn serve<'a>(alloc: Global) -> Result<Command<'a>, AllocError> {
             IDLE,
             Choice::UntilInputEnds,
             Choice::MustExist,
+            Choice::Control,
+            Choice::Token,
+            Choice::Host,
+            Choice::Anyone,
         ],
     )
 }
