@@ -1,2 +1,3 @@
 pub mod Consoles
+pub mod Names
 pub mod Replies

@@ -7,11 +7,15 @@
 //! What is shown is copied under the desk's lock, and written when it was given back.
 #![tactic(auto)]
 
+mod access;
 mod acts;
 mod console;
 mod reads;
 mod reply;
 mod talk;
 
+pub use access::names_of;
+pub use acts::RowAct;
 pub use console::{Console, House};
+pub use reply::name_of_refusal;
 pub use talk::talk;

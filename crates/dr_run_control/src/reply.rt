@@ -1,5 +1,7 @@
 //! Replies: a status, and a text.
-ghost use Rattle.std.specs.Prelude.{◌≡◌};
+ghost use Rattle.std.specs.Prelude.{◌≡◌, IsTrue};
+ghost use Rattle.http_header.specs.FieldName.{is_header_name};
+ghost use Rattle.http_header.specs.FieldValue.{is_visible_text};
 ghost use Rattle.dr_run_control.specs.Replies.{status_of_fault, status_of_form, status_of_refusal};
 
 use bytes::Bytes;
@@ -61,7 +63,7 @@ pub(crate) fn status_of_refusal(refused: Refused) -> StatusCode
 }
 
 /// The name of a refusal.
-fn name_of_refusal(refused: Refused) -> &'static str {
+pub fn name_of_refusal(refused: Refused) -> &'static str {
     match refused {
         Refused::Host => "Host",
         Refused::Path => "Path",

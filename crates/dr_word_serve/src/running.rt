@@ -8,13 +8,14 @@ ghost use Rattle.dr_run_open.specs.declared.halt.Halt.{Halt as HaltValue};
 ghost use Rattle.dr_word_serve.specs.Serving.{Grew, IsUnheard, IsUnserved, Serves};
 
 use dr_base::Text;
-use dr_ledger::{Ledger, LedgerFault};
+use dr_ledger::{Ledger, LedgerFault, LetsGo};
 use dr_ledger_report::report_of;
 use dr_run_files::{Failure, Files, NodeFiles};
 use dr_run_net::{Limits, Listening, Network};
 use dr_run_open::{Halt, Ledgers, Making, NextHop, Opened, Status, finish, hops_of, open_node};
 use dr_run_report::{OwnPaths, Paths, test_path};
-use dr_run_serve::{Ending, FileMonitor, Monitor, ServeFault, Stop, Terms, serve};
+use dr_run_serve::{ControlPlace, ControlPort, Ending, FileMonitor, Monitor, ServeFault, Stop};
+use dr_run_serve::{Terms, serve};
 use dr_run_shown::Escaped;
 use dr_session::{Clock, Link};
 use dr_site::Site;
@@ -72,7 +73,7 @@ fn listen_at<'a, L: Ledger + Drop, N: Network>(
 fn serve_ledger<
     'a,
     R: Threads + Wait + Sync + time::Clock,
-    L: Ledger + Drop + Send,
+    L: LetsGo + Drop + Send,
     K: Link + Drop + Send,
     D: Listening<Socket = K> + Sync,
     N: Network + Sync,
@@ -119,7 +120,7 @@ where
 fn serve_opened<
     'a,
     R: Threads + Wait + Sync + time::Clock,
-    L: Ledger + Drop + Send,
+    L: LetsGo + Drop + Send,
     K: Link + Drop + Send,
     D: Listening<Socket = K> + Sync,
     N: Network + Sync,
@@ -239,6 +240,7 @@ fn serve_node<
     given: NodeFiles<'a>,
     serving: Serving<'a>,
     stop: &Stop,
+    control: Option<&ControlPort>,
     network: &N,
     clock: &C,
     log: &G,
@@ -265,6 +267,7 @@ where
         usize::from(serving.workers),
         u64::from(serving.memory) * 1_000_000,
         stop,
+        control,
     );
     tell_serving(log, given, serving, terms.workers());
     serve_opened::<R, O::Ledger, N::Socket, N::Listener, N, C, G>(
@@ -319,14 +322,38 @@ fn stop_of<'a, U: Ending>(
     }
 }
 
+/// Listens where the node may be asked and told to act, if it may.
+///
+/// Errors: File with the address, where nothing listens there, or its token is refused.
+fn control_of<'a, U: Ending>(
+    alloc: Global,
+    serving: Serving<'a>,
+    ending: &U,
+) -> Result<Option<ControlPort>, Failure<'a>> {
+    let Some(control) = serving.control else {
+        return Ok(None);
+    };
+    let place = ControlPlace {
+        at: control.at,
+        token: control.token,
+        host: control.host,
+        is_for_anyone: control.is_for_anyone,
+    };
+    match ending.open_control(alloc, place) {
+        Ok(port) => Ok(Some(port)),
+        Err(error) => Err(Failure::File(control.at, error)),
+    }
+}
+
 /// Serves at the address of a node, whose plan, certificate and ledger are in these files, and
 /// sends what is due. After so many connections (for 0 never), or where that is asked for when the
 /// input has ended, the node's report is printed. Events are logged as they happen; where a file is
-/// named for it, the report is written there too, at most every ten seconds.
+/// named for it, the report is written there too, at most every ten seconds. Where an address is
+/// named for it, the node may be asked there what it has, and told to act.
 ///
 /// Errors: Stream, also where the system gives no thread for the input; File; File with the node's
-/// name where its address can't be listened at, and with the report's path where no report may be
-/// written there.
+/// name where its address can't be listened at, with the report's path where no report may be
+/// written there, and with the control's address where nothing may listen there.
 pub fn serve_files<
     'a,
     R: Threads + Wait + Sync + time::Clock,
@@ -370,6 +397,7 @@ where
         path: serving.report,
     };
     let stop = stop_of(alloc, serving, ending)?;
+    let control = control_of(alloc, serving, ending)?;
     let came = serve_node(
         rt,
         alloc,
@@ -378,9 +406,11 @@ where
         given,
         serving,
         stop.as_ref(),
+        control.as_ref(),
         network,
         clock,
         &monitor,
     );
+    drop(control);
     finish(came, output, faults)
 }
