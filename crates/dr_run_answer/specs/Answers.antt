@@ -41,12 +41,20 @@ cause_part (cause.Status status) =
     word (codes "cause") (encode_upper (status / 256 ∷ status % 256 ∷ []))
 cause_part cause.NoContext = word (codes "cause") (codes "no-context")
 
--- how far a row is
-abbrev pub progress_part : Progress → Text
-progress_part (progress.Waiting tries due) =
+-- a row waits: how often it was tried, and from when on it is due
+abbrev pub waiting_part : ℕ → ℕ → Text
+waiting_part tries due =
     word (codes "state") (codes "waiting") ++ number (codes "tries") tries
     ++ number (codes "due") due
-progress_part (progress.Held why) = word (codes "state") (codes "held") ++ cause_part why
+
+-- a row is held, and why
+abbrev pub held_part : Cause → Text
+held_part why = word (codes "state") (codes "held") ++ cause_part why
+
+-- how far a row is
+abbrev pub progress_part : Progress → Text
+progress_part (progress.Waiting tries due) = waiting_part tries due
+progress_part (progress.Held why) = held_part why
 progress_part progress.Done = word (codes "state") (codes "done")
 progress_part progress.Dropped = word (codes "state") (codes "dropped")
 
@@ -144,13 +152,13 @@ rows_figure dest state value =
     codes "dr_router_rows{dest=" ++ quoted dest ++ codes ",state=" ++ quoted state ++ codes "} "
     ++ decimal value ++ codes "\n"
 
-abbrev pub queue_figures : Text → ℕ → ℕ → ℕ → Text
-queue_figures dest waiting held done =
-    rows_figure dest (codes "waiting") waiting ++ rows_figure dest (codes "held") held
-    ++ rows_figure dest (codes "done") done
+-- how many rows of a queue wait, are held and are done
+abbrev pub stages_of : Queue → Text
+stages_of queue =
+    rows_figure queue.dest.now (codes "waiting") queue.waiting
+    ++ rows_figure queue.dest.now (codes "held") queue.held
+    ++ rows_figure queue.dest.now (codes "done") queue.done
 
--- how many rows to each node wait, are held and are done
+-- the same for each node
 abbrev pub queues_figures : List Queue → Text
-queues_figures queues =
-    codes "# TYPE dr_router_rows gauge\n"
-    ++ flat_map (λ (q : Queue). queue_figures q.dest.now q.waiting q.held q.done) queues
+queues_figures queues = codes "# TYPE dr_router_rows gauge\n" ++ flat_map stages_of queues

@@ -1,10 +1,10 @@
 //! Figures in the text format of Prometheus.
 ghost use Rattle.std.specs.Prelude.{◌≡◌, ◌++◌, OnOk, decimal, flat_map};
-ghost use Rattle.dr_run_answer.specs.Answers.{figure, figures, queue_figures, queues_figures};
-ghost use Rattle.dr_run_answer.specs.Answers.{rows_figure};
+ghost use Rattle.dr_run_answer.specs.Answers.{figure, figures, queues_figures, rows_figure};
+ghost use Rattle.dr_run_answer.specs.Answers.{stages_of};
 
 use crate::json::{Counts, Queue, put_decimal};
-use crate::quoted::put_quoted;
+use crate::quoted::{put_text, put_words};
 use dr_base::Text;
 use std::alloc::AllocError;
 
@@ -38,22 +38,32 @@ fn put_rows(out: &mut Vec<u8>, dest: &Text, state: &str, value: u64) -> Result<(
     ensures { OnOk result (out.new.items ≡ out.old.items ++ rows_figure dest.now state.now value) }
 {
     out.extend_from_slice(b"dr_router_rows{dest=")?;
-    put_quoted(out, dest.as_bytes())?;
+    put_text(out, dest)?;
     out.extend_from_slice(b",state=")?;
-    put_quoted(out, state.as_bytes())?;
+    put_words(out, state)?;
     out.extend_from_slice(b"} ")?;
     put_decimal(out, value)?;
-    out.extend_from_slice(b"\n")
+    out.extend_from_slice(b"\n")?;
+    Ok(())
 }
 
 /// Adds how many rows to a node wait, are held and are done.
 fn put_stages(out: &mut Vec<u8>, queue: &Queue<'_>) -> Result<(), AllocError>
-    ensures { OnOk result (out.new.items ≡ out.old.items
-        ++ queue_figures queue.now.dest.now queue.now.waiting queue.now.held queue.now.done) }
+    ensures { OnOk result (out.new.items ≡ out.old.items ++ stages_of queue.now) }
 {
     put_rows(out, queue.dest, "waiting", queue.waiting)?;
     put_rows(out, queue.dest, "held", queue.held)?;
     put_rows(out, queue.dest, "done", queue.done)
+}
+
+/// The same for each node.
+fn put_each(out: &mut Vec<u8>, queues: &[Queue<'_>]) -> Result<(), AllocError>
+    ensures { OnOk result (out.new.items ≡ out.old.items ++ flat_map stages_of queues.now) }
+{
+    for queue in queues {
+        put_stages(out, queue)?;
+    }
+    Ok(())
 }
 
 /// Adds how many rows to each node wait, are held and are done.
@@ -61,8 +71,6 @@ pub fn put_queues(out: &mut Vec<u8>, queues: &[Queue<'_>]) -> Result<(), AllocEr
     ensures { OnOk result (out.new.items ≡ out.old.items ++ queues_figures queues.now) }
 {
     out.extend_from_slice(b"# TYPE dr_router_rows gauge\n")?;
-    for queue in queues {
-        put_stages(out, queue)?;
-    }
+    put_each(out, queues)?;
     Ok(())
 }

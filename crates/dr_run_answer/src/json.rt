@@ -1,10 +1,10 @@
 //! Lines of JSON.
 ghost use Rattle.std.specs.Prelude.{◌≡◌, ◌++◌, OnOk, decimal};
-ghost use Rattle.dr_run_answer.specs.Answers.{cause_part, due_part, done_line, fault_line, number};
-ghost use Rattle.dr_run_answer.specs.Answers.{line_of_queue, node_line, progress_part, row_line};
-ghost use Rattle.dr_run_answer.specs.Answers.{well_line, word};
+ghost use Rattle.dr_run_answer.specs.Answers.{cause_part, done_line, due_part, fault_line, held_part};
+ghost use Rattle.dr_run_answer.specs.Answers.{line_of_queue, node_line, number, progress_part};
+ghost use Rattle.dr_run_answer.specs.Answers.{row_line, waiting_part, well_line, word};
 
-use crate::quoted::put_quoted;
+use crate::quoted::{put_quoted, put_text};
 use dr_base::Text;
 use dr_ledger::{Cause, Progress};
 use std::alloc::AllocError;
@@ -73,20 +73,32 @@ fn put_cause(out: &mut Vec<u8>, cause: Cause) -> Result<(), AllocError>
     }
 }
 
+/// Adds that a row waits: how often it was tried, and from when on it is due.
+fn put_waiting(out: &mut Vec<u8>, tries: u64, due: u64) -> Result<(), AllocError>
+    ensures { OnOk result (out.new.items ≡ out.old.items ++ waiting_part tries due) }
+{
+    put_word(out, "state", b"waiting")?;
+    put_number(out, "tries", tries)?;
+    put_number(out, "due", due)?;
+    Ok(())
+}
+
+/// Adds that a row is held, and why.
+fn put_held(out: &mut Vec<u8>, cause: Cause) -> Result<(), AllocError>
+    ensures { OnOk result (out.new.items ≡ out.old.items ++ held_part cause) }
+{
+    put_word(out, "state", b"held")?;
+    put_cause(out, cause)?;
+    Ok(())
+}
+
 /// Adds how far a row is.
 fn put_progress(out: &mut Vec<u8>, progress: Progress) -> Result<(), AllocError>
     ensures { OnOk result (out.new.items ≡ out.old.items ++ progress_part progress) }
 {
     match progress {
-        Progress::Waiting { tries, due } => {
-            put_word(out, "state", b"waiting")?;
-            put_number(out, "tries", u64::from(tries))?;
-            put_number(out, "due", due)
-        }
-        Progress::Held(cause) => {
-            put_word(out, "state", b"held")?;
-            put_cause(out, cause)
-        }
+        Progress::Waiting { tries, due } => put_waiting(out, u64::from(tries), due),
+        Progress::Held(cause) => put_held(out, cause),
         Progress::Done => put_word(out, "state", b"done"),
         Progress::Dropped => put_word(out, "state", b"dropped"),
     }
@@ -103,10 +115,11 @@ pub fn put_row(
         (out.new.items ≡ out.old.items ++ row_line ((uid.now, dest.now), progress)) }
 {
     out.extend_from_slice(b"{\"uid\":")?;
-    put_quoted(out, uid.as_bytes())?;
+    put_text(out, uid)?;
     put_word(out, "dest", dest.as_bytes())?;
     put_progress(out, progress)?;
-    out.extend_from_slice(b"}\n")
+    out.extend_from_slice(b"}\n")?;
+    Ok(())
 }
 
 /// Adds the line of a node, which serves since that moment (milliseconds).
@@ -119,13 +132,14 @@ pub fn put_node(
     ensures { OnOk result (out.new.items ≡ out.old.items ++ node_line name.now since counts) }
 {
     out.extend_from_slice(b"{\"node\":")?;
-    put_quoted(out, name.as_bytes())?;
+    put_text(out, name)?;
     put_number(out, "since", since)?;
     put_number(out, "arrivals", counts.arrivals)?;
     put_number(out, "kept", counts.kept)?;
     put_number(out, "lines", counts.lines)?;
     put_number(out, "failures", counts.failures)?;
-    out.extend_from_slice(b"}\n")
+    out.extend_from_slice(b"}\n")?;
+    Ok(())
 }
 
 /// Adds the moment from which on the first row is due that waits.
@@ -143,12 +157,13 @@ pub fn put_queue(out: &mut Vec<u8>, queue: &Queue<'_>) -> Result<(), AllocError>
     ensures { OnOk result (out.new.items ≡ out.old.items ++ line_of_queue queue.now) }
 {
     out.extend_from_slice(b"{\"dest\":")?;
-    put_quoted(out, queue.dest.as_bytes())?;
+    put_text(out, queue.dest)?;
     put_number(out, "waiting", queue.waiting)?;
     put_number(out, "held", queue.held)?;
     put_number(out, "done", queue.done)?;
     put_due(out, queue.due)?;
-    out.extend_from_slice(b"}\n")
+    out.extend_from_slice(b"}\n")?;
+    Ok(())
 }
 
 /// Adds the line of an act that was done.
@@ -171,5 +186,6 @@ pub fn put_fault(out: &mut Vec<u8>, fault: &str) -> Result<(), AllocError>
 {
     out.extend_from_slice(b"{\"fault\":")?;
     put_quoted(out, fault.as_bytes())?;
-    out.extend_from_slice(b"}\n")
+    out.extend_from_slice(b"}\n")?;
+    Ok(())
 }

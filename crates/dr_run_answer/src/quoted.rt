@@ -2,6 +2,7 @@
 ghost use Rattle.std.specs.Prelude.{◌≡◌, ◌<◌, ◌++◌, ◌/◌, ◌%◌, ◌∷◌, [], OnOk, flat_map};
 ghost use Rattle.dr_run_answer.specs.Quoting.{hex_digit, is_plain, quoted, quoted_byte};
 
+use dr_base::Text;
 use std::alloc::AllocError;
 
 const QUOTE: u8 = 34;
@@ -79,4 +80,18 @@ pub fn put_quoted(out: &mut Vec<u8>, bytes: &[u8]) -> Result<(), AllocError>
     put_bytes(out, bytes)?;
     out.push(QUOTE)?;
     Ok(())
+}
+
+/// The same of a `Text`.
+pub(crate) fn put_text(out: &mut Vec<u8>, text: &Text) -> Result<(), AllocError>
+    ensures { OnOk result (out.new.items ≡ out.old.items ++ quoted text.now) }
+{
+    put_quoted(out, text.as_bytes())
+}
+
+/// The same of words.
+pub(crate) fn put_words(out: &mut Vec<u8>, words: &str) -> Result<(), AllocError>
+    ensures { OnOk result (out.new.items ≡ out.old.items ++ quoted words.now) }
+{
+    put_quoted(out, words.as_bytes())
 }

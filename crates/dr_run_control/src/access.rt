@@ -32,7 +32,7 @@ pub fn names_of(
     port: &str,
     host: Option<&str>,
 ) -> Result<Seq<Text>, AllocError>
-    ensures { IfOk result (λ names. names ≡ names_of at.now port.now (option_copied host)) }
+    ensures { IfOk result (λ names. names ≡ names_of at.now port.now (option_copied host.entry)) }
 {
     let mut names = Seq::new(alloc);
     names.push(joined(alloc, at, "")?)?;

@@ -1,8 +1,8 @@
 //! Acts over the shared desk.
-ghost use Rattle.std.specs.Prelude.{◌≡◌, ◌≤◌, ◌^◌, MatchResult, true};
+ghost use Rattle.std.specs.Prelude.{◌≡◌, ◌≤◌, ◌^◌, MatchResult};
 ghost use Rattle.dr_desk.specs.Receipts.{Leaves, Notes};
 ghost use Rattle.dr_desk.specs.declared.receipt.Reply.TheVariants as reply;
-ghost use Rattle.dr_run_control.specs.Consoles.{call_of, is_of_row};
+ghost use Rattle.dr_run_control.specs.Consoles.{call_of};
 
 use dr_desk::{Pass, SharedDesk, Sharing};
 use dr_ledger::{LedgerFault, LetsGo};

@@ -12,10 +12,10 @@ mod acts;
 mod console;
 mod reads;
 mod reply;
-mod talk;
+mod talking;
 
 pub use access::names_of;
 pub use acts::RowAct;
 pub use console::{Console, House};
 pub use reply::name_of_refusal;
-pub use talk::talk;
+pub use talking::talk;

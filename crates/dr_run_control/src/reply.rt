@@ -142,7 +142,7 @@ fn fill(response: &mut Response, text: Vec<u8>, is_figures: bool) -> Result<(), 
     } else {
         add(response, "content-type", "application/x-ndjson")?;
     }
-    response.body.push(Bytes::from(text))
+    response.body.push(Bytes::from_vec(text)?)
 }
 
 /// Makes it the response; where there is no memory for its text, the status alone.
