@@ -13,9 +13,9 @@ LinesAreWrittenSo =
     ≡ codes "{\"uid\":\"1.2\",\"dest\":\"ARCH\",\"state\":\"waiting\",\"tries\":3,\"due\":1000}\n")
     × (row_line ((49 ∷ 34 ∷ 10 ∷ 0 ∷ [], codes "A"), Done)
     ≡ codes "{\"uid\":\"1\\\"\\n\\u0000\",\"dest\":\"A\",\"state\":\"done\"}\n")
-    × (node_line (codes "GATE") 5
-    (record { arrivals = 1; kept = 2; lines = 3; failures = 0 })
-    ≡ codes "{\"node\":\"GATE\",\"since\":5,\"arrivals\":1,\"kept\":2,\"lines\":3,\"failures\":0}\n")
+    × (node_line (codes "GATE") 5 (record { arrivals = 1; kept = 2; lines = 3; failures = 0 })
+    ≡ codes
+    "{\"node\":\"GATE\",\"since\":5,\"arrivals\":1,\"kept\":2,\"lines\":3,\"failures\":0}\n")
     × (queue_line (codes "ARCH") 1 2 3 None
     ≡ codes "{\"dest\":\"ARCH\",\"waiting\":1,\"held\":2,\"done\":3}\n")
     × (queue_line (codes "ARCH") 1 2 3 (Some 7)

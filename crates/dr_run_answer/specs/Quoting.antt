@@ -20,8 +20,8 @@ hex_digit n = if nat_lt n 10 then 48 + n else 87 + n
 abbrev pub hex_escape : ℕ → Text
 hex_escape b = 92 ∷ 117 ∷ 48 ∷ 48 ∷ hex_digit (b / 16) ∷ hex_digit (b % 16) ∷ []
 
--- a byte between quotes: a line feed (10) is `\n`, a quote and a backslash stand behind a backslash,
--- and what else isn't plain has its digits
+-- a byte between quotes: a line feed (10) is `\n`, a quote and a backslash stand behind a
+-- backslash, and what else isn't plain has its digits
 abbrev pub quoted_byte : ℕ → Text
 quoted_byte b =
     if is_plain b then b ∷ []

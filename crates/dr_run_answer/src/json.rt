@@ -1,6 +1,7 @@
 //! Lines of JSON.
 ghost use Rattle.std.specs.Prelude.{◌≡◌, ◌++◌, OnOk, decimal};
-ghost use Rattle.dr_run_answer.specs.Answers.{cause_part, done_line, due_part, fault_line, held_part};
+ghost use Rattle.dr_run_answer.specs.Answers.{cause_part, done_line, due_part, fault_line};
+ghost use Rattle.dr_run_answer.specs.Answers.{held_part};
 ghost use Rattle.dr_run_answer.specs.Answers.{line_of_queue, node_line, number, progress_part};
 ghost use Rattle.dr_run_answer.specs.Answers.{row_line, waiting_part, well_line, word};
 

@@ -1,11 +1,11 @@
 //! What a running node answers over its control connection, as text.
 //!
-//! - Lines of JSON, one object each: what a node has (`put_node`), how many rows are on their way to
-//!   a node (`put_queue`), and rows (`put_page`).
+//! - Lines of JSON, one object each: what a node has (`put_node`), how many rows are on their way
+//!   to a node (`put_queue`), and rows (`put_page`).
 //! - Figures in the text format of Prometheus: `put_figures`, `put_queues`.
 //!
-//! Whatever a peer sent, as a UID, stands in it escaped, so that it begins no line, no object and no
-//! label.
+//! Whatever a peer sent, as a UID, stands in it escaped, so that it begins no line, no object and
+//! no label.
 #![tactic(auto)]
 
 mod figures;

@@ -57,8 +57,8 @@ Rests access request status count receipts now kept =
     × ((why : Refused) → Admits access (head_of request) (Err why) → status ≡ status_of_refusal why)
     × ((act : RowAct) → Admits access (head_of request) (Ok (route_of act)) → status ≢ 200)
 
--- What comes of a request at a pass of the desk: an act that it may ask for is done, on the row that
--- its body names; or nothing is done to a row.
+-- What comes of a request at a pass of the desk: an act that it may ask for is done, on the row
+-- that its body names; or nothing is done to a row.
 abbrev pub Answers : Access → Request (List ℕ) → ℕ → ℕ → List Receipt → ℕ → List Receipt → Type 0
 Answers access request status count receipts now kept =
     ((act : RowAct)

@@ -169,7 +169,11 @@ impl<'a, R: Wait, L: LetsGo, B: Sharing, C: Clock, H: House> Service
         t.pass.now.made.count t.pass.now.receipts.items
         × (t.access.now ≡ s.access.now) };
 
-    fn call(&mut self, request: &Request<Bytes>, response: &mut Response) -> Result<(), AllocError> {
+    fn call(
+        &mut self,
+        request: &Request<Bytes>,
+        response: &mut Response,
+    ) -> Result<(), AllocError> {
         let reply = self.answer(request);
         respond(response, reply);
         Ok(())

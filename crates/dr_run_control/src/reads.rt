@@ -1,5 +1,6 @@
 //! What a running node shows of itself.
-ghost use Rattle.std.specs.Prelude.{◌≡◌, ◌++◌, All, IfOk, OnOk, filter, flat_map, map as mapped, take};
+ghost use Rattle.std.specs.Prelude.{◌≡◌, ◌++◌, All, IfOk, OnOk, filter, flat_map, map as mapped};
+ghost use Rattle.std.specs.Prelude.{take};
 ghost use Rattle.dr_run_answer.specs.Answers.{figures, is_wanted, line_of_queue, node_line};
 ghost use Rattle.dr_run_answer.specs.Answers.{queues_figures, row_line};
 ghost use Rattle.dr_run_control.specs.Consoles.{IsCounted};
@@ -8,7 +9,9 @@ use crate::reply::{Reply, misread, refused_by_ledger};
 use dr_base::Text;
 use dr_desk::{Holdings, SharedDesk, Sharing};
 use dr_ledger::{Ledger, Progress};
-use dr_run_answer::{Counts, Queue, put_figures, put_node, put_page, put_queue, put_queues, put_well};
+use dr_run_answer::{
+    Counts, Queue, put_figures, put_node, put_page, put_queue, put_queues, put_well,
+};
 use dr_run_open::{NextHop, RowStage, how_many, oldest};
 use dr_run_request::{Wanted, wanted_of};
 use http::StatusCode;
@@ -85,11 +88,7 @@ fn status_lines(
 }
 
 /// Its figures.
-fn figure_lines(
-    alloc: Global,
-    counts: Counts,
-    queues: &[Queue<'_>],
-) -> Result<Vec<u8>, AllocError>
+fn figure_lines(alloc: Global, counts: Counts, queues: &[Queue<'_>]) -> Result<Vec<u8>, AllocError>
     ensures { IfOk result (λ text. text.items ≡ figures counts ++ queues_figures queues.now) }
 {
     let mut out = Vec::new(alloc);

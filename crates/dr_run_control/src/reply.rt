@@ -128,7 +128,10 @@ fn add(response: &mut Response, name: &'static str, value: &'static str) -> Resu
     requires value { IsTrue (is_visible_text value.now) }
     ensures { response.new.status ≡ response.old.status }
 {
-    response.add_header(HeaderName::from_static(name), HeaderValue::from_static(value))
+    response.add_header(
+        HeaderName::from_static(name),
+        HeaderValue::from_static(value),
+    )
 }
 
 /// Adds the fields and the text of a reply.

@@ -2,8 +2,8 @@
 ghost use Rattle.std.specs.Prelude.{◌≡◌, ℕ, List, OnOk};
 ghost use Rattle.http_server.specs.Exchange.{Call, Chain};
 
-use http1::Limits;
 use http_server::{Config, Connection, Service, serve};
+use http1::Limits;
 use std::alloc::Global;
 use std::hash::RandomState;
 use std::io;

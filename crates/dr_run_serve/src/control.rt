@@ -16,12 +16,11 @@ use std::alloc::Global;
 use std::hash::RandomState;
 use std::net::{Shutdown, TcpListener, TcpStream};
 use std::os::fd::OwnedFd;
-use std::slice;
 use std::sync::Wait;
 use std::sync::atomic::{AtomicBool, Ordering};
 use std::thread::Threads;
 use std::time::Duration;
-use std::{thread, time};
+use std::{slice, thread, time};
 
 /// So many may ask at the same time; others wait to be accepted.
 pub const CALLERS: usize = 16;

@@ -331,8 +331,8 @@ where
     came
 }
 
-/// All that came back of those who served: their passes, those who sent, and the passes of those who
-/// were asked.
+/// All that came back of those who served: their passes, those who sent, and the passes of those
+/// who were asked.
 #[derive(Drop)]
 struct Served<B: Sharing> {
     served: Result<Vec<Pass<B>>, WorkersFault>,
@@ -388,7 +388,16 @@ where
                 × IsSync G.row }
         {
             answer_all(
-                rt, alloc, desk, asked, view, terms.control, signal, terms.stop, clock, log,
+                rt,
+                alloc,
+                desk,
+                asked,
+                view,
+                terms.control,
+                signal,
+                terms.stop,
+                clock,
+                log,
             )
         },
     );
@@ -459,10 +468,7 @@ fn with_asked<B: Sharing>(
 }
 
 /// All passes, where those of the ones who serve came back, and the store isn't shut.
-fn all_passes<B: Sharing>(
-    came: Served<B>,
-    is_shut: bool,
-) -> Result<Vec<Pass<B>>, ServeFault>
+fn all_passes<B: Sharing>(came: Served<B>, is_shut: bool) -> Result<Vec<Pass<B>>, ServeFault>
     ensures { IsTrue is_shut → IsErr result }
 {
     if is_shut {

@@ -7,6 +7,7 @@
 mod command_line;
 mod words;
 
-pub use words::{Controlled, 
-    Duty, KeyWords, NextPlan, PlanChange, Question, Serving, Task, Verbosity, Waits, read_words,
+pub use words::{
+    Controlled, Duty, KeyWords, NextPlan, PlanChange, Question, Serving, Task, Verbosity, Waits,
+    read_words,
 };

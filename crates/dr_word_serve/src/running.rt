@@ -14,8 +14,9 @@ use dr_run_files::{Failure, Files, NodeFiles};
 use dr_run_net::{Limits, Listening, Network};
 use dr_run_open::{Halt, Ledgers, Making, NextHop, Opened, Status, finish, hops_of, open_node};
 use dr_run_report::{OwnPaths, Paths, test_path};
-use dr_run_serve::{ControlPlace, ControlPort, Ending, FileMonitor, Monitor, ServeFault, Stop};
-use dr_run_serve::{Terms, serve};
+use dr_run_serve::{
+    ControlPlace, ControlPort, Ending, FileMonitor, Monitor, ServeFault, Stop, Terms, serve,
+};
 use dr_run_shown::Escaped;
 use dr_session::{Clock, Link};
 use dr_site::Site;
