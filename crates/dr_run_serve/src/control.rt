@@ -221,7 +221,10 @@ pub fn passes_of<R: Wait, L: LetsGo, B: Sharing>(
         return Ok(passes);
     }
     for _ in 0..CALLERS {
-        passes.push(desk.pass(rt, alloc)?)?;
+        let pass = desk.pass(rt, alloc)?;
+        if passes.push(pass).is_err() {
+            return Err(WorkersFault::Memory);
+        }
     }
     Ok(passes)
 }
