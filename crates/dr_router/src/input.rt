@@ -1,16 +1,29 @@
-//! The end of the program's input.
-use dr_run_serve::{Ending, Stop};
+//! What may end the program from without: its input, and those who ask over a control connection.
+use dr_base::Text;
+use dr_run_control::names_of;
+use dr_run_request::Access;
+use dr_run_serve::{ControlPlace, ControlPort, Ending, Stop};
 use std::alloc::Global;
-use std::io;
+use std::hash::RandomState;
 use std::io::{ErrorKind, Read, Stdin};
+use std::net::{TcpListener, ToSocketAddrs};
+use std::os::unix::fs::PermissionsExt;
 use std::sync::Arc;
 use std::thread::{Builder, Threads};
+use std::{fs, io};
 
-/// The input, which a thread of its own reads to its end.
+/// A token has so many bytes at least.
+const LEAST: usize = 16;
+
+/// The rights of others than its owner to a file.
+const OTHERS: u32 = 0o077;
+
+/// The input, which a thread of its own reads to its end, and the system, which listens.
 #[derive(Drop)]
 pub struct InputEnd<'a, T: Threads> {
     pub rt: &'a T,
     pub input: Stdin,
+    pub system: &'a HostRuntime,
 }
 
 /// Reads an input to its end, and lets go of what it reads. One that can't be read any more has
@@ -38,5 +51,79 @@ impl<'a, T: Threads> Ending for InputEnd<'a, T> {
             stop.ask();
         })?;
         Ok(())
+    }
+
+    fn open_control(&self, alloc: Global, place: ControlPlace<'_>) -> io::Result<ControlPort> {
+        if !place.is_for_anyone {
+            test_loopback(self.system, place.at)?;
+        }
+        let token = token_of(self.system, alloc, place)?;
+        let keys = RandomState::new(self.system)?;
+        let hosts = names_of(alloc, place.at, port_of(place.at), place.host)?;
+        let listener = TcpListener::bind(self.system, place.at)?;
+        let access = Access {
+            hosts,
+            token,
+            is_guarded: place.is_for_anyone,
+        };
+        Ok(ControlPort::new(listener, keys, access))
+    }
+}
+
+/// The port of an address, behind the last colon and with it.
+fn port_of(address: &str) -> &str {
+    match address.rfind(':') {
+        Some(at) => address.get(at..).unwrap_or(""),
+        None => "",
+    }
+}
+
+/// Tests that an address, or each one of its name, is of this machine alone.
+///
+/// Errors: PermissionDenied; those of the look-up.
+fn test_loopback(system: &HostRuntime, address: &str) -> io::Result<()> {
+    for one in address.to_socket_addrs(system)? {
+        if !one.ip().is_loopback() {
+            return Err(io::Error::from(ErrorKind::PermissionDenied));
+        }
+    }
+    Ok(())
+}
+
+/// The bytes without the line's end behind them.
+fn trimmed(bytes: &[u8]) -> &[u8] {
+    bytes.trim_ascii_end()
+}
+
+/// The token in a file, which nobody but its owner may read or write.
+///
+/// Errors: PermissionDenied, where others may; InvalidData, where it is shorter than 16 bytes;
+/// those of the system.
+fn token_in(system: &HostRuntime, alloc: Global, path: &str) -> io::Result<Text> {
+    let rights = fs::metadata(system, path)?.permissions().mode();
+    if rights & OTHERS != 0 {
+        return Err(io::Error::from(ErrorKind::PermissionDenied));
+    }
+    let bytes = fs::read(system, path)?;
+    let token = trimmed(bytes.as_slice());
+    if token.len() < LEAST {
+        return Err(io::Error::from(ErrorKind::InvalidData));
+    }
+    Ok(Text::copy_of(alloc, token)?)
+}
+
+/// The token that an act needs, if there is one. Where others than this machine may ask, there has
+/// to be one.
+///
+/// Errors: InvalidInput where one is lacking; those of the file.
+fn token_of(
+    system: &HostRuntime,
+    alloc: Global,
+    place: ControlPlace<'_>,
+) -> io::Result<Option<Text>> {
+    match place.token {
+        Some(path) => Ok(Some(token_in(system, alloc, path)?)),
+        None if place.is_for_anyone => Err(io::Error::from(ErrorKind::InvalidInput)),
+        None => Ok(None),
     }
 }

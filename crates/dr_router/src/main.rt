@@ -47,6 +47,7 @@ fn run<T: Threads + Wait + Sync + time::Clock>(
         &InputEnd {
             rt: threads,
             input: rt.stdin(),
+            system: rt,
         },
     );
     Ok(status)

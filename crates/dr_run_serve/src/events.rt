@@ -8,7 +8,9 @@ use crate::visit::Visit;
 use dr_base::Text;
 use dr_desk_workers::Tally;
 use dr_ledger::{Arrived, LedgerFault, Outcome, Progress};
+use dr_run_control::{RowAct, name_of_refusal};
 use dr_run_open::code_of;
+use dr_run_request::{Refused, RowName};
 use dr_run_shown::Escaped;
 use dr_session::{Ended, SessionFault};
 use log::{Log, debug, error, info, warn};
@@ -286,4 +288,34 @@ pub fn tell_stopping<G: Log>(log: &G) {
 /// Tells that what was still under way was cut.
 pub fn tell_cut<G: Log>(log: &G) {
     warn!(log; target: "node", "cuts what is under way");
+}
+
+/// Tells of an act that somebody asked for over the control connection, and what the ledger
+/// answered.
+pub fn tell_act<G: Log>(log: &G, act: RowAct, row: &RowName, fault: Option<LedgerFault>) {
+    let word = match act {
+        RowAct::Requeue => "requeue",
+        RowAct::GiveUp => "drop",
+    };
+    let (uid, dest) = (Escaped(row.uid.as_bytes()), Escaped(row.dest.as_bytes()));
+    match fault {
+        None => {
+            info!(log; target: "control", "{word} dest=\"{dest}\" uid={uid}");
+        }
+        Some(fault) => {
+            let fault = code_of(fault);
+            warn!(log; target: "control", "{word} dest=\"{dest}\" uid={uid} fault=\"{fault}\"");
+        }
+    }
+}
+
+/// Tells that somebody asked for the node's end.
+pub fn tell_told_to_stop<G: Log>(log: &G) {
+    info!(log; target: "control", "stop");
+}
+
+/// Tells that a request of the control connection was refused.
+pub fn tell_refused<G: Log>(log: &G, why: Refused) {
+    let why = name_of_refusal(why);
+    warn!(log; target: "control", "refused why={why}");
 }

@@ -9,6 +9,9 @@
 //!
 //! A node that is asked to (`Stop`) ends in order: what is under way has 10 s.
 //!
+//! Where there is a `ControlPort`, those who ask over it are answered by `dr_run_control`, 16 at a
+//! time, each within 30 s.
+//!
 //! A node whose store is shut (`shutting`) ends: its log says so once, no more connections are
 //! accepted, and those that are served end.
 //!
@@ -21,6 +24,8 @@
 #![tactic(auto)]
 
 mod asked;
+mod caller;
+mod control;
 mod events;
 mod keeper;
 mod monitor;
@@ -38,8 +43,9 @@ mod tallied;
 mod visit;
 mod watch;
 
+pub use control::ControlPort;
 pub use monitor::{FileMonitor, Monitor};
 pub use sending::visit_each;
 pub use serving::{ServeFault, serve};
-pub use stop::{Ending, Stop, Terms};
+pub use stop::{ControlPlace, Ending, Stop, Terms};
 pub use tallied::{OwnPort, Tallied};

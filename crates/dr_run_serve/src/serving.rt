@@ -5,6 +5,7 @@ ghost use Rattle.dr_desk.specs.Growing.{BeginWith};
 ghost use Rattle.dr_ledger.specs.Histories.{IsJournalled};
 ghost use Rattle.dr_ledger.specs.SiteRoutes.{site_routing};
 
+use crate::control::{View, answer_all, passes_of};
 use crate::events::tell_unaccepted;
 use crate::keeper::{Crew, keep};
 use crate::monitor::Monitor;
@@ -17,7 +18,7 @@ use crate::watch::Watch;
 use crossbeam_channel::{Receiver, Sender, bounded};
 use dr_desk::{CloseFault, Desk, Pass, SharedDesk, Sharing};
 use dr_desk_workers::{Connection, WorkersFault, workers};
-use dr_ledger::{Ledger, LedgerFault, LetsGo};
+use dr_ledger::{LedgerFault, LetsGo};
 use dr_run_net::{Listening, Network};
 use dr_run_open::NextHop;
 use dr_session::{Clock, Link};
@@ -136,7 +137,7 @@ fn accept_links<
 /// more.
 fn work<
     R: Threads + Wait + Sync + time::Clock,
-    L: Ledger + Drop + Send,
+    L: LetsGo + Drop + Send,
     B: Sharing + Send + Sync,
     K: Link + Drop + Send,
     C: Clock + Drop + Send,
@@ -169,7 +170,7 @@ fn work<
 /// Accepts and serves connections, and tells the signal when there is nothing left to serve.
 fn serve_links<
     R: Threads + Wait + Sync + time::Clock,
-    L: Ledger + Drop + Send,
+    L: LetsGo + Drop + Send,
     B: Sharing + Send + Sync,
     K: Link + Drop + Send,
     D: Listening<Socket = K> + Sync,
@@ -204,7 +205,7 @@ fn serve_links<
 /// Sends to each hop, in a thread of its own, as long as somebody serves.
 fn send_all<
     R: Threads + Wait + Sync + time::Clock,
-    L: Ledger + Send,
+    L: LetsGo + Send,
     B: Sharing + Send + Sync,
     N: Network + Sync,
     C: Clock + Sync,
@@ -275,15 +276,15 @@ where
     )
 }
 
-/// What those who serve, send and sweep come back with: their passes.
+/// What those who serve come back with, and those who send and the one who sweeps.
 type Came<B> = (
     Result<Vec<Pass<B>>, WorkersFault>,
     (Vec<HopSender<B>>, Sweeper<B>),
 );
 
 /// Serves, sends and tells of the node, side by side; the passes of those who serve, those who
-/// send, and the one who sweeps.
-fn serve_all<
+/// send, and the one who sweeps. When that is over, nobody may ask any more.
+fn serve_and_send<
     R: Threads + Wait + Sync + time::Clock,
     L: LetsGo + Drop + Send,
     B: Sharing + Send + Sync,
@@ -320,7 +321,7 @@ where
         workers: terms.workers(),
         senders: senders.len(),
     };
-    thread::join(
+    let came = thread::join(
         rt,
         ||
             requires { IsSync R.row × IsSend L.row × IsSend B.row × IsSync B.row × IsSend K.row
@@ -335,13 +336,98 @@ where
                 rt, alloc, desk, hops, senders, crew, sweeper, &wake, clock, log,
             )
         },
-    )
+    );
+    if let Some(port) = terms.control {
+        port.close();
+    }
+    came
+}
+
+/// All that came back of those who served: their passes, those who sent, the one who swept, and the
+/// passes of those who were asked.
+#[derive(Drop)]
+struct Served<B: Sharing> {
+    served: Result<Vec<Pass<B>>, WorkersFault>,
+    senders: Vec<HopSender<B>>,
+    sweeper: Sweeper<B>,
+    asked: Vec<Pass<B>>,
+}
+
+/// Serves and sends, and answers who asks, side by side.
+fn serve_all<
+    R: Threads + Wait + Sync + time::Clock,
+    L: LetsGo + Drop + Send,
+    B: Sharing + Send + Sync,
+    K: Link + Drop + Send,
+    D: Listening<Socket = K> + Sync,
+    N: Network + Sync,
+    C: Clock + Sync,
+    G: Monitor + Sync,
+>(
+    rt: &R,
+    alloc: Global,
+    desk: &SharedDesk<L, B>,
+    hops: &[NextHop],
+    senders: Vec<HopSender<B>>,
+    sweeper: Sweeper<B>,
+    asked: Vec<Pass<B>>,
+    listener: &D,
+    terms: Terms<'_>,
+    signal: &Signal,
+    network: &N,
+    clock: &C,
+    log: &G,
+) -> Served<B>
+where
+    N::Socket: Send,
+    N::Listener: Sync,
+{
+    let view = View {
+        hops,
+        since: clock.now(),
+    };
+    let ((served, (senders, sweeper)), asked) = thread::join(
+        rt,
+        ||
+            requires { IsSync R.row × IsSend L.row × IsSend B.row × IsSync B.row × IsSend K.row
+                × IsSync D.row × IsSync N.row × IsSend N.Socket.row × IsSync N.Listener.row
+                × IsSync C.row × IsSync G.row }
+        {
+            serve_and_send(
+                rt, alloc, desk, hops, senders, sweeper, listener, terms, signal, network, clock,
+                log,
+            )
+        },
+        ||
+            requires { IsSync R.row × IsSend L.row × IsSend B.row × IsSync B.row × IsSync C.row
+                × IsSync G.row }
+        {
+            answer_all(
+                rt,
+                alloc,
+                desk,
+                asked,
+                view,
+                terms.control,
+                signal,
+                terms.stop,
+                clock,
+                log,
+            )
+        },
+    );
+    Served {
+        served,
+        senders,
+        sweeper,
+        asked,
+    }
 }
 
 /// One who sends for each hop, each with a pass of its own.
 ///
 /// Errors: TooManyPasses, Memory.
-fn senders_of<R: Wait, L: Ledger, B: Sharing>(
+fn senders_of<R: Wait, L: LetsGo, B: Sharing>(
     rt: &R,
     alloc: Global,
     desk: &SharedDesk<L, B>,
@@ -358,17 +444,14 @@ fn senders_of<R: Wait, L: Ledger, B: Sharing>(
     Ok(senders)
 }
 
-/// All passes, where those of the ones who serve came back, and the store isn't shut.
-fn all_passes<B: Sharing>(came: Came<B>, is_shut: bool) -> Result<Vec<Pass<B>>, ServeFault>
-    ensures { IsTrue is_shut → IsErr result }
-{
-    let (passes, (senders, sweeper)) = came;
-    if is_shut {
-        drop(passes);
-        drop(senders);
-        drop(sweeper);
-        return Err(ServeFault::Store);
-    }
+/// The passes of those who served, of those who sent, and of the one who swept.
+///
+/// Errors: Memory.
+fn with_senders<B: Sharing>(
+    passes: Result<Vec<Pass<B>>, WorkersFault>,
+    senders: Vec<HopSender<B>>,
+    sweeper: Sweeper<B>,
+) -> Result<Vec<Pass<B>>, ServeFault> {
     let Ok(passes) = passes else {
         drop(senders);
         drop(sweeper);
@@ -382,6 +465,43 @@ fn all_passes<B: Sharing>(came: Came<B>, is_shut: bool) -> Result<Vec<Pass<B>>, 
         passes.push(pass)?;
     }
     Ok(passes)
+}
+
+/// These passes, and those of the ones who were asked.
+///
+/// Errors: Memory.
+fn with_asked<B: Sharing>(
+    passes: Result<Vec<Pass<B>>, ServeFault>,
+    asked: Vec<Pass<B>>,
+) -> Result<Vec<Pass<B>>, ServeFault> {
+    let mut passes = match passes {
+        Ok(passes) => passes,
+        Err(fault) => {
+            drop(asked);
+            return Err(fault);
+        }
+    };
+    for pass in asked {
+        passes.push(pass)?;
+    }
+    Ok(passes)
+}
+
+/// All passes, where those of the ones who serve came back, and the store isn't shut.
+fn all_passes<B: Sharing>(came: Served<B>, is_shut: bool) -> Result<Vec<Pass<B>>, ServeFault>
+    ensures { IsTrue is_shut → IsErr result }
+{
+    if is_shut {
+        drop(came);
+        return Err(ServeFault::Store);
+    }
+    let Served {
+        served,
+        senders,
+        sweeper,
+        asked,
+    } = came;
+    with_asked(with_senders(served, senders, sweeper), asked)
 }
 
 /// Serves and sends on a shared desk; all passes that were made of it.
@@ -420,8 +540,14 @@ where
         return Err(ServeFault::Memory);
     };
     let sweeper = Sweeper::new(pass, terms.forget_after);
+    let Ok(asked) = passes_of(rt, alloc, desk, terms.control) else {
+        drop(senders);
+        drop(sweeper);
+        return Err(ServeFault::Memory);
+    };
     let came = serve_all(
-        rt, alloc, desk, hops, senders, sweeper, listener, terms, &signal, network, clock, log,
+        rt, alloc, desk, hops, senders, sweeper, asked, listener, terms, &signal, network, clock,
+        log,
     );
     all_passes(came, signal.is_shut())
 }
@@ -478,7 +604,7 @@ where
 }
 
 /// The desk is no longer shared.
-fn closed<L: Ledger + Drop, B: Sharing>(
+fn closed<L: LetsGo + Drop, B: Sharing>(
     alloc: Global,
     desk: SharedDesk<L, B>,
     passes: Vec<Pass<B>>,

@@ -1,6 +1,7 @@
 //! The orderly end of a node, and on what terms it serves.
 ghost use Rattle.std.specs.Prelude.{◌≡◌, ◌≤◌, None, max};
 
+use crate::control::ControlPort;
 use std::alloc::Global;
 use std::io;
 use std::sync::Arc;
@@ -37,16 +38,36 @@ impl Stop {
     }
 }
 
-/// An input whose end may end a node.
+/// Where a node may be asked what it has, and told to act.
+#[derive(Clone, Copy, Debug, Drop)]
+pub struct ControlPlace<'a> {
+    /// The address, as `host:port`.
+    pub at: &'a str,
+    /// The path of the file with the token, without which nothing can be acted.
+    pub token: Option<&'a str>,
+    /// One name more by which a request may call the node.
+    pub host: Option<&'a str>,
+    /// Whether the address may be another than loopback.
+    pub is_for_anyone: bool,
+}
+
+/// What may end a node from without: its input, and those who ask over its control connection.
 pub trait Ending {
     /// Asks for the end as soon as the input has ended, in a thread of its own.
     ///
     /// Errors: the system gives no thread.
     fn watch(&self, stop: Arc<Stop, Global>) -> io::Result<()>;
+
+    /// Listens where a node may be asked.
+    ///
+    /// Errors: the address isn't loopback, and need be; the token can't be read, is too short, or
+    /// may be read by others; those of the system.
+    fn open_control(&self, alloc: Global, place: ControlPlace<'_>) -> io::Result<ControlPort>;
 }
 
 /// On what terms a node serves: after how many connections it ends (for 0 never), by how many
-/// threads, with how much memory, when it forgets, and what may ask for its end before.
+/// threads, with how much memory, when it forgets, what may ask for its end before, and where it
+/// may be asked.
 #[derive(Clone, Copy)]
 pub struct Terms<'a> {
     pub links: u64,
@@ -56,13 +77,20 @@ pub struct Terms<'a> {
     /// After how many milliseconds it forgets what is over; None for never.
     pub forget_after: Option<u64>,
     pub stop: &'a Stop,
+    pub control: Option<&'a ControlPort>,
     ghost some: { (1 ≤ workers) × (workers ≤ 264) },
 }
 
 impl<'a> Terms<'a> {
     /// So many threads, from 1 to 264; for another number the nearest. So many bytes, at least 128
     /// MB, so that there is always room for one data set. It forgets nothing.
-    pub fn new(links: u64, workers: usize, memory: u64, stop: &'a Stop) -> Terms<'a>
+    pub fn new(
+        links: u64,
+        workers: usize,
+        memory: u64,
+        stop: &'a Stop,
+        control: Option<&'a ControlPort>,
+    ) -> Terms<'a>
         ensures links { result.links ≡ links }
         ensures memory { result.memory ≡ max 128000000 memory }
         ensures forget_after { result.forget_after ≡ None }
@@ -73,6 +101,7 @@ impl<'a> Terms<'a> {
             memory: memory.max(LEAST_MEMORY),
             forget_after: None,
             stop,
+            control,
         }
     }
 
@@ -89,6 +118,7 @@ impl<'a> Terms<'a> {
             memory: self.memory,
             forget_after: after,
             stop: self.stop,
+            control: self.control,
         }
     }
 

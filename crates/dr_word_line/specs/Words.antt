@@ -212,7 +212,7 @@ IsRequeueAllOf words given dest =
 -- without options a node serves for ever, by 264 threads, holds at most 1,024 MB of data sets,
 -- forgets what has been over for 30 days, logs its events, and writes no file of what it has; it
 -- waits 10 s for a connect, 60 s for a PDU to be taken, 30 s for 64 kB of a message, and 600 s for
--- the next message
+-- the next message; it can't be asked or told to act
 abbrev pub plain_serving : Serving
 plain_serving = record {
   links = 0;
@@ -224,6 +224,7 @@ plain_serving = record {
   waits = record { connect = 10; write = 60; message = 30; idle = 600 };
   until_input_ends = false;
   must_exist = false;
+  control = None;
 }
 
 -- the words ask this of the node with these files; other ways of serving are asked for by options,

@@ -132,6 +132,10 @@ enum Choice {
     MustExist,
     ForgetAfter,
     ForgetNever,
+    Control,
+    Token,
+    Host,
+    Anyone,
 }
 
 impl<'a> Makes<Arg<'a>> for Choice {
@@ -160,6 +164,10 @@ impl<'a> Makes<Arg<'a>> for Choice {
             Choice::MustExist => Ok(must_exist(alloc)),
             Choice::ForgetAfter => forget_after(alloc),
             Choice::ForgetNever => Ok(forget_never(alloc)),
+            Choice::Control => Ok(control(alloc)),
+            Choice::Token => with_control(token(alloc)),
+            Choice::Host => with_control(host(alloc)),
+            Choice::Anyone => with_control(anyone(alloc)),
         }
     }
 }
@@ -512,6 +520,46 @@ fn forget_never<'a>(alloc: Global) -> Arg<'a> {
         .help("forgets nothing")
 }
 
+/// Where `serve` may be asked and told to act.
+fn control<'a>(alloc: Global) -> Arg<'a> {
+    Arg::new(alloc, "CONTROL")
+        .long("control")
+        .action(ArgAction::Set)
+        .value_name("HOST:PORT")
+        .help("may be asked there what it has, and told to act, by HTTP")
+}
+
+/// Who may tell it to act.
+fn token<'a>(alloc: Global) -> Arg<'a> {
+    Arg::new(alloc, "TOKEN")
+        .long("control-token")
+        .action(ArgAction::Set)
+        .value_name("FILE")
+        .help("the file with the token that an act needs; without it nothing can be acted")
+}
+
+/// By which name it may be called there, too.
+fn host<'a>(alloc: Global) -> Arg<'a> {
+    Arg::new(alloc, "HOST")
+        .long("control-host")
+        .action(ArgAction::Set)
+        .value_name("HOST")
+        .help("one name more by which a request may call it")
+}
+
+/// Whether it may be asked from other machines.
+fn anyone<'a>(alloc: Global) -> Arg<'a> {
+    Arg::new(alloc, "ANYONE")
+        .long("control-anyone")
+        .action(ArgAction::SetTrue)
+        .help("allows an address that other machines reach; to read needs the token then, too")
+}
+
+/// Such an option says nothing without an address.
+fn with_control<'a>(option: Arg<'a>) -> Result<Arg<'a>, AllocError> {
+    option.requires_arg("CONTROL")
+}
+
 /// The times for which `serve` waits.
 const CONNECT: Choice = Choice::Seconds(("CONNECT", "gives a connect up then (10)"), "connect");
 
@@ -562,6 +610,10 @@ fn serve<'a>(alloc: Global) -> Result<Command<'a>, AllocError> {
             Choice::MustExist,
             Choice::ForgetAfter,
             Choice::ForgetNever,
+            Choice::Control,
+            Choice::Token,
+            Choice::Host,
+            Choice::Anyone,
         ],
     )
 }

@@ -111,6 +111,19 @@ const USUAL_MEMORY: u32 = 1024;
 /// After how many days what is over is forgotten where nothing else is asked for.
 const USUAL_DAYS: u32 = 30;
 
+/// Where a node that serves may be asked what it has, and told to act.
+#[derive(Clone, Copy, Debug, Drop)]
+pub struct Controlled<'a> {
+    /// The address, as `host:port`.
+    pub at: &'a str,
+    /// The path of the file with the token; without one nothing can be acted.
+    pub token: Option<&'a str>,
+    /// One name more by which a request may call it.
+    pub host: Option<&'a str>,
+    /// Whether the address may be another than loopback.
+    pub is_for_anyone: bool,
+}
+
 /// How a node is to serve.
 #[derive(Clone, Copy, Debug, Drop)]
 pub struct Serving<'a> {
@@ -132,6 +145,8 @@ pub struct Serving<'a> {
     pub until_input_ends: bool,
     /// Whether its ledger's file has to be there.
     pub must_exist: bool,
+    /// Where it may be asked and told to act, if it may.
+    pub control: Option<Controlled<'a>>,
 }
 
 /// What a node may be asked to do with its ledger.
@@ -409,6 +424,7 @@ fn read_duty<'a>(words: &'a [&'a str]) -> Option<Task<'a>>
                 waits: USUAL_WAITS,
                 until_input_ends: false,
                 must_exist: false,
+                control: None,
             };
             Some(Task::AtNode(given, Duty::Serve(serving)))
         }
@@ -681,6 +697,17 @@ fn days_of(given: &ArgMatches<'_>) -> Option<u32> {
     Some(given.get_one("DAYS").unwrap_or(USUAL_DAYS))
 }
 
+/// Where a node may be asked and told to act, as clap has read it, if it may.
+fn control_of<'a>(given: &ArgMatches<'a>) -> Option<Controlled<'a>> {
+    let at = given.get_str("CONTROL")?;
+    Some(Controlled {
+        at,
+        token: given.get_str("TOKEN"),
+        host: given.get_str("HOST"),
+        is_for_anyone: given.get_flag("ANYONE"),
+    })
+}
+
 /// How a node is to serve, as clap has read it.
 fn serving_of<'a>(given: &ArgMatches<'a>) -> Serving<'a> {
     let verbosity = match given.get_str("LOG") {
@@ -698,6 +725,7 @@ fn serving_of<'a>(given: &ArgMatches<'a>) -> Serving<'a> {
         waits: waits_of(given),
         until_input_ends: given.get_flag("UNTIL"),
         must_exist: given.get_flag("EXIST"),
+        control: control_of(given),
     }
 }
 

@@ -14,7 +14,9 @@ use dr_run_files::{Failure, Files, NodeFiles};
 use dr_run_net::{Limits, Listening, Network};
 use dr_run_open::{Halt, Ledgers, Making, NextHop, Opened, Status, finish, hops_of, open_node};
 use dr_run_report::{OwnPaths, Paths, test_path};
-use dr_run_serve::{Ending, FileMonitor, Monitor, ServeFault, Stop, Terms, serve};
+use dr_run_serve::{
+    ControlPlace, ControlPort, Ending, FileMonitor, Monitor, ServeFault, Stop, Terms, serve,
+};
 use dr_run_shown::Escaped;
 use dr_session::{Clock, Link};
 use dr_site::Site;
@@ -253,6 +255,7 @@ fn serve_node<
     given: NodeFiles<'a>,
     serving: Serving<'a>,
     stop: &Stop,
+    control: Option<&ControlPort>,
     network: &N,
     clock: &C,
     log: &G,
@@ -279,6 +282,7 @@ where
         usize::from(serving.workers),
         u64::from(serving.memory) * 1_000_000,
         stop,
+        control,
     )
     .forgetting(span_of(serving.forget_after));
     tell_serving(log, given, serving, terms.workers());
@@ -334,14 +338,38 @@ fn stop_of<'a, U: Ending>(
     }
 }
 
+/// Listens where the node may be asked and told to act, if it may.
+///
+/// Errors: File with the address, where nothing listens there, or its token is refused.
+fn control_of<'a, U: Ending>(
+    alloc: Global,
+    serving: Serving<'a>,
+    ending: &U,
+) -> Result<Option<ControlPort>, Failure<'a>> {
+    let Some(control) = serving.control else {
+        return Ok(None);
+    };
+    let place = ControlPlace {
+        at: control.at,
+        token: control.token,
+        host: control.host,
+        is_for_anyone: control.is_for_anyone,
+    };
+    match ending.open_control(alloc, place) {
+        Ok(port) => Ok(Some(port)),
+        Err(error) => Err(Failure::File(control.at, error)),
+    }
+}
+
 /// Serves at the address of a node, whose plan, certificate and ledger are in these files, and
 /// sends what is due. After so many connections (for 0 never), or where that is asked for when the
 /// input has ended, the node's report is printed. Events are logged as they happen; where a file is
-/// named for it, the report is written there too, at most every ten seconds.
+/// named for it, the report is written there too, at most every ten seconds. Where an address is
+/// named for it, the node may be asked there what it has, and told to act.
 ///
 /// Errors: Stream, also where the system gives no thread for the input; File; File with the node's
-/// name where its address can't be listened at, and with the report's path where no report may be
-/// written there.
+/// name where its address can't be listened at, with the report's path where no report may be
+/// written there, and with the control's address where nothing may listen there.
 pub fn serve_files<
     'a,
     R: Threads + Wait + Sync + time::Clock,
@@ -385,6 +413,7 @@ where
         path: serving.report,
     };
     let stop = stop_of(alloc, serving, ending)?;
+    let control = control_of(alloc, serving, ending)?;
     let came = serve_node(
         rt,
         alloc,
@@ -393,9 +422,11 @@ where
         given,
         serving,
         stop.as_ref(),
+        control.as_ref(),
         network,
         clock,
         &monitor,
     );
+    drop(control);
     finish(came, output, faults)
 }

@@ -1,0 +1,73 @@
+//! One who asks over the control connection, as a reader and a writer that come to an end.
+use dr_session::Clock;
+use std::io;
+use std::io::{ErrorKind, Read, Write};
+use std::net::TcpStream;
+use std::time::Duration;
+
+/// From the accept on a request has so many milliseconds to come whole.
+pub const ASKED: u64 = 5_000;
+
+/// And so many its answer to be taken.
+pub const ANSWERED: u64 = 30_000;
+
+/// How much time is left until a moment.
+///
+/// Errors: TimedOut where none is.
+fn left<C: Clock>(clock: &C, until: u64) -> io::Result<Duration> {
+    let left = until.saturating_sub(clock.now());
+    if left == 0 {
+        return Err(io::Error::from(ErrorKind::TimedOut));
+    }
+    Ok(Duration::from_millis(left))
+}
+
+/// What a caller sends, until that moment.
+#[derive(Drop)]
+pub struct Incoming<'a, C: Clock> {
+    pub stream: &'a TcpStream,
+    pub clock: &'a C,
+    pub until: u64,
+}
+
+impl<'a, C: Clock> Read for Incoming<'a, C> {
+    fn read(&mut self, piece: &mut [u8]) -> io::Result<usize> {
+        let left = left(self.clock, self.until)?;
+        self.stream.set_read_timeout(Some(left))?;
+        let mut stream = self.stream;
+        stream.read(piece)
+    }
+}
+
+/// What a caller is sent, until that moment.
+#[derive(Drop)]
+pub struct Outgoing<'a, C: Clock> {
+    pub stream: &'a TcpStream,
+    pub clock: &'a C,
+    pub until: u64,
+}
+
+impl<'a, C: Clock> Write for Outgoing<'a, C> {
+    fn write(&mut self, piece: &[u8]) -> io::Result<usize> {
+        let left = left(self.clock, self.until)?;
+        self.stream.set_write_timeout(Some(left))?;
+        let mut stream = self.stream;
+        stream.write(piece)
+    }
+
+    fn flush(&mut self) -> io::Result<()> {
+        Ok(())
+    }
+}
+
+/// Reads what a caller still sends, and lets go of it, until it closes or its time is over: where a
+/// connection is closed with bytes unread, the system drops the answer that is on its way.
+pub fn drain<C: Clock>(caller: &mut Incoming<'_, C>) {
+    let mut piece = [0u8; 4096];
+    for _ in 0..1024u32 {
+        match caller.read(&mut piece) {
+            Ok(0) | Err(_) => return,
+            Ok(_) => {}
+        }
+    }
+}

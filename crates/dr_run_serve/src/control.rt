@@ -1,0 +1,230 @@
+//! The control connection of a node that runs: who asks over it what the node has, and tells it to
+//! act.
+use crate::caller::{ANSWERED, ASKED, Incoming, Outgoing, drain};
+use crate::events::{tell_act, tell_refused, tell_told_to_stop};
+use crate::signal::Signal;
+use crate::stop::Stop;
+use dr_desk::{Pass, SharedDesk, Sharing};
+use dr_desk_workers::WorkersFault;
+use dr_ledger::{LedgerFault, LetsGo};
+use dr_run_control::{Console, House, RowAct, talk};
+use dr_run_open::NextHop;
+use dr_run_request::{Access, Refused, RowName};
+use dr_session::Clock;
+use log::Log;
+use std::alloc::Global;
+use std::hash::RandomState;
+use std::net::{Shutdown, TcpListener, TcpStream};
+use std::os::fd::OwnedFd;
+use std::sync::Wait;
+use std::sync::atomic::{AtomicBool, Ordering};
+use std::thread::Threads;
+use std::time::Duration;
+use std::{slice, thread, time};
+
+/// So many may ask at the same time; others wait to be accepted.
+pub const CALLERS: usize = 16;
+
+/// After an accept that failed it is tried again so many milliseconds later.
+const AGAIN: u64 = 100;
+
+/// What listens for those who ask, and what they may.
+#[derive(Drop)]
+pub struct ControlPort {
+    listener: TcpListener,
+    keys: RandomState,
+    access: Access,
+    closed: AtomicBool,
+}
+
+impl ControlPort {
+    /// It listens, and is open.
+    pub fn new(listener: TcpListener, keys: RandomState, access: Access) -> ControlPort {
+        ControlPort {
+            listener,
+            keys,
+            access,
+            closed: AtomicBool::new(false),
+        }
+    }
+
+    /// Nobody is accepted any more: the listening socket is shut down by a second handle of it,
+    /// which wakes those who wait at the first.
+    pub fn close(&self) {
+        self.closed.store(true, Ordering::SeqCst);
+        if let Ok(listener) = self.listener.try_clone() {
+            let _ended = TcpStream::from(OwnedFd::from(listener)).shutdown(Shutdown::Both);
+        }
+    }
+
+    fn is_closed(&self) -> bool {
+        self.closed.load(Ordering::SeqCst)
+    }
+}
+
+/// The node around the desk: it wakes who sends, and is told to end.
+#[derive(Drop)]
+struct Home<'a, R: Wait, G: Log> {
+    rt: &'a R,
+    signal: &'a Signal,
+    stop: &'a Stop,
+    log: &'a G,
+}
+
+impl<'a, R: Wait, G: Log> House for Home<'a, R, G> {
+    fn acted(&self, act: RowAct, row: &RowName, fault: Option<LedgerFault>) {
+        match fault {
+            None => self.signal.ring(self.rt, Some(slice::from_ref(&row.dest))),
+            Some(LedgerFault::Store) => self.signal.doubt(self.rt),
+            Some(_) => {}
+        }
+        tell_act(self.log, act, row, fault);
+    }
+
+    fn stop(&self) {
+        tell_told_to_stop(self.log);
+        self.stop.ask();
+    }
+
+    fn refused(&self, why: Refused) {
+        tell_refused(self.log, why);
+    }
+}
+
+/// What those who ask are shown of the node, beside its desk: where it sends, and since when it
+/// serves, in milliseconds.
+#[derive(Clone, Copy)]
+pub struct View<'a> {
+    pub hops: &'a [NextHop],
+    pub since: u64,
+}
+
+/// Answers one who asks, and lets go of the connection.
+fn answer_caller<R: Wait, L: LetsGo, B: Sharing, C: Clock, G: Log>(
+    rt: &R,
+    alloc: Global,
+    desk: &SharedDesk<L, B>,
+    pass: &mut Pass<B>,
+    view: View<'_>,
+    port: &ControlPort,
+    house: &Home<'_, R, G>,
+    clock: &C,
+    stream: &TcpStream,
+) {
+    let now = clock.now();
+    let mut incoming = Incoming {
+        stream,
+        clock,
+        until: now + ASKED,
+    };
+    let mut outgoing = Outgoing {
+        stream,
+        clock,
+        until: now + ANSWERED,
+    };
+    let mut console = Console {
+        rt,
+        alloc,
+        desk,
+        pass,
+        access: &port.access,
+        hops: view.hops,
+        since: view.since,
+        clock,
+        house,
+    };
+    let _came = talk(alloc, port.keys, &mut console, &mut incoming, &mut outgoing);
+    drop(console);
+    let _ended = stream.shutdown(Shutdown::Write);
+    drain(&mut incoming);
+}
+
+/// Answers those who ask, one after the other, until nobody is accepted any more.
+fn answer_callers<R: Wait + time::Clock, L: LetsGo, B: Sharing, C: Clock, G: Log>(
+    rt: &R,
+    alloc: Global,
+    desk: &SharedDesk<L, B>,
+    pass: &mut Pass<B>,
+    view: View<'_>,
+    port: &ControlPort,
+    house: &Home<'_, R, G>,
+    clock: &C,
+) {
+    for _ in rt.forever() {
+        let came = port.listener.accept();
+        if port.is_closed() {
+            return;
+        }
+        match came {
+            Ok((stream, _)) => {
+                answer_caller(rt, alloc, desk, pass, view, port, house, clock, &stream);
+            }
+            Err(_) => thread::sleep(rt, Duration::from_millis(AGAIN)),
+        }
+    }
+}
+
+/// Answers all who ask, each in one of so many threads as there are passes, until nobody is
+/// accepted any more.
+pub fn answer_all<
+    R: Threads + Wait + Sync + time::Clock,
+    L: LetsGo + Drop + Send,
+    B: Sharing + Send + Sync,
+    C: Clock + Sync,
+    G: Log + Sync,
+>(
+    rt: &R,
+    alloc: Global,
+    desk: &SharedDesk<L, B>,
+    passes: Vec<Pass<B>>,
+    view: View<'_>,
+    port: Option<&ControlPort>,
+    signal: &Signal,
+    stop: &Stop,
+    clock: &C,
+    log: &G,
+) -> Vec<Pass<B>> {
+    let Some(port) = port else {
+        return passes;
+    };
+    let mut passes = passes;
+    let count = passes.len();
+    if count == 0 {
+        return passes;
+    }
+    let house = Home {
+        rt,
+        signal,
+        stop,
+        log,
+    };
+    thread::for_each_mut(
+        rt,
+        passes.as_mut_slice(),
+        count,
+        &|_, pass| answer_callers(rt, alloc, desk, pass, view, port, &house, clock),
+    );
+    passes
+}
+
+/// A pass for each of those who may ask at the same time, where somebody may.
+///
+/// Errors: TooManyPasses, Memory.
+pub fn passes_of<R: Wait, L: LetsGo, B: Sharing>(
+    rt: &R,
+    alloc: Global,
+    desk: &SharedDesk<L, B>,
+    port: Option<&ControlPort>,
+) -> Result<Vec<Pass<B>>, WorkersFault> {
+    let mut passes = Vec::new(alloc);
+    if port.is_none() {
+        return Ok(passes);
+    }
+    for _ in 0..CALLERS {
+        let pass = desk.pass(rt, alloc)?;
+        if passes.push(pass).is_err() {
+            return Err(WorkersFault::Memory);
+        }
+    }
+    Ok(passes)
+}

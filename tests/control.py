@@ -1,0 +1,270 @@
+#!/usr/bin/env python3
+"""Asks running nodes what they have over their control connection, and tells them to act: by the built program, on loopback. Who may, what is answered,
+and that nothing else acts; then requests that are no requests, slow ones, and many at a time, while a peer stores.
+
+    tests/control.py
+"""
+import http.client
+import json
+import os
+import random
+import socket
+import sys
+import threading
+import time
+import urllib.parse
+
+sys.dont_write_bytecode = True
+from lib.nodes import LIMIT, PROGRAM, Room, data_set, element, ended, free_port, lines, part10, run_cases, same, stop, told
+from lib.requestor import Requestor
+
+TOKEN = 'a token of more than sixteen bytes'
+GOOD = 'GET /health HTTP/1.1\r\nHost: {}\r\n\r\n'
+
+
+class Asked:
+    """A node that may be asked at an address of its own."""
+
+    def __init__(self, room, node, links, *more, token=True, **settings):
+        self.port = free_port()
+        self.at = f'127.0.0.1:{self.port}'
+        words = ['--control', self.at, *more]
+        if token:
+            put_token(room, 'token')
+            words += ['--control-token', 'token']
+        self.process = room.serve(node, links, *words, **settings)
+
+    def ask(self, method, path, form=None, **fields):
+        """The status and the text of an answer."""
+        link = http.client.HTTPConnection('127.0.0.1', self.port, timeout=LIMIT)
+        head = {'Host': self.at, **{name.replace('_', '-'): value for name, value in fields.items()}}
+        link.request(method, path, body=None if form is None else urllib.parse.urlencode(form), headers=head)
+        came = link.getresponse()
+        text = came.read().decode('ascii')
+        link.close()
+        return came.status, text
+
+    def read(self, path):
+        status, text = self.ask('GET', path)
+        same(status, 200)
+        return [json.loads(line) for line in text.splitlines()]
+
+    def act(self, path, token=TOKEN, **form):
+        return self.ask('POST', path, form, Authorization=f'Bearer {token}')
+
+    def raw(self, data, wait=LIMIT):
+        """What comes until the other side closes; nothing where it is reset."""
+        with socket.create_connection(('127.0.0.1', self.port), timeout=wait) as link:
+            try:
+                link.sendall(data)
+                link.shutdown(socket.SHUT_WR)
+                got = b''
+                while piece := link.recv(65536):
+                    got += piece
+                return got
+            except (ConnectionResetError, BrokenPipeError):
+                return b''
+
+
+def put_token(room, name, text=TOKEN + '\n', mode=0o600):
+    room.put(name, text.encode())
+    os.chmod(f'{room.folder}/{name}', mode)
+
+
+def hold(room, uid=b'1.2.3.4'):
+    """CT1 gets a row to GATE that is held: GATE has other bytes under that UID."""
+    room.put('image.dcm', part10(uid))
+    room.put('other.dcm', part10(uid, element(0x10, 0x10, b'PN', b'Other')))
+    gate = room.serve('GATE', 2)
+    same(room.at('send', 'CT1', 'image.dcm', ledger='first.db').returncode, 0)
+    same(lines(room.at('send', 'CT1', 'other.dcm').stdout)[3:4], [f'row\t{uid.decode()}\tGATE\theld\tC0F1'])
+    ended(gate)
+
+
+def reads():
+    """What a node has, as lines of JSON and as figures, without a token on loopback."""
+    with Room() as room:
+        hold(room)
+        node = Asked(room, 'CT1', 0, token=False)
+        status = node.read('/status')
+        since = status[0].pop('since')
+        assert abs(time.time() * 1000 - since) < 60_000, since
+        same(status, [{'node': 'CT1', 'arrivals': 1, 'kept': 0, 'lines': 2, 'failures': 0}, {'dest': 'GATE', 'waiting': 0, 'held': 1, 'done': 0}])
+        row = {'uid': '1.2.3.4', 'dest': 'GATE', 'state': 'held', 'cause': 'C0F1'}
+        same(node.read('/rows?dest=GATE'), [row])
+        same(node.read('/rows?state=held&dest=GATE&after=1.2.3'), [row])
+        same(node.read('/rows?dest=GATE&after=1.2.3.4'), [])
+        same(node.read('/rows?dest=GATE&state=waiting'), [])
+        same(node.read('/rows?dest=ARCH'), [])
+        same(node.ask('GET', '/rows'), (400, '{"fault":"Field"}\n'))
+        same(node.ask('GET', '/rows?dest=GATE&state=lost'), (400, '{"fault":"Field"}\n'))
+        same(node.read('/health'), [{'well': True}])
+        code, figures = node.ask('GET', '/metrics')
+        same(code, 200)
+        same([line for line in figures.splitlines() if not line.startswith('#')],
+             ['dr_router_arrivals 1', 'dr_router_kept 0', 'dr_router_journal_lines 2', 'dr_router_store_failures 0',
+              'dr_router_rows{dest="GATE",state="waiting"} 0', 'dr_router_rows{dest="GATE",state="held"} 1', 'dr_router_rows{dest="GATE",state="done"} 0'])
+        stop(node.process)
+
+
+def acts():
+    """A held row is queued again and sent at once; another is given up; the receipts agree with the journal when the node is told to stop."""
+    with Room() as room:
+        hold(room)
+        node = Asked(room, 'CT1', 0)
+        same(node.act('/requeue', uid='1.2.3.4', dest='ARCH'), (409, '{"fault":"G5 NotHeld"}\n'))
+        same(node.act('/requeue', uid='1.2.3.4'), (400, '{"fault":"Field"}\n'))
+        # GATE isn't there any more, so that the row waits
+        same(node.act('/requeue', uid='1.2.3.4', dest='GATE'), (200, '{"done":true}\n'))
+        end = time.monotonic() + LIMIT
+        while not (rows := node.read('/rows?dest=GATE&state=waiting')) or not rows[0]['tries']:
+            assert time.monotonic() < end, rows
+            time.sleep(0.05)
+        same(node.act('/requeue', uid='1.2.3.4', dest='GATE'), (409, '{"fault":"G5 NotHeld"}\n'))
+        same(node.act('/drop', uid='1.2.3.4', dest='GATE'), (409, '{"fault":"G5 NotHeld"}\n'))
+        # GATE is there again, and refuses it again: each process is another one
+        gate = room.serve('GATE', 0)
+        while not node.read('/rows?dest=GATE&state=held'):
+            assert time.monotonic() < end
+            time.sleep(0.05)
+        same(node.act('/drop', uid='1.2.3.4', dest='GATE'), (200, '{"done":true}\n'))
+        same(node.read('/rows?dest=GATE'), [{'uid': '1.2.3.4', 'dest': 'GATE', 'state': 'dropped'}])
+        same(node.act('/stop'), (200, '{"done":true}\n'))
+        got = ended(node.process)
+        same(got[:2], ['node\tCT1', 'row\t1.2.3.4\tGATE\tdropped'])
+        stop(gate)
+        same(lines(room.at('list', 'CT1').stdout), got)
+        said = [event[3] for event in room.events('CT1') if event[2] == 'control']
+        same(said, ['requeue dest="ARCH" uid=1.2.3.4 fault="G5 NotHeld"', 'requeue dest="GATE" uid=1.2.3.4', 'requeue dest="GATE" uid=1.2.3.4 fault="G5 NotHeld"',
+                    'drop dest="GATE" uid=1.2.3.4 fault="G5 NotHeld"', 'drop dest="GATE" uid=1.2.3.4', 'stop'])
+
+
+def refusals():
+    """Who may act: a POST with the token, to a host that is allowed. Whatever else is asked changes nothing."""
+    with Room() as room:
+        hold(room)
+        row = {'uid': '1.2.3.4', 'dest': 'GATE'}
+        form = urllib.parse.urlencode(row)
+        node = Asked(room, 'CT1', 0, '--control-host', 'node.example')
+        bearer = f'Bearer {TOKEN}'
+        for path in '/requeue', '/drop', '/stop':
+            same(node.ask('POST', path, row), (401, '{"fault":"Token"}\n'))
+            for given in TOKEN, f'Basic {TOKEN}', f'bearer {TOKEN}', f'Bearer {TOKEN[:-1]}', f'Bearer {TOKEN}x', f'Bearer {TOKEN[:-1]}X', 'Bearer ', 'Bearer':
+                same(node.ask('POST', path, row, Authorization=given)[0], 401)
+            for method in 'GET', 'PUT', 'DELETE', 'PATCH', 'OPTIONS':
+                same(node.ask(method, f'{path}?{form}', row, Authorization=bearer)[0], 405)
+            for host in 'evil.example', f'evil.example:{node.port}', '127.0.0.1:1', f'127.0.0.1.evil.example:{node.port}':
+                same(node.ask('POST', path, row, Host=host, Authorization=bearer)[0], 421)
+        for path in '/requeue/', '/Requeue', '//requeue', '/', '/requeue%20', '/drop.html', '/forget':
+            same(node.ask('POST', path, row, Authorization=bearer), (404, '{"fault":"Path"}\n'))
+        for host in f'localhost:{node.port}', 'node.example', f'node.example:{node.port}', node.at:
+            same(node.ask('GET', '/health', Host=host)[0], 200)
+        same(node.ask('GET', '/status', Host='evil.example')[0], 421)
+        same(node.ask('POST', '/status', row)[0], 405)
+        # two hosts, none, and a form that doesn't come whole
+        assert node.raw(f'POST /stop HTTP/1.1\r\nHost: {node.at}\r\nHost: x\r\nAuthorization: {bearer}\r\nContent-Length: 0\r\n\r\n'.encode()).split(b' ')[1] in (b'400', b'421')
+        assert node.raw(f'POST /stop HTTP/1.1\r\nAuthorization: {bearer}\r\nContent-Length: 0\r\n\r\n'.encode()).split(b' ')[1] in (b'400', b'421')
+        same(node.raw(f'POST /drop HTTP/1.1\r\nHost: {node.at}\r\nAuthorization: {bearer}\r\nContent-Length: 40\r\n\r\n{form}'.encode()).split(b' ')[1:2], [b'400'])
+        # the second request of a connection isn't read
+        both = (GOOD.format(node.at) + f'POST /stop HTTP/1.1\r\nHost: {node.at}\r\nAuthorization: {bearer}\r\nContent-Length: 0\r\n\r\n').encode()
+        same(node.raw(both).count(b'HTTP/1.1 '), 1)
+        same(node.read('/rows?dest=GATE&state=held')[0]['uid'], '1.2.3.4')
+        same(node.process.poll(), None)
+        stop(node.process)
+    with Room() as room:
+        hold(room)
+        node = Asked(room, 'CT1', 0, token=False)
+        for path in '/requeue', '/drop', '/stop':
+            same(node.ask('POST', path, row, Authorization=bearer), (403, '{"fault":"Closed"}\n'))
+        same(node.read('/rows?dest=GATE&state=held')[0]['uid'], '1.2.3.4')
+        stop(node.process)
+
+
+def places():
+    """Where a node may be asked: on loopback, or for anyone with a token, which its owner alone may read."""
+    with Room() as room:
+        at = f'127.0.0.1:{free_port()}'
+        for mode in 0o640, 0o604, 0o660, 0o620:
+            put_token(room, 'open', mode=mode)
+            same(room.at('serve', 'CT1', '--control', at, '--control-token', 'open').returncode, 3)
+        put_token(room, 'short', text='fifteen bytes..\n')
+        same(room.at('serve', 'CT1', '--control', at, '--control-token', 'short').returncode, 3)
+        same(room.at('serve', 'CT1', '--control', at, '--control-token', 'none').returncode, 3)
+        everywhere = f'0.0.0.0:{free_port()}'
+        told(room.at('serve', 'CT1', '--control', everywhere), 3, '', f'dr_router: {everywhere}: permission denied\n')
+        same(room.at('serve', 'CT1', '--control', everywhere, '--control-anyone').returncode, 3)
+        same(room.at('serve', 'CT1', '--control-token', 'short').returncode, 2)
+        same(os.path.exists(f'{room.folder}/CT1.db'), False)
+        node = Asked(room, 'CT1', 0, '--control-anyone')
+        same(node.ask('GET', '/status')[0], 401)
+        same(node.ask('GET', '/status', Authorization=f'Bearer {TOKEN}')[0], 200)
+        same(room.at('serve', 'GATE', '--control', node.at).returncode, 3)
+        stop(node.process)
+
+
+def hostile():
+    """Requests that are none, or too long, or come slowly: each is refused or cut, and the node goes on; meanwhile a peer stores."""
+    with Room() as room:
+        node = Asked(room, 'GATE', 0)
+        stored, over = [], threading.Event()
+
+        def store():
+            with Requestor(room.ports['GATE'], 'CT1', 'GATE') as link:
+                while not over.is_set():
+                    uid = f'1.2.3.{len(stored)}'.encode()
+                    same(link.store(uid, data_set(uid)), 0)
+                    stored.append(uid)
+        peer = threading.Thread(target=store)
+        peer.start()
+        try:
+            whole = f'POST /stop HTTP/1.1\r\nHost: {node.at}\r\nContent-Length: 3\r\n\r\nabc'.encode()
+            for cut in range(len(whole)):
+                assert not node.raw(whole[:cut]).startswith(b'HTTP/1.1 200'), cut
+            for data, status in ((b'GET /health HTTP/1.1\r\nX: ' + 9000 * b'x' + b'\r\n\r\n', b'431'), (b'GET /' + 9000 * b'x' + b' HTTP/1.1\r\n\r\n', b'414'),
+                                 (f'POST /drop HTTP/1.1\r\nHost: {node.at}\r\nContent-Length: 70000\r\n\r\n'.encode() + 70000 * b'x', b'413'),
+                                 (f'POST /drop HTTP/1.1\r\nHost: {node.at}\r\nTransfer-Encoding: chunked\r\n\r\nfffffffffffffffff\r\n'.encode(), b'400'),
+                                 (f'POST /drop HTTP/1.1\r\nHost: {node.at}\r\nTransfer-Encoding: gzip\r\n\r\n'.encode(), b'501')):
+                same(node.raw(data).split(b' ')[1:2], [status])
+            chance = random.Random(52)
+            for _ in range(300):
+                data = bytearray(whole)
+                for _ in range(chance.randrange(1, 6)):
+                    data[chance.randrange(len(data))] = chance.randrange(256)
+                assert not node.raw(bytes(data)).startswith(b'HTTP/1.1 200'), data
+            # 16 who say nothing are let go after 5 s; whoever asks meanwhile waits for that
+            begun = time.monotonic()
+            idle = [socket.create_connection(('127.0.0.1', node.port)) for _ in range(16)]
+            idle[0].sendall(b'GET /hea')
+            same(node.read('/health'), [{'well': True}])
+            took = time.monotonic() - begun
+            assert 4 < took < 15, took
+            for link in idle:
+                link.close()
+            # one byte a second isn't a request in time
+            begun = time.monotonic()
+            with socket.create_connection(('127.0.0.1', node.port)) as slow:
+                try:
+                    for byte in GOOD.format(node.at).encode():
+                        slow.sendall(bytes([byte]))
+                        time.sleep(0.5)
+                    raise AssertionError('a slow request was heard')
+                except (BrokenPipeError, ConnectionResetError):
+                    took = time.monotonic() - begun
+            assert took < 15, took
+        finally:
+            over.set()
+            peer.join()
+        assert len(stored) > 10, len(stored)
+        same(node.read('/status')[0]['arrivals'], len(stored))
+        same(node.act('/stop')[0], 200)
+        ended(node.process)
+
+
+def main():
+    if not os.path.exists(PROGRAM):
+        sys.exit(f'{PROGRAM} is not built')
+    run_cases('control', reads, acts, refusals, places, hostile)
+
+
+if __name__ == '__main__':
+    main()
