@@ -17,7 +17,7 @@ _dr_router() {
         mapfile -t COMPREPLY < <(compgen -W "error info debug" -- "$current")
         return
     fi
-    if [ "$word ${COMP_WORDS[COMP_CWORD - 1]}" = "serve --report" ]; then
+    if [ "$word ${COMP_WORDS[COMP_CWORD - 1]}" = "serve --report" ] || [ "$word ${COMP_WORDS[COMP_CWORD - 1]}" = "serve --control-token" ]; then
         mapfile -t COMPREPLY < <(compgen -f -- "$current")
         return
     fi
@@ -30,7 +30,7 @@ _dr_router() {
         "adopt 6")
             mapfile -t COMPREPLY < <(compgen -d -- "$current") ;;
         "serve 6" | "serve 8" | "serve 1"[02468])
-            mapfile -t COMPREPLY < <(compgen -W "--links --log --report --workers --memory --connect --write --message --idle --until-input-ends --must-exist --forget-after --forget-never" -- "$current") ;;
+            mapfile -t COMPREPLY < <(compgen -W "--links --log --report --workers --memory --connect --write --message --idle --until-input-ends --must-exist --forget-after --forget-never --control --control-token --control-host --control-anyone" -- "$current") ;;
         "list 6")
             mapfile -t COMPREPLY < <(compgen -W "--summary" -- "$current") ;;
         "diff 6")
