@@ -1,0 +1,8 @@
+use Rattle.dr_run_answer.specs.Answers.{stages_of}
+use Rattle.dr_run_answer.proofs.Chained.{one_more}
+use Rattle.dr_run_answer.proofs.figures.put_each.Goals as goal
+
+pub loop-queue-preserved : goal.loop-queue-preserved
+loop-queue-preserved c =
+    one_more stages_of c.args.queues.now c.loop-queue.queue-index c.queue-item.result c.queue-item.result c.args.out.now.items c.loop-queue.out.items c.put_stages.new.out.items
+    c.loop-queue-test.true c.queue-item.is c.loop-queue.invariant c.in_ok-put_stages.ensures

@@ -1,0 +1,164 @@
+-- What a running node answers, as lines: JSON's objects, and figures for Prometheus.
+use Rattle.std.specs.Prelude.{ℕ, ◌/◌, ◌%◌, ◌∷◌, ◌++◌, ◌&&◌, Bool, true, false, List, [], Option}
+use Rattle.std.specs.Prelude.{None, Some}
+use Rattle.std.specs.Prelude.{bytes_eq, codes, decimal, flat_map}
+use Rattle.std.specs.Ordering.{is_lt}
+use Rattle.dr_base.specs.Texts.{Text, text_cmp}
+use Rattle.dr_ledger.specs.Pairs.{Pair}
+use Rattle.hex.specs.Hex.{encode_upper}
+use Rattle.dr_ledger.specs.declared.item.Cause.{Cause}
+use Rattle.dr_ledger.specs.declared.item.Cause.TheVariants as cause
+use Rattle.dr_ledger.specs.declared.item.Progress.{Progress}
+use Rattle.dr_ledger.specs.declared.item.Progress.TheVariants as progress
+use Rattle.dr_run_answer.specs.declared.json.Counts.{Counts}
+use Rattle.dr_run_answer.specs.declared.json.Queue.{Queue}
+use Rattle.dr_run_answer.specs.Quoting.{quoted}
+use Rattle.dr_run_request.specs.declared.wanted.Stage.{Stage}
+use Rattle.dr_run_request.specs.declared.wanted.Stage.TheVariants as stage
+use Rattle.dr_run_request.specs.declared.wanted.Wanted.{Wanted}
+
+-- a member behind another: its name, then a number or a text
+abbrev pub member : Text → Text → Text
+member name value = codes ",\"" ++ name ++ codes "\":" ++ value
+
+abbrev pub number : Text → ℕ → Text
+number name value = member name (decimal value)
+
+abbrev pub word : Text → Text → Text
+word name value = member name (quoted value)
+
+-- an object's first member, which is a text; and its end, with which its line ends
+abbrev pub begun : Text → Text → Text
+begun name value = codes "{\"" ++ name ++ codes "\":" ++ quoted value
+
+abbrev pub ended : Text
+ended = codes "}\n"
+
+-- why a row is held: the status of the response in four hex digits, or that the association had no
+-- presentation context
+abbrev pub cause_part : Cause → Text
+cause_part (cause.Status status) =
+    word (codes "cause") (encode_upper (status / 256 ∷ status % 256 ∷ []))
+cause_part cause.NoContext = word (codes "cause") (codes "no-context")
+
+-- a row waits: how often it was tried, and from when on it is due
+abbrev pub waiting_part : ℕ → ℕ → Text
+waiting_part tries due =
+    word (codes "state") (codes "waiting") ++ number (codes "tries") tries
+    ++ number (codes "due") due
+
+-- a row is held, and why
+abbrev pub held_part : Cause → Text
+held_part why = word (codes "state") (codes "held") ++ cause_part why
+
+-- how far a row is
+abbrev pub progress_part : Progress → Text
+progress_part (progress.Waiting tries due) = waiting_part tries due
+progress_part (progress.Held why) = held_part why
+progress_part progress.Done = word (codes "state") (codes "done")
+progress_part progress.Dropped = word (codes "state") (codes "dropped")
+
+-- the line of a row
+abbrev pub row_line : Pair × Progress → Text
+row_line row =
+    begun (codes "uid") row.0.0 ++ word (codes "dest") row.0.1 ++ progress_part row.1 ++ ended
+
+-- the line of a node that serves since that moment
+abbrev pub node_line : Text → ℕ → Counts → Text
+node_line name since counts =
+    begun (codes "node") name ++ number (codes "since") since
+    ++ number (codes "arrivals") counts.arrivals ++ number (codes "kept") counts.kept
+    ++ number (codes "lines") counts.lines ++ number (codes "failures") counts.failures ++ ended
+
+-- from when on the first row is due that waits, if one does
+abbrev pub due_part : Option ℕ → Text
+due_part None = []
+due_part (Some due) = number (codes "due") due
+
+-- the line of the rows to a node: how many wait, are held and are done
+abbrev pub queue_line : Text → ℕ → ℕ → ℕ → Option ℕ → Text
+queue_line dest waiting held done due =
+    begun (codes "dest") dest ++ number (codes "waiting") waiting ++ number (codes "held") held
+    ++ number (codes "done") done ++ due_part due ++ ended
+
+-- the same of a queue
+abbrev pub line_of_queue : Queue → Text
+line_of_queue queue =
+    queue_line queue.dest.now queue.waiting queue.held queue.done queue.due
+
+-- an act was done; a node is well; a fault
+abbrev pub done_line : Text
+done_line = codes "{\"done\":true}\n"
+
+abbrev pub well_line : Text
+well_line = codes "{\"well\":true}\n"
+
+abbrev pub fault_line : Text → Text
+fault_line fault = begun (codes "fault") fault ++ ended
+
+-- a row is at a stage
+abbrev pub is_at : Stage → Progress → Bool
+is_at stage.Waiting (progress.Waiting tries due) = true
+is_at stage.Waiting (progress.Held why) = false
+is_at stage.Waiting progress.Done = false
+is_at stage.Waiting progress.Dropped = false
+is_at stage.Held (progress.Waiting tries due) = false
+is_at stage.Held (progress.Held why) = true
+is_at stage.Held progress.Done = false
+is_at stage.Held progress.Dropped = false
+is_at stage.Done (progress.Waiting tries due) = false
+is_at stage.Done (progress.Held why) = false
+is_at stage.Done progress.Done = true
+is_at stage.Done progress.Dropped = false
+is_at stage.Dropped (progress.Waiting tries due) = false
+is_at stage.Dropped (progress.Held why) = false
+is_at stage.Dropped progress.Done = false
+is_at stage.Dropped progress.Dropped = true
+
+-- it is at the stage that is named, if one is
+abbrev pub is_fit : Option Stage → Progress → Bool
+is_fit None row = true
+is_fit (Some stage) row = is_at stage row
+
+-- its UID stands behind the one that is named, if one is
+abbrev pub is_behind : Option Text → Text → Bool
+is_behind None uid = true
+is_behind (Some after) uid = is_lt (text_cmp after uid)
+
+-- the row is one of those that are wanted
+abbrev pub is_wanted : Wanted → Pair × Progress → Bool
+is_wanted wanted row =
+    bytes_eq row.0.1 wanted.dest && is_fit wanted.stage row.1 && is_behind wanted.after row.0.0
+
+-- ---- the text format of Prometheus
+
+-- a figure of the whole node, of that kind
+abbrev pub figure : Text → Text → ℕ → Text
+figure name kind value =
+    codes "# TYPE " ++ name ++ codes " " ++ kind ++ codes "\n" ++ name ++ codes " "
+    ++ decimal value ++ codes "\n"
+
+-- how much a node has
+abbrev pub figures : Counts → Text
+figures counts =
+    figure (codes "dr_router_arrivals") (codes "gauge") counts.arrivals
+    ++ figure (codes "dr_router_kept") (codes "gauge") counts.kept
+    ++ figure (codes "dr_router_journal_lines") (codes "counter") counts.lines
+    ++ figure (codes "dr_router_store_failures") (codes "counter") counts.failures
+
+-- how many rows to a node are at a stage
+abbrev pub rows_figure : Text → Text → ℕ → Text
+rows_figure dest state value =
+    codes "dr_router_rows{dest=" ++ quoted dest ++ codes ",state=" ++ quoted state ++ codes "} "
+    ++ decimal value ++ codes "\n"
+
+-- how many rows of a queue wait, are held and are done
+abbrev pub stages_of : Queue → Text
+stages_of queue =
+    rows_figure queue.dest.now (codes "waiting") queue.waiting
+    ++ rows_figure queue.dest.now (codes "held") queue.held
+    ++ rows_figure queue.dest.now (codes "done") queue.done
+
+-- the same for each node
+abbrev pub queues_figures : List Queue → Text
+queues_figures queues = codes "# TYPE dr_router_rows gauge\n" ++ flat_map stages_of queues

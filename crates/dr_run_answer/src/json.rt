@@ -1,0 +1,192 @@
+//! Lines of JSON.
+ghost use Rattle.std.specs.Prelude.{◌≡◌, ◌++◌, OnOk, decimal};
+ghost use Rattle.dr_run_answer.specs.Answers.{cause_part, done_line, due_part, fault_line};
+ghost use Rattle.dr_run_answer.specs.Answers.{held_part};
+ghost use Rattle.dr_run_answer.specs.Answers.{line_of_queue, node_line, number, progress_part};
+ghost use Rattle.dr_run_answer.specs.Answers.{row_line, waiting_part, well_line, word};
+
+use crate::quoted::{put_quoted, put_text};
+use dr_base::Text;
+use dr_ledger::{Cause, Progress};
+use std::alloc::AllocError;
+
+/// How much a node has: accepted arrivals, kept instances, lines of the journal, and how often the
+/// store has failed.
+#[derive(Clone, Copy, PartialEq, Eq, Debug)]
+pub struct Counts {
+    pub arrivals: u64,
+    pub kept: u64,
+    pub lines: u64,
+    pub failures: u64,
+}
+
+/// How many rows to a node wait, are held and are done, and from which moment on the first one that
+/// waits is due (milliseconds).
+#[derive(Debug, Drop)]
+pub struct Queue<'a> {
+    pub dest: &'a Text,
+    pub waiting: u64,
+    pub held: u64,
+    pub done: u64,
+    pub due: Option<u64>,
+}
+
+/// Adds a number.
+pub(crate) fn put_decimal(out: &mut Vec<u8>, value: u64) -> Result<(), AllocError>
+    ensures { OnOk result (out.new.items ≡ out.old.items ++ decimal value) }
+{
+    let mut digits = itoa::Buffer::new();
+    out.extend_from_slice(digits.format(value).as_bytes())
+}
+
+/// Adds a number behind its name.
+fn put_number(out: &mut Vec<u8>, name: &str, value: u64) -> Result<(), AllocError>
+    ensures { OnOk result (out.new.items ≡ out.old.items ++ number name.now value) }
+{
+    out.extend_from_slice(b",\"")?;
+    out.extend_from_slice(name.as_bytes())?;
+    out.extend_from_slice(b"\":")?;
+    put_decimal(out, value)
+}
+
+/// Adds a text behind its name.
+fn put_word(out: &mut Vec<u8>, name: &str, value: &[u8]) -> Result<(), AllocError>
+    ensures { OnOk result (out.new.items ≡ out.old.items ++ word name.now value.now) }
+{
+    out.extend_from_slice(b",\"")?;
+    out.extend_from_slice(name.as_bytes())?;
+    out.extend_from_slice(b"\":")?;
+    put_quoted(out, value)
+}
+
+/// Adds why a row is held.
+fn put_cause(out: &mut Vec<u8>, cause: Cause) -> Result<(), AllocError>
+    ensures { OnOk result (out.new.items ≡ out.old.items ++ cause_part cause) }
+{
+    match cause {
+        Cause::Status(status) => {
+            let bytes = status.to_be_bytes();
+            let alloc = *out.allocator();
+            let digits = hex::encode_upper(alloc, bytes.as_slice())?;
+            put_word(out, "cause", digits.as_bytes())
+        }
+        Cause::NoContext => put_word(out, "cause", b"no-context"),
+    }
+}
+
+/// Adds that a row waits: how often it was tried, and from when on it is due.
+fn put_waiting(out: &mut Vec<u8>, tries: u64, due: u64) -> Result<(), AllocError>
+    ensures { OnOk result (out.new.items ≡ out.old.items ++ waiting_part tries due) }
+{
+    put_word(out, "state", b"waiting")?;
+    put_number(out, "tries", tries)?;
+    put_number(out, "due", due)?;
+    Ok(())
+}
+
+/// Adds that a row is held, and why.
+fn put_held(out: &mut Vec<u8>, cause: Cause) -> Result<(), AllocError>
+    ensures { OnOk result (out.new.items ≡ out.old.items ++ held_part cause) }
+{
+    put_word(out, "state", b"held")?;
+    put_cause(out, cause)?;
+    Ok(())
+}
+
+/// Adds how far a row is.
+fn put_progress(out: &mut Vec<u8>, progress: Progress) -> Result<(), AllocError>
+    ensures { OnOk result (out.new.items ≡ out.old.items ++ progress_part progress) }
+{
+    match progress {
+        Progress::Waiting { tries, due } => put_waiting(out, u64::from(tries), due),
+        Progress::Held(cause) => put_held(out, cause),
+        Progress::Done => put_word(out, "state", b"done"),
+        Progress::Dropped => put_word(out, "state", b"dropped"),
+    }
+}
+
+/// Adds the line of a row.
+pub fn put_row(
+    out: &mut Vec<u8>,
+    uid: &Text,
+    dest: &Text,
+    progress: Progress,
+) -> Result<(), AllocError>
+    ensures { OnOk result
+        (out.new.items ≡ out.old.items ++ row_line ((uid.now, dest.now), progress)) }
+{
+    out.extend_from_slice(b"{\"uid\":")?;
+    put_text(out, uid)?;
+    put_word(out, "dest", dest.as_bytes())?;
+    put_progress(out, progress)?;
+    out.extend_from_slice(b"}\n")?;
+    Ok(())
+}
+
+/// Adds the line of a node, which serves since that moment (milliseconds).
+pub fn put_node(
+    out: &mut Vec<u8>,
+    name: &Text,
+    since: u64,
+    counts: Counts,
+) -> Result<(), AllocError>
+    ensures { OnOk result (out.new.items ≡ out.old.items ++ node_line name.now since counts) }
+{
+    out.extend_from_slice(b"{\"node\":")?;
+    put_text(out, name)?;
+    put_number(out, "since", since)?;
+    put_number(out, "arrivals", counts.arrivals)?;
+    put_number(out, "kept", counts.kept)?;
+    put_number(out, "lines", counts.lines)?;
+    put_number(out, "failures", counts.failures)?;
+    out.extend_from_slice(b"}\n")?;
+    Ok(())
+}
+
+/// Adds the moment from which on the first row is due that waits.
+fn put_due(out: &mut Vec<u8>, due: Option<u64>) -> Result<(), AllocError>
+    ensures { OnOk result (out.new.items ≡ out.old.items ++ due_part due) }
+{
+    match due {
+        Some(due) => put_number(out, "due", due),
+        None => Ok(()),
+    }
+}
+
+/// Adds the line of the rows to a node.
+pub fn put_queue(out: &mut Vec<u8>, queue: &Queue<'_>) -> Result<(), AllocError>
+    ensures { OnOk result (out.new.items ≡ out.old.items ++ line_of_queue queue.now) }
+{
+    out.extend_from_slice(b"{\"dest\":")?;
+    put_text(out, queue.dest)?;
+    put_number(out, "waiting", queue.waiting)?;
+    put_number(out, "held", queue.held)?;
+    put_number(out, "done", queue.done)?;
+    put_due(out, queue.due)?;
+    out.extend_from_slice(b"}\n")?;
+    Ok(())
+}
+
+/// Adds the line of an act that was done.
+pub fn put_done(out: &mut Vec<u8>) -> Result<(), AllocError>
+    ensures { OnOk result (out.new.items ≡ out.old.items ++ done_line) }
+{
+    out.extend_from_slice(b"{\"done\":true}\n")
+}
+
+/// Adds the line of a node that is well.
+pub fn put_well(out: &mut Vec<u8>) -> Result<(), AllocError>
+    ensures { OnOk result (out.new.items ≡ out.old.items ++ well_line) }
+{
+    out.extend_from_slice(b"{\"well\":true}\n")
+}
+
+/// Adds the line of a fault.
+pub fn put_fault(out: &mut Vec<u8>, fault: &str) -> Result<(), AllocError>
+    ensures { OnOk result (out.new.items ≡ out.old.items ++ fault_line fault.now) }
+{
+    out.extend_from_slice(b"{\"fault\":")?;
+    put_quoted(out, fault.as_bytes())?;
+    out.extend_from_slice(b"}\n")?;
+    Ok(())
+}

@@ -1,0 +1,20 @@
+//! What a running node answers over its control connection, as text.
+//!
+//! - Lines of JSON, one object each: what a node has (`put_node`), how many rows are on their way
+//!   to a node (`put_queue`), and rows (`put_page`).
+//! - Figures in the text format of Prometheus: `put_figures`, `put_queues`.
+//!
+//! Whatever a peer sent, as a UID, stands in it escaped, so that it begins no line, no object and
+//! no label.
+#![tactic(auto)]
+
+mod figures;
+mod json;
+pub mod laws;
+mod page;
+mod quoted;
+
+pub use figures::{put_figures, put_queues};
+pub use json::{Counts, Queue, put_done, put_fault, put_node, put_queue, put_row, put_well};
+pub use page::{PAGE, put_page};
+pub use quoted::put_quoted;

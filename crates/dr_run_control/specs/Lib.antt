@@ -1,0 +1,3 @@
+pub mod Consoles
+pub mod Names
+pub mod Replies
