@@ -1,0 +1,5 @@
+pub mod Among
+pub mod Back
+pub mod OneHistory
+pub mod Reasons
+pub mod Shown
