@@ -1,6 +1,7 @@
 -- What a run leaves: journals that are histories, and match.
-use Rattle.std.specs.Prelude.{◌≡◌, ℕ, ◌+◌, ◌≤◌, ◌^◌, Bool, true, false, List, [], ◌∷◌, ◌++◌, min}
+use Rattle.std.specs.Prelude.{◌≡◌, ℕ, ◌+◌, ◌-◌, ◌≤◌, ◌^◌, Bool, true, false, List, [], ◌∷◌, ◌++◌, length, min, take}
 use Rattle.std.proofs.Common.{refl, sym, ap, subst, ◌∙◌, arith}
+use Rattle.std.proofs.lemmas.List.{length-append, take-append-le, take_all}
 use mathlib.Core.Logic.{inl, inr}
 use Rattle.dr_base.specs.Texts.{Text}
 use Rattle.dr_plan_model.specs.Networks.{Network}
@@ -9,7 +10,9 @@ use Rattle.dr_ledger.specs.Books.{Book, Line, Settling, Adoption, after, empty_b
 use Rattle.dr_ledger.specs.Histories.{IsSince}
 use Rattle.dr_ledger.specs.PlanRoutes.{plan_routing}
 use Rattle.dr_ledger.proofs.Folding.{folded_push, empty_is_journalled, arrivals_are_journalled, settlings_are_journalled, requeuings_are_journalled, droppings_are_journalled, forgettings_are_journalled, adoptions_are_journalled}
+use Rattle.dr_ledger.specs.Routings.{Routing}
 use Rattle.dr_ledger.proofs.Maps.{cases_of}
+use Rattle.dr_ledger.proofs.Since.{since_is}
 use Rattle.dr_world_model.specs.Among.{Act, Agrees, Calls, Does, Doing, Other, Ours, Own, Replies, RunsAmong, Stores, Takes, Turn, Turns, acts_of, all_ours}
 use Rattle.dr_world_model.specs.Calls.{Called, StoreOutcome}
 use Rattle.dr_world_model.specs.Claims.{IsToSend}
@@ -20,7 +23,7 @@ use Rattle.dr_world_model.proofs.AmongAll.{all_ours_is_the_headline}
 use Rattle.dr_world_model.proofs.AmongSafe.{IsSafeAmong}
 use Rattle.dr_world_model.proofs.Safety.{each_book}
 use Rattle.dr_world_model.proofs.Stepwise.{Closed, step_keeps}
-use Rattle.dr_world_journals.specs.Journals.{AreHistories, Files, Match}
+use Rattle.dr_world_journals.specs.Journals.{AreHistories, Match, stood, until_adoption}
 use Rattle.dr_world_journals.specs.Theorem.{AllRunsLeaveMatchingJournals, AreSeen, RunsLeaveMatchingJournals}
 use Rattle.dr_world_journals.proofs.Reasons.{runs_have_reasons}
 
@@ -109,33 +112,37 @@ journalled_run ours (Own event ∷ acts) plan last w v r p = journalled_run ours
 journalled_run ours (Other doing ∷ acts) plan last w v r p = journalled_run ours acts plan last r.0 v r.2 (doing_journalled ours plan doing w r.0 r.1 p)
 journalled_run ours (Turn next ∷ acts) plan last w v r p = journalled_run ours acts next last r.1.0 v r.1.2 (turned_journalled ours plan next w r.1.0 r.1.1 p)
 
--- what begins a list without elements has none
-none_of : (past since : List Line) → past ++ since ≡ [] → past ≡ []
-none_of [] since e = refl
-none_of (line ∷ past) since e = absurd (let f : ⊥ = cc in f)
+-- ---- what a journal had up to its last adoption
+take_past : (past since : List Line) (n : ℕ) → n ≡ length past → take n (past ++ since) ≡ past
+take_past past since n is = ap (λ k. take k (past ++ since)) is ∙ (take-append-le (length past) past since (no_more (length past)) ∙ take_all (length past) past (no_more (length past)))
+  where
+    no_more : (k : ℕ) → k ≤ k
+    no_more k = omega arith
+
+pub until_is : (routing : Routing) (past : List Line) (b : Book) → IsSince routing past b → until_adoption b.lines ≡ past
+until_is routing past b j =
+    let P : List Line × List Line → Type 0 = λ p. take (length p.0 - length p.1) p.0 ≡ past in
+    let sum : length (past ++ j.since) ≡ length past + length j.since = length-append past j.since in
+    subst P (λ k. (sym j.lines k, sym (since_is routing past b j) k)) (take_past past j.since (length (past ++ j.since) - length j.since) (omega arith))
 
 pub runs_leave_matching_journals : RunsLeaveMatchingJournals
 runs_leave_matching_journals ours plan sound acts last w run =
     let known = (journalled_run ours acts plan last start w run (early_start, λ n. nothing_known plan n)).1 in
     let r = runs_have_reasons ours plan sound acts last w run in
-    let toward : (name to : Text) (item : _) → IsToSend (Fold (known name).0) item to → IsToSend (w.stood name) item to = λ name to item s. subst (λ b. IsToSend b item to) (sym (known name).2) s in
+    let until : (name : Text) → until_adoption (w.books name).lines ≡ (known name).0 = λ name. until_is (plan_routing last name) (known name).0 (w.books name) (known name).1 in
+    let then : (name : Text) → w.stood name ≡ stood (w.books name) = λ name. (known name).2 ∙ ap Fold (sym (until name)) in
     record {
-      files = record { books = w.books; pasts = λ name. (known name).0 };
-      books = refl;
-      stood = λ name. (known name).2;
+      stood_then = then;
       histories = record {
-        own = λ name own. (known name).1;
-        fit = λ name to item own s. (r.safe.carried name to item (toward name to item s)).0;
-        others = λ name other. (
-          r.safe.others name other,
-          none_of (known name).0 (known name).1.since (sym (known name).1.lines ∙ ap (λ (b : Book). b.lines) (r.safe.others name other)),
-        );
+        own = λ name own. (let P : List Line → Type 0 = λ past. IsSince (plan_routing last name) past (w.books name) in subst P (sym (until name)) (known name).1);
+        fit = λ name to item own s. (r.safe.carried name to item (subst (λ b. IsToSend b item to) (sym (then name)) s)).0;
+        others = r.safe.others;
       };
       match = record {
         successes = λ name to item own near s. r.safe.answered name to item near s;
         arrivals = λ name caller item own near far taken. elim (r.reasons.arrivals name caller item near far taken) [
           | inl a ↦ inl a
-          | inr stood ↦ inr (subst (λ b. IsToSend b item name) (known caller).2 stood)
+          | inr s ↦ inr (subst (λ b. IsToSend b item name) (then caller) s)
         ];
         fair = λ name uid to outcome now own near at. r.safe.lines name (Settling uid to outcome now) at uid to outcome now near refl;
       };

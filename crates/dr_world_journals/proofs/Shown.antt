@@ -26,7 +26,7 @@ use Rattle.dr_world_model.proofs.AmongAll.{all_ours_is_the_headline}
 use Rattle.dr_world_model.proofs.AmongSafe.{IsFairAmong, IsSafeAmong, PassedBy, ReachedBy}
 use Rattle.dr_world_model.proofs.Keeping.{IsRight, Took}
 use Rattle.dr_world_model.proofs.Walking.{last_on, walk_on}
-use Rattle.dr_world_journals.specs.Journals.{AreHistories, Files, Match, world_of}
+use Rattle.dr_world_journals.specs.Journals.{AreHistories, Books, Match, stood, until_adoption, world_of}
 use Rattle.dr_world_journals.specs.Theorem.{AllJournalsShowTheHeadline, MatchingJournalsShowTheHeadline}
 use Rattle.dr_world_journals.proofs.Back.{walks_end}
 use Rattle.dr_world_journals.proofs.OneHistory.{OnBy, Stands, stands_since}
@@ -38,34 +38,34 @@ own_push : (ours : Ours) (over : List Text) (to : Text) → AreOurs ours over �
 own_push ours [] to own is = (is, tt)
 own_push ours (next ∷ over) to own is = (own.0, own_push ours over to own.1 is)
 
-module _ (ours : Ours) (plan : Network) (sound : IsSound plan) (files : Files) (h : AreHistories ours plan files) (m : Match ours plan files) where
-  stands : (name : Text) → ours name ≡ true → Stands plan name (Fold (files.pasts name)) (files.books name)
-  stands name own = stands_since plan name (files.pasts name) (files.books name) (h.own name own) (λ to item s. h.fit name to item own s)
+module _ (ours : Ours) (plan : Network) (sound : IsSound plan) (books : Books) (h : AreHistories ours plan books) (m : Match ours plan books) where
+  stands : (name : Text) → ours name ≡ true → Stands plan name (stood (books name)) (books name)
+  stands name own = stands_since plan name (until_adoption (books name).lines) (books name) (h.own name own) (λ to item s. h.fit name to item own s)
 
   -- what has a line is ours
-  is_ours : (name caller : Text) (item : Instance) → Took (files.books name) caller item → ours name ≡ true
+  is_ours : (name caller : Text) (item : Instance) → Took (books name) caller item → ours name ≡ true
   is_ours name caller item t = elim (cases_of (ours name)) [
     | inl own ↦ own
-    | inr other ↦ absurd (nothing_taken caller item (subst (λ b. Took b caller item) (h.others name other).0 t))
+    | inr other ↦ absurd (nothing_taken caller item (subst (λ b. Took b caller item) (h.others name other) t))
   ]
 
-  stood_ours : (name to : Text) (item : Instance) → IsToSend (Fold (files.pasts name)) item to → ours name ≡ true
+  stood_ours : (name to : Text) (item : Instance) → IsToSend (stood (books name)) item to → ours name ≡ true
   stood_ours name to item s = elim (cases_of (ours name)) [
     | inl own ↦ own
     | inr other ↦ (
-        let P : List Line → Type 0 = λ lines. IsToSend (Fold lines) item to in
-        let none = subst P (h.others name other).1 s in
+        let P : Book → Type 0 = λ b. IsToSend (stood b) item to in
+        let none = subst P (h.others name other) s in
         absurd (no_row none.row (sym (map.get-empty pair_cmp (item.uid, to)) ∙ none.at))
         )
   ]
 
   -- ---- where it began
   -- an arrival entered ours here, or stood, or is one hop behind another
-  began : (name caller : Text) (item : Instance) → Took (files.books name) caller item →
-      ((before : Text) → Took (files.books caller) before item → Sends plan caller before item.key name → HasEntry ours plan (world_of files) caller name item) → HasEntry ours plan (world_of files) caller name item
+  began : (name caller : Text) (item : Instance) → Took (books name) caller item →
+      ((before : Text) → Took (books caller) before item → Sends plan caller before item.key name → HasEntry ours plan (world_of books) caller name item) → HasEntry ours plan (world_of books) caller name item
   began name caller item taken further = elim (same_or_not texts caller local) [
     | inl same ↦ (
-        let P : Text → Type 0 = λ c. Took (files.books name) c item in
+        let P : Text → Type 0 = λ c. Took (books name) c item in
         record { first = caller; site = name; origin = inl (same, subst P same taken); over = []; walk = tt; last_is = refl; own = tt }
         )
     | inr other ↦ elim (cases_of (ours caller)) [
@@ -80,7 +80,7 @@ module _ (ours : Ours) (plan : Network) (sound : IsSound plan) (files : Files) (
   -- where a walk goes on from here that is as long as any, there is nowhere to go back to
   back : (fuel most : ℕ) (name caller : Text) (item : Instance) (over : List Text) →
       ((c n : Text) (walk : List Text) → IsReached plan item.key c n → IsWalk plan item.key c n walk → length walk ≤ most) →
-      Took (files.books name) caller item → IsWalk plan item.key caller name over → most ≤ length over + fuel → HasEntry ours plan (world_of files) caller name item
+      Took (books name) caller item → IsWalk plan item.key caller name over → most ≤ length over + fuel → HasEntry ours plan (world_of books) caller name item
   back zero most name caller item over ends taken walk far = began name caller item taken (λ before t sends. (
       let reached = (stands caller (is_ours caller before item t)).right.reached before item t in
       let longer : length (name ∷ over) ≤ most = ends before caller (name ∷ over) reached (sends, walk) in
@@ -106,34 +106,34 @@ module _ (ours : Ours) (plan : Network) (sound : IsSound plan) (files : Files) (
       one_more xs n f a = omega arith
 
   -- ---- what was sent on
-  reached : (name to : Text) (item : Instance) → ours name ≡ true → HasSucceededSince (files.books name).lines item to → ReachedBy ours (world_of files) name (files.books name) item to
+  reached : (name to : Text) (item : Instance) → ours name ≡ true → HasSucceededSince (books name).lines item to → ReachedBy ours (world_of books) name (books name) item to
   reached name to item own s = elim (cases_of (ours to)) [ inl near ↦ inl (near, m.successes name to item own near s) | inr far ↦ inr (far, s) ]
 
-  passed : (name to : Text) (item : Instance) → ours name ≡ true → OnBy plan name (files.books name) item to → PassedBy ours plan (world_of files) name (files.books name) item to
+  passed : (name to : Text) (item : Instance) → ours name ≡ true → OnBy plan name (books name) item to → PassedBy ours plan (world_of books) name (books name) item to
   passed name to item own (inl goes) = inl goes
   passed name to item own (inr (inl given)) = inr (inl given)
   passed name to item own (inr (inr s)) = inr (inr (reached name to item own s))
 
-  fair_line : (name : Text) (line : Line) → Contains (files.books name).lines line → IsFairAmong ours line
+  fair_line : (name : Text) (line : Line) → Contains (books name).lines line → IsFairAmong ours line
   fair_line name line at uid dest outcome now near is = elim (cases_of (ours name)) [
-    | inl own ↦ m.fair name uid dest outcome now own near (subst (Contains (files.books name).lines) is at)
+    | inl own ↦ m.fair name uid dest outcome now own near (subst (Contains (books name).lines) is at)
     | inr other ↦ (
         let P : Book → Type 0 = λ b. Contains b.lines line in
-        absurd (nothing_in_nil line (subst P (h.others name other).0 at))
+        absurd (nothing_in_nil line (subst P (h.others name other) at))
         )
   ]
 
-  pub match_safe : IsSafeAmong ours plan (world_of files)
+  pub match_safe : IsSafeAmong ours plan (world_of books)
   match_safe = record {
     books = λ name. elim (cases_of (ours name)) [
       | inl own ↦ (stands name own).right
-      | inr other ↦ subst (IsRight plan name (Fold (files.pasts name))) (sym (h.others name other).0) (empty_right plan name (Fold (files.pasts name)))
+      | inr other ↦ subst (IsRight plan name (stood (books name))) (sym (h.others name other)) (empty_right plan name (stood (books name)))
     ];
     folds = λ name. elim (cases_of (ours name)) [
       | inl own ↦ (stands name own).fold
-      | inr other ↦ (let P : Book → Type 0 = λ b. b ≡ Fold b.lines in subst P (sym (h.others name other).0) refl)
+      | inr other ↦ (let P : Book → Type 0 = λ b. b ≡ Fold b.lines in subst P (sym (h.others name other)) refl)
     ];
-    others = λ name other. (h.others name other).0;
+    others = λ name other. (h.others name other);
     lines = fair_line;
     sources = λ name caller item taken. (
         let end = walks_end plan item.key sound in
@@ -151,14 +151,14 @@ module _ (ours : Ours) (plan : Network) (sound : IsSound plan) (files : Files) (
       | inl own ↦ reached name to item own ((stands name own).done to item row has)
       | inr other ↦ (
           let P : Book → Type 0 = λ b. map.get b.rows (item.uid, to) ≡ Some Done in
-          absurd (no_row Done (sym (map.get-empty pair_cmp (item.uid, to)) ∙ subst P (h.others name other).0 row))
+          absurd (no_row Done (sym (map.get-empty pair_cmp (item.uid, to)) ∙ subst P (h.others name other) row))
           )
     ];
     answered = λ name to item near s. elim (cases_of (ours name)) [
       | inl own ↦ m.successes name to item own near s
       | inr other ↦ (
           let P : Book → Type 0 = λ b. HasSucceededSince b.lines item to in
-          absurd (none_yet item to (subst P (h.others name other).0 s))
+          absurd (none_yet item to (subst P (h.others name other) s))
           )
     ];
     links = λ number link at. absurd (no_row link (sym (map.get-empty nat_cmp number) ∙ at));
@@ -168,8 +168,8 @@ module _ (ours : Ours) (plan : Network) (sound : IsSound plan) (files : Files) (
       no_less n = omega arith
 
 pub matching_journals_show_the_headline : MatchingJournalsShowTheHeadline
-matching_journals_show_the_headline ours plan sound files h m = safe_among ours plan (world_of files) sound (match_safe ours plan sound files h m)
+matching_journals_show_the_headline ours plan sound books h m = safe_among ours plan (world_of books) sound (match_safe ours plan sound books h m)
 
 pub all_journals_show_the_headline : AllJournalsShowTheHeadline
-all_journals_show_the_headline plan sound files h m =
-    all_ours_is_the_headline.claims plan (world_of files) (matching_journals_show_the_headline all_ours plan sound files h m)
+all_journals_show_the_headline plan sound books h m =
+    all_ours_is_the_headline.claims plan (world_of books) (matching_journals_show_the_headline all_ours plan sound books h m)

@@ -6,6 +6,8 @@
 //! runs.
 #![tactic(auto)]
 
+pub mod laws;
+
 ghost use Rattle.dr_world_journals.specs.Theorem.{AllJournalsShowTheHeadline};
 ghost use Rattle.dr_world_journals.specs.Theorem.{AllRunsLeaveMatchingJournals};
 ghost use Rattle.dr_world_journals.specs.Theorem.{MatchingJournalsShowTheHeadline};
