@@ -1,11 +1,10 @@
 -- What a run leaves: journals that are histories, and match.
-use Rattle.std.specs.Prelude.{◌≡◌, ℕ, ◌+◌, ◌-◌, ◌≤◌, ◌^◌, Bool, true, false, List, [], ◌∷◌, ◌++◌, length, min, take}
+use Rattle.std.specs.Prelude.{◌≡◌, ℕ, ◌+◌, ◌-◌, ◌≤◌, ◌^◌, true, List, [], ◌∷◌, ◌++◌, length, min, take}
 use Rattle.std.proofs.Common.{refl, sym, ap, subst, ◌∙◌, arith}
 use Rattle.std.proofs.lemmas.List.{length-append, take-append-le, take_all}
 use mathlib.Core.Logic.{inl, inr}
 use Rattle.dr_base.specs.Texts.{Text}
 use Rattle.dr_plan_model.specs.Networks.{Network}
-use Rattle.dr_plan_sound.specs.Soundness.{IsSound}
 use Rattle.dr_ledger.specs.Books.{Book, Line, Settling, Adoption, after, empty_book, Fold}
 use Rattle.dr_ledger.specs.Histories.{IsSince}
 use Rattle.dr_ledger.specs.PlanRoutes.{plan_routing}
@@ -17,14 +16,13 @@ use Rattle.dr_world_model.specs.Among.{Act, Agrees, Calls, Does, Doing, Other, O
 use Rattle.dr_world_model.specs.Calls.{Called, StoreOutcome}
 use Rattle.dr_world_model.specs.Claims.{IsToSend}
 use Rattle.dr_world_model.specs.Events.{HasNode}
-use Rattle.dr_world_model.specs.Worlds.{World, start, with_book}
+use Rattle.dr_world_model.specs.Worlds.{World, start}
 use Rattle.dr_world_model.proofs.AdoptionsKept.{node_or_not}
 use Rattle.dr_world_model.proofs.AmongAll.{all_ours_is_the_headline}
-use Rattle.dr_world_model.proofs.AmongSafe.{IsSafeAmong}
 use Rattle.dr_world_model.proofs.Safety.{each_book}
 use Rattle.dr_world_model.proofs.Stepwise.{Closed, step_keeps}
-use Rattle.dr_world_journals.specs.Journals.{AreHistories, Match, stood, until_adoption}
-use Rattle.dr_world_journals.specs.Theorem.{AllRunsLeaveMatchingJournals, AreSeen, RunsLeaveMatchingJournals}
+use Rattle.dr_world_journals.specs.Journals.{stood, until_adoption}
+use Rattle.dr_world_journals.specs.Theorem.{AllRunsLeaveMatchingJournals, RunsLeaveMatchingJournals}
 use Rattle.dr_world_journals.proofs.Reasons.{runs_have_reasons}
 
 -- ---- journals

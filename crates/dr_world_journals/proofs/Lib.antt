@@ -4,3 +4,4 @@ pub mod Mismatched
 pub mod OneHistory
 pub mod Reasons
 pub mod Shown
+pub mod Stored

@@ -1,5 +1,5 @@
 -- For each clause journals that fail it alone.
-use Rattle.std.specs.Prelude.{◌≡◌, ◌≢◌, ◌⊎◌, ℕ, ◌≤◌, ◌^◌, Bool, true, false, cond, not, List, [], ◌∷◌, ◌++◌, length, Contains, Option, None, Some}
+use Rattle.std.specs.Prelude.{◌≡◌, ◌⊎◌, ℕ, ◌≤◌, ◌^◌, Bool, true, false, cond, not, List, [], ◌∷◌, ◌++◌, length, Contains, Option, None, Some}
 use Rattle.std.proofs.Common.{refl, sym, ap, subst, ◌∙◌, arith}
 use Rattle.std.proofs.lemmas.List.{append-nil}
 use mathlib.Core.Logic.{inl, inr}
@@ -8,7 +8,7 @@ use Rattle.std.specs.FinSet as set
 use Rattle.dr_base.specs.Texts.{Text, text_cmp}
 use Rattle.dr_base.specs.declared.syntax.Syntax.TheVariants.{Explicit}
 use Rattle.dr_route.specs.Routes.{local}
-use Rattle.dr_plan_model.specs.Walks.{Goes, IsReached, Sends}
+use Rattle.dr_plan_model.specs.Walks.{IsReached, Sends}
 use Rattle.dr_plan_model.proofs.Gathered.{nothing_in_nil, only_one, Contains-cons_cases, Contains-here, Contains-there}
 use Rattle.dr_plan_sound.specs.Samples.{archive, image, keep_all, scanner}
 use Rattle.dr_plan_sound.proofs.Hopping.{reached_entry, reached_next}
@@ -26,13 +26,12 @@ use Rattle.dr_ledger.specs.PlanRoutes.{plan_routing, targets, keeps}
 use Rattle.dr_ledger.specs.Replies.{IsAdmitted, arrival_line}
 use Rattle.dr_ledger.proofs.Folding.{folds_have_their_lines}
 use Rattle.dr_ledger.proofs.Growing.{not_over_is, rows_from, rows_made}
-use Rattle.dr_ledger.proofs.Maps.{texts, filled_is, same_or_not, ties_itself}
+use Rattle.dr_ledger.proofs.Maps.{texts, filled_is, same_or_not}
 use Rattle.dr_ledger.proofs.PlanRouting.{targets_are_sent_to}
 use Rattle.dr_ledger.proofs.Since.{nothing_taken}
 use Rattle.dr_ledger.proofs.Succeeded.{none_yet, succeeded_before, succeeded_from}
 use Rattle.dr_world_model.specs.Among.{all_ours}
 use Rattle.dr_world_model.specs.Claims.{IsFairOutcome, IsToSend}
-use Rattle.dr_world_model.specs.Worlds.{same_text}
 use Rattle.dr_world_model.proofs.AdoptionsKept.{no_row}
 use Rattle.dr_world_model.proofs.CallsKept.{settling_is}
 use Rattle.dr_world_model.proofs.GivenUp.{arrival_to}

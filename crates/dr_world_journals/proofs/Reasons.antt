@@ -1,5 +1,5 @@
 -- In a run each arrival from one of ours has a reason there: the caller had an arrival that goes here, or the row stood.
-use Rattle.std.specs.Prelude.{◌≡◌, ◌⊎◌, ℕ, ◌+◌, Bool, true, false, List, [], ◌∷◌, ◌++◌, Option, None, Some, Ok, Err}
+use Rattle.std.specs.Prelude.{◌≡◌, ◌⊎◌, ℕ, ◌+◌, true, List, [], ◌∷◌, Option, None, Some, Ok, Err}
 use Rattle.std.proofs.Common.{refl, sym, ap, subst, ◌∙◌}
 use mathlib.Core.Logic.{inl, inr}
 use Rattle.std.specs.Ordering.{nat_cmp}
@@ -17,18 +17,18 @@ use Rattle.dr_ledger.specs.declared.item.Instance.{Instance}
 use Rattle.dr_ledger.specs.declared.item.Outcome.{Outcome}
 use Rattle.dr_ledger.specs.declared.item.Outcome.TheVariants.{Status, Broken, NoContext}
 use Rattle.dr_ledger.specs.declared.item.Progress.TheVariants.{Waiting}
-use Rattle.dr_ledger.specs.Books.{Book, Line, Arrival, Repeat, Settling, Requeuing, Dropping, Forgetting, Adoption}
+use Rattle.dr_ledger.specs.Books.{Book, Line, Arrival, Repeat, Settling, Requeuing, Dropping, Forgetting}
 use Rattle.dr_ledger.specs.PlanRoutes.{plan_routing}
 use Rattle.dr_ledger.specs.Replies.{Arrives, Drops, Forgets, Requeues, Settles, arrival_line}
 use Rattle.dr_ledger.specs.Routings.{Routing}
 use Rattle.dr_ledger.proofs.Maps.{cases_of, got}
-use Rattle.dr_ledger.proofs.Since.{Acknowledges, IsPlain, none_taken, nothing_taken, taken_from}
+use Rattle.dr_ledger.proofs.Since.{Acknowledges, none_taken, nothing_taken, taken_from}
 use Rattle.dr_world_model.specs.Among.{Act, Agrees, Calls, Does, Doing, Other, Ours, Own, Replies, RunsAmong, Stores, Takes, Turn, Turns, answered_link}
 use Rattle.dr_world_model.specs.Calls.{Answer, Arriving, Called, Reply, Settlement, StoreOutcome, status_of}
 use Rattle.dr_world_model.specs.Claims.{Has, HadArrival, IsToSend, WasCarriedOver}
 use Rattle.dr_world_model.specs.Events.{Event, Take, Ask, AgreeReceiver, AgreeCaller, Give, Receive, Answered, BreakCaller, BreakReceiver, Close, Restart, Requeue, Drop, Forget, Refuse, Tick, Step}
 use Rattle.dr_world_model.specs.Steps.{IsLink, asked, SettlesFirst, OpensLink, pending, SettlesPending, Leaves, LeavesIfOn, LeaveAll, callers_of, Gives, Receives, new_link, passed}
-use Rattle.dr_world_model.specs.Worlds.{World, Link, Contexts, Stage, Asking, Answering, Rejecting, Open, Storing, Replying, Gone, at_stage, start, with_armed, with_book, with_link, without_caller, without_receiver}
+use Rattle.dr_world_model.specs.Worlds.{World, Link, Contexts, Asking, Answering, Rejecting, Open, Storing, Replying, Gone, at_stage, start, with_armed, with_link, without_caller, without_receiver}
 use Rattle.dr_world_model.proofs.AdoptionsKept.{no_row, node_or_not}
 use Rattle.dr_world_model.proofs.AmongActs.{doing_among, start_among, step_among, turn_among}
 use Rattle.dr_world_model.proofs.AmongSafe.{IsSafeAmong}

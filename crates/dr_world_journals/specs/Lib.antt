@@ -1,3 +1,4 @@
 pub mod Journals
+pub mod Laws
 pub mod Mismatching
 pub mod Theorem
