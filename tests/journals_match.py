@@ -46,8 +46,7 @@ def changed_line(line, names, items, dice):
 
 
 def changed(plan, journals, items, dice):
-    """The journals with one changed: a line gone, changed, moved, put in, or a part of its end lost, as by a restored backup; or of another
-    plan, where the node brings itself what it never had."""
+    """The journals with one changed: a line gone, changed or put in, or its end lost, as by a restored backup."""
     names = sorted(journals)
     name = dice.choice(names)
     lines = list(journals[name])

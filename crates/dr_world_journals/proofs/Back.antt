@@ -36,19 +36,24 @@ module _ (plan : Network) (key : Key) where
   bounded sound (first ∷ flows) =
       let rest = bounded sound flows in
       elim (entry_or_not first.at) [
-        | inr none ↦ (rest.0, λ flow h e over walk. elim (Contains-cons_cases first flows flow h) [
-          | inl same ↦ absurd (none (let P : Flow → Type 0 = λ f. IsEntry plan f.at key in subst P (sym same) e))
-          | inr later ↦ rest.1 flow later e over walk
-        ])
+        | inr none ↦ (
+          rest.0,
+          λ flow h e over walk. elim (Contains-cons_cases first flows flow h) [
+            | inl same ↦ absurd (none (let P : Flow → Type 0 = λ f. IsEntry plan f.at key in subst P (sym same) e))
+            | inr later ↦ rest.1 flow later e over walk
+          ],
+        )
         | inl enters ↦ (
-            let ranked = sound_has_rank plan sound key local first.at (reached_entry plan key first.at enters) in
-            (ranked.0 + rest.0, λ flow h e over walk. elim (Contains-cons_cases first flows flow h) [
-              | inl same ↦ (
-                  let P : Flow → Type 0 = λ f. IsWalk plan key local f.at over in
-                  let short : length over ≤ ranked.0 = ranked.1.greatest over (subst P (sym same) walk) in
-                  omega (arith, short))
-              | inr later ↦ (let short : length over ≤ rest.0 = rest.1 flow later e over walk in omega (arith, short))
-            ])
+            let ranked = sound_has_rank plan sound key local first.at (reached_entry plan key first.at enters) in (
+              ranked.0 + rest.0,
+              λ flow h e over walk. elim (Contains-cons_cases first flows flow h) [
+                | inl same ↦ (
+                    let P : Flow → Type 0 = λ f. IsWalk plan key local f.at over in
+                    let short : length over ≤ ranked.0 = ranked.1.greatest over (subst P (sym same) walk) in
+                    omega (arith, short))
+                | inr later ↦ (let short : length over ≤ rest.0 = rest.1 flow later e over walk in omega (arith, short))
+              ],
+            )
             )
       ]
 
@@ -61,13 +66,15 @@ module _ (plan : Network) (key : Key) where
   -- one bound for all walks from where the key comes to
   pub walks_end : IsSound plan → (most : ℕ) × ((caller name : Text) (over : List Text) → IsReached plan key caller name → IsWalk plan key caller name over → length over ≤ most)
   walks_end sound =
-      let all = bounded sound plan.flows in
-      (all.0, λ caller name over r walk.
-          let flow = r.2.1 in
-          let P : Text × Text → Type 0 = λ p. IsWalk plan key p.0 p.1 over in
-          let whole = joined local r.0 r.1 over r.3 (subst P (sym r.4) walk) in
-          let E : Text → Type 0 = λ site. IsEntry plan site key in
-          let W : Text → Type 0 = λ site. IsWalk plan key local site (r.1 ++ over) in
-          let long : length (r.1 ++ over) ≤ all.0 = all.1 flow.0 flow.1 (subst E (sym flow.2) r.2) (r.1 ++ over) (subst W (sym flow.2) whole) in
-          let sum : length (r.1 ++ over) ≡ length r.1 + length over = length-append r.1 over in
-          omega arith)
+      let all = bounded sound plan.flows in (
+        all.0,
+        λ caller name over r walk.
+            let flow = r.2.1 in
+            let P : Text × Text → Type 0 = λ p. IsWalk plan key p.0 p.1 over in
+            let whole = joined local r.0 r.1 over r.3 (subst P (sym r.4) walk) in
+            let E : Text → Type 0 = λ site. IsEntry plan site key in
+            let W : Text → Type 0 = λ site. IsWalk plan key local site (r.1 ++ over) in
+            let long : length (r.1 ++ over) ≤ all.0 = all.1 flow.0 flow.1 (subst E (sym flow.2) r.2) (r.1 ++ over) (subst W (sym flow.2) whole) in
+            let sum : length (r.1 ++ over) ≡ length r.1 + length over = length-append r.1 over in
+            omega arith,
+      )

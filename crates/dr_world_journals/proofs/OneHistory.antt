@@ -131,9 +131,9 @@ module _ (plan : Network) (name : Text) (stood : Book) where
         | inr still ↦ inr (inl still)
       ])
       (λ to i h g. (
-          let was = arrived_done plan name caller item stood b s.right admitted (i.uid, to) h in
-          inl (was, arrived_had plan name caller item stood b s.right admitted i to Done was g)
-          ))
+      let was = arrived_done plan name caller item stood b s.right admitted (i.uid, to) h in
+      inl (was, arrived_had plan name caller item stood b s.right admitted i to Done was g)
+      ))
 
   -- ---- a repeat
   stands_repeated : (caller : Text) (item : Instance) (b : Book) → Noted b caller item → Stands plan name stood b → Stands plan name stood (after (Repeat caller item) b)
@@ -216,12 +216,12 @@ module _ (plan : Network) (name : Text) (stood : Book) where
       let waits = call.0 in
       let put = settled_is uid dest outcome now waits.0 waits.1 b waits.2 in
       subst (Stands plan name stood) (sym put) (stands_row b uid dest (Waiting waits.0 waits.1) (row_after waits.0 outcome now) (Settling uid dest outcome now) waits.2
-          (settled_not_dropped waits.0 outcome now) (sym put) (λ e. cc) (λ since. refl) (settling_silent uid dest outcome now)
-          (λ done item same has. success_now b.lines b s.fold uid dest outcome now waits.0 item same done has) s)
+      (settled_not_dropped waits.0 outcome now) (sym put) (λ e. cc) (λ since. refl) (settling_silent uid dest outcome now)
+      (λ done item same has. success_now b.lines b s.fold uid dest outcome now waits.0 item same done has) s)
   stands_after (Requeuing uid dest) b call s =
       let put = requeued_is uid dest call.0 b call.1 in
       subst (Stands plan name stood) (sym put) (stands_row b uid dest (Held call.0) (Waiting 0 0) (Requeuing uid dest) call.1
-          waiting_not_dropped (sym put) (λ e. cc) (λ since. refl) (requeuing_silent uid dest) (λ done item same has. absurd (waiting_not_done done)) s)
+      waiting_not_dropped (sym put) (λ e. cc) (λ since. refl) (requeuing_silent uid dest) (λ done item same has. absurd (waiting_not_done done)) s)
   stands_after (Dropping uid dest now) b call s =
       let held = call.0 in
       let put = dropped_is uid dest now held.0 b held.1 in

@@ -395,15 +395,15 @@ module _ (ours : Ours) (plan : Network) where
             )
       ])
       (λ n l accepted i at own is.
-          let was = quiet.links n l accepted i (ap (λ (x : World). map.get x.links n) (sym s.is) ∙ at) is in
-          inl (record {
-            number = was.number;
-            was = was.was;
-            at = ap (λ (ls : FinMap nat_cmp Link). map.get ls was.number) (sym (called_links _ w s.mid link.receiver _ s.call.book s.call.called)) ∙ was.at;
-            caller = was.caller;
-            receiver = was.receiver;
-            stage = was.stage;
-          }))
+      let was = quiet.links n l accepted i (ap (λ (x : World). map.get x.links n) (sym s.is) ∙ at) is in
+      inl (record {
+        number = was.number;
+        was = was.was;
+        at = ap (λ (ls : FinMap nat_cmp Link). map.get ls was.number) (sym (called_links _ w s.mid link.receiver _ s.call.book s.call.called)) ∙ was.at;
+        caller = was.caller;
+        receiver = was.receiver;
+        stage = was.stage;
+      }))
 
   -- ---- events
   step_reasons : (event : Event) (w new : World) → IsSafeAmong ours plan w → WorldGrows w new → HasReasons ours plan w → Step plan w event new → HasReasons ours plan new

@@ -17,8 +17,8 @@ use Rattle.dr_world_model.specs.Among.{Ours}
 use Rattle.dr_world_model.specs.Claims.{IsFairOutcome, IsToSend}
 use Rattle.dr_world_model.specs.Worlds.{World}
 
--- What is seen of nodes that stand still: the book of each, with its journal. Names that aren't ours
--- have the empty book.
+-- What is seen of nodes that stand still: the book of each, with its journal. Names that aren't
+-- ours have the empty book.
 abbrev pub Books : Type 0
 Books = Text → Book
 
@@ -43,8 +43,8 @@ world_of books = record {
 
 -- ---- each journal by itself
 
--- Each journal of ours is one that a node of the plan writes: what it has since its last adoption is
--- a history under the plan in force, and the book is what the journal makes.
+-- Each journal of ours is one that a node of the plan writes: what it has since its last adoption
+-- is a history under the plan in force, and the book is what the journal makes.
 abbrev pub EachIsAHistory : Ours → Network → Books → Type 0
 EachIsAHistory ours plan books =
     (name : Text) → ours name ≡ true
@@ -71,7 +71,8 @@ pub record AreHistories (ours : Ours) (plan : Network) (books : Books) : Type 0 
 
 -- ---- one journal beside another
 
--- Each success that one of ours notes of another has, there, an arrival of this very item from here.
+-- Each success that one of ours notes of another has, there, an arrival of this very item from
+-- here.
 abbrev pub SuccessesArrived : Ours → Books → Type 0
 SuccessesArrived ours books =
     (name to : Text) (item : Instance)
@@ -108,14 +109,14 @@ AnswersAreFair ours books =
 
 -- The journals of ours match.
 --
--- Nothing here says that a reason came before what it is a reason for: two arrivals that are reasons
--- for one another would match. In a sound plan there are none. A journal is a history under the
--- plan, so the key of each arrival comes to its node, from its caller, by some walk from an entry;
--- from there on no walk is longer than the greatest rank of all entries of the key. Whoever goes
--- back from an arrival to its reason, and from that to its own, makes the walk from there to the
--- first arrival longer by one hop each time. So after so many hops there is an arrival that comes
--- from no other of ours: it entered there, or its row was carried over. This is the place where it
--- began, of the second claim.
+-- Nothing here says that a reason came before what it is a reason for: two arrivals that are
+-- reasons for one another would match. In a sound plan there are none. A journal is a history under
+-- the plan, so the key of each arrival comes to its node, from its caller, by some walk from an
+-- entry; from there on no walk is longer than the greatest rank of all entries of the key. Whoever
+-- goes back from an arrival to its reason, and from that to its own, makes the walk from there to
+-- the first arrival longer by one hop each time. So after so many hops there is an arrival that
+-- comes from no other of ours: it entered there, or its row was carried over. This is the place
+-- where it began, of the second claim.
 pub record Match (ours : Ours) (plan : Network) (books : Books) : Type 0 where
   pub successes : SuccessesArrived ours books
   pub arrivals : ArrivalsHaveReasons ours plan books

@@ -1,5 +1,5 @@
--- For each clause journals that fail it alone, so that none is said of all journals, or follows from
--- the others. They are of the plan of two nodes.
+-- For each clause journals that fail it alone, so that none is said of all journals, or follows
+-- from the others. They are of the plan of two nodes.
 use Rattle.std.specs.Prelude.{◌≡◌, List, [], ◌∷◌, false}
 use Rattle.dr_base.specs.Texts.{Text}
 use Rattle.dr_base.specs.declared.syntax.Syntax.TheVariants.{Explicit}

@@ -9,8 +9,8 @@ use Rattle.dr_world_model.specs.Runs.{Action, Runs}
 use Rattle.dr_world_model.specs.Worlds.{World, start}
 use Rattle.dr_world_journals.specs.Journals.{AreHistories, Books, Match, stood, world_of}
 
--- Over a sound plan, whichever nodes are ours: where each of their journals is a history of its node,
--- and they match, the four claims hold of their books.
+-- Over a sound plan, whichever nodes are ours: where each of their journals is a history of its
+-- node, and they match, the four claims hold of their books.
 abbrev pub MatchingJournalsShowTheHeadline : Type 0
 MatchingJournalsShowTheHeadline =
     (ours : Ours) (plan : Network)
