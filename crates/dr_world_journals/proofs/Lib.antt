@@ -1,5 +1,6 @@
 pub mod Among
 pub mod Back
+pub mod Hopping
 pub mod Mismatched
 pub mod OneHistory
 pub mod Reasons

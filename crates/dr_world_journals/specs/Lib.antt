@@ -1,3 +1,4 @@
+pub mod Hops
 pub mod Journals
 pub mod Laws
 pub mod Mismatching

@@ -1,4 +1,5 @@
 //! Laws of journals that match: what a reader may take from the definitions.
+ghost use Rattle.dr_world_journals.specs.Hops.{HopsDecide};
 ghost use Rattle.dr_world_journals.specs.Laws.{AStoreMatches};
 ghost use Rattle.dr_world_journals.specs.Mismatching.{EachClauseCanFail};
 
@@ -11,4 +12,10 @@ pub fn journals_can_mismatch()
 /// the arrival.
 pub fn a_store_matches()
     ensures { AStoreMatches }
+{}
+
+/// Who compares three lists of hops, each read off the journals line by line, knows whether they
+/// match.
+pub fn hops_decide()
+    ensures { HopsDecide }
 {}
