@@ -23,19 +23,20 @@ use Rattle.dr_ledger.proofs.Folding.{folds_have_their_lines}
 use Rattle.dr_ledger.proofs.Maps.{IsExact, same_or_not, ties_itself}
 use Rattle.dr_world_model.specs.Claims.{IsFairOutcome, IsToSend}
 use Rattle.dr_world_audit.specs.declared.audit.Mismatch.{Mismatch}
+use Rattle.dr_world_audit.specs.declared.audit.Mismatch.TheVariants as mismatch
 use Rattle.dr_world_audit.specs.declared.audit.NodeJournal.{NodeJournal}
 use Rattle.dr_world_audit.specs.declared.hop.Hop.{Hop as Held}
 use Rattle.dr_world_audit.specs.Comparing.{IsUnanswered, IsUnsent}
 use Rattle.dr_world_audit.specs.Hops.{held, hop_of}
-use Rattle.dr_world_audit.specs.Sites.{AreApart, DoesHold, IsUnfair, Shows, all_came, all_done, all_of, all_sent, books_of, is_fair, lines_at, names, ours_of}
+use Rattle.dr_world_audit.specs.Sites.{AreApart, DoesHold, DoesNotHold, IsForNoReason, IsNotThere, IsUnfair, Shows, Tells, TellsNode, all_came, all_done, all_of, all_sent, books_of, is_fair, lines_at, names, ours_of}
 use Rattle.dr_world_audit.specs.Stops.{Compares}
 use Rattle.dr_world_audit.specs.contracts.hop.HopOrd.TheImpl.Laws as hop_laws
 use Rattle.dr_world_audit.proofs.Named.{book_is, named_in, others_are_empty, ours_found, ours_in}
 use Rattle.dr_world_audit.proofs.Sets.{hop_cmp, hop_exact}
-use Rattle.dr_world_audit.proofs.Stopping.{mapped_from, mapped_has}
+use Rattle.dr_world_audit.proofs.Stopping.{is_fair_of, mapped_from, mapped_has}
 use Rattle.dr_world_journals.specs.Hops.{Hop, came, came_by, came_to, done, done_at, done_by, goals, hop_of as hops_of, if_row, if_success, sent_from, standing, stands_at, to_each, went, went_by}
 use Rattle.dr_world_journals.specs.Journals.{AnswersAreFair, AreHistories, Match, until_adoption}
-use Rattle.dr_world_journals.proofs.Hopping.{hops_decide}
+use Rattle.dr_world_journals.proofs.Hopping.{came_in, came_out, done_noted, hops_decide, reason_sent}
 use Rattle.dr_world_journals.proofs.Shown.{matching_journals_show_the_headline}
 
 -- ---- hops
@@ -172,13 +173,6 @@ fair_is (Status status) h = elim (either_true (status == 0) ((status == 0xA700) 
     nat_is a b h = (Decides-eqb a b).0 h
 fair_is Broken h = tt
 fair_is NoContext h = absurd (let e : ⊥ = cc in e)
-
-is_fair_of : (outcome : Outcome) → IsFairOutcome outcome → is_fair outcome ≡ true
-is_fair_of (Status status) (inl z) = (let P : ℕ → Type 0 = λ s. is_fair (Status s) ≡ true in subst P (sym z) refl)
-is_fair_of (Status status) (inr (inl a)) = (let P : ℕ → Type 0 = λ s. is_fair (Status s) ≡ true in subst P (sym a) refl)
-is_fair_of (Status status) (inr (inr c)) = (let P : ℕ → Type 0 = λ s. is_fair (Status s) ≡ true in subst P (sym c) refl)
-is_fair_of Broken h = refl
-is_fair_of NoContext h = absurd h
 
 cases : (b : Bool) → (b ≡ true) ⊎ (b ≡ false)
 cases true = inl refl
@@ -332,23 +326,67 @@ module _ (plan : Network) (nodes : List NodeJournal) (apart : AreApart nodes) (k
       } in
       record { histories = histories; match = m; headline = matching_journals_show_the_headline ours plan sound books histories m }
 
-  pub mismatches : (mismatch : Mismatch) → Compares keys (held (all_came nodes)) (held (all_sent plan nodes)) (held (all_done nodes)) (Some mismatch) → AreHistories (ours_of nodes) plan (books_of nodes) → Match (ours_of nodes) plan (books_of nodes) → ⊥
-  mismatches mismatch (inl u) histories m =
-      let decide = hops_decide (ours_of nodes) plan (books_of nodes) histories in
+  -- what one node's journal is told of, it doesn't show
+  pub node_fails : (node : NodeJournal) (told : Mismatch) → TellsNode plan keys node told → Shows plan keys node → ⊥
+  node_fails node (mismatch.NoHistory name) t shows = t.1 shows.own
+  node_fails node (mismatch.NoHop name uid to) t shows = t.1.nowhere (shows.fit to t.1.item t.1.stood)
+  node_fails node (mismatch.NotFair name uid to) t shows = elim (cases (is_fair t.2.outcome)) [
+    | inl fair ↦ t.2.unfair (fair_is t.2.outcome fair)
+    | inr unfair ↦ shows.fair (Settling uid to t.2.outcome t.2.now) t.2.line (unfair, t.1)
+  ]
+  node_fails node (mismatch.NoArrival name uid to) t shows = t
+  node_fails node (mismatch.NoReason name uid from) t shows = t
+
+  tells : (node : NodeJournal) (told : Mismatch) → Contains nodes node → TellsNode plan keys node told → Tells plan nodes told
+  tells node (mismatch.NoHistory name) among t = (node, among, t)
+  tells node (mismatch.NoHop name uid to) among t = (node, among, t)
+  tells node (mismatch.NotFair name uid to) among t = (node, among, (t.0, (same to).0 t.1, t.2))
+  tells node (mismatch.NoArrival name uid to) among t = absurd t
+  tells node (mismatch.NoReason name uid from) among t = absurd t
+
+  pub one_fails : (node : NodeJournal) (told : Mismatch) → Contains nodes node → TellsNode plan keys node told → DoesNotHold plan nodes told
+  one_fails node told among t = record { tells = tells node told among t; fails = λ histories m. node_fails node told t (shows_of histories m node among) }
+
+  pub mismatches : ((node : NodeJournal) → Contains nodes node → Shows plan keys node) → (told : Mismatch) → Compares keys (held (all_came nodes)) (held (all_sent plan nodes)) (held (all_done nodes)) (Some told) → DoesNotHold plan nodes told
+  mismatches shows told (inl u) =
+      let books = books_of nodes in
+      let own = histories_of shows in
       let f = mapped_from hop_of (all_came nodes) u.0 u.1 in
       let h = f.0 in
-      let P : Held → Type 0 = λ x. IsUnsent keys (held (all_sent plan nodes)) x in
-      let unsent = subst P f.2 u.2 in
-      let own = is_key h.0 unsent.0 in
-      let sent = decide.arrivals.0 m.arrivals h.1 h.0 h.2 (came_own h f.1) own unsent.1 (came_here h f.1) in
-      unsent.2 (held_in (all_sent plan nodes) h (sent_all h.0 own h sent))
-  mismatches mismatch (inr u) histories m =
-      let decide = hops_decide (ours_of nodes) plan (books_of nodes) histories in
+      let P : Held → Type 0 = λ x. IsUnsent keys (held (all_sent plan nodes)) x × (told ≡ mismatch.NoReason x.to x.uid x.from) in
+      let unsent = subst P f.2 (u.2, u.3) in
+      let near = is_key h.0 unsent.0.0 in
+      let here = came_here h f.1 in
+      let lacks : IsForNoReason plan (ours_of nodes) books h.1 h.2.uid h.0 = record {
+        item = h.2;
+        named = refl;
+        own = came_own h f.1;
+        near = near;
+        arrived = came_out h.1 (since_adoption (books h.1).lines) h here;
+        missing = λ reason. unsent.0.2 (held_in (all_sent plan nodes) h (sent_all h.0 near h (reason_sent plan h.0 (books h.0) (own.own h.0 near) h.2 h.1 reason)));
+      } in
+      record {
+        tells = subst (Tells plan nodes) (sym unsent.1) lacks;
+        fails = λ histories m. lacks.missing (m.arrivals h.1 h.0 h.2 lacks.own near unsent.0.1 lacks.arrived);
+      }
+  mismatches shows told (inr u) =
+      let books = books_of nodes in
+      let own = histories_of shows in
       let f = mapped_from hop_of (all_done nodes) u.0 u.1 in
       let h = f.0 in
-      let P : Held → Type 0 = λ x. IsUnanswered keys (held (all_came nodes)) x in
-      let unanswered = subst P f.2 u.2 in
+      let P : Held → Type 0 = λ x. IsUnanswered keys (held (all_came nodes)) x × (told ≡ mismatch.NoArrival x.from x.uid x.to) in
+      let unanswered = subst P f.2 (u.2, u.3) in
       let d = done_here h f.1 in
-      let near = is_key h.1 unanswered.0 in
-      let there = decide.successes.0 m.successes h.0 h.1 h.2 d.0 near d.1 in
-      unanswered.1 (held_in (all_came nodes) h (came_all h.1 near h there))
+      let near = is_key h.1 unanswered.0.0 in
+      let lacks : IsNotThere (ours_of nodes) books h.0 h.2.uid h.1 = record {
+        item = h.2;
+        named = refl;
+        own = d.0;
+        near = near;
+        noted = done_noted plan h.0 (books h.0) (own.own h.0 d.0) h.2 h.1 d.1;
+        missing = λ taken. unanswered.0.1 (held_in (all_came nodes) h (came_all h.1 near h (came_in h.1 (since_adoption (books h.1).lines) h.0 h.2 taken)));
+      } in
+      record {
+        tells = subst (Tells plan nodes) (sym unanswered.1) lacks;
+        fails = λ histories m. lacks.missing (m.successes h.0 h.1 h.2 d.0 near lacks.noted);
+      }

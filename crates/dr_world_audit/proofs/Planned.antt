@@ -1,5 +1,5 @@
 -- A journal of a site's node, by the plan.
-use Rattle.std.specs.Prelude.{◌≡◌, ◌≢◌, List, [], ◌∷◌, ◌++◌, Contains, Err}
+use Rattle.std.specs.Prelude.{◌≡◌, List, [], ◌∷◌, ◌++◌, Contains, Err}
 use Rattle.std.proofs.Common.{refl, sym, ap, subst, ◌∙◌}
 use mathlib.Core.Logic.{inl, inr}
 use Rattle.std.specs.FinMap as map
@@ -28,12 +28,15 @@ use Rattle.dr_world_model.specs.Claims.{IsToSend}
 use Rattle.dr_world_model.proofs.AdoptionsKept.{no_row}
 use Rattle.dr_world_model.proofs.Walking.{goes_reached}
 use Rattle.dr_world_audit.specs.declared.audit.NodeJournal.{NodeJournal}
+use Rattle.dr_world_audit.specs.declared.audit.Stop.{Stop}
+use Rattle.dr_world_audit.specs.declared.audit.Stop.TheVariants as stop
 use Rattle.dr_world_audit.specs.declared.fault.ReadFault.{ReadFault}
 use Rattle.dr_world_audit.specs.declared.fault.ReadFault.TheVariants as fault
 use Rattle.dr_world_audit.specs.declared.trail.Trail.{Trail}
 use Rattle.dr_world_audit.specs.Hops.{Notes}
 use Rattle.dr_world_audit.specs.Readings.{IsJournal, IsRead, Reads}
-use Rattle.dr_world_audit.specs.Sites.{IsUnfair, NotesNode, Shows, lines_at}
+use Rattle.dr_world_audit.specs.Sites.{IsUnfair, NotesNode, Shows, TellsNode, lines_at}
+use Rattle.dr_world_audit.specs.Stops.{ReadsNode, StopsFor}
 use Rattle.dr_world_audit.specs.Standing.{FitsAt}
 use Rattle.dr_world_journals.specs.Hops.{Hop, came_to, done_at, goals, sent_from, standing, to_each, went, went_by}
 use Rattle.dr_world_journals.specs.Journals.{until_adoption}
@@ -101,17 +104,28 @@ module _ (plan : Network) (certificate : Certificate) (site : Part) (certified :
         )
 
     -- the node can't be read
-    pub node_fails : (old new : Trail) (why : ReadFault) → why ≢ fault.Memory → Reads plan site (lines_at node) old new (Err why) → Shows plan ours node → ⊥
-    node_fails old new fault.NoCall other reads shows =
+    pub node_stops : (old new : Trail) (why : ReadFault) (s : Stop) → StopsFor node why s → Reads plan site (lines_at node) old new (Err why) → ReadsNode plan ours node old new (Err s)
+    node_stops old new fault.NoCall (stop.No mismatch) is reads =
         let lines = lines_at node in
         let P : Text → Type 0 = λ n. IsSince (plan_routing plan n) (until_adoption lines) (Fold lines) in
-        reads (by_site lines (subst P (sym named) shows.own))
-    node_fails old new (fault.Unfit uid to) other reads shows =
+        subst (TellsNode plan ours node) (sym is) (refl, λ own. reads (by_site lines (subst P (sym named) own)))
+    node_stops old new (fault.Unfit uid to) (stop.No mismatch) is reads =
         let lines = lines_at node in
-        let item = reads.0 in
-        let same : item.uid ≡ uid = (pasts_make_solid_books (until_adoption lines) shows.own.accepted).named uid item reads.1.has in
+        let u = reads.1 in
+        let item = u.0 in
+        let same : item.uid ≡ uid = (pasts_make_solid_books (until_adoption lines) reads.0).named uid item u.1.has in
         let b = Fold (until_adoption lines) in
-        let stood : IsToSend b item to = record { row = reads.1.row; at = ap (λ u. map.get b.rows (u, to)) same ∙ reads.1.at_goal; has = ap (map.get b.items) same ∙ reads.1.has } in
         let G : Text → Type 0 = λ n. Goes plan item.key n to in
-        reads.2 (goes_reached plan item.key site.name to (subst G (sym named) (shows.fit to item stood)))
-    node_fails old new fault.Memory other reads shows = other refl
+        subst (TellsNode plan ours node) (sym is) (
+          refl,
+          record {
+            item = item;
+            named = same;
+            stood = record { row = u.1.row; at = ap (λ t. map.get b.rows (t, to)) same ∙ u.1.at_goal; has = ap (map.get b.items) same ∙ u.1.has };
+            nowhere = λ goes. u.2 (goes_reached plan item.key site.name to (subst G (sym named) goes));
+          },
+        )
+    node_stops old new fault.Memory (stop.No mismatch) is reads = absurd is
+    node_stops old new fault.NoCall (stop.Fault other) is reads = tt
+    node_stops old new (fault.Unfit uid to) (stop.Fault other) is reads = tt
+    node_stops old new fault.Memory (stop.Fault other) is reads = tt

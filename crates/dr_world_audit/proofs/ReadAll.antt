@@ -108,6 +108,9 @@ module _ (plan : Network) (site : Part) (lines past since : List Line) (all : li
   since_fails history.Memory old mid new fails = tt
 
   pub stand_fails : (c : Content) (why : ReadFault) (hops : List Held) (old new : Trail) → IsTold past c → Stands plan site.name (book_of c) (goals past) old.sent.items hops (Err why) → Reads plan site lines old new (Err why)
-  stand_fails c (fault.Unfit uid to) hops old new told u = unfit_there c told (uid, to) u
+  stand_fails c (fault.Unfit uid to) hops old new told u = (
+    (let P : List Line → Type 0 = λ p. IsPast p empty_book in subst P (sym until) told.past),
+    unfit_there c told (uid, to) u,
+  )
   stand_fails c fault.NoCall hops old new told none = absurd none
   stand_fails c fault.Memory hops old new told s = tt

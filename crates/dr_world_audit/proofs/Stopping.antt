@@ -1,28 +1,31 @@
 -- Why the reading of journals ends, and how it goes on.
-use Rattle.std.specs.Prelude.{◌≡◌, ℕ, ◌<◌, List, [], ◌∷◌, ◌++◌, length, get_or, Contains, None, Err}
+use Rattle.std.specs.Prelude.{Bool, true, false, ◌≡◌, ℕ, ◌<◌, List, [], ◌∷◌, ◌++◌, length, get_or, Contains, None, Err, Result, Ok, IfOk}
 use Rattle.std.specs.Prelude.{map as mapped}
-use Rattle.std.proofs.Common.{sym, ap, subst, ◌∙◌}
+use Rattle.std.proofs.Common.{refl, sym, ap, subst, ◌∙◌}
 use Rattle.std.proofs.lemmas.List.{append-nil, append_assoc}
 use Rattle.std.proofs.lemmas.List.Elements.{Contains-push_cases}
 use mathlib.Core.Logic.{inl, inr}
 use Rattle.dr_base.specs.Texts.{Text}
 use Rattle.dr_plan_model.specs.Networks.{Network}
 use Rattle.dr_plan_model.proofs.Gathered.{nothing_in_nil, Contains-cons_cases, Contains-here, Contains-there}
-use Rattle.dr_plan_sound.specs.declared.certificate.Certificate.{Certificate}
-use Rattle.dr_site.specs.Parts.{Part, IsPartOf}
-use Rattle.dr_site.specs.Sites.{IsCertified}
 use Rattle.dr_ledger_history.specs.Lines.{line_of}
+use Rattle.dr_ledger.specs.declared.item.Outcome.{Outcome}
+use Rattle.dr_ledger.specs.declared.item.Outcome.TheVariants.{Status, Broken, NoContext}
+use Rattle.dr_ledger_history.specs.declared.line.JournalLine.{JournalLine}
+use Rattle.dr_ledger_history.specs.declared.line.JournalLine.TheVariants as told
+use Rattle.dr_world_model.specs.Claims.{IsFairOutcome}
+use Rattle.dr_world_audit.specs.declared.audit.AuditFault.{AuditFault}
+use Rattle.dr_world_audit.specs.declared.audit.Mismatch.{Mismatch}
+use Rattle.dr_world_audit.specs.declared.audit.Verdict.{Verdict}
+use Rattle.dr_world_audit.specs.declared.audit.Verdict.TheVariants as verdicts
 use Rattle.dr_world_audit.specs.declared.audit.NodeJournal.{NodeJournal}
 use Rattle.dr_world_audit.specs.declared.audit.Stop.{Stop}
 use Rattle.dr_world_audit.specs.declared.audit.Stop.TheVariants as stop
-use Rattle.dr_world_audit.specs.declared.fault.ReadFault.{ReadFault}
 use Rattle.dr_world_audit.specs.declared.trail.Trail.{Trail}
 use Rattle.dr_world_audit.specs.Hops.{Notes}
-use Rattle.dr_world_audit.specs.Readings.{Reads}
-use Rattle.dr_world_audit.specs.Sites.{AreRead, FirstUnfair, IsUnfair, NotesNode, Shows, all_of, lines_at}
-use Rattle.dr_world_audit.specs.Stops.{AllFair, ReadsAll, ReadsNode, StopsFor}
+use Rattle.dr_world_audit.specs.Sites.{AreRead, FirstUnfair, IsNotFair, IsUnfair, NotesNode, Shows, all_of, is_fair, lines_at}
+use Rattle.dr_world_audit.specs.Stops.{AllFair, IsVerdictOf, ReadsAll, ReadsNode}
 use Rattle.dr_world_audit.proofs.Lists.{notes_nothing, notes_on}
-use Rattle.dr_world_audit.proofs.Planned.{node_fails}
 use Rattle.dr_world_journals.specs.Hops.{Hop, came_to, done_at, sent_from}
 use Rattle.dr_ledger.specs.PlanRoutes.{plan_routing}
 
@@ -44,11 +47,6 @@ pub all_fair : (ours : List Text) (node : NodeJournal) → FirstUnfair ours node
 all_fair ours node none line h unfair =
     let m = mapped_from line_of node.lines line h in
     none m.0 m.1 (subst (IsUnfair ours) m.2 unfair)
-
-pub node_stops : (plan : Network) (certificate : Certificate) (site : Part) (certified : IsCertified plan certificate) (part : IsPartOf plan certificate site) (ours : List Text) (node : NodeJournal) → site.name ≡ node.name →
-    (old new : Trail) (why : ReadFault) (s : Stop) → StopsFor why s → Reads plan site (lines_at node) old new (Err why) → ReadsNode plan ours node old new (Err s)
-node_stops plan certificate site certified part ours node named old new why (stop.No mismatch) other reads = λ shows. node_fails plan certificate site certified part ours node named old new why other reads shows
-node_stops plan certificate site certified part ours node named old new why (stop.Fault for_what) other reads = tt
 
 -- ---- all nodes
 pub all_push : (hops : NodeJournal → List Hop) (nodes : List NodeJournal) (one : NodeJournal) → all_of hops (nodes ++ one ∷ []) ≡ all_of hops nodes ++ hops one
@@ -84,3 +82,42 @@ module _ (plan : Network) (ours : List Text) where
 
 pub among_at : (nodes : List NodeJournal) (i : ℕ) (one : NodeJournal) → i < length nodes → one ≡ get_or nodes i one → Contains nodes one
 among_at nodes i one lt is = (i, lt, sym is)
+
+-- ---- what is fair
+pub is_fair_of : (outcome : Outcome) → IsFairOutcome outcome → is_fair outcome ≡ true
+is_fair_of (Status status) (inl z) = (let P : ℕ → Type 0 = λ s. is_fair (Status s) ≡ true in subst P (sym z) refl)
+is_fair_of (Status status) (inr (inl a)) = (let P : ℕ → Type 0 = λ s. is_fair (Status s) ≡ true in subst P (sym a) refl)
+is_fair_of (Status status) (inr (inr c)) = (let P : ℕ → Type 0 = λ s. is_fair (Status s) ≡ true in subst P (sym c) refl)
+is_fair_of Broken h = refl
+is_fair_of NoContext h = absurd h
+
+-- a line that isn't fair
+pub settled_unfair : (ours : List Text) (node : NodeJournal) (line : JournalLine) (uid dest : Text) (outcome : Outcome) (now : ℕ) → line ≡ told.Settling uid dest outcome now → (a b n : Text) → a ≡ uid → b ≡ dest → n ≡ node.name →
+    Contains node.lines line → IsUnfair ours (line_of line) → (n ≡ node.name) × Contains ours b × IsNotFair node a b
+settled_unfair ours node line uid dest outcome now is a b n first second named among unfair =
+    let P : JournalLine → Type 0 = λ l. Contains node.lines l × IsUnfair ours (line_of l) in
+    let both = subst P is (among, unfair) in
+    let Q : Text × Text → Type 0 = λ p. (n ≡ node.name) × Contains ours p.1 × IsNotFair node p.0 p.1 in
+    subst Q (λ j. (sym first j, sym second j)) (
+      named,
+      both.1.1,
+      record {
+        outcome = outcome;
+        now = now;
+        line = mapped_has line_of node.lines (told.Settling uid dest outcome now) both.0;
+        unfair = λ fair. differ (is_fair_of outcome fair) both.1.0;
+      },
+    )
+  where
+    differ : {t : Bool} → t ≡ true → t ≡ false → ⊥
+    differ h k = (let e : true ≡ false = sym h ∙ k in cc e)
+
+-- the verdict of a stop
+pub stopped : (P : Verdict → Type 0) (s : Stop) (v : Verdict) → IsVerdictOf s v → ((told : Mismatch) → s ≡ stop.No told → P (verdicts.No told)) → P v
+stopped P (stop.No mismatch) v is each = subst P (sym is) (each mismatch refl)
+stopped P (stop.Fault why) v is each = absurd is
+
+-- what holds of each such verdict, holds of the one that is given
+pub if_so : (P Q : Verdict → Type 0) (result : Result Verdict AuditFault) → IfOk result P → ((v : Verdict) → P v → Q v) → IfOk result Q
+if_so P Q (Ok v) h each = each v h
+if_so P Q (Err why) h each = tt

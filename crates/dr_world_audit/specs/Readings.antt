@@ -2,8 +2,8 @@
 use Rattle.std.specs.Prelude.{List, Contains, Result, Ok, Err}
 use Rattle.dr_plan_model.specs.Networks.{Network}
 use Rattle.dr_site.specs.Parts.{Part}
-use Rattle.dr_ledger.specs.Books.{Line, Fold}
-use Rattle.dr_ledger.specs.Histories.{IsSince}
+use Rattle.dr_ledger.specs.Books.{Line, Fold, empty_book}
+use Rattle.dr_ledger.specs.Histories.{IsPast, IsSince}
 use Rattle.dr_ledger.specs.Pairs.{Pair}
 use Rattle.dr_ledger.specs.SiteRoutes.{site_routing}
 use Rattle.dr_world_audit.specs.declared.fault.ReadFault.{ReadFault}
@@ -35,5 +35,6 @@ abbrev pub Reads : Network → Part → List Line → Trail → Trail
 Reads plan site lines old new (Ok done) = IsRead plan site lines old new
 Reads plan site lines old new (Err fault.NoCall) = IsJournal site lines → ⊥
 Reads plan site lines old new (Err (fault.Unfit uid to)) =
-    UnfitAt plan site.name (Fold (until_adoption lines)) (uid, to)
+    IsPast (until_adoption lines) empty_book
+    × UnfitAt plan site.name (Fold (until_adoption lines)) (uid, to)
 Reads plan site lines old new (Err fault.Memory) = Unit {0}

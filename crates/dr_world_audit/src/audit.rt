@@ -1,10 +1,13 @@
 //! Whether a site's own journals match.
 ghost use Rattle.std.specs.Prelude.{◌≡◌, ◌↔◌, Contains, IfOk, IsTrue, false, option_copied};
 ghost use Rattle.dr_base.specs.Texts.{Text as Words};
+ghost use Rattle.dr_plan_model.specs.Networks.{Network};
 ghost use Rattle.dr_ledger_history.specs.Lines.{line_of};
-ghost use Rattle.dr_world_audit.specs.Sites.{AreApart, Audits, FirstUnfair, IsUnfair};
+ghost use Rattle.dr_world_audit.specs.declared.audit.Mismatch.TheVariants as what;
+ghost use Rattle.dr_world_audit.specs.Sites.{AreApart, Audits, FirstUnfair, IsUnfair, TellsNode};
 ghost use Rattle.dr_world_audit.specs.Sites.{is_fair as is_fair_outcome, names};
-ghost use Rattle.dr_world_audit.specs.Stops.{Compares, ReadsAll, ReadsNode, StopsFor, TestsAnswers};
+ghost use Rattle.dr_world_audit.specs.Stops.{Compares, IsVerdictOf, ReadsAll, ReadsNode, StopsFor};
+ghost use Rattle.dr_world_audit.specs.Stops.{TestsAnswers};
 
 use crate::comparing::{first_unanswered, first_unsent, is_ours, set_of};
 use crate::fault::ReadFault;
@@ -165,17 +168,26 @@ impl From<AllocError> for Stop {
 
 /// Tests that what the node was answered by ours is fair.
 fn test_answers(ours: &BTreeSet<Text>, node: &NodeJournal) -> Result<(), Stop>
-    ensures { TestsAnswers ours.now.keys node.now result }
+    ensures { (plan : Network) → TestsAnswers plan ours.now.keys node.now result }
 {
     let Some(line) = first_unfair(ours, node.lines.as_slice()) else {
         return Ok(());
     };
-    let mismatch = unfair_at(node, line)?;
+    let mismatch = unfair_at(ours, node, line)?;
     Err(Stop::No(mismatch))
 }
 
 /// The mismatch of a line that isn't fair.
-fn unfair_at(node: &NodeJournal, line: &JournalLine) -> Result<Mismatch, AllocError> {
+fn unfair_at(
+    _ours: &BTreeSet<Text>,
+    node: &NodeJournal,
+    line: &JournalLine,
+) -> Result<Mismatch, AllocError>
+    requires unfair { IsUnfair _ours.now.keys (line_of line.now) }
+    requires among { Contains node.now.lines line.now }
+    ensures { (plan : Network) → IfOk result (TellsNode plan _ours.now.keys node.now) }
+{
+    let name = node.name.clone()?;
     match line {
         JournalLine::Settling {
             uid,
@@ -183,19 +195,22 @@ fn unfair_at(node: &NodeJournal, line: &JournalLine) -> Result<Mismatch, AllocEr
             outcome: _,
             now: _,
         } => Ok(Mismatch::NotFair {
-            node: node.name.clone()?,
+            node: name,
             uid: uid.clone()?,
             to: dest.clone()?,
         }),
-        _ => Ok(Mismatch::NoHistory {
-            node: node.name.clone()?,
-        }),
+        JournalLine::Arrival { .. } => Ok(Mismatch::NoHistory { node: name }),
+        JournalLine::Repeat { .. } => Ok(Mismatch::NoHistory { node: name }),
+        JournalLine::Requeuing { .. } => Ok(Mismatch::NoHistory { node: name }),
+        JournalLine::Dropping { .. } => Ok(Mismatch::NoHistory { node: name }),
+        JournalLine::Forgetting { .. } => Ok(Mismatch::NoHistory { node: name }),
+        JournalLine::Adoption => Ok(Mismatch::NoHistory { node: name }),
     }
 }
 
 /// The stop for a fault of a journal.
 fn stop_of(node: &NodeJournal, fault: ReadFault) -> Stop
-    ensures { StopsFor fault result }
+    ensures { StopsFor node.now fault result }
 {
     let name = match node.name.clone() {
         Ok(name) => name,
@@ -259,7 +274,9 @@ fn read_all(
 }
 
 /// The mismatch of a hop that had no reason.
-fn unsent_at(hop: &Hop) -> Result<Mismatch, AllocError> {
+fn unsent_at(hop: &Hop) -> Result<Mismatch, AllocError>
+    ensures { IfOk result (λ m. m ≡ what.NoReason hop.now.to hop.now.uid hop.now.from) }
+{
     Ok(Mismatch::NoReason {
         node: hop.to.clone()?,
         uid: hop.uid.clone()?,
@@ -268,7 +285,9 @@ fn unsent_at(hop: &Hop) -> Result<Mismatch, AllocError> {
 }
 
 /// The mismatch of a hop that didn't arrive.
-fn unanswered_at(hop: &Hop) -> Result<Mismatch, AllocError> {
+fn unanswered_at(hop: &Hop) -> Result<Mismatch, AllocError>
+    ensures { IfOk result (λ m. m ≡ what.NoArrival hop.now.from hop.now.uid hop.now.to) }
+{
     Ok(Mismatch::NoArrival {
         node: hop.from.clone()?,
         uid: hop.uid.clone()?,
@@ -300,6 +319,16 @@ fn compare(
     Ok(None)
 }
 
+/// The verdict where the reading of journals ended.
+fn verdict_of(stop: Stop) -> Result<Verdict, AuditFault>
+    ensures { IfOk result (IsVerdictOf stop) }
+{
+    match stop {
+        Stop::No(mismatch) => Ok(Verdict::No(mismatch)),
+        Stop::Fault(fault) => Err(fault),
+    }
+}
+
 /// Whether the journals of our nodes, which stand still, are histories of the sealed plan and
 /// match: then the four claims of the headline hold of their books. Else what doesn't match.
 ///
@@ -317,8 +346,7 @@ pub fn audit(alloc: Global, sealed: &Sealed, nodes: &[NodeJournal]) -> Result<Ve
     };
     match read_all(alloc, sealed, &ours, nodes, &mut trail) {
         Ok(()) => {}
-        Err(Stop::No(mismatch)) => return Ok(Verdict::No(mismatch)),
-        Err(Stop::Fault(fault)) => return Err(fault),
+        Err(stop) => return verdict_of(stop),
     }
     match compare(alloc, &ours, trail)? {
         Some(mismatch) => Ok(Verdict::No(mismatch)),

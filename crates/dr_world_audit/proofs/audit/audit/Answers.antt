@@ -5,18 +5,22 @@ use Rattle.dr_world_audit.specs.declared.audit.Stop.{Stop}
 use Rattle.dr_world_audit.specs.declared.trail.Trail.{Trail}
 use Rattle.dr_world_audit.specs.declared.hop.Hop.{Hop as Held}
 use Rattle.dr_world_audit.specs.Hops.{held}
-use Rattle.dr_world_audit.specs.Sites.{all_came, all_done, all_sent}
-use Rattle.dr_world_audit.specs.Stops.{Compares, ReadsAll}
-use Rattle.dr_world_audit.proofs.Deciding.{holds, mismatches, shows_of}
+use Rattle.dr_world_audit.specs.Sites.{Audits, all_came, all_done, all_sent}
+use Rattle.dr_world_audit.specs.Stops.{Compares, IsVerdictOf, ReadsAll}
+use Rattle.dr_world_audit.proofs.Deciding.{holds, mismatches, one_fails}
+use Rattle.dr_world_audit.proofs.Stopping.{if_so, stopped}
 use Rattle.dr_world_audit.proofs.audit.audit.Goals as goal
 
-pub returns-in-Err-No : goal.returns-in-Err-No
-returns-in-Err-No c = λ histories m. (
+pub returns-in-Err : goal.returns-in-Err
+returns-in-Err c =
+    let plan = c.args.sealed.now.plan in
+    let nodes = c.args.nodes.now in
+    let keys = c.in_ok-ours.ours.keys in
     let old : Trail = record { came = c.new.result; sent = c.new-2.result; done = c.new-3.result } in
-    let P : Stop → Type 0 = λ s. ReadsAll c.args.sealed.now.plan c.in_ok-ours.ours.keys c.args.nodes.now old c.read_all.new.trail (Err s) in
-    let u = subst P c.in-Err-No.field-0-is c.in-Err-No.ensures in
-    u.2 (shows_of c.args.sealed.now.plan c.args.nodes.now c.in_ok-ours.ensures.apart c.in_ok-ours.ours.keys c.in_ok-ours.ensures.same histories m u.0 u.1)
-    )
+    let P : Stop → Type 0 = λ s. ReadsAll plan keys nodes old c.read_all.new.trail (Err s) in
+    if_so (IsVerdictOf c.in-Err.stop) (Audits plan nodes) c.verdict_of.result c.verdict_of.ensures (λ v is. stopped (Audits plan nodes) c.in-Err.stop v is (λ told same.
+    let u = subst P same c.in-Err.ensures in
+    one_fails plan nodes c.in_ok-ours.ensures.apart keys c.in_ok-ours.ensures.same u.0 told u.1 u.2))
 
 pub returns-in-Some : goal.returns-in-Some
 returns-in-Some c =
@@ -28,7 +32,7 @@ returns-in-Some c =
     let sent = notes.reasons ∙ ap (λ (hs : List Held). hs ++ held (all_sent plan nodes)) c.new-2.ensures.items in
     let done = notes.successes ∙ ap (λ (hs : List Held). hs ++ held (all_done nodes)) c.new-3.ensures.items in
     let P : List Held × List Held × List Held × Option Mismatch → Type 0 = λ p. Compares keys p.0 p.1 p.2 p.3 in
-    mismatches plan nodes c.in_ok-ours.ensures.apart keys c.in_ok-ours.ensures.same c.in-Some.mismatch (subst P (λ j. (came j, sent j, done j, c.in-Some.is j)) c.in_ok-mismatch.ensures)
+    mismatches plan nodes c.in_ok-ours.ensures.apart keys c.in_ok-ours.ensures.same c.in-Ok.ensures.each c.in-Some.mismatch (subst P (λ j. (came j, sent j, done j, c.in-Some.is j)) c.in_ok-mismatch.ensures)
 
 pub returns : goal.returns
 returns c =
