@@ -79,16 +79,17 @@ class World:
         if not known or 'body_overwritten' in self.wrong:
             book.items[item.uid] = item
         book.arrivals.add((caller, item.uid))
-        if self.plan.keeps(name, caller, item.key) and not (known and 'kept_for_new_uids_only' in self.wrong):
+        targets, keep = tuple(sorted(self.plan.sends(name, caller, item.key))), self.plan.keeps(name, caller, item.key)
+        if keep and not (known and 'kept_for_new_uids_only' in self.wrong):
             book.kept.add(item.uid)
         if not (known and 'rows_for_new_uids_only' in self.wrong):
-            for to in self.plan.sends(name, caller, item.key):
+            for to in targets:
                 row = book.rows.get((item.uid, to))
                 if row == ('dropped',) and 'dropped_rows_stay_dropped' not in self.wrong:
                     self.happened['meets', 'an arrival a dropped row'] += 1
                     row = None
                 book.rows[item.uid, to] = row or ('waiting', 0, 0)
-        book.journal.append(('arrival', caller, item))
+        book.journal.append(('arrival', caller, item, targets, keep))
         return 'New'
 
     def settle(self, name, uid, dest, outcome):
@@ -315,8 +316,8 @@ def random_event(w, dice):
     return w.tick, (dice.choice([1, 1000, 5000, 300000]),)
 
 
-def play(seed, wrong, happened):
-    """One run. The name of the claim that fails, or None."""
+def play(seed, wrong, happened, ends=None):
+    """One run. The name of the claim that fails, or None. `ends` is told the world that it ends with."""
     dice = random.Random(seed)
     w = World(random_plan(dice), dice, wrong, happened)
     for _ in range(dice.randint(20, 220)):
@@ -331,6 +332,8 @@ def play(seed, wrong, happened):
             lasts(before, w)
         except Claim as failed:
             return failed.args
+    if ends:
+        ends(w)
     return None
 
 
@@ -360,4 +363,5 @@ def main():
             sys.exit(f'{event} never answered {never}')
 
 
-main()
+if __name__ == '__main__':
+    main()

@@ -1,0 +1,10 @@
+pub mod Deciding
+pub mod Lists
+pub mod Named
+pub mod Planned
+pub mod ReadAll
+pub mod Replaying
+pub mod Sets
+pub mod Stood
+pub mod Stopping
+pub mod Targets

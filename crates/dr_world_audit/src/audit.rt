@@ -1,0 +1,355 @@
+//! Whether a site's own journals match.
+ghost use Rattle.std.specs.Prelude.{◌≡◌, ◌↔◌, Contains, IfOk, IsTrue, false, option_copied};
+ghost use Rattle.dr_base.specs.Texts.{Text as Words};
+ghost use Rattle.dr_plan_model.specs.Networks.{Network};
+ghost use Rattle.dr_ledger_history.specs.Lines.{line_of};
+ghost use Rattle.dr_world_audit.specs.declared.audit.Mismatch.TheVariants as what;
+ghost use Rattle.dr_world_audit.specs.Sites.{AreApart, Audits, FirstUnfair, IsUnfair, TellsNode};
+ghost use Rattle.dr_world_audit.specs.Sites.{is_fair as is_fair_outcome, names};
+ghost use Rattle.dr_world_audit.specs.Stops.{Compares, IsVerdictOf, ReadsAll, ReadsNode, StopsFor};
+ghost use Rattle.dr_world_audit.specs.Stops.{TestsAnswers};
+
+use crate::comparing::{first_unanswered, first_unsent, is_ours, set_of};
+use crate::fault::ReadFault;
+use crate::hop::Hop;
+use crate::reading::read_journal;
+use crate::trail::Trail;
+use dr_base::{Seq, Text};
+use dr_cert::Sealed;
+use dr_ledger::Outcome;
+use dr_ledger_history::JournalLine;
+use dr_site::{Site, SiteFault};
+use std::alloc::{AllocError, AllocFailed, Global};
+use std::collections::BTreeSet;
+
+/// The journal of one of ours: all its lines, in order.
+#[derive(Debug, Drop)]
+pub struct NodeJournal {
+    pub name: Text,
+    pub lines: Seq<JournalLine>,
+}
+
+/// What doesn't match.
+#[derive(Debug, Drop)]
+pub enum Mismatch {
+    /// The node's lines are no history under the plan.
+    NoHistory { node: Text },
+    /// The node's row of the instance was carried over, and the plan has no such hop for it.
+    NoHop { node: Text, uid: Text, to: Text },
+    /// What the node was answered for the instance isn't fair.
+    NotFair { node: Text, uid: Text, to: Text },
+    /// The node notes that the instance was taken there, and there it hasn't arrived.
+    NoArrival { node: Text, uid: Text, to: Text },
+    /// The instance arrived from there, and had no reason there to be sent.
+    NoReason { node: Text, uid: Text, from: Text },
+}
+
+/// What an audit comes to.
+#[derive(Debug, Drop)]
+pub enum Verdict {
+    Holds,
+    No(Mismatch),
+}
+
+/// Why there is no verdict.
+#[derive(Clone, Copy, PartialEq, Eq, Debug)]
+pub enum AuditFault {
+    /// No node of the plan has one of the names.
+    NoNode,
+    /// Two journals are of one node.
+    Twice,
+    Memory,
+}
+
+impl From<AllocError> for AuditFault {
+    ghost use Rattle.std.specs.Prelude.{◌≡◌};
+    ghost use Rattle.dr_world_audit.specs.declared.audit.AuditFault.TheVariants.{Memory};
+
+    ghost from_gives = { λ _ e. e ≡ Memory };
+
+    fn from(_: AllocError) -> AuditFault {
+        AuditFault::Memory
+    }
+}
+
+impl<T: Drop> From<AllocFailed<T>> for AuditFault {
+    ghost use Rattle.std.specs.Prelude.{◌≡◌};
+    ghost use Rattle.dr_world_audit.specs.declared.audit.AuditFault.TheVariants.{Memory};
+
+    ghost from_gives = { λ _ e. e ≡ Memory };
+
+    fn from(_: AllocFailed<T>) -> AuditFault {
+        AuditFault::Memory
+    }
+}
+
+/// The names of our nodes.
+fn names_of(alloc: Global, nodes: &[NodeJournal]) -> Result<BTreeSet<Text>, AuditFault>
+    ensures same { IfOk result (λ s.
+        (n : Words) → Contains s.keys n ↔ Contains (names nodes.now) n) }
+    ensures apart { IfOk result (λ _. AreApart nodes.now) }
+{
+    let mut ours = BTreeSet::new(alloc);
+    for node in nodes {
+        if is_ours(&node.name, &ours) {
+            return Err(AuditFault::Twice);
+        }
+        ours.insert(node.name.clone()?)?;
+    }
+    Ok(ours)
+}
+
+/// Whether the outcome is one that a sound plan leaves room for.
+fn is_fair(outcome: Outcome) -> bool
+    ensures { result ≡ is_fair_outcome outcome }
+{
+    match outcome {
+        Outcome::Status(status) => status == 0 || status == 0xA700 || status == 0xC0F1,
+        Outcome::Broken => true,
+        Outcome::NoContext => false,
+    }
+}
+
+/// Whether the line settles a row to one of ours by an outcome that isn't fair.
+fn is_unfair(ours: &BTreeSet<Text>, line: &JournalLine) -> bool
+    ensures yes { IsTrue result → IsUnfair ours.now.keys (line_of line.now) }
+    ensures no { result ≡ false → IsUnfair ours.now.keys (line_of line.now) → ⊥ }
+{
+    match line {
+        JournalLine::Settling {
+            uid: _,
+            dest,
+            outcome,
+            now: _,
+        } => {
+            if is_fair(*outcome) {
+                return false;
+            }
+            is_ours(dest, ours)
+        }
+        JournalLine::Arrival { .. } => false,
+        JournalLine::Repeat { .. } => false,
+        JournalLine::Requeuing { .. } => false,
+        JournalLine::Dropping { .. } => false,
+        JournalLine::Forgetting { .. } => false,
+        JournalLine::Adoption => false,
+    }
+}
+
+/// The first such line.
+fn first_unfair<'a>(ours: &BTreeSet<Text>, lines: &'a [JournalLine]) -> Option<&'a JournalLine>
+    ensures { FirstUnfair ours.now.keys lines.now (option_copied result) }
+{
+    for line in lines {
+        if is_unfair(ours, line) {
+            return Some(line);
+        }
+    }
+    None
+}
+
+/// Why the reading of all journals ends.
+#[derive(Debug, Drop)]
+enum Stop {
+    No(Mismatch),
+    Fault(AuditFault),
+}
+
+impl From<AllocError> for Stop {
+    ghost use Rattle.std.specs.Prelude.{◌≡◌};
+    ghost use Rattle.dr_world_audit.specs.Stops.{for_memory};
+
+    ghost from_gives = { λ _ e. e ≡ for_memory };
+
+    fn from(_: AllocError) -> Stop {
+        Stop::Fault(AuditFault::Memory)
+    }
+}
+
+/// Tests that what the node was answered by ours is fair.
+fn test_answers(ours: &BTreeSet<Text>, node: &NodeJournal) -> Result<(), Stop>
+    ensures { (plan : Network) → TestsAnswers plan ours.now.keys node.now result }
+{
+    let Some(line) = first_unfair(ours, node.lines.as_slice()) else {
+        return Ok(());
+    };
+    let mismatch = unfair_at(ours, node, line)?;
+    Err(Stop::No(mismatch))
+}
+
+/// The mismatch of a line that isn't fair.
+fn unfair_at(
+    _ours: &BTreeSet<Text>,
+    node: &NodeJournal,
+    line: &JournalLine,
+) -> Result<Mismatch, AllocError>
+    requires unfair { IsUnfair _ours.now.keys (line_of line.now) }
+    requires among { Contains node.now.lines line.now }
+    ensures { (plan : Network) → IfOk result (TellsNode plan _ours.now.keys node.now) }
+{
+    let name = node.name.clone()?;
+    match line {
+        JournalLine::Settling {
+            uid,
+            dest,
+            outcome: _,
+            now: _,
+        } => Ok(Mismatch::NotFair {
+            node: name,
+            uid: uid.clone()?,
+            to: dest.clone()?,
+        }),
+        JournalLine::Arrival { .. } => Ok(Mismatch::NoHistory { node: name }),
+        JournalLine::Repeat { .. } => Ok(Mismatch::NoHistory { node: name }),
+        JournalLine::Requeuing { .. } => Ok(Mismatch::NoHistory { node: name }),
+        JournalLine::Dropping { .. } => Ok(Mismatch::NoHistory { node: name }),
+        JournalLine::Forgetting { .. } => Ok(Mismatch::NoHistory { node: name }),
+        JournalLine::Adoption => Ok(Mismatch::NoHistory { node: name }),
+    }
+}
+
+/// The stop for a fault of a journal.
+fn stop_of(node: &NodeJournal, fault: ReadFault) -> Stop
+    ensures { StopsFor node.now fault result }
+{
+    let name = match node.name.clone() {
+        Ok(name) => name,
+        Err(AllocError) => return Stop::Fault(AuditFault::Memory),
+    };
+    match fault {
+        ReadFault::NoCall => Stop::No(Mismatch::NoHistory { node: name }),
+        ReadFault::Unfit { uid, to } => Stop::No(Mismatch::NoHop {
+            node: name,
+            uid,
+            to,
+        }),
+        ReadFault::Memory => Stop::Fault(AuditFault::Memory),
+    }
+}
+
+/// Reads the journal of a node.
+fn read_node(
+    alloc: Global,
+    sealed: &Sealed,
+    ours: &BTreeSet<Text>,
+    node: &NodeJournal,
+    trail: &mut Trail,
+) -> Result<(), Stop>
+    ensures { ReadsNode sealed.now.plan ours.now.keys node.now trail.old trail.new result }
+{
+    let _plan = sealed.plan();
+    let _certificate = sealed.certificate();
+    match test_answers(ours, node) {
+        Ok(()) => {}
+        Err(stop) => return Err(stop),
+    }
+    let site = match Site::of(alloc, sealed, &node.name) {
+        Ok(site) => site,
+        Err(SiteFault::NoNode) => return Err(Stop::Fault(AuditFault::NoNode)),
+        Err(SiteFault::Memory) => return Err(Stop::Fault(AuditFault::Memory)),
+    };
+    match read_journal(alloc, sealed, &site, node.lines.as_slice(), trail) {
+        Ok(()) => Ok(()),
+        Err(fault) => Err(stop_of(node, fault)),
+    }
+}
+
+/// Reads the journals of all nodes.
+fn read_all(
+    alloc: Global,
+    sealed: &Sealed,
+    ours: &BTreeSet<Text>,
+    nodes: &[NodeJournal],
+    trail: &mut Trail,
+) -> Result<(), Stop>
+    ensures { ReadsAll sealed.now.plan ours.now.keys nodes.now trail.old trail.new result }
+{
+    for node in nodes {
+        match read_node(alloc, sealed, ours, node, trail) {
+            Ok(()) => {}
+            Err(stop) => return Err(stop),
+        }
+    }
+    Ok(())
+}
+
+/// The mismatch of a hop that had no reason.
+fn unsent_at(hop: &Hop) -> Result<Mismatch, AllocError>
+    ensures { IfOk result (λ m. m ≡ what.NoReason hop.now.to hop.now.uid hop.now.from) }
+{
+    Ok(Mismatch::NoReason {
+        node: hop.to.clone()?,
+        uid: hop.uid.clone()?,
+        from: hop.from.clone()?,
+    })
+}
+
+/// The mismatch of a hop that didn't arrive.
+fn unanswered_at(hop: &Hop) -> Result<Mismatch, AllocError>
+    ensures { IfOk result (λ m. m ≡ what.NoArrival hop.now.from hop.now.uid hop.now.to) }
+{
+    Ok(Mismatch::NoArrival {
+        node: hop.from.clone()?,
+        uid: hop.uid.clone()?,
+        to: hop.to.clone()?,
+    })
+}
+
+/// The first hop that doesn't match: one that came without a reason, or one that was answered and
+/// didn't come.
+fn compare(
+    alloc: Global,
+    ours: &BTreeSet<Text>,
+    trail: Trail,
+) -> Result<Option<Mismatch>, AllocError>
+    ensures { IfOk result
+        (Compares ours.now.keys trail.came.items trail.sent.items trail.done.items) }
+{
+    let Trail { came, sent, done } = trail;
+    let sent = set_of(alloc, sent)?;
+    if let Some(hop) = first_unsent(ours, came.as_slice(), &sent) {
+        let mismatch = unsent_at(hop)?;
+        return Ok(Some(mismatch));
+    }
+    let came = set_of(alloc, came)?;
+    if let Some(hop) = first_unanswered(ours, done.as_slice(), &came) {
+        let mismatch = unanswered_at(hop)?;
+        return Ok(Some(mismatch));
+    }
+    Ok(None)
+}
+
+/// The verdict where the reading of journals ended.
+fn verdict_of(stop: Stop) -> Result<Verdict, AuditFault>
+    ensures { IfOk result (IsVerdictOf stop) }
+{
+    match stop {
+        Stop::No(mismatch) => Ok(Verdict::No(mismatch)),
+        Stop::Fault(fault) => Err(fault),
+    }
+}
+
+/// Whether the journals of our nodes, which stand still, are histories of the sealed plan and
+/// match: then the four claims of the headline hold of their books. Else what doesn't match.
+///
+/// Errors: NoNode where the plan has no node of one of the names; Twice where two journals are of
+/// one node; Memory.
+pub fn audit(alloc: Global, sealed: &Sealed, nodes: &[NodeJournal]) -> Result<Verdict, AuditFault>
+    ensures { IfOk result (Audits sealed.now.plan nodes.now) }
+{
+    let _plan = sealed.plan();
+    let ours = names_of(alloc, nodes)?;
+    let mut trail = Trail {
+        came: Vec::new(alloc),
+        sent: Vec::new(alloc),
+        done: Vec::new(alloc),
+    };
+    match read_all(alloc, sealed, &ours, nodes, &mut trail) {
+        Ok(()) => {}
+        Err(stop) => return verdict_of(stop),
+    }
+    match compare(alloc, &ours, trail)? {
+        Some(mismatch) => Ok(Verdict::No(mismatch)),
+        None => Ok(Verdict::Holds),
+    }
+}
