@@ -21,6 +21,7 @@ use dr_ledger_history::JournalLine;
 use dr_site::{Site, SiteFault};
 use std::alloc::{AllocError, AllocFailed, Global};
 use std::collections::BTreeSet;
+use thiserror::Error;
 
 /// The journal of one of ours: all its lines, in order.
 #[derive(Debug, Drop)]
@@ -52,12 +53,15 @@ pub enum Verdict {
 }
 
 /// Why there is no verdict.
-#[derive(Clone, Copy, PartialEq, Eq, Debug)]
+#[derive(Clone, Copy, PartialEq, Eq, Debug, Error)]
 pub enum AuditFault {
     /// No node of the plan has one of the names.
+    #[error("NoNode")]
     NoNode,
     /// Two journals are of one node.
+    #[error("Twice")]
     Twice,
+    #[error("Memory")]
     Memory,
 }
 
