@@ -1,7 +1,7 @@
 -- Nodes by name.
 use Rattle.std.specs.Prelude.{◌≡◌, Bool, true, false, cond, List, [], ◌∷◌, ◌++◌, Contains}
 use Rattle.std.proofs.Common.{refl, sym, ap, subst, ◌∙◌}
-use Rattle.std.proofs.lemmas.List.Elements.{Contains-push_cases}
+use Rattle.std.proofs.lemmas.List.Elements.{Contains-append_right, Contains-push_cases}
 use mathlib.Core.Logic.{inl, inr}
 use Rattle.dr_base.specs.Texts.{Text}
 use Rattle.dr_plan_model.proofs.Gathered.{nothing_in_nil, Contains-cons_cases, Contains-here, Contains-there}
@@ -73,4 +73,12 @@ book_is (first ∷ nodes) apart node h = elim (Contains-cons_cases first nodes n
     | inl same ↦ absurd (apart.0 (subst (Contains (names nodes)) same (named_in nodes node later)))
     | inr other ↦ ap (λ (b : Bool). cond b (Fold (lines_at first)) (books_of nodes node.name)) other ∙ book_is nodes apart.1 node later
   ]
+]
+
+-- the name of a node stands before it
+pub named_twice : (before : List NodeJournal) (one : NodeJournal) (after : List NodeJournal) → Contains (names before) one.name → AreApart (before ++ one ∷ after) → ⊥
+named_twice [] one after h apart = nothing_in_nil one.name h
+named_twice (first ∷ before) one after h apart = elim (Contains-cons_cases first.name (names before) one.name h) [
+  | inl same ↦ apart.0 (subst (Contains (names (before ++ one ∷ after))) (sym same) (named_in (before ++ one ∷ after) one (Contains-append_right before (one ∷ after) one (Contains-here one after))))
+  | inr later ↦ named_twice before one after later apart.1
 ]

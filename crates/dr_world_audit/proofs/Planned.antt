@@ -36,7 +36,7 @@ use Rattle.dr_world_audit.specs.declared.trail.Trail.{Trail}
 use Rattle.dr_world_audit.specs.Hops.{Notes}
 use Rattle.dr_world_audit.specs.Readings.{IsJournal, IsRead, Reads}
 use Rattle.dr_world_audit.specs.Sites.{IsUnfair, NotesNode, Shows, TellsNode, lines_at}
-use Rattle.dr_world_audit.specs.Stops.{ReadsNode, StopsFor}
+use Rattle.dr_world_audit.specs.Stops.{ReadsNode, RefusesNode, StopsFor}
 use Rattle.dr_world_audit.specs.Standing.{FitsAt}
 use Rattle.dr_world_journals.specs.Hops.{Hop, came_to, done_at, goals, sent_from, standing, to_each, went, went_by}
 use Rattle.dr_world_journals.specs.Journals.{until_adoption}
@@ -126,6 +126,6 @@ module _ (plan : Network) (certificate : Certificate) (site : Part) (certified :
           },
         )
     node_stops old new fault.Memory (stop.No mismatch) is reads = absurd is
-    node_stops old new fault.NoCall (stop.Fault other) is reads = tt
-    node_stops old new (fault.Unfit uid to) (stop.Fault other) is reads = tt
-    node_stops old new fault.Memory (stop.Fault other) is reads = tt
+    node_stops old new fault.NoCall (stop.Fault other) is reads = subst (RefusesNode plan node) (sym is) tt
+    node_stops old new (fault.Unfit uid to) (stop.Fault other) is reads = subst (RefusesNode plan node) (sym is) tt
+    node_stops old new fault.Memory (stop.Fault other) is reads = subst (RefusesNode plan node) (sym is) tt

@@ -1,5 +1,5 @@
 -- Why the reading of journals ends, and how it goes on.
-use Rattle.std.specs.Prelude.{Bool, true, false, ◌≡◌, ℕ, ◌<◌, List, [], ◌∷◌, ◌++◌, length, get_or, Contains, None, Err, Result, Ok, IfOk}
+use Rattle.std.specs.Prelude.{Bool, true, false, ◌≡◌, ℕ, ◌<◌, List, [], ◌∷◌, ◌++◌, length, get_or, Contains, None, Err, Result, Ok, MatchResult}
 use Rattle.std.specs.Prelude.{map as mapped}
 use Rattle.std.proofs.Common.{refl, sym, ap, subst, ◌∙◌}
 use Rattle.std.proofs.lemmas.List.{append-nil, append_assoc}
@@ -15,6 +15,7 @@ use Rattle.dr_ledger_history.specs.declared.line.JournalLine.{JournalLine}
 use Rattle.dr_ledger_history.specs.declared.line.JournalLine.TheVariants as told
 use Rattle.dr_world_model.specs.Claims.{IsFairOutcome}
 use Rattle.dr_world_audit.specs.declared.audit.AuditFault.{AuditFault}
+use Rattle.dr_world_audit.specs.declared.audit.AuditFault.TheVariants as fault
 use Rattle.dr_world_audit.specs.declared.audit.Mismatch.{Mismatch}
 use Rattle.dr_world_audit.specs.declared.audit.Verdict.{Verdict}
 use Rattle.dr_world_audit.specs.declared.audit.Verdict.TheVariants as verdicts
@@ -24,7 +25,7 @@ use Rattle.dr_world_audit.specs.declared.audit.Stop.TheVariants as stop
 use Rattle.dr_world_audit.specs.declared.trail.Trail.{Trail}
 use Rattle.dr_world_audit.specs.Hops.{Notes}
 use Rattle.dr_world_audit.specs.Sites.{AreRead, FirstUnfair, IsNotFair, IsUnfair, NotesNode, Shows, all_of, is_fair, lines_at}
-use Rattle.dr_world_audit.specs.Stops.{AllFair, IsVerdictOf, ReadsAll, ReadsNode}
+use Rattle.dr_world_audit.specs.Stops.{AllFair, IsFaultOf, IsVerdictOf, ReadsAll, ReadsNode, RefusesNode, TestsAnswers}
 use Rattle.dr_world_audit.proofs.Lists.{notes_nothing, notes_on}
 use Rattle.dr_world_journals.specs.Hops.{Hop, came_to, done_at, sent_from}
 use Rattle.dr_ledger.specs.PlanRoutes.{plan_routing}
@@ -78,7 +79,9 @@ module _ (plan : Network) (ours : List Text) where
 
   pub all_stop : (nodes : List NodeJournal) (one : NodeJournal) → Contains nodes one → (old mid new : Trail) (s : Stop) → ReadsNode plan ours one mid new (Err s) → ReadsAll plan ours nodes old new (Err s)
   all_stop nodes one among old mid new (stop.No mismatch) fails = (one, among, fails)
-  all_stop nodes one among old mid new (stop.Fault why) fails = tt
+  all_stop nodes one among old mid new (stop.Fault fault.NoNode) fails = (one, among, fails)
+  all_stop nodes one among old mid new (stop.Fault fault.Twice) fails = absurd fails
+  all_stop nodes one among old mid new (stop.Fault fault.Memory) fails = tt
 
 pub among_at : (nodes : List NodeJournal) (i : ℕ) (one : NodeJournal) → i < length nodes → one ≡ get_or nodes i one → Contains nodes one
 among_at nodes i one lt is = (i, lt, sym is)
@@ -117,7 +120,17 @@ pub stopped : (P : Verdict → Type 0) (s : Stop) (v : Verdict) → IsVerdictOf 
 stopped P (stop.No mismatch) v is each = subst P (sym is) (each mismatch refl)
 stopped P (stop.Fault why) v is each = absurd is
 
--- what holds of each such verdict, holds of the one that is given
-pub if_so : (P Q : Verdict → Type 0) (result : Result Verdict AuditFault) → IfOk result P → ((v : Verdict) → P v → Q v) → IfOk result Q
-if_so P Q (Ok v) h each = each v h
-if_so P Q (Err why) h each = tt
+-- what holds of each such verdict and fault, holds of what is given
+pub if_so : (P Q : Verdict → Type 0) (R S : AuditFault → Type 0) (result : Result Verdict AuditFault) → MatchResult result P R → ((v : Verdict) → P v → Q v) → ((why : AuditFault) → R why → S why) → MatchResult result Q S
+if_so P Q R S (Ok v) h each other = each v h
+if_so P Q R S (Err why) h each other = other why h
+
+-- the fault of a stop
+pub faulted : (P : AuditFault → Type 0) (s : Stop) (why : AuditFault) → IsFaultOf s why → ((other : AuditFault) → s ≡ stop.Fault other → P other) → P why
+faulted P (stop.No mismatch) why is each = absurd is
+faulted P (stop.Fault other) why is each = subst P (sym is) (each other refl)
+
+-- what the answers show, the reading shows
+pub tested : (plan : Network) (ours : List Text) (node : NodeJournal) (old new : Trail) (s : Stop) → TestsAnswers plan ours node (Err s) → ReadsNode plan ours node old new (Err s)
+tested plan ours node old new (stop.No mismatch) t = t
+tested plan ours node old new (stop.Fault why) t = subst (RefusesNode plan node) (sym t) tt

@@ -1,5 +1,6 @@
 //! Whether a site's own journals match.
-ghost use Rattle.std.specs.Prelude.{◌≡◌, ◌↔◌, Contains, IfOk, IsTrue, false, option_copied};
+ghost use Rattle.std.specs.Prelude.{◌≡◌, ◌↔◌, Contains, IfErr, IfOk, IsTrue, MatchResult};
+ghost use Rattle.std.specs.Prelude.{false, option_copied};
 ghost use Rattle.dr_base.specs.Texts.{Text as Words};
 ghost use Rattle.dr_plan_model.specs.Networks.{Network};
 ghost use Rattle.dr_ledger_history.specs.Lines.{line_of};
@@ -7,7 +8,7 @@ ghost use Rattle.dr_world_audit.specs.declared.audit.Mismatch.TheVariants as wha
 ghost use Rattle.dr_world_audit.specs.Sites.{AreApart, Audits, FirstUnfair, IsUnfair, TellsNode};
 ghost use Rattle.dr_world_audit.specs.Sites.{is_fair as is_fair_outcome, names};
 ghost use Rattle.dr_world_audit.specs.Stops.{Compares, IsVerdictOf, ReadsAll, ReadsNode, StopsFor};
-ghost use Rattle.dr_world_audit.specs.Stops.{TestsAnswers};
+ghost use Rattle.dr_world_audit.specs.Stops.{IsFaultOf, IsTwice, Refuses, TestsAnswers};
 
 use crate::comparing::{first_unanswered, first_unsent, is_ours, set_of};
 use crate::fault::ReadFault;
@@ -21,6 +22,7 @@ use dr_ledger_history::JournalLine;
 use dr_site::{Site, SiteFault};
 use std::alloc::{AllocError, AllocFailed, Global};
 use std::collections::BTreeSet;
+use thiserror::Error;
 
 /// The journal of one of ours: all its lines, in order.
 #[derive(Debug, Drop)]
@@ -52,12 +54,15 @@ pub enum Verdict {
 }
 
 /// Why there is no verdict.
-#[derive(Clone, Copy, PartialEq, Eq, Debug)]
+#[derive(Clone, Copy, PartialEq, Eq, Debug, Error)]
 pub enum AuditFault {
     /// No node of the plan has one of the names.
+    #[error("NoNode")]
     NoNode,
     /// Two journals are of one node.
+    #[error("Twice")]
     Twice,
+    #[error("Memory")]
     Memory,
 }
 
@@ -88,6 +93,7 @@ fn names_of(alloc: Global, nodes: &[NodeJournal]) -> Result<BTreeSet<Text>, Audi
     ensures same { IfOk result (λ s.
         (n : Words) → Contains s.keys n ↔ Contains (names nodes.now) n) }
     ensures apart { IfOk result (λ _. AreApart nodes.now) }
+    ensures twice { IfErr result (IsTwice nodes.now) }
 {
     let mut ours = BTreeSet::new(alloc);
     for node in nodes {
@@ -321,7 +327,7 @@ fn compare(
 
 /// The verdict where the reading of journals ended.
 fn verdict_of(stop: Stop) -> Result<Verdict, AuditFault>
-    ensures { IfOk result (IsVerdictOf stop) }
+    ensures { MatchResult result (IsVerdictOf stop) (IsFaultOf stop) }
 {
     match stop {
         Stop::No(mismatch) => Ok(Verdict::No(mismatch)),
@@ -335,7 +341,8 @@ fn verdict_of(stop: Stop) -> Result<Verdict, AuditFault>
 /// Errors: NoNode where the plan has no node of one of the names; Twice where two journals are of
 /// one node; Memory.
 pub fn audit(alloc: Global, sealed: &Sealed, nodes: &[NodeJournal]) -> Result<Verdict, AuditFault>
-    ensures { IfOk result (Audits sealed.now.plan nodes.now) }
+    ensures { MatchResult result (Audits sealed.now.plan nodes.now)
+        (Refuses sealed.now.plan nodes.now) }
 {
     let _plan = sealed.plan();
     let ours = names_of(alloc, nodes)?;

@@ -6,9 +6,9 @@ use Rattle.dr_world_audit.specs.declared.trail.Trail.{Trail}
 use Rattle.dr_world_audit.specs.declared.hop.Hop.{Hop as Held}
 use Rattle.dr_world_audit.specs.Hops.{held}
 use Rattle.dr_world_audit.specs.Sites.{Audits, all_came, all_done, all_sent}
-use Rattle.dr_world_audit.specs.Stops.{Compares, IsVerdictOf, ReadsAll}
+use Rattle.dr_world_audit.specs.Stops.{Compares, IsFaultOf, IsVerdictOf, ReadsAll, Refuses}
 use Rattle.dr_world_audit.proofs.Deciding.{holds, mismatches, one_fails}
-use Rattle.dr_world_audit.proofs.Stopping.{if_so, stopped}
+use Rattle.dr_world_audit.proofs.Stopping.{faulted, if_so, stopped}
 use Rattle.dr_world_audit.proofs.audit.audit.Goals as goal
 
 pub returns-in-Err : goal.returns-in-Err
@@ -18,9 +18,11 @@ returns-in-Err c =
     let keys = c.in_ok-ours.ours.keys in
     let old : Trail = record { came = c.new.result; sent = c.new-2.result; done = c.new-3.result } in
     let P : Stop → Type 0 = λ s. ReadsAll plan keys nodes old c.read_all.new.trail (Err s) in
-    if_so (IsVerdictOf c.in-Err.stop) (Audits plan nodes) c.verdict_of.result c.verdict_of.ensures (λ v is. stopped (Audits plan nodes) c.in-Err.stop v is (λ told same.
+    if_so (IsVerdictOf c.in-Err.stop) (Audits plan nodes) (IsFaultOf c.in-Err.stop) (Refuses plan nodes) c.verdict_of.result c.verdict_of.ensures
+    (λ v is. stopped (Audits plan nodes) c.in-Err.stop v is (λ told same.
     let u = subst P same c.in-Err.ensures in
     one_fails plan nodes c.in_ok-ours.ensures.apart keys c.in_ok-ours.ensures.same u.0 told u.1 u.2))
+    (λ why is. faulted (Refuses plan nodes) c.in-Err.stop why is (λ other same. subst P same c.in-Err.ensures))
 
 pub returns-in-Some : goal.returns-in-Some
 returns-in-Some c =

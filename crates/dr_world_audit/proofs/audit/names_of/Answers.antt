@@ -1,11 +1,11 @@
-use Rattle.std.proofs.Common.{◌≡◌, ◌+◌, ◌++◌, ◌∷◌, [], arith, refl, true, Contains, List, subst, sym, take}
+use Rattle.std.proofs.Common.{◌≡◌, ◌+◌, ◌++◌, ◌∷◌, [], arith, refl, true, Contains, List, subst, sym, take, ◌∙◌, ap, drop}
 use Rattle.std.specs.Prelude.{◌↔◌}
 use Rattle.std.specs.BTreeSet.{Updates}
-use Rattle.std.proofs.lemmas.List.{take_all, take_more}
+use Rattle.std.proofs.lemmas.List.{append_assoc, take-append-drop, take_all, take_more}
 use Rattle.dr_base.specs.Texts.{Text, text_cmp}
 use Rattle.dr_world_audit.specs.declared.audit.NodeJournal.{NodeJournal}
 use Rattle.dr_world_audit.specs.Sites.{AreApart, names}
-use Rattle.dr_world_audit.proofs.Named.{apart_push, names_push}
+use Rattle.dr_world_audit.proofs.Named.{apart_push, named_twice, names_push}
 use Rattle.dr_world_audit.proofs.Sets.{false_is, one_more_name, name_added}
 use Rattle.dr_world_audit.proofs.audit.names_of.Goals as goal
 
@@ -32,3 +32,14 @@ returns-clause-same c =
 
 pub returns-clause-apart : goal.returns-clause-apart
 returns-clause-apart c = subst AreApart (take_all c.loop-node.node-index c.args.nodes.now (omega (arith, c.loop-node-test.false))) c.loop-node.invariant.1
+
+pub returns-then-is_ours-clause-twice : goal.returns-then-is_ours-clause-twice
+returns-then-is_ours-clause-twice c =
+    let all = c.args.nodes.now in
+    let i = c.loop-node.node-index in
+    let one = c.node-item.result in
+    let e = take_more all i one c.loop-node-test.true in
+    let more : take (i + 1) all ≡ take i all ++ one ∷ [] = rw (← c.node-item.is) at e in
+    let rest = drop (i + 1) all in
+    let whole : all ≡ take i all ++ one ∷ rest = sym (take-append-drop (i + 1) all) ∙ (ap (λ (ns : List NodeJournal). ns ++ rest) more ∙ append_assoc (take i all) (one ∷ []) rest) in
+    λ apart. named_twice (take i all) one rest ((c.loop-node.invariant.0 one.name).0 (c.is_ours.ensures.0 c.if-is_ours.true)) (subst AreApart whole apart)
