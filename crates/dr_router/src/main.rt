@@ -21,9 +21,9 @@ use std::{io, time};
 
 /// Runs the program on its words, which fails only where they can't be read. `threads` is the
 /// runtime too, by which nodes run.
-fn run<T: Threads + Wait + Sync + time::Clock>(
-    rt: &HostRuntime,
-    threads: &T,
+fn run<'x, T: Threads + Wait + Sync + time::Clock>(
+    rt: &'x HostRuntime,
+    threads: &'x T,
 ) -> io::Result<Status> {
     let given = given_words(rt)?;
     let mut words = Vec::new(rt.alloc());
