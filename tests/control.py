@@ -223,7 +223,7 @@ def hostile():
             for data, status in ((b'GET /health HTTP/1.1\r\nX: ' + 9000 * b'x' + b'\r\n\r\n', b'431'), (b'GET /' + 9000 * b'x' + b' HTTP/1.1\r\n\r\n', b'414'),
                                  (f'POST /drop HTTP/1.1\r\nHost: {node.at}\r\nContent-Length: 70000\r\n\r\n'.encode() + 70000 * b'x', b'413'),
                                  (f'POST /drop HTTP/1.1\r\nHost: {node.at}\r\nTransfer-Encoding: chunked\r\n\r\nfffffffffffffffff\r\n'.encode(), b'400'),
-                                 (f'POST /drop HTTP/1.1\r\nHost: {node.at}\r\nTransfer-Encoding: gzip\r\n\r\n'.encode(), b'501')):
+                                 (f'POST /drop HTTP/1.1\r\nHost: {node.at}\r\nTransfer-Encoding: gzip, chunked\r\n\r\n0\r\n\r\n'.encode(), b'501')):
                 same(node.raw(data).split(b' ')[1:2], [status])
             chance = random.Random(52)
             for _ in range(300):
