@@ -17,7 +17,7 @@ import time
 sys.dont_write_bytecode = True
 from lib.requestor import (ABORT, ACCEPTED, APPLICATION, CONTEXTS, DATA, RELEASED, RELEASE_RP, RELEASE_RQ, STORE, VERIFICATION, Acceptor, Requestor, associate,
                        command, context, exactly, pdu, stored, values)
-from lib.nodes import CT, EXPLICIT, IMPLICIT, LIMIT, PROGRAM, Room, behind_meta, data_set, element, ended, lines, part10, run_cases, same, stop
+from lib.nodes import CT, EXPLICIT, IMPLICIT, LIMIT, PROGRAM, Room, behind_meta, data_set, element, ended, lines, part10, run_cases, same, stop, told
 
 TOOLS = 'echoscu', 'storescu', 'dcmsend', 'storescp'
 MR = b'1.2.840.10008.5.1.4.1.1.4'
@@ -425,7 +425,8 @@ def spoilt_files():
         named(site.at('serve', 'GATE', '--links', '1', ledger='garbage.db'), 'G3 Store')
         named(site.at('serve', 'GATE', '--links', '1', ledger='.'), 'G3 Store')
         named(site.at('serve', 'GATE', '--links', '1', ledger='none/GATE.db'), 'G3 Store')
-        site.listed()
+        told(site.at('new', 'GATE'), 0, 'made\n', '')
+        same(site.listed(), [('node', 'GATE'), ('lines', '0')])
         with open(f'{site.folder}/GATE.db', 'rb') as file:
             whole = file.read()
         site.put('cut.db', whole[:len(whole) // 2])
