@@ -69,6 +69,8 @@ def pairs_of(path):
                     raise Bad("a 'new:' line stands before any 'file:' or 'old:' line")
                 yield file, old, line.removeprefix("new:").removeprefix(" ")
                 old = None
+            elif line.strip() and not line.startswith("#"):
+                raise Bad(f"a line is no 'file:', 'old:' or 'new:' line: {line.strip()}")
 
 
 def places_of(text, old):
@@ -153,6 +155,8 @@ def read_edit(path):
         places = places_of(texts[file], old)
         if len(places) != 1:
             raise Bad(f"an 'old:' text is in {file} {len(places)} times, and not once")
+        if old.split() == new.split():
+            raise Bad("a 'new:' text is its 'old:' text, so that nothing is wrong")
         line = texts[file][:places[0][0]].count("\n")
         inside = [name for first, last, name in functions_of(file, texts[file]) if file.startswith("src/") and first <= line <= last]
         functions |= set(inside[-1:])
