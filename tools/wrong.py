@@ -3,12 +3,13 @@
 names, `--all` those of all crates, `CRATE..` those of these crates, `--itself` the tester. With `--table` a table of the crates is
 printed at the end.
 
-wrong/CRATE/NAME.edit changes one place of a crate's source: lines 'file: ', 'old: ' (a text that is there once, on a line or on several) and 'new: '. The
-edits of a crate that change different functions are applied together, and these functions alone are checked; an edit is refused only
-where the prover refuses the function that it changed. What can't be told apart so is tried alone. An edit of a definition is in no
-function: the crate's laws are checked for it, and where they don't refuse it all of the crate. What isn't refused, can't be applied or
-doesn't reach the prover is told at the end, and makes the exit status 1. The libraries below are those that the gate has made; what
-isn't there is proved first.
+wrong/CRATE/NAME.edit changes places of a crate's source: lines 'file: ', 'old: ' (a text that is there once, on a line or on several) and
+'new: '. Each text is on one line of the edit, where a blank stands for any blanks and line breaks; comments begin with '#', and all else is
+refused. The edits of a crate that change different functions are applied together, and these functions alone are checked; an edit is
+refused only where the prover refuses the function that it changed. What can't be told apart so is tried alone. An edit of a definition is
+in no function: the crate's laws are checked for it, and where they don't refuse it all of the crate. What isn't refused, can't be read or
+applied or doesn't reach the prover is told at the end, and makes the exit status 1. The libraries below are those that the gate has made;
+what isn't there is proved first.
 """
 import concurrent.futures
 import dataclasses
@@ -384,7 +385,7 @@ def try_all(edits):
 
 def try_itself():
     """Whether the tester sees what it must: an edit that means the same, one that breaks another function than its own, one that doesn't
-    compile, one that can't be applied, and one that is refused."""
+    compile, one that can't be applied, two that can't be read (a text on two lines, a text that stays), and one that is refused."""
     paths = sorted(f"{TOP}/tests/tester/dr_base/{it}" for it in os.listdir(f"{TOP}/tests/tester/dr_base"))
     results = try_all({"dr_base": paths})
     wanted = {path: os.path.basename(path).startswith("refused_") for path in paths}
