@@ -108,7 +108,7 @@ def archive(program, says, at):
     files = {
         "dr_router": (program, 0o755),
         "STATEMENT": (says, 0o644),
-        **{it: (part(it), 0o644) for it in ("dr_router@.service", "dr_router.1", "dr_router.bash")},
+        **{it: (part(it), 0o644) for it in ("dr_router@.service", "dr_router.1", "dr_router.bash", "alerts.yml")},
         **guide(),
     }
     front = f"{NAME}-{told(says.decode())['version']}"
@@ -131,6 +131,7 @@ def installed(program, says):
         "usr/share/man/man1/dr_router.1.gz": (packed(part("dr_router.1")), 0o644),
         "usr/share/bash-completion/completions/dr_router": (part("dr_router.bash"), 0o644),
         f"usr/share/doc/{NAME}/STATEMENT": (says, 0o644),
+        f"usr/share/doc/{NAME}/alerts.yml": (part("alerts.yml"), 0o644),
         **{f"usr/share/doc/{NAME}/{path}": it for path, it in guide().items()},
     }
     return {f"./{path}": it for path, it in files.items()}

@@ -107,6 +107,34 @@ def reads():
         stop(node.process)
 
 
+def page():
+    """The page for people: its light, its figures, rows that are held, and a UID that would be markup."""
+    with Room() as room:
+        node = Asked(room, 'CT1', 0, token=False)
+        status, text = node.ask('GET', '/')
+        same(status, 200)
+        assert text.startswith('<!DOCTYPE html>\n') and text.endswith('</table>\n</body>\n</html>\n'), text
+        assert '<h1 class="green">Nothing is held, and nothing waits</h1>' in text, text
+        assert '<tr><td>GATE</td><td>0</td><td>0</td><td>0</td><td>-</td></tr>' in text, text
+        stop(node.process)
+        hold(room)
+        node = Asked(room, 'CT1', 0, token=False)
+        link = http.client.HTTPConnection('127.0.0.1', node.port, timeout=LIMIT)
+        link.request('GET', '/', headers={'Host': node.at})
+        came = link.getresponse()
+        text = came.read().decode('ascii')
+        link.close()
+        same([came.getheader(name) for name in ('content-type', 'x-content-type-options')], ['text/html; charset=utf-8', 'nosniff'])
+        assert '<h1 class="red">Rows are held</h1>' in text, text
+        assert '<tr><td>GATE</td><td>0</td><td>1</td><td>0</td><td>-</td></tr>' in text, text
+        assert '<tr><td>1.2.3.4</td><td>GATE</td><td>status C0F1</td></tr>' in text, text
+        for none in '<script', 'http://', 'https://', 'src=', 'href=':
+            assert none not in text, none
+        same(node.ask('POST', '/')[0], 405)
+        same(node.ask('GET', '/', Host='evil.example')[0], 421)
+        stop(node.process)
+
+
 def acts():
     """A held row is queued again and sent at once; another is given up; the receipts agree with the journal when the node is told to stop."""
     with Room() as room:
@@ -120,6 +148,8 @@ def acts():
         while not (rows := node.read('/rows?dest=GATE&state=waiting')) or not rows[0]['tries']:
             assert time.monotonic() < end, rows
             time.sleep(0.05)
+        text = node.ask('GET', '/')[1]
+        assert '<h1 class="amber">Rows wait</h1>' in text and '<tr><td>GATE</td><td>1</td><td>0</td><td>0</td>' in text, text
         same(node.act('/requeue', uid='1.2.3.4', dest='GATE'), (409, '{"fault":"G5 NotHeld"}\n'))
         same(node.act('/drop', uid='1.2.3.4', dest='GATE'), (409, '{"fault":"G5 NotHeld"}\n'))
         # GATE is there again, and refuses it again: each process is another one
@@ -155,7 +185,7 @@ def refusals():
                 same(node.ask(method, f'{path}?{form}', row, Authorization=bearer)[0], 405)
             for host in 'evil.example', f'evil.example:{node.port}', '127.0.0.1:1', f'127.0.0.1.evil.example:{node.port}':
                 same(node.ask('POST', path, row, Host=host, Authorization=bearer)[0], 421)
-        for path in '/requeue/', '/Requeue', '//requeue', '/', '/requeue%20', '/drop.html', '/forget':
+        for path in '/requeue/', '/Requeue', '//requeue', '/requeue%20', '/drop.html', '/forget':
             same(node.ask('POST', path, row, Authorization=bearer), (404, '{"fault":"Path"}\n'))
         for host in f'localhost:{node.port}', 'node.example', f'node.example:{node.port}', node.at:
             same(node.ask('GET', '/health', Host=host)[0], 200)
@@ -263,7 +293,7 @@ def hostile():
 def main():
     if not os.path.exists(PROGRAM):
         sys.exit(f'{PROGRAM} is not built')
-    run_cases('control', reads, acts, refusals, places, hostile)
+    run_cases('control', reads, page, acts, refusals, places, hostile)
 
 
 if __name__ == '__main__':

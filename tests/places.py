@@ -63,8 +63,73 @@ PLACES = [
     ('station = ["S1"]', 'station = ["S1", "S*"]', 'L2 Field',
      'flow 1, station: it has to be "*" or a list of values of up to 64 characters, in format 2 also of prefixes with *, as "CT*"'),
     ('class = ["1.2.840.10008.5.1.4.1.1.2"]', 'class = []', 'L2 Field', 'flow 1, class: it has to be a list of SOP class UIDs'),
-    ('[[node]]', 'format = 3\n[[node]]', 'L2 Field', 'in front of all tables, format: it has to be the number 1 or 2'),
+    ('[[node]]', 'format = 4\n[[node]]', 'L2 Field', 'in front of all tables, format: it has to be the number 1, 2 or 3'),
     ('[[node]]', '"\\u001b[2J" = 2\n[[node]]', 'L2 Field', 'in front of all tables: no key "\\x1b[2J" is known here'),
+]
+
+
+def many(word, count):
+    """A list with this word so many times."""
+    return '[' + ', '.join([f'"{word}"'] * count) + ']'
+
+
+OVER = ': with it the plan stands for more than 262144 words, a list for more than 1024, or a word has more than 128 bytes'
+GROUP = 'is a group that nobody defines'
+CLASSES = 'it has to be a class or a set in quotes, or a list of them'
+UNSPELLED = ('each field is of its form, but a word has a character that isn\'t printable, a group has a group in it, '
+             'or an accept row gives a transfer syntax twice')
+THERE = 'in what it stands for, which expand prints:\n  '
+
+# The same for the sample plan in format 3.
+SHORT_PLACES = [
+    # words that nobody defines
+    ('class = "1.2.840.10008.5.1.4.1.1.2"', 'class = "CT"', 'L4 UnknownName', 'node 2 "GATE", accept row 1, class: "CT" is neither a UID nor the name of a class'),
+    ('class = "1.2.840.10008.5.1.4.1.1.2"', 'class = ["@ct", "1.2", "@none", "CT"]', 'L4 UnknownName',
+     'node 2 "GATE", accept row 1, class: "@none" is a set that nobody defines, or one with a class that nobody defines'),
+    ('from = ["CT1"]', 'from = ["CT1", "@cts"]', 'L4 UnknownName', f'node 2 "GATE", accept row 1, from: "@cts" {GROUP}'),
+    ('from = "CT1"', 'from = ["CT1", "@cts"]', 'L4 UnknownName', f'node 2 "GATE", rule 1, from: "@cts" {GROUP}'),
+    ('from = "CT1"', 'class = ["1.2", "CT"]', 'L4 UnknownName', 'node 2 "GATE", rule 1, class: "CT" is neither a UID nor the name of a class'),
+    ('to = ["ARCH"]', 'to = ["ARCH", "@archives"]', 'L4 UnknownName', f'node 2 "GATE", rule 1, to: "@archives" {GROUP}'),
+    ('at = "CT1"', 'at = ["CT1", "@cts"]', 'L4 UnknownName', f'flow 1, at: "@cts" {GROUP}'),
+    ('to = "GATE"', 'to = "@\\u001b[2J"', 'L4 UnknownName', f'flow 1, to: "@\\x1b[2J" {GROUP}'),
+    ('class = ["1.2.840.10008.5.1.4.1.1.2"]', 'class = "MR"', 'L4 UnknownName', 'flow 1, class: "MR" is neither a UID nor the name of a class'),
+    # more than a plan may stand for
+    ('from = "CT1"', f'from = {many("CT1", 1025)}', 'L6 Limit', f'node 2 "GATE"{OVER}'),
+    ('to = ["ARCH"]', f'to = {many("ARCH", 1024)}\nclass = {many("1.2", 256)}', 'L6 Limit', f'node 2 "GATE"{OVER}'),
+    ('keep = true', f'keep = true\nto = ["{"N" * 129}"]', 'L6 Limit', f'node 3 "ARCH"{OVER}'),
+    ('at = "CT1"', f'at = "{"N" * 129}"', 'L6 Limit', f'flow 1{OVER}'),
+    ('[[flow]]', f'[group]\nall = ["{"N" * 129}"]\n[[flow]]', 'L6 Limit', f'in front of all tables{OVER}'),
+    # fields
+    ('name = "ARCH"', 'name = "@ARCH"', 'L2 Field', 'node 3 "@ARCH", name: it has to be a name in quotes, which doesn\'t begin with @'),
+    ('name = "ARCH"', 'name = "AR\\u0007CH"', 'L2 Field', UNSPELLED),
+    ('to = ["ARCH"]', 'to = ["AR\\nCH"]', 'L2 Field', UNSPELLED),
+    ('syntax = ["1.2.840.10008.1.2.1"]\n[[node.rule]]\nfrom', 'syntax = ["1.2.840.10008.1.2.1", "ExplicitVRLittleEndian"]\n[[node.rule]]\nfrom', 'L2 Field', UNSPELLED),
+    ('[[flow]]\nat = "CT1"', '[group]\none = ["@two"]\ntwo = ["CT1"]\n[[flow]]\nat = "@one"', 'L2 Field', UNSPELLED),
+    ('from = ["CT1"]', 'from = "CT1"', 'L2 Field', 'node 2 "GATE", accept row 1, from: it has to be "*" or a list of names and groups'),
+    ('class = "1.2.840.10008.5.1.4.1.1.2"\n', '', 'L2 Field', 'node 2 "GATE", accept row 1, class: it is missing, and has to be a class or a set in quotes, or a list of them'),
+    ('syntax = ["1.2.840.10008.1.2.1"]', 'syntax = ["1.2", "1.2"]', 'L2 Field', 'node 2 "GATE", accept row 1, syntax: it has to be a list of transfer syntaxes, none of them twice'),
+    ('from = "CT1"', 'from = []', 'L2 Field', 'node 2 "GATE", rule 1, from: it has to be "*", a name or a group, or a list of them'),
+    ('from = "CT1"', 'class = [1]', 'L2 Field', 'node 2 "GATE", rule 1, class: it has to be "*", a class or a set, or a list of them'),
+    ('from = "CT1"', 'station = "S**"', 'L2 Field',
+     'node 2 "GATE", rule 1, station: it has to be "*" or a value of up to 64 characters, or a prefix with *, as "CT*"'),
+    ('from = "CT1"', 'modality = "C*"', 'L2 Field', 'node 2 "GATE", rule 1, modality: it has to be "*" or a value of up to 64 characters'),
+    ('to = ["ARCH"]', 'to = "ARCH"', 'L2 Field', 'node 2 "GATE", rule 1, to: it has to be a list of names and groups'),
+    ('to = ["ARCH"]', 'modalty = "CT"', 'L2 Field', 'node 2 "GATE", rule 1: no key "modalty" is known here'),
+    ('class = ["1.2.840.10008.5.1.4.1.1.2"]', 'class = []', 'L2 Field', f'flow 1, class: {CLASSES}'),
+    ('at = "CT1"', 'at = 1', 'L2 Field', 'flow 1, at: it has to be a name or a group in quotes, or a list of them'),
+    ('station = ["S1"]', 'station = "S1"', 'L2 Field', 'flow 1, station: it has to be "*" or a list of values of up to 64 characters and of prefixes with *, as "CT*"'),
+    ('[[flow]]', '[set]\nours = []\n[[flow]]', 'L2 Field',
+     'in front of all tables, set: it has to be a table [set] of lists of classes in quotes, none of them empty'),
+    ('[[flow]]', '[group]\nours = "CT1"\n[[flow]]', 'L2 Field',
+     'in front of all tables, group: it has to be a table [group] of lists of names in quotes, none of them empty'),
+    ('[[flow]]', '[sets]\n[[flow]]', 'L2 Field', 'in front of all tables: no key "sets" is known here'),
+    # what stands in the expansion
+    ('name = "ARCH"', 'name = "ARCH "', 'L3 Name', f'{THERE}node 3 "ARCH ", name: "ARCH " is no name: a space stands at one of its ends'),
+    ('to = ["ARCH"]', 'to = ["ARHC"]', 'L4 UnknownNode', f'{THERE}node 2 "GATE", rule 1, to: "ARHC" is the name of no node'),
+    ('to = ["ARCH"]', 'class = ["1.2", "1.3"]\n[[node.rule]]\nto = ["GATE"]', 'L5 SelfRoute', f'{THERE}node 2 "GATE", rule 3, to: it names the node itself'),
+    ('syntax = ["1.2.840.10008.1.2.1"]\nmodality', 'syntax = ["JPEGBaseline8Bit"]\nmodality', 'L7 Syntax',
+     f'{THERE}flow 1 from "CT1" to "GATE", syntax: "JPEGBaseline8Bit" is neither 1.2.840.10008.1.2 nor 1.2.840.10008.1.2.1'),
+    ('to = ["ARCH"]', 'class = [' + ', '.join(f'"1.{n}"' for n in range(1023)) + ']', 'L6 Limit', f'{THERE}1025 rules and flows, and a plan has 1024 at most'),
 ]
 
 CT = '  What goes: class 1.2.840.10008.5.1.4.1.1.2 in transfer syntax 1.2.840.10008.1.2.1, of modality "CT" and station "S1".\n'
@@ -124,11 +189,14 @@ def main():
     sample = plan_of('three-nodes')
     for old, new, fault, place in PLACES:
         compare(f'{new[:60]} for {old}', ('', f'dr_router: {fault}\n  {place}\n', 1), check(changed(sample, old, new).encode()))
+    for old, new, fault, place in SHORT_PLACES:
+        text = 'format = 3\n' + changed(sample, old, new)
+        compare(f'{new[:60]} for {old} in format 3', ('', f'dr_router: {fault}\n  {place}\n', 1), check(text.encode()))
     compare('no UTF-8', ('', 'dr_router: L1 NotToml\n  line 2, column 4: invalid UTF-8\n', 1), check(b'\n# \xc3\xa9\xff'))
     for name, old, new, sentences in WALKS:
         _, faults, status = check(changed(plan_of(name), old, new).encode())
         compare(f'{name}, {new} for {old}', (sentences, 1), (faults, status))
-    print(f'places: {len(PLACES) + 1} plans with the place of their fault, {len(WALKS)} walks in sentences')
+    print(f'places: {len(PLACES) + len(SHORT_PLACES) + 1} plans with the place of their fault, {len(WALKS)} walks in sentences')
 
 
 if __name__ == '__main__':

@@ -23,8 +23,8 @@ import lib.plan_cases as worked
 from lib.plan_diff import WRONG_DIFFS, Diff, changed_plan
 from lib.plan_expect import FILES, WRONG_ROWS, Rows, fitting_rows, random_rows, rows_text
 from lib.plan_model import WRONG, Model
-from lib.plan_reader import Refused, read_plan
-from lib.plan_texts import LARGE, LARGEST, OddTexts, hostile, mutated, over_limits, random_plan
+from lib.plan_reader import Refused, read_text
+from lib.plan_texts import LARGE, LARGEST, OddTexts, ShortTexts, hostile, mutated, over_limits, random_plan
 
 TOP = os.path.dirname(os.path.dirname(os.path.abspath(__file__)))
 PROGRAM = f'{TOP}/crates/dr_router/out/dr_router'
@@ -45,7 +45,7 @@ def run(*words, given=b'', first=None, program=PROGRAM):
 
 
 def model_of(text, kind=Model):
-    return kind(text, *read_plan(text))
+    return kind(*read_text(text))
 
 
 def expected(text):
@@ -177,6 +177,7 @@ def compare_texts(it):
         got = run('check', given=text)
         want = (b'', f'dr_router: {fault}\n'.encode(), 1) if fault else (got[0], b'', 1 if got[0].startswith(b'no\t') else 0)
         it.compare(what, want, got, plan=text)
+    compare_texts_of_format_3(it)
     digest = worked.DIGEST_OF_NOTHING.encode()
     for what, other in (('in upper case', digest.upper()), ('of 31 bytes', digest[:-2])):
         it.verdict(f'a digest {what}', 'C1 Text', b'', written_for(b'', 'end\n').replace(digest, other))
@@ -184,6 +185,17 @@ def compare_texts(it):
     for rows in worked.NO_ROWS:
         it.verdict(f'{rows[:80]}', 'C1 Text', b'', written_for(b'', rows))
     it.verdict('65,536 lines', 'C8 Order', b'', written_for(b'', worked.MOST_ROWS))
+
+
+def compare_texts_of_format_3(it):
+    """Texts of format 3 worked by hand: by the reader in Python the same faults are found."""
+    texts = [('', old, new, fault) for old, new, fault in worked.TEXTS_OF_FORMAT_3] + worked.TABLES_OF_FORMAT_3
+    for front, old, new, fault in texts:
+        text = f'format = 3\n{front}\n{worked.changed(worked.PLAN, (old, new)) if old else worked.PLAN}'.encode()
+        want = expected(text)
+        found = want[1].decode().removeprefix('dr_router: ').strip() or None
+        assert found == fault, f'{front} {old} as {new} in format 3: by hand {fault}, by the reader {found}'
+        it.check(f'{front} {old} as {new} in format 3', text)
 
 
 def compare_worked(it):
@@ -200,7 +212,14 @@ def compare_worked(it):
         it.compare('a sound plan of format 2', (certificate, b'', 0), run('check', given=text.encode()))
         it.verdict('its certificate', 'yes', text.encode(), certificate)
         it.verdict('its certificate as version 1', 'C2 OtherPlan', text.encode(), written_for(text.encode(), rows))
-        it.verdict('a version 3', 'C1 Text', text.encode(), written_for(text.encode(), rows, 3))
+        it.verdict('its certificate as version 3', 'C2 OtherPlan', text.encode(), written_for(text.encode(), rows, 3))
+        it.verdict('a version 4', 'C1 Text', text.encode(), written_for(text.encode(), rows, 4))
+    core = read_text(worked.SHORT.encode())[0]
+    certificate = written_for(core, worked.THREE_NODES, 3)
+    for what, text in (('a sound plan of format 3', worked.SHORT.encode()), ('its expansion', core), ('with a comment', b'# so\n' + worked.SHORT.encode())):
+        it.compare(what, (certificate, b'', 0), run('check', given=text))
+        it.verdict(f'{what}: its certificate', 'yes', text, certificate)
+        it.verdict(f'{what}: its certificate as version 2', 'C2 OtherPlan', text, written_for(core, worked.THREE_NODES, 2))
     plan = worked.PLAN.encode()
     it.verdict('a plan of format 1 as version 2', 'C2 OtherPlan', plan, written_for(plan, worked.THREE_NODES, 2))
     for old, new, fault in worked.VERDICTS:
@@ -245,6 +264,8 @@ def compare_all(it, times, seed):
         it.check(f'plan {i}', random_plan(random.Random(f'plan {seed} {i}')))
     for i in range(times * TEXTS):
         it.check(f'text {i}', OddTexts(random.Random(f'text {seed} {i}')).text())
+    for i in range(times * TEXTS):
+        it.check(f'text {i} of format 3', ShortTexts(random.Random(f'short text {seed} {i}')).text())
     for i in range(times * CERTIFICATES):
         it.verify_mutated(f'certificate {i}', random.Random(f'certificate {seed} {i}'))
     plan = worked.PLAN.encode()
@@ -255,7 +276,7 @@ def compare_all(it, times, seed):
 
 def seen_by(plans):
     """How many of the plans see each wrong definition: the answer differs from the right one."""
-    read = [(text, *read_plan(text)) for text in plans]
+    read = [read_text(text) for text in plans]
     right = [Model(*it).check() for it in read]
     return {name: sum(kind(*it).check() != want for it, want in zip(read, right)) for name, kind in WRONG.items()}
 

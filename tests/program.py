@@ -123,6 +123,49 @@ def pictures(certificate):
     is_answer('another certificate', run(['lint', CYCLE, certificate]), 1, b'', b'dr_router: C2 OtherPlan\n')
 
 
+def expansions(room):
+    """A plan of format 3 in the words about plans, and what `expand` prints of it."""
+    short, core, certificate = f'{TOP}/plans/hospital-by-names.toml', f'{room}/core', f'{room}/short.certificate'
+    status, printed, faults = run(['expand', short])
+    is_answer('an expansion', (status, printed, faults), 0, (b'format = 3\n\n[[node]]\nname = "CT1"\n',), b'')
+    with open(core, 'wb') as it:
+        it.write(printed)
+    is_answer('its expansion', run(['expand', core]), 0, printed, b'')
+    status, checked, faults = run(['check', short])
+    is_answer('check of a plan of format 3', (status, checked, faults), 0, (b'certificate\t3\nplan\t', b'\nend\n'), b'')
+    is_answer('check of its expansion', run(['check', core]), 0, checked, b'')
+    with open(certificate, 'wb') as it:
+        it.write(checked)
+    for plan in (short, core):
+        is_answer('verify', run(['verify', plan, certificate]), 0, b'yes\n', b'')
+        is_answer('lint', run(['lint', plan, certificate]), *run(['lint', short, certificate]))
+        is_answer('graph', run(['graph', plan, certificate]), 0, (b'digraph network {\n', b'"CT1" -> "GATE"'), b'')
+        is_answer('expect', run(['expect', plan, certificate, f'{TOP}/plans/hospital.expect']), 0, b'yes\n', b'')
+        is_answer('diff', run(['diff', short, certificate, plan, certificate]), 0, b'', b'')
+        is_answer('route', run(['route', plan, certificate, 'CT1', CLASS, SYNTAX, 'CT', 'S1']), 0, (b'hop\tCT1\tGATE\t', b'keep\tARCH1\nkeep\tARCH2\n'), b'')
+    is_answer('the expansion of a plan of format 1', run(['expand', SOUND]), 0, content(SOUND), b'')
+    for what, text, status, output, faults in (
+            ('no TOML', b'[[node]', 1, b'', b'dr_router: L1 NotToml\n'),
+            ('a stranger in format 2', b'format = 2\n[[flow]]\nat = "A"\nto = "B"\nclass = ["1"]\nsyntax = ["1.2.840.10008.1.2"]\nmodality = "*"\nstation = "*"\n',
+             1, b'', b'dr_router: L4 UnknownNode\n'),
+            ('a word that nobody defines', b'format = 3\n[[node]]\nname = "A"\naddress = "h:1"\n[[node.rule]]\nto = ["@b"]\n', 1, b'', b'dr_router: L4 UnknownName\n'),
+            ('a field', b'format = 3\ncolour = 1\n', 1, b'', b'dr_router: L2 Field\n'),
+            ('nothing', b'format = 3', 0, b'format = 3\n', b''),
+            ('a node that nobody knows', b'format=3\n[[node]]\nname="A"\naddress="h:1"\n[[node.rule]]\nto=["B"]', 0,
+             b'format = 3\n\n[[node]]\nname = "A"\naddress = "h:1"\nmax_pdu = 16384\n\n[[node.rule]]\nfrom = "*"\nclass = "*"\nmodality = "*"\n'
+             b'station = "*"\nto = ["B"]\nkeep = false\n', b'')):
+        with open(core, 'wb') as it:
+            it.write(text)
+        is_answer(what, run(['expand', core]), status, output, faults)
+    # a small text that stands for 10^9 rules
+    names, groups, sets = (', '.join(it) for it in ((f'"N{n}"' for n in range(1000)), ['"@g"'] * 1000, ['"@ct"'] * 1000))
+    text = f'format = 3\n[group]\ng = [{names}]\n[[node]]\nname = "A"\naddress = "h:1"\n[[node.rule]]\nfrom = [{groups}]\nclass = [{sets}]\n'
+    for word in ('expand', 'check'):
+        with open(core, 'wb') as it:
+            it.write(text.encode())
+        is_answer('a text that stands for too much', run([word, core], memory=500_000_000), 1, b'', b'dr_router: L6 Limit\n')
+
+
 def expectations(room, certificate):
     """What is expected of the sample plan."""
     key = f'CT1\t{CLASS}\t{SYNTAX}\tCT\tS1\n'.encode()
@@ -247,6 +290,7 @@ def main():
         verdicts(f'{room}/certificate')
         routes(f'{room}/certificate', room)
         pictures(f'{room}/certificate')
+        expansions(room)
         expectations(room, f'{room}/certificate')
         differences(room, f'{room}/certificate')
         hyphens(room)

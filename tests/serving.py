@@ -4,7 +4,9 @@ GATE and is kept at ARCH. Then what a person meets: a file that another program 
 replace a file, forged lines of a log, peers that say nothing, kill -9.
 
     tests/serving.py
+    tests/serving.py --more    cases that measure time and memory, which ./test leaves out
 """
+import contextlib
 import os
 import re
 import shutil
@@ -16,7 +18,7 @@ import threading
 import time
 
 sys.dont_write_bytecode = True
-from lib.requestor import ABORT, ACCEPTED, REJECTED, RELEASED, Acceptor, Requestor, associate, command, context, hear, values
+from lib.requestor import ABORT, ACCEPTED, REJECTED, RELEASED, Acceptor, Requestor, associate, command, context, hear, stored, values
 from lib.nodes import CT, EXPLICIT, IMPLICIT, LIMIT, PROGRAM, Room, data_set, element, ended, lines, part10, run_cases, same, stop, told
 
 
@@ -439,6 +441,50 @@ def deaf_peer():
             stop(gate)
 
 
+def drip_from(acceptor, link):
+    """Takes the association that is asked for, and reads a byte a second."""
+    hear_request(acceptor, link)
+    while link.recv(1):
+        time.sleep(1)
+
+
+def seconds_beside(kind, count=150):
+    """How long ARCH waits for so many rows, each of which goes to SLOW too: one that takes them as well (`fast`), takes connections and
+    says nothing (`hangs`), reads a byte a second (`drips`), or isn't there (`down`)."""
+    answer = lambda uid, number, to: stored(uid, number, to, 0)
+    with Room(three_hops('ARCH', 'SLOW')) as room, Acceptor(room.ports['ARCH'], answer) as fast, contextlib.ExitStack() as others:
+        if kind == 'hangs':
+            others.enter_context(socket.create_server(('127.0.0.1', room.ports['SLOW'])))
+        elif kind != 'down':
+            slow = others.enter_context(Acceptor(room.ports['SLOW'], answer))
+            if kind == 'drips':
+                slow.serve = lambda link: drip_from(slow, link)
+        gate = room.serve('GATE', 0)
+        pixels = element(0x7fe0, 0x10, b'OW', bytes(64 << 10))
+        begun = time.monotonic()
+        with Requestor(room.ports['GATE'], 'CT1', 'GATE') as caller:
+            for number in range(count):
+                uid = b'1.2.3.%d' % number
+                same(caller.store(uid, data_set(uid, pixels)), 0)
+            same(caller.release(), RELEASED)
+        while len(fast.stored) < count and time.monotonic() < begun + LIMIT:
+            time.sleep(0.01)
+        spent = time.monotonic() - begun
+        same(sorted(fast.stored), sorted(b'1.2.3.%d' % number for number in range(count)))
+        # whoever waits for the other side's bytes is let go, so that nobody is left behind
+        stop(gate)
+        return spent
+
+
+def rates_alone():
+    """A next node that hangs, one that reads a byte a second and one that is down leave the one beside it its rate. How near it is to
+    that rate, `bench/peers.py` measures; here a machine that does other things may cost twice as long."""
+    fast = seconds_beside('fast')
+    for kind in 'hangs', 'drips', 'down':
+        spent = seconds_beside(kind)
+        assert spent < 2 * fast + 2, (kind, spent, fast)
+
+
 def hear_request(acceptor, link):
     """Takes the association that is asked for, and reads nothing more."""
     _, body = hear(link)
@@ -486,6 +532,64 @@ def crowded():
         same(len([line for line in lines(room.at('list', 'ARCH').stdout) if line.startswith('kept')]), len(bodies))
 
 
+def many_transfers():
+    """64 data sets of 8 MiB that come at once stay within the budget of memory; those for which there is no room come again, and in
+    the end each is kept."""
+    with Room() as room:
+        arch = room.serve('ARCH', 0, '--memory', '128')
+        pixels = element(0x7fe0, 0x10, b'OW', bytes(8 << 20))
+        refused = []
+        def store(number):
+            uid = b'1.2.3.%d' % number
+            body = data_set(uid, pixels)
+            with asked_at(room) as caller:
+                for _ in range(LIMIT):
+                    status = caller.store(uid, body)
+                    if status == 0:
+                        same(caller.release(), RELEASED)
+                        return
+                    same(status, 0xa700)
+                    refused.append(uid)
+                    time.sleep(0.5)
+            raise AssertionError(f'{uid} is never taken')
+        callers = [threading.Thread(target=store, args=(number,)) for number in range(64)]
+        for caller in callers:
+            caller.start()
+        for caller in callers:
+            caller.join()
+        peak = int(re.search(r'VmHWM:\s+(\d+) kB', open(f'/proc/{arch.pid}/status').read())[1])
+        assert peak < (128 + 200) * 1024, peak
+        same(len([event for event in room.events('ARCH') if event[3].startswith('crowded ')]), len(refused))
+        stop(arch)
+        same(len([line for line in lines(room.at('list', 'ARCH').stdout) if line.startswith('kept')]), 64)
+
+
+def cut_short():
+    """A kill in the midst of eight transfers loses nothing that was acknowledged."""
+    with Room() as room:
+        arch = room.serve('ARCH', 0)
+        acknowledged = []
+        def store(number):
+            try:
+                with asked_at(room) as caller:
+                    for count in range(100_000):
+                        uid = b'1.2.%d.%d' % (number, count)
+                        if caller.store(uid, data_set(uid)) == 0:
+                            acknowledged.append(uid.decode())
+            except (OSError, EOFError, AssertionError):
+                pass
+        callers = [threading.Thread(target=store, args=(number,)) for number in range(8)]
+        for caller in callers:
+            caller.start()
+        time.sleep(2)
+        arch.send_signal(signal.SIGKILL)
+        arch.wait()
+        for caller in callers:
+            caller.join()
+        kept = {line.split('\t')[1] for line in lines(room.at('list', 'ARCH').stdout) if line.startswith('kept')}
+        assert len(acknowledged) > 10 and set(acknowledged) <= kept, (len(acknowledged), set(acknowledged) - kept)
+
+
 def stopped():
     """At the end of its input a node ends in order: what it has acknowledged is there, and what is open has ten seconds."""
     with Room() as room:
@@ -504,7 +608,7 @@ def stopped():
             except (OSError, EOFError, AssertionError):
                 pass
         silent = asked_at(room)
-        callers = [threading.Thread(target=store, args=(number,)) for number in range(4)]
+        callers = [threading.Thread(target=store, args=(number,)) for number in range(8)]
         for caller in callers:
             caller.start()
         time.sleep(2)
@@ -620,8 +724,10 @@ def killed():
 def main():
     if not os.path.exists(PROGRAM):
         sys.exit(f'{PROGRAM} is not built')
+    if sys.argv[1:] == ['--more']:
+        return run_cases('serving --more', rates_alone, many_transfers)
     run_cases('serving', three_nodes, refusals, dead_hop, held_rows, events, reports, report_paths, forged, refused_contexts, few_workers, silent_associations,
-              rejected_callers, hops_alone, slow_peers, deaf_peer, crowded, stopped, forgotten, killed)
+              rejected_callers, hops_alone, slow_peers, deaf_peer, crowded, stopped, cut_short, forgotten, killed)
 
 
 if __name__ == '__main__':

@@ -162,10 +162,11 @@ TEXTS = [
     ('127.0.0.1:11103', 'h', 'L2 Field'),
     ('127.0.0.1:11103', 'h:1a', 'L2 Field'),
     ('127.0.0.1:11103', 'h h:1', 'L2 Field'),
-    # the format is 1 or 2
+    # the format is 1, 2 or 3
     ('[[node]]\nname = "CT1"', 'format = 1\n[[node]]\nname = "CT1"', None),
     ('[[node]]\nname = "CT1"', 'format = 2\n[[node]]\nname = "CT1"', None),
-    ('[[node]]\nname = "CT1"', 'format = 3\n[[node]]\nname = "CT1"', 'L2 Field'),
+    ('[[node]]\nname = "CT1"', 'format = 3\n[[node]]\nname = "CT1"', None),
+    ('[[node]]\nname = "CT1"', 'format = 4\n[[node]]\nname = "CT1"', 'L2 Field'),
     ('[[node]]\nname = "CT1"', 'format = 0\n[[node]]\nname = "CT1"', 'L2 Field'),
     ('[[node]]\nname = "CT1"', 'format = "1"\n[[node]]\nname = "CT1"', 'L2 Field'),
     ('[[node]]\nname = "CT1"', '[other]\n[[node]]\nname = "CT1"', 'L2 Field'),
@@ -203,6 +204,116 @@ TEXTS_OF_FORMAT_2 = [
     ('class = ["1.2.840.10008.5.1.4.1.1.2"]', 'class = ["1.2*"]', 'L2 Field'),
 ]
 
+
+def many(word, count):
+    """A list with this word so many times."""
+    return '[' + ', '.join([f'"{word}"'] * count) + ']'
+
+
+CT, CT_NAME = '1.2.840.10008.5.1.4.1.1.2', 'CT Image Storage'
+FLOW_CLASS = f'class = ["{CT}"]'
+
+# what stands in the place of a text of the plan of three nodes in format 3, and the fault that this makes
+TEXTS_OF_FORMAT_3 = [
+    # classes and transfer syntaxes by name
+    (CT, CT_NAME, None),
+    (CT, 'CTImageStorage', None),
+    (CT, 'ctimagestorage', 'L4 UnknownName'),
+    (CT, 'CT Image Storage ', 'L4 UnknownName'),
+    (CT, '', 'L4 UnknownName'),
+    (CT, '*', 'L4 UnknownName'),
+    (CT, 'ExplicitVRLittleEndian', 'L4 UnknownName'),
+    ('1.2.840.10008.1.2.1', 'Explicit VR Little Endian', None),
+    ('1.2.840.10008.1.2.1', 'ExplicitVRLittleEndian', None),
+    ('1.2.840.10008.1.2.1', 'JPEGBaseline8Bit', 'L7 Syntax'),
+    ('1.2.840.10008.1.2.1', CT_NAME, 'L7 Syntax'),
+    ('syntax = ["1.2.840.10008.1.2.1"]\n[[node.rule]]', 'syntax = ["1.2.840.10008.1.2.1", "ExplicitVRLittleEndian"]\n[[node.rule]]', 'L2 Field'),
+    # lists of classes
+    (FLOW_CLASS, f'class = "{CT}"', None),
+    (FLOW_CLASS, f'class = ["{CT}", "{CT}", "CTImageStorage"]', None),
+    (FLOW_CLASS, 'class = []', 'L2 Field'),
+    (FLOW_CLASS, 'class = [1]', 'L2 Field'),
+    (f'class = "{CT}"\n', f'class = ["{CT}", "1.2"]\n', None),
+    (f'class = "{CT}"\n', 'class = []\n', 'L2 Field'),
+    ('keep = true', 'keep = true\nclass = ["1.2", "CT Image Storage"]', None),
+    ('keep = true', 'keep = true\nclass = "CTImage"', 'L4 UnknownName'),
+    # sets
+    (FLOW_CLASS, 'class = ["@ct"]', None),
+    (FLOW_CLASS, 'class = "@ct"', None),
+    (FLOW_CLASS, 'class = "@all-storage"', None),
+    (FLOW_CLASS, 'class = "@CT"', 'L4 UnknownName'),
+    (FLOW_CLASS, 'class = "@"', 'L4 UnknownName'),
+    (FLOW_CLASS, 'class = "@@ct"', 'L4 UnknownName'),
+    (FLOW_CLASS, f'class = "@ours"\n[set]\nours = ["{CT}"]\n[[flow]]\nat = "CT1"\nto = "GATE"\n{FLOW_CLASS}', 'L2 Field'),
+    # nodes
+    ('at = "CT1"', 'at = ["CT1"]', None),
+    ('at = "CT1"', 'at = ["CT1", "ARCH"]', None),
+    ('at = "CT1"', 'at = []', 'L2 Field'),
+    ('at = "CT1"', 'at = "@scanners"', 'L4 UnknownName'),
+    ('at = "CT1"', 'at = "CT9"', 'L4 UnknownNode'),
+    ('at = "CT1"', 'at = ["CT1", "GATE"]', 'L5 SelfRoute'),
+    ('from = "*"', 'from = ["CT1", "CT1"]', None),
+    ('from = "*"', 'from = ["@scanners"]', 'L4 UnknownName'),
+    ('from = "*"', 'from = "CT1"', 'L2 Field'),
+    ('keep = true', 'keep = true\nfrom = ["CT1", "GATE"]', None),
+    ('keep = true', 'keep = true\nfrom = ["*"]', None),
+    ('keep = true', 'keep = true\nfrom = []', 'L2 Field'),
+    ('keep = true', 'to = "CT1"', 'L2 Field'),
+    ('keep = true', 'to = ["@archives"]', 'L4 UnknownName'),
+    ('name = "CT1"', 'name = "@CT1"', 'L2 Field'),
+    ('name = "CT1"', 'name = "CT\\n1"', 'L2 Field'),
+    ('name = "CT1"', 'name = "CT\\t1"', 'L3 Name'),
+    # what a text stands for: 1,024 in one list, 128 bytes in a word
+    ('at = "CT1"', f'at = ["CT1", "{"N" * 128}"]', 'L3 Name'),
+    ('at = "CT1"', f'at = ["CT1", "{"N" * 129}"]', 'L6 Limit'),
+    ('1.2.840.10008.1.2.1', 'J' * 129, 'L6 Limit'),
+    ('keep = true', f'keep = true\nto = {many("CT1", 1024)}', None),
+    ('keep = true', f'keep = true\nto = {many("CT1", 1025)}', 'L6 Limit'),
+    ('station = ["S1"]', 'station = ' + many('S1", "S*', 1024), None),
+    ('station = ["S1"]', f'station = {many("S1", 1025)}', 'L6 Limit'),
+    ('keep = true', f'keep = true\nclass = {many("@us", 300)}', 'L6 Limit'),
+    ('at = "CT1"', f'at = ["@scanners", "{"N" * 129}"]', 'L6 Limit'),
+    ('at = "CT1"', f'at = ["{"N" * 129}"]\ncolour = 1', 'L2 Field'),
+    # what format 2 has
+    ('station = ["S1"]', 'station = ["S1", "S*"]', None),
+    ('modality = ["CT"]', 'modality = ["CT*"]', 'L2 Field'),
+    ('keep = true', 'keep = true\ncolour = 1', 'L2 Field'),
+    # the first fault in the order of the pages
+    ('at = "CT1"', 'at = "@scanners"\ncolour = 1', 'L2 Field'),
+    ('name = "CT1"\naddress = "127.0.0.1:11101"', 'name = "CT1 "\naddress = "h:1"\n[[node.rule]]\nto = ["@archives"]', 'L4 UnknownName'),
+]
+
+# what stands in front of the plan of three nodes in format 3, what stands in the place of a text of it, and the fault
+TABLES_OF_FORMAT_3 = [
+    ('[set]\nct = ["MRImageStorage"]', '', '', None),
+    (f'[set]\nours = ["{CT_NAME}", "1.2"]', FLOW_CLASS, 'class = "@ours"', None),
+    ('[set]\nours = ["CT"]', '', '', None),
+    ('[set]\nours = ["CT"]', FLOW_CLASS, 'class = "@ours"', 'L4 UnknownName'),
+    ('[set]\nours = ["@ct"]', FLOW_CLASS, 'class = "@ours"', 'L4 UnknownName'),
+    ('[set]\nours = []', '', '', 'L2 Field'),
+    ('[set]\nours = "1.2"', '', '', 'L2 Field'),
+    ('[set]\nours = [1]', '', '', 'L2 Field'),
+    ('set = []', '', '', 'L2 Field'),
+    ('[[set]]\nours = ["1.2"]', '', '', 'L2 Field'),
+    ('[sets]\nours = ["1.2"]', '', '', 'L2 Field'),
+    ('[set]\n"" = ["1.2"]', FLOW_CLASS, 'class = "@"', None),
+    ('[group]\nscanners = ["CT1"]', 'at = "CT1"', 'at = "@scanners"', None),
+    ('[group]\nscanners = ["CT1", "ARCH"]', 'at = "CT1"', 'at = "@scanners"', None),
+    ('[group]\nscanners = ["CT1", "GATE"]', 'at = "CT1"', 'at = "@scanners"', 'L5 SelfRoute'),
+    ('[group]\nscanners = ["CT9"]', '', '', None),
+    ('[group]\nscanners = ["CT9"]', 'at = "CT1"', 'at = "@scanners"', 'L4 UnknownNode'),
+    ('[group]\nscanners = ["@scanners"]', 'at = "CT1"', 'at = "@scanners"', 'L2 Field'),
+    ('[group]\nct = ["CT1"]', FLOW_CLASS, 'class = "@ct"', None),
+    ('[set]\nscanners = ["1.2"]', 'at = "CT1"', 'at = "@scanners"', 'L4 UnknownName'),
+    (f'[group]\nall = {many("CT1", 1024)}', 'keep = true', 'keep = true\nfrom = "@all"\nclass = ["1.1", "1.2"]', 'L6 Limit'),
+    (f'[group]\nall = {many("CT1", 1025)}', '', '', 'L6 Limit'),
+    (f'[group]\nall = ["{"N" * 129}"]', '', '', 'L6 Limit'),
+    (f'[set]\nall = ["CT", "{"N" * 129}"]', '', '', 'L6 Limit'),
+    ('[group]\n' + '\n'.join(f'g{n} = ["CT1"]' for n in range(1024)), '', '', None),
+    ('[group]\n' + '\n'.join(f'g{n} = ["CT1"]' for n in range(1025)), '', '', 'L6 Limit'),
+    ('[group]\nall = ["CT1", "ARCH"]', 'keep = true', 'keep = true\nfrom = "@all"', None),
+]
+
 KEY = '1.2.840.10008.5.1.4.1.1.2\t1.2.840.10008.1.2.1'
 ACCEPTS = '"1.2.840.10008.1.2.1"]\n[[node.rule]]\nkeep'
 OTHER_SYNTAX = '"1.2.840.10008.1.2"]\n[[node.rule]]\nkeep'
@@ -231,6 +342,7 @@ ENDLESS = rules(LOOP, rule(to='["HUB"]'), rule(to='["GATE"]'))
 ONCE = rules(LOOP, rule(caller='"CT1"', to='["HUB"]') + '\n' + rule(caller='"HUB"', keep='true'), rule(caller='"GATE"', to='["GATE"]'))
 WRONG_SYNTAX = changed(PLAN, (ACCEPTS, OTHER_SYNTAX))
 NOWHERE = changed(PLAN, (KEEP, ''))
+SHORT = changed('format = 3\n[group]\nscanners = ["CT1"]\n' + PLAN, (CT, CT_NAME), ('at = "CT1"', 'at = "@scanners"'))
 STATIONS = changed('format = 2\n' + PLAN, ('station = ["S1"]', 'station = ["CT*"]'))
 
 

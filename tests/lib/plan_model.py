@@ -245,7 +245,7 @@ def is_line(fields):
 
 def parse_certificate(text):
     """The version, the digest, the rows of the hops and those of the lines; None where the bytes are no certificate's text."""
-    front = re.match('certificate\t([12])\nplan\t([0-9a-f]{64})\n', text := text.decode('latin-1'))
+    front = re.match('certificate\t([123])\nplan\t([0-9a-f]{64})\n', text := text.decode('latin-1'))
     if front is None or not text.endswith('\nend\n'):
         return None
     rows = text[front.end():].split('\n')[:-2]

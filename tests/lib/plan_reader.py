@@ -1,9 +1,12 @@
-"""Reads the text of a plan: the plan that it writes, or the first of the seven faults; for plans.py.
+"""Reads the text of a plan: the plan that it writes, or the first of its faults; for plans.py.
 
-Written from the definitions in crates/dr_plan_text/specs, crates/dr_plan/specs and crates/dr_plan_model/specs/Formed.antt.
+Written from the definitions in crates/dr_plan_text/specs, crates/dr_plan_expand/specs, crates/dr_plan/specs and
+crates/dr_plan_model/specs/Formed.antt.
 """
 import re
 import tomllib
+
+from lib.plan_expand import MOST, Unknown, core_of, size_of, text_of
 
 IMPLICIT = '1.2.840.10008.1.2'
 EXPLICIT = '1.2.840.10008.1.2.1'
@@ -33,8 +36,8 @@ def is_literal(text):
 
 
 def is_station(text, form):
-    """A literal; in format 2 a prefix too, which is written as a literal of one byte or more with `*` behind it."""
-    return is_literal(text) or (form == 2 and text[-1:] == '*' and text != '*' and is_literal(text[:-1]))
+    """A literal; from format 2 on a prefix too, which is written as a literal of one byte or more with `*` behind it."""
+    return is_literal(text) or (form != 1 and text[-1:] == '*' and text != '*' and is_literal(text[:-1]))
 
 
 def is_class(text):
@@ -116,19 +119,83 @@ def names_used(nodes, flows):
 def read_tables(root):
     need(set(root) <= {'format', 'node', 'flow'})
     form = root.get('format', 1)
-    need(type(form) is int and form in (1, 2))
+    need(type(form) is int and form in (1, 2, 3))
     nodes, flows = root.get('node', []), root.get('flow', [])
     need(is_list(nodes, dict) and is_list(flows, dict))
     return [read_node(it, form) for it in nodes], [read_flow(it, form) for it in flows], form
 
 
-def read_plan(text):
-    """The nodes and flows that the bytes write, and the format; raises Refused."""
+def is_words(value):
+    """One word, or a list of one word or more."""
+    return isinstance(value, str) or (is_list(value) and value != [])
+
+
+def need_short(root):
+    """Looks at the fields of the tables of format 3."""
+    need(set(root) <= {'format', 'set', 'group', 'node', 'flow'})
+    for name in ('set', 'group'):
+        table = root.get(name, {})
+        need(isinstance(table, dict) and all(is_list(it) and it for it in table.values()))
+    nodes, flows = root.get('node', []), root.get('flow', [])
+    need(is_list(nodes, dict) and is_list(flows, dict))
+    for node in nodes:
+        need(isinstance(node.get('name'), str) and not node['name'].startswith('@'))
+        need(is_list(node.get('accept', []), dict) and is_list(node.get('rule', []), dict))
+        for row in node.get('accept', []):
+            need(is_words(row.get('class')))
+        for rule in node.get('rule', []):
+            need(all(is_words(rule.get(it, ANY)) for it in ('from', 'class')))
+        plain = [{**row, 'class': '1'} for row in node.get('accept', [])]
+        read_node({**node, 'accept': plain, 'rule': [{**rule, 'from': ANY, 'class': ANY} for rule in node.get('rule', [])]}, 3)
+    for flow in flows:
+        need(all(is_words(flow.get(it)) for it in ('at', 'to', 'class')))
+        read_flow({**flow, 'at': 'A', 'to': 'A', 'class': ['1']}, 3)
+
+
+def expanded(root):
+    """The text that is read for a text of format 3, by its root table."""
+    need_short(root)
+    need(size_of(root) <= MOST, 'L6 Limit')
+    try:
+        core = text_of(core_of(root))
+    except Unknown:
+        raise Refused('L4 UnknownName') from None
+    try:
+        own = tomllib.loads(core)
+        need_short(own)
+        need(size_of(own) <= MOST)
+        need(text_of(core_of(own)) == core)
+    except (Unknown, tomllib.TOMLDecodeError):
+        raise Refused('L2 Field') from None
+    return core
+
+
+def read_root(text):
+    """The root table of a text."""
     try:
         root = tomllib.loads(text.decode())
     except (UnicodeDecodeError, tomllib.TOMLDecodeError, RecursionError):
         raise Refused('L1 NotToml') from None
     need(not too_big(root), 'L1 NotToml')
+    return root
+
+
+def read_text(text):
+    """The text that is read for the bytes, with the nodes and flows that it writes, and the format; raises Refused."""
+    root = read_root(text)
+    if type(root.get('format')) is int and root['format'] == 3:
+        text = expanded(root).encode()
+        root = tomllib.loads(text.decode())
+    return text, *read_plan_of(root)
+
+
+def read_plan(text):
+    """The nodes and flows that are read for the bytes, and the format; raises Refused."""
+    return read_text(text)[1:]
+
+
+def read_plan_of(root):
+    """The nodes and flows that a root table says, and the format; raises Refused."""
     nodes, flows, form = read_tables(root)
     lists = [row['syntax'] for node in nodes for row in node['accept']] + [flow['syntax'] for flow in flows]
     need(all(set(it) <= set(SYNTAXES) for it in lists), 'L7 Syntax')

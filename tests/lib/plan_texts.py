@@ -203,11 +203,70 @@ class OddTexts:
     def text(self):
         text = ''
         if self.dice.random() < 0.3:
-            text += f'format = {self.dice.choice(["3", "0", "1.0", chr(34) + "1" + chr(34), "true", "0x1", "+1", "0x2"] if self.happens(1) else ["1", "2"])}\n'
+            text += f'format = {self.dice.choice(["4", "0", "1.0", chr(34) + "1" + chr(34), "true", "0x1", "+1", "0x3"] if self.happens(1) else ["1", "2", "3"])}\n'
         text += ''.join(map(self.node, self.names)) + ''.join(self.flow() for _ in range(self.dice.choice([0, 1, 1, 2])))
         found = bytearray(text.encode())
         if self.happens(0.2):
             found[self.dice.randrange(len(found))] = self.dice.choice([0, 10, 13, 34, 35, 44, 91, 93, 128, 255])
+        return bytes(found)
+
+
+class ShortTexts(OddTexts):
+    """Writes texts of format 3 so, with sets, groups, names and lists."""
+
+    def words(self, good, odd):
+        """One word, or a list of words."""
+        values = odd if self.happens(1) else good
+        return self.dice.choice([self.dice.choice(values), '[' + ','.join(some(self.dice, values, [1, 1, 2, 3])) + ']'])
+
+    def classes(self):
+        return self.words(['"1.2"', '"1.2"', '"CTImageStorage"', '"MR Image Storage"', '"@ours"', '"@us"'],
+                          ['"CT"', '"@none"', '"@"', '"*"', '""', '"@bad"', '1', '"CTImageStorage "', '"ExplicitVRLittleEndian"'])
+
+    def nodes(self, name=None):
+        return self.words([it for it in self.names if it != name] + ['"@one"'], [*ODD_NAMES, '"@none"', '"@odd"', '"@twice"', '"@"'])
+
+    def syntaxes(self):
+        return self.dice.choice([*GOOD_SYNTAXES, '["ExplicitVRLittleEndian"]', '["Implicit VR Little Endian","1.2.840.10008.1.2.1"]']
+                                if not self.happens(1) else ['["JPEGBaseline8Bit"]', '["ExplicitVRLittleEndian","1.2.840.10008.1.2.1"]', '[]', '"ExplicitVRLittleEndian"'])
+
+    def accept(self):
+        callers = ['"*"', self.list_of(self.names), '["@one"]', '["@twice"]']
+        return self.table('node.accept', [
+            ('from', callers, ['["@none"]', '"@one"', self.list_of(ODD_NAMES)]), ('class', [self.classes()], ODD_CLASSES),
+            ('syntax', [self.syntaxes()], ['1']),
+        ])
+
+    def rule(self, name):
+        targets = ['[]'] + [f'[{it}]' for it in self.names if it != name] + ['["@one"]'] * (name != self.names[0])
+        return self.table('node.rule', [
+            ('from', ['"*"', self.nodes()], ['[]', '1']), ('class', ['"*"', self.classes()], ['[]', '1']), ('modality', ['"*"', '"CT"', '""'], ODD_LITERALS),
+            ('station', ['"*"', '"S"', '"S*"'], ODD_LITERALS), ('to', targets, ['["@none"]', '"@one"', self.list_of(ODD_NAMES)]),
+            ('keep', ['true', 'false'], ['1', '"true"']),
+        ], may_lack=True)
+
+    def flow(self):
+        at, to = self.dice.sample(self.names, 2)
+        return self.table('flow', [
+            ('at', [at, f'[{at}]', self.nodes(to)], ['[]', '1']), ('to', [to, f'[{to}]', self.nodes(at)], ['[]', '1']), ('class', [self.classes()], ['[]', '1']),
+            ('syntax', [self.syntaxes()], ['1']), ('modality', ['"*"', '["CT"]', '[]'], ['"CT"', '["*"]', '[1]']),
+            ('station', ['"*"', '["S"]', '["S*","S"]'], ['"S*"', '["*"]', '[1]']),
+        ])
+
+    def definitions(self):
+        """The tables of sets and of groups, of which a few are odd."""
+        sets = ['ours = ["1.2","CTImageStorage"]', 'ours = ["MR Image Storage"]', 'bad = ["CT"]', '"" = ["1.2"]']
+        groups = [f'one = [{self.names[0]}]', f'twice = [{self.names[0]},{self.names[0]}]', 'odd = ["@one"]', 'odd = ["A B C"]']
+        text = '[set]\n' + sets[self.dice.randrange(2)] + '\n' + (self.dice.choice(sets[2:]) + '\n' if self.happens(1) else '')
+        text += '[group]\n' + '\n'.join(groups[:2]) + '\n' + (self.dice.choice(groups[2:]) + '\n' if self.happens(1) else '')
+        return text + ('none = []\n' if self.happens(0.1) else '') + ('none = "A"\n' if self.happens(0.1) else '')
+
+    def text(self):
+        text = 'format = 3\n' + self.definitions()
+        text += ''.join(map(self.node, self.names)) + ''.join(self.flow() for _ in range(self.dice.choice([0, 1, 1, 2])))
+        found = bytearray(text.encode())
+        if self.happens(0.2):
+            found[self.dice.randrange(len(found))] = self.dice.choice([0, 10, 13, 34, 35, 44, 64, 91, 93, 128, 255])
         return bytes(found)
 
 

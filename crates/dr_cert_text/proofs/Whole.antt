@@ -5,7 +5,7 @@ use Rattle.std.proofs.lemmas.List.{append_cancel_left}
 use Rattle.std.proofs.lemmas.List.Elements.{All-head}
 use Rattle.hex.specs.Hex.{encode_lower, decode_sized}
 use Rattle.dr_plan_model.specs.declared.plan.Format.{Format}
-use Rattle.dr_plan_model.specs.declared.plan.Format.TheVariants.{One, Two}
+use Rattle.dr_plan_model.specs.declared.plan.Format.TheVariants.{One, Two, Three}
 use Rattle.dr_plan_sound.specs.declared.certificate.Line.{Line}
 use Rattle.dr_plan_sound.specs.declared.certificate.Hop.{Hop}
 use Rattle.dr_plan_sound.specs.declared.certificate.Certificate.{Certificate}
@@ -43,23 +43,35 @@ text_is certificate = by_format certificate.format where
   by_format : (f : Format) → certificate_text (record certificate { format = f }) ≡ front f ++ (encode_lower certificate.digest ++ 10 ∷ behind_digest certificate)
   by_format One = ap (λ (t : List ℕ). front One ++ t) flat
   by_format Two = ap (λ (t : List ℕ). front Two ++ t) flat
+  by_format Three = ap (λ (t : List ℕ). front Three ++ t) flat
 
 -- texts that begin alike are of one format, and what follows is the same
 front_same : (f g : Format) (a b : List ℕ) → front f ++ a ≡ front g ++ b → (f ≡ g) × (a ≡ b)
 front_same One One a b e = (refl, append_cancel_left (front One) a b e)
 front_same One Two a b e = let d : ◌≡◌ {A = ℕ} 49 50 = ap (λ (t : List ℕ). get_or t 12 0) e in absurd (omega arith)
+front_same One Three a b e = let d : ◌≡◌ {A = ℕ} 49 51 = ap (λ (t : List ℕ). get_or t 12 0) e in absurd (omega arith)
 front_same Two One a b e = let d : ◌≡◌ {A = ℕ} 50 49 = ap (λ (t : List ℕ). get_or t 12 0) e in absurd (omega arith)
 front_same Two Two a b e = (refl, append_cancel_left (front Two) a b e)
+front_same Two Three a b e = let d : ◌≡◌ {A = ℕ} 50 51 = ap (λ (t : List ℕ). get_or t 12 0) e in absurd (omega arith)
+front_same Three One a b e = let d : ◌≡◌ {A = ℕ} 51 49 = ap (λ (t : List ℕ). get_or t 12 0) e in absurd (omega arith)
+front_same Three Two a b e = let d : ◌≡◌ {A = ℕ} 51 50 = ap (λ (t : List ℕ). get_or t 12 0) e in absurd (omega arith)
+front_same Three Three a b e = (refl, append_cancel_left (front Three) a b e)
 
--- a text that begins with neither version's words begins with those of no version
-pub begins_neither : (text : List ℕ) → ((rest : List ℕ) → text ≡ front One ++ rest → ⊥) → ((rest : List ℕ) → text ≡ front Two ++ rest → ⊥) → (format : Format) (rest : List ℕ) → text ≡ front format ++ rest → ⊥
-begins_neither text one two One rest e = one rest e
-begins_neither text one two Two rest e = two rest e
+-- the text doesn't begin with the words of this version
+abbrev pub Lacks_front : List ℕ → Format → Type 0
+Lacks_front text format = (rest : List ℕ) → text ≡ front format ++ rest → ⊥
+
+-- a text that begins with no version's words of the three begins with those of no version
+pub begins_none : (text : List ℕ) → Lacks_front text One → Lacks_front text Two → Lacks_front text Three → (format : Format) (rest : List ℕ) → text ≡ front format ++ rest → ⊥
+begins_none text one two three One rest e = one rest e
+begins_none text one two three Two rest e = two rest e
+begins_none text one two three Three rest e = three rest e
 
 -- the first two rows
 pub first_rows : (format : Format) (digits : List ℕ) → front format ++ digits ++ (10 ∷ []) ≡ row (codes "certificate") (version format) ++ row (codes "plan") digits
 first_rows One digits = refl
 first_rows Two digits = refl
+first_rows Three digits = refl
 
 -- no hop stands behind the hops, and no line behind the lines
 pub hops_end : (lines : List Line) → BeginsWith (codes "hop") (flat_map line_row lines ++ last_row) → ⊥

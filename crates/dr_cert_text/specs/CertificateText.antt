@@ -1,7 +1,7 @@
 -- The text of a certificate: rows ended by LF, whose fields are joined by one tab.
 use Rattle.std.specs.Prelude.{◌∷◌, ◌++◌, [], codes, flat_map}
 use Rattle.dr_plan_model.specs.declared.plan.Format.{Format}
-use Rattle.dr_plan_model.specs.declared.plan.Format.TheVariants.{One, Two}
+use Rattle.dr_plan_model.specs.declared.plan.Format.TheVariants.{One, Two, Three}
 use Rattle.hex.specs.Hex.{encode_lower}
 use Rattle.dr_base.specs.Texts.{Text}
 use Rattle.dr_plan_sound.specs.declared.certificate.Line.{Line}
@@ -26,6 +26,7 @@ line_row line = row (codes "line") (printed_line line)
 abbrev pub version : Format → Text
 version One = codes "1"
 version Two = codes "2"
+version Three = codes "3"
 
 -- the text up to the digest
 abbrev pub front : Format → Text

@@ -47,8 +47,11 @@ fn read_front(text: &[u8]) -> Option<(Format, &[u8])>
     if let Some(behind) = after(text, front_of(Format::One)) {
         return Some((Format::One, behind));
     }
-    match after(text, front_of(Format::Two)) {
-        Some(behind) => Some((Format::Two, behind)),
+    if let Some(behind) = after(text, front_of(Format::Two)) {
+        return Some((Format::Two, behind));
+    }
+    match after(text, front_of(Format::Three)) {
+        Some(behind) => Some((Format::Three, behind)),
         None => None,
     }
 }

@@ -31,6 +31,7 @@ pub fn front_of(format: Format) -> &'static [u8]
     match format {
         Format::One => b"certificate\t1\nplan\t",
         Format::Two => b"certificate\t2\nplan\t",
+        Format::Three => b"certificate\t3\nplan\t",
     }
 }
 

@@ -6,7 +6,7 @@ use Rattle.dr_plan_model.specs.Networks.{Network}
 use Rattle.dr_plan.specs.Reading.{Reads}
 use Rattle.dr_plan.specs.declared.fault.PlanFault.{PlanFault}
 use Rattle.dr_plan.specs.declared.fault.PlanFault.TheVariants.{Memory as NoMemory}
-use Rattle.dr_plan.proofs.OneAnswer.{one_answer}
+use Rattle.dr_plan.proofs.OneReading.{one_answer}
 
 abbrev plan_or : Network → Result Network PlanFault → Network
 plan_or other (Ok plan) = plan

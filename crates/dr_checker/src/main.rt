@@ -1,6 +1,6 @@
 //! The program for plans alone: `run_words` of `dr_word_route`, on the system's words, files, input
-//! and outputs. It has `check`, `verify`, `route`, `graph` and `lint`, and stands on no node and no
-//! link, so it is built long before the whole one.
+//! and outputs. It has the words about plans alone, from `check` to `diff`, and stands on no node
+//! and no link, so it is built long before the whole one.
 #![tactic(auto)]
 
 use dr_run_open::Status;

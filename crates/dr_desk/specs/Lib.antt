@@ -1,4 +1,5 @@
 pub mod Agreeing
+pub mod Answering
 pub mod Growing
 pub mod Laws
 pub mod Receipts

@@ -39,8 +39,8 @@ abbrev pub newest : List Receipt → List Receipt
 newest receipts = drop (length receipts - 1024) receipts
 
 -- A pass after an accepted call: its count has risen by one, and its newest receipt is of just that
--- call and reply. At which number the line stands is compared with the journal when the sharing
--- ends.
+-- call and reply. That it has the number of the call's line `Answering` says, and the comparison
+-- with the journal when the sharing ends.
 abbrev pub Notes : Call → Reply → ℕ → List Receipt → ℕ → List Receipt → Type 0
 Notes call reply count receipts now kept =
     (now ≡ count + 1)

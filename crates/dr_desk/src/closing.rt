@@ -221,9 +221,11 @@ fn are_apart(alloc: Global, all: &[u64]) -> Result<bool, AllocError>
 pub(crate) fn joined<B: Sharing>(tally: Book<B>, rest: Share<B>, passes: Vec<Pass<B>>) -> u64
     requires total { tally.total < 2 ^ 64 }
     requires idle { rest.amount ≡ 0 }
+    requires within { rest.parts ≤ B.parts }
     ensures sum { result ≡ sum_by (λ p. p.made.count) passes.items }
     ensures some { result ≤ tally.total }
     ensures all { rest.parts + length passes.items ≡ B.parts → result ≡ tally.total }
+    ensures few { rest.parts + length passes.items ≤ B.parts }
 {
     let mut tally = tally;
     let mut all = rest;

@@ -6,6 +6,7 @@ ghost use Rattle.dr_ledger.specs.SiteRoutes.{site_routing};
 use dr_base::{Seq, Text};
 use dr_cert::Sealed;
 use dr_ledger::{Arrived, Entry, Item, Job, Ledger, LedgerFault, LetsGo, Outcome, Progress};
+use dr_ledger_views::{Stage, Views};
 use dr_site::Site;
 
 /// A node's ledger, as the one who owns it calls it. It is a ledger itself: each call gives the
@@ -144,5 +145,37 @@ impl<L: LetsGo> LetsGo for Desk<L> {
 
     fn is_over(&mut self, uid: &Text) -> Result<bool, LedgerFault> {
         self.ledger.is_over(uid)
+    }
+}
+
+impl<L: Views> Views for Desk<L> {
+    fn count_arrivals(&mut self) -> Result<u64, LedgerFault> {
+        self.ledger.count_arrivals()
+    }
+
+    fn count_kept(&mut self) -> Result<u64, LedgerFault> {
+        self.ledger.count_kept()
+    }
+
+    fn count_rows(&mut self, dest: &Text, stage: Stage) -> Result<u64, LedgerFault> {
+        self.ledger.count_rows(dest, stage)
+    }
+
+    fn first_due(&mut self, dest: &Text) -> Result<Option<u64>, LedgerFault> {
+        self.ledger.first_due(dest)
+    }
+
+    fn rows_of(&mut self, uid: &Text) -> Result<Seq<((Text, Text), Progress)>, LedgerFault> {
+        self.ledger.rows_of(uid)
+    }
+
+    fn page(
+        &mut self,
+        dest: &Text,
+        stage: Option<Stage>,
+        after: &Text,
+        limit: u32,
+    ) -> Result<Seq<((Text, Text), Progress)>, LedgerFault> {
+        self.ledger.page(dest, stage, after, limit)
     }
 }

@@ -1,12 +1,13 @@
 //! What lies under the lock of a shared desk.
 ghost use Rattle.std.specs.Prelude.{◌≡◌, ◌≤◌, ◌+◌, ◌^◌, [], All, IfErr, IfOk, MatchResult, Ok};
-ghost use Rattle.std.specs.Prelude.{OnOk, length, map as mapped, sum_by};
+ghost use Rattle.std.specs.Prelude.{OnErr, OnOk, length, map as mapped, sum_by};
 ghost use Rattle.std.specs.List.{AllByRecursion, flat_map};
 ghost use Rattle.std.proofs.Props.{props};
 ghost use Rattle.dr_ledger.specs.Items.{instance_of};
 ghost use Rattle.dr_ledger.specs.Histories.{IsJournalled};
 ghost use Rattle.dr_ledger.specs.Replies.{Arrives, Drops, Forgets, Requeues, Settles, entry_of};
 ghost use Rattle.dr_ledger.specs.SiteRoutes.{site_routing};
+ghost use Rattle.dr_desk.specs.Answering.{Accepts, Refuses};
 ghost use Rattle.dr_desk.specs.Agreeing.{AreApart, Fails, IsOfLine, Rises, numbers};
 ghost use Rattle.dr_desk.specs.Growing.{BeginWith, Grows};
 
@@ -54,7 +55,8 @@ pub(crate) struct Held<L: Ledger, B: Sharing> {
 impl<L: Ledger, B: Sharing> Held<L, B> {
     /// No line more can be numbered: that counts as a failed store.
     fn refuse(&mut self) -> LedgerFault
-        ensures { result ≡ LedgerFault.Store }
+        ensures store { result ≡ LedgerFault.Store }
+        ensures desk { self.new.desk ≡ self.old.desk }
     {
         self.full = self.full.saturating_add(1);
         LedgerFault::Store
@@ -70,11 +72,13 @@ impl<L: Ledger, B: Sharing> Held<L, B> {
         ensures count { MatchResult result
             (λ r. made.new.count ≡ made.old.count + 1)
             (λ why. made.new.count ≡ made.old.count) }
-        ensures reply { IfOk result (λ r. L.stands self.new.desk.ledger
-            → Arrives (site_routing (L.site self.old.desk.ledger)) caller.now (instance_of item)
-            (L.book self.old.desk.ledger) (Ok r.1) (L.book self.new.desk.ledger)) }
-        ensures number { IfOk result (λ r.
-            L.stands self.new.desk.ledger → r.0 ≡ length (L.book self.new.desk.ledger).lines) }
+        ensures answer { MatchResult result
+            (λ r. Accepts L.site L.book L.stands L.failed B.site B.first
+            (Arrives (site_routing B.site) caller.now (instance_of item))
+            r.1 r.0 self.old.desk.ledger self.new.desk.ledger)
+            (λ why. Refuses L.site L.book L.stands L.failed B.site B.first
+            (Arrives (site_routing B.site) caller.now (instance_of item))
+            why self.old.desk.ledger self.new.desk.ledger) }
     {
         if self.number == u64::MAX {
             return Err(self.refuse());
@@ -102,11 +106,13 @@ impl<L: Ledger, B: Sharing> Held<L, B> {
         ensures count { MatchResult result
             (λ n. made.new.count ≡ made.old.count + 1)
             (λ why. made.new.count ≡ made.old.count) }
-        ensures reply { IfOk result (λ n. L.stands self.new.desk.ledger
-            → Settles uid.now dest.now outcome now (L.book self.old.desk.ledger) (Ok tt)
-            (L.book self.new.desk.ledger)) }
-        ensures number { IfOk result (λ n.
-            L.stands self.new.desk.ledger → n ≡ length (L.book self.new.desk.ledger).lines) }
+        ensures answer { MatchResult result
+            (λ r. Accepts L.site L.book L.stands L.failed B.site B.first
+            (Settles uid.now dest.now outcome now)
+            tt r self.old.desk.ledger self.new.desk.ledger)
+            (λ why. Refuses L.site L.book L.stands L.failed B.site B.first
+            (Settles uid.now dest.now outcome now)
+            why self.old.desk.ledger self.new.desk.ledger) }
     {
         if self.number == u64::MAX {
             return Err(self.refuse());
@@ -131,11 +137,13 @@ impl<L: Ledger, B: Sharing> Held<L, B> {
         ensures count { MatchResult result
             (λ n. made.new.count ≡ made.old.count + 1)
             (λ why. made.new.count ≡ made.old.count) }
-        ensures reply { IfOk result (λ n. L.stands self.new.desk.ledger
-            → Requeues uid.now dest.now (L.book self.old.desk.ledger) (Ok tt)
-            (L.book self.new.desk.ledger)) }
-        ensures number { IfOk result (λ n.
-            L.stands self.new.desk.ledger → n ≡ length (L.book self.new.desk.ledger).lines) }
+        ensures answer { MatchResult result
+            (λ r. Accepts L.site L.book L.stands L.failed B.site B.first
+            (Requeues uid.now dest.now)
+            tt r self.old.desk.ledger self.new.desk.ledger)
+            (λ why. Refuses L.site L.book L.stands L.failed B.site B.first
+            (Requeues uid.now dest.now)
+            why self.old.desk.ledger self.new.desk.ledger) }
     {
         if self.number == u64::MAX {
             return Err(self.refuse());
@@ -152,7 +160,9 @@ impl<L: Ledger, B: Sharing> Held<L, B> {
 
     /// Makes a pass; the last part stays.
     pub(crate) fn pass(&mut self, alloc: Global) -> Result<Pass<B>, TooManyPasses>
-        ensures { IfOk result (λ p. (p.made.count ≡ 0) × (p.receipts.items ≡ [])) }
+        ensures pass { IfOk result (λ p. (p.made.count ≡ 0) × (p.receipts.items ≡ [])) }
+        ensures counted { OnOk result (self.new.passes ≡ self.old.passes + 1) }
+        ensures full { OnErr result ((65535 ≤ self.old.passes) × (self.new ≡ self.old)) }
     {
         if self.passes >= MOST_PASSES {
             return Err(TooManyPasses);
@@ -251,6 +261,8 @@ impl<L: Ledger, B: Sharing> Held<L, B> {
         ensures all { IfOk result (λ c. L.stands c.desk.ledger
             → length passes.items ≡ c.passes
             → length B.first + c.sum ≡ length (L.book c.desk.ledger).lines) }
+        ensures passes { IfOk result (λ c. c.passes ≡ self.passes) }
+        ensures few { IfOk result (λ c. length passes.items ≤ c.passes) }
         ensures of { MatchResult result
             (λ c. L.site c.desk.ledger ≡ B.site)
             (λ e. L.site e.desk.ledger ≡ B.site) }
@@ -310,11 +322,13 @@ impl<L: LetsGo, B: Sharing> Held<L, B> {
         requires { now ≤ 2 ^ 62 }
         ensures count { MatchResult result (λ n. made.new.count ≡ made.old.count + 1)
             (λ why. made.new.count ≡ made.old.count) }
-        ensures reply { IfOk result (λ n. L.stands self.new.desk.ledger →
-            Drops uid.now dest.now now (L.book self.old.desk.ledger) (Ok tt)
-            (L.book self.new.desk.ledger)) }
-        ensures number { IfOk result (λ n. L.stands self.new.desk.ledger →
-            n ≡ length (L.book self.new.desk.ledger).lines) }
+        ensures answer { MatchResult result
+            (λ r. Accepts L.site L.book L.stands L.failed B.site B.first
+            (Drops uid.now dest.now now)
+            tt r self.old.desk.ledger self.new.desk.ledger)
+            (λ why. Refuses L.site L.book L.stands L.failed B.site B.first
+            (Drops uid.now dest.now now)
+            why self.old.desk.ledger self.new.desk.ledger) }
     {
         if self.number == u64::MAX {
             return Err(self.refuse());
@@ -333,11 +347,13 @@ impl<L: LetsGo, B: Sharing> Held<L, B> {
     pub(crate) fn forget(&mut self, made: &mut Made<B>, uid: &Text) -> Result<u64, LedgerFault>
         ensures count { MatchResult result (λ n. made.new.count ≡ made.old.count + 1)
             (λ why. made.new.count ≡ made.old.count) }
-        ensures reply { IfOk result (λ n. L.stands self.new.desk.ledger →
-            Forgets uid.now (L.book self.old.desk.ledger) (Ok tt)
-            (L.book self.new.desk.ledger)) }
-        ensures number { IfOk result (λ n. L.stands self.new.desk.ledger →
-            n ≡ length (L.book self.new.desk.ledger).lines) }
+        ensures answer { MatchResult result
+            (λ r. Accepts L.site L.book L.stands L.failed B.site B.first
+            (Forgets uid.now)
+            tt r self.old.desk.ledger self.new.desk.ledger)
+            (λ why. Refuses L.site L.book L.stands L.failed B.site B.first
+            (Forgets uid.now)
+            why self.old.desk.ledger self.new.desk.ledger) }
     {
         if self.number == u64::MAX {
             return Err(self.refuse());

@@ -14,3 +14,16 @@ pub struct Holdings {
     /// How many lines its journal has.
     pub lines: u64,
 }
+
+/// How much a ledger has at one moment, and how often its store has failed.
+#[derive(Clone, Copy, PartialEq, Eq, Debug)]
+pub struct Totals {
+    /// The accepted pairs of a caller and a UID.
+    pub arrivals: u64,
+    /// The kept UIDs.
+    pub kept: u64,
+    /// The lines of its journal.
+    pub lines: u64,
+    /// The failures of its store.
+    pub failures: u64,
+}

@@ -1,10 +1,35 @@
-//! Laws of receipts.
+//! Laws of receipts, and of what a shared desk refuses.
+ghost use Rattle.std.specs.Prelude.{ℕ};
+ghost use Rattle.dr_base.specs.Texts.{Text};
+ghost use Rattle.dr_ledger.specs.declared.item.Instance.{Instance};
+ghost use Rattle.dr_ledger.specs.declared.item.Outcome.{Outcome};
+ghost use Rattle.dr_ledger.specs.Replies.{Arrives, Drops, Forgets, Requeues, Settles};
+ghost use Rattle.dr_ledger.specs.SiteRoutes.{site_routing};
+ghost use Rattle.dr_desk.specs.Answering.{RefusalLeaves};
 ghost use Rattle.dr_desk.specs.Laws.{ArrivalsAreRecorded, FewAreHeld, FiguresAreRight};
 ghost use Rattle.dr_desk.specs.Laws.{DroppingsAreRecorded, ForgettingsAreRecorded};
 ghost use Rattle.dr_desk.specs.Laws.{LinesAreOfOneCall, NoMoreAreHeld};
 ghost use Rattle.dr_desk.specs.Laws.{ReceiptsAreOne, RequeuingsAreRecorded, SettlingsAreRecorded};
 
+use crate::sharing::Sharing;
+use dr_ledger::Ledger;
 use dr_ledger::laws::Routed;
+
+/// What is refused leaves the ledger's book.
+pub fn refusals_leave_the_book<L: Ledger, B: Sharing>()
+    ensures arrive { (caller : Text) (item : Instance)
+        → RefusalLeaves L.site L.book L.stands L.failed B.site B.first
+        (Arrives (site_routing B.site) caller item) }
+    ensures settle { (uid dest : Text) (outcome : Outcome) (now : ℕ)
+        → RefusalLeaves L.site L.book L.stands L.failed B.site B.first
+        (Settles uid dest outcome now) }
+    ensures requeue { (uid dest : Text)
+        → RefusalLeaves L.site L.book L.stands L.failed B.site B.first (Requeues uid dest) }
+    ensures drop { (uid dest : Text) (now : ℕ)
+        → RefusalLeaves L.site L.book L.stands L.failed B.site B.first (Drops uid dest now) }
+    ensures forget { (uid : Text)
+        → RefusalLeaves L.site L.book L.stands L.failed B.site B.first (Forgets uid) }
+{}
 
 /// An accepted call adds just the line that its receipt is of.
 pub fn accepted_calls_are_recorded<R: Routed>()

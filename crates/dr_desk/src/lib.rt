@@ -16,10 +16,11 @@ pub mod receipt;
 mod same;
 pub mod shared;
 pub mod sharing;
+mod views;
 
 pub use closing::{CloseFault, Closed, Mismatch, NotClosed};
 pub use desk::Desk;
-pub use holdings::Holdings;
+pub use holdings::{Holdings, Totals};
 pub use pass::{Pass, TooManyPasses};
 pub use receipt::{Call, Receipt, Reply};
 pub use shared::SharedDesk;

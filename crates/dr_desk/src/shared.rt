@@ -3,9 +3,11 @@ ghost use Rattle.std.specs.Prelude.{◌≡◌, ◌<◌, ◌≤◌, ◌+◌, ◌^
 ghost use Rattle.std.specs.Prelude.{OnOk, length, map as mapped, sum_by};
 ghost use Rattle.std.specs.List.{AllByRecursion, flat_map};
 ghost use Rattle.dr_ledger.specs.Histories.{IsJournalled};
-ghost use Rattle.dr_ledger.specs.Replies.{entry_of};
+ghost use Rattle.dr_ledger.specs.Items.{instance_of};
+ghost use Rattle.dr_ledger.specs.Replies.{Arrives, Drops, Forgets, Requeues, Settles, entry_of};
 ghost use Rattle.dr_ledger.specs.SiteRoutes.{site_routing};
 ghost use Rattle.dr_desk.specs.Agreeing.{AreApart, Fails, IsOfLine, Rises, numbers};
+ghost use Rattle.dr_desk.specs.Answering.{Answers};
 ghost use Rattle.dr_desk.specs.Growing.{BeginWith};
 ghost use Rattle.dr_desk.specs.Receipts.{Leaves, Notes, arrival_of};
 
@@ -31,7 +33,7 @@ use std::sync::{Mutex, Wait};
 #[derive(Drop)]
 pub struct SharedDesk<L: Ledger, B: Sharing> {
     site: Site,
-    held: Mutex<Held<L, B>>,
+    pub(crate) held: Mutex<Held<L, B>>,
 }
 
 impl<L: Ledger, B: Sharing> SharedDesk<L, B> {
@@ -106,11 +108,15 @@ impl<L: Ledger, B: Sharing> SharedDesk<L, B> {
         caller: &Text,
         item: Item,
     ) -> Result<Arrived, LedgerFault>
-        ensures { MatchResult result
+        ensures pass { MatchResult result
             (λ r. Notes (arrival_of caller.now item) (Reply.Arrived r) pass.old.made.count
             pass.old.receipts.items pass.new.made.count pass.new.receipts.items)
             (λ why. Leaves pass.old.made.count pass.old.receipts.items pass.new.made.count
             pass.new.receipts.items) }
+        ensures answer { Answers L.site L.book L.stands L.failed B.site B.first
+            (Arrives (site_routing B.site) caller.now (instance_of item))
+            (arrival_of caller.now item) (λ r. Reply.Arrived r) result
+            pass.old.receipts.items pass.new.receipts.items }
     {
         if pass.make_room().is_err() {
             drop(item);
@@ -151,11 +157,15 @@ impl<L: Ledger, B: Sharing> SharedDesk<L, B> {
         now: u64,
     ) -> Result<(), LedgerFault>
         requires { now ≤ 2 ^ 62 }
-        ensures { MatchResult result
+        ensures pass { MatchResult result
             (λ r. Notes (Call.Settling uid.now dest.now outcome now) Reply.Done pass.old.made.count
             pass.old.receipts.items pass.new.made.count pass.new.receipts.items)
             (λ why. Leaves pass.old.made.count pass.old.receipts.items pass.new.made.count
             pass.new.receipts.items) }
+        ensures answer { Answers L.site L.book L.stands L.failed B.site B.first
+            (Settles uid.now dest.now outcome now)
+            (Call.Settling uid.now dest.now outcome now) (λ r. Reply.Done) result
+            pass.old.receipts.items pass.new.receipts.items }
     {
         pass.make_room()?;
         let call = settling(uid, dest, outcome, now)?;
@@ -189,11 +199,15 @@ impl<L: Ledger, B: Sharing> SharedDesk<L, B> {
         uid: &Text,
         dest: &Text,
     ) -> Result<(), LedgerFault>
-        ensures { MatchResult result
+        ensures pass { MatchResult result
             (λ r. Notes (Call.Requeuing uid.now dest.now) Reply.Done pass.old.made.count
             pass.old.receipts.items pass.new.made.count pass.new.receipts.items)
             (λ why. Leaves pass.old.made.count pass.old.receipts.items pass.new.made.count
             pass.new.receipts.items) }
+        ensures answer { Answers L.site L.book L.stands L.failed B.site B.first
+            (Requeues uid.now dest.now)
+            (Call.Requeuing uid.now dest.now) (λ r. Reply.Done) result
+            pass.old.receipts.items pass.new.receipts.items }
     {
         pass.make_room()?;
         let call = requeuing(uid, dest)?;
@@ -318,6 +332,7 @@ impl<L: Ledger, B: Sharing> SharedDesk<L, B> {
         ensures all { IfOk result (λ c. L.stands c.desk.ledger
             → length passes.items ≡ c.passes
             → length B.first + c.sum ≡ length (L.book c.desk.ledger).lines) }
+        ensures few { IfOk result (λ c. length passes.items ≤ c.passes) }
         ensures of { MatchResult result
             (λ c. L.site c.desk.ledger ≡ B.site)
             (λ e. L.site e.desk.ledger ≡ B.site) }
@@ -351,12 +366,16 @@ impl<L: LetsGo, B: Sharing> SharedDesk<L, B> {
         now: u64,
     ) -> Result<(), LedgerFault>
         requires { now ≤ 2 ^ 62 }
-        ensures { MatchResult result
+        ensures pass { MatchResult result
             (λ r. Notes (Call.Dropping uid.now dest.now now) Reply.Done
             pass.old.made.count pass.old.receipts.items
             pass.new.made.count pass.new.receipts.items)
             (λ why. Leaves pass.old.made.count pass.old.receipts.items
             pass.new.made.count pass.new.receipts.items) }
+        ensures answer { Answers L.site L.book L.stands L.failed B.site B.first
+            (Drops uid.now dest.now now)
+            (Call.Dropping uid.now dest.now now) (λ r. Reply.Done) result
+            pass.old.receipts.items pass.new.receipts.items }
     {
         pass.make_room()?;
         let call = dropping(uid, dest, now)?;
@@ -381,12 +400,16 @@ impl<L: LetsGo, B: Sharing> SharedDesk<L, B> {
     ///
     /// Errors: as the ledger's `forget`; Memory may come before NotOver.
     pub fn forget<R: Wait>(&self, rt: &R, pass: &mut Pass<B>, uid: &Text) -> Result<(), LedgerFault>
-        ensures { MatchResult result
+        ensures pass { MatchResult result
             (λ r. Notes (Call.Forgetting uid.now) Reply.Done
             pass.old.made.count pass.old.receipts.items
             pass.new.made.count pass.new.receipts.items)
             (λ why. Leaves pass.old.made.count pass.old.receipts.items
             pass.new.made.count pass.new.receipts.items) }
+        ensures answer { Answers L.site L.book L.stands L.failed B.site B.first
+            (Forgets uid.now)
+            (Call.Forgetting uid.now) (λ r. Reply.Done) result
+            pass.old.receipts.items pass.new.receipts.items }
     {
         pass.make_room()?;
         let call = forgetting(uid)?;

@@ -35,6 +35,10 @@ use dr_ledger::{
     Arrived, Cause, Entry, Instance, Item, Job, Ledger, LedgerFault, LetsGo, Outcome, Progress,
     moved,
 };
+use dr_ledger_views::listing::{
+    count_all_arrivals, count_all_kept, count_all_rows, first_of_all, own_of_all, page_of_all,
+};
+use dr_ledger_views::{Stage, Views};
 use dr_site::Site;
 use std::alloc::{AllocError, Global};
 
@@ -116,7 +120,7 @@ impl MemoryLedger {
         ensures never { NeverFails result }
     {
         let targets = self.site.targets(self.alloc, caller, item.key())?;
-        let rows = self.rows_of(item.uid());
+        let rows = self.rows_held(item.uid());
         let new = bringing(self.alloc, caller, item, targets, rows)?;
         match self.parts.try_bring(new) {
             Ok(()) => Ok(Arrived::New),
@@ -125,7 +129,7 @@ impl MemoryLedger {
     }
 
     /// The rows of the uid; none where it isn't there.
-    fn rows_of(&self, uid: &Text) -> &[(Text, Progress)]
+    fn rows_held(&self, uid: &Text) -> &[(Text, Progress)]
         ensures rows { result.now ≡ rows_in (at self.now.parts.held uid.now) }
         ensures sorted { T (is_sorted text_cmp result.now) }
     {
@@ -685,5 +689,38 @@ impl LetsGo for MemoryLedger {
 
     fn is_over(&mut self, uid: &Text) -> Result<bool, LedgerFault> {
         Ok(self.is_over_with(uid))
+    }
+}
+
+/// Each of these answers is read off a list of all that there is.
+impl Views for MemoryLedger {
+    fn count_arrivals(&mut self) -> Result<u64, LedgerFault> {
+        count_all_arrivals(self)
+    }
+
+    fn count_kept(&mut self) -> Result<u64, LedgerFault> {
+        count_all_kept(self)
+    }
+
+    fn count_rows(&mut self, dest: &Text, stage: Stage) -> Result<u64, LedgerFault> {
+        count_all_rows(self, dest, stage)
+    }
+
+    fn first_due(&mut self, dest: &Text) -> Result<Option<u64>, LedgerFault> {
+        first_of_all(self, dest)
+    }
+
+    fn rows_of(&mut self, uid: &Text) -> Result<Seq<((Text, Text), Progress)>, LedgerFault> {
+        own_of_all(self.alloc, self, uid)
+    }
+
+    fn page(
+        &mut self,
+        dest: &Text,
+        stage: Option<Stage>,
+        after: &Text,
+        limit: u32,
+    ) -> Result<Seq<((Text, Text), Progress)>, LedgerFault> {
+        page_of_all(self.alloc, self, dest, stage, after, limit)
     }
 }

@@ -6,3 +6,5 @@ pub mod PlanForm
 pub mod Typing
 pub mod OneAnswer
 pub mod Refusals
+pub mod OneReading
+pub mod Cores

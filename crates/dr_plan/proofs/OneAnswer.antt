@@ -24,16 +24,18 @@ use Rattle.dr_plan_text.proofs.OnePlan.{one_plan}
 use Rattle.dr_plan.specs.declared.fault.PlanFault.{PlanFault}
 use Rattle.dr_plan.specs.declared.fault.PlanFault.TheVariants as fault
 use Rattle.dr_plan.specs.Spelling.{written_row, written_node, written_flow, written_plan}
-use Rattle.dr_plan.specs.Reading.{Passes, Reads}
+use Rattle.dr_plan.specs.Reading.{Passes, ReadsCore}
 
 -- a plan passes, or has one first fault
 passes_once : (plan : PlanText) (r s : Result (Unit {0}) PlanFault) → r ≢ Err fault.Memory → s ≢ Err fault.Memory → Passes plan r → Passes plan s → r ≡ s
 passes_once plan (Err fault.NotToml) s m n a b = absurd a
 passes_once plan (Err fault.Field) s m n a b = absurd a
 passes_once plan (Err fault.Memory) s m n a b = absurd (m refl)
+passes_once plan (Err fault.UnknownName) s m n a b = absurd a
 passes_once plan r (Err fault.NotToml) m n a b = absurd b
 passes_once plan r (Err fault.Field) m n a b = absurd b
 passes_once plan r (Err fault.Memory) m n a b = absurd (n refl)
+passes_once plan r (Err fault.UnknownName) m n a b = absurd b
 passes_once plan (Ok u) (Ok v) m n a b = refl
 passes_once plan (Ok u) (Err fault.Syntax) m n a b = absurd (b a.0)
 passes_once plan (Ok u) (Err fault.Name) m n a b = absurd (b.1 a.1)
@@ -140,7 +142,7 @@ Kind text r = ((r ≡ Err fault.NotToml) × (IsToml text → ⊥)) ⊎ (((r ≡ 
 answered : (text : Text) (f : PlanFault) (plan : PlanText) → Writes text plan → Passes plan (Err f) → Answered text (Err f)
 answered text f plan writes passes = record { written = plan; writes = writes; passes = passes; whole = λ p e. cc }
 
-kind : (text : Text) (r : Result Network PlanFault) → r ≢ Err fault.Memory → Reads text r → Kind text r
+kind : (text : Text) (r : Result Network PlanFault) → r ≢ Err fault.Memory → ReadsCore text r → Kind text r
 kind text (Ok plan) m h = inr (inr (record {
   written = written_plan plan;
   writes = h.0;
@@ -153,6 +155,7 @@ kind text (Err fault.Syntax) m h = inr (inr (answered text fault.Syntax h.0 h.1 
 kind text (Err fault.Name) m h = inr (inr (answered text fault.Name h.0 h.1 h.2))
 kind text (Err fault.Limit) m h = inr (inr (answered text fault.Limit h.0 h.1 h.2))
 kind text (Err fault.UnknownNode) m h = inr (inr (answered text fault.UnknownNode h.0 h.1 h.2))
+kind text (Err fault.UnknownName) m h = absurd h.2
 kind text (Err fault.SelfRoute) m h = inr (inr (answered text fault.SelfRoute h.0 h.1 h.2))
 kind text (Err fault.Memory) m h = absurd (m refl)
 
@@ -176,8 +179,8 @@ both text r s m n a b =
     same_passed r s (passes_once b.written (passed r) (passed s) (not_memory r m) (not_memory s n) (subst P plans a.passes) b.passes)
     (λ p q is_p is_q. network_same p q (sym (a.whole p is_p).0 ∙ (plans ∙ (b.whole q is_q).0)) ((a.whole p is_p).1 ∙ sym (b.whole q is_q).1))
 
-pub one_answer : (text : Text) (r s : Result Network PlanFault) → r ≢ Err fault.Memory → s ≢ Err fault.Memory → Reads text r → Reads text s → r ≡ s
-one_answer text r s m n a b = elim (kind text r m a) [
+pub one_core_answer : (text : Text) (r s : Result Network PlanFault) → r ≢ Err fault.Memory → s ≢ Err fault.Memory → ReadsCore text r → ReadsCore text s → r ≡ s
+one_core_answer text r s m n a b = elim (kind text r m a) [
   | inl x ↦ elim (kind text s n b) [
     | inl y ↦ x.0 ∙ sym y.0
     | inr y ↦ elim y [ inl z ↦ absurd (x.1 z.1.0) | inr z ↦ absurd (x.1 (is_toml text s z)) ]

@@ -14,7 +14,7 @@ use Rattle.dr_route.specs.declared.accept.AcceptRow.{AcceptRow}
 use Rattle.dr_plan_model.specs.declared.plan.Node.{Node}
 use Rattle.dr_plan_model.specs.declared.plan.Flow.{Flow}
 use Rattle.dr_plan_model.specs.declared.plan.Format.{Format}
-use Rattle.dr_plan_model.specs.declared.plan.Format.TheVariants.{One, Two}
+use Rattle.dr_plan_model.specs.declared.plan.Format.TheVariants.{One, Two, Three}
 use Rattle.dr_plan_model.specs.Formed.{IsName, IsMaxPdu, IsKnownName, HasForm, IsRuleOf, AreKnownCallers, IsAcceptRow, IsWellFormedNode, IsWellFormedFlow, IsInFormat, AreWellFormed}
 use Rattle.dr_plan_model.specs.Naming.{prefix_of, listed_prefixes}
 use Rattle.dr_plan_text.specs.declared.words.NodeText.{NodeText}
@@ -43,6 +43,7 @@ in_format One nodes flows fits = (
   All-unmap written_flow (λ (f : FlowText). listed_prefixes f.stations ≡ []) flows fits.flows,
 )
 in_format Two nodes flows fits = tt
+in_format Three nodes flows fits = tt
 
 module _ (format : Format) (nodes : List Node) (flows : List Flow) where
   abbrev Known : Text → Type 0

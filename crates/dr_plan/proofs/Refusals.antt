@@ -10,7 +10,7 @@ use Rattle.dr_plan_text.specs.Tables.{IsNodeTable, IsFlowTable, Writes}
 use Rattle.dr_plan_text.proofs.Refusals.{empty_tree}
 use Rattle.dr_plan.specs.declared.fault.PlanFault.{PlanFault}
 use Rattle.dr_plan.specs.declared.fault.PlanFault.TheVariants as fault
-use Rattle.dr_plan.specs.Reading.{Passes, Reads}
+use Rattle.dr_plan.specs.Reading.{Passes, ReadsCore}
 use Rattle.dr_plan.specs.Spelling.{written_flow}
 
 -- the empty text writes no nodes and no flows
@@ -30,12 +30,13 @@ some_written [] flows is some none = some refl
 some_written (flow ∷ typed) flows is some none = let e : written_flow flow ∷ map written_flow typed ≡ [] = is ∙ none in cc e
 
 -- a fault of the plan is the text's
-pub refused : (text : Text) (plan : PlanText) (f : PlanFault) → Writes text plan → Passes plan (Err f) → Reads text (Err f)
+pub refused : (text : Text) (plan : PlanText) (f : PlanFault) → Writes text plan → Passes plan (Err f) → ReadsCore text (Err f)
 refused text plan fault.NotToml w passes = absurd passes
 refused text plan fault.Field w passes = absurd passes
 refused text plan fault.Syntax w passes = (plan, w, passes)
 refused text plan fault.Name w passes = (plan, w, passes)
 refused text plan fault.Limit w passes = (plan, w, passes)
 refused text plan fault.UnknownNode w passes = (plan, w, passes)
+refused text plan fault.UnknownName w passes = (plan, w, passes)
 refused text plan fault.SelfRoute w passes = (plan, w, passes)
 refused text plan fault.Memory w passes = no_nodes text plan w passes

@@ -1,7 +1,8 @@
 -- What a plan's text has to keep beside its form, and what is read of a text.
-use Rattle.std.specs.Prelude.{◌≡◌, ◌≢◌, ℕ, pos, ◌+◌, ◌≤◌, List, [], All, AllPairs, Contains, length}
-use Rattle.std.specs.Prelude.{map, sum_by, Result, Ok, Err}
+use Rattle.std.specs.Prelude.{◌≡◌, ◌≢◌, ◌⊎◌, ℕ, pos, ◌+◌, ◌≤◌, List, [], All, AllPairs}
+use Rattle.std.specs.Prelude.{Contains, length, map, sum_by, Result, Ok, Err}
 use Rattle.sha2.specs.Sha256.{sha256}
+use Rattle.toml.specs.Data.{Members}
 use Rattle.dr_base.specs.Texts.{Text}
 use Rattle.dr_base.specs.Syntaxes.{syntax_uid}
 use Rattle.dr_base.specs.declared.syntax.Syntax.{Syntax}
@@ -11,7 +12,12 @@ use Rattle.dr_plan_model.specs.Formed.{IsName, IsMaxPdu, HasForm}
 use Rattle.dr_plan_model.specs.Networks.{Network}
 use Rattle.dr_plan_text.specs.declared.words.NodeText.{NodeText}
 use Rattle.dr_plan_text.specs.declared.words.PlanText.{PlanText}
-use Rattle.dr_plan_text.specs.Tables.{IsToml, Writes}
+use Rattle.dr_plan_text.specs.Tables.{IsToml, IsTree, Writes}
+use Rattle.dr_plan_expand.specs.Tables.{IsThird}
+use Rattle.dr_plan_expand.specs.Expanding.{Expands, Fails}
+use Rattle.dr_plan_expand.specs.declared.fault.ExpandFault.{ExpandFault}
+use Rattle.dr_plan_expand.specs.declared.fault.ExpandFault.TheVariants as expand
+use Rattle.dr_plan.specs.Faults.{fault_of}
 use Rattle.dr_plan.specs.Spelling.{written_plan}
 use Rattle.dr_plan.specs.declared.fault.PlanFault.{PlanFault}
 use Rattle.dr_plan.specs.declared.fault.PlanFault.TheVariants as fault
@@ -94,14 +100,44 @@ Passes plan (Err fault.SelfRoute) =
 Passes plan (Err fault.Memory) = plan.nodes ≢ []
 Passes plan (Err other) = ⊥
 
--- what is read of a text: the plan that it writes, with the text's SHA-256, or the first fault; the
--- empty text needs no memory
-abbrev pub Reads : Text → Result Network PlanFault → Type 0
-Reads text (Ok plan) =
+-- what is read of a text as it stands: the plan that it writes, with the text's SHA-256, or the
+-- first fault; the empty text needs no memory
+abbrev pub ReadsCore : Text → Result Network PlanFault → Type 0
+ReadsCore text (Ok plan) =
     Writes text (written_plan plan)
     × Passes (written_plan plan) (Ok tt)
     × (plan.digest ≡ sha256 text)
-Reads text (Err fault.NotToml) = IsToml text → ⊥
-Reads text (Err fault.Field) = IsToml text × ((plan : PlanText) → Writes text plan → ⊥)
-Reads text (Err fault.Memory) = text ≢ []
-Reads text (Err other) = (plan : PlanText) × Writes text plan × Passes plan (Err other)
+ReadsCore text (Err fault.NotToml) = IsToml text → ⊥
+ReadsCore text (Err fault.Field) = IsToml text × ((plan : PlanText) → Writes text plan → ⊥)
+ReadsCore text (Err fault.Memory) = text ≢ []
+ReadsCore text (Err other) = (plan : PlanText) × Writes text plan × Passes plan (Err other)
+
+-- the text is of format 3
+abbrev pub IsOfThird : Text → Type 0
+IsOfThird text = (root : Members) × IsTree text root × IsThird root
+
+-- the text that is read for a text: itself, and in format 3 what it expands to
+abbrev pub IsReadFor : Text → Text → Type 0
+IsReadFor text core = ((IsOfThird text → ⊥) × (core ≡ text)) ⊎ Expands text core
+
+-- no text is read for a text of format 3, for this reason; the empty text needs no memory
+abbrev pub HasNoCore : Text → ExpandFault → Type 0
+HasNoCore text expand.Memory = text ≢ []
+HasNoCore text other = (root : Members) × IsTree text root × IsThird root × Fails root other
+
+-- the text has this plan: that of the text that is read for it, as that stands
+pub record HasPlan (text : Text) (plan : Network) : Type 0 where
+  pub core : Text
+  pub is_for : IsReadFor text core
+  pub reads : ReadsCore core (Ok plan)
+
+-- the text has this fault: that of the text that is read for it, or that there is none
+pub record HasFault (text : Text) (f : PlanFault) : Type 0 where
+  pub why :
+      ((core : Text) × IsReadFor text core × ReadsCore core (Err f))
+      ⊎ ((none : ExpandFault) × HasNoCore text none × (f ≡ fault_of none))
+
+-- what is read of a text
+abbrev pub Reads : Text → Result Network PlanFault → Type 0
+Reads text (Ok plan) = HasPlan text plan
+Reads text (Err f) = HasFault text f

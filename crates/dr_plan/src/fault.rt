@@ -1,12 +1,15 @@
 //! Why a text is no plan.
 ghost use Rattle.std.specs.Prelude.{◌≡◌};
 
+use dr_plan_expand::ExpandFault;
 use dr_plan_text::TextFault;
 use std::alloc::AllocError;
 use thiserror::Error;
 
 /// Why a text is no plan: its first fault, each looked for in the whole text before the next one,
-/// in this order.
+/// in this order. In format 3 the limit of what a text stands for comes before all but the first
+/// two, then the names that nobody defines, and the others are those of the text to which it
+/// expands.
 #[derive(Clone, Copy, Debug, PartialEq, Eq, Error)]
 pub enum PlanFault {
     /// The bytes aren't a text in TOML.
@@ -22,9 +25,12 @@ pub enum PlanFault {
     #[error("L3 Name")]
     Name,
     /// There are more than 64 nodes, more than 1,024 rules and flows, or a `max_pdu` is out of its
-    /// range.
+    /// range; or a text of format 3 stands for more than one may.
     #[error("L6 Limit")]
     Limit,
+    /// In format 3, a set, a group or a class is one that nobody defines.
+    #[error("L4 UnknownName")]
+    UnknownName,
     /// A name is no node's.
     #[error("L4 UnknownNode")]
     UnknownNode,
@@ -56,6 +62,21 @@ impl From<TextFault> for PlanFault {
             TextFault::NotToml => PlanFault::NotToml,
             TextFault::Field => PlanFault::Field,
             TextFault::Memory => PlanFault::Memory,
+        }
+    }
+}
+
+impl From<ExpandFault> for PlanFault {
+    ghost use Rattle.dr_plan.specs.Faults.{fault_of};
+
+    ghost from_gives = { λ e fault. fault ≡ fault_of e };
+
+    fn from(fault: ExpandFault) -> PlanFault {
+        match fault {
+            ExpandFault::Field => PlanFault::Field,
+            ExpandFault::Limit => PlanFault::Limit,
+            ExpandFault::Unknown => PlanFault::UnknownName,
+            ExpandFault::Memory => PlanFault::Memory,
         }
     }
 }

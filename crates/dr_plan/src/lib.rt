@@ -14,4 +14,4 @@ mod typed;
 pub use dr_plan_model::literals::literals;
 pub use dr_plan_model::{Flow, Format, Node, Plan, Stations, Values};
 pub use fault::PlanFault;
-pub use read::read_plan;
+pub use read::{core_of, read_plan};

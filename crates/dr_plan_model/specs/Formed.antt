@@ -19,7 +19,7 @@ use Rattle.dr_plan_model.specs.declared.plan.Values.TheVariants as values
 use Rattle.dr_plan_model.specs.declared.plan.Stations.{Stations}
 use Rattle.dr_plan_model.specs.declared.plan.Stations.TheVariants as stations
 use Rattle.dr_plan_model.specs.declared.plan.Format.{Format}
-use Rattle.dr_plan_model.specs.declared.plan.Format.TheVariants.{One, Two}
+use Rattle.dr_plan_model.specs.declared.plan.Format.TheVariants.{One, Two, Three}
 use Rattle.dr_plan_model.specs.Naming.{prefix_of, listed_prefixes}
 
 -- no space stands at the start of the text, nor at its end
@@ -143,6 +143,7 @@ IsInFormat One nodes flows =
     All (λ node. All (λ rule. prefix_of rule.station ≡ []) node.rules) nodes
     × All (λ flow. listed_prefixes flow.stations ≡ []) flows
 IsInFormat Two nodes flows = Unit {0}
+IsInFormat Three nodes flows = Unit {0}
 
 -- the nodes and flows of a plan of that format: at most 64 nodes, each name once, and at most 1,024
 -- rules and flows together

@@ -1,6 +1,8 @@
+mod Exceeding
 pub mod ByName
 pub mod FieldsFlawed
 pub mod Flawed
 pub mod Indices
 pub mod Refuted
+pub mod ShortRefuted
 pub mod Small

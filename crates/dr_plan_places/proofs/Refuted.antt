@@ -6,7 +6,7 @@ use Rattle.std.proofs.lemmas.List.Elements.{All-contains}
 use Rattle.dr_plan_model.proofs.Gathered.{Contains-here, Contains-there}
 use Rattle.dr_route.specs.declared.rule.Rule.{Rule as RuleText}
 use Rattle.dr_plan_model.specs.declared.plan.Format.{Format}
-use Rattle.dr_plan_model.specs.declared.plan.Format.TheVariants.{One, Two}
+use Rattle.dr_plan_model.specs.declared.plan.Format.TheVariants.{One, Two, Three}
 use Rattle.dr_plan_text.specs.declared.words.FlowText.{FlowText}
 use Rattle.dr_plan_text.specs.Fields.{PatternFits, StationsFit}
 use Rattle.dr_plan_text.proofs.OnePlan.{format_one}
@@ -74,6 +74,7 @@ fits_as One root plan read is =
       subst (λ (format : Format). All (FlowFits format) plan.flows) same is.fits.flows,
     )
 fits_as Two root plan read is = (λ k d h. λ i r g. tt, λ k d h. tt)
+fits_as Three root plan read is = (λ k d h. λ i r g. tt, λ k d h. tt)
 
 refuted_node : (format : Format) (node : Members) (part : NodePart) (flaw : Flaw) (x : NodeText) → RulesFit format x → IsInNode format node part flaw → IsNodeTable node x → ⊥
 refuted_node format node Own flaw x fits h is = refuted IsNodeTable node flaw x h is
@@ -101,3 +102,4 @@ refuted_text root place flaw plan (format, read, h) is = refuted_as format root 
 pub read_as : (root : Members) (format : Format) → IsFormat (get_member (codes "format") root) format → IsReadAs (get_member (codes "format") root) format
 read_as root One is = is
 read_as root Two is = λ one. let same : One ≡ Two = format_one root One Two one is in cc
+read_as root Three is = λ one. let same : One ≡ Three = format_one root One Three one is in cc

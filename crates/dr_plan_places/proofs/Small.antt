@@ -18,7 +18,7 @@ use Rattle.dr_base.specs.Texts.{Text}
 use Rattle.dr_plan_model.proofs.Gathered.{Contains-cons_cases, only_one}
 use Rattle.dr_plan_text.specs.Tables.{IsRoot, IsRuleTable, IsFormat, root_keys}
 use Rattle.dr_plan_places.proofs.FieldsFlawed.{unknown}
-use Rattle.dr_plan_places.specs.Laws.{ColourIsUnknown, FormatIsNotMissing, ThirdFormatIsIllFormed, PrefixIsIllFormedInFormatOne, PrefixIsOfFormatTwo, coloured, prefixed}
+use Rattle.dr_plan_places.specs.Laws.{ColourIsUnknown, FormatIsNotMissing, FourthFormatIsIllFormed, PrefixIsIllFormedInFormatOne, PrefixIsOfFormatTwo, coloured, prefixed}
 
 first_byte : (x y : Text) (a b : ℕ) → get_or x 0 0 ≡ a → get_or y 0 0 ≡ b → (a ≡ b → ⊥) → x ≡ y → ⊥
 first_byte x y a b at bt apart same = apart (sym at ∙ (ap (λ (t : Text). get_or t 0 0) same ∙ bt))
@@ -47,11 +47,11 @@ format_is_not_missing = λ h. h.0 no_members (record { format = One; nodes = [];
 apart_numbers : (x y : ℕ) → (x ≡ y → ⊥) → integer (pos x) ≡ integer (pos y) → ⊥
 apart_numbers x y apart e = let same : pos x ≡ pos y = cc in let numbers : x ≡ y = cc in apart numbers
 
-pub third_format_is_ill_formed : ThirdFormatIsIllFormed
-third_format_is_ill_formed = (
+pub fourth_format_is_ill_formed : FourthFormatIsIllFormed
+fourth_format_is_ill_formed = (
   λ other plan same is.
       let P : Option Data → Type 0 = λ value. IsFormat value plan.format in
-      no_format (integer (pos 3)) (apart_numbers 3 1 (λ e. omega arith)) (apart_numbers 3 2 (λ e. omega arith)) plan.format (subst P same is.format),
+      no_format (integer (pos 4)) (apart_numbers 4 1 (λ e. omega arith)) (apart_numbers 4 2 (λ e. omega arith)) (apart_numbers 4 3 (λ e. omega arith)) plan.format (subst P same is.format),
   refl,
 )
 

@@ -5,7 +5,7 @@ use Rattle.toml.specs.Data.{get_member}
 use Rattle.dr_base.specs.Texts.{Text}
 use Rattle.dr_route.specs.declared.rule.Rule.{Rule as RuleText}
 use Rattle.dr_plan_model.specs.declared.plan.Format.{Format}
-use Rattle.dr_plan_model.specs.declared.plan.Format.TheVariants.{One, Two}
+use Rattle.dr_plan_model.specs.declared.plan.Format.TheVariants.{One, Two, Three}
 use Rattle.dr_plan_text.specs.declared.words.FlowText.{FlowText}
 use Rattle.dr_plan_text.specs.Fields.{PatternFits, StationsFit}
 use Rattle.dr_plan_text.specs.Tables.{IsAcceptTable, IsRuleTable, IsNodeTable, IsFlowTable, IsRoot}
@@ -72,11 +72,12 @@ IsRuleOf format fields rule = IsRuleTable fields rule × PatternFits format rule
 abbrev pub IsFlowOf : Format → Members → FlowText → Type 0
 IsFlowOf format fields flow = IsFlowTable fields flow × StationsFit format flow.stations
 
--- the format as which the tables of a text are looked at: 1 where the text's format is 1, and 2
--- where it is another one, be that no format at all
+-- the format as which the tables of a text are looked at: 1 where the text's format is 1, and 2 or
+-- 3 where it is another one, be that no format at all
 abbrev pub IsReadAs : Option Data → Format → Type 0
 IsReadAs value One = IsFormat value One
 IsReadAs value Two = IsFormat value One → ⊥
+IsReadAs value Three = IsFormat value One → ⊥
 
 -- the flaw stands in this part of the node's table, in a text of that format
 abbrev pub IsInNode : Format → Members → NodePart → Flaw → Type 0

@@ -4,7 +4,10 @@ use Rattle.toml.specs.Data.{integer, string, Members, no_members, member}
 use Rattle.dr_plan_text.specs.Tables.{IsRoot}
 use Rattle.dr_plan_text.specs.declared.words.PlanText.{PlanText}
 use Rattle.dr_plan_model.specs.declared.plan.Format.TheVariants.{One, Two}
+use Rattle.dr_plan_expand.specs.Tables.{IsShortPlan}
+use Rattle.dr_plan_expand.specs.declared.short.ShortPlan.{ShortPlan}
 use Rattle.dr_plan_places.specs.FieldFlaws.{HasFlaw, IsIn, IsRuleOf}
+use Rattle.dr_plan_places.specs.ShortFlaws.{IsInShort}
 use Rattle.dr_plan_places.specs.declared.flaw.Flaw.{Flaw}
 use Rattle.dr_plan_places.specs.declared.flaw.Wrong.TheVariants.{Missing, Unknown, IllFormed}
 use Rattle.dr_plan_places.specs.declared.field_place.FieldPlace.{FieldPlace}
@@ -14,6 +17,12 @@ abbrev pub PlacesRefute : Type 0
 PlacesRefute =
     (root : Members) (place : FieldPlace) (flaw : Flaw) (plan : PlanText)
     → IsIn root place flaw → IsRoot root plan → ⊥
+
+-- tables of format 3 with a flaw at any place say no plan
+abbrev pub ShortPlacesRefute : Type 0
+ShortPlacesRefute =
+    (root : Members) (place : FieldPlace) (flaw : Flaw) (short : ShortPlan)
+    → IsInShort root place flaw → IsShortPlan root short → ⊥
 
 -- the text's table `colour = 1`
 abbrev pub coloured : Members
@@ -27,14 +36,14 @@ ColourIsUnknown = HasFlaw IsRoot coloured (record { key = codes "colour"; wrong 
 abbrev pub FormatIsNotMissing : Type 0
 FormatIsNotMissing = HasFlaw IsRoot coloured (record { key = codes "format"; wrong = Missing }) → ⊥
 
--- the text's table `format = 3`
-abbrev pub third_format : Members
-third_format = member (codes "format") (integer (pos 3)) no_members
+-- the text's table `format = 4`
+abbrev pub fourth_format : Members
+fourth_format = member (codes "format") (integer (pos 4)) no_members
 
 -- its format is ill-formed
-abbrev pub ThirdFormatIsIllFormed : Type 0
-ThirdFormatIsIllFormed =
-    HasFlaw IsRoot third_format (record { key = codes "format"; wrong = IllFormed })
+abbrev pub FourthFormatIsIllFormed : Type 0
+FourthFormatIsIllFormed =
+    HasFlaw IsRoot fourth_format (record { key = codes "format"; wrong = IllFormed })
 
 -- a rule's table `station = "CT*"`
 abbrev pub prefixed : Members

@@ -1,6 +1,9 @@
+pub mod Excess
 pub mod FieldFlaws
 pub mod Firsts
 pub mod Flaws
 pub mod Laws
 pub mod Named
 pub mod Placed
+pub mod ShortFlaws
+pub mod Strangers

@@ -38,7 +38,7 @@ pub enum FieldPlace {
 }
 
 /// A search for a flaw in a table of a form.
-struct FlawOf<T>(T);
+pub struct FlawOf<T>(T);
 
 impl<T: Inspected> Search for FlawOf<T> {
     type Found = Flaw;

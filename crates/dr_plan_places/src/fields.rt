@@ -9,7 +9,7 @@ use toml::Table;
 /// What the text's own fields have to be.
 fn wanted_of_root(key: &str) -> &'static [u8] {
     match key {
-        "format" => b"the number 1 or 2",
+        "format" => b"the number 1, 2 or 3",
         "node" => b"tables [[node]]",
         "flow" => b"tables [[flow]]",
         _ => b"?",
@@ -110,7 +110,7 @@ fn add_part(out: &mut Vec<u8>, part: NodePart) -> Result<(), AllocError> {
 }
 
 /// Adds a table of the text.
-fn add_table(out: &mut Vec<u8>, root: &Table, place: FieldPlace) -> Result<(), AllocError> {
+pub fn add_table(out: &mut Vec<u8>, root: &Table, place: FieldPlace) -> Result<(), AllocError> {
     match place {
         FieldPlace::Root => out.extend_from_slice(b"in front of all tables"),
         FieldPlace::OfNode(index, part) => {
@@ -124,8 +124,13 @@ fn add_table(out: &mut Vec<u8>, root: &Table, place: FieldPlace) -> Result<(), A
     }
 }
 
-/// Adds what is wrong with a field.
-fn add_flaw(out: &mut Vec<u8>, place: FieldPlace, flaw: &Flaw) -> Result<(), AllocError> {
+/// The key of a flaw.
+pub fn key_of(flaw: &Flaw) -> &str {
+    str::from_utf8(flaw.key.as_bytes()).unwrap_or("")
+}
+
+/// Adds what is wrong with a field, and what it has to be.
+fn add_flaw(out: &mut Vec<u8>, flaw: &Flaw, wanted: &[u8]) -> Result<(), AllocError> {
     let key = flaw.key.as_bytes();
     match flaw.wrong {
         Wrong::Unknown => {
@@ -144,20 +149,33 @@ fn add_flaw(out: &mut Vec<u8>, place: FieldPlace, flaw: &Flaw) -> Result<(), All
             out.extend_from_slice(b": it has to be ")?;
         }
     }
-    out.extend_from_slice(wanted(place, str::from_utf8(key).unwrap_or("")))
+    out.extend_from_slice(wanted)
 }
 
-/// The place of a field's fault in words, one line of them, indented by two blanks: the table, the
-/// key, and what it has to be. Nothing where no place shows it.
+/// A field's fault in words, one line of them, indented by two blanks: the table, the key, and what
+/// it has to be.
+pub fn describe_flaw(
+    alloc: Global,
+    root: &Table,
+    place: FieldPlace,
+    flaw: &Flaw,
+    wanted: &[u8],
+) -> Result<Text, AllocError> {
+    let mut out = Vec::from_slice(alloc, b"  ")?;
+    add_table(&mut out, root, place)?;
+    add_flaw(&mut out, flaw, wanted)?;
+    out.push(b'\n')?;
+    Ok(Text::from_vec(out))
+}
+
+/// The place of a field's fault in words. Nothing where no place shows it.
 ///
 /// Errors: want of memory.
 pub fn describe_field(alloc: Global, root: &Table) -> Result<Text, AllocError> {
-    let Some((place, flaw)) = field_in(alloc, root)? else {
-        return Ok(Text::empty(alloc));
-    };
-    let mut out = Vec::from_slice(alloc, b"  ")?;
-    add_table(&mut out, root, place)?;
-    add_flaw(&mut out, place, &flaw)?;
-    out.push(b'\n')?;
-    Ok(Text::from_vec(out))
+    match field_in(alloc, root)? {
+        Some((place, flaw)) => {
+            describe_flaw(alloc, root, place, &flaw, wanted(place, key_of(&flaw)))
+        }
+        None => Ok(Text::empty(alloc)),
+    }
 }

@@ -1,18 +1,19 @@
 //! Laws of flaws: what a reader may take from the definitions.
 ghost use Rattle.dr_plan_places.specs.Laws.{ColourIsUnknown, FormatIsNotMissing, PlacesRefute};
 ghost use Rattle.dr_plan_places.specs.Laws.{PrefixIsIllFormedInFormatOne, PrefixIsOfFormatTwo};
-ghost use Rattle.dr_plan_places.specs.Laws.{ThirdFormatIsIllFormed};
+ghost use Rattle.dr_plan_places.specs.Laws.{FourthFormatIsIllFormed, ShortPlacesRefute};
 
-/// Tables with a flaw at any place write no plan.
+/// Tables with a flaw at any place write no plan, and in format 3 say none.
 pub fn places_refute()
-    ensures { PlacesRefute }
+    ensures written { PlacesRefute }
+    ensures short { ShortPlacesRefute }
 {}
 
-/// A key that nobody knows is unknown, and a format of 3 ill-formed; a format that isn't given
+/// A key that nobody knows is unknown, and a format of 4 ill-formed; a format that isn't given
 /// isn't missing. A rule's prefix is ill-formed in format 1, and not in format 2.
 pub fn small_tables_have_flaws()
     ensures colour { ColourIsUnknown }
-    ensures format { ThirdFormatIsIllFormed }
+    ensures format { FourthFormatIsIllFormed }
     ensures none { FormatIsNotMissing }
     ensures prefix { PrefixIsIllFormedInFormatOne }
     ensures prefix_of_2 { PrefixIsOfFormatTwo }

@@ -2,8 +2,11 @@
 //!
 //! - `field_in`: a place at which the text's tables show that a field is missing, unknown or
 //!   ill-formed. The place is right; that one is found in each text with the fault is tested.
+//! - `short_field_in` and `stranger_in`: the same for a text of format 3, and a word in one that
+//!   nobody defines; `excess_in`: the table with which one stands for too much.
 #![tactic(auto)]
 
+mod excess;
 mod explaining;
 mod field_place;
 mod fields;
@@ -19,10 +22,15 @@ mod own;
 mod place;
 pub mod print;
 mod rows;
+mod short_fields;
+mod short_place;
+mod short_tables;
+mod strangers;
 mod syntaxes;
 mod tables;
 mod wording;
 
+pub use excess::excess_in;
 pub use explaining::explain;
 pub use field_place::{FieldPlace, NodePart, field_in};
 pub use flaw::{Flaw, Wrong};
@@ -32,5 +40,7 @@ pub use names::{FlowName, NamePlace, NodeName, RuleName, name_in};
 pub use nodes::twins_in;
 pub use own::{OwnPlace, own_in};
 pub use place::{Place, place_of};
+pub use short_place::short_field_in;
+pub use strangers::{Stranger, WordKey, stranger_in};
 pub use syntaxes::{SyntaxPlace, syntax_in};
 pub use wording::describe;

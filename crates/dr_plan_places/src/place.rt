@@ -111,7 +111,7 @@ pub fn place_of(plan: &PlanText, fault: PlanFault) -> Option<Place>
         PlanFault::Limit => Some(Place::Limit(limit_in(plan))),
         PlanFault::UnknownNode => unknown_place(plan),
         PlanFault::SelfRoute => own_place(plan),
-        PlanFault::NotToml | PlanFault::Field => unreachable!(),
+        PlanFault::NotToml | PlanFault::Field | PlanFault::UnknownName => unreachable!(),
         PlanFault::Memory => None,
     }
 }

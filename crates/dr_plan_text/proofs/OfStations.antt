@@ -12,7 +12,7 @@ use Rattle.dr_plan_model.specs.declared.plan.Stations.{Stations}
 use Rattle.dr_plan_model.specs.declared.plan.Stations.TheVariants as stations
 use Rattle.dr_route.specs.declared.cell.StationValues.{StationValues}
 use Rattle.dr_plan_model.specs.declared.plan.Format.{Format}
-use Rattle.dr_plan_model.specs.declared.plan.Format.TheVariants.{One, Two}
+use Rattle.dr_plan_model.specs.declared.plan.Format.TheVariants.{One, Two, Three}
 use Rattle.dr_plan_model.specs.Formed.{IsLiteral, IsPrefix}
 use Rattle.dr_plan_model.specs.Naming.{station_of, prefix_of}
 use Rattle.dr_plan_text.specs.Fields.{SaysFormat, SaysNamed, SaysStation, SaysStations, IsListOf, star}
@@ -25,12 +25,18 @@ pub SaysFormat-one : SaysOne SaysFormat
 SaysFormat-one d One One a b = refl
 SaysFormat-one d One Two a b = absurd (let same : ◌≡◌ {A = ℕ} 1 2 = same_number 1 2 (sym a ∙ b) in omega arith)
 SaysFormat-one d Two One a b = absurd (let same : ◌≡◌ {A = ℕ} 1 2 = same_number 1 2 (sym b ∙ a) in omega arith)
+SaysFormat-one d One Three a b = absurd (let same : ◌≡◌ {A = ℕ} 1 3 = same_number 1 3 (sym a ∙ b) in omega arith)
 SaysFormat-one d Two Two a b = refl
+SaysFormat-one d Two Three a b = absurd (let same : ◌≡◌ {A = ℕ} 2 3 = same_number 2 3 (sym a ∙ b) in omega arith)
+SaysFormat-one d Three One a b = absurd (let same : ◌≡◌ {A = ℕ} 1 3 = same_number 1 3 (sym b ∙ a) in omega arith)
+SaysFormat-one d Three Two a b = absurd (let same : ◌≡◌ {A = ℕ} 2 3 = same_number 2 3 (sym b ∙ a) in omega arith)
+SaysFormat-one d Three Three a b = refl
 
--- a value that is neither 1 nor 2 says no format
-pub no_format : (d : Data) → (d ≡ integer (pos 1) → ⊥) → (d ≡ integer (pos 2) → ⊥) → (x : Format) → SaysFormat d x → ⊥
-no_format d not_one not_two One says = not_one says
-no_format d not_one not_two Two says = not_two says
+-- a value that is none of 1, 2 and 3 says no format
+pub no_format : (d : Data) → (d ≡ integer (pos 1) → ⊥) → (d ≡ integer (pos 2) → ⊥) → (d ≡ integer (pos 3) → ⊥) → (x : Format) → SaysFormat d x → ⊥
+no_format d not_one not_two not_three One says = not_one says
+no_format d not_one not_two not_three Two says = not_two says
+no_format d not_one not_two not_three Three says = not_three says
 
 -- no literal ends in an asterisk
 pub no_star_behind : (text prefix : Text) → IsLiteral text → text ≡ prefix ++ 42 ∷ [] → ⊥

@@ -110,7 +110,7 @@ unknown_key = λ plan w.
     let P : Members → Type 0 = λ root. HasOnly root_keys root in
     no_colour (subst P same w.2.only).0
 
-format_parsed : parse_document (codes "format = 3") ≡ Some (member (codes "format") (integer (pos 3)) no_members)
+format_parsed : parse_document (codes "format = 4") ≡ Some (member (codes "format") (integer (pos 4)) no_members)
 unfolding toml_on_literals
 format_parsed = refl
 
@@ -119,9 +119,9 @@ apart_numbers x y apart e = let same : pos x ≡ pos y = cc in let numbers : x �
 
 pub other_format : FormatIsOther
 other_format = λ plan w.
-    let same = the_tree (codes "format = 3") _ w.0 format_parsed w.1.1 in
+    let same = the_tree (codes "format = 4") _ w.0 format_parsed w.1.1 in
     let P : Members → Type 0 = λ root. IsFormat (get_member (codes "format") root) plan.format in
-    no_format (integer (pos 3)) (apart_numbers 3 1 (λ e. omega arith)) (apart_numbers 3 2 (λ e. omega arith)) plan.format (subst P same w.2.format)
+    no_format (integer (pos 4)) (apart_numbers 4 1 (λ e. omega arith)) (apart_numbers 4 2 (λ e. omega arith)) (apart_numbers 4 3 (λ e. omega arith)) plan.format (subst P same w.2.format)
 
 -- the one node of a text that says one node, if it says any
 the_node : (fields : Members) (nodes : List NodeText) → IsListOf (SaysTable IsNodeTable) (array (item (table fields) no_items)) nodes → (node : NodeText) × IsNodeTable fields node

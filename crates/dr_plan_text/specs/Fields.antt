@@ -15,7 +15,7 @@ use Rattle.dr_plan_model.specs.declared.plan.Values.TheVariants as values
 use Rattle.dr_plan_model.specs.declared.plan.Stations.{Stations}
 use Rattle.dr_plan_model.specs.declared.plan.Stations.TheVariants as stations
 use Rattle.dr_plan_model.specs.declared.plan.Format.{Format}
-use Rattle.dr_plan_model.specs.declared.plan.Format.TheVariants.{One, Two}
+use Rattle.dr_plan_model.specs.declared.plan.Format.TheVariants.{One, Two, Three}
 use Rattle.dr_plan_model.specs.Naming.{station_of, prefix_of, listed_prefixes}
 use Rattle.dr_plan_model.specs.Formed.{IsLiteral, IsPrefix}
 
@@ -35,10 +35,11 @@ SaysNumber d number = d ≡ integer number
 abbrev pub SaysFlag : Data → Bool → Type 0
 SaysFlag d flag = d ≡ boolean flag
 
--- the number of a format: 1 or 2
+-- the number of a format: 1, 2 or 3
 abbrev pub SaysFormat : Data → Format → Type 0
 SaysFormat d One = d ≡ integer (pos 1)
 SaysFormat d Two = d ≡ integer (pos 2)
+SaysFormat d Three = d ≡ integer (pos 3)
 
 -- the items say these values, one each
 abbrev pub Lists : {X : Type 0} → (Data → X → Type 0) → Items → List X → Type 0
@@ -98,11 +99,13 @@ SaysStations d (stations.Listed values) =
 abbrev pub PatternFits : Format → StationPattern → Type 0
 PatternFits One pattern = prefix_of pattern ≡ []
 PatternFits Two pattern = Unit {0}
+PatternFits Three pattern = Unit {0}
 
 -- the format has the stations of a flow: in format 1 there is no prefix
 abbrev pub StationsFit : Format → Stations → Type 0
 StationsFit One listed = listed_prefixes listed ≡ []
 StationsFit Two listed = Unit {0}
+StationsFit Three listed = Unit {0}
 
 -- the values of a flow for modality: `*`, or a list of literals
 abbrev pub SaysValues : Data → Values → Type 0

@@ -51,9 +51,9 @@ WritesNone text = (plan : PlanText) → Writes text plan → ⊥
 abbrev pub KeyIsUnknown : Type 0
 KeyIsUnknown = WritesNone (codes "colour = 1")
 
--- a text of another format than 1 and 2 writes no plan
+-- a text of another format than 1, 2 and 3 writes no plan
 abbrev pub FormatIsOther : Type 0
-FormatIsOther = WritesNone (codes "format = 3")
+FormatIsOther = WritesNone (codes "format = 4")
 
 -- a text with a node without an address writes no plan
 abbrev pub AddressIsMissing : Type 0

@@ -144,6 +144,9 @@ impl Form for FormatNumber {
         if is_number(value, 2) {
             return Ok(Format::Two);
         }
+        if is_number(value, 3) {
+            return Ok(Format::Three);
+        }
         Err(ReadFault::Field)
     }
 }

@@ -35,7 +35,7 @@ pub fn pattern_fits(format: Format, pattern: &StationPattern) -> bool
 {
     match format {
         Format::One => has_no_prefix(pattern),
-        Format::Two => true,
+        Format::Two | Format::Three => true,
     }
 }
 
@@ -45,7 +45,7 @@ pub fn stations_fit(format: Format, stations: &Stations) -> bool
 {
     match format {
         Format::One => list_no_prefix(stations),
-        Format::Two => true,
+        Format::Two | Format::Three => true,
     }
 }
 

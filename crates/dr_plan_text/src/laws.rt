@@ -18,8 +18,8 @@ pub fn small_texts_write_plans()
     ensures node { NodeIsWritten }
 {}
 
-/// A text writes no plan where a key is unknown, where the format is neither 1 nor 2, where a node
-/// has no address, and where the port of an address is above 65,535.
+/// A text writes no plan where a key is unknown, where the format is none of 1, 2 and 3, where a
+/// node has no address, and where the port of an address is above 65,535.
 pub fn ill_formed_texts_write_none()
     ensures key { KeyIsUnknown }
     ensures format { FormatIsOther }

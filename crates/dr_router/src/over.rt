@@ -1,5 +1,6 @@
 //! The program over anything that it can run on.
 use crate::files::{Databases, StoredLedgers};
+use dr_ledger_journal::TellsJournal;
 use dr_run_files::Files;
 use dr_run_net::Network;
 use dr_run_open::{Ledgers, Status};
@@ -42,7 +43,7 @@ pub fn run_over<
     ending: &U,
 ) -> Status
 where
-    O::Ledger: Send,
+    O::Ledger: Send + TellsJournal,
     N::Socket: Send,
     N::Listener: Sync,
 {

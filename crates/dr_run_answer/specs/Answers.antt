@@ -1,9 +1,8 @@
 -- What a running node answers, as lines: JSON's objects, and figures for Prometheus.
-use Rattle.std.specs.Prelude.{ℕ, ◌/◌, ◌%◌, ◌∷◌, ◌++◌, ◌&&◌, Bool, true, false, List, [], Option}
+use Rattle.std.specs.Prelude.{ℕ, ◌/◌, ◌%◌, ◌∷◌, ◌++◌, List, [], Option}
 use Rattle.std.specs.Prelude.{None, Some}
-use Rattle.std.specs.Prelude.{bytes_eq, codes, decimal, flat_map}
-use Rattle.std.specs.Ordering.{is_lt}
-use Rattle.dr_base.specs.Texts.{Text, text_cmp}
+use Rattle.std.specs.Prelude.{codes, decimal, flat_map}
+use Rattle.dr_base.specs.Texts.{Text}
 use Rattle.dr_ledger.specs.Pairs.{Pair}
 use Rattle.hex.specs.Hex.{encode_upper}
 use Rattle.dr_ledger.specs.declared.item.Cause.{Cause}
@@ -13,9 +12,6 @@ use Rattle.dr_ledger.specs.declared.item.Progress.TheVariants as progress
 use Rattle.dr_run_answer.specs.declared.json.Counts.{Counts}
 use Rattle.dr_run_answer.specs.declared.json.Queue.{Queue}
 use Rattle.dr_run_answer.specs.Quoting.{quoted}
-use Rattle.dr_run_request.specs.declared.wanted.Stage.{Stage}
-use Rattle.dr_run_request.specs.declared.wanted.Stage.TheVariants as stage
-use Rattle.dr_run_request.specs.declared.wanted.Wanted.{Wanted}
 
 -- a member behind another: its name, then a number or a text
 abbrev pub member : Text → Text → Text
@@ -95,40 +91,6 @@ well_line = codes "{\"well\":true}\n"
 
 abbrev pub fault_line : Text → Text
 fault_line fault = begun (codes "fault") fault ++ ended
-
--- a row is at a stage
-abbrev pub is_at : Stage → Progress → Bool
-is_at stage.Waiting (progress.Waiting tries due) = true
-is_at stage.Waiting (progress.Held why) = false
-is_at stage.Waiting progress.Done = false
-is_at stage.Waiting progress.Dropped = false
-is_at stage.Held (progress.Waiting tries due) = false
-is_at stage.Held (progress.Held why) = true
-is_at stage.Held progress.Done = false
-is_at stage.Held progress.Dropped = false
-is_at stage.Done (progress.Waiting tries due) = false
-is_at stage.Done (progress.Held why) = false
-is_at stage.Done progress.Done = true
-is_at stage.Done progress.Dropped = false
-is_at stage.Dropped (progress.Waiting tries due) = false
-is_at stage.Dropped (progress.Held why) = false
-is_at stage.Dropped progress.Done = false
-is_at stage.Dropped progress.Dropped = true
-
--- it is at the stage that is named, if one is
-abbrev pub is_fit : Option Stage → Progress → Bool
-is_fit None row = true
-is_fit (Some stage) row = is_at stage row
-
--- its UID stands behind the one that is named, if one is
-abbrev pub is_behind : Option Text → Text → Bool
-is_behind None uid = true
-is_behind (Some after) uid = is_lt (text_cmp after uid)
-
--- the row is one of those that are wanted
-abbrev pub is_wanted : Wanted → Pair × Progress → Bool
-is_wanted wanted row =
-    bytes_eq row.0.1 wanted.dest && is_fit wanted.stage row.1 && is_behind wanted.after row.0.0
 
 -- ---- the text format of Prometheus
 

@@ -1,3 +1,4 @@
 pub mod Consoles
+pub mod Laws
 pub mod Names
 pub mod Replies

@@ -1,7 +1,10 @@
--- The status of HTTP with which a request is answered (RFC 9110 15).
-use Rattle.std.specs.Prelude.{ℕ}
+-- The status of HTTP with which a request is answered (RFC 9110 15), and the line that names why.
+use Rattle.std.specs.Prelude.{◌≡◌, ◌⊎◌, ℕ, [], Result, Ok, Err, codes}
+use Rattle.dr_base.specs.Texts.{Text}
 use Rattle.dr_ledger.specs.declared.fault.LedgerFault.{LedgerFault}
 use Rattle.dr_ledger.specs.declared.fault.LedgerFault.TheVariants as ledger
+use Rattle.dr_run_answer.specs.Answers.{done_line, fault_line}
+use Rattle.dr_run_open.specs.Codes.{code_of}
 use Rattle.dr_run_request.specs.declared.admission.Refused.{Refused}
 use Rattle.dr_run_request.specs.declared.admission.Refused.TheVariants as refused
 use Rattle.dr_run_request.specs.declared.wanted.FormFault.{FormFault}
@@ -28,3 +31,30 @@ status_of_fault ledger.NotHeld = 409
 status_of_fault ledger.NotOver = 409
 status_of_fault ledger.Store = 503
 status_of_fault ledger.Memory = 503
+
+-- the name of a refusal
+abbrev pub name_of_refusal : Refused → Text
+name_of_refusal refused.Host = codes "Host"
+name_of_refusal refused.Path = codes "Path"
+name_of_refusal refused.Method = codes "Method"
+name_of_refusal refused.Closed = codes "Closed"
+name_of_refusal refused.Token = codes "Token"
+
+-- the name of what is wrong with a form
+abbrev pub name_of_form : FormFault → Text
+name_of_form form.Field = codes "Field"
+name_of_form form.Memory = codes "Memory"
+
+-- the status by which what the ledger answered to an act is told
+abbrev pub status_of_answer : Result (Unit {0}) LedgerFault → ℕ
+status_of_answer (Ok done) = 200
+status_of_answer (Err why) = status_of_fault why
+
+-- and the line
+abbrev pub line_of_answer : Result (Unit {0}) LedgerFault → Text
+line_of_answer (Ok done) = done_line
+line_of_answer (Err why) = fault_line (code_of why)
+
+-- the text is that line; or it is none, where there was no memory for it
+abbrev pub IsToldIn : Text → Text → Type 0
+IsToldIn line text = (text ≡ line) ⊎ (text ≡ [])

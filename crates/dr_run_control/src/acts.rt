@@ -2,7 +2,8 @@
 ghost use Rattle.std.specs.Prelude.{◌≡◌, ◌≤◌, ◌^◌, MatchResult};
 ghost use Rattle.dr_desk.specs.Receipts.{Leaves, Notes};
 ghost use Rattle.dr_desk.specs.declared.receipt.Reply.TheVariants as reply;
-ghost use Rattle.dr_run_control.specs.Consoles.{call_of};
+ghost use Rattle.dr_desk.specs.Answering.{Answers};
+ghost use Rattle.dr_run_control.specs.Consoles.{call_of, does_to};
 
 use dr_desk::{Pass, SharedDesk, Sharing};
 use dr_ledger::{LedgerFault, LetsGo};
@@ -28,11 +29,14 @@ pub(crate) fn act_on_row<R: Wait, L: LetsGo, B: Sharing>(
     now: u64,
 ) -> Result<(), LedgerFault>
     requires { now ≤ 2 ^ 62 }
-    ensures { MatchResult result
+    ensures pass { MatchResult result
         (λ done. Notes (call_of act row.now now) reply.Done pass.old.made.count
         pass.old.receipts.items pass.new.made.count pass.new.receipts.items)
         (λ why. Leaves pass.old.made.count pass.old.receipts.items pass.new.made.count
         pass.new.receipts.items) }
+    ensures answer { Answers L.site L.book L.stands L.failed B.site B.first
+        (does_to act row.now now) (call_of act row.now now) (λ _. reply.Done) result
+        pass.old.receipts.items pass.new.receipts.items }
 {
     match act {
         RowAct::Requeue => desk.requeue(rt, pass, &row.uid, &row.dest),

@@ -1,15 +1,20 @@
 //! A service that answers requests of a node's control connection.
 ghost use Rattle.std.specs.Prelude.{◌≡◌, IfNone, IfSome};
-ghost use Rattle.dr_run_control.specs.Consoles.{Answers, DoesOrLeaves, route_of};
+ghost use Rattle.dr_run_answer.specs.Answers.{done_line};
+ghost use Rattle.dr_run_control.specs.Consoles.{Acts, Answers, route_of};
+ghost use Rattle.dr_run_control.specs.Replies.{IsToldIn};
 ghost use Rattle.dr_run_control.specs.declared.acts.RowAct.{RowAct as RowActValue};
+ghost use Rattle.dr_run_request.specs.declared.route.Route.TheVariants as RouteValue;
 
 use crate::acts::{RowAct, act_on_row};
+use crate::page::read_page;
 use crate::reads::{read_counts, read_health, read_rows};
-use crate::reply::{Reply, misread, refusal, refused_by_ledger, respond};
+use crate::reply::{Media, Reply, misread, refusal, refused_by_ledger, respond};
 use bytes::Bytes;
 use dr_base::Text;
 use dr_desk::{Pass, SharedDesk, Sharing};
-use dr_ledger::{LedgerFault, LetsGo};
+use dr_ledger::LedgerFault;
+use dr_ledger_views::Views;
 use dr_run_answer::put_done;
 use dr_run_open::NextHop;
 use dr_run_request::{Access, Refused, Route, RowName, admit, row_of};
@@ -33,7 +38,7 @@ pub trait House {
 
 /// Answers requests: by the access it is given, over a desk that is shared, with a pass of its own.
 #[derive(Drop)]
-pub struct Console<'a, R: Wait, L: LetsGo, B: Sharing, C: Clock, H: House> {
+pub struct Console<'a, R: Wait, L: Views, B: Sharing, C: Clock, H: House> {
     pub rt: &'a R,
     pub alloc: Global,
     pub desk: &'a SharedDesk<L, B>,
@@ -46,23 +51,31 @@ pub struct Console<'a, R: Wait, L: LetsGo, B: Sharing, C: Clock, H: House> {
     pub house: &'a H,
 }
 
-/// The reply to an act that was done.
-fn done(alloc: Global) -> Reply
-    ensures { result.status ≡ 200 }
+/// The line of an act that was done; where there is no memory for it, none.
+fn done_text(alloc: Global) -> Vec<u8>
+    ensures { IsToldIn done_line result.items }
 {
     let mut text = Vec::new(alloc);
-    if put_done(&mut text).is_err() {
-        text.clear();
+    match put_done(&mut text) {
+        Ok(()) => text,
+        Err(_) => Vec::new(alloc),
     }
+}
+
+/// The reply to an act that was done.
+fn done(alloc: Global) -> Reply
+    ensures status { result.status ≡ 200 }
+    ensures text { IsToldIn done_line result.text.items }
+{
     Reply {
         status: StatusCode::OK,
-        text,
-        is_figures: false,
+        text: done_text(alloc),
+        media: Media::Lines,
     }
 }
 
 /// Does an act on the row that a form names.
-fn do_act<R: Wait, L: LetsGo, B: Sharing, C: Clock, H: House>(
+fn do_act<R: Wait, L: Views, B: Sharing, C: Clock, H: House>(
     rt: &R,
     alloc: Global,
     desk: &SharedDesk<L, B>,
@@ -72,7 +85,8 @@ fn do_act<R: Wait, L: LetsGo, B: Sharing, C: Clock, H: House>(
     act: RowAct,
     form: &[u8],
 ) -> Reply
-    ensures { DoesOrLeaves act form.now result.status pass.old.made.count pass.old.receipts.items
+    ensures { Acts L.site L.book L.stands L.failed B.site B.first
+        act form.now result.status result.text.items pass.old.made.count pass.old.receipts.items
         pass.new.made.count pass.new.receipts.items }
 {
     let row = match row_of(alloc, form) {
@@ -99,7 +113,8 @@ fn row_act(route: Route) -> Option<RowAct>
     match route {
         Route::Requeue => Some(RowAct::Requeue),
         Route::GiveUp => Some(RowAct::GiveUp),
-        Route::Status | Route::Rows | Route::Metrics | Route::Health | Route::Stop => None,
+        Route::Page | Route::Status | Route::Rows | Route::Metrics | Route::Health | Route::Stop =>
+            None,
     }
 }
 
@@ -111,14 +126,18 @@ fn query_of(request: &Request<Bytes>) -> &[u8] {
     }
 }
 
-impl<'a, R: Wait, L: LetsGo, B: Sharing, C: Clock, H: House> Console<'a, R, L, B, C, H> {
+impl<'a, R: Wait, L: Views, B: Sharing, C: Clock, H: House> Console<'a, R, L, B, C, H> {
     /// The reply to what changes no row.
-    fn look(&self, route: Route, request: &Request<Bytes>) -> Reply {
+    fn look(&self, route: Route, request: &Request<Bytes>) -> Reply
+        ensures { route ≡ RouteValue.Stop
+            → (result.status ≡ 200) × IsToldIn done_line result.text.items }
+    {
         let (rt, alloc, desk) = (self.rt, self.alloc, self.desk);
         match route {
+            Route::Page => { read_page(rt, alloc, desk, self.hops, self.since, self.clock.now()) }
             Route::Rows => read_rows(rt, alloc, desk, query_of(request)),
-            Route::Status => read_counts(rt, alloc, desk, self.hops, self.since, false),
-            Route::Metrics => read_counts(rt, alloc, desk, self.hops, self.since, true),
+            Route::Status => read_counts(rt, alloc, desk, self.hops, self.since, Media::Lines),
+            Route::Metrics => read_counts(rt, alloc, desk, self.hops, self.since, Media::Figures),
             Route::Stop => {
                 self.house.stop();
                 done(alloc)
@@ -128,10 +147,11 @@ impl<'a, R: Wait, L: LetsGo, B: Sharing, C: Clock, H: House> Console<'a, R, L, B
     }
 }
 
-impl<'a, R: Wait, L: LetsGo, B: Sharing, C: Clock, H: House> Console<'a, R, L, B, C, H> {
+impl<'a, R: Wait, L: Views, B: Sharing, C: Clock, H: House> Console<'a, R, L, B, C, H> {
     /// The reply to a request: an act is done where it may, and what mayn't is refused.
     fn answer(&mut self, request: &Request<Bytes>) -> Reply
-        ensures answers { Answers self.old.access.now request.now result.status
+        ensures answers { Answers L.site L.book L.stands L.failed B.site B.first
+            self.old.access.now request.now result.status result.text.items
             self.old.pass.now.made.count self.old.pass.now.receipts.items
             self.new.pass.now.made.count self.new.pass.now.receipts.items }
         ensures access { self.new.access.now ≡ self.old.access.now }
@@ -159,13 +179,14 @@ impl<'a, R: Wait, L: LetsGo, B: Sharing, C: Clock, H: House> Console<'a, R, L, B
     }
 }
 
-impl<'a, R: Wait, L: LetsGo, B: Sharing, C: Clock, H: House> Service
-    for Console<'a, R, L, B, C, H> {
+impl<'a, R: Wait, L: Views, B: Sharing, C: Clock, H: House> Service for Console<'a, R, L, B, C, H> {
     ghost use Rattle.std.specs.Prelude.{◌≡◌};
     ghost use Rattle.dr_run_control.specs.Consoles.{Answers};
 
     ghost answers = { λ s request response t.
-        Answers s.access.now request response.status s.pass.now.made.count s.pass.now.receipts.items
+        Answers L.site L.book L.stands L.failed B.site B.first
+        s.access.now request response.status response.body.items
+        s.pass.now.made.count s.pass.now.receipts.items
         t.pass.now.made.count t.pass.now.receipts.items
         × (t.access.now ≡ s.access.now) };
 

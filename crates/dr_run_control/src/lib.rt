@@ -10,6 +10,8 @@
 mod access;
 mod acts;
 mod console;
+pub mod laws;
+mod page;
 mod reads;
 mod reply;
 mod talking;

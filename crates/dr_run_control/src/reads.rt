@@ -1,50 +1,55 @@
 //! What a running node shows of itself.
-ghost use Rattle.std.specs.Prelude.{◌≡◌, ◌++◌, All, IfOk, OnOk, filter, flat_map, map as mapped};
-ghost use Rattle.std.specs.Prelude.{take};
-ghost use Rattle.dr_run_answer.specs.Answers.{figures, is_wanted, line_of_queue, node_line};
+ghost use Rattle.std.specs.Prelude.{◌≡◌, ◌++◌, IfOk, OnOk, flat_map, map as mapped};
+ghost use Rattle.dr_run_answer.specs.Answers.{figures, line_of_queue, node_line};
 ghost use Rattle.dr_run_answer.specs.Answers.{queues_figures, row_line};
-ghost use Rattle.dr_run_control.specs.Consoles.{IsCounted};
+ghost use Rattle.dr_run_control.specs.Consoles.{IsCounted, stage_named};
 
-use crate::reply::{Reply, misread, refused_by_ledger};
-use dr_base::Text;
-use dr_desk::{Holdings, SharedDesk, Sharing};
-use dr_ledger::{Ledger, Progress};
+use crate::reply::{Media, Reply, misread, refused_by_ledger};
+use dr_base::{Seq, Text};
+use dr_desk::{SharedDesk, Sharing, Totals};
+use dr_ledger::{LedgerFault, Progress};
+use dr_ledger_views::{Stage, Tally, Views};
 use dr_run_answer::{
-    Counts, Queue, put_figures, put_node, put_page, put_queue, put_queues, put_well,
+    Counts, Queue, put_figures, put_node, put_queue, put_queues, put_rows, put_well,
 };
-use dr_run_open::{NextHop, RowStage, how_many, oldest};
-use dr_run_request::{Wanted, wanted_of};
+use dr_run_open::NextHop;
+use dr_run_request::{Stage as Word, Wanted, wanted_of};
 use http::StatusCode;
 use std::alloc::{AllocError, Global};
 use std::sync::Wait;
 
-/// How many rows are on their way to a node.
-fn queue_of<'a>(dest: &'a Text, rows: &[((Text, Text), Progress)]) -> Queue<'a>
-    ensures counted { IsCounted rows.now result }
-    ensures dest { result.dest.now ≡ dest.now }
+/// So many rows are on a page at most.
+const PAGE: u32 = 1_000;
+
+/// How many rows are on their way to a node, as they were counted.
+fn queue_of(dest: &Text, tally: Tally) -> Queue<'_>
+    ensures { IsCounted dest.now tally result }
 {
     Queue {
         dest,
-        waiting: how_many(rows, dest, RowStage::Waiting) as u64,
-        held: how_many(rows, dest, RowStage::Held) as u64,
-        done: how_many(rows, dest, RowStage::Done) as u64,
-        due: oldest(rows, dest),
+        waiting: tally.waiting,
+        held: tally.held,
+        done: tally.done,
+        due: tally.due,
     }
 }
 
-/// The same for each hop.
-fn queues_of<'a>(
+/// The same for each hop. The lock is taken once for each.
+///
+/// Errors: Store, Memory.
+pub(crate) fn queues_of<'a, R: Wait, L: Views, B: Sharing>(
+    rt: &R,
     alloc: Global,
+    desk: &SharedDesk<L, B>,
     hops: &'a [NextHop],
-    rows: &[((Text, Text), Progress)],
-) -> Result<Vec<Queue<'a>>, AllocError>
-    ensures counted { IfOk result (λ queues. All (IsCounted rows.now) queues.items) }
-    ensures dests { IfOk result (λ queues.
+) -> Result<Vec<Queue<'a>>, LedgerFault>
+    ensures { IfOk result (λ queues.
         mapped (λ q. q.dest.now) queues.items ≡ mapped (λ hop. hop.dest) hops.now) }
 {
     let mut queues = Vec::with_capacity(alloc, hops.len())?;
     for hop in hops {
-        queues.push(queue_of(&hop.dest, rows))?;
+        let tally = desk.tally(rt, &hop.dest)?;
+        queues.push(queue_of(&hop.dest, tally))?;
     }
     Ok(queues)
 }
@@ -60,13 +65,21 @@ fn put_each(out: &mut Vec<u8>, queues: &[Queue<'_>]) -> Result<(), AllocError>
     Ok(())
 }
 
-/// How much a node has.
-fn counts_of(holdings: &Holdings, failures: u64) -> Counts {
+/// How much a node has, as it was counted.
+pub(crate) fn counts_of(totals: Totals) -> Counts
+    ensures { result
+        ≡ record {
+          arrivals = totals.arrivals;
+          kept = totals.kept;
+          lines = totals.lines;
+          failures = totals.failures;
+        } }
+{
     Counts {
-        arrivals: holdings.arrivals.len() as u64,
-        kept: holdings.kept.len() as u64,
-        lines: holdings.lines,
-        failures,
+        arrivals: totals.arrivals,
+        kept: totals.kept,
+        lines: totals.lines,
+        failures: totals.failures,
     }
 }
 
@@ -98,17 +111,24 @@ fn figure_lines(alloc: Global, counts: Counts, queues: &[Queue<'_>]) -> Result<V
 }
 
 /// A page of rows.
-fn row_lines(
-    alloc: Global,
-    rows: &[((Text, Text), Progress)],
-    wanted: &Wanted,
-) -> Result<Vec<u8>, AllocError>
-    ensures { IfOk result (λ text.
-        text.items ≡ flat_map row_line (take 1000 (filter (is_wanted wanted.now) rows.now))) }
+fn row_lines(alloc: Global, rows: &[((Text, Text), Progress)]) -> Result<Vec<u8>, AllocError>
+    ensures { IfOk result (λ text. text.items ≡ flat_map row_line rows.now) }
 {
     let mut out = Vec::new(alloc);
-    put_page(&mut out, rows, wanted)?;
+    put_rows(&mut out, rows)?;
     Ok(out)
+}
+
+/// The stage that a form names.
+fn stage_of(word: Word) -> Stage
+    ensures { result ≡ stage_named word }
+{
+    match word {
+        Word::Waiting => Stage::Waiting,
+        Word::Held => Stage::Held,
+        Word::Done => Stage::Done,
+        Word::Dropped => Stage::Dropped,
+    }
 }
 
 /// That a node is well.
@@ -119,46 +139,61 @@ fn well_line(alloc: Global) -> Result<Vec<u8>, AllocError> {
 }
 
 /// The reply with that text; where memory ran out, one without.
-fn reply_with(alloc: Global, text: Result<Vec<u8>, AllocError>, is_figures: bool) -> Reply {
+pub(crate) fn reply_with(alloc: Global, text: Result<Vec<u8>, AllocError>, media: Media) -> Reply {
     match text {
         Ok(text) => Reply {
             status: StatusCode::OK,
             text,
-            is_figures,
+            media,
         },
         Err(_) => Reply::bare(alloc, StatusCode::SERVICE_UNAVAILABLE),
     }
 }
 
-/// What a node has, as lines or as figures. The lock is held while it is copied.
-pub(crate) fn read_counts<R: Wait, L: Ledger, B: Sharing>(
+/// What a node has, as lines or as figures. The lock is held while it is counted, and given back
+/// between one hop and the next.
+pub(crate) fn read_counts<R: Wait, L: Views, B: Sharing>(
     rt: &R,
     alloc: Global,
     desk: &SharedDesk<L, B>,
     hops: &[NextHop],
     since: u64,
-    is_figures: bool,
+    media: Media,
 ) -> Reply {
-    let failures = desk.failures(rt);
-    let holdings = match desk.holdings(rt) {
-        Ok(holdings) => holdings,
+    let counts = match desk.totals(rt) {
+        Ok(totals) => counts_of(totals),
         Err(fault) => return refused_by_ledger(alloc, fault),
     };
-    let counts = counts_of(&holdings, failures);
-    let queues = match queues_of(alloc, hops, holdings.rows.as_slice()) {
+    let queues = match queues_of(rt, alloc, desk, hops) {
         Ok(queues) => queues,
-        Err(_) => return Reply::bare(alloc, StatusCode::SERVICE_UNAVAILABLE),
+        Err(fault) => return refused_by_ledger(alloc, fault),
     };
-    let text = if is_figures {
+    let text = if media == Media::Figures {
         figure_lines(alloc, counts, queues.as_slice())
     } else {
         status_lines(alloc, desk.site().name(), since, counts, queues.as_slice())
     };
-    reply_with(alloc, text, is_figures)
+    reply_with(alloc, text, media)
+}
+
+/// The rows that are wanted, as many as a page has.
+///
+/// Errors: Store, Memory.
+fn page_of<R: Wait, L: Views, B: Sharing>(
+    rt: &R,
+    alloc: Global,
+    desk: &SharedDesk<L, B>,
+    wanted: &Wanted,
+) -> Result<Seq<((Text, Text), Progress)>, LedgerFault> {
+    let stage = wanted.stage.map(stage_of);
+    match &wanted.after {
+        Some(after) => desk.page(rt, &wanted.dest, stage, after, PAGE),
+        None => desk.page(rt, &wanted.dest, stage, &Text::empty(alloc), PAGE),
+    }
 }
 
 /// A page of the rows that the form asks for.
-pub(crate) fn read_rows<R: Wait, L: Ledger, B: Sharing>(
+pub(crate) fn read_rows<R: Wait, L: Views, B: Sharing>(
     rt: &R,
     alloc: Global,
     desk: &SharedDesk<L, B>,
@@ -168,20 +203,20 @@ pub(crate) fn read_rows<R: Wait, L: Ledger, B: Sharing>(
         Ok(wanted) => wanted,
         Err(fault) => return misread(alloc, fault),
     };
-    match desk.rows(rt) {
-        Ok(rows) => reply_with(alloc, row_lines(alloc, rows.as_slice(), &wanted), false),
+    match page_of(rt, alloc, desk, &wanted) {
+        Ok(rows) => reply_with(alloc, row_lines(alloc, rows.as_slice()), Media::Lines),
         Err(fault) => refused_by_ledger(alloc, fault),
     }
 }
 
 /// Whether the node's ledger can be read.
-pub(crate) fn read_health<R: Wait, L: Ledger, B: Sharing>(
+pub(crate) fn read_health<R: Wait, L: Views, B: Sharing>(
     rt: &R,
     alloc: Global,
     desk: &SharedDesk<L, B>,
 ) -> Reply {
     match desk.has(rt, desk.site().name()) {
-        Ok(_) => reply_with(alloc, well_line(alloc), false),
+        Ok(_) => reply_with(alloc, well_line(alloc), Media::Lines),
         Err(fault) => refused_by_ledger(alloc, fault),
     }
 }

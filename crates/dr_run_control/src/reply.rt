@@ -1,7 +1,10 @@
 //! Replies: a status, and a text.
-ghost use Rattle.std.specs.Prelude.{◌≡◌, IsTrue};
+ghost use Rattle.std.specs.Prelude.{◌≡◌, ◌++◌, [], IsTrue, Ok, OnOk};
 ghost use Rattle.http_header.specs.FieldName.{is_header_name};
 ghost use Rattle.http_header.specs.FieldValue.{is_visible_text};
+ghost use Rattle.dr_run_answer.specs.Answers.{fault_line};
+ghost use Rattle.dr_run_open.specs.Codes.{code_of};
+ghost use Rattle.dr_run_control.specs.Replies.{IsToldIn, name_of_form, name_of_refusal};
 ghost use Rattle.dr_run_control.specs.Replies.{status_of_fault, status_of_form, status_of_refusal};
 
 use bytes::Bytes;
@@ -13,39 +16,59 @@ use http::{HeaderName, HeaderValue, StatusCode};
 use http_server::Response;
 use std::alloc::{AllocError, Global};
 
-/// A reply: its status, and its lines, of which it is said whether they are figures.
+/// What the text of a reply is.
+#[derive(Clone, Copy, PartialEq, Eq, Debug)]
+pub(crate) enum Media {
+    /// Lines of JSON.
+    Lines,
+    /// Figures for Prometheus.
+    Figures,
+    /// A document for people.
+    Page,
+}
+
+/// A reply: its status, and its text, of which it is said what it is.
 #[derive(Debug, Drop)]
 pub(crate) struct Reply {
     pub status: StatusCode,
     pub text: Vec<u8>,
-    pub is_figures: bool,
+    pub media: Media,
 }
 
 impl Reply {
     /// With no text.
     pub fn bare(alloc: Global, status: StatusCode) -> Reply
-        ensures { result.status ≡ status }
+        ensures status { result.status ≡ status }
+        ensures text { result.text.items ≡ [] }
     {
         Reply {
             status,
             text: Vec::new(alloc),
-            is_figures: false,
+            media: Media::Lines,
         }
     }
 
     /// With the name of a fault, where there is memory for it.
     pub fn of_fault(alloc: Global, status: StatusCode, fault: &str) -> Reply
-        ensures { result.status ≡ status }
+        ensures status { result.status ≡ status }
+        ensures text { IsToldIn (fault_line fault.now) result.text.items }
     {
-        let mut text = Vec::new(alloc);
-        if put_fault(&mut text, fault).is_err() {
-            text.clear();
-        }
         Reply {
             status,
-            text,
-            is_figures: false,
+            text: fault_text(alloc, fault),
+            media: Media::Lines,
         }
+    }
+}
+
+/// The line of a fault; where there is no memory for it, none.
+fn fault_text(alloc: Global, fault: &str) -> Vec<u8>
+    ensures { IsToldIn (fault_line fault.now) result.items }
+{
+    let mut text = Vec::new(alloc);
+    match put_fault(&mut text, fault) {
+        Ok(()) => text,
+        Err(_) => Vec::new(alloc),
     }
 }
 
@@ -63,7 +86,9 @@ pub(crate) fn status_of_refusal(refused: Refused) -> StatusCode
 }
 
 /// The name of a refusal.
-pub fn name_of_refusal(refused: Refused) -> &'static str {
+pub fn name_of_refusal(refused: Refused) -> &'static str
+    ensures { result.now ≡ name_of_refusal refused }
+{
     match refused {
         Refused::Host => "Host",
         Refused::Path => "Path",
@@ -75,7 +100,8 @@ pub fn name_of_refusal(refused: Refused) -> &'static str {
 
 /// The reply to a request that is refused.
 pub(crate) fn refusal(alloc: Global, refused: Refused) -> Reply
-    ensures { result.status ≡ status_of_refusal refused }
+    ensures status { result.status ≡ status_of_refusal refused }
+    ensures text { IsToldIn (fault_line (name_of_refusal refused)) result.text.items }
 {
     Reply::of_fault(alloc, status_of_refusal(refused), name_of_refusal(refused))
 }
@@ -90,15 +116,22 @@ fn status_of_form(fault: FormFault) -> StatusCode
     }
 }
 
-/// The reply to a form that isn't understood.
-pub(crate) fn misread(alloc: Global, fault: FormFault) -> Reply
-    ensures { result.status ≡ status_of_form fault }
+/// The name of what is wrong with a form.
+fn name_of_form(fault: FormFault) -> &'static str
+    ensures { result.now ≡ name_of_form fault }
 {
-    let name = match fault {
+    match fault {
         FormFault::Field => "Field",
         FormFault::Memory => "Memory",
-    };
-    Reply::of_fault(alloc, status_of_form(fault), name)
+    }
+}
+
+/// The reply to a form that isn't understood.
+pub(crate) fn misread(alloc: Global, fault: FormFault) -> Reply
+    ensures status { result.status ≡ status_of_form fault }
+    ensures text { IsToldIn (fault_line (name_of_form fault)) result.text.items }
+{
+    Reply::of_fault(alloc, status_of_form(fault), name_of_form(fault))
 }
 
 /// The status of what a ledger refused.
@@ -117,7 +150,8 @@ fn status_of_fault(fault: LedgerFault) -> StatusCode
 
 /// The reply where a ledger refused.
 pub(crate) fn refused_by_ledger(alloc: Global, fault: LedgerFault) -> Reply
-    ensures { result.status ≡ status_of_fault fault }
+    ensures status { result.status ≡ status_of_fault fault }
+    ensures text { IsToldIn (fault_line (code_of fault)) result.text.items }
 {
     Reply::of_fault(alloc, status_of_fault(fault), code_of(fault))
 }
@@ -126,7 +160,8 @@ pub(crate) fn refused_by_ledger(alloc: Global, fault: LedgerFault) -> Reply
 fn add(response: &mut Response, name: &'static str, value: &'static str) -> Result<(), AllocError>
     requires name { IsTrue (is_header_name name.now) }
     requires value { IsTrue (is_visible_text value.now) }
-    ensures { response.new.status ≡ response.old.status }
+    ensures status { response.new.status ≡ response.old.status }
+    ensures body { response.new.body ≡ response.old.body }
 {
     response.add_header(
         HeaderName::from_static(name),
@@ -134,29 +169,59 @@ fn add(response: &mut Response, name: &'static str, value: &'static str) -> Resu
     )
 }
 
+/// Adds that a text is a document, of which a browser takes nothing for a script, and for which it
+/// asks nobody else for anything.
+fn add_page(response: &mut Response) -> Result<(), AllocError>
+    ensures status { response.new.status ≡ response.old.status }
+    ensures body { response.new.body ≡ response.old.body }
+{
+    add(response, "content-type", "text/html; charset=utf-8")?;
+    add(
+        response,
+        "content-security-policy",
+        "default-src 'none'; style-src 'unsafe-inline'; frame-ancestors 'none'",
+    )?;
+    add(response, "x-content-type-options", "nosniff")
+}
+
+/// Adds what a text is (RFC 9110 8.3).
+fn add_media(response: &mut Response, media: Media) -> Result<(), AllocError>
+    ensures status { response.new.status ≡ response.old.status }
+    ensures body { response.new.body ≡ response.old.body }
+{
+    match media {
+        Media::Lines => add(response, "content-type", "application/x-ndjson"),
+        Media::Figures => add(response, "content-type", "text/plain; version=0.0.4"),
+        Media::Page => add_page(response),
+    }
+}
+
 /// Adds the fields and the text of a reply.
-fn fill(response: &mut Response, text: Vec<u8>, is_figures: bool) -> Result<(), AllocError>
-    ensures { response.new.status ≡ response.old.status }
+fn fill(response: &mut Response, text: Vec<u8>, media: Media) -> Result<(), AllocError>
+    ensures status { response.new.status ≡ response.old.status }
+    ensures body { OnOk result
+        (response.new.body.items ≡ response.old.body.items ++ text.items) }
 {
     add(response, "connection", "close")?;
     add(response, "cache-control", "no-store")?;
-    if is_figures {
-        add(response, "content-type", "text/plain; version=0.0.4")?;
-    } else {
-        add(response, "content-type", "application/x-ndjson")?;
-    }
+    add_media(response, media)?;
     response.body.push(Bytes::from_vec(text)?)
 }
 
 /// Makes it the response; where there is no memory for its text, the status alone.
 pub(crate) fn respond(response: &mut Response, reply: Reply)
-    ensures { response.new.status ≡ reply.status }
+    requires { response.old.body.items ≡ [] }
+    ensures status { response.new.status ≡ reply.status }
+    ensures body { IsToldIn reply.text.items response.new.body.items }
 {
     let Reply {
         status,
         text,
-        is_figures,
+        media,
     } = reply;
     response.status = status;
-    let _filled = fill(response, text, is_figures);
+    match fill(response, text, media) {
+        Ok(()) => {}
+        Err(AllocError) => response.body.clear(),
+    }
 }

@@ -1,1 +1,2 @@
 mod Least
+pub mod Sealed

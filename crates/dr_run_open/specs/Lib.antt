@@ -1,4 +1,5 @@
 pub mod Answers
+pub mod Codes
 pub mod Ends
 pub mod Hops
 pub mod Instances

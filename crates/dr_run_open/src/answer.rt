@@ -1,5 +1,5 @@
 //! What the program answers to the text of a plan, and that to a text which is none.
-ghost use Rattle.std.specs.Prelude.{◌≡◌, ◌≢◌, Err, OnOk};
+ghost use Rattle.std.specs.Prelude.{◌≡◌, ◌≢◌, [], Err, MatchResult, OnOk};
 ghost use Rattle.std.specs.Io.KnownBytes.{Appends};
 ghost use Rattle.dr_plan.specs.Reading.{Reads};
 ghost use Rattle.dr_run_open.specs.Answers.{IsNoPlan, printed_for, status_for};
@@ -45,7 +45,9 @@ impl PlanAnswer {
 
 /// The words about a fault, or none where there is no memory for them: they are no reason not to
 /// name the fault.
-pub fn words_or_none(alloc: Global, words: Result<Text, AllocError>) -> Text {
+pub fn words_or_none(alloc: Global, words: Result<Text, AllocError>) -> Text
+    ensures { MatchResult words (λ text. result ≡ text) (λ _. result ≡ []) }
+{
     match words {
         Ok(words) => words,
         Err(AllocError) => Text::empty(alloc),

@@ -1,6 +1,7 @@
 //! Why a word of the program comes to nothing.
 ghost use Rattle.std.specs.Prelude.{◌≡◌, [], IfOk, OnOk};
 ghost use Rattle.std.specs.Io.KnownBytes.{Appends};
+ghost use Rattle.dr_run_open.specs.Codes.{code_of};
 ghost use Rattle.dr_run_open.specs.Ends.{printed_by, status_by};
 ghost use Rattle.dr_run_open.specs.declared.halt.Halt.TheVariants as halts;
 
@@ -72,7 +73,9 @@ impl<'a> From<AllocError> for Halt<'a> {
 }
 
 /// The code and the name of a ledger's refusal, as it is printed and logged.
-pub fn code_of(fault: LedgerFault) -> &'static str {
+pub fn code_of(fault: LedgerFault) -> &'static str
+    ensures { result.now ≡ code_of fault }
+{
     match fault {
         LedgerFault::NoLine => "G1 NoLine",
         LedgerFault::Conflict => "G2 Conflict",

@@ -3,6 +3,7 @@ ghost use Rattle.std.specs.Prelude.{◌≡◌};
 ghost use Rattle.dr_run_open.specs.Openings.{refusal_of};
 
 use dr_ledger::{Ledger, LetsGo};
+use dr_ledger_views::Views;
 use dr_site::Site;
 use std::alloc::Global;
 use thiserror::Error;
@@ -68,7 +69,7 @@ impl Making {
 pub trait Ledgers {
     ghost use Rattle.std.specs.Prelude.{ℕ, List, ◌≡◌, IfOk};
 
-    type Ledger: Ledger + LetsGo + Drop;
+    type Ledger: Ledger + LetsGo + Views + Drop;
 
     ghost opens: { Self → List ℕ → Self.Ledger → Type 0 };
 

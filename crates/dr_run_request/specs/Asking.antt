@@ -9,10 +9,11 @@ use Rattle.dr_run_request.specs.declared.admission.Access.{Access}
 use Rattle.dr_run_request.specs.declared.admission.Refused.{Refused}
 use Rattle.dr_run_request.specs.declared.admission.Refused.TheVariants as refused
 use Rattle.dr_run_request.specs.declared.route.Route.{Route}
-use Rattle.dr_run_request.specs.declared.route.Route.TheVariants.{Status, Rows, Metrics, Health}
-use Rattle.dr_run_request.specs.declared.route.Route.TheVariants.{Requeue, GiveUp, Stop}
+use Rattle.dr_run_request.specs.declared.route.Route.TheVariants.{Page, Status, Rows, Metrics}
+use Rattle.dr_run_request.specs.declared.route.Route.TheVariants.{Health, Requeue, GiveUp, Stop}
 
 abbrev pub path_of : Route → Text
+path_of Page = codes "/"
 path_of Status = codes "/status"
 path_of Rows = codes "/rows"
 path_of Metrics = codes "/metrics"
@@ -23,6 +24,7 @@ path_of Stop = codes "/stop"
 
 -- it changes something
 abbrev pub is_act : Route → Bool
+is_act Page = false
 is_act Status = false
 is_act Rows = false
 is_act Metrics = false

@@ -3,9 +3,11 @@ ghost use Rattle.std.specs.Prelude.{◌≡◌, ◌↔◌, IfNone, IfSome, IsTrue
 ghost use Rattle.dr_run_request.specs.Asking.{is_act, method_of, path_of};
 ghost use Rattle.dr_run_request.specs.declared.route.Route.{Route as RouteValue};
 
-/// What may be asked of a running node: four things to read, and three acts.
+/// What may be asked of a running node: five things to read, and three acts.
 #[derive(Clone, Copy, PartialEq, Eq, Debug)]
 pub enum Route {
+    /// The page for people.
+    Page,
     /// What it is, and how much it has.
     Status,
     /// Rows for a destination.
@@ -28,7 +30,7 @@ impl Route {
         ensures { result ≡ is_act self }
     {
         match self {
-            Route::Status | Route::Rows | Route::Metrics | Route::Health => false,
+            Route::Page | Route::Status | Route::Rows | Route::Metrics | Route::Health => false,
             Route::Requeue | Route::GiveUp | Route::Stop => true,
         }
     }
@@ -38,6 +40,7 @@ impl Route {
         ensures { result.now ≡ path_of self }
     {
         match self {
+            Route::Page => "/",
             Route::Status => "/status",
             Route::Rows => "/rows",
             Route::Metrics => "/metrics",
@@ -72,6 +75,9 @@ fn reading_at(path: &str) -> Option<Route>
     ensures none { IfNone result
         ((route : RouteValue) → is_act route ≡ false → path.now ≡ path_of route → ⊥) }
 {
+    if is_at(Route::Page, path) {
+        return Some(Route::Page);
+    }
     if is_at(Route::Status, path) {
         return Some(Route::Status);
     }

@@ -6,7 +6,8 @@ use crate::signal::Signal;
 use crate::stop::Stop;
 use dr_desk::{Pass, SharedDesk, Sharing};
 use dr_desk_workers::WorkersFault;
-use dr_ledger::{LedgerFault, LetsGo};
+use dr_ledger::LedgerFault;
+use dr_ledger_views::Views;
 use dr_run_control::{Console, House, RowAct, talk};
 use dr_run_open::NextHop;
 use dr_run_request::{Access, Refused, RowName};
@@ -100,7 +101,7 @@ pub struct View<'a> {
 }
 
 /// Answers one who asks, and lets go of the connection.
-fn answer_caller<R: Wait, L: LetsGo, B: Sharing, C: Clock, G: Log>(
+fn answer_caller<R: Wait, L: Views, B: Sharing, C: Clock, G: Log>(
     rt: &R,
     alloc: Global,
     desk: &SharedDesk<L, B>,
@@ -140,7 +141,7 @@ fn answer_caller<R: Wait, L: LetsGo, B: Sharing, C: Clock, G: Log>(
 }
 
 /// Answers those who ask, one after the other, until nobody is accepted any more.
-fn answer_callers<R: Wait + time::Clock, L: LetsGo, B: Sharing, C: Clock, G: Log>(
+fn answer_callers<R: Wait + time::Clock, L: Views, B: Sharing, C: Clock, G: Log>(
     rt: &R,
     alloc: Global,
     desk: &SharedDesk<L, B>,
@@ -168,7 +169,7 @@ fn answer_callers<R: Wait + time::Clock, L: LetsGo, B: Sharing, C: Clock, G: Log
 /// accepted any more.
 pub fn answer_all<
     R: Threads + Wait + Sync + time::Clock,
-    L: LetsGo + Drop + Send,
+    L: Views + Drop + Send,
     B: Sharing + Send + Sync,
     C: Clock + Sync,
     G: Log + Sync,
@@ -210,7 +211,7 @@ pub fn answer_all<
 /// A pass for each of those who may ask at the same time, where somebody may.
 ///
 /// Errors: TooManyPasses, Memory.
-pub fn passes_of<R: Wait, L: LetsGo, B: Sharing>(
+pub fn passes_of<R: Wait, L: Views, B: Sharing>(
     rt: &R,
     alloc: Global,
     desk: &SharedDesk<L, B>,

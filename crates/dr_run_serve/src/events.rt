@@ -225,13 +225,13 @@ impl Display for Moment {
 }
 
 /// Tells how much a node has.
-pub fn tell_holdings<G: Log>(log: &G, arrivals: usize, kept: usize, lines: u64) {
+pub fn tell_holdings<G: Log>(log: &G, arrivals: u64, kept: u64, lines: u64) {
     info!(log; target: "node", "has arrivals={arrivals} kept={kept} lines={lines}");
 }
 
 /// Tells how many rows wait for a node, are held and are done, and from when on the first of those
 /// that wait is due.
-pub fn tell_queue<G: Log>(log: &G, dest: &Text, stages: [usize; 3], oldest: Option<u64>) {
+pub fn tell_queue<G: Log>(log: &G, dest: &Text, stages: [u64; 3], oldest: Option<u64>) {
     let [waiting, held, done] = stages;
     let (dest, oldest) = (Escaped(dest.as_bytes()), Moment(oldest));
     info!(

@@ -6,7 +6,7 @@ use crate::shutting::{Stage, Wake};
 use crate::signal::{BEGIN, News};
 use crate::sweeper::Sweeper;
 use dr_desk::{SharedDesk, Sharing};
-use dr_ledger::LetsGo;
+use dr_ledger_views::Views;
 use dr_run_net::{Listening, Network};
 use dr_run_open::NextHop;
 use dr_session::Clock;
@@ -43,7 +43,7 @@ fn tell_lacking<G: Log>(log: &G, crew: Crew, news: News) {
 /// it ends the node. It visits no hop and serves nobody, so that neither holds it up.
 pub fn keep<
     R: Wait + time::Clock,
-    L: LetsGo,
+    L: Views,
     B: Sharing,
     D: Listening,
     N: Network,

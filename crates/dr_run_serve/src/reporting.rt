@@ -3,9 +3,10 @@ use crate::events::{tell_holdings, tell_queue, tell_unread, tell_unwritten};
 use crate::monitor::Monitor;
 use dr_base::Text;
 use dr_desk::{Holdings, SharedDesk, Sharing};
-use dr_ledger::Ledger;
+use dr_ledger::{Ledger, LedgerFault};
 use dr_ledger_report::report_text;
-use dr_run_open::{NextHop, RowStage, how_many, oldest};
+use dr_ledger_views::{Tally, Views};
+use dr_run_open::NextHop;
 use log::{Level, Log, log_enabled};
 use std::alloc::Global;
 use std::io;
@@ -30,6 +31,14 @@ impl Telling {
     fn is_due(&self, lines: u64, now: u64, is_over: bool) -> bool {
         self.lines != Some(lines) && (is_over || now >= self.next)
     }
+
+    /// It is tried again as late as the next report.
+    fn later(self, now: u64) -> Telling {
+        Telling {
+            lines: self.lines,
+            next: now.saturating_add(PERIOD),
+        }
+    }
 }
 
 /// When the node was told of last, by reports and by summaries.
@@ -53,23 +62,47 @@ impl LastTold {
     }
 }
 
-/// Logs how much the node has, and for each node to which it sends how many rows are at which
-/// stage.
-fn summarize<G: Log>(holdings: &Holdings, hops: &[NextHop], log: &G) {
-    tell_holdings(
-        log,
-        holdings.arrivals.len(),
-        holdings.kept.len(),
-        holdings.lines,
-    );
-    let rows = holdings.rows.as_slice();
+/// How many rows to each hop are at which stage. The lock is given back between one hop and the
+/// next.
+///
+/// Errors: Store, Memory.
+fn tallies_of<R: Wait, L: Views, B: Sharing>(
+    rt: &R,
+    alloc: Global,
+    desk: &SharedDesk<L, B>,
+    hops: &[NextHop],
+) -> Result<Vec<Tally>, LedgerFault> {
+    let mut tallies = Vec::with_capacity(alloc, hops.len())?;
     for hop in hops {
-        let dest = &hop.dest;
-        let waiting = how_many(rows, dest, RowStage::Waiting);
-        let held = how_many(rows, dest, RowStage::Held);
-        let done = how_many(rows, dest, RowStage::Done);
-        tell_queue(log, dest, [waiting, held, done], oldest(rows, dest));
+        tallies.push(desk.tally(rt, &hop.dest)?)?;
     }
+    Ok(tallies)
+}
+
+/// Logs how many rows to each hop are at which stage.
+fn tell_queues<G: Log>(hops: &[NextHop], tallies: &[Tally], log: &G) {
+    for (hop, tally) in hops.iter().zip(tallies.iter()) {
+        let stages = [tally.waiting, tally.held, tally.done];
+        tell_queue(log, &hop.dest, stages, tally.due);
+    }
+}
+
+/// Logs how much the node has, and for each node to which it sends how many rows are at which
+/// stage: all of it, or nothing. How many lines the journal had then.
+///
+/// Errors: Store, Memory.
+fn summarize<R: Wait, L: Views, B: Sharing, G: Log>(
+    rt: &R,
+    alloc: Global,
+    desk: &SharedDesk<L, B>,
+    hops: &[NextHop],
+    log: &G,
+) -> Result<u64, LedgerFault> {
+    let totals = desk.totals(rt)?;
+    let tallies = tallies_of(rt, alloc, desk, hops)?;
+    tell_holdings(log, totals.arrivals, totals.kept, totals.lines);
+    tell_queues(hops, tallies.as_slice(), log);
+    Ok(totals.lines)
 }
 
 /// Reports what the node has.
@@ -92,9 +125,33 @@ fn report<G: Monitor>(
     monitor.report(alloc, &text)
 }
 
-/// Tells of the node if its journal has grown since it was told of last, and it is time to. A
-/// report that couldn't be written is tried again as late as the next.
-pub fn report_changes<R: Wait, L: Ledger, B: Sharing, G: Monitor>(
+/// Reports what the node has; how many lines the journal had then. None where that couldn't be
+/// read or written.
+fn try_report<R: Wait, L: Ledger, B: Sharing, G: Monitor>(
+    rt: &R,
+    alloc: Global,
+    desk: &SharedDesk<L, B>,
+    monitor: &G,
+) -> Option<u64> {
+    let holdings = match desk.holdings(rt) {
+        Ok(holdings) => holdings,
+        Err(fault) => {
+            tell_unread(monitor, fault);
+            return None;
+        }
+    };
+    match report(alloc, desk.site().name(), &holdings, monitor) {
+        Ok(()) => Some(holdings.lines),
+        Err(error) => {
+            tell_unwritten(monitor, &error);
+            None
+        }
+    }
+}
+
+/// Tells of the node if its journal has grown since it was told of last, and it is time to. What
+/// couldn't be read or written is tried again as late as the next report.
+pub fn report_changes<R: Wait, L: Views, B: Sharing, G: Monitor>(
     rt: &R,
     alloc: Global,
     desk: &SharedDesk<L, B>,
@@ -106,33 +163,23 @@ pub fn report_changes<R: Wait, L: Ledger, B: Sharing, G: Monitor>(
 ) -> LastTold {
     let mut told = told;
     let lines = desk.line_count(rt);
-    let reports = monitor.wants_reports() && told.report.is_due(lines, now, is_over);
-    let sums = log_enabled!(monitor; target: "node", Level::Info)
-        && told.summary.is_due(lines, now, is_over);
-    if !reports && !sums {
-        return told;
-    }
-    let holdings = match desk.holdings(rt) {
-        Ok(holdings) => holdings,
-        Err(fault) => {
-            tell_unread(monitor, fault);
-            told.report.next = now.saturating_add(PERIOD);
-            told.summary.next = now.saturating_add(PERIOD);
-            return told;
-        }
-    };
-    if sums {
-        summarize(&holdings, hops, monitor);
-        told.summary = Telling {
-            lines: Some(holdings.lines),
-            next: now.saturating_add(MINUTE),
+    let is_logged = log_enabled!(monitor; target: "node", Level::Info);
+    if is_logged && told.summary.is_due(lines, now, is_over) {
+        told.summary = match summarize(rt, alloc, desk, hops, monitor) {
+            Ok(lines) => Telling {
+                lines: Some(lines),
+                next: now.saturating_add(MINUTE),
+            },
+            Err(fault) => {
+                tell_unread(monitor, fault);
+                told.summary.later(now)
+            }
         };
     }
-    if reports {
-        told.report.next = now.saturating_add(PERIOD);
-        match report(alloc, desk.site().name(), &holdings, monitor) {
-            Ok(()) => told.report.lines = Some(holdings.lines),
-            Err(error) => tell_unwritten(monitor, &error),
+    if monitor.wants_reports() && told.report.is_due(lines, now, is_over) {
+        told.report = told.report.later(now);
+        if let Some(lines) = try_report(rt, alloc, desk, monitor) {
+            told.report.lines = Some(lines);
         }
     }
     told

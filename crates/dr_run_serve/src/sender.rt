@@ -9,7 +9,8 @@ use crate::tallied::{SharedPort, Tallied};
 use crate::visit::{Visit, visit_hop};
 use dr_base::Text;
 use dr_desk::{Pass, SharedDesk, Sharing};
-use dr_ledger::{Ledger, LedgerFault, Progress};
+use dr_ledger::{Ledger, LedgerFault};
+use dr_ledger_views::Views;
 use dr_run_net::Network;
 use dr_run_open::NextHop;
 use dr_session::Clock;
@@ -20,9 +21,6 @@ use std::time;
 
 /// No row waits.
 const NEVER: u64 = u64::MAX;
-
-/// The last moment: whatever waits is due then.
-const LAST: u64 = 1 << 62;
 
 /// No sleep is longer, in milliseconds.
 const LONGEST: u64 = 60_000;
@@ -55,21 +53,17 @@ impl<B: Sharing> HopSender<B> {
     }
 }
 
-/// From which moment on the first of the rows that wait for the destination is due. No data set is
-/// read.
+/// From which moment on the first of the rows that wait for the destination is due.
 ///
 /// Errors: Store, Memory.
-fn next_due<R: Wait, L: Ledger, B: Sharing>(
+fn next_due<R: Wait, L: Views, B: Sharing>(
     rt: &R,
     desk: &SharedDesk<L, B>,
     dest: &Text,
 ) -> Result<u64, LedgerFault> {
-    let Some(uid) = desk.due(rt, dest, LAST)? else {
-        return Ok(NEVER);
-    };
-    match desk.progress(rt, &uid, dest)? {
-        Some(Progress::Waiting { due, .. }) => Ok(due),
-        _ => Ok(0),
+    match desk.first_due(rt, dest)? {
+        Some(due) => Ok(due),
+        None => Ok(NEVER),
     }
 }
 
@@ -116,7 +110,7 @@ fn visit<R: Wait, L: Ledger, B: Sharing, N: Network, C: Clock, G: Log>(
 /// Visits the hop, and notes when it is to be visited again.
 ///
 /// Errors: those of a visit.
-fn send<R: Wait, L: Ledger, B: Sharing, N: Network, C: Clock, G: Log>(
+fn send<R: Wait, L: Views, B: Sharing, N: Network, C: Clock, G: Log>(
     rt: &R,
     alloc: Global,
     desk: &SharedDesk<L, B>,
@@ -135,7 +129,7 @@ fn send<R: Wait, L: Ledger, B: Sharing, N: Network, C: Clock, G: Log>(
 
 /// The same, and where that failed the hop is looked at again 1 s later, since it isn't known what
 /// is due.
-fn send_or_rest<R: Wait, L: Ledger, B: Sharing, N: Network, C: Clock, G: Log>(
+fn send_or_rest<R: Wait, L: Views, B: Sharing, N: Network, C: Clock, G: Log>(
     rt: &R,
     alloc: Global,
     desk: &SharedDesk<L, B>,
@@ -171,7 +165,7 @@ fn wake<B: Sharing>(sender: &mut HopSender<B>) {
 /// Visits the hop as often as there is something to send, until no worker is left; then there is
 /// one last visit. Where no worker ever begins, nothing is sent; where the node ends in order, or
 /// its store is shut, nothing more.
-pub fn send_rows<R: Wait + time::Clock, L: Ledger, B: Sharing, N: Network, C: Clock, G: Log>(
+pub fn send_rows<R: Wait + time::Clock, L: Views, B: Sharing, N: Network, C: Clock, G: Log>(
     rt: &R,
     alloc: Global,
     desk: &SharedDesk<L, B>,

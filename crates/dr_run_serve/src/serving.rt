@@ -18,7 +18,8 @@ use crate::watch::Watch;
 use crossbeam_channel::{Receiver, Sender, bounded};
 use dr_desk::{CloseFault, Desk, Pass, SharedDesk, Sharing};
 use dr_desk_workers::{Connection, WorkersFault, workers};
-use dr_ledger::{LedgerFault, LetsGo};
+use dr_ledger::LedgerFault;
+use dr_ledger_views::Views;
 use dr_run_net::{Listening, Network};
 use dr_run_open::NextHop;
 use dr_session::{Clock, Link};
@@ -137,7 +138,7 @@ fn accept_links<
 /// more.
 fn work<
     R: Threads + Wait + Sync + time::Clock,
-    L: LetsGo + Drop + Send,
+    L: Views + Drop + Send,
     B: Sharing + Send + Sync,
     K: Link + Drop + Send,
     C: Clock + Drop + Send,
@@ -170,7 +171,7 @@ fn work<
 /// Accepts and serves connections, and tells the signal when there is nothing left to serve.
 fn serve_links<
     R: Threads + Wait + Sync + time::Clock,
-    L: LetsGo + Drop + Send,
+    L: Views + Drop + Send,
     B: Sharing + Send + Sync,
     K: Link + Drop + Send,
     D: Listening<Socket = K> + Sync,
@@ -205,7 +206,7 @@ fn serve_links<
 /// Sends to each hop, in a thread of its own, as long as somebody serves.
 fn send_all<
     R: Threads + Wait + Sync + time::Clock,
-    L: LetsGo + Send,
+    L: Views + Send,
     B: Sharing + Send + Sync,
     N: Network + Sync,
     C: Clock + Sync,
@@ -243,7 +244,7 @@ where
 /// Sends, and tells of the node, side by side.
 fn send_and_keep<
     R: Threads + Wait + Sync + time::Clock,
-    L: LetsGo + Drop + Send,
+    L: Views + Drop + Send,
     B: Sharing + Send + Sync,
     D: Listening + Sync,
     N: Network + Sync,
@@ -286,7 +287,7 @@ type Came<B> = (
 /// send, and the one who sweeps. When that is over, nobody may ask any more.
 fn serve_and_send<
     R: Threads + Wait + Sync + time::Clock,
-    L: LetsGo + Drop + Send,
+    L: Views + Drop + Send,
     B: Sharing + Send + Sync,
     K: Link + Drop + Send,
     D: Listening<Socket = K> + Sync,
@@ -356,7 +357,7 @@ struct Served<B: Sharing> {
 /// Serves and sends, and answers who asks, side by side.
 fn serve_all<
     R: Threads + Wait + Sync + time::Clock,
-    L: LetsGo + Drop + Send,
+    L: Views + Drop + Send,
     B: Sharing + Send + Sync,
     K: Link + Drop + Send,
     D: Listening<Socket = K> + Sync,
@@ -427,7 +428,7 @@ where
 /// One who sends for each hop, each with a pass of its own.
 ///
 /// Errors: TooManyPasses, Memory.
-fn senders_of<R: Wait, L: LetsGo, B: Sharing>(
+fn senders_of<R: Wait, L: Views, B: Sharing>(
     rt: &R,
     alloc: Global,
     desk: &SharedDesk<L, B>,
@@ -509,7 +510,7 @@ fn all_passes<B: Sharing>(came: Served<B>, is_shut: bool) -> Result<Vec<Pass<B>>
 /// Errors: Store, Memory.
 fn serve_by<
     R: Threads + Wait + Sync + time::Clock,
-    L: LetsGo + Drop + Send,
+    L: Views + Drop + Send,
     B: Sharing + Send + Sync,
     K: Link + Drop + Send,
     D: Listening<Socket = K> + Sync,
@@ -555,7 +556,7 @@ where
 /// Serves and sends on a shared desk, and ends the sharing.
 fn serve_shared<
     R: Threads + Wait + Sync + time::Clock,
-    L: LetsGo + Drop + Send,
+    L: Views + Drop + Send,
     B: Sharing + Send + Sync,
     K: Link + Drop + Send,
     D: Listening<Socket = K> + Sync,
@@ -604,7 +605,7 @@ where
 }
 
 /// The desk is no longer shared.
-fn closed<L: LetsGo + Drop, B: Sharing>(
+fn closed<L: Views + Drop, B: Sharing>(
     alloc: Global,
     desk: SharedDesk<L, B>,
     passes: Vec<Pass<B>>,
@@ -633,7 +634,7 @@ fn fault_of(fault: CloseFault) -> ServeFault {
 /// Shares a ledger's desk, and serves and sends on it.
 fn share<
     R: Threads + Wait + Sync + time::Clock,
-    L: LetsGo + Drop + Send,
+    L: Views + Drop + Send,
     B: Sharing + Send + Sync,
     K: Link + Drop + Send,
     D: Listening<Socket = K> + Sync,
@@ -688,7 +689,7 @@ where
 /// Errors: Receipt, Store, Memory.
 pub fn serve<
     R: Threads + Wait + Sync + time::Clock,
-    L: LetsGo + Drop + Send,
+    L: Views + Drop + Send,
     K: Link + Drop + Send,
     D: Listening<Socket = K> + Sync,
     N: Network + Sync,

@@ -11,6 +11,7 @@ pub mod Sets
 pub mod Shown
 pub mod Sizes
 pub mod Stable
+pub mod Told
 pub mod Unfit
 pub mod Writes
 pub mod Zips

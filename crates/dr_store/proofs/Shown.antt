@@ -20,6 +20,7 @@ use Rattle.dr_ledger.specs.Books.{Book}
 use Rattle.dr_ledger.specs.Items.{instance_of}
 use Rattle.dr_ledger.specs.Replies.{AreKept, Dues, IsDue, IsNext, Lists}
 use Rattle.dr_ledger.proofs.Growing.{inside}
+use Rattle.dr_ledger_views.specs.Views.{IsLeast}
 use Rattle.dr_store.proofs.Sets.{coded_instance, coded_text}
 use Rattle.dr_store.proofs.Stable.{Stable, both, by_code, each, is_in, never, of_dec, of_prop, tested}
 
@@ -99,3 +100,10 @@ are_kept b all h = (
         go : (o : Option Instance) → map.get b.items e.0 ≡ o → Stable ((item : Instance) × (map.get b.items e.0 ≡ Some item) × (item.size ≡ e.1))
         go None is h = absurd (impossible (∥∥₁_map h (λ s. let e : None ≡ Some s.0 = sym is ∙ s.1 in absurd (let f : ⊥ = cc in f))))
         go (Some item) is h = (item, is, by_code coded_ℕ item.size e.1 (∥∥₁_map h (λ s. ap (λ (i : Instance). i.size) (inside item s.0 (sym is ∙ s.1)) ∙ s.2)))
+
+-- ---- the least of some moments
+
+pub is_least : (moments : List ℕ) (least : Option ℕ) → Stable (IsLeast moments least)
+is_least moments None = by_code (coded_list coded_ℕ) moments []
+is_least moments (Some least) =
+    both (of_dec (is_in (tested coded_ℕ) moments least)) (λ h k d low. of_prop le_prop (∥∥₁_map h (λ all. all k d low)))

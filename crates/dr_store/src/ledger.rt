@@ -17,12 +17,17 @@ use crate::counting::{counted, next_after};
 use crate::journal::list_lines;
 use crate::listing::{first_unfit, list_arrivals, list_kept, list_rows, list_rows_and_keys};
 use crate::reading::{admit, due_row, has_data_set, has_item, next_job};
+use crate::telling::tell_journal;
 use dr_base::{Seq, Text};
 use dr_cert::Sealed;
 use dr_ledger::{Arrived, Entry, Item, Job, Ledger, LedgerFault, LetsGo, Outcome, Progress};
+use dr_ledger_history::JournalLine;
+use dr_ledger_journal::TellsJournal;
+use dr_ledger_views::{Stage, Views};
 use dr_site::Site;
 use dr_store_calls::{adopt, arrive, forget, give_up, is_over, requeue, settle};
 use dr_store_reads::find_row;
+use dr_store_views::{count_arrivals, count_kept, count_rows, first_moment, page, rows_of};
 use sqlite::{Alter, Connection};
 use std::alloc::Global;
 
@@ -333,6 +338,58 @@ impl<S: Alter> LetsGo for SqlLedger<S> {
 
     fn is_over(&mut self, uid: &Text) -> Result<bool, LedgerFault> {
         let answer = is_over(&mut self.conn, self.alloc, uid);
+        self.failures = counted(&answer, self.failures);
+        answer
+    }
+}
+
+impl<S: Alter> Views for SqlLedger<S> {
+    fn count_arrivals(&mut self) -> Result<u64, LedgerFault> {
+        let answer = count_arrivals(&mut self.conn);
+        self.failures = counted(&answer, self.failures);
+        answer
+    }
+
+    fn count_kept(&mut self) -> Result<u64, LedgerFault> {
+        let answer = count_kept(&mut self.conn, self.alloc);
+        self.failures = counted(&answer, self.failures);
+        answer
+    }
+
+    fn count_rows(&mut self, dest: &Text, stage: Stage) -> Result<u64, LedgerFault> {
+        let answer = count_rows(&mut self.conn, dest, stage);
+        self.failures = counted(&answer, self.failures);
+        answer
+    }
+
+    fn first_due(&mut self, dest: &Text) -> Result<Option<u64>, LedgerFault> {
+        let answer = first_moment(&mut self.conn, dest);
+        self.failures = counted(&answer, self.failures);
+        answer
+    }
+
+    fn rows_of(&mut self, uid: &Text) -> Result<Seq<((Text, Text), Progress)>, LedgerFault> {
+        let answer = rows_of(&mut self.conn, self.alloc, uid);
+        self.failures = counted(&answer, self.failures);
+        answer
+    }
+
+    fn page(
+        &mut self,
+        dest: &Text,
+        stage: Option<Stage>,
+        after: &Text,
+        limit: u32,
+    ) -> Result<Seq<((Text, Text), Progress)>, LedgerFault> {
+        let answer = page(&mut self.conn, self.alloc, dest, stage, after, limit);
+        self.failures = counted(&answer, self.failures);
+        answer
+    }
+}
+
+impl<S: Alter> TellsJournal for SqlLedger<S> {
+    fn journal(&mut self) -> Result<Seq<JournalLine>, LedgerFault> {
+        let answer = tell_journal(&mut self.conn, self.alloc);
         self.failures = counted(&answer, self.failures);
         answer
     }

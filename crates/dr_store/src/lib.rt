@@ -13,5 +13,6 @@ pub mod ledger;
 mod listing;
 mod lookup;
 mod reading;
+mod telling;
 
 pub use ledger::SqlLedger;

@@ -2,7 +2,7 @@ mod Adding
 mod Forms
 mod Found
 mod Goaled
-mod Journals
+pub mod Journals
 pub mod Needed
 pub mod Less
 mod Stocked

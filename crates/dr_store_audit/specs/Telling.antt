@@ -4,6 +4,10 @@ use Rattle.dr_ledger.specs.Books.{Fold, Line}
 use Rattle.dr_ledger.specs.Histories.{IsJournalled}
 use Rattle.dr_ledger.specs.Routings.{Routing}
 use Rattle.dr_ledger_history.specs.Contents.{Content, content_of}
+use Rattle.dr_ledger_history.specs.declared.line.HistoryFault.{HistoryFault}
+use Rattle.dr_ledger_history.specs.declared.line.HistoryFault.TheVariants as history
+use Rattle.dr_store_audit.specs.declared.fault.FindingFault.{FindingFault}
+use Rattle.dr_store_audit.specs.declared.fault.FindingFault.TheVariants as finding
 use Rattle.dr_store_lists.specs.declared.listing.Note.{Note}
 use Rattle.dr_store_lists.specs.declared.listing.Note.TheVariants as note
 
@@ -12,6 +16,12 @@ abbrev pub IsOver : List (ℕ × Note) → Type 0
 IsOver notes =
     (notes ≡ [])
     ⊎ ((earlier : List (ℕ × Note)) × (n : ℕ) × (notes ≡ earlier ++ (n, note.Adoption) ∷ []))
+
+-- what a line that isn't taken says of the tables: where it is no call that is accepted, they are
+-- no ledger's of the site
+abbrev pub finding_by : HistoryFault → FindingFault
+finding_by history.NoCall = finding.OtherSite
+finding_by history.Memory = finding.Memory
 
 -- these lines are a journal of a ledger with that routing, and this is what they make
 pub record IsToldJournal (routing : Routing) (lines : List Line) (c : Content) : Type 0 where

@@ -1,4 +1,7 @@
 //! Why tables that were found aren't taken.
+ghost use Rattle.std.specs.Prelude.{◌≡◌};
+ghost use Rattle.dr_store_audit.specs.Telling.{finding_by};
+
 use dr_ledger_history::HistoryFault;
 use std::alloc::{AllocError, AllocFailed};
 use thiserror::Error;
@@ -36,7 +39,9 @@ impl<T: Drop> From<AllocFailed<T>> for FindingFault {
 }
 
 /// What a line that isn't taken says of the tables.
-pub fn of_history(fault: HistoryFault) -> FindingFault {
+pub fn of_history(fault: HistoryFault) -> FindingFault
+    ensures { result ≡ finding_by fault }
+{
     match fault {
         HistoryFault::NoCall => FindingFault::OtherSite,
         HistoryFault::Memory => FindingFault::Memory,

@@ -81,7 +81,7 @@ fn all_kept(alloc: Global, kept: &[Text]) -> Result<BTreeSet<Text>, AllocError>
 /// Whether a print says that the data set is there just where it is needed.
 fn is_as_needed(print: &(Text, Print), uids: &BTreeSet<Text>) -> bool
     ensures { IsTrue result
-        → print.now.1.whole ≡ set.contains (as_set text_cmp uids.now) print.now.0 }
+        ↔ (print.now.1.whole ≡ set.contains (as_set text_cmp uids.now) print.now.0) }
 {
     print.1.whole == uids.contains(&print.0)
 }
@@ -89,7 +89,7 @@ fn is_as_needed(print: &(Text, Print), uids: &BTreeSet<Text>) -> bool
 /// Whether just the data sets of these uids are there.
 pub fn are_whole(prints: &[(Text, Print)], uids: &BTreeSet<Text>) -> bool
     ensures { IsTrue result
-        → AllByRecursion (λ p. p.1.whole ≡ set.contains (as_set text_cmp uids.now) p.0) prints.now }
+        ↔ AllByRecursion (λ p. p.1.whole ≡ set.contains (as_set text_cmp uids.now) p.0) prints.now }
 {
     for print in prints {
         if !is_as_needed(print, uids) {

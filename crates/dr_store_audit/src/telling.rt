@@ -1,5 +1,6 @@
 //! The journal, told to a history.
-ghost use Rattle.std.specs.Prelude.{◌≡◌, ◌≤◌, ◌⊎◌, ◌++◌, IfOk, IsTrue, List, [], ◌∷◌, length, take};
+ghost use Rattle.std.specs.Prelude.{◌≡◌, ◌≤◌, ◌⊎◌, ◌↔◌, ◌++◌, IfOk, IsTrue, List, [], ◌∷◌, length};
+ghost use Rattle.std.specs.Prelude.{take};
 ghost use Rattle.dr_ledger.specs.Books.{Line};
 ghost use Rattle.dr_ledger.specs.SiteRoutes.{site_routing};
 ghost use Rattle.dr_ledger_history.specs.Contents.{content};
@@ -52,7 +53,7 @@ fn count_past(notes: &[(u64, Note)]) -> usize
 
 /// Whether the lines' numbers count up from 1.
 pub fn count_up(notes: &[(u64, Note)]) -> bool
-    ensures { IsTrue result → CountUp 1 notes.now }
+    ensures { IsTrue result ↔ CountUp 1 notes.now }
 {
     let mut next: u64 = 1;
     for entry in notes {

@@ -1,2 +1,5 @@
+mod Changed
 mod Lists
+mod Nodes
 mod Standings
+mod Stepping

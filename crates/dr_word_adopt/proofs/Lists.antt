@@ -1,15 +1,7 @@
 -- Lists that grow at their end.
 use Rattle.std.proofs.Common.{◌≡◌, ◌∙◌, ◌++◌, ◌∷◌, [], ◌+◌, ◌<◌, ℕ, List, map, take, drop, get_or, length, suc, refl, sym, ap}
-use Rattle.std.proofs.lemmas.List.{nil_from_length, take_more, take-append-drop}
+use Rattle.std.proofs.lemmas.List.{take_more, take-append-drop}
 use Rattle.std.proofs.Math.Seq.{drop-cons}
-
--- what is left moves over to what was done
-pub goes_on : {X : Type 0} (all done : List X) (x : X) (left rest : List X) → all ≡ done ++ left → left ≡ x ∷ rest → all ≡ (done ++ x ∷ []) ++ rest
-goes_on {X} all done x left rest so_far next = so_far ∙ ap (λ (ys : List X). done ++ ys) next ∙ sym (pushed done)
-  where
-    pushed : (ys : List X) → (ys ++ x ∷ []) ++ rest ≡ ys ++ x ∷ rest
-    pushed [] = refl
-    pushed (y ∷ ys) = ap (λ (zs : List X). y ∷ zs) (pushed ys)
 
 -- one more value, by what is shown of it
 pub shows_more : {X Y : Type 0} (show : X → Y) (xs : List X) (x : X) (ys : List Y) (i : ℕ) (y : Y) → i < length ys → y ≡ get_or ys i y → map show xs ≡ take i ys → show x ≡ y
@@ -23,11 +15,3 @@ shows_more {X} {Y} show xs x ys i y lt at so_far one = pushed xs ∙ ap (λ (zs 
 -- a list is what stands before a place, what stands there, and the rest
 pub cut_at : {X : Type 0} (xs : List X) (i : ℕ) (x : X) → i < length xs → x ≡ get_or xs i x → xs ≡ take i xs ++ x ∷ drop (suc i) xs
 cut_at {X} xs i x lt at = sym (take-append-drop i xs) ∙ ap (λ (ys : List X). take i xs ++ ys) (drop-cons xs i x lt) ∙ ap (λ (y : X). take i xs ++ y ∷ drop (suc i) xs) (sym at)
-
--- nothing is left
-pub comes_to_end : {X : Type 0} (all done left : List X) → all ≡ done ++ left → length left ≡ 0 → all ≡ done
-comes_to_end {X} all done left so_far none = so_far ∙ ap (λ (ys : List X). done ++ ys) (nil_from_length left none) ∙ alone done
-  where
-    alone : (ys : List X) → ys ++ [] ≡ ys
-    alone [] = refl
-    alone (y ∷ ys) = ap (λ (zs : List X). y ∷ zs) (alone ys)

@@ -1,14 +1,15 @@
 -- From ledgers that were looked into and changed to the nodes.
-use Rattle.std.proofs.Common.{◌≡◌, ◌∙◌, inl, inr, ◌++◌, ◌∷◌, [], List, length, map, get_or, refl, sym, ap, subst, Result, Ok, Err, Some}
-use Rattle.std.specs.Prelude.{All, Contains, MatchResult}
+use Rattle.std.proofs.Common.{◌≡◌, ◌∙◌, inl, inr, ◌++◌, ◌∷◌, [], List, length, map, get_or, refl, sym, ap, subst, Result, Ok, Err, Option, None, Some, is_some, true≢false}
+use Rattle.std.specs.Prelude.{All, Contains}
 use Rattle.std.proofs.Math.Seq.{take-append_seam}
 use Rattle.std.proofs.lemmas.List.{map-append}
-use Rattle.std.proofs.lemmas.List.Elements.{All-map, All-nil, All-take}
+use Rattle.std.proofs.lemmas.List.Elements.{All-cons, All-head, All-nil, All-push, All-tail, All-take}
 use Rattle.std.proofs.lemmas.List.Sorted.{Contains-permutation, IsPermutation-sym}
 use Rattle.dr_base.specs.Texts.{Text}
 use Rattle.dr_cert.specs.Sealing.{Certified}
 use Rattle.dr_ledger.specs.Adopting.{IsFit, Unfits}
 use Rattle.dr_ledger.specs.Books.{Book, Adoption, after}
+use Rattle.dr_ledger.specs.Pairs.{Pair}
 use Rattle.dr_run_open.specs.Openings.{IsUnopened, Sites}
 use Rattle.dr_run_open.specs.declared.halt.Halt.{Halt}
 use Rattle.dr_run_open.specs.declared.halt.Halt.TheVariants.{NoPlan, NoCertificate, NoNode, NotOpened, NoInstance, Refused, Receipt, Failed, Memory}
@@ -16,17 +17,13 @@ use Rattle.dr_plan_model.proofs.Gathered.{Contains-cons_cases, Contains-here, Co
 use Rattle.dr_plan_model.specs.Networks.{Network}
 use Rattle.dr_plan_model.specs.Plans.{NamesNoNode}
 use Rattle.dr_site.specs.Parts.{Part, IsPartOf}
-use Rattle.dr_word_adopt.specs.Changes.{AreNames, ChangesBetween, IsOver, IsReady, IsSiteAt, StopsAt, came_of, name_of, path_in}
-use Rattle.dr_word_adopt.specs.Changings.{IsChanged, MayChange, OnlyFirstAreChanged}
-use Rattle.dr_word_adopt.specs.Lookings.{IsFound, IsLookBy, IsLookInto, IsStanding, IsUnseen, LooksAs, name_by}
-use Rattle.dr_word_adopt.specs.declared.change.Changeover.{Changeover}
-use Rattle.dr_word_adopt.specs.declared.change.Halted.{Halted}
+use Rattle.dr_word_adopt.specs.Changes.{AreFirst, AreNames, IsAsOpened, IsLeft, IsOver, IsReady, IsSiteAt, IsUnfitAt, OnlyFirstAreOver, StopsAt, UnfitLeavesAll, name_by, name_of, path_in}
+use Rattle.dr_word_adopt.specs.Changings.{Each, IsChanged, IsKept, IsUnchanged, MayChange, OnlyFirstAreChanged}
+use Rattle.dr_word_adopt.specs.Lookings.{IsFound, IsSeen, IsUnseen, LooksInto, StandsAt, stood}
 use Rattle.dr_word_adopt.specs.declared.standing.Standing.{Standing}
 use Rattle.dr_word_adopt.specs.declared.standing.Standing.TheVariants.{Ready, Over}
 use Rattle.dr_word_adopt.specs.declared.standing.FoundLedger.{FoundLedger}
 use Rattle.dr_word_adopt.specs.declared.standing.FoundLedger.TheVariants.{InForce, Next}
-use Rattle.dr_word_adopt.specs.declared.standing.LookedAt.{LookedAt}
-use Rattle.dr_word_adopt.specs.declared.standing.LookedAt.TheVariants.{Stands, Unfit}
 
 -- what is shown of an element shows one of them
 unmapped : {X Y : Type 0} (f : X → Y) (xs : List X) (y : Y) → Contains (map f xs) y → (x : X) × Contains xs x × (f x ≡ y)
@@ -42,135 +39,187 @@ named plan names name are among none =
     let found = unmapped name_of plan.nodes name (Contains-permutation names (map name_of plan.nodes) name (IsPermutation-sym (map name_of plan.nodes) names are.all) among) in
     none found.0 (found.1, found.2)
 
--- what holds of all holds of the first of them
-all_first : {X : Type 0} (P : X → Type 0) (xs ys : List X) → All P (xs ++ ys) → All P xs
-all_first P xs ys all = subst (All P) (take-append_seam xs ys) (All-take P (length xs) (xs ++ ys) all)
-
 module _ {L : Type 0} (opens : Text → L → Type 0) (site_of : L → Part) (book : L → Book) (stands : L → Type 0) (folder : Text) (old next : Certified) where
-  ready : (s : Standing L) → IsStanding opens site_of book stands folder old next s → IsReady opens site_of book stands folder old next (name_by site_of s)
-  ready (Over l) h = inl (l, h)
-  ready (Ready l own) h = inr (h.0, l, h.1, h.3, h.4)
+  abbrev Left : Standing L → Type 0
+  Left s = IsAsOpened opens site_of book stands folder old next s
 
-  may : (s : Standing L) → IsStanding opens site_of book stands folder old next s → MayChange site_of book stands next s
+  abbrev Ripe : Standing L → Type 0
+  Ripe s = IsReady opens site_of book stands folder old next s
+
+  -- the ledger of a node that was found, as it was opened
+  pub stands_at : (name : Text) (site own : Part) → IsSiteAt old name site → IsSiteAt next name own → (found : FoundLedger L) → IsFound opens site_of (path_in folder name) site own found
+      → StandsAt opens site_of book stands folder old next name (stood own found)
+  stands_at name site own at_old at_next (InForce l) f =
+      let here : (site_of l).name ≡ own.name = ap (λ (p : Part). p.name) f.1 ∙ at_old.named ∙ sym at_next.named in
+      let part : IsPartOf old.plan old.certificate (site_of l) = subst (λ (p : Part). IsPartOf old.plan old.certificate p) (sym f.1) at_old.part in
+      let opened : opens (path_in folder own.name) l = subst (λ (n : Text). opens (path_in folder n) l) (sym at_next.named) f.0 in (
+        at_next.named,
+        (l, record { opened = opened; at = record { part = part; named = here } }, at_next.part, refl, λ st. (st, refl, tt)),
+      )
+  stands_at name site own at_old at_next (Next l) f =
+      let here : (site_of l).name ≡ name = ap (λ (s : Part). s.name) f.1 ∙ at_next.named in (
+        here,
+        record {
+          opened = subst (λ (n : Text). opens (path_in folder n) l) (sym here) f.0;
+          at = record { part = subst (λ (s : Part). IsPartOf next.plan next.certificate s) (sym f.1) at_next.part; named = refl };
+        },
+      )
+
+  -- what is left with a book of which more is known is left
+  weaker : (Shows : Text → Book → Type 0) (s : Standing L) → IsLeft opens site_of book stands folder old next Shows s → Left s
+  weaker Shows (Ready last own) h = (h.0, h.1, h.2, h.3, λ st. ((h.4 st).0, (h.4 st).1, tt))
+  weaker Shows (Over l) h = h
+
+  pub ready_left : (s : Standing L) → Ripe s → Left s
+  ready_left s h = weaker (IsFit next.plan) s h
+
+  pub unfit_left : (uid dest : Text) (s : Standing L) → IsUnfitAt opens site_of book stands folder old next uid dest s → Left s
+  unfit_left uid dest (Ready last own) h = weaker (λ name b. Unfits next.plan name b (Some (uid, dest))) (Ready last own) h
+  unfit_left uid dest (Over l) h = absurd h
+
+  -- a look into a ledger as it was opened
+  looked : (last : L) (ledger : L) (own : Part) (unfit : Option Pair) → Left (Ready ledger own) → site_of last ≡ site_of ledger
+      → (stands last → stands ledger × (book last ≡ book ledger) × Unfits next.plan (site_of ledger).name (book ledger) unfit)
+      → IsLeft opens site_of book stands folder old next (λ name b. Unfits next.plan name b unfit) (Ready last own)
+  looked last ledger own unfit a same h = (
+    a.0,
+    a.1,
+    a.2,
+    same ∙ a.3,
+    λ st.
+        let was = a.4 (h st).0 in
+        let named : (site_of ledger).name ≡ own.name = ap (λ (s : Part). s.name) a.3 ∙ a.1.at.named in
+        (was.0, (h st).1 ∙ was.1, subst (λ (b : Book). Unfits next.plan own.name b unfit) was.1 (subst (λ (n : Text). Unfits next.plan n (book ledger) unfit) named (h st).2)),
+  )
+
+  pub seen : (s now : Standing L) (unfit : Option Pair) → Left s → LooksInto site_of book stands next s unfit now → IsSeen opens site_of book stands folder old next unfit now
+  seen (Ready ledger own) now None a h = subst Ripe (sym h.1) (looked h.0 ledger own None a h.2 h.3)
+  seen (Ready ledger own) now (Some row) a h = subst (λ s. IsUnfitAt opens site_of book stands folder old next row.0 row.1 s) (sym h.1) (looked h.0 ledger own (Some row) a h.2 h.3)
+  seen (Over ledger) now None a h = subst Ripe (sym h.1) a
+  seen (Over ledger) now (Some row) a h = absurd (none_some row h.0)
+    where
+      none_some : (r : Pair) → Some r ≡ None → ⊥
+      none_some r e = true≢false (ap is_some e)
+
+  pub seen_name : (s now : Standing L) (unfit : Option Pair) → LooksInto site_of book stands next s unfit now → name_by site_of now ≡ name_by site_of s
+  seen_name (Ready ledger own) now unfit h = ap (name_by site_of) h.1
+  seen_name (Over ledger) now unfit h = ap (name_by site_of) h.1
+
+  -- a ledger whose owner and book are as they were is left
+  pub kept_left : (s now : Standing L) → Left s → IsKept site_of book stands next s now → Left now
+  kept_left (Ready ledger own) now a h = subst Left (sym h.1) (a.0, a.1, a.2, h.2 ∙ a.3, λ st. let was = a.4 (h.3 st).0 in (was.0, (h.3 st).1 ∙ was.1, tt))
+  kept_left (Over ledger) now a h = subst Left (sym h) a
+
+  pub kept_name : (s now : Standing L) → IsKept site_of book stands next s now → name_by site_of now ≡ name_by site_of s
+  kept_name (Ready ledger own) now h = ap (name_by site_of) h.1
+  kept_name (Over ledger) now h = ap (name_by site_of) h
+
+  -- a ledger that is ready may be changed, and then it is over
+  may : (s : Standing L) → Ripe s → MayChange site_of book stands next s
   may (Over l) h = tt
   may (Ready l own) h = (
     h.2,
     sym (ap (λ (s : Part). s.name) h.3 ∙ h.1.at.named),
-    λ st. subst (λ (b : Book). IsFit next.plan own.name b) (sym (h.4 st).0) (h.4 st).1,
+    λ st. subst (λ (b : Book). IsFit next.plan own.name b) (sym (h.4 st).1) (h.4 st).2,
   )
 
-  over : (s : Standing L) → IsStanding opens site_of book stands folder old next s → IsChanged site_of book stands next s → IsOver opens site_of book stands folder old next (name_by site_of s)
-  over (Over l) h c = inl (l, h)
-  over (Ready l own) h c = inr (
+  pub all_may : (all : List (Standing L)) → All Ripe all → All (MayChange site_of book stands next) all
+  all_may all ripe = λ k d lt. may (get_or all k d) (ripe k d lt)
+
+  abbrev Done : Standing L → Type 0
+  Done s = IsOver opens site_of book stands folder old next s
+
+  over : (s now : Standing L) → Ripe s → IsChanged site_of book stands next s now → Done now
+  over (Over l) now h c = subst Done (sym c) h
+  over (Ready l own) now h c = subst Done (sym c.1) (
     h.0,
-    c.0,
     h.1,
-    record { part = subst (λ (s : Part). IsPartOf next.plan next.certificate s) (sym c.1) h.2; named = ap (λ (s : Part). s.name) c.1 },
-    λ st. ((h.4 (c.2 st).0).1, (c.2 st).1 ∙ ap (λ (b : Book). after Adoption b) (h.4 (c.2 st).0).0),
+    h.2,
+    c.2,
+    λ st. let was = h.4 (c.3 st).0 in (was.0, was.2, (c.3 st).1 ∙ ap (λ (b : Book). after Adoption b) was.1),
   )
 
-  -- the nodes of ledgers that may be changed are ready
-  pub all_ready : (all : List (Standing L)) (names : List Text) → map (name_by site_of) all ≡ names → All (IsStanding opens site_of book stands folder old next) all
-      → All (IsReady opens site_of book stands folder old next) names
-  all_ready all names same standing = subst (λ (ns : List Text). All (IsReady opens site_of book stands folder old next) ns) same
-      (All-map (IsReady opens site_of book stands folder old next) (name_by site_of) all (λ k d lt. ready (get_or all k d) (standing k d lt)))
+  changed_name : (s now : Standing L) → IsChanged site_of book stands next s now → name_by site_of now ≡ name_by site_of s
+  changed_name (Ready ledger own) now h = ap (name_by site_of) h.1
+  changed_name (Over ledger) now h = ap (name_by site_of) h
 
-  pub all_may : (all : List (Standing L)) → All (IsStanding opens site_of book stands folder old next) all → All (MayChange site_of book stands next) all
-  all_may all standing = λ k d lt. may (get_or all k d) (standing k d lt)
+  pub all_over : (all now : List (Standing L)) → All Ripe all → Each (IsChanged site_of book stands next) all now → All Done now
+  all_over [] [] ripe c = All-nil Done
+  all_over [] (y ∷ ys) ripe c = absurd c
+  all_over (x ∷ xs) [] ripe c = absurd c
+  all_over (x ∷ xs) (y ∷ ys) ripe c = All-cons Done y ys (over x y (All-head Ripe x xs ripe) c.0) (all_over xs ys (All-tail Ripe x xs ripe) c.1)
 
-  -- the nodes of ledgers that were changed are over
-  pub all_over : (all : List (Standing L)) (names : List Text) → map (name_by site_of) all ≡ names → All (IsStanding opens site_of book stands folder old next) all
-      → All (IsChanged site_of book stands next) all → All (IsOver opens site_of book stands folder old next) names
-  all_over all names same standing changed = subst (λ (ns : List Text). All (IsOver opens site_of book stands folder old next) ns) same
-      (All-map (IsOver opens site_of book stands folder old next) (name_by site_of) all (λ k d lt. over (get_or all k d) (standing k d lt) (changed k d lt)))
+  pub all_named : (all now : List (Standing L)) → Each (IsChanged site_of book stands next) all now → map (name_by site_of) now ≡ map (name_by site_of) all
+  all_named [] [] c = refl
+  all_named [] (y ∷ ys) c = absurd c
+  all_named (x ∷ xs) [] c = absurd c
+  all_named (x ∷ xs) (y ∷ ys) c = (λ i. changed_name x y c.0 i ∷ all_named xs ys c.1 i)
 
-  -- why the change stops behind the first of them
-  pub stops_behind : (all : List (Standing L)) (names : List Text) (halt : Halt) → AreNames old.plan names → map (name_by site_of) all ≡ names
-      → All (IsStanding opens site_of book stands folder old next) all → OnlyFirstAreChanged site_of book stands next all halt → StopsAt opens site_of book stands folder old next halt
-  stops_behind all names (Refused fault) are same standing h =
-      let done = h.1.0 in
-      let later = h.1.1 in
-      let P : List (Standing L) → Type 0 = λ xs. All (IsStanding opens site_of book stands folder old next) xs in
-      let shown : names ≡ map (name_by site_of) done ++ map (name_by site_of) later = sym same ∙ ap (λ (xs : List (Standing L)). map (name_by site_of) xs) h.1.2 ∙ map-append (name_by site_of) done later in (
-        map (name_by site_of) done,
-        map (name_by site_of) later,
-        subst (λ (ns : List Text). AreNames old.plan ns) shown are,
-        all_over done (map (name_by site_of) done) refl (all_first (IsStanding opens site_of book stands folder old next) done later (subst P h.1.2 standing)) h.1.3,
+  first_of_all : (P : Standing L → Type 0) (xs ys : List (Standing L)) → All P (xs ++ ys) → All P xs
+  first_of_all P xs ys all = subst (All P) (take-append_seam xs ys) (All-take P (length xs) (xs ++ ys) all)
+
+  rest_of_all : (P : Standing L → Type 0) (xs ys : List (Standing L)) → All P (xs ++ ys) → All P ys
+  rest_of_all P [] ys all = all
+  rest_of_all P (x ∷ xs) ys all = rest_of_all P xs ys (All-tail P x (xs ++ ys) all)
+
+  -- what is left where one of them refused
+  pub stops_behind : (all now : List (Standing L)) → All Ripe all → OnlyFirstAreChanged site_of book stands next all now → OnlyFirstAreOver opens site_of book stands folder old next now
+  stops_behind all now ripe h =
+      let both : All Ripe (h.done ++ h.one ∷ h.later) = subst (All Ripe) h.was ripe in
+      let rest : All Ripe (h.one ∷ h.later) = rest_of_all Ripe h.done (h.one ∷ h.later) both in (
+        h.changed,
+        h.left ∷ h.later,
+        h.is,
+        all_over h.done h.changed (first_of_all Ripe h.done (h.one ∷ h.later) both) h.first,
+        All-cons Left h.left h.later (kept_left h.one h.left (ready_left h.one (All-head Ripe h.one h.later rest)) h.kept) (λ k d lt. ready_left (get_or h.later k d) (All-tail Ripe h.one h.later rest k d lt)),
       )
-  stops_behind all names Memory are same standing h = tt
-  stops_behind all names (NoPlan told) are same standing h = absurd h.0
-  stops_behind all names (NoCertificate fault) are same standing h = absurd h.0
-  stops_behind all names NoNode are same standing h = absurd h.0
-  stops_behind all names (NotOpened fault) are same standing h = absurd h.0
-  stops_behind all names (NoInstance fault) are same standing h = absurd h.0
-  stops_behind all names Receipt are same standing h = absurd h.0
-  stops_behind all names (Failed failure) are same standing h = absurd h.0
+
+  pub stops_named : (all now : List (Standing L)) → OnlyFirstAreChanged site_of book stands next all now → map (name_by site_of) now ≡ map (name_by site_of) all
+  stops_named all now h =
+      ap (map (name_by site_of)) h.is ∙ map-append (name_by site_of) h.changed (h.left ∷ h.later)
+      ∙ (λ i. all_named h.done h.changed h.first i ++ kept_name h.one h.left h.kept i ∷ map (name_by site_of) h.later)
+      ∙ sym (map-append (name_by site_of) h.done (h.one ∷ h.later)) ∙ ap (map (name_by site_of)) (sym h.was)
+
+  -- why it stops, by what is said of the refusal
+  pub stops_by : (now : List (Standing L)) (halt : Halt) → IsUnchanged halt → AreFirst opens site_of book stands folder old next now → OnlyFirstAreOver opens site_of book stands folder old next now
+      → StopsAt opens site_of book stands folder old next halt now
+  stops_by now (Refused fault) u first only = (first, only)
+  stops_by now Memory u first only = only
+  stops_by now (NoPlan told) u first only = absurd u
+  stops_by now (NoCertificate fault) u first only = absurd u
+  stops_by now NoNode u first only = absurd u
+  stops_by now (NotOpened fault) u first only = absurd u
+  stops_by now (NoInstance fault) u first only = absurd u
+  stops_by now Receipt u first only = absurd u
+  stops_by now (Failed failure) u first only = absurd u
+
+  -- none went over yet
+  pub none_over : (all : List (Standing L)) → All Left all → OnlyFirstAreOver opens site_of book stands folder old next all
+  none_over all left = ([], all, refl, All-nil Done, left)
 
   -- why the change stops at a node that isn't looked into
-  pub stops_unseen : (names : List Text) (name : Text) (halt : Halt) → AreNames old.plan names → Contains names name → IsUnseen old next name halt → StopsAt opens site_of book stands folder old next halt
-  stops_unseen names name NoNode are among (inl stranger) = absurd (named old.plan names name are among stranger)
-  stops_unseen names name NoNode are among (inr stranger) = (name, names, are, among, stranger)
-  stops_unseen names name (Refused fault) are among h = ([], names, are, All-nil (IsOver opens site_of book stands folder old next))
-  stops_unseen names name (NotOpened fault) are among h = tt
-  stops_unseen names name Memory are among h = tt
-  stops_unseen names name (NoPlan told) are among h = absurd h
-  stops_unseen names name (NoCertificate fault) are among h = absurd h
-  stops_unseen names name (NoInstance fault) are among h = absurd h
-  stops_unseen names name Receipt are among h = absurd h
-  stops_unseen names name (Failed failure) are among h = absurd h
+  pub stops_unseen : (names : List Text) (name : Text) (halt : Halt) (all : List (Standing L)) → AreNames old.plan names → Contains names name → IsUnseen old next name halt
+      → AreFirst opens site_of book stands folder old next all → All Left all → StopsAt opens site_of book stands folder old next halt all
+  stops_unseen names name NoNode all are among (inl stranger) first left = absurd (named old.plan names name are among stranger)
+  stops_unseen names name NoNode all are among (inr stranger) first left = ((name, names, are, among, stranger), left)
+  stops_unseen names name (Refused fault) all are among h first left = (first, none_over all left)
+  stops_unseen names name (NotOpened fault) all are among h first left = (first, left)
+  stops_unseen names name Memory all are among h first left = none_over all left
+  stops_unseen names name (NoPlan told) all are among h first left = absurd h
+  stops_unseen names name (NoCertificate fault) all are among h first left = absurd h
+  stops_unseen names name (NoInstance fault) all are among h first left = absurd h
+  stops_unseen names name Receipt all are among h first left = absurd h
+  stops_unseen names name (Failed failure) all are among h first left = absurd h
 
-  -- what comes of the change says what comes of it but for the node
-  pub between : (result : Result Changeover Halted) → MatchResult result (λ change. ChangesBetween opens site_of book stands folder old next (Ok change)) (λ stop. StopsAt opens site_of book stands folder old next stop.halt)
-      → ChangesBetween opens site_of book stands folder old next (came_of result)
-  between (Ok change) h = h
-  between (Err stop) h = h
+  -- the ledgers so far are of the first nodes
+  pub first_by : (names later : List Text) (all : List (Standing L)) (shown : List Text) → AreNames old.plan names → map (name_by site_of) all ≡ shown → names ≡ shown ++ later → AreFirst opens site_of book stands folder old next all
+  first_by names later all shown are same cut = (names, later, are, cut ∙ ap (λ (xs : List Text). xs ++ later) (sym same))
 
-  module _ (name path : Text) (way : path ≡ path_in folder name) (site own : Part) (at_old : IsSiteAt old name site) (at_next : IsSiteAt next name own) where
-    -- a ledger that was found to be of the next plan may stay as it is
-    pub found_over : (l : L) → IsFound opens site_of path site own (Next l) → LooksAs opens site_of book stands folder old next name (Stands (Over l))
-    found_over l h =
-        let here : (site_of l).name ≡ name = ap (λ (s : Part). s.name) h.1 ∙ at_next.named in (
-          here,
-          record {
-            opened = subst (λ (n : Text). opens (path_in folder n) l) (sym here) (subst (λ (p : Text). opens p l) way h.0);
-            at = record { part = subst (λ (s : Part). IsPartOf next.plan next.certificate s) (sym h.1) at_next.part; named = refl };
-          },
-        )
-
-    -- what a look into a ledger of the plan in force shows is what a look at the node shows
-    pub found_in_force : (l : L) → IsFound opens site_of path site own (InForce l) → (look : LookedAt L) → IsLookInto site_of book stands next own l look → LooksAs opens site_of book stands folder old next name look
-    found_in_force l f (Stands (Ready last s)) h =
-        let here : (site_of l).name ≡ name = ap (λ (p : Part). p.name) f.1 ∙ at_old.named in
-        let there : (site_of l).name ≡ own.name = here ∙ sym at_next.named in
-        let part : IsPartOf old.plan old.certificate (site_of l) = subst (λ (p : Part). IsPartOf old.plan old.certificate p) (sym f.1) at_old.part in
-        let opened : opens (path_in folder own.name) l = subst (λ (n : Text). opens (path_in folder n) l) (sym at_next.named) (subst (λ (p : Text). opens p l) way f.0) in
-        subst (λ (p : Part). LooksAs opens site_of book stands folder old next name (Stands (Ready last p))) (sym h.0) (
-          at_next.named,
-          (
-            l,
-            record { opened = opened; at = record { part = part; named = there } },
-            at_next.part,
-            h.1,
-            λ st. ((h.2 st).0, subst (λ (n : Text). IsFit next.plan n (book l)) there (h.2 st).1),
-          ),
-        )
-    found_in_force l f (Stands (Over last)) h = absurd h
-    found_in_force l f (Unfit uid dest) h =
-        let here : (site_of l).name ≡ name = ap (λ (p : Part). p.name) f.1 ∙ at_old.named in
-        let part : IsPartOf old.plan old.certificate (site_of l) = subst (λ (p : Part). IsPartOf old.plan old.certificate p) (sym f.1) at_old.part in (
-          l,
-          h.0,
-          record { opened = subst (λ (p : Text). opens p l) way f.0; at = record { part = part; named = here } },
-          h.1,
-          λ st. ((h.2 st).0, subst (λ (n : Text). Unfits next.plan n (book l) (Some (uid, dest))) here (h.2 st).1),
-        )
-
-  -- what a look by the ledger that was found shows is what a look at the node shows
-  pub seen_by : (name : Text) (site own : Part) → IsSiteAt old name site → IsSiteAt next name own → (found : FoundLedger L) → IsFound opens site_of (path_in folder name) site own found
-      → (look : LookedAt L) → IsLookBy site_of book stands next own found look → LooksAs opens site_of book stands folder old next name look
-  seen_by name site own at_old at_next (InForce l) f look h = found_in_force name (path_in folder name) refl site own at_old at_next l f look h
-  seen_by name site own at_old at_next (Next l) f look h = subst (λ (seen : LookedAt L). LooksAs opens site_of book stands folder old next name seen) (sym h)
-      (found_over name (path_in folder name) refl site own at_old at_next l f)
+  -- a row that isn't fit leaves all
+  pub unfit_leaves_all : UnfitLeavesAll opens site_of book stands folder old next
+  unfit_leaves_all name uid dest all h =
+      subst (All Left) (sym h.3)
+      (All-push Left h.0 h.1 (λ k d lt. ready_left (get_or h.0 k d) (h.6 k d lt)) (unfit_left uid dest h.1 h.7))
 
 -- the site of a node that is found
 pub site_at : (sealed : Certified) (name : Text) (site : Part) → Sites sealed name (Ok site) → IsSiteAt sealed name site

@@ -1,6 +1,6 @@
 -- The change of the plan at all nodes: each node's ledger is looked into, and only then each is
 -- brought over.
-use Rattle.std.specs.Prelude.{◌≡◌, ◌⊎◌, List, ◌∷◌, ◌++◌, codes, map as mapped, All, Contains}
+use Rattle.std.specs.Prelude.{◌≡◌, ◌⊎◌, List, [], ◌∷◌, ◌++◌, codes, map as mapped, All, Contains}
 use Rattle.std.specs.Prelude.{IsPermutation, IsSorted, Some, Result, Ok, Err}
 use Rattle.dr_base.specs.Texts.{Text, text_cmp}
 use Rattle.dr_cert.specs.Sealing.{Certified}
@@ -19,6 +19,8 @@ use Rattle.dr_site.specs.Parts.{Part, IsPartOf}
 use Rattle.dr_word_adopt.specs.declared.change.Changeover.{Changeover}
 use Rattle.dr_word_adopt.specs.declared.change.Changeover.TheVariants.{Made, Unfit}
 use Rattle.dr_word_adopt.specs.declared.change.Halted.{Halted}
+use Rattle.dr_word_adopt.specs.declared.standing.Standing.{Standing}
+use Rattle.dr_word_adopt.specs.declared.standing.Standing.TheVariants.{Ready, Over}
 
 -- the name of a node
 abbrev pub name_of : Node → Text
@@ -38,6 +40,11 @@ pub record IsSiteAt (sealed : Certified) (name : Text) (site : Part) : Type 0 wh
   pub part : IsPartOf sealed.plan sealed.certificate site
   pub named : site.name ≡ name
 
+-- the name of the node whose ledger stands so
+abbrev pub name_by : {L : Type 0} (site_of : L → Part) → Standing L → Text
+name_by site_of (Ready ledger own) = own.name
+name_by site_of (Over ledger) = (site_of ledger).name
+
 module _ {L : Type 0} (opens : Text → L → Type 0) (site_of : L → Part) (book : L → Book)
     (stands : L → Type 0) (folder : Text) where
   -- a ledger that may be opened for the node of that name, of its site by the sealed plan
@@ -46,64 +53,97 @@ module _ {L : Type 0} (opens : Text → L → Type 0) (site_of : L → Part) (bo
     pub at : IsSiteAt sealed name (site_of ledger)
 
   module _ (old next : Certified) where
-    -- The node's ledger of the plan in force was only looked into: its book is as it was when it
-    -- was opened.
-    abbrev pub Looks : Text → (Book → Type 0) → Type 0
-    Looks name Shows =
-        (first last : L)
-        × IsOpenedFor old name first
+    -- The ledger is left as it was opened: one of the plan in force has its owner and its book
+    -- still, of which this holds; one of the next plan wasn't touched.
+    abbrev pub IsLeft : (Text → Book → Type 0) → Standing L → Type 0
+    IsLeft Shows (Ready last own) =
+        (first : L)
+        × IsOpenedFor old own.name first
+        × IsPartOf next.plan next.certificate own
         × (site_of last ≡ site_of first)
-        × (stands last → (book last ≡ book first) × Shows (book first))
+        × (stands last → stands first × (book last ≡ book first) × Shows own.name (book first))
+    IsLeft Shows (Over ledger) = IsOpenedFor next (site_of ledger).name ledger
 
-    -- the node may go over: its ledger is of the next plan already, or that plan goes on with all
-    -- that it has still to send
-    abbrev pub IsReady : Text → Type 0
-    IsReady name = ((ledger : L) × IsOpenedFor next name ledger) ⊎ Looks name (IsFit next.plan name)
+    -- whatever its book
+    abbrev pub IsAsOpened : Standing L → Type 0
+    IsAsOpened standing = IsLeft (λ name b. Unit {0}) standing
+
+    -- the node may go over: the next plan goes on with all that it has still to send, or its ledger
+    -- is of that plan already
+    abbrev pub IsReady : Standing L → Type 0
+    IsReady standing = IsLeft (IsFit next.plan) standing
 
     -- the first row, by (uid, destination), with which the next plan doesn't go on is that of this
     -- instance to that node
-    abbrev pub IsUnfitAt : Text → Text → Text → Type 0
-    IsUnfitAt name uid dest = Looks name (λ b. Unfits next.plan name b (Some (uid, dest)))
+    abbrev pub IsUnfitAt : Text → Text → Standing L → Type 0
+    IsUnfitAt uid dest (Ready last own) =
+        IsLeft (λ name b. Unfits next.plan name b (Some (uid, dest))) (Ready last own)
+    IsUnfitAt uid dest (Over ledger) = ⊥
 
-    -- The node went over: its ledger is of its site by the next plan, and its book is that of
-    -- before after an adoption; or it was of the next plan already.
-    abbrev pub IsOver : Text → Type 0
-    IsOver name =
-        ((ledger : L) × IsOpenedFor next name ledger)
-        ⊎ ((first last : L)
-        × IsOpenedFor old name first
-        × IsSiteAt next name (site_of last)
+    -- The node went over: its ledger is of its site by the next plan, and its book is that with
+    -- which it was opened after an adoption; or it was of the next plan already.
+    abbrev pub IsOver : Standing L → Type 0
+    IsOver (Ready last own) =
+        (first : L)
+        × IsOpenedFor old own.name first
+        × IsPartOf next.plan next.certificate own
+        × (site_of last ≡ own)
         × (stands last
-        → IsFit next.plan name (book first) × (book last ≡ after Adoption (book first))))
+        → stands first × IsFit next.plan own.name (book first)
+        × (book last ≡ after Adoption (book first)))
+    IsOver (Over ledger) = IsOpenedFor next (site_of ledger).name ledger
 
-    -- why the nodes don't go over, where both plans are sealed: one isn't a node of the next plan,
-    -- a ledger isn't opened, or it refused (then the first nodes may be over, by their names), or
-    -- want of memory
-    abbrev pub StopsAt : Halt → Type 0
-    StopsAt NoNode =
-        (name : Text) × (names : List Text) × AreNames old.plan names × Contains names name
-        × NamesNoNode next.plan name
-    StopsAt (NotOpened fault) = Unit {0}
-    StopsAt (Refused fault) =
-        (done later : List Text) × AreNames old.plan (done ++ later) × All IsOver done
-    StopsAt Memory = Unit {0}
-    StopsAt (NoPlan told) = ⊥
-    StopsAt (NoCertificate fault) = ⊥
-    StopsAt (NoInstance fault) = ⊥
-    StopsAt Receipt = ⊥
-    StopsAt (Failed failure) = ⊥
-
-    -- What comes of the change. All nodes are over; or the first node, by the bytes of its name,
-    -- that isn't ready is named with its first row that isn't fit, and those before it were found
-    -- ready; or why it doesn't come to that.
-    abbrev pub ChangesBetween : Result Changeover Halt → Type 0
-    ChangesBetween (Ok Made) = (names : List Text) × AreNames old.plan names × All IsOver names
-    ChangesBetween (Ok (Unfit name uid dest)) =
-        (names before later : List Text)
+    -- the ledgers are those of the first nodes of the plan in force, by the bytes of their names
+    abbrev pub AreFirst : List (Standing L) → Type 0
+    AreFirst all =
+        (names later : List Text)
         × AreNames old.plan names
-        × (names ≡ before ++ name ∷ later)
-        × All IsReady before × IsUnfitAt name uid dest
-    ChangesBetween (Err halt) = StopsAt halt
+        × (names ≡ mapped (name_by site_of) all ++ later)
+
+    -- the first ledgers went over, and all others are left as they were opened
+    abbrev pub OnlyFirstAreOver : List (Standing L) → Type 0
+    OnlyFirstAreOver all =
+        (done later : List (Standing L))
+        × (all ≡ done ++ later) × All IsOver done × All IsAsOpened later
+
+    -- Why the nodes don't go over, where both plans are sealed, and what the ledgers are then that
+    -- were opened. One isn't a node of the next plan, or a ledger isn't opened: then all are left.
+    -- A ledger refused, or there was no memory: then the first ones may be over, and all others
+    -- are left, that one too as far as it stands.
+    abbrev pub StopsAt : Halt → List (Standing L) → Type 0
+    StopsAt NoNode all =
+        ((name : Text) × (names : List Text) × AreNames old.plan names × Contains names name
+        × NamesNoNode next.plan name)
+        × All IsAsOpened all
+    StopsAt (NotOpened fault) all = AreFirst all × All IsAsOpened all
+    StopsAt (Refused fault) all = AreFirst all × OnlyFirstAreOver all
+    StopsAt Memory all = OnlyFirstAreOver all
+    StopsAt (NoPlan told) all = ⊥
+    StopsAt (NoCertificate fault) all = ⊥
+    StopsAt (NoInstance fault) all = ⊥
+    StopsAt Receipt all = ⊥
+    StopsAt (Failed failure) all = ⊥
+
+    -- What comes of the change, and what the ledgers are then that were opened. All nodes are over.
+    -- Or the first node, by the bytes of its name, that isn't ready is named with its first row
+    -- that isn't fit: then no ledger behind it was opened, and all are left. Or why it doesn't come
+    -- to that.
+    abbrev pub ChangesBetween : Result Changeover Halt → List (Standing L) → Type 0
+    ChangesBetween (Ok Made) all = AreNames old.plan (mapped (name_by site_of) all) × All IsOver all
+    ChangesBetween (Ok (Unfit name uid dest)) all =
+        (before : List (Standing L)) × (one : Standing L) × (later : List Text)
+        × (all ≡ before ++ one ∷ [])
+        × AreNames old.plan (mapped (name_by site_of) before ++ name ∷ later)
+        × (name_by site_of one ≡ name)
+        × All IsReady before × IsUnfitAt uid dest one
+    ChangesBetween (Err halt) all = StopsAt halt all
+
+    -- where a row isn't fit, the owner and the book of each ledger that was opened are as they were
+    abbrev pub UnfitLeavesAll : Type 0
+    UnfitLeavesAll =
+        (name uid dest : Text) (all : List (Standing L))
+        → ChangesBetween (Ok (Unfit name uid dest)) all
+        → All IsAsOpened all
 
 module _ (holds : Text → Text → Type 0) (files : PlanChange) where
   -- both plans, as the files hold them, each sealed with its certificate
@@ -121,14 +161,14 @@ module _ (holds : Text → Text → Type 0) (files : PlanChange) where
       × SealsFiles (holds files.next_plan.now) (holds files.next_certificate.now) (Err halt))
 
 -- what comes of the change from the plan in the first file to that in the third, each with its
--- certificate, of the ledgers in the folder
+-- certificate, of the ledgers in the folder, as they are when they are closed
 abbrev pub Changes : {L : Type 0} (holds : Text → Text → Type 0) (opens : Text → L → Type 0)
     (site_of : L → Part) (book : L → Book) (stands : L → Type 0)
     → PlanChange → Result Changeover Halt → Type 0
-Changes holds opens site_of book stands files came =
-    ((old next : Certified)
+Changes {L = L} holds opens site_of book stands files came =
+    ((old next : Certified) × (all : List (Standing L))
     × AreSealed holds files old next
-    × ChangesBetween opens site_of book stands files.folder.now old next came)
+    × ChangesBetween opens site_of book stands files.folder.now old next came all)
     ⊎ ((halt : Halt) × (came ≡ Err halt) × AreUnsealed holds files halt)
 
 -- what is said of a change that stops: its halt

@@ -1,5 +1,5 @@
 -- One node's ledger as it is changed.
-use Rattle.std.specs.Prelude.{◌≡◌, ◌++◌, List, All}
+use Rattle.std.specs.Prelude.{◌≡◌, List, [], ◌∷◌, ◌++◌}
 use Rattle.dr_cert.specs.Sealing.{Certified}
 use Rattle.dr_ledger.specs.Adopting.{IsFit}
 use Rattle.dr_ledger.specs.Books.{Book, Adoption, after}
@@ -23,6 +23,13 @@ IsUnchanged (NoInstance fault) = ⊥
 IsUnchanged Receipt = ⊥
 IsUnchanged (Failed failure) = ⊥
 
+-- of each element of the one list and that of the other in its place this holds
+abbrev pub Each : {X : Type 0} → (X → X → Type 0) → List X → List X → Type 0
+Each R [] [] = Unit {0}
+Each R [] (y ∷ ys) = ⊥
+Each R (x ∷ xs) [] = ⊥
+Each R (x ∷ xs) (y ∷ ys) = R x y × Each R xs ys
+
 module _ {L : Type 0} (site_of : L → Part) (book : L → Book) (stands : L → Type 0)
     (next : Certified) where
   -- the ledger may adopt the next plan, of which this is the node's part; or there is nothing to do
@@ -34,14 +41,28 @@ module _ {L : Type 0} (site_of : L → Part) (book : L → Book) (stands : L →
   MayChange (Over ledger) = Unit {0}
 
   -- the ledger has adopted the next plan; or there was nothing to do
-  abbrev pub IsChanged : Standing L → Type 0
-  IsChanged (Ready ledger own) =
-      (last : L) × (site_of last ≡ own)
+  abbrev pub IsChanged : Standing L → Standing L → Type 0
+  IsChanged (Ready ledger own) now =
+      (last : L) × (now ≡ Ready last own) × (site_of last ≡ own)
       × (stands last → stands ledger × (book last ≡ after Adoption (book ledger)))
-  IsChanged (Over ledger) = Unit {0}
+  IsChanged (Over ledger) now = now ≡ Over ledger
 
-  -- the first ones were changed before one refused
-  abbrev pub OnlyFirstAreChanged : List (Standing L) → Halt → Type 0
-  OnlyFirstAreChanged all halt =
-      IsUnchanged halt
-      × ((done later : List (Standing L)) × (all ≡ done ++ later) × All IsChanged done)
+  -- the ledger's owner and its book are as they were
+  abbrev pub IsKept : Standing L → Standing L → Type 0
+  IsKept (Ready ledger own) now =
+      (last : L) × (now ≡ Ready last own) × (site_of last ≡ site_of ledger)
+      × (stands last → stands ledger × (book last ≡ book ledger))
+  IsKept (Over ledger) now = now ≡ Over ledger
+
+  -- The first ones were changed before one refused, which is as it was; those behind it weren't
+  -- touched.
+  pub record OnlyFirstAreChanged (old new : List (Standing L)) : Type 0 where
+    pub done : List (Standing L)
+    pub changed : List (Standing L)
+    pub one : Standing L
+    pub left : Standing L
+    pub later : List (Standing L)
+    pub was : old ≡ done ++ one ∷ later
+    pub is : new ≡ changed ++ left ∷ later
+    pub first : Each IsChanged done changed
+    pub kept : IsKept one left

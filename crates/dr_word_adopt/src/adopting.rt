@@ -1,16 +1,19 @@
 //! The word `adopt`.
-ghost use Rattle.std.specs.Prelude.{◌≡◌, IfOk, MatchResult, Ok, Err};
-ghost use Rattle.dr_word_adopt.specs.Changes.{AreSealed, AreUnsealed, Changes, ChangesBetween};
-ghost use Rattle.dr_word_adopt.specs.Changes.{StopsAt, came_of};
+ghost use Rattle.std.specs.Prelude.{◌≡◌, [], All, IfOk, MatchResult, Ok, Err};
+ghost use Rattle.dr_word_adopt.specs.Changes.{AreNames, AreSealed, AreUnsealed, Changes};
+ghost use Rattle.dr_word_adopt.specs.Changes.{ChangesBetween, came_of};
+ghost use Rattle.dr_word_adopt.specs.Changings.{Each, IsChanged, IsUnchanged, MayChange};
+ghost use Rattle.dr_word_adopt.specs.Changings.{OnlyFirstAreChanged};
 ghost use Rattle.dr_word_adopt.specs.Endings.{Adopts, EndsChange, unfit_line};
 
 use crate::change::{Changeover, Halted};
 use crate::changing::change_all;
 use crate::looking::look_at_all;
 use crate::names::{missing_in, names_of};
-use crate::standing::Looked;
+use crate::standing::Standing;
 use dr_base::Text;
 use dr_cert::Sealed;
+use dr_ledger::Ledger;
 use dr_run_files::{Failure, Files};
 use dr_run_open::{Halt, Ledgers, Status, seal_files, tell_halt};
 use dr_word_line::PlanChange;
@@ -47,8 +50,52 @@ fn seal_both<'a, F: Files>(
     }
 }
 
+/// Changes ledgers of which each may be changed, and says so.
+///
+/// Errors: those of `change_all`.
+fn make_change<'a, L: Ledger + Drop>(
+    all: &mut Vec<Standing<L>>,
+    next: &Sealed,
+) -> Result<Changeover, Halted<'a>>
+    requires { All (MayChange L.site L.book L.stands next.now) all.old.items }
+    ensures { MatchResult result
+        (λ change. (change ≡ Changeover.Made)
+        × Each (IsChanged L.site L.book L.stands next.now) all.old.items all.new.items)
+        (λ stop. IsUnchanged stop.halt
+        × OnlyFirstAreChanged L.site L.book L.stands next.now all.old.items all.new.items) }
+{
+    match change_all(all.as_mut_slice(), next) {
+        Ok(()) => Ok(Changeover::Made),
+        Err(stop) => Err(stop),
+    }
+}
+
+/// Looks into the ledgers of the nodes of these names, and changes them where all may be.
+///
+/// Errors: those of `look_at_all` and `change_all`.
+fn change_named<'a, O: Ledgers>(
+    alloc: Global,
+    ledgers: &O,
+    folder: &str,
+    old: &Sealed,
+    next: &Sealed,
+    names: &[Text],
+    all: &mut Vec<Standing<O::Ledger>>,
+) -> Result<Changeover, Halted<'a>>
+    requires names { AreNames old.now.plan names.now }
+    requires none { all.old.items ≡ [] }
+    ensures { ChangesBetween (O.opens ledgers.now) O.Ledger.site O.Ledger.book O.Ledger.stands
+        folder.now old.now next.now (came_of result) all.new.items }
+{
+    match look_at_all(alloc, ledgers, folder, old, next, names, all) {
+        Ok(None) => make_change(all, next),
+        Ok(Some(unfit)) => Ok(Changeover::Unfit(unfit.node, unfit.uid, unfit.dest)),
+        Err(stop) => Err(stop),
+    }
+}
+
 /// Changes the ledgers in the folder, of all nodes of the one sealed plan, to the next, where that
-/// goes on with all that they have still to send.
+/// goes on with all that they have still to send. All ledgers that were opened are in `all` then.
 ///
 /// Errors: NoNode; those of `look_at_all` and `change_all`; Memory.
 fn change_between<'a, O: Ledgers>(
@@ -57,28 +104,21 @@ fn change_between<'a, O: Ledgers>(
     folder: &str,
     old: &Sealed,
     next: &Sealed,
+    all: &mut Vec<Standing<O::Ledger>>,
 ) -> Result<Changeover, Halted<'a>>
-    ensures { MatchResult result
-        (λ change. ChangesBetween (O.opens ledgers.now) O.Ledger.site O.Ledger.book O.Ledger.stands
-        folder.now old.now next.now (Ok change))
-        (λ stop. StopsAt (O.opens ledgers.now) O.Ledger.site O.Ledger.book O.Ledger.stands
-        folder.now old.now next.now stop.halt) }
+    requires { all.old.items ≡ [] }
+    ensures { ChangesBetween (O.opens ledgers.now) O.Ledger.site O.Ledger.book O.Ledger.stands
+        folder.now old.now next.now (came_of result) all.new.items }
 {
     let names = names_of(alloc, old.plan())?;
     if let Some(name) = missing_in(next.plan(), names.as_slice()) {
         return Err(Halted::at(name, Halt::NoNode));
     }
-    match look_at_all(alloc, ledgers, folder, old, next, names.as_slice()) {
-        Ok(Looked::All(all)) => match change_all(all, next) {
-            Ok(()) => Ok(Changeover::Made),
-            Err(stop) => Err(stop),
-        },
-        Ok(Looked::Unfit(name, uid, dest)) => Ok(Changeover::Unfit(name, uid, dest)),
-        Err(stop) => Err(stop),
-    }
+    change_named(alloc, ledgers, folder, old, next, names.as_slice(), all)
 }
 
-/// Changes the ledgers in a folder from the plan in the first file to that in the third.
+/// Changes the ledgers in a folder from the plan in the first file to that in the third. They stay
+/// open from the first look to the end.
 ///
 /// Errors: those of `seal_both` and `change_between`.
 fn change_files<'a, F: Files, O: Ledgers>(
@@ -92,7 +132,9 @@ fn change_files<'a, F: Files, O: Ledgers>(
 {
     match seal_both(alloc, files, given) {
         Ok((old, next)) => {
-            let came = change_between(alloc, ledgers, given.folder, &old, &next);
+            let mut all = Vec::new(alloc);
+            let came = change_between(alloc, ledgers, given.folder, &old, &next, &mut all);
+            drop(all);
             drop(next);
             drop(old);
             came
@@ -144,8 +186,11 @@ fn tell_change<'a, W: Write>(
     }
 }
 
-/// Writes why nothing was changed, or not all, and at which node, where it is at one.
-fn tell_stop<'a, W: Write, E: Write>(
+/// Writes why the word comes to nothing, or only to its beginning, and at which node, where it is
+/// at one.
+///
+/// Errors: Stream, and what failed on the way.
+pub fn tell_stop<'a, W: Write, E: Write>(
     stop: Halted<'a>,
     output: &mut W,
     faults: &mut E,

@@ -15,8 +15,16 @@ pub enum Changeover {
     Unfit(Text, Text, Text),
 }
 
-/// Why a change comes to nothing, or only to its beginning, and at which node that is, where it is
-/// at one.
+/// A row with which the next plan doesn't go on: at which node, of which instance, and where to.
+#[derive(Debug, Drop)]
+pub struct UnfitRow {
+    pub node: Text,
+    pub uid: Text,
+    pub dest: Text,
+}
+
+/// Why a word about all nodes comes to nothing, or only to its beginning, and at which node that
+/// is, where it is at one.
 #[derive(Drop)]
 pub struct Halted<'a> {
     pub halt: Halt<'a>,

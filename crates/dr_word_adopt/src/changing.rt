@@ -1,69 +1,59 @@
 //! The ledgers of all nodes, changed one after the other.
 ghost use Rattle.std.specs.Prelude.{◌≡◌, All, MatchResult};
-ghost use Rattle.dr_word_adopt.specs.Changings.{IsChanged, IsUnchanged, MayChange};
+ghost use Rattle.dr_word_adopt.specs.Changings.{Each, IsChanged, IsKept, IsUnchanged, MayChange};
 ghost use Rattle.dr_word_adopt.specs.Changings.{OnlyFirstAreChanged};
-ghost use Rattle.dr_word_adopt.specs.declared.standing.Standing.TheVariants.{Ready};
 
 use crate::change::Halted;
 use crate::standing::Standing;
-use dr_base::Text;
 use dr_cert::Sealed;
-use dr_ledger::Ledger;
+use dr_ledger::{Ledger, LedgerFault};
 use dr_run_open::Halt;
-use dr_site::Site;
-use std::alloc::AllocError;
-
-/// Has a ledger adopt the next plan, of which `own` is its node's part.
-///
-/// Errors: Refused with Store or Memory, at the node; Memory.
-fn adopt<'a, L: Ledger + Drop>(ledger: L, own: Site, next: &Sealed) -> Result<(), Halted<'a>>
-    requires { MayChange L.site L.book L.stands next.now (Ready ledger own) }
-    ensures { MatchResult result
-        (λ _. IsChanged L.site L.book L.stands next.now (Ready ledger own))
-        (λ stop. IsUnchanged stop.halt) }
-{
-    let mut ledger = ledger;
-    let node: Result<Text, AllocError> = own.name().clone();
-    match ledger.adopt(next, own) {
-        Ok(()) => Ok(()),
-        Err(fault) => Err(Halted {
-            halt: Halt::Refused(fault),
-            node: node.ok(),
-        }),
-    }
-}
 
 /// Has a ledger that may be changed adopt the next plan; one that is of it already stays as it is.
 ///
-/// Errors: those of `adopt`.
-fn change<'a, L: Ledger + Drop>(standing: Standing<L>, next: &Sealed) -> Result<(), Halted<'a>>
-    requires { MayChange L.site L.book L.stands next.now standing }
+/// Errors: Store, Memory; then its owner and its book are as they were.
+fn change<L: Ledger + Drop>(standing: &mut Standing<L>, next: &Sealed) -> Result<(), LedgerFault>
+    requires { MayChange L.site L.book L.stands next.now standing.old }
     ensures { MatchResult result
-        (λ _. IsChanged L.site L.book L.stands next.now standing)
-        (λ stop. IsUnchanged stop.halt) }
+        (λ _. IsChanged L.site L.book L.stands next.now standing.old standing.new)
+        (λ _. IsKept L.site L.book L.stands next.now standing.old standing.new) }
 {
     match standing {
         Standing::Over(_) => Ok(()),
-        Standing::Ready(ledger, own) => adopt(ledger, own, next),
+        Standing::Ready(ledger, own) => {
+            let own = own.copy()?;
+            ledger.adopt(next, own)
+        }
+    }
+}
+
+/// The refusal of the ledger of a node.
+fn refused_at<'a, L: Ledger + Drop>(standing: &Standing<L>, fault: LedgerFault) -> Halted<'a>
+    ensures { IsUnchanged result.halt }
+{
+    match standing {
+        Standing::Over(_) => Halted::from(Halt::Refused(fault)),
+        Standing::Ready(_, own) => Halted::at(own.name(), Halt::Refused(fault)),
     }
 }
 
 /// Changes all ledgers, in their order, up to the first that refuses.
 ///
-/// Errors: those of `adopt`.
+/// Errors: Refused with Store or Memory, at the node.
 pub fn change_all<'a, L: Ledger + Drop>(
-    all: Vec<Standing<L>>,
+    all: &mut [Standing<L>],
     next: &Sealed,
 ) -> Result<(), Halted<'a>>
-    requires { All (MayChange L.site L.book L.stands next.now) all.items }
+    requires { All (MayChange L.site L.book L.stands next.now) all.old }
     ensures { MatchResult result
-        (λ _. All (IsChanged L.site L.book L.stands next.now) all.items)
-        (λ stop. OnlyFirstAreChanged L.site L.book L.stands next.now all.items stop.halt) }
+        (λ _. Each (IsChanged L.site L.book L.stands next.now) all.old all.new)
+        (λ stop. IsUnchanged stop.halt
+        × OnlyFirstAreChanged L.site L.book L.stands next.now all.old all.new) }
 {
-    for standing in all {
+    for standing in all.iter_mut() {
         match change(standing, next) {
             Ok(()) => {}
-            Err(stop) => return Err(stop),
+            Err(fault) => return Err(refused_at(standing, fault)),
         }
     }
     Ok(())

@@ -11,8 +11,11 @@
 mod adopting;
 mod change;
 mod changing;
+pub mod laws;
 mod looking;
 mod names;
 mod standing;
 
-pub use adopting::adopt_files;
+pub use adopting::{adopt_files, tell_stop};
+pub use change::Halted;
+pub use looking::{part_of, path_of};

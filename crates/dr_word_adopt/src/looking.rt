@@ -1,13 +1,17 @@
 //! Looks into the nodes' ledgers, which change nothing.
-ghost use Rattle.std.specs.Prelude.{◌≡◌, ◌++◌, ◌∷◌, [], IfOk, MatchResult, OnOk};
+ghost use Rattle.std.specs.Prelude.{◌≡◌, ◌⊎◌, ◌++◌, ◌∷◌, [], Err, IfOk, MatchResult, Ok, OnErr};
+ghost use Rattle.std.specs.Prelude.{OnOk};
 ghost use Rattle.std.specs.String.{string_bytes};
 ghost use Rattle.dr_run_open.specs.Openings.{IsUnopened, Sites};
+ghost use Rattle.dr_run_open.specs.declared.halt.Halt.TheVariants.{Refused};
 ghost use Rattle.dr_word_adopt.specs.Changes.{AreNames, IsSiteAt, StopsAt, path_in};
-ghost use Rattle.dr_word_adopt.specs.Lookings.{AllLookAs, IsFound, IsLookBy, IsLookInto, IsUnseen};
-ghost use Rattle.dr_word_adopt.specs.Lookings.{LooksAs};
+ghost use Rattle.dr_word_adopt.specs.Changings.{IsKept, IsUnchanged};
+ghost use Rattle.dr_word_adopt.specs.Lookings.{AllLookAs, IsFound, IsUnseen, LooksAs, LooksInto};
+ghost use Rattle.dr_word_adopt.specs.Lookings.{MayAdd, StandsAt, stood};
+ghost use Rattle.dr_word_adopt.specs.declared.standing.Standing.{Standing as StandingValue};
 
-use crate::change::Halted;
-use crate::standing::{FoundLedger, Looked, LookedAt, Standing};
+use crate::change::{Halted, UnfitRow};
+use crate::standing::{FoundLedger, Standing};
 use dr_base::Text;
 use dr_cert::Sealed;
 use dr_ledger::{Ledger, LedgerFault};
@@ -30,7 +34,7 @@ fn path_bytes(alloc: Global, folder: &str, name: &Text) -> Result<Vec<u8>, Alloc
 /// The path of a node's ledger in the folder. A name that isn't UTF-8 has none.
 ///
 /// Errors: NotOpened with Store, Memory.
-fn path_of<'a>(alloc: Global, folder: &str, name: &Text) -> Result<String, Halt<'a>>
+pub fn path_of<'a>(alloc: Global, folder: &str, name: &Text) -> Result<String, Halt<'a>>
     ensures { MatchResult result
         (λ path. string_bytes path ≡ path_in folder.now name.now) IsUnopened }
 {
@@ -42,7 +46,7 @@ fn path_of<'a>(alloc: Global, folder: &str, name: &Text) -> Result<String, Halt<
 }
 
 /// The site of the node of that name, by a sealed plan.
-fn part_of<'a>(alloc: Global, sealed: &Sealed, name: &Text) -> Result<Site, Halt<'a>>
+pub fn part_of<'a>(alloc: Global, sealed: &Sealed, name: &Text) -> Result<Site, Halt<'a>>
     ensures { Sites sealed.now name.now result }
 {
     match Site::of(alloc, sealed, name) {
@@ -74,49 +78,35 @@ fn find<'a, O: Ledgers>(
     Ok(FoundLedger::Next(ledger))
 }
 
-/// Looks whether the next plan goes on with all that a ledger of the plan in force has still to
-/// send. `own` is the node's part of the next plan.
-///
-/// Errors: Store, Memory.
-fn look_into<L: Ledger + Drop>(
-    ledger: L,
-    own: Site,
-    next: &Sealed,
-) -> Result<LookedAt<L>, LedgerFault>
-    ensures { IfOk result (IsLookInto L.site L.book L.stands next.now own ledger) }
+/// The ledger that was found, as it may be changed to the node's part of the next plan.
+fn stand<L: Ledger + Drop>(found: FoundLedger<L>, own: Site) -> Standing<L>
+    ensures { result ≡ stood own found }
 {
-    let mut ledger = ledger;
-    let unfit = match ledger.unfit(next) {
-        Ok(unfit) => unfit,
-        Err(fault) => {
-            drop(ledger);
+    match found {
+        FoundLedger::InForce(ledger) => Standing::Ready(ledger, own),
+        FoundLedger::Next(ledger) => {
             drop(own);
-            return Err(fault);
-        }
-    };
-    match unfit {
-        None => Ok(LookedAt::Stands(Standing::Ready(ledger, own))),
-        Some((uid, dest)) => {
-            drop(ledger);
-            drop(own);
-            Ok(LookedAt::Unfit(uid, dest))
+            Standing::Over(ledger)
         }
     }
 }
 
-/// What a look into the ledger that was found shows; one of the next plan may stay as it is.
+/// Looks whether the next plan goes on with all that a ledger of the plan in force has still to
+/// send, and shows the first row with which it doesn't. Whatever comes of it, the ledger's owner
+/// and its book stay.
 ///
 /// Errors: Store, Memory.
-fn look_by<L: Ledger + Drop>(
-    found: FoundLedger<L>,
-    own: Site,
+fn look_into<L: Ledger + Drop>(
+    standing: &mut Standing<L>,
     next: &Sealed,
-) -> Result<LookedAt<L>, LedgerFault>
-    ensures { IfOk result (IsLookBy L.site L.book L.stands next.now own found) }
+) -> Result<Option<(Text, Text)>, LedgerFault>
+    ensures { MatchResult result
+        (λ unfit. LooksInto L.site L.book L.stands next.now standing.old unfit standing.new)
+        (λ why. IsKept L.site L.book L.stands next.now standing.old standing.new) }
 {
-    match found {
-        FoundLedger::Next(ledger) => Ok(LookedAt::Stands(Standing::Over(ledger))),
-        FoundLedger::InForce(ledger) => look_into(ledger, own, next),
+    match standing {
+        Standing::Over(_) => Ok(None),
+        Standing::Ready(ledger, _) => ledger.unfit(next),
     }
 }
 
@@ -167,7 +157,89 @@ fn find_in<'a, O: Ledgers>(
     }
 }
 
-/// Opens the ledger of the node of that name in the folder, and looks into it.
+/// Opens the ledger of the node of that name in the folder.
+///
+/// Errors: NoNode, NotOpened, Memory.
+fn stand_at<'a, O: Ledgers>(
+    alloc: Global,
+    ledgers: &O,
+    folder: &str,
+    old: &Sealed,
+    next: &Sealed,
+    name: &Text,
+) -> Result<Standing<O::Ledger>, Halt<'a>>
+    ensures { MatchResult result
+        (StandsAt (O.opens ledgers.now) O.Ledger.site O.Ledger.book O.Ledger.stands folder.now
+        old.now next.now name.now) (IsUnseen old.now next.now name.now) }
+{
+    let (site, own) = match parts_of(alloc, old, next, name) {
+        Ok(parts) => parts,
+        Err(halt) => return Err(halt),
+    };
+    let found = find_in(alloc, ledgers, folder, name, &site, &own);
+    drop(site);
+    match found {
+        Ok(found) => Ok(stand(found, own)),
+        Err(halt) => {
+            drop(own);
+            Err(halt)
+        }
+    }
+}
+
+/// Puts one more ledger behind those that were opened.
+fn add<L: Ledger + Drop>(
+    all: &mut Vec<Standing<L>>,
+    standing: Standing<L>,
+) -> Result<(), AllocError>
+    ensures ok { OnOk result (all.new.items ≡ all.old.items ++ standing ∷ []) }
+    ensures err { OnErr result (all.new.items ≡ all.old.items) }
+{
+    all.push(standing)?;
+    Ok(())
+}
+
+/// What a look showed; the ledger's refusal ends the word.
+fn told<'a>(
+    seen: Result<Option<(Text, Text)>, LedgerFault>,
+) -> Result<Option<(Text, Text)>, Halt<'a>>
+    ensures { MatchResult seen
+        (λ unfit. result ≡ Ok unfit) (λ why. result ≡ Err (Refused why)) }
+{
+    match seen {
+        Ok(unfit) => Ok(unfit),
+        Err(fault) => Err(Halt::Refused(fault)),
+    }
+}
+
+/// Looks into a ledger that was opened, and puts it behind the others.
+///
+/// Errors: Refused with Store or Memory, Memory.
+fn look_and_add<'a, L: Ledger + Drop>(
+    all: &mut Vec<Standing<L>>,
+    standing: Standing<L>,
+    next: &Sealed,
+) -> Result<Option<(Text, Text)>, Halt<'a>>
+    ensures { MatchResult result
+        (λ unfit. (last : StandingValue L) × (all.new.items ≡ all.old.items ++ last ∷ [])
+        × LooksInto L.site L.book L.stands next.now standing unfit last)
+        (λ halt. IsUnchanged halt × ((all.new.items ≡ all.old.items)
+        ⊎ ((last : StandingValue L) × (all.new.items ≡ all.old.items ++ last ∷ [])
+        × IsKept L.site L.book L.stands next.now standing last))) }
+{
+    let mut standing = standing;
+    let seen = look_into(&mut standing, next);
+    match add(all, standing) {
+        Ok(()) => told(seen),
+        Err(AllocError) => {
+            drop(seen);
+            Err(Halt::Memory)
+        }
+    }
+}
+
+/// Opens the ledger of the node of that name in the folder, looks into it, and puts it behind those
+/// that were opened.
 ///
 /// Errors: NoNode, NotOpened, Refused with Store or Memory, Memory.
 fn look_at<'a, O: Ledgers>(
@@ -177,43 +249,33 @@ fn look_at<'a, O: Ledgers>(
     old: &Sealed,
     next: &Sealed,
     name: &Text,
-) -> Result<LookedAt<O::Ledger>, Halt<'a>>
+    all: &mut Vec<Standing<O::Ledger>>,
+) -> Result<Option<(Text, Text)>, Halt<'a>>
     ensures { MatchResult result
-        (LooksAs (O.opens ledgers.now) O.Ledger.site O.Ledger.book O.Ledger.stands folder.now
-        old.now next.now name.now) (IsUnseen old.now next.now name.now) }
+        (λ unfit. LooksAs (O.opens ledgers.now) O.Ledger.site O.Ledger.book O.Ledger.stands
+        folder.now old.now next.now name.now unfit all.old.items all.new.items)
+        (λ halt. IsUnseen old.now next.now name.now halt
+        × MayAdd (O.opens ledgers.now) O.Ledger.site O.Ledger.book O.Ledger.stands
+        folder.now old.now next.now name.now all.old.items all.new.items) }
 {
-    let (site, own) = match parts_of(alloc, old, next, name) {
-        Ok(parts) => parts,
-        Err(halt) => return Err(halt),
-    };
-    let found = find_in(alloc, ledgers, folder, name, &site, &own);
-    drop(site);
-    let found = match found {
-        Ok(found) => found,
-        Err(halt) => {
-            drop(own);
-            return Err(halt);
-        }
-    };
-    match look_by(found, own, next) {
-        Ok(look) => Ok(look),
-        Err(fault) => Err(Halt::Refused(fault)),
+    match stand_at(alloc, ledgers, folder, old, next, name) {
+        Ok(standing) => look_and_add(all, standing, next),
+        Err(halt) => Err(halt),
     }
 }
 
-/// Puts one more ledger behind those that were looked into.
-fn add<L: Ledger + Drop>(
-    all: &mut Vec<Standing<L>>,
-    standing: Standing<L>,
-) -> Result<(), AllocError>
-    ensures { OnOk result (all.new.items ≡ all.old.items ++ standing ∷ []) }
+/// The row that isn't fit, at the node of that name.
+fn unfit_at(name: &Text, row: (Text, Text)) -> Result<UnfitRow, AllocError>
+    ensures { IfOk result (λ unfit. (unfit.node ≡ name.now) × (unfit.uid ≡ row.0)
+        × (unfit.dest ≡ row.1)) }
 {
-    all.push(standing)?;
-    Ok(())
+    let (uid, dest) = row;
+    let node = name.clone()?;
+    Ok(UnfitRow { node, uid, dest })
 }
 
 /// Opens the ledgers of these nodes in the folder and looks into each, up to the first that may not
-/// be changed.
+/// be changed. All that were opened stay open, and are left as they were opened.
 ///
 /// Errors: those of `look_at`, at a node; Memory.
 pub fn look_at_all<'a, O: Ledgers>(
@@ -223,20 +285,22 @@ pub fn look_at_all<'a, O: Ledgers>(
     old: &Sealed,
     next: &Sealed,
     names: &[Text],
-) -> Result<Looked<O::Ledger>, Halted<'a>>
-    requires { AreNames old.now.plan names.now }
+    all: &mut Vec<Standing<O::Ledger>>,
+) -> Result<Option<UnfitRow>, Halted<'a>>
+    requires names { AreNames old.now.plan names.now }
+    requires none { all.old.items ≡ [] }
     ensures { MatchResult result
-        (AllLookAs (O.opens ledgers.now) O.Ledger.site O.Ledger.book O.Ledger.stands folder.now
-        old.now next.now names.now) (λ stop. StopsAt (O.opens ledgers.now) O.Ledger.site
-        O.Ledger.book O.Ledger.stands folder.now old.now next.now stop.halt) }
+        (λ unfit. AllLookAs (O.opens ledgers.now) O.Ledger.site O.Ledger.book O.Ledger.stands
+        folder.now old.now next.now names.now unfit all.new.items)
+        (λ stop. StopsAt (O.opens ledgers.now) O.Ledger.site O.Ledger.book O.Ledger.stands
+        folder.now old.now next.now stop.halt all.new.items) }
 {
-    let mut all = Vec::new(alloc);
     for name in names {
-        match look_at(alloc, ledgers, folder, old, next, name) {
-            Ok(LookedAt::Stands(standing)) => add(&mut all, standing)?,
-            Ok(LookedAt::Unfit(uid, dest)) => return Ok(Looked::Unfit(name.clone()?, uid, dest)),
+        match look_at(alloc, ledgers, folder, old, next, name, all) {
+            Ok(None) => {}
+            Ok(Some(row)) => return Ok(Some(unfit_at(name, row)?)),
             Err(halt) => return Err(Halted::at(name, halt)),
         }
     }
-    Ok(Looked::All(all))
+    Ok(None)
 }

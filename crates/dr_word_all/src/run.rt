@@ -1,16 +1,22 @@
 //! A run of the whole program.
-ghost use Rattle.std.specs.Prelude.{◌≡◌, ◌≢◌, ◌⊎◌, ℕ, List, IfOk, IfSome};
+ghost use Rattle.std.specs.Prelude.{◌≡◌, ◌≢◌, ◌⊎◌, [], ℕ, List, IfOk, IfSome, map as mapped};
+ghost use Rattle.std.specs.Global.{Global};
+ghost use Rattle.std.specs.Prelude.{Vec};
 ghost use Rattle.std.specs.Borrow.{Bor};
 ghost use Rattle.dr_base.specs.Texts.{Text};
 ghost use Rattle.dr_word_adopt.specs.Endings.{Adopts};
+ghost use Rattle.dr_word_audit.specs.Endings.{EndsAs};
+ghost use Rattle.dr_word_audit.specs.Names.{text_of};
 ghost use Rattle.dr_word_check.specs.Runs.{Answers, Verifies};
 ghost use Rattle.dr_word_line.specs.Words.{IsPlainCheck, IsCheckOf, IsVerifyOf, IsQuestionOf};
 ghost use Rattle.dr_word_line.specs.Words.{IsSimulateOf, IsEchoOf, IsDutyOf, IsAdoptOf};
+ghost use Rattle.dr_word_line.specs.Words.{IsAuditOf};
 ghost use Rattle.dr_run_open.specs.declared.status.Status.TheVariants.{Success, Refused, Usage};
 ghost use Rattle.dr_word_line.specs.declared.words.Task.TheVariants as asks;
 ghost use Rattle.dr_word_line.specs.declared.words.Duty.{Duty as DutyValue};
 ghost use Rattle.dr_run_files.specs.declared.node.NodeFiles.{NodeFiles as NodeFilesValue};
 ghost use Rattle.dr_word_line.specs.declared.words.PlanChange.{PlanChange as PlanChangeValue};
+ghost use Rattle.dr_word_line.specs.declared.words.SiteFiles.{SiteFiles as SiteFilesValue};
 ghost use Rattle.dr_word_line.specs.declared.words.Question.{Question as QuestionValue};
 ghost use Rattle.dr_word_echo.specs.Runs.{Echoes};
 ghost use Rattle.dr_word_route.specs.Runs.{Asks};
@@ -18,6 +24,7 @@ ghost use Rattle.dr_word_serve.specs.Sending.{VisitsBy};
 ghost use Rattle.dr_word_serve.specs.Working.{Works};
 ghost use Rattle.dr_word_simulate.specs.Runs.{Simulates};
 
+use dr_ledger_journal::TellsJournal;
 use dr_run_files::{Failure, Files};
 use dr_run_net::Network;
 use dr_run_open::{Ledgers, Status};
@@ -25,6 +32,7 @@ use dr_run_report::Paths;
 use dr_run_serve::{Ending, OwnPort, Tallied};
 use dr_session::{Clock, DeskPort};
 use dr_word_adopt::adopt_files;
+use dr_word_audit::audit_files;
 use dr_word_check::tell_failure;
 use dr_word_echo::echo_files;
 use dr_word_line::{Task, read_words};
@@ -67,7 +75,7 @@ fn run_any<
     ending: &U,
 ) -> Result<Status, Failure<'a>>
 where
-    O::Ledger: Send,
+    O::Ledger: Send + TellsJournal,
     N::Socket: Send,
     N::Listener: Sync,
     ensures known { asked.entry ≡ asks.CheckInput → IfOk result (λ status. status ≢ Usage) }
@@ -116,6 +124,17 @@ where
         → IfOk result
         (Adopts (F.holds files.now) (O.opens ledgers.now) O.Ledger.site O.Ledger.book
         O.Ledger.stands change (W.contents output.old) (W.contents output.new)) }
+    ensures audited { (given : SiteFilesValue)
+        → asked.entry ≡ asks.Audit given
+        → IfOk result
+        (EndsAs (F.holds files.now) (O.opens ledgers.now) O.Ledger.site O.Ledger.book
+        O.Ledger.stands given [] (W.contents output.old) (W.contents output.new)) }
+    ensures audited_among { (given : SiteFilesValue) (others : Vec (Bor (List ℕ)) Global)
+        → asked.entry ≡ asks.AuditAmong given others
+        → IfOk result
+        (EndsAs (F.holds files.now) (O.opens ledgers.now) O.Ledger.site O.Ledger.book
+        O.Ledger.stands given (mapped text_of others.items) (W.contents output.old)
+        (W.contents output.new)) }
 {
     match asked {
         Task::Echo(plan, caller, called) => {
@@ -127,6 +146,18 @@ where
             rt, alloc, files, ledgers, given, duty, network, clock, log, ending, output, faults,
         ),
         Task::Adopt(change) => adopt_files(alloc, files, ledgers, change, output, faults),
+        Task::Audit(given) => audit_files(alloc, files, ledgers, given, &[], output, faults),
+        Task::AuditAmong(given, others) => {
+            audit_files(
+                alloc,
+                files,
+                ledgers,
+                given,
+                others.as_slice(),
+                output,
+                faults,
+            )
+        }
         other => run_offline(alloc, other, input, output, faults, files),
     }
 }
@@ -159,7 +190,7 @@ pub fn run_words<
     ending: &U,
 ) -> Status
 where
-    O::Ledger: Send,
+    O::Ledger: Send + TellsJournal,
     N::Socket: Send,
     N::Listener: Sync,
     ensures known { IsPlainCheck words.now → result ≢ Usage }
@@ -213,6 +244,11 @@ where
         → (result ≡ Success) ⊎ (result ≡ Refused)
         → Adopts (F.holds files.now) (O.opens ledgers.now) O.Ledger.site O.Ledger.book
         O.Ledger.stands change (W.contents output.old) (W.contents output.new) result }
+    ensures audited { (given : SiteFilesValue)
+        → IsAuditOf words.now given
+        → (result ≡ Success) ⊎ (result ≡ Refused)
+        → EndsAs (F.holds files.now) (O.opens ledgers.now) O.Ledger.site O.Ledger.book
+        O.Ledger.stands given [] (W.contents output.old) (W.contents output.new) result }
 {
     let asked = match read_words(alloc, words) {
         Ok(asked) => asked,

@@ -1,4 +1,5 @@
 pub mod Answers
+pub mod Expanded
 pub mod Faults
 pub mod Laws
 pub mod Runs

@@ -1,8 +1,10 @@
 //! The commands of the program `dr_router`: to check a plan, which prints its certificate or what
-//! is wrong with it, and to verify a certificate for a plan.
+//! is wrong with it; to expand one, which prints the text that is read for it; and to verify a
+//! certificate for a plan.
 #![tactic(auto)]
 
 mod answer;
+mod expand;
 pub mod laws;
 mod print;
 mod run;

@@ -5,12 +5,14 @@ ghost use Rattle.dr_base.specs.Texts.{Text};
 ghost use Rattle.std.specs.Io.KnownBytes.{Appends};
 ghost use Rattle.dr_word_check.specs.Verdicts.{verdict_line};
 ghost use Rattle.dr_word_check.specs.Runs.{Answers, Verifies};
-ghost use Rattle.dr_word_line.specs.Words.{IsPlainCheck, IsCheckOf, IsVerifyOf};
+ghost use Rattle.dr_word_check.specs.Expanded.{Expanded};
+ghost use Rattle.dr_word_line.specs.Words.{IsPlainCheck, IsCheckOf, IsExpandOf, IsVerifyOf};
 ghost use Rattle.dr_word_line.specs.declared.words.Task.TheVariants as asks;
 ghost use Rattle.dr_run_open.specs.declared.status.Status.TheVariants.{Success, Refused, Usage};
 ghost use Rattle.dr_run_open.specs.declared.status.Status.TheVariants.{InputOutput, Memory};
 
 use crate::answer::answer_to;
+use crate::expand::expand_file;
 use crate::verify::{Verification, verdict_on};
 use clap::Error;
 use clap::error::ErrorKind;
@@ -184,7 +186,7 @@ fn tell_other_word<E: Write>(faults: &mut E) -> io::Result<Status>
 {
     writeln!(
         faults,
-        "dr_router: this program has the words check and verify alone"
+        "dr_router: this program has the words check, expand and verify alone"
     )?;
     Ok(Status::Usage)
 }
@@ -209,6 +211,11 @@ pub fn run_asked<'a, R: Read, W: Write, E: Write, F: Files>(
         → IfOk result (λ status. (text : Text)
         × F.holds files.now plan.now text
         × Answers text (W.contents output.old) (W.contents output.new) status) }
+    ensures expanded { (plan : Bor (List ℕ))
+        → asked.entry ≡ asks.Expand plan
+        → IfOk result (λ status. (text : Text)
+        × F.holds files.now plan.now text
+        × Expanded text (W.contents output.old) (W.contents output.new) status) }
     ensures verified { (plan certificate : Bor (List ℕ))
         → asked.entry ≡ asks.Verify plan certificate
         → IfOk result (λ status. (text : Text)
@@ -219,6 +226,7 @@ pub fn run_asked<'a, R: Read, W: Write, E: Write, F: Files>(
     match asked {
         Task::CheckInput => Ok(answer_input(alloc, input, output, faults)?),
         Task::CheckFile(path) => answer_file(alloc, files, path, output, faults),
+        Task::Expand(path) => expand_file(alloc, files, path, output, faults),
         Task::Verify(plan, certificate) => {
             verify_files(alloc, files, plan, certificate, output, faults)
         }
@@ -226,7 +234,9 @@ pub fn run_asked<'a, R: Read, W: Write, E: Write, F: Files>(
         | Task::Echo(_, _, _)
         | Task::Question(_, _, _)
         | Task::AtNode(_, _)
-        | Task::Adopt(_) => { Ok(tell_other_word(faults)?) }
+        | Task::Adopt(_)
+        | Task::Audit(_)
+        | Task::AuditAmong(_, _) => { Ok(tell_other_word(faults)?) }
         Task::Told(error) => Ok(tell_words(&error, output, faults)?),
     }
 }
@@ -251,6 +261,11 @@ pub fn run_words<R: Read, W: Write, E: Write, F: Files>(
         → (text : Text)
         × F.holds files.now plan.now text
         × Answers text (W.contents output.old) (W.contents output.new) result }
+    ensures expanded { (plan : Bor (List ℕ)) → IsExpandOf words.now plan
+        → (result ≡ Success) ⊎ (result ≡ Refused)
+        → (text : Text)
+        × F.holds files.now plan.now text
+        × Expanded text (W.contents output.old) (W.contents output.new) result }
     ensures verified { (plan certificate : Bor (List ℕ))
         → IsVerifyOf words.now plan certificate
         → (result ≡ Success) ⊎ (result ≡ Refused)

@@ -8,9 +8,10 @@ use Rattle.dr_word_line.specs.declared.words.Duty.TheVariants as duties
 use Rattle.dr_word_line.specs.declared.words.KeyWords.{KeyWords}
 use Rattle.dr_run_files.specs.declared.node.NodeFiles.{NodeFiles}
 use Rattle.dr_word_line.specs.declared.words.PlanChange.{PlanChange}
+use Rattle.dr_word_line.specs.declared.words.SiteFiles.{SiteFiles}
 use Rattle.dr_word_line.specs.declared.words.NextPlan.{NextPlan}
 use Rattle.dr_word_line.specs.declared.words.Question.TheVariants as questions
-use Rattle.dr_word_line.specs.Words.{Asks, IsAdoptOf, IsCheckOf, IsDiffOf, IsDutyOf, IsEchoOf, IsExpectOf, IsFileRouteOf, IsForgetOf, IsGiveUpOf, IsGraphOf, IsKeyRouteOf, IsLintOf, IsListOf, IsMakeOf, IsPlainCheck, IsRequeueAllOf, IsRequeueOf, IsSendOf, IsServeOf, IsSimulateOf, IsSummaryOf, IsVerifyOf}
+use Rattle.dr_word_line.specs.Words.{Asks, IsAdoptOf, IsAuditOf, IsCheckOf, IsDiffOf, IsDutyOf, IsEchoOf, IsExpandOf, IsExpectOf, IsFileRouteOf, IsForgetOf, IsGiveUpOf, IsGraphOf, IsKeyRouteOf, IsLintOf, IsListOf, IsMakeOf, IsPlainCheck, IsRequeueAllOf, IsRequeueOf, IsSendOf, IsServeOf, IsSimulateOf, IsSummaryOf, IsVerifyOf}
 
 -- no duty is asked for, where none of each kind is
 module _ (words : List (Bor (List ℕ)))
@@ -38,6 +39,7 @@ module _ (words : List (Bor (List ℕ)))
 module _ (words : List (Bor (List ℕ)))
     (input : IsPlainCheck words → ⊥)
     (file : (plan : Bor (List ℕ)) → IsCheckOf words plan → ⊥)
+    (expand : (plan : Bor (List ℕ)) → IsExpandOf words plan → ⊥)
     (verify : (plan certificate : Bor (List ℕ)) → IsVerifyOf words plan certificate → ⊥)
     (simulate : (plan certificate script : Bor (List ℕ)) → IsSimulateOf words plan certificate script → ⊥)
     (echo : (plan caller called : Bor (List ℕ)) → IsEchoOf words plan caller called → ⊥)
@@ -48,10 +50,12 @@ module _ (words : List (Bor (List ℕ)))
     (route_of_file : (plan certificate at path : Bor (List ℕ)) → IsFileRouteOf words plan certificate at path → ⊥)
     (route_of_key : (plan certificate at : Bor (List ℕ)) (key : KeyWords) → IsKeyRouteOf words plan certificate at key → ⊥)
     (duty : (given : NodeFiles) (duty : Duty) → IsDutyOf words given duty → ⊥)
-    (adopt : (change : PlanChange) → IsAdoptOf words change → ⊥) where
+    (adopt : (change : PlanChange) → IsAdoptOf words change → ⊥)
+    (audit : (given : SiteFiles) → IsAuditOf words given → ⊥) where
   pub nothing_asked : (asked : Task) → Asks words asked → ⊥
   nothing_asked asks.CheckInput h = input h
   nothing_asked (asks.CheckFile plan) h = file plan h
+  nothing_asked (asks.Expand plan) h = expand plan h
   nothing_asked (asks.Verify plan certificate) h = verify plan certificate h
   nothing_asked (asks.Simulate plan certificate script) h = simulate plan certificate script h
   nothing_asked (asks.Echo plan caller called) h = echo plan caller called h
@@ -64,4 +68,6 @@ module _ (words : List (Bor (List ℕ)))
   nothing_asked (asks.Question plan certificate (questions.RouteOfKey at key)) h = route_of_key plan certificate at key h
   nothing_asked (asks.AtNode given work) h = duty given work h
   nothing_asked (asks.Adopt change) h = adopt change h
+  nothing_asked (asks.Audit given) h = audit given h
+  nothing_asked (asks.AuditAmong given others) h = absurd h
   nothing_asked (asks.Told error) h = absurd h

@@ -1,15 +1,11 @@
 -- Words of a plain form ask for one thing.
-use Rattle.std.proofs.Common.{◌≡◌, ◌∙◌, ap, cond, false, get_or, ne_eqb, refl, subst, sym, ℕ, List, [], ◌∷◌, ◌==◌, codes, inl, inr, None}
+use Rattle.std.proofs.Common.{◌≡◌, ◌∙◌, ap, cond, false, get_or, ne_eqb, refl, subst, sym, ℕ, List, [], ◌∷◌, ◌==◌, inl, inr}
 use Rattle.std.specs.Borrow.{Bor}
 use Rattle.dr_word_line.specs.declared.words.Task.{Task}
 use Rattle.dr_word_line.specs.declared.words.Task.TheVariants as asks
-use Rattle.dr_word_line.specs.declared.words.Duty.{Duty}
 use Rattle.dr_word_line.specs.declared.words.Duty.TheVariants as duties
-use Rattle.dr_word_line.specs.declared.words.KeyWords.{KeyWords}
 use Rattle.dr_run_files.specs.declared.node.NodeFiles.{NodeFiles}
-use Rattle.dr_word_line.specs.declared.words.PlanChange.{PlanChange}
-use Rattle.dr_word_line.specs.declared.words.NextPlan.{NextPlan}
-use Rattle.dr_word_line.specs.declared.words.Question.{Question}
+use Rattle.dr_word_line.specs.declared.words.SiteFiles.{SiteFiles}
 use Rattle.dr_word_line.specs.declared.words.Question.TheVariants as questions
 use Rattle.dr_word_line.specs.Words.{Asks, IsNoOption, plain_serving}
 
@@ -29,7 +25,9 @@ second word = get_or word 1 0
 
 -- what a word and three more ask for
 abbrev of_four : List ℕ → Word → Word → Word → Task
-of_four word a b c = cond (initial word == 115) (asks.Simulate a b c) (cond (second word == 120) (asks.Question a b (questions.Expect c)) (asks.Echo a b c))
+of_four word a b c =
+    cond (initial word == 115) (asks.Simulate a b c)
+    (cond (initial word == 97) (asks.Audit (record { plan = a; certificate = b; folder = c })) (cond (second word == 120) (asks.Question a b (questions.Expect c)) (asks.Echo a b c)))
 
 -- what a word and four more ask for
 abbrev of_five : List ℕ → Word → Word → Word → Word → Task
@@ -59,7 +57,7 @@ of_seven word option given e f = cond (initial word == 100) (asks.AtNode given (
 abbrev meant : List Word → Task
 meant [] = asks.CheckInput
 meant (word ∷ []) = asks.CheckInput
-meant (word ∷ a ∷ []) = asks.CheckFile a
+meant (word ∷ a ∷ []) = cond (initial word.now == 101) (asks.Expand a) (asks.CheckFile a)
 meant (word ∷ a ∷ b ∷ []) =
     cond (initial word.now == 118) (asks.Verify a b) (cond (initial word.now == 103) (asks.Question a b questions.Graph) (asks.Question a b questions.Lint))
 meant (word ∷ a ∷ b ∷ c ∷ []) = of_four word.now a b c
@@ -80,7 +78,12 @@ module _ (words : List Word) where
   is_meant : (asked : Task) → Asks words asked → meant words ≡ asked
   is_meant asks.CheckInput (inl none) = subst (Means asks.CheckInput) (sym none) refl
   is_meant asks.CheckInput (inr h) = subst (Means asks.CheckInput) (sym h.1) refl
-  is_meant (asks.CheckFile a) h = subst (Means (asks.CheckFile a)) (sym h.1) refl
+  is_meant (asks.CheckFile a) h =
+      subst (Means (asks.CheckFile a)) (sym h.1)
+      (subst (λ n. cond (initial n == 101) (asks.Expand a) (asks.CheckFile a) ≡ asks.CheckFile a) (sym h.2) refl)
+  is_meant (asks.Expand a) h =
+      subst (Means (asks.Expand a)) (sym h.1)
+      (subst (λ n. cond (initial n == 101) (asks.Expand a) (asks.CheckFile a) ≡ asks.Expand a) (sym h.2) refl)
   is_meant (asks.Verify a b) h =
       subst (Means (asks.Verify a b)) (sym h.1)
       (subst (λ n. cond (initial n == 118) (asks.Verify a b) (cond (initial n == 103) (asks.Question a b questions.Graph) (asks.Question a b questions.Lint)) ≡ asks.Verify a b) (sym h.2) refl)
@@ -141,6 +144,10 @@ module _ (words : List Word) where
   is_meant (asks.Adopt change) h =
       subst (Means (asks.Adopt change)) (sym h.1)
       (subst (λ n. of_six n (files change.plan change.certificate change.next_plan change.next_certificate) change.folder ≡ asks.Adopt change) (sym h.2) refl)
+  is_meant (asks.Audit given) h =
+      subst (Means (asks.Audit given)) (sym h.1)
+      (subst (λ n. of_four n given.plan given.certificate given.folder ≡ asks.Audit given) (sym h.2) refl)
+  is_meant (asks.AuditAmong given others) h = absurd h
   is_meant (asks.Told error) h = absurd h
 
   -- words of a plain form ask for one thing

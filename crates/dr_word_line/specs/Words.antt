@@ -3,10 +3,11 @@ use Rattle.std.specs.Prelude.{◌≡◌, ◌≢◌, ℕ, List, [], ◌∷◌, �
 use Rattle.std.specs.Prelude.{MatchOption, Some}
 use Rattle.std.specs.Borrow.{Bor}
 use Rattle.dr_word_line.specs.declared.words.Task.{Task}
-use Rattle.dr_word_line.specs.declared.words.Task.TheVariants.{CheckInput, CheckFile, Verify}
+use Rattle.dr_word_line.specs.declared.words.Task.TheVariants.{CheckInput, CheckFile, Expand}
+use Rattle.dr_word_line.specs.declared.words.Task.TheVariants.{Verify}
 use Rattle.dr_word_line.specs.declared.words.Task.TheVariants.{Simulate, Echo}
 use Rattle.dr_word_line.specs.declared.words.Task.TheVariants.{Question as AsksQuestion, AtNode}
-use Rattle.dr_word_line.specs.declared.words.Task.TheVariants.{Adopt, Told}
+use Rattle.dr_word_line.specs.declared.words.Task.TheVariants.{Adopt, Audit, AuditAmong, Told}
 use Rattle.dr_word_line.specs.declared.words.Duty.{Duty}
 use Rattle.dr_word_line.specs.declared.words.Duty.TheVariants.{List as ToList, Summary, Requeue}
 use Rattle.dr_word_line.specs.declared.words.Duty.TheVariants.{RequeueAll, GiveUp, Forget, Make}
@@ -14,6 +15,7 @@ use Rattle.dr_word_line.specs.declared.words.Duty.TheVariants.{Send, Serve}
 use Rattle.dr_word_line.specs.declared.words.KeyWords.{KeyWords}
 use Rattle.dr_run_files.specs.declared.node.NodeFiles.{NodeFiles}
 use Rattle.dr_word_line.specs.declared.words.PlanChange.{PlanChange}
+use Rattle.dr_word_line.specs.declared.words.SiteFiles.{SiteFiles}
 use Rattle.dr_word_line.specs.declared.words.NextPlan.{NextPlan}
 use Rattle.dr_word_line.specs.declared.words.Question.{Question}
 use Rattle.dr_word_line.specs.declared.words.Question.TheVariants.{RouteOfKey, RouteOfFile, Graph}
@@ -39,6 +41,14 @@ IsCheckOf words plan =
     (word : Bor (List ℕ))
     × (words ≡ word ∷ plan ∷ [])
     × (word.now ≡ codes "check")
+    × IsNoOption plan.now
+
+-- the word expand and a file's path: they ask for the text that is read for the plan in that file
+abbrev pub IsExpandOf : List (Bor (List ℕ)) → Bor (List ℕ) → Type 0
+IsExpandOf words plan =
+    (word : Bor (List ℕ))
+    × (words ≡ word ∷ plan ∷ [])
+    × (word.now ≡ codes "expand")
     × IsNoOption plan.now
 
 -- the word verify and two files' paths: they ask for a verification of the certificate in the
@@ -256,16 +266,31 @@ IsAdoptOf words change =
     × IsNoOption change.next_certificate.now
     × IsNoOption change.folder.now
 
--- the words are of a plain form, which asks for this
+-- the word audit, the paths of a plan and its certificate, and a folder's path: they ask to audit
+-- the ledgers in that folder, of all nodes of the plan
+abbrev pub IsAuditOf : List (Bor (List ℕ)) → SiteFiles → Type 0
+IsAuditOf words given =
+    (word : Bor (List ℕ))
+    × (words ≡ word ∷ given.plan ∷ given.certificate ∷ given.folder ∷ [])
+    × (word.now ≡ codes "audit")
+    × IsNoOption given.plan.now
+    × IsNoOption given.certificate.now
+    × IsNoOption given.folder.now
+
+-- the words are of a plain form, which asks for this; that nodes are of other makers is said by
+-- options, of which nothing is said here
 abbrev pub Asks : List (Bor (List ℕ)) → Task → Type 0
 Asks words CheckInput = IsPlainCheck words
 Asks words (CheckFile plan) = IsCheckOf words plan
+Asks words (Expand plan) = IsExpandOf words plan
 Asks words (Verify plan certificate) = IsVerifyOf words plan certificate
 Asks words (Simulate plan certificate script) = IsSimulateOf words plan certificate script
 Asks words (Echo plan caller called) = IsEchoOf words plan caller called
 Asks words (AsksQuestion plan certificate question) = IsQuestionOf words plan certificate question
 Asks words (AtNode given duty) = IsDutyOf words given duty
 Asks words (Adopt change) = IsAdoptOf words change
+Asks words (Audit given) = IsAuditOf words given
+Asks words (AuditAmong given others) = ⊥
 Asks words (Told error) = ⊥
 
 -- what the words of a plain form ask for, and nothing where they are of none

@@ -120,6 +120,7 @@ enum Choice {
     Dest,
     Uid,
     Next,
+    Other,
     AllHeld,
     File,
     Links,
@@ -152,6 +153,7 @@ impl<'a> Makes<Arg<'a>> for Choice {
             Choice::Dest => Ok(dest(alloc)),
             Choice::Uid => Ok(needed(alloc, "UID", "the SOP instance UID")),
             Choice::Next => Ok(needed(alloc, "DEST", "the node to which it is not to be sent")),
+            Choice::Other => Ok(other(alloc)),
             Choice::AllHeld => all_held(alloc),
             Choice::File => Ok(needed(alloc, "FILE", "a Part 10 file")),
             Choice::Links => Ok(links(alloc)),
@@ -185,6 +187,12 @@ fn file_of_check<'a>(alloc: Global) -> Arg<'a> {
 fn check<'a>(alloc: Global) -> Result<Command<'a>, AllocError> {
     let about = "Checks a plan, and prints its certificate or what is wrong with it";
     word(alloc, "check", about, &[], &[Choice::Plan])
+}
+
+/// The word `expand`.
+fn expand<'a>(alloc: Global) -> Result<Command<'a>, AllocError> {
+    let about = "Prints a plan of format 3 without names, sets, groups and lists";
+    word(alloc, "expand", about, &[PLAN], &[])
 }
 
 /// The word `verify`.
@@ -426,6 +434,32 @@ fn adopt<'a>(alloc: Global) -> Result<Command<'a>, AllocError> {
     )
 }
 
+/// The option of `audit` for a node that has no ledger here.
+fn other<'a>(alloc: Global) -> Arg<'a> {
+    Arg::new(alloc, "OTHER")
+        .long("other")
+        .action(ArgAction::Append)
+        .value_name("NAME")
+        .allow_hyphen_values(true)
+        .help("a node of another maker, which has no ledger here; once for each")
+}
+
+/// The word `audit`.
+fn audit<'a>(alloc: Global) -> Result<Command<'a>, AllocError> {
+    let about = "Audits the ledgers of all nodes of a plan, while no node runs";
+    word(
+        alloc,
+        "audit",
+        about,
+        &[
+            PLAN,
+            CERTIFICATE,
+            ("DIR", "the folder with the ledger of each node"),
+        ],
+        &[Choice::Other],
+    )
+}
+
 /// After how many associations `serve` ends.
 fn links<'a>(alloc: Global) -> Arg<'a> {
     Arg::new(alloc, "LINKS")
@@ -632,6 +666,7 @@ fn program<'a>(alloc: Global) -> Result<Command<'a>, AllocError> {
 #[derive(Clone, Copy)]
 enum Verb {
     Check,
+    Expand,
     Verify,
     Route,
     Graph,
@@ -648,10 +683,12 @@ enum Verb {
     Drop,
     Forget,
     Adopt,
+    Audit,
 }
 
 const VERBS: &[Verb] = &[
     Verb::Check,
+    Verb::Expand,
     Verb::Verify,
     Verb::Route,
     Verb::Graph,
@@ -668,12 +705,14 @@ const VERBS: &[Verb] = &[
     Verb::Drop,
     Verb::Forget,
     Verb::Adopt,
+    Verb::Audit,
 ];
 
 impl<'a> Makes<Command<'a>> for Verb {
     fn make(self, alloc: Global) -> Result<Command<'a>, AllocError> {
         match self {
             Verb::Check => check(alloc),
+            Verb::Expand => expand(alloc),
             Verb::Verify => verify(alloc),
             Verb::Route => route(alloc),
             Verb::Graph => graph(alloc),
@@ -690,6 +729,7 @@ impl<'a> Makes<Command<'a>> for Verb {
             Verb::Drop => give_up(alloc),
             Verb::Forget => forget(alloc),
             Verb::Adopt => adopt(alloc),
+            Verb::Audit => audit(alloc),
         }
     }
 }

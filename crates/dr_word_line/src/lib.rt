@@ -8,6 +8,6 @@ mod command_line;
 mod words;
 
 pub use words::{
-    Controlled, Duty, KeyWords, NextPlan, PlanChange, Question, Serving, Task, Verbosity, Waits,
-    read_words,
+    Controlled, Duty, KeyWords, NextPlan, PlanChange, Question, Serving, SiteFiles, Task,
+    Verbosity, Waits, read_words,
 };

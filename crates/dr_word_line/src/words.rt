@@ -7,14 +7,15 @@ ghost use Rattle.dr_word_line.specs.Words.{IsSimulateOf, IsEchoOf, IsNoOption, I
 ghost use Rattle.dr_word_line.specs.Words.{IsFileRouteOf, IsKeyRouteOf, IsQuestionOf, IsListOf};
 ghost use Rattle.dr_word_line.specs.Words.{IsSummaryOf, IsServeOf, IsSendOf, IsRequeueOf};
 ghost use Rattle.dr_word_line.specs.Words.{IsRequeueAllOf, IsDutyOf, IsAdoptOf, IsDiffOf};
-ghost use Rattle.dr_word_line.specs.Words.{IsForgetOf};
+ghost use Rattle.dr_word_line.specs.Words.{IsAuditOf, IsForgetOf};
 ghost use Rattle.dr_word_line.specs.Words.{IsGiveUpOf, IsMakeOf};
-ghost use Rattle.dr_word_line.specs.Words.{IsExpectOf};
+ghost use Rattle.dr_word_line.specs.Words.{IsExpectOf, IsExpandOf};
 ghost use Rattle.dr_word_line.specs.declared.words.Task.{Task as TaskValue};
 ghost use Rattle.dr_word_line.specs.declared.words.Task.TheVariants as asks;
 ghost use Rattle.dr_word_line.specs.declared.words.Duty.{Duty as DutyValue};
 ghost use Rattle.dr_word_line.specs.declared.words.KeyWords.{KeyWords as KeyWordsValue};
 ghost use Rattle.dr_word_line.specs.declared.words.PlanChange.{PlanChange as PlanChangeValue};
+ghost use Rattle.dr_word_line.specs.declared.words.SiteFiles.{SiteFiles as SiteFilesValue};
 ghost use Rattle.dr_word_line.specs.declared.words.NextPlan.{NextPlan as NextPlanValue};
 ghost use Rattle.dr_word_line.specs.declared.words.Question.{Question as QuestionValue};
 
@@ -70,6 +71,15 @@ pub struct PlanChange<'a> {
     pub certificate: &'a str,
     pub next_plan: &'a str,
     pub next_certificate: &'a str,
+    pub folder: &'a str,
+}
+
+/// What names a plan and where its nodes' ledgers are: the paths of the plan, of its certificate,
+/// and of the folder that holds each node's ledger.
+#[derive(Clone, Copy, Debug, Drop)]
+pub struct SiteFiles<'a> {
+    pub plan: &'a str,
+    pub certificate: &'a str,
     pub folder: &'a str,
 }
 
@@ -179,6 +189,8 @@ pub enum Task<'a> {
     CheckInput,
     /// To check the plan whose text is in this file.
     CheckFile(&'a str),
+    /// To print the text that is read for the plan in this file.
+    Expand(&'a str),
     /// To verify, for the plan whose text is in the first file, the certificate whose text is in
     /// the second.
     Verify(&'a str, &'a str),
@@ -194,6 +206,10 @@ pub enum Task<'a> {
     AtNode(NodeFiles<'a>, Duty<'a>),
     /// To bring the ledgers of all nodes of a plan over to another plan.
     Adopt(PlanChange<'a>),
+    /// To audit the ledgers of all nodes of a plan.
+    Audit(SiteFiles<'a>),
+    /// The same of all nodes but those of these names, which are of other makers.
+    AuditAmong(SiteFiles<'a>, Vec<&'a str>),
     /// Help, or nothing that the program knows.
     Told(Error),
 }
@@ -229,6 +245,28 @@ fn read_change<'a>(words: &'a [&'a str]) -> Option<Task<'a>>
                 folder,
             };
             Some(Task::Adopt(change))
+        }
+        _ => None,
+    }
+}
+
+/// What words ask of the ledgers of all nodes, if they are of that form.
+fn read_audit<'a>(words: &'a [&'a str]) -> Option<Task<'a>>
+    ensures asked { IfSome result (λ asked. Asks words.now asked) }
+    ensures audit { IfNone result ((given : SiteFilesValue) → IsAuditOf words.now given → ⊥) }
+{
+    match words {
+        [word, plan, certificate, folder]
+            if *word == "audit"
+                && is_no_option(plan)
+                && is_no_option(certificate)
+                && is_no_option(folder) => {
+            let given = SiteFiles {
+                plan,
+                certificate,
+                folder,
+            };
+            Some(Task::Audit(given))
         }
         _ => None,
     }
@@ -555,6 +593,17 @@ fn read_check<'a>(words: &'a [&'a str]) -> Option<Task<'a>>
     }
 }
 
+/// What words ask for that is to be expanded, if they are of that form.
+fn read_expand<'a>(words: &'a [&'a str]) -> Option<Task<'a>>
+    ensures asked { IfSome result (λ asked. Asks words.now asked) }
+    ensures expand { IfNone result ((plan : Bor (List ℕ)) → IsExpandOf words.now plan → ⊥) }
+{
+    match words {
+        [word, plan] if *word == "expand" && is_no_option(plan) => Some(Task::Expand(plan)),
+        _ => None,
+    }
+}
+
 /// What words ask of a plan and something else, if they are of such a form.
 fn read_pair<'a>(words: &'a [&'a str]) -> Option<Task<'a>>
     ensures asked { IfSome result (λ asked. Asks words.now asked) }
@@ -591,6 +640,7 @@ fn read_ledger<'a>(words: &'a [&'a str]) -> Option<Task<'a>>
     ensures duty { IfNone result
         ((given : NodeFilesValue) (duty : DutyValue) → IsDutyOf words.now given duty → ⊥) }
     ensures adopt { IfNone result ((change : PlanChangeValue) → IsAdoptOf words.now change → ⊥) }
+    ensures audit { IfNone result ((given : SiteFilesValue) → IsAuditOf words.now given → ⊥) }
 {
     if let Some(asked) = read_duty(words) {
         return Some(asked);
@@ -607,7 +657,10 @@ fn read_ledger<'a>(words: &'a [&'a str]) -> Option<Task<'a>>
     if let Some(asked) = read_all(words) {
         return Some(asked);
     }
-    match read_change(words) {
+    if let Some(asked) = read_change(words) {
+        return Some(asked);
+    }
+    match read_audit(words) {
         Some(asked) => Some(asked),
         None => None,
     }
@@ -618,6 +671,9 @@ fn read_plain<'a>(words: &'a [&'a str]) -> Option<Task<'a>>
     ensures { Reads words.now result }
 {
     if let Some(asked) = read_check(words) {
+        return Some(asked);
+    }
+    if let Some(asked) = read_expand(words) {
         return Some(asked);
     }
     if let Some(asked) = read_pair(words) {
@@ -800,6 +856,26 @@ fn change_of<'a>(given: &ArgMatches<'a>) -> PlanChange<'a> {
     }
 }
 
+/// Which nodes are of other makers, as clap has read it.
+fn others_of<'a>(alloc: Global, given: &ArgMatches<'a>) -> Result<Vec<&'a str>, AllocError> {
+    let mut others = Vec::new(alloc);
+    if let Some(names) = given.get_strs("OTHER") {
+        others.extend_from_slice(names)?;
+    }
+    Ok(others)
+}
+
+/// Which ledgers are to be audited, as clap has read it.
+fn audit_of<'a>(alloc: Global, given: &ArgMatches<'a>) -> Result<Task<'a>, AllocError> {
+    let files = SiteFiles {
+        plan: given.get_str("PLAN").unwrap_or(""),
+        certificate: given.get_str("CERT").unwrap_or(""),
+        folder: given.get_str("DIR").unwrap_or(""),
+    };
+    let others = others_of(alloc, given)?;
+    Ok(Task::AuditAmong(files, others))
+}
+
 /// What clap makes of the words: options, help, and what the program doesn't know.
 fn read_others<'a>(alloc: Global, words: &'a [&'a str]) -> Result<Task<'a>, AllocError> {
     let line = command_line(alloc)?;
@@ -816,6 +892,9 @@ fn read_others<'a>(alloc: Global, words: &'a [&'a str]) -> Result<Task<'a>, Allo
     if name == "check" {
         return Ok(Task::CheckFile(plan));
     }
+    if name == "expand" {
+        return Ok(Task::Expand(plan));
+    }
     if name == "echo" {
         let caller = given.get_str("FROM").unwrap_or("");
         let called = given.get_str("TO").unwrap_or("");
@@ -823,6 +902,9 @@ fn read_others<'a>(alloc: Global, words: &'a [&'a str]) -> Result<Task<'a>, Allo
     }
     if name == "adopt" {
         return Ok(Task::Adopt(change_of(given)));
+    }
+    if name == "audit" {
+        return audit_of(alloc, given);
     }
     let certificate = given.get_str("CERT").unwrap_or("");
     Ok(read_certified(name, given, plan, certificate))
@@ -833,6 +915,8 @@ pub fn read_words<'a>(alloc: Global, words: &'a [&'a str]) -> Result<Task<'a>, A
     ensures input { IfOk result (λ a. IsPlainCheck words.now → a ≡ asks.CheckInput) }
     ensures file { IfOk result (λ a.
         (plan : Bor (List ℕ)) → IsCheckOf words.now plan → a ≡ asks.CheckFile plan) }
+    ensures expand { IfOk result (λ a.
+        (plan : Bor (List ℕ)) → IsExpandOf words.now plan → a ≡ asks.Expand plan) }
     ensures verify { IfOk result (λ a. (plan certificate : Bor (List ℕ))
         → IsVerifyOf words.now plan certificate
         → a ≡ asks.Verify plan certificate) }
@@ -851,6 +935,8 @@ pub fn read_words<'a>(alloc: Global, words: &'a [&'a str]) -> Result<Task<'a>, A
         → a ≡ asks.AtNode given duty) }
     ensures adopt { IfOk result (λ a.
         (change : PlanChangeValue) → IsAdoptOf words.now change → a ≡ asks.Adopt change) }
+    ensures audit { IfOk result (λ a.
+        (given : SiteFilesValue) → IsAuditOf words.now given → a ≡ asks.Audit given) }
 {
     if let Some(asked) = read_plain(words) {
         return Ok(asked);

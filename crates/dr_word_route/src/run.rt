@@ -3,7 +3,9 @@ ghost use Rattle.std.specs.Prelude.{◌≡◌, ◌≢◌, ◌⊎◌, ℕ, List, 
 ghost use Rattle.std.specs.Borrow.{Bor};
 ghost use Rattle.dr_base.specs.Texts.{Text};
 ghost use Rattle.dr_word_check.specs.Runs.{Answers, Verifies};
-ghost use Rattle.dr_word_line.specs.Words.{IsPlainCheck, IsCheckOf, IsVerifyOf, IsQuestionOf};
+ghost use Rattle.dr_word_check.specs.Expanded.{Expanded};
+ghost use Rattle.dr_word_line.specs.Words.{IsPlainCheck, IsCheckOf, IsExpandOf, IsVerifyOf};
+ghost use Rattle.dr_word_line.specs.Words.{IsQuestionOf};
 ghost use Rattle.dr_word_line.specs.declared.words.Task.TheVariants as asks;
 ghost use Rattle.dr_word_line.specs.declared.words.Question.{Question as QuestionValue};
 ghost use Rattle.dr_run_open.specs.declared.status.Status.TheVariants.{Success, Refused, Usage};
@@ -38,6 +40,11 @@ pub fn run_asked<'a, R: Read, W: Write, E: Write, F: Files>(
         → IfOk result (λ status. (text : Text)
         × F.holds files.now plan.now text
         × Answers text (W.contents output.old) (W.contents output.new) status) }
+    ensures expanded { (plan : Bor (List ℕ))
+        → asked.entry ≡ asks.Expand plan
+        → IfOk result (λ status. (text : Text)
+        × F.holds files.now plan.now text
+        × Expanded text (W.contents output.old) (W.contents output.new) status) }
     ensures verified { (plan certificate : Bor (List ℕ))
         → asked.entry ≡ asks.Verify plan certificate
         → IfOk result (λ status. (text : Text)
@@ -78,6 +85,11 @@ pub fn run_words<R: Read, W: Write, E: Write, F: Files>(
         → (text : Text)
         × F.holds files.now plan.now text
         × Answers text (W.contents output.old) (W.contents output.new) result }
+    ensures expanded { (plan : Bor (List ℕ)) → IsExpandOf words.now plan
+        → (result ≡ Success) ⊎ (result ≡ Refused)
+        → (text : Text)
+        × F.holds files.now plan.now text
+        × Expanded text (W.contents output.old) (W.contents output.new) result }
     ensures verified { (plan certificate : Bor (List ℕ))
         → IsVerifyOf words.now plan certificate
         → (result ≡ Success) ⊎ (result ≡ Refused)

@@ -8,8 +8,9 @@ ghost use Rattle.dr_run_open.specs.declared.halt.Halt.{Halt as HaltValue};
 ghost use Rattle.dr_word_serve.specs.Serving.{Grew, IsUnheard, IsUnserved, Serves};
 
 use dr_base::Text;
-use dr_ledger::{LedgerFault, LetsGo};
+use dr_ledger::LedgerFault;
 use dr_ledger_report::report_of;
+use dr_ledger_views::Views;
 use dr_run_files::{Failure, Files, NodeFiles};
 use dr_run_net::{Limits, Listening, Network};
 use dr_run_open::{Halt, Ledgers, Making, NextHop, Opened, Status, finish, hops_of, open_node};
@@ -51,7 +52,7 @@ fn unserved<'a>(fault: ServeFault) -> Halt<'a>
 /// Where the site's node listens, by the sealed plan.
 ///
 /// Errors: NoNode; Failed with the node's name where its address can't be listened at.
-fn listen_at<'a, L: LetsGo + Drop, N: Network>(
+fn listen_at<'a, L: Views + Drop, N: Network>(
     alloc: Global,
     opened: &Opened<L>,
     network: &N,
@@ -74,7 +75,7 @@ fn listen_at<'a, L: LetsGo + Drop, N: Network>(
 fn serve_ledger<
     'a,
     R: Threads + Wait + Sync + time::Clock,
-    L: LetsGo + Drop + Send,
+    L: Views + Drop + Send,
     K: Link + Drop + Send,
     D: Listening<Socket = K> + Sync,
     N: Network + Sync,
@@ -121,7 +122,7 @@ where
 fn serve_opened<
     'a,
     R: Threads + Wait + Sync + time::Clock,
-    L: LetsGo + Drop + Send,
+    L: Views + Drop + Send,
     K: Link + Drop + Send,
     D: Listening<Socket = K> + Sync,
     N: Network + Sync,

@@ -17,6 +17,6 @@ returns-in_ok-write_certificate-in-Ok-Yes c = λ text reads.
       reads = reads;
       sound = judged.0;
       own = judged.1;
-      printable = judged.3 (subst D (sym reads.2) (is_digest text));
+      printable = judged.3 (subst D (sym reads.reads.2) (is_digest reads.core));
       printed = c.in_ok-write_certificate-in-Ok-Yes.ensures;
     }

@@ -9,7 +9,7 @@ use Rattle.dr_check.proofs.Unsound.{no_sound_plan}
 use Rattle.dr_plan.specs.Reading.{Reads}
 use Rattle.dr_plan.specs.declared.fault.PlanFault.{PlanFault}
 use Rattle.dr_plan.specs.declared.fault.PlanFault.TheVariants.{Memory as NoMemory}
-use Rattle.dr_plan.proofs.OneAnswer.{one_answer}
+use Rattle.dr_plan.proofs.OneReading.{one_answer}
 use Rattle.dr_certify.specs.Certified.{IsCertified, Certifies}
 use Rattle.dr_certify.specs.declared.certificate.Refusal.{Refusal}
 use Rattle.dr_certify.specs.declared.certificate.Refusal.TheVariants.{Unsound, TooLarge, Memory}

@@ -8,6 +8,7 @@ invariant-loop-pass g l = record {
   sum : l.sum + sum_by (λ p. p.made.count) l.passes.items ≡ sum_by (λ p. p.made.count) l.fn.passes.items;
   total : l.tally.total ≡ l.fn.tally.total;
   least : l.sum ≤ l.tally.total;
+  within : l.all.parts ≤ g.B.Ledger.parts;
 }
 
 abbrev pub decreases-loop-pass : goal.decreases-loop-pass

@@ -1,4 +1,4 @@
-use Rattle.dr_plan.proofs.OneAnswer.{one_answer}
+use Rattle.dr_plan.proofs.OneReading.{one_answer}
 use Rattle.dr_plan.proofs.laws.a_text_has_one_answer.Goals as goal
 
 pub returns : goal.returns

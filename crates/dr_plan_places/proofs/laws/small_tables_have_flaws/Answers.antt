@@ -1,4 +1,4 @@
-use Rattle.dr_plan_places.proofs.Small.{colour_is_unknown, format_is_not_missing, third_format_is_ill_formed, prefix_is_ill_formed_in_format_1, prefix_is_of_format_2}
+use Rattle.dr_plan_places.proofs.Small.{colour_is_unknown, format_is_not_missing, fourth_format_is_ill_formed, prefix_is_ill_formed_in_format_1, prefix_is_of_format_2}
 use Rattle.dr_plan_places.proofs.laws.small_tables_have_flaws.Goals as goal
 
 pub returns-clause-colour : goal.returns-clause-colour
@@ -8,7 +8,7 @@ pub returns-clause-none : goal.returns-clause-none
 returns-clause-none c = format_is_not_missing
 
 pub returns-clause-format : goal.returns-clause-format
-returns-clause-format c = third_format_is_ill_formed
+returns-clause-format c = fourth_format_is_ill_formed
 
 pub returns-clause-prefix : goal.returns-clause-prefix
 returns-clause-prefix c = prefix_is_ill_formed_in_format_1

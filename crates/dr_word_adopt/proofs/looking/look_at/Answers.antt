@@ -1,6 +1,10 @@
-use Rattle.dr_word_adopt.proofs.Standings.{seen_by}
+use Rattle.std.proofs.Common.{inl, refl}
+use Rattle.dr_word_adopt.proofs.Changed.{looked_at}
 use Rattle.dr_word_adopt.proofs.looking.look_at.Goals as goal
 
-pub returns-in-Ok-look_by : goal.returns-in-Ok-look_by
-returns-in-Ok-look_by g c = seen_by (g.O.Ledgers.opens c.args.ledgers.now) g.O.Ledger.Ledger.site g.O.Ledger.Ledger.book g.O.Ledger.Ledger.stands c.args.folder.now c.args.old.now c.args.next.now c.args.name.now
-    c.in-Ok.parts.0 c.in-Ok.parts.1 c.in-Ok.ensures.0 c.in-Ok.ensures.1 c.in-Ok-found.found c.in-Ok-found.ensures c.in-Ok-look_by.look c.in-Ok-look_by.ensures
+pub returns-in-Ok : goal.returns-in-Ok
+returns-in-Ok g c = looked_at (g.O.Ledgers.opens c.args.ledgers.now) g.O.Ledger.Ledger.site g.O.Ledger.Ledger.book g.O.Ledger.Ledger.stands c.args.folder.now c.args.old.now c.args.next.now c.args.name.now
+    c.in-Ok.standing c.args.all.now.items c.look_and_add.new.all.items c.look_and_add.result c.in-Ok.ensures c.look_and_add.ensures
+
+pub returns-in-Err : goal.returns-in-Err
+returns-in-Err g c = (c.in-Err.ensures, inl refl)

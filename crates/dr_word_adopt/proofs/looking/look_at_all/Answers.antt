@@ -1,43 +1,39 @@
-use Rattle.std.proofs.Common.{◌≡◌, sym, subst, suc, take, drop, rules}
-use Rattle.std.proofs.lemmas.List.Elements.{All-push}
-use Rattle.dr_base.specs.Texts.{Text}
+use Rattle.std.proofs.Common.{◌∙◌, Option, subst, sym}
+use Rattle.std.proofs.lemmas.List.{take_all}
+use Rattle.dr_ledger.specs.Pairs.{Pair}
 use Rattle.dr_run_open.specs.declared.halt.Halt.{Halt}
+use Rattle.dr_run_open.specs.declared.halt.Halt.TheVariants.{Memory}
 use Rattle.dr_word_adopt.specs.Changes.{StopsAt}
-use Rattle.dr_word_adopt.specs.Lookings.{AllLookAs, IsStanding, LooksAs, name_by}
-use Rattle.dr_word_adopt.specs.declared.standing.LookedAt.{LookedAt}
-use Rattle.dr_word_adopt.specs.declared.standing.Looked.TheVariants as looked
-use Rattle.dr_word_adopt.proofs.Lists.{cut_at, shows_more}
-use Rattle.dr_word_adopt.proofs.Standings.{all_ready, stops_unseen}
+use Rattle.dr_word_adopt.specs.Lookings.{AllLookAs, LooksAs}
+use Rattle.dr_word_adopt.specs.declared.change.UnfitRow.{UnfitRow}
+use Rattle.dr_word_adopt.proofs.Changed.{stop_as}
+use Rattle.dr_word_adopt.proofs.Nodes.{found_unfit, one_more, stops_here, unnamed}
 use Rattle.dr_word_adopt.proofs.looking.look_at_all.Goals as goal
 
 pub loop-name-preserved : goal.loop-name-preserved
-loop-name-preserved g c =
-    let seen = subst (λ (look : LookedAt g.row.O-Ledger.Denot). LooksAs (g.O.Ledgers.opens c.args.ledgers.now) g.O.Ledger.Ledger.site g.O.Ledger.Ledger.book g.O.Ledger.Ledger.stands c.args.folder.now c.args.old.now c.args.next.now c.name-item.result look)
-    c.in-Ok-Stands.field-0-is c.in-Ok-Stands.ensures in (
-      rw c.in_ok-add-in-Ok-Stands.ensures
-          (shows_more (name_by g.O.Ledger.Ledger.site) c.loop-name.all.items c.in-Ok-Stands.standing c.args.names.now c.loop-name.name-index c.name-item.result c.loop-name-test.true c.name-item.is c.loop-name.invariant.0 seen.0),
-      rw c.in_ok-add-in-Ok-Stands.ensures
-          (All-push (IsStanding (g.O.Ledgers.opens c.args.ledgers.now) g.O.Ledger.Ledger.site g.O.Ledger.Ledger.book g.O.Ledger.Ledger.stands c.args.folder.now c.args.old.now c.args.next.now) c.loop-name.all.items c.in-Ok-Stands.standing
-          c.loop-name.invariant.1 seen.1),
-    )
+loop-name-preserved g c = one_more (g.O.Ledgers.opens c.args.ledgers.now) g.O.Ledger.Ledger.site g.O.Ledger.Ledger.book g.O.Ledger.Ledger.stands c.args.folder.now c.args.old.now c.args.next.now c.args.names.now c.loop-name.name-index c.name-item.result c.loop-name-test.true c.name-item.is c.loop-name.all.items c.look_at.new.all.items c.loop-name.invariant.0 c.loop-name.invariant.1
+    (subst (λ (u : Option Pair). LooksAs (g.O.Ledgers.opens c.args.ledgers.now) g.O.Ledger.Ledger.site g.O.Ledger.Ledger.book g.O.Ledger.Ledger.stands c.args.folder.now c.args.old.now c.args.next.now c.name-item.result u c.loop-name.all.items c.look_at.new.all.items) c.in-Ok-None.field-0-is c.in-Ok-None.ensures)
 
-pub returns-in-Ok-Unfit : goal.returns-in-Ok-Unfit
-returns-in-Ok-Unfit g c =
-    let seen = subst (λ (look : LookedAt g.row.O-Ledger.Denot). LooksAs (g.O.Ledgers.opens c.args.ledgers.now) g.O.Ledger.Ledger.site g.O.Ledger.Ledger.book g.O.Ledger.Ledger.stands c.args.folder.now c.args.old.now c.args.next.now c.name-item.result look)
-    c.in-Ok-Unfit.field-0-is c.in-Ok-Unfit.ensures in
-    let same : c.in_ok-clone-in-Ok-Unfit.field-0 ≡ c.name-item.result = search rules in
-    subst (λ (name : Text). AllLookAs (g.O.Ledgers.opens c.args.ledgers.now) g.O.Ledger.Ledger.site g.O.Ledger.Ledger.book g.O.Ledger.Ledger.stands c.args.folder.now c.args.old.now c.args.next.now c.args.names.now (looked.Unfit name c.in-Ok-Unfit.uid c.in-Ok-Unfit.dest))
-    (sym same) (
-      take c.loop-name.name-index c.args.names.now,
-      drop (suc c.loop-name.name-index) c.args.names.now,
-      cut_at c.args.names.now c.loop-name.name-index c.name-item.result c.loop-name-test.true c.name-item.is,
-      all_ready (g.O.Ledgers.opens c.args.ledgers.now) g.O.Ledger.Ledger.site g.O.Ledger.Ledger.book g.O.Ledger.Ledger.stands c.args.folder.now c.args.old.now c.args.next.now c.loop-name.all.items (take c.loop-name.name-index c.args.names.now)
-          c.loop-name.invariant.0 c.loop-name.invariant.1,
-      seen,
-    )
+pub returns : goal.returns
+returns g c = (c.loop-name.invariant.0 ∙ take_all c.loop-name.name-index c.args.names.now c.loop-name-test.false, c.loop-name.invariant.1)
+
+pub returns-in-Ok-Some : goal.returns-in-Ok-Some
+returns-in-Ok-Some g c =
+    let made = c.in_ok-unfit_at-in-Ok-Some.ensures in
+    found_unfit (g.O.Ledgers.opens c.args.ledgers.now) g.O.Ledger.Ledger.site g.O.Ledger.Ledger.book g.O.Ledger.Ledger.stands c.args.folder.now c.args.old.now c.args.next.now c.args.names.now c.loop-name.name-index c.name-item.result c.loop-name-test.true c.name-item.is c.loop-name.all.items c.look_at.new.all.items c.loop-name.invariant.0 c.loop-name.invariant.1
+    c.in-Ok-Some.row c.in_ok-unfit_at-in-Ok-Some.field-0 made.0 made.1 made.2
+    (subst (λ (u : Option Pair). LooksAs (g.O.Ledgers.opens c.args.ledgers.now) g.O.Ledger.Ledger.site g.O.Ledger.Ledger.book g.O.Ledger.Ledger.stands c.args.folder.now c.args.old.now c.args.next.now c.name-item.result u c.loop-name.all.items c.look_at.new.all.items) c.in-Ok-Some.field-0-is c.in-Ok-Some.ensures)
+
+pub returns-in_err-unfit_at-in-Ok-Some : goal.returns-in_err-unfit_at-in-Ok-Some
+returns-in_err-unfit_at-in-Ok-Some g c =
+    stop_as (λ (unfit : Option UnfitRow). AllLookAs (g.O.Ledgers.opens c.args.ledgers.now) g.O.Ledger.Ledger.site g.O.Ledger.Ledger.book g.O.Ledger.Ledger.stands c.args.folder.now c.args.old.now c.args.next.now c.args.names.now unfit c.look_at.new.all.items)
+    (λ (halt : Halt). StopsAt (g.O.Ledgers.opens c.args.ledgers.now) g.O.Ledger.Ledger.site g.O.Ledger.Ledger.book g.O.Ledger.Ledger.stands c.args.folder.now c.args.old.now c.args.next.now halt c.look_at.new.all.items)
+    Memory c.from_residual.result c.from_residual.ensures.0 c.from_residual.ensures.1
+    (unnamed (g.O.Ledgers.opens c.args.ledgers.now) g.O.Ledger.Ledger.site g.O.Ledger.Ledger.book g.O.Ledger.Ledger.stands c.args.folder.now c.args.old.now c.args.next.now c.args.names.now c.loop-name.name-index c.name-item.result c.loop-name-test.true c.name-item.is c.loop-name.all.items c.look_at.new.all.items c.loop-name.invariant.0 c.loop-name.invariant.1
+    c.in-Ok-Some.row (subst (λ (u : Option Pair). LooksAs (g.O.Ledgers.opens c.args.ledgers.now) g.O.Ledger.Ledger.site g.O.Ledger.Ledger.book g.O.Ledger.Ledger.stands c.args.folder.now c.args.old.now c.args.next.now c.name-item.result u c.loop-name.all.items c.look_at.new.all.items) c.in-Ok-Some.field-0-is c.in-Ok-Some.ensures))
 
 pub returns-in-Err : goal.returns-in-Err
 returns-in-Err g c =
-    subst (λ (halt : Halt). StopsAt (g.O.Ledgers.opens c.args.ledgers.now) g.O.Ledger.Ledger.site g.O.Ledger.Ledger.book g.O.Ledger.Ledger.stands c.args.folder.now c.args.old.now c.args.next.now halt) (sym c.at.ensures)
-    (stops_unseen (g.O.Ledgers.opens c.args.ledgers.now) g.O.Ledger.Ledger.site g.O.Ledger.Ledger.book g.O.Ledger.Ledger.stands c.args.folder.now c.args.old.now c.args.next.now c.args.names.now c.name-item.result c.in-Err.halt c.requires
-    (c.loop-name.name-index, c.loop-name-test.true, sym c.name-item.is) c.in-Err.ensures)
+    subst (λ (halt : Halt). StopsAt (g.O.Ledgers.opens c.args.ledgers.now) g.O.Ledger.Ledger.site g.O.Ledger.Ledger.book g.O.Ledger.Ledger.stands c.args.folder.now c.args.old.now c.args.next.now halt c.look_at.new.all.items) (sym c.at.ensures)
+    (stops_here (g.O.Ledgers.opens c.args.ledgers.now) g.O.Ledger.Ledger.site g.O.Ledger.Ledger.book g.O.Ledger.Ledger.stands c.args.folder.now c.args.old.now c.args.next.now c.args.names.now c.loop-name.name-index c.name-item.result c.loop-name-test.true c.name-item.is c.loop-name.all.items c.look_at.new.all.items c.loop-name.invariant.0 c.loop-name.invariant.1
+    c.in-Err.halt c.requires.names c.in-Err.ensures.0 c.in-Err.ensures.1)

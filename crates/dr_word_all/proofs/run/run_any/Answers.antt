@@ -1,11 +1,16 @@
-use Rattle.std.proofs.Common.{◌≡◌, ap, subst, sym, ◌∙◌}
+use Rattle.std.proofs.Common.{◌≡◌, [], Global, List, Vec, ℕ, ap, map as mapped, subst, sym, ◌∙◌}
+use Rattle.std.specs.Borrow.{Bor}
 use Rattle.std.specs.Prelude.{IfOk}
+use Rattle.dr_base.specs.Texts.{Text}
 use Rattle.dr_word_adopt.specs.Endings.{Adopts}
+use Rattle.dr_word_audit.specs.Endings.{EndsAs}
+use Rattle.dr_word_audit.specs.Names.{text_of}
 use Rattle.dr_word_line.specs.declared.words.Task.{Task}
 use Rattle.dr_word_line.specs.declared.words.Task.TheVariants as asks
 use Rattle.dr_word_line.specs.declared.words.Duty.{Duty}
 use Rattle.dr_run_files.specs.declared.node.NodeFiles.{NodeFiles}
 use Rattle.dr_word_line.specs.declared.words.PlanChange.{PlanChange}
+use Rattle.dr_word_line.specs.declared.words.SiteFiles.{SiteFiles}
 use Rattle.dr_run_serve.specs.contracts.tallied.OwnPortDeskPort.TheImpl as own
 use Rattle.dr_run_serve.specs.contracts.tallied.OwnPortTallied.TheImpl as tallied
 use Rattle.dr_word_serve.specs.Sending.{VisitsBy}
@@ -44,3 +49,32 @@ returns-in-Adopt-clause-adopted g c = λ change asked.
     let P : PlanChange → Type 0 = λ files. IfOk c.adopt_files.result (Adopts (g.F.Files.holds c.args.files.now) (g.O.Ledgers.opens c.args.ledgers.now) g.O.Ledger.Ledger.site g.O.Ledger.Ledger.book g.O.Ledger.Ledger.stands files
     (g.W.Write.contents c.args.output.now) (g.W.Write.contents c.adopt_files.new.output)) in
     subst P (ap (change_of change) same) c.adopt_files.ensures
+
+-- the files that the word `audit` asks for, else these
+site_of : SiteFiles → Task → SiteFiles
+site_of other (asks.Audit given) = given
+site_of other (asks.AuditAmong given others) = given
+site_of other asked = other
+
+pub returns-in-Audit-clause-audited : goal.returns-in-Audit-clause-audited
+unfolding site_of
+returns-in-Audit-clause-audited g c = λ given asked.
+    let same : asks.Audit c.in-Audit.given ≡ asks.Audit given = sym c.in-Audit.is ∙ asked in
+    let P : SiteFiles → Type 0 = λ files. IfOk c.audit_files.result (EndsAs (g.F.Files.holds c.args.files.now) (g.O.Ledgers.opens c.args.ledgers.now) g.O.Ledger.Ledger.site g.O.Ledger.Ledger.book g.O.Ledger.Ledger.stands files []
+    (g.W.Write.contents c.args.output.now) (g.W.Write.contents c.audit_files.new.output)) in
+    subst P (ap (site_of given) same) c.audit_files.ensures
+
+-- the names of others that the word `audit` gives, else these
+others_of : Vec (Bor (List ℕ)) Global → Task → Vec (Bor (List ℕ)) Global
+others_of other (asks.AuditAmong given others) = others
+others_of other asked = other
+
+pub returns-in-AuditAmong-clause-audited_among : goal.returns-in-AuditAmong-clause-audited_among
+unfolding others_of site_of
+returns-in-AuditAmong-clause-audited_among g c = λ given others asked.
+    let same : asks.AuditAmong c.in-AuditAmong.given c.in-AuditAmong.others ≡ asks.AuditAmong given others = sym c.in-AuditAmong.is ∙ asked in
+    let P : SiteFiles → List Text → Type 0 = λ files names. IfOk c.audit_files-in-AuditAmong.result (EndsAs (g.F.Files.holds c.args.files.now) (g.O.Ledgers.opens c.args.ledgers.now) g.O.Ledger.Ledger.site g.O.Ledger.Ledger.book g.O.Ledger.Ledger.stands files names
+    (g.W.Write.contents c.args.output.now) (g.W.Write.contents c.audit_files-in-AuditAmong.new.output)) in
+    subst (λ (files : SiteFiles). P files (mapped text_of others.items)) (ap (site_of given) same)
+    (subst (λ (names : Vec (Bor (List ℕ)) Global). P c.in-AuditAmong.given (mapped text_of names.items)) (ap (others_of others) same)
+    (subst (λ (words : List (Bor (List ℕ))). P c.in-AuditAmong.given (mapped text_of words)) c.as_slice.ensures.value c.audit_files-in-AuditAmong.ensures))

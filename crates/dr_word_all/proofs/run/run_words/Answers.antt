@@ -25,3 +25,6 @@ returns-in-Ok-run_any-clause-worked g c = λ given duty asks ends.
 
 pub returns-in-Ok-run_any-clause-adopted : goal.returns-in-Ok-run_any-clause-adopted
 returns-in-Ok-run_any-clause-adopted g c = λ change asks ends. c.in-Ok-run_any.ensures.adopted change (c.in-Ok.ensures.adopt change asks)
+
+pub returns-in-Ok-run_any-clause-audited : goal.returns-in-Ok-run_any-clause-audited
+returns-in-Ok-run_any-clause-audited g c = λ given asks ends. c.in-Ok-run_any.ensures.audited given (c.in-Ok.ensures.audit given asks)

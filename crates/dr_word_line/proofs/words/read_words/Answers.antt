@@ -14,6 +14,12 @@ returns-in-Some-clause-file c = λ plan h. one_asked _ _ (asks.CheckFile plan) c
 pub returns-clause-file : goal.returns-clause-file
 returns-clause-file c = λ plan h. absurd (c.in_default.ensures (asks.CheckFile plan) h)
 
+pub returns-in-Some-clause-expand : goal.returns-in-Some-clause-expand
+returns-in-Some-clause-expand c = λ plan h. one_asked _ _ (asks.Expand plan) c.in-Some.ensures h
+
+pub returns-clause-expand : goal.returns-clause-expand
+returns-clause-expand c = λ plan h. absurd (c.in_default.ensures (asks.Expand plan) h)
+
 pub returns-in-Some-clause-verify : goal.returns-in-Some-clause-verify
 returns-in-Some-clause-verify c = λ plan certificate h. one_asked _ _ (asks.Verify plan certificate) c.in-Some.ensures h
 
@@ -49,3 +55,9 @@ returns-in-Some-clause-adopt c = λ change h. one_asked _ _ (asks.Adopt change) 
 
 pub returns-clause-adopt : goal.returns-clause-adopt
 returns-clause-adopt c = λ change h. absurd (c.in_default.ensures (asks.Adopt change) h)
+
+pub returns-in-Some-clause-audit : goal.returns-in-Some-clause-audit
+returns-in-Some-clause-audit c = λ given h. one_asked _ _ (asks.Audit given) c.in-Some.ensures h
+
+pub returns-clause-audit : goal.returns-clause-audit
+returns-clause-audit c = λ given h. absurd (c.in_default.ensures (asks.Audit given) h)

@@ -1,4 +1,4 @@
-use Rattle.std.proofs.Common.{◌≡◌, ◌↔◌, inl, sym, subst, List, ℕ, IsTrue, Bool}
+use Rattle.std.proofs.Common.{◌≡◌, ◌↔◌, inl, subst, IsTrue}
 use Rattle.std.specs.Prelude.{flat_map}
 use Rattle.std.specs.Io.KnownBytes.{Appends}
 use Rattle.dr_base.specs.Texts.{Text}

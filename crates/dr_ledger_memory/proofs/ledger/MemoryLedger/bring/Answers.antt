@@ -23,7 +23,7 @@ invariant_of-self-2 c =
     let K : Key → Type 0 = λ k. (to : Text) → Contains targets.to to ↔ SendsFrom l.site c.args.caller.now k to in
     let M : Key → Type 0 = λ k. IsTrue targets.keep ↔ KeepsAt l.site c.args.caller.now k in
     let P : List Row → Type 0 = λ rows. IsFor c.args.caller.now c.args.item targets rows new in
-    let f : IsFor c.args.caller.now c.args.item targets (rows_in (at l.parts.held c.args.item.uid)) new = subst P (c.rows_of-rows.ensures.rows ∙ ap (λ u. rows_in (at l.parts.held u)) c.uid.ensures) c.in_ok-new.ensures in
+    let f : IsFor c.args.caller.now c.args.item targets (rows_in (at l.parts.held c.args.item.uid)) new = subst P (c.rows_held-rows.ensures.rows ∙ ap (λ u. rows_in (at l.parts.held u)) c.uid.ensures) c.in_ok-new.ensures in
     let order = e.ordered l.ordered in
     let sound = bring_kept l.site l.parts q l.ordered (e.ordered l.ordered) c.args.caller.now c.args.item targets new (subst K c.key.ensures t.to) t.ordered (subst M c.key.ensures t.keep) f c.requires.admitted c.requires.first
     (either_way c.try_bring.result e.ok e.err) e.covers l.sound in
@@ -39,7 +39,7 @@ returns-in-Ok-clause-reply c =
     let K : Key → Type 0 = λ k. (to : Text) → Contains targets.to to ↔ SendsFrom l.site c.args.caller.now k to in
     let M : Key → Type 0 = λ k. IsTrue targets.keep ↔ KeepsAt l.site c.args.caller.now k in
     let P : List Row → Type 0 = λ rows. IsFor c.args.caller.now c.args.item targets rows new in
-    taken l.site l.parts c.try_bring.new.self l.ordered (e.ordered l.ordered) c.args.caller.now c.args.item targets new (subst K c.key.ensures t.to) t.ordered (subst M c.key.ensures t.keep) (subst P (c.rows_of-rows.ensures.rows ∙ ap (λ u. rows_in (at l.parts.held u)) c.uid.ensures) c.in_ok-new.ensures)
+    taken l.site l.parts c.try_bring.new.self l.ordered (e.ordered l.ordered) c.args.caller.now c.args.item targets new (subst K c.key.ensures t.to) t.ordered (subst M c.key.ensures t.keep) (subst P (c.rows_held-rows.ensures.rows ∙ ap (λ u. rows_in (at l.parts.held u)) c.uid.ensures) c.in_ok-new.ensures)
     c.requires.admitted c.requires.first e.ok
 
 pub returns-in-Ok-clause-bodies : goal.returns-in-Ok-clause-bodies
@@ -52,7 +52,7 @@ returns-in-Ok-clause-bodies c =
     let K : Key → Type 0 = λ k. (to : Text) → Contains targets.to to ↔ SendsFrom l.site c.args.caller.now k to in
     let M : Key → Type 0 = λ k. IsTrue targets.keep ↔ KeepsAt l.site c.args.caller.now k in
     let P : List Row → Type 0 = λ rows. IsFor c.args.caller.now c.args.item targets rows new in
-    takes l.site l.parts c.try_bring.new.self l.ordered (e.ordered l.ordered) c.args.caller.now c.args.item targets new (subst K c.key.ensures t.to) t.ordered (subst M c.key.ensures t.keep) (subst P (c.rows_of-rows.ensures.rows ∙ ap (λ u. rows_in (at l.parts.held u)) c.uid.ensures) c.in_ok-new.ensures)
+    takes l.site l.parts c.try_bring.new.self l.ordered (e.ordered l.ordered) c.args.caller.now c.args.item targets new (subst K c.key.ensures t.to) t.ordered (subst M c.key.ensures t.keep) (subst P (c.rows_held-rows.ensures.rows ∙ ap (λ u. rows_in (at l.parts.held u)) c.uid.ensures) c.in_ok-new.ensures)
     c.requires.admitted c.requires.first e.ok
 
 pub returns-in-Err-clause-reply : goal.returns-in-Err-clause-reply

@@ -4,4 +4,4 @@ use Rattle.dr_plan_text.proofs.OfStations.{no_format}
 use Rattle.dr_plan_text.proofs.fields.FormatNumberForm.read.Goals as goal
 
 pub returns-clause-field : goal.returns-clause-field
-returns-clause-field c = λ e. no_format (view c.args.value.now) (λ is. false≢true (c.if-is_number.ensures.1 is)) (λ is. false≢true (c.if-is_number-2.ensures.1 is))
+returns-clause-field c = λ e. no_format (view c.args.value.now) (λ is. false≢true (c.if-is_number.ensures.1 is)) (λ is. false≢true (c.if-is_number-2.ensures.1 is)) (λ is. false≢true (c.if-is_number-3.ensures.1 is))

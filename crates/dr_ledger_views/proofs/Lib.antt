@@ -1,0 +1,8 @@
+pub mod Asked
+mod Figures
+mod Least
+mod Pages
+mod Paged
+pub mod Ordered
+pub mod Pairs
+pub mod Sets

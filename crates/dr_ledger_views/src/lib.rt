@@ -1,0 +1,15 @@
+//! What is asked of a ledger without a list of all that it has: counts, the first moment at which a
+//! row is due, and rows in pages.
+//!
+//! What is shown of the book is said in `specs/Views.antt`. The trait `Views` stands beside
+//! `LetsGo`.
+#![tactic(auto)]
+
+pub mod laws;
+pub mod listed;
+pub mod listing;
+pub mod stage;
+pub mod views;
+
+pub use stage::{Stage, Tally};
+pub use views::{Views, tally};

@@ -1,0 +1,202 @@
+-- What a plan within the bound means is within it too.
+use Rattle.std.proofs.Common.{◌≡◌, ℕ, zero, suc, ◌+◌, ◌*◌, ◌<◌, ◌≤◌, refl, sym, ◌∙◌, ap, subst, List, [], ◌∷◌, ◌++◌, map, length, get_or, sum_by, inl, inr, arith}
+use Rattle.std.specs.Prelude.{nat_eq, nat_le, flat_map}
+use Rattle.std.proofs.lemmas.Bool.{false≢true, cond-true, cond_both, eqb-true, eq-eqb, leb-true}
+use Rattle.std.proofs.lemmas.List.{length-append, length-map}
+use Rattle.std.proofs.lemmas.List.Sums.{sum_by-cons, sum_by-append}
+use Rattle.std.proofs.Math.Nat.{le-mul_of_pos_right, mul-le-mul, mul-zero, mul_comm, suc-mul, zero-mul}
+use Rattle.std.proofs.lemmas.List.Concat.{flat_map-cons}
+use Rattle.std.proofs.lemmas.Slice.Eq.{bytes_eq-Decides}
+use Rattle.std.specs.Str.{bytes_eq}
+use Rattle.dr_base.specs.Texts.{Text}
+use Rattle.dr_route.specs.declared.rule.Rule.{Rule}
+use Rattle.dr_route.specs.declared.rule.Pattern.{Pattern}
+use Rattle.dr_route.specs.declared.rule.Pattern.TheVariants.{Literal}
+use Rattle.dr_plan_model.specs.declared.plan.Values.{Values}
+use Rattle.dr_plan_model.specs.declared.plan.Values.TheVariants as values
+use Rattle.dr_plan_text.specs.declared.words.NodeText.{NodeText}
+use Rattle.dr_plan_text.specs.declared.words.FlowText.{FlowText}
+use Rattle.dr_plan_text.specs.declared.words.PlanText.{PlanText}
+use Rattle.dr_plan_expand.specs.Lists.{Yields}
+use Rattle.dr_plan_expand.specs.Words.{Known, OfSet, Defines, IsPlain, IsSet, YieldsClass, YieldsOfSet, YieldsClasses, YieldsNodes}
+use Rattle.dr_plan_expand.specs.Meanings.{Lookups, lookups_of, ArePatterns, YieldsRules, YieldsNode, YieldsFlows, Means, rule_of, node_of, flow_of}
+use Rattle.dr_plan_expand.specs.Amounts.{most, too_much, listed, defined_size, one_if_in, usual_size, marked_size, word_size, word_nodes, word_classes, words_size, values_size, rule_size, node_size, lists_size, flow_size, IsWithin}
+use Rattle.dr_plan_expand.specs.Laws.{rule_count}
+use Rattle.dr_plan_expand.specs.declared.short.Definition.{Definition}
+use Rattle.dr_plan_expand.specs.declared.short.ShortRule.{ShortRule}
+use Rattle.dr_plan_expand.specs.declared.short.ShortNode.{ShortNode}
+use Rattle.dr_plan_expand.specs.declared.short.ShortFlow.{ShortFlow}
+use Rattle.dr_plan_expand.specs.declared.short.ShortPlan.{ShortPlan}
+use Rattle.dr_plan_expand.proofs.Marked.{same_mark}
+use Rattle.dr_plan_expand.proofs.Summed.{listed_few, defined_some, defined_none}
+
+-- what elements yield is no more than they are counted for, where a measure of lists adds up
+module _ {X Y : Type 0} (Of : X → List Y → Type 0) (size : X → ℕ) (m : List Y → ℕ) (bound : ℕ) (none : m [] ≡ 0) (adds : (a b : List Y) → m (a ++ b) ≡ m a + m b)
+    (each : (x : X) (here : List Y) → Of x here → size x ≤ bound → m here ≤ size x) where
+  yields_within : (xs : List X) (things : List Y) → Yields Of xs things → sum_by size xs ≤ bound → m things ≤ sum_by size xs
+  yields_within [] things y le = let all : m things ≡ 0 = ap m y ∙ none in omega arith
+  yields_within (x ∷ xs) things y le =
+      let sum = sum_by-cons size x xs in
+      let here : m y.0 ≤ size x = each x y.0 y.2 (omega arith) in
+      let more : m y.1 ≤ sum_by size xs = yields_within xs y.1 y.3 (omega arith) in
+      let long : m things ≡ m y.0 + m y.1 = ap m y.4 ∙ adds y.0 y.1 in
+      omega arith
+
+-- a list that is counted within the bound is counted as it is
+few : (n : ℕ) → listed n ≤ most → n ≤ 1024
+few n = cond_both (nat_le n 1024) n too_much (λ x. x ≤ most → n ≤ 1024) (λ e le. leb-true n 1024 e) (λ e le. absurd (let over : too_much ≤ most = le in omega arith))
+
+words_within : {Y : Type 0} (Of : Text → List Y → Type 0) (size : Text → ℕ) → ((word : Text) (here : List Y) → Of word here → size word ≤ 1024 → length here ≤ size word) →
+    (words : List Text) (things : List Y) → Yields Of words things → words_size size words ≤ most → length things ≤ words_size size words
+words_within Of size each words things y le =
+    let less = few (sum_by size words) le in
+    let same = listed_few (sum_by size words) less in
+    let long = yields_within Of size length 1024 refl length-append each words things y less in
+    subst (λ n. length things ≤ n) same long
+
+-- for how many one word stands
+marked_within : (named : Text → ℕ) (word : Text) (n : ℕ) → ((name : Text) → word ≡ 64 ∷ name → named name ≤ 1024 → n ≤ named name) → (IsPlain word → n ≤ 1) → marked_size named word ≤ 1024 → n ≤ marked_size named word
+marked_within named [] n marked plain = λ le. plain (λ rest e. cc)
+marked_within named (byte ∷ name) n marked plain = cond_both (nat_eq byte 64) (named name) 1 (λ x. x ≤ 1024 → n ≤ x)
+    (λ e. marked name (ap (λ b. b ∷ name) (eqb-true byte 64 e)))
+    (λ e le. plain (λ rest same. false≢true (sym e ∙ eq-eqb byte 64 (ap (λ (t : Text). get_or t 0 0) same))))
+
+word_within : (named : Text → ℕ) (word : Text) (n : ℕ) → ((name : Text) → word ≡ 64 ∷ name → named name ≤ 1024 → n ≤ named name) → (IsPlain word → n ≤ 1) → word_size named word ≤ 1024 → n ≤ word_size named word
+word_within named word n marked plain = cond_both (nat_le (length word) 128) (marked_size named word) too_much (λ x. x ≤ 1024 → n ≤ x)
+    (λ e. marked_within named word n marked plain)
+    (λ e le. absurd (let over : too_much ≤ 1024 = le in omega arith))
+
+no_more : (a b : ℕ) → a ≡ b → a ≤ b
+no_more a b e = omega arith
+
+nodes_within : (groups : List Definition) (word : Text) (names : List Text) → YieldsNodes groups word names → word_nodes groups word ≤ 1024 → length names ≤ word_nodes groups word
+nodes_within groups word names y = word_within (λ name. defined_size groups name 1) word (length names)
+    (λ name e le. elim y [
+      | inl group ↦ (
+          let P : Text → Type 0 = λ t. Defines groups t names in
+          no_more _ _ (defined_some groups name names 1 (subst P (same_mark word group.0 name group.1 e) group.2))
+          )
+      | inr plain ↦ absurd (plain.0 name e)
+    ])
+    (λ plain. elim y [ inl group ↦ absurd (plain group.0 group.1) | inr itself ↦ no_more _ _ (ap length itself.1) ])
+
+-- each word of a set is one class
+each_one : (tables : List (List Known)) (words uids : List Text) → Yields (YieldsClass tables) words uids → length uids ≡ length words
+each_one tables [] uids y = ap length y
+each_one tables (word ∷ words) uids y =
+    let here : length y.0 ≡ 1 = ap length y.2.2 in
+    let more = each_one tables words y.1 y.3 in
+    let long : length uids ≡ length y.0 + length y.1 = ap length y.4 ∙ length-append y.0 y.1 in
+    omega arith
+
+one_within : (set : Text) (class : OfSet) (uids : List Text) → YieldsOfSet set class uids → one_if_in set class ≤ 1024 → length uids ≤ one_if_in set class
+one_within set class uids y le = elim y [
+  | inl its ↦ (
+      let one : one_if_in set class ≡ 1 = cond-true (bytes_eq class.0 set) 1 0 ((bytes_eq-Decides class.0 set).1 its.0) in
+      let long : length uids ≡ 1 = ap length its.1 in
+      omega arith
+      )
+  | inr none ↦ (let long : length uids ≡ 0 = ap length none.1 in omega arith)
+]
+
+usual_within : (usual : List (List OfSet)) (set : Text) (uids : List Text) → Yields (Yields (YieldsOfSet set)) usual uids → usual_size usual set ≤ 1024 → length uids ≤ usual_size usual set
+usual_within usual set uids y le =
+    let less = few (sum_by (sum_by (one_if_in set)) usual) (omega arith) in
+    let same = listed_few (sum_by (sum_by (one_if_in set)) usual) less in
+    let long = yields_within (Yields (YieldsOfSet set)) (sum_by (one_if_in set)) length 1024 refl length-append
+    (λ table here of within. yields_within (YieldsOfSet set) (one_if_in set) length 1024 refl length-append (one_within set) table here of within) usual uids y less in
+    subst (λ n. length uids ≤ n) same long
+
+set_within : (tables : List (List Known)) (usual : List (List OfSet)) (sets : List Definition) (name : Text) (uids : List Text) → IsSet tables usual sets name uids →
+    defined_size sets name (usual_size usual name) ≤ 1024 → length uids ≤ defined_size sets name (usual_size usual name)
+set_within tables usual sets name uids is le = elim is [
+  | inl own ↦ no_more _ _ (each_one tables own.0 uids own.2 ∙ defined_some sets name own.0 (usual_size usual name) own.1)
+  | inr other ↦ (
+      let same = defined_none sets name (usual_size usual name) other.0 in
+      subst (λ n. length uids ≤ n) same (usual_within usual name uids other.1 (omega arith))
+      )
+]
+
+classes_within : (tables : List (List Known)) (usual : List (List OfSet)) (sets : List Definition) (word : Text) (uids : List Text) → YieldsClasses tables usual sets word uids → word_classes usual sets word ≤ 1024 → length uids ≤ word_classes usual sets word
+classes_within tables usual sets word uids y = word_within (λ name. defined_size sets name (usual_size usual name)) word (length uids)
+    (λ name e le. elim y [
+      | inl set ↦ (
+          let P : Text → Type 0 = λ t. IsSet tables usual sets t uids in
+          set_within tables usual sets name uids (subst P (same_mark word set.0 name set.1 e) set.2) le
+          )
+      | inr plain ↦ absurd (plain.0 name e)
+    ])
+    (λ plain. elim y [ inl set ↦ absurd (plain set.0 set.1) | inr itself ↦ no_more _ _ (ap length itself.1.2) ])
+
+patterns_within : (Of : Text → List Text → Type 0) (size : Text → ℕ) → ((word : Text) (here : List Text) → Of word here → size word ≤ 1024 → length here ≤ size word) →
+    (field : Values) (patterns : List Pattern) → ArePatterns Of field patterns → values_size size field ≤ most → length patterns ≤ values_size size field
+patterns_within Of size each values.Any patterns are le = no_more _ _ (ap length are)
+patterns_within Of size each (values.Listed words) patterns are le =
+    let long : length patterns ≡ length are.0 = ap length are.2 ∙ length-map are.0 Literal in
+    let less = words_within Of size each words are.0 are.1 le in
+    omega arith
+
+-- a product within the bound, each of whose factors is within its own
+product : (a b f c : ℕ) → (f ≤ most → a ≤ f) → (c ≤ most → b ≤ c) → f * c ≤ most → a * b ≤ f * c
+product a b zero c one other le =
+    let none : a ≡ 0 = (let z = one (omega arith) in omega arith) in
+    rw none (omega arith)
+product a b (suc f) zero one other le =
+    let none : b ≡ 0 = (let z = other (omega arith) in omega arith) in
+    let zero_in : a * b ≡ 0 = ap (λ n. a * n) none ∙ mul-zero a in
+    omega arith
+product a b (suc f) (suc c) one other le =
+    let wide : suc f ≤ suc f * suc c = le-mul_of_pos_right (suc f) (omega arith) in
+    let high : suc c ≤ suc c * suc f = le-mul_of_pos_right (suc c) (omega arith) in
+    let turned = mul_comm (suc c) (suc f) in
+    mul-le-mul (one (omega arith)) (other (omega arith))
+
+volume : (a b f c t : ℕ) → 0 < t → (f ≤ most → a ≤ f) → (c ≤ most → b ≤ c) → f * c * t ≤ most → a * b ≤ f * c * t
+volume a b f c t some one other le =
+    let less : f * c ≤ f * c * t = le-mul_of_pos_right (f * c) some in
+    let within = product a b f c one other (omega arith) in
+    omega arith
+
+-- how long a list is that has as many for each element
+flat_long : {X Y : Type 0} (g : X → List Y) (n : ℕ) → ((x : X) → length (g x) ≡ n) → (xs : List X) → length (flat_map g xs) ≡ length xs * n
+flat_long g n each [] = sym (zero-mul n)
+flat_long g n each (x ∷ xs) =
+    let more = flat_long g n each xs in
+    let here = each x in
+    let sum : length (flat_map g (x ∷ xs)) ≡ length (g x) + length (flat_map g xs) = ap length (flat_map-cons g x xs) ∙ length-append (g x) (flat_map g xs) in
+    let times : suc (length xs) * n ≡ length xs * n + n = suc-mul (length xs) n in
+    omega arith
+
+module _ (l : Lookups) where
+  rules_within : (rule : ShortRule) (rules : List Rule) → YieldsRules l rule rules → rule_size l rule ≤ most → length rules ≤ rule_size l rule
+  rules_within rule rules y le =
+      let long : length rules ≡ length y.froms * length y.classes =
+      ap length y.are ∙ flat_long (λ from. map (rule_of rule y.to from) y.classes) (length y.classes) (λ from. length-map y.classes (rule_of rule y.to from)) y.froms in
+      let less = volume (length y.froms) (length y.classes) (values_size (word_nodes l.groups) rule.from) (values_size (word_classes l.usual l.sets) rule.classes)
+      (1 + words_size (word_nodes l.groups) rule.to) (omega arith)
+      (patterns_within (YieldsNodes l.groups) (word_nodes l.groups) (nodes_within l.groups) rule.from y.froms y.each_caller)
+      (patterns_within (YieldsClasses l.classes l.usual l.sets) (word_classes l.usual l.sets) (classes_within l.classes l.usual l.sets) rule.classes y.classes y.each_class) le in
+      omega arith
+
+  flows_within : (flow : ShortFlow) (flows : List FlowText) → YieldsFlows l flow flows → flow_size l flow ≤ most → length flows ≤ flow_size l flow
+  flows_within flow flows y le =
+      let long : length flows ≡ length y.ats * length y.tos =
+      ap length y.are ∙ flat_long (λ at. map (flow_of flow y.classes y.syntaxes at) y.tos) (length y.tos) (λ at. length-map y.tos (flow_of flow y.classes y.syntaxes at)) y.ats in
+      let less = volume (length y.ats) (length y.tos) (words_size (word_nodes l.groups) flow.at) (words_size (word_nodes l.groups) flow.to) (lists_size l flow) (omega arith)
+      (words_within (YieldsNodes l.groups) (word_nodes l.groups) (nodes_within l.groups) flow.at y.ats y.each_at)
+      (words_within (YieldsNodes l.groups) (word_nodes l.groups) (nodes_within l.groups) flow.to y.tos y.each_to) le in
+      omega arith
+
+  node_within : (node : ShortNode) (nodes : List NodeText) → YieldsNode l node nodes → node_size l node ≤ most → rule_count nodes ≤ node_size l node
+  node_within node nodes y le =
+      let one : rule_count nodes ≡ length y.rules + 0 = ap rule_count y.are ∙ sum_by-cons (λ (n : NodeText). length n.rules) (node_of node y.accepts y.rules) [] in
+      let less = yields_within (YieldsRules l) (rule_size l) length most refl length-append rules_within node.rules y.rules y.each_rule (omega arith) in
+      omega arith
+
+-- the rules and flows of a plan that is within the bound
+pub bounded : (short : ShortPlan) (plan : PlanText) → Means short plan → IsWithin short → rule_count plan.nodes + length plan.flows ≤ most
+bounded short plan means within =
+    let l = lookups_of short in
+    let nodes = yields_within (YieldsNode l) (node_size l) rule_count most refl (sum_by-append (λ (n : NodeText). length n.rules)) (node_within l) short.nodes plan.nodes means.nodes (omega arith) in
+    let flows = yields_within (YieldsFlows l) (flow_size l) length most refl length-append (flows_within l) short.flows plan.flows means.flows (omega arith) in
+    omega arith

@@ -1,0 +1,14 @@
+pub mod Finding
+pub mod Yielded
+pub mod Marked
+pub mod OneMeaning
+pub mod Worded
+pub mod Naming
+pub mod Defining
+pub mod Saying
+pub mod Grown
+pub mod ShortOne
+pub mod Expanded
+pub mod OneExpansion
+pub mod Summed
+pub mod Bounded

@@ -1,0 +1,12 @@
+pub mod Lists
+pub mod Words
+pub mod Fields
+pub mod Tables
+pub mod Faults
+pub mod Standard
+pub mod Meanings
+pub mod Amounts
+pub mod Seen
+pub mod Spelling
+pub mod Expanding
+pub mod Laws

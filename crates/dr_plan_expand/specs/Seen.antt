@@ -1,0 +1,15 @@
+-- The tables in which words are looked up, as contracts see them.
+use Rattle.std.specs.Prelude.{map}
+use Rattle.dr_plan_expand.specs.Words.{entries, of_sets}
+use Rattle.dr_plan_expand.specs.declared.meant.Tables.{Tables}
+use Rattle.dr_plan_expand.specs.Meanings.{Lookups}
+
+-- the tables, without where they lie in memory
+abbrev pub seen : Tables → Lookups
+seen tables = record {
+  classes = map entries tables.classes.now;
+  usual = map of_sets tables.usual.now;
+  syntaxes = map entries tables.syntaxes.now;
+  sets = tables.sets.now;
+  groups = tables.groups.now;
+}

@@ -1,0 +1,116 @@
+-- The one spelling of a plan of format 3 without names, sets, groups and lists.
+use Rattle.std.specs.Prelude.{◌==◌, ℕ, Bool, if◌then◌else◌, List, [], ◌∷◌, ◌++◌, codes}
+use Rattle.std.specs.Prelude.{map, flat_map}
+use Rattle.std.specs.Fmt.{signed_decimal}
+use Rattle.dr_base.specs.Texts.{Text}
+use Rattle.dr_route.specs.declared.rule.Pattern.{Pattern}
+use Rattle.dr_route.specs.declared.rule.Pattern.TheVariants.{Any, Literal}
+use Rattle.dr_route.specs.declared.rule.StationPattern.{StationPattern}
+use Rattle.dr_route.specs.declared.rule.StationPattern.TheVariants as station
+use Rattle.dr_route.specs.declared.rule.Rule.{Rule}
+use Rattle.dr_route.specs.declared.accept.Callers.{Callers}
+use Rattle.dr_route.specs.declared.accept.Callers.TheVariants as callers
+use Rattle.dr_plan_model.specs.declared.plan.Values.{Values}
+use Rattle.dr_plan_model.specs.declared.plan.Values.TheVariants as values
+use Rattle.dr_plan_model.specs.declared.plan.Stations.{Stations}
+use Rattle.dr_plan_model.specs.declared.plan.Stations.TheVariants as stations
+use Rattle.dr_plan_text.specs.declared.words.AcceptText.{AcceptText}
+use Rattle.dr_plan_text.specs.declared.words.NodeText.{NodeText}
+use Rattle.dr_plan_text.specs.declared.words.FlowText.{FlowText}
+use Rattle.dr_plan_text.specs.declared.words.PlanText.{PlanText}
+
+-- a byte between quotes: a backslash stands before a quote and before a backslash
+abbrev pub escaped_byte : ℕ → Text
+escaped_byte byte =
+    if byte == 34 then 92 ∷ 34 ∷ [] else (if byte == 92 then 92 ∷ 92 ∷ [] else byte ∷ [])
+
+-- a text in quotes
+abbrev pub quoted : Text → Text
+quoted text = (34 ∷ []) ++ flat_map escaped_byte text ++ (34 ∷ [])
+
+-- a text of a list that isn't its first
+abbrev pub further : Text → Text
+further text = codes ", " ++ quoted text
+
+-- a list of texts in brackets
+abbrev pub list_text : List Text → Text
+list_text [] = codes "[]"
+list_text (text ∷ texts) = codes "[" ++ quoted text ++ flat_map further texts ++ codes "]"
+
+-- the text of any value
+abbrev pub star_text : Text
+star_text = codes "\"*\""
+
+-- a pattern
+abbrev pub pattern_text : Pattern → Text
+pattern_text Any = star_text
+pattern_text (Literal literal) = quoted literal
+
+-- a prefix with the asterisk behind it
+abbrev pub starred : Text → Text
+starred prefix = prefix ++ 42 ∷ []
+
+-- the station of a rule
+abbrev pub station_text : StationPattern → Text
+station_text station.Any = star_text
+station_text (station.Literal literal) = quoted literal
+station_text (station.Prefix prefix) = quoted (starred prefix)
+
+-- the callers of an accept row
+abbrev pub callers_text : Callers → Text
+callers_text callers.Any = star_text
+callers_text (callers.Listed names) = list_text names
+
+-- the modalities of a flow
+abbrev pub values_text : Values → Text
+values_text values.Any = star_text
+values_text (values.Listed texts) = list_text texts
+
+-- the stations of a flow: the values, and then the prefixes
+abbrev pub stations_text : Stations → Text
+stations_text stations.Any = star_text
+stations_text (stations.Listed named) = list_text (named.literals ++ map starred named.prefixes)
+
+-- true or false
+abbrev pub flag_text : Bool → Text
+flag_text flag = if flag then codes "true" else codes "false"
+
+-- an accept row
+abbrev pub row_text : AcceptText → Text
+row_text row =
+    codes "\n[[node.accept]]\nfrom = " ++ callers_text row.from
+    ++ codes "\nclass = " ++ quoted row.class
+    ++ codes "\nsyntax = " ++ list_text row.syntaxes ++ codes "\n"
+
+-- a rule
+abbrev pub rule_text : Rule → Text
+rule_text rule =
+    codes "\n[[node.rule]]\nfrom = " ++ pattern_text rule.from
+    ++ codes "\nclass = " ++ pattern_text rule.class
+    ++ codes "\nmodality = " ++ pattern_text rule.modality
+    ++ codes "\nstation = " ++ station_text rule.station
+    ++ codes "\nto = " ++ list_text rule.to
+    ++ codes "\nkeep = " ++ flag_text rule.keep ++ codes "\n"
+
+-- a node, with its accept rows and its rules
+abbrev pub node_text : NodeText → Text
+node_text node =
+    codes "\n[[node]]\nname = " ++ quoted node.name
+    ++ codes "\naddress = " ++ quoted node.address
+    ++ codes "\nmax_pdu = " ++ signed_decimal node.max_pdu ++ codes "\n"
+    ++ flat_map row_text node.accepts ++ flat_map rule_text node.rules
+
+-- a flow
+abbrev pub flow_text : FlowText → Text
+flow_text flow =
+    codes "\n[[flow]]\nat = " ++ quoted flow.at
+    ++ codes "\nto = " ++ quoted flow.to
+    ++ codes "\nclass = " ++ list_text flow.classes
+    ++ codes "\nsyntax = " ++ list_text flow.syntaxes
+    ++ codes "\nmodality = " ++ values_text flow.modalities
+    ++ codes "\nstation = " ++ stations_text flow.stations ++ codes "\n"
+
+-- the plan: its format, its nodes, and its flows
+abbrev pub plan_text : PlanText → Text
+plan_text plan =
+    codes "format = 3\n" ++ flat_map node_text plan.nodes ++ flat_map flow_text plan.flows

@@ -1,0 +1,211 @@
+//! The pieces of a spelling: texts in quotes, lists of them, and other values.
+ghost use Rattle.std.specs.Prelude.{◌≡◌, ◌++◌, ◌∷◌, [], OnOk, IfOk, map, flat_map};
+ghost use Rattle.std.specs.Fmt.{signed_decimal};
+ghost use Rattle.dr_plan_expand.specs.Spelling.{escaped_byte, quoted, further, list_text, starred};
+ghost use Rattle.dr_plan_expand.specs.Spelling.{pattern_text, station_text, callers_text};
+ghost use Rattle.dr_plan_expand.specs.Spelling.{values_text, stations_text, flag_text};
+
+use crate::words::copy_of;
+use dr_base::{Seq, Text};
+use dr_plan_model::{Stations, Values};
+use dr_route::{Callers, Pattern, StationPattern, StationValues};
+use std::alloc::{AllocError, Global};
+
+const QUOTE: u8 = 34;
+
+const BACKSLASH: u8 = 92;
+
+const STAR: u8 = 42;
+
+/// The text of any value.
+const ANY: &[u8] = b"\"*\"";
+
+/// Adds a byte as it stands between quotes.
+fn add_escaped(out: &mut Vec<u8>, byte: u8) -> Result<(), AllocError>
+    ensures { OnOk result (out.new.items ≡ out.old.items ++ escaped_byte byte) }
+{
+    if byte == QUOTE {
+        return out.extend_from_slice(&[BACKSLASH, QUOTE]);
+    }
+    if byte == BACKSLASH {
+        return out.extend_from_slice(&[BACKSLASH, BACKSLASH]);
+    }
+    out.extend_from_slice(&[byte])
+}
+
+/// Adds bytes as they stand between quotes.
+fn add_bytes(out: &mut Vec<u8>, bytes: &[u8]) -> Result<(), AllocError>
+    ensures { OnOk result (out.new.items ≡ out.old.items ++ flat_map escaped_byte bytes.now) }
+{
+    for byte in bytes {
+        add_escaped(out, *byte)?;
+    }
+    Ok(())
+}
+
+/// A text in quotes.
+fn quote(alloc: Global, text: &Text) -> Result<Vec<u8>, AllocError>
+    ensures { IfOk result (λ out. out.items ≡ quoted text.now) }
+{
+    let mut out = Vec::from_slice(alloc, &[QUOTE])?;
+    add_bytes(&mut out, text.as_bytes())?;
+    out.push(QUOTE)?;
+    Ok(out)
+}
+
+/// Adds a text in quotes.
+pub fn add_quoted(alloc: Global, out: &mut Vec<u8>, text: &Text) -> Result<(), AllocError>
+    ensures { OnOk result (out.new.items ≡ out.old.items ++ quoted text.now) }
+{
+    let quoted = quote(alloc, text)?;
+    out.extend_from_slice(quoted.as_slice())
+}
+
+/// A text of a list that isn't its first.
+fn next(alloc: Global, text: &Text) -> Result<Vec<u8>, AllocError>
+    ensures { IfOk result (λ out. out.items ≡ further text.now) }
+{
+    let mut out = Vec::from_slice(alloc, b", ")?;
+    add_quoted(alloc, &mut out, text)?;
+    Ok(out)
+}
+
+/// Adds the texts of a list behind its first.
+fn add_further(alloc: Global, out: &mut Vec<u8>, texts: &[Text]) -> Result<(), AllocError>
+    ensures { OnOk result (out.new.items ≡ out.old.items ++ flat_map further texts.now) }
+{
+    for text in texts {
+        let more = next(alloc, text)?;
+        out.extend_from_slice(more.as_slice())?;
+    }
+    Ok(())
+}
+
+/// A list of texts in brackets.
+fn list(alloc: Global, texts: &[Text]) -> Result<Vec<u8>, AllocError>
+    ensures { IfOk result (λ out. out.items ≡ list_text texts.now) }
+{
+    let [first, more @ ..] = texts else {
+        return Vec::from_slice(alloc, b"[]");
+    };
+    let mut out = Vec::from_slice(alloc, b"[")?;
+    add_quoted(alloc, &mut out, first)?;
+    add_further(alloc, &mut out, more)?;
+    out.extend_from_slice(b"]")?;
+    Ok(out)
+}
+
+/// Adds a list of texts in brackets.
+pub fn add_list(alloc: Global, out: &mut Vec<u8>, texts: &[Text]) -> Result<(), AllocError>
+    ensures { OnOk result (out.new.items ≡ out.old.items ++ list_text texts.now) }
+{
+    let list = list(alloc, texts)?;
+    out.extend_from_slice(list.as_slice())
+}
+
+/// Adds a pattern.
+pub fn add_pattern(alloc: Global, out: &mut Vec<u8>, pattern: &Pattern) -> Result<(), AllocError>
+    ensures { OnOk result (out.new.items ≡ out.old.items ++ pattern_text pattern.now) }
+{
+    match pattern {
+        Pattern::Any => out.extend_from_slice(ANY),
+        Pattern::Literal(literal) => add_quoted(alloc, out, literal),
+    }
+}
+
+/// A prefix with the asterisk behind it.
+fn with_star(alloc: Global, prefix: &Text) -> Result<Text, AllocError>
+    ensures { IfOk result (λ text. text ≡ starred prefix.now) }
+{
+    let mut bytes = Vec::from_slice(alloc, prefix.as_bytes())?;
+    bytes.push(STAR)?;
+    Ok(Text::from_vec(bytes))
+}
+
+/// Adds what a rule asks of the station.
+pub fn add_station(
+    alloc: Global,
+    out: &mut Vec<u8>,
+    pattern: &StationPattern,
+) -> Result<(), AllocError>
+    ensures { OnOk result (out.new.items ≡ out.old.items ++ station_text pattern.now) }
+{
+    match pattern {
+        StationPattern::Any => out.extend_from_slice(ANY),
+        StationPattern::Literal(literal) => add_quoted(alloc, out, literal),
+        StationPattern::Prefix(prefix) => {
+            let text = with_star(alloc, prefix)?;
+            add_quoted(alloc, out, &text)
+        }
+    }
+}
+
+/// Adds the callers of an accept row.
+pub fn add_callers(alloc: Global, out: &mut Vec<u8>, callers: &Callers) -> Result<(), AllocError>
+    ensures { OnOk result (out.new.items ≡ out.old.items ++ callers_text callers.now) }
+{
+    match callers {
+        Callers::Any => out.extend_from_slice(ANY),
+        Callers::Listed(names) => add_list(alloc, out, names.as_slice()),
+    }
+}
+
+/// Adds the modalities of a flow.
+pub fn add_values(alloc: Global, out: &mut Vec<u8>, values: &Values) -> Result<(), AllocError>
+    ensures { OnOk result (out.new.items ≡ out.old.items ++ values_text values.now) }
+{
+    match values {
+        Values::Any => out.extend_from_slice(ANY),
+        Values::Listed(texts) => add_list(alloc, out, texts.as_slice()),
+    }
+}
+
+/// Adds prefixes with the asterisk behind each.
+fn add_starred(alloc: Global, out: &mut Vec<Text>, prefixes: &[Text]) -> Result<(), AllocError>
+    ensures { OnOk result (out.new.items ≡ out.old.items ++ map starred prefixes.now) }
+{
+    for prefix in prefixes {
+        out.push(with_star(alloc, prefix)?)?;
+    }
+    Ok(())
+}
+
+/// The stations that are named, as they are written: the values, and then the prefixes.
+fn written(alloc: Global, named: &StationValues) -> Result<Seq<Text>, AllocError>
+    ensures { IfOk result (λ texts. texts ≡ named.now.literals ++ map starred named.now.prefixes) }
+{
+    let mut texts = copy_of(alloc, named.literals.as_slice())?.into_vec();
+    add_starred(alloc, &mut texts, named.prefixes.as_slice())?;
+    Ok(Seq::from_vec(texts))
+}
+
+/// Adds the stations of a flow.
+pub fn add_stations(alloc: Global, out: &mut Vec<u8>, stations: &Stations) -> Result<(), AllocError>
+    ensures { OnOk result (out.new.items ≡ out.old.items ++ stations_text stations.now) }
+{
+    match stations {
+        Stations::Any => out.extend_from_slice(ANY),
+        Stations::Listed(named) => {
+            let texts = written(alloc, named)?;
+            add_list(alloc, out, texts.as_slice())
+        }
+    }
+}
+
+/// Adds a number.
+pub fn add_number(out: &mut Vec<u8>, number: i64) -> Result<(), AllocError>
+    ensures { OnOk result (out.new.items ≡ out.old.items ++ signed_decimal number) }
+{
+    let mut digits = itoa::Buffer::new();
+    out.extend_from_slice(digits.format(number).as_bytes())
+}
+
+/// Adds `true` or `false`.
+pub fn add_flag(out: &mut Vec<u8>, flag: bool) -> Result<(), AllocError>
+    ensures { OnOk result (out.new.items ≡ out.old.items ++ flag_text flag) }
+{
+    if flag {
+        return out.extend_from_slice(b"true");
+    }
+    out.extend_from_slice(b"false")
+}

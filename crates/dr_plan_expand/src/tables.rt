@@ -1,0 +1,171 @@
+//! The tables of a text of format 3.
+ghost use Rattle.std.specs.Prelude.{◌≡◌, ◌↔◌, IsTrue, IfOk, IfErr};
+ghost use Rattle.toml.specs.View.{table_view};
+ghost use Rattle.dr_plan_expand.specs.Tables.{IsShortRow, IsShortRule, IsShortNode, IsShortFlow};
+ghost use Rattle.dr_plan_expand.specs.Tables.{IsShortPlan, IsThird};
+ghost use Rattle.dr_plan_expand.specs.declared.short.ShortPlan.{ShortPlan as Short};
+ghost use Rattle.dr_plan_text.specs.declared.fault.ReadFault.TheVariants.{Field};
+
+use crate::fields::{AnyOrMore, Definitions, OneOrMore, Plain};
+use crate::short::{ShortFlow, ShortNode, ShortPlan, ShortRow, ShortRule};
+use dr_base::Seq;
+use dr_plan_model::Values;
+use dr_plan_text::fault::ReadFault;
+use dr_plan_text::fields::{
+    Address, AnyCallers, AnyText, AnyValues, Flag, Formed, LiteralPattern, Number, TextsOnce,
+};
+use dr_plan_text::form::{
+    ListOf, SomeOf, TableForm, TableOf, defaulted, has_only, required, value_at,
+};
+use dr_plan_text::stations::{AnyStation, AnyStations};
+use dr_route::{Pattern, StationPattern};
+use std::alloc::Global;
+use toml::Table;
+
+/// A row of an accept list, `[[node.accept]]`.
+pub struct ShortRowTable;
+
+impl TableForm for ShortRowTable {
+    type Output = ShortRow;
+
+    ghost is_table = { IsShortRow };
+
+    fn read_table(alloc: Global, table: &Table) -> Result<ShortRow, ReadFault> {
+        if !has_only(table, &["from", "class", "syntax"]) {
+            return Err(ReadFault::Field);
+        }
+        Ok(ShortRow {
+            from: required::<AnyCallers>(alloc, table, "from")?,
+            classes: required::<OneOrMore>(alloc, table, "class")?,
+            syntaxes: required::<TextsOnce>(alloc, table, "syntax")?,
+        })
+    }
+}
+
+/// A rule, `[[node.rule]]`.
+pub struct ShortRuleTable;
+
+impl TableForm for ShortRuleTable {
+    type Output = ShortRule;
+
+    ghost is_table = { IsShortRule };
+
+    fn read_table(alloc: Global, table: &Table) -> Result<ShortRule, ReadFault> {
+        if !has_only(
+            table,
+            &["from", "class", "modality", "station", "to", "keep"],
+        ) {
+            return Err(ReadFault::Field);
+        }
+        Ok(ShortRule {
+            from: defaulted::<AnyOrMore>(alloc, table, "from", Values::Any)?,
+            classes: defaulted::<AnyOrMore>(alloc, table, "class", Values::Any)?,
+            modality: defaulted::<LiteralPattern>(alloc, table, "modality", Pattern::Any)?,
+            station: defaulted::<AnyStation>(alloc, table, "station", StationPattern::Any)?,
+            to: defaulted::<ListOf<AnyText>>(alloc, table, "to", Seq::new(alloc))?,
+            keep: defaulted::<Flag>(alloc, table, "keep", false)?,
+        })
+    }
+}
+
+/// A node, `[[node]]`.
+pub struct ShortNodeTable;
+
+impl TableForm for ShortNodeTable {
+    type Output = ShortNode;
+
+    ghost is_table = { IsShortNode };
+
+    fn read_table(alloc: Global, table: &Table) -> Result<ShortNode, ReadFault> {
+        if !has_only(table, &["name", "address", "max_pdu", "accept", "rule"]) {
+            return Err(ReadFault::Field);
+        }
+        Ok(ShortNode {
+            name: required::<Formed<Plain>>(alloc, table, "name")?,
+            address: required::<Formed<Address>>(alloc, table, "address")?,
+            max_pdu: defaulted::<Number>(alloc, table, "max_pdu", 16384)?,
+            accepts: defaulted::<ListOf<TableOf<ShortRowTable>>>(
+                alloc,
+                table,
+                "accept",
+                Seq::new(alloc),
+            )?,
+            rules: defaulted::<ListOf<TableOf<ShortRuleTable>>>(
+                alloc,
+                table,
+                "rule",
+                Seq::new(alloc),
+            )?,
+        })
+    }
+}
+
+/// A flow, `[[flow]]`.
+pub struct ShortFlowTable;
+
+impl TableForm for ShortFlowTable {
+    type Output = ShortFlow;
+
+    ghost is_table = { IsShortFlow };
+
+    fn read_table(alloc: Global, table: &Table) -> Result<ShortFlow, ReadFault> {
+        if !has_only(
+            table,
+            &["at", "to", "class", "syntax", "modality", "station"],
+        ) {
+            return Err(ReadFault::Field);
+        }
+        Ok(ShortFlow {
+            at: required::<OneOrMore>(alloc, table, "at")?,
+            to: required::<OneOrMore>(alloc, table, "to")?,
+            classes: required::<OneOrMore>(alloc, table, "class")?,
+            syntaxes: required::<SomeOf<AnyText>>(alloc, table, "syntax")?,
+            modalities: required::<AnyValues>(alloc, table, "modality")?,
+            stations: required::<AnyStations>(alloc, table, "station")?,
+        })
+    }
+}
+
+/// Whether the text's root table is of format 3.
+pub fn is_third(root: &Table) -> bool
+    ensures { IsTrue result ↔ IsThird (table_view root.now) }
+{
+    let Some(value) = value_at(root, "format") else {
+        return false;
+    };
+    value.as_integer() == Some(3)
+}
+
+/// A text of format 3 as a whole.
+pub struct ShortPlanTable;
+
+impl TableForm for ShortPlanTable {
+    type Output = ShortPlan;
+
+    ghost is_table = { IsShortPlan };
+
+    fn read_table(alloc: Global, table: &Table) -> Result<ShortPlan, ReadFault> {
+        if !has_only(table, &["format", "set", "group", "node", "flow"]) {
+            return Err(ReadFault::Field);
+        }
+        if !is_third(table) {
+            return Err(ReadFault::Field);
+        }
+        Ok(ShortPlan {
+            sets: defaulted::<TableOf<Definitions>>(alloc, table, "set", Seq::new(alloc))?,
+            groups: defaulted::<TableOf<Definitions>>(alloc, table, "group", Seq::new(alloc))?,
+            nodes: defaulted::<ListOf<TableOf<ShortNodeTable>>>(
+                alloc,
+                table,
+                "node",
+                Seq::new(alloc),
+            )?,
+            flows: defaulted::<ListOf<TableOf<ShortFlowTable>>>(
+                alloc,
+                table,
+                "flow",
+                Seq::new(alloc),
+            )?,
+        })
+    }
+}

@@ -1,0 +1,148 @@
+-- The document, piece by piece. A moment is a number of milliseconds.
+use Rattle.std.specs.Prelude.{ℕ, ◌-◌, ◌/◌, ◌%◌, ◌∷◌, ◌++◌, ◌||◌, Bool, true, false, List, []}
+use Rattle.std.specs.Prelude.{Option, None, Some, codes, decimal, filter, flat_map, nat_lt, take}
+use Rattle.std.specs.Prelude.{if◌then◌else◌}
+use Rattle.dr_base.specs.Texts.{Text}
+use Rattle.hex.specs.Hex.{encode_upper}
+use Rattle.dr_ledger.specs.Pairs.{Pair}
+use Rattle.dr_ledger.specs.declared.item.Cause.{Cause}
+use Rattle.dr_ledger.specs.declared.item.Cause.TheVariants as cause
+use Rattle.dr_ledger.specs.declared.item.Progress.{Progress}
+use Rattle.dr_ledger.specs.declared.item.Progress.TheVariants as progress
+use Rattle.dr_run_answer.specs.declared.json.Counts.{Counts}
+use Rattle.dr_run_answer.specs.declared.json.Queue.{Queue}
+use Rattle.dr_run_page.specs.Markup.{shown}
+
+-- texts one behind another
+abbrev pub joined : List Text → Text
+joined texts = flat_map (λ text. text) texts
+
+-- seconds from a moment to a later one
+abbrev pub seconds : ℕ → ℕ → ℕ
+seconds from to = (to - from) / 1000
+
+-- why a row is held: the status of the response in four hex digits, or that the association had no
+-- presentation context
+abbrev pub cause_words : Cause → Text
+cause_words (cause.Status status) =
+    codes "status " ++ encode_upper (status / 256 ∷ status % 256 ∷ [])
+cause_words cause.NoContext = codes "no presentation context"
+
+-- in how many seconds that moment is, or for how many it has been
+abbrev pub moment_words : ℕ → ℕ → Text
+moment_words now due =
+    if nat_lt now due then codes "in " ++ decimal (seconds now due) ++ codes " s"
+    else codes "for " ++ decimal (seconds due now) ++ codes " s"
+
+-- a row that was never tried has no moment
+abbrev pub tried_words : ℕ → ℕ → Text
+tried_words now due = if nat_lt 0 due then moment_words now due else codes "not tried"
+
+-- when the first row that waits is due, if one does
+abbrev pub due_words : ℕ → Option ℕ → Text
+due_words now None = codes "-"
+due_words now (Some due) = tried_words now due
+
+-- ---- the light
+
+-- rows to a node wait
+abbrev pub is_busy : Queue → Bool
+is_busy queue = nat_lt 0 queue.waiting
+
+-- rows to a node are held
+abbrev pub is_stuck : Queue → Bool
+is_stuck queue = nat_lt 0 queue.held
+
+-- one of the queues passes the test
+abbrev pub is_any : (Queue → Bool) → List Queue → Bool
+is_any test [] = false
+is_any test (queue ∷ queues) = test queue || is_any test queues
+
+-- red: a person is wanted; amber: something waits to be sent; green: neither
+abbrev pub light_of : Bool → Bool → Bool → Text
+light_of failed stuck busy =
+    if failed then codes "red\">The store has failed"
+    else (if stuck then codes "red\">Rows are held"
+    else (if busy then codes "amber\">Rows wait"
+    else codes "green\">Nothing is held, and nothing waits"))
+
+-- the light of a node whose store has failed so often
+abbrev pub light : ℕ → List Queue → Text
+light failures queues =
+    light_of (nat_lt 0 failures) (is_any is_stuck queues) (is_any is_busy queues)
+
+-- ---- rows of tables
+
+abbrev pub queue_row : ℕ → Queue → Text
+queue_row now queue = joined
+    (codes "<tr><td>" ∷ shown queue.dest.now
+    ∷ codes "</td><td>" ∷ decimal queue.waiting
+    ∷ codes "</td><td>" ∷ decimal queue.held
+    ∷ codes "</td><td>" ∷ decimal queue.done
+    ∷ codes "</td><td>" ∷ due_words now queue.due
+    ∷ codes "</td></tr>\n" ∷ [])
+
+-- a row that is held, and nothing of another
+abbrev pub held_row : Pair × Progress → Text
+held_row ((uid, dest), progress.Held why) = joined
+    (codes "<tr><td>" ∷ shown uid
+    ∷ codes "</td><td>" ∷ shown dest
+    ∷ codes "</td><td>" ∷ cause_words why
+    ∷ codes "</td></tr>\n" ∷ [])
+held_row ((uid, dest), progress.Waiting tries due) = []
+held_row ((uid, dest), progress.Done) = []
+held_row ((uid, dest), progress.Dropped) = []
+
+abbrev pub is_held : Pair × Progress → Bool
+is_held (pair, progress.Held why) = true
+is_held (pair, progress.Waiting tries due) = false
+is_held (pair, progress.Done) = false
+is_held (pair, progress.Dropped) = false
+
+-- ---- the whole
+
+abbrev pub style : Text
+style = codes
+    "body{background:#111;color:#eee;font:1.4em sans-serif;margin:1em}h1{padding:.3em}.red{background:#b00}.amber{background:#a60}.green{background:#060}td,th{padding:.2em 1em;text-align:left}table{margin:1em 0}caption{text-align:left;font-weight:bold}"
+
+abbrev pub head : Text → Text
+head name = joined
+    (codes
+    "<!DOCTYPE html>\n<html lang=\"en\">\n<head>\n<meta charset=\"utf-8\">\n<meta http-equiv=\"refresh\" content=\"5\">\n<title>"
+    ∷ shown name ∷ codes "</title>\n<style>" ∷ style ∷ codes "</style>\n</head>\n<body>\n" ∷ [])
+
+-- under such a light, after so many seconds
+abbrev pub figures_under : Text → Text → ℕ → Counts → Text
+figures_under lit name served counts =
+    joined
+    (codes "<h1 class=\"" ∷ lit
+    ∷ codes "</h1>\n<p>" ∷ shown name
+    ∷ codes " has served for " ∷ decimal served
+    ∷ codes " s. Arrivals: " ∷ decimal counts.arrivals
+    ∷ codes ". Kept: " ∷ decimal counts.kept
+    ∷ codes ". Lines of the journal: " ∷ decimal counts.lines
+    ∷ codes ". Failures of the store: " ∷ decimal counts.failures
+    ∷ codes ".</p>\n" ∷ [])
+
+abbrev pub figures : Text → ℕ → ℕ → Counts → List Queue → Text
+figures name since now counts queues =
+    figures_under (light counts.failures queues) name (seconds since now) counts
+
+abbrev pub queues_head : Text
+queues_head = codes
+    "<table><caption>Next nodes</caption>\n<tr><th>Node</th><th>Waiting</th><th>Held</th><th>Done</th><th>First due</th></tr>\n"
+
+abbrev pub held_head : Text
+held_head = codes
+    "</table>\n<table><caption>Held, the first 100</caption>\n<tr><th>Instance</th><th>To</th><th>Why</th></tr>\n"
+
+abbrev pub tail : Text
+tail = codes "</table>\n</body>\n</html>\n"
+
+-- what a node shows that has served since that moment
+abbrev pub document : Text → ℕ → ℕ → Counts → List Queue → List (Pair × Progress) → Text
+document name since now counts queues rows =
+    head name ++ figures name since now counts queues
+    ++ queues_head ++ flat_map (queue_row now) queues
+    ++ held_head ++ flat_map held_row (take 100 (filter is_held rows))
+    ++ tail

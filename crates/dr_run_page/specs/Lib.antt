@@ -1,0 +1,4 @@
+pub mod Documents
+pub mod Laws
+pub mod Markup
+pub mod Pieces

@@ -1,0 +1,50 @@
+//! Bytes that a peer sent, as characters of a document.
+ghost use Rattle.std.specs.Prelude.{◌≡◌, ◌<◌, ◌∷◌, [], ◌++◌, ◌/◌, ◌%◌, OnOk};
+ghost use Rattle.dr_run_page.specs.Markup.{hex_digit, is_markup, is_plain, shown, shown_byte};
+
+use std::alloc::AllocError;
+
+/// Whether markup is made of the byte.
+fn is_markup(byte: u8) -> bool
+    ensures { result ≡ is_markup byte }
+{
+    byte == b'<' || byte == b'>' || byte == b'&' || byte == b'"' || byte == b'\''
+}
+
+/// Whether the byte stands as it is.
+fn is_plain(byte: u8) -> bool
+    ensures { result ≡ is_plain byte }
+{
+    32 <= byte && byte <= 126 && !is_markup(byte) && byte != b'\\'
+}
+
+/// A number below sixteen as a digit.
+fn hex_digit(number: u8) -> u8
+    requires { number < 16 }
+    ensures { result ≡ hex_digit number }
+{
+    if number < 10 {
+        return 48 + number;
+    }
+    87 + number
+}
+
+/// Adds what stands for a byte.
+fn put_byte(out: &mut Vec<u8>, byte: u8) -> Result<(), AllocError>
+    ensures { OnOk result (out.new.items ≡ out.old.items ++ shown_byte byte) }
+{
+    if is_plain(byte) {
+        return out.extend_from_slice(&[byte]);
+    }
+    out.extend_from_slice(&[b'\\', b'x', hex_digit(byte / 16), hex_digit(byte % 16)])
+}
+
+/// Adds what stands for the bytes.
+pub(crate) fn put_shown(out: &mut Vec<u8>, bytes: &[u8]) -> Result<(), AllocError>
+    ensures { OnOk result (out.new.items ≡ out.old.items ++ shown bytes.now) }
+{
+    for byte in bytes {
+        put_byte(out, *byte)?;
+    }
+    Ok(())
+}

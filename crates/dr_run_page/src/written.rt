@@ -1,0 +1,195 @@
+//! The document.
+ghost use Rattle.std.specs.Prelude.{◌≡◌, ◌++◌, OnOk, filter, flat_map, take};
+ghost use Rattle.dr_run_page.specs.Documents.{document, figures, figures_under, head};
+ghost use Rattle.dr_run_page.specs.Documents.{held_head, held_row};
+ghost use Rattle.dr_run_page.specs.Documents.{is_held, queue_row, queues_head, tail};
+ghost use Rattle.dr_ledger.specs.declared.item.Progress.TheVariants.{Held};
+
+use crate::light::light;
+use crate::pieces::{Piece, put_pieces};
+use dr_base::Text;
+use dr_ledger::{Cause, Progress};
+use dr_run_answer::{Counts, Queue};
+use std::alloc::AllocError;
+
+/// So many held rows are shown at most.
+pub const SHOWN: usize = 100;
+
+const STYLE: &str =
+    "body{background:#111;color:#eee;font:1.4em sans-serif;margin:1em}h1{padding:.3em}.red{background:#b00}.amber{background:#a60}.green{background:#060}td,th{padding:.2em 1em;text-align:left}table{margin:1em 0}caption{text-align:left;font-weight:bold}";
+
+/// What is shown of a node beside its rows: since when it has served, and the moment now
+/// (milliseconds), and how much it has.
+#[derive(Debug, Drop)]
+pub struct Shown<'a> {
+    pub name: &'a Text,
+    pub since: u64,
+    pub moment: u64,
+    pub counts: Counts,
+}
+
+/// Adds the head.
+fn put_head(out: &mut Vec<u8>, name: &Text) -> Result<(), AllocError>
+    ensures { OnOk result (out.new.items ≡ out.old.items ++ head name.now) }
+{
+    put_pieces(
+        out,
+        &[
+            Piece::Markup(
+                "<!DOCTYPE html>\n<html lang=\"en\">\n<head>\n<meta charset=\"utf-8\">\n<meta http-equiv=\"refresh\" content=\"5\">\n<title>",
+            ),
+            Piece::Words(name.as_bytes()),
+            Piece::Markup("</title>\n<style>"),
+            Piece::Markup(STYLE),
+            Piece::Markup("</style>\n</head>\n<body>\n"),
+        ],
+    )
+}
+
+/// Adds how much a node has that has served for so many seconds, under a light.
+fn put_figures<'x>(
+    out: &mut Vec<u8>,
+    name: &'x Text,
+    served: u64,
+    counts: Counts,
+    lit: &'x str,
+) -> Result<(), AllocError>
+    ensures { OnOk result
+        (out.new.items ≡ out.old.items ++ figures_under lit.now name.now served counts) }
+{
+    put_pieces(
+        out,
+        &[
+            Piece::Markup("<h1 class=\""),
+            Piece::Markup(lit),
+            Piece::Markup("</h1>\n<p>"),
+            Piece::Words(name.as_bytes()),
+            Piece::Markup(" has served for "),
+            Piece::Number(served),
+            Piece::Markup(" s. Arrivals: "),
+            Piece::Number(counts.arrivals),
+            Piece::Markup(". Kept: "),
+            Piece::Number(counts.kept),
+            Piece::Markup(". Lines of the journal: "),
+            Piece::Number(counts.lines),
+            Piece::Markup(". Failures of the store: "),
+            Piece::Number(counts.failures),
+            Piece::Markup(".</p>\n"),
+        ],
+    )
+}
+
+/// Adds the light, and how much the node has.
+fn put_node(out: &mut Vec<u8>, shown: &Shown<'_>, queues: &[Queue<'_>]) -> Result<(), AllocError>
+    ensures { OnOk result
+        (out.new.items
+        ≡ out.old.items
+        ++ figures shown.now.name.now shown.now.since shown.now.moment shown.now.counts
+        queues.now) }
+{
+    let lit = light(shown.counts.failures, queues);
+    let served = shown.moment.saturating_sub(shown.since) / 1_000;
+    put_figures(out, shown.name, served, shown.counts, lit)
+}
+
+/// Adds the row of a next node.
+fn put_queue(out: &mut Vec<u8>, now: u64, queue: &Queue<'_>) -> Result<(), AllocError>
+    ensures { OnOk result (out.new.items ≡ out.old.items ++ queue_row now queue.now) }
+{
+    put_pieces(
+        out,
+        &[
+            Piece::Markup("<tr><td>"),
+            Piece::Words(queue.dest.as_bytes()),
+            Piece::Markup("</td><td>"),
+            Piece::Number(queue.waiting),
+            Piece::Markup("</td><td>"),
+            Piece::Number(queue.held),
+            Piece::Markup("</td><td>"),
+            Piece::Number(queue.done),
+            Piece::Markup("</td><td>"),
+            Piece::Due(now, queue.due),
+            Piece::Markup("</td></tr>\n"),
+        ],
+    )
+}
+
+/// Adds a row for each next node.
+fn put_queues(out: &mut Vec<u8>, now: u64, queues: &[Queue<'_>]) -> Result<(), AllocError>
+    ensures { OnOk result (out.new.items ≡ out.old.items ++ flat_map (queue_row now) queues.now) }
+{
+    for queue in queues {
+        put_queue(out, now, queue)?;
+    }
+    Ok(())
+}
+
+/// Adds the row of an instance that is held.
+fn put_held<'x>(
+    out: &mut Vec<u8>,
+    uid: &'x Text,
+    dest: &'x Text,
+    cause: Cause,
+) -> Result<(), AllocError>
+    ensures { OnOk result (out.new.items ≡ out.old.items
+        ++ held_row ((uid.now, dest.now), Held cause)) }
+{
+    put_pieces(
+        out,
+        &[
+            Piece::Markup("<tr><td>"),
+            Piece::Words(uid.as_bytes()),
+            Piece::Markup("</td><td>"),
+            Piece::Words(dest.as_bytes()),
+            Piece::Markup("</td><td>"),
+            Piece::Cause(cause),
+            Piece::Markup("</td></tr>\n"),
+        ],
+    )
+}
+
+/// Adds a row for each of the first rows that are held.
+fn put_all_held(out: &mut Vec<u8>, rows: &[((Text, Text), Progress)]) -> Result<(), AllocError>
+    ensures { OnOk result (out.new.items ≡ out.old.items
+        ++ flat_map held_row (take 100 (filter is_held rows.now))) }
+{
+    let mut left = SHOWN;
+    for row in rows {
+        if left == 0 {
+            return Ok(());
+        }
+        if let Progress::Held(cause) = row.1 {
+            put_held(out, &row.0.0, &row.0.1, cause)?;
+            left -= 1;
+        }
+    }
+    Ok(())
+}
+
+/// Adds the document: what a node has, each next node with its queue, and the first rows that are
+/// held, in the order in which they are handed in.
+///
+/// Errors: want of memory; then a part of it may stand there.
+pub fn put_document(
+    out: &mut Vec<u8>,
+    shown: &Shown<'_>,
+    queues: &[Queue<'_>],
+    rows: &[((Text, Text), Progress)],
+) -> Result<(), AllocError>
+    ensures { OnOk result (out.new.items ≡ out.old.items
+        ++ document shown.now.name.now shown.now.since shown.now.moment shown.now.counts queues.now
+        rows.now) }
+{
+    put_head(out, shown.name)?;
+    put_node(out, shown, queues)?;
+    out.extend_from_slice(
+        b"<table><caption>Next nodes</caption>\n<tr><th>Node</th><th>Waiting</th><th>Held</th><th>Done</th><th>First due</th></tr>\n",
+    )?;
+    put_queues(out, shown.moment, queues)?;
+    out.extend_from_slice(
+        b"</table>\n<table><caption>Held, the first 100</caption>\n<tr><th>Instance</th><th>To</th><th>Why</th></tr>\n",
+    )?;
+    put_all_held(out, rows)?;
+    out.extend_from_slice(b"</table>\n</body>\n</html>\n")?;
+    Ok(())
+}

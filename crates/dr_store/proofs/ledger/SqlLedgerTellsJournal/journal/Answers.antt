@@ -1,0 +1,45 @@
+use Rattle.std.proofs.Common.{◌≡◌, List, map as mapped, refl}
+use Rattle.std.specs.Coded.{coded_list}
+use Rattle.sqlite.specs.Held.{state}
+use Rattle.sqlite.specs.Tree.{Trees}
+use Rattle.dr_ledger_history.specs.Lines.{line_of}
+use Rattle.dr_ledger_history.specs.declared.line.JournalLine.{JournalLine}
+use Rattle.dr_store_schema.specs.Books.{lines_of}
+use Rattle.dr_store.proofs.Sets.{coded_line}
+use Rattle.dr_store.proofs.Stable.{by_code}
+use Rattle.dr_store.proofs.Writes.{looked_books, looked_kept, looked_lasting, looked_reads, looked_safe}
+use Rattle.dr_store.proofs.ledger.SqlLedgerTellsJournal.journal.Goals as goal
+
+pub invariant_of-self : goal.invariant_of-self
+invariant_of-self g c =
+    let n = c.args.self.now.next in
+    let part = c.args.self.now.site in
+    let r = c.tell_journal-answer.result in
+    let old = state g.S.Store c.args.self.now.conn in
+    let new = state g.S.Store c.tell_journal-answer.new.conn in
+    let Shows : Trees → List JournalLine → Type 0 = λ base all. mapped line_of all ≡ lines_of base in
+    record {
+      idle = c.tell_journal-answer.ensures.idle c.args.self.now.idle;
+      kept = looked_kept n part r old new Shows c.args.self.now.kept (c.tell_journal-answer.ensures.looked n part);
+    }
+
+-- by hand: the search loses itself in what the trait asks
+pub returns : goal.returns
+returns g c =
+    let n = c.args.self.now.next in
+    let part = c.args.self.now.site in
+    let r = c.tell_journal-answer.result in
+    let old = state g.S.Store c.args.self.now.conn in
+    let new = state g.S.Store c.tell_journal-answer.new.conn in
+    let Shows : Trees → List JournalLine → Type 0 = λ base all. mapped line_of all ≡ lines_of base in
+    let kept = c.args.self.now.kept in
+    let looked = c.tell_journal-answer.ensures.looked n part in
+    record {
+      reply = looked_reads n part r old new Shows kept looked (λ all. by_code (coded_list coded_line) _ _);
+      same = looked_books n part r old new Shows kept looked;
+      counts = c.counted-self.ensures.counts;
+      armed = refl;
+      stood = looked_safe n part r old new Shows kept looked;
+      lasts = looked_lasting n part r old new Shows kept looked;
+      site = refl;
+    }

@@ -1,0 +1,85 @@
+//! The whole journal, each line with the instance that it is of.
+ghost use Rattle.std.specs.Prelude.{◌≡◌, ℕ, false, IfOk, map as mapped};
+ghost use Rattle.sqlite.specs.Held.{state};
+ghost use Rattle.dr_site.specs.Parts.{Part};
+ghost use Rattle.dr_ledger.specs.Replies.{Reads};
+ghost use Rattle.dr_ledger_history.specs.Lines.{line_of};
+ghost use Rattle.dr_store_schema.specs.Books.{lines_of};
+ghost use Rattle.dr_store_lists.specs.Lists.{IsJournal};
+ghost use Rattle.dr_store_audit.specs.Goals.{AreByLine};
+ghost use Rattle.dr_store_audit.specs.Journal.{lines_told};
+ghost use Rattle.dr_store_calls.specs.Calling.{Looked};
+
+use dr_base::{Seq, Text};
+use dr_ledger::LedgerFault;
+use dr_ledger_history::JournalLine;
+use dr_store_audit::goals::are_by_line;
+use dr_store_audit::lines::line_for;
+use dr_store_lists::{Note, all_notes, all_targets};
+use sqlite::{Alter, Connection};
+use std::alloc::{AllocError, Global};
+
+/// The lines of all notes. The goals, in the order of their lines, say where first arrivals go on
+/// to.
+fn lines_for(
+    alloc: Global,
+    notes: &[(u64, Note)],
+    goals: &[(u64, Text)],
+) -> Result<Seq<JournalLine>, AllocError>
+    requires { AreByLine goals.now }
+    ensures { IfOk result (λ all. mapped line_of all ≡ lines_told goals.now notes.now) }
+{
+    let mut all = Seq::new(alloc);
+    for note in notes {
+        all.push(line_for(alloc, goals, note.0, &note.1)?)?;
+    }
+    Ok(all)
+}
+
+/// The same, where the goals are in that order.
+fn lines_by(
+    alloc: Global,
+    notes: &[(u64, Note)],
+    goals: &[(u64, Text)],
+) -> Result<Seq<JournalLine>, LedgerFault>
+    ensures { Reads result (λ all. mapped line_of all ≡ lines_told goals.now notes.now) }
+{
+    if are_by_line(goals) {
+        let all = lines_for(alloc, notes, goals)?;
+        return Ok(all);
+    }
+    Err(LedgerFault::Store)
+}
+
+/// The lines of these notes, by the table of goals.
+fn tell_notes<S: Alter>(
+    conn: &mut Connection<S>,
+    alloc: Global,
+    notes: &[(u64, Note)],
+) -> Result<Seq<JournalLine>, LedgerFault>
+    ensures looked { (n : ℕ) (part : Part)
+        → Looked n part result (state S.Store conn.old) (state S.Store conn.new)
+        (λ base all. IsJournal base notes.now → mapped line_of all ≡ lines_of base) }
+    ensures idle { conn.old.in_transaction ≡ false → conn.new.in_transaction ≡ false }
+{
+    match all_targets(conn, alloc) {
+        Ok(goals) => lines_by(alloc, notes, goals.as_slice()),
+        Err(fault) => Err(fault),
+    }
+}
+
+/// The lines of the journal, in order.
+pub fn tell_journal<S: Alter>(
+    conn: &mut Connection<S>,
+    alloc: Global,
+) -> Result<Seq<JournalLine>, LedgerFault>
+    ensures looked { (n : ℕ) (part : Part)
+        → Looked n part result (state S.Store conn.old) (state S.Store conn.new)
+        (λ base all. mapped line_of all ≡ lines_of base) }
+    ensures idle { conn.old.in_transaction ≡ false → conn.new.in_transaction ≡ false }
+{
+    match all_notes(conn, alloc) {
+        Ok(notes) => tell_notes(conn, alloc, notes.as_slice()),
+        Err(fault) => Err(fault),
+    }
+}

@@ -1,0 +1,4 @@
+pub mod GapLemmas
+pub mod PieceLemmas
+pub mod PlaceLemmas
+pub mod SumLemmas

@@ -1,0 +1,6 @@
+mod Counted
+mod First
+mod Grouped
+mod Paged
+mod Rows
+mod Selects

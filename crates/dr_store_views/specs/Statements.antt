@@ -1,0 +1,23 @@
+-- The texts of the queries of counts, of the first moment, and of pages.
+use Rattle.std.specs.Prelude.{List, ℕ, codes}
+
+abbrev pub count_arrivals : List ℕ
+count_arrivals = codes "SELECT COUNT(*) FROM arrival"
+
+-- how many rows of a destination are in a state
+abbrev pub count_rows : List ℕ
+count_rows = codes "SELECT COUNT(*) FROM queue WHERE dest = ?1 AND state = ?2"
+
+-- the least moment at which a row of a destination is due
+abbrev pub first_moment : List ℕ
+first_moment = codes "SELECT due FROM queue WHERE dest = ?1 AND state = 0 ORDER BY due LIMIT 1"
+
+-- the rows of an instance
+abbrev pub rows_of : List ℕ
+rows_of = codes
+    "SELECT uid, dest, state, tries, due, cause FROM queue WHERE uid = ?1 ORDER BY dest"
+
+-- a page of the rows of a destination in states from ?2 to ?3, behind a uid
+abbrev pub page : List ℕ
+page = codes
+    "SELECT uid, dest, state, tries, due, cause FROM queue WHERE dest = ?1 AND state >= ?2 AND state <= ?3 AND uid > ?4 ORDER BY uid LIMIT ?5"

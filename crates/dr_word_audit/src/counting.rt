@@ -1,0 +1,164 @@
+//! How many lines and rows there are of a kind.
+ghost use Rattle.std.specs.Prelude.{◌≡◌, map as mapped};
+ghost use Rattle.dr_ledger.specs.Books.{is_success as is_a_success, since_adoption};
+ghost use Rattle.dr_ledger_history.specs.Lines.{line_of};
+ghost use Rattle.dr_run_open.specs.Queues.{is_so as is_at_stage};
+ghost use Rattle.dr_word_audit.specs.Figures.{figures, how_many_at, is_answer as is_an_answer};
+ghost use Rattle.dr_word_audit.specs.Figures.{is_dropping as is_a_dropping, is_first as is_a_first};
+ghost use Rattle.dr_word_audit.specs.Figures.{is_taken as is_a_taking};
+ghost use Rattle.dr_word_audit.specs.Telling.{is_told, number_told};
+
+use crate::naming::is_among;
+use dr_base::Text;
+use dr_ledger::{Outcome, Progress};
+use dr_ledger_history::JournalLine;
+use dr_run_open::{Row, RowStage};
+use dr_world_audit::replay::count_past;
+
+/// Of which lines there may be how many.
+#[derive(Clone, Copy, Debug)]
+pub enum Kind {
+    /// First arrivals.
+    First,
+    /// Rows that a person gave up.
+    Dropped,
+    /// Successes of nodes that aren't ours.
+    Answered,
+}
+
+/// How much a node has: first arrivals under the plan in force, kept instances, rows that wait and
+/// rows that are held; and under the plan in force rows that were given up, and successes of nodes
+/// that aren't ours.
+#[derive(Clone, Copy, Debug, Drop)]
+pub struct Figures {
+    pub arrivals: usize,
+    pub kept: usize,
+    pub waiting: usize,
+    pub held: usize,
+    pub dropped: usize,
+    pub others: usize,
+}
+
+/// Whether the status says that the receiver has the instance: success, or a warning (PS3.4 B.2.3,
+/// PS3.7 C.4).
+fn is_success(status: u16) -> bool
+    ensures { result ≡ is_a_success status }
+{
+    status == 0 || (0xB000 <= status && status <= 0xBFFF)
+}
+
+/// Whether the receiver has the instance.
+pub fn is_taken(outcome: Outcome) -> bool
+    ensures { result ≡ is_a_taking outcome }
+{
+    match outcome {
+        Outcome::Status(status) => is_success(status),
+        Outcome::Broken => false,
+        Outcome::NoContext => false,
+    }
+}
+
+/// Whether by the line one of the others answered with success.
+fn is_answer(others: &[Text], line: &JournalLine) -> bool
+    ensures { result ≡ is_an_answer others.now (line_of line.now) }
+{
+    match line {
+        JournalLine::Settling {
+            uid: _,
+            dest,
+            outcome,
+            now: _,
+        } => is_taken(*outcome) && is_among(others, dest),
+        JournalLine::Arrival { .. } => false,
+        JournalLine::Repeat { .. } => false,
+        JournalLine::Requeuing { .. } => false,
+        JournalLine::Dropping { .. } => false,
+        JournalLine::Forgetting { .. } => false,
+        JournalLine::Adoption => false,
+    }
+}
+
+/// Whether the line is of a first arrival.
+fn is_first(line: &JournalLine) -> bool
+    ensures { result ≡ is_a_first (line_of line.now) }
+{
+    matches!(line, JournalLine::Arrival { .. })
+}
+
+/// Whether by the line a person gave a row up.
+fn is_dropping(line: &JournalLine) -> bool
+    ensures { result ≡ is_a_dropping (line_of line.now) }
+{
+    matches!(line, JournalLine::Dropping { .. })
+}
+
+/// Whether the line is of this kind.
+fn is_of(sort: Kind, others: &[Text], line: &JournalLine) -> bool
+    ensures { result ≡ is_told sort others.now line.now }
+{
+    match sort {
+        Kind::First => is_first(line),
+        Kind::Dropped => is_dropping(line),
+        Kind::Answered => is_answer(others, line),
+    }
+}
+
+/// How many of the lines are of this kind.
+fn how_many(sort: Kind, others: &[Text], lines: &[JournalLine]) -> usize
+    ensures { result ≡ number_told sort others.now lines.now }
+{
+    let mut count = 0;
+    for line in lines {
+        if is_of(sort, others, line) {
+            count += 1;
+        }
+    }
+    count
+}
+
+/// Whether so far a row at this stage is.
+fn is_so(stage: RowStage, progress: Progress) -> bool
+    ensures { result ≡ is_at_stage stage progress }
+{
+    match stage {
+        RowStage::Waiting => matches!(progress, Progress::Waiting { .. }),
+        RowStage::Held => matches!(progress, Progress::Held(_)),
+        RowStage::Done => matches!(progress, Progress::Done),
+    }
+}
+
+/// How many of the rows are at this stage.
+fn how_many_rows(stage: RowStage, rows: &[Row]) -> usize
+    ensures { result ≡ how_many_at stage rows.now }
+{
+    let mut count = 0;
+    for row in rows {
+        if is_so(stage, row.1) {
+            count += 1;
+        }
+    }
+    count
+}
+
+/// The lines since the last adoption.
+fn since_of(lines: &[JournalLine]) -> &[JournalLine]
+    ensures { mapped line_of result.now ≡ since_adoption (mapped line_of lines.now) }
+{
+    let (_past, since) = lines.split_at(count_past(lines));
+    since
+}
+
+/// How much a node has with these lines, so many kept instances, and these rows.
+pub fn figures_of(others: &[Text], lines: &[JournalLine], kept: usize, rows: &[Row]) -> Figures
+    ensures { result ≡ figures others.now (mapped line_of lines.now) kept rows.now }
+{
+    let since = since_of(lines);
+    Figures {
+        arrivals: how_many(Kind::First, others, since),
+        kept,
+        waiting: how_many_rows(RowStage::Waiting, rows),
+        held: how_many_rows(RowStage::Held, rows),
+        dropped: how_many(Kind::Dropped, others, since),
+        others: how_many(Kind::Answered, others, since),
+    }
+}
