@@ -1,6 +1,6 @@
 -- A journal that was told is a ledger's.
 use Rattle.std.proofs.Common.{◌≡◌, inl, inr, ℕ, List, [], ◌∷◌, ◌++◌, ap, subst, sym, ◌∙◌}
-use Rattle.dr_ledger.specs.Books.{Adoption, Line}
+use Rattle.dr_ledger.specs.Books.{Line}
 use Rattle.dr_ledger.specs.Histories.{IsBeforeAdoption}
 use Rattle.dr_ledger.specs.Routings.{Routing}
 use Rattle.dr_ledger_history.specs.Contents.{Content}

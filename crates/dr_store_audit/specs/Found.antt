@@ -41,9 +41,9 @@ pub record IsFound (n : ℕ) (part : Part) (db : Trees) : Type 0 where
   pub there : (uid : Text)
       → ((body : List ℕ) × (map.get (bodies_of db) uid ≡ Some body)) ↔ IsNeeded (book_of db) uid
 
--- So they are; each instance has its key and its print; and the lines, which these notes say, are
--- numbered from 1 on.
-pub record IsAgreed (n : ℕ) (part : Part) (db : Trees) (notes : List (ℕ × Note)) : Type 0 where
+-- The tables hold together: they are a ledger's, each instance has its key and its print, and the
+-- lines, which these notes say, are numbered from 1 on.
+pub record HoldTogether (n : ℕ) (part : Part) (db : Trees) (notes : List (ℕ × Note)) : Type 0 where
   pub found : IsFound n part db
   pub together : (uid : Text)
       → is_some (map.get (keys_of db) uid) ≡ is_some (map.get (whole_prints_of db) uid)

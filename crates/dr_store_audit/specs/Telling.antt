@@ -1,5 +1,6 @@
 -- A journal that was told.
-use Rattle.std.specs.Prelude.{◌≡◌, ◌≢◌, ◌≤◌, ◌⊎◌, ℕ, List, [], ◌∷◌, ◌++◌, Some, slice_get}
+use Rattle.std.specs.Prelude.{◌≡◌, ◌≢◌, ◌≤◌, ◌<◌, ◌⊎◌, ℕ, List, [], ◌∷◌, ◌++◌, length}
+use Rattle.std.specs.Prelude.{slice_index_or}
 use Rattle.dr_ledger.specs.Books.{Book, Fold, Line}
 use Rattle.dr_ledger.specs.Histories.{IsJournalled}
 use Rattle.dr_ledger.specs.Routings.{Routing}
@@ -20,7 +21,8 @@ IsOver notes =
 -- from that place on no note is an adoption
 abbrev pub NoneIsOver : ℕ → List (ℕ × Note) → Type 0
 NoneIsOver from notes =
-    (k : ℕ) (e : ℕ × Note) → from ≤ k → slice_get notes k ≡ Some e → e.1 ≢ note.Adoption
+    (k : ℕ) (d : ℕ × Note)
+    → from ≤ k → k < length notes → (slice_index_or notes k d).1 ≢ note.Adoption
 
 -- what a line that isn't taken says of the tables: where it is no call that is accepted, they are
 -- no ledger's of the site

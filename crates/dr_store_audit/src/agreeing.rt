@@ -1,6 +1,6 @@
 //! Whether the lists of all tables are those of a ledger.
 ghost use Rattle.sqlite.specs.Tree.{Trees};
-ghost use Rattle.dr_store_audit.specs.Found.{AgreesAs, AreListsOf, IsAgreed};
+ghost use Rattle.dr_store_audit.specs.Found.{AgreesAs, AreListsOf, HoldTogether};
 
 use crate::fault::FindingFault;
 use crate::goals::{are_before, are_by_line};
@@ -34,17 +34,26 @@ pub fn agree(
 ) -> Result<(), FindingFault>
     ensures { (db : Trees)
         → AreListsOf db keys.now prints.now arrivals.now kept.now rows.now notes.now goals.now
-        → AgreesAs result (IsAgreed next site.now db notes.now) }
+        → AgreesAs result (HoldTogether next site.now db notes.now) }
 {
     if !are_by_line(goals) {
         return Err(FindingFault::OtherSite);
     }
-    let items = stock_all(alloc, keys, prints)?;
-    let history = tell(alloc, site, goals, notes)?;
+    let items = match stock_all(alloc, keys, prints) {
+        Ok(items) => items,
+        Err(fault) => return Err(fault),
+    };
+    let history = match tell(alloc, site, goals, notes) {
+        Ok(history) => history,
+        Err(fault) => return Err(fault),
+    };
     if !history.has_just(&items, arrivals, kept, rows) {
         return Err(FindingFault::OtherSite);
     }
-    let uids = needed(alloc, kept, rows)?;
+    let uids = match needed(alloc, kept, rows) {
+        Ok(uids) => uids,
+        Err(fault) => return Err(fault),
+    };
     if !are_whole(prints, &uids) {
         return Err(FindingFault::OtherSite);
     }

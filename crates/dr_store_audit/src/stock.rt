@@ -102,7 +102,9 @@ pub fn stock_all(
     }
     let mut items = BTreeMap::new(alloc);
     for (i, key) in keys.iter().enumerate() {
-        stock(&mut items, key, &prints[i])?;
+        if let Err(fault) = stock(&mut items, key, &prints[i]) {
+            return Err(fault);
+        }
     }
     Ok(items)
 }

@@ -1,6 +1,6 @@
 //! The journal, told to a history.
-ghost use Rattle.std.specs.Prelude.{◌≡◌, ◌≢◌, ◌≤◌, ◌⊎◌, ◌×◌, ◌↔◌, ◌++◌, ℕ, IsTrue, MatchResult, List};
-ghost use Rattle.std.specs.Prelude.{[], ◌∷◌, Some, length, slice_get, take};
+ghost use Rattle.std.specs.Prelude.{◌≡◌, ◌≢◌, ◌≤◌, ◌⊎◌, ◌↔◌, ◌++◌, ℕ, IsTrue, MatchResult, List};
+ghost use Rattle.std.specs.Prelude.{[], ◌∷◌, length, take};
 ghost use Rattle.dr_ledger.specs.Books.{Fold, Line, empty_book};
 ghost use Rattle.dr_ledger.specs.Histories.{IsHistory, IsPast};
 ghost use Rattle.dr_ledger.specs.SiteRoutes.{site_routing};
@@ -127,7 +127,10 @@ fn tell_all_past(
     let mut history = History::new(alloc);
     for entry in notes {
         let line = line_for(alloc, goals, entry.0, &entry.1)?;
-        history = tell_past(history, line)?;
+        history = match tell_past(history, line) {
+            Ok(history) => history,
+            Err(fault) => return Err(fault),
+        };
     }
     Ok(history)
 }
@@ -156,7 +159,10 @@ fn tell_all_since(
     let mut history = told;
     for entry in notes {
         let line = line_for(alloc, goals, entry.0, &entry.1)?;
-        history = tell_since(history, site, line)?;
+        history = match tell_since(history, site, line) {
+            Ok(history) => history,
+            Err(fault) => return Err(fault),
+        };
     }
     Ok(history)
 }
@@ -179,7 +185,8 @@ pub fn tell(
         → IsNoJournal (site_routing site.now) (lines_told goals.now notes.now)) }
 {
     let (past, since) = notes.split_at(count_past(notes));
-    let told = tell_all_past(alloc, goals, past)?;
-    let all = tell_all_since(alloc, site, goals, since, told)?;
-    Ok(all)
+    match tell_all_past(alloc, goals, past) {
+        Ok(told) => tell_all_since(alloc, site, goals, since, told),
+        Err(fault) => Err(fault),
+    }
 }
