@@ -1,4 +1,6 @@
+mod Just
 pub mod Leaving
 pub mod Mapped
+pub mod Ordered
 pub mod Planned
 pub mod Telling

@@ -1,5 +1,7 @@
 -- A book but for its journal.
-use Rattle.std.specs.Prelude.{List, []}
+use Rattle.std.specs.Prelude.{◌≡◌, Bool, IsTrue, List, []}
+use Rattle.std.specs.List.Sorted.{IsStrictlySortedBy}
+use Rattle.std.specs.Map.{keys_of}
 use Rattle.std.specs.FinMap as map
 use Rattle.std.specs.FinMap.{FinMap}
 use Rattle.std.specs.FinSet as set
@@ -47,3 +49,17 @@ all_of items arrivals kept rows = record {
   kept = set.from_list kept;
   rows = map.from_entries rows;
 }
+
+-- the lists are in the order of their keys, each key once
+pub record AreInOrder (arrivals : List Pair) (kept : List Text)
+    (rows : List (Pair × Progress)) : Type 0 where
+  pub arrivals_rise : IsStrictlySortedBy pair_cmp arrivals
+  pub kept_rise : IsStrictlySortedBy text_cmp kept
+  pub rows_rise : IsStrictlySortedBy pair_cmp (keys_of rows)
+
+-- Whether a node has just these: where it is said so, it has; and where it has just these, by lists
+-- that are in order, it is said so.
+pub record HasJust (c : Content) (items : FinMap text_cmp Instance) (arrivals : List Pair)
+    (kept : List Text) (rows : List (Pair × Progress)) (said : Bool) : Type 0 where
+  pub has : IsTrue said → c ≡ all_of items arrivals kept rows
+  pub says : AreInOrder arrivals kept rows → c ≡ all_of items arrivals kept rows → IsTrue said

@@ -1,5 +1,9 @@
 //! Trees and lists that are the same.
-ghost use Rattle.std.specs.Prelude.{◌≡◌, IsTrue};
+ghost use Rattle.std.specs.Prelude.{◌≡◌, ◌↔◌, IsTrue};
+ghost use Rattle.std.specs.BTreeMap as map;
+ghost use Rattle.std.specs.BTreeSet as set;
+ghost use Rattle.dr_base.specs.Texts.{text_cmp};
+ghost use Rattle.dr_ledger.specs.Pairs.{pair_cmp};
 
 use dr_base::Text;
 use dr_ledger::{Instance, Progress};
@@ -7,14 +11,14 @@ use std::collections::{BTreeMap, BTreeSet};
 
 /// Whether the uid is that one.
 fn is_uid(uid: &Text, other: &Text) -> bool
-    ensures { IsTrue result → uid.now ≡ other.now }
+    ensures { IsTrue result ↔ (uid.now ≡ other.now) }
 {
     uid == other
 }
 
 /// Whether they are one instance.
-fn is_same(instance: &Instance, other: &Instance) -> bool
-    ensures { IsTrue result → instance.now ≡ other.now }
+pub fn is_same(instance: &Instance, other: &Instance) -> bool
+    ensures { IsTrue result ↔ (instance.now ≡ other.now) }
 {
     instance.uid == other.uid
         && instance.key == other.key
@@ -22,9 +26,10 @@ fn is_same(instance: &Instance, other: &Instance) -> bool
         && instance.digest == other.digest
 }
 
-/// Whether they are the same instances.
+/// Whether they are the same instances. Both trees are in the order of their keys.
 pub fn are_items(items: &BTreeMap<Text, Instance>, others: &BTreeMap<Text, Instance>) -> bool
-    ensures { IsTrue result → items.now.entries ≡ others.now.entries }
+    ensures same { IsTrue result ↔ (items.now.entries ≡ others.now.entries) }
+    ensures ordered { map.IsOrdered text_cmp items.now × map.IsOrdered text_cmp others.now }
 {
     let mut rest = others.iter();
     for (uid, instance) in items {
@@ -40,14 +45,15 @@ pub fn are_items(items: &BTreeMap<Text, Instance>, others: &BTreeMap<Text, Insta
 
 /// Whether they are one arrival.
 fn is_arrival(arrival: &(Text, Text), other: &(Text, Text)) -> bool
-    ensures { IsTrue result → arrival.now ≡ other.now }
+    ensures { IsTrue result ↔ (arrival.now ≡ other.now) }
 {
     arrival.0 == other.0 && arrival.1 == other.1
 }
 
-/// Whether these are all arrivals.
+/// Whether these are all arrivals, in their order.
 pub fn are_arrivals(arrivals: &BTreeSet<(Text, Text)>, list: &[(Text, Text)]) -> bool
-    ensures { IsTrue result → arrivals.now.keys ≡ list.now }
+    ensures same { IsTrue result ↔ (arrivals.now.keys ≡ list.now) }
+    ensures ordered { set.IsOrdered pair_cmp arrivals.now }
 {
     let mut rest = list;
     for arrival in arrivals {
@@ -62,9 +68,10 @@ pub fn are_arrivals(arrivals: &BTreeSet<(Text, Text)>, list: &[(Text, Text)]) ->
     rest.is_empty()
 }
 
-/// Whether these are all kept uids.
+/// Whether these are all kept uids, in their order.
 pub fn are_kept(kept: &BTreeSet<Text>, list: &[Text]) -> bool
-    ensures { IsTrue result → kept.now.keys ≡ list.now }
+    ensures same { IsTrue result ↔ (kept.now.keys ≡ list.now) }
+    ensures ordered { set.IsOrdered text_cmp kept.now }
 {
     let mut rest = list;
     for uid in kept {
@@ -81,14 +88,15 @@ pub fn are_kept(kept: &BTreeSet<Text>, list: &[Text]) -> bool
 
 /// Whether they are one row.
 fn is_row(at: &(Text, Text), row: Progress, other: &((Text, Text), Progress)) -> bool
-    ensures { IsTrue result → (at.now ≡ other.now.0) × (row ≡ other.now.1) }
+    ensures { IsTrue result ↔ ((at.now ≡ other.now.0) × (row ≡ other.now.1)) }
 {
     is_arrival(at, &other.0) && row == other.1
 }
 
-/// Whether these are all rows.
+/// Whether these are all rows, in their order.
 pub fn are_rows(rows: &BTreeMap<(Text, Text), Progress>, list: &[((Text, Text), Progress)]) -> bool
-    ensures { IsTrue result → rows.now.entries ≡ list.now }
+    ensures same { IsTrue result ↔ (rows.now.entries ≡ list.now) }
+    ensures ordered { map.IsOrdered pair_cmp rows.now }
 {
     let mut rest = list;
     for (at, row) in rows {

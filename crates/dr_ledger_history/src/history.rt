@@ -1,11 +1,11 @@
 //! What a journal's lines make of a node.
-ghost use Rattle.std.specs.Prelude.{◌≡◌, IsTrue, List, [], option_copied};
+ghost use Rattle.std.specs.Prelude.{◌≡◌, List, [], option_copied};
 ghost use Rattle.std.specs.FinMap as map;
 ghost use Rattle.std.specs.FinSet as set;
 ghost use Rattle.dr_base.specs.Texts.{text_cmp};
 ghost use Rattle.dr_ledger.specs.Books.{Line};
 ghost use Rattle.dr_ledger.specs.SiteRoutes.{site_routing};
-ghost use Rattle.dr_ledger_history.specs.Contents.{all_of, content};
+ghost use Rattle.dr_ledger_history.specs.Contents.{HasJust, content};
 ghost use Rattle.dr_ledger_history.specs.Lines.{line_of};
 ghost use Rattle.dr_ledger_history.specs.Told.{IsTold, IsToldSince, Tells, TellsSince};
 ghost use Rattle.dr_ledger_history.specs.Trees.{as_map};
@@ -106,7 +106,7 @@ impl History {
     }
 
     /// Whether these are all of it: the instances by uid, and the lists of arrivals, of kept uids
-    /// and of rows in the order of their keys.
+    /// and of rows. It says so of lists that are in the order of their keys.
     pub fn has_just(
         &self,
         items: &BTreeMap<Text, Instance>,
@@ -114,9 +114,8 @@ impl History {
         kept: &[Text],
         rows: &[((Text, Text), Progress)],
     ) -> bool
-        ensures { IsTrue result
-            → content self.now.parts
-            ≡ all_of (as_map text_cmp items.now) arrivals.now kept.now rows.now }
+        ensures { HasJust (content self.now.parts) (as_map text_cmp items.now) arrivals.now kept.now
+            rows.now result }
     {
         self.parts.has_just(items, arrivals, kept, rows)
     }

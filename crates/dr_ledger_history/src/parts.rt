@@ -5,13 +5,13 @@ ghost use Rattle.std.specs.FinSet as set;
 ghost use Rattle.dr_ledger.specs.Books.{Arrival, Adoption, Dropping, Forgetting, Repeat, Requeuing};
 ghost use Rattle.dr_ledger.specs.Books.{Settling, after, empty_book};
 ghost use Rattle.dr_ledger.specs.Histories.{IsSame};
-ghost use Rattle.dr_ledger_history.specs.Contents.{all_of, book_of, content, content_of};
+ghost use Rattle.dr_ledger_history.specs.Contents.{HasJust, book_of, content, content_of};
 ghost use Rattle.dr_ledger_history.specs.Lines.{line_of};
 ghost use Rattle.dr_ledger_history.specs.Takings.{Takes};
 ghost use Rattle.dr_ledger_history.specs.Trees.{as_map};
 ghost use Rattle.dr_base.specs.Texts.{text_cmp};
 
-use crate::comparing::{are_arrivals, are_items, are_kept, are_rows};
+use crate::comparing::{are_arrivals, are_items, are_kept, are_rows, is_same};
 use crate::letting::{let_callers_go, let_rows_go, take_item};
 use crate::line::{HistoryFault, JournalLine};
 use crate::trees::{clear, fill, prune, put_arrival, put_item, put_kept, put_row};
@@ -244,7 +244,7 @@ impl Parts {
         ensures { IsTrue result ↔ IsSame (book_of (content self.now)) instance.now }
     {
         match self.item(&instance.uid) {
-            Some(held) => is_instance(held, instance),
+            Some(held) => is_same(held, instance),
             None => true,
         }
     }
@@ -277,7 +277,7 @@ impl Parts {
         self.rows.get(at).copied()
     }
 
-    /// Whether these are all of them.
+    /// Whether these are all of them. It says so of lists that are in the order of their keys.
     pub fn has_just(
         &self,
         items: &BTreeMap<Text, Instance>,
@@ -285,22 +285,12 @@ impl Parts {
         kept: &[Text],
         rows: &[((Text, Text), Progress)],
     ) -> bool
-        ensures { IsTrue result
-            → content self.now ≡ all_of (as_map text_cmp items.now) arrivals.now kept.now rows.now }
+        ensures { HasJust (content self.now) (as_map text_cmp items.now) arrivals.now kept.now
+            rows.now result }
     {
         if !are_items(&self.items, items) || !are_arrivals(&self.arrivals, arrivals) {
             return false;
         }
         are_kept(&self.kept, kept) && are_rows(&self.rows, rows)
     }
-}
-
-/// Whether they are one instance.
-fn is_instance(one: &Instance, other: &Instance) -> bool
-    ensures { IsTrue result ↔ (one.now ≡ other.now) }
-{
-    one.uid == other.uid
-        && one.key == other.key
-        && one.size == other.size
-        && one.digest == other.digest
 }

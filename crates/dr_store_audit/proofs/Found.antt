@@ -28,14 +28,14 @@ use Rattle.dr_ledger.proofs.Maps.{IsExact, text_pairs, texts}
 use Rattle.dr_ledger.proofs.Solid.{journals_are_solid}
 use Rattle.dr_ledger_history.specs.Contents.{Content, all_of, content_of}
 use Rattle.dr_ledger_history.proofs.Telling.{all_but_the_lines}
-use Rattle.dr_store_schema.specs.Books.{all_kept_in, arrivals_in, book_of, items_of, names_in, rows_of}
+use Rattle.dr_store_schema.specs.Books.{all_kept_in, arrivals_in, book_of, names_in, rows_of}
 use Rattle.dr_store_writes.proofs.Maps.{equal}
 use Rattle.dr_store_reads.specs.declared.finding.Print.{Print}
 use Rattle.dr_store_lists.specs.declared.listing.Note.{Note}
 use Rattle.dr_store_lists.specs.Lists.{Goal, goals_of}
 use Rattle.dr_store_lists.proofs.Alike.{goals_are_names}
-use Rattle.dr_store_audit.specs.Found.{AreListsOf, IsFound}
-use Rattle.dr_store_audit.specs.Journal.{lines_told}
+use Rattle.dr_store_audit.specs.Found.{AreListsOf, HoldTogether, IsFound}
+use Rattle.dr_store_audit.specs.Journal.{CountUp, lines_told}
 use Rattle.dr_store_audit.specs.Needs.{IsOpenIn}
 use Rattle.dr_store_audit.specs.Stock.{Stocks}
 use Rattle.dr_store_audit.specs.Telling.{IsToldJournal}
@@ -43,7 +43,7 @@ use Rattle.dr_store_audit.proofs.Journals.{lines_are}
 use Rattle.dr_store_audit.proofs.Needed.{there}
 use Rattle.dr_store_audit.proofs.Stocked.{both_there, stocked}
 
-same_bool : (a b : Bool) → (a ≡ true → b ≡ true) → (b ≡ true → a ≡ true) → a ≡ b
+pub same_bool : (a b : Bool) → (a ≡ true → b ≡ true) → (b ≡ true → a ≡ true) → a ≡ b
 same_bool true b f h = sym (f refl)
 same_bool false true f h = absurd (true≢false (sym (h refl)))
 same_bool false false f h = refl
@@ -58,21 +58,24 @@ module _ {K : Type 0} {R : K → K → Ordering} (x : IsExact R) where
   as_mapped : {V : Type 0} (m : FinMap R V) → map.from_entries (map.entries m) ≡ m
   as_mapped m = map.same_map x.total x.exact (map.from_entries (map.entries m)) m (λ q. map.get-from_entries x.total (map.entries m) q ∙ sym (map.get-entries m q))
 
+-- what all lists make is what the tables' book has
+module _ (db : Trees) (keys : List (Text × Key)) (prints : List (Text × Print)) (arrivals : List Pair) (kept : List Text) (rows : List (Pair × Progress)) (notes : List (ℕ × Note)) (goals : List Goal)
+    (are : AreListsOf db keys prints arrivals kept rows notes goals) (items : FinMap text_cmp Instance) (stocks : Stocks map.empty keys prints items) where
+  pub listed_is : all_of items arrivals kept rows ≡ content_of (book_of db)
+  listed_is = λ i. record {
+    items = stocked db keys prints items are.keys_are are.prints_are stocks i;
+    arrivals = as_listed text_pairs (arrivals_in (db 5)) arrivals are.arrivals_are i;
+    kept = as_listed texts (all_kept_in (db 7)) kept are.kept_are i;
+    rows = (ap map.from_entries are.rows_are ∙ as_mapped text_pairs (rows_of db)) i;
+  }
+
 module _ (n : ℕ) (part : Part) (db : Trees) (keys : List (Text × Key)) (prints : List (Text × Print)) (arrivals : List Pair) (kept : List Text) (rows : List (Pair × Progress)) (notes : List (ℕ × Note)) (goals : List Goal)
     (are : AreListsOf db keys prints arrivals kept rows notes goals) (items : FinMap text_cmp Instance) (stocks : Stocks map.empty keys prints items) (c : Content)
     (journal : IsToldJournal (site_routing part) (lines_told goals notes) c) (all : c ≡ all_of items arrivals kept rows) (uids : FinSet text_cmp)
     (are_needed : (q : Text) → (set.contains uids q ≡ true) ↔ (Contains kept q ⊎ IsOpenIn rows q)) (whole : AllByRecursion (λ (p : Text × Print). p.1.whole ≡ set.contains uids p.0) prints) (before : All (λ (g : Goal). g.0 < n) goals) where
-  items_are : items ≡ items_of db
-  items_are = stocked db keys prints items are.keys_are are.prints_are stocks
-
   -- all but the lines
   content_is : content_of (book_of db) ≡ c
-  content_is = sym (all ∙ (λ i. record {
-    items = items_are i;
-    arrivals = as_listed text_pairs (arrivals_in (db 5)) arrivals are.arrivals_are i;
-    kept = as_listed texts (all_kept_in (db 7)) kept are.kept_are i;
-    rows = (ap map.from_entries are.rows_are ∙ as_mapped text_pairs (rows_of db)) i;
-  }))
+  content_is = sym (all ∙ listed_is db keys prints arrivals kept rows notes goals are items stocks)
 
   book_is : book_of db ≡ Fold (lines_told goals notes)
   book_is = all_but_the_lines (book_of db) (Fold (lines_told goals notes)) (content_is ∙ journal.fold) (lines_are db goals are.goals_are notes are.notes_are ∙ sym (folds_have_their_lines (lines_told goals notes)))
@@ -95,9 +98,16 @@ module _ (n : ℕ) (part : Part) (db : Trees) (keys : List (Text × Key)) (print
           absent false is = refl
           absent true is = let low = All-contains (λ (g : Goal). g.0 < n) goals (m, q) before ((are.goals_are.each (m, q)).1 is) in absurd (omega (arith, low, late))
 
-  pub found : IsFound n part db
+  found : IsFound n part db
   found = record {
     ahead = nowhere;
     journalled = journalled;
     there = there db prints kept rows uids are.prints_are are.kept_are are.rows_are (both_there db keys prints items are.keys_are are.prints_are stocks) are_needed whole (journals_are_solid (site_routing part) journalled.0 (book_of db) journalled.1);
+  }
+
+  pub agreed : CountUp 1 notes → HoldTogether n part db notes
+  agreed numbered = record {
+    found = found;
+    together = both_there db keys prints items are.keys_are are.prints_are stocks;
+    numbered = numbered;
   }

@@ -5,6 +5,9 @@ mod Goaled
 pub mod Journals
 pub mod Needed
 pub mod Less
+mod Passing
+mod Rising
+mod Split
 mod Stocked
 mod Together
 mod Told

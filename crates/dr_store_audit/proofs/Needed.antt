@@ -36,7 +36,7 @@ use Rattle.dr_store_audit.specs.Needs.{IsOpenIn}
 inside : {X : Type 0} (x y : X) → Some x ≡ Some y → x ≡ y
 inside x y e = cc
 
-value_of : {X : Type 0} (o : Option X) → is_some o ≡ true → (x : X) × (o ≡ Some x)
+pub value_of : {X : Type 0} (o : Option X) → is_some o ≡ true → (x : X) × (o ≡ Some x)
 value_of None h = absurd (true≢false (sym h))
 value_of (Some x) h = (x, refl)
 
@@ -63,7 +63,7 @@ module _ {K V : Type 0} {R : K → K → Ordering} (x : IsExact R) where
   ]
 
   -- and what is in the list is found at its key
-  listed_found : (es : List (K × V)) → T (is_sorted R es) → (k : K) (v : V) → Contains es (k, v) → find R k es ≡ Some v
+  pub listed_found : (es : List (K × V)) → T (is_sorted R es) → (k : K) (v : V) → Contains es (k, v) → find R k es ≡ Some v
   listed_found [] sorted k v there = absurd (nothing_in_nil (k, v) there)
   listed_found (e ∷ es) sorted k v there = elim (Contains-cons_cases e es (k, v) there) [
     | inl same ↦ (
@@ -92,7 +92,7 @@ same_keys key f g q (r ∷ rows) = go (eq_by_cmp text_cmp q (key r)) (same_keys 
     go true later = refl
     go false later = later
 
-content_there : (db : Trees) (q : Text) → is_some (map.get (contents_in (db 1)) q) ≡ is_some (map.get (keys_of db) q)
+pub content_there : (db : Trees) (q : Text) → is_some (map.get (contents_in (db 1)) q) ≡ is_some (map.get (keys_of db) q)
 content_there db q =
     ap is_some (map.get-from_entries nat_list_cmp_total (mapped content_in (db 1)) q)
     ∙ same_keys (λ r. text_in (column r 1)) (λ r. bytes_in (column r 6)) key_in q (db 1)
@@ -117,19 +117,21 @@ some_inner : {X Y : Type 0} (f : X → Y) (o : Option X) (y : Y) → Some y ≡ 
 some_inner f None y h = absurd (let e = h in cc)
 some_inner f (Some x) y h = refl
 
-module _ (db : Trees) (prints : List (Text × Print)) (kept : List Text) (rows : List (Pair × Progress)) (uids : FinSet text_cmp) (prints_are : prints ≡ map.entries (whole_prints_of db))
-    (kept_are : Lists text_cmp (all_kept_in (db 7)) kept) (rows_are : rows ≡ map.entries (rows_of db)) (both : (q : Text) → is_some (map.get (keys_of db) q) ≡ is_some (map.get (whole_prints_of db) q))
-    (are_needed : (q : Text) → (set.contains uids q ≡ true) ↔ (Contains kept q ⊎ IsOpenIn rows q)) (whole : AllByRecursion (λ (p : Text × Print). p.1.whole ≡ set.contains uids p.0) prints) (solid : IsSolid (book_of db)) where
-  needs : (q : Text) → Contains kept q ⊎ IsOpenIn rows q → IsNeeded (book_of db) q
+-- what the lists need is what the book needs
+module _ (db : Trees) (kept : List Text) (rows : List (Pair × Progress)) (kept_are : Lists text_cmp (all_kept_in (db 7)) kept) (rows_are : rows ≡ map.entries (rows_of db)) where
+  pub needs : (q : Text) → Contains kept q ⊎ IsOpenIn rows q → IsNeeded (book_of db) q
   needs q (inl k) = inl ((kept_are.each q).0 k)
   needs q (inr o) =
       inr (o.0, o.1, map.get-entries (rows_of db) (q, o.0) ∙ listed_found text_pairs (map.entries (rows_of db)) (map.entries_sorted (rows_of db)) (q, o.0) o.1 (subst (λ xs. Contains xs ((q, o.0), o.1)) rows_are o.2), o.3)
 
-  needed_so : (q : Text) → IsNeeded (book_of db) q → Contains kept q ⊎ IsOpenIn rows q
+  pub needed_so : (q : Text) → IsNeeded (book_of db) q → Contains kept q ⊎ IsOpenIn rows q
   needed_so q (inl k) = inl ((kept_are.each q).1 k)
   needed_so q (inr o) =
       inr (o.0, o.1, subst (λ xs. Contains xs ((q, o.0), o.1)) (sym rows_are) (found_listed text_pairs (q, o.0) (map.entries (rows_of db)) o.1 (sym (map.get-entries (rows_of db) (q, o.0)) ∙ o.2)), o.3)
 
+module _ (db : Trees) (prints : List (Text × Print)) (kept : List Text) (rows : List (Pair × Progress)) (uids : FinSet text_cmp) (prints_are : prints ≡ map.entries (whole_prints_of db))
+    (kept_are : Lists text_cmp (all_kept_in (db 7)) kept) (rows_are : rows ≡ map.entries (rows_of db)) (both : (q : Text) → is_some (map.get (keys_of db) q) ≡ is_some (map.get (whole_prints_of db) q))
+    (are_needed : (q : Text) → (set.contains uids q ≡ true) ↔ (Contains kept q ⊎ IsOpenIn rows q)) (whole : AllByRecursion (λ (p : Text × Print). p.1.whole ≡ set.contains uids p.0) prints) (solid : IsSolid (book_of db)) where
   -- a print says whether the data set is needed
   said : (q : Text) (p : Print) → map.get (whole_prints_of db) q ≡ Some p → p.whole ≡ set.contains uids q
   said q p there =
@@ -145,12 +147,12 @@ module _ (db : Trees) (prints : List (Text × Print)) (kept : List Text) (rows :
     λ body.
         let is = both_parts (is_whole (map.get (wholes_in (db 3)) q)) (map.get (contents_in (db 1)) q) body.0 (sym (body_at (contents_in (db 1)) (wholes_in (db 3)) q) ∙ body.1) in
         let p = whole_print (map.get (whole_prints_of db) q) (sym (whole_is db q) ∙ is) in
-        needs q ((are_needed q).0 (sym (said q p.0 p.1) ∙ p.2)),
+        needs db kept rows kept_are rows_are q ((are_needed q).0 (sym (said q p.0 p.1) ∙ p.2)),
     λ needed.
         let i = item_there q needed in
         let key : is_some (map.get (keys_of db) q) ≡ true = some_inner (instance_by (prints_of db) q) (map.get (keys_of db) q) i.0 (sym i.1 ∙ (keys_and_prints db).items q) in
         let p = value_of (map.get (whole_prints_of db) q) (sym (both q) ∙ key) in
-        let is : p.0.whole ≡ true = said q p.0 p.1 ∙ (are_needed q).1 (needed_so q needed) in
+        let is : p.0.whole ≡ true = said q p.0 p.1 ∙ (are_needed q).1 (needed_so db kept rows kept_are rows_are q needed) in
         let w : is_whole (map.get (wholes_in (db 3)) q) ≡ true = whole_is db q ∙ ap (λ o. unwrap_or (option_map (λ (y : Print). y.whole) o) false) p.1 ∙ is in
         let b = value_of (map.get (contents_in (db 1)) q) (content_there db q ∙ key) in
         (b.0, body_at (contents_in (db 1)) (wholes_in (db 3)) q ∙ ap (λ x. cond x (map.get (contents_in (db 1)) q) None) w ∙ b.1),

@@ -1,9 +1,10 @@
 -- The instances that keys and prints make are those of the tables.
-use Rattle.std.proofs.Common.{◌≡◌, inl, inr, List, [], ◌∷◌, Bool, true, false, cond, T, Option, None, Some, is_some, option_map, refl, sym, ap, subst, ◌∙◌}
+use Rattle.std.proofs.Common.{◌≡◌, ◌<◌, inl, inr, ℕ, zero, suc, length, arith, slice_index_or, List, [], ◌∷◌, Bool, true, false, cond, T, Option, None, Some, is_some, option_map, refl, sym, ap, subst, ◌∙◌}
 use Rattle.std.specs.declared.cmp.Ordering.TheVariants.{Less}
 use Rattle.std.specs.Ordering.{eq_by_cmp, is_eq, is_lt}
 use Rattle.std.specs.Cmp.Lexicographic.{nat_list_cmp_total}
 use Rattle.std.specs.FinMap as map
+use Rattle.std.specs.Map.{keys_of as fields_of}
 use Rattle.std.specs.FinMap.{FinMap, find}
 use Rattle.std.specs.FinMap.Entries.{below_all, is_sorted}
 use Rattle.std.proofs.lemmas.Map.Lookups.{exact_bytes}
@@ -25,6 +26,22 @@ none_above k [] h = refl
 none_above k (e ∷ es) h =
     let less : text_cmp k e.0 ≡ Less = its_less _ (first_T (is_lt (text_cmp k e.0)) _ h) in
     ap (λ o. cond (is_eq o) (Some e.1) (find text_cmp k es)) less ∙ none_above k es (second_T (is_lt (text_cmp k e.0)) _ h)
+
+first_uid : (x y : Text) (xs ys : List Text) → x ∷ xs ≡ y ∷ ys → x ≡ y
+first_uid x y xs ys e = cc
+
+rest_uids : (x y : Text) (xs ys : List Text) → x ∷ xs ≡ y ∷ ys → xs ≡ ys
+rest_uids x y xs ys e = cc
+
+some_uids : (x : Text) (xs : List Text) → x ∷ xs ≡ [] → ⊥
+some_uids x xs e = cc
+
+-- two lists that go by the same uids have the same one in each place
+pub uid_at : {V W : Type 0} (ks : List (Text × V)) (ps : List (Text × W)) (i : ℕ) (k : Text × V) (p : Text × W) → fields_of ks ≡ fields_of ps → i < length ks → (slice_index_or ks i k).0 ≡ (slice_index_or ps i p).0
+uid_at [] ps i k p same low = absurd (omega (arith, low))
+uid_at (x ∷ ks) [] i k p same low = absurd (some_uids x.0 (fields_of ks) same)
+uid_at (x ∷ ks) (y ∷ ps) zero k p same low = first_uid x.0 y.0 (fields_of ks) (fields_of ps) same
+uid_at (x ∷ ks) (y ∷ ps) (suc i) k p same low = uid_at ks ps i k p (rest_uids x.0 y.0 (fields_of ks) (fields_of ps) same) (omega (arith, low))
 
 -- the instance of a key and a print
 abbrev joined : Text → Option Key → Option Print → Option Instance

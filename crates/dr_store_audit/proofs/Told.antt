@@ -1,6 +1,6 @@
 -- A journal that was told is a ledger's.
 use Rattle.std.proofs.Common.{◌≡◌, inl, inr, ℕ, List, [], ◌∷◌, ◌++◌, ap, subst, sym, ◌∙◌}
-use Rattle.dr_ledger.specs.Books.{Adoption, Line}
+use Rattle.dr_ledger.specs.Books.{Line}
 use Rattle.dr_ledger.specs.Histories.{IsBeforeAdoption}
 use Rattle.dr_ledger.specs.Routings.{Routing}
 use Rattle.dr_ledger_history.specs.Contents.{Content}
@@ -21,7 +21,7 @@ pub since_alike : {routing : Routing} {past lines others : List Line} {c : Conte
 since_alike {routing = routing} {past = past} {c = c} same told = subst (λ all. IsToldSince routing past all c) (sym same) told
 
 -- lines of notes that are over are over
-over : (goals : List Goal) (notes : List (ℕ × Note)) → IsOver notes → IsBeforeAdoption (lines_told goals notes)
+pub over : (goals : List Goal) (notes : List (ℕ × Note)) → IsOver notes → IsBeforeAdoption (lines_told goals notes)
 over goals notes (inl none) = inl (ap (lines_told goals) none)
 over goals notes (inr it) = inr (lines_told goals it.0, ap (lines_told goals) it.2 ∙ lines_join goals it.0 ((it.1, note.Adoption) ∷ []))
 

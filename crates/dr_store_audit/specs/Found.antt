@@ -1,5 +1,5 @@
 -- What is found to be a ledger's.
-use Rattle.std.specs.Prelude.{◌≡◌, ◌↔◌, ℕ, List, Some}
+use Rattle.std.specs.Prelude.{◌≡◌, ◌↔◌, ℕ, List, Some, Result, Ok, Err, is_some}
 use Rattle.std.specs.FinMap as map
 use Rattle.sqlite.specs.Tree.{Trees}
 use Rattle.dr_base.specs.Texts.{Text, text_cmp}
@@ -17,6 +17,9 @@ use Rattle.dr_store_lists.specs.declared.listing.Note.{Note}
 use Rattle.dr_store_lists.specs.Lists.{Goal, IsJournal, goal_cmp, goals_of, keys_of}
 use Rattle.dr_store_lists.specs.Lists.{whole_prints_of}
 use Rattle.dr_store_changes.specs.Bringing.{GoNowhere}
+use Rattle.dr_store_audit.specs.Journal.{CountUp}
+use Rattle.dr_store_audit.specs.declared.fault.FindingFault.{FindingFault}
+use Rattle.dr_store_audit.specs.declared.fault.FindingFault.TheVariants as finding
 
 -- the lists of all tables but site
 pub record AreListsOf (db : Trees) (keys : List (Text × Key)) (prints : List (Text × Print))
@@ -37,3 +40,18 @@ pub record IsFound (n : ℕ) (part : Part) (db : Trees) : Type 0 where
   pub journalled : IsJournalled (site_routing part) (book_of db)
   pub there : (uid : Text)
       → ((body : List ℕ) × (map.get (bodies_of db) uid ≡ Some body)) ↔ IsNeeded (book_of db) uid
+
+-- The tables hold together: they are a ledger's, each instance has its key and its print, and the
+-- lines, which these notes say, are numbered from 1 on.
+pub record HoldTogether (n : ℕ) (part : Part) (db : Trees) (notes : List (ℕ × Note)) : Type 0 where
+  pub found : IsFound n part db
+  pub together : (uid : Text)
+      → is_some (map.get (keys_of db) uid) ≡ is_some (map.get (whole_prints_of db) uid)
+  pub numbered : CountUp 1 notes
+
+-- whether tables agree: it is said so where they do, and the site is another one's only where they
+-- don't
+abbrev pub AgreesAs : Result (Unit {0}) FindingFault → Type 0 → Type 0
+AgreesAs (Ok done) Agreed = Agreed
+AgreesAs (Err finding.OtherSite) Agreed = Agreed → ⊥
+AgreesAs (Err finding.Memory) Agreed = Unit {0}

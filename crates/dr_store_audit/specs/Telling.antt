@@ -1,6 +1,7 @@
 -- A journal that was told.
-use Rattle.std.specs.Prelude.{◌≡◌, ◌⊎◌, ℕ, List, [], ◌∷◌, ◌++◌}
-use Rattle.dr_ledger.specs.Books.{Fold, Line}
+use Rattle.std.specs.Prelude.{◌≡◌, ◌≢◌, ◌≤◌, ◌<◌, ◌⊎◌, ℕ, List, [], ◌∷◌, ◌++◌, length}
+use Rattle.std.specs.Prelude.{slice_index_or}
+use Rattle.dr_ledger.specs.Books.{Book, Fold, Line}
 use Rattle.dr_ledger.specs.Histories.{IsJournalled}
 use Rattle.dr_ledger.specs.Routings.{Routing}
 use Rattle.dr_ledger_history.specs.Contents.{Content, content_of}
@@ -17,6 +18,12 @@ IsOver notes =
     (notes ≡ [])
     ⊎ ((earlier : List (ℕ × Note)) × (n : ℕ) × (notes ≡ earlier ++ (n, note.Adoption) ∷ []))
 
+-- from that place on no note is an adoption
+abbrev pub NoneIsOver : ℕ → List (ℕ × Note) → Type 0
+NoneIsOver from notes =
+    (k : ℕ) (d : ℕ × Note)
+    → from ≤ k → k < length notes → (slice_index_or notes k d).1 ≢ note.Adoption
+
 -- what a line that isn't taken says of the tables: where it is no call that is accepted, they are
 -- no ledger's of the site
 abbrev pub finding_by : HistoryFault → FindingFault
@@ -27,3 +34,7 @@ finding_by history.Memory = finding.Memory
 pub record IsToldJournal (routing : Routing) (lines : List Line) (c : Content) : Type 0 where
   pub journalled : IsJournalled routing (Fold lines)
   pub fold : c ≡ content_of (Fold lines)
+
+-- no book of a ledger with that routing has these lines
+abbrev pub IsNoJournal : Routing → List Line → Type 0
+IsNoJournal routing lines = (b : Book) → IsJournalled routing b → b.lines ≡ lines → ⊥

@@ -1,7 +1,6 @@
 //! Whether the lists of all tables are those of a ledger.
-ghost use Rattle.std.specs.Prelude.{OnOk};
 ghost use Rattle.sqlite.specs.Tree.{Trees};
-ghost use Rattle.dr_store_audit.specs.Found.{AreListsOf, IsFound};
+ghost use Rattle.dr_store_audit.specs.Found.{AgreesAs, AreListsOf, HoldTogether};
 
 use crate::fault::FindingFault;
 use crate::goals::{are_before, are_by_line};
@@ -20,7 +19,7 @@ use std::alloc::Global;
 /// number: that the journal is one of its ledger, that all else is what its lines make, and that
 /// just the data sets are there that are needed.
 ///
-/// Errors: OtherSite, Memory.
+/// Errors: OtherSite, only where they aren't; Memory.
 pub fn agree(
     alloc: Global,
     site: &Site,
@@ -33,20 +32,28 @@ pub fn agree(
     goals: &[(u64, Text)],
     next: u64,
 ) -> Result<(), FindingFault>
-    ensures { OnOk result
-        ((db : Trees)
+    ensures { (db : Trees)
         → AreListsOf db keys.now prints.now arrivals.now kept.now rows.now notes.now goals.now
-        → IsFound next site.now db) }
+        → AgreesAs result (HoldTogether next site.now db notes.now) }
 {
     if !are_by_line(goals) {
         return Err(FindingFault::OtherSite);
     }
-    let items = stock_all(alloc, keys, prints)?;
-    let history = tell(alloc, site, goals, notes)?;
+    let items = match stock_all(alloc, keys, prints) {
+        Ok(items) => items,
+        Err(fault) => return Err(fault),
+    };
+    let history = match tell(alloc, site, goals, notes) {
+        Ok(history) => history,
+        Err(fault) => return Err(fault),
+    };
     if !history.has_just(&items, arrivals, kept, rows) {
         return Err(FindingFault::OtherSite);
     }
-    let uids = needed(alloc, kept, rows)?;
+    let uids = match needed(alloc, kept, rows) {
+        Ok(uids) => uids,
+        Err(fault) => return Err(fault),
+    };
     if !are_whole(prints, &uids) {
         return Err(FindingFault::OtherSite);
     }

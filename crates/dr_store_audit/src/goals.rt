@@ -16,7 +16,7 @@ fn is_mark(name: &Text) -> bool
 
 /// Whether goals are in the order of their lines.
 pub fn are_by_line(goals: &[(u64, Text)]) -> bool
-    ensures { IsTrue result → AreByLine goals.now }
+    ensures { IsTrue result ↔ AreByLine goals.now }
 {
     goals.is_sorted_by(|goal, next| goal.0 <= next.0)
 }

@@ -1,11 +1,13 @@
 //! Which data sets are needed.
-ghost use Rattle.std.specs.Prelude.{◌≡◌, ◌⊎◌, ◌↔◌, Contains, IfOk, IsTrue, OnOk, not, true};
+ghost use Rattle.std.specs.Prelude.{◌≡◌, ◌⊎◌, ◌↔◌, Contains, IfOk, IsTrue, MatchResult, OnOk, not};
+ghost use Rattle.std.specs.Prelude.{true};
 ghost use Rattle.std.specs.FinSet as set;
 ghost use Rattle.std.specs.List.{AllByRecursion};
 ghost use Rattle.dr_base.specs.Texts.{text_cmp};
 ghost use Rattle.dr_ledger.specs.Books.{is_queued};
 ghost use Rattle.dr_ledger_history.specs.Trees.{as_set};
 ghost use Rattle.dr_store_audit.specs.Needs.{IsOpenIn};
+ghost use Rattle.dr_store_audit.specs.declared.fault.FindingFault.TheVariants.{Memory};
 
 use crate::fault::FindingFault;
 use dr_base::Text;
@@ -50,14 +52,18 @@ fn add_open(uids: &mut BTreeSet<Text>, row: &((Text, Text), Progress)) -> Result
 }
 
 /// The uids that are kept, or have a row that waits or is held.
+///
+/// Errors: Memory.
 pub fn needed(
     alloc: Global,
     kept: &[Text],
     rows: &[((Text, Text), Progress)],
 ) -> Result<BTreeSet<Text>, FindingFault>
-    ensures { IfOk result (λ uids. (uid : _)
+    ensures { MatchResult result
+        (λ uids. (uid : _)
         → (set.contains (as_set text_cmp uids) uid ≡ true)
-        ↔ (Contains kept.now uid ⊎ IsOpenIn rows.now uid)) }
+        ↔ (Contains kept.now uid ⊎ IsOpenIn rows.now uid))
+        (λ fault. fault ≡ Memory) }
 {
     let mut uids = all_kept(alloc, kept)?;
     for row in rows {

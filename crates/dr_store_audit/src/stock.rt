@@ -1,9 +1,11 @@
 //! The instances that are there.
-ghost use Rattle.std.specs.Prelude.{◌≡◌, OnOk, IfOk, IsTrue};
+ghost use Rattle.std.specs.Prelude.{◌≡◌, ◌≢◌, ◌↔◌, OnOk, IfOk, IsTrue, MatchResult};
+ghost use Rattle.std.specs.Map.{keys_of};
 ghost use Rattle.std.specs.FinMap as map;
 ghost use Rattle.dr_base.specs.Texts.{text_cmp};
 ghost use Rattle.dr_ledger_history.specs.Trees.{as_map};
 ghost use Rattle.dr_store_audit.specs.Stock.{Stocks, instance_with};
+ghost use Rattle.dr_store_audit.specs.declared.fault.FindingFault.TheVariants.{OtherSite};
 
 use crate::fault::FindingFault;
 use dr_base::Text;
@@ -15,7 +17,7 @@ use std::collections::BTreeMap;
 
 /// Whether the uid is that one.
 fn is_uid(uid: &Text, other: &Text) -> bool
-    ensures { IsTrue result → uid.now ≡ other.now }
+    ensures { IsTrue result ↔ (uid.now ≡ other.now) }
 {
     uid == other
 }
@@ -61,16 +63,19 @@ fn put(
 }
 
 /// Puts an instance in, whose key and whose print go by one uid.
+///
+/// Errors: OtherSite, only where they don't; Memory.
 fn stock(
     items: &mut BTreeMap<Text, Instance>,
     key: &(Text, Key),
     print: &(Text, Print),
 ) -> Result<(), FindingFault>
-    ensures { OnOk result
-        ((print.now.0 ≡ key.now.0)
+    ensures { MatchResult result
+        (λ _. (print.now.0 ≡ key.now.0)
         × (as_map text_cmp items.new
         ≡ map.insert (as_map text_cmp items.old) key.now.0
-        (instance_with key.now.0 key.now.1 print.now.1))) }
+        (instance_with key.now.0 key.now.1 print.now.1)))
+        (λ fault. fault ≡ OtherSite → print.now.0 ≢ key.now.0) }
 {
     if !is_uid(&print.0, &key.0) {
         return Err(FindingFault::OtherSite);
@@ -81,19 +86,25 @@ fn stock(
 }
 
 /// The instances of these keys and prints, if each key has a print and each print a key.
+///
+/// Errors: OtherSite, only where they don't go by the same uids, in one order; Memory.
 pub fn stock_all(
     alloc: Global,
     keys: &[(Text, Key)],
     prints: &[(Text, Print)],
 ) -> Result<BTreeMap<Text, Instance>, FindingFault>
-    ensures { IfOk result (λ items. Stocks map.empty keys.now prints.now (as_map text_cmp items)) }
+    ensures { MatchResult result
+        (λ items. Stocks map.empty keys.now prints.now (as_map text_cmp items))
+        (λ fault. fault ≡ OtherSite → keys_of keys.now ≢ keys_of prints.now) }
 {
     if keys.len() != prints.len() {
         return Err(FindingFault::OtherSite);
     }
     let mut items = BTreeMap::new(alloc);
     for (i, key) in keys.iter().enumerate() {
-        stock(&mut items, key, &prints[i])?;
+        if let Err(fault) = stock(&mut items, key, &prints[i]) {
+            return Err(fault);
+        }
     }
     Ok(items)
 }

@@ -1,7 +1,8 @@
 //! The journal, told to a history.
-ghost use Rattle.std.specs.Prelude.{◌≡◌, ◌≤◌, ◌⊎◌, ◌↔◌, ◌++◌, IfOk, IsTrue, List, [], ◌∷◌, length};
-ghost use Rattle.std.specs.Prelude.{take};
-ghost use Rattle.dr_ledger.specs.Books.{Line};
+ghost use Rattle.std.specs.Prelude.{◌≡◌, ◌≢◌, ◌≤◌, ◌⊎◌, ◌↔◌, ◌++◌, ℕ, IsTrue, MatchResult, List};
+ghost use Rattle.std.specs.Prelude.{[], ◌∷◌, length, take};
+ghost use Rattle.dr_ledger.specs.Books.{Fold, Line, empty_book};
+ghost use Rattle.dr_ledger.specs.Histories.{IsHistory, IsPast};
 ghost use Rattle.dr_ledger.specs.SiteRoutes.{site_routing};
 ghost use Rattle.dr_ledger_history.specs.Contents.{content};
 ghost use Rattle.dr_ledger_history.specs.Lines.{line_of};
@@ -9,7 +10,8 @@ ghost use Rattle.dr_ledger_history.specs.Told.{IsTold, IsToldSince};
 ghost use Rattle.dr_store_lists.specs.declared.listing.Note.TheVariants as noted;
 ghost use Rattle.dr_store_audit.specs.Goals.{AreByLine};
 ghost use Rattle.dr_store_audit.specs.Journal.{CountUp, lines_told};
-ghost use Rattle.dr_store_audit.specs.Telling.{IsOver, IsToldJournal};
+ghost use Rattle.dr_store_audit.specs.Telling.{IsNoJournal, IsOver, IsToldJournal, NoneIsOver};
+ghost use Rattle.dr_store_audit.specs.declared.fault.FindingFault.TheVariants as finding;
 
 use crate::fault::{FindingFault, of_history};
 use crate::lines::line_for;
@@ -21,7 +23,7 @@ use std::alloc::Global;
 
 /// Whether it is an adoption.
 fn is_adoption(note: &Note) -> bool
-    ensures { IsTrue result → note.now ≡ noted.Adoption }
+    ensures { IsTrue result ↔ (note.now ≡ noted.Adoption) }
 {
     match note {
         Note::Adoption => true,
@@ -31,7 +33,8 @@ fn is_adoption(note: &Note) -> bool
 
 /// Where the past ends after one more note: there, if that one is an adoption.
 fn end_after(end: usize, next: usize, note: &Note) -> usize
-    ensures { (result ≡ end) ⊎ ((result ≡ next) × (note.now ≡ noted.Adoption)) }
+    ensures { ((result ≡ end) × (note.now ≢ noted.Adoption))
+        ⊎ ((result ≡ next) × (note.now ≡ noted.Adoption)) }
 {
     if is_adoption(note) {
         return next;
@@ -43,6 +46,7 @@ fn end_after(end: usize, next: usize, note: &Note) -> usize
 fn count_past(notes: &[(u64, Note)]) -> usize
     ensures bound { result ≤ length notes.now }
     ensures over { IsOver (take result notes.now) }
+    ensures since { NoneIsOver result notes.now }
 {
     let mut end = 0;
     for (i, entry) in notes.iter().enumerate() {
@@ -69,10 +73,17 @@ pub fn count_up(notes: &[(u64, Note)]) -> bool
 }
 
 /// Tells one more line of the past.
+///
+/// Errors: OtherSite, only where the lines are no past with it; Memory.
 fn tell_past(history: History, line: JournalLine) -> Result<History, FindingFault>
-    ensures { IfOk result (λ h. (lines : List Line)
+    ensures { MatchResult result
+        (λ h. (lines : List Line)
         → IsTold lines (content history.parts)
-        → IsTold (lines ++ line_of line ∷ []) (content h.parts)) }
+        → IsTold (lines ++ line_of line ∷ []) (content h.parts))
+        (λ fault. (lines : List Line)
+        → fault ≡ finding.OtherSite
+        → IsTold lines (content history.parts)
+        → IsPast (lines ++ line_of line ∷ []) empty_book → ⊥) }
 {
     match history.tell_past(line) {
         Ok(history) => Ok(history),
@@ -81,10 +92,17 @@ fn tell_past(history: History, line: JournalLine) -> Result<History, FindingFaul
 }
 
 /// Tells one more line since the last adoption.
+///
+/// Errors: OtherSite, only where those since then are no history with it; Memory.
 fn tell_since(history: History, site: &Site, line: JournalLine) -> Result<History, FindingFault>
-    ensures { IfOk result (λ h. (past since : List Line)
+    ensures { MatchResult result
+        (λ h. (past since : List Line)
         → IsToldSince (site_routing site.now) past since (content history.parts)
-        → IsToldSince (site_routing site.now) past (since ++ line_of line ∷ []) (content h.parts)) }
+        → IsToldSince (site_routing site.now) past (since ++ line_of line ∷ []) (content h.parts))
+        (λ fault. (past since : List Line)
+        → fault ≡ finding.OtherSite
+        → IsToldSince (site_routing site.now) past since (content history.parts)
+        → IsHistory (site_routing site.now) (since ++ line_of line ∷ []) (Fold past) → ⊥) }
 {
     match history.tell(site, line) {
         Ok(history) => Ok(history),
@@ -93,23 +111,33 @@ fn tell_since(history: History, site: &Site, line: JournalLine) -> Result<Histor
 }
 
 /// What these lines make, whose plans may be gone.
+///
+/// Errors: OtherSite, only where they are no past; Memory.
 fn tell_all_past(
     alloc: Global,
     goals: &[(u64, Text)],
     notes: &[(u64, Note)],
 ) -> Result<History, FindingFault>
     requires { AreByLine goals.now }
-    ensures { IfOk result (λ h. IsTold (lines_told goals.now notes.now) (content h.parts)) }
+    ensures { MatchResult result
+        (λ h. IsTold (lines_told goals.now notes.now) (content h.parts))
+        (λ fault. fault ≡ finding.OtherSite
+        → IsPast (lines_told goals.now notes.now) empty_book → ⊥) }
 {
     let mut history = History::new(alloc);
     for entry in notes {
         let line = line_for(alloc, goals, entry.0, &entry.1)?;
-        history = tell_past(history, line)?;
+        history = match tell_past(history, line) {
+            Ok(history) => history,
+            Err(fault) => return Err(fault),
+        };
     }
     Ok(history)
 }
 
 /// What these lines make besides, which the node of this site added.
+///
+/// Errors: OtherSite, only where they are no history behind that past; Memory.
 fn tell_all_since(
     alloc: Global,
     site: &Site,
@@ -118,21 +146,31 @@ fn tell_all_since(
     told: History,
 ) -> Result<History, FindingFault>
     requires { AreByLine goals.now }
-    ensures { IfOk result (λ h. (past : List Line)
+    ensures { MatchResult result
+        (λ h. (past : List Line)
         → IsToldSince (site_routing site.now) past [] (content told.parts)
         → IsToldSince (site_routing site.now) past (lines_told goals.now notes.now)
-        (content h.parts)) }
+        (content h.parts))
+        (λ fault. (past : List Line)
+        → fault ≡ finding.OtherSite
+        → IsToldSince (site_routing site.now) past [] (content told.parts)
+        → IsHistory (site_routing site.now) (lines_told goals.now notes.now) (Fold past) → ⊥) }
 {
     let mut history = told;
     for entry in notes {
         let line = line_for(alloc, goals, entry.0, &entry.1)?;
-        history = tell_since(history, site, line)?;
+        history = match tell_since(history, site, line) {
+            Ok(history) => history,
+            Err(fault) => return Err(fault),
+        };
     }
     Ok(history)
 }
 
 /// What the whole journal makes, if it is one of this site's ledger. The goals are in the order of
 /// their lines.
+///
+/// Errors: OtherSite, only where it is none; Memory.
 pub fn tell(
     alloc: Global,
     site: &Site,
@@ -140,12 +178,15 @@ pub fn tell(
     notes: &[(u64, Note)],
 ) -> Result<History, FindingFault>
     requires { AreByLine goals.now }
-    ensures { IfOk result (λ h.
-        IsToldJournal (site_routing site.now) (lines_told goals.now notes.now)
-        (content h.parts)) }
+    ensures { MatchResult result
+        (λ h. IsToldJournal (site_routing site.now) (lines_told goals.now notes.now)
+        (content h.parts))
+        (λ fault. fault ≡ finding.OtherSite
+        → IsNoJournal (site_routing site.now) (lines_told goals.now notes.now)) }
 {
     let (past, since) = notes.split_at(count_past(notes));
-    let told = tell_all_past(alloc, goals, past)?;
-    let all = tell_all_since(alloc, site, goals, since, told)?;
-    Ok(all)
+    match tell_all_past(alloc, goals, past) {
+        Ok(told) => tell_all_since(alloc, site, goals, since, told),
+        Err(fault) => Err(fault),
+    }
 }

@@ -1,6 +1,7 @@
-use Rattle.std.proofs.Common.{◌≡◌}
+-- are_kept
+use Rattle.std.proofs.Common.{◌≡◌, ◌↔◌}
 use Rattle.dr_ledger_history.proofs.comparing.are_kept.Given as goal
 
--- where what is left is the same, all is
+-- what is left is the same just where all is
 abbrev pub invariant-loop-uid : goal.invariant-loop-uid
-invariant-loop-uid l = l.uid-iterator ≡ l.rest → l.kept.keys ≡ l.list
+invariant-loop-uid l = (l.uid-iterator ≡ l.rest) ↔ (l.kept.keys ≡ l.list)

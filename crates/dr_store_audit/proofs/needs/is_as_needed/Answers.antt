@@ -1,5 +1,4 @@
 use Rattle.std.proofs.Common.{◌≡◌, ◌∙◌, rules, sym}
-use Rattle.std.specs.Prelude.{IsTrue}
 use Rattle.dr_ledger.proofs.Maps.{texts}
 use Rattle.dr_ledger_history.proofs.Mapped.{has_at}
 use Rattle.dr_store_audit.proofs.needs.is_as_needed.Goals as goal

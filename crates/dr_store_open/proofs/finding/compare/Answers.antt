@@ -18,7 +18,7 @@ returns-in-Ok g c =
     let Other : Option ℕ → Type 0 = λ found. AreListsOf db c.args.keys.now c.args.prints.now c.args.arrivals.now c.args.kept.now c.args.rows.now c.args.notes.now c.args.goals.now → AreBelow c.args.next (db 11) → IsAgreedIf part db found in
     record {
       seen = seen_map {Asks = IsLedger} old new c.read_bodies.result (AreReadIf db c.args.prints.now c.args.next) Other
-          (λ found read are below. agreed part db c.args.prints.now c.args.notes.now c.args.next are.prints_are are.notes_are (c.is_next.ensures c.if-not-is_next.false) (c.in-Ok.ensures db are) below found read) c.read_bodies.ensures.seen;
+          (λ found read are below. agreed part db c.args.prints.now c.args.notes.now c.args.next are.prints_are are.notes_are (c.is_next.ensures c.if-not-is_next.false) (c.in-Ok.ensures db are).found below found read) c.read_bodies.ensures.seen;
     }
 
 pub returns-in-Err-OtherSite : goal.returns-in-Err-OtherSite
