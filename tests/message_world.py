@@ -3,7 +3,7 @@
 and tests the four claims of docs/HEADLINE.md, and what lasts, after each event.
 
     tests/message_world.py [RUNS] [SEED]       no claim may fail, and each event and reply must have happened (2,000 runs:
-                                               about half a minute; at least 200)
+                                               about half a minute; at least 300)
     tests/message_world.py --wrong [RUNS]      each wrong definition must make some claim fail
 """
 import collections
@@ -20,12 +20,14 @@ WRONG = {
     'restart_drops_waiting_rows', 'success_without_an_arrival', 'done_rows_stand', 'adoption_forgets_what_is_kept', 'half_the_pairs_accepted',
     'carried_rows_forgotten', 'kept_is_forgotten', 'queued_is_forgotten', 'arrivals_not_forgotten', 'rows_not_forgotten', 'pending_is_forgotten',
     'dropped_arrivals_stand', 'dropped_rows_stay_dropped', 'dropped_without_a_line', 'dropped_rows_stand', 'every_row_is_dropped',
+    'away_is_done',
 }
 # what runs must reach: each event with each reply of its call that a sound plan allows
 REACHED = {
     'take': {'New', 'Again', 'NoLine', 'Conflict', 'Store', 'Memory'}, 'receive': {'New', 'Again', 'Conflict', 'Store', 'Memory'},
     'answered': {'Ok', 'NotWaiting', 'Store', 'Memory'}, 'agree_caller': {'opened', 'Ok', 'Store', 'idle'}, 'agree_receiver': {'accepted', 'rejected'},
-    'break_caller': {'Ok', 'Store', 'idle'}, 'close': {'Ok', 'Store', 'idle'}, 'restart': {'Ok', 'Store', 'idle'}, 'requeue': {'Ok', 'NotHeld', 'Store'}, 'forget': {'Ok', 'NotOver', 'Store'},
+    'break_caller': {'Ok', 'Store', 'idle'}, 'close': {'Ok', 'Store', 'idle'}, 'restart': {'Ok', 'Store', 'idle'}, 'requeue': {'Ok', 'NotHeld', 'Store'},
+    'stay_away': {'Ok', 'NotWaiting', 'Store', 'Memory'}, 'forget': {'Ok', 'NotOver', 'Store'},
     'drop': {'Ok', 'NotHeld', 'Store'}, 'meets': {'an arrival a dropped row', 'an answer a dropped row', 'an adoption a dropped row', 'a forgetting a dropped row'},
     'adopt': {'refused', 'the same', 'another', 'another with a row'}, 'ask': {'-'}, 'give': {'-'}, 'break_receiver': {'-'}, 'refuse': {'-'}, 'tick': {'-'},
 }
@@ -143,6 +145,9 @@ class World:
         item = self.first_due(link.caller, link.receiver)
         link.caller_connected = False
         return self.settle(link.caller, item.uid, link.receiver, 'Broken') if item else 'idle'
+
+    def stay_away(self, name, uid, dest):
+        return self.settle(name, uid, dest, SUCCESS if 'away_is_done' in self.wrong else 'Broken')
 
     def give(self, link):
         item = self.first_due(link.caller, link.receiver)
@@ -313,6 +318,9 @@ def random_event(w, dice):
         return w.forget, dice.choice(known)
     if 0.92 <= choice < 0.94:
         return w.refuse, (dice.choice(names),)
+    rows = [(n, u, d) for n in names for (u, d), r in sorted(w.books[n].rows.items()) if r[0] == 'waiting' or u == 'u1']
+    if 0.94 <= choice < 0.96 and rows:
+        return w.stay_away, dice.choice(rows)
     return w.tick, (dice.choice([1, 1000, 5000, 300000]),)
 
 

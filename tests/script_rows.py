@@ -21,13 +21,13 @@ def element(group, number, vr, value):
     return bytes([*group.to_bytes(2, 'little'), *number.to_bytes(2, 'little'), *vr, *len(value).to_bytes(2, 'little')]) + value
 
 
-def instance(modality=b'CT', more=b''):
+def instance(modality=b'CT', more=b'', uid=b'1.2.3.4'):
     """A data set in Explicit VR Little Endian: 70 bytes, and more behind them."""
-    return (element(8, 0x16, b'UI', CT.encode() + b'\0') + element(8, 0x18, b'UI', b'1.2.3.4\0')
+    return (element(8, 0x16, b'UI', CT.encode() + b'\0') + element(8, 0x18, b'UI', uid + b'\0')
             + element(8, 0x60, b'CS', modality) + element(8, 0x1010, b'SH', b'S1') + more)
 
 
-SHORT, LONGER = instance(), instance(more=element(0x1008, 0x1060, b'PN', b''))
+SHORT, LONGER, OTHER = instance(), instance(more=element(0x1008, 0x1060, b'PN', b'')), instance(uid=b'1.2.3.5')
 assert (len(SHORT), len(LONGER)) == (70, 78)
 
 
@@ -163,6 +163,21 @@ ROWS = [
     ('.. and it is sent again', three_nodes,
      [*FIRST, *opened('GATE', 'ARCH', 2), ('push', 2), *moved(2, 'acceptor', 'acceptor'), ('restart', 'ARCH'), ('tick', 1000), *carried('GATE', 'ARCH', 3)],
      'node ARCH|arrival GATE 1.2.3.4|kept 1.2.3.4 70|lines 2|' + CT1_SENT + 'node GATE|arrival CT1 1.2.3.4|row 1.2.3.4 ARCH done|lines 3|'),
+    ('a caller that comes to no link', three_nodes, [*FIRST, ('away', 'GATE', 'ARCH')], 'node ARCH|lines 0|' + CT1_SENT + TRIED),
+    ('.. and again before the row is due', three_nodes, [*FIRST, *2 * [('away', 'GATE', 'ARCH')]], 'node ARCH|lines 0|' + CT1_SENT + TRIED),
+    ('.. and when it is due', three_nodes, [*FIRST, ('away', 'GATE', 'ARCH'), ('tick', 1000), ('away', 'GATE', 'ARCH')],
+     'node ARCH|lines 0|' + CT1_SENT + 'node GATE|arrival CT1 1.2.3.4|row 1.2.3.4 ARCH waiting 2 3000|lines 3|'),
+    ('.. but comes to one then', three_nodes, [*FIRST, ('away', 'GATE', 'ARCH'), ('tick', 1000), *carried('GATE', 'ARCH', 2)],
+     ARCH_KEEPS + CT1_SENT + 'node GATE|arrival CT1 1.2.3.4|row 1.2.3.4 ARCH done|lines 3|'),
+    ('.. whose store refuses', three_nodes, [*FIRST, ('refuse', 'GATE'), ('away', 'GATE', 'ARCH')], 'node ARCH|lines 0|' + CT1_SENT + GATE_WAITS),
+    ('.. to a node to which nothing is due', three_nodes, [*FIRST, ('away', 'GATE', 'CT1'), ('away', 'CT1', 'GATE'), ('away', 'ARCH', 'GATE')],
+     'node ARCH|lines 0|' + CT1_SENT + GATE_WAITS),
+    ('.. of two rows, each once', three_nodes, [*FIRST, *submit('CT1', OTHER), *carried('CT1', 'GATE', 2), *2 * [('away', 'GATE', 'ARCH')]],
+     'node ARCH|lines 0|node CT1|arrival - 1.2.3.4|arrival - 1.2.3.5|row 1.2.3.4 GATE done|row 1.2.3.5 GATE done|lines 4|'
+     'node GATE|arrival CT1 1.2.3.4|arrival CT1 1.2.3.5|row 1.2.3.4 ARCH waiting 1 1000|row 1.2.3.5 ARCH waiting 1 1000|lines 4|'),
+    ('.. of two rows, the first', three_nodes, [*FIRST, *submit('CT1', OTHER), *carried('CT1', 'GATE', 2), ('away', 'GATE', 'ARCH')],
+     'node ARCH|lines 0|node CT1|arrival - 1.2.3.4|arrival - 1.2.3.5|row 1.2.3.4 GATE done|row 1.2.3.5 GATE done|lines 4|'
+     'node GATE|arrival CT1 1.2.3.4|arrival CT1 1.2.3.5|row 1.2.3.4 ARCH waiting 1 1000|row 1.2.3.5 ARCH waiting 0 0|lines 3|'),
     ('two ways to one node', two_ways,
      [*submit('CT1', SHORT), *carried('CT1', 'GATE', 1), *carried('GATE', 'A', 2), *carried('GATE', 'B', 3), *carried('A', 'ARCH', 4), *carried('B', 'ARCH', 5)],
      'node A|arrival GATE 1.2.3.4|row 1.2.3.4 ARCH done|lines 2|node ARCH|arrival A 1.2.3.4|arrival B 1.2.3.4|kept 1.2.3.4 70|lines 2|'
@@ -260,7 +275,7 @@ EXACT = [
      'node ARCH|lines 0|' + CT1_SENT + TRIED),
 ]
 # what is no script: the line that is named
-WRONG = [(1, 'adopt\tplan\n'), (1, 'adopt\tplan\tcertificate\tmore\n'), (1, 'forget\tCT1\n'), (1, 'forget\tCT1\t1.2.3.4\tGATE\n'), (1, 'drop\tCT1\t1.2.3.4\n'), (1, 'drop\tCT1\t1.2.3.4\tGATE\t1\n'), (2, '# a comment\nmove\t1\tnobody\t1\n'), (1, 'push\n'), (1, 'push\t01\n'), (3, '\n\nfly\n'), (1, 'tick\t18446744073709551616\n'),
+WRONG = [(1, 'away\tGATE\n'), (1, 'away\tGATE\tARCH\t\n'), (1, 'adopt\tplan\n'), (1, 'adopt\tplan\tcertificate\tmore\n'), (1, 'forget\tCT1\n'), (1, 'forget\tCT1\t1.2.3.4\tGATE\n'), (1, 'drop\tCT1\t1.2.3.4\n'), (1, 'drop\tCT1\t1.2.3.4\tGATE\t1\n'), (2, '# a comment\nmove\t1\tnobody\t1\n'), (1, 'push\n'), (1, 'push\t01\n'), (3, '\n\nfly\n'), (1, 'tick\t18446744073709551616\n'),
          (1, 'submit\tCT1\tE\t0800\n'), (2, 'tick\t1\nsubmit\tCT1\tE\tXY\n'), (1, ' \n')]
 
 

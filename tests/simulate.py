@@ -1,7 +1,7 @@
 #!/usr/bin/env python3
 """Plays random scripts on the built program, over random sound plans, and compares each report with that of a world written
 again from the documents (script_world.py), which counts the bytes of PDUs but writes none: requests, stores and releases in
-random cuts, with aborts, lost connections, late marks, restarts, refused stores, instances that come twice, held rows that are queued again
+random cuts, with aborts, lost connections, calls that come to no link, late marks, restarts, refused stores, instances that come twice, held rows that are queued again
 or given up, instances that are forgotten, and changes of plan.
 
     tests/simulate.py [RUNS] [SEED]        no report may differ, and each kind of step, of answer and of reason for which a
@@ -24,9 +24,10 @@ from lib.script_world import Item, World
 TOP = os.path.dirname(os.path.dirname(os.path.abspath(__file__)))
 PROGRAM = f'{TOP}/crates/dr_router/out/dr_router'
 WRONG = ('refusals last', 'whole PDUs move', 'a restart forgets rows', 'what is under way is forgotten', 'arrivals are not forgotten',
-         'what was given up stays so', 'arrivals of what was given up stay', 'rows that are unfit are taken', 'arrivals stay when a plan is taken')
+         'staying away is no try', 'what was given up stays so', 'arrivals of what was given up stay', 'rows that are unfit are taken', 'arrivals stay when a plan is taken')
 REACHED = {
     'submit': {'New', 'Again', 'NoLine', 'Conflict', 'Store', 'no such node'}, 'open': {'done', 'no hop'}, 'tick': {'done'},
+    'away': {'done', 'nothing is due', 'Store', 'no such node'},
     'push': {'done', 'no such link', 'not established', 'a store is pending', 'nothing is due'},
     'move': {'no such link', 'the reader is over', 'an empty wire', 'the connection ended', 'no byte', 'a part of a PDU', 'a whole PDU'},
     'abort': {'done', 'no such link', 'no cell'}, 'release': {'done', 'no such link', 'a store is pending', 'no cell'},
@@ -176,10 +177,19 @@ class Play:
             return 'forget', *self.random_uid()
         if choice < 0.67:
             return 'drop', *self.random_row()
+        if choice < 0.70:
+            return 'away', *self.random_hop()
         return 'move', self.random_link(), dice.choice(['requestor', 'acceptor']), dice.choice([0, 1, 7, 50, 100, 233, 1000, 10 ** 6, 10 ** 6, 10 ** 6])
 
     def rows_that(self, apt):
         return [(name, *at) for name, book in sorted(self.world.books.items()) for at, row in sorted(book.rows.items()) if apt(row)]
+
+    def random_hop(self):
+        """One that a node comes to no link of: most have a row that is due."""
+        names = sorted(self.world.books)
+        due = [hop for hop in sorted(self.world.hops) if self.world.first_due(*hop)]
+        armed = [hop for hop in due if self.world.books[hop[0]].armed] or due
+        return self.dice.choice(armed) if due and self.dice.random() < 0.7 else (self.dice.choice([*names, 'NOBODY']), self.dice.choice(names))
 
     def random_row(self):
         """A row to queue again or to give up: most are held."""

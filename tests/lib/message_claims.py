@@ -96,6 +96,7 @@ def nothing_lost(w):
             for dest in dests:
                 claim(is_covered(w, caller, name, item, dest), 'NothingLost', caller, name, uid, dest)
         for (uid, to), item in w.carried_over[name].items():
+            claim((name, to, item.key) in w.plan.ranks, 'NothingLost', 'a row that stood, and goes nowhere', name, uid, to)
             row = book.rows.get((uid, to)) if book.items.get(uid) == item else None
             dests = w.plan.destinations(name, to, item.key)
             claim(dests, 'NothingLost', 'no destination of a row that stood', name, uid, to)

@@ -269,6 +269,17 @@ class World:
         self.write(self.opened, caller, [Pdu('request', pairs, request_size(pairs))])
         return 'done'
 
+    def away(self, name, to):
+        if name not in self.books:
+            return 'no such node'
+        item = self.first_due(name, to)
+        if not item:
+            return 'nothing is due'
+        if 'staying away is no try' in self.wrong:
+            return 'done'
+        answer = self.settle(name, item.uid, to, 'Broken')
+        return 'done' if answer == 'Ok' else answer
+
     def end_at(self, link, side):
         return self.links[link][side == 'acceptor']
 

@@ -3,6 +3,7 @@
 //! site.
 #![tactic(auto)]
 
+mod away;
 pub mod event;
 pub mod fault;
 pub mod laws;

@@ -14,11 +14,13 @@ ghost use Rattle.dr_ledger.specs.Replies.{Lasts, Lists, Reads, Requeues, entry_o
 ghost use Rattle.dr_ledger.specs.SiteRoutes.{site_routing};
 ghost use Rattle.std.proofs.Props.{props};
 ghost use Rattle.dr_route.specs.Routes.{local as local_caller};
-ghost use Rattle.dr_node.specs.Desks.{LedgerStep};
+ghost use Rattle.dr_node.specs.Desks.{LedgerStep, StaysAway};
 ghost use Rattle.dr_node.specs.Sides.{Accepts, Does, MeetsEvent, Opens, Pushes, sides_after};
 ghost use Rattle.dr_node.specs.Sides.{state_of_side};
+ghost use Rattle.dr_session.specs.Ledgers.{desk};
 ghost use Rattle.dr_site.specs.Parts.{IsPartOf};
 
+use crate::away::settle_due;
 use crate::event::LinkEvent;
 use crate::fault::NodeFault;
 use crate::links::{Links, Side};
@@ -170,6 +172,31 @@ impl<L: Ledger> Node<L> {
         ensures site { self.new.site ≡ self.old.site }
     {
         self.desk.ledger.arrive(&self.local, item)
+    }
+
+    /// The node has come to no link to that node: the first row that is due there, at a moment of
+    /// at most 2^62 milliseconds, is due later. Gives its uid; None where no row is due, and
+    /// nothing has changed.
+    ///
+    /// Errors: Store, Memory.
+    pub fn stay_away(&mut self, dest: &Text, now: u64) -> Result<Option<Text>, LedgerFault>
+        requires { now ≤ 2 ^ 62 }
+        ensures reply { L.stands self.new.desk.ledger
+            → StaysAway dest.now now
+            (desk (L.book self.old.desk.ledger) (L.armed self.old.desk.ledger)) result
+            (desk (L.book self.new.desk.ledger) (L.armed self.new.desk.ledger)) }
+        ensures bodies { L.stands self.new.desk.ledger
+            → OnlyLetsGo (L.bodies self.old.desk.ledger) (L.bodies self.new.desk.ledger) }
+        ensures counts { Counts result (L.failed self.old.desk.ledger)
+            (L.failed self.new.desk.ledger) }
+        ensures stood { L.stands self.new.desk.ledger → L.stands self.old.desk.ledger }
+        ensures lasts { Lasts result (L.trusts self.old.desk.ledger) (L.trusts self.new.desk.ledger)
+            (L.stands self.old.desk.ledger) (L.stands self.new.desk.ledger) }
+        ensures of { L.site self.new.desk.ledger ≡ L.site self.old.desk.ledger }
+        ensures links { self.new.links ≡ self.old.links }
+        ensures site { self.new.site ≡ self.old.site }
+    {
+        settle_due(&mut self.desk.ledger, dest, now)
     }
 
     /// A held row waits again, untried.

@@ -16,7 +16,7 @@ use Rattle.dr_world_model.specs.Events.{HasNode}
 use Rattle.dr_world_tie.specs.Channels.{Channel}
 use Rattle.dr_world_tie.specs.Desks.{LedgerStep}
 use Rattle.dr_world_tie.specs.Nodes.{RequeuesAt, GivesUpAt}
-use Rattle.dr_world_tie.specs.ByteWorlds.{ByteWorld, Submit, Open, Push, Move, Abort, Release, Close}
+use Rattle.dr_world_tie.specs.ByteWorlds.{ByteWorld, Submit, Open, Away, Push, Move, Abort, Release, Close}
 use Rattle.dr_world_tie.specs.ByteWorlds.{Late, Restart, Requeue, Drop, Forget, Tick, Refuse, with_call}
 use Rattle.dr_world_tie.proofs.Sites.{site_steps}
 use Rattle.dr_world.specs.declared.wires.Wires.{Wires}
@@ -111,6 +111,7 @@ no_node plan certificate c seated name none has = let found = seated.all name ha
 pub strangers : StrangerIsSkipped
 strangers plan certificate c b seated s name none (Submit node item) same = (b, inr (λ has. no_node plan certificate c seated name none (subst (λ (n : Text). HasNode plan n) same has), (refl, refl)), s)
 strangers plan certificate c b seated s name none (Restart node) same = (b, inr (λ has. no_node plan certificate c seated name none (subst (λ (n : Text). HasNode plan n) same has), (refl, refl)), s)
+strangers plan certificate c b seated s name none (Away node to) same = (b, inr (λ has. no_node plan certificate c seated name none (subst (λ (n : Text). HasNode plan n) same has), (refl, refl)), s)
 strangers plan certificate c b seated s name none (Requeue node uid dest) same = (b, inr (λ has. no_node plan certificate c seated name none (subst (λ (n : Text). HasNode plan n) same has), (refl, refl)), s)
 strangers plan certificate c b seated s name none (Drop node uid dest) same = (b, inr (λ has. no_node plan certificate c seated name none (subst (λ (n : Text). HasNode plan n) same has), (refl, refl)), s)
 strangers plan certificate c b seated s name none (Forget node uid) same =

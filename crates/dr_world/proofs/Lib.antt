@@ -4,6 +4,7 @@ pub mod Calling
 pub mod Counted
 pub mod AtNodes
 pub mod LettingGo
+pub mod StayingAway
 pub mod Stepping
 pub mod Sited
 pub mod Noted

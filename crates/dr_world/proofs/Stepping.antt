@@ -15,7 +15,7 @@ use Rattle.dr_session.specs.Ledgers.{Desk}
 use Rattle.dr_node.specs.declared.node.Node.{Node}
 use Rattle.dr_world_model.specs.Worlds.{same_text}
 use Rattle.dr_world_tie.specs.ByteWorlds.{ByteWorld, WorldStep}
-use Rattle.dr_world_tie.specs.ByteWorlds.{Submit, Requeue, Drop, Forget, Refuse, Tick}
+use Rattle.dr_world_tie.specs.ByteWorlds.{Submit, Away, Requeue, Drop, Forget, Refuse, Tick}
 use Rattle.dr_world_tie.specs.ByteWorlds as bytes
 use Rattle.dr_world.specs.declared.steps.StepNote.{StepNote}
 use Rattle.dr_world.specs.declared.steps.StepNote.TheVariants.{Done, UnderWay}
@@ -25,8 +25,9 @@ use Rattle.dr_world.specs.Laws.{IsAtNode, with_seats, with_time}
 use Rattle.dr_world.specs.Forgotten.{is_under_way}
 use Rattle.dr_world.specs.Nodes.{seat_of}
 use Rattle.dr_world.specs.Whole.{AllStand, Calls, CallsIn, GivesUp, HasTicked, IsToldToRefuse, LetsGoOf, Puts}
-use Rattle.dr_world.specs.Whole.{StepsTo, Submits, contents, noted}
+use Rattle.dr_world.specs.Whole.{StaysAwayFrom, StepsTo, Submits, contents, noted}
 use Rattle.dr_world.proofs.AtNodes.{ticks, strangers, submits, requeues, drops, refuses}
+use Rattle.dr_world.proofs.StayingAway.{stays_away}
 use Rattle.dr_world.proofs.LettingGo.{forgets, none_over, some_over, under_way_stays}
 
 -- a node whose ledger alone has changed is one of the plan still
@@ -100,6 +101,14 @@ module _ {L : Type 0} {l : Ghosts L} (old new : World L l) (note : StepNote) whe
   -- the moment that was read is the world's
   pub timely : (name uid dest : Text) (now : ℕ) → now ≡ old.time.passed → Calls (GivesUp uid dest now) name old note new → Calls (GivesUp uid dest old.time.passed) name old note new
   timely name uid dest now same h = subst (λ (n : ℕ). Calls (GivesUp uid dest n) name old note new) same h
+
+  pub timely_away : (name to : Text) (now : ℕ) → now ≡ old.time.passed → Calls (StaysAwayFrom to now) name old note new → Calls (StaysAwayFrom to old.time.passed) name old note new
+  timely_away name to now same h = subst (λ (n : ℕ). Calls (StaysAwayFrom to n) name old note new) same h
+
+  pub stayed_away : (name to : Text) → Calls (StaysAwayFrom to old.time.passed) name old note new → StepsTo (Away name to) old note new
+  stayed_away name to h = steps (StaysAwayFrom to old.time.passed) (Away name to) name refl
+      (λ plan certificate certified b s shown seat is t d. subst (λ (n : bytes.StepNote). Becomes plan certificate b (Away name to) n (with_seats (contents old) name (with_desk_of seat t))) (sym d.2)
+      (stays_away plan certificate certified (contents old) b s shown name seat is to d.0 t d.1)) h
 
   pub given_up : (name uid dest : Text) → Calls (GivesUp uid dest old.time.passed) name old note new → StepsTo (Drop name uid dest) old note new
   given_up name uid dest h = steps (GivesUp uid dest old.time.passed) (Drop name uid dest) name refl

@@ -1,6 +1,6 @@
 -- What is done to a world's contents is a step of the world of bytes beside it.
 use Rattle.std.specs.Prelude.{◌≡◌, ℕ, ◌+◌, ◌^◌, ◌≢◌, min, nat_le, true, false, List, [], length}
-use Rattle.std.specs.Prelude.{take, Some, None}
+use Rattle.std.specs.Prelude.{take, Option, Some, None, Result, Ok, Err}
 use Rattle.std.specs.FinMap as map
 use Rattle.dr_base.specs.Texts.{Text}
 use Rattle.dr_route.specs.Routes.{local}
@@ -8,6 +8,7 @@ use Rattle.dr_plan_model.specs.Networks.{Network}
 use Rattle.dr_plan_sound.specs.declared.certificate.Certificate.{Certificate}
 use Rattle.dr_site.specs.Sites.{IsCertified}
 use Rattle.dr_ledger.specs.declared.content.Job.{Job}
+use Rattle.dr_ledger.specs.declared.fault.LedgerFault.{LedgerFault}
 use Rattle.dr_ledger.specs.Books.{empty_book}
 use Rattle.dr_ledger.specs.SiteRoutes.{site_routing}
 use Rattle.dr_session.specs.declared.ends.Core.{Core}
@@ -17,11 +18,12 @@ use Rattle.dr_session.specs.Plays.{At, Reacts}
 use Rattle.dr_session.specs.Ledgers.{Desk, RoutedStep, desk}
 use Rattle.dr_ledger.specs.Refusals.{Arms}
 use Rattle.dr_ledger.specs.Replies.{Drops, Forgets, Requeues, IsHeld, IsOver}
+use Rattle.dr_node.specs.Desks.{StaysAway}
 use Rattle.dr_node.specs.Sides.{others}
 use Rattle.dr_world_model.specs.Calls.{Reply, Answer}
 use Rattle.dr_world_tie.specs.ByteWorlds.{ByteWorld, beginning, WorldStep, Side}
-use Rattle.dr_world_tie.specs.ByteWorlds.{Submit, Move, Restart, Requeue, Drop, Forget, Tick}
-use Rattle.dr_world_tie.specs.ByteWorlds.{Refuse}
+use Rattle.dr_world_tie.specs.ByteWorlds.{Submit, Away, Move, Restart, Requeue, Drop, Forget, Tick}
+use Rattle.dr_world_tie.specs.ByteWorlds.{Refuse, Refused, StepNote}
 use Rattle.dr_world_tie.specs.ByteWorlds.{Done, Skipped, UnderWay, AreOthers, IsMoved, note_of}
 use Rattle.dr_session.specs.declared.ends.Heard.TheVariants as heard
 use Rattle.dr_session.specs.declared.ends.LinkAction.{LinkAction}
@@ -74,9 +76,17 @@ TickIsShown =
     → ShowsBytes c b → (ms : ℕ)
     → Becomes plan certificate b (Tick ms) Done (with_time c (min (c.now + ms) (2 ^ 62)))
 
+-- how it is noted what a node did that came to no link: the row that is due later, that none was
+-- due, or why it couldn't be done
+abbrev pub away_note : Result (Option Text) LedgerFault → StepNote
+away_note (Ok (Some uid)) = Done
+away_note (Ok None) = Skipped
+away_note (Err fault) = Refused fault
+
 -- the step is one at that node alone
 abbrev pub IsAtNode : WorldStep → Text → Type 0
 IsAtNode (Submit node item) name = node ≡ name
+IsAtNode (Away from to) name = from ≡ name
 IsAtNode (Restart node) name = node ≡ name
 IsAtNode (Requeue node uid dest) name = node ≡ name
 IsAtNode (Drop node uid dest) name = node ≡ name
@@ -105,6 +115,21 @@ SubmitIsShown =
     → (item : Job) (reply : Reply) (t : Desk)
     → RoutedStep (site_routing seat.site) seat.desk (Arrive local item) (Arrival reply) t
     → Becomes plan certificate b (Submit name item) (note_of reply)
+    (with_seats c name (with_desk_of seat t))
+
+-- a node comes to no link, at the moment that the world has come to
+abbrev pub AwayIsShown : Type 0
+AwayIsShown =
+    (plan : Network) (certificate : Certificate)
+    → IsCertified plan certificate
+    → (c : Contents) (b : ByteWorld)
+    → IsSeated plan certificate c.seats
+    → ShowsBytes c b
+    → (name : Text) (seat : Seat)
+    → c.seats name ≡ Some seat
+    → (to : Text) (result : Result (Option Text) LedgerFault) (t : Desk)
+    → StaysAway to c.now seat.desk result t
+    → Becomes plan certificate b (Away name to) (away_note result)
     (with_seats c name (with_desk_of seat t))
 
 -- a held row waits again

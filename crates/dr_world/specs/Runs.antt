@@ -13,8 +13,8 @@ use Rattle.dr_world_tie.specs.ByteWorlds as bytes
 use Rattle.dr_world_tie.specs.ByteWorlds.{ByteWorld, beginning}
 use Rattle.dr_world_tie.specs.Shown.{ComesAbout, RunsOf}
 use Rattle.dr_world_script.specs.declared.step.Step.{Step}
-use Rattle.dr_world_script.specs.declared.step.Step.TheVariants.{Submit, Open, Push, Move, Abort}
-use Rattle.dr_world_script.specs.declared.step.Step.TheVariants.{Release, Close, Late, Restart}
+use Rattle.dr_world_script.specs.declared.step.Step.TheVariants.{Submit, Open, Away, Push, Move}
+use Rattle.dr_world_script.specs.declared.step.Step.TheVariants.{Abort, Release, Close, Late, Restart}
 use Rattle.dr_world_script.specs.declared.step.Step.TheVariants.{Requeue, Drop, Forget, Tick}
 use Rattle.dr_world_script.specs.declared.step.Step.TheVariants.{RefuseStore}
 use Rattle.dr_world.specs.declared.world.World.{World}
@@ -26,6 +26,7 @@ use Rattle.dr_world.specs.Whole.{AllStand, contents}
 abbrev pub step_of : Step → bytes.WorldStep
 step_of (Submit node item) = bytes.Submit node item
 step_of (Open from to) = bytes.Open from to
+step_of (Away from to) = bytes.Away from to
 step_of (Push link) = bytes.Push link
 step_of (Move link reader most) = bytes.Move link (named reader) most
 step_of (Abort link side) = bytes.Abort link (named side)

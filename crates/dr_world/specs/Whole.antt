@@ -1,5 +1,5 @@
 -- The contents of a simulator's world, and what its steps do to them.
-use Rattle.std.specs.Prelude.{List, ◌≡◌, ℕ, ◌+◌, ◌^◌, min, true, Option, None, Some}
+use Rattle.std.specs.Prelude.{List, ◌≡◌, ℕ, ◌+◌, ◌^◌, min, true, Option, None, Some, Result}
 use Rattle.std.specs.Ordering.{nat_cmp}
 use Rattle.std.specs.BTreeMap as tree
 use Rattle.dr_base.specs.Texts.{Text, text_cmp}
@@ -9,11 +9,13 @@ use Rattle.dr_plan_model.specs.Networks.{Network}
 use Rattle.dr_plan_sound.specs.declared.certificate.Certificate.{Certificate}
 use Rattle.dr_site.specs.Sites.{IsCertified}
 use Rattle.dr_ledger.specs.declared.content.Job.{Job}
+use Rattle.dr_ledger.specs.declared.fault.LedgerFault.{LedgerFault}
 use Rattle.dr_ledger.specs.Refusals.{Arms}
 use Rattle.dr_ledger.specs.Replies.{Drops, Forgets, Requeues, IsHeld, IsOver}
 use Rattle.dr_ledger.specs.SiteRoutes.{site_routing}
 use Rattle.dr_site.specs.Parts.{Part}
 use Rattle.dr_node.specs.declared.node.Node.{Node}
+use Rattle.dr_node.specs.Desks.{StaysAway}
 use Rattle.dr_node.specs.Sides.{Deed}
 use Rattle.dr_session.specs.declared.ends.LinkAction.{LinkAction}
 use Rattle.dr_session.specs.Desks.{Arrive, Arrival}
@@ -25,7 +27,7 @@ use Rattle.dr_world.specs.declared.steps.StepNote.TheVariants.{Done, Skipped, Re
 use Rattle.dr_world.specs.declared.wires.Wires.{Wires}
 use Rattle.dr_world.specs.declared.world.World.{World}
 use Rattle.dr_world.specs.Shows.{Contents, Seat, ShowsBytes, IsSeated, Becomes, with_desk_of}
-use Rattle.dr_world.specs.Laws.{with_time, with_seats}
+use Rattle.dr_world.specs.Laws.{away_note, with_time, with_seats}
 use Rattle.dr_world.specs.Ends.{IsDone, note_by}
 use Rattle.dr_world.specs.Nodes.{AllStandIn, seat_of, seats_of}
 
@@ -85,6 +87,12 @@ Submits item seat note t =
     (reply : Reply)
     × RoutedStep (site_routing seat.site) seat.desk (Arrive local item) (Arrival reply) t
     × (noted note ≡ bytes.note_of reply)
+
+abbrev pub StaysAwayFrom : Text → ℕ → Seat → StepNote → Desk → Type 0
+StaysAwayFrom to now seat note t =
+    (result : Result (Option Text) LedgerFault)
+    × StaysAway to now seat.desk result t
+    × (noted note ≡ away_note result)
 
 abbrev pub Puts : Text → Text → Seat → StepNote → Desk → Type 0
 Puts uid dest seat note t =

@@ -1,6 +1,6 @@
 //! Laws: what is done to a world's contents is a step of the world of bytes beside it.
 ghost use Rattle.dr_world.specs.Ended.{MoveEndsPdu};
-ghost use Rattle.dr_world.specs.Laws.{DropIsShown, EndStaysOfItsSite, ForgetIsShown};
+ghost use Rattle.dr_world.specs.Laws.{AwayIsShown, DropIsShown, EndStaysOfItsSite, ForgetIsShown};
 ghost use Rattle.dr_world.specs.Laws.{MoveIsShown};
 ghost use Rattle.dr_world.specs.Laws.{NewIsBeginning, OthersAreCounted, RefuseIsShown};
 ghost use Rattle.dr_world.specs.Laws.{RequeueIsShown, StrangerIsSkipped, SubmitIsShown};
@@ -31,6 +31,7 @@ pub fn ticks()
 pub fn acts_at_nodes()
     ensures stranger { StrangerIsSkipped }
     ensures submit { SubmitIsShown }
+    ensures away { AwayIsShown }
     ensures requeue { RequeueIsShown }
     ensures drop { DropIsShown }
     ensures forget { ForgetIsShown }

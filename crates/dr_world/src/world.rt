@@ -4,12 +4,13 @@ ghost use Rattle.std.specs.BTreeMap as tree;
 ghost use Rattle.dr_base.specs.Texts.{text_cmp};
 ghost use Rattle.dr_session.specs.declared.ends.Heard.TheVariants as heard;
 ghost use Rattle.dr_node.specs.declared.event.LinkEvent.TheVariants as event_of;
-ghost use Rattle.dr_world_tie.specs.ByteWorlds.{Abort, Close as CloseStep, Drop as DropStep};
+ghost use Rattle.dr_world_tie.specs.ByteWorlds.{Abort, Away, Close as CloseStep, Drop as DropStep};
 ghost use Rattle.dr_world_tie.specs.ByteWorlds.{Forget, Late, Open};
 ghost use Rattle.dr_world_tie.specs.ByteWorlds.{Push, Refuse, Release, Requestor, Requeue, Restart};
 ghost use Rattle.dr_world_tie.specs.ByteWorlds.{Submit, Tick};
 ghost use Rattle.dr_world.specs.declared.steps.StepNote.TheVariants.{Done as WasDone};
 ghost use Rattle.dr_world.specs.Ends.{named, note_by};
+ghost use Rattle.dr_world.specs.Laws.{away_note};
 ghost use Rattle.dr_world.specs.Nodes.{event_at, over_at, push_at as pushed_at};
 ghost use Rattle.dr_world.specs.declared.deed.Deed.TheVariants as deeds;
 ghost use Rattle.dr_world.specs.declared.fault.WorldFault.{WorldFault as FaultValue};
@@ -18,7 +19,8 @@ ghost use Rattle.dr_world.specs.Runs.{GoesOn, HoldsAfter, HoldsAfterAll, Leads, 
 ghost use Rattle.dr_world.specs.Reports.{IsReported, ListsBook, bodies_of, books_of, has_in};
 ghost use Rattle.dr_world.specs.Restarted.{AllFarHear, FarHears};
 ghost use Rattle.dr_world.specs.Whole.{AllStand, Calls, GivesUp, HasTicked, IsSameWorld};
-ghost use Rattle.dr_world.specs.Whole.{IsToldToRefuse, LetsGoOf, Meets, Puts, StepsTo, Submits};
+ghost use Rattle.dr_world.specs.Whole.{IsToldToRefuse, LetsGoOf, Meets, Puts, StaysAwayFrom};
+ghost use Rattle.dr_world.specs.Whole.{StepsTo, Submits};
 ghost use Rattle.dr_world.specs.Whole.{noted};
 
 mod adopting;
@@ -33,7 +35,7 @@ use crate::steps::StepNote;
 use crate::time::Time;
 use crate::wires::Wires;
 use dr_base::Text;
-use dr_ledger::{Item, Ledger, LetsGo, Refusing};
+use dr_ledger::{Item, Ledger, LedgerFault, LetsGo, Refusing};
 use dr_node::{LinkEvent, Node};
 use dr_session::{Heard, LinkAction};
 use dr_world_script::{Side, Step};
@@ -129,6 +131,20 @@ impl<L: Ledger> World<L> {
         let_go(self.wires.insert(link, wires)?);
         self.opened = link;
         Ok(StepNote::Done)
+    }
+
+    /// One node comes to no link to another: the first row that is due there is due later. Skipped
+    /// where there is no such node, or no row is due.
+    fn away(&mut self, from: &Text, to: &Text) -> StepNote
+        ensures calls { Calls (StaysAwayFrom to.now self.old.time.passed) from.now self.old result
+            self.new }
+        ensures step { StepsTo (Away from.now to.now) self.old result self.new }
+    {
+        let now = self.time.moment();
+        let Some(node) = self.nodes.get_mut(from) else {
+            return StepNote::Skipped;
+        };
+        note_of_away(node.stay_away(to, now))
     }
 
     /// Something happens at an end of a link, and what the end writes goes onto the other one's
@@ -288,6 +304,17 @@ fn ended() -> LinkEvent
 /// Wires that are needed no more.
 fn let_go(_wires: Option<Wires>) {}
 
+/// Where no row was due it is noted as skipped.
+fn note_of_away(came: Result<Option<Text>, LedgerFault>) -> StepNote
+    ensures { noted result ≡ away_note came }
+{
+    match came {
+        Ok(Some(_)) => StepNote::Done,
+        Ok(None) => StepNote::Skipped,
+        Err(fault) => StepNote::Refused(fault),
+    }
+}
+
 /// Where nothing was written it is noted as skipped.
 fn note_of(actions: &[LinkAction]) -> StepNote
     ensures { noted result ≡ note_by actions.now }
@@ -426,6 +453,7 @@ impl<L: LetsGo> World<Refusing<L>> {
                 Ok(self.submit(node, item))
             }
             Step::Open { from, to } => self.open(from, to),
+            Step::Away { from, to } => Ok(self.away(from, to)),
             Step::Push { link } => self.push(*link),
             Step::Abort { link, side } => self.abort(*link, *side),
             Step::Release { link } => self.release(*link),

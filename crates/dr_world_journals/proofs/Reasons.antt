@@ -26,7 +26,7 @@ use Rattle.dr_ledger.proofs.Since.{Acknowledges, none_taken, nothing_taken, take
 use Rattle.dr_world_model.specs.Among.{Act, Agrees, Calls, Does, Doing, Other, Ours, Own, Replies, RunsAmong, Stores, Takes, Turn, Turns, answered_link}
 use Rattle.dr_world_model.specs.Calls.{Answer, Arriving, Called, Reply, Settlement, StoreOutcome, status_of}
 use Rattle.dr_world_model.specs.Claims.{Has, HadArrival, IsToSend, WasCarriedOver}
-use Rattle.dr_world_model.specs.Events.{Event, Take, Ask, AgreeReceiver, AgreeCaller, Give, Receive, Answered, BreakCaller, BreakReceiver, Close, Restart, Requeue, Drop, Forget, Refuse, Tick, Step}
+use Rattle.dr_world_model.specs.Events.{Event, Take, Ask, AgreeReceiver, AgreeCaller, Give, Receive, Answered, BreakCaller, BreakReceiver, Close, Restart, Requeue, Drop, Forget, Refuse, StayAway, Tick, Step}
 use Rattle.dr_world_model.specs.Steps.{IsLink, asked, SettlesFirst, OpensLink, pending, SettlesPending, Leaves, LeavesIfOn, LeaveAll, callers_of, Gives, Receives, new_link, passed}
 use Rattle.dr_world_model.specs.Worlds.{World, Link, Contexts, Asking, Answering, Rejecting, Open, Storing, Replying, Gone, at_stage, start, with_armed, with_link, without_caller, without_receiver}
 use Rattle.dr_world_model.proofs.AdoptionsKept.{no_row, node_or_not}
@@ -430,6 +430,7 @@ module _ (ours : Ours) (plan : Network) where
       })))
   step_reasons (Requeue node uid dest answer) w new safe g r s = by_quiet w new g r (quiet_call _ w new node _ s.1.book s.1.called (λ c i h. requeued_took uid dest (w.books node) s.1.book answer c i s.1.call h))
   step_reasons (Drop node uid dest answer) w new safe g r s = by_quiet w new g r (quiet_call _ w new node _ s.1.book s.1.called (λ c i h. dropped_took uid dest w.time (w.books node) s.1.book answer c i s.1.call h))
+  step_reasons (StayAway node uid dest answer) w new safe g r s = by_quiet w new g r (quiet_settling w new node uid dest Broken answer s.1)
   step_reasons (Forget node uid answer) w new safe g r s = by_quiet w new g r (quiet_call _ w new node _ s.2.book s.2.called (λ c i h. forgotten_took uid (w.books node) s.2.book answer c i s.2.call h))
   step_reasons (Refuse node) w new safe g r s = by_quiet w new g r (subst (IsQuiet w) (sym s.1) (same_books w))
     where

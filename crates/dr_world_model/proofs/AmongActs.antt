@@ -29,7 +29,7 @@ use Rattle.dr_world_model.specs.Among.{Ours, ArrivesAtOurs, Doing, Calls, Takes,
 use Rattle.dr_world_model.specs.Worlds.{World, Link, Contexts, Stage, Asking, Answering, Rejecting, Open, Storing, Replying, Gone, start, with_link, with_links, without_caller, at_stage}
 use Rattle.dr_world_model.specs.Calls.{Reply, Answer, Settlement, status_of}
 use Rattle.dr_world_model.specs.Steps.{IsLink, SettlesFirst, OpensLink, pending, SettlesPending, Leaves, LeavesIfOn, LeaveAll, callers_of, links_without, ReadsAnswer, Gives, Receives, ReadsReply}
-use Rattle.dr_world_model.specs.Events.{Event, Take, Ask, AgreeReceiver, AgreeCaller, Give, Receive, Answered, BreakCaller, BreakReceiver, Close, Restart, Requeue, Drop, Forget, Refuse, Tick, HasNode, Step}
+use Rattle.dr_world_model.specs.Events.{Event, Take, Ask, AgreeReceiver, AgreeCaller, Give, Receive, Answered, BreakCaller, BreakReceiver, Close, Restart, Requeue, Drop, Forget, Refuse, StayAway, Tick, HasNode, Step}
 use Rattle.dr_world_model.specs.Claims.{CoversHop, HadArrival, IsKept, IsOpen, IsToGo, IsToSend, NobodyDropped, WasGivenUp}
 use Rattle.dr_world_model.proofs.AdoptionsKept.{adopted_right, empty_right, no_row, node_or_not, queued_not_done, was_queued}
 use Rattle.dr_world_model.proofs.CallsKept.{one_item, broken_not_done}
@@ -212,6 +212,7 @@ module _ (ours : Ours) (plan : Network) where
       subst (LivesAmong ours plan w) (sym s.2) (lives_on w s.0 (with_links s.0 (links_without s.0.links node)) kept last)
   step_among sound (Requeue node uid dest answer) w new safe own s = lives w new (requeue_among ours plan w safe node uid dest answer new s.1)
   step_among sound (Drop node uid dest answer) w new safe own s = lives w new (giving_up_among ours plan w safe node uid dest answer new s.1)
+  step_among sound (StayAway node uid dest answer) w new safe own s = lives w new (broken_among w new node uid dest answer safe s.1)
   step_among sound (Forget node uid answer) w new safe own s = lives w new (forgetting_among ours plan w safe node uid answer new s.1 s.2)
   step_among sound (Refuse node) w new safe own s =
       same_lives w new safe (ap (λ v. v.books) s.1) (ap (λ v. v.stood) s.1) (λ number link h. safe.links number link (ap (λ (v : World). map.get v.links number) (sym s.1) ∙ h))

@@ -84,7 +84,7 @@ neither : (a b : Bool) → cond a true b ≡ false → (a ≡ false) × (b ≡ f
 neither true b h = absurd (let e : ⊥ = cc in e)
 neither false b h = (refl, h)
 
-differ : (a b : Text) → same_text a b ≡ false → a ≢ b
+pub differ : (a b : Text) → same_text a b ≡ false → a ≢ b
 differ a b f e = no_way _ (subst (λ x. same_text a x ≡ true) e (ties_itself texts a)) f
   where
     no_way : (c : Bool) → c ≡ true → c ≡ false → ⊥

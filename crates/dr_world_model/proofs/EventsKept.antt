@@ -19,7 +19,7 @@ use Rattle.dr_ledger.specs.Replies.{IsNext}
 use Rattle.dr_world_model.specs.Worlds.{World, Link, Contexts, Stage, Asking, Answering, Rejecting, Open, Storing, Replying, Gone, with_link, with_links, without_caller, at_stage}
 use Rattle.dr_world_model.specs.Calls.{Reply, Answer, Arriving, Settlement, status_of}
 use Rattle.dr_world_model.specs.Steps.{IsLink, AcceptsOffered, SettlesFirst, OpensLink, pending, SettlesPending, Leaves, LeavesIfOn, LeaveAll, callers_of, links_without, is_of, ReadsAnswer, Gives, Receives, ReadsReply}
-use Rattle.dr_world_model.specs.Events.{Event, Take, Ask, AgreeReceiver, AgreeCaller, Give, Receive, Answered, BreakCaller, BreakReceiver, Close, Restart, Requeue, Drop, Forget, Refuse, Tick, Step}
+use Rattle.dr_world_model.specs.Events.{Event, Take, Ask, AgreeReceiver, AgreeCaller, Give, Receive, Answered, BreakCaller, BreakReceiver, Close, Restart, Requeue, Drop, Forget, Refuse, StayAway, Tick, Step}
 use Rattle.dr_world_model.specs.Claims.{HadArrival, IsFairStatus, CoversHop}
 use Rattle.dr_ledger.proofs.Maps.{got}
 use Rattle.dr_world_model.proofs.Lookups.{numbers}
@@ -231,6 +231,7 @@ step_kept plan sound (Restart node answers) w new safe s =
     subst (Lives plan w) (sym s.2) (lives_on plan w s.0 (with_links s.0 (links_without s.0.links node)) kept last)
 step_kept plan sound (Requeue node uid dest answer) w new safe s = lives plan w new (requeue_kept plan w safe node uid dest answer new s.1)
 step_kept plan sound (Drop node uid dest answer) w new safe s = lives plan w new (giving_up_kept plan w safe node uid dest answer new s.1)
+step_kept plan sound (StayAway node uid dest answer) w new safe s = lives plan w new (broken_kept plan w new node uid dest answer safe s.1)
 step_kept plan sound (Forget node uid answer) w new safe s = lives plan w new (forgetting_kept plan w safe node uid answer new s.1 s.2)
 step_kept plan sound (Refuse node) w new safe s =
     same_kept plan w new safe (ap (λ v. v.books) s.1) (ap (λ v. v.stood) s.1) (λ number link h. safe.links number link (ap (λ (v : World). map.get v.links number) (sym s.1) ∙ h))

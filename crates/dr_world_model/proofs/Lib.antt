@@ -26,6 +26,7 @@ pub mod Restarting
 pub mod Safety
 pub mod SpentWell
 pub mod CarriedOver
+pub mod StayedAway
 pub mod Stepwise
 pub mod Submitted
 pub mod TwoNodesRunning

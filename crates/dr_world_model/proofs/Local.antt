@@ -13,7 +13,7 @@ use Rattle.dr_ledger.proofs.Maps.{texts, same_or_not, got, get_other, cases_of}
 use Rattle.dr_world_model.specs.Worlds.{World, Link, same_text, with_link, without_caller}
 use Rattle.dr_world_model.specs.Calls.{Answer, StoreOutcome, Called}
 use Rattle.dr_world_model.specs.Steps.{IsLink, SettlesFirst, OpensLink, pending, SettlesPending, Leaves, LeavesIfOn, LeaveAll, callers_of, is_of, links_without, Gives}
-use Rattle.dr_world_model.specs.Events.{Take, Ask, AgreeReceiver, AgreeCaller, Give, Receive, Answered, BreakCaller, BreakReceiver, Close, Restart, Requeue, Drop, Forget, Refuse, Tick}
+use Rattle.dr_world_model.specs.Events.{Take, Ask, AgreeReceiver, AgreeCaller, Give, Receive, Answered, BreakCaller, BreakReceiver, Close, Restart, Requeue, Drop, Forget, Refuse, StayAway, Tick}
 use Rattle.dr_world_model.specs.Pinning.{EventsAreLocal}
 use Rattle.dr_world_model.proofs.Lookups.{numbers}
 use Rattle.dr_world_model.proofs.Safety.{book_there}
@@ -193,6 +193,7 @@ events_are_local plan w v (Restart node answers) s =
     )
 events_are_local plan w v (Requeue node uid dest answer) s = called_local _ w v node _ s.1.book (λ n. n ≡ node) (λ m. ⊥) s.1.called refl
 events_are_local plan w v (Drop node uid dest answer) s = called_local _ w v node _ s.1.book (λ n. n ≡ node) (λ m. ⊥) s.1.called refl
+events_are_local plan w v (StayAway node uid dest answer) s = called_local _ w v node _ s.1.book (λ n. n ≡ node) (λ m. ⊥) s.1.called refl
 events_are_local plan w v (Forget node uid answer) s = called_local _ w v node _ s.2.book (λ n. n ≡ node) (λ m. ⊥) s.2.called refl
 events_are_local plan w v (Refuse node) s = same_parts w v (λ n. ⊥) (λ m. ⊥) (ap (λ (u : World). u.books) s.1) (ap (λ (u : World). u.links) s.1)
   where

@@ -12,7 +12,7 @@ use Rattle.dr_ledger.specs.Replies.{IsNext}
 use Rattle.dr_world_model.specs.Worlds.{World, Link, Contexts, Answering, Rejecting, Open, Storing, Replying, Gone, with_armed, with_link, with_links, without_caller, without_receiver, at_stage}
 use Rattle.dr_world_model.specs.Calls.{Reply, Answer, Arriving, Settlement, status_of}
 use Rattle.dr_world_model.specs.Steps.{IsLink, AnswersRequest, SettlesFirst, OpensLink, ReadsAnswer, after_settling, GivesItem, Gives, Receives, ReadsReply, pending, SettlesPending, Leaves, LeavesIfOn, LeaveAll, Closes, Restarts, callers_of, links_without}
-use Rattle.dr_world_model.specs.Events.{Event, Take, Ask, AgreeReceiver, AgreeCaller, Give, Receive, Answered, BreakCaller, BreakReceiver, Close, Restart, Requeue, Drop, Forget, Refuse, Tick, Step}
+use Rattle.dr_world_model.specs.Events.{Event, Take, Ask, AgreeReceiver, AgreeCaller, Give, Receive, Answered, BreakCaller, BreakReceiver, Close, Restart, Requeue, Drop, Forget, Refuse, StayAway, Tick, Step}
 use Rattle.dr_world_model.specs.Laws.{StepIsAFunction, AdoptionIsAFunction}
 use Rattle.dr_world_model.proofs.AdoptionsKept.{node_or_not}
 use Rattle.dr_world_model.proofs.OneReply.{next_same, Alike, same_alike, link_alike, alike_same, same_link, arriving_alike, settlement_alike, requeueing_alike, giving_up_alike, letting_go_alike}
@@ -184,6 +184,7 @@ step_alike plan w (Close number answer) a b p q = closes_alike w a b number answ
 step_alike plan w (Restart node answers) a b p q = restarts_alike w a b node answers p q
 step_alike plan w (Requeue node uid dest answer) a b p q = requeueing_alike w w.armed a b node uid dest answer p.1 q.1
 step_alike plan w (Drop node uid dest answer) a b p q = giving_up_alike w w.armed a b node uid dest answer p.1 q.1
+step_alike plan w (StayAway node uid dest answer) a b p q = settlement_alike w w.armed a b node uid dest Broken answer p.1 q.1
 step_alike plan w (Forget node uid answer) a b p q = letting_go_alike w w.armed a b node uid answer p.2 q.2
 step_alike plan w (Refuse node) a b p q = same_alike a b (p.1 ∙ sym q.1)
 step_alike plan w (Tick ms) a b p q = same_alike a b (p ∙ sym q)

@@ -216,6 +216,7 @@ module _ (plan : Network) (w : World) where
         is = refl;
       },
     );
+    away = λ node uid dest is. (unwritten node, (is, unsettled node uid dest Broken));
     requeue = λ node uid dest is.
         (unwritten node, (is, record { book = w.books node; call = refl; called = record { armed = w.armed; store = inl refl; is = refl } }));
     drop = λ node uid dest is.
@@ -255,6 +256,9 @@ module _ (plan : Network) (w : World) where
         is = refl;
       },
     );
+    away = λ node uid dest is writes waits. (settled w node uid dest Broken, (is, settles w node uid dest Broken writes waits));
+    away_settled_before = λ node uid dest is waits_not.
+        (unwritten node, (is, record { book = w.books node; call = (waits_not, refl); called = record { armed = w.armed; store = refl; is = refl } }));
     requeue = λ node uid dest is writes held.
         let book = after (Requeuing uid dest) (w.books node) in
         (with_armed (with_book w node book) w.armed, (is, record { book = book; call = (held, refl); called = record { armed = w.armed; store = (writes, refl); is = refl } }));

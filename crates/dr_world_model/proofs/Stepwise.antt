@@ -16,7 +16,7 @@ use Rattle.dr_world_model.proofs.OneReply.{same_link}
 use Rattle.dr_world_model.specs.Worlds.{World, Link, with_link, with_links, with_armed, without_caller}
 use Rattle.dr_world_model.specs.Calls.{Reply, Answer, Arriving, Settlement, Requeueing, GivingUp, LettingGo}
 use Rattle.dr_world_model.specs.Steps.{IsHop, IsLink, SettlesFirst, OpensLink, pending, SettlesPending, Leaves, LeavesIfOn, LeaveAll, callers_of, links_without, asked, passed, Gives}
-use Rattle.dr_world_model.specs.Events.{HasNode, Event, Take, Ask, AgreeReceiver, AgreeCaller, Give, Receive, Answered, BreakCaller, BreakReceiver, Close, Restart, Requeue, Drop, Forget, Refuse, Tick, Step}
+use Rattle.dr_world_model.specs.Events.{HasNode, Event, Take, Ask, AgreeReceiver, AgreeCaller, Give, Receive, Answered, BreakCaller, BreakReceiver, Close, Restart, Requeue, Drop, Forget, Refuse, StayAway, Tick, Step}
 
 -- P is kept by what events are made of
 pub record Closed (plan : Network) (P : World → Type 0) : Type 0 where
@@ -113,6 +113,7 @@ module _ (plan : Network) (P : World → Type 0) (closed : Closed plan P) where
   step_keeps w (Restart node answers) v s p = subst P (sym s.2) (closed.forgot s.0 node (all_leave (callers_of w node) answers w s.0 s.1 p))
   step_keeps w (Requeue node uid dest answer) v s p = closed.requeueing w v node uid dest answer s.1 p
   step_keeps w (Drop node uid dest answer) v s p = closed.giving_up w v node uid dest answer s.1 p
+  step_keeps w (StayAway node uid dest answer) v s p = closed.settling w v node uid dest Broken answer s.1 p
   step_keeps w (Forget node uid answer) v s p = closed.letting_go w v node uid answer s.2 p
   step_keeps w (Refuse node) v s p = subst P (sym s.1) (closed.told w node s.0 p)
   step_keeps w (Tick ms) v s p = subst P (sym s) (closed.waited w ms p)

@@ -23,7 +23,7 @@ use Rattle.dr_ledger.proofs.Needs.{one_instance_is_one_item}
 use Rattle.dr_world_model.specs.Worlds.{World, Link, start, with_link}
 use Rattle.dr_world_model.specs.Calls.{Reply, Answer, StoreOutcome, Called, Arriving, Settlement}
 use Rattle.dr_world_model.specs.Steps.{IsLink, SettlesFirst, OpensLink, pending, SettlesPending, Leaves, LeavesIfOn, LeaveAll, callers_of, Gives}
-use Rattle.dr_world_model.specs.Events.{Event, Take, Ask, AgreeReceiver, AgreeCaller, Give, Receive, Answered, BreakCaller, BreakReceiver, Close, Restart, Requeue, Drop, Forget, Refuse, Tick, Step}
+use Rattle.dr_world_model.specs.Events.{Event, Take, Ask, AgreeReceiver, AgreeCaller, Give, Receive, Answered, BreakCaller, BreakReceiver, Close, Restart, Requeue, Drop, Forget, Refuse, StayAway, Tick, Step}
 use Rattle.dr_world_model.specs.Runs.{Adopts, Action, Occurs, Adopt, Runs}
 use Rattle.dr_world_model.specs.Unchanged.{IsSubmitted, NothingIsMadeUp, WasSubmitted, WhatIsThereIsUnchanged}
 use Rattle.dr_ledger.proofs.Forgotten.{item_left}
@@ -214,6 +214,7 @@ module _ (T : Instance → Type 0) where
       called _ w v node _ s.1.book s.1.called (λ u i h. k.0 node u i (ap (λ (items : FinMap text_cmp Instance). map.get items u) (sym (requeued_items uid dest (w.books node) s.1.book answer s.1.call)) ∙ h)) k
   step_known plan w (Drop node uid dest answer) v s t k =
       called _ w v node _ s.1.book s.1.called (λ u i h. k.0 node u i (ap (λ (items : FinMap text_cmp Instance). map.get items u) (sym (dropped_items uid dest w.time (w.books node) s.1.book answer s.1.call)) ∙ h)) k
+  step_known plan w (StayAway node uid dest answer) v s t k = settling w v node uid dest Broken answer s.1 k
   step_known plan w (Forget node uid answer) v s t k =
       called _ w v node _ s.2.book s.2.called (λ u i h. k.0 node u i (forgotten_items uid (w.books node) s.2.book answer s.2.call u i h)) k
   step_known plan w (Refuse node) v s t k = subst Known (sym s.1) k

@@ -23,7 +23,7 @@ use Rattle.dr_world_model.specs.Worlds.{at_stage}
 use Rattle.dr_world_model.specs.Steps.{IsLink, asked}
 use Rattle.dr_world_model.specs.Events.{Event, Take, Ask, AgreeReceiver, AgreeCaller, Give, Receive}
 use Rattle.dr_world_model.specs.Events.{Answered, BreakCaller, BreakReceiver, Close, Restart}
-use Rattle.dr_world_model.specs.Events.{Requeue, Drop, Forget, Refuse, Tick, HasNode}
+use Rattle.dr_world_model.specs.Events.{Requeue, Drop, Forget, Refuse, StayAway, Tick, HasNode}
 use Rattle.dr_world_model.specs.Events.{Step}
 use Rattle.dr_world_model.specs.Runs.{IsAdoptable, Action, Occurs, Adopt, Runs}
 use Rattle.dr_world_model.specs.Claims.{CoversHop, Has, HadArrival, Headline, HasItems, HasRow}
@@ -54,6 +54,7 @@ ArrivesAtOurs ours w (Close link answer) = Unit {0}
 ArrivesAtOurs ours w (Restart node answers) = Unit {0}
 ArrivesAtOurs ours w (Requeue node uid dest answer) = Unit {0}
 ArrivesAtOurs ours w (Drop node uid dest answer) = Unit {0}
+ArrivesAtOurs ours w (StayAway node uid dest answer) = Unit {0}
 ArrivesAtOurs ours w (Forget node uid answer) = Unit {0}
 ArrivesAtOurs ours w (Refuse node) = Unit {0}
 ArrivesAtOurs ours w (Tick ms) = Unit {0}

@@ -13,7 +13,7 @@ use Rattle.dr_world_model.specs.Calls.{Reply, Answer, Arriving, Requeueing, Givi
 use Rattle.dr_world_model.specs.Calls.{LettingGo}
 use Rattle.dr_world_model.specs.Steps.{IsHop, asked, AnswersRequest, ReadsAnswer, Gives, Receives}
 use Rattle.dr_world_model.specs.Steps.{ReadsReply, Leaves, Drops, Closes, Restarts, NoneIsPending}
-use Rattle.dr_world_model.specs.Steps.{passed}
+use Rattle.dr_world_model.specs.Steps.{StaysAway, passed}
 
 -- `None` in place of an answer: nothing was settled.
 pub data Event : Type 0 where
@@ -35,6 +35,8 @@ pub data Event : Type 0 where
   Requeue : (node : Text) → (uid : Text) → (dest : Text) → (answer : Answer) → Event
   -- a held row is given up, by name
   Drop : (node : Text) → (uid : Text) → (dest : Text) → (answer : Answer) → Event
+  -- a caller that came to no link: a row for the receiver is settled as broken
+  StayAway : (node : Text) → (uid : Text) → (dest : Text) → (answer : Answer) → Event
   -- a node forgets what it has sent on everywhere and doesn't keep
   Forget : (node : Text) → (uid : Text) → (answer : Answer) → Event
   Refuse : (node : Text) → Event  -- a node's store is to refuse the next line
@@ -63,6 +65,8 @@ Step plan old (Requeue node uid dest answer) new =
     HasNode plan node × Requeueing old node uid dest answer new
 Step plan old (Drop node uid dest answer) new =
     HasNode plan node × GivingUp old node uid dest answer new
+Step plan old (StayAway node uid dest answer) new =
+    HasNode plan node × StaysAway old node uid dest answer new
 Step plan old (Forget node uid answer) new =
     HasNode plan node × NoneIsPending old node uid × LettingGo old node uid answer new
 Step plan old (Refuse node) new =

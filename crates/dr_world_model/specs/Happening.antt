@@ -19,7 +19,7 @@ use Rattle.dr_world_model.specs.Steps.{IsHop, IsLink, AcceptsOffered, NoneIsPend
 use Rattle.dr_world_model.specs.Steps.{pending}
 use Rattle.dr_world_model.specs.Events.{Event, Take, Ask, AgreeReceiver, AgreeCaller, Give, Receive}
 use Rattle.dr_world_model.specs.Events.{Answered, BreakCaller, BreakReceiver, Close, Restart}
-use Rattle.dr_world_model.specs.Events.{Requeue, Drop, Forget, Refuse, Tick}
+use Rattle.dr_world_model.specs.Events.{Requeue, Drop, Forget, Refuse, StayAway, Tick}
 use Rattle.dr_world_model.specs.Events.{HasNode, Step}
 use Rattle.dr_world_model.specs.Runs.{IsAdoptable, MayAdopt, Adopts, Occurs, Adopt, Runs}
 use Rattle.dr_world_model.specs.Claims.{HadArrival, HasRow, WasCarriedOver}
@@ -154,8 +154,8 @@ pub record StoresHappen (plan : Network) (w : World) : Type 0 where
       → (IsWaiting (w.books link.caller) item.uid link.receiver → ⊥)
       → CanHappen plan w (Answered number (Err fault.NotWaiting))
 
--- a store that fails can refuse what is to be written of a reply, of a caller that leaves, of a
--- held row, and of what is forgotten
+-- a store that fails can refuse what is to be written of a reply, of a caller that leaves or stays
+-- away, of a held row, and of what is forgotten
 pub record RefusalsHappen (plan : Network) (w : World) : Type 0 where
   pub answered : (number : ℕ) (link : Link) (accepted : Contexts) (item : Instance) (status : ℕ)
       → IsCallers w number link
@@ -165,6 +165,8 @@ pub record RefusalsHappen (plan : Network) (w : World) : Type 0 where
       → IsCallers w number link
       → pending link.stage ≡ Some item
       → CanHappen plan w (BreakCaller number (Some (Err fault.Store)))
+  pub away : (node uid dest : Text) → HasNode plan node
+      → CanHappen plan w (StayAway node uid dest (Err fault.Store))
   pub requeue : (node uid dest : Text) → HasNode plan node
       → CanHappen plan w (Requeue node uid dest (Err fault.Store))
   pub drop : (node uid dest : Text) → HasNode plan node
@@ -172,8 +174,8 @@ pub record RefusalsHappen (plan : Network) (w : World) : Type 0 where
   pub forget : (node uid : Text) → HasNode plan node → NoneIsPending w node uid
       → CanHappen plan w (Forget node uid (Err fault.Store))
 
--- links end, nodes restart, held rows are put back or given up, stores are told to refuse, and time
--- passes
+-- links end, callers stay away, held rows are put back or given up, what is over is forgotten,
+-- stores are told to refuse, and time passes
 pub record EndingsHappen (plan : Network) (w : World) : Type 0 where
   pub idle_caller : (number : ℕ) (link : Link)
       → IsCallers w number link
@@ -202,6 +204,12 @@ pub record EndingsHappen (plan : Network) (w : World) : Type 0 where
       → Writes w link.caller
       → IsWaiting (w.books link.caller) item.uid link.receiver
       → CanHappen plan w (Close number (Some (Ok tt)))
+  pub away : (node uid dest : Text) → HasNode plan node → Writes w node
+      → IsWaiting (w.books node) uid dest
+      → CanHappen plan w (StayAway node uid dest (Ok tt))
+  pub away_settled_before : (node uid dest : Text) → HasNode plan node
+      → (IsWaiting (w.books node) uid dest → ⊥)
+      → CanHappen plan w (StayAway node uid dest (Err fault.NotWaiting))
   pub requeue : (node uid dest : Text) → HasNode plan node → Writes w node
       → IsHeld (w.books node) uid dest
       → CanHappen plan w (Requeue node uid dest (Ok tt))

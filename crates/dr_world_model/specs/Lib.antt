@@ -10,6 +10,7 @@ pub mod Laws
 pub mod Pinning
 pub mod Runs
 pub mod Spending
+pub mod StayingAway
 pub mod Steps
 pub mod Strangers
 pub mod Theorem

@@ -20,7 +20,7 @@ use Rattle.dr_world_model.specs.Steps.{IsLink, AnswersRequest, ReadsAnswer, Rece
 use Rattle.dr_world_model.specs.Steps.{Drops, Closes, Restarts, others, others_of, callers_of}
 use Rattle.dr_world_model.specs.Events.{Event, Take, Ask, AgreeReceiver, AgreeCaller, Give, Receive}
 use Rattle.dr_world_model.specs.Events.{Answered, BreakCaller, BreakReceiver, Close, Restart}
-use Rattle.dr_world_model.specs.Events.{Requeue, Drop, Forget, Refuse, Tick, Step}
+use Rattle.dr_world_model.specs.Events.{Requeue, Drop, Forget, Refuse, StayAway, Tick, Step}
 use Rattle.dr_world_model.specs.Claims.{HasRow}
 use Rattle.dr_world_model.specs.Endings.{IsUnderWay}
 
@@ -52,6 +52,7 @@ WritesAt w (Restart node answers) name =
     × (link.caller ≡ name)
 WritesAt w (Requeue node uid dest answer) name = name ≡ node
 WritesAt w (Drop node uid dest answer) name = name ≡ node
+WritesAt w (StayAway node uid dest answer) name = name ≡ node
 WritesAt w (Forget node uid answer) name = name ≡ node
 WritesAt w (Refuse node) name = ⊥
 WritesAt w (Tick ms) name = ⊥
@@ -72,6 +73,7 @@ Touches w (Restart node answers) number =
     (link : Link) × IsLink w number link × ((link.caller ≡ node) ⊎ (link.receiver ≡ node))
 Touches w (Requeue node uid dest answer) number = ⊥
 Touches w (Drop node uid dest answer) number = ⊥
+Touches w (StayAway node uid dest answer) number = ⊥
 Touches w (Forget node uid answer) number = ⊥
 Touches w (Refuse node) number = ⊥
 Touches w (Tick ms) number = ⊥

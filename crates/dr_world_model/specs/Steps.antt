@@ -133,6 +133,12 @@ pub record ReadsAnswer (old : World) (number : ℕ) (reply : Option Answer)
       × SettlesFirst old link reply mid
       × (new ≡ with_link mid number (without_caller link))))
 
+-- A caller that came to no link settles a row for the receiver as broken. It looked for the first
+-- row that was due before it called, and in between others may have come.
+abbrev pub StaysAway : World → Text → Text → Text → Answer → World → Type 0
+StaysAway old caller uid receiver answer new =
+    Settlement old caller uid receiver Broken answer new
+
 -- ---- a store and its reply
 
 -- a caller whose settling failed leaves the link

@@ -20,6 +20,8 @@ ghost use Rattle.dr_world_model.specs.Pinning.{RestartsInOrder};
 ghost use Rattle.dr_world_model.specs.Spending.{ArrivalsSpendWell, DroppingsSpendWell};
 ghost use Rattle.dr_world_model.specs.Spending.{ForgettingsSpendWell};
 ghost use Rattle.dr_world_model.specs.Spending.{RequeuingsSpendWell, SettlingsSpendWell};
+ghost use Rattle.dr_world_model.specs.StayingAway.{AwayLeavesAllElse, AwayTriesAgain};
+ghost use Rattle.dr_world_model.specs.StayingAway.{RefusedAwayIsNothing};
 ghost use Rattle.dr_world_model.specs.Strangers.{StrangersHaveNothing, TimeIsBounded};
 ghost use Rattle.dr_world_model.specs.Theorem.{WhatNobodyGaveUpIsThere};
 ghost use Rattle.dr_world_model.specs.Unchanged.{NothingIsMadeUp, WhatIsThereIsUnchanged};
@@ -121,6 +123,14 @@ pub fn leaving_tries_again()
     ensures again { LeavingTriesAgain }
     ensures settles { LeavingSettles }
     ensures off { LeftIsOff }
+{}
+
+/// Where a caller came to no link, the row that it was to send is tried again, later, and nothing
+/// that is kept or queued anywhere is lost; where that can't be written, no book changes.
+pub fn staying_away_tries_again()
+    ensures again { AwayTriesAgain }
+    ensures refused { RefusedAwayIsNothing }
+    ensures else_stays { AwayLeavesAllElse }
 {}
 
 /// A caller whose settling the store refused, or for which memory was wanting, leaves the link, and

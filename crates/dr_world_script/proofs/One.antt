@@ -73,6 +73,8 @@ follow_one word.Submit fields a b (node, digits, item, e, d, p, is) (mode, figur
     let h = submit_one node mode digits figures item job fields d g p q is also in e ∙ (rw (h.0, h.1) refl) ∙ sym f
 follow_one word.Open fields a b (x, y, e, d) (u, v, f, g) =
     let h : x ∷ y ∷ [] ≡ u ∷ v ∷ [] = sym d ∙ g in let p : x ≡ u = cc in let q : y ≡ v = cc in e ∙ (rw (p, q) refl) ∙ sym f
+follow_one word.Away fields a b (x, y, e, d) (u, v, f, g) =
+    let h : x ∷ y ∷ [] ≡ u ∷ v ∷ [] = sym d ∙ g in let p : x ≡ u = cc in let q : y ≡ v = cc in e ∙ (rw (p, q) refl) ∙ sym f
 follow_one word.Push fields a b (n, e, is) (m, f, also) = e ∙ ap Push (only_number n m fields is also) ∙ sym f
 follow_one word.Move fields a b (n, k, s, e, is) (m, l, t, f, also) =
     let h = move_one n m k l s t fields is also in e ∙ (rw (h.0, h.1, h.2) refl) ∙ sym f

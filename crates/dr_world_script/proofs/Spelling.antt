@@ -5,13 +5,14 @@ use Rattle.std.specs.Prelude.{codes, if◌then◌else◌, Option, Some}
 use Rattle.std.specs.Str.{bytes_eq}
 use Rattle.dr_base.specs.Texts.{Text}
 use Rattle.dr_world_script.specs.declared.step.Word.{Word}
-use Rattle.dr_world_script.specs.declared.step.Word.TheVariants.{Submit, Open, Push, Move, Abort, Release, Close, Late, Restart, Requeue, Drop, Forget, Tick, Refuse}
+use Rattle.dr_world_script.specs.declared.step.Word.TheVariants.{Submit, Open, Away, Push, Move, Abort, Release, Close, Late, Restart, Requeue, Drop, Forget, Tick, Refuse}
 use Rattle.dr_world_script.specs.Scripts.{adopt_word, spelled}
 
 word_in : Text → Option Word
 word_in text =
     if bytes_eq text (codes "submit") then Some Submit else
     if bytes_eq text (codes "open") then Some Open else
+    if bytes_eq text (codes "away") then Some Away else
     if bytes_eq text (codes "push") then Some Push else
     if bytes_eq text (codes "move") then Some Move else
     if bytes_eq text (codes "abort") then Some Abort else
@@ -29,6 +30,7 @@ known : (w : Word) → word_in (spelled w) ≡ Some w
 unfolding word_in
 known Submit = refl
 known Open = refl
+known Away = refl
 known Push = refl
 known Move = refl
 known Abort = refl
@@ -52,6 +54,7 @@ is_adopting text = bytes_eq text (codes "adopt")
 no_adoption : (w : Word) → is_adopting (spelled w) ≡ false
 no_adoption Submit = refl
 no_adoption Open = refl
+no_adoption Away = refl
 no_adoption Push = refl
 no_adoption Move = refl
 no_adoption Abort = refl

@@ -14,8 +14,8 @@ use Rattle.dr_world_script.specs.declared.act.Act.TheVariants as act
 use Rattle.dr_world_script.specs.declared.step.Side.{Side}
 use Rattle.dr_world_script.specs.declared.step.Side.TheVariants.{Requestor, Acceptor}
 use Rattle.dr_world_script.specs.declared.step.Step.{Step}
-use Rattle.dr_world_script.specs.declared.step.Step.TheVariants.{Submit, Open, Push, Move, Abort}
-use Rattle.dr_world_script.specs.declared.step.Step.TheVariants.{Release, Close, Late, Restart}
+use Rattle.dr_world_script.specs.declared.step.Step.TheVariants.{Submit, Open, Away, Push, Move}
+use Rattle.dr_world_script.specs.declared.step.Step.TheVariants.{Abort, Release, Close, Late, Restart}
 use Rattle.dr_world_script.specs.declared.step.Step.TheVariants.{Requeue, Drop, Forget, Tick}
 use Rattle.dr_world_script.specs.declared.step.Step.TheVariants.{RefuseStore}
 use Rattle.dr_world_script.specs.declared.step.Word.{Word}
@@ -29,6 +29,7 @@ use Rattle.dr_world_script.specs.declared.fault.ScriptFault.TheVariants as scrip
 abbrev pub spelled : Word → Text
 spelled word.Submit = codes "submit"
 spelled word.Open = codes "open"
+spelled word.Away = codes "away"
 spelled word.Push = codes "push"
 spelled word.Move = codes "move"
 spelled word.Abort = codes "abort"
@@ -87,6 +88,8 @@ Follows word.Submit fields step =
     × IsItem item
 Follows word.Open fields step =
     («from» «to» : Text) × (step ≡ Open «from» «to») × (fields ≡ «from» ∷ «to» ∷ [])
+Follows word.Away fields step =
+    («from» «to» : Text) × (step ≡ Away «from» «to») × (fields ≡ «from» ∷ «to» ∷ [])
 Follows word.Push fields step = (link : ℕ) × (step ≡ Push link) × AreNumber link fields
 Follows word.Move fields step =
     (link most : ℕ) × (reader : Side)

@@ -58,6 +58,7 @@ pub fn read_word(field: &[u8]) -> Option<Word>
     match field {
         b"submit" => Some(Word::Submit),
         b"open" => Some(Word::Open),
+        b"away" => Some(Word::Away),
         b"push" => Some(Word::Push),
         b"move" => Some(Word::Move),
         b"abort" => Some(Word::Abort),

@@ -161,6 +161,17 @@ fn read_open(alloc: Global, fields: &[&[u8]]) -> Result<Step, LineFault>
     Ok(Step::Open { from, to })
 }
 
+fn read_away(alloc: Global, fields: &[&[u8]]) -> Result<Step, LineFault>
+    ensures { ReadsFields words.Away (map (λ f. f.now) fields.now) result }
+{
+    let [first, second] = fields else {
+        return Err(LineFault::NoStep);
+    };
+    let from = Text::copy_of(alloc, first)?;
+    let to = Text::copy_of(alloc, second)?;
+    Ok(Step::Away { from, to })
+}
+
 fn read_requeue(alloc: Global, fields: &[&[u8]]) -> Result<Step, LineFault>
     ensures { ReadsFields words.Requeue (map (λ f. f.now) fields.now) result }
 {
@@ -239,6 +250,7 @@ fn read_fields(alloc: Global, word: Word, fields: &[&[u8]]) -> Result<Step, Line
     match word {
         Word::Submit => read_submit(alloc, fields),
         Word::Open => read_open(alloc, fields),
+        Word::Away => read_away(alloc, fields),
         Word::Push => read_push(fields),
         Word::Move => read_move(fields),
         Word::Abort => read_abort(fields),

@@ -18,6 +18,8 @@ pub enum Step {
     Submit { node: Text, item: Item },
     /// One node asks another for an association, over a new link.
     Open { from: Text, to: Text },
+    /// One node comes to no link to another: the first row that is due is due later.
+    Away { from: Text, to: Text },
     /// The requestor sends the first row that is due.
     Push { link: u64 },
     /// At most so many bytes that are on their way to the reader come to it, and none beyond the
@@ -50,6 +52,7 @@ pub enum Step {
 pub enum Word {
     Submit,
     Open,
+    Away,
     Push,
     Move,
     Abort,

@@ -6,7 +6,8 @@ use Rattle.dr_route.specs.Routes.{local}
 use Rattle.dr_ledger.specs.Books.{Book}
 use Rattle.dr_ledger.specs.Items.{instance_of}
 use Rattle.dr_ledger.specs.PlanRoutes.{plan_routing}
-use Rattle.dr_ledger.specs.Replies.{Arrives, Drops, Forgets, Requeues, IsAdmitted, IsHeld, IsOver}
+use Rattle.dr_ledger.specs.declared.item.Outcome.TheVariants.{Broken}
+use Rattle.dr_ledger.specs.Replies.{Arrives, Drops, Forgets, Requeues, Settles, IsAdmitted, IsHeld, IsOver, IsWaiting}
 use Rattle.dr_ledger.proofs.Maps.{texts, contains_new}
 use Rattle.dr_world_model.specs.Worlds.{with_book, with_armed}
 use Rattle.dr_world_model.specs.Calls.{store_outcome_of}
@@ -14,7 +15,7 @@ use Rattle.dr_world_model.specs.Steps.{passed}
 use Rattle.dr_world_model.proofs.Safety.{book_here, book_there}
 use Rattle.dr_world_tie.specs.Desks.{ArmedBy}
 use Rattle.dr_world_tie.specs.Nodes.{SubmittingTakes, RequeueingIsRequeue, GivingUpIsDrop, ForgettingIsForget}
-use Rattle.dr_world_tie.specs.Nodes.{RefusingIsRefuse, TimePasses}
+use Rattle.dr_world_tie.specs.Nodes.{RefusingIsRefuse, StayingAwayIsStayAway, TimePasses}
 use Rattle.dr_world_tie.proofs.CallerLeaving.{armed_after}
 use Rattle.dr_world_tie.proofs.Sites.{armed_by}
 
@@ -30,6 +31,32 @@ submitting_takes plan w name job s t reply node at h =
         record {
           book = t.book;
           call = subst (λ (b : Book). Arrives (plan_routing plan name) local (instance_of job) b reply t.book) at.0 h.0;
+          called = record { armed = a.0; store = a.1; is = refl };
+        },
+      );
+      desk_is = (sym (book_here w.books name t.book), a.2);
+      only = record {
+        books = λ other apart. book_there w.books name t.book other apart;
+        armed = a.3;
+        links = refl;
+        rest = (refl, refl, refl);
+      };
+    }
+
+pub staying_away_is_stay_away : StayingAwayIsStayAway
+staying_away_is_stay_away plan w name uid dest s t answer node at h =
+    let waits : Book → Type 0 = λ b. IsWaiting b uid dest in
+    let came = store_outcome_of answer in
+    let would : ArmedBy (waits (w.books name)) s.armed came t.armed =
+    subst (λ (b : Book). ArmedBy (waits b) s.armed came t.armed) at.0 h.1 in
+    let a = armed_after (waits (w.books name)) w.armed name came s.armed t.armed at.1 would in
+    record {
+      after = with_armed (with_book w name t.book) a.0;
+      step = (
+        node,
+        record {
+          book = t.book;
+          call = subst (λ (b : Book). Settles uid dest Broken w.time b answer t.book) at.0 h.0;
           called = record { armed = a.0; store = a.1; is = refl };
         },
       );

@@ -2,7 +2,7 @@
 use Rattle.std.proofs.Common.{map as mapped}
 use Rattle.std.proofs.Common.{◌≡◌, ℕ, ◌+◌, ◌^◌, Bool, true, false, List, [], ◌∷◌, ◌++◌, append_assoc, Option, Some, None, refl, sym, ap, subst, ◌∙◌, inl, inr, ◌⊎◌, arith}
 use Rattle.std.proofs.Math.Logic.{∥∥₁_map, ∥∥₁_elim, ∥∥₁_prop}
-use Rattle.std.specs.Prelude.{min, not, ◌&&◌}
+use Rattle.std.specs.Prelude.{min, not, ◌&&◌, if◌then◌else◌, Result, Ok, Err}
 use Rattle.std.proofs.lemmas.List.{append-nil}
 use Rattle.std.specs.FinMap as map_of
 use Rattle.std.specs.Ordering.{nat_cmp, eq_by_cmp}
@@ -14,25 +14,31 @@ use Rattle.dr_site.proofs.ContextsAsPlanned.{hop_to, pairs_as_planned}
 use Rattle.dr_nego.proofs.Sized.{proposals_fit}
 use Rattle.dr_ulstate.specs.declared.table.State.TheVariants.{Sta2, Sta5}
 use Rattle.dr_ulstate.specs.Standing.{standing}
+use Rattle.dr_ledger.specs.declared.fault.LedgerFault.{LedgerFault}
+use Rattle.dr_ledger.specs.declared.fault.LedgerFault.TheVariants as fault
+use Rattle.dr_ledger.specs.declared.item.Outcome.TheVariants.{Broken}
 use Rattle.dr_ledger.specs.Items.{instance_of}
-use Rattle.dr_ledger.proofs.Maps.{get_new, get_other, same_or_not}
+use Rattle.dr_ledger.specs.Replies.{Dues, Reads}
+use Rattle.dr_ledger.proofs.Maps.{get_new, get_other, same_or_not, texts, ties_itself}
 use Rattle.dr_world_model.proofs.Lookups.{numbers}
 use Rattle.dr_world_model.proofs.FromSafety.{safe_headline, start_safe}
 use Rattle.dr_world_model.proofs.Safety.{IsSafe, WorldGrows}
 use Rattle.dr_world_model.proofs.EventsKept.{step_kept}
-use Rattle.dr_world_model.specs.Worlds.{World, Link, start}
+use Rattle.dr_world_model.specs.Worlds.{World, Link, same_text, start}
+use Rattle.dr_world_model.specs.Calls.{Answer}
 use Rattle.dr_world_model.specs.Steps.{IsLink, IsHop, asked, new_link, passed}
-use Rattle.dr_world_model.specs.Events.{Event, Step, Take, Ask}
+use Rattle.dr_world_model.specs.Events.{Event, HasNode, Step, Take, Ask}
 use Rattle.dr_world_model.specs.Events as event
 use Rattle.dr_world_model.specs.Runs.{Occurs, Runs}
 use Rattle.dr_world_model.specs.Theorem.{Lasts}
+use Rattle.dr_session.specs.Desks.{Settle, Settling}
 use Rattle.dr_session.specs.Reactions.{is_free}
 use Rattle.dr_session.specs.Ledgers.{desk}
 use Rattle.dr_world_tie.specs.Desks.{Desk, LedgerStep}
 use Rattle.dr_world_tie.specs.Channels.{Channel, ShowsLink}
 use Rattle.dr_world_tie.specs.Ties.{IsDeskOf, IsOpened, with_desk}
 use Rattle.dr_world_tie.specs.Closing.{IsEnded, closed}
-use Rattle.dr_world_tie.specs.ByteWorlds.{ByteWorld, beginning, WorldStep, Submit, Open, Push, Move, Abort, Release, Close, Late, Restart, Requeue, Drop, Forget, Tick, Refuse, StepNote, DoesIf, LinkStep, Steps, Opens, Closes, is_over, caller_of, receiver_of, with_done, with_call, opened_between}
+use Rattle.dr_world_tie.specs.ByteWorlds.{ByteWorld, beginning, WorldStep, Submit, Open, Away, Push, Move, Abort, Release, Close, Late, Restart, Requeue, Drop, Forget, Tick, Refuse, StepNote, DoesIf, LinkStep, SettlesDue, Steps, Opens, Closes, is_over, caller_of, receiver_of, with_done, with_call, opened_between}
 use Rattle.dr_world_tie.specs.Shown.{ComesAbout, Shows, ShowsAt, Comes, WorldStepsAreEvents, RunsOf, RunsKeepTheHeadline, WhatIsKeptStaysKept}
 use Rattle.dr_world_tie.specs.Nodes.{GivesUpAt}
 use Rattle.dr_world_tie.proofs.Others.{shown_link}
@@ -40,7 +46,7 @@ use Rattle.dr_site.proofs.Assembled.{is_site}
 use Rattle.dr_world_tie.proofs.Restarted.{restarted}
 use Rattle.dr_world_tie.proofs.Restarting.{desks_after}
 use Rattle.dr_world_tie.proofs.Opening.{opens_are_asks}
-use Rattle.dr_world_tie.proofs.Nodes.{submitting_takes, requeueing_is_requeue}
+use Rattle.dr_world_tie.proofs.Nodes.{submitting_takes, requeueing_is_requeue, staying_away_is_stay_away}
 use Rattle.dr_world_tie.proofs.Nodes.{forgetting_is_forget, giving_up_is_drop, refusing_is_refuse}
 use Rattle.dr_world_tie.proofs.Pendings.{some_is_pending, none_is_pending}
 use Rattle.dr_world_tie.proofs.Closing.{closing_is_close}
@@ -77,6 +83,52 @@ module _ (plan : Network) (certificate : Certificate) (certified : IsCertified p
   close_if : (number : ℕ) (k : Channel) (link : Link) → IsLink w number link → ShowsLink plan certificate k link → (go : Bool) → DoesIf go b note new (Closes plan b number k new) → Res (Close number)
   close_if number k link here shows true h = ∣ closes number k link here shows h.1 ∣₁
   close_if number k link here shows false h = ∣ skips plan certificate (Close number) b new w note s h ∣₁
+
+  -- ---- staying away
+
+  -- a desk that is put where it was
+  still_there : (name other : Text) → b.desks other ≡ with_desk b.desks name (b.desks name) other
+  still_there name other = elim (same_or_not texts other name) [
+    | inl same ↦ ap b.desks same ∙ sym (ap (λ (x : Bool). if x then b.desks name else b.desks other) (ap (λ (n : Text). same_text n name) same ∙ ties_itself texts name))
+    | inr apart ↦ sym (ap (λ (x : Bool). if x then b.desks name else b.desks other) apart)
+  ]
+
+  uncalled : (name : Text) (v : World) → Shows plan certificate (with_call b name (b.desks name)) v → Shows plan certificate b v
+  uncalled name v h = record {
+    time = h.time;
+    opened = h.opened;
+    desks = λ other. subst (λ (d : Desk). IsDeskOf v other d) (sym (still_there name other)) (h.desks other);
+    links = h.links;
+  }
+
+  settled_due : (from to uid : Text) (answer : Answer) (t : Desk) → HasNode plan from → LedgerStep plan from (b.desks from) (Settle uid to Broken b.time) (Settling answer) t →
+      (v : World) × Comes plan b (Away from to) note w v × Shows plan certificate (with_call b from t) v
+  settled_due from to uid answer t is_node call =
+      let now = subst (λ (time : ℕ). LedgerStep plan from (b.desks from) (Settle uid to Broken time) (Settling answer) t) (sym s.time) call in
+      let h = staying_away_is_stay_away plan w from uid to (b.desks from) t answer is_node (s.desks from) now in
+      let it : Event = event.StayAway from uid to answer in
+      (h.after, inr (it, (refl, refl), h.step), at_node plan certificate b w it from t s h)
+
+  -- a ledger that can't tell what is due: as one that can't write
+  untold : (from to : Text) (answer : Answer) → HasNode plan from → LedgerStep plan from (b.desks from) (Settle [] to Broken b.time) (Settling answer) (b.desks from) → new ≡ b →
+      Result_of plan certificate b (Away from to) note w new
+  untold from to answer is_node call is =
+      let d = settled_due from to [] answer (b.desks from) is_node call in
+      (d.0, d.1, subst (λ (z : ByteWorld). Shows plan certificate z d.0) (sym is) (uncalled from d.0 d.2))
+
+  stayed : (from to : Text) → HasNode plan from → (due : Result (Option Text) LedgerFault) → Reads due (Dues (b.desks from).book to b.time) → SettlesDue plan b from to due note new →
+      Result_of plan certificate b (Away from to) note w new
+  stayed from to is_node (Ok None) told h = skips plan certificate (Away from to) b new w note s h
+  stayed from to is_node (Ok (Some uid)) told (answer, t, call, noted, is) =
+      let d = settled_due from to uid answer t is_node call in
+      (d.0, d.1, subst (λ (z : ByteWorld). Shows plan certificate z d.0) (sym is) d.2)
+  stayed from to is_node (Err fault.Store) told h = untold from to (Err fault.Store) is_node (refl, inl refl) h.1
+  stayed from to is_node (Err fault.Memory) told h = untold from to (Err fault.Memory) is_node (refl, refl) h.1
+  stayed from to is_node (Err fault.NoLine) told h = absurd told
+  stayed from to is_node (Err fault.Conflict) told h = absurd told
+  stayed from to is_node (Err fault.NotWaiting) told h = absurd told
+  stayed from to is_node (Err fault.NotHeld) told h = absurd told
+  stayed from to is_node (Err fault.NotOver) told h = absurd told
 
   -- ---- opening
 
@@ -134,6 +186,8 @@ module _ (plan : Network) (certificate : Certificate) (certified : IsCertified p
   each (Submit node item) (inl (is_node, (reply, t, call, noted, is))) =
       let h = submitting_takes plan w node item (b.desks node) t reply is_node (s.desks node) call in
       ∣ (h.after, inr (Take node (instance_of item) reply, (refl, refl), h.step), subst (λ (z : ByteWorld). Shows plan certificate z h.after) (sym is) (at_node plan certificate b w (Take node (instance_of item) reply) node t s h)) ∣₁
+  each (Away from to) (inr h) = ∣ skips plan certificate (Away from to) b new w note s h.1 ∣₁
+  each (Away from to) (inl (is_node, (due, told, done))) = ∣ stayed from to is_node due told done ∣₁
   each (Requeue node uid dest) (inr h) = ∣ skips plan certificate (Requeue node uid dest) b new w note s h.1 ∣₁
   each (Requeue node uid dest) (inl (is_node, (answer, t, call, noted, is))) =
       let h = requeueing_is_requeue plan w node uid dest (b.desks node) t answer is_node (s.desks node) call in

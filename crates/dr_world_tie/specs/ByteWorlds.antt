@@ -23,7 +23,9 @@ use Rattle.dr_pdu.specs.declared.pdu.Pdu.TheVariants as pdu
 use Rattle.dr_pdu.specs.Feeding.{Feeding, fresh}
 use Rattle.dr_ledger.specs.declared.content.Job.{Job}
 use Rattle.dr_ledger.specs.declared.fault.LedgerFault.{LedgerFault}
+use Rattle.dr_ledger.specs.declared.item.Outcome.TheVariants.{Broken}
 use Rattle.dr_ledger.specs.Books.{empty_book}
+use Rattle.dr_ledger.specs.Replies.{Dues, Reads}
 use Rattle.dr_nego.specs.Agreeing.{AssociateRq}
 use Rattle.dr_nego.specs.Proposing.{IsProposal, IsHopTo}
 use Rattle.dr_nego.specs.Fragments.{spellings}
@@ -33,7 +35,7 @@ use Rattle.dr_session.specs.declared.ends.Input.{Input}
 use Rattle.dr_session.specs.declared.ends.Input.TheVariants.{Ended, Late as LateMark, AbortAsked}
 use Rattle.dr_session.specs.declared.ends.Input.TheVariants.{ReleaseAsked, PushAsked}
 use Rattle.dr_session.specs.declared.ends.Moment.{Moment}
-use Rattle.dr_session.specs.Desks.{Arrive, Arrival}
+use Rattle.dr_session.specs.Desks.{Arrive, Arrival, Settle, Settling}
 use Rattle.dr_session.specs.Ends.{accepting, requesting, is_gone}
 use Rattle.dr_session.specs.Pendings.{pending_of}
 use Rattle.dr_session.specs.Ledgers.{desk}
@@ -111,6 +113,7 @@ pub data Side : Type 0 where
 pub data WorldStep : Type 0 where
   Submit : (node : Text) → (item : Job) → WorldStep
   Open : (from : Text) → (to : Text) → WorldStep
+  Away : (from : Text) → (to : Text) → WorldStep
   Push : (link : ℕ) → WorldStep
   Move : (link : ℕ) → (reader : Side) → (n : ℕ) → WorldStep
   Abort : (link : ℕ) → (side : Side) → WorldStep
@@ -309,6 +312,27 @@ abbrev pub NodeStep : Network → Text → ByteWorld → StepNote → ByteWorld 
 NodeStep plan name b note new What =
     (HasNode plan name × What) ⊎ ((HasNode plan name → ⊥) × Skips b note new)
 
+-- ---- staying away
+
+-- Nothing is done where no row is due. The first one that is, is settled as broken. A ledger that
+-- can't tell what is due refuses.
+abbrev pub SettlesDue : Network → ByteWorld → Text → Text → Result (Option Text) LedgerFault
+    → StepNote → ByteWorld → Type 0
+SettlesDue plan b from to (Ok None) note new = Skips b note new
+SettlesDue plan b from to (Ok (Some uid)) note new =
+    (answer : Answer) × (t : Desk)
+    × LedgerStep plan from (b.desks from) (Settle uid to Broken b.time) (Settling answer) t
+    × (note ≡ note_of answer)
+    × (new ≡ with_call b from t)
+SettlesDue plan b from to (Err why) note new = (note ≡ Refused why) × (new ≡ b)
+
+-- A node comes to no link to another: its ledger is asked what is due there.
+abbrev pub StaysAwayIn : Network → ByteWorld → Text → Text → StepNote → ByteWorld → Type 0
+StaysAwayIn plan b from to note new =
+    (due : Result (Option Text) LedgerFault)
+    × Reads due (Dues (b.desks from).book to b.time)
+    × SettlesDue plan b from to due note new
+
 -- ---- forgetting
 
 -- The node asked for the link, and its end there has the uid pending. An end that is off has
@@ -390,6 +414,8 @@ Steps plan certificate b (Submit node item) note new = NodeStep plan node b note
 Steps plan certificate b (Open from to) note new =
     ((note ≡ Done) × Opens plan certificate b from to new)
     ⊎ (HasNoHop plan certificate from to × Skips b note new)
+Steps plan certificate b (Away from to) note new =
+    NodeStep plan from b note new (StaysAwayIn plan b from to note new)
 Steps plan certificate b (Push link) note new = LinkStep (map.get b.links link) b note new
     (λ k. PushesIf (is_free k.caller.core) plan b link k note new)
 Steps plan certificate b (Move link reader n) note new =

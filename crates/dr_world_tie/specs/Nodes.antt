@@ -5,16 +5,17 @@ use Rattle.dr_base.specs.Texts.{Text}
 use Rattle.dr_route.specs.Routes.{local}
 use Rattle.dr_plan_model.specs.Networks.{Network}
 use Rattle.dr_ledger.specs.declared.content.Job.{Job}
+use Rattle.dr_ledger.specs.declared.item.Outcome.TheVariants.{Broken}
 use Rattle.dr_ledger.specs.Items.{instance_of}
 use Rattle.dr_ledger.specs.Refusals.{Arms}
 use Rattle.dr_ledger.specs.Replies.{Drops, Forgets, Requeues, IsHeld, IsOver}
-use Rattle.dr_session.specs.Desks.{Arrive, Arrival}
+use Rattle.dr_session.specs.Desks.{Arrive, Arrival, Settle, Settling}
 use Rattle.dr_session.specs.Ledgers.{desk}
 use Rattle.dr_world_model.specs.Worlds.{World, same_text}
 use Rattle.dr_world_model.specs.Calls.{Reply, Answer}
 use Rattle.dr_world_model.specs.Steps.{NoneIsPending}
 use Rattle.dr_world_model.specs.Events.{Event, Step, HasNode, Take, Requeue, Drop}
-use Rattle.dr_world_model.specs.Events.{Forget, Refuse, Tick}
+use Rattle.dr_world_model.specs.Events.{Forget, Refuse, StayAway, Tick}
 use Rattle.dr_world_tie.specs.Desks.{Desk, LedgerStep}
 use Rattle.dr_world_tie.specs.Ties.{IsDeskOf}
 
@@ -42,6 +43,16 @@ SubmittingTakes =
     → HasNode plan name → IsDeskOf w name s
     → LedgerStep plan name s (Arrive local job) (Arrival reply) t
     → HappensAt plan w (Take name (instance_of job) reply) name t
+
+-- A row that a caller settles as broken where it came to no link, whatever the ledger answers. This
+-- is the call that a running node makes when it comes to no connection, or to none over which a row
+-- was settled; it found the row before, as the first that was due.
+abbrev pub StayingAwayIsStayAway : Type 0
+StayingAwayIsStayAway =
+    (plan : Network) (w : World) (name uid dest : Text) (s t : Desk) (answer : Answer)
+    → HasNode plan name → IsDeskOf w name s
+    → LedgerStep plan name s (Settle uid dest Broken w.time) (Settling answer) t
+    → HappensAt plan w (StayAway name uid dest answer) name t
 
 -- what a ledger's `requeue` does
 abbrev pub RequeuesAt : Desk → Text → Text → Answer → Desk → Type 0

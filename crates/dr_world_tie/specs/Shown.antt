@@ -21,8 +21,8 @@ use Rattle.dr_world_model.specs.Theorem.{Lasts}
 use Rattle.dr_world_tie.specs.Channels.{Terminal, Channel, ShowsLink}
 use Rattle.dr_world_tie.specs.Ties.{IsDeskOf, IsData}
 use Rattle.dr_world_tie.specs.Moves.{IsLeft, IsOfReceiver, IsOfCaller}
-use Rattle.dr_world_tie.specs.ByteWorlds.{ByteWorld, beginning, WorldStep, Submit, Open, Push, Move}
-use Rattle.dr_world_tie.specs.ByteWorlds.{Abort, Release, Close, Late, Restart, Requeue, Drop}
+use Rattle.dr_world_tie.specs.ByteWorlds.{ByteWorld, beginning, WorldStep, Submit, Open, Away, Push}
+use Rattle.dr_world_tie.specs.ByteWorlds.{Move, Abort, Release, Close, Late, Restart, Requeue, Drop}
 use Rattle.dr_world_tie.specs.ByteWorlds.{Forget, Tick, Refuse, Side, Requestor, Acceptor, StepNote}
 use Rattle.dr_world_tie.specs.ByteWorlds.{Skipped, Steps}
 
@@ -47,6 +47,7 @@ abbrev pub IsNamed : WorldStep → Event → Type 0
 IsNamed (Submit node item) (Take name instance reply) =
     (name ≡ node) × (instance ≡ instance_of item)
 IsNamed (Open from to) (Ask caller receiver) = (caller ≡ from) × (receiver ≡ to)
+IsNamed (Away from to) (event.StayAway node uid dest answer) = (node ≡ from) × (dest ≡ to)
 IsNamed (Push link) (Give number answer) = number ≡ link
 IsNamed (Push link) (BreakCaller number answer) = number ≡ link
 IsNamed (Move link Acceptor n) event = IsOfReceiver link event

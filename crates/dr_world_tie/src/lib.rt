@@ -17,7 +17,7 @@ ghost use Rattle.dr_world_tie.specs.Closing.{ClosingIsClose};
 ghost use Rattle.dr_world_tie.specs.Desks.{SiteStepsArePlanSteps};
 ghost use Rattle.dr_world_tie.specs.Moves.{CallerMoves, ReceiverMoves};
 ghost use Rattle.dr_world_tie.specs.Nodes.{ForgettingIsForget, GivingUpIsDrop, RefusingIsRefuse};
-ghost use Rattle.dr_world_tie.specs.Nodes.{RequeueingIsRequeue};
+ghost use Rattle.dr_world_tie.specs.Nodes.{RequeueingIsRequeue, StayingAwayIsStayAway};
 ghost use Rattle.dr_world_tie.specs.Nodes.{SubmittingTakes, TimePasses};
 ghost use Rattle.dr_world_tie.specs.Shown.{RunsKeepTheHeadline, WhatIsKeptStaysKept};
 ghost use Rattle.dr_world_tie.specs.Shown.{WorldStepsAreEvents};
@@ -156,6 +156,7 @@ pub fn restarts()
 /// What is done at a node alone is the event of that node, and time passes for all.
 pub fn nodes_act()
     ensures submitting { SubmittingTakes }
+    ensures staying_away { StayingAwayIsStayAway }
     ensures requeueing { RequeueingIsRequeue }
     ensures giving_up { GivingUpIsDrop }
     ensures forgetting { ForgettingIsForget }

@@ -1,5 +1,6 @@
 use Rattle.dr_world.proofs.AtNodes.{strangers, submits, requeues, drops, refuses}
 use Rattle.dr_world.proofs.LettingGo.{forgets, under_way_stays}
+use Rattle.dr_world.proofs.StayingAway.{stays_away}
 use Rattle.dr_world.proofs.laws.acts_at_nodes.Goals as goal
 
 pub returns-clause-stranger : goal.returns-clause-stranger
@@ -7,6 +8,9 @@ returns-clause-stranger c = strangers
 
 pub returns-clause-submit : goal.returns-clause-submit
 returns-clause-submit c = submits
+
+pub returns-clause-away : goal.returns-clause-away
+returns-clause-away c = stays_away
 
 pub returns-clause-requeue : goal.returns-clause-requeue
 returns-clause-requeue c = requeues

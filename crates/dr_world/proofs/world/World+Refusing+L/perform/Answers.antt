@@ -1,4 +1,4 @@
-use Rattle.dr_world_script.specs.declared.step.Step.TheVariants.{Submit, Open, Push, Move, Abort, Release, Close, Late, Restart, Requeue, Drop, Forget, Tick, RefuseStore}
+use Rattle.dr_world_script.specs.declared.step.Step.TheVariants.{Submit, Open, Away, Push, Move, Abort, Release, Close, Late, Restart, Requeue, Drop, Forget, Tick, RefuseStore}
 use Rattle.dr_world.specs.declared.steps.StepNote.TheVariants.{Done}
 use Rattle.dr_world.proofs.Running.{as_if, as_it, copied}
 use Rattle.dr_world.proofs.world.World+Refusing+L.perform.Goals as goal
@@ -29,6 +29,12 @@ returns-in-Drop g c =
     let told = Drop c.in-Drop.node c.in-Drop.uid c.in-Drop.dest in
     let new = c.give_up.new.self in
     as_it c.args.self.now new c.args.step.now told c.in-Drop.is c.give_up.result c.give_up.ensures.step
+
+pub returns-in-Away : goal.returns-in-Away
+returns-in-Away g c =
+    let told = Away c.in-Away.from c.in-Away.to in
+    let new = c.away.new.self in
+    as_it c.args.self.now new c.args.step.now told c.in-Away.is c.away.result c.away.ensures.step
 
 pub returns-in-Forget : goal.returns-in-Forget
 returns-in-Forget g c =
