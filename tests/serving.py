@@ -443,11 +443,11 @@ def deaf_peer():
             stop(gate)
 
 
-def drip_from(acceptor, link):
-    """Takes the association that is asked for, and reads a byte a second."""
+def drip_from(acceptor, link, is_over):
+    """Takes the association that is asked for, and reads a byte a second until that is over."""
     hear_request(acceptor, link)
-    while link.recv(1):
-        time.sleep(1)
+    while not is_over.wait(1) and link.recv(1):
+        pass
 
 
 @contextlib.contextmanager
@@ -457,9 +457,13 @@ def neighbour(room, kind):
         with socket.create_server(('127.0.0.1', room.ports['SLOW'])):
             yield
     elif kind == 'drips':
+        is_over = threading.Event()
         with Acceptor(room.ports['SLOW'], None) as slow:
-            slow.serve = lambda link: drip_from(slow, link)
-            yield
+            slow.serve = lambda link: drip_from(slow, link, is_over)
+            try:
+                yield
+            finally:
+                is_over.set()
     else:
         yield
 
