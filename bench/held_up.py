@@ -1,13 +1,12 @@
 #!/usr/bin/env python3
-"""Measures for how long a running node's ledger is held by what asks it, call by call, by how long a peer that stores has to wait meanwhile: on
-the built program, on loopback and this machine's disk.
+"""Measures for how long a running node's ledger is held by what is asked of it, call by call, by how long a peer that stores has to wait
+meanwhile: on the built program, on loopback and this machine's disk.
 
-    bench/held_up.py             # 100,000 rows that wait; some minutes, on a machine that does nothing else
-    bench/held_up.py 5000        # as many rows
-    bench/held_up.py 5000 8      # and then eight images of 32 MB more
+    bench/held_up.py             # 100,000 rows that wait, and eight images of 32 MB; some minutes, on a machine that does nothing else
+    bench/held_up.py 5000 2      # as many rows and images
 
-A node's ledger has one lock. Whoever stores waits while another call has it; so the longest wait of a store beside a request, less the longest
-without one, says how long the request held the lock at least. The rows wait for a node that is down.
+A node's ledger has one lock. Whoever stores waits while another call has it; so the longest wait of a store beside a call, less the longest
+without one, says how long the call held the lock at least. The rows wait for a node that is down; the images go to another one.
 """
 import os
 import statistics
@@ -19,28 +18,70 @@ sys.dont_write_bytecode = True
 HERE = os.path.dirname(os.path.abspath(__file__))
 sys.path.insert(0, f'{os.path.dirname(HERE)}/tests')
 from control import Asked
-from lib.nodes import PROGRAM, Room, data_set, element, stop
-from lib.requestor import RELEASED, Requestor
+from lib.nodes import CT, EXPLICIT, PROGRAM, Room, data_set, element, stop
+from lib.requestor import RELEASED, Acceptor, Requestor, stored
 
-ROWS = 100_000
+ROWS, IMAGES = 100_000, 8
 TIMES = 20
 PATHS = ('/health', '/status', '/metrics', '/rows?dest=ARCH&state=held', '/rows?dest=ARCH&state=waiting', '/rows?dest=ARCH', '/rows?dest=ARCH&after=1.2.9')
+
+# What CT1 brings to GATE goes to ARCH, which is down, and what CT2 brings to NEXT.
+NODE = """
+[[node]]
+name = "{}"
+address = "h:1"
+"""
+ACCEPT = """
+[[node.accept]]
+from = "*"
+class = "{of}"
+syntax = ["{syntax}"]
+"""
+RULE = """
+[[node.rule]]
+{}
+"""
+FLOW = """
+[[flow]]
+at = "{}"
+to = "GATE"
+class = ["{of}"]
+syntax = ["{syntax}"]
+modality = ["CT"]
+station = ["S1"]
+"""
+
+
+def two_ways():
+    takes, keeps = NODE + ACCEPT, RULE.format('keep = true')
+    ways = RULE.format('from = "CT1"\nto = ["ARCH"]') + RULE.format('from = "CT2"\nto = ["NEXT"]')
+    nodes = NODE.format('CT1') + NODE.format('CT2') + takes.replace('{}', 'GATE') + ways
+    ends = ''.join(takes.replace('{}', name) + keeps for name in ('ARCH', 'NEXT'))
+    flows = FLOW.replace('{}', 'CT1') + FLOW.replace('{}', 'CT2')
+    return (nodes + ends + flows).replace('{of}', CT.decode()).replace('{syntax}', EXPLICIT.decode())
 
 
 def row(what, *figures):
     print(f'{what:<58}' + ''.join(f'{figure:>16}' for figure in figures), flush=True)
 
 
-def fill(room, count, size, name):
-    """So many images wait at GATE, brought over eight associations at a time."""
-    pixels = element(0x7fe0, 0x10, b'OW', bytes(size))
-    def bring(share):
-        with Requestor(room.ports['GATE'], 'CT1', 'GATE') as caller:
-            for number in range(share, count, 8):
-                uid = b'1.2.%d.%d' % (name, number)
-                assert caller.store(uid, data_set(uid, pixels)) == 0
-            assert caller.release() == RELEASED
-    threads = [threading.Thread(target=bring, args=(share,)) for share in range(8)]
+def bring(room, caller, uids, size):
+    """These images are stored at GATE, one after another over one association; how long each took."""
+    pixels, spent = element(0x7fe0, 0x10, b'OW', bytes(size)), []
+    with Requestor(room.ports['GATE'], caller, 'GATE') as link:
+        for uid in uids:
+            body = data_set(uid, pixels)
+            begun = time.monotonic()
+            assert link.store(uid, body) == 0
+            spent.append(time.monotonic() - begun)
+        assert link.release() == RELEASED
+    return spent
+
+
+def fill(room, count):
+    """So many images of 1 kB wait at GATE, brought over eight associations at a time."""
+    shares = [[b'1.2.1.%d' % number for number in range(share, count, 8)] for share in range(8)]
+    threads = [threading.Thread(target=bring, args=(room, 'CT1', uids, 1 << 10)) for uids in shares]
     for thread in threads:
         thread.start()
     for thread in threads:
@@ -60,8 +101,9 @@ class Storing(threading.Thread):
             number = 0
             while not self.is_over.is_set():
                 uid = b'1.3.%d.%d' % (self.name_there, number)
+                body = data_set(uid)
                 begun = time.monotonic()
-                assert caller.store(uid, data_set(uid)) == 0
+                assert caller.store(uid, body) == 0
                 self.spent.append(time.monotonic() - begun)
                 number += 1
             caller.release()
@@ -76,9 +118,25 @@ def milliseconds(seconds):
     return f'{1000 * seconds:.1f} ms'
 
 
-def measure(room, node, name, path):
-    """A path is asked again and again while somebody stores; nothing is asked where there is none."""
-    storing, answers = Storing(room, name), []
+class Measuring:
+    """Measures what goes on beside somebody who stores, one thing after another."""
+
+    def __init__(self, room):
+        self.room, self.count = room, 0
+
+    def beside(self, what, doing):
+        """How long the doing took, each time, and how long the stores beside it."""
+        self.count += 1
+        storing = Storing(self.room, self.count)
+        answers = doing()
+        spent = storing.end()
+        figures = (statistics.median(answers), max(answers)) if answers else ()
+        row(f'  {what}', *([milliseconds(it) for it in figures] or ['-', '-']), milliseconds(statistics.median(spent)), milliseconds(max(spent)))
+
+
+def asking(node, path):
+    """A path is asked again and again; nothing is asked where there is none."""
+    answers = []
     for _ in range(TIMES):
         begun = time.monotonic()
         if path:
@@ -86,23 +144,42 @@ def measure(room, node, name, path):
             assert status == 200, (path, status)
             answers.append(time.monotonic() - begun)
         time.sleep(0.2)
-    spent = storing.end()
-    row(f'  {path or "nothing is asked"}', milliseconds(statistics.median(answers)) if answers else '-', milliseconds(max(answers)) if answers else '-',
-        milliseconds(statistics.median(spent)), milliseconds(max(spent)))
+    return answers
+
+
+def taking(room, images):
+    """NEXT takes the images that wait for it."""
+    with Acceptor(room.ports['NEXT'], lambda uid, number, to: stored(uid, number, to, 0)) as taker:
+        end = time.monotonic() + 600
+        while len(taker.stored) < images and time.monotonic() < end:
+            time.sleep(0.05)
+        assert len(taker.stored) == images, taker.stored
+        time.sleep(1)
+    return []
+
+
+def waiting():
+    """Long enough for three reports, one each ten seconds while the journal grows."""
+    time.sleep(32)
+    return []
 
 
 def main():
     if not os.path.exists(PROGRAM):
         sys.exit(f'{PROGRAM} is not built')
-    count, large = (int(sys.argv[1]) if len(sys.argv) > 1 else ROWS), (int(sys.argv[2]) if len(sys.argv) > 2 else 0)
-    with Room() as room:
-        node = Asked(room, 'GATE', 0, token=False)
-        fill(room, count, 1 << 10, 1)
-        if large:
-            fill(room, large, 32 << 20, 2)
-        row(f'{count} rows of 1 kB and {large} of 32 MB wait', 'answer: median', 'longest', 'store: median', 'longest')
-        for name, path in enumerate((None, *PATHS, None)):
-            measure(room, node, name, path)
+    rows, images = (int(sys.argv[1]), int(sys.argv[2])) if len(sys.argv) > 2 else (ROWS, IMAGES)
+    with Room(two_ways()) as room:
+        node, measuring = Asked(room, 'GATE', 0, token=False), Measuring(room)
+        fill(room, rows)
+        row(f'{rows} rows of 1 kB wait', 'call: median', 'longest', 'store: median', 'longest')
+        for path in (None, *PATHS):
+            measuring.beside(path or 'nothing', lambda path=path: asking(node, path))
+        uids = [b'1.2.2.%d' % number for number in range(images)]
+        measuring.beside(f'{images} images of 32 MB come', lambda: bring(room, 'CT2', uids, 32 << 20))
+        measuring.beside(f'{images} images of 32 MB are sent on', lambda: taking(room, images))
+        stop(node.process)
+        node = Asked(room, 'GATE', 0, '--report', 'report', token=False)
+        measuring.beside('a report is written, each ten seconds', waiting)
         stop(node.process)
 
 

@@ -1,15 +1,21 @@
 //! What lies under the lock of a shared desk.
 ghost use Rattle.std.specs.Prelude.{◌≡◌, ◌≤◌, ◌+◌, ◌^◌, [], All, IfErr, IfOk, MatchResult, Ok};
-ghost use Rattle.std.specs.Prelude.{OnErr, OnOk, length, map as mapped, sum_by};
+ghost use Rattle.std.specs.Prelude.{◌-◌, ◌↔◌, IsTrue, OnErr, OnOk, length, map as mapped, sum_by};
 ghost use Rattle.std.specs.List.{AllByRecursion, flat_map};
+ghost use Rattle.std.specs.FinMap as map;
 ghost use Rattle.std.proofs.Props.{props};
+ghost use Rattle.dr_ledger.specs.Adopting.{Unfits};
+ghost use Rattle.dr_ledger.specs.Bodies.{NextsWith};
 ghost use Rattle.dr_ledger.specs.Items.{instance_of};
 ghost use Rattle.dr_ledger.specs.Histories.{IsJournalled};
-ghost use Rattle.dr_ledger.specs.Replies.{Arrives, Drops, Forgets, Requeues, Settles, entry_of};
+ghost use Rattle.dr_ledger.specs.Pairs.{pair_cmp};
+ghost use Rattle.dr_ledger.specs.Replies.{Admits, AreKept, Arrives, Counts, Drops, Dues, Forgets};
+ghost use Rattle.dr_ledger.specs.Replies.{IsOver, Lists, Reads, Requeues, Settles, entry_of};
 ghost use Rattle.dr_ledger.specs.SiteRoutes.{site_routing};
 ghost use Rattle.dr_desk.specs.Answering.{Accepts, Refuses};
 ghost use Rattle.dr_desk.specs.Agreeing.{AreApart, Fails, IsOfLine, Rises, numbers};
 ghost use Rattle.dr_desk.specs.Growing.{BeginWith, Grows};
+ghost use Rattle.dr_desk.specs.Reading.{Answered, AreHoldings, HasFailed};
 
 use crate::closing::{Closed, NotClosed, agree, joined, unread};
 use crate::desk::Desk;
@@ -41,6 +47,7 @@ pub(crate) struct Held<L: Ledger, B: Sharing> {
     pub ghost parts: { rest.parts + passes ≡ B.all },
     pub ghost idle: { rest.amount ≡ 0 },
     pub ghost all_is: { B.all ≡ 65536 },
+    pub ghost none_left: { 1 ≤ full → number ≡ 2 ^ 64 - 1 },
     pub ghost total: { length kept + tally.total ≡ number },
     pub ghost of: { L.site desk.ledger ≡ B.site } by { Prim.hlevel props },
     pub ghost history: { L.stands desk.ledger
@@ -52,9 +59,32 @@ pub(crate) struct Held<L: Ledger, B: Sharing> {
             props },
 }
 
+/// All that a ledger has at one moment, with so many lines.
+fn holdings_of<L: Ledger>(ledger: &mut L, lines: u64) -> Result<Holdings, LedgerFault>
+    ensures reply { L.stands ledger.new
+        → length (L.book ledger.old).lines ≡ lines
+        → Reads result (AreHoldings (L.book ledger.old)) }
+    ensures same { L.stands ledger.new
+        → (L.book ledger.new ≡ L.book ledger.old) × (L.bodies ledger.new ≡ L.bodies ledger.old) }
+    ensures counts { Counts result (L.failed ledger.old) (L.failed ledger.new) }
+    ensures stood { L.stands ledger.new → L.stands ledger.old }
+    ensures site { L.site ledger.new ≡ L.site ledger.old }
+{
+    let arrivals = ledger.arrivals()?;
+    let kept = ledger.kept()?;
+    let rows = ledger.rows()?;
+    Ok(Holdings {
+        arrivals,
+        kept,
+        rows,
+        lines,
+    })
+}
+
 impl<L: Ledger, B: Sharing> Held<L, B> {
     /// No line more can be numbered: that counts as a failed store.
     fn refuse(&mut self) -> LedgerFault
+        requires { self.old.number ≡ 2 ^ 64 - 1 }
         ensures store { result ≡ LedgerFault.Store }
         ensures desk { self.new.desk ≡ self.old.desk }
     {
@@ -172,68 +202,124 @@ impl<L: Ledger, B: Sharing> Held<L, B> {
         Ok(Pass::new(alloc, share))
     }
 
-    pub(crate) fn next(&mut self, dest: &Text, now: u64) -> Result<Option<Job>, LedgerFault> {
+    /// The ledger's `next`.
+    pub(crate) fn next(&mut self, dest: &Text, now: u64) -> Result<Option<Job>, LedgerFault>
+        ensures { Answered L.site L.book L.bodies L.stands L.failed B.site B.first
+            (λ l answer. Reads answer (NextsWith (L.book l) (L.bodies l) dest.now now))
+            result self.old.desk.ledger self.new.desk.ledger }
+    {
         self.desk.next(dest, now)
     }
 
-    pub(crate) fn due(&mut self, dest: &Text, now: u64) -> Result<Option<Text>, LedgerFault> {
+    /// The ledger's `due`.
+    pub(crate) fn due(&mut self, dest: &Text, now: u64) -> Result<Option<Text>, LedgerFault>
+        ensures { Answered L.site L.book L.bodies L.stands L.failed B.site B.first
+            (λ l answer. Reads answer (Dues (L.book l) dest.now now))
+            result self.old.desk.ledger self.new.desk.ledger }
+    {
         self.desk.due(dest, now)
     }
 
-    pub(crate) fn admits(&mut self, caller: &Text, item: &Item) -> Result<(), LedgerFault> {
+    /// The ledger's `admits`.
+    pub(crate) fn admits(&mut self, caller: &Text, item: &Item) -> Result<(), LedgerFault>
+        ensures { Answered L.site L.book L.bodies L.stands L.failed B.site B.first
+            (λ l answer.
+            Admits (site_routing B.site) caller.now (instance_of item.now) (L.book l) answer) result
+            self.old.desk.ledger self.new.desk.ledger }
+    {
         self.desk.admits(caller, item)
     }
 
-    pub(crate) fn has(&mut self, uid: &Text) -> Result<bool, LedgerFault> {
+    /// The ledger's `has`.
+    pub(crate) fn has(&mut self, uid: &Text) -> Result<bool, LedgerFault>
+        ensures { Answered L.site L.book L.bodies L.stands L.failed B.site B.first
+            (λ l answer. Reads answer (λ there. there ≡ map.contains_key (L.book l).items uid.now))
+            result self.old.desk.ledger self.new.desk.ledger }
+    {
         self.desk.has(uid)
     }
 
-    pub(crate) fn has_body(&mut self, uid: &Text) -> Result<bool, LedgerFault> {
+    /// The ledger's `has_body`.
+    pub(crate) fn has_body(&mut self, uid: &Text) -> Result<bool, LedgerFault>
+        ensures { Answered L.site L.book L.bodies L.stands L.failed B.site B.first
+            (λ l answer. Reads answer (λ there. there ≡ map.contains_key (L.bodies l) uid.now))
+            result self.old.desk.ledger self.new.desk.ledger }
+    {
         self.desk.has_body(uid)
     }
 
-    pub(crate) fn arrivals(&mut self) -> Result<Seq<(Text, Text)>, LedgerFault> {
+    /// The ledger's `arrivals`.
+    pub(crate) fn arrivals(&mut self) -> Result<Seq<(Text, Text)>, LedgerFault>
+        ensures { Answered L.site L.book L.bodies L.stands L.failed B.site B.first
+            (λ l answer. Reads answer (Lists pair_cmp (L.book l).arrivals))
+            result self.old.desk.ledger self.new.desk.ledger }
+    {
         self.desk.arrivals()
     }
 
-    pub(crate) fn kept(&mut self) -> Result<Seq<(Text, u64)>, LedgerFault> {
+    /// The ledger's `kept`.
+    pub(crate) fn kept(&mut self) -> Result<Seq<(Text, u64)>, LedgerFault>
+        ensures { Answered L.site L.book L.bodies L.stands L.failed B.site B.first
+            (λ l answer. Reads answer (AreKept (L.book l)))
+            result self.old.desk.ledger self.new.desk.ledger }
+    {
         self.desk.kept()
     }
 
-    pub(crate) fn rows(&mut self) -> Result<Seq<((Text, Text), Progress)>, LedgerFault> {
+    /// The ledger's `rows`.
+    pub(crate) fn rows(&mut self) -> Result<Seq<((Text, Text), Progress)>, LedgerFault>
+        ensures { Answered L.site L.book L.bodies L.stands L.failed B.site B.first
+            (λ l answer. Reads answer (λ all. all ≡ map.entries (L.book l).rows))
+            result self.old.desk.ledger self.new.desk.ledger }
+    {
         self.desk.rows()
     }
 
-    pub(crate) fn lines(&mut self) -> Result<Seq<Entry>, LedgerFault> {
+    /// The ledger's `lines`.
+    pub(crate) fn lines(&mut self) -> Result<Seq<Entry>, LedgerFault>
+        ensures { Answered L.site L.book L.bodies L.stands L.failed B.site B.first
+            (λ l answer. Reads answer (λ all. all ≡ mapped entry_of (L.book l).lines))
+            result self.old.desk.ledger self.new.desk.ledger }
+    {
         self.desk.lines()
     }
 
     /// All that is there at this moment.
-    pub(crate) fn holdings(&mut self) -> Result<Holdings, LedgerFault> {
-        let arrivals = self.arrivals()?;
-        let kept = self.kept()?;
-        let rows = self.rows()?;
-        Ok(Holdings {
-            arrivals,
-            kept,
-            rows,
-            lines: self.number,
-        })
+    pub(crate) fn holdings(&mut self) -> Result<Holdings, LedgerFault>
+        ensures { Answered L.site L.book L.bodies L.stands L.failed B.site B.first
+            (λ l answer. Reads answer (AreHoldings (L.book l)))
+            result self.old.desk.ledger self.new.desk.ledger }
+    {
+        holdings_of(&mut self.desk, self.number)
     }
 
+    /// The ledger's `progress`.
     pub(crate) fn progress(
         &mut self,
         uid: &Text,
         dest: &Text,
-    ) -> Result<Option<Progress>, LedgerFault> {
+    ) -> Result<Option<Progress>, LedgerFault>
+        ensures { Answered L.site L.book L.bodies L.stands L.failed B.site B.first
+            (λ l answer. Reads answer (λ row. row ≡ map.get (L.book l).rows (uid.now, dest.now)))
+            result self.old.desk.ledger self.new.desk.ledger }
+    {
         self.desk.progress(uid, dest)
     }
 
-    pub(crate) fn unfit(&mut self, next: &Sealed) -> Result<Option<(Text, Text)>, LedgerFault> {
+    /// The ledger's `unfit`.
+    pub(crate) fn unfit(&mut self, next: &Sealed) -> Result<Option<(Text, Text)>, LedgerFault>
+        ensures { Answered L.site L.book L.bodies L.stands L.failed B.site B.first
+            (λ l answer. Reads answer (Unfits next.now.plan B.site.name (L.book l)))
+            result self.old.desk.ledger self.new.desk.ledger }
+    {
         self.desk.unfit(next)
     }
 
-    pub(crate) fn failures(&self) -> u64 {
+    /// How often the store has failed.
+    pub(crate) fn failures(&self) -> u64
+        ensures { HasFailed L.site L.book L.bodies L.stands L.failed B.site B.first
+            self.now.full result self.now.desk.ledger }
+    {
         self.desk.failures().saturating_add(self.full)
     }
 
@@ -368,7 +454,12 @@ impl<L: LetsGo, B: Sharing> Held<L, B> {
         Ok(made.count_line(tally, number))
     }
 
-    pub(crate) fn is_over(&mut self, uid: &Text) -> Result<bool, LedgerFault> {
+    /// The ledger's `is_over`.
+    pub(crate) fn is_over(&mut self, uid: &Text) -> Result<bool, LedgerFault>
+        ensures { Answered L.site L.book L.bodies L.stands L.failed B.site B.first
+            (λ l answer. Reads answer (λ over. IsTrue over ↔ IsOver (L.book l) uid.now))
+            result self.old.desk.ledger self.new.desk.ledger }
+    {
         self.desk.is_over(uid)
     }
 }

@@ -1,14 +1,20 @@
 //! A desk that threads share.
 ghost use Rattle.std.specs.Prelude.{◌≡◌, ◌<◌, ◌≤◌, ◌+◌, ◌^◌, [], All, IfErr, IfOk, MatchResult};
-ghost use Rattle.std.specs.Prelude.{OnOk, length, map as mapped, sum_by};
+ghost use Rattle.std.specs.Prelude.{◌↔◌, IsTrue, OnOk, length, map as mapped, sum_by};
+ghost use Rattle.std.specs.FinMap as map;
 ghost use Rattle.std.specs.List.{AllByRecursion, flat_map};
+ghost use Rattle.dr_ledger.specs.Adopting.{Unfits};
+ghost use Rattle.dr_ledger.specs.Bodies.{NextsWith};
 ghost use Rattle.dr_ledger.specs.Histories.{IsJournalled};
 ghost use Rattle.dr_ledger.specs.Items.{instance_of};
-ghost use Rattle.dr_ledger.specs.Replies.{Arrives, Drops, Forgets, Requeues, Settles, entry_of};
+ghost use Rattle.dr_ledger.specs.Pairs.{pair_cmp};
+ghost use Rattle.dr_ledger.specs.Replies.{Admits, AreKept, Arrives, Drops, Dues, Forgets, IsOver};
+ghost use Rattle.dr_ledger.specs.Replies.{Lists, Reads, Requeues, Settles, entry_of};
 ghost use Rattle.dr_ledger.specs.SiteRoutes.{site_routing};
 ghost use Rattle.dr_desk.specs.Agreeing.{AreApart, Fails, IsOfLine, Rises, numbers};
 ghost use Rattle.dr_desk.specs.Answering.{Answers};
 ghost use Rattle.dr_desk.specs.Growing.{BeginWith};
+ghost use Rattle.dr_desk.specs.Reading.{AreHoldings, Failing, HasLines, Reading};
 ghost use Rattle.dr_desk.specs.Receipts.{Leaves, Notes, arrival_of};
 
 use crate::closing::{Closed, NotClosed};
@@ -27,9 +33,8 @@ use std::sync::ledger::Blank;
 use std::sync::{Mutex, Wait};
 
 /// A desk that threads share, with the site of its ledger. Each call waits for the one lock, which
-/// is held for one call of the ledger alone, but by `holdings`. Of what a call shows nothing can be
-/// said here, since another thread may have called in between; that it is what the ledger answers,
-/// the receipts say, and tests.
+/// is held for one call of the ledger alone, but by `holdings`, `totals` and `tally`. Another
+/// thread may have called in between; so what a call answers is said of the ledger at one moment.
 #[derive(Drop)]
 pub struct SharedDesk<L: Ledger, B: Sharing> {
     site: Site,
@@ -229,59 +234,95 @@ impl<L: Ledger, B: Sharing> SharedDesk<L, B> {
     }
 
     /// The ledger's `next`.
-    pub fn next<R: Wait>(&self, rt: &R, dest: &Text, now: u64) -> Result<Option<Job>, LedgerFault> {
+    pub fn next<R: Wait>(&self, rt: &R, dest: &Text, now: u64) -> Result<Option<Job>, LedgerFault>
+        ensures { Reading L.site L.book L.bodies L.stands L.failed B.site B.first
+            (λ l answer. Reads answer (NextsWith (L.book l) (L.bodies l) dest.now now)) result }
+    {
         self.held.lock(rt).next(dest, now)
     }
 
     /// The ledger's `due`: no data set is read.
-    pub fn due<R: Wait>(&self, rt: &R, dest: &Text, now: u64) -> Result<Option<Text>, LedgerFault> {
+    pub fn due<R: Wait>(&self, rt: &R, dest: &Text, now: u64) -> Result<Option<Text>, LedgerFault>
+        ensures { Reading L.site L.book L.bodies L.stands L.failed B.site B.first
+            (λ l answer. Reads answer (Dues (L.book l) dest.now now)) result }
+    {
         self.held.lock(rt).due(dest, now)
     }
 
     /// The ledger's `admits`.
-    pub fn admits<R: Wait>(&self, rt: &R, caller: &Text, item: &Item) -> Result<(), LedgerFault> {
+    pub fn admits<R: Wait>(&self, rt: &R, caller: &Text, item: &Item) -> Result<(), LedgerFault>
+        ensures { Reading L.site L.book L.bodies L.stands L.failed B.site B.first
+            (λ l answer.
+            Admits (site_routing B.site) caller.now (instance_of item.now) (L.book l) answer)
+            result }
+    {
         self.held.lock(rt).admits(caller, item)
     }
 
     /// The ledger's `has`.
-    pub fn has<R: Wait>(&self, rt: &R, uid: &Text) -> Result<bool, LedgerFault> {
+    pub fn has<R: Wait>(&self, rt: &R, uid: &Text) -> Result<bool, LedgerFault>
+        ensures { Reading L.site L.book L.bodies L.stands L.failed B.site B.first
+            (λ l answer. Reads answer (λ there. there ≡ map.contains_key (L.book l).items uid.now))
+            result }
+    {
         self.held.lock(rt).has(uid)
     }
 
     /// The ledger's `has_body`.
-    pub fn has_body<R: Wait>(&self, rt: &R, uid: &Text) -> Result<bool, LedgerFault> {
+    pub fn has_body<R: Wait>(&self, rt: &R, uid: &Text) -> Result<bool, LedgerFault>
+        ensures { Reading L.site L.book L.bodies L.stands L.failed B.site B.first
+            (λ l answer. Reads answer (λ there. there ≡ map.contains_key (L.bodies l) uid.now))
+            result }
+    {
         self.held.lock(rt).has_body(uid)
     }
 
     /// The ledger's `arrivals`.
-    pub fn arrivals<R: Wait>(&self, rt: &R) -> Result<Seq<(Text, Text)>, LedgerFault> {
+    pub fn arrivals<R: Wait>(&self, rt: &R) -> Result<Seq<(Text, Text)>, LedgerFault>
+        ensures { Reading L.site L.book L.bodies L.stands L.failed B.site B.first
+            (λ l answer. Reads answer (Lists pair_cmp (L.book l).arrivals)) result }
+    {
         self.held.lock(rt).arrivals()
     }
 
     /// The ledger's `kept`.
-    pub fn kept<R: Wait>(&self, rt: &R) -> Result<Seq<(Text, u64)>, LedgerFault> {
+    pub fn kept<R: Wait>(&self, rt: &R) -> Result<Seq<(Text, u64)>, LedgerFault>
+        ensures { Reading L.site L.book L.bodies L.stands L.failed B.site B.first
+            (λ l answer. Reads answer (AreKept (L.book l))) result }
+    {
         self.held.lock(rt).kept()
     }
 
     /// The ledger's `rows`.
-    pub fn rows<R: Wait>(&self, rt: &R) -> Result<Seq<((Text, Text), Progress)>, LedgerFault> {
+    pub fn rows<R: Wait>(&self, rt: &R) -> Result<Seq<((Text, Text), Progress)>, LedgerFault>
+        ensures { Reading L.site L.book L.bodies L.stands L.failed B.site B.first
+            (λ l answer. Reads answer (λ all. all ≡ map.entries (L.book l).rows)) result }
+    {
         self.held.lock(rt).rows()
     }
 
     /// The ledger's `lines`.
-    pub fn lines<R: Wait>(&self, rt: &R) -> Result<Seq<Entry>, LedgerFault> {
+    pub fn lines<R: Wait>(&self, rt: &R) -> Result<Seq<Entry>, LedgerFault>
+        ensures { Reading L.site L.book L.bodies L.stands L.failed B.site B.first
+            (λ l answer. Reads answer (λ all. all ≡ mapped entry_of (L.book l).lines)) result }
+    {
         self.held.lock(rt).lines()
     }
 
     /// All that the ledger has at one moment. The lock is held for the three calls that list it.
     ///
     /// Errors: Store, Memory.
-    pub fn holdings<R: Wait>(&self, rt: &R) -> Result<Holdings, LedgerFault> {
+    pub fn holdings<R: Wait>(&self, rt: &R) -> Result<Holdings, LedgerFault>
+        ensures { Reading L.site L.book L.bodies L.stands L.failed B.site B.first
+            (λ l answer. Reads answer (AreHoldings (L.book l))) result }
+    {
         self.held.lock(rt).holdings()
     }
 
     /// How many lines the journal has.
-    pub fn line_count<R: Wait>(&self, rt: &R) -> u64 {
+    pub fn line_count<R: Wait>(&self, rt: &R) -> u64
+        ensures { HasLines L.site L.book L.bodies L.stands L.failed B.site B.first result }
+    {
         self.held.lock(rt).number
     }
 
@@ -291,21 +332,26 @@ impl<L: Ledger, B: Sharing> SharedDesk<L, B> {
         rt: &R,
         uid: &Text,
         dest: &Text,
-    ) -> Result<Option<Progress>, LedgerFault> {
+    ) -> Result<Option<Progress>, LedgerFault>
+        ensures { Reading L.site L.book L.bodies L.stands L.failed B.site B.first
+            (λ l answer. Reads answer (λ row. row ≡ map.get (L.book l).rows (uid.now, dest.now)))
+            result }
+    {
         self.held.lock(rt).progress(uid, dest)
     }
 
     /// The ledger's `unfit`.
-    pub fn unfit<R: Wait>(
-        &self,
-        rt: &R,
-        next: &Sealed,
-    ) -> Result<Option<(Text, Text)>, LedgerFault> {
+    pub fn unfit<R: Wait>(&self, rt: &R, next: &Sealed) -> Result<Option<(Text, Text)>, LedgerFault>
+        ensures { Reading L.site L.book L.bodies L.stands L.failed B.site B.first
+            (λ l answer. Reads answer (Unfits next.now.plan B.site.name (L.book l))) result }
+    {
         self.held.lock(rt).unfit(next)
     }
 
     /// How often the store has failed; the count stays at its greatest value.
-    pub fn failures<R: Wait>(&self, rt: &R) -> u64 {
+    pub fn failures<R: Wait>(&self, rt: &R) -> u64
+        ensures { Failing L.site L.book L.bodies L.stands L.failed B.site B.first result }
+    {
         self.held.lock(rt).failures()
     }
 
@@ -431,7 +477,10 @@ impl<L: LetsGo, B: Sharing> SharedDesk<L, B> {
     }
 
     /// The ledger's `is_over`.
-    pub fn is_over<R: Wait>(&self, rt: &R, uid: &Text) -> Result<bool, LedgerFault> {
+    pub fn is_over<R: Wait>(&self, rt: &R, uid: &Text) -> Result<bool, LedgerFault>
+        ensures { Reading L.site L.book L.bodies L.stands L.failed B.site B.first
+            (λ l answer. Reads answer (λ over. IsTrue over ↔ IsOver (L.book l) uid.now)) result }
+    {
         self.held.lock(rt).is_over(uid)
     }
 }

@@ -1,4 +1,10 @@
 //! What a shared desk shows without a list of all that its ledger has.
+ghost use Rattle.std.specs.Prelude.{◌≡◌, IfOk};
+ghost use Rattle.std.specs.FinMap as map;
+ghost use Rattle.dr_ledger.specs.Replies.{Reads};
+ghost use Rattle.dr_ledger_views.specs.Views.{IsLeast, IsTally, dues, page_of, rows_of};
+ghost use Rattle.dr_desk.specs.Reading.{Answered, AreTotals, Failing, HasFailed, Reading};
+
 use crate::held::Held;
 use crate::holdings::Totals;
 use crate::shared::SharedDesk;
@@ -10,7 +16,13 @@ use std::sync::Wait;
 
 impl<L: Views, B: Sharing> Held<L, B> {
     /// How much there is. The journal's lines are counted as they are added.
-    fn totals(&mut self) -> Result<Totals, LedgerFault> {
+    fn totals(&mut self) -> Result<Totals, LedgerFault>
+        ensures reply { Answered L.site L.book L.bodies L.stands L.failed B.site B.first
+            (λ l answer. Reads answer (AreTotals (L.book l)))
+            result self.old.desk.ledger self.new.desk.ledger }
+        ensures failures { IfOk result (λ t. HasFailed L.site L.book L.bodies L.stands L.failed
+            B.site B.first self.new.full t.failures self.new.desk.ledger) }
+    {
         let arrivals = self.desk.count_arrivals()?;
         let kept = self.desk.count_kept()?;
         Ok(Totals {
@@ -22,17 +34,29 @@ impl<L: Views, B: Sharing> Held<L, B> {
     }
 
     /// How many rows to the destination are at which stage.
-    fn tally(&mut self, dest: &Text) -> Result<Tally, LedgerFault> {
+    fn tally(&mut self, dest: &Text) -> Result<Tally, LedgerFault>
+        ensures { Answered L.site L.book L.bodies L.stands L.failed B.site B.first
+            (λ l answer. Reads answer (IsTally (map.entries (L.book l).rows) dest.now))
+            result self.old.desk.ledger self.new.desk.ledger }
+    {
         tally(&mut self.desk, dest)
     }
 
     /// The ledger's `first_due`.
-    fn first_due(&mut self, dest: &Text) -> Result<Option<u64>, LedgerFault> {
+    fn first_due(&mut self, dest: &Text) -> Result<Option<u64>, LedgerFault>
+        ensures { Answered L.site L.book L.bodies L.stands L.failed B.site B.first
+            (λ l answer. Reads answer (IsLeast (dues (map.entries (L.book l).rows) dest.now)))
+            result self.old.desk.ledger self.new.desk.ledger }
+    {
         self.desk.first_due(dest)
     }
 
     /// The ledger's `rows_of`.
-    fn rows_of(&mut self, uid: &Text) -> Result<Seq<((Text, Text), Progress)>, LedgerFault> {
+    fn rows_of(&mut self, uid: &Text) -> Result<Seq<((Text, Text), Progress)>, LedgerFault>
+        ensures { Answered L.site L.book L.bodies L.stands L.failed B.site B.first
+            (λ l answer. Reads answer (λ all. all ≡ rows_of (map.entries (L.book l).rows) uid.now))
+            result self.old.desk.ledger self.new.desk.ledger }
+    {
         self.desk.rows_of(uid)
     }
 
@@ -43,7 +67,12 @@ impl<L: Views, B: Sharing> Held<L, B> {
         stage: Option<Stage>,
         after: &Text,
         limit: u32,
-    ) -> Result<Seq<((Text, Text), Progress)>, LedgerFault> {
+    ) -> Result<Seq<((Text, Text), Progress)>, LedgerFault>
+        ensures { Answered L.site L.book L.bodies L.stands L.failed B.site B.first
+            (λ l answer. Reads answer (λ all.
+            all ≡ page_of (map.entries (L.book l).rows) dest.now stage after.now limit)) result
+            self.old.desk.ledger self.new.desk.ledger }
+    {
         self.desk.page(dest, stage, after, limit)
     }
 }
@@ -52,7 +81,12 @@ impl<L: Views, B: Sharing> SharedDesk<L, B> {
     /// How much the ledger has at one moment. The lock is held for two calls of it.
     ///
     /// Errors: Store, Memory.
-    pub fn totals<R: Wait>(&self, rt: &R) -> Result<Totals, LedgerFault> {
+    pub fn totals<R: Wait>(&self, rt: &R) -> Result<Totals, LedgerFault>
+        ensures reply { Reading L.site L.book L.bodies L.stands L.failed B.site B.first
+            (λ l answer. Reads answer (AreTotals (L.book l))) result }
+        ensures failures { IfOk result (λ t. Failing L.site L.book L.bodies L.stands L.failed
+            B.site B.first t.failures) }
+    {
         self.held.lock(rt).totals()
     }
 
@@ -60,12 +94,19 @@ impl<L: Views, B: Sharing> SharedDesk<L, B> {
     /// five calls of the ledger.
     ///
     /// Errors: Store, Memory.
-    pub fn tally<R: Wait>(&self, rt: &R, dest: &Text) -> Result<Tally, LedgerFault> {
+    pub fn tally<R: Wait>(&self, rt: &R, dest: &Text) -> Result<Tally, LedgerFault>
+        ensures { Reading L.site L.book L.bodies L.stands L.failed B.site B.first
+            (λ l answer. Reads answer (IsTally (map.entries (L.book l).rows) dest.now)) result }
+    {
         self.held.lock(rt).tally(dest)
     }
 
     /// The ledger's `first_due`.
-    pub fn first_due<R: Wait>(&self, rt: &R, dest: &Text) -> Result<Option<u64>, LedgerFault> {
+    pub fn first_due<R: Wait>(&self, rt: &R, dest: &Text) -> Result<Option<u64>, LedgerFault>
+        ensures { Reading L.site L.book L.bodies L.stands L.failed B.site B.first
+            (λ l answer. Reads answer (IsLeast (dues (map.entries (L.book l).rows) dest.now)))
+            result }
+    {
         self.held.lock(rt).first_due(dest)
     }
 
@@ -74,7 +115,11 @@ impl<L: Views, B: Sharing> SharedDesk<L, B> {
         &self,
         rt: &R,
         uid: &Text,
-    ) -> Result<Seq<((Text, Text), Progress)>, LedgerFault> {
+    ) -> Result<Seq<((Text, Text), Progress)>, LedgerFault>
+        ensures { Reading L.site L.book L.bodies L.stands L.failed B.site B.first
+            (λ l answer. Reads answer (λ all. all ≡ rows_of (map.entries (L.book l).rows) uid.now))
+            result }
+    {
         self.held.lock(rt).rows_of(uid)
     }
 
@@ -86,7 +131,11 @@ impl<L: Views, B: Sharing> SharedDesk<L, B> {
         stage: Option<Stage>,
         after: &Text,
         limit: u32,
-    ) -> Result<Seq<((Text, Text), Progress)>, LedgerFault> {
+    ) -> Result<Seq<((Text, Text), Progress)>, LedgerFault>
+        ensures { Reading L.site L.book L.bodies L.stands L.failed B.site B.first
+            (λ l answer. Reads answer (λ all.
+            all ≡ page_of (map.entries (L.book l).rows) dest.now stage after.now limit)) result }
+    {
         self.held.lock(rt).page(dest, stage, after, limit)
     }
 }
