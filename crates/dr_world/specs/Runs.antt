@@ -14,9 +14,9 @@ use Rattle.dr_world_tie.specs.ByteWorlds.{ByteWorld, beginning}
 use Rattle.dr_world_tie.specs.Shown.{ComesAbout, RunsOf}
 use Rattle.dr_world_script.specs.declared.step.Step.{Step}
 use Rattle.dr_world_script.specs.declared.step.Step.TheVariants.{Submit, Open, Away, Push, Move}
-use Rattle.dr_world_script.specs.declared.step.Step.TheVariants.{Abort, Release, Close, Late, Restart}
-use Rattle.dr_world_script.specs.declared.step.Step.TheVariants.{Requeue, Drop, Forget, Tick}
-use Rattle.dr_world_script.specs.declared.step.Step.TheVariants.{RefuseStore}
+use Rattle.dr_world_script.specs.declared.step.Step.TheVariants.{Abort, Release, Close, Late}
+use Rattle.dr_world_script.specs.declared.step.Step.TheVariants.{Restart, Requeue, Drop, Forget}
+use Rattle.dr_world_script.specs.declared.step.Step.TheVariants.{Tick, RefuseStore}
 use Rattle.dr_world.specs.declared.world.World.{World}
 use Rattle.dr_world.specs.Shows.{ShowsBytes, IsSeated}
 use Rattle.dr_world.specs.Ends.{named}

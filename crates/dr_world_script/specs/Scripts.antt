@@ -15,9 +15,9 @@ use Rattle.dr_world_script.specs.declared.step.Side.{Side}
 use Rattle.dr_world_script.specs.declared.step.Side.TheVariants.{Requestor, Acceptor}
 use Rattle.dr_world_script.specs.declared.step.Step.{Step}
 use Rattle.dr_world_script.specs.declared.step.Step.TheVariants.{Submit, Open, Away, Push, Move}
-use Rattle.dr_world_script.specs.declared.step.Step.TheVariants.{Abort, Release, Close, Late, Restart}
-use Rattle.dr_world_script.specs.declared.step.Step.TheVariants.{Requeue, Drop, Forget, Tick}
-use Rattle.dr_world_script.specs.declared.step.Step.TheVariants.{RefuseStore}
+use Rattle.dr_world_script.specs.declared.step.Step.TheVariants.{Abort, Release, Close, Late}
+use Rattle.dr_world_script.specs.declared.step.Step.TheVariants.{Restart, Requeue, Drop, Forget}
+use Rattle.dr_world_script.specs.declared.step.Step.TheVariants.{Tick, RefuseStore}
 use Rattle.dr_world_script.specs.declared.step.Word.{Word}
 use Rattle.dr_world_script.specs.declared.step.Word.TheVariants as word
 use Rattle.dr_world_script.specs.declared.fault.LineFault.{LineFault}
